@@ -1,0 +1,99 @@
+-- Which parts are in bounds, and which number they mean, by what the reader keeps of them.
+use Rattle.std.proofs.Common.{◌≡◌, ◌≢◌, ℕ, ◌+◌, ◌*◌, ◌%◌, ◌^◌, ◌<◌, ◌≤◌, ◌⊎◌, inl, inr, Bool, true, false, if◌then◌else◌, length, refl, sym, ap, subst, ◌∙◌, arith, ℤ, pos, negsuc}
+use Rattle.std.proofs.lemmas.Bool.{cases_eq, leb-true, ltb-true}
+use Rattle.std.proofs.lemmas.Nat.{pow-add}
+use Rattle.std.proofs.Math.Nat.{mul_assoc}
+use Rattle.crs_decimal.specs.Bounds.{digits_value, is_minus, Strips, IsMeasured, IsBounded, number_of, is_below, power_up, power_down, exponent_digits}
+use Rattle.crs_decimal.specs.Cut.{IsCut, IsFar, IsPowerBetween}
+use Rattle.crs_decimal.specs.Number.{SameNumber}
+use Rattle.crs_decimal.specs.Spelling.{Parts, AreDigits, mantissa, fraction_digits}
+use Rattle.crs_decimal.specs.Value.{Value, exact, up_of, down_of, zero}
+use Rattle.crs_decimal.specs.declared.mantissa.Mantissa.{Mantissa}
+use Rattle.crs_decimal.specs.declared.cutting.Spelled.{Spelled}
+use Rattle.crs_decimal.proofs.MantissaLemmas.{IsShown, Shows, IsStripped, IsLong, shown, long_least, zero_scaled}
+use Rattle.crs_decimal.proofs.PowerLemmas.{strip_one, scaled_grows}
+
+-- what the reader's mantissa shows
+pub cut_shows : (p : Parts) (s : Spelled) → IsCut p s → AreDigits (mantissa p) → IsShown (digits_value (mantissa p)) s.mantissa
+cut_shows p s cut d = subst (IsShown (digits_value (mantissa p))) (sym cut.digits) (shown (mantissa p) d)
+
+shows_at : (b : Bool) (n : ℕ) (m : Mantissa) → m.is_long ≡ b → IsShown n m → Shows b n m.digits m.zeros
+shows_at b n m e s = subst (λ (x : Bool). Shows x n m.digits m.zeros) e s
+
+pub long_unbounded : (p : Parts) (m : Mantissa) → IsShown (digits_value (mantissa p)) m → m.is_long ≡ true → ¬ (IsBounded p)
+long_unbounded p m s e h = refuse (shows_at true (digits_value (mantissa p)) m e s).0 h.measured
+  where
+    refuse : IsLong (digits_value (mantissa p)) → ((number_of p).digits ≡ 0) ⊎ IsMeasured (number_of p) → ⊥
+    refuse l (inl z) = let least = long_least (digits_value (mantissa p)) l in absurd (omega arith)
+    refuse (x, j, t, l) (inr (y, k, u, v, w, g)) =
+        let same = strip_one x j y k (sym t.0 ∙ u.0) t.1 u.1 in absurd (omega (arith, same.0))
+
+-- a short mantissa that isn't zero is stripped, and at most 38 digits
+pub short_strips : (n : ℕ) (m : Mantissa) → IsShown n m → m.is_long ≡ false → m.digits ≢ 0 → Strips n m.digits m.zeros × (m.digits < 10 ^ 38)
+short_strips n m s e ne =
+    let t = shows_at false n m e s in ((t.0, last t.2), t.1)
+  where
+    last : IsStripped m.digits m.zeros → m.digits % 10 ≢ 0
+    last (inl h) = h
+    last (inr h) = absurd (ne h.0)
+
+pub short_zero : (n : ℕ) (m : Mantissa) → IsShown n m → m.is_long ≡ false → m.digits ≡ 0 → n ≡ 0
+short_zero n m s e z = (shows_at false n m e s).0 ∙ zero_scaled m.digits m.zeros z
+
+pub strips_positive : (n m k : ℕ) → Strips n m k → 0 < n
+strips_positive n m k t = elim (cases_eq m 0) [
+  | inl e ↦ absurd (t.1 (ap (λ x. x % 10) e))
+  | inr ne ↦ let least : m * 1 ≤ m * 10 ^ k = scaled_grows m 0 k (omega arith) in omega (arith, t.0)
+]
+
+power_near : (a b : ℕ) (power : ℤ) → IsPowerBetween a b power → (b ≤ a + 40) × (a ≤ b + 40)
+power_near a b (pos n) h = let l = leb-true n 40 h.0 in (omega (arith, h.1), omega (arith, h.1))
+power_near a b (negsuc n) h = let l = ltb-true n 40 h.0 in (omega (arith, h.1), omega (arith, h.1))
+
+pub far_unbounded : (p : Parts) (m : Mantissa) → Strips (digits_value (mantissa p)) m.digits m.zeros → IsFar (power_up p.exponent + m.zeros) (power_down p.exponent + length (fraction_digits p.fraction)) → ¬ (IsBounded p)
+far_unbounded p m t far h = refuse far h.measured
+  where
+    refuse : IsFar (power_up p.exponent + m.zeros) (power_down p.exponent + length (fraction_digits p.fraction)) → ((number_of p).digits ≡ 0) ⊎ IsMeasured (number_of p) → ⊥
+    refuse f (inl z) = let some = strips_positive (digits_value (mantissa p)) m.digits m.zeros t in absurd (omega arith)
+    refuse (inl f) (inr (y, k, u, v, w, x)) = let same = strip_one m.digits m.zeros y k (sym t.0 ∙ u.0) t.1 u.1 in absurd (omega (arith, same.1))
+    refuse (inr f) (inr (y, k, u, v, w, x)) = let same = strip_one m.digits m.zeros y k (sym t.0 ∙ u.0) t.1 u.1 in absurd (omega (arith, same.1))
+
+pub near_bounded : (p : Parts) (m : Mantissa) (power : ℤ) → Strips (digits_value (mantissa p)) m.digits m.zeros → m.digits < 10 ^ 38 → length (mantissa p) ≤ 100 → length (exponent_digits p.exponent) ≤ 3 → IsPowerBetween (power_up p.exponent + m.zeros) (power_down p.exponent + length (fraction_digits p.fraction)) power → IsBounded p
+near_bounded p m power t l a b near =
+    let h = power_near (power_up p.exponent + m.zeros) (power_down p.exponent + length (fraction_digits p.fraction)) power near in
+    record {
+      mantissa_digits = a;
+      exponent_digits = b;
+      measured = inr (m.digits, m.zeros, t, l, h.0, h.1);
+    }
+
+-- a number scaled two ways
+pub same_scaled : (n m z a b : ℕ) → n ≡ m * 10 ^ z → b ≡ z + a → n * 10 ^ a ≡ m * 10 ^ b
+same_scaled n m z a b e f =
+    ap (λ x. x * 10 ^ a) e ∙ mul_assoc m (10 ^ z) (10 ^ a) ∙ ap (λ x. m * x) (sym (pow-add 10 z a)) ∙ ap (λ x. m * 10 ^ x) (sym f)
+
+pub near_same : (p : Parts) (m : Mantissa) (v : Value) → digits_value (mantissa p) ≡ m.digits * 10 ^ m.zeros → v.digits ≡ m.digits → v.negative ≡ is_minus p.sign → IsPowerBetween (power_up p.exponent + m.zeros) (power_down p.exponent + length (fraction_digits p.fraction)) v.power → SameNumber (number_of p) (exact v)
+near_same p m v e d g near =
+    let up = power_up p.exponent in
+    let down = power_down p.exponent + length (fraction_digits p.fraction) in
+    let powers : up_of v.power + down ≡ m.zeros + (up + down_of v.power) = omega (arith, near.1) in
+    (same_scaled (digits_value (mantissa p)) m.digits m.zeros (up + down_of v.power) (up_of v.power + down) e powers ∙ ap (λ x. x * 10 ^ (up_of v.power + down)) (sym d), inl (sym g))
+
+pub zero_same : (p : Parts) → digits_value (mantissa p) ≡ 0 → SameNumber (number_of p) (exact zero)
+zero_same p e = (zero_scaled (digits_value (mantissa p)) (power_up p.exponent + 0) e ∙ sym (zero_scaled 0 (0 + (power_down p.exponent + length (fraction_digits p.fraction))) refl), inr (e, refl))
+
+pub zero_bounded : (p : Parts) → digits_value (mantissa p) ≡ 0 → length (mantissa p) ≤ 100 → length (exponent_digits p.exponent) ≤ 3 → IsBounded p
+zero_bounded p e a b = record { mantissa_digits = a; exponent_digits = b; measured = inl e }
+
+-- the powers and the fraction that the reader keeps are those of the parts
+pub up_cut : (p : Parts) (s : Spelled) (up : ℕ) → IsCut p s → up ≡ (if s.below then 0 else digits_value s.exponent.now) → up ≡ power_up p.exponent
+up_cut p s up cut h = h ∙ ap (λ b. if b then 0 else digits_value s.exponent.now) cut.below ∙ ap (λ ds. if is_below p.exponent then 0 else digits_value ds) cut.exponent_digits
+
+pub down_cut : (p : Parts) (s : Spelled) (down : ℕ) → IsCut p s → down ≡ (if s.below then digits_value s.exponent.now else 0) → down ≡ power_down p.exponent
+down_cut p s down cut h = h ∙ ap (λ b. if b then digits_value s.exponent.now else 0) cut.below ∙ ap (λ ds. if is_below p.exponent then digits_value ds else 0) cut.exponent_digits
+
+pub far_cut : (p : Parts) (s : Spelled) (up down : ℕ) → IsCut p s → up ≡ power_up p.exponent → down ≡ power_down p.exponent → IsFar (up + s.mantissa.zeros) (down + s.fraction) → IsFar (power_up p.exponent + s.mantissa.zeros) (power_down p.exponent + length (fraction_digits p.fraction))
+far_cut p s up down cut u d far = rw (← u, ← d, ← cut.fraction_digits) far
+
+pub near_cut : (p : Parts) (s : Spelled) (up down : ℕ) (power : ℤ) → IsCut p s → up ≡ power_up p.exponent → down ≡ power_down p.exponent → IsPowerBetween (up + s.mantissa.zeros) (down + s.fraction) power → IsPowerBetween (power_up p.exponent + s.mantissa.zeros) (power_down p.exponent + length (fraction_digits p.fraction)) power
+near_cut p s up down power cut u d near = rw (← u, ← d, ← cut.fraction_digits) near

@@ -1,0 +1,111 @@
+-- Bytes have the number form or not, and are in bounds or not.
+use Rattle.std.proofs.Common.{◌≡◌, ℕ, zero, suc, ◌+◌, ◌*◌, ◌/◌, ◌%◌, ◌^◌, ◌<◌, ◌≤◌, ◌⊎◌, inl, inr, List, [], ◌∷◌, length, Option, Some, None, refl, sym, subst, ◌∙◌, arith}
+use Rattle.std.proofs.lemmas.Bool.{cases_eq, cases_lt}
+use Rattle.std.proofs.Math.Nat.{mul-one}
+use Rattle.crs_decimal.specs.Bounds.{Strips, IsMeasured, IsBounded, IsInBounds, number_of, exponent_digits}
+use Rattle.crs_decimal.specs.Number.{Number}
+use Rattle.crs_decimal.specs.Spelling.{Exponent, Parts, mantissa, HasForm}
+use Rattle.crs_decimal.specs.Split.{parts_of, behind_parts, behind_mantissa, exponent_of, HasExponentDigits, IsWhole}
+use Rattle.crs_decimal.proofs.SplitLemmas.{spells_parts, parts_only, form_whole}
+use Rattle.crs_decimal.proofs.PowerLemmas.{strip_one, scaled_more}
+
+-- a fact, or its refutation
+abbrev pub IsDecided : Type 0 → Type 0
+IsDecided P = P ⊎ (¬ P)
+
+decides_less : (a b : ℕ) → IsDecided (a < b)
+decides_less a b = elim (cases_lt a b) [ inl lt ↦ inl lt | inr ge ↦ inr (λ lt. omega arith) ]
+
+decides_at_most : (a b : ℕ) → IsDecided (a ≤ b)
+decides_at_most a b = elim (cases_lt b a) [ inl more ↦ inr (λ le. omega arith) | inr le ↦ inl le ]
+
+decides_none : (bytes : List ℕ) → IsDecided (bytes ≡ [])
+decides_none [] = inl refl
+decides_none (b ∷ bytes) = inr (λ e. cc)
+
+-- ---- the form
+
+decides_exponent : (e : Option Exponent) → IsDecided (HasExponentDigits e)
+decides_exponent None = inl tt
+decides_exponent (Some e) = decides_less 0 (length e.digits)
+
+decides_whole : (bytes : List ℕ) → IsDecided (IsWhole bytes)
+decides_whole bytes =
+    elim (decides_none (behind_parts bytes)) [
+      | inr never ↦ inr (λ w. never w.all)
+      | inl all ↦ elim (decides_less 0 (length (mantissa (parts_of bytes)))) [
+        | inr never ↦ inr (λ w. never w.some)
+        | inl some ↦ elim (decides_exponent (exponent_of (behind_mantissa bytes))) [
+          | inr never ↦ inr (λ w. never w.exponent)
+          | inl exponent ↦ inl (record { all = all; some = some; exponent = exponent })
+        ]
+      ]
+    ]
+
+-- ---- the bounds
+
+-- a number that isn't zero is stripped of its closing zeros
+strips : (fuel n : ℕ) → n ≤ fuel → 0 < n → (m k : ℕ) × Strips n m k
+strips zero n le some = absurd (omega arith)
+strips (suc fuel) n le some = elim (cases_eq (n % 10) 0) [
+  | inr last ↦ (n, 0, (sym (mul-one n), last))
+  | inl closing ↦
+      let r = strips fuel (n / 10) (omega arith) (omega arith) in
+      let ten : n ≡ n / 10 * 10 = omega arith in
+      (r.0, r.1 + 1, (ten ∙ scaled_more r.0 r.1 (n / 10) r.2.0, r.2.1))
+]
+
+-- stripped in this way, the number is measured exactly where these digits and zeros are
+decides_stripped : (n : Number) (m k : ℕ) → Strips n.digits m k → IsDecided (IsMeasured n)
+decides_stripped n m k s =
+    elim (decides_less m (10 ^ 38)) [
+      | inr never ↦ inr (λ h. never (subst (λ z. z < 10 ^ 38) (same h).0 h.3))
+      | inl short ↦ elim (decides_at_most n.down (n.up + k + 40)) [
+        | inr never ↦ inr (λ h. never (subst (λ z. n.down ≤ n.up + z + 40) (same h).1 h.4))
+        | inl low ↦ elim (decides_at_most (n.up + k) (n.down + 40)) [
+          | inr never ↦ inr (λ h. never (subst (λ z. n.up + z ≤ n.down + 40) (same h).1 h.5))
+          | inl high ↦ inl (m, k, s, short, low, high)
+        ]
+      ]
+    ]
+  where
+    same : (h : IsMeasured n) → (h.0 ≡ m) × (h.1 ≡ k)
+    same h = strip_one h.0 h.1 m k (sym h.2.0 ∙ s.0) h.2.1 s.1
+
+decides_measured : (n : Number) → IsDecided ((n.digits ≡ 0) ⊎ IsMeasured n)
+decides_measured n = elim (cases_eq n.digits 0) [
+  | inl none ↦ inl (inl none)
+  | inr some ↦
+      let s = strips n.digits n.digits (omega arith) (omega arith) in
+      elim (decides_stripped n s.0 s.1 s.2) [
+        | inl holds ↦ inl (inr holds)
+        | inr never ↦ inr (λ h. elim h [ inl none ↦ some none | inr holds ↦ never holds ])
+      ]
+]
+
+decides_bounds : (p : Parts) → IsDecided (IsBounded p)
+decides_bounds p =
+    elim (decides_at_most (length (mantissa p)) 100) [
+      | inr never ↦ inr (λ b. never b.mantissa_digits)
+      | inl digits ↦ elim (decides_at_most (length (exponent_digits p.exponent)) 3) [
+        | inr never ↦ inr (λ b. never b.exponent_digits)
+        | inl exponent ↦ elim (decides_measured (number_of p)) [
+          | inr never ↦ inr (λ b. never b.measured)
+          | inl measured ↦ inl (record { mantissa_digits = digits; exponent_digits = exponent; measured = measured })
+        ]
+      ]
+    ]
+
+-- ---- both
+
+-- bytes are in bounds, or of the number form and not in bounds, or not of that form
+pub decided : (bytes : List ℕ) → (IsInBounds bytes ⊎ (HasForm bytes × ¬ (IsInBounds bytes))) ⊎ (¬ (HasForm bytes))
+decided bytes = elim (decides_whole bytes) [
+  | inr never ↦ inr (λ f. never (form_whole bytes f))
+  | inl whole ↦
+      let s = spells_parts bytes whole in
+      elim (decides_bounds (parts_of bytes)) [
+        | inl holds ↦ inl (inl (parts_of bytes, s, holds))
+        | inr never ↦ inl (inr ((parts_of bytes, s), λ h. never (subst IsBounded (parts_only bytes h.0 h.1) h.2)))
+      ]
+]

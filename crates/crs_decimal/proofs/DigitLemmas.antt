@@ -1,0 +1,112 @@
+-- The number that digits spell.
+use Rattle.std.proofs.Common.{◌≡◌, ℕ, zero, suc, ◌+◌, ◌-◌, ◌*◌, ◌%◌, ◌^◌, ◌<◌, ◌≤◌, ◌⊎◌, inl, inr, Bool, true, false, nat_le, List, [], ◌∷◌, ◌++◌, length, replicate, fold, None, refl, sym, ap, subst, ◌∙◌, arith, zero-add}
+use Rattle.std.specs.List.{list_all}
+use Rattle.std.proofs.lemmas.Bool.{and_parts, leb-true, cases_eq, cases_lt}
+use Rattle.std.proofs.lemmas.List.{append-nil}
+use Rattle.std.proofs.lemmas.List.Sums.{fold-append}
+use Rattle.std.proofs.lemmas.Nat.{same_from_place}
+use Rattle.std.proofs.Math.Nat.{mul-le-mul_right}
+use Rattle.crs_decimal.specs.Spelling.{unsigned, Parts, is_digit, AreDigits}
+use Rattle.crs_decimal.specs.Bounds.{digits_value, Strips, number_of, IsMeasured, IsBounded, IsInBounds}
+use Rattle.crs_decimal.specs.Mantissa.{no_digits, with_digits}
+use Rattle.crs_decimal.proofs.MantissaLemmas.{shown, Shows, IsStripped, long_least, zero_scaled}
+use Rattle.crs_decimal.proofs.PowerLemmas.{power_next, power_grows}
+
+-- the number after n's digits and these
+abbrev pub value_after : ℕ → List ℕ → ℕ
+value_after n ds = fold (λ m d. m * 10 + (d - 48)) n ds
+
+spread : (n c scale v : ℕ) → (n * 10 + c) * scale + v ≡ n * (scale * 10) + ((0 + c) * scale + v)
+spread n c scale v = omega arith
+
+value_behind : (ds : List ℕ) (n : ℕ) → value_after n ds ≡ n * 10 ^ length ds + digits_value ds
+value_behind [] n = omega arith
+value_behind (d ∷ ds) n =
+    let c = d - 48 in
+    let inner : value_after (n * 10 + c) ds ≡ (n * 10 + c) * 10 ^ length ds + digits_value ds = value_behind ds (n * 10 + c) in
+    let alone : digits_value (d ∷ ds) ≡ (0 + c) * 10 ^ length ds + digits_value ds = value_behind ds (0 + c) in
+    inner ∙ spread n c (10 ^ length ds) (digits_value ds) ∙ ap (λ p. n * p + ((0 + c) * 10 ^ length ds + digits_value ds)) (sym (power_next (length ds))) ∙ ap (λ v. n * 10 ^ suc (length ds) + v) (sym alone)
+
+pub value-append : (xs ys : List ℕ) → digits_value (xs ++ ys) ≡ digits_value xs * 10 ^ length ys + digits_value ys
+value-append xs ys = fold-append (λ n d. n * 10 + (d - 48)) 0 xs ys ∙ value_behind ys (digits_value xs)
+
+pub value-cons : (d : ℕ) (ds : List ℕ) → digits_value (d ∷ ds) ≡ (d - 48) * 10 ^ length ds + digits_value ds
+value-cons d ds = value_behind ds (0 + (d - 48)) ∙ ap (λ c. c * 10 ^ length ds + digits_value ds) (zero-add (d - 48))
+
+pub digit_range : (d : ℕ) → is_digit d ≡ true → (48 ≤ d) × (d ≤ 57)
+digit_range d h = let p = and_parts (nat_le 48 d) (nat_le d 57) h in (leb-true 48 d p.0, leb-true d 57 p.1)
+
+pub value-below : (ds : List ℕ) → AreDigits ds → digits_value ds < 10 ^ length ds
+value-below [] h = omega arith
+value-below (d ∷ ds) h =
+    let p = and_parts (is_digit d) (list_all is_digit ds) h in
+    let r = digit_range d p.0 in
+    let below = value-below ds p.1 in
+    let most : (d - 48) * 10 ^ length ds ≤ 9 * 10 ^ length ds = mul-le-mul_right (10 ^ length ds) (omega arith) in
+    omega (arith, value-cons d ds, power_next (length ds))
+
+pub same_digits : (xs ys : List ℕ) → length xs ≡ length ys → AreDigits xs → AreDigits ys → digits_value xs ≡ digits_value ys → xs ≡ ys
+same_digits [] [] l g h e = refl
+same_digits [] (y ∷ ys) l g h e = absurd (omega arith)
+same_digits (x ∷ xs) [] l g h e = absurd (omega arith)
+same_digits (x ∷ xs) (y ∷ ys) l g h e =
+    let p = and_parts (is_digit x) (list_all is_digit xs) g in
+    let q = and_parts (is_digit y) (list_all is_digit ys) h in
+    let same : length xs ≡ length ys = omega arith in
+    let scale = 10 ^ length ys in
+    let first : digits_value (x ∷ xs) ≡ (x - 48) * scale + digits_value xs = value-cons x xs ∙ ap (λ k. (x - 48) * 10 ^ k + digits_value xs) same in
+    let below : digits_value xs < scale = subst (λ (k : ℕ). digits_value xs < 10 ^ k) same (value-below xs p.1) in
+    let r = same_from_place (x - 48) (digits_value xs) (y - 48) (digits_value ys) scale below (value-below ys q.1) (sym first ∙ e ∙ value-cons y ys) in
+    let low = digit_range x p.0 in
+    let high = digit_range y q.0 in
+    let heads : x ≡ y = omega (arith, r.0) in
+    ap (λ d. d ∷ xs) heads ∙ ap (λ ds. y ∷ ds) (same_digits xs ys same p.1 q.1 r.1)
+
+pub value-zeros : (n : ℕ) → digits_value (replicate n 48) ≡ 0
+value-zeros zero = refl
+value-zeros (suc n) = value-cons 48 (replicate n 48) ∙ omega (arith, value-zeros n)
+
+pub zeros_are_digits : (n : ℕ) → AreDigits (replicate n 48)
+zeros_are_digits zero = refl
+zeros_are_digits (suc n) = zeros_are_digits n
+
+-- ---- a few digits alone are in bounds
+
+abbrev IsSmall : ℕ → Type 0
+IsSmall n = (n ≡ 0) ⊎ ((m k : ℕ) × Strips n m k × (m < 10 ^ 38) × (k ≤ 40))
+
+power_small : (d z n : ℕ) → n ≡ d * 10 ^ z → 0 < d → n < 10 ^ 18 → z ≤ 40
+power_small d z n e some small = elim (cases_lt 40 z) [
+  | inl l ↦ let p = power_grows 40 z (omega arith) in
+      let q : 1 * 10 ^ z ≤ d * 10 ^ z = mul-le-mul_right (10 ^ z) some in absurd (omega arith)
+  | inr l ↦ l
+]
+
+few_measured : (b : Bool) (n d z : ℕ) → Shows b n d z → n < 10 ^ 18 → IsSmall n
+few_measured true n d z s small = let l = long_least n s.0 in absurd (omega arith)
+few_measured false n d z s small = by s.2
+  where
+    by : IsStripped d z → IsSmall n
+    by (inl e) =
+        let some : 0 < d = elim (cases_eq d 0) [ inl f ↦ absurd (e (ap (λ x. x % 10) f)) | inr f ↦ omega arith ] in
+        inr (d, z, (s.0, e), s.1, power_small d z n s.0 some small)
+    by (inr e) = inl (s.0 ∙ zero_scaled d z e.0)
+
+pub digits_in_bounds : (ds : List ℕ) → AreDigits ds → 0 < length ds → length ds ≤ 18 → IsInBounds ds
+digits_in_bounds ds h some l =
+    let m = with_digits no_digits ds in
+    let below = value-below ds h in
+    let most = power_grows (length ds) 18 l in
+    let plain = append-nil ds in
+    let small = few_measured m.is_long (digits_value ds) m.digits m.zeros (shown ds h) (omega arith) in
+    (parts, (sym plain ∙ sym (append-nil (ds ++ [])), record { digits = subst AreDigits (sym plain) h; some = subst (λ (x : List ℕ). 0 < length x) (sym plain) some; exponent = tt }), bounded (subst (λ (x : List ℕ). IsSmall (digits_value x)) (sym plain) small))
+  where
+    parts : Parts
+    parts = record { sign = unsigned; whole = ds; fraction = None; exponent = None }
+
+    bounded : IsSmall (digits_value (ds ++ [])) → IsBounded parts
+    bounded s = record { mantissa_digits = rw append-nil (omega arith); exponent_digits = omega arith; measured = measured s }
+      where
+        measured : IsSmall (digits_value (ds ++ [])) → ((number_of parts).digits ≡ 0) ⊎ IsMeasured (number_of parts)
+        measured (inl e) = inl e
+        measured (inr (m, k, t, u, v)) = inr (m, k, t, u, omega arith, omega arith)

@@ -1,0 +1,11 @@
+pub mod BoundLemmas
+pub mod DecidedLemmas
+pub mod DecimalLemmas
+pub mod DigitLemmas
+pub mod MantissaLemmas
+pub mod NumberLemmas
+pub mod PlainLemmas
+pub mod PowerLemmas
+pub mod RunLemmas
+pub mod SplitLemmas
+pub mod WrittenLemmas

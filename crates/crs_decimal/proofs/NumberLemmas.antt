@@ -1,0 +1,152 @@
+-- Being the same number is an equivalence, and each number has one normal form.
+use Rattle.std.proofs.Common.{◌≡◌, ◌≢◌, ℕ, suc, ◌+◌, ◌*◌, ◌%◌, ◌^◌, ◌<◌, ◌==◌, ◌&&◌, ◌||◌, ◌⊎◌, ◌↔◌, inl, inr, not, nat_lt, true, false, IsTrue, List, refl, sym, ap, subst, ◌∙◌, arith, ℤ, pos, negsuc, ◌<ℤ◌}
+use Rattle.std.proofs.lemmas.Bool.{and_parts, or_cases, eqb-true, eqb-false, ltb-true, not-true, false≢true}
+use Rattle.std.proofs.lemmas.Int.{ints}
+use Rattle.std.proofs.lemmas.Nat.{pow-add}
+use Rattle.std.proofs.Math.Nat.{mul-one, mul_assoc, le_of_mul-le-mul_right, le_antisymm}
+use Rattle.crs_decimal.specs.Bounds.{Denotes, number_of}
+use Rattle.crs_decimal.specs.Number.{Number, SameSize, SameNumber, whole_number}
+use Rattle.crs_decimal.specs.Value.{Value, zero, is_power, is_zero_power, IsNormal, exact, up_of, down_of}
+use Rattle.crs_decimal.proofs.MantissaLemmas.{zero_scaled}
+use Rattle.crs_decimal.proofs.PowerLemmas.{strip_one, power_positive, last_zero}
+use Rattle.crs_decimal.proofs.SplitLemmas.{parts_one}
+
+pub reflexive : (a : Number) → SameNumber a a
+reflexive a = (refl, inl refl)
+
+pub symmetric : (a b : Number) → SameNumber a b → SameNumber b a
+symmetric a b h = (sym h.0, turned h.1)
+  where
+    turned : (a.negative ≡ b.negative) ⊎ ((a.digits ≡ 0) × (b.digits ≡ 0)) → (b.negative ≡ a.negative) ⊎ ((b.digits ≡ 0) × (a.digits ≡ 0))
+    turned (inl e) = inl (sym e)
+    turned (inr e) = inr (e.1, e.0)
+
+-- x * 10^i * 10^k with the powers put together
+joined : (x i k : ℕ) → x * 10 ^ (i + k) ≡ x * 10 ^ i * 10 ^ k
+joined x i k = ap (λ p. x * p) (pow-add 10 i k) ∙ sym (mul_assoc x (10 ^ i) (10 ^ k))
+
+raised : (x y i j k m n : ℕ) → x * 10 ^ i ≡ y * 10 ^ j → m ≡ i + k → n ≡ j + k → x * 10 ^ m ≡ y * 10 ^ n
+raised x y i j k m n h e f =
+    ap (λ p. x * 10 ^ p) e ∙ joined x i k ∙ ap (λ p. p * 10 ^ k) h ∙ sym (joined y j k) ∙ ap (λ p. y * 10 ^ p) (sym f)
+
+pub cancelled : (a b k : ℕ) → a * 10 ^ k ≡ b * 10 ^ k → a ≡ b
+cancelled a b k h =
+    le_antisymm (le_of_mul-le-mul_right (omega (arith, h)) (power_positive k)) (le_of_mul-le-mul_right (omega (arith, h)) (power_positive k))
+
+pub lowered : (x y i j k m n : ℕ) → x * 10 ^ m ≡ y * 10 ^ n → m ≡ i + k → n ≡ j + k → x * 10 ^ i ≡ y * 10 ^ j
+lowered x y i j k m n h e f =
+    cancelled (x * 10 ^ i) (y * 10 ^ j) k (sym (joined x i k) ∙ ap (λ p. x * 10 ^ p) (sym e) ∙ h ∙ ap (λ p. y * 10 ^ p) f ∙ joined y j k)
+
+pub same_size_trans : (a b c : Number) → SameSize a b → SameSize b c → SameSize a c
+same_size_trans a b c g h =
+    lowered a.digits c.digits (a.up + c.down) (c.up + a.down) b.down (a.up + b.down + c.down) (c.up + b.down + a.down)
+    (raised a.digits b.digits (a.up + b.down) (b.up + a.down) c.down (a.up + b.down + c.down) (b.up + a.down + c.down) g refl refl
+    ∙ raised b.digits c.digits (b.up + c.down) (c.up + b.down) a.down (b.up + a.down + c.down) (c.up + b.down + a.down) h (omega arith) (omega arith))
+    (omega arith)
+    (omega arith)
+
+zero_factor : (x k : ℕ) → x * 10 ^ k ≡ 0 → x ≡ 0
+zero_factor x k h = cancelled x 0 k (h ∙ sym (zero_scaled 0 k refl))
+
+zero_spreads : (a b : Number) → SameSize a b → a.digits ≡ 0 → b.digits ≡ 0
+zero_spreads a b g e = zero_factor b.digits (b.up + a.down) (sym g ∙ zero_scaled a.digits (a.up + b.down) e)
+
+pub transitive : (a b c : Number) → SameNumber a b → SameNumber b c → SameNumber a c
+transitive a b c g h = (same_size_trans a b c g.0 h.0, signs g.1 h.1)
+  where
+    signs : (a.negative ≡ b.negative) ⊎ ((a.digits ≡ 0) × (b.digits ≡ 0)) → (b.negative ≡ c.negative) ⊎ ((b.digits ≡ 0) × (c.digits ≡ 0)) → (a.negative ≡ c.negative) ⊎ ((a.digits ≡ 0) × (c.digits ≡ 0))
+    signs (inl p) (inl q) = inl (p ∙ q)
+    signs (inl p) (inr q) = inr (zero_spreads b a (sym g.0) q.0, q.1)
+    signs (inr p) q = inr (p.0, zero_spreads b c h.0 p.1)
+
+-- ---- normal forms
+
+pub same_value : (a b : Value) → a.negative ≡ b.negative → a.digits ≡ b.digits → a.power ≡ b.power → a ≡ b
+same_value a b p q r =
+    ap (λ x. let v : Value = record { negative = x; digits = a.digits; power = a.power } in v) p
+    ∙ ap (λ x. let v : Value = record { negative = b.negative; digits = x; power = a.power } in v) q
+    ∙ ap (λ x. let v : Value = record { negative = b.negative; digits = b.digits; power = x } in v) r
+
+zero_power : (x : ℤ) → is_zero_power x ≡ true → x ≡ pos 0
+zero_power (pos n) h = ap (λ k. pos k) (eqb-true n 0 h)
+zero_power (negsuc n) h = absurd (false≢true h)
+
+-- a normal value is zero, or its last digit isn't
+pub normal_parts : (v : Value) → IsNormal v → (v.digits < 10 ^ 38) × IsTrue (is_power v.power) × ((v.digits % 10 ≢ 0) ⊎ (v ≡ zero))
+normal_parts v h =
+    let last = not (v.digits % 10 == 0) in
+    let none = (v.digits == 0 && not v.negative) && is_zero_power v.power in
+    let p = and_parts (nat_lt v.digits (10 ^ 38) && is_power v.power) (last || none) h in
+    let q = and_parts (nat_lt v.digits (10 ^ 38)) (is_power v.power) p.0 in
+    (ltb-true v.digits (10 ^ 38) q.0, q.1, either (or_cases last none p.1))
+  where
+    is_none : ((v.digits == 0 && not v.negative) && is_zero_power v.power) ≡ true → v ≡ zero
+    is_none e =
+        let r = and_parts (v.digits == 0 && not v.negative) (is_zero_power v.power) e in
+        let t = and_parts (v.digits == 0) (not v.negative) r.0 in
+        same_value v zero (not-true v.negative t.1) (eqb-true v.digits 0 t.0) (zero_power v.power r.1)
+
+    either : (not (v.digits % 10 == 0) ≡ true) ⊎ (((v.digits == 0 && not v.negative) && is_zero_power v.power) ≡ true) → (v.digits % 10 ≢ 0) ⊎ (v ≡ zero)
+    either (inl e) = inl (eqb-false (v.digits % 10) 0 (not-true (v.digits % 10 == 0) e))
+    either (inr e) = inr (is_none e)
+
+same_power : (x y : ℤ) → up_of x + down_of y ≡ up_of y + down_of x → x ≡ y
+same_power (pos m) (pos n) e = ap (λ k. pos k) (omega arith)
+same_power (pos m) (negsuc n) e = absurd (omega arith)
+same_power (negsuc m) (pos n) e = absurd (omega arith)
+same_power (negsuc m) (negsuc n) e = ap (λ k. negsuc k) (omega arith)
+
+pub normal_one : (a b : Value) → IsNormal a → IsNormal b → SameNumber (exact a) (exact b) → a ≡ b
+normal_one a b g h same = by (normal_parts a g).2 (normal_parts b h).2
+  where
+    unlike : (x y : Value) → SameNumber (exact x) (exact y) → x ≡ zero → y.digits % 10 ≢ 0 → ⊥
+    unlike x y s e f = f (ap (λ n. n % 10) (zero_spreads (exact x) (exact y) s.0 (ap (λ v. v.digits) e)))
+
+    signs : a.digits % 10 ≢ 0 → (a.negative ≡ b.negative) ⊎ ((a.digits ≡ 0) × (b.digits ≡ 0)) → a.negative ≡ b.negative
+    signs f (inl e) = e
+    signs f (inr e) = absurd (f (ap (λ n. n % 10) e.0))
+
+    by : (a.digits % 10 ≢ 0) ⊎ (a ≡ zero) → (b.digits % 10 ≢ 0) ⊎ (b ≡ zero) → a ≡ b
+    by (inl p) (inl q) =
+        let s = strip_one a.digits (up_of a.power + down_of b.power) b.digits (up_of b.power + down_of a.power) same.0 p q in
+        same_value a b (signs p same.1) s.0 (same_power a.power b.power s.1)
+    by (inl p) (inr q) = absurd (unlike b a (symmetric (exact a) (exact b) same) q p)
+    by (inr p) (inl q) = absurd (unlike a b same p q)
+    by (inr p) (inr q) = p ∙ sym q
+
+pub normal_iff : (a b : Value) → IsNormal a → IsNormal b → SameNumber (exact a) (exact b) ↔ (a ≡ b)
+normal_iff a b g h = (normal_one a b g h, λ e. subst (λ (x : Value). SameNumber (exact a) (exact x)) e (reflexive (exact a)))
+
+pub denoted_one : (bs : List ℕ) (a b : Value) → IsNormal a → IsNormal b → Denotes bs (exact a) → Denotes bs (exact b) → a ≡ b
+denoted_one bs a b g h d e =
+    let p = parts_one bs d.0 e.0 d.1 e.1 in
+    let second = subst (λ q. SameNumber (number_of q) (exact b)) (sym p) e.3 in
+    normal_one a b g h (transitive (exact a) (number_of d.0) (exact b) (symmetric (number_of d.0) (exact a) d.3) second)
+
+-- ---- whole numbers
+
+zero_only : (v : Value) → v.digits % 10 ≢ 0 → v.digits ≡ 0 → ⊥
+zero_only v h e = h (ap (λ x. x % 10) e)
+
+pub negative_not_whole : (v : Value) (n : ℕ) → IsNormal v → v.negative ≡ true → SameNumber (exact v) (whole_number n) → ⊥
+negative_not_whole v n h e same = by (normal_parts v h).2 same.1
+  where
+    by : (v.digits % 10 ≢ 0) ⊎ (v ≡ zero) → (v.negative ≡ false) ⊎ ((v.digits ≡ 0) × (n ≡ 0)) → ⊥
+    by p (inl q) = false≢true (sym q ∙ e)
+    by (inl p) (inr q) = zero_only v p q.0
+    by (inr p) (inr q) = false≢true (sym (ap (λ x. x.negative) p) ∙ e)
+
+pub fraction_not_whole : (v : Value) (n k : ℕ) → IsNormal v → v.power ≡ negsuc k → SameNumber (exact v) (whole_number n) → ⊥
+fraction_not_whole v n k h e same = by (normal_parts v h).2
+  where
+    by : (v.digits % 10 ≢ 0) ⊎ (v ≡ zero) → ⊥
+    by (inl p) =
+        let up : up_of v.power + 0 ≡ 0 = omega (arith, ap up_of e) in
+        let down : 0 + down_of v.power ≡ suc k = omega (arith, ap down_of e) in
+        let size : v.digits * 10 ^ 0 ≡ n * 10 ^ suc k = ap (λ x. v.digits * 10 ^ x) (sym up) ∙ same.0 ∙ ap (λ x. n * 10 ^ x) down in
+        p (ap (λ x. x % 10) (sym (mul-one v.digits) ∙ size) ∙ last_zero n k)
+    by (inr p) = absurd (omega (arith, ap down_of (sym e ∙ ap (λ x. x.power) p)))
+
+pub below_not_whole : (v : Value) (n : ℕ) (x : ℤ) → IsNormal v → v.power ≡ x → x <ℤ pos 0 → SameNumber (exact v) (whole_number n) → ⊥
+below_not_whole v n (pos k) h e l same = absurd (omega (arith, ints, l))
+below_not_whole v n (negsuc k) h e l same = fraction_not_whole v n k h e same

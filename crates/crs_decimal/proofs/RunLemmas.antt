@@ -1,0 +1,92 @@
+-- The bytes of a number are bytes of a run.
+use Rattle.std.proofs.Common.{◌≡◌, ℕ, ◌<◌, ◌==◌, ◌||◌, inl, inr, Bool, true, false, List, [], ◌∷◌, ◌++◌, length, Option, Some, None, refl, sym, ap, subst, ◌∙◌, arith}
+use Rattle.std.specs.List.{list_all}
+use Rattle.std.proofs.lemmas.Bool.{and_parts, and_from, or_cases, eqb-true, false≢true}
+use Rattle.std.proofs.lemmas.List.Folds.{list_all-append}
+use Rattle.crs_decimal.specs.Plain.{IsSignNeeded, IsPlain, is_plain_byte}
+use Rattle.crs_decimal.specs.Spelling.{Sign, unsigned, plus, minus, sign_text, Exponent, Parts, fraction_text, exponent_text, text, is_digit, AreDigits, fraction_digits, IsExponent, IsForm, HasForm, is_run_byte, is_run_start, IsRun}
+use Rattle.crs_decimal.proofs.SplitLemmas.{digits_parts}
+
+all_append : (p : ℕ → Bool) (xs ys : List ℕ) → list_all p xs ≡ true → list_all p ys ≡ true → list_all p (xs ++ ys) ≡ true
+all_append p xs ys g h = list_all-append p xs ys ∙ and_from _ _ g h
+
+pub digits_pass : (p : ℕ → Bool) → ((d : ℕ) → is_digit d ≡ true → p d ≡ true) → (ds : List ℕ) → AreDigits ds → list_all p ds ≡ true
+digits_pass p q [] h = refl
+digits_pass p q (d ∷ ds) h =
+    let r = and_parts (is_digit d) (list_all is_digit ds) h in and_from _ _ (q d r.0) (digits_pass p q ds r.1)
+
+digit_is_run_byte : (d : ℕ) → is_digit d ≡ true → is_run_byte d ≡ true
+digit_is_run_byte d h = rw h refl
+
+digit_is_run_start : (d : ℕ) → is_digit d ≡ true → is_run_start d ≡ true
+digit_is_run_start d h = rw h refl
+
+sign_run : (s : Sign) → list_all is_run_byte (sign_text s) ≡ true
+sign_run unsigned = refl
+sign_run plus = refl
+sign_run minus = refl
+
+fraction_run : (f : Option (List ℕ)) → AreDigits (fraction_digits f) → list_all is_run_byte (fraction_text f) ≡ true
+fraction_run None h = refl
+fraction_run (Some ds) h = digits_pass is_run_byte digit_is_run_byte ds h
+
+letter_run : (b : ℕ) → (b == 69 || b == 101) ≡ true → is_run_byte b ≡ true
+letter_run b h = elim (or_cases (b == 69) (b == 101) h) [ inl e ↦ rw (eqb-true b 69 e) refl | inr e ↦ rw (eqb-true b 101 e) refl ]
+
+exponent_run : (e : Option Exponent) → IsExponent e → list_all is_run_byte (exponent_text e) ≡ true
+exponent_run None h = refl
+exponent_run (Some e) h =
+    and_from _ _ (letter_run e.letter h.0) (all_append is_run_byte (sign_text e.sign) e.digits (sign_run e.sign) (digits_pass is_run_byte digit_is_run_byte e.digits h.1))
+
+text_run : (p : Parts) → IsForm p → list_all is_run_byte (text p) ≡ true
+text_run p h =
+    let d = digits_parts p.whole (fraction_digits p.fraction) h.digits in
+    let front = all_append is_run_byte (sign_text p.sign) p.whole (sign_run p.sign) (digits_pass is_run_byte digit_is_run_byte p.whole d.0) in
+    let mid = all_append is_run_byte (sign_text p.sign ++ p.whole) (fraction_text p.fraction) front (fraction_run p.fraction d.1) in
+    all_append is_run_byte (sign_text p.sign ++ p.whole ++ fraction_text p.fraction) (exponent_text p.exponent) mid (exponent_run p.exponent h.exponent)
+
+starts : List ℕ → Bool
+starts [] = false
+starts (b ∷ bs) = is_run_start b
+
+text_starts : (s : Sign) (w : List ℕ) (f : Option (List ℕ)) (e : List ℕ) → AreDigits w → 0 < length (w ++ fraction_digits f) → starts (sign_text s ++ w ++ fraction_text f ++ e) ≡ true
+unfolding starts
+text_starts plus w f e d h = refl
+text_starts minus w f e d h = refl
+text_starts unsigned [] None e d h = absurd (omega arith)
+text_starts unsigned [] (Some ds) e d h = refl
+text_starts unsigned (x ∷ xs) f e d h = digit_is_run_start x (and_parts (is_digit x) (list_all is_digit xs) d).0
+
+run_from : (bs : List ℕ) → starts bs ≡ true → list_all is_run_byte bs ≡ true → IsRun bs
+unfolding starts
+run_from [] g h = absurd (false≢true g)
+run_from (b ∷ bs) g h = (g, h)
+
+pub form_is_run : (bs : List ℕ) → HasForm bs → IsRun bs
+form_is_run bs (p, h) =
+    let d = digits_parts p.whole (fraction_digits p.fraction) h.1.digits in
+    let r = run_from (text p) (text_starts p.sign p.whole p.fraction (exponent_text p.exponent) d.0 h.1.some) (text_run p h.1) in
+    subst IsRun (sym h.0) r
+
+-- ---- plain spellings
+
+digit_is_plain_byte : (d : ℕ) → is_digit d ≡ true → is_plain_byte d ≡ true
+digit_is_plain_byte d h = rw h refl
+
+sign_is_plain : (p : Parts) → IsSignNeeded p → list_all is_plain_byte (sign_text p.sign) ≡ true
+sign_is_plain p (inl e) = rw e refl
+sign_is_plain p (inr e) = rw e.0 refl
+
+fraction_is_plain : (f : Option (List ℕ)) → AreDigits (fraction_digits f) → list_all is_plain_byte (fraction_text f) ≡ true
+fraction_is_plain None h = refl
+fraction_is_plain (Some ds) h = digits_pass is_plain_byte digit_is_plain_byte ds h
+
+pub plain_bytes_pass : (bs : List ℕ) → IsPlain bs → list_all is_plain_byte bs ≡ true
+plain_bytes_pass bs h =
+    let p = h.parts in
+    let d = digits_parts p.whole (fraction_digits p.fraction) h.spells.1.digits in
+    let front = all_append is_plain_byte (sign_text p.sign) p.whole (sign_is_plain p h.sign) (digits_pass is_plain_byte digit_is_plain_byte p.whole d.0) in
+    let mid = all_append is_plain_byte (sign_text p.sign ++ p.whole) (fraction_text p.fraction) front (fraction_is_plain p.fraction d.1) in
+    let none : exponent_text p.exponent ≡ [] = ap exponent_text h.exponent in
+    let last : list_all is_plain_byte (exponent_text p.exponent) ≡ true = ap (list_all is_plain_byte) none in
+    ap (list_all is_plain_byte) h.spells.0 ∙ all_append is_plain_byte (sign_text p.sign ++ p.whole ++ fraction_text p.fraction) (exponent_text p.exponent) mid last

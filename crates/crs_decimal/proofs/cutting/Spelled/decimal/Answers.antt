@@ -1,0 +1,54 @@
+use Rattle.std.proofs.Common.{◌≡◌, ◌≤◌, length, ap, ◌∙◌, arith, rules, w32}
+use Rattle.std.proofs.lemmas.Int.{to_z-of_z}
+use mir.Val.{SFits}
+use Rattle.crs_decimal.specs.Bounds.{digits_value, exponent_digits}
+use Rattle.crs_decimal.specs.Spelling.{mantissa}
+use Rattle.crs_decimal.proofs.BoundLemmas.{cut_shows, long_unbounded, short_strips, short_zero, up_cut, down_cut, far_cut, near_cut, far_unbounded, near_bounded, near_same, zero_same, zero_bounded}
+use Rattle.crs_decimal.proofs.cutting.Spelled.decimal.Goals as goal
+use Rattle.crs_decimal.proofs.cutting.Spelled.decimal.Goals.{then-self-gt100-via-then-self-gt100, then-self-gt100-via-else-self-gt100+then-self-gt3, then-self-gt100-via-else-self-gt100+else-self-gt3+then-self}
+
+pub returns-then-self-gt100 : goal.returns-then-self-gt100
+returns-then-self-gt100 c = λ p cut d h. elim c.then-self-gt100.branch [
+  | then-self-gt100-via-then-self-gt100 w ↦ absurd (omega (arith, h.mantissa_digits, cut.count))
+  | then-self-gt100-via-else-self-gt100+then-self-gt3 w ↦ absurd (omega (arith, h.exponent_digits, ap length cut.exponent_digits))
+  | then-self-gt100-via-else-self-gt100+else-self-gt3+then-self w ↦ absurd (long_unbounded p c.args.self.now.mantissa (cut_shows p c.args.self.now cut d) w.if-self.true h)
+]
+
+pub returns-then-self-eq0 : goal.returns-then-self-eq0
+returns-then-self-eq0 c = λ p cut d.
+    let m = c.args.self.now.mantissa in
+    let z = short_zero (digits_value (mantissa p)) m (cut_shows p c.args.self.now cut d) c.if-self.false c.if-self-eq0.true in
+    (c.zero.ensures.normal, zero_bounded p z (omega (arith, cut.count)) (omega (arith, ap length cut.exponent_digits)), rw c.zero.ensures.value (zero_same p z))
+
+pub new-requires-clause-limit : goal.new-requires-clause-limit
+new-requires-clause-limit c =
+    let cut = c.requires.cut in
+    (short_strips (digits_value (mantissa cut.0)) c.args.self.now.mantissa (cut_shows cut.0 c.args.self.now cut.1 cut.2) c.if-self.false c.if-self-eq0.false).1
+
+pub new-requires-clause-last : goal.new-requires-clause-last
+new-requires-clause-last c =
+    let cut = c.requires.cut in
+    (short_strips (digits_value (mantissa cut.0)) c.args.self.now.mantissa (cut_shows cut.0 c.args.self.now cut.1 cut.2) c.if-self.false c.if-self-eq0.false).0.1
+
+pub returns-in-None : goal.returns-in-None
+returns-in-None c = λ p cut d.
+    let s = c.args.self.now in
+    let up = c.exponent_powers-up in
+    let t = short_strips (digits_value (mantissa p)) s.mantissa (cut_shows p s cut d) c.if-self.false c.if-self-eq0.false in
+    let u = up_cut p s up.result.0 cut up.ensures.up in
+    let v = down_cut p s up.result.1 cut up.ensures.down in
+    far_unbounded p s.mantissa t.0 (far_cut p s up.result.0 up.result.1 cut u v c.in-None.ensures)
+
+pub returns-in-Some : goal.returns-in-Some
+returns-in-Some c = λ p cut d.
+    let s = c.args.self.now in
+    let up = c.exponent_powers-up in
+    let t = short_strips (digits_value (mantissa p)) s.mantissa (cut_shows p s cut d) c.if-self.false c.if-self-eq0.false in
+    let u = up_cut p s up.result.0 cut up.ensures.up in
+    let v = down_cut p s up.result.1 cut up.ensures.down in
+    let near = near_cut p s up.result.0 up.result.1 c.in-Some.power cut u v c.in-Some.ensures in
+    let fits : SFits w32 c.in-Some.power = search rules in
+    let power : c.new.result.power ≡ c.in-Some.power = c.new.ensures.power ∙ to_z-of_z w32 c.in-Some.power fits in
+    let few : length (mantissa p) ≤ 100 = omega (arith, cut.count) in
+    let short : length (exponent_digits p.exponent) ≤ 3 = omega (arith, ap length cut.exponent_digits) in
+    (c.new.ensures.normal, near_bounded p s.mantissa c.in-Some.power t.0 t.1 few short near, near_same p s.mantissa c.new.result t.0.0 c.new.ensures.digits (c.new.ensures.negative ∙ cut.negative) (rw power near))

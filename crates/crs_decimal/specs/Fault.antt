@@ -1,0 +1,11 @@
+-- Which fault bytes have that are read as no number: the form is judged before the bounds.
+use Rattle.std.specs.Prelude.{ℕ, List}
+use Rattle.crs_decimal.specs.declared.fault.NumberFault.{NumberFault}
+use Rattle.crs_decimal.specs.declared.fault.NumberFault.TheVariants.{Malformed, Range}
+use Rattle.crs_decimal.specs.Bounds.{IsInBounds}
+use Rattle.crs_decimal.specs.Spelling.{HasForm}
+
+-- malformed: not of the number form; out of range: of the form, and not in bounds
+abbrev pub IsFault : List ℕ → NumberFault → Type 0
+IsFault bytes Malformed = ¬ (HasForm bytes)
+IsFault bytes Range = HasForm bytes × ¬ (IsInBounds bytes)

@@ -1,0 +1,10 @@
+pub mod Bounds
+pub mod Cut
+pub mod Examples
+pub mod Fault
+pub mod Mantissa
+pub mod Number
+pub mod Plain
+pub mod Spelling
+pub mod Split
+pub mod Value

@@ -1,0 +1,80 @@
+-- How a number is spelled: [sign] (digits [. [digits]] | . digits) [E [sign] digits].
+use Rattle.std.specs.Prelude.{◌≡◌, ℕ, ◌<◌, ◌==◌, ◌&&◌, ◌||◌, nat_le, Bool, IsTrue, List, [], ◌∷◌, ◌++◌, length, Option, Some, None}
+use Rattle.std.specs.List.{list_all}
+
+pub data Sign : Type 0 where
+  unsigned plus minus : Sign
+
+abbrev pub sign_text : Sign → List ℕ
+sign_text unsigned = []
+sign_text plus = 43 ∷ []
+sign_text minus = 45 ∷ []
+
+-- E or e, a sign, digits
+pub record Exponent : Type 0 where
+  pub letter : ℕ
+  pub sign : Sign
+  pub digits : List ℕ
+
+-- the fraction is what stands behind the period, if there is one
+pub record Parts : Type 0 where
+  pub sign : Sign
+  pub whole : List ℕ
+  pub fraction : Option (List ℕ)
+  pub exponent : Option Exponent
+
+abbrev pub fraction_text : Option (List ℕ) → List ℕ
+fraction_text None = []
+fraction_text (Some digits) = 46 ∷ digits
+
+abbrev pub exponent_text : Option Exponent → List ℕ
+exponent_text None = []
+exponent_text (Some e) = e.letter ∷ sign_text e.sign ++ e.digits
+
+abbrev pub text : Parts → List ℕ
+text p = sign_text p.sign ++ p.whole ++ fraction_text p.fraction ++ exponent_text p.exponent
+
+abbrev pub is_digit : ℕ → Bool
+is_digit b = nat_le 48 b && nat_le b 57
+
+abbrev pub AreDigits : List ℕ → Type 0
+AreDigits ds = IsTrue (list_all is_digit ds)
+
+abbrev pub fraction_digits : Option (List ℕ) → List ℕ
+fraction_digits None = []
+fraction_digits (Some ds) = ds
+
+-- all digits of the mantissa
+abbrev pub mantissa : Parts → List ℕ
+mantissa p = p.whole ++ fraction_digits p.fraction
+
+abbrev pub IsExponent : Option Exponent → Type 0
+IsExponent None = Unit {0}
+IsExponent (Some e) = IsTrue (e.letter == 69 || e.letter == 101) × AreDigits e.digits × (0 < length e.digits)
+
+-- the parts are of the number form: digits where digits stand, at least one in the mantissa
+pub record IsForm (p : Parts) : Type 0 where
+  pub digits : AreDigits (mantissa p)
+  pub some : 0 < length (mantissa p)
+  pub exponent : IsExponent p.exponent
+
+-- the bytes spell a number of these parts
+abbrev pub Spells : List ℕ → Parts → Type 0
+Spells bytes p = (bytes ≡ text p) × IsForm p
+
+-- the bytes have the number form
+abbrev pub HasForm : List ℕ → Type 0
+HasForm bytes = (p : Parts) × Spells bytes p
+
+-- the bytes of which numbers and words consist: 0-9 A-Z a-z _ . + -
+abbrev pub is_run_byte : ℕ → Bool
+is_run_byte b = is_digit b || (nat_le 65 b && nat_le b 90) || (nat_le 97 b && nat_le b 122) || b == 95 || b == 46 || b == 43 || b == 45
+
+-- the bytes that a number starts with: 0-9 . + -
+abbrev pub is_run_start : ℕ → Bool
+is_run_start b = is_digit b || b == 46 || b == 43 || b == 45
+
+-- the bytes aren't none, start as a number does, and consist of what numbers and words consist of
+abbrev pub IsRun : List ℕ → Type 0
+IsRun [] = ⊥
+IsRun (b ∷ bytes) = IsTrue (is_run_start b) × IsTrue (list_all is_run_byte (b ∷ bytes))

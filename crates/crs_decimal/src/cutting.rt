@@ -1,0 +1,179 @@
+ghost use Rattle.std.specs.Prelude.{◌≡◌, ◌+◌, ◌<◌, ◌≤◌, ◌^◌, length, take, drop, MatchOption};
+ghost use Rattle.std.specs.List.{prefix_len};
+ghost use Rattle.crs_decimal.specs.Bounds.{is_minus};
+ghost use Rattle.crs_decimal.specs.Cut.{IsExponentCut, IsCut};
+ghost use Rattle.crs_decimal.specs.Mantissa.{with_digits};
+ghost use Rattle.crs_decimal.specs.Spelling.{AreDigits, fraction_digits, is_digit};
+ghost use Rattle.crs_decimal.specs.Split.{front, behind, sign_of, behind_sign, fraction_of};
+ghost use Rattle.crs_decimal.specs.Split.{behind_fraction, exponent_of, HasExponentDigits, parts_of};
+ghost use Rattle.crs_decimal.specs.Split.{IsWhole};
+
+use crate::mantissa::Mantissa;
+
+// what is kept of a number's parts
+#[derive(Clone, Copy)]
+pub(crate) struct Spelled<'a> {
+    pub(crate) negative: bool,
+    pub(crate) mantissa: Mantissa,
+    pub(crate) count: usize,
+    pub(crate) fraction: usize,
+    pub(crate) below: bool,
+    pub(crate) exponent: &'a [u8],
+}
+
+#[derive(Clone, Copy)]
+struct Run<'a> {
+    mantissa: Mantissa,
+    count: usize,
+    rest: &'a [u8],
+}
+
+#[derive(Clone, Copy)]
+struct Exponent<'a> {
+    negative: bool,
+    digits: &'a [u8],
+    rest: &'a [u8],
+}
+
+pub(crate) fn read(bytes: &[u8]) -> Option<Spelled>
+    ensures cut { MatchOption result
+        (¬ (IsWhole bytes.now))
+        (λ s. IsWhole bytes.now × IsCut (parts_of bytes.now) s) }
+    ensures counts { MatchOption result
+        (Unit {0})
+        (λ s. (s.mantissa.zeros ≤ s.count) × (s.fraction ≤ s.count) × AreDigits s.exponent.now) }
+{
+    let (negative, rest) = split_sign(bytes);
+    let whole = split_digits(rest, Mantissa::new());
+    let fraction = split_fraction(whole.rest, whole.mantissa);
+    let exponent = split_exponent(fraction.rest)?;
+    let count = whole.count + fraction.count;
+    if count == 0 || !exponent.rest.is_empty() {
+        return None;
+    }
+    Some(Spelled {
+        negative,
+        mantissa: fraction.mantissa,
+        count,
+        fraction: fraction.count,
+        below: exponent.negative,
+        exponent: exponent.digits,
+    })
+}
+
+// whether a minus stands in front, and what follows the sign
+fn split_sign(bytes: &[u8]) -> (bool, &[u8])
+    ensures sign { result.0 ≡ is_minus (sign_of bytes.now) }
+    ensures rest { result.1.now ≡ behind_sign bytes.now }
+{
+    match bytes {
+        [b'-', rest @ ..] => (true, rest),
+        [b'+', rest @ ..] => (false, rest),
+        _ => (false, bytes),
+    }
+}
+
+// the digits in front, taken behind the mantissa
+fn split_digits(bytes: &[u8], before: Mantissa) -> Run
+    requires { before.zeros + length bytes.now < 2 ^ 64 }
+    ensures mantissa { result.mantissa ≡ with_digits before (front bytes.now) }
+    ensures count { result.count ≡ length (front bytes.now) }
+    ensures rest { result.rest.now ≡ behind bytes.now }
+    ensures zeros { result.mantissa.zeros ≤ before.zeros + result.count }
+    ensures len { result.count + length result.rest.now ≡ length bytes.now }
+{
+    let mut mantissa = before;
+    let mut count = 0;
+    for byte in bytes {
+        if !byte.is_ascii_digit() {
+            break;
+        }
+        mantissa = mantissa.with_digit(*byte - b'0');
+        count += 1;
+    }
+    Run {
+        mantissa,
+        count,
+        rest: rest_of(bytes, count),
+    }
+}
+
+// the digits behind a period in front, if there is one
+fn split_fraction(bytes: &[u8], before: Mantissa) -> Run
+    requires { before.zeros + length bytes.now < 2 ^ 64 }
+    ensures mantissa { result.mantissa ≡ with_digits before (fraction_digits (fraction_of bytes.now)) }
+    ensures count { result.count ≡ length (fraction_digits (fraction_of bytes.now)) }
+    ensures rest { result.rest.now ≡ behind_fraction bytes.now }
+    ensures zeros { result.mantissa.zeros ≤ before.zeros + result.count }
+    ensures len { result.count ≤ length bytes.now }
+{
+    match bytes {
+        [b'.', rest @ ..] => split_digits(rest, before),
+        _ => Run {
+            mantissa: before,
+            count: 0,
+            rest: bytes,
+        },
+    }
+}
+
+// the exponent in front, empty if there is none; None where its letter stands without digits
+fn split_exponent(bytes: &[u8]) -> Option<Exponent>
+    ensures { MatchOption result
+        (¬ (HasExponentDigits (exponent_of bytes.now)))
+        (IsExponentCut bytes.now) }
+{
+    match bytes {
+        [b'E' | b'e', signed @ ..] => {
+            let (negative, rest) = split_sign(signed);
+            let (digits, rest) = cut_digits(rest);
+            if digits.is_empty() {
+                return None;
+            }
+            Some(Exponent {
+                negative,
+                digits,
+                rest,
+            })
+        }
+        _ => Some(Exponent {
+            negative: false,
+            digits: front_of(bytes, 0),
+            rest: bytes,
+        }),
+    }
+}
+
+// the digits in front, and what stands behind them
+fn cut_digits(bytes: &[u8]) -> (&[u8], &[u8])
+    ensures front { result.0.now ≡ front bytes.now }
+    ensures digits { AreDigits result.0.now }
+    ensures rest { result.1.now ≡ behind bytes.now }
+{
+    let count = digits_len(bytes);
+    (front_of(bytes, count), rest_of(bytes, count))
+}
+
+fn digits_len(bytes: &[u8]) -> usize
+    ensures value { result ≡ prefix_len is_digit bytes.now }
+    ensures bound { result ≤ length bytes.now }
+{
+    bytes
+        .iter()
+        .take_while(|byte| byte.is_ascii_digit())
+        .count()
+}
+
+fn front_of(bytes: &[u8], to: usize) -> &[u8]
+    requires { to ≤ length bytes.now }
+    ensures { result.now ≡ take to bytes.now }
+{
+    &bytes[..to]
+}
+
+fn rest_of(bytes: &[u8], from: usize) -> &[u8]
+    requires { from ≤ length bytes.now }
+    ensures { result.now ≡ drop from bytes.now }
+{
+    &bytes[from..]
+}

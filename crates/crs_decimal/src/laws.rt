@@ -1,0 +1,73 @@
+//! Laws of the definitions, as contracts of functions that do nothing.
+
+ghost use Rattle.std.specs.Prelude.{◌≡◌, ℕ, ◌<◌, ◌≤◌, ◌↔◌, ◌⊎◌, IsTrue, List, length};
+ghost use Rattle.std.specs.List.{list_all};
+ghost use Rattle.crs_decimal.specs.Bounds.{IsInBounds, Denotes};
+ghost use Rattle.crs_decimal.specs.Examples.{SpellingsDenote, SpellingsFail, ValuesArePlain};
+ghost use Rattle.crs_decimal.specs.Number.{Number, SameNumber};
+ghost use Rattle.crs_decimal.specs.Plain.{IsPlain, is_plain_byte, plain};
+ghost use Rattle.crs_decimal.specs.Spelling.{Parts, Spells, HasForm, IsRun, AreDigits};
+ghost use Rattle.crs_decimal.specs.Value.{Value, IsNormal, exact};
+
+/// Bytes spell the parts of a number in one way at most.
+pub fn one_form()
+    ensures { (bytes : List ℕ) (p q : Parts) → Spells bytes p → Spells bytes q → p ≡ q }
+{}
+
+/// Two normal values are the same number exactly where they are equal.
+pub fn normal_is_one()
+    ensures { (a b : Value) → IsNormal a → IsNormal b → SameNumber (exact a) (exact b) ↔ (a ≡ b) }
+{}
+
+/// Bytes denote one normal value at most.
+pub fn denotes_one()
+    ensures { (bytes : List ℕ) (a b : Value) → IsNormal a → IsNormal b →
+        Denotes bytes (exact a) → Denotes bytes (exact b) → a ≡ b }
+{}
+
+/// Being the same number is an equivalence.
+pub fn same_number_is_equivalence()
+    ensures reflexive { (a : Number) → SameNumber a a }
+    ensures symmetric { (a b : Number) → SameNumber a b → SameNumber b a }
+    ensures transitive { (a b c : Number) → SameNumber a b → SameNumber b c → SameNumber a c }
+{}
+
+/// What has the form of a number is a run: it starts with a digit, a sign or a period, and each of
+/// its bytes is a letter, a digit, `_`, `.`, `+` or `-`.
+pub fn spelled_as_a_run()
+    ensures { (bytes : List ℕ) → HasForm bytes → IsRun bytes }
+{}
+
+/// At most 18 digits alone are a number in bounds.
+pub fn digits_alone()
+    ensures { (bytes : List ℕ) → AreDigits bytes → 0 < length bytes → length bytes ≤ 18 →
+        IsInBounds bytes }
+{}
+
+/// Bytes are a number in bounds, or of the number form and out of bounds, or not of that form.
+pub fn decided()
+    ensures { (bytes : List ℕ) →
+        (IsInBounds bytes ⊎ (HasForm bytes × ¬ (IsInBounds bytes))) ⊎ (¬ (HasForm bytes)) }
+{}
+
+/// The plain spelling of a normal value is plain, denotes the value, is no longer than 79 bytes,
+/// and is the only plain spelling that denotes it.
+pub fn plain_is_the_one()
+    ensures is_plain { (v : Value) → IsNormal v → IsPlain (plain v) }
+    ensures denotes { (v : Value) → IsNormal v → Denotes (plain v) (exact v) }
+    ensures only { (v : Value) (bytes : List ℕ) → IsNormal v → IsPlain bytes →
+        Denotes bytes (exact v) → bytes ≡ plain v }
+    ensures short { (v : Value) → IsNormal v → length (plain v) ≤ 79 }
+{}
+
+/// Plain spellings consist of digits, `.` and `-`.
+pub fn plain_bytes()
+    ensures { (bytes : List ℕ) → IsPlain bytes → IsTrue (list_all is_plain_byte bytes) }
+{}
+
+/// The definitions on a few spellings and values.
+pub fn worked_examples()
+    ensures spellings { SpellingsDenote }
+    ensures faults { SpellingsFail }
+    ensures plain { ValuesArePlain }
+{}

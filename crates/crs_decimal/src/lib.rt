@@ -1,0 +1,15 @@
+//! Exact decimals within bounds: read, compared and written without rounding.
+#![tactic(auto)]
+
+mod cutting;
+mod decimal;
+mod fault;
+pub mod laws;
+mod mantissa;
+mod reading;
+#[cfg(test)]
+mod tests;
+mod writing;
+
+pub use decimal::Decimal;
+pub use fault::NumberFault;

@@ -1,0 +1,107 @@
+ghost use Rattle.std.specs.Prelude.{◌≡◌, ℕ, ◌+◌, ◌<◌, ◌≤◌, length, if◌then◌else◌, MatchOption};
+ghost use Rattle.std.specs.Prelude.{MatchResult};
+ghost use Rattle.crs_decimal.specs.Bounds.{digits_value, IsBounded, number_of, Denotes};
+ghost use Rattle.crs_decimal.specs.Cut.{IsCut, IsFar, IsPowerBetween};
+ghost use Rattle.crs_decimal.specs.Fault.{IsFault};
+ghost use Rattle.crs_decimal.specs.Number.{SameNumber};
+ghost use Rattle.crs_decimal.specs.Spelling.{Parts, AreDigits, mantissa};
+ghost use Rattle.crs_decimal.specs.Value.{IsNormal, exact};
+
+use crate::cutting::{Spelled, read};
+use crate::decimal::Decimal;
+use crate::fault::NumberFault;
+
+impl Decimal {
+    /// Reads a number, `[sign] (digits [. [digits]] | . digits) [E [sign] digits]`, with `e` for
+    /// `E` as well. ISO 19162:2019, "Numbers"; the bounds are the profile's.
+    ///
+    /// `Malformed`: the bytes don't have that form. `Range`: they have it, but more than 100
+    /// mantissa or 3 exponent digits are written, or the number isn't zero and has more than 38
+    /// digits from the first to the last that isn't zero, or those times a power of ten that isn't
+    /// from -40 to 40.
+    pub fn parse(bytes: &[u8]) -> Result<Decimal, NumberFault>
+        ensures { MatchResult result
+            (λ d. IsNormal d × Denotes bytes.now (exact d))
+            (IsFault bytes.now) }
+    {
+        match read(bytes) {
+            None => Err(NumberFault::Malformed),
+            Some(spelled) => match spelled.decimal() {
+                None => Err(NumberFault::Range),
+                Some(number) => Ok(number),
+            },
+        }
+    }
+}
+
+impl Spelled<'_> {
+    // the number, if it is in bounds
+    fn decimal(&self) -> Option<Decimal>
+        requires zeros { self.now.mantissa.zeros ≤ self.now.count }
+        requires fraction { self.now.fraction ≤ self.now.count }
+        requires digits { AreDigits self.now.exponent.now }
+        requires cut { (p : Parts) × IsCut p self.now × AreDigits (mantissa p) }
+        ensures { (p : Parts) → IsCut p self.now → AreDigits (mantissa p) → MatchOption result
+            (¬ (IsBounded p))
+            (λ d. IsNormal d × IsBounded p × SameNumber (number_of p) (exact d)) }
+    {
+        if self.count > 100 || self.exponent.len() > 3 || self.mantissa.is_long {
+            return None;
+        }
+        if self.mantissa.digits == 0 {
+            return Some(Decimal::zero());
+        }
+        let (up, down) = self.exponent_powers();
+        match power_between(up + self.mantissa.zeros, down + self.fraction) {
+            None => None,
+            Some(power) => Some(Decimal::new(self.negative, self.mantissa.digits, power)),
+        }
+    }
+
+    // the powers of ten that the exponent stands for, above and below
+    fn exponent_powers(&self) -> (usize, usize)
+        requires digits { AreDigits self.now.exponent.now }
+        requires few { length self.now.exponent.now ≤ 3 }
+        ensures up { result.0 ≡ (if self.now.below then 0 else digits_value self.now.exponent.now) }
+        ensures down { result.1 ≡ (if self.now.below then digits_value self.now.exponent.now else 0) }
+        ensures small { (result.0 < 1000) × (result.1 < 1000) }
+    {
+        let size = exponent_value(self.exponent);
+        if self.below { (0, size) } else { (size, 0) }
+    }
+}
+
+// the number that at most three digits spell
+fn exponent_value(digits: &[u8]) -> usize
+    requires digits { AreDigits digits.now }
+    requires few { length digits.now ≤ 3 }
+    ensures value { result ≡ digits_value digits.now }
+    ensures small { result < 1000 }
+{
+    let mut value = 0;
+    for digit in digits {
+        value = value * 10 + usize::from(*digit - b'0');
+    }
+    value
+}
+
+// the power of ten that is 10^up / 10^down; None where it isn't from -40 to 40
+fn power_between(up: usize, down: usize) -> Option<i32>
+    ensures { MatchOption result (IsFar up down) (IsPowerBetween up down) }
+{
+    if up >= down {
+        let power = up - down;
+        if power <= 40 {
+            Some(power as i32)
+        } else {
+            None
+        }
+    } else {
+        let power = down - up;
+        if power <= 40 {
+            Some(-(power as i32))
+        } else {
+            None
+        }
+    }
+}

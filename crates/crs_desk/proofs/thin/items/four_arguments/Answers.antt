@@ -1,0 +1,13 @@
+use Rattle.std.proofs.Common.{sym, subst, ◌∙◌}
+use Rattle.crs_text.specs.Items.{IsAt, arguments, skip}
+use Rattle.crs_desk.specs.ThinReading.{item_at}
+use Rattle.crs_desk.proofs.ArgumentLemmas.{are_four}
+use Rattle.crs_desk.proofs.thin.items.four_arguments.Goals as goal
+
+pub returns : goal.returns
+returns c =
+    are_four c.args.items.now (item_at c.args.items.now c.args.id) c.in_ok-arg.field-0 c.in_ok-arg-2.field-0 c.in_ok-arg-3.field-0 c.in_ok-arg-4.field-0 (sym c.arg_count.ensures ∙ c.if-arg_count-ne4.false)
+    (subst (IsAt c.args.items.now (skip 0 (arguments (item_at c.args.items.now c.args.id)))) (c.in_ok-arg.was) c.arg.ensures)
+    (subst (IsAt c.args.items.now (skip 1 (arguments (item_at c.args.items.now c.args.id)))) (c.in_ok-arg-2.was) c.arg-2.ensures)
+    (subst (IsAt c.args.items.now (skip 2 (arguments (item_at c.args.items.now c.args.id)))) (c.in_ok-arg-3.was) c.arg-3.ensures)
+    (subst (IsAt c.args.items.now (skip 3 (arguments (item_at c.args.items.now c.args.id)))) (c.in_ok-arg-4.was) c.arg-4.ensures)

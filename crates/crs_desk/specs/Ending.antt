@@ -1,0 +1,30 @@
+-- How a run over one text ends.
+use Rattle.std.specs.Prelude.{◌≡◌, ◌≤◌, ◌<◌, ℕ, List, true, false}
+use Rattle.std.specs.Io.KnownBytes.{Appends}
+use Rattle.crs_desk.specs.Streams.{SourceState, SinkState}
+use Rattle.crs_desk.specs.Whole.{IsWhole}
+use Rattle.crs_desk.specs.declared.fault.RunFault.{RunFault}
+use Rattle.crs_desk.specs.declared.fault.RunFault.TheVariants.{ReadFailed, WriteFailed, TooLong, TooManyReads, Memory}
+
+-- a run with this status: the source gave a text whole, and the sink got what the command writes for it
+pub record IsAnswered (Output : List ℕ → List ℕ → ℕ → Type 0) (old_source new_source : SourceState)
+    (old_sink new_sink : SinkState) (status : ℕ) : Type 0 where
+  pub text : List ℕ
+  pub written : List ℕ
+  pub is_whole : IsWhole old_source new_source text
+  pub is_output : Output text written status
+  pub is_sent : Appends old_sink.contents new_sink.contents written
+  pub is_used : new_sink.used ≡ true
+  pub is_healthy : new_sink.failed ≡ false
+
+-- what a run's fault says of its source, and of its sink before and after: what ended the reading goes before
+-- everything else, and then nothing was written
+abbrev pub IsRunFault : SourceState → SinkState → SinkState → RunFault → Type 0
+IsRunFault source old new ReadFailed = (source.failed ≡ true) × (source.taken ≤ 1048576) × (new ≡ old)
+IsRunFault source old new (TooLong line) =
+    (line ≡ 0) × (source.failed ≡ false) × (1048576 < source.taken) × (new ≡ old)
+IsRunFault source old new TooManyReads =
+    (source.failed ≡ false) × (source.taken ≤ 1048576) × (source.reads ≡ 1048576) × (source.ended ≡ false) × (new ≡ old)
+IsRunFault source old new WriteFailed =
+    (source.failed ≡ false) × (source.taken ≤ 1048576) × (source.ended ≡ true) × (new.failed ≡ true)
+IsRunFault source old new Memory = (source.failed ≡ false) × (source.taken ≤ 1048576) × (new ≡ old)

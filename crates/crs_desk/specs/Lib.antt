@@ -1,0 +1,12 @@
+pub mod Canonical
+pub mod Ending
+pub mod Output
+pub mod Streams
+pub mod ThinCanonical
+pub mod ThinReading
+pub mod ThinReads
+pub mod ThinSame
+pub mod ThinSpelling
+pub mod ThinValues
+pub mod ThinWords
+pub mod Whole

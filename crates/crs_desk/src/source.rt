@@ -1,0 +1,89 @@
+ghost use Rattle.std.specs.Prelude.{◌≡◌, ◌≤◌, ◌<◌, length, true, IsTrue};
+ghost use Rattle.std.specs.Io.{ReadsAtMost};
+ghost use Rattle.std.specs.Io.KnownBytes.{ReadConsumes};
+ghost use Rattle.crs_desk.specs.Streams.{CountsRead, fresh_source};
+
+use std::io;
+use std::io::Read;
+use std::marker::Model;
+
+/// A reader that counts its reads and remembers a failure.
+#[derive(Drop)]
+pub struct Source<R: Read> {
+    reader: R,
+    reads: u32,
+    taken: u64,
+    ended: bool,
+    failed: bool,
+}
+
+impl<R: Read> Model for Source<R> {
+    ghost use Rattle.std.specs.Prelude.{◌≤◌, ◌*◌};
+    ghost use Rattle.crs_desk.specs.Streams.{SourceState};
+
+    ghost Value = { SourceState };
+
+    ghost view = { λ source. record {
+      remaining = R.remaining source.reader;
+      reads = source.reads;
+      taken = source.taken;
+      ended = source.ended;
+      failed = source.failed;
+    } };
+
+    ghost invariant = { λ source. (source.reads ≤ 1048576) × (source.taken ≤ 65536 * source.reads) };
+}
+
+impl<R: Read> Source<R> {
+    /// A source from which nothing has been read.
+    pub fn new(reader: R) -> Source<R>
+        ensures { result ≡ fresh_source (R.remaining reader) }
+    {
+        Source {
+            reader,
+            reads: 0,
+            taken: 0,
+            ended: false,
+            failed: false,
+        }
+    }
+
+    /// One read of at most as many bytes as there is room for. An error is the reader's own, an interruption
+    /// included; the source has `failed` from then on.
+    pub fn read(&mut self, room: &mut [u8]) -> io::Result<usize>
+        requires some { 1 ≤ length room.old }
+        requires few { length room.old ≤ 65536 }
+        requires reads { self.old.reads < 1048576 }
+        ensures bound { ReadsAtMost result room.new }
+        ensures bytes { ReadConsumes self.old.remaining self.new.remaining result room.new }
+        ensures counted { CountsRead self.old self.new result }
+    {
+        self.reads += 1;
+        match self.reader.read(room) {
+            Ok(count) => {
+                self.taken += count as u64;
+                self.ended = self.ended || count == 0;
+                Ok(count)
+            }
+            Err(error) => {
+                self.failed = true;
+                Err(error)
+            }
+        }
+    }
+
+    /// How many reads were made.
+    pub fn reads(&self) -> u32
+        ensures count { result ≡ self.now.reads }
+        ensures bound { result ≤ 1048576 }
+    {
+        self.reads
+    }
+
+    /// Whether a read answered a failure.
+    pub fn failed(&self) -> bool
+        ensures { result ≡ self.now.failed }
+    {
+        self.failed
+    }
+}

@@ -1,0 +1,149 @@
+//! Readers and writers that a program may meet, over the public calls.
+use crate::{Canon, Level, RunFault, Sink, Source, run_canon};
+use std::io;
+use std::io::{Read, Write};
+use std::test::Fail;
+
+const NEVER: u32 = u32::MAX;
+
+// A reader of one byte again and again, in pieces, that fails at one of its calls.
+#[derive(Clone, Copy)]
+struct Repeats {
+    byte: u8,
+    left: u64,
+    piece: usize,
+    fails_at: u32,
+    calls: u32,
+}
+
+impl Read for Repeats {
+    fn read(&mut self, buf: &mut [u8]) -> io::Result<usize> {
+        self.calls = self.calls.saturating_add(1);
+        if self.calls == self.fails_at {
+            return Err(io::Error::from(io::ErrorKind::Interrupted));
+        }
+        let count = buf.len().min(self.piece).min(self.left as usize);
+        for place in buf.iter_mut().take(count) {
+            *place = self.byte;
+        }
+        self.left -= count as u64;
+        Ok(count)
+    }
+}
+
+// A writer that fails at its first call.
+#[derive(Drop)]
+struct Refuses;
+
+impl Write for Refuses {
+    fn write(&mut self, _buf: &[u8]) -> io::Result<usize> {
+        Err(io::Error::from(io::ErrorKind::BrokenPipe))
+    }
+
+    fn flush(&mut self) -> io::Result<()> {
+        Ok(())
+    }
+}
+
+const fn reader_of(byte: u8, left: u64, piece: usize, fails_at: u32) -> Repeats {
+    Repeats {
+        byte,
+        left,
+        piece,
+        fails_at,
+        calls: 0,
+    }
+}
+
+#[test]
+fn ends_by_the_reader(rt: HostRuntime) -> Result<(), Fail> {
+    let limit = 1_048_576;
+    let cases = [
+        (
+            "one byte too many",
+            reader_of(b' ', limit + 1, 65_536, NEVER),
+            Err(RunFault::TooLong(0)),
+            17,
+        ),
+        (
+            "the most bytes",
+            reader_of(b' ', limit, 65_536, NEVER),
+            Ok(1),
+            17,
+        ),
+        (
+            "the most bytes, one by one",
+            reader_of(b' ', limit, 1, NEVER),
+            Err(RunFault::TooManyReads),
+            1_048_576,
+        ),
+        (
+            "one byte fewer, one by one",
+            reader_of(b' ', limit - 1, 1, NEVER),
+            Ok(1),
+            1_048_576,
+        ),
+        (
+            "line ends without end",
+            reader_of(b'\n', u64::MAX, 1, NEVER),
+            Err(RunFault::TooManyReads),
+            1_048_576,
+        ),
+        (
+            "a failure at once",
+            reader_of(b' ', limit, 9, 1),
+            Err(RunFault::ReadFailed),
+            1,
+        ),
+        (
+            "a failure at the second read",
+            reader_of(b' ', limit, 9, 2),
+            Err(RunFault::ReadFailed),
+            2,
+        ),
+        (
+            "a failure at the last read",
+            reader_of(b' ', limit, 1, 1_048_576),
+            Err(RunFault::ReadFailed),
+            1_048_576,
+        ),
+    ];
+    for (name, reader, wanted, reads) in cases {
+        let mut written = Vec::new(rt.alloc());
+        let mut source = Source::new(reader);
+        let outcome = run_canon(
+            rt.alloc(),
+            Level::Full,
+            &mut source,
+            &mut Sink::new(&mut written),
+        );
+        let is_written = outcome.is_ok();
+        assert_eq!(rt; outcome, wanted, "{name}");
+        assert_eq!(rt; source.reads(), reads, "{name}");
+        assert_eq!(rt;
+            written.as_slice() == b"not yet\n".as_slice(),
+            is_written,
+            "{name}"
+        );
+        assert_eq!(rt; written.is_empty(), !is_written, "{name}");
+    }
+    Ok(())
+}
+
+#[test]
+fn ends_by_the_writer(rt: HostRuntime) {
+    let mut source = Source::new(reader_of(b' ', 3, 1, NEVER));
+    let mut sink = Sink::new(Refuses);
+    let outcome = run_canon(rt.alloc(), Level::Full, &mut source, &mut sink);
+    assert_eq!(rt; outcome, Err(RunFault::WriteFailed));
+    assert!(rt; sink.failed() && !source.failed());
+}
+
+#[test]
+fn compares_canonical_texts(rt: HostRuntime) -> Result<(), Fail> {
+    let canon = Canon::new(Vec::from_slice(rt.alloc(), b"A[1]")?, Level::Full);
+    let other = Canon::new(Vec::from_slice(rt.alloc(), b"A[2]")?, Level::Full);
+    assert!(rt; canon.bytes() == b"A[1]".as_slice() && canon.level() == Level::Full);
+    assert!(rt; canon.same(&canon) && !canon.same(&other));
+    Ok(())
+}

@@ -1,0 +1,44 @@
+ghost use Rattle.std.specs.Prelude.{◌≡◌, ◌≤◌, IfOk, IfErr, vec_len};
+ghost use Rattle.crs_desk.specs.Streams.{fresh_source};
+ghost use Rattle.crs_desk.specs.Whole.{IsWhole, IsReadFault};
+
+use crate::{RunFault, Source};
+use std::alloc::{AllocError, Global};
+use std::io::Read;
+
+const MAX_READS: u32 = 1_048_576;
+
+const MAX_BYTES: usize = 1_048_576;
+
+const ROOM: usize = 65_536;
+
+// The whole text of a source, at most 1,048,576 bytes.
+pub(crate) fn read_text<R: Read>(alloc: Global, source: &mut Source<R>) -> Result<Vec<u8>, RunFault>
+    requires { source.old ≡ fresh_source source.old.remaining }
+    ensures ok { IfOk result (λ text. IsWhole source.old source.new text.items) }
+    ensures reads { source.new.reads ≤ 1048576 }
+    ensures err { IfErr result (IsReadFault source.new) }
+{
+    let mut room = make_room(alloc).map_err(|_| RunFault::Memory)?;
+    let mut text = Vec::new(alloc);
+    for turn in 0..MAX_READS {
+        let count = source
+            .read(room.as_mut_slice())
+            .map_err(|_| RunFault::ReadFailed)?;
+        if count == 0 {
+            return Ok(text);
+        }
+        if count > MAX_BYTES - text.len() {
+            return Err(RunFault::TooLong(0));
+        }
+        text.extend_from_slice(&room[..count])
+            .map_err(|_| RunFault::Memory)?;
+    }
+    Err(RunFault::TooManyReads)
+}
+
+fn make_room(alloc: Global) -> Result<Vec<u8>, AllocError>
+    ensures { IfOk result (λ room. vec_len room ≡ 65536) }
+{
+    vec![in alloc; 0u8; ROOM]
+}

@@ -1,0 +1,2 @@
+mod HelpLemmas
+mod CommandLemmas

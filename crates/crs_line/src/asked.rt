@@ -1,0 +1,20 @@
+use std::alloc::AllocError;
+use thiserror::Error;
+
+/// What a command line asks for.
+#[derive(Debug, Drop)]
+pub enum Request {
+    /// The canonical text of the text on standard input.
+    Canon,
+}
+
+/// Why a command line gives no request.
+#[derive(Debug, Drop, Error)]
+pub enum RequestFault {
+    /// The line is wrong, or asks for help: `clap`'s own text, on the stream that `clap` picks.
+    #[error("{0}")]
+    Line(clap::Error),
+    /// Memory ran out.
+    #[error("out of memory")]
+    Memory(AllocError),
+}

@@ -1,0 +1,354 @@
+-- Which token may follow, read off the tokens themselves, is which token a state takes.
+use Rattle.std.proofs.Common.{◌≡◌, ℕ, suc, ◌+◌, ◌≤◌, ◌<◌, ◌⊎◌, inl, inr, nat_lt, Bool, true, false, Option, Some, None, List, [], ◌∷◌, ◌++◌, length, refl, sym, ◌∙◌, ap, subst, append_assoc, arith}
+use Rattle.std.specs.List.{fold, last_or}
+use Rattle.std.proofs.lemmas.Bool.{ltb-true, ltb-false}
+use Rattle.std.proofs.lemmas.List.{append-nil}
+use Rattle.std.proofs.lemmas.List.Sums.{fold-append}
+use Rattle.crs_text.specs.Tokens.{number, text, word, Token, single, comma, opening, closing}
+use Rattle.crs_text.specs.Items.{Item, leaf, node, Items, End, More, tokens, others_tokens, depth}
+use Rattle.crs_text.specs.Viable.{IsViable, IsViableAtAnyDepth, opened, opens, last_of, GoesOn, IsOpening, MayFollow, Allows, IsFull}
+use Rattle.crs_text.specs.State.{Frame, State, wants, worded, after, start, gather, only_if, behind_leaf, behind, step, run, before_tokens, frames_tokens, unread}
+use Rattle.crs_text.proofs.StateLemmas.{only_if-some, same_square-true, same_square-refl, unread-run}
+use Rattle.crs_text.proofs.SoundLemmas.{AreSound, IsSound, run-cons, run-some, sound-run}
+use Rattle.crs_text.proofs.ViableLemmas.{node_tokens, step-opening, run-append, taken, completed, viable_from_run, run_from_viable}
+
+mutual
+  opens-item : (item : Item) (held : List Bool) (more : List Token) → fold opened held (tokens item ++ more) ≡ fold opened held more
+  opens-item (leaf kind place raw) held more = refl
+  opens-item (node place keyword square first others close) held more =
+      ap (λ ts. fold opened (square ∷ held) ts) (node_tokens (tokens first) (others_tokens others) (closing close square) more)
+      ∙ opens-item first (square ∷ held) (others_tokens others ++ closing close square ∷ more)
+      ∙ opens-others others (square ∷ held) (closing close square ∷ more)
+
+  opens-others : (items : Items) (held : List Bool) (more : List Token) → fold opened held (others_tokens items ++ more) ≡ fold opened held more
+  opens-others End held more = refl
+  opens-others (More item items) held more =
+      ap (λ ts. fold opened held ts) (append_assoc (tokens item) (others_tokens items) more)
+      ∙ opens-item item held (others_tokens items ++ more)
+      ∙ opens-others items held more
+
+opens-before : (before : List Item) (held : List Bool) → fold opened held (before_tokens before) ≡ held
+opens-before [] held = refl
+opens-before (item ∷ before) held =
+    fold-append opened held (before_tokens before) (tokens item ++ comma ∷ [])
+    ∙ ap (λ h. fold opened h (tokens item ++ comma ∷ [])) (opens-before before held)
+    ∙ opens-item item held (comma ∷ [])
+
+abbrev pub squares : List Frame → List Bool
+squares [] = []
+squares (f ∷ fs) = f.square ∷ squares fs
+
+pub length-squares : (fs : List Frame) → length (squares fs) ≡ length fs
+length-squares [] = refl
+length-squares (f ∷ fs) = ap (λ n. suc n) (length-squares fs)
+
+opens-frames : (fs : List Frame) → fold opened [] (frames_tokens fs) ≡ squares fs
+opens-frames [] = refl
+opens-frames (f ∷ fs) =
+    fold-append opened [] (frames_tokens fs) (single word f.place f.keyword ∷ opening f.square ∷ before_tokens f.before)
+    ∙ ap (λ h. fold opened (f.square ∷ h) (before_tokens f.before)) (opens-frames fs)
+    ∙ opens-before f.before (f.square ∷ squares fs)
+
+abbrev pub frames_of : State → List Frame
+frames_of (wants fs) = fs
+frames_of (worded place raw fs) = fs
+frames_of (after item fs) = fs
+
+pub opens-unread : (s : State) → opens (unread s) ≡ squares (frames_of s)
+opens-unread (wants fs) = opens-frames fs
+opens-unread (worded place raw fs) = fold-append opened [] (frames_tokens fs) (single word place raw ∷ []) ∙ opens-frames fs
+opens-unread (after item fs) =
+    fold-append opened [] (frames_tokens fs) (tokens item)
+    ∙ ap (λ h. fold opened h (tokens item)) (opens-frames fs)
+    ∙ ap (λ ts. fold opened (squares fs) ts) (sym (append-nil (tokens item)))
+    ∙ opens-item item (squares fs) []
+
+last-append : (o : Option Token) (xs ys : List Token) → last_or o (xs ++ ys) ≡ last_or (last_or o xs) ys
+last-append o [] ys = refl
+last-append o (x ∷ xs) ys = last-append (Some x) xs ys
+
+abbrev pub last_of_item : Item → Token
+last_of_item (leaf kind place raw) = single kind place raw
+last_of_item (node place keyword square first others close) = closing close square
+
+last-item : (o : Option Token) (item : Item) → last_or o (tokens item) ≡ Some (last_of_item item)
+last-item o (leaf kind place raw) = refl
+last-item o (node place keyword square first others close) =
+    last-append (Some (opening square)) (tokens first ++ others_tokens others) (closing close square ∷ [])
+
+abbrev pub last_of_open : Frame → Token
+last_of_open f = elim f.before [ [] ↦ opening f.square | item ∷ before ↦ comma ]
+
+last-open : (o : Option Token) (f : Frame) → last_or o (single word f.place f.keyword ∷ opening f.square ∷ before_tokens f.before) ≡ Some (last_of_open f)
+last-open o f = go f.before
+  where
+    go : (before : List Item) → last_or (Some (opening f.square)) (before_tokens before) ≡ Some (last_of_open (record f { before = before }))
+    go [] = refl
+    go (item ∷ before) =
+        last-append (Some (opening f.square)) (before_tokens before) (tokens item ++ comma ∷ [])
+        ∙ last-append (last_or (Some (opening f.square)) (before_tokens before)) (tokens item) (comma ∷ [])
+
+abbrev pub last_token : State → Option Token
+last_token (wants []) = None
+last_token (wants (f ∷ fs)) = Some (last_of_open f)
+last_token (worded place raw fs) = Some (single word place raw)
+last_token (after item fs) = Some (last_of_item item)
+
+pub last-unread : (s : State) → last_of (unread s) ≡ last_token s
+last-unread (wants []) = refl
+last-unread (wants (f ∷ fs)) = last-append None (frames_tokens fs) _ ∙ last-open (last_or None (frames_tokens fs)) f
+last-unread (worded place raw fs) = last-append None (frames_tokens fs) _
+last-unread (after item fs) = last-append None (frames_tokens fs) (tokens item) ∙ last-item (last_or None (frames_tokens fs)) item
+
+abbrev pub Takes : ℕ → State → Token → Type 0
+Takes limit s t = (n : State) × (step limit s t ≡ Some n)
+
+goes_on_from_behind : (item : Item) (f : Frame) (fs : List Frame) (t : Token) (n : State) → behind item (f ∷ fs) t ≡ Some n → GoesOn f.square t
+goes_on_from_behind item f fs (single kind place raw) n e = cc
+goes_on_from_behind item f fs comma n e = tt
+goes_on_from_behind item f fs (opening square) n e = cc
+goes_on_from_behind item f fs (closing place square) n e = same_square-true square f.square (only_if-some _ _ n e).0
+
+behind_from_goes_on : (item : Item) (f : Frame) (fs : List Frame) (t : Token) → GoesOn f.square t → (n : State) × (behind item (f ∷ fs) t ≡ Some n)
+behind_from_goes_on item f fs (single kind place raw) h = absurd h
+behind_from_goes_on item f fs comma h = (wants (record f { before = item ∷ f.before } ∷ fs), refl)
+behind_from_goes_on item f fs (opening square) h = absurd h
+behind_from_goes_on item f fs (closing place square) h =
+    (after (gather f.place f.keyword f.square f.before item End place) fs, rw (h, same_square-refl f.square) refl)
+
+from_wants : (f : Frame) (fs : List Frame) (t : Token) → Takes 12 (wants (f ∷ fs)) t → MayFollow (Some (last_of_open f)) (f.square ∷ squares fs) t
+from_wants f fs t e = go f.before t e.0 e.1
+  where
+    go : (before : List Item) (t : Token) (n : State) → step 12 (wants (f ∷ fs)) t ≡ Some n → MayFollow (Some (last_of_open (record f { before = before }))) (f.square ∷ squares fs) t
+    go [] (single kind place raw) n e = tt
+    go [] comma n e = cc
+    go [] (opening square) n e = cc
+    go [] (closing place square) n e = cc
+    go (item ∷ before) (single kind place raw) n e = tt
+    go (item ∷ before) comma n e = cc
+    go (item ∷ before) (opening square) n e = cc
+    go (item ∷ before) (closing place square) n e = cc
+
+into_wants : (f : Frame) (fs : List Frame) (t : Token) → MayFollow (Some (last_of_open f)) (f.square ∷ squares fs) t → Takes 12 (wants (f ∷ fs)) t
+into_wants f fs t h = go f.before t h
+  where
+    go : (before : List Item) (t : Token) → MayFollow (Some (last_of_open (record f { before = before }))) (f.square ∷ squares fs) t → Takes 12 (wants (f ∷ fs)) t
+    go before (single kind place raw) h = (behind_leaf kind place raw (f ∷ fs), refl)
+    go [] comma h = absurd h
+    go [] (opening square) h = absurd h
+    go [] (closing place square) h = absurd h
+    go (item ∷ before) comma h = absurd h
+    go (item ∷ before) (opening square) h = absurd h
+    go (item ∷ before) (closing place square) h = absurd h
+
+into_word : (place : ℕ) (raw : List ℕ) (f : Frame) (fs : List Frame) (t : Token) → GoesOn f.square t ⊎ (IsOpening t × (length (f.square ∷ squares fs) < 12)) →
+    Takes 12 (worded place raw (f ∷ fs)) t
+into_word place raw f fs (single k p r) (inl h) = absurd h
+into_word place raw f fs (single k p r) (inr h) = absurd h.0
+into_word place raw f fs comma h = behind_from_goes_on (leaf word place raw) f fs comma tt
+into_word place raw f fs (opening square) (inl h) = absurd h
+into_word place raw f fs (opening square) (inr h) =
+    (wants (record { place = place; keyword = raw; square = square; before = [] } ∷ f ∷ fs), step-opening 12 place raw (f ∷ fs) square (omega (arith, length-squares fs)))
+into_word place raw f fs (closing p square) (inl h) = behind_from_goes_on (leaf word place raw) f fs (closing p square) h
+into_word place raw f fs (closing p square) (inr h) = absurd h.0
+
+follows_from_takes : (s : State) (t : Token) → IsSound 12 s → Takes 12 s t → MayFollow (last_token s) (squares (frames_of s)) t
+follows_from_takes (wants []) (single number place raw) s e = cc
+follows_from_takes (wants []) (single text place raw) s e = cc
+follows_from_takes (wants []) (single word place raw) s e = tt
+follows_from_takes (wants []) comma s e = cc
+follows_from_takes (wants []) (opening square) s e = cc
+follows_from_takes (wants []) (closing place square) s e = cc
+follows_from_takes (wants (f ∷ fs)) t s e = from_wants f fs t e
+follows_from_takes (worded place raw []) (single k p r) s e = cc
+follows_from_takes (worded place raw []) comma s e = cc
+follows_from_takes (worded place raw []) (opening square) s e = tt
+follows_from_takes (worded place raw []) (closing p square) s e = cc
+follows_from_takes (worded place raw (f ∷ fs)) (single k p r) s e = cc
+follows_from_takes (worded place raw (f ∷ fs)) comma s e = inl tt
+follows_from_takes (worded place raw (f ∷ fs)) (opening square) s e =
+    let h = ltb-true _ _ (only_if-some _ _ e.0 e.1).0 in
+    inr (tt, omega (arith, length-squares fs))
+follows_from_takes (worded place raw (f ∷ fs)) (closing p square) s e = inl (goes_on_from_behind (leaf word place raw) f fs (closing p square) e.0 e.1)
+follows_from_takes (after (leaf kind place raw) []) t s e = cc
+follows_from_takes (after (node place keyword square first others close) []) t s e = cc
+follows_from_takes (after (leaf number place raw) (f ∷ fs)) t s e = goes_on_from_behind (leaf number place raw) f fs t e.0 e.1
+follows_from_takes (after (leaf text place raw) (f ∷ fs)) t s e = goes_on_from_behind (leaf text place raw) f fs t e.0 e.1
+follows_from_takes (after (leaf word place raw) (f ∷ fs)) t s e = absurd s.1
+follows_from_takes (after (node place keyword square first others close) (f ∷ fs)) t s e =
+    goes_on_from_behind (node place keyword square first others close) f fs t e.0 e.1
+
+takes_from_follows : (s : State) (t : Token) → IsSound 12 s → MayFollow (last_token s) (squares (frames_of s)) t → Takes 12 s t
+takes_from_follows (wants []) (single number place raw) s h = absurd h
+takes_from_follows (wants []) (single text place raw) s h = absurd h
+takes_from_follows (wants []) (single word place raw) s h = (worded place raw [], refl)
+takes_from_follows (wants []) comma s h = absurd h
+takes_from_follows (wants []) (opening square) s h = absurd h
+takes_from_follows (wants []) (closing place square) s h = absurd h
+takes_from_follows (wants (f ∷ fs)) t s h = into_wants f fs t h
+takes_from_follows (worded place raw []) (single k p r) s h = absurd h
+takes_from_follows (worded place raw []) comma s h = absurd h
+takes_from_follows (worded place raw []) (opening square) s h = (wants (record { place = place; keyword = raw; square = square; before = [] } ∷ []), step-opening 12 place raw [] square (omega arith))
+takes_from_follows (worded place raw []) (closing p square) s h = absurd h
+takes_from_follows (worded place raw (f ∷ fs)) t s h = into_word place raw f fs t h
+takes_from_follows (after (leaf number place raw) []) t s h = absurd h
+takes_from_follows (after (leaf text place raw) []) t s h = absurd h
+takes_from_follows (after (leaf word place raw) []) t s h = absurd s.1
+takes_from_follows (after (node place keyword square first others close) []) t s h = absurd h
+takes_from_follows (after (leaf number place raw) (f ∷ fs)) t s h = behind_from_goes_on (leaf number place raw) f fs t h
+takes_from_follows (after (leaf text place raw) (f ∷ fs)) t s h = behind_from_goes_on (leaf text place raw) f fs t h
+takes_from_follows (after (leaf word place raw) (f ∷ fs)) t s h = absurd s.1
+takes_from_follows (after (node place keyword square first others close) (f ∷ fs)) t s h =
+    behind_from_goes_on (node place keyword square first others close) f fs t h
+
+-- a list and the state that it leads to agree on which token may follow
+allows-unread : (ts : List Token) (s : State) (t : Token) → run 12 start ts ≡ Some s → Allows ts t ≡ MayFollow (last_token s) (squares (frames_of s)) t
+allows-unread ts s t e =
+    let u : unread s ≡ ts = unread-run 12 ts start s e in
+    ap (λ l. Allows l t) (sym u) ∙ ap (λ o. MayFollow o (opens (unread s)) t) (last-unread s) ∙ ap (λ h. MayFollow (last_token s) h t) (opens-unread s)
+
+pub allows_from_viable : (ts : List Token) (t : Token) → IsViable ts → IsViable (ts ++ t ∷ []) → Allows ts t
+allows_from_viable ts t v w =
+    let a = run_from_viable ts v in
+    let b = run_from_viable (ts ++ t ∷ []) w in
+    let c = run-some 12 a.0 t [] b.0 (sym (run-append 12 start a.0 ts (t ∷ []) a.1) ∙ b.1) in
+    subst (λ A. A) (sym (allows-unread ts a.0 t a.1)) (follows_from_takes a.0 t (sound-run 12 ts start a.0 tt a.1) (c.0, c.1))
+
+pub viable_from_allows : (ts : List Token) (t : Token) → IsViable ts → Allows ts t → IsViable (ts ++ t ∷ [])
+viable_from_allows ts t v h =
+    let a = run_from_viable ts v in
+    let c = takes_from_follows a.0 t (sound-run 12 ts start a.0 tt a.1) (subst (λ A. A) (allows-unread ts a.0 t a.1) h) in
+    viable_from_run (ts ++ t ∷ []) c.0 (run-append 12 start a.0 ts (t ∷ []) a.1 ∙ run-cons 12 a.0 t c.0 [] c.1)
+
+-- a higher limit takes what a lower one does
+weaker-step : (limit : ℕ) (s : State) (t : Token) (n : State) → 12 ≤ limit → step 12 s t ≡ Some n → step limit s t ≡ Some n
+weaker-step limit (wants []) (single number place raw) n h e = cc
+weaker-step limit (wants []) (single text place raw) n h e = cc
+weaker-step limit (wants []) (single word place raw) n h e = e
+weaker-step limit (wants []) comma n h e = cc
+weaker-step limit (wants []) (opening square) n h e = cc
+weaker-step limit (wants []) (closing place square) n h e = cc
+weaker-step limit (wants (f ∷ fs)) (single k p r) n h e = e
+weaker-step limit (wants (f ∷ fs)) comma n h e = cc
+weaker-step limit (wants (f ∷ fs)) (opening square) n h e = cc
+weaker-step limit (wants (f ∷ fs)) (closing place square) n h e = cc
+weaker-step limit (worded place raw fs) (opening square) n h e =
+    let k = only_if-some _ _ n e in
+    let lt = ltb-true _ _ k.0 in
+    step-opening limit place raw fs square (omega arith) ∙ ap (λ m. Some m) k.1
+weaker-step limit (worded place raw fs) (single k p r) n h e = e
+weaker-step limit (worded place raw fs) comma n h e = e
+weaker-step limit (worded place raw fs) (closing p square) n h e = e
+weaker-step limit (after item fs) t n h e = e
+
+weaker-run : (limit : ℕ) (ts : List Token) (s n : State) → 12 ≤ limit → run 12 s ts ≡ Some n → run limit s ts ≡ Some n
+weaker-run limit [] s n h e = e
+weaker-run limit (t ∷ ts) s n h e =
+    let r = run-some 12 s t ts n e in
+    run-cons limit s t r.0 ts (weaker-step limit s t r.0 h r.1) ∙ weaker-run limit ts r.0 n h r.2
+
+-- an opening delimiter directly after a word is viable but for the limit
+pub deep_from_word : (ts : List Token) (place : ℕ) (raw : List ℕ) (fs : List Frame) (square : Bool) → run 12 start ts ≡ Some (worded place raw fs) →
+    IsViableAtAnyDepth (ts ++ opening square ∷ [])
+deep_from_word ts place raw fs square e =
+    let limit : ℕ = length fs + 13 in
+    let f : Frame = record { place = place; keyword = raw; square = square; before = [] } in
+    let long : run limit start ts ≡ Some (worded place raw fs) = weaker-run limit ts start (worded place raw fs) (omega arith) e in
+    let next : run limit start (ts ++ opening square ∷ []) ≡ Some (wants (f ∷ fs)) =
+    run-append limit start (worded place raw fs) ts (opening square ∷ []) long
+    ∙ run-cons limit (worded place raw fs) (opening square) (wants (f ∷ fs)) [] (step-opening limit place raw fs square (omega arith)) in
+    let r = completed limit (ts ++ opening square ∷ []) (wants (f ∷ fs)) (omega arith) next in
+    (r.0, r.1, r.2, r.4)
+
+-- what a state doesn't take makes no viable list
+pub not_viable_from_none : (ts : List Token) (s : State) (t : Token) → run 12 start ts ≡ Some s → step 12 s t ≡ None → ¬ (IsViable (ts ++ t ∷ []))
+not_viable_from_none ts s t e none v =
+    let b = run_from_viable (ts ++ t ∷ []) v in
+    let c = run-some 12 s t [] b.0 (sym (run-append 12 start s ts (t ∷ []) e) ∙ b.1) in
+    let k = c.1 in
+    cc
+
+abbrev IsWorded : State → Type 0
+IsWorded s = (place : ℕ) × (raw : List ℕ) × (fs : List Frame) × (s ≡ worded place raw fs)
+
+worded_from_opening : (limit : ℕ) (s : State) (square : Bool) (m : State) → step limit s (opening square) ≡ Some m → IsWorded s
+worded_from_opening limit (wants []) square m e = cc
+worded_from_opening limit (wants (f ∷ fs)) square m e = cc
+worded_from_opening limit (worded place raw fs) square m e = (place, raw, fs, refl)
+worded_from_opening limit (after item []) square m e = cc
+worded_from_opening limit (after item (f ∷ fs)) square m e = cc
+
+-- an opening delimiter is viable but for the limit directly after a word alone
+pub worded_from_deep : (ts : List Token) (s : State) (square : Bool) → run 12 start ts ≡ Some s → IsViableAtAnyDepth (ts ++ opening square ∷ []) → IsWorded s
+worded_from_deep ts s square e v =
+    let limit : ℕ = depth v.1 + 12 in
+    let b = taken limit (ts ++ opening square ∷ []) v.0 v.1 v.2 (omega arith) v.3 in
+    let long : run limit start ts ≡ Some s = weaker-run limit ts start s (omega arith) e in
+    let c = run-some limit s (opening square) [] b.0 (sym (run-append limit start s ts (opening square ∷ []) long) ∙ b.1) in
+    worded_from_opening limit s square c.0 c.1
+
+within_from_sound : (fs : List Frame) → AreSound 12 fs → length fs ≤ 12
+within_from_sound [] h = omega arith
+within_from_sound (f ∷ fs) h = h.1
+
+none_from_full : (place : ℕ) (raw : List ℕ) (fs : List Frame) (square : Bool) → 12 ≤ length fs → step 12 (worded place raw fs) (opening square) ≡ None
+none_from_full place raw fs square h = go (nat_lt (length fs) 12) refl
+  where
+    go : (b : Bool) → nat_lt (length fs) 12 ≡ b → only_if (nat_lt (length fs) 12) (wants (record { place = place; keyword = raw; square = square; before = [] } ∷ fs)) ≡ None
+    go true e = absurd (let k = ltb-true _ _ e in omega arith)
+    go false e = rw e refl
+
+pub full_from_deep : (ts : List Token) (square : Bool) → IsViable ts → IsViableAtAnyDepth (ts ++ opening square ∷ []) → ¬ (IsViable (ts ++ opening square ∷ [])) → IsFull ts
+full_from_deep ts square v deep refused =
+    let a = run_from_viable ts v in
+    let w = worded_from_deep ts a.0 square a.1 deep in
+    let place = w.0 in
+    let raw = w.1 in
+    let fs = w.2 in
+    let e : run 12 start ts ≡ Some (worded place raw fs) = a.1 ∙ ap (λ s. Some s) w.3 in
+    let u : unread (worded place raw fs) ≡ ts = unread-run 12 ts start (worded place raw fs) e in
+    let within = within_from_sound fs (sound-run 12 ts start (worded place raw fs) tt e) in (
+      place,
+      raw,
+      ap last_of (sym u) ∙ last-unread (worded place raw fs),
+      ap (λ l. length (opens l)) (sym u) ∙ ap (λ h. length h) (opens-unread (worded place raw fs)) ∙ length-squares fs ∙ full ts place raw fs square e refused within,
+    )
+  where
+    full : (ts : List Token) (place : ℕ) (raw : List ℕ) (fs : List Frame) (square : Bool) → run 12 start ts ≡ Some (worded place raw fs) →
+        ¬ (IsViable (ts ++ opening square ∷ [])) → length fs ≤ 12 → length fs ≡ 12
+    full ts place raw fs square e refused within = go (nat_lt (length fs) 12) refl
+      where
+        go : (b : Bool) → nat_lt (length fs) 12 ≡ b → length fs ≡ 12
+        go true h =
+            let n = wants (record { place = place; keyword = raw; square = square; before = [] } ∷ fs) in
+            let lt = ltb-true _ _ h in
+            absurd (refused (viable_from_run (ts ++ opening square ∷ []) n (run-append 12 start (worded place raw fs) ts (opening square ∷ []) e ∙ run-cons 12 (worded place raw fs) (opening square) n [] (step-opening 12 place raw fs square lt))))
+        go false h = let k = ltb-false _ _ h in omega arith
+
+word_from_last : (s : State) (place : ℕ) (raw : List ℕ) → IsSound 12 s → last_token s ≡ Some (single word place raw) → IsWorded s
+word_from_last (wants []) place raw s e = cc
+word_from_last (wants (f ∷ fs)) place raw s e = go f.before e
+  where
+    go : (before : List Item) → Some (last_of_open (record f { before = before })) ≡ Some (single word place raw) → IsWorded (wants (f ∷ fs))
+    go [] e = cc
+    go (item ∷ before) e = cc
+word_from_last (worded p r fs) place raw s e = (p, r, fs, refl)
+word_from_last (after (leaf kind p r) []) place raw s e = absurd s.1
+word_from_last (after (leaf number p r) (f ∷ fs)) place raw s e = cc
+word_from_last (after (leaf text p r) (f ∷ fs)) place raw s e = cc
+word_from_last (after (leaf word p r) (f ∷ fs)) place raw s e = absurd s.1
+word_from_last (after (node p keyword square first others close) fs) place raw s e = cc
+
+pub deep_from_full : (ts : List Token) (square : Bool) → IsViable ts → IsFull ts → IsViableAtAnyDepth (ts ++ opening square ∷ []) × ¬ (IsViable (ts ++ opening square ∷ []))
+deep_from_full ts square v h =
+    let a = run_from_viable ts v in
+    let u : unread a.0 ≡ ts = unread-run 12 ts start a.0 a.1 in
+    let last : last_token a.0 ≡ Some (single word h.0 h.1) = sym (last-unread a.0) ∙ ap last_of u ∙ h.2 in
+    let w = word_from_last a.0 h.0 h.1 (sound-run 12 ts start a.0 tt a.1) last in
+    let fs = w.2 in
+    let e : run 12 start ts ≡ Some (worded w.0 w.1 fs) = a.1 ∙ ap (λ s. Some s) w.3 in
+    let u2 : unread (worded w.0 w.1 fs) ≡ ts = unread-run 12 ts start (worded w.0 w.1 fs) e in
+    let count : length fs ≡ 12 = sym (length-squares fs) ∙ sym (ap (λ b. length b) (opens-unread (worded w.0 w.1 fs))) ∙ ap (λ l. length (opens l)) u2 ∙ h.3 in (
+      deep_from_word ts w.0 w.1 fs square e,
+      not_viable_from_none ts (worded w.0 w.1 fs) (opening square) e (none_from_full w.0 w.1 fs square (omega arith)),
+    )

@@ -1,0 +1,146 @@
+-- The table of the state after a token is the table with that token.
+use Rattle.std.proofs.Common.{◌≡◌, ℕ, suc, ◌+◌, ◌-◌, nat_lt, Bool, true, false, Some, None, if◌then◌else◌, List, [], ◌∷◌, ◌++◌, length, get_or, ◌≢◌, refl, sym, ◌∙◌, ap, append_assoc, length-append, arith}
+use Rattle.std.specs.Option.{option_map}
+use Rattle.std.proofs.Math.ListN.{set}
+use Rattle.std.proofs.Math.Seq.{get_or-append_seam, set-append_seam}
+use Rattle.std.proofs.lemmas.List.{append-nil}
+use Rattle.crs_text.specs.Tokens.{Kind, number, text, word, Token, single, comma, opening, closing}
+use Rattle.crs_text.specs.Items.{Item, leaf, Items, End, More, count}
+use Rattle.crs_text.specs.State.{Frame, State, wants, worded, after, gather, only_if, same_square, behind_leaf, behind, step}
+use Rattle.crs_text.specs.Table.{Flat, item_kind, leaf_row, no_row, flat_step, flat_comma, flat_open, flat_close, with_leaf, with_open, with_close}
+use Rattle.crs_text.specs.Rows.{node_rows, rows, rows_of_items, rows_before, open_row, rows_of_frames, opens_of, flat}
+use Rattle.crs_text.specs.declared.items.ItemKind.TheVariants.{Word, Node}
+use Rattle.crs_text.specs.declared.table.Row.{Row}
+use Rattle.crs_text.specs.declared.table.Open.{Open}
+use Rattle.crs_text.specs.declared.table.Position.{Position}
+use Rattle.crs_text.specs.declared.table.Position.TheVariants.{BeforeItem, AfterWord, AfterItem}
+
+pub length-opens_of : (fs : List Frame) → length (opens_of fs) ≡ length fs
+length-opens_of [] = refl
+length-opens_of (f ∷ fs) = ap (λ n. suc n) (length-opens_of fs)
+
+flat_same : (rows rows' : List Row) (opens opens' : List Open) (position : Position) → rows ≡ rows' → opens ≡ opens' →
+    (let f : Flat = record { rows = rows; opens = opens; position = position } in f) ≡ record { rows = rows'; opens = opens'; position = position }
+flat_same rows rows' opens opens' position p q = cc
+
+rows-gather : (place : ℕ) (keyword : List ℕ) (square : Bool) (before : List Item) (item : Item) (later : Items) (close depth : ℕ) →
+    rows depth (gather place keyword square before item later close) ≡
+    node_rows place (length keyword) square close (length before + suc (count later)) depth (rows_before (suc depth) before ++ (rows (suc depth) item ++ rows_of_items (suc depth) later))
+rows-gather place keyword square [] item later close depth =
+    let e : 0 + suc (count later) ≡ suc (count later) = omega arith in rw e refl
+rows-gather place keyword square (b ∷ before) item later close depth =
+    let e : suc (length before) + suc (count later) ≡ length before + suc (suc (count later)) = omega arith in
+    let body : rows_before (suc depth) before ++ (rows (suc depth) b ++ (rows (suc depth) item ++ rows_of_items (suc depth) later)) ≡
+    (rows_before (suc depth) before ++ rows (suc depth) b) ++ (rows (suc depth) item ++ rows_of_items (suc depth) later) = simp append_assoc in
+    rows-gather place keyword square before b (More item later) close depth ∙ ap (λ rs. node_rows place (length keyword) square close (length before + suc (suc (count later))) depth rs) body
+    ∙ ap (λ n. node_rows place (length keyword) square close n depth ((rows_before (suc depth) before ++ rows (suc depth) b) ++ (rows (suc depth) item ++ rows_of_items (suc depth) later))) (sym e)
+
+length-seam : (xs : List Row) (y : Row) (ys : List Row) → length (xs ++ y ∷ ys) - length xs ≡ suc (length ys)
+length-seam xs y ys = omega (arith, length-append xs (y ∷ ys))
+
+-- the rows with the row of an open node complete
+close-rows : (f : Frame) (fs : List Frame) (item : Item) (place : ℕ) →
+    set (rows_of_frames (f ∷ fs) ++ rows (suc (length fs)) item) (length (rows_of_frames fs))
+    (record (get_or (rows_of_frames (f ∷ fs) ++ rows (suc (length fs)) item) (length (rows_of_frames fs)) no_row)
+    { close = place; count = suc (length f.before); size = length (rows_of_frames (f ∷ fs) ++ rows (suc (length fs)) item) - length (rows_of_frames fs) })
+    ≡ rows_of_frames fs ++ rows (length fs) (gather f.place f.keyword f.square f.before item End place)
+close-rows f fs item place =
+    let A = rows_of_frames fs in
+    let r = open_row f (length fs) in
+    let B = rows_before (suc (length fs)) f.before in
+    let C = rows (suc (length fs)) item in
+    let whole : (A ++ (r ∷ B)) ++ C ≡ A ++ (r ∷ (B ++ C)) = append_assoc A (r ∷ B) C in
+    let one : length f.before + 1 ≡ suc (length f.before) = omega arith in
+    let nil : B ++ (C ++ []) ≡ B ++ C = ap (λ cs. B ++ cs) (append-nil C) in
+    let g = rows-gather f.place f.keyword f.square f.before item End place (length fs) in
+    let get = get_or-append_seam A r (B ++ C) no_row in
+    let len = length-seam A r (B ++ C) in
+    rw (whole, get, len, g, nil, one) (set-append_seam A r (B ++ C) _)
+
+comma-rows : (f : Frame) (fs : List Frame) (item : Item) →
+    rows_of_frames (f ∷ fs) ++ rows (suc (length fs)) item ≡ rows_of_frames (record f { before = item ∷ f.before } ∷ fs)
+comma-rows f fs item = append_assoc (rows_of_frames fs) (open_row f (length fs) ∷ rows_before (suc (length fs)) f.before) (rows (suc (length fs)) item)
+
+leaf-rows : (kind : Kind) (place : ℕ) (raw : List ℕ) (f : Frame) (fs : List Frame) →
+    with_leaf (flat (wants (f ∷ fs))) (item_kind kind) place (length raw) ≡ flat (behind_leaf kind place raw (f ∷ fs))
+leaf-rows kind place raw f fs = go kind
+  where
+    one : length f.before + 1 ≡ suc (length f.before)
+    one = omega arith
+
+    deep : length (opens_of fs) ≡ length fs
+    deep = length-opens_of fs
+
+    go : (kind : Kind) → with_leaf (flat (wants (f ∷ fs))) (item_kind kind) place (length raw) ≡ flat (behind_leaf kind place raw (f ∷ fs))
+    go number = rw (one, deep) refl
+    go text = rw (one, deep) refl
+    go word = rw (one, deep) refl
+
+-- the table of a state behind a complete item, which may be a word alone
+abbrev flat_behind : Item → List Frame → Position → Flat
+flat_behind item fs position = record { rows = rows_of_frames fs ++ rows (length fs) item; opens = opens_of fs; position = position }
+
+flat-comma : (item : Item) (fs : List Frame) (position : Position) → position ≢ BeforeItem → flat_comma (flat_behind item fs position) ≡ option_map flat (behind item fs comma)
+flat-comma item fs BeforeItem h = absurd (h refl)
+flat-comma item [] AfterWord h = refl
+flat-comma item [] AfterItem h = refl
+flat-comma item (f ∷ fs) AfterWord h = rw (comma-rows f fs item) refl
+flat-comma item (f ∷ fs) AfterItem h = rw (comma-rows f fs item) refl
+
+close-flat : (f : Frame) (fs : List Frame) (item : Item) (place : ℕ) (square : Bool) (position : Position) →
+    (b : Bool) → same_square square f.square ≡ b →
+    (if b then Some (with_close (flat_behind item (f ∷ fs) position) place) else None) ≡
+    option_map flat (only_if b (after (gather f.place f.keyword f.square f.before item End place) fs))
+close-flat f fs item place square position false e = refl
+close-flat f fs item place square position true e = ap (λ rs. Some (record { rows = rs; opens = opens_of fs; position = AfterItem })) (close-rows f fs item place)
+
+flat-close : (item : Item) (fs : List Frame) (position : Position) (place : ℕ) (square : Bool) → position ≢ BeforeItem →
+    flat_close (flat_behind item fs position) place square ≡ option_map flat (behind item fs (closing place square))
+flat-close item fs BeforeItem place square h = absurd (h refl)
+flat-close item [] AfterWord place square h = refl
+flat-close item [] AfterItem place square h = refl
+flat-close item (f ∷ fs) AfterWord place square h = close-flat f fs item place square AfterWord (same_square square f.square) refl
+flat-close item (f ∷ fs) AfterItem place square h = close-flat f fs item place square AfterItem (same_square square f.square) refl
+
+open-rows : (place : ℕ) (raw : List ℕ) (fs : List Frame) (square : Bool) →
+    with_open (flat (worded place raw fs)) square ≡ flat (wants (record { place = place; keyword = raw; square = square; before = [] } ∷ fs))
+open-rows place raw fs square =
+    let A = rows_of_frames fs in
+    let r = leaf_row Word place (length raw) (length fs) in
+    let len : length (A ++ r ∷ []) - 1 ≡ length A = omega (arith, length-append A (r ∷ [])) in
+    let get = get_or-append_seam A r [] no_row in
+    let put = set-append_seam A r [] (record r { kind = Node; square = square }) in
+    rw (len, get, put) refl
+
+open-flat : (place : ℕ) (raw : List ℕ) (fs : List Frame) (square : Bool) →
+    flat_open (flat (worded place raw fs)) square ≡ option_map flat (step 12 (worded place raw fs) (opening square))
+open-flat place raw fs square =
+    let deep = length-opens_of fs in
+    rw (open-rows place raw fs square, deep) (go (nat_lt (length fs) 12))
+  where
+    go : (b : Bool) → (let n : State = wants (record { place = place; keyword = raw; square = square; before = [] } ∷ fs) in (if b then Some (flat n) else None) ≡ option_map flat (only_if b n))
+    go true = refl
+    go false = refl
+
+pub flat-step : (s : State) (t : Token) → flat_step (flat s) t ≡ option_map flat (step 12 s t)
+flat-step (wants []) (single number place raw) = refl
+flat-step (wants []) (single text place raw) = refl
+flat-step (wants []) (single word place raw) = refl
+flat-step (wants []) comma = refl
+flat-step (wants []) (opening square) = refl
+flat-step (wants []) (closing place square) = refl
+flat-step (wants (f ∷ fs)) (single kind place raw) = ap (λ f. Some f) (leaf-rows kind place raw f fs)
+flat-step (wants (f ∷ fs)) comma = refl
+flat-step (wants (f ∷ fs)) (opening square) = refl
+flat-step (wants (f ∷ fs)) (closing place square) = refl
+flat-step (worded place raw []) (single k p r) = refl
+flat-step (worded place raw (f ∷ fs)) (single k p r) = refl
+flat-step (worded place raw fs) comma = flat-comma (leaf word place raw) fs AfterWord (λ e. cc)
+flat-step (worded place raw fs) (opening square) = open-flat place raw fs square
+flat-step (worded place raw fs) (closing p square) = flat-close (leaf word place raw) fs AfterWord p square (λ e. cc)
+flat-step (after item []) (single k p r) = refl
+flat-step (after item (f ∷ fs)) (single k p r) = refl
+flat-step (after item fs) comma = flat-comma item fs AfterItem (λ e. cc)
+flat-step (after item []) (opening square) = refl
+flat-step (after item (f ∷ fs)) (opening square) = refl
+flat-step (after item fs) (closing p square) = flat-close item fs AfterItem p square (λ e. cc)

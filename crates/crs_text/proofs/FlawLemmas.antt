@@ -1,0 +1,170 @@
+-- One flaw at most lies in front of what is left, and no token beside it.
+use Rattle.std.proofs.Common.{◌≡◌, ℕ, ◌+◌, ◌≤◌, Bool, true, false, ◌||◌, ◌==◌, List, [], ◌∷◌, ◌++◌, Option, Some, None, refl, sym, ap, subst, ◌∙◌, arith, inl, inr}
+use Rattle.std.specs.Prelude.{IsTrue, IsUtf8}
+use Rattle.std.specs.List.{list_all}
+use Rattle.std.proofs.lemmas.Str.{IsUtf8-append}
+use Rattle.std.proofs.lemmas.List.{append-nil}
+use Rattle.crs_decimal.specs.Spelling.{is_run_byte, is_run_start, HasForm}
+use Rattle.crs_decimal.specs.Bounds.{IsInBounds}
+use Rattle.crs_text.specs.Quoted.{IsInside, StopsAt, BeginsWith, is_quote, Through}
+use Rattle.crs_text.specs.Utf8.{IsUtf8Front, IsLongestUtf8}
+use Rattle.crs_text.specs.Tokens.{number, text, Token, single, is_letter, Forms}
+use Rattle.crs_text.specs.declared.refusal.Reason.{Reason}
+use Rattle.crs_text.specs.declared.refusal.Reason.TheVariants.{BadCharacter, BadNumber, NumberRange, NotUtf8, OpenText, Unexpected, UnexpectedEnd, TooDeep}
+use Rattle.crs_text.specs.TextFault.{begins_token, is_delimiter, BeginsNoToken, IsRun, IsFlaw}
+use Rattle.crs_text.proofs.QuotedLemmas.{same_tail, run_split, shut_one, shut_not_open}
+use Rattle.crs_text.proofs.TokenLemmas.{Shape, a_single, shape_of, shape_at, shape_by, shape_at_start, Forms-shape, Forms-shut}
+
+or_left : (a b : Bool) → (a || b) ≡ false → a ≡ false
+or_left true b e = absurd cc
+or_left false b e = refl
+
+or_right : (a b : Bool) → (a || b) ≡ false → b ≡ false
+or_right true b e = absurd cc
+or_right false b e = e
+
+no_shape : (b : ℕ) → begins_token b ≡ false → shape_by b ≡ None
+no_shape b e =
+    let d : is_delimiter b ≡ false = or_right (is_letter b || is_run_start b || is_quote b) (is_delimiter b) e in
+    let t = or_left (is_letter b || is_run_start b || is_quote b) (is_delimiter b) e in
+    let q : (b == 34) ≡ false = or_right (is_letter b || is_run_start b) (is_quote b) t in
+    let u = or_left (is_letter b || is_run_start b) (is_quote b) t in
+    let r : is_run_start b ≡ false = or_right (is_letter b) (is_run_start b) u in
+    let l : is_letter b ≡ false = or_left (is_letter b) (is_run_start b) u in
+    let d5 : (b == 41) ≡ false = or_right (b == 44 || b == 91 || b == 40 || b == 93) (b == 41) d in
+    let e4 = or_left (b == 44 || b == 91 || b == 40 || b == 93) (b == 41) d in
+    let d4 : (b == 93) ≡ false = or_right (b == 44 || b == 91 || b == 40) (b == 93) e4 in
+    let e3 = or_left (b == 44 || b == 91 || b == 40) (b == 93) e4 in
+    let d3 : (b == 40) ≡ false = or_right (b == 44 || b == 91) (b == 40) e3 in
+    let e2 = or_left (b == 44 || b == 91) (b == 40) e3 in
+    let d2 : (b == 91) ≡ false = or_right (b == 44) (b == 91) e2 in
+    let d1 : (b == 44) ≡ false = or_left (b == 44) (b == 91) e2 in
+    rw (l, r, q, d1, d2, d3, d4, d5) refl
+
+no_shape_at : (left : List ℕ) → BeginsNoToken left → shape_at left ≡ None
+no_shape_at [] h = absurd h
+no_shape_at (b ∷ bs) h = no_shape b h
+
+run_shape : (left run rest : List ℕ) → IsRun left run rest → shape_at left ≡ Some (a_single number)
+run_shape left run rest r = shape_at_start run rest left r.starts r.parts
+
+-- what a flaw begins with
+abbrev shape_for : Reason → Option Shape
+shape_for BadCharacter = None
+shape_for BadNumber = Some (a_single number)
+shape_for NumberRange = Some (a_single number)
+shape_for NotUtf8 = Some (a_single text)
+shape_for OpenText = Some (a_single text)
+shape_for Unexpected = None
+shape_for UnexpectedEnd = None
+shape_for TooDeep = None
+
+flaw_shape : (r : Reason) (left : List ℕ) (skip : ℕ) → IsFlaw r left skip → shape_at left ≡ shape_for r
+flaw_shape BadCharacter left skip f = no_shape_at left f.0
+flaw_shape BadNumber left skip f = run_shape left f.0 f.1 f.2
+flaw_shape NumberRange left skip f = run_shape left f.0 f.1 f.2
+flaw_shape NotUtf8 left skip f = ap shape_at f.2
+flaw_shape OpenText left skip f = ap shape_at f.1
+flaw_shape Unexpected left skip f = absurd f
+flaw_shape UnexpectedEnd left skip f = absurd f
+flaw_shape TooDeep left skip f = absurd f
+
+-- ---- no token beside a flaw
+
+IsInBounds-form : (b : List ℕ) → IsInBounds b → HasForm b
+IsInBounds-form b h = (h.0, h.1)
+
+one_run : (left run rest raw tail : List ℕ) → IsRun left run rest → left ≡ raw ++ tail → IsTrue (list_all is_run_byte raw) → StopsAt is_run_byte tail → raw ≡ run
+one_run left run rest raw tail r e taken ends = (run_split is_run_byte raw run tail rest taken ends r.taken r.ends (sym e ∙ r.parts)).0
+
+quote_utf8 : IsUtf8 (34 ∷ [])
+unfolding lib.Utf8.encode
+quote_utf8 = (34 ∷ [], (refl, refl))
+
+-- no token in front of a flaw, case by case on the token
+beside : (r : Reason) (total : ℕ) (t : Token) (left rest : List ℕ) (skip : ℕ) → IsFlaw r left skip → Forms total t left rest → shape_for r ≡ Some (shape_of t) → ⊥
+beside BadCharacter total t left rest skip f g e = absurd cc
+beside BadNumber total (single number place raw) left rest skip f g e =
+    f.3 (subst HasForm (one_run left f.0 f.1 raw rest f.2 g.spelled g.formed.1 g.ends) (IsInBounds-form raw g.formed.2))
+beside NumberRange total (single number place raw) left rest skip f g e =
+    f.4 (subst IsInBounds (one_run left f.0 f.1 raw rest f.2 g.spelled g.formed.1 g.ends) g.formed.2)
+beside NotUtf8 total (single text place raw) left rest skip f g e =
+    let shut = Forms-shut total place raw left rest g f.0 f.2 in
+    elim f.3 [
+      | inl s ↦ f.4 (subst IsUtf8Front (ap (λ z. z ++ 34 ∷ []) (shut_one f.0 raw rest s.0 s.1 shut s.2).0 ∙ sym s.3) ([], subst IsUtf8 (sym (append-nil (raw ++ 34 ∷ []))) (IsUtf8-append raw (34 ∷ []) g.formed.1 quote_utf8)))
+      | inr o ↦ shut_not_open f.0 raw rest shut o.0
+    ]
+beside OpenText total (single text place raw) left rest skip f g e = shut_not_open f.0 raw rest (Forms-shut total place raw left rest g f.0 f.1) f.2
+beside Unexpected total t left rest skip f g e = absurd f
+beside UnexpectedEnd total t left rest skip f g e = absurd f
+beside TooDeep total t left rest skip f g e = absurd f
+beside r total t left rest skip f g e = absurd cc
+
+pub flaw_no_token : (r : Reason) (total : ℕ) (t : Token) (left rest : List ℕ) (skip : ℕ) → IsFlaw r left skip → Forms total t left rest → ⊥
+flaw_no_token r total t left rest skip f g = beside r total t left rest skip f g (sym (flaw_shape r left skip f) ∙ Forms-shape total t left rest g)
+
+-- ---- one flaw
+
+IsLongestUtf8-one : (bytes : List ℕ) (m n : ℕ) → IsLongestUtf8 bytes m → IsLongestUtf8 bytes n → m ≡ n
+IsLongestUtf8-one bytes m n p q =
+    let a : n ≤ m = p.longest n q.within q.well_formed in
+    let b : m ≤ n = q.longest m p.within p.well_formed in
+    omega arith
+
+same_zero : (k m : ℕ) → k ≡ 0 → m ≡ 0 → k ≡ m
+same_zero k m p q = p ∙ sym q
+
+same_after : (a b left : List ℕ) → left ≡ 34 ∷ a → left ≡ 34 ∷ b → a ≡ b
+same_after a b left p q = same_tail 34 34 a b (sym p ∙ q)
+
+through_open : (after inside : List ℕ) → Through after inside → IsInside after → inside ≡ after
+through_open after inside t o =
+    elim t [ inl s ↦ absurd (shut_not_open after s.0 s.1 s.2 o) | inr e ↦ e.1 ]
+
+-- flaws that begin alike are one flaw
+alike : (r s : Reason) (left : List ℕ) (k m : ℕ) → IsFlaw r left k → IsFlaw s left m → shape_for r ≡ shape_for s → (r ≡ s) × (k ≡ m)
+alike BadCharacter BadCharacter left k m p q e = (refl, same_zero k m p.1 q.1)
+alike BadNumber BadNumber left k m p q e = (refl, same_zero k m p.4 q.4)
+alike BadNumber NumberRange left k m p q e =
+    absurd (p.3 (subst HasForm (one_run left p.0 p.1 q.0 q.1 p.2 q.2.parts q.2.taken q.2.ends) q.3))
+alike NumberRange BadNumber left k m p q e =
+    absurd (q.3 (subst HasForm (one_run left q.0 q.1 p.0 p.1 q.2 p.2.parts p.2.taken p.2.ends) p.3))
+alike NumberRange NumberRange left k m p q e = (refl, same_zero k m p.5 q.5)
+alike NotUtf8 NotUtf8 left k m p q e =
+    let h = same_after p.0 q.0 left p.2 q.2 in
+    let n : p.5 ≡ q.5 = IsLongestUtf8-one q.0 p.5 q.5 (subst (λ z. IsLongestUtf8 z p.5) h p.6) q.6 in
+    (refl, p.7 ∙ ap (λ z. 1 + z) n ∙ sym q.7)
+alike NotUtf8 OpenText left k m p q e =
+    let h = same_after p.0 q.0 left p.2 q.1 in
+    let o = subst IsInside (sym h) q.2 in
+    absurd (p.4 (subst IsUtf8Front (sym (through_open p.0 p.1 p.3 o ∙ h)) q.3))
+alike OpenText NotUtf8 left k m p q e =
+    let h = same_after q.0 p.0 left q.2 p.1 in
+    let o = subst IsInside (sym h) p.2 in
+    absurd (q.4 (subst IsUtf8Front (sym (through_open q.0 q.1 q.3 o ∙ h)) p.3))
+alike OpenText OpenText left k m p q e = (refl, same_zero k m p.4 q.4)
+alike Unexpected s left k m p q e = absurd p
+alike UnexpectedEnd s left k m p q e = absurd p
+alike TooDeep s left k m p q e = absurd p
+alike r Unexpected left k m p q e = absurd q
+alike r UnexpectedEnd left k m p q e = absurd q
+alike r TooDeep left k m p q e = absurd q
+alike r s left k m p q e = absurd cc
+
+pub flaw_one : (r s : Reason) (left : List ℕ) (k m : ℕ) → IsFlaw r left k → IsFlaw s left m → (r ≡ s) × (k ≡ m)
+flaw_one r s left k m p q = alike r s left k m p q (sym (flaw_shape r left k p) ∙ flaw_shape s left m q)
+
+run_some : (run rest : List ℕ) → BeginsWith is_run_start run → [] ≡ run ++ rest → ⊥
+run_some [] rest h e = h
+run_some (b ∷ bs) rest h e = absurd cc
+
+-- a flaw lies in front of something
+pub flaw_some : (r : Reason) (left : List ℕ) (k : ℕ) → IsFlaw r left k → left ≡ [] → ⊥
+flaw_some BadCharacter left k f e = subst BeginsNoToken e f.0
+flaw_some BadNumber left k f e = run_some f.0 f.1 f.2.starts (sym e ∙ f.2.parts)
+flaw_some NumberRange left k f e = run_some f.0 f.1 f.2.starts (sym e ∙ f.2.parts)
+flaw_some NotUtf8 left k f e = let h : [] ≡ 34 ∷ f.0 = sym e ∙ f.2 in absurd cc
+flaw_some OpenText left k f e = let h : [] ≡ 34 ∷ f.0 = sym e ∙ f.1 in absurd cc
+flaw_some Unexpected left k f e = f
+flaw_some UnexpectedEnd left k f e = f
+flaw_some TooDeep left k f e = f

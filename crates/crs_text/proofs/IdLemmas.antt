@@ -1,0 +1,239 @@
+-- What the row at an item's number says of the tree.
+use Rattle.std.proofs.Common.{◌≡◌, ◌≢◌, ℕ, zero, suc, ◌+◌, ◌≤◌, ◌<◌, Bool, true, false, Option, Some, List, [], ◌∷◌, length, get_or, drop, map, refl, sym, ◌∙◌, ap, subst, arith}
+use Rattle.std.proofs.Math.ListN.{drop_of_length-le}
+use Rattle.std.proofs.Math.Seq.{drop-cons}
+use Rattle.std.proofs.Common.{nat_lt, length-drop}
+use Rattle.std.proofs.lemmas.Bool.{ltb-true, ltb-false}
+use Rattle.std.proofs.lemmas.List.{length-map, get_or-map, get_or_past, drop-drop}
+use Rattle.crs_text.specs.Items.{Item, leaf, node, Items, End, More, arguments, count, first_of, rest_of, skip, size_of, here, HasId, IsAt}
+use Rattle.crs_text.specs.Rows.{rows, row_of}
+use Rattle.crs_text.specs.declared.table.Row.{Row}
+use Rattle.crs_text.proofs.HereLemmas.{Here, items_at, row_at, heres, Begins, Continues, IsLinked, AreLinked, linked-heres, linked-drop, rows-heres, items-heres}
+
+-- the item of a number, and what stands behind it in the order in which the items begin
+record Spot (tree : Item) (id : ℕ) : Type 0 where
+  it : Here
+  behind : List Here
+  is : drop id (heres tree) ≡ it ∷ behind
+  items : here tree id ≡ items_at it
+  row : (d : Row) → get_or (rows 0 tree) id d ≡ row_at it
+
+pub length-heres : (tree : Item) → length (rows 0 tree) ≡ length (heres tree)
+length-heres tree = ap (λ l. length l) (rows-heres tree) ∙ length-map (heres tree) row_at
+
+pub items-at : (tree : Item) (id : ℕ) → here tree id ≡ get_or (map items_at (heres tree)) id End
+unfolding here
+items-at tree id = ap (λ l. get_or l id End) (sym (items-heres tree))
+
+spot : (tree : Item) (id : ℕ) → id < length (rows 0 tree) → Spot tree id
+spot tree id lt =
+    let none : Here = record { depth = 0; item = tree; later = End } in
+    let len = length-heres tree in
+    let inner : id < length (heres tree) = omega arith in
+    record {
+      it = get_or (heres tree) id none;
+      behind = drop (suc id) (heres tree);
+      is = drop-cons (heres tree) id none inner;
+      items = items-at tree id ∙ get_or-map items_at (heres tree) id none End inner;
+      row = λ d. ap (λ l. get_or l id d) (rows-heres tree) ∙ get_or-map row_at (heres tree) id none d inner;
+    }
+
+linked : (tree : Item) (id : ℕ) (s : Spot tree id) → IsLinked s.it s.behind
+linked tree id s = (subst AreLinked s.is (linked-drop id (heres tree) (linked-heres tree))).0
+
+pub has_from_lt : (tree : Item) (id : ℕ) → id < length (rows 0 tree) → HasId tree id
+has_from_lt tree id lt = let s = spot tree id lt in λ e. let k : items_at s.it ≡ End = sym s.items ∙ e in cc
+
+pub lt_from_has : (tree : Item) (id : ℕ) → HasId tree id → id < length (rows 0 tree)
+lt_from_has tree id h = go (nat_lt id (length (rows 0 tree))) refl
+  where
+    go : (b : Bool) → nat_lt id (length (rows 0 tree)) ≡ b → id < length (rows 0 tree)
+    go true e = ltb-true _ _ e
+    go false e =
+        let le = ltb-false _ _ e in
+        let len = length-heres tree in
+        let len2 = length-map (heres tree) items_at in
+        absurd (h (items-at tree id ∙ get_or_past (map items_at (heres tree)) id End (omega arith)))
+
+-- the row says what the item is
+pub row_is : (tree : Item) (id : ℕ) (d : Row) → id < length (rows 0 tree) →
+    get_or (rows 0 tree) id d ≡ row_of (get_or (rows 0 tree) id d).depth (first_of (here tree id))
+row_is tree id d lt =
+    let s = spot tree id lt in
+    let r = s.row d in
+    let item : s.it.item ≡ first_of (here tree id) = sym (ap first_of s.items) in
+    r ∙ ap (λ i. row_of s.it.depth i) item ∙ ap (λ row. row_of row.depth (first_of (here tree id))) (sym r)
+
+-- an item and all in it end within the rows
+pub size_within : (tree : Item) (id : ℕ) → id < length (rows 0 tree) → id + size_of (first_of (here tree id)) ≤ length (rows 0 tree)
+size_within tree id lt =
+    let s = spot tree id lt in
+    let l = linked tree id s in
+    let item : size_of (first_of (here tree id)) ≡ size_of s.it.item = ap (λ is. size_of (first_of is)) s.items in
+    let len = length-heres tree in
+    let cut : length (drop id (heres tree)) ≡ suc (length s.behind) = ap (λ l. length l) s.is in
+    let d = length-drop id (heres tree) in
+    omega (arith, l.within)
+
+-- what stands behind a number is a spot of its own
+spot_behind : (tree : Item) (at : ℕ) (h : Here) (hs : List Here) → drop at (heres tree) ≡ h ∷ hs → (here tree at ≡ items_at h) × ((d : Row) → get_or (rows 0 tree) at d ≡ row_at h)
+spot_behind tree at h hs e =
+    let len = length-heres tree in
+    let cut : length (drop at (heres tree)) ≡ suc (length hs) = ap (λ l. length l) e in
+    let d = length-drop at (heres tree) in
+    let s = spot tree at (omega arith) in
+    let same : s.it ∷ s.behind ≡ h ∷ hs = sym s.is ∙ e in
+    let it : s.it ≡ h = cc in
+    (s.items ∙ ap items_at it, λ d. s.row d ∙ ap row_at it)
+
+at_from_begins : (tree : Item) (at : ℕ) (items : Items) (hs : List Here) → drop at (heres tree) ≡ hs → items ≢ End → Begins items hs → IsAt tree items (Some at)
+at_from_begins tree at End hs e some h = absurd (some refl)
+at_from_begins tree at (More item items) [] e some h = absurd h
+at_from_begins tree at (More item items) (x ∷ hs) e some h =
+    let is = (spot_behind tree at x hs e).0 ∙ h in
+    (is, λ no. let k : More item items ≡ End = sym is ∙ no in cc)
+
+-- the first argument stands directly behind its node
+pub first_at : (tree : Item) (id : ℕ) → id < length (rows 0 tree) → arguments (first_of (here tree id)) ≢ End →
+    IsAt tree (arguments (first_of (here tree id))) (Some (id + 1))
+first_at tree id lt some =
+    let s = spot tree id lt in
+    let l = linked tree id s in
+    let item : arguments (first_of (here tree id)) ≡ arguments s.it.item = ap (λ is. arguments (first_of is)) s.items in
+    let behind : drop (id + 1) (heres tree) ≡ s.behind = sym (drop-drop 1 id (heres tree)) ∙ ap (λ l. drop 1 l) s.is in
+    at_from_begins tree (id + 1) (arguments (first_of (here tree id))) s.behind behind some (subst (λ is. Begins is s.behind) (sym item) l.first)
+
+none_from_continues : (depth : ℕ) (items : Items) → Continues depth items [] → items ≡ End
+none_from_continues depth End h = refl
+none_from_continues depth (More item items) h = absurd h
+
+continues_at : (tree : Item) (id : ℕ) → id < length (rows 0 tree) → (d : Row) →
+    Continues (get_or (rows 0 tree) id d).depth (rest_of (here tree id)) (drop (id + size_of (first_of (here tree id))) (heres tree))
+continues_at tree id lt d =
+    let s = spot tree id lt in
+    let l = linked tree id s in
+    let size : size_of (first_of (here tree id)) ≡ size_of s.it.item = ap (λ is. size_of (first_of is)) s.items in
+    let rest : rest_of (here tree id) ≡ s.it.later = ap rest_of s.items in
+    let depth : (get_or (rows 0 tree) id d).depth ≡ s.it.depth = ap (λ r. r.depth) (s.row d) in
+    let behind : drop (id + size_of s.it.item) (heres tree) ≡ drop (size_of s.it.item) (s.it ∷ s.behind) =
+    sym (drop-drop (size_of s.it.item) id (heres tree)) ∙ ap (λ l. drop (size_of s.it.item) l) s.is in
+    rw (size, rest, depth, behind) l.next
+
+-- no item stands behind
+pub next_none : (tree : Item) (id : ℕ) → id < length (rows 0 tree) → length (rows 0 tree) ≤ id + size_of (first_of (here tree id)) → rest_of (here tree id) ≡ End
+next_none tree id lt end =
+    let none : Row = row_of 0 tree in
+    let at : ℕ = id + size_of (first_of (here tree id)) in
+    let len = length-heres tree in
+    let nil : drop at (heres tree) ≡ [] = drop_of_length-le (heres tree) (omega arith) in
+    none_from_continues (get_or (rows 0 tree) id none).depth (rest_of (here tree id)) (subst (λ l. Continues (get_or (rows 0 tree) id none).depth (rest_of (here tree id)) l) nil (continues_at tree id lt none))
+
+-- an item stands behind: as deep it is the next argument, else there is none
+next_by_depth : (tree : Item) (at depth : ℕ) (items : Items) (hs : List Here) (d : Row) → drop at (heres tree) ≡ hs → at < length (rows 0 tree) → Continues depth items hs →
+    ((get_or (rows 0 tree) at d).depth ≡ depth → IsAt tree items (Some at)) × ((get_or (rows 0 tree) at d).depth ≢ depth → items ≡ End)
+next_by_depth tree at depth items [] d e lt h =
+    let len = length-heres tree in
+    let cut : length (drop at (heres tree)) ≡ 0 = ap (λ l. length l) e in
+    let c = length-drop at (heres tree) in
+    absurd (omega arith)
+next_by_depth tree at depth End (x ∷ hs) d e lt h =
+    let r : (get_or (rows 0 tree) at d).depth ≡ x.depth = ap (λ r. r.depth) ((spot_behind tree at x hs e).1 d) in
+    (λ same. absurd (omega arith), λ other. refl)
+next_by_depth tree at depth (More item items) (x ∷ hs) d e lt h =
+    let r : (get_or (rows 0 tree) at d).depth ≡ x.depth = ap (λ r. r.depth) ((spot_behind tree at x hs e).1 d) in
+    let is = (spot_behind tree at x hs e).0 ∙ h.1 in
+    (λ same. (is, λ no. let k : More item items ≡ End = sym is ∙ no in cc), λ other. absurd (other (r ∙ h.0)))
+
+pub next_at : (tree : Item) (id : ℕ) (d e : Row) → id < length (rows 0 tree) → id + size_of (first_of (here tree id)) < length (rows 0 tree) →
+    (get_or (rows 0 tree) (id + size_of (first_of (here tree id))) d).depth ≡ (get_or (rows 0 tree) id e).depth →
+    IsAt tree (rest_of (here tree id)) (Some (id + size_of (first_of (here tree id))))
+next_at tree id d e lt more same =
+    (next_by_depth tree (id + size_of (first_of (here tree id))) (get_or (rows 0 tree) id e).depth (rest_of (here tree id)) _ d refl more (continues_at tree id lt e)).0 same
+
+pub next_last : (tree : Item) (id : ℕ) (d e : Row) → id < length (rows 0 tree) → id + size_of (first_of (here tree id)) < length (rows 0 tree) →
+    (get_or (rows 0 tree) (id + size_of (first_of (here tree id))) d).depth ≢ (get_or (rows 0 tree) id e).depth → rest_of (here tree id) ≡ End
+next_last tree id d e lt more other =
+    (next_by_depth tree (id + size_of (first_of (here tree id))) (get_or (rows 0 tree) id e).depth (rest_of (here tree id)) _ d refl more (continues_at tree id lt e)).1 other
+
+pub here_root : (tree : Item) → here tree 0 ≡ More tree End
+unfolding here
+here_root tree = refl
+
+pub has_root : (tree : Item) → HasId tree 0
+has_root tree = λ e. let k : More tree End ≡ End = sym (here_root tree) ∙ e in cc
+
+pub ruleset id_rules = (has_from_lt, lt_from_has, row_is, here_root, has_root)
+
+size_of-pos : (item : Item) → 1 ≤ size_of item
+size_of-pos (leaf kind place raw) = omega arith
+size_of-pos (node place keyword square first others close) = omega arith
+
+some_from_count : (items : Items) → count items ≢ 0 → items ≢ End
+some_from_count End h = absurd (h refl)
+some_from_count (More item items) h = λ e. cc
+
+none_from_count : (items : Items) → count items ≡ 0 → items ≡ End
+none_from_count End h = refl
+none_from_count (More item items) h = absurd (omega arith)
+
+-- the same facts of a row that is the one at the number
+module _ (tree : Item) (id : ℕ) (row : Row) (has : HasId tree id) (is : row ≡ row_of row.depth (first_of (here tree id))) where
+  size : row.size ≡ size_of (first_of (here tree id))
+  size = ap (λ r. r.size) is
+
+  pub row-within : id + row.size ≤ length (rows 0 tree)
+  row-within = let e = size in let w = size_within tree id (lt_from_has tree id has) in omega arith
+
+  pub row-pos : 1 ≤ row.size
+  row-pos = let e = size in let w = size_of-pos (first_of (here tree id)) in omega arith
+
+  pub row-first : row.count ≢ 0 → IsAt tree (arguments (first_of (here tree id))) (Some (id + 1))
+  row-first h = first_at tree id (lt_from_has tree id has) (some_from_count (arguments (first_of (here tree id))) (λ e. h (ap (λ r. r.count) is ∙ e)))
+
+  pub row-none : row.count ≡ 0 → arguments (first_of (here tree id)) ≡ End
+  row-none h = none_from_count (arguments (first_of (here tree id))) (sym (ap (λ r. r.count) is) ∙ h)
+
+  pub row-end : length (rows 0 tree) ≤ id + row.size → rest_of (here tree id) ≡ End
+  row-end le = let e = size in next_none tree id (lt_from_has tree id has) (omega arith)
+
+  pub row-next : (none next : Row) → row ≡ get_or (rows 0 tree) id none → id + row.size < length (rows 0 tree) → next ≡ get_or (rows 0 tree) (id + row.size) none →
+      next.depth ≡ row.depth → IsAt tree (rest_of (here tree id)) (Some (id + row.size))
+  row-next none next at more behind same =
+      let P : ℕ → Type 0 = λ n. n < length (rows 0 tree) → next ≡ get_or (rows 0 tree) n none → IsAt tree (rest_of (here tree id)) (Some n) in
+      subst P (ap (λ n. id + n) (sym size))
+      (λ lt b. next_at tree id none none (lt_from_has tree id has) lt (sym (ap (λ r. r.depth) b) ∙ same ∙ ap (λ r. r.depth) at))
+      more behind
+
+  pub row-last : (none next : Row) → row ≡ get_or (rows 0 tree) id none → id + row.size < length (rows 0 tree) → next ≡ get_or (rows 0 tree) (id + row.size) none →
+      next.depth ≢ row.depth → rest_of (here tree id) ≡ End
+  row-last none next at more behind other =
+      let P : ℕ → Type 0 = λ n. n < length (rows 0 tree) → next ≡ get_or (rows 0 tree) n none → rest_of (here tree id) ≡ End in
+      subst P (ap (λ n. id + n) (sym size))
+      (λ lt b. next_last tree id none none (lt_from_has tree id has) lt (λ e. other (ap (λ r. r.depth) b ∙ e ∙ sym (ap (λ r. r.depth) at))))
+      more behind
+
+pub within_table : (tree : Item) (id : ℕ) (table : List Row) (row : Row) → table ≡ rows 0 tree → HasId tree id → row ≡ get_or table id row → id + row.size ≤ length table
+within_table tree id table row t has e =
+    let lt = lt_from_has tree id has in
+    let at : row ≡ get_or (rows 0 tree) id row = e ∙ ap (λ rs. get_or rs id row) t in
+    let is : row ≡ row_of row.depth (first_of (here tree id)) = at ∙ row_is tree id row lt ∙ ap (λ r. row_of r.depth (first_of (here tree id))) (sym at) in
+    let len : length table ≡ length (rows 0 tree) = ap (λ rs. length rs) t in
+    let w = row-within tree id row has is in
+    omega arith
+
+pub skip-more : (n : ℕ) (items : Items) → skip (n + 1) items ≡ rest_of (skip n items)
+skip-more zero items = refl
+skip-more (suc n) items = let e : suc n + 1 ≡ suc (n + 1) = omega arith in rw e (skip-more n (rest_of items))
+
+skip-none : (n : ℕ) → skip n End ≡ End
+skip-none zero = refl
+skip-none (suc n) = skip-none n
+
+pub skip-past : (n m : ℕ) (items : Items) → skip n items ≡ End → n ≤ m → skip m items ≡ End
+skip-past zero m items e le = ap (λ is. skip m is) e ∙ skip-none m
+skip-past (suc n) zero items e le = absurd (omega arith)
+skip-past (suc n) (suc m) items e le = skip-past n m (rest_of items) e (omega arith)
+
+-- from one argument to the next
+pub at_next : (tree : Item) (items : Items) (n id : ℕ) (at : Option ℕ) → IsAt tree (skip n items) (Some id) → IsAt tree (rest_of (here tree id)) at → IsAt tree (skip (n + 1) items) at
+at_next tree items n id at h next = rw skip-more (subst (λ is. IsAt tree (rest_of is) at) h.0 next)

@@ -1,0 +1,197 @@
+-- In front of what is left of a text stands a token or a flaw.
+use Rattle.std.proofs.Common.{◌≡◌, ℕ, ◌+◌, ◌-◌, ◌≤◌, true, false, ◌||◌, ◌==◌, eqb, List, [], ◌∷◌, ◌++◌, length, take, drop, Option, Some, None, refl, sym, ap, subst, ◌∙◌, append_assoc, arith, inl, inr, ◌⊎◌}
+use Rattle.std.specs.List.{prefix_len}
+use Rattle.std.specs.Str.{IsValidUpTo}
+use Rattle.std.specs.Str.Lossy.{utf8_valid_len, utf8_error_len}
+use Rattle.std.proofs.lemmas.Bool.{cases_Bool, eqb-true, or_from}
+use Rattle.bstr.proofs.lemmas.LossyLemmas.{utf8_valid_len-cases}
+use Rattle.crs_decimal.specs.Spelling.{is_run_byte, is_run_start, HasForm}
+use Rattle.crs_decimal.specs.Bounds.{IsInBounds}
+use Rattle.crs_text.specs.Quoted.{IsInside, IsShut, BeginsWith, is_quote}
+use Rattle.crs_text.specs.Utf8.{IsLongestUtf8}
+use Rattle.crs_text.specs.Tokens.{number, text, word, Token, single, comma, opening, closing, is_letter, is_word_byte, Forms}
+use Rattle.crs_text.specs.Lexing.{Stands}
+use Rattle.crs_text.specs.declared.refusal.Reason.{Reason}
+use Rattle.crs_text.specs.declared.refusal.Reason.TheVariants.{BadCharacter, BadNumber, NumberRange, NotUtf8, OpenText}
+use Rattle.crs_text.specs.TextFault.{IsFlaw}
+use Rattle.crs_text.proofs.LexedLemmas.{is_run, lexed_word}
+use Rattle.crs_text.proofs.Utf8Lemmas.{IsUtf8Front-from, IsUtf8Front-cut, not-IsUtf8Front, not-IsUtf8Front-before_quote, not-IsUtf8, IsLongestUtf8-from, IsLongestUtf8-before_quote}
+
+-- ---- after an opening quote
+
+abbrev pub IsShutOrOpen : List ℕ → Type 0
+IsShutOrOpen after = ((raw rest : List ℕ) × IsShut after raw rest) ⊎ IsInside after
+
+-- one more byte that is no quote
+past_byte : (c : ℕ) (cs : List ℕ) → eqb c 34 ≡ false → IsShutOrOpen cs → IsShutOrOpen (c ∷ cs)
+past_byte c cs e (inl (raw, rest, s)) = inl (
+  c ∷ raw,
+  rest,
+  record {
+    parts = ap (λ (z : List ℕ). c ∷ z) s.parts;
+    inside = (c ∷ s.inside.0, rw e (ap (λ (z : List ℕ). c ∷ z) s.inside.1));
+    ends = s.ends;
+  },
+)
+past_byte c cs e (inr (characters, d)) = inr (c ∷ characters, rw e (ap (λ (z : List ℕ). c ∷ z) d))
+
+-- two quotes more
+past_quotes : (ds : List ℕ) → IsShutOrOpen ds → IsShutOrOpen (34 ∷ 34 ∷ ds)
+past_quotes ds (inl (raw, rest, s)) = inl (
+  34 ∷ 34 ∷ raw,
+  rest,
+  record {
+    parts = ap (λ (z : List ℕ). 34 ∷ 34 ∷ z) s.parts;
+    inside = (34 ∷ s.inside.0, ap (λ (z : List ℕ). 34 ∷ 34 ∷ z) s.inside.1);
+    ends = s.ends;
+  },
+)
+past_quotes ds (inr (characters, d)) = inr (34 ∷ characters, ap (λ (z : List ℕ). 34 ∷ 34 ∷ z) d)
+
+at_quote : (cs : List ℕ) → IsShutOrOpen (drop 1 cs) → IsShutOrOpen (34 ∷ cs)
+at_quote [] next = inl ([], [], record { parts = refl; inside = ([], refl); ends = tt })
+at_quote (d ∷ ds) next = elim (cases_Bool (eqb d 34)) [
+  | inl e ↦ subst (λ z. IsShutOrOpen (34 ∷ z ∷ ds)) (sym (eqb-true d 34 e)) (past_quotes ds next)
+  | inr e ↦ inl ([], d ∷ ds, record { parts = refl; inside = ([], refl); ends = e })
+]
+
+-- the bytes, and those behind the first of them
+shut_or_open_from : (after : List ℕ) → IsShutOrOpen after × IsShutOrOpen (drop 1 after)
+shut_or_open_from [] = (inr ([], refl), inr ([], refl))
+shut_or_open_from (c ∷ cs) =
+    let r = shut_or_open_from cs in (
+      elim (cases_Bool (eqb c 34)) [
+        | inl e ↦ subst (λ z. IsShutOrOpen (z ∷ cs)) (sym (eqb-true c 34 e)) (at_quote cs r.1)
+        | inr e ↦ past_byte c cs e r.0
+      ],
+      r.0,
+    )
+
+-- after an opening quote the text is shut, or its inside goes on to the end
+pub shut_or_open : (after : List ℕ) → IsShutOrOpen after
+shut_or_open after = (shut_or_open_from after).0
+
+-- ---- a token, or a flaw
+
+abbrev pub IsTokenOrFlaw : ℕ → List ℕ → Type 0
+IsTokenOrFlaw total left = ((t : Token) × (rest : List ℕ) × Forms total t left rest) ⊎ ((r : Reason) × (skip : ℕ) × IsFlaw r left skip)
+
+-- numbers are decided: a run is in bounds, or of the number form and not in bounds, or not of that form
+abbrev pub DecidesNumbers : Type 0
+DecidesNumbers = (run : List ℕ) → (IsInBounds run ⊎ (HasForm run × ¬ (IsInBounds run))) ⊎ (¬ (HasForm run))
+
+module _ (total : ℕ) where
+  placed : (left : List ℕ) → length left ≤ total → total - length left + length left ≡ total
+  placed left le = omega arith
+
+  -- a text in UTF-8, or not
+  shut_text : (raw rest : List ℕ) (after : List ℕ) → length (34 ∷ after) ≤ total → IsShut after raw rest → IsTokenOrFlaw total (34 ∷ after)
+  shut_text raw rest after le s = elim (utf8_valid_len-cases raw) [
+    | inl u ↦ inl (
+      single text (total - length (34 ∷ after)) raw,
+      rest,
+      record {
+        spelled = ap (λ (z : List ℕ). 34 ∷ z) (s.parts ∙ sym (append_assoc raw (34 ∷ []) rest));
+        formed = (s.inside, u);
+        ends = s.ends;
+        placed = placed (34 ∷ after) le;
+      },
+    )
+    | inr v ↦ inr (
+      NotUtf8,
+      1 + utf8_valid_len raw,
+      (
+        after,
+        raw ++ 34 ∷ [],
+        refl,
+        inl (raw, rest, s, refl),
+        not-IsUtf8Front-before_quote raw (not-IsUtf8 raw (utf8_valid_len raw) v),
+        utf8_valid_len raw,
+        subst (λ z. IsLongestUtf8 z (utf8_valid_len raw)) (sym s.parts) (IsLongestUtf8-before_quote raw rest (utf8_valid_len raw) v),
+        refl,
+      ),
+    )
+  ]
+
+  -- a text with no end
+  open_flaw : (after : List ℕ) → IsInside after → (o : Option ℕ) → IsValidUpTo after (utf8_valid_len after) → utf8_error_len (drop (utf8_valid_len after) after) ≡ o → IsTokenOrFlaw total (34 ∷ after)
+  open_flaw after inside None v e = inr (OpenText, 0, (after, refl, inside, IsUtf8Front-cut after (utf8_valid_len after) v e, refl))
+  open_flaw after inside (Some k) v e = inr (
+    NotUtf8,
+    1 + utf8_valid_len after,
+    (after, after, refl, inr (inside, refl), not-IsUtf8Front after (utf8_valid_len after) k v e, utf8_valid_len after, IsLongestUtf8-from after (utf8_valid_len after) v, refl),
+  )
+
+  open_text : (after : List ℕ) → IsInside after → IsTokenOrFlaw total (34 ∷ after)
+  open_text after inside = elim (utf8_valid_len-cases after) [
+    | inl u ↦ inr (OpenText, 0, (after, refl, inside, IsUtf8Front-from after u, refl))
+    | inr v ↦ open_flaw after inside (utf8_error_len (drop (utf8_valid_len after) after)) v refl
+  ]
+
+  quoted : (after : List ℕ) → length (34 ∷ after) ≤ total → IsTokenOrFlaw total (34 ∷ after)
+  quoted after le = elim (shut_or_open after) [
+    | inl s ↦ shut_text s.0 s.1 after le s.2
+    | inr inside ↦ open_text after inside
+  ]
+
+  -- a run of a number
+  run : DecidesNumbers → (left : List ℕ) → length left ≤ total → BeginsWith is_run_start left → IsTokenOrFlaw total left
+  run decides left le begins =
+      let n = prefix_len is_run_byte left in
+      let r = is_run left begins in
+      elim (decides (take n left)) [
+        | inl form ↦ elim form [
+          | inl bounds ↦ inl (
+            single number (total - length left) (take n left),
+            drop n left,
+            record {
+              spelled = r.parts;
+              formed = (r.starts, r.taken, bounds);
+              ends = r.ends;
+              placed = placed left le;
+            },
+          )
+          | inr out ↦ inr (NumberRange, 0, (take n left, drop n left, r, out.0, out.1, refl))
+        ]
+        | inr no_form ↦ inr (BadNumber, 0, (take n left, drop n left, r, no_form, refl))
+      ]
+
+  single_word : (left : List ℕ) → length left ≤ total → BeginsWith is_letter left → IsTokenOrFlaw total left
+  single_word left le begins =
+      let n = prefix_len is_word_byte left in
+      let w : Stands word (take n left) left (drop n left) = (lexed_word left n refl begins).0 in
+      inl (single word (total - length left) (take n left), drop n left, record { spelled = w.spelled; formed = w.formed; ends = w.ends; placed = placed left le })
+
+  -- a comma, a delimiter, or a byte that begins no token
+  delimiter : (b : ℕ) (bs : List ℕ) → length (b ∷ bs) ≤ total → (is_letter b || is_run_start b || is_quote b) ≡ false → IsTokenOrFlaw total (b ∷ bs)
+  delimiter b bs le dark =
+      elim (cases_Bool (b == 44)) [
+        | inl e ↦ inl (comma, bs, record { spelled = ap (λ z. z ∷ bs) (eqb-true b 44 e); formed = tt; ends = tt; placed = tt })
+        | inr n44 ↦ elim (cases_Bool (b == 91)) [
+          | inl e ↦ inl (opening true, bs, record { spelled = ap (λ z. z ∷ bs) (eqb-true b 91 e); formed = tt; ends = tt; placed = tt })
+          | inr n91 ↦ elim (cases_Bool (b == 40)) [
+            | inl e ↦ inl (opening false, bs, record { spelled = ap (λ z. z ∷ bs) (eqb-true b 40 e); formed = tt; ends = tt; placed = tt })
+            | inr n40 ↦ elim (cases_Bool (b == 93)) [
+              | inl e ↦ inl (closing (total - length (b ∷ bs)) true, bs, record { spelled = ap (λ z. z ∷ bs) (eqb-true b 93 e); formed = tt; ends = tt; placed = placed (b ∷ bs) le })
+              | inr n93 ↦ elim (cases_Bool (b == 41)) [
+                | inl e ↦ inl (closing (total - length (b ∷ bs)) false, bs, record { spelled = ap (λ z. z ∷ bs) (eqb-true b 41 e); formed = tt; ends = tt; placed = placed (b ∷ bs) le })
+                | inr n41 ↦ inr (BadCharacter, 0, (or_from _ _ dark (or_from _ _ (or_from _ _ (or_from _ _ (or_from _ _ n44 n91) n40) n93) n41), refl))
+              ]
+            ]
+          ]
+        ]
+      ]
+
+-- what is left, if anything is, begins with a token or a flaw
+pub token_or_flaw : DecidesNumbers → (total b : ℕ) (bs : List ℕ) → length (b ∷ bs) ≤ total → IsTokenOrFlaw total (b ∷ bs)
+token_or_flaw decides total b bs le =
+    elim (cases_Bool (is_letter b)) [
+      | inl e ↦ single_word total (b ∷ bs) le e
+      | inr no_letter ↦ elim (cases_Bool (is_run_start b)) [
+        | inl e ↦ run total decides (b ∷ bs) le e
+        | inr no_start ↦ elim (cases_Bool (b == 34)) [
+          | inl e ↦ subst (λ z. length (z ∷ bs) ≤ total → IsTokenOrFlaw total (z ∷ bs)) (sym (eqb-true b 34 e)) (quoted total bs) le
+          | inr no_quote ↦ delimiter total b bs le (or_from _ _ (or_from _ _ no_letter no_start) no_quote)
+        ]
+      ]
+    ]

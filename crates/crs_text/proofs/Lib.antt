@@ -1,0 +1,24 @@
+pub mod AllowedLemmas
+pub mod EitherLemmas
+pub mod FlatLemmas
+pub mod FlawLemmas
+pub mod FrontsLemmas
+pub mod HereLemmas
+pub mod IdLemmas
+pub mod LeftLemmas
+pub mod LexedLemmas
+pub mod OneItem
+pub mod QuotedLemmas
+pub mod ScanLemmas
+pub mod ShowsLemmas
+pub mod SoundLemmas
+pub mod StandLemmas
+pub mod StateLemmas
+pub mod TableLemmas
+pub mod TextLaws
+pub mod TokenLemmas
+pub mod TreeLemmas
+mod Utf8CutLemmas
+pub mod Utf8Lemmas
+pub mod ViableLemmas
+pub mod WrittenLemmas

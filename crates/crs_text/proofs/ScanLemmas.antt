@@ -1,0 +1,287 @@
+-- One token more, or the reason why nothing goes on.
+use Rattle.std.proofs.Common.{◌≡◌, ℕ, suc, ◌+◌, ◌≤◌, ◌<◌, Bool, true, false, List, [], ◌∷◌, ◌++◌, length, take, drop, Option, Some, None, refl, sym, ap, subst, ◌∙◌, arith}
+use Rattle.std.proofs.lemmas.List.{length-drop, length-take, length-append, drop-drop, drop_all, take-append-drop}
+use Rattle.std.specs.List.{prefix_len}
+use Rattle.std.proofs.lemmas.List.Sums.{prefix_len-le-length}
+use Rattle.crs_text.specs.Tokens as tokens
+use Rattle.crs_text.specs.Tokens.{Kind, Token, single, comma, opening, closing, opening_byte, closing_byte, is_white, Forms, Fronts, IsAfterWhite}
+use Rattle.crs_text.specs.Items.{Item}
+use Rattle.crs_text.specs.TextFault.{number_of, IsFlaw, IsStop, RefusesText, SpellsNode}
+use Rattle.crs_text.specs.Table.{Flat, flat_step, IsStep, IsOpened, is_whole}
+use Rattle.crs_text.specs.Rows.{Shows, flat}
+use Rattle.crs_text.specs.State.{start, after}
+use Rattle.crs_text.specs.Lexing.{IsLexed, Stands}
+use Rattle.crs_text.specs.Refusal.{Refused}
+use Rattle.crs_text.specs.Scan.{IsReached, IsTaken, IsStopped, IsStoppedBy, IsFaultOf, IsSingleAt}
+use Rattle.crs_text.specs.declared.fault.Fault.{Fault}
+use Rattle.crs_text.specs.declared.fault.Fault.TheVariants as faults
+use Rattle.crs_text.specs.declared.refusal.Reason.{Reason}
+use Rattle.crs_text.specs.declared.refusal.Reason.TheVariants.{BadCharacter, BadNumber, NumberRange, NotUtf8, OpenText, Unexpected, UnexpectedEnd, TooDeep}
+use Rattle.crs_text.specs.declared.items.ItemKind.TheVariants as kinds
+use Rattle.crs_text.specs.declared.lexing.Lexed.TheVariants as lexed
+use Rattle.crs_text.specs.declared.table.Opened.TheVariants as opened
+use Rattle.crs_text.proofs.LexedLemmas.{prefix_taken, prefix_ends}
+use Rattle.crs_text.proofs.FrontsLemmas.{fronts_more, forms_shorter}
+use Rattle.crs_text.proofs.ShowsLemmas.{shows_start, viable_from_shows, shows_more, not_viable_from_shows, deep_from_shows, none_from_deep, refused_from_shows, none_from_refused, whole_from_shows, not_whole_from_shows}
+
+-- ---- why nothing goes on
+
+pub stop_flaw : (reason : Reason) (total : ℕ) (ts : List Token) (left : List ℕ) (skip : ℕ) → IsFlaw reason left skip → IsStop reason total ts left skip
+stop_flaw BadCharacter total ts left skip f = f
+stop_flaw BadNumber total ts left skip f = f
+stop_flaw NumberRange total ts left skip f = f
+stop_flaw NotUtf8 total ts left skip f = f
+stop_flaw OpenText total ts left skip f = f
+stop_flaw Unexpected total ts left skip f = absurd f
+stop_flaw UnexpectedEnd total ts left skip f = absurd f
+stop_flaw TooDeep total ts left skip f = absurd f
+
+pub stopped_flaw : (text : List ℕ) (at : ℕ) (table : Flat) (reason : Reason) (skip : ℕ) (r : Refused) → r.number ≡ number_of reason → r.place ≡ at + skip → IsFlaw reason (drop at text) skip → IsStopped text at table r
+stopped_flaw text at table reason skip r n p f =
+    record { reason = reason; skip = skip; is_number = n; is_place = p; stop = λ ts shows. stop_flaw reason (length text) ts (drop at text) skip f }
+
+no_skip : (at place : ℕ) → place ≡ at → place ≡ at + 0
+no_skip at place e = omega arith
+
+module _ (text : List ℕ) (at : ℕ) (table : Flat) (r : Refused) (is_place : r.place ≡ at) where
+  pub stopped_single : (kind : Kind) (place : ℕ) (raw rest : List ℕ) → r.number ≡ number_of Unexpected → Forms (length text) (single kind place raw) (drop at text) rest → flat_step table (single kind place raw) ≡ None → IsStopped text at table r
+  stopped_single kind place raw rest n f none =
+      record {
+        reason = Unexpected;
+        skip = 0;
+        is_number = n;
+        is_place = no_skip at r.place is_place;
+        stop = λ ts shows. (single kind place raw, rest, f, not_viable_from_shows ts table (single kind place raw) shows none, λ h. h, refl);
+      }
+
+  pub stopped_comma : (rest : List ℕ) → r.number ≡ number_of Unexpected → Forms (length text) comma (drop at text) rest → flat_step table comma ≡ None → IsStopped text at table r
+  stopped_comma rest n f none =
+      record {
+        reason = Unexpected;
+        skip = 0;
+        is_number = n;
+        is_place = no_skip at r.place is_place;
+        stop = λ ts shows. (comma, rest, f, not_viable_from_shows ts table comma shows none, λ h. h, refl);
+      }
+
+  pub stopped_closing : (place : ℕ) (square : Bool) (rest : List ℕ) → r.number ≡ number_of Unexpected → Forms (length text) (closing place square) (drop at text) rest → flat_step table (closing place square) ≡ None → IsStopped text at table r
+  stopped_closing place square rest n f none =
+      record {
+        reason = Unexpected;
+        skip = 0;
+        is_number = n;
+        is_place = no_skip at r.place is_place;
+        stop = λ ts shows. (closing place square, rest, f, not_viable_from_shows ts table (closing place square) shows none, λ h. h, refl);
+      }
+
+  pub stopped_opening : (square : Bool) (behind : Flat) (rest : List ℕ) → r.number ≡ number_of Unexpected → Forms (length text) (opening square) (drop at text) rest → IsOpened table square opened.Refused behind → IsStopped text at table r
+  stopped_opening square behind rest n f refused =
+      record {
+        reason = Unexpected;
+        skip = 0;
+        is_number = n;
+        is_place = no_skip at r.place is_place;
+        stop = λ ts shows. (
+          opening square,
+          rest,
+          f,
+          not_viable_from_shows ts table (opening square) shows (none_from_refused table behind square refused),
+          λ deep. refused_from_shows ts table behind square shows refused deep.0,
+          refl,
+        );
+      }
+
+  pub stopped_too_deep : (square : Bool) (behind : Flat) (rest : List ℕ) → r.number ≡ number_of TooDeep → Forms (length text) (opening square) (drop at text) rest → IsOpened table square opened.TooDeep behind → IsStopped text at table r
+  stopped_too_deep square behind rest n f deep =
+      record {
+        reason = TooDeep;
+        skip = 0;
+        is_number = n;
+        is_place = no_skip at r.place is_place;
+        stop = λ ts shows. (
+          opening square,
+          rest,
+          f,
+          (deep_from_shows ts table behind square shows deep, not_viable_from_shows ts table (opening square) shows (none_from_deep table behind square deep)),
+          refl,
+        );
+      }
+
+-- ---- the tokens at a place
+
+placed : (text : List ℕ) (at : ℕ) → at ≤ length text → at + length (drop at text) ≡ length text
+placed text at le = omega (arith, length-drop at text)
+
+module _ (text : List ℕ) (at : ℕ) (lt : at < length text) where
+  private_le : at ≤ length text
+  private_le = omega arith
+
+  further : (n : ℕ) → drop n (drop at text) ≡ drop (at + n) text
+  further n = drop-drop n at text
+
+  fits : (n : ℕ) → n ≤ length (drop at text) → at + n ≤ length text
+  fits n le = omega (arith, length-drop at text)
+
+  single_at : (kind : Kind) (raw : List ℕ) (n : ℕ) → Stands kind raw (drop at text) (drop n (drop at text)) → Forms (length text) (single kind at raw) (drop at text) (drop (at + n) text)
+  single_at kind raw n s =
+      subst (λ z. Forms (length text) (single kind at raw) (drop at text) z) (further n)
+      (record { spelled = s.spelled; formed = s.formed; ends = s.ends; placed = placed text at private_le })
+
+  pub number_at : (n : ℕ) → IsLexed (drop at text) (lexed.Number n) → IsSingleAt text at kinds.Number n n
+  number_at n l = record {
+    of_kind = tokens.number;
+    raw = take n (drop at text);
+    is_kind = refl;
+    is_length = omega (arith, length-take n (drop at text), l.1);
+    forms = single_at tokens.number (take n (drop at text)) n l.0;
+    within = fits n l.1;
+  }
+
+  pub word_at : (n : ℕ) → IsLexed (drop at text) (lexed.Word n) → IsSingleAt text at kinds.Word n n
+  word_at n l = record {
+    of_kind = tokens.word;
+    raw = take n (drop at text);
+    is_kind = refl;
+    is_length = omega (arith, length-take n (drop at text), l.1);
+    forms = single_at tokens.word (take n (drop at text)) n l.0;
+    within = fits n l.1;
+  }
+
+  pub text_at : (n : ℕ) → IsLexed (drop at text) (lexed.Text n) → IsSingleAt text at kinds.Text n (n + 2)
+  text_at n l = record {
+    of_kind = tokens.text;
+    raw = take n (drop 1 (drop at text));
+    is_kind = refl;
+    is_length = omega (arith, length-take n (drop 1 (drop at text)), length-drop 1 (drop at text), l.1);
+    forms = single_at tokens.text (take n (drop 1 (drop at text))) (n + 2) l.0;
+    within = fits (n + 2) l.1;
+  }
+
+  one_more : at + 1 ≤ length text
+  one_more = omega arith
+
+  pub comma_at : IsLexed (drop at text) lexed.Comma → Forms (length text) comma (drop at text) (drop (at + 1) text)
+  comma_at l = record { spelled = l ∙ ap (λ (z : List ℕ). 44 ∷ z) (further 1); formed = tt; ends = tt; placed = tt }
+
+  pub opening_at : (square : Bool) → IsLexed (drop at text) (lexed.Opening square) → Forms (length text) (opening square) (drop at text) (drop (at + 1) text)
+  opening_at square l = record { spelled = l ∙ ap (λ (z : List ℕ). opening_byte square ∷ z) (further 1); formed = tt; ends = tt; placed = tt }
+
+  pub closing_at : (square : Bool) → IsLexed (drop at text) (lexed.Closing square) → Forms (length text) (closing at square) (drop at text) (drop (at + 1) text)
+  closing_at square l = record { spelled = l ∙ ap (λ (z : List ℕ). closing_byte square ∷ z) (further 1); formed = tt; ends = tt; placed = placed text at private_le }
+
+-- ---- from place to place
+
+pub after_white : (bytes : List ℕ) (n : ℕ) → n ≡ prefix_len is_white bytes → IsAfterWhite bytes (drop n bytes)
+after_white bytes n e =
+    subst (λ z. IsAfterWhite bytes (drop z bytes)) (sym e)
+    (record { white = take (prefix_len is_white bytes) bytes; parts = sym (take-append-drop (prefix_len is_white bytes) bytes); blank = prefix_taken is_white bytes; ends = prefix_ends is_white bytes })
+
+pub reached_first : (text : List ℕ) (at : ℕ) → at ≡ prefix_len is_white text → (table : Flat) → table ≡ flat start → IsReached text table at
+reached_first text at e table t = record {
+  tokens = [];
+  shows = subst (Shows []) (sym t) shows_start;
+  fronts = after_white text at e;
+  within = omega (arith, prefix_len-le-length is_white text, e);
+}
+
+pub reached_next : (text : List ℕ) (at n w : ℕ) (before behind : Flat) → IsReached text before at → IsTaken text at before behind n → w ≡ prefix_len is_white (drop (at + n) text) → IsReached text behind (at + n + w)
+reached_next text at n w before behind r t e = record {
+  tokens = r.tokens ++ t.token ∷ [];
+  shows = shows_more r.tokens before behind t.token r.shows t.step;
+  fronts = fronts_more (length text) r.tokens text (drop at text) (drop (at + n) text) (drop (at + n + w) text) t.token r.fronts t.forms
+      (subst (λ z. IsAfterWhite (drop (at + n) text) z) (drop-drop w (at + n) text) (after_white (drop (at + n) text) w e));
+  within = omega (arith, prefix_len-le-length is_white (drop (at + n) text), length-drop (at + n) text, t.within, e);
+}
+
+pub refused_at : (text : List ℕ) (at : ℕ) (table : Flat) (r : Refused) → IsReached text table at → IsStopped text at table r → RefusesText text r.number r.place
+refused_at text at table r reached s = record {
+  reason = s.reason;
+  before = reached.tokens;
+  left = drop at text;
+  skip = s.skip;
+  fronts = reached.fronts;
+  viable = viable_from_shows reached.tokens table reached.shows;
+  stop = s.stop reached.tokens reached.shows;
+  is_number = s.is_number;
+  is_place = omega (arith, length-drop at text, reached.within, s.is_place);
+}
+
+nothing_left : (text : List ℕ) (at : ℕ) → length text ≤ at → drop at text ≡ []
+nothing_left text at le = drop_all at text le
+
+pub refused_end : (text : List ℕ) (at : ℕ) (table : Flat) (r : Refused) → IsReached text table at → length text ≤ at → is_whole table ≡ false → r.number ≡ number_of UnexpectedEnd → r.place ≡ length text → RefusesText text r.number r.place
+refused_end text at table r reached le whole n p = record {
+  reason = UnexpectedEnd;
+  before = reached.tokens;
+  left = drop at text;
+  skip = 0;
+  fronts = reached.fronts;
+  viable = viable_from_shows reached.tokens table reached.shows;
+  stop = (nothing_left text at le, not_whole_from_shows reached.tokens table reached.shows whole, refl);
+  is_number = n;
+  is_place = omega (arith, length-drop at text, p, le);
+}
+
+pub spelled_whole : (text : List ℕ) (at : ℕ) (table : Flat) → IsReached text table at → length text ≤ at → is_whole table ≡ true → (item : Item) × SpellsNode text item × (table ≡ flat (after item []))
+spelled_whole text at table reached le whole =
+    let w = whole_from_shows reached.tokens table reached.shows whole in
+    (w.0, (reached.tokens, subst (λ z. Fronts (length text) text reached.tokens z) (nothing_left text at le) reached.fronts, w.1), w.2)
+
+pub not_taken : (o : Option Flat) (taken : Bool) (before behind : Flat) → IsStep o taken before behind → taken ≡ false → o ≡ None
+not_taken None taken before behind s e = refl
+not_taken (Some next) taken before behind s e = let h : true ≡ false = sym s.0 ∙ e in absurd cc
+
+-- a flaw lies within what is left
+pub flaw_within : (r : Reason) (left : List ℕ) (skip : ℕ) → IsFlaw r left skip → skip ≤ length left
+flaw_within BadCharacter left skip f = omega (arith, f.1)
+flaw_within BadNumber left skip f = omega (arith, f.4)
+flaw_within NumberRange left skip f = omega (arith, f.5)
+flaw_within NotUtf8 left skip f = let l : length left ≡ suc (length f.0) = ap length f.2 in let w : f.5 ≤ length f.0 = f.6.within in omega (arith, f.7)
+flaw_within OpenText left skip f = omega (arith, f.4)
+flaw_within Unexpected left skip f = absurd f
+flaw_within UnexpectedEnd left skip f = absurd f
+flaw_within TooDeep left skip f = absurd f
+
+pub place_within : (text : List ℕ) (at : ℕ) (r : Reason) (skip : ℕ) → at ≤ length text → IsFlaw r (drop at text) skip → at + skip ≤ length text
+place_within text at r skip le f = omega (arith, flaw_within r (drop at text) skip f, length-drop at text)
+
+pub taken_some : (text : List ℕ) (at n : ℕ) (before behind : Flat) → IsTaken text at before behind n → 0 < n
+taken_some text at n before behind t =
+    omega (arith, forms_shorter (length text) t.token (drop at text) (drop (at + n) text) t.forms, length-drop at text, length-drop (at + n) text)
+
+pub white_fits : (text : List ℕ) (end w : ℕ) → end ≤ length text → w ≡ prefix_len is_white (drop end text) → end + w ≤ length text
+white_fits text end w le e = omega (arith, prefix_len-le-length is_white (drop end text), length-drop end text, e)
+
+pub fault_of_stop : (bytes : List ℕ) (at : ℕ) (table : Flat) (fault : Fault) → IsReached bytes table at → IsStoppedBy bytes at table fault → IsFaultOf bytes fault
+fault_of_stop bytes at table (faults.Refused r) reached s = refused_at bytes at table r reached s
+fault_of_stop bytes at table (faults.Memory e) reached s = tt
+
+fronts_short : (total : ℕ) (ts : List Token) (bytes left : List ℕ) → Fronts total bytes ts left → length left ≤ length bytes
+fronts_short total [] bytes left p = omega (arith, ap length p.parts, length-append p.white left)
+fronts_short total (t ∷ ts) bytes left p =
+    omega (arith, fronts_short total ts p.1 left p.4, forms_shorter total t p.0 p.1 p.3, ap length p.2.parts, length-append p.2.white p.0)
+
+-- where it stops lies within what is left
+stop_within : (r : Reason) (total : ℕ) (ts : List Token) (left : List ℕ) (skip : ℕ) → IsStop r total ts left skip → skip ≤ length left
+stop_within Unexpected total ts left skip s = omega (arith, s.5)
+stop_within UnexpectedEnd total ts left skip s = omega (arith, s.2)
+stop_within TooDeep total ts left skip s = omega (arith, s.4)
+stop_within r total ts left skip s = flaw_within r left skip s
+
+number_range : (r : Reason) → (1 ≤ number_of r) × (number_of r ≤ 8)
+number_range BadCharacter = (omega arith, omega arith)
+number_range BadNumber = (omega arith, omega arith)
+number_range NumberRange = (omega arith, omega arith)
+number_range NotUtf8 = (omega arith, omega arith)
+number_range OpenText = (omega arith, omega arith)
+number_range Unexpected = (omega arith, omega arith)
+number_range UnexpectedEnd = (omega arith, omega arith)
+number_range TooDeep = (omega arith, omega arith)
+
+pub refusal_within : (bytes : List ℕ) (n place : ℕ) → RefusesText bytes n place → (1 ≤ n) × (n ≤ 8) × (place ≤ length bytes)
+refusal_within bytes n place r =
+    let k = number_range r.reason in (
+      omega (arith, k.0, r.is_number),
+      omega (arith, k.1, r.is_number),
+      omega (arith, r.is_place, stop_within r.reason (length bytes) r.before r.left r.skip r.stop, fronts_short (length bytes) r.before bytes r.left r.fronts),
+    )

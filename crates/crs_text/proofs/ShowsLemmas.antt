@@ -1,0 +1,94 @@
+-- The table that tokens lead to tells which token may follow, and whether they are a whole node.
+use Rattle.std.proofs.Common.{◌≡◌, Bool, true, false, Option, Some, None, List, [], ◌∷◌, ◌++◌, refl, sym, ◌∙◌, ap}
+use Rattle.std.specs.Option.{option_map}
+use Rattle.crs_text.specs.Tokens.{Token, opening}
+use Rattle.crs_text.specs.Items.{Item, AreNode}
+use Rattle.crs_text.specs.Viable.{IsViable, IsViableAtAnyDepth}
+use Rattle.crs_text.specs.State.{State, wants, worded, after, start, step, run}
+use Rattle.crs_text.specs.Table.{Flat, flat_step, IsOpened, is_whole}
+use Rattle.crs_text.specs.Rows.{flat, Shows}
+use Rattle.crs_text.specs.declared.table.Opened.TheVariants.{TooDeep, Refused}
+use Rattle.crs_text.specs.declared.table.Position.{Position}
+use Rattle.crs_text.specs.declared.table.Position.TheVariants.{BeforeItem, AfterWord, AfterItem}
+use Rattle.crs_text.proofs.SoundLemmas.{run-cons}
+use Rattle.crs_text.proofs.ViableLemmas.{run-append, viable_from_run, whole_from_run, run_from_whole}
+use Rattle.crs_text.proofs.AllowedLemmas.{deep_from_word, worded_from_deep, not_viable_from_none}
+use Rattle.crs_text.proofs.FlatLemmas.{flat-step}
+
+pub shows_start : Shows [] (flat start)
+shows_start = (start, refl, refl)
+
+pub viable_from_shows : (ts : List Token) (f : Flat) → Shows ts f → IsViable ts
+viable_from_shows ts f h = viable_from_run ts h.0 h.1
+
+step-flat : (ts : List Token) (f : Flat) (t : Token) (h : Shows ts f) → flat_step f t ≡ option_map flat (step 12 h.0 t)
+step-flat ts f t h = ap (λ g. flat_step g t) h.2 ∙ flat-step h.0 t
+
+-- one token more
+pub shows_more : (ts : List Token) (f g : Flat) (t : Token) → Shows ts f → flat_step f t ≡ Some g → Shows (ts ++ t ∷ []) g
+shows_more ts f g t h e = go (step 12 h.0 t) refl
+  where
+    go : (o : Option State) → step 12 h.0 t ≡ o → Shows (ts ++ t ∷ []) g
+    go None k =
+        let m : option_map flat (step 12 h.0 t) ≡ None = ap (option_map flat) k in
+        absurd (let n : None ≡ Some g = sym m ∙ sym (step-flat ts f t h) ∙ e in cc)
+    go (Some n) k =
+        let m : option_map flat (step 12 h.0 t) ≡ Some (flat n) = ap (option_map flat) k in
+        let same : Some g ≡ Some (flat n) = sym e ∙ step-flat ts f t h ∙ m in
+        (n, run-append 12 start h.0 ts (t ∷ []) h.1 ∙ run-cons 12 h.0 t n [] k, cc)
+
+-- a token that isn't taken
+pub not_viable_from_shows : (ts : List Token) (f : Flat) (t : Token) → Shows ts f → flat_step f t ≡ None → ¬ (IsViable (ts ++ t ∷ []))
+not_viable_from_shows ts f t h e = go (step 12 h.0 t) refl
+  where
+    go : (o : Option State) → step 12 h.0 t ≡ o → ¬ (IsViable (ts ++ t ∷ []))
+    go None k = not_viable_from_none ts h.0 t h.1 k
+    go (Some n) k =
+        let m : option_map flat (step 12 h.0 t) ≡ Some (flat n) = ap (option_map flat) k in
+        absurd (let n : None ≡ Some (flat n) = sym e ∙ step-flat ts f t h ∙ m in cc)
+
+-- an opening delimiter that is too deep
+pub deep_from_shows : (ts : List Token) (f g : Flat) (square : Bool) → Shows ts f → IsOpened f square TooDeep g → IsViableAtAnyDepth (ts ++ opening square ∷ [])
+deep_from_shows ts f g square h o = go h.0 h.1 (sym (ap (λ f. f.position) h.2) ∙ o.0)
+  where
+    go : (s : State) → run 12 start ts ≡ Some s → (flat s).position ≡ AfterWord → IsViableAtAnyDepth (ts ++ opening square ∷ [])
+    go (wants []) r e = cc
+    go (wants (x ∷ fs)) r e = cc
+    go (worded place raw fs) r e = deep_from_word ts place raw fs square r
+    go (after item fs) r e = cc
+
+pub none_from_deep : (f g : Flat) (square : Bool) → IsOpened f square TooDeep g → flat_step f (opening square) ≡ None
+none_from_deep f g square o = rw (o.0, o.1) refl
+
+-- an opening delimiter that may not stand there at all
+pub refused_from_shows : (ts : List Token) (f g : Flat) (square : Bool) → Shows ts f → IsOpened f square Refused g → ¬ (IsViableAtAnyDepth (ts ++ opening square ∷ []))
+refused_from_shows ts f g square h o v =
+    let w = worded_from_deep ts h.0 square h.1 v in
+    o.0 (ap (λ f. f.position) h.2 ∙ ap (λ s. (flat s).position) w.3)
+
+pub none_from_refused : (f g : Flat) (square : Bool) → IsOpened f square Refused g → flat_step f (opening square) ≡ None
+none_from_refused f g square o = go f.position refl
+  where
+    go : (p : Position) → f.position ≡ p → flat_step f (opening square) ≡ None
+    go BeforeItem e = rw e refl
+    go AfterWord e = absurd (o.0 e)
+    go AfterItem e = rw e refl
+
+-- the tokens are a whole node exactly where the table says so
+pub whole_from_shows : (ts : List Token) (f : Flat) → Shows ts f → is_whole f ≡ true → (item : Item) × AreNode item ts × (f ≡ flat (after item []))
+whole_from_shows ts f h e = go h.0 h.1 h.2 (sym (ap is_whole h.2) ∙ e)
+  where
+    go : (s : State) → run 12 start ts ≡ Some s → f ≡ flat s → is_whole (flat s) ≡ true → (item : Item) × AreNode item ts × (f ≡ flat (after item []))
+    go (wants []) r k w = cc
+    go (wants (x ∷ fs)) r k w = cc
+    go (worded place raw fs) r k w = cc
+    go (after item []) r k w = (item, whole_from_run ts item r, k)
+    go (after item (x ∷ fs)) r k w = cc
+
+pub not_whole_from_shows : (ts : List Token) (f : Flat) → Shows ts f → is_whole f ≡ false → (item : Item) → ¬ (AreNode item ts)
+not_whole_from_shows ts f h e item a =
+    let r = run_from_whole ts item a in
+    let same : Some h.0 ≡ Some (after item []) = sym h.1 ∙ r in
+    let s : h.0 ≡ after item [] = cc in
+    let k : is_whole f ≡ true = ap is_whole (h.2 ∙ ap flat s) in
+    cc

@@ -1,0 +1,63 @@
+-- The raw bytes of a text's tokens stand in it at their places.
+use Rattle.std.proofs.Common.{◌≡◌, ℕ, suc, List, [], ◌∷◌, ◌++◌, length, take, drop, refl, sym, ap, subst, ◌∙◌, append_assoc, arith}
+use Rattle.std.proofs.lemmas.List.{length-append, drop_at}
+use Rattle.std.proofs.Math.Seq.{take-append_seam}
+use Rattle.crs_text.specs.Tokens as tokens
+use Rattle.crs_text.specs.Tokens.{Token, single, comma, opening, closing, spelling, IsFormed, Forms, IsAfterWhite, Fronts, AreTokens}
+use Rattle.crs_text.specs.Items.{Item}
+use Rattle.crs_text.specs.Rows.{rows}
+use Rattle.crs_text.specs.Tree.{StandsAt, Stands, AllStand, Each, IsNumberInBounds, IsTable}
+use Rattle.crs_text.specs.TextFault.{SpellsNode}
+use Rattle.crs_text.specs.declared.table.Row.{Row}
+
+-- the bytes end the source
+abbrev EndsIn : List ℕ → List ℕ → Type 0
+EndsIn source bytes = (front : List ℕ) × (source ≡ front ++ bytes)
+
+cut_front : (source bytes white rest : List ℕ) → EndsIn source bytes → bytes ≡ white ++ rest → EndsIn source rest
+cut_front source bytes white rest (front, e) f = (front ++ white, e ∙ ap (λ z. front ++ z) f ∙ sym (append_assoc front white rest))
+
+stands_at : (source front raw rest : List ℕ) (place : ℕ) → source ≡ front ++ (raw ++ rest) → place ≡ length front → StandsAt source place raw
+stands_at source front raw rest place e p = record {
+  within = omega (arith, ap length e, length-append front (raw ++ rest), length-append raw rest, p);
+  bytes = sym (ap (λ z. take (length raw) z) (ap (drop place) e ∙ drop_at front (raw ++ rest) place (sym p)) ∙ take-append_seam raw rest);
+}
+
+stands : (source : List ℕ) (t : Token) (left rest : List ℕ) → EndsIn source left → Forms (length source) t left rest → Stands source t
+stands source (single tokens.number place raw) left rest (front, e) f =
+    stands_at source front raw rest place (e ∙ ap (λ z. front ++ z) f.spelled) (omega (arith, ap length e, length-append front left, f.placed))
+stands source (single tokens.text place raw) left rest (front, e) f =
+    let spelled : left ≡ 34 ∷ (raw ++ 34 ∷ rest) = f.spelled ∙ ap (λ (z : List ℕ). 34 ∷ z) (append_assoc raw (34 ∷ []) rest) in
+    stands_at source (front ++ 34 ∷ []) raw (34 ∷ rest) (suc place) (e ∙ ap (λ z. front ++ z) spelled ∙ sym (append_assoc front (34 ∷ []) (raw ++ 34 ∷ rest)))
+    (omega (arith, ap length e, length-append front left, f.placed, length-append front (34 ∷ [])))
+stands source (single tokens.word place raw) left rest (front, e) f =
+    stands_at source front raw rest place (e ∙ ap (λ z. front ++ z) f.spelled) (omega (arith, ap length e, length-append front left, f.placed))
+stands source comma left rest ends f = tt
+stands source (opening square) left rest ends f = tt
+stands source (closing place square) left rest ends f = tt
+
+all_stand : (source : List ℕ) (ts : List Token) (bytes left : List ℕ) → EndsIn source bytes → Fronts (length source) bytes ts left → AllStand source ts
+all_stand source [] bytes left ends p = tt
+all_stand source (t ∷ ts) bytes left ends p =
+    let at = cut_front source bytes p.2.white p.0 ends p.2.parts in
+    (stands source t p.0 p.1 at p.3, all_stand source ts p.1 left (cut_front source p.0 (spelling t) p.1 at p.3.spelled) p.4)
+
+in_bounds : (t : Token) → IsFormed t → IsNumberInBounds t
+in_bounds (single tokens.number place raw) f = f.2
+in_bounds (single tokens.text place raw) f = tt
+in_bounds (single tokens.word place raw) f = tt
+in_bounds comma f = tt
+in_bounds (opening square) f = tt
+in_bounds (closing place square) f = tt
+
+all_in_bounds : (total : ℕ) (ts : List Token) (bytes left : List ℕ) → Fronts total bytes ts left → Each IsNumberInBounds ts
+all_in_bounds total [] bytes left p = tt
+all_in_bounds total (t ∷ ts) bytes left p = (in_bounds t p.3.formed, all_in_bounds total ts p.1 left p.4)
+
+pub table_of_spelled : (source : List ℕ) (table : List Row) (item : Item) → SpellsNode source item → table ≡ rows 0 item → IsTable source table item
+table_of_spelled source table item s e = record {
+  rows = e;
+  stand = subst (AllStand source) s.2.are (all_stand source s.0 source [] ([], refl) s.1);
+  numbers = subst (Each IsNumberInBounds) s.2.are (all_in_bounds (length source) s.0 source [] s.1);
+  node = s.2.is_node;
+}

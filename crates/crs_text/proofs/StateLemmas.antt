@@ -1,0 +1,84 @@
+-- A state keeps the tokens that led to it, and the tokens of an item lead to that item.
+use Rattle.std.proofs.Common.{◌≡◌, ℕ, Bool, true, false, Option, Some, None, List, [], ◌∷◌, ◌++◌, refl, sym, ◌∙◌, ap, append_assoc}
+use Rattle.std.specs.List.{fold}
+use Rattle.std.proofs.lemmas.List.{append-nil}
+use Rattle.crs_text.specs.Tokens.{Kind, number, text, word, Token, single, comma, opening, closing}
+use Rattle.crs_text.specs.Items.{Item, leaf, Items, More, tokens, others_tokens}
+use Rattle.crs_text.specs.State.{Frame, State, wants, worded, after, gather, only_if, same_square, behind_leaf, behind, step, move, run, before_tokens, frames_tokens, unread}
+
+pub only_if-some : (b : Bool) (s n : State) → only_if b s ≡ Some n → (b ≡ true) × (s ≡ n)
+only_if-some true s n e = (refl, cc)
+only_if-some false s n e = cc
+
+pub same_square-true : (a b : Bool) → same_square a b ≡ true → a ≡ b
+same_square-true true true e = refl
+same_square-true true false e = cc
+same_square-true false true e = cc
+same_square-true false false e = refl
+
+pub same_square-refl : (a : Bool) → same_square a a ≡ true
+same_square-refl true = refl
+same_square-refl false = refl
+
+-- the tokens of a gathered node
+pub tokens-gather : (place : ℕ) (keyword : List ℕ) (square : Bool) (before : List Item) (item : Item) (later : Items) (close : ℕ) →
+    tokens (gather place keyword square before item later close) ≡
+    single word place keyword ∷ opening square ∷ (before_tokens before ++ (tokens item ++ (others_tokens later ++ closing close square ∷ [])))
+tokens-gather place keyword square [] item later close = simp append_assoc
+tokens-gather place keyword square (b ∷ before) item later close =
+    tokens-gather place keyword square before b (More item later) close ∙ simp append_assoc
+
+unread-behind : (item : Item) (fs : List Frame) (t : Token) (n : State) → behind item fs t ≡ Some n → unread n ≡ (frames_tokens fs ++ tokens item) ++ t ∷ []
+unread-behind item [] t n e = cc
+unread-behind item (f ∷ fs) (single kind place raw) n e = cc
+unread-behind item (f ∷ fs) comma n e =
+    let h : wants (record f { before = item ∷ f.before } ∷ fs) ≡ n = cc in
+    rw (← h) (simp append_assoc)
+unread-behind item (f ∷ fs) (opening square) n e = cc
+unread-behind item (f ∷ fs) (closing place square) n e =
+    let h = only_if-some (same_square square f.square) _ n e in
+    let g = same_square-true square f.square h.0 in
+    rw (← h.1, g) (simp (tokens-gather, append_assoc))
+
+unread-leaf : (kind : Kind) (place : ℕ) (raw : List ℕ) (fs : List Frame) → unread (behind_leaf kind place raw fs) ≡ frames_tokens fs ++ single kind place raw ∷ []
+unread-leaf number place raw fs = refl
+unread-leaf text place raw fs = refl
+unread-leaf word place raw fs = refl
+
+pub unread-step : (limit : ℕ) (s : State) (t : Token) (n : State) → step limit s t ≡ Some n → unread n ≡ unread s ++ t ∷ []
+unread-step limit (wants []) (single number place raw) n e = cc
+unread-step limit (wants []) (single text place raw) n e = cc
+unread-step limit (wants []) (single word place raw) n e = let h : worded place raw [] ≡ n = cc in rw (← h) refl
+unread-step limit (wants []) comma n e = cc
+unread-step limit (wants []) (opening square) n e = cc
+unread-step limit (wants []) (closing place square) n e = cc
+unread-step limit (wants (f ∷ fs)) (single kind place raw) n e =
+    let h : behind_leaf kind place raw (f ∷ fs) ≡ n = cc in
+    rw (← h) (unread-leaf kind place raw (f ∷ fs))
+unread-step limit (wants (f ∷ fs)) comma n e = cc
+unread-step limit (wants (f ∷ fs)) (opening square) n e = cc
+unread-step limit (wants (f ∷ fs)) (closing place square) n e = cc
+unread-step limit (worded place raw fs) (opening square) n e =
+    let h = only_if-some _ _ n e in rw (← h.1) (simp append_assoc)
+unread-step limit (worded place raw fs) (single k p r) n e = unread-behind (leaf word place raw) fs (single k p r) n e
+unread-step limit (worded place raw fs) comma n e = unread-behind (leaf word place raw) fs comma n e
+unread-step limit (worded place raw fs) (closing p square) n e = unread-behind (leaf word place raw) fs (closing p square) n e
+unread-step limit (after item fs) t n e = unread-behind item fs t n e
+
+pub fold-none : (limit : ℕ) (ts : List Token) → fold (move limit) None ts ≡ None
+fold-none limit [] = refl
+fold-none limit (t ∷ ts) = fold-none limit ts
+
+unread-more : (limit : ℕ) (s : State) (t : Token) (ts : List Token) (n : State) → run limit s (t ∷ ts) ≡ Some n → (o : Option State) → step limit s t ≡ o →
+    ((m : State) → run limit m ts ≡ Some n → unread n ≡ unread m ++ ts) → unread n ≡ unread s ++ t ∷ ts
+unread-more limit s t ts n e None g next =
+    let h : fold (move limit) (step limit s t) ts ≡ fold (move limit) None ts = ap (λ o. fold (move limit) o ts) g in
+    let none = fold-none limit ts in
+    cc
+unread-more limit s t ts n e (Some m) g next =
+    let h : run limit m ts ≡ Some n = sym (ap (λ o. fold (move limit) o ts) g) ∙ e in
+    next m h ∙ ap (λ l. l ++ ts) (unread-step limit s t m g) ∙ append_assoc (unread s) (t ∷ []) ts
+
+pub unread-run : (limit : ℕ) (ts : List Token) (s n : State) → run limit s ts ≡ Some n → unread n ≡ unread s ++ ts
+unread-run limit [] s n e = let h : s ≡ n = cc in rw (← h) (sym (append-nil _))
+unread-run limit (t ∷ ts) s n e = unread-more limit s t ts n e (step limit s t) refl (λ m h. unread-run limit ts m n h)

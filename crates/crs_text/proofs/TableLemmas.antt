@@ -1,0 +1,71 @@
+-- The open nodes, read from the array.
+use Rattle.std.proofs.Common.{◌≡◌, ℕ, zero, suc, ◌+◌, ◌-◌, ◌≤◌, ◌<◌, Bool, List, [], ◌∷◌, length, get_or, ◌≢◌, refl, ap, arith, get_or-set_same, get_or-set_other}
+use Rattle.std.proofs.Math.ListN.{set, length-set}
+use Rattle.crs_text.specs.declared.table.Open.{Open}
+use Rattle.crs_text.specs.declared.table.Row.{Row}
+use Rattle.crs_text.specs.declared.table.Position.{Position}
+use Rattle.crs_text.specs.declared.table.Position.TheVariants.{BeforeItem, AfterWord}
+use Rattle.crs_text.specs.Table.{IsRoomy, AreRoomy, counted, held, no_open}
+
+pub held-top : (depth : ℕ) (os : List Open) → 0 < depth → held depth os ≡ get_or os (depth - 1) no_open ∷ held (depth - 1) os
+held-top zero os h = absurd (omega arith)
+held-top (suc depth) os h = let e : suc depth - 1 ≡ depth = omega arith in rw e refl
+
+pub held-none : (depth : ℕ) (os : List Open) → depth ≡ 0 → held depth os ≡ []
+held-none depth os h = rw h refl
+
+pub length-held : (depth : ℕ) (os : List Open) → length (held depth os) ≡ depth
+length-held zero os = refl
+length-held (suc depth) os = ap (λ n. suc n) (length-held depth os)
+
+-- a write above leaves what is below
+pub held-set : (depth : ℕ) (os : List Open) (i : ℕ) (o : Open) → depth ≤ i → held depth (set os i o) ≡ held depth os
+held-set zero os i o h = refl
+held-set (suc depth) os i o h =
+    let below : depth ≢ i = omega arith in
+    let here : get_or (set os i o) depth no_open ≡ get_or os depth no_open = rw get_or-set_other refl in
+    let rest = held-set depth os i o (omega arith) in
+    cc
+
+-- a write at the top
+pub held-set_top : (depth : ℕ) (os : List Open) (o : Open) → 0 < depth → depth ≤ length os → held depth (set os (depth - 1) o) ≡ o ∷ held (depth - 1) os
+held-set_top depth os o h d =
+    let lt : depth - 1 < length os = omega arith in
+    let here : get_or (set os (depth - 1) o) (depth - 1) no_open ≡ o = rw get_or-set_same refl in
+    let rest = held-set (depth - 1) os (depth - 1) o (omega arith) in
+    let top = held-top depth (set os (depth - 1) o) h in
+    cc
+
+-- one more
+pub held-push : (depth : ℕ) (os : List Open) (o : Open) → depth < length os → held (depth + 1) (set os depth o) ≡ o ∷ held depth os
+held-push depth os o d =
+    let e : depth + 1 - 1 ≡ depth = omega arith in
+    let top = held-set_top (depth + 1) os o (omega arith) (omega arith) in
+    rw e at top
+
+pub roomy_more : (n m : ℕ) (os : List Open) → AreRoomy n os → n ≤ m → AreRoomy m os
+roomy_more n m [] h le = tt
+roomy_more n m (o ∷ os) h le = (omega arith, roomy_more n m os h.1 le)
+
+pub roomy_counted : (n m : ℕ) (os : List Open) → AreRoomy n os → n < m → AreRoomy m (counted os)
+roomy_counted n m [] h lt = tt
+roomy_counted n m (o ∷ os) h lt = (omega arith, roomy_more n m os h.1 (omega arith))
+
+pub ruleset held_rules = (held-top, held-none, length-held, held-set_top, held-push, roomy_more, roomy_counted)
+
+-- a new open node at the last row
+pub roomy_push : (n m depth : ℕ) (os : List Open) (square : Bool) → AreRoomy n (held depth os) → m ≡ n → 0 < n → depth < length os →
+    AreRoomy m (held (depth + 1) (set os depth (record { row = n - 1; square = square; count = 0 })))
+roomy_push n m depth os square h e lt d =
+    rw held-push (omega arith, roomy_more n m (held depth os) h (omega arith))
+
+-- the table still fits once the last row is an open node
+pub open_keeps : (rows : List Row) (os : List Open) (depth at : ℕ) (row : Row) (square : Bool) (position : Position) →
+    IsRoomy (record { rows = rows; opens = held depth os; position = position }) → position ≡ AfterWord → at ≡ length rows → depth < 12 → length os ≡ 12 →
+    (depth + 1 ≤ 12) × IsRoomy (record { rows = set rows (at - 1) row; opens = held (depth + 1) (set os depth (record { row = at - 1; square = square; count = 0 })); position = BeforeItem })
+open_keeps rows os depth at row square position h word e lt twelve =
+    let some = h.word word in
+    let same : length (set rows (at - 1) row) ≡ length rows = length-set rows (at - 1) row in (
+      omega arith,
+      record { opens = roomy_push at (length (set rows (at - 1) row)) depth os square (roomy_more (length rows) at (held depth os) h.opens (omega arith)) (omega arith) (omega arith) (omega arith); word = λ no. cc },
+    )

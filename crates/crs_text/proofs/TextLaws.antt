@@ -1,0 +1,117 @@
+-- A text is one node at most, or is refused with one number and place at most, and never both.
+use Rattle.std.proofs.Common.{◌≡◌, ℕ, ◌+◌, List, [], ◌∷◌, ◌++◌, length, refl, sym, ap, subst, ◌∙◌, append_assoc, arith, inl, inr}
+use Rattle.std.proofs.lemmas.List.{append-nil}
+use Rattle.crs_text.specs.Tokens.{Token, single, comma, opening, closing, Forms, Fronts, AreTokens}
+use Rattle.crs_text.specs.Items.{Item, AreNode}
+use Rattle.crs_text.specs.Viable.{IsViable}
+use Rattle.crs_text.specs.declared.refusal.Reason.{Reason}
+use Rattle.crs_text.specs.declared.refusal.Reason.TheVariants.{Unexpected, UnexpectedEnd, TooDeep}
+use Rattle.crs_text.specs.TextFault.{SpellsNode, number_of, IsTooDeep, IsStop, RefusesText}
+use Rattle.crs_text.proofs.TokenLemmas.{Forms-one}
+use Rattle.crs_text.proofs.FlawLemmas.{flaw_no_token, flaw_one, flaw_some}
+use Rattle.crs_text.proofs.FrontsLemmas.{fronts_dark, GoesOn, fronts_compare, front_token, front_none, forms_some}
+
+pub tokens_one : (bytes : List ℕ) (ts us : List Token) → AreTokens bytes ts → AreTokens bytes us → ts ≡ us
+tokens_one bytes ts us p q = elim (fronts_compare (length bytes) ts us bytes [] [] p q) [ inl g ↦ same ts us g | inr g ↦ sym (same us ts g) ]
+  where
+    same : (ts us : List Token) → GoesOn (length bytes) ts [] us [] → ts ≡ us
+    same ts us ([], e, f) = sym (append-nil ts) ∙ sym e
+    same ts us (t ∷ more, e, f) = let r = front_token (length bytes) t more [] [] tt f in absurd (forms_some (length bytes) t [] r.0 r.1 refl)
+
+too_deep_refused : (ts : List Token) (t : Token) → IsTooDeep ts t → IsViable (ts ++ t ∷ []) → ⊥
+too_deep_refused ts (single kind place raw) h v = h
+too_deep_refused ts comma h v = h
+too_deep_refused ts (opening square) h v = h.1 v
+too_deep_refused ts (closing place square) h v = h
+
+-- where it stops, no viable token stands
+stop_no_token : (r : Reason) (total : ℕ) (ts : List Token) (left : List ℕ) (k : ℕ) (t : Token) (rest : List ℕ) → IsStop r total ts left k → Forms total t left rest → IsViable (ts ++ t ∷ []) → ⊥
+stop_no_token Unexpected total ts left k t rest s f v =
+    s.3 (subst (λ z. IsViable (ts ++ z ∷ [])) (Forms-one total t s.0 left rest s.1 f s.2).0 v)
+stop_no_token TooDeep total ts left k t rest s f v =
+    too_deep_refused ts s.0 s.3 (subst (λ z. IsViable (ts ++ z ∷ [])) (Forms-one total t s.0 left rest s.1 f s.2).0 v)
+stop_no_token UnexpectedEnd total ts left k t rest s f v = forms_some total t left rest f s.0
+stop_no_token r total ts left k t rest s f v = flaw_no_token r total t left rest k s f
+
+-- where it stops and nothing is left, the tokens are no node
+stop_no_node : (r : Reason) (total : ℕ) (ts : List Token) (left : List ℕ) (k : ℕ) (item : Item) → IsStop r total ts left k → left ≡ [] → AreNode item ts → ⊥
+stop_no_node Unexpected total ts left k item s e n = forms_some total s.0 left s.1 s.2 e
+stop_no_node TooDeep total ts left k item s e n = forms_some total s.0 left s.1 s.2 e
+stop_no_node UnexpectedEnd total ts left k item s e n = s.1 item n
+stop_no_node r total ts left k item s e n = flaw_some r left k s e
+
+zeros : (k m : ℕ) → k ≡ 0 → m ≡ 0 → k ≡ m
+zeros k m p q = p ∙ sym q
+
+stop_one : (r s : Reason) (total : ℕ) (ts : List Token) (left : List ℕ) (k m : ℕ) → IsStop r total ts left k → IsStop s total ts left m → (r ≡ s) × (k ≡ m)
+stop_one Unexpected Unexpected total ts left k m p q = (refl, zeros k m p.5 q.5)
+stop_one Unexpected TooDeep total ts left k m p q = absurd (p.4 (subst (IsTooDeep ts) (Forms-one total q.0 p.0 left q.1 p.1 q.2 p.2).0 q.3))
+stop_one TooDeep Unexpected total ts left k m p q = absurd (q.4 (subst (IsTooDeep ts) (Forms-one total p.0 q.0 left p.1 q.1 p.2 q.2).0 p.3))
+stop_one TooDeep TooDeep total ts left k m p q = (refl, zeros k m p.4 q.4)
+stop_one UnexpectedEnd UnexpectedEnd total ts left k m p q = (refl, zeros k m p.2 q.2)
+stop_one Unexpected UnexpectedEnd total ts left k m p q = absurd (forms_some total p.0 left p.1 p.2 q.0)
+stop_one TooDeep UnexpectedEnd total ts left k m p q = absurd (forms_some total p.0 left p.1 p.2 q.0)
+stop_one UnexpectedEnd Unexpected total ts left k m p q = absurd (forms_some total q.0 left q.1 q.2 p.0)
+stop_one UnexpectedEnd TooDeep total ts left k m p q = absurd (forms_some total q.0 left q.1 q.2 p.0)
+stop_one Unexpected s total ts left k m p q = absurd (flaw_no_token s total p.0 left p.1 m q p.2)
+stop_one TooDeep s total ts left k m p q = absurd (flaw_no_token s total p.0 left p.1 m q p.2)
+stop_one UnexpectedEnd s total ts left k m p q = absurd (flaw_some s left m q p.0)
+stop_one r Unexpected total ts left k m p q = absurd (flaw_no_token r total q.0 left q.1 k p q.2)
+stop_one r TooDeep total ts left k m p q = absurd (flaw_no_token r total q.0 left q.1 k p q.2)
+stop_one r UnexpectedEnd total ts left k m p q = absurd (flaw_some r left k p q.0)
+stop_one r s total ts left k m p q = flaw_one r s left k m p q
+
+-- a front of viable tokens is viable
+viable_front : (ts more : List Token) (t : Token) → IsViable (ts ++ t ∷ more) → IsViable (ts ++ t ∷ [])
+viable_front ts more t v =
+    (more ++ v.0, v.1, subst (AreNode v.1) (append_assoc ts (t ∷ more) v.0 ∙ sym (append_assoc ts (t ∷ []) (more ++ v.0))) v.2)
+
+node_viable : (item : Item) (ts : List Token) → AreNode item ts → IsViable ts
+node_viable item ts n = ([], item, subst (AreNode item) (sym (append-nil ts)) n)
+
+-- what stops nothing goes past
+no_further : (r : Reason) (total : ℕ) (ts us : List Token) (bytes left b : List ℕ) (k : ℕ) (t : Token) (more : List Token) → Fronts total bytes ts left → IsStop r total ts left k → us ≡ ts ++ t ∷ more → Fronts total left (t ∷ more) b → IsViable us → ⊥
+no_further r total ts us bytes left b k t more p s e f v =
+    let g = front_token total t more left b (fronts_dark total ts bytes left p) f in
+    stop_no_token r total ts left k t g.0 s g.1 (viable_front ts more t (subst IsViable e v))
+
+pub spelled_not_refused : (bytes : List ℕ) (item : Item) (n place : ℕ) → SpellsNode bytes item → RefusesText bytes n place → ⊥
+spelled_not_refused bytes item n place p r =
+    elim (fronts_compare (length bytes) r.before p.0 bytes r.left [] r.fronts p.1) [ inl g ↦ ahead g | inr g ↦ behind g ]
+  where
+    ahead : GoesOn (length bytes) r.before r.left p.0 [] → ⊥
+    ahead ([], e, f) =
+        stop_no_node r.reason (length bytes) r.before r.left r.skip item r.stop (front_none (length bytes) r.left [] (fronts_dark (length bytes) r.before bytes r.left r.fronts) f) (subst (AreNode item) (e ∙ append-nil r.before) p.2)
+    ahead (t ∷ more, e, f) = no_further r.reason (length bytes) r.before p.0 bytes r.left [] r.skip t more r.fronts r.stop e f (node_viable item p.0 p.2)
+
+    behind : GoesOn (length bytes) p.0 [] r.before r.left → ⊥
+    behind ([], e, f) =
+        stop_no_node r.reason (length bytes) r.before r.left r.skip item r.stop (sym (front_none (length bytes) [] r.left tt f)) (subst (AreNode item) (sym (append-nil p.0) ∙ sym e) p.2)
+    behind (t ∷ more, e, f) = let g = front_token (length bytes) t more [] r.left tt f in forms_some (length bytes) t [] g.0 g.1 refl
+
+-- two fronts of viable tokens that stop: neither goes past the other
+module _ (bytes : List ℕ) where
+  same_stop : (r s : Reason) (ts us : List Token) (a b : List ℕ) (k m p q : ℕ) → ts ≡ us → a ≡ b → IsStop r (length bytes) ts a k → IsStop s (length bytes) us b m
+      → p + length a ≡ length bytes + k → q + length b ≡ length bytes + m → (number_of r ≡ number_of s) × (p ≡ q)
+  same_stop r s ts us a b k m p q e f x y u v =
+      let y2 : IsStop s (length bytes) ts a m = subst (λ z. IsStop s (length bytes) z a m) (sym e) (subst (λ z. IsStop s (length bytes) us z m) (sym f) y) in
+      let o = stop_one r s (length bytes) ts a k m x y2 in
+      let l : length a ≡ length b = ap length f in
+      let w : k ≡ m = o.1 in
+      (ap number_of o.0, omega arith)
+
+  stops_alike : (r s : Reason) (ts us : List Token) (a b : List ℕ) (k m p q : ℕ) → Fronts (length bytes) bytes ts a → Fronts (length bytes) bytes us b → IsViable us
+      → IsStop r (length bytes) ts a k → IsStop s (length bytes) us b m → p + length a ≡ length bytes + k → q + length b ≡ length bytes + m
+      → GoesOn (length bytes) ts a us b → (number_of r ≡ number_of s) × (p ≡ q)
+  stops_alike r s ts us a b k m p q fa fb viable x y u v ([], e, f) =
+      same_stop r s ts us a b k m p q (sym (append-nil ts) ∙ sym e) (front_none (length bytes) a b (fronts_dark (length bytes) ts bytes a fa) f) x y u v
+  stops_alike r s ts us a b k m p q fa fb viable x y u v (t ∷ more, e, f) = absurd (no_further r (length bytes) ts us bytes a b k t more fa x e f viable)
+
+pub refusal_one : (bytes : List ℕ) (n m p q : ℕ) → RefusesText bytes n p → RefusesText bytes m q → (n ≡ m) × (p ≡ q)
+refusal_one bytes n m p q x y =
+    elim (fronts_compare (length bytes) x.before y.before bytes x.left y.left x.fronts y.fronts) [
+      | inl g ↦ let o = stops_alike bytes x.reason y.reason x.before y.before x.left y.left x.skip y.skip p q x.fronts y.fronts y.viable x.stop y.stop x.is_place y.is_place g in
+          (x.is_number ∙ o.0 ∙ sym y.is_number, o.1)
+      | inr g ↦ let o = stops_alike bytes y.reason x.reason y.before x.before y.left x.left y.skip x.skip q p y.fronts x.fronts x.viable y.stop x.stop y.is_place x.is_place g in
+          (x.is_number ∙ sym o.0 ∙ sym y.is_number, sym o.1)
+    ]

@@ -1,0 +1,155 @@
+-- A table over its source gives back the item whose rows it has, and each row's raw bytes stand in the source.
+use Rattle.std.proofs.Common.{◌≡◌, ℕ, zero, suc, ◌+◌, ◌≤◌, ◌<◌, List, [], ◌∷◌, ◌++◌, length, get_or, take, drop, map, refl, sym, ◌∙◌, ap, subst, arith}
+use Rattle.std.proofs.lemmas.List.{map-append, get_or-map}
+use Rattle.crs_decimal.specs.Bounds.{IsInBounds}
+use Rattle.crs_decimal.specs.Fault.{IsFault}
+use Rattle.crs_decimal.specs.declared.fault.NumberFault.{NumberFault}
+use Rattle.crs_decimal.specs.declared.fault.NumberFault.TheVariants.{Malformed, Range}
+use Rattle.crs_text.specs.Tokens.{Kind, number, text, word, Token, single, closing}
+use Rattle.crs_text.specs.Items.{Item, leaf, node, Items, End, More, tokens, others_tokens, first_of, kind_of, raw_of, place_of, here, HasId}
+use Rattle.crs_text.specs.Table.{item_kind, leaf_row}
+use Rattle.crs_text.specs.Rows.{rows, rows_of_items, row_of}
+use Rattle.crs_text.specs.Tree.{part_of, parts, parts_of_items, tree, tree-parts, raw_place, part, tree_of, StandsAt, Stands, Each, AllStand, IsNumberInBounds, IsTable}
+use Rattle.crs_text.specs.declared.items.ItemKind.TheVariants.{Number}
+use Rattle.crs_text.specs.declared.table.Row.{Row}
+use Rattle.crs_text.proofs.HereLemmas.{Here, items_at, heres, heres_in, heres_of}
+use Rattle.crs_text.proofs.IdLemmas.{length-heres, items-at, lt_from_has}
+
+pub each_left : (P : Token → Type 0) (a b : List Token) → Each P (a ++ b) → Each P a
+each_left P [] b h = tt
+each_left P (t ∷ a) b h = (h.0, each_left P a b h.1)
+
+pub each_right : (P : Token → Type 0) (a b : List Token) → Each P (a ++ b) → Each P b
+each_right P [] b h = h
+each_right P (t ∷ a) b h = each_right P a b h.1
+
+pub each_both : (P : Token → Type 0) (a b : List Token) → Each P a → Each P b → Each P (a ++ b)
+each_both P [] b h k = k
+each_both P (t ∷ a) b h k = (h.0, each_both P a b h.1 k)
+
+part-leaf : (source : List ℕ) (kind : Kind) (place : ℕ) (raw : List ℕ) (depth : ℕ) → Stands source (single kind place raw) →
+    part source (leaf_row (item_kind kind) place (length raw) depth) ≡ part_of (leaf kind place raw)
+part-leaf source number place raw depth h = rw (← h.bytes) refl
+part-leaf source text place raw depth h = rw (← h.bytes) refl
+part-leaf source word place raw depth h = rw (← h.bytes) refl
+
+mutual
+  parts-rows : (item : Item) (source : List ℕ) (depth : ℕ) → AllStand source (tokens item) → map (part source) (rows depth item) ≡ parts item
+  parts-rows (leaf kind place raw) source depth h = ap (λ p. p ∷ []) (part-leaf source kind place raw depth h.0)
+  parts-rows (node place keyword square first others close) source depth h =
+      let left = each_left (Stands source) (tokens first ++ others_tokens others) (closing close square ∷ []) h.1.1 in
+      let a = parts-rows first source (suc depth) (each_left (Stands source) (tokens first) (others_tokens others) left) in
+      let b = parts-rows_of_items others source (suc depth) (each_right (Stands source) (tokens first) (others_tokens others) left) in
+      let c = map-append (part source) (rows (suc depth) first) (rows_of_items (suc depth) others) in
+      let raw = h.0.bytes in
+      rw (← raw) (let body : map (part source) (rows (suc depth) first ++ rows_of_items (suc depth) others) ≡ parts first ++ parts_of_items others = cc in
+      ap (λ ps. part_of (node place keyword square first others close) ∷ ps) body)
+
+  parts-rows_of_items : (items : Items) (source : List ℕ) (depth : ℕ) → AllStand source (others_tokens items) → map (part source) (rows_of_items depth items) ≡ parts_of_items items
+  parts-rows_of_items End source depth h = refl
+  parts-rows_of_items (More item items) source depth h =
+      let a = parts-rows item source depth (each_left (Stands source) (tokens item) (others_tokens items) h.1) in
+      let b = parts-rows_of_items items source depth (each_right (Stands source) (tokens item) (others_tokens items) h.1) in
+      let c = map-append (part source) (rows depth item) (rows_of_items depth items) in
+      cc
+
+-- a table's tree is the item that it has the rows of
+pub tree_of-rows : (source : List ℕ) (table : List Row) (item : Item) → IsTable source table item → tree_of source table ≡ item
+unfolding tree_of
+tree_of-rows source table item h =
+    ap (λ rs. tree (map (part source) rs)) h.rows ∙ ap tree (parts-rows item source 0 h.stand) ∙ tree-parts item
+
+pub table_of_tree : (source : List ℕ) (table : List Row) (item : Item) → IsTable source table item → IsTable source table (tree_of source table)
+table_of_tree source table item h = subst (IsTable source table) (sym (tree_of-rows source table item h)) h
+
+abbrev pub AllHere : (Item → Type 0) → List Here → Type 0
+AllHere Q [] = Unit {0}
+AllHere Q (h ∷ hs) = Q h.item × AllHere Q hs
+
+all-append : (Q : Item → Type 0) (a b : List Here) → AllHere Q a → AllHere Q b → AllHere Q (a ++ b)
+all-append Q [] b h k = k
+all-append Q (x ∷ a) b h k = (h.0, all-append Q a b h.1 k)
+
+-- what each token of a tree has, and so each item whose tokens have it, each item in the tree has
+module _ (P : Token → Type 0) (Q : Item → Type 0) (own : (item : Item) → Each P (tokens item) → Q item) where
+  mutual
+    all-heres_in : (item : Item) (depth : ℕ) → Each P (tokens item) → AllHere Q (heres_in depth item)
+    all-heres_in (leaf kind place raw) depth h = tt
+    all-heres_in (node place keyword square first others close) depth h =
+        let left = each_left P (tokens first ++ others_tokens others) (closing close square ∷ []) h.1.1 in
+        let one = each_left P (tokens first) (others_tokens others) left in
+        let a = all-heres_in first (suc depth) one in
+        let b = all-heres_of others (suc depth) (each_right P (tokens first) (others_tokens others) left) in
+        (own first one, all-append Q (heres_in (suc depth) first) (heres_of (suc depth) others) a b)
+
+    all-heres_of : (items : Items) (depth : ℕ) → Each P (others_tokens items) → AllHere Q (heres_of depth items)
+    all-heres_of End depth h = tt
+    all-heres_of (More item items) depth h =
+        let one = each_left P (tokens item) (others_tokens items) h.1 in
+        let a = all-heres_in item depth one in
+        let b = all-heres_of items depth (each_right P (tokens item) (others_tokens items) h.1) in
+        (own item one, all-append Q (heres_in depth item) (heres_of depth items) a b)
+
+  all-heres : (tree : Item) → Each P (tokens tree) → AllHere Q (heres tree)
+  all-heres tree h = (own tree h, all-heres_in tree 0 h)
+
+all-get : (Q : Item → Type 0) (hs : List Here) (i : ℕ) (d : Here) → AllHere Q hs → i < length hs → Q (get_or hs i d).item
+all-get Q [] i d h lt = absurd (omega arith)
+all-get Q (x ∷ hs) zero d h lt = h.0
+all-get Q (x ∷ hs) (suc i) d h lt = all-get Q hs i d h.1 (omega arith)
+
+pub each_item : (P : Token → Type 0) (Q : Item → Type 0) → ((item : Item) → Each P (tokens item) → Q item) → (tree : Item) (id : ℕ) → Each P (tokens tree) →
+    id < length (rows 0 tree) → Q (first_of (here tree id))
+each_item P Q own tree id h lt =
+    let none : Here = record { depth = 0; item = tree; later = End } in
+    let len = length-heres tree in
+    let inner : id < length (heres tree) = omega arith in
+    let items : here tree id ≡ items_at (get_or (heres tree) id none) = items-at tree id ∙ get_or-map items_at (heres tree) id none End inner in
+    subst Q (sym (ap first_of items)) (all-get Q (heres tree) id none (all-heres P Q own tree h) inner)
+
+abbrev pub StandsHere : List ℕ → Item → Type 0
+StandsHere source item = StandsAt source (raw_place (kind_of item) (place_of item)) (raw_of item)
+
+pub stands_here : (source : List ℕ) (item : Item) → AllStand source (tokens item) → StandsHere source item
+stands_here source (leaf number place raw) h = h.0
+stands_here source (leaf text place raw) h = h.0
+stands_here source (leaf word place raw) h = h.0
+stands_here source (node place keyword square first others close) h = h.0
+
+-- the raw bytes of each item stand in the source
+pub stands : (source : List ℕ) (tree : Item) (id : ℕ) → AllStand source (tokens tree) → id < length (rows 0 tree) → StandsHere source (first_of (here tree id))
+stands source tree id = each_item (Stands source) (StandsHere source) (stands_here source) tree id
+
+-- the raw bytes of the item whose row this is
+module _ (source : List ℕ) (tree : Item) (id : ℕ) (row : Row) (stand : AllStand source (tokens tree)) (has : HasId tree id)
+    (is : row ≡ row_of row.depth (first_of (here tree id))) where
+  item-stands : StandsHere source (first_of (here tree id))
+  item-stands = stands source tree id stand (lt_from_has tree id has)
+
+  pub raw-within : raw_place row.kind row.place + row.length ≤ length source
+  raw-within =
+      let h = item-stands in
+      let e : raw_place row.kind row.place + row.length ≡ raw_place (kind_of (first_of (here tree id))) (place_of (first_of (here tree id))) + length (raw_of (first_of (here tree id))) =
+      ap (λ r. raw_place r.kind r.place + r.length) is in
+      omega (arith, e, h.within)
+
+  pub raw-is : take row.length (drop (raw_place row.kind row.place) source) ≡ raw_of (first_of (here tree id))
+  raw-is = ap (λ r. take r.length (drop (raw_place r.kind r.place) source)) is ∙ sym item-stands.bytes
+
+abbrev pub IsBoundedHere : Item → Type 0
+IsBoundedHere item = kind_of item ≡ Number → IsInBounds (raw_of item)
+
+bounded_here : (item : Item) → Each IsNumberInBounds (tokens item) → IsBoundedHere item
+bounded_here (leaf number place raw) h = λ e. h.0
+bounded_here (leaf text place raw) h = λ e. cc
+bounded_here (leaf word place raw) h = λ e. cc
+bounded_here (node place keyword square first others close) h = λ e. cc
+
+-- each number of a tree is within the bounds
+pub bounded : (tree : Item) (id : ℕ) → Each IsNumberInBounds (tokens tree) → HasId tree id → IsBoundedHere (first_of (here tree id))
+bounded tree id h has = each_item IsNumberInBounds IsBoundedHere bounded_here tree id h (lt_from_has tree id has)
+
+-- what is within the bounds has no fault
+pub no_fault : (bytes : List ℕ) (fault : NumberFault) → IsInBounds bytes → IsFault bytes fault → ⊥
+no_fault bytes Malformed h f = f (h.0, h.1)
+no_fault bytes Range h f = f.1 h

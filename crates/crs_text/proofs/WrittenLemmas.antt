@@ -1,0 +1,212 @@
+-- What is written without white space is read as it was.
+use Rattle.std.proofs.Common.{◌≡◌, ℕ, suc, ◌+◌, ◌≤◌, max, true, List, [], ◌∷◌, ◌++◌, length, refl, sym, ap, subst, ◌∙◌, append_assoc, arith}
+use Rattle.std.proofs.lemmas.List.{append-nil, length-append}
+use Rattle.crs_text.specs.Quoted.{StopsAt}
+use Rattle.crs_text.specs.Tokens.{Kind, number, text, word, Token, single, comma, opening, closing, is_white, IsWord, IsSingle, single_spelling, takes, IsFormed, Forms, Fronts}
+use Rattle.crs_text.specs.Items.{Item, leaf, node, Items, End, More, tokens, others_tokens, depth, depths, IsNode}
+use Rattle.crs_text.specs.TextFault.{SpellsNode}
+use Rattle.crs_text.specs.Written.{item_text, others_text, AreFormed, AreAllFormed, SameItem, SameItems, at_place, at_places, WrittenSpells}
+use Rattle.crs_text.proofs.FrontsLemmas.{dark_start, dark_word, at_once}
+
+-- no token goes on into these bytes
+abbrev IsApart : List ℕ → Type 0
+IsApart rest = (kind : Kind) → StopsAt (takes kind) rest
+
+apart_none : IsApart []
+apart_none kind = tt
+
+apart_comma : (rest : List ℕ) → IsApart (44 ∷ rest)
+apart_comma rest number = refl
+apart_comma rest text = refl
+apart_comma rest word = refl
+
+apart_close : (rest : List ℕ) → IsApart (93 ∷ rest)
+apart_close rest number = refl
+apart_close rest text = refl
+apart_close rest word = refl
+
+apart_others : (others : Items) (rest : List ℕ) → IsApart rest → IsApart (others_text others ++ rest)
+apart_others End rest apart = apart
+apart_others (More item items) rest apart = apart_comma ((item_text item ++ others_text items) ++ rest)
+
+-- a single token is there at once
+dark_single : (kind : Kind) (raw rest : List ℕ) → IsSingle kind raw → StopsAt is_white (single_spelling kind raw ++ rest)
+dark_single number raw rest h = dark_start raw rest h.0
+dark_single text raw rest h = refl
+dark_single word raw rest h = dark_word raw rest h
+
+front : (total : ℕ) (t : Token) (ts : List Token) (left rest end : List ℕ) → StopsAt is_white left → Forms total t left rest → Fronts total rest ts end → Fronts total left (t ∷ ts) end
+front total t ts left rest end dark forms more = (left, rest, at_once left dark, forms, more)
+
+front_single : (total place : ℕ) (kind : Kind) (raw rest end : List ℕ) (ts : List Token) → IsSingle kind raw → IsApart rest → place + length (single_spelling kind raw ++ rest) ≡ total
+    → Fronts total rest ts end → Fronts total (single_spelling kind raw ++ rest) (single kind place raw ∷ ts) end
+front_single total place kind raw rest end ts formed apart placed more =
+    front total (single kind place raw) ts (single_spelling kind raw ++ rest) rest end (dark_single kind raw rest formed) (record { spelled = refl; formed = formed; ends = apart kind; placed = placed }) more
+
+front_keyword : (total place : ℕ) (keyword rest end : List ℕ) (ts : List Token) → IsWord keyword → place + length (keyword ++ 91 ∷ rest) ≡ total
+    → Fronts total rest ts end → Fronts total (keyword ++ 91 ∷ rest) (single word place keyword ∷ opening true ∷ ts) end
+front_keyword total place keyword rest end ts formed placed more =
+    front total (single word place keyword) (opening true ∷ ts) (keyword ++ 91 ∷ rest) (91 ∷ rest) end (dark_word keyword (91 ∷ rest) formed)
+    (record { spelled = refl; formed = formed; ends = refl; placed = placed })
+    (front total (opening true) ts (91 ∷ rest) rest end refl (record { spelled = refl; formed = tt; ends = tt; placed = tt }) more)
+
+front_close : (total place : ℕ) (rest end : List ℕ) (ts : List Token) → place + length (93 ∷ rest) ≡ total → Fronts total rest ts end → Fronts total (93 ∷ rest) (closing place true ∷ ts) end
+front_close total place rest end ts placed more =
+    front total (closing place true) ts (93 ∷ rest) rest end refl (record { spelled = refl; formed = tt; ends = tt; placed = placed }) more
+
+front_comma : (total : ℕ) (rest end : List ℕ) (ts : List Token) → Fronts total rest ts end → Fronts total (44 ∷ rest) (comma ∷ ts) end
+front_comma total rest end ts more = front total comma ts (44 ∷ rest) rest end refl (record { spelled = refl; formed = tt; ends = tt; placed = tt }) more
+
+-- the bytes and tokens of a node, grouped to the right
+node_bytes : (keyword first others rest : List ℕ) → (keyword ++ 91 ∷ (first ++ (others ++ 93 ∷ []))) ++ rest ≡ keyword ++ 91 ∷ (first ++ (others ++ 93 ∷ rest))
+node_bytes keyword first others rest = simp append_assoc
+
+node_tokens : (first others ts : List Token) (t : Token) → (first ++ others ++ t ∷ []) ++ ts ≡ first ++ (others ++ t ∷ ts)
+node_tokens first others ts t = simp append_assoc
+
+-- where the parts of a node begin
+place_first : (place total : ℕ) (keyword rest : List ℕ) → place + length (keyword ++ 91 ∷ rest) ≡ total → place + length keyword + 1 + length rest ≡ total
+place_first place total keyword rest e = omega (arith, length-append keyword (91 ∷ rest))
+
+place_next : (place total : ℕ) (first rest : List ℕ) → place + length (first ++ rest) ≡ total → place + length first + length rest ≡ total
+place_next place total first rest e = omega (arith, length-append first rest)
+
+mutual
+  front_item : (total place : ℕ) (item : Item) (rest end : List ℕ) (ts : List Token) → AreFormed item → IsApart rest → place + length (item_text item ++ rest) ≡ total
+      → Fronts total rest ts end → Fronts total (item_text item ++ rest) (tokens (at_place place item) ++ ts) end
+  front_item total place (leaf kind here raw) rest end ts formed apart placed more = front_single total place kind raw rest end ts formed apart placed more
+  front_item total place (node here keyword square first others close) rest end ts formed apart placed more =
+      let bytes = node_bytes keyword (item_text first) (others_text others) rest in
+      let start = place + length keyword + 1 in
+      let e0 : place + length (keyword ++ 91 ∷ (item_text first ++ (others_text others ++ 93 ∷ rest))) ≡ total = subst (λ (b : List ℕ). place + length b ≡ total) bytes placed in
+      let e1 = place_first place total keyword (item_text first ++ (others_text others ++ 93 ∷ rest)) e0 in
+      let e2 = place_next start total (item_text first) (others_text others ++ 93 ∷ rest) e1 in
+      let e3 = place_next (start + length (item_text first)) total (others_text others) (93 ∷ rest) e2 in
+      let at = start + length (item_text first) + length (others_text others) in
+      let closed = front_close total at rest end ts e3 more in
+      let later = front_items total (start + length (item_text first)) others (93 ∷ rest) end (closing at true ∷ ts) formed.2 (apart_close rest) e2 closed in
+      let all = front_item total start first (others_text others ++ 93 ∷ rest) end (others_tokens (at_places (start + length (item_text first)) others) ++ closing at true ∷ ts) formed.1 (apart_others others (93 ∷ rest) (apart_close rest)) e1 later in
+      let whole = front_keyword total place keyword (item_text first ++ (others_text others ++ 93 ∷ rest)) end (tokens (at_place start first) ++ (others_tokens (at_places (start + length (item_text first)) others) ++ closing at true ∷ ts)) formed.0 e0 all in
+      subst (λ (b : List ℕ). Fronts total b (tokens (at_place place (node here keyword square first others close)) ++ ts) end) (sym bytes)
+      (subst (λ (us : List Token). Fronts total (keyword ++ 91 ∷ (item_text first ++ (others_text others ++ 93 ∷ rest))) (single word place keyword ∷ opening true ∷ us) end)
+      (sym (node_tokens (tokens (at_place start first)) (others_tokens (at_places (start + length (item_text first)) others)) ts (closing at true))) whole)
+
+  front_items : (total place : ℕ) (items : Items) (rest end : List ℕ) (ts : List Token) → AreAllFormed items → IsApart rest → place + length (others_text items ++ rest) ≡ total
+      → Fronts total rest ts end → Fronts total (others_text items ++ rest) (others_tokens (at_places place items) ++ ts) end
+  front_items total place End rest end ts formed apart placed more = more
+  front_items total place (More item items) rest end ts formed apart placed more =
+      let start = place + 1 in
+      let bytes = append_assoc (item_text item) (others_text items) rest in
+      let e0 : start + length (item_text item ++ (others_text items ++ rest)) ≡ total = omega (arith, ap length bytes) in
+      let e1 = place_next start total (item_text item) (others_text items ++ rest) e0 in
+      let later = front_items total (start + length (item_text item)) items rest end ts formed.1 apart e1 more in
+      let all = front_item total start item (others_text items ++ rest) end (others_tokens (at_places (start + length (item_text item)) items) ++ ts) formed.0 (apart_others items rest apart) e0 later in
+      let whole = front_comma total (item_text item ++ (others_text items ++ rest)) end (tokens (at_place start item) ++ (others_tokens (at_places (start + length (item_text item)) items) ++ ts)) all in
+      subst (λ (b : List ℕ). Fronts total (44 ∷ b) (comma ∷ ((tokens (at_place start item) ++ others_tokens (at_places (start + length (item_text item)) items)) ++ ts)) end) (sym bytes)
+      (subst (λ (us : List Token). Fronts total (44 ∷ (item_text item ++ (others_text items ++ rest))) (comma ∷ us) end)
+      (sym (append_assoc (tokens (at_place start item)) (others_tokens (at_places (start + length (item_text item)) items)) ts)) whole)
+
+-- ---- what a text spells is formed
+
+abbrev AllFormed : List Token → Type 0
+AllFormed [] = Unit {0}
+AllFormed (t ∷ ts) = IsFormed t × AllFormed ts
+
+fronts_formed : (total : ℕ) (bytes left : List ℕ) (ts : List Token) → Fronts total bytes ts left → AllFormed ts
+fronts_formed total bytes left [] p = tt
+fronts_formed total bytes left (t ∷ ts) p = (p.3.formed, fronts_formed total p.1 left ts p.4)
+
+mutual
+  formed_item : (item : Item) (rest : List Token) → AllFormed (tokens item ++ rest) → AreFormed item × AllFormed rest
+  formed_item (leaf kind place raw) rest all = all
+  formed_item (node place keyword square first others close) rest all =
+      let e = node_tokens (tokens first) (others_tokens others) rest (closing close square) in
+      let inside : AllFormed (tokens first ++ (others_tokens others ++ closing close square ∷ rest)) = subst AllFormed e all.1.1 in
+      let f = formed_item first (others_tokens others ++ closing close square ∷ rest) inside in
+      let g = formed_items others (closing close square ∷ rest) f.1 in
+      ((all.0, f.0, g.0), g.1.1)
+
+  formed_items : (items : Items) (rest : List Token) → AllFormed (others_tokens items ++ rest) → AreAllFormed items × AllFormed rest
+  formed_items End rest all = (tt, all)
+  formed_items (More item items) rest all =
+      let inside : AllFormed (tokens item ++ (others_tokens items ++ rest)) = subst AllFormed (append_assoc (tokens item) (others_tokens items) rest) all.1 in
+      let f = formed_item item (others_tokens items ++ rest) inside in
+      let g = formed_items items rest f.1 in
+      ((f.0, g.0), g.1)
+
+-- the tokens of an item that a text spells are formed
+pub spelled_formed : (bytes : List ℕ) (item : Item) → SpellsNode bytes item → AreFormed item
+spelled_formed bytes item (ts, are, of_node) =
+    let all = fronts_formed (length bytes) bytes [] ts are in
+    let e : ts ≡ tokens item ++ [] = of_node.are ∙ sym (append-nil (tokens item)) in
+    (formed_item item [] (subst AllFormed e all)).0
+
+-- ---- places make no difference
+
+mutual
+  pub depth-at_place : (place : ℕ) (item : Item) → depth (at_place place item) ≡ depth item
+  depth-at_place place (leaf kind here raw) = refl
+  depth-at_place place (node here keyword square first others close) =
+      ap (λ (n : ℕ). suc (max n (depths (at_places (place + length keyword + 1 + length (item_text first)) others)))) (depth-at_place (place + length keyword + 1) first)
+      ∙ ap (λ (n : ℕ). suc (max (depth first) n)) (depths-at_places (place + length keyword + 1 + length (item_text first)) others)
+
+  depths-at_places : (place : ℕ) (items : Items) → depths (at_places place items) ≡ depths items
+  depths-at_places place End = refl
+  depths-at_places place (More item items) =
+      ap (λ (n : ℕ). max n (depths (at_places (place + 1 + length (item_text item)) items))) (depth-at_place (place + 1) item)
+      ∙ ap (λ (n : ℕ). max (depth item) n) (depths-at_places (place + 1 + length (item_text item)) items)
+
+mutual
+  pub at_place-same : (place : ℕ) (item : Item) → SameItem item (at_place place item)
+  at_place-same place (leaf kind here raw) = (refl, refl)
+  at_place-same place (node here keyword square first others close) =
+      (refl, at_place-same (place + length keyword + 1) first, at_places-same (place + length keyword + 1 + length (item_text first)) others)
+
+  at_places-same : (place : ℕ) (items : Items) → SameItems items (at_places place items)
+  at_places-same place End = tt
+  at_places-same place (More item items) = (at_place-same (place + 1) item, at_places-same (place + 1 + length (item_text item)) items)
+
+mutual
+  pub same_text : (a b : Item) → SameItem a b → item_text a ≡ item_text b
+  same_text (leaf kind place raw) (leaf kind2 place2 raw2) same =
+      let k : kind ≡ kind2 = same.0 in
+      let r : raw ≡ raw2 = same.1 in
+      cc
+  same_text (node place keyword square first others close) (node place2 keyword2 square2 first2 others2 close2) same =
+      let k : keyword ≡ keyword2 = same.0 in
+      let f : item_text first ≡ item_text first2 = same_text first first2 same.1 in
+      let o : others_text others ≡ others_text others2 = same_texts others others2 same.2 in
+      cc
+  same_text (leaf kind place raw) (node place2 keyword2 square2 first2 others2 close2) same = absurd same
+  same_text (node place keyword square first others close) (leaf kind2 place2 raw2) same = absurd same
+
+  same_texts : (a b : Items) → SameItems a b → others_text a ≡ others_text b
+  same_texts End End same = refl
+  same_texts (More item items) (More item2 items2) same =
+      let f : item_text item ≡ item_text item2 = same_text item item2 same.0 in
+      let o : others_text items ≡ others_text items2 = same_texts items items2 same.1 in
+      cc
+  same_texts End (More item items) same = absurd same
+  same_texts (More item items) End same = absurd same
+
+pub item_text-at_place : (place : ℕ) (item : Item) → item_text (at_place place item) ≡ item_text item
+item_text-at_place place item = sym (same_text item (at_place place item) (at_place-same place item))
+
+at_place-node : (place : ℕ) (item : Item) → IsNode item → IsNode (at_place place item)
+at_place-node place (leaf kind here raw) h = h
+at_place-node place (node here keyword square first others close) h = tt
+
+-- ---- the law
+
+same_depth : (m n : ℕ) → m ≡ n → n ≤ 12 → m ≤ 12
+same_depth m n e h = omega arith
+
+pub written_spells : WrittenSpells
+written_spells item formed is_node within =
+    let whole = item_text item in
+    let e : whole ++ [] ≡ whole = append-nil whole in
+    let placed : 0 + length (whole ++ []) ≡ length whole = omega (arith, ap length e) in
+    let fronts = front_item (length whole) 0 item [] [] [] formed apart_none placed (at_once [] tt) in
+    let ts = tokens (at_place 0 item) in
+    let fronts2 : Fronts (length whole) whole ts [] = subst (λ (us : List Token). Fronts (length whole) whole us []) (append-nil ts) (subst (λ (b : List ℕ). Fronts (length whole) b (ts ++ []) []) e fronts) in
+    (ts, fronts2, record { is_node = at_place-node 0 item is_node; within = same_depth (depth (at_place 0 item)) (depth item) (depth-at_place 0 item) within; are = refl })

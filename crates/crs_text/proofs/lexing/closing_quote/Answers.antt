@@ -1,0 +1,30 @@
+use Rattle.std.proofs.Common.{◌≡◌, ◌+◌, ◌<◌, length, drop, arith, ap, sym, ◌∙◌}
+use Rattle.std.specs.List.{prefix_len}
+use Rattle.std.proofs.lemmas.List.{length-drop}
+use Rattle.crs_text.specs.Quoted.{StopsAt, is_plain, is_quote}
+use Rattle.std.proofs.Common.{subst}
+use Rattle.crs_text.proofs.QuotedLemmas.{open_at, shut_at, past_doubled, within_at}
+use Rattle.crs_text.proofs.lexing.closing_quote.Goals as goal
+
+pub returns-then-quote-after : goal.returns-then-quote-after
+returns-then-quote-after c =
+    let e : c.plain_length.result ≡ prefix_len is_plain (drop c.loop-at.at c.args.after.now) = c.plain_length.ensures.value ∙ ap (prefix_len is_plain) c.rest_of.ensures in
+    open_at c.args.after.now c.loop-at.at c.loop-at.invariant.0 c.loop-at.invariant.1 (sym (ap (λ z. c.loop-at.at + z) e) ∙ c.if-quote-after.true)
+
+pub returns-then-not-begins_with_quote : goal.returns-then-not-begins_with_quote
+returns-then-not-begins_with_quote c =
+    let e : c.plain_length.result ≡ prefix_len is_plain (drop c.loop-at.at c.args.after.now) = c.plain_length.ensures.value ∙ ap (prefix_len is_plain) c.rest_of.ensures in
+    let lt : c.loop-at.at + c.plain_length.result < length c.args.after.now = omega (arith, length-drop c.loop-at.at c.args.after.now, c.plain_length.ensures.within, ap length c.rest_of.ensures, c.if-quote-after.false) in (
+      shut_at c.args.after.now c.loop-at.at (c.loop-at.at + c.plain_length.result) c.loop-at.invariant.0 c.loop-at.invariant.1 (ap (λ z. c.loop-at.at + z) e) lt
+          (subst (StopsAt is_quote) c.rest_of-in-loop-at.ensures (c.if-not-begins_with_quote.ensures)),
+      lt,
+    )
+
+pub loop-at-preserved : goal.loop-at-preserved
+loop-at-preserved c =
+    let e : c.plain_length.result ≡ prefix_len is_plain (drop c.loop-at.at c.args.after.now) = c.plain_length.ensures.value ∙ ap (prefix_len is_plain) c.rest_of.ensures in
+    let lt : c.loop-at.at + c.plain_length.result < length c.args.after.now = omega (arith, length-drop c.loop-at.at c.args.after.now, c.plain_length.ensures.within, ap length c.rest_of.ensures, c.if-quote-after.false) in
+    let q = c.loop-at.at + c.plain_length.result in
+    let f = sym c.rest_of-in-loop-at.ensures ∙ c.if-not-begins_with_quote.ensures in
+    let w : q + 1 < length c.args.after.now = within_at c.args.after.now _ 34 (q + 1) f in
+    (omega (arith, w), past_doubled c.args.after.now c.loop-at.at q c.loop-at.invariant.0 c.loop-at.invariant.1 (ap (λ z. c.loop-at.at + z) e) lt _ f)

@@ -1,0 +1,146 @@
+-- Items: a single token, or a node, which is a word, an opening delimiter, one or more items separated by
+-- commas, and the closing delimiter of the same kind.
+use Rattle.std.specs.Prelude.{◌≡◌, ◌≢◌, ℕ, zero, suc, ◌+◌, ◌≤◌, max, Bool, Option, Some, None, List, [], ◌∷◌, ◌++◌, slice_index_or}
+use Rattle.crs_decimal.specs.Bounds.{Denotes}
+use Rattle.crs_decimal.specs.Value.{Value, IsNormal, exact}
+use Rattle.crs_text.specs.declared.items.ItemKind.{ItemKind}
+use Rattle.crs_text.specs.declared.items.ItemKind.TheVariants.{Number, Text, Word, Node}
+use Rattle.crs_text.specs.Tokens.{Kind, number, text, word, Token, single, comma, opening, closing}
+
+mutual
+  pub data Item : Type 0 where
+    leaf : (kind : Kind) (place : ℕ) (raw : List ℕ) → Item
+    node : (place : ℕ) (keyword : List ℕ) (square : Bool) (first : Item) (others : Items) (close : ℕ) → Item
+
+  pub data Items : Type 0 where
+    End : Items
+    More : Item → Items → Items
+
+abbrev mutual
+  -- the tokens of an item, in order
+  pub tokens : Item → List Token
+  tokens (leaf kind place raw) = single kind place raw ∷ []
+  tokens (node place keyword square first others close) =
+      single word place keyword ∷ opening square ∷ (tokens first ++ others_tokens others ++ closing close square ∷ [])
+
+  -- the tokens of the items after a first one
+  pub others_tokens : Items → List Token
+  others_tokens End = []
+  others_tokens (More item items) = comma ∷ (tokens item ++ others_tokens items)
+
+abbrev mutual
+  -- how many delimiters are open at once within an item
+  pub depth : Item → ℕ
+  depth (leaf kind place raw) = 0
+  depth (node place keyword square first others close) = suc (max (depth first) (depths others))
+
+  pub depths : Items → ℕ
+  depths End = 0
+  depths (More item items) = max (depth item) (depths items)
+
+abbrev pub IsNode : Item → Type 0
+IsNode (leaf kind place raw) = ⊥
+IsNode (node place keyword square first others close) = Unit {0}
+
+-- the tokens are those of a node with at most 12 delimiters open at once
+pub record AreNode (item : Item) (ts : List Token) : Type 0 where
+  pub is_node : IsNode item
+  pub within : depth item ≤ 12
+  pub are : ts ≡ tokens item
+
+-- these tokens begin with no opening delimiter, so that a word in front of them is an item by itself
+abbrev pub BeginsNoNode : List Token → Type 0
+BeginsNoNode [] = Unit {0}
+BeginsNoNode (single kind place raw ∷ ts) = Unit {0}
+BeginsNoNode (comma ∷ ts) = Unit {0}
+BeginsNoNode (opening square ∷ ts) = ⊥
+BeginsNoNode (closing place square ∷ ts) = Unit {0}
+
+-- the items after an opening delimiter, in order
+abbrev pub arguments : Item → Items
+arguments (leaf kind place raw) = End
+arguments (node place keyword square first others close) = More first others
+
+abbrev pub count : Items → ℕ
+count End = 0
+count (More item items) = suc (count items)
+
+-- the first of some items, and those after it; of none a word that no text has
+abbrev pub first_of : Items → Item
+first_of End = leaf word 0 []
+first_of (More item items) = item
+
+abbrev pub rest_of : Items → Items
+rest_of End = End
+rest_of (More item items) = items
+
+-- the items after the first ones, as many as `n` says
+abbrev pub skip : ℕ → Items → Items
+skip zero items = items
+skip (suc n) items = skip n (rest_of items)
+
+abbrev pub kind_of : Item → ItemKind
+kind_of (leaf number place raw) = Number
+kind_of (leaf text place raw) = Text
+kind_of (leaf word place raw) = Word
+kind_of (node place keyword square first others close) = Node
+
+-- the raw bytes of a single item, the keyword of a node
+abbrev pub raw_of : Item → List ℕ
+raw_of (leaf kind place raw) = raw
+raw_of (node place keyword square first others close) = keyword
+
+-- the place of an item's first byte
+abbrev pub place_of : Item → ℕ
+place_of (leaf kind place raw) = place
+place_of (node place keyword square first others close) = place
+
+-- the place of a node's closing delimiter
+abbrev pub close_of : Item → Option ℕ
+close_of (leaf kind place raw) = None
+close_of (node place keyword square first others close) = Some close
+
+abbrev mutual
+  -- how many items are in an item, itself included
+  pub size_of : Item → ℕ
+  size_of (leaf kind place raw) = 1
+  size_of (node place keyword square first others close) = suc (size_of first + sizes others)
+
+  pub sizes : Items → ℕ
+  sizes End = 0
+  sizes (More item items) = size_of item + sizes items
+
+abbrev mutual
+  -- the items within an item in the order in which they begin, each with the later arguments of its node
+  pub inside : Item → List Items
+  inside (leaf kind place raw) = []
+  inside (node place keyword square first others close) = More first others ∷ (inside first ++ inside_items others)
+
+  -- some items and those within them, likewise
+  pub inside_items : Items → List Items
+  inside_items End = []
+  inside_items (More item items) = More item items ∷ (inside item ++ inside_items items)
+
+-- item number `id` of a tree, in the order in which the items begin, and the later arguments of its node; none if there are fewer
+unfoldable pub here : Item → ℕ → Items
+here tree id = slice_index_or (More tree End ∷ inside tree) id End
+
+-- the tree has an item of this number
+abbrev pub HasId : Item → ℕ → Type 0
+HasId tree id = here tree id ≢ End
+
+-- the number of the first of these items, which stand in the tree; none where there are no such items
+abbrev pub IsAt : Item → Items → Option ℕ → Type 0
+IsAt tree items None = items ≡ End
+IsAt tree items (Some id) = (here tree id ≡ items) × HasId tree id
+
+-- the first items, as many as `n` says
+abbrev pub only : ℕ → Items → Items
+only zero items = End
+only (suc n) End = End
+only (suc n) (More item items) = More item (only n items)
+
+-- the value of an item that is a number; none where it isn't one
+abbrev pub IsNumberOf : Item → Option Value → Type 0
+IsNumberOf item None = kind_of item ≢ Number
+IsNumberOf item (Some value) = (kind_of item ≡ Number) × IsNormal value × Denotes (raw_of item) (exact value)

@@ -1,0 +1,17 @@
+pub mod Examples
+pub mod Fault
+pub mod Items
+pub mod Lexing
+pub mod Quoted
+pub mod Refusal
+pub mod Rows
+pub mod Scan
+pub mod State
+pub mod Table
+pub mod TextFault
+pub mod Tokens
+pub mod Tree
+pub mod Utf8
+pub mod Utf8Form
+pub mod Viable
+pub mod Written

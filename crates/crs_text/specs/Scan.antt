@@ -1,0 +1,57 @@
+-- How far the scan has come.
+use Rattle.std.specs.Prelude.{◌≡◌, ℕ, ◌+◌, ◌≤◌, List, [], length, drop, Some}
+use Rattle.crs_text.specs.Tokens.{Kind, Token, single, Forms, Fronts}
+use Rattle.crs_text.specs.TextFault.{number_of, IsStop, RefusesText, SpellsNode}
+use Rattle.crs_text.specs.Table.{Flat, flat_step, item_kind}
+use Rattle.crs_text.specs.Rows.{Shows, flat}
+use Rattle.crs_text.specs.State.{after}
+use Rattle.crs_text.specs.Items.{Item}
+use Rattle.crs_text.specs.Refusal.{Refused}
+use Rattle.crs_text.specs.declared.refusal.Reason.{Reason}
+use Rattle.crs_text.specs.declared.items.ItemKind.{ItemKind}
+use Rattle.crs_text.specs.declared.fault.Fault.{Fault}
+use Rattle.crs_text.specs.declared.fault.Fault.TheVariants as faults
+
+-- the table shows the tokens before this place, at which no white space stands
+pub record IsReached (text : List ℕ) (table : Flat) (at : ℕ) : Type 0 where
+  pub tokens : List Token
+  pub shows : Shows tokens table
+  pub fronts : Fronts (length text) text tokens (drop at text)
+  pub within : at ≤ length text
+
+-- the table takes the token of n bytes at this place
+pub record IsTaken (text : List ℕ) (at : ℕ) (before behind : Flat) (n : ℕ) : Type 0 where
+  pub token : Token
+  pub forms : Forms (length text) token (drop at text) (drop (at + n) text)
+  pub step : flat_step before token ≡ Some behind
+  pub within : at + n ≤ length text
+
+-- at this place nothing goes on, whatever tokens the table shows
+pub record IsStopped (text : List ℕ) (at : ℕ) (table : Flat) (refusal : Refused) : Type 0 where
+  pub reason : Reason
+  pub skip : ℕ
+  pub is_number : refusal.number ≡ number_of reason
+  pub is_place : refusal.place ≡ at + skip
+  pub stop : (ts : List Token) → Shows ts table → IsStop reason (length text) ts (drop at text) skip
+
+abbrev pub IsStoppedBy : List ℕ → ℕ → Flat → Fault → Type 0
+IsStoppedBy text at table (faults.Refused refusal) = IsStopped text at table refusal
+IsStoppedBy text at table (faults.Memory e) = Unit {0}
+
+-- the refusal is that of the text
+abbrev pub IsFaultOf : List ℕ → Fault → Type 0
+IsFaultOf text (faults.Refused refusal) = RefusesText text refusal.number refusal.place
+IsFaultOf text (faults.Memory e) = Unit {0}
+
+-- a single token of this kind stands here: the length of its raw bytes, and of all its bytes
+pub record IsSingleAt (text : List ℕ) (at : ℕ) (kind : ItemKind) (len size : ℕ) : Type 0 where
+  pub of_kind : Kind
+  pub raw : List ℕ
+  pub is_kind : kind ≡ item_kind of_kind
+  pub is_length : len ≡ length raw
+  pub forms : Forms (length text) (single of_kind at raw) (drop at text) (drop (at + size) text)
+  pub within : at + size ≤ length text
+
+-- the whole text is a node, and these are its rows
+abbrev pub IsScanned : List ℕ → Flat → Type 0
+IsScanned text table = (item : Item) × SpellsNode text item × (table ≡ flat (after item []))

@@ -1,0 +1,160 @@
+-- The table of items under construction: a row for each item that has begun, and the nodes that are open.
+use Rattle.std.specs.Prelude.{◌≡◌, ℕ, zero, suc, ◌+◌, ◌-◌, ◌<◌, nat_lt, ◌&&◌, Bool, true, false, if◌then◌else◌, Option, Some, None, List, [], ◌∷◌, ◌++◌, length, slice_index_or, slice_set}
+use Rattle.crs_text.specs.Tokens.{Kind, number, text, word, Token, single, comma, opening, closing}
+use Rattle.crs_text.specs.State.{same_square}
+use Rattle.crs_text.specs.declared.items.ItemKind.{ItemKind}
+use Rattle.crs_text.specs.declared.items.ItemKind.TheVariants.{Number, Text, Word, Node}
+use Rattle.crs_text.specs.declared.table.Position.{Position}
+use Rattle.crs_text.specs.declared.table.Position.TheVariants.{BeforeItem, AfterWord, AfterItem}
+use Rattle.crs_text.specs.declared.table.Opened.{Opened}
+use Rattle.crs_text.specs.declared.table.Opened.TheVariants.{Taken, TooDeep, Refused}
+use Rattle.crs_text.specs.declared.table.Row.{Row}
+use Rattle.crs_text.specs.declared.table.Open.{Open}
+
+-- the rows, the open nodes with the last opened first, and where the tokens so far have led
+pub record Flat : Type 0 where
+  pub rows : List Row
+  pub opens : List Open
+  pub position : Position
+
+-- what stands where there is none
+abbrev pub no_open : Open
+no_open = record { row = 0; square = false; count = 0 }
+
+abbrev pub no_row : Row
+no_row = record { kind = Node; square = false; depth = 0; place = 0; length = 0; close = 0; count = 0; size = 0 }
+
+-- the first of these, as many as `depth` says, the last first
+abbrev pub held : ℕ → List Open → List Open
+held zero opens = []
+held (suc depth) opens = slice_index_or opens depth no_open ∷ held depth opens
+
+-- the row of a single item, with `depth` delimiters open around it
+abbrev pub leaf_row : ItemKind → ℕ → ℕ → ℕ → Row
+leaf_row kind place len depth =
+    record { kind = kind; square = false; depth = depth; place = place; length = len; close = 0; count = 0; size = 1 }
+
+abbrev pub item_kind : Kind → ItemKind
+item_kind number = Number
+item_kind text = Text
+item_kind word = Word
+
+abbrev pub is_word : ItemKind → Bool
+is_word Number = false
+is_word Text = false
+is_word Word = true
+is_word Node = false
+
+-- an item may begin; at the start a word alone
+abbrev pub may_begin : Position → List Open → ItemKind → Bool
+may_begin BeforeItem [] kind = is_word kind
+may_begin BeforeItem (o ∷ os) kind = true
+may_begin AfterWord os kind = false
+may_begin AfterItem os kind = false
+
+abbrev pub position_after : ItemKind → Position
+position_after Number = AfterItem
+position_after Text = AfterItem
+position_after Word = AfterWord
+position_after Node = AfterItem
+
+-- one argument more in the last opened node
+abbrev pub counted : List Open → List Open
+counted [] = []
+counted (o ∷ os) = record o { count = o.count + 1 } ∷ os
+
+abbrev pub counted_in : Flat → Flat
+counted_in f = record { rows = f.rows; opens = counted f.opens; position = f.position }
+
+abbrev pub with_leaf : Flat → ItemKind → ℕ → ℕ → Flat
+with_leaf f kind place len = record {
+  rows = f.rows ++ leaf_row kind place len (length f.opens) ∷ [];
+  opens = counted f.opens;
+  position = position_after kind;
+}
+
+abbrev pub flat_single : Flat → ItemKind → ℕ → ℕ → Option Flat
+flat_single f kind place len = if may_begin f.position f.opens kind then Some (with_leaf f kind place len) else None
+
+-- an item has come within an open node
+abbrev pub may_go_on : Position → List Open → Bool
+may_go_on BeforeItem os = false
+may_go_on AfterWord [] = false
+may_go_on AfterWord (o ∷ os) = true
+may_go_on AfterItem [] = false
+may_go_on AfterItem (o ∷ os) = true
+
+abbrev pub flat_comma : Flat → Option Flat
+flat_comma f = if may_go_on f.position f.opens then Some (record { rows = f.rows; opens = f.opens; position = BeforeItem }) else None
+
+abbrev pub is_after_word : Position → Bool
+is_after_word BeforeItem = false
+is_after_word AfterWord = true
+is_after_word AfterItem = false
+
+-- the last word becomes a node
+abbrev pub with_open : Flat → Bool → Flat
+with_open f square = record {
+  rows = slice_set f.rows (length f.rows - 1) (record (slice_index_or f.rows (length f.rows - 1) no_row) { kind = Node; square = square });
+  opens = record { row = length f.rows - 1; square = square; count = 0 } ∷ f.opens;
+  position = BeforeItem;
+}
+
+abbrev pub flat_open : Flat → Bool → Option Flat
+flat_open f square = if is_after_word f.position && nat_lt (length f.opens) 12 then Some (with_open f square) else None
+
+abbrev pub has_square : List Open → Bool → Bool
+has_square [] square = false
+has_square (o ∷ os) square = same_square square o.square
+
+-- the last opened node is complete
+abbrev pub with_close : Flat → ℕ → Flat
+with_close f place = closed f.opens
+  where
+    closed : List Open → Flat
+    closed [] = f
+    closed (o ∷ os) = record {
+      rows = slice_set f.rows o.row (record (slice_index_or f.rows o.row no_row) { close = place; count = o.count; size = length f.rows - o.row });
+      opens = os;
+      position = AfterItem;
+    }
+
+abbrev pub flat_close : Flat → ℕ → Bool → Option Flat
+flat_close f place square = if may_go_on f.position f.opens && has_square f.opens square then Some (with_close f place) else None
+
+-- one token more
+abbrev pub flat_step : Flat → Token → Option Flat
+flat_step f (single kind place raw) = flat_single f (item_kind kind) place (length raw)
+flat_step f comma = flat_comma f
+flat_step f (opening square) = flat_open f square
+flat_step f (closing place square) = flat_close f place square
+
+-- the step is taken, or refused with the table as it was
+abbrev pub IsStep : Option Flat → Bool → Flat → Flat → Type 0
+IsStep None taken before behind = (taken ≡ false) × (behind ≡ before)
+IsStep (Some next) taken before behind = (taken ≡ true) × (behind ≡ next)
+
+-- how an opening delimiter is met: too deep where it stands after a word and 12 are open
+abbrev pub IsOpened : Flat → Bool → Opened → Flat → Type 0
+IsOpened before square Taken behind = flat_open before square ≡ Some behind
+IsOpened before square TooDeep behind = (before.position ≡ AfterWord) × (length before.opens ≡ 12) × (behind ≡ before)
+IsOpened before square Refused behind = (before.position ≡ AfterWord → ⊥) × (behind ≡ before)
+
+-- the tokens are those of one whole node
+abbrev pub is_whole : Flat → Bool
+is_whole f = whole f.position f.opens
+  where
+    whole : Position → List Open → Bool
+    whole BeforeItem os = false
+    whole AfterWord os = false
+    whole AfterItem [] = true
+    whole AfterItem (o ∷ os) = false
+
+-- each open node has a row, and below it as many as it has arguments
+abbrev pub AreRoomy : ℕ → List Open → Type 0
+AreRoomy n [] = Unit {0}
+AreRoomy n (o ∷ os) = (o.row + o.count < n) × AreRoomy n os
+
+pub record IsRoomy (f : Flat) : Type 0 where
+  pub opens : AreRoomy (length f.rows) f.opens
+  pub word : f.position ≡ AfterWord → 0 < length f.rows

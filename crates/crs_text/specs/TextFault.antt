@@ -1,0 +1,89 @@
+-- The refusals of a text that is no node: the first token, from left to right, that can't be formed or after
+-- which no text can follow.
+use Rattle.std.specs.Prelude.{◌≡◌, ℕ, ◌+◌, ◌||◌, ◌==◌, Bool, IsTrue, IsFalse, List, [], ◌∷◌, ◌++◌, length}
+use Rattle.std.specs.List.{list_all}
+use Rattle.crs_decimal.specs.Spelling.{is_run_byte, is_run_start, HasForm}
+use Rattle.crs_decimal.specs.Bounds.{IsInBounds}
+use Rattle.crs_text.specs.Quoted.{StopsAt, BeginsWith, is_quote, IsInside, Through}
+use Rattle.crs_text.specs.Utf8.{IsUtf8Front, IsLongestUtf8}
+use Rattle.crs_text.specs.Tokens.{Token, single, comma, opening, closing, is_letter, Forms, Fronts, AreTokens}
+use Rattle.crs_text.specs.Items.{Item, AreNode}
+use Rattle.crs_text.specs.Viable.{IsViable, IsViableAtAnyDepth}
+use Rattle.crs_text.specs.declared.refusal.Reason.{Reason}
+use Rattle.crs_text.specs.declared.refusal.Reason.TheVariants.{BadCharacter, BadNumber, NumberRange, NotUtf8, OpenText, Unexpected, UnexpectedEnd, TooDeep}
+
+-- the text is this node
+abbrev pub SpellsNode : List ℕ → Item → Type 0
+SpellsNode bytes item = (ts : List Token) × AreTokens bytes ts × AreNode item ts
+
+abbrev pub number_of : Reason → ℕ
+number_of BadCharacter = 1
+number_of BadNumber = 2
+number_of NumberRange = 3
+number_of NotUtf8 = 4
+number_of OpenText = 5
+number_of Unexpected = 6
+number_of UnexpectedEnd = 7
+number_of TooDeep = 8
+
+abbrev pub is_delimiter : ℕ → Bool
+is_delimiter b = b == 44 || b == 91 || b == 40 || b == 93 || b == 41
+
+abbrev pub begins_token : ℕ → Bool
+begins_token b = is_letter b || is_run_start b || is_quote b || is_delimiter b
+
+-- a byte that begins no token
+abbrev pub BeginsNoToken : List ℕ → Type 0
+BeginsNoToken [] = ⊥
+BeginsNoToken (b ∷ bs) = IsFalse (begins_token b)
+
+-- the bytes begin with a run: a digit, a sign or a period, and all bytes after it that a number could take
+pub record IsRun (left run rest : List ℕ) : Type 0 where
+  pub parts : left ≡ run ++ rest
+  pub starts : BeginsWith is_run_start run
+  pub taken : IsTrue (list_all is_run_byte run)
+  pub ends : StopsAt is_run_byte rest
+
+-- no token can be formed in front of what is left; the fault lies `skip` bytes further on
+abbrev pub IsFlaw : Reason → List ℕ → ℕ → Type 0
+IsFlaw BadCharacter left skip = BeginsNoToken left × (skip ≡ 0)
+IsFlaw BadNumber left skip = (run rest : List ℕ) × IsRun left run rest × ¬ (HasForm run) × (skip ≡ 0)
+IsFlaw NumberRange left skip = (run rest : List ℕ) × IsRun left run rest × HasForm run × ¬ (IsInBounds run) × (skip ≡ 0)
+IsFlaw NotUtf8 left skip = (after inside : List ℕ) × (left ≡ 34 ∷ after) × Through after inside × ¬ (IsUtf8Front inside) × (n : ℕ) × IsLongestUtf8 after n × (skip ≡ 1 + n)
+IsFlaw OpenText left skip = (after : List ℕ) × (left ≡ 34 ∷ after) × IsInside after × IsUtf8Front after × (skip ≡ 0)
+IsFlaw Unexpected left skip = ⊥
+IsFlaw UnexpectedEnd left skip = ⊥
+IsFlaw TooDeep left skip = ⊥
+
+-- an opening delimiter that is one too many, and nothing else is wrong with it
+abbrev pub IsTooDeep : List Token → Token → Type 0
+IsTooDeep ts (single kind place raw) = ⊥
+IsTooDeep ts comma = ⊥
+IsTooDeep ts (opening square) = IsViableAtAnyDepth (ts ++ opening square ∷ []) × ¬ (IsViable (ts ++ opening square ∷ []))
+IsTooDeep ts (closing place square) = ⊥
+
+abbrev pub IsNoNode : List Token → Type 0
+IsNoNode ts = (item : Item) → ¬ (AreNode item ts)
+
+-- why nothing goes on after these tokens, with this left of a text of this length
+abbrev pub IsStop : Reason → ℕ → List Token → List ℕ → ℕ → Type 0
+IsStop BadCharacter total ts left skip = IsFlaw BadCharacter left skip
+IsStop BadNumber total ts left skip = IsFlaw BadNumber left skip
+IsStop NumberRange total ts left skip = IsFlaw NumberRange left skip
+IsStop NotUtf8 total ts left skip = IsFlaw NotUtf8 left skip
+IsStop OpenText total ts left skip = IsFlaw OpenText left skip
+IsStop Unexpected total ts left skip = (t : Token) × (rest : List ℕ) × Forms total t left rest × ¬ (IsViable (ts ++ t ∷ [])) × ¬ (IsTooDeep ts t) × (skip ≡ 0)
+IsStop UnexpectedEnd total ts left skip = (left ≡ []) × IsNoNode ts × (skip ≡ 0)
+IsStop TooDeep total ts left skip = (t : Token) × (rest : List ℕ) × Forms total t left rest × IsTooDeep ts t × (skip ≡ 0)
+
+-- the text is refused with this number at this place: the tokens before are viable, and there it stops
+pub record RefusesText (bytes : List ℕ) (number place : ℕ) : Type 0 where
+  pub reason : Reason
+  pub before : List Token
+  pub left : List ℕ
+  pub skip : ℕ
+  pub fronts : Fronts (length bytes) bytes before left
+  pub viable : IsViable before
+  pub stop : IsStop reason (length bytes) before left skip
+  pub is_number : number ≡ number_of reason
+  pub is_place : place + length left ≡ length bytes + skip

@@ -1,0 +1,110 @@
+-- Tokens: single ones (numbers, quoted texts and words), commas and the two kinds of delimiters; and the
+-- tokens of a text, with white space before, between and after them.
+use Rattle.std.specs.Prelude.{◌≡◌, ℕ, ◌+◌, ◌&&◌, ◌||◌, ◌==◌, nat_le, Bool, true, false, IsTrue, List, [], ◌∷◌, ◌++◌, length, IsUtf8}
+use Rattle.std.specs.List.{list_all}
+use Rattle.crs_decimal.specs.Spelling.{is_digit, is_run_byte, is_run_start}
+use Rattle.crs_decimal.specs.Bounds.{IsInBounds}
+use Rattle.crs_text.specs.Quoted.{IsInside, StopsAt, BeginsWith, is_quote}
+
+pub data Kind : Type 0 where
+  number text word : Kind
+
+-- A place counts bytes from the text's first, which is 0. The raw bytes of a quoted text are those between
+-- its quotes, each quote inside still doubled; those of a number or word are the bytes themselves.
+pub data Token : Type 0 where
+  single : (kind : Kind) (place : ℕ) (raw : List ℕ) → Token
+  comma : Token
+  opening : (square : Bool) → Token
+  closing : (place : ℕ) (square : Bool) → Token
+
+-- space, tab, CR and LF
+abbrev pub is_white : ℕ → Bool
+is_white b = b == 32 || b == 9 || b == 10 || b == 13
+
+abbrev pub IsWhite : List ℕ → Type 0
+IsWhite bytes = IsTrue (list_all is_white bytes)
+
+abbrev pub is_letter : ℕ → Bool
+is_letter b = (nat_le 65 b && nat_le b 90) || (nat_le 97 b && nat_le b 122)
+
+abbrev pub is_word_byte : ℕ → Bool
+is_word_byte b = is_letter b || is_digit b || b == 95
+
+-- a letter, and then letters, digits and underscores
+abbrev pub IsWord : List ℕ → Type 0
+IsWord [] = ⊥
+IsWord (b ∷ bs) = IsTrue (is_letter b) × IsTrue (list_all is_word_byte bs)
+
+-- the raw bytes of a single token: a run that is a number within the bounds, the inside of a text in UTF-8, a word
+abbrev pub IsSingle : Kind → List ℕ → Type 0
+IsSingle number raw = BeginsWith is_run_start raw × IsTrue (list_all is_run_byte raw) × IsInBounds raw
+IsSingle text raw = IsInside raw × IsUtf8 raw
+IsSingle word raw = IsWord raw
+
+abbrev pub single_spelling : Kind → List ℕ → List ℕ
+single_spelling number raw = raw
+single_spelling text raw = 34 ∷ raw ++ 34 ∷ []
+single_spelling word raw = raw
+
+abbrev pub opening_byte : Bool → ℕ
+opening_byte true = 91
+opening_byte false = 40
+
+abbrev pub closing_byte : Bool → ℕ
+closing_byte true = 93
+closing_byte false = 41
+
+-- the bytes of a token
+abbrev pub spelling : Token → List ℕ
+spelling (single kind place raw) = single_spelling kind raw
+spelling comma = 44 ∷ []
+spelling (opening square) = opening_byte square ∷ []
+spelling (closing place square) = closing_byte square ∷ []
+
+abbrev pub IsFormed : Token → Type 0
+IsFormed (single kind place raw) = IsSingle kind raw
+IsFormed comma = Unit {0}
+IsFormed (opening square) = Unit {0}
+IsFormed (closing place square) = Unit {0}
+
+-- a byte that the token would take if it stood behind it
+abbrev pub takes : Kind → ℕ → Bool
+takes number = is_run_byte
+takes text = is_quote
+takes word = is_word_byte
+
+abbrev pub Ends : Token → List ℕ → Type 0
+Ends (single kind place raw) rest = StopsAt (takes kind) rest
+Ends comma rest = Unit {0}
+Ends (opening square) rest = Unit {0}
+Ends (closing place square) rest = Unit {0}
+
+-- the place in the token is where these bytes, the last of a text of this length, begin
+abbrev pub IsPlaced : ℕ → Token → List ℕ → Type 0
+IsPlaced total (single kind place raw) left = place + length left ≡ total
+IsPlaced total comma left = Unit {0}
+IsPlaced total (opening square) left = Unit {0}
+IsPlaced total (closing place square) left = place + length left ≡ total
+
+-- the token stands in front of what is left of a text of this length, and the rest comes after it
+pub record Forms (total : ℕ) (t : Token) (left rest : List ℕ) : Type 0 where
+  pub spelled : left ≡ spelling t ++ rest
+  pub formed : IsFormed t
+  pub ends : Ends t rest
+  pub placed : IsPlaced total t left
+
+-- white space, and then these bytes, which begin with none
+pub record IsAfterWhite (bytes left : List ℕ) : Type 0 where
+  pub white : List ℕ
+  pub parts : bytes ≡ white ++ left
+  pub blank : IsWhite white
+  pub ends : StopsAt is_white left
+
+-- the bytes are the tokens with white space before, between and after them, and then what is left
+abbrev pub Fronts : ℕ → List ℕ → List Token → List ℕ → Type 0
+Fronts total bytes [] left = IsAfterWhite bytes left
+Fronts total bytes (t ∷ ts) left = (at rest : List ℕ) × IsAfterWhite bytes at × Forms total t at rest × Fronts total rest ts left
+
+-- the text is the tokens with white space before, between and after them
+abbrev pub AreTokens : List ℕ → List Token → Type 0
+AreTokens bytes ts = Fronts (length bytes) bytes ts []

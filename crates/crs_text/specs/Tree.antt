@@ -1,0 +1,193 @@
+-- The tree that rows give: how a table of rows over its source is seen as an item.
+use Rattle.std.specs.Prelude.{◌≡◌, ℕ, zero, suc, ◌+◌, ◌≤◌, Bool, List, [], ◌∷◌, ◌++◌, length, take, drop, map, refl}
+use Rattle.std.specs.Coded.{Coded, coded_ℕ, coded_bool, coded_list, coded×, code_by}
+use Rattle.std.proofs.Common.{◌∙◌, ap, sym, append_assoc}
+use Rattle.crs_decimal.specs.Bounds.{IsInBounds}
+use Rattle.crs_text.specs.Tokens.{number, text, word, Token, single, comma, opening, closing}
+use Rattle.crs_text.specs.Items.{Item, leaf, node, Items, End, More, tokens, arguments, count, first_of, skip, only, kind_of, raw_of, place_of, IsNode}
+use Rattle.crs_text.specs.Rows.{rows, square_of, close_place}
+use Rattle.crs_text.specs.declared.items.ItemKind.{ItemKind}
+use Rattle.crs_text.specs.declared.items.ItemKind.TheVariants.{Number, Text, Word, Node}
+use Rattle.crs_text.specs.declared.table.Row.{Row}
+
+-- an item apart from its arguments, of which it has `count`
+pub record Part : Type 0 where
+  pub kind : ItemKind
+  pub square : Bool
+  pub place : ℕ
+  pub raw : List ℕ
+  pub close : ℕ
+  pub count : ℕ
+
+abbrev pub part_of : Item → Part
+part_of item = record {
+  kind = kind_of item;
+  square = square_of item;
+  place = place_of item;
+  raw = raw_of item;
+  close = close_place item;
+  count = count (arguments item);
+}
+
+abbrev mutual
+  -- an item's parts in the order in which the items begin
+  pub parts : Item → List Part
+  parts (leaf kind place raw) = part_of (leaf kind place raw) ∷ []
+  parts (node place keyword square first others close) = part_of (node place keyword square first others close) ∷ (parts first ++ parts_of_items others)
+
+  pub parts_of_items : Items → List Part
+  parts_of_items End = []
+  parts_of_items (More item items) = parts item ++ parts_of_items items
+
+-- an item of a part and its arguments
+abbrev pub made : Part → Items → Item
+made p items = by_kind p.kind items
+  where
+    by_kind : ItemKind → Items → Item
+    by_kind Number items = leaf number p.place p.raw
+    by_kind Text items = leaf text p.place p.raw
+    by_kind Word items = leaf word p.place p.raw
+    by_kind Node End = leaf word p.place p.raw
+    by_kind Node (More first others) = node p.place p.raw p.square first others p.close
+
+-- the items that parts give, from the last to the first: each takes as many as it has arguments
+abbrev pub forest : List Part → Items
+forest [] = End
+forest (p ∷ ps) = More (made p (only p.count (forest ps))) (skip p.count (forest ps))
+
+abbrev pub tree : List Part → Item
+tree ps = first_of (forest ps)
+
+abbrev pub join : Items → Items → Items
+join End later = later
+join (More item items) later = More item (join items later)
+
+only-join : (items later : Items) → only (count items) (join items later) ≡ items
+only-join End later = refl
+only-join (More item items) later = ap (λ is. More item is) (only-join items later)
+
+skip-join : (items later : Items) → skip (count items) (join items later) ≡ later
+skip-join End later = refl
+skip-join (More item items) later = skip-join items later
+
+mutual
+  forest-parts : (item : Item) (ps : List Part) → forest (parts item ++ ps) ≡ More item (forest ps)
+  forest-parts (leaf number place raw) ps = refl
+  forest-parts (leaf text place raw) ps = refl
+  forest-parts (leaf word place raw) ps = refl
+  forest-parts (node place keyword square first others close) ps =
+      let inner : forest ((parts first ++ parts_of_items others) ++ ps) ≡ More first (join others (forest ps)) =
+      ap forest (append_assoc (parts first) (parts_of_items others) ps) ∙ forest-parts first (parts_of_items others ++ ps) ∙ ap (λ is. More first is) (forest-parts_of_items others ps) in
+      let p = part_of (node place keyword square first others close) in
+      let whole : More (made p (only p.count (forest ((parts first ++ parts_of_items others) ++ ps)))) (skip p.count (forest ((parts first ++ parts_of_items others) ++ ps))) ≡
+      More (made p (More first (only (count others) (join others (forest ps))))) (skip (count others) (join others (forest ps))) =
+      ap (λ is. More (made p (only p.count is)) (skip p.count is)) inner in
+      whole
+      ∙ ap (λ is. More (made p (More first is)) (skip (count others) (join others (forest ps)))) (only-join others (forest ps))
+      ∙ ap (λ is. More (node place keyword square first others close) is) (skip-join others (forest ps))
+
+  forest-parts_of_items : (items : Items) (ps : List Part) → forest (parts_of_items items ++ ps) ≡ join items (forest ps)
+  forest-parts_of_items End ps = refl
+  forest-parts_of_items (More item items) ps =
+      ap forest (append_assoc (parts item) (parts_of_items items) ps) ∙ forest-parts item (parts_of_items items ++ ps) ∙ ap (λ is. More item is) (forest-parts_of_items items ps)
+
+append-none : (ps : List Part) → ps ++ [] ≡ ps
+append-none [] = refl
+append-none (p ∷ ps) = ap (λ qs. p ∷ qs) (append-none ps)
+
+-- parts give their item back
+pub tree-parts : (item : Item) → tree (parts item) ≡ item
+tree-parts item = ap (λ ps. first_of (forest ps)) (sym (append-none (parts item))) ∙ ap first_of (forest-parts item [])
+
+abbrev pub kind_number : ItemKind → ℕ
+kind_number Number = 0
+kind_number Text = 1
+kind_number Word = 2
+kind_number Node = 3
+
+abbrev pub kind_numbered : ℕ → ItemKind
+kind_numbered zero = Number
+kind_numbered (suc zero) = Text
+kind_numbered (suc (suc zero)) = Word
+kind_numbered (suc (suc (suc n))) = Node
+
+pub kind_numbered-number : (kind : ItemKind) → kind_numbered (kind_number kind) ≡ kind
+kind_numbered-number Number = refl
+kind_numbered-number Text = refl
+kind_numbered-number Word = refl
+kind_numbered-number Node = refl
+
+abbrev pub kind_code : Coded ItemKind
+kind_code = code_by ℕ coded_ℕ kind_number kind_numbered kind_numbered-number
+
+abbrev pub part_code : Coded Part
+part_code =
+    code_by (ItemKind × (Bool × (ℕ × (List ℕ × (ℕ × ℕ)))))
+    (coded× kind_code (coded× coded_bool (coded× coded_ℕ (coded× (coded_list coded_ℕ) (coded× coded_ℕ coded_ℕ)))))
+    (λ p. (p.kind, (p.square, (p.place, (p.raw, (p.close, p.count))))))
+    (λ t. record { kind = t.0; square = t.1.0; place = t.1.1.0; raw = t.1.1.1.0; close = t.1.1.1.1.0; count = t.1.1.1.1.1 })
+    (λ _. refl)
+
+-- an item is stored as its parts
+abbrev pub item_code : Coded Item
+item_code = code_by (List Part) (coded_list part_code) parts tree tree-parts
+
+-- where the raw bytes of an item begin: those of a quoted text behind its quote
+abbrev pub raw_place : ItemKind → ℕ → ℕ
+raw_place Number place = place
+raw_place Text place = suc place
+raw_place Word place = place
+raw_place Node place = place
+
+-- the part that a row gives over its source
+abbrev pub part : List ℕ → Row → Part
+part source r = record {
+  kind = r.kind;
+  square = r.square;
+  place = r.place;
+  raw = take r.length (drop (raw_place r.kind r.place) source);
+  close = r.close;
+  count = r.count;
+}
+
+-- the tree that rows give over their source
+unfoldable pub tree_of : List ℕ → List Row → Item
+tree_of source table = tree (map (part source) table)
+
+-- these bytes stand in the source from this place on
+pub record StandsAt (source : List ℕ) (place : ℕ) (raw : List ℕ) : Type 0 where
+  pub within : place + length raw ≤ length source
+  pub bytes : raw ≡ take (length raw) (drop place source)
+
+-- the raw bytes of a token stand in the source at its place, those of a quoted text behind its quote
+abbrev pub Stands : List ℕ → Token → Type 0
+Stands source (single number place raw) = StandsAt source place raw
+Stands source (single text place raw) = StandsAt source (suc place) raw
+Stands source (single word place raw) = StandsAt source place raw
+Stands source comma = Unit {0}
+Stands source (opening square) = Unit {0}
+Stands source (closing place square) = Unit {0}
+
+abbrev pub Each : (Token → Type 0) → List Token → Type 0
+Each P [] = Unit {0}
+Each P (t ∷ ts) = P t × Each P ts
+
+-- all these tokens stand in the source
+abbrev pub AllStand : List ℕ → List Token → Type 0
+AllStand source ts = Each (Stands source) ts
+
+-- a number is within the bounds
+abbrev pub IsNumberInBounds : Token → Type 0
+IsNumberInBounds (single number place raw) = IsInBounds raw
+IsNumberInBounds (single text place raw) = Unit {0}
+IsNumberInBounds (single word place raw) = Unit {0}
+IsNumberInBounds comma = Unit {0}
+IsNumberInBounds (opening square) = Unit {0}
+IsNumberInBounds (closing place square) = Unit {0}
+
+-- the rows are those of a node whose tokens stand in the source, its numbers within the bounds
+pub record IsTable (source : List ℕ) (table : List Row) (item : Item) : Type 0 where
+  pub rows : table ≡ rows 0 item
+  pub stand : AllStand source (tokens item)
+  pub numbers : Each IsNumberInBounds (tokens item)
+  pub node : IsNode item

@@ -1,0 +1,230 @@
+ghost use Rattle.std.specs.Prelude.{◌≡◌, ℕ, ◌+◌, ◌^◌, ◌<◌, ◌≤◌, ◌↔◌, IsTrue, Option, length, take, drop, slice_index_or};
+ghost use Rattle.crs_text.specs.Items.{More, End, arguments, count, first_of, rest_of, skip, kind_of, raw_of, place_of, close_of, size_of, here, HasId, IsAt, IsNumberOf};
+ghost use Rattle.crs_text.specs.Table.{no_row};
+ghost use Rattle.crs_text.specs.Rows.{rows, row_of};
+ghost use Rattle.crs_text.specs.Tree.{raw_place};
+
+use crate::table::{Row, Table};
+use crs_decimal::Decimal;
+use std::marker::Model;
+
+/// What an item is. Profile.
+#[derive(Clone, Copy, Debug, PartialEq, Eq)]
+pub enum ItemKind {
+    /// A number, as it is written.
+    Number,
+    /// A quoted text.
+    Text,
+    /// A word by itself.
+    Word,
+    /// A keyword with its arguments.
+    Node,
+}
+
+/// The number of an item in its table, counted from 0 in the order in which the items begin.
+#[derive(Clone, Copy, Debug, PartialEq, Eq)]
+pub struct ItemId(usize);
+
+impl Model for ItemId {
+    ghost use Rattle.std.specs.Prelude.{ℕ};
+
+    ghost Value = { ℕ };
+
+    ghost view = { λ id. id.0 };
+
+    ghost inverse = { λ n. record { 0 = n } };
+}
+
+/// The items of a text, which they borrow.
+#[derive(Drop)]
+pub struct Items<'a> {
+    source: &'a [u8],
+    rows: Vec<Row>,
+}
+
+impl<'a> Model for Items<'a> {
+    ghost use Rattle.crs_text.specs.Items.{Item};
+    ghost use Rattle.crs_text.specs.Tree.{item_code, tree_of, IsTable};
+
+    ghost Value = { Item };
+
+    ghost coded = { item_code };
+
+    ghost view = { λ a. tree_of a.source.now a.rows.items };
+
+    ghost invariant = { λ a. IsTable a.source.now a.rows.items (tree_of a.source.now a.rows.items) };
+}
+
+#[tactic(auto, using(crate::proofs::IdLemmas::id_rules))]
+impl<'a> Items<'a> {
+    ghost use Rattle.crs_text.specs.Items.{Item};
+    ghost use Rattle.crs_text.specs.Tree.{IsTable};
+
+    /// The items of a whole table over its source.
+    pub(crate) fn from_table(source: &'a [u8], table: Table) -> Self
+        requires { (item : Item) × IsTable source.now table.rows item }
+        ensures { (item : Item) → IsTable source.entry.now table.rows item → result ≡ item }
+    {
+        Items {
+            source,
+            rows: table.into_rows(),
+        }
+    }
+
+    fn len(&self) -> usize
+        ensures { result ≡ length (rows 0 self.now) }
+    {
+        self.rows.len()
+    }
+
+    fn row(&self, id: ItemId) -> Row
+        requires { HasId self.now id }
+        ensures value { result ≡ slice_index_or (rows 0 self.now) id no_row }
+        ensures is { result ≡ row_of result.depth (first_of (here self.now id)) }
+        ensures within { id + result.size < 2 ^ 64 }
+    {
+        self.rows[id.0]
+    }
+
+    /// The item that the others stand in.
+    pub fn root(&self) -> ItemId
+        ensures root { here self.now result ≡ More self.now End }
+        ensures contained { HasId self.now result }
+    {
+        ItemId(0)
+    }
+
+    /// Whether the table has this item.
+    pub fn contains(&self, id: ItemId) -> bool
+        ensures { IsTrue result ↔ HasId self.now id }
+    {
+        id.0 < self.len()
+    }
+
+    /// What the item is.
+    pub fn kind(&self, id: ItemId) -> ItemKind
+        requires { HasId self.now id }
+        ensures { result ≡ kind_of (first_of (here self.now id)) }
+    {
+        self.row(id).kind
+    }
+
+    /// The place of the item's first byte.
+    pub fn place(&self, id: ItemId) -> usize
+        requires { HasId self.now id }
+        ensures { result ≡ place_of (first_of (here self.now id)) }
+    {
+        self.row(id).place
+    }
+
+    /// The place of a node's closing delimiter; `None` for other items.
+    pub fn close(&self, id: ItemId) -> Option<usize>
+        requires { HasId self.now id }
+        ensures { result ≡ close_of (first_of (here self.now id)) }
+    {
+        let row = self.row(id);
+        match row.kind {
+            ItemKind::Node => Some(row.close),
+            ItemKind::Number | ItemKind::Text | ItemKind::Word => None,
+        }
+    }
+
+    /// The number of items in it, itself included.
+    pub fn size(&self, id: ItemId) -> usize
+        requires { HasId self.now id }
+        ensures { result ≡ size_of (first_of (here self.now id)) }
+    {
+        self.row(id).size
+    }
+
+    /// The number of its arguments.
+    pub fn arg_count(&self, id: ItemId) -> usize
+        requires { HasId self.now id }
+        ensures { result ≡ count (arguments (first_of (here self.now id))) }
+    {
+        self.row(id).count
+    }
+
+    /// The characters of a number or word, a node's keyword, the inside of a quoted text with its
+    /// quotes still doubled.
+    pub fn raw(&self, id: ItemId) -> &'a [u8]
+        requires { HasId self.now id }
+        ensures { result.now ≡ raw_of (first_of (here self.now id)) }
+    {
+        let source = self.source;
+        let row = self.row(id);
+        part_of(source, raw_place(row.kind, row.place), row.length)
+    }
+
+    /// The value of a number; `None` for other items.
+    pub fn number(&self, id: ItemId) -> Option<Decimal>
+        requires { HasId self.now id }
+        ensures { IsNumberOf (first_of (here self.now id)) result }
+    {
+        let _source = self.source;
+        if self.kind(id) != ItemKind::Number {
+            return None;
+        }
+        match Decimal::parse(self.raw(id)) {
+            Ok(value) => Some(value),
+            Err(_) => unreachable!(),
+        }
+    }
+
+    // The first argument stands directly behind its node.
+    fn first_arg(&self, id: ItemId) -> Option<ItemId>
+        requires { HasId self.now id }
+        ensures { IsAt self.now (arguments (first_of (here self.now id))) result }
+    {
+        if self.row(id).count == 0 {
+            return None;
+        }
+        Some(ItemId(id.0 + 1))
+    }
+
+    /// The argument after this one in its node; `None` for the last one and for the root.
+    pub fn next(&self, id: ItemId) -> Option<ItemId>
+        requires { HasId self.now id }
+        ensures { IsAt self.now (rest_of (here self.now id)) result }
+    {
+        let row = self.row(id);
+        let at = id.0 + row.size;
+        if at >= self.len() {
+            return None;
+        }
+        if self.row(ItemId(at)).depth != row.depth {
+            return None;
+        }
+        Some(ItemId(at))
+    }
+
+    /// Argument number `i`, the first being 0; `None` where there are no more than `i`.
+    pub fn arg(&self, id: ItemId, i: usize) -> Option<ItemId>
+        requires { HasId self.now id }
+        ensures { IsAt self.now (skip i (arguments (first_of (here self.now id)))) result }
+    {
+        let mut at = self.first_arg(id);
+        for _step in 0..i {
+            at = self.next(at?);
+        }
+        at
+    }
+}
+
+// Where the raw bytes begin: those of a quoted text behind its quote.
+fn raw_place(kind: ItemKind, place: usize) -> usize
+    requires { raw_place kind place < 2 ^ 64 }
+    ensures { result ≡ raw_place kind place }
+{
+    match kind {
+        ItemKind::Text => place + 1,
+        ItemKind::Number | ItemKind::Word | ItemKind::Node => place,
+    }
+}
+
+fn part_of(source: &[u8], start: usize, count: usize) -> &[u8]
+    requires { start + count ≤ length source.now }
+    ensures { result.now ≡ take count (drop start source.now) }
+{
+    &source[start..start + count]
+}

@@ -1,0 +1,62 @@
+//! Laws on tokens and items: calls that do nothing, and whose contracts are the laws.
+ghost use Rattle.std.specs.Prelude.{◌≡◌, ◌≤◌, ◌↔◌, ◌⊎◌, ℕ, Bool, List, [], ◌∷◌, ◌++◌, length};
+ghost use Rattle.crs_text.specs.Tokens.{Token, opening, AreTokens};
+ghost use Rattle.crs_text.specs.Items.{Item, tokens, AreNode, BeginsNoNode};
+ghost use Rattle.crs_text.specs.TextFault.{SpellsNode, RefusesText};
+ghost use Rattle.crs_text.specs.Written.{WrittenSpells, AreFormed, item_text, at_place};
+ghost use Rattle.crs_text.specs.Examples.{AreSized, AreNumbered, AreLimited};
+ghost use Rattle.crs_text.specs.Viable.{IsViable, IsViableAtAnyDepth, Allows, IsFull};
+
+/// Which tokens can be completed to a text, token by token. Profile.
+pub fn viability()
+    ensures empty { IsViable [] }
+    ensures front { (ts more : List Token) → IsViable (ts ++ more) → IsViable ts }
+    ensures next { (ts : List Token) (t : Token) → IsViable ts → (IsViable (ts ++ t ∷ []) ↔ Allows ts t) }
+
+    // Only the limit refuses an opening delimiter directly after a word.
+    ensures full { (ts : List Token) (square : Bool) → IsViable ts →
+        ((IsViableAtAnyDepth (ts ++ opening square ∷ []) × ¬ (IsViable (ts ++ opening square ∷ [])))
+        ↔ IsFull ts) }
+{}
+
+/// Tokens are those of one item at most, and begin with one item at most. Profile.
+pub fn one_item()
+    ensures node { (ts : List Token) (i j : Item) → AreNode i ts → AreNode j ts → i ≡ j }
+    ensures front { (i j : Item) (a b : List Token) → BeginsNoNode a → BeginsNoNode b →
+        tokens i ++ a ≡ tokens j ++ b → (i ≡ j) × (a ≡ b) }
+{}
+
+/// A text is one list of tokens and one node at most, or is refused with one number at one place at
+/// most, and never both. Profile.
+pub fn one_answer()
+    ensures tokens { (bytes : List ℕ) (ts us : List Token) → AreTokens bytes ts → AreTokens bytes us → ts ≡ us }
+    ensures node { (bytes : List ℕ) (i j : Item) → SpellsNode bytes i → SpellsNode bytes j → i ≡ j }
+    ensures refusal { (bytes : List ℕ) (n m place other : ℕ) → RefusesText bytes n place → RefusesText bytes m other →
+        (n ≡ m) × (place ≡ other) }
+    ensures apart { (bytes : List ℕ) (item : Item) (n place : ℕ) → SpellsNode bytes item → ¬ (RefusesText bytes n place) }
+
+    // A refusal of the text has a number from 1 to 8, and a place in the text or at its end.
+    ensures within { (bytes : List ℕ) (n place : ℕ) → RefusesText bytes n place →
+        (1 ≤ n) × (n ≤ 8) × (place ≤ length bytes) }
+
+    // Each list of bytes is one or the other.
+    ensures either { (bytes : List ℕ) →
+        ((item : Item) × SpellsNode bytes item) ⊎ ((n place : ℕ) × RefusesText bytes n place) }
+{
+    crs_decimal::laws::decided();
+}
+
+/// The written text of a well-formed node spells that node, and what a text spells is well formed.
+/// Profile.
+pub fn written_items()
+    ensures spells { WrittenSpells }
+    ensures formed { (bytes : List ℕ) (item : Item) → SpellsNode bytes item → AreFormed item }
+    ensures text { (place : ℕ) (item : Item) → item_text (at_place place item) ≡ item_text item }
+{}
+
+/// The definitions on one coordinate reference system, and on nested words.
+pub fn worked_examples()
+    ensures sizes { AreSized }
+    ensures numbers { AreNumbered }
+    ensures limit { AreLimited }
+{}

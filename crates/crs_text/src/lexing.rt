@@ -1,0 +1,189 @@
+//! The token in front of what is left of a text, or its flaw. Runs are found as a whole, not byte by byte.
+ghost use Rattle.std.specs.Prelude.{◌≡◌, ◌+◌, ◌≤◌, ◌<◌, length, take, drop, MatchOption, MatchBool, [], ◌∷◌};
+ghost use Rattle.std.specs.List.{prefix_len};
+ghost use Rattle.crs_text.specs.Quoted.{BeginsWith, IsInside, IsShutAt, StopsAt, is_plain, is_quote};
+ghost use Rattle.crs_text.specs.Tokens as tokens;
+ghost use Rattle.crs_decimal.specs.Spelling as spelling;
+ghost use Rattle.crs_text.specs.Lexing.{IsLexed};
+
+use crate::refusal::Reason;
+use crate::utf8::{Utf8Form, judge};
+use bstr::ByteSlice;
+use crs_decimal::{Decimal, NumberFault};
+
+/// What stands in front of what is left; lengths count the raw bytes of a single token.
+#[derive(Clone, Copy, Debug, PartialEq, Eq)]
+pub(crate) enum Lexed {
+    Number { length: usize },
+    Text { length: usize },
+    Word { length: usize },
+    Comma,
+    Opening { square: bool },
+    Closing { square: bool },
+    Flaw { reason: Reason, skip: usize },
+}
+
+/// The bytes from `at` on.
+#[inline]
+pub(crate) fn rest_of(bytes: &[u8], at: usize) -> &[u8]
+    requires { at ≤ length bytes.now }
+    ensures { result.now ≡ drop at bytes.now }
+{
+    bytes.split_at(at).1
+}
+
+// The first bytes, up to `end`.
+#[inline]
+fn front_of(bytes: &[u8], end: usize) -> &[u8]
+    requires { end ≤ length bytes.now }
+    ensures { result.now ≡ take end bytes.now }
+{
+    bytes.split_at(end).0
+}
+
+fn flaw(reason: Reason, skip: usize) -> Lexed
+    ensures { result ≡ Lexed.Flaw reason skip }
+{
+    Lexed::Flaw { reason, skip }
+}
+
+fn is_white(byte: u8) -> bool
+    ensures { result ≡ tokens.is_white byte }
+{
+    byte == b' ' || byte == b'\t' || byte == b'\n' || byte == b'\r'
+}
+
+fn is_word_byte(byte: u8) -> bool
+    ensures { result ≡ tokens.is_word_byte byte }
+{
+    matches!(byte, b'A'..=b'Z' | b'a'..=b'z' | b'0'..=b'9' | b'_')
+}
+
+fn is_run_byte(byte: u8) -> bool
+    ensures { result ≡ spelling.is_run_byte byte }
+{
+    is_word_byte(byte) || byte == b'.' || byte == b'+' || byte == b'-'
+}
+
+/// How many bytes of white space come first.
+pub(crate) fn white_length(left: &[u8]) -> usize
+    ensures { result ≡ prefix_len tokens.is_white left.now }
+{
+    left.iter().take_while(|b| is_white(**b)).count()
+}
+
+fn word_length(left: &[u8]) -> usize
+    ensures { result ≡ prefix_len tokens.is_word_byte left.now }
+{
+    left.iter().take_while(|b| is_word_byte(**b)).count()
+}
+
+fn run_length(left: &[u8]) -> usize
+    ensures { result ≡ prefix_len spelling.is_run_byte left.now }
+{
+    left.iter().take_while(|b| is_run_byte(**b)).count()
+}
+
+// How many bytes come before the first quote, or all of them.
+fn plain_length(bytes: &[u8]) -> usize
+    ensures value { result ≡ prefix_len is_plain bytes.now }
+    ensures within { result ≤ length bytes.now }
+{
+    bytes.find_byte(b'"').unwrap_or(bytes.len())
+}
+
+fn begins_with_quote(bytes: &[u8]) -> bool
+    ensures { MatchBool result (bytes.now ≡ 34 ∷ drop 1 bytes.now) (StopsAt is_quote bytes.now) }
+{
+    match bytes {
+        [b'"', ..] => true,
+        _ => false,
+    }
+}
+
+// The place of the closing quote in the bytes after an opening one: the first quote that isn't doubled.
+fn closing_quote(after: &[u8]) -> Option<usize>
+    ensures { MatchOption result (IsInside after.now) (IsShutAt after.now) }
+{
+    let mut at = 0;
+    while at < after.len() {
+        let quote = at + plain_length(rest_of(after, at));
+        if quote == after.len() {
+            return None;
+        }
+        if !begins_with_quote(rest_of(after, quote + 1)) {
+            return Some(quote);
+        }
+        at = quote + 2;
+    }
+    None
+}
+
+// The quoted text that begins what is left.
+fn quoted(left: &[u8]) -> Lexed
+    requires { left.now ≡ 34 ∷ drop 1 left.now }
+    ensures { IsLexed left.now result }
+{
+    let after = rest_of(left, 1);
+    match closing_quote(after) {
+        Some(length) => closed(left, length),
+        None => match judge(after) {
+            Utf8Form::WellFormed => flaw(Reason::OpenText, 0),
+            Utf8Form::Cut => flaw(Reason::OpenText, 0),
+            Utf8Form::IllFormed { valid } => flaw(Reason::NotUtf8, 1 + valid),
+        },
+    }
+}
+
+// The quoted text whose inside has this length: its closing quote is judged with it.
+fn closed(left: &[u8], length: usize) -> Lexed
+    requires begins { left.now ≡ 34 ∷ drop 1 left.now }
+    requires shut { IsShutAt (drop 1 left.now) length }
+    ensures { IsLexed left.now result }
+{
+    match judge(front_of(rest_of(left, 1), length + 1)) {
+        Utf8Form::WellFormed => Lexed::Text { length },
+        // A quote cuts no sequence: what ends in one is well-formed or ill-formed.
+        Utf8Form::Cut => Lexed::Text { length },
+        Utf8Form::IllFormed { valid } => flaw(Reason::NotUtf8, valid + 1),
+    }
+}
+
+// The run that begins what is left: a number, or what it is refused for.
+fn run(left: &[u8]) -> Lexed
+    requires { BeginsWith spelling.is_run_start left.now }
+    ensures { IsLexed left.now result }
+{
+    let length = run_length(left);
+    match Decimal::parse(front_of(left, length)) {
+        Ok(_) => Lexed::Number { length },
+        Err(NumberFault::Malformed) => flaw(Reason::BadNumber, 0),
+        Err(NumberFault::Range) => flaw(Reason::NumberRange, 0),
+    }
+}
+
+fn single_word(left: &[u8]) -> Lexed
+    requires { BeginsWith tokens.is_letter left.now }
+    ensures { IsLexed left.now result }
+{
+    let length = word_length(left);
+    Lexed::Word { length }
+}
+
+/// The token or the flaw that begins what is left, which begins with no white space.
+pub(crate) fn token_at(left: &[u8]) -> Lexed
+    requires { 0 < length left.now }
+    ensures { IsLexed left.now result }
+{
+    match left[0] {
+        b'A'..=b'Z' | b'a'..=b'z' => single_word(left),
+        b'0'..=b'9' | b'+' | b'-' | b'.' => run(left),
+        b'"' => quoted(left),
+        b',' => Lexed::Comma,
+        b'[' => Lexed::Opening { square: true },
+        b'(' => Lexed::Opening { square: false },
+        b']' => Lexed::Closing { square: true },
+        b')' => Lexed::Closing { square: false },
+        _ => flaw(Reason::BadCharacter, 0),
+    }
+}

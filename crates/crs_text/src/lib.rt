@@ -1,0 +1,20 @@
+//! Tokens and items of a well-formed text, or the first fault with its place. What stands above knows the
+//! items and the refusals alone: no byte of a text is read elsewhere.
+#![tactic(auto)]
+
+mod fault;
+mod items;
+pub mod laws;
+mod lexing;
+mod reading;
+mod refusal;
+mod scanning;
+mod table;
+#[cfg(test)]
+mod tests;
+mod utf8;
+
+pub use fault::Fault;
+pub use items::{ItemId, ItemKind, Items};
+pub use reading::read_items;
+pub use refusal::Refusal;

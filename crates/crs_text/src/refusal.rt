@@ -1,0 +1,149 @@
+//! Why a text is refused: a number, and the place of the fault.
+ghost use Rattle.std.specs.Prelude.{◌≡◌, ◌↔◌, IsSome, IfSome, IsTrue};
+ghost use Rattle.crs_text.specs.Refusal.{is_refusal, name_of, text_name, shape_name, value_name};
+
+use std::marker::Model;
+
+/// A refusal: its number, and the place of the fault in bytes from the text's first, which is 0.
+/// Profile.
+#[derive(Clone, Copy, Debug, PartialEq, Eq)]
+pub struct Refusal {
+    number: u8,
+    place: usize,
+}
+
+impl Model for Refusal {
+    ghost use Rattle.std.specs.Prelude.{IsTrue};
+    ghost use Rattle.crs_text.specs.Refusal.{Refused, is_refusal};
+
+    ghost Value = { Refused };
+
+    ghost view = { λ r. record { number = r.number; place = r.place } };
+
+    ghost invariant = { λ r. IsTrue (is_refusal r.number) };
+
+    ghost inverse = { λ r. record { number = r.number; place = r.place } };
+}
+
+/// Why a text is no node.
+#[derive(Clone, Copy, Debug, PartialEq, Eq)]
+pub(crate) enum Reason {
+    /// A byte begins no token.
+    BadCharacter,
+    /// A run isn't of the number form.
+    BadNumber,
+    /// A number is out of bounds.
+    NumberRange,
+    /// No well-formed UTF-8 goes on so.
+    NotUtf8,
+    /// A quoted text has no end.
+    OpenText,
+    /// No text goes on with this token.
+    Unexpected,
+    /// The text ends too early.
+    UnexpectedEnd,
+    /// An opening delimiter stands inside 12 open ones.
+    TooDeep,
+}
+
+impl Reason {
+    ghost use Rattle.crs_text.specs.TextFault.{number_of};
+
+    /// The refusal for this reason, at this place.
+    pub(crate) fn at(self, place: usize) -> Refusal
+        ensures number { result.number ≡ number_of self }
+        ensures place { result.place ≡ place }
+    {
+        let number = match self {
+            Reason::BadCharacter => 1,
+            Reason::BadNumber => 2,
+            Reason::NumberRange => 3,
+            Reason::NotUtf8 => 4,
+            Reason::OpenText => 5,
+            Reason::Unexpected => 6,
+            Reason::UnexpectedEnd => 7,
+            Reason::TooDeep => 8,
+        };
+        Refusal { number, place }
+    }
+}
+
+impl Refusal {
+    /// A refusal with this number; None where no refusal has it.
+    pub fn new(number: u8, place: usize) -> Option<Refusal>
+        ensures known { IsSome result ↔ IsTrue (is_refusal number) }
+        ensures value { IfSome result (λ r. (r.number ≡ number) × (r.place ≡ place)) }
+    {
+        match number {
+            1..=8 | 11..=13 | 21..=29 => Some(Refusal { number, place }),
+            _ => None,
+        }
+    }
+
+    /// The number: 1 to 8 of the text, 11 to 13 of a shape, 21 to 29 of a value.
+    pub fn number(&self) -> u8
+        ensures value { result ≡ self.now.number }
+        ensures known { IsTrue (is_refusal self.now.number) }
+    {
+        self.number
+    }
+
+    /// The place of the fault.
+    pub fn place(&self) -> usize
+        ensures { result ≡ self.now.place }
+    {
+        self.place
+    }
+
+    /// The number's name.
+    pub fn name(&self) -> &'static str
+        ensures { result.now ≡ name_of self.now.number }
+    {
+        match self.number {
+            0..=8 => text_name(self.number),
+            9..=13 => shape_name(self.number),
+            _ => value_name(self.number),
+        }
+    }
+}
+
+fn text_name(number: u8) -> &'static str
+    ensures { result.now ≡ text_name number }
+{
+    match number {
+        1 => "BadCharacter",
+        2 => "BadNumber",
+        3 => "NumberRange",
+        4 => "NotUtf8",
+        5 => "OpenText",
+        6 => "Unexpected",
+        7 => "UnexpectedEnd",
+        _ => "TooDeep",
+    }
+}
+
+fn shape_name(number: u8) -> &'static str
+    ensures { result.now ≡ shape_name number }
+{
+    match number {
+        11 => "UnknownKeyword",
+        12 => "NotHere",
+        _ => "Missing",
+    }
+}
+
+fn value_name(number: u8) -> &'static str
+    ensures { result.now ≡ value_name number }
+{
+    match number {
+        21 => "UnknownWord",
+        22 => "RepeatedPart",
+        23 => "BadSystem",
+        24 => "BadComponent",
+        25 => "AxisCount",
+        26 => "BadOrder",
+        27 => "BadUnit",
+        28 => "BadValue",
+        _ => "BadDynamic",
+    }
+}

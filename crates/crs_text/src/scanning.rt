@@ -1,0 +1,140 @@
+//! One pass over the text: each token is found, and the table takes it or refuses it.
+ghost use Rattle.std.specs.Prelude.{◌≡◌, ◌+◌, ◌≤◌, ◌<◌, length, drop, IfOk, IfErr, MatchResult};
+ghost use Rattle.crs_text.specs.Tokens.{Forms, comma, opening, closing, is_white};
+ghost use Rattle.std.specs.List.{prefix_len};
+ghost use Rattle.crs_text.specs.TextFault.{number_of, IsFlaw};
+ghost use Rattle.crs_text.specs.Scan.{IsReached, IsTaken, IsStoppedBy, IsFaultOf, IsSingleAt, IsScanned};
+ghost use Rattle.crs_text.specs.Table.{Flat, is_whole};
+ghost use Rattle.crs_text.specs.Rows.{flat};
+ghost use Rattle.crs_text.specs.State.{start};
+
+use crate::fault::Fault;
+use crate::items::ItemKind;
+use crate::lexing::{Lexed, rest_of, token_at, white_length};
+use crate::refusal::Reason;
+use crate::table::{Opened, Table};
+
+fn unexpected(at: usize) -> Fault
+    ensures { result ≡ Fault.Refused (record { number = number_of Reason.Unexpected; place = at }) }
+{
+    Fault::Refused(Reason::Unexpected.at(at))
+}
+
+// A number, text or word of `size` bytes.
+fn take_single(
+    table: &mut Table,
+    text: &[u8],
+    at: usize,
+    kind: ItemKind,
+    length: usize,
+    size: usize,
+) -> Result<usize, Fault>
+    requires { IsSingleAt text.now at kind length size }
+    ensures { MatchResult result (IsTaken text.now at table.old table.new) (IsStoppedBy text.now at table.old) }
+{
+    match table.single(kind, at, length) {
+        Ok(true) => Ok(size),
+        Ok(false) => Err(unexpected(at)),
+        Err(refused) => Err(Fault::Memory(refused)),
+    }
+}
+
+fn take_comma(table: &mut Table, text: &[u8], at: usize) -> Result<usize, Fault>
+    requires within { at < length text.now }
+    requires forms { Forms (length text.now) comma (drop at text.now) (drop (at + 1) text.now) }
+    ensures { MatchResult result (IsTaken text.now at table.old table.new) (IsStoppedBy text.now at table.old) }
+{
+    if table.comma() {
+        Ok(1)
+    } else {
+        Err(unexpected(at))
+    }
+}
+
+fn take_closing(table: &mut Table, text: &[u8], at: usize, square: bool) -> Result<usize, Fault>
+    requires within { at < length text.now }
+    requires forms { Forms (length text.now) (closing at square) (drop at text.now) (drop (at + 1) text.now) }
+    ensures { MatchResult result (IsTaken text.now at table.old table.new) (IsStoppedBy text.now at table.old) }
+{
+    if table.close(at, square) {
+        Ok(1)
+    } else {
+        Err(unexpected(at))
+    }
+}
+
+fn take_opening(table: &mut Table, text: &[u8], at: usize, square: bool) -> Result<usize, Fault>
+    requires within { at < length text.now }
+    requires forms { Forms (length text.now) (opening square) (drop at text.now) (drop (at + 1) text.now) }
+    ensures { MatchResult result (IsTaken text.now at table.old table.new) (IsStoppedBy text.now at table.old) }
+{
+    match table.open(square) {
+        Opened::Taken => Ok(1),
+        Opened::TooDeep => Err(Fault::Refused(Reason::TooDeep.at(at))),
+        Opened::Refused => Err(unexpected(at)),
+    }
+}
+
+fn flawed(text: &[u8], at: usize, reason: Reason, skip: usize) -> Fault
+    requires within { at ≤ length text.now }
+    requires flaw { IsFlaw reason (drop at text.now) skip }
+    ensures { (table : Flat) → IsStoppedBy text.now at table result }
+{
+    Fault::Refused(reason.at(at + skip))
+}
+
+// The token at this place: how many bytes it has, if the table takes it.
+fn take_token(table: &mut Table, text: &[u8], at: usize) -> Result<usize, Fault>
+    requires { at < length text.now }
+    ensures { MatchResult result (IsTaken text.now at table.old table.new) (IsStoppedBy text.now at table.old) }
+{
+    match token_at(rest_of(text, at)) {
+        Lexed::Number { length } => take_single(table, text, at, ItemKind::Number, length, length),
+        Lexed::Text { length } => take_single(table, text, at, ItemKind::Text, length, length + 2),
+        Lexed::Word { length } => take_single(table, text, at, ItemKind::Word, length, length),
+        Lexed::Comma => take_comma(table, text, at),
+        Lexed::Opening { square } => take_opening(table, text, at, square),
+        Lexed::Closing { square } => take_closing(table, text, at, square),
+        Lexed::Flaw { reason, skip } => Err(flawed(text, at, reason, skip)),
+    }
+}
+
+// Where the white space that begins at `end` has an end.
+fn after_white(text: &[u8], end: usize) -> usize
+    requires { end ≤ length text.now }
+    ensures { result ≡ end + prefix_len is_white (drop end text.now) }
+{
+    end + white_length(rest_of(text, end))
+}
+
+// Takes the token at this place and the white space behind it.
+fn advance(table: &mut Table, text: &[u8], at: usize) -> Result<usize, Fault>
+    requires more { at < length text.now }
+    requires reached { IsReached text.now table.old at }
+    ensures { MatchResult result
+        (λ next. IsReached text.now table.new next × (at < next))
+        (IsFaultOf text.now) }
+{
+    match take_token(table, text, at) {
+        Ok(size) => Ok(after_white(text, at + size)),
+        Err(fault) => Err(fault),
+    }
+}
+
+/// Reads the text into the table: Ok where its tokens are one whole node.
+pub(crate) fn scan(table: &mut Table, text: &[u8]) -> Result<(), Fault>
+    requires { table.old ≡ flat start }
+    ensures { MatchResult result
+        (λ _. IsScanned text.now table.new)
+        (IsFaultOf text.now) }
+{
+    let mut at = white_length(text);
+    while at < text.len() {
+        at = advance(table, text, at)?;
+    }
+    if table.is_whole() {
+        Ok(())
+    } else {
+        Err(Fault::Refused(Reason::UnexpectedEnd.at(text.len())))
+    }
+}

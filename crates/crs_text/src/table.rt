@@ -1,0 +1,278 @@
+ghost use Rattle.std.specs.Prelude.{◌≡◌, ℕ, ◌+◌, ◌-◌, ◌<◌, ◌≤◌, ◌&&◌, true, IsTrue, IsSome, IfOk, OnOk, OnErr, List, [], ◌∷◌, length};
+ghost use Rattle.crs_text.specs.Table.{AreRoomy, counted, counted_in, position_after, may_begin, with_leaf, flat_single, may_go_on, flat_comma, is_after_word, with_open, has_square, with_close, flat_close, IsStep, IsOpened, is_whole};
+ghost use Rattle.crs_text.specs.State.{start};
+ghost use Rattle.crs_text.specs.declared.table.Position.TheVariants.{AfterWord};
+ghost use Rattle.crs_text.specs.Rows.{flat};
+
+use crate::items::ItemKind;
+use std::alloc::{AllocError, Global};
+use std::marker::Model;
+
+/// The most delimiters that are open at once. Profile.
+const LIMIT: usize = 12;
+
+/// Where the tokens so far have led.
+#[derive(Clone, Copy, Debug, PartialEq, Eq)]
+pub(crate) enum Position {
+    /// At the start, after an opening delimiter or a comma.
+    BeforeItem,
+    /// After a word, which may begin a node.
+    AfterWord,
+    /// After any other item.
+    AfterItem,
+}
+
+/// What became of an opening delimiter.
+#[derive(Clone, Copy, Debug, PartialEq, Eq)]
+pub(crate) enum Opened {
+    Taken,
+    /// It stands after a word, and as many as may be are open.
+    TooDeep,
+    Refused,
+}
+
+/// An item: its first byte's place, the length of its raw bytes, which begin there or behind a
+/// quote; a node's closing delimiter, its count of arguments and of all items in it, itself
+/// included; and how many delimiters are open around it.
+#[derive(Clone, Copy, Debug)]
+pub(crate) struct Row {
+    pub(crate) kind: ItemKind,
+    pub(crate) square: bool,
+    pub(crate) depth: u8,
+    pub(crate) place: usize,
+    pub(crate) length: usize,
+    pub(crate) close: usize,
+    pub(crate) count: usize,
+    pub(crate) size: usize,
+}
+
+/// An open node: its row, its delimiter, and how many of its arguments have begun.
+#[derive(Clone, Copy, Debug)]
+pub(crate) struct Open {
+    row: usize,
+    square: bool,
+    count: usize,
+}
+
+/// The items that have begun, and the nodes that are open.
+#[derive(Drop, Debug)]
+pub(crate) struct Table {
+    rows: Vec<Row>,
+    opens: [Open; 12],
+    depth: usize,
+    position: Position,
+}
+
+fn position_after(kind: ItemKind) -> Position
+    ensures { result ≡ position_after kind }
+{
+    match kind {
+        ItemKind::Word => Position::AfterWord,
+        ItemKind::Number | ItemKind::Text | ItemKind::Node => Position::AfterItem,
+    }
+}
+
+impl Model for Table {
+    ghost use Rattle.std.specs.Prelude.{◌≤◌};
+    ghost use Rattle.crs_text.specs.Table.{Flat, held, IsRoomy};
+
+    ghost Value = { Flat };
+
+    ghost view = { λ t. record { rows = t.rows.items; opens = held t.depth t.opens; position = t.position } };
+
+    ghost invariant = { λ t. (t.depth ≤ 12)
+        × IsRoomy (record { rows = t.rows.items; opens = held t.depth t.opens; position = t.position }) };
+}
+
+impl Table {
+    pub(crate) fn new(alloc: Global) -> Self
+        ensures { result ≡ flat start }
+    {
+        Table {
+            rows: Vec::new(alloc),
+            opens: [Open {
+                row: 0,
+                square: false,
+                count: 0,
+            }; 12],
+            depth: 0,
+            position: Position::BeforeItem,
+        }
+    }
+
+    fn may_begin(&self, kind: ItemKind) -> bool
+        ensures { result ≡ may_begin self.now.position self.now.opens kind }
+    {
+        match self.position {
+            Position::BeforeItem => self.depth > 0 || kind == ItemKind::Word,
+            Position::AfterWord | Position::AfterItem => false,
+        }
+    }
+
+    // One argument more in the last opened node.
+    #[tactic(auto, using(crate::proofs::TableLemmas::held_rules))]
+    fn count_argument(&mut self)
+        requires { AreRoomy (length self.old.rows) (counted self.old.opens) }
+        ensures { self.new ≡ counted_in self.old }
+    {
+        if self.depth > 0 {
+            let top = self.opens[self.depth - 1];
+            self.opens[self.depth - 1] = Open {
+                count: top.count + 1,
+                ..top
+            };
+        }
+    }
+
+    // A number, text or word that is allowed.
+    #[tactic(auto, using(crate::proofs::TableLemmas::held_rules))]
+    fn begin(&mut self, kind: ItemKind, place: usize, length: usize) -> Result<(), AllocError>
+        requires { may_begin self.old.position self.old.opens kind ≡ true }
+        ensures ok { OnOk result (self.new ≡ with_leaf self.old kind place length) }
+        ensures err { OnErr result (self.new ≡ self.old) }
+    {
+        self.rows.push(Row {
+            kind,
+            square: false,
+            depth: self.depth as u8,
+            place,
+            length,
+            close: 0,
+            count: 0,
+            size: 1,
+        })?;
+        self.count_argument();
+        self.position = position_after(kind);
+        Ok(())
+    }
+
+    /// A number, text or word: whether it is allowed, and then its row is there.
+    pub(crate) fn single(
+        &mut self,
+        kind: ItemKind,
+        place: usize,
+        length: usize,
+    ) -> Result<bool, AllocError>
+        ensures ok { IfOk result (λ taken. IsStep (flat_single self.old kind place length) taken self.old self.new) }
+        ensures err { OnErr result (IsSome (flat_single self.old kind place length) × (self.new ≡ self.old)) }
+    {
+        if !self.may_begin(kind) {
+            return Ok(false);
+        }
+        self.begin(kind, place, length)?;
+        Ok(true)
+    }
+
+    fn may_go_on(&self) -> bool
+        ensures { result ≡ may_go_on self.now.position self.now.opens }
+    {
+        match self.position {
+            Position::BeforeItem => false,
+            Position::AfterWord | Position::AfterItem => self.depth > 0,
+        }
+    }
+
+    /// A comma: whether it is allowed.
+    pub(crate) fn comma(&mut self) -> bool
+        ensures { IsStep (flat_comma self.old) result self.old self.new }
+    {
+        if !self.may_go_on() {
+            return false;
+        }
+        self.position = Position::BeforeItem;
+        true
+    }
+
+    // The last word becomes a node.
+    #[tactic(auto, using(crate::proofs::TableLemmas::held_rules))]
+    fn open_last(&mut self, square: bool)
+        requires word { self.old.position ≡ AfterWord }
+        requires room { length self.old.opens < 12 }
+        ensures { self.new ≡ with_open self.old square }
+    {
+        let at = self.rows.len() - 1;
+        let word = self.rows[at];
+        self.rows[at] = Row {
+            kind: ItemKind::Node,
+            square,
+            ..word
+        };
+        self.opens[self.depth] = Open {
+            row: at,
+            square,
+            count: 0,
+        };
+        self.depth += 1;
+        self.position = Position::BeforeItem;
+    }
+
+    /// An opening delimiter.
+    #[tactic(auto, using(crate::proofs::TableLemmas::held_rules))]
+    pub(crate) fn open(&mut self, square: bool) -> Opened
+        ensures { IsOpened self.old square result self.new }
+    {
+        if self.position != Position::AfterWord {
+            return Opened::Refused;
+        }
+        if self.depth == LIMIT {
+            return Opened::TooDeep;
+        }
+        self.open_last(square);
+        Opened::Taken
+    }
+
+    fn may_close(&self, square: bool) -> bool
+        ensures { result ≡ (may_go_on self.now.position self.now.opens && has_square self.now.opens square) }
+    {
+        self.may_go_on() && self.opens[self.depth - 1].square == square
+    }
+
+    // The last opened node is complete.
+    fn close_last(&mut self, place: usize)
+        requires { may_go_on self.old.position self.old.opens ≡ true }
+        ensures { self.new ≡ with_close self.old place }
+    {
+        let top = self.opens[self.depth - 1];
+        let size = self.rows.len() - top.row;
+        let row = self.rows[top.row];
+        self.rows[top.row] = Row {
+            close: place,
+            count: top.count,
+            size,
+            ..row
+        };
+        self.depth -= 1;
+        self.position = Position::AfterItem;
+    }
+
+    /// A closing delimiter at this place: whether it is allowed, and then its node's row is complete.
+    pub(crate) fn close(&mut self, place: usize, square: bool) -> bool
+        ensures { IsStep (flat_close self.old place square) result self.old self.new }
+    {
+        if !self.may_close(square) {
+            return false;
+        }
+        self.close_last(place);
+        true
+    }
+
+    /// Whether the tokens so far are those of one whole node.
+    pub(crate) fn is_whole(&self) -> bool
+        ensures { result ≡ is_whole self.now }
+    {
+        self.position == Position::AfterItem && self.depth == 0
+    }
+
+    /// The rows alone.
+    pub(crate) fn into_rows(self) -> Vec<Row>
+        ensures { result.items ≡ self.rows }
+    {
+        let Table {
+            rows,
+            opens: _,
+            depth: _,
+            position: _,
+        } = self;
+        rows
+    }
+}

@@ -1,0 +1,74 @@
+//! `crsdesk`: reads WKT2 texts of coordinate reference systems, and spells each in one way.
+#![tactic(auto)]
+
+use crs_desk::{Level, Request, RequestFault, RunFault, Sink, Source, request, run_canon};
+use std::alloc::{AllocError, Global};
+use std::process::ExitCode;
+use std::{env, io};
+
+const FAULT: u8 = 2;
+
+fn main(rt: HostRuntime) -> ExitCode {
+    ExitCode::from(status_of_run(&rt))
+}
+
+fn status_of_run(rt: &HostRuntime) -> u8 {
+    match command_words(rt) {
+        Ok(words) => answer_words(rt, &words),
+        Err(error) => report_words(rt, &error),
+    }
+}
+
+fn command_words(rt: &HostRuntime) -> io::Result<Vec<String>> {
+    Ok(env::args(rt)?.collect(rt.alloc())?)
+}
+
+fn answer_words(rt: &HostRuntime, words: &[String]) -> u8 {
+    match texts_of(rt.alloc(), words) {
+        Ok(texts) => answer_texts(rt, &texts),
+        Err(_) => report(rt, &RunFault::Memory),
+    }
+}
+
+fn texts_of(alloc: Global, words: &[String]) -> Result<Vec<&str>, AllocError> {
+    words.iter().map(|word| word.as_str()).collect(alloc)
+}
+
+fn answer_texts(rt: &HostRuntime, words: &[&str]) -> u8 {
+    match &request(rt.alloc(), words) {
+        Ok(wanted) => answer(rt, wanted),
+        Err(RequestFault::Line(error)) => report_line(rt, error),
+        Err(RequestFault::Memory(_)) => report(rt, &RunFault::Memory),
+    }
+}
+
+fn answer(rt: &HostRuntime, wanted: &Request) -> u8 {
+    let mut source = Source::new(rt.stdin());
+    let mut sink = Sink::new(rt.stdout());
+    let outcome = match wanted {
+        Request::Canon => run_canon(rt.alloc(), Level::Full, &mut source, &mut sink),
+    };
+    match &outcome {
+        Ok(status) => *status,
+        Err(fault) => report(rt, fault),
+    }
+}
+
+// A second failure, of standard error itself, can't be told to anyone.
+fn report(rt: &HostRuntime, fault: &RunFault) -> u8 {
+    let _ = eprintln!(rt; "crsdesk: {fault}");
+    FAULT
+}
+
+fn report_line(rt: &HostRuntime, error: &clap::Error) -> u8 {
+    let _ = error.print(rt);
+    if error.use_stderr() { FAULT } else { 0 }
+}
+
+fn report_words(rt: &HostRuntime, error: &io::Error) -> u8 {
+    if error.kind() == io::ErrorKind::OutOfMemory {
+        return report(rt, &RunFault::Memory);
+    }
+    let _ = eprintln!(rt; "crsdesk: a word of the command line isn't UTF-8");
+    FAULT
+}
