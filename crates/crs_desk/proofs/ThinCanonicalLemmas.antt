@@ -9,7 +9,6 @@ use Rattle.crs_text.specs.Tokens.{number, text, word, IsSingle}
 use Rattle.crs_text.specs.Items.{Item, leaf, node, End, More}
 use Rattle.crs_text.specs.TextFault.{SpellsNode}
 use Rattle.crs_text.specs.Written.{AreFormed, at_place}
-use Rattle.crs_text.proofs.WrittenLemmas.{written_spells, item_text-at_place}
 use Rattle.crs_desk.specs.ThinWords.{direction_word, system_word}
 use Rattle.crs_desk.specs.ThinValues.{UnitParts, AxisParts, SystemParts, VerticalParts}
 use Rattle.crs_desk.specs.ThinReads.{ReadsNumber, ReadsUnit, ReadsOrder, ReadsOptionalOrder, ReadsAxis, ReadsSystem, ReadsFrame, ReadsVertical, whole, position, PassesChecks, Spells}
@@ -18,7 +17,7 @@ use Rattle.crs_desk.specs.ThinCanonical.{IsTableWord, IsNormalItem, AreNormalIte
 use Rattle.crs_desk.specs.ThinCanonical as canonical
 use Rattle.crs_desk.specs.ThinSpelling.{one, unit_item, order_item, axis_item, system_item, frame_item, vertical_item, spelling, ordered}
 use Rattle.crs_desk.proofs.ThinReadLemmas.{DenotesOne, NodeIsOne, spells_one, same_unit_of, same_axis_of, same_system_of, same_vertical_of}
-use Rattle.crs_desk.proofs.ThinSpellingLemmas.{HasUnit, HasVertical, spelled_has, PlainIsOne, NormalNumberIsOne, normal_is_spelling, one_normal}
+use Rattle.crs_desk.proofs.ThinSpellingLemmas.{HasUnit, HasVertical, WrittenLaws, spelled_has, PlainIsOne, NormalNumberIsOne, normal_is_spelling, one_normal}
 use Rattle.crs_desk.proofs.WordLemmas.{direction_formed, type_formed}
 
 -- ---- what decimals promise
@@ -105,7 +104,7 @@ module _ (laws : NumberLaws) where
 
 -- ---- the spelling of a system is its canonical text
 
-module _ (plains : PlainIsPlain) (runs : FormIsRun) where
+module _ (writes : WrittenLaws) (plains : PlainIsPlain) (runs : FormIsRun) where
   run_single : (raw : List ℕ) → IsRun raw → IsInBounds raw → IsSingle number raw
   run_single [] run bounds = absurd run
   run_single (b ∷ bs) run bounds = (run.0, run.1, bounds)
@@ -126,7 +125,7 @@ module _ (plains : PlainIsPlain) (runs : FormIsRun) where
       ((refl, refl), h.0, (frame_formed, (system_formed, (axis_formed, tt))))
 
   spelling_spelled : (parts : VerticalParts) → HasVertical parts → SpellsNode (spelling parts) (at_place 0 (vertical_item parts))
-  spelling_spelled parts h = written_spells (vertical_item parts) (formed_vertical parts h) tt (lit≤ tt)
+  spelling_spelled parts h = writes.spells (vertical_item parts) (formed_vertical parts h) tt (lit≤ tt)
 
   number_reads : (place : ℕ) (value : Value) → IsNormal value → ReadsNumber (leaf number place (plain value)) value
   number_reads place value normal = (normal, (plains value normal).1)
@@ -210,11 +209,11 @@ module _ (plains : PlainIsPlain) (runs : FormIsRun) where
     pub spelling_is_canonical : (bytes : List ℕ) (parts : VerticalParts) → Spells bytes parts → IsCanonical bytes (spelling parts)
     unfolding spelling_spells
     spelling_is_canonical bytes parts spells =
-        let h = spelled_has bytes parts spells in
+        let h = spelled_has writes bytes parts spells in
         let written = spelling_spells parts h spells.checks in
         record {
           same = (parts, ordered parts, spells, written, same_ordered numbers parts spells.checks);
-          normal = record { parts = ordered parts; spells = written; no_white = sym (item_text-at_place 0 (vertical_item parts)); items = spelling_normal parts h; order = refl };
+          normal = record { parts = ordered parts; spells = written; no_white = sym (writes.text 0 (vertical_item parts)); items = spelling_normal parts h; order = refl };
         }
 
 -- ---- normal texts that say the same are equal
@@ -230,12 +229,12 @@ module _ (number_one : NormalNumberIsOne) where
       let system = same_system_of (ordered a).system (ordered b).system t.system_type dimension axis in
       ap spelling (same_vertical_of (ordered a) (ordered b) s.name s.frame system)
 
-  module _ (denotes_one : DenotesOne) (node_one : NodeIsOne) (plain_one : PlainIsOne) where
+  module _ (writes : WrittenLaws) (denotes_one : DenotesOne) (node_one : NodeIsOne) (plain_one : PlainIsOne) where
     pub normal_is_one : NormalIsOne
     normal_is_one first second n m (a, b, p, q, same) =
         let x : n.parts ≡ a = spells_one denotes_one node_one first n.parts a n.spells p in
         let y : m.parts ≡ b = spells_one denotes_one node_one second m.parts b m.spells q in
-        normal_is_spelling plain_one number_one first n ∙ ap spelling x ∙ same_spelling a b (spelled_has first a p) (spelled_has second b q) same
+        normal_is_spelling plain_one number_one first n ∙ ap spelling x ∙ same_spelling a b (spelled_has writes first a p) (spelled_has writes second b q) same
         ∙ sym (ap spelling y) ∙ sym (normal_is_spelling plain_one number_one second m)
 
     module _ (numbers : NumberLaws) where

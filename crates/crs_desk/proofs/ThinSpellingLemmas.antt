@@ -7,8 +7,8 @@ use Rattle.crs_decimal.specs.Plain.{IsPlain, plain}
 use Rattle.crs_decimal.specs.Value.{Value, IsNormal, exact}
 use Rattle.crs_text.specs.Tokens.{number, text, word, IsSingle}
 use Rattle.crs_text.specs.Items.{Item, leaf, node, Items, End, More, arguments}
-use Rattle.crs_text.specs.Written.{item_text, others_text, AreFormed, AreAllFormed}
-use Rattle.crs_text.proofs.WrittenLemmas.{spelled_formed}
+use Rattle.crs_text.specs.TextFault.{SpellsNode}
+use Rattle.crs_text.specs.Written.{item_text, others_text, AreFormed, AreAllFormed, at_place, WrittenSpells}
 use Rattle.crs_desk.specs.ThinWords.{IsCapital, direction_word, system_word}
 use Rattle.crs_desk.specs.ThinValues.{UnitParts, AxisParts, SystemParts, VerticalParts}
 use Rattle.crs_desk.specs.ThinReads.{ReadsText, ReadsNumber, ReadsWord, HasKeyword, ReadsUnit, ReadsOrder, with_optional, ReadsOptionalOrder, ReadsAxis, ReadsSystem, ReadsFrame, ReadsVertical, whole, position, PassesChecks, Spells}
@@ -74,8 +74,14 @@ has_vertical item parts formed r =
     let a = has_arguments item (More r.name_item (More r.frame_item (More r.system_item (More r.axis_item End)))) formed r.items in
     (has_text r.name_item parts.name a.0 r.name, has_frame r.frame_item parts.frame a.1.0 r.frame, has_system r.system_item r.axis_item parts.system a.1.1.1.0 r.system)
 
-pub spelled_has : (bytes : List ℕ) (parts : VerticalParts) → Spells bytes parts → HasVertical parts
-spelled_has bytes parts p = has_vertical p.item parts (spelled_formed bytes p.item p.spelled) p.reads
+-- what is known of written items
+pub record WrittenLaws : Type 0 where
+  pub spells : WrittenSpells
+  pub formed : (bytes : List ℕ) (item : Item) → SpellsNode bytes item → AreFormed item
+  pub text : (place : ℕ) (item : Item) → item_text (at_place place item) ≡ item_text item
+
+pub spelled_has : WrittenLaws → (bytes : List ℕ) (parts : VerticalParts) → Spells bytes parts → HasVertical parts
+spelled_has writes bytes parts p = has_vertical p.item parts (writes.formed bytes p.item p.spelled) p.reads
 
 -- ---- a normal text is the one of its system
 

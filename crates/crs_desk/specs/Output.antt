@@ -1,8 +1,9 @@
 -- What `canon` writes for a text, and its status.
 use Rattle.std.specs.Prelude.{◌≡◌, ◌++◌, ◌⊎◌, ℕ, List, [], ◌∷◌, codes, decimal}
 use Rattle.crs_text.specs.Items.{Item}
-use Rattle.crs_text.specs.Refusal.{name_of}
+use Rattle.crs_text.specs.Refusal.{Refused, name_of}
 use Rattle.crs_text.specs.TextFault.{SpellsNode, RefusesText}
+use Rattle.crs_shape.specs.ShapeFault.{AtRoot, IsFree}
 use Rattle.crs_desk.specs.ThinReads.{IsThin}
 use Rattle.crs_desk.specs.ThinCanonical.{IsCanonical}
 
@@ -19,13 +20,21 @@ pub record IsLine (bytes : List ℕ) (end : ℕ) (written : List ℕ) (status : 
 abbrev pub WritesCanonical : List ℕ → List ℕ → ℕ → Type 0
 WritesCanonical text written status = (canonical : List ℕ) × IsCanonical text canonical × IsLine canonical 0 written status
 
--- the refusal of a text that is no node, with status 1
-abbrev pub WritesRefusal : List ℕ → List ℕ → ℕ → Type 0
-WritesRefusal text written status = (number place : ℕ) × RefusesText text number place × IsLine (refused_text number place) 1 written status
+-- the text is no node, or has a fault of shape
+abbrev pub IsRefused : List ℕ → Refused → Type 0
+IsRefused text refusal = RefusesText text refusal.number refusal.place ⊎ ((item : Item) × SpellsNode text item × AtRoot item refusal)
 
--- `not yet` for a text that is a node and isn't thin, with status 1
+-- the text is a node without a fault of shape
+abbrev pub HasShape : List ℕ → Type 0
+HasShape text = (item : Item) × SpellsNode text item × IsFree (AtRoot item)
+
+-- the refusal of a text, with status 1
+abbrev pub WritesRefusal : List ℕ → List ℕ → ℕ → Type 0
+WritesRefusal text written status = (refusal : Refused) × IsRefused text refusal × IsLine (refused_text refusal.number refusal.place) 1 written status
+
+-- `not yet` for a text that has a shape and isn't thin, with status 1
 abbrev pub WritesNotYet : List ℕ → List ℕ → ℕ → Type 0
-WritesNotYet text written status = ((item : Item) × SpellsNode text item) × ¬ (IsThin text) × IsLine (codes "not yet") 1 written status
+WritesNotYet text written status = HasShape text × ¬ (IsThin text) × IsLine (codes "not yet") 1 written status
 
 -- what `canon` writes for a text, and its status
 unfoldable pub IsCanonOutput : List ℕ → List ℕ → ℕ → Type 0

@@ -1,21 +1,22 @@
 ghost use Rattle.std.specs.Prelude.{◌≡◌, ◌<◌, ◌≤◌, ◌++◌, ◌∷◌, ◌↔◌, [], IfOk, IfErr, IsErrOf, MatchOption, true, false};
 ghost use Rattle.std.specs.Io.KnownBytes.{Appends};
 ghost use Rattle.crs_desk.specs.Ending.{IsAnswered, IsRunFault};
-ghost use Rattle.crs_desk.specs.Output.{IsCanonOutput, refused_text};
+ghost use Rattle.crs_desk.specs.Output.{IsCanonOutput, refused_text, HasShape, IsRefused};
+ghost use Rattle.crs_shape.specs.ShapeFault.{IsFree, IsOnly, AtRoot};
 ghost use Rattle.crs_desk.specs.ThinReads.{IsThin};
-ghost use Rattle.crs_text.specs.Items.{Item};
-ghost use Rattle.crs_text.specs.TextFault.{SpellsNode, RefusesText};
 ghost use Rattle.crs_desk.specs.Streams.{fresh_sink, fresh_source};
 
 use crate::text::read_text;
 use crate::{Level, RunFault, Sink, Source, thin_canon};
-use crs_text::{Refusal, read_items};
+use crs_shape::fit_root;
+use crs_text::{Items, Refusal, read_items};
 use itoa::Buffer;
 use std::alloc::{AllocError, Global};
 use std::io::{Read, Write};
 
 /// Reads a text to its end, and writes a line. For a thin text it is the canonical text, with status 0; else, with
-/// status 1, the text's refusal, or `not yet` for a node that isn't thin.
+/// status 1, the refusal of a text that is no node or has no
+/// shape, or `not yet` for one that has a shape and isn't thin.
 /// `ReadFailed` and `WriteFailed` where the source or the sink has failed, `TooLong(0)` for more than 1,048,576
 /// bytes, `TooManyReads` where 1,048,576 reads have not shown the end, `Memory` where memory ran out. Nothing was
 /// written then, but for `WriteFailed`. Profile.
@@ -73,17 +74,27 @@ fn uncanonical_line(alloc: Global, text: &[u8]) -> Result<Vec<u8>, AllocError>
     }
 }
 
+// The refusal of a text that is no node or has no shape.
 fn refusal_of(alloc: Global, text: &[u8]) -> Result<Option<Refusal>, AllocError>
     ensures { IfOk result (λ refusal. MatchOption refusal
-        ((item : Item) × SpellsNode text.now item)
-        (λ refused. RefusesText text.now refused.number refused.place)) }
+        (HasShape text.now)
+        (λ refused. IsRefused text.now refused)) }
 {
     match read_items(alloc, text) {
-        Ok(_items) => Ok(None),
+        Ok(items) => Ok(shape_refusal(&items)),
         Err(fault) => match fault.refusal() {
             Some(refusal) => Ok(Some(refusal)),
             None => Err(AllocError),
         },
+    }
+}
+
+fn shape_refusal(items: &Items<'_>) -> Option<Refusal>
+    ensures { MatchOption result (IsFree (AtRoot items.now)) (IsOnly (AtRoot items.now)) }
+{
+    match fit_root(items) {
+        Ok(_class) => None,
+        Err(refusal) => Some(refusal),
     }
 }
 

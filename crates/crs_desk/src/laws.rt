@@ -10,7 +10,7 @@ ghost use Rattle.crs_desk.specs.ThinValues.{VerticalParts};
 use crs_decimal::laws::{
     denotes_one, normal_is_one, plain_is_the_one, same_number_is_equivalence, spelled_as_a_run,
 };
-use crs_text::laws::one_answer;
+use crs_text::laws::{one_answer, written_items};
 
 /// A text spells one vertical system at most. Profile.
 pub fn spells_one()
@@ -34,6 +34,7 @@ pub fn thin_headline()
     one_answer();
     plain_is_the_one();
     same_number_is_equivalence();
+    written_items();
     spelling_is_canonical();
 }
 
@@ -53,4 +54,5 @@ pub(crate) fn spelling_is_canonical()
     plain_is_the_one();
     spelled_as_a_run();
     same_number_is_equivalence();
+    written_items();
 }

@@ -6,7 +6,7 @@ pub returns-in_ok-line-in-Some : goal.returns-in_ok-line-in-Some
 unfolding IsCanonOutput
 returns-in_ok-line-in-Some c =
     let refused = rw c.in-Some.is at c.in_ok-refusal.ensures in
-    inr (inl (c.in-Some.refusal.number, c.in-Some.refusal.place, refused, record { line = c.in_ok-line-in-Some.ensures; is_status = refl }))
+    inr (inl (c.in-Some.refusal, refused, record { line = c.in_ok-line-in-Some.ensures; is_status = refl }))
 
 pub returns-in_ok-line-in-None : goal.returns-in_ok-line-in-None
 unfolding IsCanonOutput

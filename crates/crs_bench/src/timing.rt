@@ -1,0 +1,76 @@
+//! How long a stage takes.
+
+use crate::stage::Stage;
+use crate::tally::Tally;
+use std::alloc::{AllocError, Global};
+use std::rt::Clock;
+use std::time::{Duration, Instant};
+use std::{fmt, io};
+
+/// The time that some rounds over a catalogue took, and what each of them came to.
+#[derive(Clone, Copy, Debug)]
+pub struct Timing {
+    tally: Tally,
+    rounds: u32,
+    time: Duration,
+}
+
+/// Runs the stage over all texts, so many times.
+pub fn timed(
+    rt: &(impl Clock + AllocGlobal),
+    stage: Stage,
+    rounds: u32,
+    texts: &[&[u8]],
+) -> io::Result<Timing> {
+    let start = Instant::now(rt)?;
+    let mut tally = Tally::EMPTY;
+    for round in 0..rounds {
+        tally = one_round(rt.alloc(), stage, texts)?;
+    }
+    let time = start.elapsed(rt)?;
+    Ok(Timing {
+        tally,
+        rounds,
+        time,
+    })
+}
+
+fn one_round(alloc: Global, stage: Stage, texts: &[&[u8]]) -> Result<Tally, AllocError> {
+    let mut tally = Tally::EMPTY;
+    for text in texts {
+        tally.add(text, stage.outcome(alloc, text)?);
+    }
+    Ok(tally)
+}
+
+impl Timing {
+    /// What each round came to.
+    pub fn tally(&self) -> Tally {
+        self.tally
+    }
+
+    // Nanoseconds for one text; 0 where there is none.
+    fn nanoseconds_a_text(&self) -> u128 {
+        let texts = u128::from(self.tally.texts()) * u128::from(self.rounds);
+        self.time.as_nanos().checked_div(texts).unwrap_or(0)
+    }
+
+    // Tenths of a megabyte, of 1,000,000 bytes, for one second; 0 where it took no time.
+    fn tenths_a_second(&self) -> u128 {
+        let bytes = u128::from(self.tally.bytes()) * u128::from(self.rounds);
+        bytes
+            .saturating_mul(10_000)
+            .checked_div(self.time.as_nanos())
+            .unwrap_or(0)
+    }
+}
+
+impl fmt::Display for Timing {
+    fn fmt<W: fmt::Write>(&self, f: &mut fmt::Formatter<W>) -> fmt::Result {
+        let nanoseconds = self.nanoseconds_a_text();
+        let tenths = self.tenths_a_second();
+        let whole = tenths / 10;
+        let tenth = tenths % 10;
+        write!(f, "{nanoseconds} ns a text, {whole}.{tenth} MB/s")
+    }
+}

@@ -1,0 +1,42 @@
+//! The worked rows of the public calls: each file of rows is run, the rows that differ are printed, and
+//! then a count for the file.
+#![tactic(auto)]
+
+mod answers;
+mod escapes;
+mod numbers;
+mod rows;
+mod runs;
+mod shapes;
+mod texts;
+
+use std::{fs, io};
+
+const FILES: [&str; 10] = [
+    "decimals",
+    "refusals",
+    "tokens",
+    "utf8",
+    "items",
+    "prefixes",
+    "shapes",
+    "before_dynamic",
+    "thin",
+    "runs",
+];
+
+fn main(rt: HostRuntime) -> io::Result<()> {
+    for name in FILES {
+        run_file(&rt, name)?;
+    }
+    Ok(())
+}
+
+fn run_file(rt: &HostRuntime, name: &str) -> io::Result<()> {
+    let path = format!(in rt.alloc(); "{name}.rows")?;
+    let text = fs::read_to_string(rt, path.as_str())?;
+    let tally = rows::run(rt, name, text.as_str())?;
+    let rows = tally.rows;
+    let differ = tally.differ;
+    println!(rt; "{name}: {rows} rows, {differ} differ")
+}

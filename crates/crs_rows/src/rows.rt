@@ -1,0 +1,115 @@
+//! A file of rows. A line that begins with `#` says why; then a row has a line `call`, lines `input` and
+//! a line `expect`.
+use crate::answers::put_answer;
+use crate::escapes::put_bytes;
+use std::alloc::{AllocError, Global};
+use std::io;
+
+/// How many rows were run, and how many of them differ; a line that can't be read counts as such a row.
+#[derive(Clone, Copy)]
+pub struct Tally {
+    pub rows: u64,
+    pub differ: u64,
+}
+
+impl Tally {
+    fn add(&mut self, agrees: bool) {
+        self.rows = self.rows.saturating_add(1);
+        if !agrees {
+            self.differ = self.differ.saturating_add(1);
+        }
+    }
+}
+
+#[derive(Drop)]
+struct Row<'t> {
+    call: &'t str,
+    input: Vec<u8>,
+}
+
+// What a line does.
+enum Step<'t> {
+    // It says nothing, or a part of a row.
+    Part,
+    // It ends a row by its answer.
+    Expect(&'t str),
+    // It can't be read.
+    Unknown,
+}
+
+/// Runs the rows of a file, and prints those that differ.
+pub fn run(rt: &(impl Print + AllocGlobal), name: &str, text: &str) -> io::Result<Tally> {
+    let mut tally = Tally { rows: 0, differ: 0 };
+    let mut row = Row::new(rt.alloc());
+    for (index, line) in text.lines().enumerate() {
+        let came = match row.read_line(line)? {
+            Step::Part => continue,
+            Step::Expect(answer) => row.differing(rt.alloc(), answer)?,
+            Step::Unknown => Some(String::from_str(rt.alloc(), "no line of a row")?),
+        };
+        tally.add(came.is_none());
+        if let Some(came) = came {
+            let number = index.saturating_add(1);
+            println!(rt; "{name}.rows, line {number}: {came}")?;
+        }
+        row = Row::new(rt.alloc());
+    }
+    Ok(tally)
+}
+
+impl<'t> Row<'t> {
+    fn new(alloc: Global) -> Row<'t> {
+        Row {
+            call: "",
+            input: Vec::new(alloc),
+        }
+    }
+
+    fn read_line(&mut self, line: &'t str) -> Result<Step<'t>, AllocError> {
+        let (word, rest) = split_word(line);
+        match word {
+            "" | "#" => Ok(Step::Part),
+            "call" => {
+                self.call = rest;
+                Ok(Step::Part)
+            }
+            "input" => self.read_input(1, rest),
+            "input*" => {
+                let (count, part) = split_word(rest);
+                match count.parse::<u32>() {
+                    Ok(count) => self.read_input(count, part),
+                    Err(_) => Ok(Step::Unknown),
+                }
+            }
+            "expect" => Ok(Step::Expect(rest)),
+            _ => Ok(Step::Unknown),
+        }
+    }
+
+    fn read_input(&mut self, count: u32, part: &str) -> Result<Step<'t>, AllocError> {
+        for _turn in 0..count {
+            if !put_bytes(&mut self.input, part.as_bytes())? {
+                return Ok(Step::Unknown);
+            }
+        }
+        Ok(Step::Part)
+    }
+
+    // The row's answer, where it is another than this one.
+    fn differing(&self, alloc: Global, answer: &str) -> Result<Option<String>, AllocError> {
+        let mut came = String::new(alloc);
+        put_answer(&mut came, alloc, self.call, &self.input)?;
+        if came.as_str() == answer {
+            return Ok(None);
+        }
+        Ok(Some(came))
+    }
+}
+
+// The first word of a line, and what stands behind the blanks after it.
+fn split_word(line: &str) -> (&str, &str) {
+    match line.split_once(' ') {
+        Some((word, rest)) => (word, rest.trim_start()),
+        None => (line, ""),
+    }
+}

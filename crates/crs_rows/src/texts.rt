@@ -1,0 +1,179 @@
+//! The calls on texts and their items.
+ghost use Rattle.crs_text.specs.Items.{HasId};
+
+use crate::escapes::put_text;
+use crate::numbers::put_spelling;
+use crs_decimal::Decimal;
+use crs_text::{Fault, ItemId, ItemKind, Items, Refusal, read_items};
+use std::alloc::{AllocError, Global};
+
+// No item stands inside more delimiters than these.
+const DEPTH: u8 = 12;
+
+/// What is asked of each item.
+#[derive(Clone, Copy)]
+pub enum Column {
+    /// The place of its first byte.
+    Place,
+    /// The place of a node's closing delimiter.
+    Close,
+    /// The value of a number.
+    Number,
+}
+
+impl Column {
+    fn name(self) -> &'static str {
+        match self {
+            Column::Place => "places",
+            Column::Close => "closes",
+            Column::Number => "numbers",
+        }
+    }
+}
+
+/// The items of a text, node by node, or its refusal.
+pub fn put_tree(out: &mut String, alloc: Global, input: &[u8]) -> Result<(), AllocError> {
+    match read_items(alloc, input) {
+        Ok(items) => {
+            out.push_str("tree ")?;
+            put_item(out, &items, items.root(), DEPTH)
+        }
+        Err(fault) => put_fault(out, fault),
+    }
+}
+
+/// What each item has in a column, `none` where it has nothing there, in the order in which the items begin.
+pub fn put_column(
+    out: &mut String,
+    alloc: Global,
+    input: &[u8],
+    column: Column,
+) -> Result<(), AllocError> {
+    match read_items(alloc, input) {
+        Ok(items) => {
+            out.push_str(column.name())?;
+            put_each(out, &items, items.root(), column, DEPTH)
+        }
+        Err(fault) => put_fault(out, fault),
+    }
+}
+
+/// The refusal of each proper prefix, its number and place joined by `@`; `accepted` where it has none.
+pub fn put_prefixes(out: &mut String, alloc: Global, input: &[u8]) -> Result<(), AllocError> {
+    out.push_str("refusals")?;
+    for count in 0..input.len() {
+        match read_items(alloc, &input[..count]) {
+            Ok(_items) => out.push_str(" accepted")?,
+            Err(fault) => put_short(out, fault)?,
+        }
+    }
+    Ok(())
+}
+
+fn put_short(out: &mut String, fault: Fault) -> Result<(), AllocError> {
+    match fault {
+        Fault::Refused(refusal) => write!(out, " {}@{}", refusal.number(), refusal.place()),
+        Fault::Memory(error) => Err(error),
+    }
+}
+
+/// A fault's refusal; want of memory is the error.
+pub fn put_fault(out: &mut String, fault: Fault) -> Result<(), AllocError> {
+    match fault {
+        Fault::Refused(refusal) => put_refusal(out, refusal),
+        Fault::Memory(error) => Err(error),
+    }
+}
+
+/// `refused`, the number, the name and the place.
+pub fn put_refusal(out: &mut String, refusal: Refusal) -> Result<(), AllocError> {
+    let number = refusal.number();
+    let name = refusal.name();
+    let place = refusal.place();
+    write!(out, "refused {number} {name} at {place}")
+}
+
+// A node by its keyword and its arguments in brackets, every other item by its kind and its raw bytes.
+fn put_item(out: &mut String, items: &Items<'_>, id: ItemId, depth: u8) -> Result<(), AllocError>
+    requires { HasId items.now id }
+{
+    put_raw(out, items, id)?;
+    if items.close(id).is_none() {
+        return Ok(());
+    }
+    out.push('[')?;
+    for i in 0..items.arg_count(id) {
+        if i > 0 {
+            out.push_str(", ")?;
+        }
+        if depth > 0
+            && let Some(arg) = items.arg(id, i)
+        {
+            put_item(out, items, arg, depth - 1)?;
+        }
+    }
+    out.push(']')
+}
+
+fn put_raw(out: &mut String, items: &Items<'_>, id: ItemId) -> Result<(), AllocError>
+    requires { HasId items.now id }
+{
+    let raw = items.raw(id);
+    match items.kind(id) {
+        ItemKind::Node => put_text(out, raw),
+        ItemKind::Word => {
+            out.push_str("word ")?;
+            put_text(out, raw)
+        }
+        ItemKind::Number => {
+            out.push_str("number ")?;
+            put_text(out, raw)
+        }
+        ItemKind::Text => {
+            out.push_str("text \"")?;
+            put_text(out, raw)?;
+            out.push('"')
+        }
+    }
+}
+
+fn put_each(
+    out: &mut String,
+    items: &Items<'_>,
+    id: ItemId,
+    column: Column,
+    depth: u8,
+) -> Result<(), AllocError>
+    requires { HasId items.now id }
+{
+    match column {
+        Column::Place => write!(out, " {}", items.place(id))?,
+        Column::Close => put_close(out, items.close(id))?,
+        Column::Number => put_number(out, items.number(id))?,
+    }
+    for i in 0..items.arg_count(id) {
+        if depth > 0
+            && let Some(arg) = items.arg(id, i)
+        {
+            put_each(out, items, arg, column, depth - 1)?;
+        }
+    }
+    Ok(())
+}
+
+fn put_close(out: &mut String, close: Option<usize>) -> Result<(), AllocError> {
+    match close {
+        Some(place) => write!(out, " {place}"),
+        None => out.push_str(" none"),
+    }
+}
+
+fn put_number(out: &mut String, number: Option<Decimal>) -> Result<(), AllocError> {
+    match number {
+        Some(number) => {
+            out.push(' ')?;
+            put_spelling(out, &number)
+        }
+        None => out.push_str(" none"),
+    }
+}

@@ -1,0 +1,100 @@
+-- How many arguments of some classes an allowed list has: at least the slots that are required for them, and
+-- at most the slots that take them.
+use Rattle.std.proofs.Common.{◌≡◌, ◌+◌, ◌≤◌, Bool, true, false, not, ◌&&◌, ◌||◌, List, [], ◌∷◌, ◌++◌, length, refl, sym, ◌∙◌, ap, arith, rules}
+use Rattle.std.specs.List.{list_any, list_all}
+use denote.Enum.Bare.{sameb, same_true}
+use Rattle.crs_shape.specs.contracts.class.Class.{the_type}
+use Rattle.crs_shape.specs.declared.class.Class.{Class}
+use Rattle.crs_shape.specs.Slots.{SlotParts}
+use Rattle.crs_shape.specs.Shape.{AllTaken, Fills, Fit, joined, Allowed}
+use Rattle.crs_shape.specs.Counts.{one_if, how_many, least, most, is_bounded}
+use Rattle.crs_shape.proofs.BoolLemmas.{or-none-left, or-none-right, or-other, and-left, and-right}
+
+how_many-append : (p : Class → Bool) (xs ys : List Class) → how_many p (xs ++ ys) ≡ how_many p xs + how_many p ys
+how_many-append p [] ys = omega arith
+how_many-append p (x ∷ xs) ys = omega (arith, how_many-append p xs ys)
+
+passes-all : (p : Class → Bool) (c : Class) (ds : List Class) → list_any (λ d. sameb the_type d c) ds ≡ true → list_all p ds ≡ true → p c ≡ true
+passes-all p c [] e f = cc
+passes-all p c (d ∷ ds) e f =
+    elim (sameb the_type d c) as (λ b. sameb the_type d c ≡ b → p c ≡ true) [
+      | true ↦ λ same. ap p (sym (same_true the_type (search rules) d c same)) ∙ and-left _ _ f
+      | false ↦ λ other. passes-all p c ds (or-other _ _ e other) (and-right _ _ f)
+    ] refl
+
+passes-none : (p : Class → Bool) (c : Class) (ds : List Class) → list_any (λ d. sameb the_type d c) ds ≡ true → list_any p ds ≡ false → p c ≡ false
+passes-none p c [] e f = cc
+passes-none p c (d ∷ ds) e f =
+    elim (sameb the_type d c) as (λ b. sameb the_type d c ≡ b → p c ≡ false) [
+      | true ↦ λ same. ap p (sym (same_true the_type (search rules) d c same)) ∙ or-none-left _ _ f
+      | false ↦ λ other. passes-none p c ds (or-other _ _ e other) (or-none-right _ _ f)
+    ] refl
+
+one-if : (b : Bool) → b ≡ true → one_if b ≡ 1
+one-if b e = ap one_if e
+
+none-if : (b : Bool) → b ≡ false → one_if b ≡ 0
+none-if b e = ap one_if e
+
+few-if : (b : Bool) → one_if b ≤ 1
+few-if true = omega arith
+few-if false = omega arith
+
+-- at least
+
+run-least : (p : Class → Bool) (s : SlotParts) (run : List Class) → Fills s run → s.required ≡ true → list_all p s.classes ≡ true → 1 ≤ how_many p run
+run-least p s [] f needed all = let h : 1 ≤ 0 = f.enough needed in absurd (omega (arith, h))
+run-least p s (c ∷ run) f needed all =
+    let one : one_if (p c) ≡ 1 = one-if (p c) (passes-all p c s.classes f.taken.0 all) in
+    omega (arith, one)
+
+slot-least : (p : Class → Bool) (s : SlotParts) (run : List Class) → Fills s run → one_if (s.required && list_all p s.classes) ≤ how_many p run
+slot-least p s run f =
+    elim (s.required && list_all p s.classes) as (λ b. (s.required && list_all p s.classes) ≡ b → one_if b ≤ how_many p run) [
+      | true ↦ λ e. run-least p s run f (and-left _ _ e) (and-right _ _ e)
+      | false ↦ λ e. omega arith
+    ] refl
+
+fit-least : (p : Class → Bool) (ss : List SlotParts) (runs : List (List Class)) → Fit ss runs → least p ss ≤ how_many p (joined runs)
+fit-least p [] [] fit = omega arith
+fit-least p [] (run ∷ runs) fit = absurd fit
+fit-least p (s ∷ ss) [] fit = absurd fit
+fit-least p (s ∷ ss) (run ∷ runs) fit =
+    omega (arith, how_many-append p run (joined runs), slot-least p s run fit.0, fit-least p ss runs fit.1)
+
+pub allowed-least : (p : Class → Bool) (ss : List SlotParts) (cs : List Class) → Allowed ss cs → least p ss ≤ how_many p cs
+allowed-least p ss cs (runs, (fit, e)) = omega (arith, ap (how_many p) e, fit-least p ss runs fit)
+
+-- at most
+
+run-none : (p : Class → Bool) (s : SlotParts) (run : List Class) → AllTaken s run → list_any p s.classes ≡ false → how_many p run ≡ 0
+run-none p s [] taken none = refl
+run-none p s (c ∷ run) taken none =
+    omega (arith, none-if (p c) (passes-none p c s.classes taken.0 none), run-none p s run taken.1 none)
+
+run-few : (p : Class → Bool) (run : List Class) → length run ≤ 1 → how_many p run ≤ 1
+run-few p [] few = omega arith
+run-few p (c ∷ []) few = omega (arith, few-if (p c))
+run-few p (c ∷ d ∷ run) few = absurd (omega arith)
+
+slot-most : (p : Class → Bool) (s : SlotParts) (run : List Class) → Fills s run → (not s.many || not (list_any p s.classes)) ≡ true →
+    how_many p run ≤ one_if (list_any p s.classes)
+slot-most p s run f bounded =
+    elim (list_any p s.classes) as (λ b. list_any p s.classes ≡ b → (not s.many || not b) ≡ true → how_many p run ≤ one_if b) [
+      | true ↦ λ e h. run-few p run (f.not_more (single s.many h))
+      | false ↦ λ e h. omega (arith, run-none p s run f.taken e)
+    ] refl bounded
+  where
+    single : (m : Bool) → (not m || not true) ≡ true → m ≡ false
+    single true h = cc
+    single false h = refl
+
+fit-most : (p : Class → Bool) (ss : List SlotParts) (runs : List (List Class)) → Fit ss runs → is_bounded p ss ≡ true → how_many p (joined runs) ≤ most p ss
+fit-most p [] [] fit bounded = omega arith
+fit-most p [] (run ∷ runs) fit bounded = absurd fit
+fit-most p (s ∷ ss) [] fit bounded = absurd fit
+fit-most p (s ∷ ss) (run ∷ runs) fit bounded =
+    omega (arith, how_many-append p run (joined runs), slot-most p s run fit.0 (and-left _ _ bounded), fit-most p ss runs fit.1 (and-right _ _ bounded))
+
+pub allowed-most : (p : Class → Bool) (ss : List SlotParts) (cs : List Class) → is_bounded p ss ≡ true → Allowed ss cs → how_many p cs ≤ most p ss
+allowed-most p ss cs bounded (runs, (fit, e)) = omega (arith, ap (how_many p) e, fit-most p ss runs fit bounded)

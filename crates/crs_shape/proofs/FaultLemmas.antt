@@ -1,0 +1,269 @@
+-- The fault that the walk finds first is the one that the definition names, and there is no other.
+use Rattle.std.proofs.Common.{◌≡◌, ℕ, Bool, true, false, IsTrue, IsFalse, ◌⊎◌, inl, inr, Option, Some, None, List, [], ◌∷◌, ◌++◌, if◌then◌else◌, refl, sym, ◌∙◌, ap, subst, append_assoc}
+use Rattle.crs_text.specs.Items.{Item, leaf, node, Items, End, More}
+use Rattle.crs_text.specs.Refusal.{Refused}
+use Rattle.crs_shape.specs.declared.class.Class.{Class}
+use Rattle.crs_shape.specs.Keywords.{is_keyword}
+use Rattle.crs_shape.specs.Slots.{SlotParts, slots_of}
+use Rattle.crs_shape.specs.Shape.{Fit, joined, Allowed, Begins, is_apart}
+use Rattle.crs_shape.specs.Walk.{after, may_end}
+use Rattle.crs_shape.specs.ShapeFault.{class_in, is_of, misplaced, missing, IsFree, IsOnly, Stands, ArgumentFault, Inside, Among, class_of_root, AtRoot}
+use Rattle.crs_shape.specs.FirstFault.{or_later, step_to, step_as, fault_by, fault_from, first_inside, first_among}
+use Rattle.crs_shape.proofs.SlotLemmas.{Goes, after-apart, goes-along, goes-back, allows-some, end-allowed, allowed-end}
+
+-- the fault, if there is one, is the only one
+abbrev pub IsExact : (Refused → Type 0) → Option Refused → Type 0
+IsExact Fault None = IsFree Fault
+IsExact Fault (Some fault) = IsOnly Fault fault
+
+pub append-none : (cs : List Class) → cs ++ [] ≡ cs
+append-none [] = refl
+append-none (c ∷ cs) = ap (λ r. c ∷ r) (append-none cs)
+
+-- these slots are left of a row after arguments of the classes `before`
+pub record Reached (row : List SlotParts) (before : List Class) (slots : List SlotParts) : Type 0 where
+  pub apart : is_apart slots ≡ true
+  pub there : (cs : List Class) → Allowed row (before ++ cs) → Allowed slots cs
+  pub back : (cs : List Class) → Allowed slots cs → Allowed row (before ++ cs)
+
+pub reached-start : (row : List SlotParts) → is_apart row ≡ true → Reached row [] row
+reached-start row apart = record { apart = apart; there = λ cs h. h; back = λ cs h. h }
+
+one-more : (row : List SlotParts) (before : List Class) (c : Class) (cs : List Class) → Allowed row (before ++ (c ∷ cs)) → Allowed row ((before ++ c ∷ []) ++ cs)
+one-more row before c cs h = let P : List Class → Type 0 = λ r. Allowed row r in subst P (sym (append_assoc before (c ∷ []) cs)) h
+
+one-less : (row : List SlotParts) (before : List Class) (c : Class) (cs : List Class) → Allowed row ((before ++ c ∷ []) ++ cs) → Allowed row (before ++ (c ∷ cs))
+one-less row before c cs h = let P : List Class → Type 0 = λ r. Allowed row r in subst P (append_assoc before (c ∷ []) cs) h
+
+goes : (slots : List SlotParts) → is_apart slots ≡ true → (c : Class) (cs : List Class) → Allowed slots (c ∷ cs) → Goes slots c cs
+goes slots apart c cs h = goes-along slots apart h.0 h.1.0 c cs (sym h.1.1)
+
+pub reached-more : (row : List SlotParts) (before : List Class) (slots next : List SlotParts) (c : Class) → Reached row before slots → after slots c ≡ Some next →
+    Reached row (before ++ c ∷ []) next
+reached-more row before slots next c r e = record {
+  apart = after-apart slots c next r.apart e;
+  there = λ cs h.
+      let g : Goes slots c cs = goes slots r.apart c cs (r.there (c ∷ cs) (one-less row before c cs h)) in
+      let same : g.0 ≡ next = let s : Some g.0 ≡ Some next = sym g.1.0 ∙ e in cc in
+      let P : List SlotParts → Type 0 = λ n. Allowed n cs in
+      subst P same g.1.1;
+  back = λ cs h. one-more row before c cs (r.back (c ∷ cs) (goes-back slots c next cs e h));
+}
+
+reached-begins : (row : List SlotParts) (before : List Class) (slots next : List SlotParts) (c : Class) → Reached row before slots → after slots c ≡ Some next →
+    Begins row (before ++ c ∷ [])
+reached-begins row before slots next c r e =
+    let some : (runs : List (List Class)) × Fit next runs = allows-some next (after-apart slots c next r.apart e) in
+    (joined some.0, (reached-more row before slots next c r e).back (joined some.0) (some.0, (some.1, refl)))
+
+reached-not : (row : List SlotParts) (before : List Class) (slots : List SlotParts) (c : Class) → Reached row before slots → after slots c ≡ None →
+    Begins row (before ++ c ∷ []) → ⊥
+reached-not row before slots c r e (more, h) =
+    let g : Goes slots c more = goes slots r.apart c more (r.there (c ∷ more) (one-less row before c more h)) in
+    let s : None ≡ Some g.0 = sym e ∙ g.1.0 in
+    cc
+
+-- the fault of an argument and those after it
+
+-- what is at fault in an argument of this class or after it
+abbrev OrLater : (Class → Refused → Type 0) → (List Class → Refused → Type 0) → List Class → Refused → Class → Type 0
+OrLater Within Later before fault c = Within c fault ⊎ (IsFree (Within c) × Later (before ++ c ∷ []) fault)
+
+pub same_class : (parent : Class) (before : List Class) (item : Item) (c d : Class) → class_in parent item ≡ Some c → Stands parent before item d → d ≡ c
+same_class parent before item c d e stands = let both : Some d ≡ Some c = sym stands.named ∙ e in cc
+
+exact-none : (parent : Class) (before : List Class) (item : Item) (Within : Class → Refused → Type 0) (Later : List Class → Refused → Type 0) →
+    ((c : Class) → Stands parent before item c → ⊥) → IsOnly (ArgumentFault parent before item Within Later) (misplaced item)
+exact-none parent before item Within Later none = (inl (none, refl), only)
+  where
+    only : (other : Refused) → ArgumentFault parent before item Within Later other → other ≡ misplaced item
+    only other (inl (n, e)) = e
+    only other (inr (c, (stands, rest))) = absurd (none c stands)
+
+exact-within : (parent : Class) (before : List Class) (item : Item) (Within : Class → Refused → Type 0) (Later : List Class → Refused → Type 0) (c : Class) (g : Refused) →
+    class_in parent item ≡ Some c → Stands parent before item c → IsOnly (Within c) g → IsOnly (ArgumentFault parent before item Within Later) g
+exact-within parent before item Within Later c g e stands w = (inr (c, (stands, inl w.0)), only)
+  where
+    only_rest : (other : Refused) → OrLater Within Later before other c → other ≡ g
+    only_rest other (inl x) = w.1 other x
+    only_rest other (inr (free, later)) = absurd (free g w.0)
+
+    only : (other : Refused) → ArgumentFault parent before item Within Later other → other ≡ g
+    only other (inl (none, e2)) = absurd (none c stands)
+    only other (inr (d, (stands2, rest))) =
+        only_rest other (subst (OrLater Within Later before other) (same_class parent before item c d e stands2) rest)
+
+exact-later : (parent : Class) (before : List Class) (item : Item) (Within : Class → Refused → Type 0) (Later : List Class → Refused → Type 0) (c : Class) (g : Refused) →
+    class_in parent item ≡ Some c → Stands parent before item c → IsFree (Within c) → IsOnly (Later (before ++ c ∷ [])) g →
+    IsOnly (ArgumentFault parent before item Within Later) g
+exact-later parent before item Within Later c g e stands free l = (inr (c, (stands, inr (free, l.0))), only)
+  where
+    only_rest : (other : Refused) → OrLater Within Later before other c → other ≡ g
+    only_rest other (inl x) = absurd (free other x)
+    only_rest other (inr (f, later)) = l.1 other later
+
+    only : (other : Refused) → ArgumentFault parent before item Within Later other → other ≡ g
+    only other (inl (none, e2)) = absurd (none c stands)
+    only other (inr (d, (stands2, rest))) =
+        only_rest other (subst (OrLater Within Later before other) (same_class parent before item c d e stands2) rest)
+
+exact-free : (parent : Class) (before : List Class) (item : Item) (Within : Class → Refused → Type 0) (Later : List Class → Refused → Type 0) (c : Class) →
+    class_in parent item ≡ Some c → Stands parent before item c → IsFree (Within c) → IsFree (Later (before ++ c ∷ [])) →
+    IsFree (ArgumentFault parent before item Within Later)
+exact-free parent before item Within Later c e stands free l = only
+  where
+    only_rest : (other : Refused) → OrLater Within Later before other c → ⊥
+    only_rest other (inl x) = free other x
+    only_rest other (inr (f, later)) = l other later
+
+    only : (other : Refused) → ArgumentFault parent before item Within Later other → ⊥
+    only other (inl (none, e2)) = none c stands
+    only other (inr (d, (stands2, rest))) =
+        only_rest other (subst (OrLater Within Later before other) (same_class parent before item c d e stands2) rest)
+
+exact-or_later : (parent : Class) (before : List Class) (item : Item) (Within : Class → Refused → Type 0) (Later : List Class → Refused → Type 0) (c : Class) →
+    class_in parent item ≡ Some c → Stands parent before item c → (w l : Option Refused) → IsExact (Within c) w → IsExact (Later (before ++ c ∷ [])) l →
+    IsExact (ArgumentFault parent before item Within Later) (or_later w l)
+exact-or_later parent before item Within Later c e stands (Some g) l hw hl = exact-within parent before item Within Later c g e stands hw
+exact-or_later parent before item Within Later c e stands None (Some g) hw hl = exact-later parent before item Within Later c g e stands hw hl
+exact-or_later parent before item Within Later c e stands None None hw hl = exact-free parent before item Within Later c e stands hw hl
+
+exact-argument : (parent : Class) (before : List Class) (slots : List SlotParts) (item : Item)
+    (Within : Class → Refused → Type 0) (Later : List Class → Refused → Type 0) (within : Class → Option Refused) (later : List SlotParts → Option Refused) →
+    Reached (slots_of parent) before slots → ((c : Class) → IsExact (Within c) (within c)) →
+    ((b : List Class) (next : List SlotParts) → Reached (slots_of parent) b next → IsExact (Later b) (later next)) →
+    IsExact (ArgumentFault parent before item Within Later) (fault_from parent slots item within later)
+exact-argument parent before slots item Within Later within later r hw hl =
+    elim (class_in parent item) as (λ o. class_in parent item ≡ o → IsExact (ArgumentFault parent before item Within Later) (fault_by item within later (step_as slots o))) [
+      | None ↦ λ e. exact-none parent before item Within Later (λ d stands. let both : None ≡ Some d = sym e ∙ stands.named in cc)
+      | Some c ↦ λ e.
+          elim (after slots c) as (λ o. after slots c ≡ o → IsExact (ArgumentFault parent before item Within Later) (fault_by item within later (step_to c o))) [
+            | None ↦ λ f. exact-none parent before item Within Later
+                (λ d stands.
+                let P : Class → Type 0 = λ x. Begins (slots_of parent) (before ++ x ∷ []) in
+                reached-not (slots_of parent) before slots c r f (subst P (same_class parent before item c d e stands) stands.begins))
+            | Some next ↦ λ f.
+                exact-or_later parent before item Within Later c e
+                (record { named = e; begins = reached-begins (slots_of parent) before slots next c r f })
+                (within c) (later next) (hw c) (hl (before ++ c ∷ []) next (reached-more (slots_of parent) before slots next c r f))
+          ] refl
+    ] refl
+
+end-free : (parent : Class) (close : ℕ) (before : List Class) (slots : List SlotParts) → Reached (slots_of parent) before slots → may_end slots ≡ true →
+    IsFree (Among parent close before End)
+end-free parent close before slots r e fault (refused, same) =
+    let P : List Class → Type 0 = λ x. Allowed (slots_of parent) x in
+    refused (subst P (append-none before) (r.back [] (end-allowed slots e)))
+
+end-not : (parent : Class) (before : List Class) (slots : List SlotParts) → Reached (slots_of parent) before slots → may_end slots ≡ false →
+    Allowed (slots_of parent) before → ⊥
+end-not parent before slots r e h =
+    let P : List Class → Type 0 = λ x. Allowed (slots_of parent) x in
+    let a : Allowed slots [] = r.there [] (subst P (sym (append-none before)) h) in
+    let t : may_end slots ≡ true = allowed-end slots a.0 a.1.0 a.1.1 in
+    cc
+
+end-missing : (parent : Class) (close : ℕ) (before : List Class) → (Allowed (slots_of parent) before → ⊥) → IsOnly (Among parent close before End) (missing close)
+end-missing parent close before refused = ((refused, refl), (λ other h. h.1))
+
+exact-end : (parent : Class) (close : ℕ) (before : List Class) (slots : List SlotParts) → Reached (slots_of parent) before slots →
+    IsExact (Among parent close before End) (if may_end slots then None else Some (missing close))
+exact-end parent close before slots r =
+    elim (may_end slots) as (λ b. may_end slots ≡ b → IsExact (Among parent close before End) (if b then None else Some (missing close))) [
+      | true ↦ λ e. end-free parent close before slots r e
+      | false ↦ λ e. end-missing parent close before (end-not parent before slots r e)
+    ] refl
+
+leaf-missing : (item : Item) → IsOnly (λ fault. IsFalse false × (fault ≡ misplaced item)) (misplaced item)
+leaf-missing item = ((refl, refl), (λ other h. h.1))
+
+leaf-free : (item : Item) → IsFree (λ fault. IsFalse true × (fault ≡ misplaced item))
+leaf-free item fault h = let e : true ≡ false = h.0 in cc
+
+exact-leaf : (c : Class) (item : Item) → IsExact (λ fault. IsFalse (is_of c item) × (fault ≡ misplaced item)) (if is_of c item then None else Some (misplaced item))
+exact-leaf c item =
+    elim (is_of c item) as (λ b. IsExact (λ fault. IsFalse b × (fault ≡ misplaced item)) (if b then None else Some (misplaced item))) [
+      | true ↦ leaf-free item
+      | false ↦ leaf-missing item
+    ]
+
+-- the fault of an item by its keyword, where `Arguments` are the faults of its arguments
+abbrev ByKeyword : Bool → Item → (Refused → Type 0) → Refused → Type 0
+ByKeyword b item Arguments fault = (IsFalse b × (fault ≡ misplaced item)) ⊎ (IsTrue b × Arguments fault)
+
+keyword-missing : (item : Item) (Arguments : Refused → Type 0) → IsOnly (ByKeyword false item Arguments) (misplaced item)
+keyword-missing item Arguments = (inl (refl, refl), only)
+  where
+    only : (other : Refused) → ByKeyword false item Arguments other → other ≡ misplaced item
+    only other (inl h) = h.1
+    only other (inr h) = let e : false ≡ true = h.0 in cc
+
+keyword-rest : (item : Item) (Arguments : Refused → Type 0) (found : Option Refused) → IsExact Arguments found → IsExact (ByKeyword true item Arguments) found
+keyword-rest item Arguments None h = free
+  where
+    free : (fault : Refused) → ByKeyword true item Arguments fault → ⊥
+    free fault (inl x) = let e : true ≡ false = x.0 in cc
+    free fault (inr x) = h fault x.1
+keyword-rest item Arguments (Some g) h = (inr (refl, h.0), only)
+  where
+    only : (other : Refused) → ByKeyword true item Arguments other → other ≡ g
+    only other (inl x) = let e : true ≡ false = x.0 in cc
+    only other (inr x) = h.1 other x.1
+
+by-keyword : (b : Bool) (item : Item) (Arguments : Refused → Type 0) (found : Option Refused) → IsExact Arguments found →
+    IsExact (ByKeyword b item Arguments) (if b then found else Some (misplaced item))
+by-keyword true item Arguments found h = keyword-rest item Arguments found h
+by-keyword false item Arguments found h = keyword-missing item Arguments
+
+mutual
+  unfolding first_inside first_among
+
+  pub exact_inside : ((c : Class) → is_apart (slots_of c) ≡ true) → (c : Class) (item : Item) → IsExact (Inside c item) (first_inside c item)
+  exact_inside apart c (leaf kind place raw) = exact-leaf c (leaf kind place raw)
+  exact_inside apart c (node place keyword square first others close) =
+      by-keyword (is_keyword c keyword) (node place keyword square first others close)
+      (λ fault. ArgumentFault c [] first (λ d f. Inside d first f) (λ before f. Among c close before others f) fault)
+      (fault_from c (slots_of c) first (λ d. first_inside d first) (λ next. first_among c close next others))
+      (exact-argument c [] (slots_of c) first (λ d f. Inside d first f) (λ before f. Among c close before others f)
+      (λ d. first_inside d first) (λ next. first_among c close next others) (reached-start (slots_of c) (apart c))
+      (λ d. exact_inside apart d first) (λ b next r. exact_among apart c close b next others r))
+
+  pub exact_among : ((c : Class) → is_apart (slots_of c) ≡ true) → (c : Class) (close : ℕ) (before : List Class) (slots : List SlotParts) (items : Items) →
+      Reached (slots_of c) before slots → IsExact (Among c close before items) (first_among c close slots items)
+  exact_among apart c close before slots End r = exact-end c close before slots r
+  exact_among apart c close before slots (More item items) r =
+      exact-argument c before slots item (λ d f. Inside d item f) (λ b f. Among c close b items f)
+      (λ d. first_inside d item) (λ next. first_among c close next items) r
+      (λ d. exact_inside apart d item) (λ b next q. exact_among apart c close b next items q)
+
+pub exact-ok : ((c : Class) → is_apart (slots_of c) ≡ true) → (c : Class) (item : Item) → None ≡ first_inside c item → IsFree (Inside c item)
+exact-ok apart c item e = subst (IsExact (Inside c item)) (sym e) (exact_inside apart c item)
+
+pub exact-err : ((c : Class) → is_apart (slots_of c) ≡ true) → (c : Class) (item : Item) (fault : Refused) → Some fault ≡ first_inside c item → IsOnly (Inside c item) fault
+exact-err apart c item fault e = subst (IsExact (Inside c item)) (sym e) (exact_inside apart c item)
+
+-- at the root
+
+pub root-not : (item : Item) → class_of_root item ≡ None → IsOnly (AtRoot item) (misplaced item)
+root-not item e = (inl (e, refl), only)
+  where
+    only : (other : Refused) → AtRoot item other → other ≡ misplaced item
+    only other (inl h) = h.1
+    only other (inr (c, h)) = let both : None ≡ Some c = sym e ∙ h.0 in cc
+
+root-same : (item : Item) (c d : Class) → class_of_root item ≡ Some c → class_of_root item ≡ Some d → d ≡ c
+root-same item c d e f = let both : Some d ≡ Some c = sym f ∙ e in cc
+
+pub root-err : (item : Item) (c : Class) (g : Refused) → class_of_root item ≡ Some c → IsOnly (Inside c item) g → IsOnly (AtRoot item) g
+root-err item c g e h = (inr (c, (e, h.0)), only)
+  where
+    only : (other : Refused) → AtRoot item other → other ≡ g
+    only other (inl x) = let both : Some c ≡ None = sym e ∙ x.0 in cc
+    only other (inr (d, x)) = let P : Class → Type 0 = λ y. Inside y item other in h.1 other (subst P (root-same item c d e x.0) x.1)
+
+pub root-ok : (item : Item) (c : Class) → class_of_root item ≡ Some c → IsFree (Inside c item) → IsFree (AtRoot item)
+root-ok item c e h = free
+  where
+    free : (other : Refused) → AtRoot item other → ⊥
+    free other (inl x) = let both : Some c ≡ None = sym e ∙ x.0 in cc
+    free other (inr (d, x)) = let P : Class → Type 0 = λ y. Inside y item other in h other (subst P (root-same item c d e x.0) x.1)

@@ -1,0 +1,130 @@
+-- The fault of an item, as the loop over its arguments finds it.
+use Rattle.std.proofs.Common.{◌≡◌, ◌≢◌, ℕ, ◌+◌, ◌<◌, Bool, true, false, Option, Some, None, List, refl, sym, ◌∙◌, ap, subst, arith}
+use Rattle.crs_text.specs.Items.{Item, leaf, node, Items, End, More, arguments, first_of, rest_of, close_of, size_of, sizes, here, HasId, IsAt}
+use Rattle.crs_text.specs.Refusal.{Refused}
+use Rattle.crs_shape.specs.declared.class.Class.{Class}
+use Rattle.crs_shape.specs.Slots.{SlotParts, slots_of}
+use Rattle.crs_shape.specs.Walk.{may_end}
+use Rattle.crs_shape.specs.ShapeFault.{is_of, misplaced, missing}
+use Rattle.crs_shape.specs.FirstFault.{or_later, step_of, fault_by, fault_from, first_inside, first_among}
+
+-- the items from one on, where there is one
+abbrev pub from : Item → Option ℕ → Items
+from tree None = End
+from tree (Some id) = here tree id
+
+abbrev pub HasNext : Item → Option ℕ → Type 0
+HasNext tree None = Unit {0}
+HasNext tree (Some id) = HasId tree id
+
+-- what the loop keeps: the fault from the next argument on is that of the item
+pub record Going (tree : Item) (class : Class) (item : Item) (close : ℕ) (slots : List SlotParts) (next : Option ℕ) : Type 0 where
+  pub same : first_among class close slots (from tree next) ≡ first_inside class item
+  pub has : HasNext tree next
+  pub less : sizes (from tree next) < size_of item
+
+from_at : (tree : Item) (items : Items) (next : Option ℕ) → IsAt tree items next → from tree next ≡ items
+from_at tree items None e = sym e
+from_at tree items (Some id) h = h.0
+
+has_at : (tree : Item) (items : Items) (next : Option ℕ) → IsAt tree items next → HasNext tree next
+has_at tree items None e = tt
+has_at tree items (Some id) h = h.1
+
+size-above : (item : Item) → 0 < size_of item
+size-above (leaf kind place raw) = omega arith
+size-above (node place keyword square first others close) = omega arith
+
+arguments-less : (item : Item) → sizes (arguments item) < size_of item
+arguments-less (leaf kind place raw) = omega arith
+arguments-less (node place keyword square first others close) = omega arith
+
+pub not_of : (c : Class) (item : Item) → is_of c item ≡ false → Some (misplaced item) ≡ first_inside c item
+unfolding first_inside
+not_of c (leaf kind place raw) e = rw e refl
+not_of c (node place keyword square first others close) e = rw e refl
+
+pub no_arguments : (c : Class) (item : Item) → is_of c item ≡ true → close_of item ≡ None → None ≡ first_inside c item
+unfolding first_inside
+no_arguments c (leaf kind place raw) e f = rw e refl
+no_arguments c (node place keyword square first others close) e f = cc
+
+of_arguments : (c : Class) (item : Item) (close : ℕ) → is_of c item ≡ true → close_of item ≡ Some close →
+    first_among c close (slots_of c) (arguments item) ≡ first_inside c item
+unfolding first_inside first_among
+of_arguments c (leaf kind place raw) close e f = cc
+of_arguments c (node place keyword square first others end) close e f =
+    let same : end ≡ close = cc in
+    rw (e, same) refl
+
+pub going_first : (tree : Item) (c : Class) (item : Item) (close : ℕ) (next : Option ℕ) → is_of c item ≡ true → close_of item ≡ Some close →
+    IsAt tree (arguments item) next → Going tree c item close (slots_of c) next
+going_first tree c item close next e f at = record {
+  same = ap (first_among c close (slots_of c)) (from_at tree (arguments item) next at) ∙ of_arguments c item close e f;
+  has = has_at tree (arguments item) next at;
+  less = let same : sizes (from tree next) ≡ sizes (arguments item) = ap sizes (from_at tree (arguments item) next at) in omega (arith, arguments-less item);
+}
+
+by_items : (c : Class) (close : ℕ) (slots : List SlotParts) (items : Items) → items ≢ End →
+    first_among c close slots items ≡ fault_from c slots (first_of items) (λ d. first_inside d (first_of items)) (λ next. first_among c close next (rest_of items))
+unfolding first_inside first_among
+by_items c close slots End some = absurd (some refl)
+by_items c close slots (More item items) some = refl
+
+sizes-first : (items : Items) → items ≢ End → sizes items ≡ size_of (first_of items) + sizes (rest_of items)
+sizes-first End some = absurd (some refl)
+sizes-first (More item items) some = refl
+
+pub argument-less : (tree : Item) (id : ℕ) (n : ℕ) → HasId tree id → sizes (here tree id) < n → size_of (first_of (here tree id)) < n
+argument-less tree id n has less = omega (arith, sizes-first (here tree id) has)
+
+pub rest-less : (tree : Item) (id : ℕ) (next : Option ℕ) → HasId tree id → IsAt tree (rest_of (here tree id)) next → sizes (from tree next) < sizes (here tree id)
+rest-less tree id next has at =
+    let same : sizes (from tree next) ≡ sizes (rest_of (here tree id)) = ap sizes (from_at tree (rest_of (here tree id)) next at) in
+    omega (arith, sizes-first (here tree id) has, size-above (first_of (here tree id)))
+
+-- an argument that may not stand there
+pub going_wrong : (tree : Item) (c : Class) (item : Item) (close : ℕ) (slots : List SlotParts) (id : ℕ) → Going tree c item close slots (Some id) →
+    None ≡ step_of c slots (first_of (here tree id)) → Some (misplaced (first_of (here tree id))) ≡ first_inside c item
+going_wrong tree c item close slots id going e =
+    ap (fault_by (first_of (here tree id)) (λ d. first_inside d (first_of (here tree id))) (λ next. first_among c close next (rest_of (here tree id)))) e
+    ∙ sym (by_items c close slots (here tree id) going.has) ∙ going.same
+
+-- an argument with a fault inside, or with none
+pub going_by : (tree : Item) (c : Class) (item : Item) (close : ℕ) (slots left : List SlotParts) (named : Class) (id : ℕ) → Going tree c item close slots (Some id) →
+    Some (named, left) ≡ step_of c slots (first_of (here tree id)) →
+    or_later (first_inside named (first_of (here tree id))) (first_among c close left (rest_of (here tree id))) ≡ first_inside c item
+going_by tree c item close slots left named id going e =
+    ap (fault_by (first_of (here tree id)) (λ d. first_inside d (first_of (here tree id))) (λ next. first_among c close next (rest_of (here tree id)))) e
+    ∙ sym (by_items c close slots (here tree id) going.has) ∙ going.same
+
+pub going_inside : (tree : Item) (c : Class) (item : Item) (close : ℕ) (slots left : List SlotParts) (named : Class) (id : ℕ) (g : Refused) →
+    Going tree c item close slots (Some id) → Some (named, left) ≡ step_of c slots (first_of (here tree id)) →
+    Some g ≡ first_inside named (first_of (here tree id)) → Some g ≡ first_inside c item
+going_inside tree c item close slots left named id g going e is =
+    ap (λ o. or_later o (first_among c close left (rest_of (here tree id)))) is ∙ going_by tree c item close slots left named id going e
+
+pub going_on : (tree : Item) (c : Class) (item : Item) (close : ℕ) (slots left : List SlotParts) (named : Class) (id : ℕ) (next : Option ℕ) →
+    Going tree c item close slots (Some id) → Some (named, left) ≡ step_of c slots (first_of (here tree id)) →
+    None ≡ first_inside named (first_of (here tree id)) → IsAt tree (rest_of (here tree id)) next → Going tree c item close left next
+going_on tree c item close slots left named id next going e is at = record {
+  same =
+      ap (first_among c close left) (from_at tree (rest_of (here tree id)) next at)
+      ∙ ap (λ o. or_later o (first_among c close left (rest_of (here tree id)))) is ∙ going_by tree c item close slots left named id going e;
+  has = has_at tree (rest_of (here tree id)) next at;
+  less = omega (arith, rest-less tree id next going.has at, going.less);
+}
+
+pub going_end : (tree : Item) (c : Class) (item : Item) (close : ℕ) (slots : List SlotParts) (b : Bool) → Going tree c item close slots None → b ≡ may_end slots → b ≡ true →
+    None ≡ first_inside c item
+unfolding first_among
+going_end tree c item close slots b going e t = rw (sym e ∙ t) at going.same
+
+pub going_short : (tree : Item) (c : Class) (item : Item) (close : ℕ) (slots : List SlotParts) (b : Bool) → Going tree c item close slots None → b ≡ may_end slots → b ≡ false →
+    Some (missing close) ≡ first_inside c item
+unfolding first_among
+going_short tree c item close slots b going e t = rw (sym e ∙ t) at going.same
+
+pub going_at : (tree : Item) (c : Class) (item : Item) (close : ℕ) (slots : List SlotParts) (next other : Option ℕ) → Going tree c item close slots next → next ≡ other →
+    Going tree c item close slots other
+going_at tree c item close slots next other going e = subst (Going tree c item close slots) e going

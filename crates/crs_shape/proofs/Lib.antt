@@ -1,0 +1,10 @@
+pub mod BoolLemmas
+pub mod CountLemmas
+pub mod FaultLemmas
+pub mod FitLemmas
+pub mod KeywordLemmas
+pub mod ListLemmas
+pub mod ShapedLemmas
+pub mod SlotLemmas
+pub mod TableLemmas
+pub mod WalkLemmas

@@ -1,0 +1,5 @@
+use Rattle.crs_shape.proofs.ShapedLemmas.{free-shaped, shaped-free}
+use Rattle.crs_shape.proofs.laws.no_fault_is_shape.Goals as goal
+
+pub returns : goal.returns
+returns c = λ class item. (free-shaped class item, shaped-free class item)

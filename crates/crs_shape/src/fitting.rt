@@ -1,0 +1,221 @@
+//! Whether items have the shape of a class.
+ghost use Rattle.std.specs.Prelude.{◌≡◌, ◌+◌, ◌^◌, ◌<◌, ◌&&◌, not, true, false, IsTrue, IsFalse, MatchResult, option_map};
+ghost use Rattle.crs_text.specs.Items.{first_of, here, HasId};
+ghost use Rattle.crs_text.specs.Refusal.{is_refusal};
+ghost use Rattle.crs_shape.specs.FirstFault.{step_of, first_inside};
+ghost use Rattle.crs_shape.specs.ShapeFault.{class_in, is_of, misplaced, missing, IsFree, IsOnly, Inside, AtRoot, class_of_root};
+ghost use Rattle.crs_shape.specs.Slots.{shown, takes};
+ghost use Rattle.crs_shape.specs.Walk.{after, may_end, left_of};
+
+use crate::class::Class;
+use crate::keyword::{has_keyword, known, root_class};
+use crate::slot::Slot;
+use crate::table::{class_of, slots};
+use crs_text::{ItemId, ItemKind, Items, Refusal};
+
+/// Whether an item has the shape of a class. Takes no memory; the time is linear in the item.
+///
+/// The error is the first fault in text order: 11 or 12 at the first byte of an item that may not stand
+/// where it does, 11 if it is a node whose keyword is unknown; 13 at the closing delimiter of a node
+/// whose arguments aren't complete. Profile.
+pub fn fit(items: &Items<'_>, id: ItemId, class: Class) -> Result<(), Refusal>
+    requires { HasId items.now id }
+    ensures { MatchResult
+        result
+        (λ _. IsFree (Inside class (first_of (here items.now id))))
+        (λ refusal. IsOnly (Inside class (first_of (here items.now id))) refusal) }
+{
+    match first_fault(items, id, class) {
+        None => Ok(()),
+        Some(refusal) => Err(refusal),
+    }
+}
+
+/// The class of a whole text whose items have its shape, one of the five classes of CRS.
+///
+/// The error is the first fault as in `fit`, and 11 or 12 at the root if it has no such class. Profile.
+pub fn fit_root(items: &Items<'_>) -> Result<Class, Refusal>
+    ensures { MatchResult
+        result
+        (λ class. (class_of_root items.now ≡ Some class) × IsFree (AtRoot items.now))
+        (λ refusal. IsOnly (AtRoot items.now) refusal) }
+{
+    let root = items.root();
+    match class_at_root(items, root) {
+        None => Err(misplaced(items, root)),
+        Some(class) => match fit(items, root, class) {
+            Ok(()) => Ok(class),
+            Err(refusal) => Err(refusal),
+        },
+    }
+}
+
+fn class_at_root(items: &Items<'_>, id: ItemId) -> Option<Class>
+    requires { HasId items.now id }
+    ensures { result ≡ class_of_root (first_of (here items.now id)) }
+{
+    match items.kind(id) {
+        ItemKind::Number | ItemKind::Text | ItemKind::Word => None,
+        ItemKind::Node => root_class(items.raw(id)),
+    }
+}
+
+// The fault of an item that is asked to be of this class.
+fn first_fault(items: &Items<'_>, id: ItemId, class: Class) -> Option<Refusal>
+    requires { HasId items.now id }
+    ensures { result ≡ first_inside class (first_of (here items.now id)) }
+{
+    if !is_of(items, id, class) {
+        return Some(misplaced(items, id));
+    }
+    let close = items.close(id)?;
+    let row = slots(class);
+    let mut walk = Walk {
+        at: 0,
+        filled: false,
+    };
+    let mut next = items.arg(id, 0);
+    while let Some(argument) = next {
+        let Some((named, stepped)) = step(items, argument, class, row, walk) else {
+            return Some(misplaced(items, argument));
+        };
+        if let Some(fault) = first_fault(items, argument, named) {
+            return Some(fault);
+        }
+        walk = stepped;
+        next = items.next(argument);
+    }
+    if walk.may_end(row) {
+        None
+    } else {
+        Some(refusal(13, close))
+    }
+}
+
+// The class of an argument in its parent and the walk after it; None where it may not stand there.
+fn step(
+    items: &Items<'_>,
+    argument: ItemId,
+    parent: Class,
+    row: &[Slot],
+    walk: Walk,
+) -> Option<(Class, Walk)>
+    requires { HasId items.now argument }
+    ensures { option_map (λ s. (s.0, left_of row.now s.1)) result
+        ≡ step_of parent (left_of row.now walk) (first_of (here items.now argument)) }
+{
+    let class = class_in(items, argument, parent)?;
+    let stepped = walk.after(row, class)?;
+    Some((class, stepped))
+}
+
+fn class_in(items: &Items<'_>, id: ItemId, parent: Class) -> Option<Class>
+    requires { HasId items.now id }
+    ensures { result ≡ class_in parent (first_of (here items.now id)) }
+{
+    match items.kind(id) {
+        ItemKind::Number => Some(Class::Number),
+        ItemKind::Text => Some(Class::Text),
+        ItemKind::Word => Some(Class::Word),
+        ItemKind::Node => class_of(parent, items.raw(id)),
+    }
+}
+
+fn is_of(items: &Items<'_>, id: ItemId, class: Class) -> bool
+    requires { HasId items.now id }
+    ensures { result ≡ is_of class (first_of (here items.now id)) }
+{
+    match items.kind(id) {
+        ItemKind::Number => Class::Number == class,
+        ItemKind::Text => Class::Text == class,
+        ItemKind::Word => Class::Word == class,
+        ItemKind::Node => has_keyword(class, items.raw(id)),
+    }
+}
+
+fn misplaced(items: &Items<'_>, id: ItemId) -> Refusal
+    requires { HasId items.now id }
+    ensures { result ≡ misplaced (first_of (here items.now id)) }
+{
+    let number = match items.kind(id) {
+        ItemKind::Number | ItemKind::Text | ItemKind::Word => 12,
+        ItemKind::Node => if known(items.raw(id)) { 12 } else { 11 },
+    };
+    refusal(number, items.place(id))
+}
+
+fn refusal(number: u8, place: usize) -> Refusal
+    requires { IsTrue (is_refusal number) }
+    ensures { result ≡ record { number = number; place = place } }
+{
+    Refusal::new(number, place).unwrap()
+}
+
+// Where a walk over a row of slots stands: before slot number `at`, which has an argument already if `filled`.
+#[derive(Clone, Copy, Debug)]
+struct Walk {
+    at: usize,
+    filled: bool,
+}
+
+impl Walk {
+    // The walk after one more argument, of this class; None where it may not stand there.
+    fn after(self, row: &[Slot], class: Class) -> Option<Walk>
+        ensures { option_map (λ w. left_of row.now w) result ≡ after (left_of row.now self) class }
+    {
+        let mut filled = self.filled;
+        for at in self.at..row.len() {
+            let slot = &row[at];
+            if takes(slot, class) {
+                return Some(filled_by_one(slot, at));
+            }
+            if waits(slot, filled) {
+                return None;
+            }
+            filled = false;
+        }
+        None
+    }
+
+    // Whether the arguments may end here.
+    fn may_end(self, row: &[Slot]) -> bool
+        ensures { result ≡ may_end (left_of row.now self) }
+    {
+        let mut filled = self.filled;
+        for at in self.at..row.len() {
+            if waits(&row[at], filled) {
+                return false;
+            }
+            filled = false;
+        }
+        true
+    }
+}
+
+fn takes(slot: &Slot, class: Class) -> bool
+    ensures { result ≡ takes (shown slot.now) class }
+{
+    slot.classes.contains(&class)
+}
+
+fn waits(slot: &Slot, filled: bool) -> bool
+    ensures { result ≡ (slot.now.required && not filled) }
+{
+    slot.required && !filled
+}
+
+// The walk after an argument in this slot.
+fn filled_by_one(slot: &Slot, at: usize) -> Walk
+    requires { at + 1 < 2 ^ 64 }
+    ensures many { IsTrue slot.now.many → result ≡ record { at = at; filled = true } }
+    ensures few { IsFalse slot.now.many → result ≡ record { at = at + 1; filled = false } }
+{
+    if slot.many {
+        Walk { at, filled: true }
+    } else {
+        Walk {
+            at: at + 1,
+            filled: false,
+        }
+    }
+}

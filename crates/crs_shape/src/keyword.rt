@@ -1,0 +1,174 @@
+//! Keywords.
+ghost use Rattle.std.specs.Prelude.{◌≡◌, map};
+ghost use Rattle.std.specs.List.{list_any};
+ghost use Rattle.std.specs.Str.{str_eq_ignore_ascii_case};
+ghost use Rattle.crs_shape.specs.Keywords.{keywords_of, is_keyword, first_named, is_known, root_named};
+
+use crate::class::Class;
+
+/// The keywords of a class, none for an item that isn't a node. The first is the one that is written;
+/// but a unit on an axis is written by its kind.
+pub fn keywords(class: Class) -> &'static [&'static [u8]]
+    ensures { map (λ k. k.now) result.now ≡ keywords_of class }
+{
+    match class {
+        Class::Number | Class::Text | Class::Word => &[],
+        // Geodetic and geographic CRS
+        Class::GeodeticCrs => &[b"GEODCRS", b"GEODETICCRS"],
+        Class::GeographicCrs => &[b"GEOGCRS", b"GEOGRAPHICCRS"],
+        // Projected CRS
+        Class::ProjectedCrs => &[b"PROJCRS", b"PROJECTEDCRS"],
+        Class::BaseCrs => &[b"BASEGEOGCRS", b"BASEGEODCRS"],
+        // Vertical CRS
+        Class::VerticalCrs => &[b"VERTCRS", b"VERTICALCRS"],
+        Class::GeoidModel => &[b"GEOIDMODEL"],
+        // Compound CRS
+        Class::CompoundCrs => &[b"COMPOUNDCRS"],
+        // Datum
+        Class::GeodeticFrame => &[b"DATUM", b"TRF", b"GEODETICDATUM"],
+        Class::VerticalFrame => &[b"VDATUM", b"VRF", b"VERTICALDATUM"],
+        Class::Anchor => &[b"ANCHOR"],
+        // Datum ensemble
+        Class::GeodeticEnsemble => &[b"ENSEMBLE"],
+        Class::VerticalEnsemble => &[b"ENSEMBLE"],
+        Class::Member => &[b"MEMBER"],
+        Class::EnsembleAccuracy => &[b"ENSEMBLEACCURACY"],
+        // Ellipsoid
+        Class::Ellipsoid => &[b"ELLIPSOID", b"SPHEROID"],
+        // Prime meridian
+        Class::PrimeMeridian => &[b"PRIMEM", b"PRIMEMERIDIAN"],
+        // Units
+        Class::LengthUnit => &[b"LENGTHUNIT", b"UNIT"],
+        Class::AngleUnit => &[b"ANGLEUNIT", b"UNIT"],
+        Class::ScaleUnit => &[b"SCALEUNIT"],
+        Class::PlainUnit => &[b"UNIT"],
+        Class::AxisUnit => &[b"LENGTHUNIT", b"ANGLEUNIT", b"UNIT"],
+        // Coordinate system
+        Class::CoordinateSystem => &[b"CS"],
+        Class::Axis => &[b"AXIS"],
+        Class::Meridian => &[b"MERIDIAN"],
+        Class::Order => &[b"ORDER"],
+        // Map projection
+        Class::Conversion => &[b"CONVERSION"],
+        Class::Method => &[b"METHOD", b"PROJECTION"],
+        Class::Parameter => &[b"PARAMETER"],
+        // Usage
+        Class::Usage => &[b"USAGE"],
+        Class::Scope => &[b"SCOPE"],
+        Class::Area => &[b"AREA"],
+        Class::BoundingBox => &[b"BBOX"],
+        Class::VerticalExtent => &[b"VERTICALEXTENT"],
+        // Identifier
+        Class::Identifier => &[b"ID"],
+        Class::Citation => &[b"CITATION"],
+        Class::Uri => &[b"URI"],
+        // Remark
+        Class::Remark => &[b"REMARK"],
+    }
+}
+
+const EVERY_CLASS: [Class; 40] = [
+    Class::Number,
+    Class::Text,
+    Class::Word,
+    Class::GeodeticCrs,
+    Class::GeographicCrs,
+    Class::ProjectedCrs,
+    Class::VerticalCrs,
+    Class::CompoundCrs,
+    Class::BaseCrs,
+    Class::GeodeticFrame,
+    Class::VerticalFrame,
+    Class::GeodeticEnsemble,
+    Class::VerticalEnsemble,
+    Class::Member,
+    Class::EnsembleAccuracy,
+    Class::Anchor,
+    Class::Ellipsoid,
+    Class::PrimeMeridian,
+    Class::LengthUnit,
+    Class::AngleUnit,
+    Class::ScaleUnit,
+    Class::PlainUnit,
+    Class::AxisUnit,
+    Class::CoordinateSystem,
+    Class::Axis,
+    Class::Meridian,
+    Class::Order,
+    Class::Conversion,
+    Class::Method,
+    Class::Parameter,
+    Class::GeoidModel,
+    Class::Usage,
+    Class::Scope,
+    Class::Area,
+    Class::BoundingBox,
+    Class::VerticalExtent,
+    Class::Identifier,
+    Class::Citation,
+    Class::Uri,
+    Class::Remark,
+];
+
+const ROOT_CLASSES: [Class; 5] = [
+    Class::GeodeticCrs,
+    Class::GeographicCrs,
+    Class::ProjectedCrs,
+    Class::VerticalCrs,
+    Class::CompoundCrs,
+];
+
+/// The class that this keyword names at the head of a text; None where it is no CRS's keyword.
+/// Profile.
+#[tactic(auto, unfolding(crate::specs::Keywords::root_named))]
+pub fn root_class(keyword: &[u8]) -> Option<Class>
+    ensures { result ≡ root_named keyword.now }
+{
+    first_class(&ROOT_CLASSES, keyword)
+}
+
+/// Whether this word is a keyword of any class. Profile.
+pub fn known(keyword: &[u8]) -> bool
+    ensures { result ≡ is_known keyword.now }
+{
+    match first_class(&EVERY_CLASS, keyword) {
+        Some(_) => true,
+        None => false,
+    }
+}
+
+// The first of these classes that has this keyword.
+pub(crate) fn first_class(classes: &[Class], keyword: &[u8]) -> Option<Class>
+    ensures { result ≡ first_named classes.now keyword.now }
+{
+    for class in classes {
+        if has_keyword(*class, keyword) {
+            return Some(*class);
+        }
+    }
+    None
+}
+
+#[tactic(auto, unfolding(crate::specs::Keywords::is_keyword))]
+pub(crate) fn has_keyword(class: Class, word: &[u8]) -> bool
+    ensures { result ≡ is_keyword class word.now }
+{
+    is_among(keywords(class), word)
+}
+
+fn is_among(keywords: &[&[u8]], word: &[u8]) -> bool
+    ensures { result ≡ list_any (λ k. str_eq_ignore_ascii_case k.now word.now) keywords.now }
+{
+    for keyword in keywords {
+        if same_word(keyword, word) {
+            return true;
+        }
+    }
+    false
+}
+
+fn same_word(keyword: &[u8], word: &[u8]) -> bool
+    ensures { result ≡ str_eq_ignore_ascii_case keyword.now word.now }
+{
+    keyword.eq_ignore_ascii_case(word)
+}

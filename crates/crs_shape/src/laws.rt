@@ -1,0 +1,36 @@
+//! The laws of shapes.
+ghost use Rattle.std.specs.Prelude.{◌≡◌, ◌≤◌, ◌↔◌, Bool, IsTrue, List};
+ghost use Rattle.crs_text.specs.Items.{Item};
+ghost use Rattle.crs_shape.specs.declared.class.Class.{Class};
+ghost use Rattle.crs_shape.specs.Counts.{how_many, least, most, is_bounded};
+ghost use Rattle.crs_shape.specs.Shape.{Allowed, Fit, joined, is_apart};
+ghost use Rattle.crs_shape.specs.ShapeFault.{IsFree, Inside};
+ghost use Rattle.crs_shape.specs.Shaped.{Shaped};
+ghost use Rattle.crs_shape.specs.Slots.{SlotParts, slots_of};
+
+/// In every row of the tables each slot has a class, and no class of an optional or repeated slot
+/// stands in a later slot that can be reached over optional slots alone.
+pub fn tables_are_apart()
+    ensures { (class : Class) → IsTrue (is_apart (slots_of class)) }
+{}
+
+/// A list of classes fits slots that are apart in at most one way.
+pub fn fits_one_way()
+    ensures { (slots : List SlotParts) → IsTrue (is_apart slots) → (a b : List (List Class)) →
+        Fit slots a → Fit slots b → joined a ≡ joined b → a ≡ b }
+{}
+
+/// An item has no fault of shape exactly where it is of its class and its arguments are an allowed
+/// list, each without a fault.
+pub fn no_fault_is_shape()
+    ensures { (class : Class) (item : Item) → IsFree (Inside class item) ↔ Shaped class item }
+{}
+
+/// An allowed list has at least as many arguments of some classes as there are slots that are required
+/// for them alone, and, where no such slot takes many, at most as many as there are slots that take them.
+pub fn slots_count()
+    ensures least { (test : Class → Bool) (slots : List SlotParts) (classes : List Class) →
+        Allowed slots classes → least test slots ≤ how_many test classes }
+    ensures most { (test : Class → Bool) (slots : List SlotParts) (classes : List Class) →
+        IsTrue (is_bounded test slots) → Allowed slots classes → how_many test classes ≤ most test slots }
+{}

@@ -1,0 +1,205 @@
+//! The slots of each class.
+ghost use Rattle.std.specs.Prelude.{◌≡◌, map};
+ghost use Rattle.crs_shape.specs.Slots.{shown, slots_of, named_in, class_named};
+
+use crate::class::Class;
+use crate::keyword::first_class;
+use crate::slot::Slot;
+
+// exactly one argument, of one of these classes
+macro_rules! one {
+    ($($class:ident),*) => { Slot { classes: &[$(Class::$class),*], required: true, many: false } };
+}
+
+// none or one
+macro_rules! optional {
+    ($($class:ident),*) => { Slot { classes: &[$(Class::$class),*], required: false, many: false } };
+}
+
+// any number, none included, in any order
+macro_rules! any {
+    ($($class:ident),*) => { Slot { classes: &[$(Class::$class),*], required: false, many: true } };
+}
+
+// one or more
+macro_rules! some {
+    ($($class:ident),*) => { Slot { classes: &[$(Class::$class),*], required: true, many: true } };
+}
+
+// what may stand at a CRS's end
+const TAIL: Slot = any!(
+    Usage,
+    Scope,
+    Area,
+    BoundingBox,
+    VerticalExtent,
+    Identifier,
+    Remark
+);
+
+const VERTICAL_TAIL: Slot = any!(
+    GeoidModel,
+    Usage,
+    Scope,
+    Area,
+    BoundingBox,
+    VerticalExtent,
+    Identifier,
+    Remark
+);
+
+/// The slots of a class, in order; none for an item that isn't a node.
+/// ISO 19162:2019, the part of the standard that stands above each row; tails and anchors in any
+/// order are the profile's.
+pub fn slots(class: Class) -> &'static [Slot]
+    ensures { map shown result.now ≡ slots_of class }
+{
+    match class {
+        // Geodetic and geographic CRS
+        Class::GeodeticCrs | Class::GeographicCrs => &[
+            one!(Text),
+            one!(GeodeticFrame, GeodeticEnsemble),
+            optional!(PrimeMeridian),
+            one!(CoordinateSystem),
+            some!(Axis),
+            optional!(AxisUnit),
+            TAIL,
+        ],
+        // Projected CRS
+        Class::ProjectedCrs => &[
+            one!(Text),
+            one!(BaseCrs),
+            one!(Conversion),
+            one!(CoordinateSystem),
+            some!(Axis),
+            optional!(AxisUnit),
+            TAIL,
+        ],
+        Class::BaseCrs => &[
+            one!(Text),
+            one!(GeodeticFrame, GeodeticEnsemble),
+            optional!(PrimeMeridian),
+            optional!(AngleUnit),
+            any!(Identifier),
+        ],
+        // Vertical CRS
+        Class::VerticalCrs => &[
+            one!(Text),
+            one!(VerticalFrame, VerticalEnsemble),
+            one!(CoordinateSystem),
+            some!(Axis),
+            optional!(AxisUnit),
+            VERTICAL_TAIL,
+        ],
+        // Compound CRS
+        Class::CompoundCrs => &[
+            one!(Text),
+            one!(GeodeticCrs, GeographicCrs, ProjectedCrs),
+            one!(VerticalCrs),
+            TAIL,
+        ],
+        // Datum
+        Class::GeodeticFrame => &[one!(Text), one!(Ellipsoid), any!(Anchor), any!(Identifier)],
+        Class::VerticalFrame => &[one!(Text), any!(Anchor), any!(Identifier)],
+        // Datum ensemble
+        Class::GeodeticEnsemble => &[
+            one!(Text),
+            some!(Member),
+            one!(Ellipsoid),
+            one!(EnsembleAccuracy),
+            any!(Identifier),
+        ],
+        Class::VerticalEnsemble => &[
+            one!(Text),
+            some!(Member),
+            one!(EnsembleAccuracy),
+            any!(Identifier),
+        ],
+        // Ellipsoid: name, semi-major axis, inverse flattening
+        Class::Ellipsoid => &[
+            one!(Text),
+            one!(Number),
+            one!(Number),
+            optional!(LengthUnit),
+            any!(Identifier),
+        ],
+        // Prime meridian: name, longitude
+        Class::PrimeMeridian => &[
+            one!(Text),
+            one!(Number),
+            optional!(AngleUnit),
+            any!(Identifier),
+        ],
+        // Units: name, factor
+        Class::LengthUnit
+        | Class::AngleUnit
+        | Class::ScaleUnit
+        | Class::PlainUnit
+        | Class::AxisUnit => &[one!(Text), one!(Number), any!(Identifier)],
+        // Coordinate system: type, dimension
+        Class::CoordinateSystem => &[one!(Word), one!(Number), any!(Identifier)],
+        // Axis: name, direction
+        Class::Axis => &[
+            one!(Text),
+            one!(Word),
+            optional!(Meridian),
+            optional!(Order),
+            optional!(AxisUnit),
+            any!(Identifier),
+        ],
+        Class::Meridian => &[one!(Number), one!(AngleUnit)],
+        // Map projection
+        Class::Conversion => &[one!(Text), one!(Method), any!(Parameter), any!(Identifier)],
+        Class::Parameter => &[
+            one!(Text),
+            one!(Number),
+            optional!(PlainUnit, LengthUnit, AngleUnit, ScaleUnit),
+            any!(Identifier),
+        ],
+        // a name and identifiers
+        Class::Method | Class::Member | Class::GeoidModel => &[one!(Text), any!(Identifier)],
+        // Usage; a node has at least one argument
+        Class::Usage => &[
+            optional!(Scope),
+            optional!(Area),
+            optional!(BoundingBox),
+            optional!(VerticalExtent),
+        ],
+        Class::BoundingBox => &[one!(Number), one!(Number), one!(Number), one!(Number)],
+        Class::VerticalExtent => &[one!(Number), one!(Number), optional!(LengthUnit)],
+        // Identifier: authority, code, version
+        Class::Identifier => &[
+            one!(Text),
+            one!(Number, Text),
+            optional!(Number, Text),
+            optional!(Citation),
+            optional!(Uri),
+        ],
+        // one number or one text
+        Class::Order | Class::EnsembleAccuracy => &[one!(Number)],
+        Class::Anchor | Class::Scope | Class::Area | Class::Remark | Class::Citation | Class::Uri =>
+            &[one!(Text)],
+        // items that aren't nodes
+        Class::Number | Class::Text | Class::Word => &[],
+    }
+}
+
+/// The class that this keyword names in a parent of this class; None where it names none. Profile.
+#[tactic(auto, unfolding(crate::specs::Slots::class_named))]
+pub fn class_of(parent: Class, keyword: &[u8]) -> Option<Class>
+    ensures { result ≡ class_named parent keyword.now }
+{
+    class_among(slots(parent), keyword)
+}
+
+fn class_among(slots: &[Slot], keyword: &[u8]) -> Option<Class>
+    ensures { result ≡ named_in (map shown slots.now) keyword.now }
+{
+    for slot in slots {
+        let class = first_class(slot.classes, keyword);
+        if class.is_some() {
+            return class;
+        }
+    }
+    None
+}
