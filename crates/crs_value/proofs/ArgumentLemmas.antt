@@ -1,0 +1,207 @@
+-- Arguments: those of a class, one after another, are sound where their node is, and as many as its slots require.
+use Rattle.std.proofs.Common.{◌≡◌, ◌≢◌, ℕ, suc, ◌+◌, ◌<◌, ◌≤◌, length, Bool, true, false, inl, inr, Option, Some, None, List, [], ◌∷◌, if◌then◌else◌, refl, sym, ◌∙◌, ap, subst, arith, rules}
+use denote.Enum.Bare.{sameb, same_true}
+use Rattle.crs_text.specs.Items.{Item, leaf, node, Items, End, More, arguments, count, first_of, rest_of, kind_of, here, HasId, IsAt}
+use Rattle.crs_text.specs.Refusal.{Refused}
+use Rattle.crs_text.specs.Tokens.{Kind, number, text, word}
+use Rattle.crs_shape.specs.contracts.class.Class.{the_type}
+use Rattle.crs_text.specs.declared.items.ItemKind.TheVariants as kinds
+use Rattle.crs_shape.specs.declared.class.Class.{Class}
+use Rattle.crs_shape.specs.declared.class.Class.TheVariants as class
+use Rattle.crs_shape.specs.Keywords.{is_keyword}
+use Rattle.crs_shape.specs.Counts.{one_if, how_many, least}
+use Rattle.crs_shape.specs.Shape.{Allowed}
+use Rattle.crs_shape.specs.Shaped.{Shaped, AreShaped}
+use Rattle.crs_shape.specs.ShapeFault.{class_in, class_of_kind}
+use Rattle.crs_shape.specs.Slots.{SlotParts, slots_of}
+use Rattle.crs_value.specs.Found.{from_found, AllShaped}
+use Rattle.crs_value.specs.Checks.{AtClass, Breaks, BreaksAmong, IsSound}
+use Rattle.crs_value.specs.Reading.{item_at, is_same, is_class, is_a, those, ahead, Holds, IsFound}
+
+pub ahead_at : (tree : Item) (items : Items) (at : Option ℕ) → IsAt tree items at → ahead tree at ≡ items
+ahead_at tree items None e = sym e
+ahead_at tree items (Some id) h = h.0
+
+pub holds_at : (tree : Item) (items : Items) (at : Option ℕ) → IsAt tree items at → Holds tree at
+holds_at tree items None e = tt
+holds_at tree items (Some id) h = h.1
+
+pub count-first : (items : Items) → items ≢ End → count items ≡ suc (count (rest_of items))
+count-first End some = absurd (some refl)
+count-first (More item items) some = refl
+
+-- the first of some items is one of those, or not
+pub those-first : (parent c : Class) (items : Items) → items ≢ End → is_a parent c (first_of items) ≡ true →
+    those parent c items ≡ first_of items ∷ those parent c (rest_of items)
+those-first parent c End some e = absurd (some refl)
+those-first parent c (More item items) some e = ap (λ b. if b then item ∷ those parent c items else those parent c items) e
+
+pub those-later : (parent c : Class) (items : Items) → items ≢ End → is_a parent c (first_of items) ≡ false →
+    those parent c items ≡ those parent c (rest_of items)
+those-later parent c End some e = absurd (some refl)
+those-later parent c (More item items) some e = ap (λ b. if b then item ∷ those parent c items else those parent c items) e
+
+-- ---- soundness goes down
+
+abbrev pub AllSound : Class → List Item → Type 0
+AllSound c [] = Unit {0}
+AllSound c (item ∷ items) = IsSound c item × AllSound c items
+
+same_class : (d c : Class) → sameb the_type d c ≡ true → d ≡ c
+same_class d c e = same_true the_type (search rules) d c e
+
+class_by : (c : Class) (o : Option Class) (d : Class) → o ≡ Some d → is_class c o ≡ sameb the_type d c
+class_by c o d e = ap (is_class c) e
+
+sound_as : (parent c : Class) (item : Item) (d : Class) → class_in parent item ≡ Some d → Shaped d item →
+    ((fault : Refused) → ¬ (AtClass (class_in parent item) (λ x. Breaks x item fault))) → is_a parent c item ≡ true → IsSound c item
+sound_as parent c item d named shaped free e =
+    let same : d ≡ c = same_class d c (sym (class_by c (class_in parent item) d named) ∙ e) in
+    let P : Class → Type 0 = λ x. Shaped x item in
+    record {
+      shaped = subst P same shaped;
+      unbroken = λ fault broken.
+          let Q : Option Class → Type 0 = λ o. AtClass o (λ x. Breaks x item fault) in
+          let R : Class → Type 0 = λ x. Breaks x item fault in
+          free fault (subst Q (sym named) (subst R (sym same) broken));
+    }
+
+those-sound : (parent c : Class) (ds : List Class) (items : Items) → AreShaped parent ds items → ((fault : Refused) → ¬ (BreaksAmong parent items fault)) →
+    AllSound c (those parent c items)
+those-sound parent c ds End shaped free = tt
+those-sound parent c [] (More item items) shaped free = absurd shaped
+those-sound parent c (d ∷ ds) (More item items) shaped free =
+    let rest = those-sound parent c ds items shaped.1.1 (λ fault b. free fault (inr b)) in
+    elim (is_a parent c item) as (λ b. is_a parent c item ≡ b → AllSound c (if b then item ∷ those parent c items else those parent c items)) [
+      | true ↦ λ e. (sound_as parent c item d shaped.0 shaped.1.0 (λ fault b. free fault (inl b)) e, rest)
+      | false ↦ λ e. rest
+    ] refl
+
+pub arguments-sound : (parent c : Class) (item : Item) → IsSound parent item → AllSound c (those parent c (arguments item))
+arguments-sound parent c (leaf kind place raw) sound = tt
+arguments-sound parent c (node place keyword square first others close) sound =
+    let shape = sound.shaped in
+    those-sound parent c (shape.1.0 ∷ shape.1.1.0) (More first others) (shape.1.1.1.0, (shape.1.1.1.1.0, shape.1.1.1.1.1.0))
+    (λ fault b. sound.unbroken fault (inr b))
+
+-- ---- as many as the slots require
+
+pub those-many : (parent c : Class) (ds : List Class) (items : Items) → AreShaped parent ds items → length (those parent c items) ≡ how_many (is_same c) ds
+those-many parent c [] End shaped = refl
+those-many parent c [] (More item items) shaped = absurd shaped
+those-many parent c (d ∷ ds) End shaped = absurd shaped
+those-many parent c (d ∷ ds) (More item items) shaped =
+    let rest = those-many parent c ds items shaped.1.1 in
+    let named : is_a parent c item ≡ sameb the_type d c = class_by c (class_in parent item) d shaped.0 in
+    ap (λ b. length (if b then item ∷ those parent c items else those parent c items)) named ∙ both (sameb the_type d c) rest
+  where
+    both : (b : Bool) → length (those parent c items) ≡ how_many (is_same c) ds →
+        length (if b then item ∷ those parent c items else those parent c items) ≡ one_if b + how_many (is_same c) ds
+    both true e = omega (arith, e)
+    both false e = omega (arith, e)
+
+abbrev pub SlotsCount : Type 0
+SlotsCount = (test : Class → Bool) (slots : List SlotParts) (classes : List Class) → Allowed slots classes → least test slots ≤ how_many test classes
+
+no-slots : (kind : Kind) (c : Class) → 0 < least (is_same c) (slots_of (class_of_kind kind)) → ⊥
+no-slots number c some = omega arith
+no-slots text c some = omega arith
+no-slots word c some = omega arith
+
+leaf-least : (kind : Kind) (parent c : Class) → class_of_kind kind ≡ parent → 0 < least (is_same c) (slots_of parent) → ⊥
+leaf-least kind parent c same some =
+    let P : Class → Type 0 = λ x. 0 < least (is_same c) (slots_of x) in no-slots kind c (subst P (sym same) some)
+
+pub arguments-many : SlotsCount → (parent c : Class) (item : Item) → Shaped parent item → 0 < least (is_same c) (slots_of parent) →
+    least (is_same c) (slots_of parent) ≤ length (those parent c (arguments item))
+arguments-many law parent c (leaf kind place raw) shaped some =
+    absurd (leaf-least kind parent c (same_class (class_of_kind kind) parent shaped) some)
+arguments-many law parent c (node place keyword square first others close) shaped some =
+    let shape = shaped.1 in
+    let many = those-many parent c (shape.0 ∷ shape.1.0) (More first others) (shape.1.1.0, (shape.1.1.1.0, shape.1.1.1.1.0)) in
+    let enough = law (is_same c) (slots_of parent) (shape.0 ∷ shape.1.0) shape.1.1.1.1.1 in
+    omega (arith, many, enough)
+
+-- ---- the search for the first of those
+
+pub found-here : (tree : Item) (parent c : Class) (id : ℕ) → HasId tree id → is_a parent c (item_at tree id) ≡ true → IsFound tree parent c (those parent c (here tree id)) (Some id)
+found-here tree parent c id has e = (those-first parent c (here tree id) has e, has)
+
+pub found-later : (tree : Item) (parent c : Class) (id : ℕ) (at : Option ℕ) → HasId tree id → is_a parent c (item_at tree id) ≡ false → IsAt tree (rest_of (here tree id)) at →
+    those parent c (ahead tree at) ≡ those parent c (here tree id)
+found-later tree parent c id at has e next = ap (those parent c) (ahead_at tree (rest_of (here tree id)) at next) ∙ sym (those-later parent c (here tree id) has e)
+
+pub found-less : (tree : Item) (id : ℕ) (at : Option ℕ) → HasId tree id → IsAt tree (rest_of (here tree id)) at → count (ahead tree at) < count (here tree id)
+found-less tree id at has next =
+    let same : count (ahead tree at) ≡ count (rest_of (here tree id)) = ap count (ahead_at tree (rest_of (here tree id)) at next) in
+    omega (arith, count-first (here tree id) has, same)
+
+-- ---- one after another
+
+pub found-is : (tree : Item) (parent c : Class) (items : List Item) (at : Option ℕ) → IsFound tree parent c items at → items ≡ from_found tree parent c at
+found-is tree parent c items None h = h
+found-is tree parent c items (Some id) h = h.0
+
+pub found-holds : (tree : Item) (parent c : Class) (items : List Item) (at : Option ℕ) → IsFound tree parent c items at → Holds tree at
+found-holds tree parent c items None h = tt
+found-holds tree parent c items (Some id) h = h.1
+
+pub all-sound : (c : Class) (items others : List Item) → items ≡ others → AllSound c items → AllSound c others
+all-sound c items others e h = subst (AllSound c) e h
+
+-- the first found argument of a sound node is sound
+pub first-sound : (tree : Item) (parent c : Class) (item : Item) (id : ℕ) → IsSound parent item → IsFound tree parent c (those parent c (arguments item)) (Some id) →
+    IsSound c (item_at tree id)
+first-sound tree parent c item id sound found = (all-sound c _ _ found.0 (arguments-sound parent c item sound)).0
+
+pub not-none : SlotsCount → (parent c : Class) (item : Item) → Shaped parent item → 0 < least (is_same c) (slots_of parent) → those parent c (arguments item) ≡ [] → ⊥
+not-none law parent c item shaped some none =
+    let many = arguments-many law parent c item shaped some in
+    let e : length (those parent c (arguments item)) ≡ 0 = ap length none in
+    omega (arith, many, e)
+
+no-keyword : (keyword : List ℕ) → is_keyword class.Number keyword ≡ false
+unfolding is_keyword
+no-keyword keyword = refl
+
+pub shaped-number : (item : Item) → Shaped class.Number item → kind_of item ≡ kinds.Number
+shaped-number (leaf number place raw) shaped = refl
+shaped-number (leaf text place raw) shaped = cc
+shaped-number (leaf word place raw) shaped = cc
+shaped-number (node place keyword square first others close) shaped =
+    let h : false ≡ true = sym (no-keyword keyword) ∙ shaped.0 in cc
+
+-- ---- the shape goes down
+
+shape_as : (parent c : Class) (item : Item) (d : Class) → class_in parent item ≡ Some d → Shaped d item → is_a parent c item ≡ true → Shaped c item
+shape_as parent c item d named shaped e =
+    let same : d ≡ c = same_class d c (sym (class_by c (class_in parent item) d named) ∙ e) in
+    let P : Class → Type 0 = λ x. Shaped x item in
+    subst P same shaped
+
+those-shaped : (parent c : Class) (ds : List Class) (items : Items) → AreShaped parent ds items → AllShaped c (those parent c items)
+those-shaped parent c ds End shaped = tt
+those-shaped parent c [] (More item items) shaped = absurd shaped
+those-shaped parent c (d ∷ ds) (More item items) shaped =
+    let rest = those-shaped parent c ds items shaped.1.1 in
+    elim (is_a parent c item) as (λ b. is_a parent c item ≡ b → AllShaped c (if b then item ∷ those parent c items else those parent c items)) [
+      | true ↦ λ e. (shape_as parent c item d shaped.0 shaped.1.0 e, rest)
+      | false ↦ λ e. rest
+    ] refl
+
+pub arguments-shaped : (parent c : Class) (item : Item) → Shaped parent item → AllShaped c (those parent c (arguments item))
+arguments-shaped parent c (leaf kind place raw) shaped = tt
+arguments-shaped parent c (node place keyword square first others close) shaped =
+    let shape = shaped.1 in
+    those-shaped parent c (shape.0 ∷ shape.1.0) (More first others) (shape.1.1.0, (shape.1.1.1.0, shape.1.1.1.1.0))
+
+pub all-shaped : (c : Class) (items others : List Item) → items ≡ others → AllShaped c items → AllShaped c others
+all-shaped c items others e h = subst (AllShaped c) e h
+
+pub found-shaped : (tree : Item) (parent c : Class) (item : Item) (at : Option ℕ) → Shaped parent item → IsFound tree parent c (those parent c (arguments item)) at →
+    AllShaped c (from_found tree parent c at)
+found-shaped tree parent c item at shaped found = all-shaped c _ _ (found-is tree parent c _ at found) (arguments-shaped parent c item shaped)
+
+pub first-shaped : (tree : Item) (parent c : Class) (item : Item) (id : ℕ) → Shaped parent item → IsFound tree parent c (those parent c (arguments item)) (Some id) →
+    Shaped c (item_at tree id)
+first-shaped tree parent c item id shaped found = (found-shaped tree parent c item (Some id) shaped found).0

@@ -1,0 +1,82 @@
+-- In a sound item each word is known.
+use Rattle.std.proofs.Common.{◌≡◌, ℕ, Bool, true, false, inl, ◌||◌, List, [], ◌∷◌, refl, sym, subst}
+use Rattle.std.specs.Str.{str_eq_ignore_ascii_case, str_to_ascii_lowercase}
+use Rattle.std.proofs.lemmas.Slice.Eq.{bytes_eq-Decides}
+use Rattle.crs_text.specs.Items.{Item, leaf, node, arguments}
+use Rattle.crs_text.specs.Tokens.{Kind, number, text, word}
+use Rattle.crs_shape.specs.declared.class.Class.{Class}
+use Rattle.crs_shape.specs.declared.class.Class.TheVariants as class
+use Rattle.crs_shape.specs.Keywords.{is_keyword, is_one_of, keywords_of}
+use Rattle.crs_shape.specs.Shaped.{Shaped}
+use Rattle.crs_value.specs.declared.direction.Direction.{Direction}
+use Rattle.crs_value.specs.declared.system_type.SystemType.{SystemType}
+use Rattle.crs_value.specs.declared.unit_kind.UnitKind.{UnitKind}
+use Rattle.crs_value.specs.declared.unit_kind.UnitKind.TheVariants as kinds
+use Rattle.crs_value.specs.Checks.{at, AnyOf, UnknownType, UnknownDirection, Own, IsSound}
+use Rattle.crs_value.specs.Reading.{those}
+use Rattle.crs_value.specs.Reads.{ReadsType, ReadsDirection, ReadsKind, IsUnitClass}
+use Rattle.crs_value.specs.Words.{SpellsWord, unit_word}
+
+pub known-direction : (item w : Item) (more : List Item) → IsSound class.Axis item → those class.Axis class.Word (arguments item) ≡ w ∷ more →
+    ((d : Direction) → ¬ (ReadsDirection w d)) → ⊥
+unfolding Own
+known-direction (leaf kind place raw) w more sound e none = cc
+known-direction (node place keyword square first others close) w more sound e none =
+    let P : List Item → Type 0 = λ xs. AnyOf UnknownDirection xs (at 21 w) in
+    sound.unbroken (at 21 w) (inl (subst P (sym e) (inl (refl, none))))
+
+pub known-type : (item w : Item) (more : List Item) → IsSound class.CoordinateSystem item → those class.CoordinateSystem class.Word (arguments item) ≡ w ∷ more →
+    ((t : SystemType) → ¬ (ReadsType w t)) → ⊥
+unfolding Own
+known-type (leaf kind place raw) w more sound e none = cc
+known-type (node place keyword square first others close) w more sound e none =
+    let P : List Item → Type 0 = λ xs. AnyOf UnknownType xs (at 21 w) in
+    sound.unbroken (at 21 w) (inl (subst P (sym e) (inl (refl, none))))
+
+abbrev NoneOf : List (List ℕ) → List ℕ → Type 0
+NoneOf [] raw = Unit {0}
+NoneOf (w ∷ ws) raw = ¬ (SpellsWord raw w) × NoneOf ws raw
+
+or-cases : (a b : Bool) → (a || b) ≡ true → (a ≡ true → ⊥) → b ≡ true
+or-cases true b e other = absurd (other refl)
+or-cases false b e other = e
+
+spelled : (w raw : List ℕ) → str_eq_ignore_ascii_case w raw ≡ true → SpellsWord raw w
+spelled w raw e = sym ((bytes_eq-Decides (str_to_ascii_lowercase w) (str_to_ascii_lowercase raw)).0 e)
+
+none-of : (ws : List (List ℕ)) (raw : List ℕ) → NoneOf ws raw → is_one_of ws raw ≡ true → ⊥
+none-of [] raw none e = cc
+none-of (w ∷ ws) raw none e =
+    none-of ws raw none.1 (or-cases (str_eq_ignore_ascii_case w raw) (is_one_of ws raw) e (λ f. none.0 (spelled w raw f)))
+
+unit-words : (c : Class) (raw : List ℕ) → IsUnitClass c → ((k : UnitKind) → ¬ (SpellsWord raw (unit_word k))) → NoneOf (keywords_of c) raw
+unit-words class.LengthUnit raw is none = (none kinds.Length, (none kinds.Plain, tt))
+unit-words class.AngleUnit raw is none = (none kinds.Angle, (none kinds.Plain, tt))
+unit-words class.ScaleUnit raw is none = (none kinds.Scale, tt)
+unit-words class.PlainUnit raw is none = (none kinds.Plain, tt)
+unit-words class.AxisUnit raw is none = (none kinds.Length, (none kinds.Angle, (none kinds.Plain, tt)))
+unit-words other raw is none = absurd is
+
+unit-no-leaf : (c : Class) (kind : Kind) (place : ℕ) (raw : List ℕ) → IsUnitClass c → Shaped c (leaf kind place raw) → ⊥
+unit-no-leaf class.LengthUnit number place raw is shaped = cc
+unit-no-leaf class.LengthUnit text place raw is shaped = cc
+unit-no-leaf class.LengthUnit word place raw is shaped = cc
+unit-no-leaf class.AngleUnit number place raw is shaped = cc
+unit-no-leaf class.AngleUnit text place raw is shaped = cc
+unit-no-leaf class.AngleUnit word place raw is shaped = cc
+unit-no-leaf class.ScaleUnit number place raw is shaped = cc
+unit-no-leaf class.ScaleUnit text place raw is shaped = cc
+unit-no-leaf class.ScaleUnit word place raw is shaped = cc
+unit-no-leaf class.PlainUnit number place raw is shaped = cc
+unit-no-leaf class.PlainUnit text place raw is shaped = cc
+unit-no-leaf class.PlainUnit word place raw is shaped = cc
+unit-no-leaf class.AxisUnit number place raw is shaped = cc
+unit-no-leaf class.AxisUnit text place raw is shaped = cc
+unit-no-leaf class.AxisUnit word place raw is shaped = cc
+unit-no-leaf other kind place raw is shaped = absurd is
+
+pub known-kind : (c : Class) (item : Item) → IsUnitClass c → Shaped c item → ((k : UnitKind) → ¬ (ReadsKind item k)) → ⊥
+unfolding is_keyword
+known-kind c (leaf kind place raw) is shaped none = unit-no-leaf c kind place raw is shaped
+known-kind c (node place keyword square first others close) is shaped none =
+    none-of (keywords_of c) keyword (unit-words c keyword is none) shaped.0

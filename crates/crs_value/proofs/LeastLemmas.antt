@@ -1,0 +1,151 @@
+-- The first fault of several sets of faults.
+use Rattle.std.proofs.Common.{◌≡◌, ℕ, ◌<◌, ◌≤◌, nat_lt, ◌==◌, Bool, true, false, inl, inr, ◌⊎◌, ◌||◌, ◌&&◌, Option, Some, None, List, [], ◌∷◌, ◌++◌, if◌then◌else◌, refl, sym, subst, arith}
+use Rattle.std.proofs.lemmas.Bool.Decides.{nat_tests}
+use Rattle.crs_text.specs.Items.{Item}
+use Rattle.crs_text.specs.Refusal.{Refused}
+use Rattle.crs_value.specs.Checks.{AnyOf, IsBefore, IsLeast}
+use Rattle.crs_value.specs.Least.{is_before, lesser}
+
+before-trans : (a b c : Refused) → IsBefore a b → IsBefore b c → IsBefore a c
+before-trans a b c (inl p) (inl q) = inl (omega arith)
+before-trans a b c (inl p) (inr q) = inl (omega arith)
+before-trans a b c (inr p) (inl q) = inl (omega arith)
+before-trans a b c (inr p) (inr q) = inr (omega arith, omega arith)
+
+same-or : (m n : ℕ) (b : Bool) → (m == n && b) ≡ true → (m ≡ n) × (b ≡ true)
+same-or m n b e = (grind (arith, nat_tests), grind (arith, nat_tests))
+
+from-test : (a b : Refused) (less : Bool) → nat_lt a.number b.number ≡ less → (less || (a.number == b.number && nat_lt a.place b.place)) ≡ true → IsBefore a b
+from-test a b true e f = inl (grind (arith, nat_tests))
+from-test a b false e f =
+    let h = same-or a.number b.number (nat_lt a.place b.place) f in
+    let k : a.place < b.place = grind (arith, nat_tests) in
+    inr (h.0, omega arith)
+
+not-less : (m n : ℕ) → nat_lt m n ≡ false → n ≤ m
+not-less m n e = grind (arith, nat_tests)
+
+is-less : (m n : ℕ) → nat_lt m n ≡ true → m < n
+is-less m n e = grind (arith, nat_tests)
+
+is-same : (m n : ℕ) → (m == n) ≡ true → m ≡ n
+is-same m n e = grind (arith, nat_tests)
+
+not-same : (m n : ℕ) → (m == n) ≡ false → m ≡ n → ⊥
+not-same m n e f = grind (arith, nat_tests)
+
+-- if b isn't strictly before a, then a is before b
+else-before : (a b : Refused) → is_before b a ≡ false → IsBefore a b
+else-before a b e = by (nat_lt b.number a.number) (b.number == a.number) (nat_lt b.place a.place) refl refl refl e
+  where
+    by : (x y z : Bool) → nat_lt b.number a.number ≡ x → (b.number == a.number) ≡ y → nat_lt b.place a.place ≡ z → (x || (y && z)) ≡ false → IsBefore a b
+    by true y z p q r h = cc
+    by false true true p q r h = cc
+    by false true false p q r h = let s = is-same b.number a.number q in let t = not-less b.place a.place r in inr (sym s, t)
+    by false false z p q r h =
+        let s = not-less b.number a.number p in
+        inl (strict a.number b.number s (λ e. not-same b.number a.number q (sym e)))
+      where
+        strict : (m n : ℕ) → m ≤ n → (m ≡ n → ⊥) → m < n
+        strict m n le ne = omega arith
+
+then-before : (a b : Refused) → is_before b a ≡ true → IsBefore b a
+then-before a b e = from-test b a (nat_lt b.number a.number) refl e
+
+pub before-self : (a : Refused) → IsBefore a a
+before-self a = inr (refl, omega arith)
+
+-- the first of either set is the lesser of their first ones
+pub least-either : (P Q : Refused → Type 0) (a b : Option Refused) → IsLeast P a → IsLeast Q b → IsLeast (λ f. P f ⊎ Q f) (lesser a b)
+least-either P Q None None p q = λ f h. none f h
+  where
+    none : (f : Refused) → P f ⊎ Q f → ⊥
+    none f (inl h) = p f h
+    none f (inr h) = q f h
+least-either P Q None (Some b) p q = (inr q.0, λ f h. next f h)
+  where
+    next : (f : Refused) → P f ⊎ Q f → IsBefore b f
+    next f (inl h) = absurd (p f h)
+    next f (inr h) = q.1 f h
+least-either P Q (Some a) None p q = (inl p.0, λ f h. next f h)
+  where
+    next : (f : Refused) → P f ⊎ Q f → IsBefore a f
+    next f (inl h) = p.1 f h
+    next f (inr h) = absurd (q f h)
+least-either P Q (Some a) (Some b) p q =
+    elim (is_before b a) as (λ t. is_before b a ≡ t → IsLeast (λ f. P f ⊎ Q f) (if t then Some b else Some a)) [
+      | true ↦ λ e. (inr q.0, λ f h. second (then-before a b e) f h)
+      | false ↦ λ e. (inl p.0, λ f h. first (else-before a b e) f h)
+    ] refl
+  where
+    second : IsBefore b a → (f : Refused) → P f ⊎ Q f → IsBefore b f
+    second e f (inl h) = before-trans b a f e (p.1 f h)
+    second e f (inr h) = q.1 f h
+
+    first : IsBefore a b → (f : Refused) → P f ⊎ Q f → IsBefore a f
+    first e f (inl h) = p.1 f h
+    first e f (inr h) = before-trans a b f e (q.1 f h)
+
+-- sets with the same faults have the same first one
+pub least-same : (P Q : Refused → Type 0) (o : Option Refused) → ((f : Refused) → P f → Q f) → ((f : Refused) → Q f → P f) → IsLeast P o → IsLeast Q o
+least-same P Q None to back h = λ f q. h f (back f q)
+least-same P Q (Some a) to back h = (to a h.0, λ f q. h.1 f (back f q))
+
+pub least-none : (P : Refused → Type 0) → ((f : Refused) → ¬ (P f)) → IsLeast P None
+least-none P none = none
+
+-- one fault under a condition
+pub least-one : (g : Refused) (C : Type 0) → C → IsLeast (λ f. (f ≡ g) × C) (Some g)
+least-one g C holds = ((refl, holds), λ f h. let P : Refused → Type 0 = λ x. IsBefore g x in subst P (sym h.0) (before-self g))
+
+pub least-not : (g : Refused) (C : Type 0) → ¬ C → IsLeast (λ f. (f ≡ g) × C) None
+least-not g C fails = λ f h. fails h.1
+
+pub any-left : (B : Item → Refused → Type 0) (xs ys : List Item) (f : Refused) → AnyOf B xs f → AnyOf B (xs ++ ys) f
+any-left B [] ys f h = absurd h
+any-left B (x ∷ xs) ys f (inl h) = inl h
+any-left B (x ∷ xs) ys f (inr h) = inr (any-left B xs ys f h)
+
+pub any-right : (B : Item → Refused → Type 0) (xs ys : List Item) (f : Refused) → AnyOf B ys f → AnyOf B (xs ++ ys) f
+any-right B [] ys f h = h
+any-right B (x ∷ xs) ys f h = inr (any-right B xs ys f h)
+
+pub any-split : (B : Item → Refused → Type 0) (xs ys : List Item) (f : Refused) → AnyOf B (xs ++ ys) f → AnyOf B xs f ⊎ AnyOf B ys f
+any-split B [] ys f h = inr h
+any-split B (x ∷ xs) ys f (inl h) = inl (inl h)
+any-split B (x ∷ xs) ys f (inr h) = more (any-split B xs ys f h)
+  where
+    more : AnyOf B xs f ⊎ AnyOf B ys f → AnyOf B (x ∷ xs) f ⊎ AnyOf B ys f
+    more (inl k) = inl (inr k)
+    more (inr k) = inr k
+
+-- one more item
+pub least-more : (B : Item → Refused → Type 0) (done : List Item) (item : Item) (a b : Option Refused) → IsLeast (AnyOf B done) a → IsLeast (B item) b →
+    IsLeast (AnyOf B (done ++ item ∷ [])) (lesser a b)
+least-more B done item a b p q =
+    least-same (λ f. AnyOf B done f ⊎ B item f) (AnyOf B (done ++ item ∷ [])) (lesser a b) to back (least-either (AnyOf B done) (B item) a b p q)
+  where
+    to : (f : Refused) → AnyOf B done f ⊎ B item f → AnyOf B (done ++ item ∷ []) f
+    to f (inl h) = any-left B done (item ∷ []) f h
+    to f (inr h) = any-right B done (item ∷ []) f (inl h)
+
+    last : (f : Refused) → AnyOf B (item ∷ []) f → B item f
+    last f (inl h) = h
+    last f (inr h) = absurd h
+
+    back : (f : Refused) → AnyOf B (done ++ item ∷ []) f → AnyOf B done f ⊎ B item f
+    back f h = one (any-split B done (item ∷ []) f h)
+      where
+        one : AnyOf B done f ⊎ AnyOf B (item ∷ []) f → AnyOf B done f ⊎ B item f
+        one (inl k) = inl k
+        one (inr k) = inr (last f k)
+
+-- the refusal at one item, under a condition or none
+pub least-at : (g r : Refused) (C : Type 0) → r ≡ g → C → IsLeast (λ f. (f ≡ g) × C) (Some r)
+least-at g r C e holds = let P : Refused → Type 0 = λ x. IsLeast (λ f. (f ≡ g) × C) (Some x) in subst P (sym e) (least-one g C holds)
+
+pub least-is : (g r : Refused) → r ≡ g → IsLeast (λ f. f ≡ g) (Some r)
+least-is g r e = (e, λ f h. let P : Refused → Type 0 = λ x. IsBefore x f in let Q : Refused → Type 0 = λ x. IsBefore g x in subst P (sym e) (subst Q (sym h) (before-self g)))
+
+pub either-is : (P Q : Refused → Type 0) (a b r : Option Refused) → r ≡ lesser a b → IsLeast P a → IsLeast Q b → IsLeast (λ f. P f ⊎ Q f) r
+either-is P Q a b r e p q = let R : Option Refused → Type 0 = λ o. IsLeast (λ f. P f ⊎ Q f) o in subst R (sym e) (least-either P Q a b p q)

@@ -1,0 +1,15 @@
+pub mod ArgumentLemmas
+pub mod BreakLemmas
+pub mod CheckLemmas
+pub mod FrameLemmas
+pub mod IdentLemmas
+pub mod KnownLemmas
+pub mod LeastLemmas
+pub mod NodeLemmas
+pub mod OneLemmas
+pub mod OrderLemmas
+pub mod OwnLemmas
+pub mod SpellsLemmas
+pub mod SystemLemmas
+pub mod UnitLemmas
+pub mod WordLemmas

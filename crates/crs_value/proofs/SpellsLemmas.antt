@@ -1,0 +1,43 @@
+-- From a root without a fault of shape to its shape.
+use Rattle.std.proofs.Common.{◌≡◌, ◌↔◌, inl, inr, Some, sym, ◌∙◌, subst}
+use Rattle.crs_text.specs.Items.{Item}
+use Rattle.crs_text.specs.Refusal.{Refused}
+use Rattle.crs_shape.specs.declared.class.Class.{Class}
+use Rattle.crs_shape.specs.Shaped.{Shaped}
+use Rattle.crs_shape.specs.ShapeFault.{IsFree, Inside, AtRoot, class_of_root}
+use Rattle.crs_value.specs.declared.crs.Crs.{Crs}
+use Rattle.crs_value.specs.Checks.{Breaks, IsLeast}
+use Rattle.crs_value.specs.ReadsCrs.{ReadsCrs}
+use Rattle.crs_value.specs.Spells.{SpellsCrs, BreaksFirst, RefusesCrs}
+use Rattle.crs_value.proofs.CheckLemmas.{DenotesOne}
+use Rattle.crs_value.proofs.OneLemmas.{crs-one, least-one-only}
+
+abbrev pub NoFaultIsShape : Type 0
+NoFaultIsShape = (c : Class) (item : Item) → IsFree (Inside c item) ↔ Shaped c item
+
+pub root-shaped : NoFaultIsShape → (item other : Item) (c : Class) → other ≡ item → class_of_root item ≡ Some c → IsFree (AtRoot item) → Shaped c other
+root-shaped law item other c same e free =
+    let P : Item → Type 0 = λ i. Shaped c i in
+    subst P (sym same) ((law c item).0 (λ fault inside. free fault (inr (c, (e, inside)))))
+
+class-one : (item : Item) (c d : Class) → class_of_root item ≡ Some c → class_of_root item ≡ Some d → c ≡ d
+class-one item c d e f = let h : Some c ≡ Some d = sym e ∙ f in cc
+
+pub spelled-one : DenotesOne → (item : Item) (a b : Crs) → SpellsCrs item a → SpellsCrs item b → a ≡ b
+spelled-one law item a b p q =
+    let same : q.class_read ≡ p.class_read = class-one item q.class_read p.class_read q.root p.root in
+    let P : Class → Type 0 = λ c. ReadsCrs c item b in
+    crs-one law p.class_read item a b p.reads (subst P same q.reads)
+
+pub spelled-not-refused : (item : Item) (value : Crs) (fault : Refused) → SpellsCrs item value → RefusesCrs item fault → ⊥
+spelled-not-refused item value fault p (inl h) = p.shaped fault h
+spelled-not-refused item value fault p (inr h) =
+    let same : h.class_read ≡ p.class_read = class-one item h.class_read p.class_read h.root p.root in
+    let P : Class → Type 0 = λ c. Breaks c item fault in
+    p.unbroken fault (subst P same h.first.0)
+
+pub refused-one : (item : Item) (a b : Refused) → BreaksFirst item a → BreaksFirst item b → a ≡ b
+refused-one item a b p q =
+    let same : q.class_read ≡ p.class_read = class-one item q.class_read p.class_read q.root p.root in
+    let P : Class → Type 0 = λ c. IsLeast (Breaks c item) (Some b) in
+    least-one-only (Breaks p.class_read item) a b p.first (subst P same q.first)

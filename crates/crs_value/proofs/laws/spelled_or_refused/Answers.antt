@@ -1,0 +1,5 @@
+use Rattle.crs_value.proofs.SpellsLemmas.{spelled-not-refused}
+use Rattle.crs_value.proofs.laws.spelled_or_refused.Goals as goal
+
+pub returns : goal.returns
+returns c = spelled-not-refused

@@ -1,0 +1,5 @@
+use Rattle.crs_value.proofs.SpellsLemmas.{spelled-one}
+use Rattle.crs_value.proofs.laws.spells_one.Goals as goal
+
+pub returns : goal.returns
+returns c = spelled-one c.denotes_one.ensures

@@ -1,0 +1,18 @@
+use Rattle.std.proofs.Common.{ℕ, Option, subst}
+use Rattle.crs_text.specs.Items.{arguments}
+use Rattle.crs_shape.specs.declared.class.Class.TheVariants as class
+use Rattle.crs_value.specs.Reading.{item_at, those}
+use Rattle.crs_value.proofs.OrderLemmas.{Ordering, ordering-first, ordering-on}
+use Rattle.crs_value.proofs.order_checks.bad_orders.Goals as goal
+
+pub loop-at-init : goal.loop-at-init
+loop-at-init c =
+    ordering-first c.args.items.now c.args.class (item_at c.args.items.now c.args.crs) c.count_of-count.result c.first-at.result c.requires.shaped c.count_of-count.ensures c.first-at.ensures
+
+pub loop-at-preserved : goal.loop-at-preserved
+loop-at-preserved c =
+    let tree = c.args.items.now in
+    let whole = those c.args.class class.Axis (arguments (item_at tree c.args.crs)) in
+    let P : Option ℕ → Type 0 = λ at. Ordering tree c.args.class whole c.count_of-count.result c.loop-at.before c.loop-at.least at in
+    ordering-on tree c.args.class whole c.count_of-count.result c.loop-at.before c.loop-at.least c.any_of.result c.lesser-least.result c.in-Some.axis c.later-at.result
+    (subst P c.in-Some.is c.loop-at.invariant) c.any_of.ensures c.lesser-least.ensures c.later-at.ensures

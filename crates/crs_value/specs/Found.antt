@@ -1,0 +1,16 @@
+-- Arguments of one class from one on, as the program goes through them.
+use Rattle.std.specs.Prelude.{ℕ, List, [], ◌∷◌, Option, Some, None}
+use Rattle.crs_text.specs.Items.{Item, rest_of, here}
+use Rattle.crs_shape.specs.declared.class.Class.{Class}
+use Rattle.crs_shape.specs.Shaped.{Shaped}
+use Rattle.crs_value.specs.Reading.{item_at, those}
+
+-- those from a found one on
+abbrev pub from_found : Item → Class → Class → Option ℕ → List Item
+from_found tree parent c None = []
+from_found tree parent c (Some id) = item_at tree id ∷ those parent c (rest_of (here tree id))
+
+-- each of these items has the shape of the class
+abbrev pub AllShaped : Class → List Item → Type 0
+AllShaped c [] = Unit {0}
+AllShaped c (item ∷ items) = Shaped c item × AllShaped c items

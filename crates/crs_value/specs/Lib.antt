@@ -1,0 +1,10 @@
+pub mod Checks
+pub mod CrsValues
+pub mod Found
+pub mod Least
+pub mod Reading
+pub mod Reads
+pub mod ReadsCrs
+pub mod Spells
+pub mod Values
+pub mod Words

@@ -1,0 +1,72 @@
+-- Readings: what is read from an item, or from the arguments of one class.
+use Rattle.std.specs.Prelude.{◌≡◌, ℕ, ◌<◌, Bool, false, List, [], ◌∷◌, Option, Some, None, if◌then◌else◌}
+use denote.Enum.Bare.{sameb}
+use Rattle.crs_text.specs.Items.{Item, Items, End, More, first_of, rest_of, here, HasId}
+use Rattle.crs_shape.specs.contracts.class.Class.{the_type}
+use Rattle.crs_shape.specs.declared.class.Class.{Class}
+use Rattle.crs_shape.specs.Counts.{least}
+use Rattle.crs_shape.specs.ShapeFault.{class_in}
+use Rattle.crs_shape.specs.Slots.{slots_of}
+
+-- the item of this number in a tree
+abbrev pub item_at : Item → ℕ → Item
+item_at tree id = first_of (here tree id)
+
+-- the items of a node from this one on; none where there is no such item
+abbrev pub ahead : Item → Option ℕ → Items
+ahead tree None = End
+ahead tree (Some id) = here tree id
+
+-- the tree has the item, where there is one
+abbrev pub Holds : Item → Option ℕ → Type 0
+Holds tree None = Unit {0}
+Holds tree (Some id) = HasId tree id
+
+-- the value that reads so, or none where no value does
+abbrev pub IsReading : {V : Type 0} → (V → Type 0) → Option V → Type 0
+IsReading {V = V} reads None = (value : V) → ¬ (reads value)
+IsReading reads (Some value) = reads value
+
+abbrev pub is_same : Class → Class → Bool
+is_same c d = sameb the_type d c
+
+abbrev pub is_class : Class → Option Class → Bool
+is_class c None = false
+is_class c (Some d) = sameb the_type d c
+
+-- whether an item is of this class in its parent
+abbrev pub is_a : Class → Class → Item → Bool
+is_a parent c item = is_class c (class_in parent item)
+
+-- the arguments that are of this class in their parent, in order
+abbrev pub those : Class → Class → Items → List Item
+those parent c End = []
+those parent c (More item items) = if is_a parent c item then item ∷ those parent c items else those parent c items
+
+-- the slots of a class require more than `n` arguments of class `d`
+abbrev pub Requires : Class → Class → ℕ → Type 0
+Requires c d n = n < least (is_same d) (slots_of c)
+
+-- the number of the first of these arguments, behind which the later ones stand; none where there are none
+abbrev pub IsFound : Item → Class → Class → List Item → Option ℕ → Type 0
+IsFound tree parent c items None = items ≡ []
+IsFound tree parent c items (Some id) = (items ≡ item_at tree id ∷ those parent c (rest_of (here tree id))) × HasId tree id
+
+-- the value is read from the first of these items
+abbrev pub ReadsFirst : {V : Type 0} → (Item → V → Type 0) → List Item → V → Type 0
+ReadsFirst Reads [] value = ⊥
+ReadsFirst Reads (item ∷ items) value = Reads item value
+
+-- the value is read from the first of these items, and there is none where there are no items
+abbrev pub ReadsOptional : {V : Type 0} → (Item → V → Type 0) → List Item → Option V → Type 0
+ReadsOptional Reads [] None = Unit {0}
+ReadsOptional Reads [] (Some value) = ⊥
+ReadsOptional Reads (item ∷ items) None = ⊥
+ReadsOptional Reads (item ∷ items) (Some value) = Reads item value
+
+-- a value is read from each of these items, in order
+abbrev pub ReadsEach : {V : Type 0} → (Item → V → Type 0) → List Item → List V → Type 0
+ReadsEach Reads [] [] = Unit {0}
+ReadsEach Reads [] (value ∷ values) = ⊥
+ReadsEach Reads (item ∷ items) [] = ⊥
+ReadsEach Reads (item ∷ items) (value ∷ values) = Reads item value × ReadsEach Reads items values

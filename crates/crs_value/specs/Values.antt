@@ -1,0 +1,106 @@
+-- Values as they are written: nothing filled in, converted or sorted. A text is the bytes between its quotes, each quote
+-- among them doubled; two texts are equal where their characters are. A code or version is its characters, quoted or not.
+use Rattle.std.specs.Prelude.{ℕ, List, Option}
+use Rattle.crs_decimal.specs.Value.{Value}
+use Rattle.crs_value.specs.declared.direction.Direction.{Direction}
+use Rattle.crs_value.specs.declared.system_type.SystemType.{SystemType}
+use Rattle.crs_value.specs.declared.unit_kind.UnitKind.{UnitKind}
+
+-- an identifier
+pub record IdentParts : Type 0 where
+  pub authority : List ℕ
+  pub code : List ℕ
+  pub version : Option (List ℕ)
+  pub citation : Option (List ℕ)
+  pub uri : Option (List ℕ)
+
+-- a unit: its kind by its keyword, its name, and how many metres, radians or ones it has
+pub record UnitParts : Type 0 where
+  pub kind : UnitKind
+  pub name : List ℕ
+  pub factor : Value
+  pub ids : List IdentParts
+
+-- the meridian that an axis at a pole goes along
+pub record AxisMeridianParts : Type 0 where
+  pub longitude : Value
+  pub unit : UnitParts
+
+-- an axis: its own unit, if it has one
+pub record AxisParts : Type 0 where
+  pub name : List ℕ
+  pub direction : Direction
+  pub meridian : Option AxisMeridianParts
+  pub order : Option Value
+  pub unit : Option UnitParts
+  pub ids : List IdentParts
+
+-- a coordinate system: its axes as they are written, and the unit that they share, if they share one
+pub record SystemParts : Type 0 where
+  pub system_type : SystemType
+  pub dimension : Value
+  pub ids : List IdentParts
+  pub axes : List AxisParts
+  pub unit : Option UnitParts
+
+-- an ellipsoid
+pub record EllipsoidParts : Type 0 where
+  pub name : List ℕ
+  pub semi_major_axis : Value
+  pub inverse_flattening : Value
+  pub unit : Option UnitParts
+  pub ids : List IdentParts
+
+-- a prime meridian
+pub record MeridianParts : Type 0 where
+  pub name : List ℕ
+  pub longitude : Value
+  pub unit : Option UnitParts
+  pub ids : List IdentParts
+
+-- a member of a datum ensemble
+pub record MemberParts : Type 0 where
+  pub name : List ℕ
+  pub ids : List IdentParts
+
+-- a reference frame, with its ellipsoid if it is geodetic
+pub record DatumParts : Type 0 where
+  pub name : List ℕ
+  pub ellipsoid : Option EllipsoidParts
+  pub anchor : Option (List ℕ)
+  pub ids : List IdentParts
+
+-- a datum ensemble, with its ellipsoid if it is geodetic
+pub record EnsembleParts : Type 0 where
+  pub name : List ℕ
+  pub members : List MemberParts
+  pub ellipsoid : Option EllipsoidParts
+  pub accuracy : Value
+  pub ids : List IdentParts
+
+-- a box of latitudes and longitudes
+pub record BoxParts : Type 0 where
+  pub south : Value
+  pub west : Value
+  pub north : Value
+  pub east : Value
+
+-- an extent in height
+pub record ExtentParts : Type 0 where
+  pub minimum : Value
+  pub maximum : Value
+  pub unit : Option UnitParts
+
+-- a usage
+pub record UsageParts : Type 0 where
+  pub scope : Option (List ℕ)
+  pub area : Option (List ℕ)
+  pub bbox : Option BoxParts
+  pub extent : Option ExtentParts
+
+-- a CRS's end: its usages, the parts of a usage that stand bare, its identifiers and its remark
+pub record TailParts : Type 0 where
+  pub usages : List UsageParts
+  pub bare : UsageParts
+  pub ids : List IdentParts
+  pub remark : Option (List ℕ)

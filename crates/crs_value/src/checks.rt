@@ -1,0 +1,91 @@
+//! Checks of items of the right shape: which is broken first.
+ghost use Rattle.std.specs.Prelude.{◌≡◌, IsTrue};
+ghost use Rattle.crs_text.specs.Items.{Item, HasId, arguments};
+ghost use Rattle.crs_text.specs.Refusal.{Refused, is_refusal};
+ghost use Rattle.crs_shape.specs.declared.class.Class.{Class};
+ghost use Rattle.crs_shape.specs.Shaped.{Shaped};
+ghost use Rattle.crs_value.specs.Checks.{at, AnyOf, IsLeast};
+ghost use Rattle.crs_value.specs.Found.{from_found, AllShaped};
+ghost use Rattle.crs_value.specs.Least.{is_before, lesser};
+ghost use Rattle.crs_value.specs.Reading.{item_at, Holds, those};
+
+use crate::arguments::{first, later};
+use crs_shape::Class;
+use crs_text::{ItemId, Items, Refusal};
+
+fn is_before(a: Refusal, b: Refusal) -> bool
+    ensures { result ≡ is_before a b }
+{
+    a.number() < b.number() || (a.number() == b.number() && a.place() < b.place())
+}
+
+// The first of two refusals.
+pub(crate) fn lesser(a: Option<Refusal>, b: Option<Refusal>) -> Option<Refusal>
+    ensures { result ≡ lesser a b }
+{
+    let Some(x) = a else { return b };
+    let Some(y) = b else { return a };
+    if is_before(y, x) { b } else { a }
+}
+
+// The refusal with this number at an item's first byte.
+pub(crate) fn refusal_at(items: &Items<'_>, id: ItemId, number: u8) -> Refusal
+    requires has { HasId items.now id }
+    requires known { IsTrue (is_refusal number) }
+    ensures { result ≡ at number (item_at items.now id) }
+{
+    Refusal::new(number, items.place(id)).unwrap()
+}
+
+// A check on the items of one class.
+pub(crate) trait Check {
+    ghost Fits: { Self → Item → Class → Type 0 };
+
+    ghost Broken: { Self → Item → Item → Refused → Type 0 };
+
+    fn check(&self, items: &Items<'_>, id: ItemId, class: Class) -> Option<Refusal>
+        requires has { HasId items.now id }
+        requires fits { Fits self.now items.now class }
+        requires shaped { Shaped class (item_at items.now id) }
+        ensures { IsLeast (Broken self.now items.now (item_at items.now id)) result };
+}
+
+// The first break among the items of one class from this one on.
+pub(crate) fn any_from<C: Check>(
+    check: &C,
+    items: &Items<'_>,
+    from: Option<ItemId>,
+    parent: Class,
+    class: Class,
+) -> Option<Refusal>
+    requires holds { Holds items.now from }
+    requires fits { C.Fits check.now items.now class }
+    requires shaped { AllShaped class (from_found items.now parent class from) }
+    ensures { IsLeast (AnyOf (C.Broken check.now items.now)
+        (from_found items.now parent class from)) result }
+{
+    let mut least = None;
+    let mut at = from;
+    while let Some(found) = at {
+        least = lesser(least, check.check(items, found, class));
+        at = later(items, found, parent, class);
+    }
+    least
+}
+
+// The first break among a node's arguments of one class.
+pub(crate) fn any_of<C: Check>(
+    check: &C,
+    items: &Items<'_>,
+    id: ItemId,
+    parent: Class,
+    class: Class,
+) -> Option<Refusal>
+    requires has { HasId items.now id }
+    requires fits { C.Fits check.now items.now class }
+    requires shaped { Shaped parent (item_at items.now id) }
+    ensures { IsLeast (AnyOf (C.Broken check.now items.now) (those parent class (arguments
+        (item_at items.now id)))) result }
+{
+    any_from(check, items, first(items, id, parent, class), parent, class)
+}

@@ -1,0 +1,66 @@
+//! Coordinate reference systems.
+ghost use Rattle.std.specs.Prelude.{◌≡◌};
+
+use crate::frame::Frame;
+use crate::meridian::Meridian;
+use crate::system::System;
+use crate::system_type::SystemType;
+use crate::usage::Tail;
+use std::marker::Model;
+
+/// A geodetic or geographic CRS, `GEODCRS[name, frame, (meridian), system, tail]` or with `GEOGCRS`.
+/// ISO 19162:2019, "Geodetic and geographic CRS".
+#[derive(Drop)]
+pub struct Geodetic<'a> {
+    /// The name.
+    pub name: &'a [u8],
+    /// The geodetic frame or ensemble.
+    pub frame: Frame<'a>,
+    /// The prime meridian; None where Greenwich isn't said.
+    pub meridian: Option<Meridian<'a>>,
+    /// The coordinate system.
+    pub system: System<'a>,
+    /// Usages, identifiers and remark.
+    pub tail: Tail<'a>,
+}
+
+impl<'a> Model for Geodetic<'a> {
+    ghost use Rattle.crs_value.specs.CrsValues.{GeodeticParts};
+
+    ghost Value = { GeodeticParts };
+
+    ghost view = { λ g. record { name = g.name.now; frame = g.frame; meridian = g.meridian; system = g.system; tail = g.tail } };
+}
+
+/// A coordinate reference system. ISO 19162:2019, "Coordinate reference systems".
+#[derive(Drop)]
+pub enum Crs<'a> {
+    /// A geodetic or geographic CRS.
+    Geodetic(Geodetic<'a>),
+}
+
+/// What a coordinate reference system is. ISO 19162:2019, "Coordinate reference systems".
+#[derive(Clone, Copy, Debug, PartialEq, Eq)]
+pub enum Kind {
+    /// Geodetic, and not geographic.
+    Geodetic,
+    /// Geographic: geodetic with an ellipsoidal system.
+    Geographic,
+}
+
+impl Crs<'_> {
+    ghost use Rattle.crs_value.specs.ReadsCrs.{kind_of};
+
+    /// What the system is: a CRS is geographic exactly if its coordinate system is ellipsoidal.
+    pub fn kind(&self) -> Kind
+        ensures { result ≡ kind_of self.now }
+    {
+        match self {
+            Crs::Geodetic(geodetic) => match geodetic.system.system_type {
+                SystemType::Ellipsoidal => Kind::Geographic,
+                SystemType::Cartesian | SystemType::Spherical | SystemType::Vertical =>
+                    Kind::Geodetic,
+            },
+        }
+    }
+}

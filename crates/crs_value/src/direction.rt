@@ -1,0 +1,121 @@
+ghost use Rattle.std.specs.Prelude.{◌≡◌};
+ghost use Rattle.crs_value.specs.Reading.{IsReading};
+ghost use Rattle.crs_value.specs.Words.{direction_word, SpellsWord};
+
+/// The direction of an axis. ISO 19162:2019, "Axis direction".
+#[derive(Clone, Copy, Debug, PartialEq, Eq)]
+pub enum Direction {
+    /// Compass direction north.
+    North,
+    /// Compass direction north-north-east.
+    NorthNorthEast,
+    /// Compass direction north-east.
+    NorthEast,
+    /// Compass direction east-north-east.
+    EastNorthEast,
+    /// Compass direction east.
+    East,
+    /// Compass direction east-south-east.
+    EastSouthEast,
+    /// Compass direction south-east.
+    SouthEast,
+    /// Compass direction south-south-east.
+    SouthSouthEast,
+    /// Compass direction south.
+    South,
+    /// Compass direction south-south-west.
+    SouthSouthWest,
+    /// Compass direction south-west.
+    SouthWest,
+    /// Compass direction west-south-west.
+    WestSouthWest,
+    /// Compass direction west.
+    West,
+    /// Compass direction west-north-west.
+    WestNorthWest,
+    /// Compass direction north-west.
+    NorthWest,
+    /// Compass direction north-north-west.
+    NorthNorthWest,
+    /// Towards the intersection of the equator with the prime meridian, in the equatorial plane.
+    GeocentricX,
+    /// A quarter turn eastwards from `GeocentricX`, in the equatorial plane.
+    GeocentricY,
+    /// Towards the north pole, parallel to the axis of rotation.
+    GeocentricZ,
+    /// Away from the centre, against gravity.
+    Up,
+    /// Towards the centre, along gravity.
+    Down,
+    /// No direction is given.
+    Unspecified,
+}
+
+const DIRECTIONS: [Direction; 22] = [
+    Direction::North,
+    Direction::NorthNorthEast,
+    Direction::NorthEast,
+    Direction::EastNorthEast,
+    Direction::East,
+    Direction::EastSouthEast,
+    Direction::SouthEast,
+    Direction::SouthSouthEast,
+    Direction::South,
+    Direction::SouthSouthWest,
+    Direction::SouthWest,
+    Direction::WestSouthWest,
+    Direction::West,
+    Direction::WestNorthWest,
+    Direction::NorthWest,
+    Direction::NorthNorthWest,
+    Direction::GeocentricX,
+    Direction::GeocentricY,
+    Direction::GeocentricZ,
+    Direction::Up,
+    Direction::Down,
+    Direction::Unspecified,
+];
+
+impl Direction {
+    /// The word that a text has for the direction, as it is written.
+    pub fn word(&self) -> &'static str
+        ensures { result.now ≡ direction_word self.now }
+    {
+        match self {
+            Direction::North => "north",
+            Direction::NorthNorthEast => "northNorthEast",
+            Direction::NorthEast => "northEast",
+            Direction::EastNorthEast => "eastNorthEast",
+            Direction::East => "east",
+            Direction::EastSouthEast => "eastSouthEast",
+            Direction::SouthEast => "southEast",
+            Direction::SouthSouthEast => "southSouthEast",
+            Direction::South => "south",
+            Direction::SouthSouthWest => "southSouthWest",
+            Direction::SouthWest => "southWest",
+            Direction::WestSouthWest => "westSouthWest",
+            Direction::West => "west",
+            Direction::WestNorthWest => "westNorthWest",
+            Direction::NorthWest => "northWest",
+            Direction::NorthNorthWest => "northNorthWest",
+            Direction::GeocentricX => "geocentricX",
+            Direction::GeocentricY => "geocentricY",
+            Direction::GeocentricZ => "geocentricZ",
+            Direction::Up => "up",
+            Direction::Down => "down",
+            Direction::Unspecified => "unspecified",
+        }
+    }
+
+    // the direction that a word spells, letter case aside
+    pub(crate) fn read(word: &[u8]) -> Option<Direction>
+        ensures { IsReading (λ value. SpellsWord word.now (direction_word value)) result }
+    {
+        for direction in DIRECTIONS {
+            if direction.word().as_bytes().eq_ignore_ascii_case(word) {
+                return Some(direction);
+            }
+        }
+        None
+    }
+}

@@ -1,0 +1,26 @@
+//! The laws of values: calls that do nothing, and whose contracts are the laws.
+ghost use Rattle.std.specs.Prelude.{◌≡◌};
+ghost use Rattle.crs_text.specs.Items.{Item};
+ghost use Rattle.crs_text.specs.Refusal.{Refused};
+ghost use Rattle.crs_value.specs.declared.crs.Crs.{Crs};
+ghost use Rattle.crs_value.specs.Spells.{SpellsCrs, BreaksFirst, RefusesCrs};
+
+use crs_decimal::laws::denotes_one;
+
+/// An item spells one value at most. Profile.
+pub fn spells_one()
+    ensures { (item : Item) (a b : Crs) → SpellsCrs item a → SpellsCrs item b → a ≡ b }
+{
+    denotes_one();
+}
+
+/// An item that spells a value isn't refused. Profile.
+pub fn spelled_or_refused()
+    ensures { (item : Item) (value : Crs) (fault : Refused) → SpellsCrs item value → ¬
+        (RefusesCrs item fault) }
+{}
+
+/// Without a fault of shape, an item is refused with one number at one place at most. Profile.
+pub fn refused_once()
+    ensures { (item : Item) (a b : Refused) → BreaksFirst item a → BreaksFirst item b → a ≡ b }
+{}

@@ -1,0 +1,203 @@
+//! The checks of the orders of axes.
+ghost use Rattle.std.specs.Prelude.{◌≡◌, ◌≢◌, ◌↔◌, ◌≤◌, [], IsTrue, Some, length, take};
+ghost use Rattle.crs_text.specs.Items.{HasId, arguments};
+ghost use Rattle.crs_shape.specs.Shaped.{Shaped};
+ghost use Rattle.crs_value.specs.Checks.{AnyOf, IsLeast, IsPosition, HasThis, OneHas, LacksOrder, orders_in, SomeHasOrder, BadOrders, BadOrder};
+ghost use Rattle.crs_value.specs.Reading.{item_at, those};
+
+use crate::arguments::{first, later};
+use crate::checks::{Check, any_of, lesser, refusal_at};
+use crate::node::number;
+use crate::system_checks::count_of;
+use crs_decimal::Decimal;
+use crs_decimal::laws::{denotes_one, same_number_is_equivalence};
+use crs_shape::Class;
+use crs_text::{ItemId, Items, Refusal};
+
+fn is_position(value: &Decimal, n: usize) -> bool
+    ensures { IsTrue result ↔ IsPosition n value.now }
+{
+    same_number_is_equivalence();
+    match value.whole() {
+        None => false,
+        Some(whole) => is_within(whole, n),
+    }
+}
+
+fn is_within(whole: u64, n: usize) -> bool
+    ensures { IsTrue result ↔ ((1 ≤ whole) × (whole ≤ n)) }
+{
+    1 <= whole && whole <= n as u64
+}
+
+fn same_value(a: &Decimal, b: &Decimal) -> bool
+    ensures { IsTrue result ↔ (a.now ≡ b.now) }
+{
+    a == b
+}
+
+// Whether an axis has this order.
+fn has_this(items: &Items<'_>, axis: ItemId, value: &Decimal) -> bool
+    requires has { HasId items.now axis }
+    requires shaped { Shaped Class.Axis (item_at items.now axis) }
+    ensures { IsTrue result ↔ HasThis value.now (item_at items.now axis) }
+{
+    denotes_one();
+    match first(items, axis, Class::Axis, Class::Order) {
+        None => false,
+        Some(order) => same_value(&number(items, order, Class::Order), value),
+    }
+}
+
+// Whether one of the first `k` axes has this order.
+fn one_has(items: &Items<'_>, crs: ItemId, class: Class, k: usize, value: &Decimal) -> bool
+    requires crs { HasId items.now crs }
+    requires shaped { Shaped class (item_at items.now crs) }
+    requires within { k ≤ length (those class Class.Axis (arguments (item_at items.now crs))) }
+    ensures { IsTrue result ↔ OneHas value.now (take k (those class Class.Axis (arguments
+        (item_at items.now crs)))) }
+{
+    let mut at = first(items, crs, class, Class::Axis);
+    for _step in 0..k {
+        let Some(axis) = at else { unreachable!() };
+        if has_this(items, axis, value) {
+            return true;
+        }
+        at = later(items, axis, class, Class::Axis);
+    }
+    false
+}
+
+// 26: an order that is no position among the axes, or that one of the first `before` axes has.
+#[derive(Drop)]
+struct Position {
+    crs: ItemId,
+    class: Class,
+    count: usize,
+    before: usize,
+}
+
+impl Check for Position {
+    ghost use Rattle.std.specs.Prelude.{◌≡◌, ◌≤◌, length, take};
+    ghost use Rattle.crs_text.specs.Items.{HasId, arguments};
+    ghost use Rattle.crs_shape.specs.Shaped.{Shaped};
+    ghost use Rattle.crs_shape.specs.declared.class.Class.TheVariants as classes;
+    ghost use Rattle.crs_value.specs.Checks.{IsBadOrder};
+    ghost use Rattle.crs_value.specs.Reading.{item_at, those};
+
+    ghost Fits = { λ s tree class. HasId tree s.crs × Shaped s.class (item_at tree s.crs) × (class ≡ classes.Order)
+        × (s.before ≤ length (those s.class classes.Axis (arguments (item_at tree s.crs)))) };
+
+    ghost Broken = { λ s tree item f. IsBadOrder s.count (take s.before (those s.class classes.Axis (arguments (item_at tree s.crs)))) item f };
+
+    fn check(&self, items: &Items<'_>, id: ItemId, _class: Class) -> Option<Refusal> {
+        denotes_one();
+        let value = number(items, id, Class::Order);
+        if !is_position(&value, self.count) {
+            return Some(refusal_at(items, id, 26));
+        }
+        if one_has(items, self.crs, self.class, self.before, &value) {
+            return Some(refusal_at(items, id, 26));
+        }
+        None
+    }
+}
+
+// 26: an axis that lacks an order.
+struct Orderless;
+
+impl Check for Orderless {
+    ghost use Rattle.std.specs.Prelude.{◌≡◌};
+    ghost use Rattle.crs_shape.specs.declared.class.Class.TheVariants as classes;
+    ghost use Rattle.crs_value.specs.Checks.{LacksOrder};
+
+    ghost Fits = { λ s tree class. class ≡ classes.Axis };
+
+    ghost Broken = { λ s tree item f. LacksOrder item f };
+
+    fn check(&self, items: &Items<'_>, id: ItemId, _class: Class) -> Option<Refusal> {
+        match first(items, id, Class::Axis, Class::Order) {
+            None => Some(refusal_at(items, id, 26)),
+            Some(_) => None,
+        }
+    }
+}
+
+fn has_order(items: &Items<'_>, axis: ItemId) -> bool
+    requires { HasId items.now axis }
+    ensures { IsTrue result ↔ (orders_in (item_at items.now axis) ≢ []) }
+{
+    match first(items, axis, Class::Axis, Class::Order) {
+        None => false,
+        Some(_) => true,
+    }
+}
+
+// Whether some axis has an order.
+fn some_has_order(items: &Items<'_>, crs: ItemId, class: Class) -> bool
+    requires { HasId items.now crs }
+    ensures { IsTrue result ↔ SomeHasOrder (those class Class.Axis (arguments (item_at items.now crs))) }
+{
+    let mut at = first(items, crs, class, Class::Axis);
+    while let Some(axis) = at {
+        if has_order(items, axis) {
+            return true;
+        }
+        at = later(items, axis, class, Class::Axis);
+    }
+    false
+}
+
+// 26: the first order that is no position or stands twice.
+fn bad_orders(items: &Items<'_>, crs: ItemId, class: Class) -> Option<Refusal>
+    requires crs { HasId items.now crs }
+    requires shaped { Shaped class (item_at items.now crs) }
+    ensures { IsLeast (BadOrders (length (those class Class.Axis (arguments (item_at items.now crs)))) []
+        (those class Class.Axis (arguments (item_at items.now crs)))) result }
+{
+    let count = count_of(items, crs, class, Class::Axis);
+    let mut before = 0;
+    let mut least = None;
+    let mut at = first(items, crs, class, Class::Axis);
+    while let Some(axis) = at {
+        let position = Position {
+            crs,
+            class,
+            count,
+            before,
+        };
+        least = lesser(
+            least,
+            any_of(&position, items, axis, Class::Axis, Class::Order),
+        );
+        before += 1;
+        at = later(items, axis, class, Class::Axis);
+    }
+    least
+}
+
+// 26: an axis that lacks an order beside one that has it, or the first bad order.
+pub(crate) fn bad_order(items: &Items<'_>, crs: ItemId, class: Class) -> Option<Refusal>
+    requires crs { HasId items.now crs }
+    requires shaped { Shaped class (item_at items.now crs) }
+    ensures { IsLeast (BadOrder (those class Class.Axis (arguments (item_at items.now crs)))) result }
+{
+    match any_of(&Orderless, items, crs, class, Class::Axis) {
+        None => bad_orders(items, crs, class),
+        Some(lacks) => beside(items, crs, class, lacks),
+    }
+}
+
+// An axis that lacks an order counts beside one that has it.
+fn beside(items: &Items<'_>, crs: ItemId, class: Class, lacks: Refusal) -> Option<Refusal>
+    requires crs { HasId items.now crs }
+    requires lacks { IsLeast (AnyOf LacksOrder (those class Class.Axis (arguments (item_at items.now crs))))
+        (Some lacks) }
+    ensures { IsLeast (BadOrder (those class Class.Axis (arguments (item_at items.now crs)))) result }
+{
+    if some_has_order(items, crs, class) {
+        Some(lacks)
+    } else {
+        None
+    }
+}

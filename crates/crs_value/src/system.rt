@@ -1,0 +1,89 @@
+//! Coordinate systems.
+ghost use Rattle.std.specs.Prelude.{IfOk};
+ghost use Rattle.crs_text.specs.Items.{HasId, arguments};
+ghost use Rattle.crs_value.specs.Checks.{IsSound};
+ghost use Rattle.crs_value.specs.Reading.{item_at, those, Requires, ReadsFirst};
+ghost use Rattle.crs_value.specs.Reads.{ReadsType, ReadsSystem};
+
+use crate::axis::Axis;
+use crate::ident::Ident;
+use crate::list::List;
+use crate::node::{many, number, optional, required};
+use crate::system_type::SystemType;
+use crate::unit::Unit;
+use crs_decimal::Decimal;
+use crs_shape::Class;
+use crs_text::{ItemId, Items};
+use std::alloc::{AllocError, Global};
+use std::marker::Model;
+
+/// A coordinate system: `CS[type, dimension, id..]`, the axes beside it, and their shared unit.
+/// ISO 19162:2019, "Coordinate system".
+#[derive(Drop)]
+pub struct System<'a> {
+    /// The type.
+    pub system_type: SystemType,
+    /// The number of axes.
+    pub dimension: Decimal,
+    /// The identifiers, as written.
+    pub ids: List<Ident<'a>>,
+    /// The axes, as written.
+    pub axes: List<Axis<'a>>,
+    /// The unit that the axes share; None where each has its own.
+    pub unit: Option<Unit<'a>>,
+}
+
+impl<'a> Model for System<'a> {
+    ghost use Rattle.crs_value.specs.Values.{SystemParts};
+
+    ghost Value = { SystemParts };
+
+    ghost view = { λ s. record {
+      system_type = s.system_type;
+      dimension = s.dimension;
+      ids = s.ids;
+      axes = s.axes;
+      unit = s.unit;
+    } };
+}
+
+fn system_type(items: &Items<'_>, id: ItemId) -> SystemType
+    requires has { HasId items.now id }
+    requires sound { IsSound Class.CoordinateSystem (item_at items.now id) }
+    ensures { ReadsFirst ReadsType (those Class.CoordinateSystem Class.Word (arguments
+        (item_at items.now id))) result }
+{
+    let word = required(items, id, Class::CoordinateSystem, Class::Word);
+    match SystemType::read(items.raw(word)) {
+        Some(system_type) => system_type,
+        None => unreachable!(),
+    }
+}
+
+// The system of a CRS of this class: its node `CS`, and the axes and the shared unit beside that.
+pub(crate) fn read_system<'a>(
+    alloc: Global,
+    items: &Items<'a>,
+    id: ItemId,
+    class: Class,
+) -> Result<System<'a>, AllocError>
+    requires has { HasId items.now id }
+    requires sound { IsSound class (item_at items.now id) }
+    requires there { Requires class Class.CoordinateSystem 0 }
+    ensures { IfOk result (λ system. ReadsSystem class (item_at items.now id) system) }
+{
+    let head = required(items, id, class, Class::CoordinateSystem);
+    Ok(System {
+        system_type: system_type(items, head),
+        dimension: number(items, head, Class::CoordinateSystem),
+        ids: many(
+            alloc,
+            items,
+            head,
+            Class::CoordinateSystem,
+            Class::Identifier,
+        )?,
+        axes: many(alloc, items, id, class, Class::Axis)?,
+        unit: optional(alloc, items, id, class, Class::AxisUnit)?,
+    })
+}

@@ -1,0 +1,105 @@
+//! The checks of a coordinate system's type, dimension and number of axes.
+ghost use Rattle.std.specs.Prelude.{◌≡◌, ◌+◌, ◌<◌, ◌↔◌, IsTrue, [], ◌∷◌, length};
+ghost use Rattle.crs_decimal.specs.Number.{SameNumber, whole_number};
+ghost use Rattle.crs_decimal.specs.Value.{exact};
+ghost use Rattle.crs_text.specs.Items.{HasId, arguments};
+ghost use Rattle.crs_shape.specs.Shaped.{Shaped};
+ghost use Rattle.crs_value.specs.Checks.{IsLeast, HasType, IsOneOf, dimensions_of, BadSystem, BadCount};
+ghost use Rattle.crs_value.specs.Reading.{item_at, those, IsReading};
+
+use crate::arguments::{first, later};
+use crate::checks::refusal_at;
+use crate::node::{number, required};
+use crate::system_type::SystemType;
+use crs_decimal::Decimal;
+use crs_decimal::laws::{denotes_one, same_number_is_equivalence};
+use crs_shape::Class;
+use crs_text::{ItemId, Items, Refusal};
+
+// The type of a node `CS`; None where its word is no type.
+pub(crate) fn type_of(items: &Items<'_>, cs: ItemId) -> Option<SystemType>
+    requires has { HasId items.now cs }
+    requires shaped { Shaped Class.CoordinateSystem (item_at items.now cs) }
+    ensures { IsReading (HasType (item_at items.now cs)) result }
+{
+    let word = required(items, cs, Class::CoordinateSystem, Class::Word);
+    SystemType::read(items.raw(word))
+}
+
+fn is_number(value: &Decimal, n: u64) -> bool
+    ensures { IsTrue result ↔ SameNumber (exact value.now) (whole_number n) }
+{
+    same_number_is_equivalence();
+    match value.whole() {
+        None => false,
+        Some(whole) => whole == n,
+    }
+}
+
+fn is_two_or_three(value: &Decimal) -> bool
+    ensures { IsTrue result ↔ IsOneOf value.now (2 ∷ 3 ∷ []) }
+{
+    is_number(value, 2) || is_number(value, 3)
+}
+
+// Whether a CRS of this class may have a system of this type and dimension.
+fn is_allowed(class: Class, system_type: SystemType, dimension: &Decimal) -> bool
+    ensures { IsTrue result ↔ IsOneOf dimension.now (dimensions_of class system_type) }
+{
+    match (class, system_type) {
+        (Class::GeodeticCrs, SystemType::Cartesian) => is_number(dimension, 3),
+        (Class::GeodeticCrs, SystemType::Ellipsoidal) => is_two_or_three(dimension),
+        (Class::GeodeticCrs, SystemType::Spherical) => is_two_or_three(dimension),
+        (Class::GeographicCrs, SystemType::Ellipsoidal) => is_two_or_three(dimension),
+        _ => false,
+    }
+}
+
+// 23: a type and dimension that the CRS doesn't allow.
+pub(crate) fn bad_system(items: &Items<'_>, cs: ItemId, class: Class) -> Option<Refusal>
+    requires has { HasId items.now cs }
+    requires shaped { Shaped Class.CoordinateSystem (item_at items.now cs) }
+    ensures { IsLeast (BadSystem (dimensions_of class) (item_at items.now cs)) result }
+{
+    denotes_one();
+    let system_type = type_of(items, cs)?;
+    let dimension = number(items, cs, Class::CoordinateSystem);
+    if is_allowed(class, system_type, &dimension) {
+        None
+    } else {
+        Some(refusal_at(items, cs, 23))
+    }
+}
+
+// How many arguments of a class a node has.
+pub(crate) fn count_of(items: &Items<'_>, id: ItemId, parent: Class, class: Class) -> usize
+    requires { HasId items.now id }
+    ensures { result ≡ length (those parent class (arguments (item_at items.now id))) }
+{
+    let _bound = items.arg_count(id);
+    let mut count = 0;
+    let mut at = first(items, id, parent, class);
+    while let Some(found) = at {
+        count += 1;
+        at = later(items, found, parent, class);
+    }
+    count
+}
+
+// 25: a number of axes that isn't the dimension.
+pub(crate) fn bad_count(items: &Items<'_>, crs: ItemId, class: Class, cs: ItemId) -> Option<Refusal>
+    requires has { HasId items.now cs }
+    requires crs { HasId items.now crs }
+    requires shaped { Shaped Class.CoordinateSystem (item_at items.now cs) }
+    ensures { IsLeast (BadCount (those class Class.Axis (arguments (item_at items.now crs)))
+        (item_at items.now cs)) result }
+{
+    denotes_one();
+    let dimension = number(items, cs, Class::CoordinateSystem);
+    let axes = count_of(items, crs, class, Class::Axis);
+    if is_number(&dimension, axes as u64) {
+        None
+    } else {
+        Some(refusal_at(items, cs, 25))
+    }
+}

@@ -1,0 +1,50 @@
+//! The kinds of unit.
+ghost use Rattle.std.specs.Prelude.{◌≡◌};
+ghost use Rattle.crs_value.specs.Reading.{IsReading};
+ghost use Rattle.crs_value.specs.Words.{SpellsWord, unit_word};
+
+/// The kind of a unit, as its keyword says it. ISO 19162:2019, "Units".
+#[derive(Clone, Copy, Debug, PartialEq, Eq)]
+pub enum UnitKind {
+    /// `LENGTHUNIT`.
+    Length,
+    /// `ANGLEUNIT`.
+    Angle,
+    /// `SCALEUNIT`.
+    Scale,
+    /// `UNIT`, which doesn't say its kind.
+    Plain,
+}
+
+const UNIT_KINDS: [UnitKind; 4] = [
+    UnitKind::Length,
+    UnitKind::Angle,
+    UnitKind::Scale,
+    UnitKind::Plain,
+];
+
+impl UnitKind {
+    // The first keyword of a unit of this kind.
+    pub(crate) fn keyword(&self) -> &'static str
+        ensures { result.now ≡ unit_word self.now }
+    {
+        match self {
+            UnitKind::Length => "LENGTHUNIT",
+            UnitKind::Angle => "ANGLEUNIT",
+            UnitKind::Scale => "SCALEUNIT",
+            UnitKind::Plain => "UNIT",
+        }
+    }
+
+    // The kind that a keyword says, letter case aside.
+    pub(crate) fn read(word: &[u8]) -> Option<UnitKind>
+        ensures { IsReading (λ value. SpellsWord word.now (unit_word value)) result }
+    {
+        for kind in UNIT_KINDS {
+            if kind.keyword().as_bytes().eq_ignore_ascii_case(word) {
+                return Some(kind);
+            }
+        }
+        None
+    }
+}

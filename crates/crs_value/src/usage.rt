@@ -1,0 +1,199 @@
+//! Usages, and the ends of CRSs.
+
+use crate::ident::Ident;
+use crate::list::List;
+use crate::node::{Node, many, number_at, optional, optional_text};
+use crate::unit::Unit;
+use crs_decimal::Decimal;
+use crs_shape::Class;
+use crs_text::{ItemId, Items};
+use std::alloc::{AllocError, Global};
+use std::marker::Model;
+
+/// A usage, `USAGE[(scope), (area), (box), (extent)]`; or the parts of one that stand bare at a CRS's
+/// end, as in the 2015 edition. ISO 19162:2019, "Scope and extent".
+#[derive(Drop)]
+pub struct Usage<'a> {
+    /// What the CRS is for.
+    pub scope: Option<&'a [u8]>,
+    /// Where, in words.
+    pub area: Option<&'a [u8]>,
+    /// Where, as a box.
+    pub bbox: Option<BoundingBox>,
+    /// Where, in height.
+    pub extent: Option<Extent<'a>>,
+}
+
+impl<'a> Model for Usage<'a> {
+    ghost use Rattle.std.specs.Option.{option_copied};
+    ghost use Rattle.crs_value.specs.Values.{UsageParts};
+
+    ghost Value = { UsageParts };
+
+    ghost view = { λ u. record { scope = option_copied u.scope; area = option_copied u.area; bbox = u.bbox; extent = u.extent } };
+}
+
+/// A box, `BBOX[south, west, north, east]`, in degrees. ISO 19162:2019, "Geographic bounding box".
+#[derive(Drop)]
+pub struct BoundingBox {
+    /// The southern latitude.
+    pub south: Decimal,
+    /// The western longitude.
+    pub west: Decimal,
+    /// The northern latitude.
+    pub north: Decimal,
+    /// The eastern longitude.
+    pub east: Decimal,
+}
+
+impl Model for BoundingBox {
+    ghost use Rattle.crs_value.specs.Values.{BoxParts};
+
+    ghost Value = { BoxParts };
+
+    ghost view = { λ b. record { south = b.south; west = b.west; north = b.north; east = b.east } };
+}
+
+/// An extent in height, `VERTICALEXTENT[minimum, maximum, (unit)]`.
+/// ISO 19162:2019, "Vertical extent".
+#[derive(Drop)]
+pub struct Extent<'a> {
+    /// The lowest height, in the unit, in metres where none is written.
+    pub minimum: Decimal,
+    /// The greatest height, likewise.
+    pub maximum: Decimal,
+    /// The unit of both, a length.
+    pub unit: Option<Unit<'a>>,
+}
+
+impl<'a> Model for Extent<'a> {
+    ghost use Rattle.crs_value.specs.Values.{ExtentParts};
+
+    ghost Value = { ExtentParts };
+
+    ghost view = { λ e. record { minimum = e.minimum; maximum = e.maximum; unit = e.unit } };
+}
+
+/// A CRS's end: usages, bare parts of one, identifiers and a remark, in any order.
+/// ISO 19162:2019, "Scope, extent, identifier and remark"; the order is the profile's.
+#[derive(Drop)]
+pub struct Tail<'a> {
+    /// The usages, as written.
+    pub usages: List<Usage<'a>>,
+    /// The parts of a usage that stand bare; all None where none does.
+    pub bare: Usage<'a>,
+    /// The identifiers, as written.
+    pub ids: List<Ident<'a>>,
+    /// The remark.
+    pub remark: Option<&'a [u8]>,
+}
+
+impl<'a> Model for Tail<'a> {
+    ghost use Rattle.std.specs.Option.{option_copied};
+    ghost use Rattle.crs_value.specs.Values.{TailParts};
+
+    ghost Value = { TailParts };
+
+    ghost view = { λ t. record { usages = t.usages; bare = t.bare; ids = t.ids; remark = option_copied t.remark } };
+}
+
+impl<'a> Node<'a> for BoundingBox {
+    ghost use Rattle.std.specs.Prelude.{◌≡◌};
+    ghost use Rattle.crs_shape.specs.declared.class.Class.TheVariants as classes;
+    ghost use Rattle.crs_value.specs.Reading.{Requires};
+    ghost use Rattle.crs_value.specs.Reads.{ReadsBox};
+
+    ghost Suits = { λ c. Requires c classes.Number 3 };
+
+    ghost Reads = { λ c item parts. ReadsBox c item parts };
+
+    fn read(
+        _alloc: Global,
+        items: &Items<'a>,
+        id: ItemId,
+        class: Class,
+    ) -> Result<Self, AllocError> {
+        Ok(BoundingBox {
+            south: number_at(items, id, class, 0),
+            west: number_at(items, id, class, 1),
+            north: number_at(items, id, class, 2),
+            east: number_at(items, id, class, 3),
+        })
+    }
+}
+
+impl<'a> Node<'a> for Extent<'a> {
+    ghost use Rattle.std.specs.Prelude.{◌≡◌};
+    ghost use Rattle.crs_shape.specs.declared.class.Class.TheVariants as classes;
+    ghost use Rattle.crs_value.specs.Reading.{Requires};
+    ghost use Rattle.crs_value.specs.Reads.{ReadsExtent};
+
+    ghost Suits = { λ c. Requires c classes.Number 1 };
+
+    ghost Reads = { λ c item parts. ReadsExtent c item parts };
+
+    fn read(
+        alloc: Global,
+        items: &Items<'a>,
+        id: ItemId,
+        class: Class,
+    ) -> Result<Self, AllocError> {
+        Ok(Extent {
+            minimum: number_at(items, id, class, 0),
+            maximum: number_at(items, id, class, 1),
+            unit: optional(alloc, items, id, class, Class::LengthUnit)?,
+        })
+    }
+}
+
+// The parts of a usage, in a node `USAGE` or bare at a CRS's end.
+impl<'a> Node<'a> for Usage<'a> {
+    ghost use Rattle.std.specs.Prelude.{◌≡◌};
+    ghost use Rattle.crs_shape.specs.declared.class.Class.TheVariants as classes;
+    ghost use Rattle.crs_value.specs.Reading.{Requires};
+    ghost use Rattle.crs_value.specs.Reads.{ReadsUsage};
+
+    ghost Suits = { λ c. Unit {0} };
+
+    ghost Reads = { λ c item parts. ReadsUsage c item parts };
+
+    fn read(
+        alloc: Global,
+        items: &Items<'a>,
+        id: ItemId,
+        class: Class,
+    ) -> Result<Self, AllocError> {
+        Ok(Usage {
+            scope: optional_text(items, id, class, Class::Scope),
+            area: optional_text(items, id, class, Class::Area),
+            bbox: optional(alloc, items, id, class, Class::BoundingBox)?,
+            extent: optional(alloc, items, id, class, Class::VerticalExtent)?,
+        })
+    }
+}
+
+// The end of a CRS of this class.
+impl<'a> Node<'a> for Tail<'a> {
+    ghost use Rattle.std.specs.Prelude.{◌≡◌};
+    ghost use Rattle.crs_shape.specs.declared.class.Class.TheVariants as classes;
+    ghost use Rattle.crs_value.specs.Reading.{Requires};
+    ghost use Rattle.crs_value.specs.Reads.{ReadsTail};
+
+    ghost Suits = { λ c. Unit {0} };
+
+    ghost Reads = { λ c item parts. ReadsTail c item parts };
+
+    fn read(
+        alloc: Global,
+        items: &Items<'a>,
+        id: ItemId,
+        class: Class,
+    ) -> Result<Self, AllocError> {
+        Ok(Tail {
+            usages: many(alloc, items, id, class, Class::Usage)?,
+            bare: Usage::read(alloc, items, id, class)?,
+            ids: many(alloc, items, id, class, Class::Identifier)?,
+            remark: optional_text(items, id, class, Class::Remark),
+        })
+    }
+}
