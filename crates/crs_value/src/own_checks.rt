@@ -6,6 +6,7 @@ ghost use Rattle.crs_value.specs.Reading.{item_at, those};
 
 use crate::arguments::{class_in, first, later};
 use crate::checks::{Check, any_from, any_of, lesser};
+use crate::component_checks::compound;
 use crate::crs_checks::whole_crs;
 use crate::repeats::repeats;
 use crate::single_checks::{AboveZero, NotNegative, UnknownDirection, UnknownType};
@@ -35,7 +36,9 @@ fn own(items: &Items<'_>, id: ItemId, class: Class) -> Option<Refusal>
     ensures { IsLeast (Own class (item_at items.now id)) result }
 {
     match class {
-        Class::GeodeticCrs | Class::GeographicCrs => whole_crs(items, id, class),
+        Class::GeodeticCrs | Class::GeographicCrs | Class::ProjectedCrs | Class::VerticalCrs =>
+            whole_crs(items, id, class),
+        Class::CompoundCrs => compound(items, id),
         Class::GeodeticFrame | Class::VerticalFrame => repeats(items, id, class, Class::Anchor),
         Class::Ellipsoid => ellipsoid(items, id),
         Class::LengthUnit
