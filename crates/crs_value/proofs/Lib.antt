@@ -3,6 +3,7 @@ pub mod BreakLemmas
 pub mod CheckLemmas
 pub mod ComponentLemmas
 pub mod ConversionLemmas
+pub mod CrsLemmas
 pub mod FrameLemmas
 pub mod IdentLemmas
 pub mod KnownLemmas
