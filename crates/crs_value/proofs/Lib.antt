@@ -15,5 +15,6 @@ pub mod OrderLemmas
 pub mod OwnLemmas
 pub mod SpellsLemmas
 pub mod SystemLemmas
+pub mod TextLemmas
 pub mod UnitLemmas
 pub mod WordLemmas
