@@ -9,10 +9,12 @@ pub mod IdentLemmas
 pub mod KnownLemmas
 pub mod LeastLemmas
 pub mod NodeLemmas
+pub mod NumberLemmas
 pub mod OneCrsLemmas
 pub mod OneLemmas
 pub mod OrderLemmas
 pub mod OwnLemmas
+pub mod PlaceLemmas
 pub mod SpellsLemmas
 pub mod SystemLemmas
 pub mod TextLemmas

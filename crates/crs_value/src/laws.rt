@@ -1,10 +1,10 @@
 //! The laws of values: calls that do nothing, and whose contracts are the laws.
-ghost use Rattle.std.specs.Prelude.{◌≡◌, ℕ, List};
+ghost use Rattle.std.specs.Prelude.{◌≡◌, ◌≤◌, ℕ, List, length};
 ghost use Rattle.crs_text.specs.Items.{Item};
 ghost use Rattle.crs_text.specs.Refusal.{Refused};
 ghost use Rattle.crs_value.specs.declared.crs.Crs.{Crs};
 ghost use Rattle.crs_value.specs.Spells.{SpellsCrs, RefusesCrs};
-ghost use Rattle.crs_value.specs.SpellsText.{Spells, Refuses};
+ghost use Rattle.crs_value.specs.SpellsText.{Spells, Refuses, IsRefusal};
 
 use crs_decimal::laws::denotes_one;
 use crs_shape::laws::fault_at_root_is_one;
@@ -40,4 +40,13 @@ pub fn one_answer()
     crs_text::laws::one_answer();
     denotes_one();
     fault_at_root_is_one();
+}
+
+/// A refusal of a text has a number from 1 to 8, 11 to 13 or 21 to 28, and a place in the text or at its end.
+/// Profile.
+pub fn refused_within()
+    ensures { (text : List ℕ) (fault : Refused) → Refuses text fault → IsRefusal fault.number ×
+        (fault.place ≤ length text) }
+{
+    crs_text::laws::one_answer();
 }
