@@ -1,12 +1,15 @@
 pub mod ArgumentLemmas
 pub mod BreakLemmas
 pub mod CheckLemmas
+pub mod ComponentLemmas
+pub mod ConversionLemmas
 pub mod CrsLemmas
 pub mod FrameLemmas
 pub mod IdentLemmas
 pub mod KnownLemmas
 pub mod LeastLemmas
 pub mod NodeLemmas
+pub mod OneCrsLemmas
 pub mod OneLemmas
 pub mod OrderLemmas
 pub mod OwnLemmas

@@ -1,10 +1,14 @@
 pub mod Checks
+pub mod CompoundValues
+pub mod ConversionValues
 pub mod CrsValues
 pub mod Found
 pub mod Least
 pub mod Reading
 pub mod Reads
+pub mod ReadsConversion
 pub mod ReadsCrs
 pub mod Spells
+pub mod SpellsText
 pub mod Values
 pub mod Words
