@@ -1,5 +1,5 @@
 -- The faults of checks: their numbers, and their places within the text.
-use Rattle.std.proofs.Common.{◌≡◌, ℕ, zero, suc, ◌≤◌, take, drop, length, Bool, true, false, if◌then◌else◌, inl, inr, ◌⊎◌, Option, Some, None, List, [], ◌∷◌, ◌++◌, refl, sym, ap, subst, arith}
+use Rattle.std.proofs.Common.{◌≡◌, ℕ, zero, suc, ◌≤◌, take, drop, length, Bool, true, false, if◌then◌else◌, inl, inr, Option, Some, None, List, [], ◌∷◌, ◌++◌, arith}
 use Rattle.crs_text.specs.Items.{Item, leaf, node, Items, End, More, arguments}
 use Rattle.crs_text.specs.Refusal.{Refused}
 use Rattle.crs_text.specs.TextFault.{RefusesText}
@@ -23,16 +23,13 @@ module _ (total : ℕ) where
   at-good : (n : ℕ) (item : Item) (fault : Refused) → IsFrom 21 28 n → Within total item → fault ≡ at n item → Good fault
   at-good n item fault from h e = fine-as 21 28 total fault (at n item) e (from, place-within total item h)
 
+  if-all : (b : Bool) (item : Item) (items : List Item) → Within total item → All items → All (if b then item ∷ items else items)
+  if-all true item items h rest = (h, rest)
+  if-all false item items h rest = rest
+
   those-all : (parent c : Class) (items : Items) → AreWithin total items → All (those parent c items)
   those-all parent c End h = tt
-  those-all parent c (More item items) h = by (is_a parent c item)
-    where
-      rest : All (those parent c items)
-      rest = those-all parent c items h.1
-
-      by : (b : Bool) → All (if b then item ∷ those parent c items else those parent c items)
-      by true = (h.0, rest)
-      by false = rest
+  those-all parent c (More item items) h = if-all (is_a parent c item) item (those parent c items) h.0 (those-all parent c items h.1)
 
   inner-all : (parent c : Class) (item : Item) → Within total item → All (those parent c (arguments item))
   inner-all parent c item h = those-all parent c (arguments item) (arguments-within total item h)

@@ -1,5 +1,5 @@
 -- Places: what a text's items hold lies within the text, and so do the faults of its shape.
-use Rattle.std.proofs.Common.{◌≡◌, ℕ, ◌+◌, ◌≤◌, length, Bool, true, false, if◌then◌else◌, inl, inr, Option, Some, List, [], ◌∷◌, ◌++◌, refl, sym, ap, subst, arith}
+use Rattle.std.proofs.Common.{◌≡◌, ℕ, ◌+◌, ◌≤◌, length, Bool, true, false, if◌then◌else◌, inl, inr, List, [], ◌∷◌, ◌++◌, sym, subst, arith}
 use Rattle.crs_text.specs.Tokens.{Token, single, comma, opening, closing, Forms, Fronts}
 use Rattle.crs_text.specs.Items.{Item, leaf, node, Items, End, More, arguments, place_of, tokens, others_tokens}
 use Rattle.crs_text.specs.Refusal.{Refused}
@@ -50,9 +50,9 @@ mutual
   item-within : (total : ℕ) (item : Item) → TokensWithin total (tokens item) → Within total item
   item-within total (leaf kind place raw) h = h.0
   item-within total (node place keyword square first others close) h =
-      let s = split-within total (tokens first) (others_tokens others ++ closing close square ∷ []) h.1.1 in
-      let t = split-within total (others_tokens others) (closing close square ∷ []) s.1 in
-      (h.0, (t.1.0, (item-within total first s.0, items-within total others t.0)))
+      let s = split-within total (tokens first ++ others_tokens others) (closing close square ∷ []) h.1.1 in
+      let t = split-within total (tokens first) (others_tokens others) s.0 in
+      (h.0, (s.1.0, (item-within total first t.0, items-within total others t.1)))
 
   items-within : (total : ℕ) (items : Items) → TokensWithin total (others_tokens items) → AreWithin total items
   items-within total End h = tt
