@@ -4,6 +4,8 @@ pub mod CheckLemmas
 pub mod ComponentLemmas
 pub mod ConversionLemmas
 pub mod CrsLemmas
+pub mod DecideLemmas
+pub mod EitherLemmas
 pub mod FrameLemmas
 pub mod IdentLemmas
 pub mod KnownLemmas
@@ -15,6 +17,9 @@ pub mod OneLemmas
 pub mod OrderLemmas
 pub mod OwnLemmas
 pub mod PlaceLemmas
+pub mod ReadyLemmas
+pub mod SomeLeastLemmas
+pub mod SomeValueLemmas
 pub mod SpellsLemmas
 pub mod SystemLemmas
 pub mod TextLemmas
