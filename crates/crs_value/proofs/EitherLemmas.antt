@@ -15,7 +15,7 @@ use Rattle.crs_value.proofs.ArgumentLemmas.{SlotsCount}
 use Rattle.crs_value.proofs.CheckLemmas.{DenotesOne}
 use Rattle.crs_value.proofs.ReadyLemmas.{Numbers}
 use Rattle.crs_value.proofs.SomeLeastLemmas.{HasLeast, breaks-least}
-use Rattle.crs_value.proofs.SomeValueLemmas.{crs-some}
+use Rattle.crs_value.proofs.SomeCrsLemmas.{crs-some}
 use Rattle.crs_value.proofs.SpellsLemmas.{NoFaultIsShape, root-shaped, root-among}
 
 abbrev pub NodeOrRefusal : Type 0

@@ -18,6 +18,7 @@ pub mod OrderLemmas
 pub mod OwnLemmas
 pub mod PlaceLemmas
 pub mod ReadyLemmas
+pub mod SomeCrsLemmas
 pub mod SomeLeastLemmas
 pub mod SomeValueLemmas
 pub mod SpellsLemmas

@@ -1,28 +1,19 @@
 -- What an item says, where it is sound and its tokens are well formed: there is a value.
-use Rattle.std.proofs.Common.{◌≡◌, ℕ, zero, suc, inl, inr, drop, Option, Some, None, List, [], ◌∷◌, refl, sym, subst, arith}
+use Rattle.std.proofs.Common.{◌≡◌, ℕ, zero, suc, inl, inr, drop, Option, Some, None, List, [], ◌∷◌, refl, arith}
 use Rattle.crs_decimal.specs.Value.{Value}
 use Rattle.crs_text.specs.Items.{Item, arguments, raw_of, skip}
 use Rattle.crs_text.specs.Written.{AreFormed}
 use Rattle.crs_shape.specs.declared.class.Class.{Class}
 use Rattle.crs_shape.specs.declared.class.Class.TheVariants as class
-use Rattle.crs_shape.specs.Keywords.{root_classes}
-use Rattle.crs_value.specs.declared.compound.Horizontal.{Horizontal}
-use Rattle.crs_value.specs.declared.compound.Horizontal.TheVariants as horizontals
-use Rattle.crs_value.specs.declared.crs.Crs.TheVariants as crs
-use Rattle.crs_value.specs.declared.frame.Frame.TheVariants as frames
 use Rattle.crs_value.specs.declared.system_type.SystemType.{SystemType}
 use Rattle.crs_value.specs.declared.unit_kind.UnitKind.{UnitKind}
 use Rattle.crs_value.specs.Checks.{IsSound}
-use Rattle.crs_value.specs.Found.{IsAmong}
-use Rattle.crs_value.specs.Reading.{those, Requires, RequiresOneOf, ReadsFirst, ReadsOptional, ReadsEach, ReadsElse}
+use Rattle.crs_value.specs.Reading.{those, Requires, ReadsFirst, ReadsOptional, ReadsEach, ReadsElse}
 use Rattle.crs_value.specs.Reads.{ReadsText, ReadsNumber, ReadsType, ReadsDirection, ReadsKind, ReadsTextOf, ReadsNumberOf, ReadsNumberAt, single_of, IsUnitClass, ReadsIdent, ReadsIds, ReadsUnit, ReadsAxisMeridian, ReadsAxis, ReadsHead, ReadsSystem, ReadsEllipsoid, ReadsMeridian, ReadsMember, ReadsDatum, ReadsEnsemble, ReadsBox, ReadsExtent, ReadsUsage, ReadsTail}
-use Rattle.crs_value.specs.ReadsConversion.{ReadsMethod, ReadsAsUnit, ReadsUnitOf, parameter_units, ReadsParameter, ReadsConversion, ReadsGeoidModel}
-use Rattle.crs_value.specs.ReadsCrs.{IsGeodeticClass, ReadsAsDatum, ReadsAsEnsemble, ReadsFrame, ReadsGeodetic, ReadsBase, ReadsProjected, ReadsVertical, ReadsAsHorizontal, ReadsHorizontal, ReadsCompound, ReadsCrs}
 use Rattle.crs_value.specs.Values.{IdentParts, AxisParts, UnitParts, SystemParts}
 use Rattle.crs_value.specs.Words.{SpellsWord, unit_word}
 use Rattle.crs_value.proofs.ArgumentLemmas.{AllSound, SlotsCount, arguments-sound, not-none}
 use Rattle.crs_value.proofs.DecideLemmas.{Decided, Known, decided-word, decided-kinds, type-known, direction-known}
-use Rattle.crs_value.proofs.FrameLemmas.{one-there}
 use Rattle.crs_value.proofs.IdentLemmas.{code-there}
 use Rattle.crs_value.proofs.KnownLemmas.{known-direction, known-type, known-kind}
 use Rattle.crs_value.proofs.NodeLemmas.{number-there}
@@ -35,7 +26,7 @@ Exists {V = V} R = (value : V) × R value
 abbrev pub Good : Class → Item → Type 0
 Good c item = IsSound c item × AreFormed item
 
-abbrev AllGood : Class → List Item → Type 0
+abbrev pub AllGood : Class → List Item → Type 0
 AllGood c [] = Unit {0}
 AllGood c (item ∷ items) = Good c item × AllGood c items
 
@@ -43,7 +34,7 @@ both-good : (c : Class) (items : List Item) → AllSound c items → AllFormed i
 both-good c [] sound formed = tt
 both-good c (item ∷ items) sound formed = ((sound.0, formed.0), both-good c items sound.1 formed.1)
 
-inner-good : (parent c : Class) (item : Item) → Good parent item → AllGood c (those parent c (arguments item))
+pub inner-good : (parent c : Class) (item : Item) → Good parent item → AllGood c (those parent c (arguments item))
 inner-good parent c item g = both-good c (those parent c (arguments item)) (arguments-sound parent c item g.0) (inner-formed parent c item g.1)
 
 drop-good : (c : Class) (n : ℕ) (items : List Item) → AllGood c items → AllGood c (drop n items)
@@ -54,7 +45,7 @@ drop-good c (suc n) (item ∷ items) h = drop-good c n items h.1
 
 -- ---- readings of lists
 
-first-of : {V : Type 0} (R : Item → V → Type 0) (c : Class) → ((i : Item) → Good c i → Exists (R i)) → (items : List Item) → (items ≡ [] → ⊥) → AllGood c items → Exists (ReadsFirst R items)
+pub first-of : {V : Type 0} (R : Item → V → Type 0) (c : Class) → ((i : Item) → Good c i → Exists (R i)) → (items : List Item) → (items ≡ [] → ⊥) → AllGood c items → Exists (ReadsFirst R items)
 first-of R c one [] some g = absurd (some refl)
 first-of R c one (item ∷ items) some g = one item g.0
 
@@ -69,7 +60,7 @@ each-of R c one (item ∷ items) g =
     let rest = each-of R c one items g.1 in
     (h.0 ∷ rest.0, (h.1, rest.1))
 
-else-of : {V : Type 0} (R : Item → V → Type 0) (Other : V → Type 0) (c : Class) → ((i : Item) → Good c i → Exists (R i)) → (items : List Item) → AllGood c items →
+pub else-of : {V : Type 0} (R : Item → V → Type 0) (Other : V → Type 0) (c : Class) → ((i : Item) → Good c i → Exists (R i)) → (items : List Item) → AllGood c items →
     (items ≡ [] → Exists Other) → Exists (ReadsElse R items Other)
 else-of R Other c one [] g other = other refl
 else-of R Other c one (item ∷ items) g other = one item g.0
@@ -83,29 +74,29 @@ text-optional [] = (None, tt)
 text-optional (item ∷ items) = (Some (raw_of item), refl)
 
 module _ (numbers : Numbers) (slots : SlotsCount) where
-  first-some : {V : Type 0} (R : Item → V → Type 0) (parent c : Class) (item : Item) → Good parent item → Requires parent c 0 → ((i : Item) → Good c i → Exists (R i)) →
+  pub first-some : {V : Type 0} (R : Item → V → Type 0) (parent c : Class) (item : Item) → Good parent item → Requires parent c 0 → ((i : Item) → Good c i → Exists (R i)) →
       Exists (ReadsFirst R (those parent c (arguments item)))
   first-some R parent c item g some one =
       first-of R c one (those parent c (arguments item)) (λ e. not-none slots parent c item g.0.shaped some e) (inner-good parent c item g)
 
-  optional-some : {V : Type 0} (R : Item → V → Type 0) (parent c : Class) (item : Item) → Good parent item → ((i : Item) → Good c i → Exists (R i)) →
+  pub optional-some : {V : Type 0} (R : Item → V → Type 0) (parent c : Class) (item : Item) → Good parent item → ((i : Item) → Good c i → Exists (R i)) →
       Exists (ReadsOptional R (those parent c (arguments item)))
   optional-some R parent c item g one = optional-of R c one (those parent c (arguments item)) (inner-good parent c item g)
 
-  each-some : {V : Type 0} (R : Item → V → Type 0) (parent c : Class) (item : Item) → Good parent item → ((i : Item) → Good c i → Exists (R i)) →
+  pub each-some : {V : Type 0} (R : Item → V → Type 0) (parent c : Class) (item : Item) → Good parent item → ((i : Item) → Good c i → Exists (R i)) →
       Exists (ReadsEach R (those parent c (arguments item)))
   each-some R parent c item g one = each-of R c one (those parent c (arguments item)) (inner-good parent c item g)
 
-  text-some : (c : Class) (item : Item) → Good c item → Requires c class.Text 0 → Exists (ReadsTextOf c item)
+  pub text-some : (c : Class) (item : Item) → Good c item → Requires c class.Text 0 → Exists (ReadsTextOf c item)
   text-some c item g some = first-some ReadsText c class.Text item g some (λ i h. (raw_of i, refl))
 
   value-some : (item : Item) → Good class.Number item → Exists (ReadsNumber item)
   value-some item g = number-some numbers item (g.0.shaped, g.1)
 
-  number-of-some : (c : Class) (item : Item) → Good c item → Requires c class.Number 0 → Exists (ReadsNumberOf c item)
+  pub number-of-some : (c : Class) (item : Item) → Good c item → Requires c class.Number 0 → Exists (ReadsNumberOf c item)
   number-of-some c item g some = first-some ReadsNumber c class.Number item g some value-some
 
-  number-at-some : (k : ℕ) (c : Class) (item : Item) → Good c item → Requires c class.Number k → Exists (ReadsNumberAt k c item)
+  pub number-at-some : (k : ℕ) (c : Class) (item : Item) → Good c item → Requires c class.Number k → Exists (ReadsNumberAt k c item)
   number-at-some k c item g some =
       first-of ReadsNumber class.Number value-some (drop k (those c class.Number (arguments item)))
       (λ e. number-there slots item c class.Number item k k g.0.shaped some (omega arith) e) (drop-good class.Number k (those c class.Number (arguments item)) (inner-good c class.Number item g))
@@ -119,7 +110,7 @@ module _ (numbers : Numbers) (slots : SlotsCount) where
       let uri = optional-some (ReadsTextOf class.Uri) class.Identifier class.Uri item g (λ i h. text-some class.Uri i h (omega arith)) in
       (record { authority = authority.0; code = code.0; version = version.0; citation = citation.0; uri = uri.0 }, record { authority = authority.1; code = code.1; version = version.1; citation = citation.1; uri = uri.1 })
 
-  ids-some : (c : Class) (item : Item) → Good c item → Exists (ReadsIds c item)
+  pub ids-some : (c : Class) (item : Item) → Good c item → Exists (ReadsIds c item)
   ids-some c item g = each-some (ReadsIdent class.Identifier) c class.Identifier item g ident-some
 
   -- ---- units and systems
@@ -139,7 +130,7 @@ module _ (numbers : Numbers) (slots : SlotsCount) where
   unit-needs class.AxisUnit is = (omega arith, omega arith)
   unit-needs other is = absurd is
 
-  unit-some : (c : Class) → IsUnitClass c → (item : Item) → Good c item → Exists (ReadsUnit c item)
+  pub unit-some : (c : Class) → IsUnitClass c → (item : Item) → Good c item → Exists (ReadsUnit c item)
   unit-some c is item g =
       let kind = kind-some c is item g in
       let name = text-some c item g (unit-needs c is).0 in
@@ -199,7 +190,7 @@ module _ (numbers : Numbers) (slots : SlotsCount) where
       let ids = ids-some class.CoordinateSystem cs g.0 in
       (t.0, (d.0, (ids.0, record { system_type = t.1; dimension = d.1; ids = ids.1 })))
 
-  system-some : (c : Class) (item : Item) → Good c item → Requires c class.CoordinateSystem 0 → Exists (ReadsSystem c item)
+  pub system-some : (c : Class) (item : Item) → Good c item → Requires c class.CoordinateSystem 0 → Exists (ReadsSystem c item)
   system-some c item g some =
       let axes = each-some (ReadsAxis class.Axis) c class.Axis item g axis-some in
       let unit = optional-some (ReadsUnit class.AxisUnit) c class.AxisUnit item g (unit-some class.AxisUnit tt) in
@@ -210,7 +201,7 @@ module _ (numbers : Numbers) (slots : SlotsCount) where
 
   -- ---- frames
 
-  ellipsoid-some : (item : Item) → Good class.Ellipsoid item → Exists (ReadsEllipsoid class.Ellipsoid item)
+  pub ellipsoid-some : (item : Item) → Good class.Ellipsoid item → Exists (ReadsEllipsoid class.Ellipsoid item)
   ellipsoid-some item g =
       let name = text-some class.Ellipsoid item g (omega arith) in
       let semi_major_axis = number-at-some 0 class.Ellipsoid item g (omega arith) in
@@ -219,7 +210,7 @@ module _ (numbers : Numbers) (slots : SlotsCount) where
       let ids = ids-some class.Ellipsoid item g in
       (record { name = name.0; semi_major_axis = semi_major_axis.0; inverse_flattening = inverse_flattening.0; unit = unit.0; ids = ids.0 }, record { name = name.1; semi_major_axis = semi_major_axis.1; inverse_flattening = inverse_flattening.1; unit = unit.1; ids = ids.1 })
 
-  meridian-some : (item : Item) → Good class.PrimeMeridian item → Exists (ReadsMeridian class.PrimeMeridian item)
+  pub meridian-some : (item : Item) → Good class.PrimeMeridian item → Exists (ReadsMeridian class.PrimeMeridian item)
   meridian-some item g =
       let name = text-some class.PrimeMeridian item g (omega arith) in
       let longitude = number-of-some class.PrimeMeridian item g (omega arith) in
@@ -233,7 +224,7 @@ module _ (numbers : Numbers) (slots : SlotsCount) where
       let ids = ids-some class.Member item g in
       (record { name = name.0; ids = ids.0 }, record { name = name.1; ids = ids.1 })
 
-  datum-some : (c : Class) → Requires c class.Text 0 → (item : Item) → Good c item → Exists (ReadsDatum c item)
+  pub datum-some : (c : Class) → Requires c class.Text 0 → (item : Item) → Good c item → Exists (ReadsDatum c item)
   datum-some c named item g =
       let name = text-some c item g named in
       let ellipsoid = optional-some (ReadsEllipsoid class.Ellipsoid) c class.Ellipsoid item g (ellipsoid-some) in
@@ -241,7 +232,7 @@ module _ (numbers : Numbers) (slots : SlotsCount) where
       let ids = ids-some c item g in
       (record { name = name.0; ellipsoid = ellipsoid.0; anchor = anchor.0; ids = ids.0 }, record { name = name.1; ellipsoid = ellipsoid.1; anchor = anchor.1; ids = ids.1 })
 
-  ensemble-some : (c : Class) → Requires c class.Text 0 → Requires c class.EnsembleAccuracy 0 → (item : Item) → Good c item → Exists (ReadsEnsemble c item)
+  pub ensemble-some : (c : Class) → Requires c class.Text 0 → Requires c class.EnsembleAccuracy 0 → (item : Item) → Good c item → Exists (ReadsEnsemble c item)
   ensemble-some c named exact item g =
       let name = text-some c item g named in
       let members = each-some (ReadsMember class.Member) c class.Member item g (member-some) in
@@ -275,156 +266,10 @@ module _ (numbers : Numbers) (slots : SlotsCount) where
       let extent = optional-some (ReadsExtent class.VerticalExtent) c class.VerticalExtent item g (extent-some) in
       (record { scope = scope.0; area = area.0; bbox = bbox.0; extent = extent.0 }, record { scope = scope.1; area = area.1; bbox = bbox.1; extent = extent.1 })
 
-  tail-some : (c : Class) (item : Item) → Good c item → Exists (ReadsTail c item)
+  pub tail-some : (c : Class) (item : Item) → Good c item → Exists (ReadsTail c item)
   tail-some c item g =
       let usages = each-some (ReadsUsage class.Usage) c class.Usage item g (usage-some class.Usage) in
       let bare = usage-some c item g in
       let ids = ids-some c item g in
       let remark = optional-some (ReadsTextOf class.Remark) c class.Remark item g (λ i h. text-some class.Remark i h (omega arith)) in
       (record { usages = usages.0; bare = bare.0; ids = ids.0; remark = remark.0 }, record { usages = usages.1; bare = bare.1; ids = ids.1; remark = remark.1 })
-
-  -- ---- conversions
-
-  method-some : (item : Item) → Good class.Method item → Exists (ReadsMethod class.Method item)
-  method-some item g =
-      let name = text-some class.Method item g (omega arith) in
-      let ids = ids-some class.Method item g in
-      (record { name = name.0; ids = ids.0 }, record { name = name.1; ids = ids.1 })
-
-  abbrev AreUnitClasses : List Class → Type 0
-  AreUnitClasses [] = Unit {0}
-  AreUnitClasses (d ∷ ds) = IsUnitClass d × AreUnitClasses ds
-
-  as_unit-some : (d : Class) → IsUnitClass d → (item : Item) → Good d item → Exists (ReadsAsUnit d item)
-  as_unit-some d is item g = let unit = unit-some d is item g in (Some unit.0, unit.1)
-
-  unit_of-some : (ds : List Class) → AreUnitClasses ds → (c : Class) (item : Item) → Good c item → Exists (ReadsUnitOf ds c item)
-  unit_of-some [] are c item g = (None, tt)
-  unit_of-some (d ∷ ds) are c item g =
-      else-of (ReadsAsUnit d) (ReadsUnitOf ds c item) d (as_unit-some d are.0) (those c d (arguments item)) (inner-good c d item g) (λ e. unit_of-some ds are.1 c item g)
-
-  parameter-some : (item : Item) → Good class.Parameter item → Exists (ReadsParameter class.Parameter item)
-  parameter-some item g =
-      let name = text-some class.Parameter item g (omega arith) in
-      let value = number-of-some class.Parameter item g (omega arith) in
-      let unit = unit_of-some parameter_units (tt, (tt, (tt, (tt, tt)))) class.Parameter item g in
-      let ids = ids-some class.Parameter item g in
-      (record { name = name.0; value = value.0; unit = unit.0; ids = ids.0 }, record { name = name.1; value = value.1; unit = unit.1; ids = ids.1 })
-
-  conversion-some : (item : Item) → Good class.Conversion item → Exists (ReadsConversion class.Conversion item)
-  conversion-some item g =
-      let name = text-some class.Conversion item g (omega arith) in
-      let method = first-some (ReadsMethod class.Method) class.Conversion class.Method item g (omega arith) (method-some) in
-      let parameters = each-some (ReadsParameter class.Parameter) class.Conversion class.Parameter item g (parameter-some) in
-      let ids = ids-some class.Conversion item g in
-      (record { name = name.0; method = method.0; parameters = parameters.0; ids = ids.0 }, record { name = name.1; method = method.1; parameters = parameters.1; ids = ids.1 })
-
-  geoid_model-some : (item : Item) → Good class.GeoidModel item → Exists (ReadsGeoidModel class.GeoidModel item)
-  geoid_model-some item g =
-      let name = text-some class.GeoidModel item g (omega arith) in
-      let ids = ids-some class.GeoidModel item g in
-      (record { name = name.0; ids = ids.0 }, record { name = name.1; ids = ids.1 })
-
-  -- ---- coordinate reference systems
-
-  as_datum-some : (d : Class) → Requires d class.Text 0 → (item : Item) → Good d item → Exists (ReadsAsDatum d item)
-  as_datum-some d named item g = let datum = datum-some d named item g in (frames.Datum datum.0, datum.1)
-
-  as_ensemble-some : (e : Class) → Requires e class.Text 0 → Requires e class.EnsembleAccuracy 0 → (item : Item) → Good e item → Exists (ReadsAsEnsemble e item)
-  as_ensemble-some e named exact item g = let ensemble = ensemble-some e named exact item g in (frames.Ensemble ensemble.0, ensemble.1)
-
-  frame-some : (d e c : Class) (item : Item) → Good c item → RequiresOneOf c (d ∷ e ∷ []) → Requires d class.Text 0 → Requires e class.Text 0 → Requires e class.EnsembleAccuracy 0 →
-      Exists (ReadsFrame d e c item)
-  frame-some d e c item g some named called exact =
-      else-of (ReadsAsDatum d) (ReadsFirst (ReadsAsEnsemble e) (those c e (arguments item))) d (as_datum-some d named) (those c d (arguments item)) (inner-good c d item g)
-      (λ none. first-of (ReadsAsEnsemble e) e (as_ensemble-some e called exact) (those c e (arguments item))
-      (λ empty. one-there slots c (d ∷ e ∷ []) item g.0.shaped some (none, (empty, tt))) (inner-good c e item g))
-
-  geodetic-needs : (c : Class) → IsGeodeticClass c →
-      Requires c class.Text 0 × (RequiresOneOf c (class.GeodeticFrame ∷ class.GeodeticEnsemble ∷ []) × Requires c class.CoordinateSystem 0)
-  geodetic-needs class.GeodeticCrs is = (omega arith, (omega arith, omega arith))
-  geodetic-needs class.GeographicCrs is = (omega arith, (omega arith, omega arith))
-  geodetic-needs other is = absurd is
-
-  geodetic-some : (c : Class) → IsGeodeticClass c → (item : Item) → Good c item → Exists (ReadsGeodetic c item)
-  geodetic-some c is item g =
-      let name = text-some c item g (geodetic-needs c is).0 in
-      let frame = frame-some class.GeodeticFrame class.GeodeticEnsemble c item g (geodetic-needs c is).1.0 (omega arith) (omega arith) (omega arith) in
-      let meridian = optional-some (ReadsMeridian class.PrimeMeridian) c class.PrimeMeridian item g (meridian-some) in
-      let system = system-some c item g (geodetic-needs c is).1.1 in
-      let tail = tail-some c item g in
-      (record { name = name.0; frame = frame.0; meridian = meridian.0; system = system.0; tail = tail.0 }, record { name = name.1; frame = frame.1; meridian = meridian.1; system = system.1; tail = tail.1 })
-
-  base-some : (item : Item) → Good class.BaseCrs item → Exists (ReadsBase class.BaseCrs item)
-  base-some item g =
-      let name = text-some class.BaseCrs item g (omega arith) in
-      let frame = frame-some class.GeodeticFrame class.GeodeticEnsemble class.BaseCrs item g (omega arith) (omega arith) (omega arith) (omega arith) in
-      let meridian = optional-some (ReadsMeridian class.PrimeMeridian) class.BaseCrs class.PrimeMeridian item g (meridian-some) in
-      let unit = optional-some (ReadsUnit class.AngleUnit) class.BaseCrs class.AngleUnit item g (unit-some class.AngleUnit tt) in
-      let ids = ids-some class.BaseCrs item g in
-      (record { name = name.0; frame = frame.0; meridian = meridian.0; unit = unit.0; ids = ids.0 }, record { name = name.1; frame = frame.1; meridian = meridian.1; unit = unit.1; ids = ids.1 })
-
-  projected-some : (item : Item) → Good class.ProjectedCrs item → Exists (ReadsProjected class.ProjectedCrs item)
-  projected-some item g =
-      let name = text-some class.ProjectedCrs item g (omega arith) in
-      let base = first-some (ReadsBase class.BaseCrs) class.ProjectedCrs class.BaseCrs item g (omega arith) (base-some) in
-      let conversion = first-some (ReadsConversion class.Conversion) class.ProjectedCrs class.Conversion item g (omega arith) (conversion-some) in
-      let system = system-some class.ProjectedCrs item g (omega arith) in
-      let tail = tail-some class.ProjectedCrs item g in
-      (record { name = name.0; base = base.0; conversion = conversion.0; system = system.0; tail = tail.0 }, record { name = name.1; base = base.1; conversion = conversion.1; system = system.1; tail = tail.1 })
-
-  vertical-some : (item : Item) → Good class.VerticalCrs item → Exists (ReadsVertical class.VerticalCrs item)
-  vertical-some item g =
-      let name = text-some class.VerticalCrs item g (omega arith) in
-      let frame = frame-some class.VerticalFrame class.VerticalEnsemble class.VerticalCrs item g (omega arith) (omega arith) (omega arith) (omega arith) in
-      let system = system-some class.VerticalCrs item g (omega arith) in
-      let geoid_models = each-some (ReadsGeoidModel class.GeoidModel) class.VerticalCrs class.GeoidModel item g (geoid_model-some) in
-      let tail = tail-some class.VerticalCrs item g in
-      (record { name = name.0; frame = frame.0; system = system.0; geoid_models = geoid_models.0; tail = tail.0 }, record { name = name.1; frame = frame.1; system = system.1; geoid_models = geoid_models.1; tail = tail.1 })
-
-  as_geodetic-some : (c : Class) → IsGeodeticClass c → (item : Item) → Good c item → Exists (ReadsAsHorizontal c item)
-  as_geodetic-some c is item g = let geodetic = geodetic-some c is item g in (horizontals.Geodetic geodetic.0, (is, geodetic.1))
-
-  as_projected-some : (item : Item) → Good class.ProjectedCrs item → Exists (ReadsAsHorizontal class.ProjectedCrs item)
-  as_projected-some item g = let projected = projected-some item g in (horizontals.Projected projected.0, (refl, projected.1))
-
-  horizontal-some : (item : Item) → Good class.CompoundCrs item → Exists (ReadsHorizontal class.CompoundCrs item)
-  horizontal-some item g =
-      else-of (ReadsAsHorizontal class.GeodeticCrs) Geographic class.GeodeticCrs (as_geodetic-some class.GeodeticCrs tt) (those class.CompoundCrs class.GeodeticCrs (arguments item))
-      (inner-good class.CompoundCrs class.GeodeticCrs item g) geographic
-    where
-      Projected : Horizontal → Type 0
-      Projected value = ReadsFirst (ReadsAsHorizontal class.ProjectedCrs) (those class.CompoundCrs class.ProjectedCrs (arguments item)) value
-
-      Geographic : Horizontal → Type 0
-      Geographic value = ReadsElse (ReadsAsHorizontal class.GeographicCrs) (those class.CompoundCrs class.GeographicCrs (arguments item)) Projected value
-
-      geographic : those class.CompoundCrs class.GeodeticCrs (arguments item) ≡ [] → Exists Geographic
-      geographic none =
-          else-of (ReadsAsHorizontal class.GeographicCrs) Projected class.GeographicCrs (as_geodetic-some class.GeographicCrs tt)
-          (those class.CompoundCrs class.GeographicCrs (arguments item)) (inner-good class.CompoundCrs class.GeographicCrs item g)
-          (λ lacks. first-of (ReadsAsHorizontal class.ProjectedCrs) class.ProjectedCrs as_projected-some (those class.CompoundCrs class.ProjectedCrs (arguments item))
-          (λ empty. one-there slots class.CompoundCrs (class.GeodeticCrs ∷ class.GeographicCrs ∷ class.ProjectedCrs ∷ []) item g.0.shaped (omega arith) (none, (lacks, (empty, tt))))
-          (inner-good class.CompoundCrs class.ProjectedCrs item g))
-
-  compound-some : (item : Item) → Good class.CompoundCrs item → Exists (ReadsCompound class.CompoundCrs item)
-  compound-some item g =
-      let name = text-some class.CompoundCrs item g (omega arith) in
-      let horizontal = horizontal-some item g in
-      let vertical = first-some (ReadsVertical class.VerticalCrs) class.CompoundCrs class.VerticalCrs item g (omega arith) (vertical-some) in
-      let tail = tail-some class.CompoundCrs item g in
-      (record { name = name.0; horizontal = horizontal.0; vertical = vertical.0; tail = tail.0 }, record { name = name.1; horizontal = horizontal.1; vertical = vertical.1; tail = tail.1 })
-
-  abbrev Read : Item → Class → Type 0
-  Read item c = Good c item → Exists (ReadsCrs c item)
-
-  as_crs-some : (c : Class) → IsGeodeticClass c → (item : Item) → Read item c
-  as_crs-some c is item g = let geodetic = geodetic-some c is item g in (crs.Geodetic geodetic.0, (is, geodetic.1))
-
-  pub crs-some : (item : Item) (c : Class) → IsAmong root_classes c → Good c item → Exists (ReadsCrs c item)
-  crs-some item c (inl e) = subst (Read item) (sym e) (as_crs-some class.GeodeticCrs tt item)
-  crs-some item c (inr (inl e)) = subst (Read item) (sym e) (as_crs-some class.GeographicCrs tt item)
-  crs-some item c (inr (inr (inl e))) = subst (Read item) (sym e) (λ g. let projected = projected-some item g in (crs.Projected projected.0, (refl, projected.1)))
-  crs-some item c (inr (inr (inr (inl e)))) = subst (Read item) (sym e) (λ g. let vertical = vertical-some item g in (crs.Vertical vertical.0, (refl, vertical.1)))
-  crs-some item c (inr (inr (inr (inr (inl e))))) = subst (Read item) (sym e) (λ g. let compound = compound-some item g in (crs.Compound compound.0, (refl, compound.1)))
-  crs-some item c (inr (inr (inr (inr (inr no_class))))) = absurd no_class
