@@ -9,11 +9,14 @@ pub mod IdentLemmas
 pub mod KnownLemmas
 pub mod LeastLemmas
 pub mod NodeLemmas
+pub mod NumberLemmas
 pub mod OneCrsLemmas
 pub mod OneLemmas
 pub mod OrderLemmas
 pub mod OwnLemmas
+pub mod PlaceLemmas
 pub mod SpellsLemmas
 pub mod SystemLemmas
+pub mod TextLemmas
 pub mod UnitLemmas
 pub mod WordLemmas

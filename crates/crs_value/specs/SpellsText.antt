@@ -1,5 +1,5 @@
 -- Which value a text spells, and with which number and place it is refused.
-use Rattle.std.specs.Prelude.{ℕ, List, ◌⊎◌}
+use Rattle.std.specs.Prelude.{ℕ, ◌≤◌, List, ◌⊎◌}
 use Rattle.crs_text.specs.Items.{Item}
 use Rattle.crs_text.specs.Refusal.{Refused}
 use Rattle.crs_text.specs.TextFault.{SpellsNode, RefusesText}
@@ -20,3 +20,11 @@ Refuses text fault = RefusesText text fault.number fault.place ⊎ ((item : Item
 abbrev pub IsFaultOfText : List ℕ → Fault → Type 0
 IsFaultOfText text (faults.Refused refusal) = Refuses text refusal
 IsFaultOfText text (faults.Memory e) = Unit {0}
+
+-- the number is from the one to the other
+abbrev pub IsFrom : ℕ → ℕ → ℕ → Type 0
+IsFrom low high n = (low ≤ n) × (n ≤ high)
+
+-- the numbers of refusals: of a text, of its shape, of its value
+abbrev pub IsRefusal : ℕ → Type 0
+IsRefusal n = IsFrom 1 8 n ⊎ (IsFrom 11 13 n ⊎ IsFrom 21 28 n)

@@ -46,7 +46,12 @@ impl<'a> Model for Compound<'a> {
 
     ghost Value = { CompoundParts };
 
-    ghost view = { λ c. record { name = c.name.now; horizontal = c.horizontal; vertical = c.vertical; tail = c.tail } };
+    ghost view = { λ c. record {
+      name = c.name.now;
+      horizontal = c.horizontal;
+      vertical = c.vertical;
+      tail = c.tail;
+    } };
 }
 
 // The horizontal part of a compound CRS.

@@ -1,11 +1,13 @@
 //! The laws of values: calls that do nothing, and whose contracts are the laws.
-ghost use Rattle.std.specs.Prelude.{◌≡◌};
+ghost use Rattle.std.specs.Prelude.{◌≡◌, ◌≤◌, ℕ, List, length};
 ghost use Rattle.crs_text.specs.Items.{Item};
 ghost use Rattle.crs_text.specs.Refusal.{Refused};
 ghost use Rattle.crs_value.specs.declared.crs.Crs.{Crs};
-ghost use Rattle.crs_value.specs.Spells.{SpellsCrs, BreaksFirst, RefusesCrs};
+ghost use Rattle.crs_value.specs.Spells.{SpellsCrs, RefusesCrs};
+ghost use Rattle.crs_value.specs.SpellsText.{Spells, Refuses, IsRefusal};
 
 use crs_decimal::laws::denotes_one;
+use crs_shape::laws::fault_at_root_is_one;
 
 /// An item spells one value at most. Profile.
 pub fn spells_one()
@@ -20,7 +22,31 @@ pub fn spelled_or_refused()
         (RefusesCrs item fault) }
 {}
 
-/// Without a fault of shape, an item is refused with one number at one place at most. Profile.
+/// An item is refused with one number at one place at most. Profile.
 pub fn refused_once()
-    ensures { (item : Item) (a b : Refused) → BreaksFirst item a → BreaksFirst item b → a ≡ b }
-{}
+    ensures { (item : Item) (a b : Refused) → RefusesCrs item a → RefusesCrs item b → a ≡ b }
+{
+    fault_at_root_is_one();
+}
+
+/// A text spells one value at most, or is refused with one number at one place at most, and never both.
+/// Profile.
+pub fn one_answer()
+    ensures value { (text : List ℕ) (a b : Crs) → Spells text a → Spells text b → a ≡ b }
+    ensures refusal { (text : List ℕ) (a b : Refused) → Refuses text a → Refuses text b → a ≡ b }
+    ensures apart { (text : List ℕ) (value : Crs) (fault : Refused) → Spells text value → ¬
+        (Refuses text fault) }
+{
+    crs_text::laws::one_answer();
+    denotes_one();
+    fault_at_root_is_one();
+}
+
+/// A refusal of a text has a number from 1 to 8, 11 to 13 or 21 to 28, and a place in the text or at its end.
+/// Profile.
+pub fn refused_within()
+    ensures { (text : List ℕ) (fault : Refused) → Refuses text fault → IsRefusal fault.number ×
+        (fault.place ≤ length text) }
+{
+    crs_text::laws::one_answer();
+}

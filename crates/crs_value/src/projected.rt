@@ -36,7 +36,13 @@ impl<'a> Model for Projected<'a> {
 
     ghost Value = { ProjectedParts };
 
-    ghost view = { λ p. record { name = p.name.now; base = p.base; conversion = p.conversion; system = p.system; tail = p.tail } };
+    ghost view = { λ p. record {
+      name = p.name.now;
+      base = p.base;
+      conversion = p.conversion;
+      system = p.system;
+      tail = p.tail;
+    } };
 }
 
 /// The base of a projected CRS, `BASEGEOGCRS[name, frame, (meridian), (unit), id..]` or with
@@ -60,7 +66,13 @@ impl<'a> Model for Base<'a> {
 
     ghost Value = { BaseParts };
 
-    ghost view = { λ b. record { name = b.name.now; frame = b.frame; meridian = b.meridian; unit = b.unit; ids = b.ids } };
+    ghost view = { λ b. record {
+      name = b.name.now;
+      frame = b.frame;
+      meridian = b.meridian;
+      unit = b.unit;
+      ids = b.ids;
+    } };
 }
 
 impl<'a> Node<'a> for Projected<'a> {

@@ -1,5 +1,5 @@
-use Rattle.crs_value.proofs.SpellsLemmas.{refused-one}
+use Rattle.crs_value.proofs.TextLemmas.{item-refused-one}
 use Rattle.crs_value.proofs.laws.refused_once.Goals as goal
 
 pub returns : goal.returns
-returns c = refused-one
+returns c = item-refused-one c.fault_at_root_is_one.ensures.one
