@@ -9,6 +9,10 @@ pub mod NodeLemmas
 pub mod OneLemmas
 pub mod OrderLemmas
 pub mod OwnLemmas
+pub mod SoundAxisLemmas
+pub mod SoundFrameLemmas
+pub mod SoundLemmas
+pub mod SoundUsageLemmas
 pub mod SpellsLemmas
 pub mod SystemLemmas
 pub mod UnitLemmas

@@ -5,6 +5,9 @@ pub mod Least
 pub mod Reading
 pub mod Reads
 pub mod ReadsCrs
+pub mod Sound
+pub mod SoundFrames
+pub mod SoundUsages
 pub mod Spells
 pub mod Values
 pub mod Words
