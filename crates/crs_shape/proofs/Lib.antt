@@ -5,6 +5,7 @@ pub mod FitLemmas
 pub mod KeywordLemmas
 pub mod ListLemmas
 pub mod ShapedLemmas
+pub mod RootLemmas
 pub mod SlotLemmas
 pub mod TableLemmas
 pub mod WalkLemmas

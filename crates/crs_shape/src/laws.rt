@@ -1,10 +1,11 @@
 //! The laws of shapes.
-ghost use Rattle.std.specs.Prelude.{◌≡◌, ◌≤◌, ◌↔◌, Bool, IsTrue, List};
+ghost use Rattle.std.specs.Prelude.{◌≡◌, ◌≤◌, ◌↔◌, ◌⊎◌, Bool, IsTrue, List};
 ghost use Rattle.crs_text.specs.Items.{Item};
+ghost use Rattle.crs_text.specs.Refusal.{Refused};
 ghost use Rattle.crs_shape.specs.declared.class.Class.{Class};
 ghost use Rattle.crs_shape.specs.Counts.{how_many, least, most, is_bounded};
 ghost use Rattle.crs_shape.specs.Shape.{Allowed, Fit, joined, is_apart};
-ghost use Rattle.crs_shape.specs.ShapeFault.{IsFree, Inside};
+ghost use Rattle.crs_shape.specs.ShapeFault.{IsFree, Inside, AtRoot};
 ghost use Rattle.crs_shape.specs.Shaped.{Shaped};
 ghost use Rattle.crs_shape.specs.Slots.{SlotParts, slots_of};
 
@@ -24,6 +25,12 @@ pub fn fits_one_way()
 /// list, each without a fault.
 pub fn no_fault_is_shape()
     ensures { (class : Class) (item : Item) → IsFree (Inside class item) ↔ Shaped class item }
+{}
+
+/// A whole text has one fault of shape, or none.
+pub fn fault_at_root_is_one()
+    ensures one { (item : Item) (a b : Refused) → AtRoot item a → AtRoot item b → a ≡ b }
+    ensures either { (item : Item) → IsFree (AtRoot item) ⊎ ((fault : Refused) × AtRoot item fault) }
 {}
 
 /// An allowed list has at least as many arguments of some classes as there are slots that are required

@@ -40,7 +40,7 @@ join-end : (a : Items) → join a End ≡ a
 join-end End = refl
 join-end (More j a) = ap (λ x. More j x) (join-end a)
 
--- the first break of those before, and of the item by itself
+-- the first break of the arguments before
 pub record Breaking (tree : Item) (c : Class) (item : Item) (least : Option Refused) (at : Option ℕ) : Type 0 where
   pub done : Items
   pub parts : arguments item ≡ join done (ahead tree at)
@@ -48,7 +48,7 @@ pub record Breaking (tree : Item) (c : Class) (item : Item) (least : Option Refu
   pub classes : List Class
   pub shaped : AreShaped c classes (ahead tree at)
   pub less : sizes (ahead tree at) < size_of item
-  pub is_least : IsLeast (λ f. Own c item f ⊎ BreaksAmong c done f) least
+  pub is_least : IsLeast (BreaksAmong c done) least
 
 arguments-less : (item : Item) → sizes (arguments item) < size_of item
 arguments-less (leaf kind place raw) = omega arith
@@ -63,9 +63,8 @@ shaped-arguments c (node place keyword square first others close) shaped =
     let shape = shaped.1 in
     (shape.0 ∷ shape.1.0, (shape.1.1.0, (shape.1.1.1.0, shape.1.1.1.1.0)))
 
-pub breaking-first : (tree : Item) (c : Class) (item : Item) (least : Option Refused) (at : Option ℕ) → Shaped c item → IsLeast (Own c item) least →
-    IsAt tree (arguments item) at → Breaking tree c item least at
-breaking-first tree c item least at shaped own is_at =
+pub breaking-first : (tree : Item) (c : Class) (item : Item) (at : Option ℕ) → Shaped c item → IsAt tree (arguments item) at → Breaking tree c item None at
+breaking-first tree c item at shaped is_at =
     let e = ahead_at tree (arguments item) at is_at in
     let ds = shaped-arguments c item shaped in
     let P : Items → Type 0 = λ is. AreShaped c ds.0 is in
@@ -76,12 +75,8 @@ breaking-first tree c item least at shaped own is_at =
       classes = ds.0;
       shaped = subst P (sym e) ds.1;
       less = let same : sizes (ahead tree at) ≡ sizes (arguments item) = ap sizes e in omega (arith, arguments-less item);
-      is_least = least-same (Own c item) (λ f. Own c item f ⊎ BreaksAmong c End f) least (λ f h. inl h) back own;
+      is_least = λ f h. h;
     }
-  where
-    back : (f : Refused) → Own c item f ⊎ BreaksAmong c End f → Own c item f
-    back f (inl h) = h
-    back f (inr h) = absurd h
 
 size-above : (item : Item) → 0 < size_of item
 size-above (leaf kind place raw) = omega arith
@@ -139,45 +134,59 @@ breaking-on tree c item least one next id named at so is within e is_at =
       shaped = subst P (sym a) h.1.1.1.1;
       less = let same : sizes (ahead tree at) ≡ sizes (rest_of (here tree id)) = ap sizes a in omega (arith, sizes-first (here tree id) so.holds, so.less);
       is_least =
-          least-same (λ f. (Own c item f ⊎ BreaksAmong c so.done f) ⊎ Breaks named (item_at tree id) f) (λ f. Own c item f ⊎ BreaksAmong c (join so.done (More (item_at tree id) End)) f) next
-          to back (either-is (λ f. Own c item f ⊎ BreaksAmong c so.done f) (Breaks named (item_at tree id)) least one next e so.is_least within);
+          least-same (λ f. BreaksAmong c so.done f ⊎ Breaks named (item_at tree id) f) (BreaksAmong c (join so.done (More (item_at tree id) End))) next to back
+          (either-is (BreaksAmong c so.done) (Breaks named (item_at tree id)) least one next e so.is_least within);
     }
   where
     there : (f : Refused) → Breaks named (item_at tree id) f → BreaksAmong c (More (item_at tree id) End) f
     there f h = let Q : Option Class → Type 0 = λ o. AtClass o (λ d. Breaks d (item_at tree id) f) in inl (subst Q (sym is) h)
 
-    to : (f : Refused) → (Own c item f ⊎ BreaksAmong c so.done f) ⊎ Breaks named (item_at tree id) f → Own c item f ⊎ BreaksAmong c (join so.done (More (item_at tree id) End)) f
-    to f (inl (inl h)) = inl h
-    to f (inl (inr h)) = inr (among-left c so.done (More (item_at tree id) End) f h)
-    to f (inr h) = inr (among-right c so.done (More (item_at tree id) End) f (there f h))
+    to : (f : Refused) → BreaksAmong c so.done f ⊎ Breaks named (item_at tree id) f → BreaksAmong c (join so.done (More (item_at tree id) End)) f
+    to f (inl h) = among-left c so.done (More (item_at tree id) End) f h
+    to f (inr h) = among-right c so.done (More (item_at tree id) End) f (there f h)
 
     last : (f : Refused) → BreaksAmong c (More (item_at tree id) End) f → Breaks named (item_at tree id) f
     last f (inl h) = let Q : Option Class → Type 0 = λ o. AtClass o (λ d. Breaks d (item_at tree id) f) in subst Q is h
     last f (inr h) = absurd h
 
-    split : (f : Refused) → BreaksAmong c so.done f ⊎ BreaksAmong c (More (item_at tree id) End) f → (Own c item f ⊎ BreaksAmong c so.done f) ⊎ Breaks named (item_at tree id) f
-    split f (inl h) = inl (inr h)
+    split : (f : Refused) → BreaksAmong c so.done f ⊎ BreaksAmong c (More (item_at tree id) End) f → BreaksAmong c so.done f ⊎ Breaks named (item_at tree id) f
+    split f (inl h) = inl h
     split f (inr h) = inr (last f h)
 
-    back : (f : Refused) → Own c item f ⊎ BreaksAmong c (join so.done (More (item_at tree id) End)) f → (Own c item f ⊎ BreaksAmong c so.done f) ⊎ Breaks named (item_at tree id) f
-    back f (inl h) = inl (inl h)
-    back f (inr h) = split f (among-split c so.done (More (item_at tree id) End) f h)
+    back : (f : Refused) → BreaksAmong c (join so.done (More (item_at tree id) End)) f → BreaksAmong c so.done f ⊎ Breaks named (item_at tree id) f
+    back f h = split f (among-split c so.done (More (item_at tree id) End) f h)
 
 pub breaking-less : (tree : Item) (id : ℕ) (at : Option ℕ) → HasId tree id → IsAt tree (rest_of (here tree id)) at → sizes (ahead tree at) < sizes (here tree id)
 breaking-less tree id at has is_at =
     let same : sizes (ahead tree at) ≡ sizes (rest_of (here tree id)) = ap sizes (ahead_at tree (rest_of (here tree id)) at is_at) in
     omega (arith, sizes-first (here tree id) has, size-above (first_of (here tree id)))
 
-pub breaking-end : (tree : Item) (c : Class) (item : Item) (least : Option Refused) (at : Option ℕ) → kind_of item ≡ kinds.Node → Breaking tree c item least at → at ≡ None →
-    IsLeast (Breaks c item) least
-breaking-end tree c (leaf number place raw) least at is so none = cc
-breaking-end tree c (leaf text place raw) least at is so none = cc
-breaking-end tree c (leaf word place raw) least at is so none = cc
-breaking-end tree c (node place keyword square first others close) least at is so none =
-    let item : Item = node place keyword square first others close in
-    let e : More first others ≡ so.done = so.parts ∙ ap (λ o. join so.done (ahead tree o)) none ∙ join-end so.done in
-    let P : Items → Type 0 = λ is. IsLeast (λ f. Own c (node place keyword square first others close) f ⊎ BreaksAmong c is f) least in
+pub breaking-end : (tree : Item) (c : Class) (item : Item) (least : Option Refused) (at : Option ℕ) → Breaking tree c item least at → at ≡ None →
+    IsLeast (BreaksAmong c (arguments item)) least
+breaking-end tree c item least at so none =
+    let e : arguments item ≡ so.done = so.parts ∙ ap (λ o. join so.done (ahead tree o)) none ∙ join-end so.done in
+    let P : Items → Type 0 = λ is. IsLeast (BreaksAmong c is) least in
     subst P (sym e) so.is_least
+
+-- what stands in a node and its own checks are all
+pub breaks-whole : (c : Class) (item : Item) (least : Option Refused) → kind_of item ≡ kinds.Node → IsLeast (λ f. BreaksAmong c (arguments item) f ⊎ Own c item f) least →
+    IsLeast (Breaks c item) least
+breaks-whole c (leaf number place raw) least is h = cc
+breaks-whole c (leaf text place raw) least is h = cc
+breaks-whole c (leaf word place raw) least is h = cc
+breaks-whole c (node place keyword square first others close) least is h =
+    least-same (λ f. BreaksAmong c (More first others) f ⊎ Own c (node place keyword square first others close) f)
+    (Breaks c (node place keyword square first others close)) least to back h
+  where
+    to : (f : Refused) → BreaksAmong c (More first others) f ⊎ Own c (node place keyword square first others close) f →
+        Breaks c (node place keyword square first others close) f
+    to f (inl x) = inr x
+    to f (inr x) = inl x
+
+    back : (f : Refused) → Breaks c (node place keyword square first others close) f →
+        BreaksAmong c (More first others) f ⊎ Own c (node place keyword square first others close) f
+    back f (inl x) = inr x
+    back f (inr x) = inl x
 
 pub leaf-unbroken : (c : Class) (item : Item) → (kind_of item ≡ kinds.Node → ⊥) → IsLeast (Breaks c item) None
 leaf-unbroken c (leaf kind place raw) other = λ f h. h

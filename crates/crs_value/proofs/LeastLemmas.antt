@@ -149,3 +149,11 @@ least-is g r e = (e, λ f h. let P : Refused → Type 0 = λ x. IsBefore x f in 
 
 pub either-is : (P Q : Refused → Type 0) (a b r : Option Refused) → r ≡ lesser a b → IsLeast P a → IsLeast Q b → IsLeast (λ f. P f ⊎ Q f) r
 either-is P Q a b r e p q = let R : Option Refused → Type 0 = λ o. IsLeast (λ f. P f ⊎ Q f) o in subst R (sym e) (least-either P Q a b p q)
+
+-- a first fault with a number below all of another set
+pub least-below : (P Q : Refused → Type 0) (n : ℕ) (r : Refused) → r.number < n → ((f : Refused) → Q f → n ≤ f.number) → IsLeast P (Some r) → IsLeast (λ f. P f ⊎ Q f) (Some r)
+least-below P Q n r below high h = (inl h.0, λ f x. next f x)
+  where
+    next : (f : Refused) → P f ⊎ Q f → IsBefore r f
+    next f (inl x) = h.1 f x
+    next f (inr x) = inl (omega (arith, below, high f x))

@@ -1,6 +1,7 @@
 pub mod ArgumentLemmas
 pub mod BreakLemmas
 pub mod CheckLemmas
+pub mod CrsLemmas
 pub mod FrameLemmas
 pub mod IdentLemmas
 pub mod KnownLemmas

@@ -4,19 +4,16 @@ use Rattle.crs_text.specs.Items.{Item, arguments}
 use Rattle.crs_text.specs.Refusal.{Refused}
 use Rattle.crs_shape.specs.declared.class.Class.{Class}
 use Rattle.crs_shape.specs.declared.class.Class.TheVariants as class
-use Rattle.crs_value.specs.Checks.{AnyOf, UnknownType, UnknownDirection, OfCrs, OfUnit, dimensions_of, Own, IsLeast}
+use Rattle.crs_value.specs.Checks.{AnyOf, UnknownType, UnknownDirection, OfCrs, OfUnit, dimensions_of, HasSystem, Own, BreaksAmong, IsLeast}
 use Rattle.crs_value.specs.Reading.{those}
 
-pub own-crs : (c : Class) (item : Item) (o : Option Refused) → (c ≡ class.GeodeticCrs) ⊎ (c ≡ class.GeographicCrs) → IsLeast (OfCrs (dimensions_of c) c item) o → IsLeast (Own c item) o
+-- a CRS with a coordinate system breaks by itself what such a CRS breaks
+pub own-crs : (c : Class) (item : Item) (o : Option Refused) → HasSystem c → IsLeast (λ f. BreaksAmong c (arguments item) f ⊎ OfCrs (dimensions_of c) c item f) o →
+    IsLeast (λ f. BreaksAmong c (arguments item) f ⊎ Own c item f) o
 unfolding Own
-own-crs c item o (inl e) h =
-    let P : Class → Type 0 = λ x. IsLeast (Own x item) o in
-    let Q : Class → Type 0 = λ x. IsLeast (OfCrs (dimensions_of x) x item) o in
-    subst P (sym e) (subst Q e h)
-own-crs c item o (inr e) h =
-    let P : Class → Type 0 = λ x. IsLeast (Own x item) o in
-    let Q : Class → Type 0 = λ x. IsLeast (OfCrs (dimensions_of x) x item) o in
-    subst P (sym e) (subst Q e h)
+own-crs class.GeodeticCrs item o is h = h
+own-crs class.GeographicCrs item o is h = h
+own-crs other item o is h = absurd is
 
 module _ (c : Class) (item : Item) (o : Option Refused) (h : IsLeast (OfUnit c item) o) where
   at-unit : (d : Class) → c ≡ d → ((k : IsLeast (OfUnit d item) o) → IsLeast (Own d item) o) → IsLeast (Own c item) o

@@ -218,15 +218,26 @@ IsNegative item fault = (fault ≡ at 28 item) × ((value : Value) × (ReadsNumb
 abbrev pub once : List Class
 once = class.Scope ∷ class.Area ∷ class.BoundingBox ∷ class.VerticalExtent ∷ class.Remark ∷ []
 
--- the checks of a node `CS` with its axes and its shared units
-abbrev pub OfSystem : (SystemType → List ℕ) → List Item → List Item → Item → Refused → Type 0
-OfSystem dimensions axes units cs fault = BadSystem dimensions cs fault ⊎ (BadCount axes cs fault ⊎ BadUnit axes units cs fault)
+-- the checks of a node `CS` with the axes beside it
+abbrev pub OfHead : (SystemType → List ℕ) → List Item → Item → Refused → Type 0
+OfHead dimensions axes cs fault = BadSystem dimensions cs fault ⊎ BadCount axes cs fault
+
+-- the checks of axes and their units, as the nodes `CS` ask for them
+abbrev pub OfAxes : List Item → List Item → List Item → Refused → Type 0
+OfAxes systems axes units fault = BadOrder axes fault ⊎ AnyOf (BadUnit axes units) systems fault
 
 -- the checks of a coordinate system: the nodes `CS`, the axes and the shared units
 abbrev pub BadSystems : (SystemType → List ℕ) → List Item → List Item → List Item → Refused → Type 0
 BadSystems dimensions systems axes units fault =
-    AnyOf (OfSystem dimensions axes units) systems fault ⊎ BadOrder axes fault
+    AnyOf (OfHead dimensions axes) systems fault ⊎ OfAxes systems axes units fault
 
+-- the classes of CRS that have a coordinate system of their own
+abbrev pub HasSystem : Class → Type 0
+HasSystem class.GeodeticCrs = Unit {0}
+HasSystem class.GeographicCrs = Unit {0}
+HasSystem other = ⊥
+
+-- the checks of a CRS that has a coordinate system
 abbrev pub OfCrs : (SystemType → List ℕ) → Class → Item → Refused → Type 0
 OfCrs dimensions c item fault =
     RepeatsAny c (arguments item) once fault

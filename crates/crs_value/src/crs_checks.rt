@@ -1,8 +1,9 @@
 //! The checks of a whole CRS: what may stand once, and its coordinate system.
-ghost use Rattle.crs_text.specs.Items.{HasId};
+ghost use Rattle.std.specs.Prelude.{◌≡◌, ◌<◌, ◌⊎◌, IfSome, Some};
+ghost use Rattle.crs_text.specs.Items.{HasId, arguments};
 ghost use Rattle.crs_shape.specs.Shaped.{Shaped};
-ghost use Rattle.crs_value.specs.Checks.{IsLeast, OfCrs, dimensions_of};
-ghost use Rattle.crs_value.specs.Reading.{item_at};
+ghost use Rattle.crs_value.specs.Checks.{AnyOf, IsLeast, BreaksAmong, RepeatsAny, once, OfHead, OfAxes, OfCrs, dimensions_of};
+ghost use Rattle.crs_value.specs.Reading.{item_at, those};
 
 use crate::checks::{Check, any_of, lesser};
 use crate::order_checks::bad_order;
@@ -12,45 +13,120 @@ use crate::unit_checks::bad_unit;
 use crs_shape::Class;
 use crs_text::{ItemId, Items, Refusal};
 
-// 23, 25 and 27: a node `CS`, with the axes and the shared unit beside it.
+// The least number of a check of axes and their units.
+const ORDER: u8 = 26;
+
+// 23 and 25: a node `CS`, with the axes beside it.
 #[derive(Drop)]
-struct SystemOf {
+struct HeadOf {
     crs: ItemId,
     class: Class,
 }
 
-impl Check for SystemOf {
+impl Check for HeadOf {
+    ghost use Rattle.std.specs.Prelude.{◌≡◌};
+    ghost use Rattle.crs_text.specs.Items.{HasId, arguments};
+    ghost use Rattle.crs_shape.specs.declared.class.Class.TheVariants as classes;
+    ghost use Rattle.crs_value.specs.Checks.{OfHead, dimensions_of};
+    ghost use Rattle.crs_value.specs.Reading.{item_at, those};
+
+    ghost Fits = { λ s tree class. HasId tree s.crs × (class ≡ classes.CoordinateSystem) };
+
+    ghost Broken = { λ s tree item f. OfHead (dimensions_of s.class) (those s.class classes.Axis (arguments (item_at tree s.crs))) item f };
+
+    fn check(&self, items: &Items<'_>, id: ItemId, _class: Class) -> Option<Refusal> {
+        lesser(
+            bad_system(items, id, self.class),
+            bad_count(items, self.crs, self.class, id),
+        )
+    }
+}
+
+// 27: the units of the axes beside a node `CS`.
+#[derive(Drop)]
+struct UnitsOf {
+    crs: ItemId,
+    class: Class,
+}
+
+impl Check for UnitsOf {
     ghost use Rattle.std.specs.Prelude.{◌≡◌};
     ghost use Rattle.crs_text.specs.Items.{HasId, arguments};
     ghost use Rattle.crs_shape.specs.Shaped.{Shaped};
     ghost use Rattle.crs_shape.specs.declared.class.Class.TheVariants as classes;
-    ghost use Rattle.crs_value.specs.Checks.{OfSystem, dimensions_of};
+    ghost use Rattle.crs_value.specs.Checks.{BadUnit};
     ghost use Rattle.crs_value.specs.Reading.{item_at, those};
 
     ghost Fits = { λ s tree class. HasId tree s.crs × Shaped s.class (item_at tree s.crs) × (class ≡ classes.CoordinateSystem) };
 
-    ghost Broken = { λ s tree item f. OfSystem (dimensions_of s.class) (those s.class classes.Axis (arguments (item_at tree s.crs)))
+    ghost Broken = { λ s tree item f. BadUnit (those s.class classes.Axis (arguments (item_at tree s.crs)))
         (those s.class classes.AxisUnit (arguments (item_at tree s.crs))) item f };
 
     fn check(&self, items: &Items<'_>, id: ItemId, _class: Class) -> Option<Refusal> {
-        let units = lesser(
-            bad_count(items, self.crs, self.class, id),
-            bad_unit(items, self.crs, self.class, id),
-        );
-        lesser(bad_system(items, id, self.class), units)
+        bad_unit(items, self.crs, self.class, id)
     }
 }
 
-// The checks of a CRS of this class.
-pub(crate) fn whole_crs(items: &Items<'_>, id: ItemId, class: Class) -> Option<Refusal>
+// 22, 23 and 25: repeated parts, and the nodes `CS`.
+fn of_head(items: &Items<'_>, id: ItemId, class: Class) -> Option<Refusal>
     requires has { HasId items.now id }
     requires shaped { Shaped class (item_at items.now id) }
-    ensures { IsLeast (OfCrs (dimensions_of class) class (item_at items.now id)) result }
+    ensures { IsLeast (λ f. RepeatsAny class (arguments (item_at items.now id)) once f
+        ⊎ AnyOf (OfHead (dimensions_of class) (those class Class.Axis (arguments (item_at items.now id))))
+        (those class Class.CoordinateSystem (arguments (item_at items.now id))) f) result }
 {
-    let check = SystemOf { crs: id, class };
-    let systems = lesser(
-        any_of(&check, items, id, class, Class::CoordinateSystem),
+    let head = HeadOf { crs: id, class };
+    lesser(
+        repeats_once(items, id, class),
+        any_of(&head, items, id, class, Class::CoordinateSystem),
+    )
+}
+
+// 26 and 27: the axes and their units.
+fn of_axes(items: &Items<'_>, id: ItemId, class: Class) -> Option<Refusal>
+    requires has { HasId items.now id }
+    requires shaped { Shaped class (item_at items.now id) }
+    ensures { IsLeast (OfAxes (those class Class.CoordinateSystem (arguments (item_at items.now id)))
+        (those class Class.Axis (arguments (item_at items.now id)))
+        (those class Class.AxisUnit (arguments (item_at items.now id)))) result }
+{
+    let units = UnitsOf { crs: id, class };
+    lesser(
         bad_order(items, id, class),
-    );
-    lesser(repeats_once(items, id, class), systems)
+        any_of(&units, items, id, class, Class::CoordinateSystem),
+    )
+}
+
+// The refusal, if its number goes before those of the axes.
+fn early(found: &Option<Refusal>) -> Option<Refusal>
+    ensures { IfSome result (λ first. (found.now ≡ Some first) × (first.number < 26)) }
+{
+    let first = (*found)?;
+    if first.number() < ORDER {
+        Some(first)
+    } else {
+        None
+    }
+}
+
+// The first break within a CRS of this class, `inside`, and among its own checks. Orders are compared with each
+// other, which is quick: where nothing goes before them, the type is known and the dimension allowed, so that there
+// are three axes at most.
+pub(crate) fn whole_crs(
+    items: &Items<'_>,
+    id: ItemId,
+    class: Class,
+    inside: Option<Refusal>,
+) -> Option<Refusal>
+    requires has { HasId items.now id }
+    requires shaped { Shaped class (item_at items.now id) }
+    requires inside { IsLeast (BreaksAmong class (arguments (item_at items.now id))) inside }
+    ensures { IsLeast (λ f. BreaksAmong class (arguments (item_at items.now id)) f
+        ⊎ OfCrs (dimensions_of class) class (item_at items.now id) f) result }
+{
+    let found = lesser(inside, of_head(items, id, class));
+    match early(&found) {
+        Some(first) => Some(first),
+        None => lesser(found, of_axes(items, id, class)),
+    }
 }

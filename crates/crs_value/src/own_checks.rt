@@ -1,7 +1,8 @@
 //! The checks that a node breaks by itself, and with what stands in it.
+ghost use Rattle.std.specs.Prelude.{◌↔◌, ◌⊎◌, IsTrue};
 ghost use Rattle.crs_text.specs.Items.{HasId, arguments};
 ghost use Rattle.crs_shape.specs.Shaped.{Shaped};
-ghost use Rattle.crs_value.specs.Checks.{IsLeast, OfEllipsoid, Own, Breaks};
+ghost use Rattle.crs_value.specs.Checks.{IsLeast, HasSystem, OfEllipsoid, Own, Breaks, BreaksAmong};
 ghost use Rattle.crs_value.specs.Reading.{item_at, those};
 
 use crate::arguments::{class_in, first, later};
@@ -27,15 +28,23 @@ fn ellipsoid(items: &Items<'_>, id: ItemId) -> Option<Refusal>
     )
 }
 
-// The checks that a node of this class breaks by itself, but for those of a whole CRS.
+// Whether a CRS of this class has a coordinate system of its own.
+fn has_system(class: Class) -> bool
+    ensures { IsTrue result ↔ HasSystem class }
+{
+    matches!(class, Class::GeodeticCrs | Class::GeographicCrs)
+}
+
+// The checks that a node of a class without a coordinate system breaks by itself.
 #[tactic(auto, unfolding(crate::specs::Checks::Own))]
-fn own(items: &Items<'_>, id: ItemId, class: Class) -> Option<Refusal>
+fn own_of_part(items: &Items<'_>, id: ItemId, class: Class) -> Option<Refusal>
     requires has { HasId items.now id }
     requires shaped { Shaped class (item_at items.now id) }
+    requires part { ¬ (HasSystem class) }
     ensures { IsLeast (Own class (item_at items.now id)) result }
 {
     match class {
-        Class::GeodeticCrs | Class::GeographicCrs => whole_crs(items, id, class),
+        Class::GeodeticCrs | Class::GeographicCrs => unreachable!(),
         Class::GeodeticFrame | Class::VerticalFrame => repeats(items, id, class, Class::Anchor),
         Class::Ellipsoid => ellipsoid(items, id),
         Class::LengthUnit
@@ -49,23 +58,38 @@ fn own(items: &Items<'_>, id: ItemId, class: Class) -> Option<Refusal>
     }
 }
 
+// The first break within a node of this class, `inside`, and among its own checks.
+fn own(items: &Items<'_>, id: ItemId, class: Class, inside: Option<Refusal>) -> Option<Refusal>
+    requires has { HasId items.now id }
+    requires shaped { Shaped class (item_at items.now id) }
+    requires inside { IsLeast (BreaksAmong class (arguments (item_at items.now id))) inside }
+    ensures { IsLeast (λ f. BreaksAmong class (arguments (item_at items.now id)) f
+        ⊎ Own class (item_at items.now id) f) result }
+{
+    if has_system(class) {
+        return whole_crs(items, id, class, inside);
+    }
+    lesser(inside, own_of_part(items, id, class))
+}
+
 // The first check that an item of this class breaks.
 pub(crate) fn first_break(items: &Items<'_>, id: ItemId, class: Class) -> Option<Refusal>
     requires has { HasId items.now id }
     requires shaped { Shaped class (item_at items.now id) }
     ensures { IsLeast (Breaks class (item_at items.now id)) result }
 {
-    let mut least = match items.kind(id) {
+    match items.kind(id) {
         ItemKind::Number | ItemKind::Text | ItemKind::Word => return None,
-        ItemKind::Node => own(items, id, class),
-    };
+        ItemKind::Node => {}
+    }
+    let mut inside = None;
     let mut next = items.arg(id, 0);
     while let Some(argument) = next {
         let Some(named) = class_in(items, argument, class) else {
             unreachable!()
         };
-        least = lesser(least, first_break(items, argument, named));
+        inside = lesser(inside, first_break(items, argument, named));
         next = items.next(argument);
     }
-    least
+    own(items, id, class, inside)
 }

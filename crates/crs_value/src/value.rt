@@ -14,7 +14,7 @@ use std::alloc::Global;
 ///
 /// `Refused`: the items spell no value. The number is 11 to 13 for a fault of shape; else it is that of
 /// the check that is broken first, from 21 on: the lowest number, and of these the least place.
-/// `Memory`: memory for a list was refused. Time is at most quadratic in the items.
+/// `Memory`: memory for a list was refused. Time is linear in the items.
 /// ISO 19162:2019, "Geodetic and geographic CRS"; the checks are the profile's.
 pub fn value_of<'a>(alloc: Global, items: &Items<'a>) -> Result<Crs<'a>, Fault>
     requires { IsGeodeticRoot items.now }

@@ -1,21 +1,13 @@
-use Rattle.crs_text.specs.Items.{arguments}
-use Rattle.crs_text.specs.Refusal.{Refused}
-use Rattle.crs_shape.specs.declared.class.Class.TheVariants as class
-use Rattle.crs_value.specs.Checks.{AnyOf, OfSystem, BadOrder, BadSystems, RepeatsAny, dimensions_of, once}
-use Rattle.crs_value.specs.Reading.{item_at, those}
-use Rattle.crs_value.proofs.LeastLemmas.{either-is}
+use Rattle.crs_value.specs.Reading.{item_at}
+use Rattle.crs_value.proofs.CrsLemmas.{crs-early, crs-whole}
 use Rattle.crs_value.proofs.crs_checks.whole_crs.Goals as goal
 
-pub returns : goal.returns
-returns c =
-    let tree = c.args.items.now in
-    let d = c.args.class in
-    let items = arguments (item_at tree c.args.id) in
-    let systems = those c.args.class class.CoordinateSystem items in
-    let axes = those c.args.class class.Axis items in
-    let units = those c.args.class class.AxisUnit items in
-    let dims = dimensions_of c.args.class in
-    let Repeated : Refused → Type 0 = λ f. RepeatsAny c.args.class items once f in
-    let Systems : Refused → Type 0 = λ f. BadSystems dims systems axes units f in
-    either-is Repeated Systems c.repeats_once.result c.lesser-systems.result c.lesser.result c.lesser.ensures c.repeats_once.ensures
-    (either-is (AnyOf (OfSystem dims axes units) systems) (BadOrder axes) c.any_of.result c.bad_order.result c.lesser-systems.result c.lesser-systems.ensures c.any_of.ensures c.bad_order.ensures)
+pub returns-in-Some : goal.returns-in-Some
+returns-in-Some c =
+    crs-early c.args.class (item_at c.args.items.now c.args.id) c.args.inside c.of_head.result c.lesser-found.result c.in-Some.first c.lesser-found.ensures
+    c.requires.inside c.of_head.ensures c.in-Some.ensures.0 c.in-Some.ensures.1
+
+pub returns-in-None : goal.returns-in-None
+returns-in-None c =
+    crs-whole c.args.class (item_at c.args.items.now c.args.id) c.args.inside c.of_head.result c.lesser-found.result c.of_axes.result c.lesser.result c.lesser-found.ensures
+    c.lesser.ensures c.requires.inside c.of_head.ensures c.of_axes.ensures

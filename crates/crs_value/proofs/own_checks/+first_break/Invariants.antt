@@ -7,7 +7,7 @@ abbrev pub decreases-first_break : goal.decreases-first_break
 decreases-first_break l = size_of (item_at l.items.now l.id)
 
 abbrev pub invariant-loop-next : goal.invariant-loop-next
-invariant-loop-next l = Breaking l.items l.class (item_at l.items l.fn.id) l.least l.next
+invariant-loop-next l = Breaking l.items l.class (item_at l.items l.fn.id) l.inside l.next
 
 abbrev pub decreases-loop-next : goal.decreases-loop-next
 decreases-loop-next l = sizes (ahead l.items l.next)

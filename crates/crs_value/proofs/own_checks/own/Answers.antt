@@ -1,16 +1,17 @@
+use Rattle.crs_text.specs.Items.{arguments}
+use Rattle.crs_text.specs.Refusal.{Refused}
+use Rattle.crs_value.specs.Checks.{BreaksAmong, Own}
 use Rattle.crs_value.specs.Reading.{item_at}
-use Rattle.crs_value.proofs.OwnLemmas.{own-crs, own-unit, own-system, own-axis}
+use Rattle.crs_value.proofs.LeastLemmas.{either-is}
+use Rattle.crs_value.proofs.OwnLemmas.{own-crs}
 use Rattle.crs_value.proofs.own_checks.own.Goals as goal
 
-pub returns-in-GeodeticCrs : goal.returns-in-GeodeticCrs
-returns-in-GeodeticCrs c = own-crs c.args.class (item_at c.args.items.now c.args.id) c.whole_crs.result c.in-GeodeticCrs.is c.whole_crs.ensures
+pub returns-then-has_system : goal.returns-then-has_system
+returns-then-has_system c =
+    own-crs c.args.class (item_at c.args.items.now c.args.id) c.whole_crs.result (c.has_system.ensures.0 c.if-has_system.true) c.whole_crs.ensures
 
-pub returns-in-LengthUnit : goal.returns-in-LengthUnit
-returns-in-LengthUnit c = own-unit c.args.class (item_at c.args.items.now c.args.id) c.any_of.result c.any_of.ensures c.in-LengthUnit.is
-
-pub returns-in-CoordinateSystem : goal.returns-in-CoordinateSystem
-returns-in-CoordinateSystem c =
-    own-system c.args.class (item_at c.args.items.now c.args.id) c.any_of-in-CoordinateSystem.result c.in-CoordinateSystem.is c.any_of-in-CoordinateSystem.ensures
-
-pub returns-in-Axis : goal.returns-in-Axis
-returns-in-Axis c = own-axis c.args.class (item_at c.args.items.now c.args.id) c.any_of-in-Axis.result c.in-Axis.is c.any_of-in-Axis.ensures
+pub returns : goal.returns
+returns c =
+    let item = item_at c.args.items.now c.args.id in
+    let Inside : Refused → Type 0 = λ f. BreaksAmong c.args.class (arguments item) f in
+    either-is Inside (Own c.args.class item) c.args.inside c.own_of_part.result c.lesser.result c.lesser.ensures c.requires.inside c.own_of_part.ensures

@@ -1,0 +1,15 @@
+use Rattle.crs_text.specs.Items.{arguments}
+use Rattle.crs_shape.specs.declared.class.Class.TheVariants as class
+use Rattle.crs_value.specs.Checks.{AnyOf, BadOrder, BadUnit}
+use Rattle.crs_value.specs.Reading.{item_at, those}
+use Rattle.crs_value.proofs.LeastLemmas.{either-is}
+use Rattle.crs_value.proofs.crs_checks.of_axes.Goals as goal
+
+pub returns : goal.returns
+returns c =
+    let items = arguments (item_at c.args.items.now c.args.id) in
+    let systems = those c.args.class class.CoordinateSystem items in
+    let axes = those c.args.class class.Axis items in
+    let units = those c.args.class class.AxisUnit items in
+    either-is (BadOrder axes) (AnyOf (BadUnit axes units) systems) c.bad_order.result c.any_of.result c.lesser.result c.lesser.ensures
+    c.bad_order.ensures c.any_of.ensures

@@ -1,0 +1,16 @@
+use Rattle.crs_text.specs.Items.{arguments}
+use Rattle.crs_text.specs.Refusal.{Refused}
+use Rattle.crs_shape.specs.declared.class.Class.TheVariants as class
+use Rattle.crs_value.specs.Checks.{AnyOf, OfHead, RepeatsAny, dimensions_of, once}
+use Rattle.crs_value.specs.Reading.{item_at, those}
+use Rattle.crs_value.proofs.LeastLemmas.{either-is}
+use Rattle.crs_value.proofs.crs_checks.of_head.Goals as goal
+
+pub returns : goal.returns
+returns c =
+    let items = arguments (item_at c.args.items.now c.args.id) in
+    let systems = those c.args.class class.CoordinateSystem items in
+    let axes = those c.args.class class.Axis items in
+    let Repeated : Refused → Type 0 = λ f. RepeatsAny c.args.class items once f in
+    either-is Repeated (AnyOf (OfHead (dimensions_of c.args.class) axes) systems) c.repeats_once.result c.any_of.result c.lesser.result c.lesser.ensures
+    c.repeats_once.ensures c.any_of.ensures
