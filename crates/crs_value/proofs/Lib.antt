@@ -2,6 +2,7 @@ pub mod ArgumentLemmas
 pub mod BreakLemmas
 pub mod CheckLemmas
 pub mod CrsLemmas
+pub mod DecideLemmas
 pub mod FrameLemmas
 pub mod IdentLemmas
 pub mod KnownLemmas
@@ -11,8 +12,10 @@ pub mod OneLemmas
 pub mod OrderLemmas
 pub mod OwnLemmas
 pub mod SoundAxisLemmas
+pub mod SoundCrsLemmas
 pub mod SoundFrameLemmas
 pub mod SoundLemmas
+pub mod SoundSystemLemmas
 pub mod SoundUsageLemmas
 pub mod SpellsLemmas
 pub mod SystemLemmas

@@ -218,7 +218,7 @@ above-not-not value twice = elim value.negative as (λ b. value.negative ≡ b �
 
 pub above-first : (items : List Item) (value : Value) → ((fault : Refused) → AnyOf NotAbove items fault → ⊥) → ReadsFirst ReadsNumber items value → IsAboveZero value
 above-first [] value free reads = absurd reads
-above-first (item ∷ items) value free reads = above-not-not value (λ no. free (at 28 item) (inl (refl, (value, (reads, no)))))
+above-first (item ∷ items) value free reads = above-not-not value (λ never. free (at 28 item) (inl (refl, (value, (reads, never)))))
 
 own-unit : (c : Class) (item : Item) (fault : Refused) → IsUnitClass c → OfUnit c item fault → Own c item fault
 unfolding Own

@@ -7,6 +7,8 @@ pub mod Reads
 pub mod ReadsCrs
 pub mod Sound
 pub mod SoundFrames
+pub mod SoundGeodetic
+pub mod SoundSystem
 pub mod SoundUsages
 pub mod Spells
 pub mod Values

@@ -69,6 +69,7 @@ pub(crate) fn read_geodetic<'a>(
     requires class { IsGeodeticClass class }
     ensures { IfOk result (λ value. ReadsGeodetic class (item_at items.now id) value) }
 {
+    slots_count();
     Ok(Geodetic {
         name: text(items, id, class),
         frame: read_frame(alloc, items, id, class)?,
