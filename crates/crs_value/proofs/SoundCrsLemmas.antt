@@ -3,8 +3,11 @@ use Rattle.std.proofs.Common.{◌≡◌, inl, Option, Some, List, [], ◌∷◌,
 use Rattle.std.specs.Prelude.{IsSome}
 use Rattle.crs_decimal.specs.Value.{Value}
 use Rattle.crs_text.specs.Items.{Item, arguments}
+use Rattle.crs_text.specs.Written.{AreFormed}
 use Rattle.crs_shape.specs.declared.class.Class.{Class}
 use Rattle.crs_shape.specs.declared.class.Class.TheVariants as class
+use Rattle.crs_value.specs.declared.crs.Crs.{Crs}
+use Rattle.crs_value.specs.declared.crs.Crs.TheVariants as crs
 use Rattle.crs_value.specs.declared.frame.Frame.{Frame}
 use Rattle.crs_value.specs.declared.frame.Frame.TheVariants as frames
 use Rattle.crs_value.specs.declared.system_type.SystemType.{SystemType}
@@ -13,14 +16,17 @@ use Rattle.crs_value.specs.Checks.{IsOneOf, geodetic_dimensions, dimensions_of, 
 use Rattle.crs_value.specs.Reading.{those, Requires, ReadsOptional}
 use Rattle.crs_value.specs.Reads.{ReadsEllipsoid, ReadsMeridian}
 use Rattle.crs_value.specs.ReadsCrs.{ReadsFrame, IsGeodeticClass, ReadsGeodetic}
+use Rattle.crs_value.specs.SoundCrs.{IsCrs}
 use Rattle.crs_value.specs.SoundFrames.{IsMeridian}
 use Rattle.crs_value.specs.SoundGeodetic.{IsGeodeticFrame, IsGeodetic}
+use Rattle.crs_value.specs.Spells.{SpellsCrs, IsGeodeticRoot}
 use Rattle.crs_value.specs.Values.{EllipsoidParts}
 use Rattle.crs_value.proofs.ArgumentLemmas.{AllSound, SlotsCount, arguments-sound, not-none}
 use Rattle.crs_value.proofs.SoundFrameLemmas.{datum-tells, ensemble-tells, meridian-tells}
 use Rattle.crs_value.proofs.SoundLemmas.{Tells, optional-tells, text-of-tells}
 use Rattle.crs_value.proofs.SoundSystemLemmas.{read-there, system-allowed, system-free, system-tells}
 use Rattle.crs_value.proofs.SoundUsageLemmas.{SlotsBound, tail-tells}
+use Rattle.crs_value.proofs.SpellsLemmas.{NoFaultIsShape, root-shaped}
 
 -- ---- frames
 
@@ -85,3 +91,10 @@ geodetic-tells law bound c is item value sound reads =
           (system-allowed (dimensions_of c) (those c class.Axis (arguments item)) value.system (those c class.CoordinateSystem (arguments item)) (λ fault h. free fault (inl h)) reads.system.head);
       tail = tail-tells bound c item value.tail sound reads.tail;
     }
+
+-- ---- whole texts
+
+pub crs-tells : NoFaultIsShape → SlotsCount → SlotsBound → (item : Item) (value : Crs) → AreFormed item → IsGeodeticRoot item → SpellsCrs item value → IsCrs value
+crs-tells shape law bound item (crs.Geodetic geodetic) formed root spells =
+    geodetic-tells law bound spells.class_read (root spells.class_read spells.root) item geodetic
+    (record { formed = formed; shaped = root-shaped shape item item spells.class_read refl spells.root spells.shaped; unbroken = spells.unbroken }) spells.reads

@@ -6,6 +6,7 @@ pub mod Reading
 pub mod Reads
 pub mod ReadsCrs
 pub mod Sound
+pub mod SoundCrs
 pub mod SoundFrames
 pub mod SoundGeodetic
 pub mod SoundSystem

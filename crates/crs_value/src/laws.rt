@@ -2,10 +2,14 @@
 ghost use Rattle.std.specs.Prelude.{◌≡◌};
 ghost use Rattle.crs_text.specs.Items.{Item};
 ghost use Rattle.crs_text.specs.Refusal.{Refused};
+ghost use Rattle.crs_text.specs.Written.{AreFormed};
 ghost use Rattle.crs_value.specs.declared.crs.Crs.{Crs};
-ghost use Rattle.crs_value.specs.Spells.{SpellsCrs, BreaksFirst, RefusesCrs};
+ghost use Rattle.crs_value.specs.SoundCrs.{IsCrs};
+ghost use Rattle.crs_value.specs.Spells.{SpellsCrs, BreaksFirst, RefusesCrs, IsGeodeticRoot};
 
+use crate::crs::Crs;
 use crs_decimal::laws::denotes_one;
+use crs_shape::laws::{no_fault_is_shape, slots_count};
 
 /// An item spells one value at most. Profile.
 pub fn spells_one()
@@ -24,3 +28,23 @@ pub fn spelled_or_refused()
 pub fn refused_once()
     ensures { (item : Item) (a b : Refused) → BreaksFirst item a → BreaksFirst item b → a ≡ b }
 {}
+
+/// A value that a well-formed item spells is all that is asked of a CRS: its texts are well formed, its
+/// decimals are in their normal form and within their bounds, its axes and units fit. Profile.
+pub fn spelled_is_sound()
+    ensures { (item : Item) (value : Crs) → AreFormed item → IsGeodeticRoot item → SpellsCrs item value → IsCrs value }
+{
+    no_fault_is_shape();
+    slots_count();
+}
+
+/// So is every CRS, whoever made it. Profile.
+pub fn crs_is_sound(crs: &Crs<'_>)
+    ensures { IsCrs crs.now }
+{
+    match crs {
+        Crs::Geodetic(geodetic) => {
+            let _name = geodetic.name;
+        }
+    }
+}
