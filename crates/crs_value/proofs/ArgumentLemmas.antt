@@ -48,7 +48,7 @@ abbrev pub AllSound : Class → List Item → Type 0
 AllSound c [] = Unit {0}
 AllSound c (item ∷ items) = IsSound c item × AllSound c items
 
-same_class : (d c : Class) → sameb the_type d c ≡ true → d ≡ c
+pub same_class : (d c : Class) → sameb the_type d c ≡ true → d ≡ c
 same_class d c e = same_true the_type (search rules) d c e
 
 class_by : (c : Class) (o : Option Class) (d : Class) → o ≡ Some d → is_class c o ≡ sameb the_type d c

@@ -4,6 +4,8 @@ use Rattle.std.specs.Prelude.{◌==◌}
 use Rattle.std.proofs.lemmas.Bool.{eqb-true, eqb-false}
 use Rattle.crs_decimal.specs.Number.{SameNumber, whole_number}
 use Rattle.crs_decimal.specs.Value.{Value, exact}
+use Rattle.crs_value.specs.declared.system_type.SystemType.{SystemType}
+use Rattle.crs_value.specs.declared.system_type.SystemType.TheVariants as types
 use Rattle.crs_value.specs.declared.unit_kind.UnitKind.{UnitKind}
 use Rattle.crs_value.specs.declared.unit_kind.UnitKind.TheVariants as kinds
 use Rattle.crs_value.specs.Checks.{IsPosition, IsOneOf}
@@ -42,6 +44,12 @@ nil-either (x ∷ xs) = inr (λ e. cc)
 positive-either : (b : Bool) → Either (b ≡ false)
 positive-either true = inr (λ e. cc)
 positive-either false = inl refl
+
+pub ellipsoidal-either : (system_type : SystemType) → Either (system_type ≡ types.Ellipsoidal)
+ellipsoidal-either types.Cartesian = inr (λ e. cc)
+ellipsoidal-either types.Ellipsoidal = inl refl
+ellipsoidal-either types.Spherical = inr (λ e. cc)
+ellipsoidal-either types.Vertical = inr (λ e. cc)
 
 -- ---- numbers
 

@@ -1,6 +1,8 @@
 pub mod ArgumentLemmas
 pub mod BreakLemmas
 pub mod CheckLemmas
+pub mod ComponentLemmas
+pub mod ConversionLemmas
 pub mod CrsLemmas
 pub mod DecideLemmas
 pub mod FrameLemmas
@@ -8,10 +10,13 @@ pub mod IdentLemmas
 pub mod KnownLemmas
 pub mod LeastLemmas
 pub mod NodeLemmas
+pub mod OneCrsLemmas
 pub mod OneLemmas
 pub mod OrderLemmas
 pub mod OwnLemmas
 pub mod SoundAxisLemmas
+pub mod SoundCompoundLemmas
+pub mod SoundConversionLemmas
 pub mod SoundCrsLemmas
 pub mod SoundFrameLemmas
 pub mod SoundLemmas

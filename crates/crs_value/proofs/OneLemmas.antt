@@ -5,17 +5,12 @@ use Rattle.crs_text.specs.Items.{Item, arguments, raw_of, skip}
 use Rattle.crs_text.specs.Refusal.{Refused}
 use Rattle.crs_shape.specs.declared.class.Class.{Class}
 use Rattle.crs_shape.specs.declared.class.Class.TheVariants as class
-use Rattle.crs_value.specs.declared.crs.Crs.TheVariants as crs
-use Rattle.crs_value.specs.declared.frame.Frame.{Frame}
-use Rattle.crs_value.specs.declared.frame.Frame.TheVariants as frames
 use Rattle.crs_value.specs.declared.direction.Direction.{Direction}
 use Rattle.crs_value.specs.declared.system_type.SystemType.{SystemType}
 use Rattle.crs_value.specs.declared.unit_kind.UnitKind.{UnitKind}
 use Rattle.crs_value.specs.Checks.{IsBefore, IsLeast}
-use Rattle.crs_value.specs.CrsValues.{GeodeticParts}
 use Rattle.crs_value.specs.Reading.{those, ReadsFirst, ReadsOptional, ReadsEach}
 use Rattle.crs_value.specs.Reads.{ReadsText, ReadsNumber, ReadsType, ReadsDirection, ReadsKind, ReadsTextOf, ReadsNumberOf, ReadsNumberAt, single_of, ReadsIdent, ReadsUnit, ReadsAxisMeridian, ReadsAxis, ReadsHead, ReadsSystem, ReadsEllipsoid, ReadsMeridian, ReadsMember, ReadsDatum, ReadsEnsemble, ReadsBox, ReadsExtent, ReadsUsage, ReadsTail}
-use Rattle.crs_value.specs.ReadsCrs.{ReadsFrame, ReadsGeodetic, ReadsCrs}
 use Rattle.crs_value.specs.Values.{IdentParts, UnitParts, AxisMeridianParts, AxisParts, SystemParts, EllipsoidParts, MeridianParts, MemberParts, DatumParts, EnsembleParts, BoxParts, ExtentParts, UsageParts, TailParts}
 use Rattle.crs_value.proofs.CheckLemmas.{DenotesOne, number-one}
 use Rattle.crs_value.proofs.WordLemmas.{direction_one, type_one, kind_one}
@@ -24,11 +19,11 @@ use Rattle.crs_value.proofs.WordLemmas.{direction_one, type_one, kind_one}
 abbrev pub IsOne : {V : Type 0} → (Item → V → Type 0) → Type 0
 IsOne {V = V} R = (item : Item) (a b : V) → R item a → R item b → a ≡ b
 
-one-first : {V : Type 0} (R : Item → V → Type 0) → IsOne R → (items : List Item) (a b : V) → ReadsFirst R items a → ReadsFirst R items b → a ≡ b
+pub one-first : {V : Type 0} (R : Item → V → Type 0) → IsOne R → (items : List Item) (a b : V) → ReadsFirst R items a → ReadsFirst R items b → a ≡ b
 one-first R one [] a b p q = absurd p
 one-first R one (i ∷ items) a b p q = one i a b p q
 
-one-optional : {V : Type 0} (R : Item → V → Type 0) → IsOne R → (items : List Item) (a b : Option V) → ReadsOptional R items a → ReadsOptional R items b → a ≡ b
+pub one-optional : {V : Type 0} (R : Item → V → Type 0) → IsOne R → (items : List Item) (a b : Option V) → ReadsOptional R items a → ReadsOptional R items b → a ≡ b
 one-optional R one [] None None p q = refl
 one-optional R one [] None (Some b) p q = absurd q
 one-optional R one [] (Some a) b p q = absurd p
@@ -36,7 +31,7 @@ one-optional R one (i ∷ items) None b p q = absurd p
 one-optional R one (i ∷ items) (Some a) None p q = absurd q
 one-optional R one (i ∷ items) (Some a) (Some b) p q = ap (λ x. Some x) (one i a b p q)
 
-one-each : {V : Type 0} (R : Item → V → Type 0) → IsOne R → (items : List Item) (a b : List V) → ReadsEach R items a → ReadsEach R items b → a ≡ b
+pub one-each : {V : Type 0} (R : Item → V → Type 0) → IsOne R → (items : List Item) (a b : List V) → ReadsEach R items a → ReadsEach R items b → a ≡ b
 one-each R one [] [] [] p q = refl
 one-each R one [] [] (b ∷ bs) p q = absurd q
 one-each R one [] (a ∷ as_) b p q = absurd p
@@ -50,7 +45,7 @@ one-each R one (i ∷ items) (a ∷ as_) (b ∷ bs) p q =
 text-one : IsOne ReadsText
 text-one item a b p q = sym p ∙ q
 
-text-of-one : (c : Class) → IsOne (ReadsTextOf c)
+pub text-of-one : (c : Class) → IsOne (ReadsTextOf c)
 text-of-one c item a b p q = one-first ReadsText text-one (those c class.Text (arguments item)) a b p q
 
 type-one : IsOne ReadsType
@@ -65,7 +60,7 @@ kind-one item a b p q = kind_one (raw_of item) a b p q
 number-one-law : DenotesOne → IsOne ReadsNumber
 number-one-law law item a b p q = number-one law item a b p q
 
-number-of-one : DenotesOne → (c : Class) → IsOne (ReadsNumberOf c)
+pub number-of-one : DenotesOne → (c : Class) → IsOne (ReadsNumberOf c)
 number-of-one law c item a b p q = one-first ReadsNumber (number-one-law law) (those c class.Number (arguments item)) a b p q
 
 number-at-one : DenotesOne → (k : ℕ) (c : Class) → IsOne (ReadsNumberAt k c)
@@ -78,7 +73,7 @@ ident-equal : (x0 y0 : List ℕ) (x1 y1 : List ℕ) (x2 y2 : Option (List ℕ)) 
     ident-made x0 x1 x2 x3 x4 ≡ ident-made y0 y1 y2 y3 y4
 ident-equal x0 y0 x1 y1 x2 y2 x3 y3 x4 y4 e0 e1 e2 e3 e4 = cc
 
-ident-one : (c : Class) → IsOne (ReadsIdent c)
+pub ident-one : (c : Class) → IsOne (ReadsIdent c)
 ident-one c item a b p q =
     ident-equal a.authority b.authority a.code b.code a.version b.version a.citation b.citation a.uri b.uri
     (text-of-one c item a.authority b.authority p.authority q.authority)
@@ -94,7 +89,7 @@ unit-equal : (x0 y0 : UnitKind) (x1 y1 : List ℕ) (x2 y2 : Value) (x3 y3 : List
     unit-made x0 x1 x2 x3 ≡ unit-made y0 y1 y2 y3
 unit-equal x0 y0 x1 y1 x2 y2 x3 y3 e0 e1 e2 e3 = cc
 
-unit-one : DenotesOne → (c : Class) → IsOne (ReadsUnit c)
+pub unit-one : DenotesOne → (c : Class) → IsOne (ReadsUnit c)
 unit-one law c item a b p q =
     unit-equal a.kind b.kind a.name b.name a.factor b.factor a.ids b.ids
     (kind-one item a.kind b.kind p.kind q.kind)
@@ -155,7 +150,7 @@ meridian-equal : (x0 y0 : List ℕ) (x1 y1 : Value) (x2 y2 : Option UnitParts) (
     meridian-made x0 x1 x2 x3 ≡ meridian-made y0 y1 y2 y3
 meridian-equal x0 y0 x1 y1 x2 y2 x3 y3 e0 e1 e2 e3 = cc
 
-meridian-one : DenotesOne → (c : Class) → IsOne (ReadsMeridian c)
+pub meridian-one : DenotesOne → (c : Class) → IsOne (ReadsMeridian c)
 meridian-one law c item a b p q =
     meridian-equal a.name b.name a.longitude b.longitude a.unit b.unit a.ids b.ids
     (text-of-one c item a.name b.name p.name q.name)
@@ -183,7 +178,7 @@ datum-equal : (x0 y0 : List ℕ) (x1 y1 : Option EllipsoidParts) (x2 y2 : Option
     datum-made x0 x1 x2 x3 ≡ datum-made y0 y1 y2 y3
 datum-equal x0 y0 x1 y1 x2 y2 x3 y3 e0 e1 e2 e3 = cc
 
-datum-one : DenotesOne → (c : Class) → IsOne (ReadsDatum c)
+pub datum-one : DenotesOne → (c : Class) → IsOne (ReadsDatum c)
 datum-one law c item a b p q =
     datum-equal a.name b.name a.ellipsoid b.ellipsoid a.anchor b.anchor a.ids b.ids
     (text-of-one c item a.name b.name p.name q.name)
@@ -198,7 +193,7 @@ ensemble-equal : (x0 y0 : List ℕ) (x1 y1 : List MemberParts) (x2 y2 : Option E
     ensemble-made x0 x1 x2 x3 x4 ≡ ensemble-made y0 y1 y2 y3 y4
 ensemble-equal x0 y0 x1 y1 x2 y2 x3 y3 x4 y4 e0 e1 e2 e3 e4 = cc
 
-ensemble-one : DenotesOne → (c : Class) → IsOne (ReadsEnsemble c)
+pub ensemble-one : DenotesOne → (c : Class) → IsOne (ReadsEnsemble c)
 ensemble-one law c item a b p q =
     ensemble-equal a.name b.name a.members b.members a.ellipsoid b.ellipsoid a.accuracy b.accuracy a.ids b.ids
     (text-of-one c item a.name b.name p.name q.name)
@@ -258,7 +253,7 @@ tail-equal : (x0 y0 : List UsageParts) (x1 y1 : UsageParts) (x2 y2 : List IdentP
     tail-made x0 x1 x2 x3 ≡ tail-made y0 y1 y2 y3
 tail-equal x0 y0 x1 y1 x2 y2 x3 y3 e0 e1 e2 e3 = cc
 
-tail-one : DenotesOne → (c : Class) → IsOne (ReadsTail c)
+pub tail-one : DenotesOne → (c : Class) → IsOne (ReadsTail c)
 tail-one law c item a b p q =
     tail-equal a.usages b.usages a.bare b.bare a.ids b.ids a.remark b.remark
     (one-each (ReadsUsage class.Usage) (usage-one law class.Usage) (those c class.Usage (arguments item)) a.usages b.usages p.usages q.usages)
@@ -285,40 +280,12 @@ system-equal : (t t' : SystemType) (d d' : Value) (i i' : List IdentParts) (a a'
     system-made t d i a u ≡ system-made t' d' i' a' u'
 system-equal t t' d d' i i' a a' u u' e f g h j = cc
 
-system-one : DenotesOne → (c : Class) → IsOne (ReadsSystem c)
+pub system-one : DenotesOne → (c : Class) → IsOne (ReadsSystem c)
 system-one law c item a b p q =
     let h = head-one law (those c class.CoordinateSystem (arguments item)) a b p.head q.head in
     system-equal a.system_type b.system_type a.dimension b.dimension a.ids b.ids a.axes b.axes a.unit b.unit h.0 h.1.0 h.1.1
     (one-each (ReadsAxis class.Axis) (axis-one law class.Axis) (those c class.Axis (arguments item)) a.axes b.axes p.axes q.axes)
     (one-optional (ReadsUnit class.AxisUnit) (unit-one law class.AxisUnit) (those c class.AxisUnit (arguments item)) a.unit b.unit p.unit q.unit)
-
-frame-one : DenotesOne → (data_ ensembles : List Item) (a b : Frame) → ReadsFrame data_ ensembles a → ReadsFrame data_ ensembles b → a ≡ b
-frame-one law [] ensembles (frames.Datum a) b p q = absurd p
-frame-one law [] ensembles (frames.Ensemble a) (frames.Datum b) p q = absurd q
-frame-one law [] ensembles (frames.Ensemble a) (frames.Ensemble b) p q =
-    ap (λ x. frames.Ensemble x) (one-first (ReadsEnsemble class.GeodeticEnsemble) (ensemble-one law class.GeodeticEnsemble) ensembles a b p q)
-frame-one law (i ∷ data_) ensembles (frames.Datum a) (frames.Datum b) p q = ap (λ x. frames.Datum x) (datum-one law class.GeodeticFrame i a b p q)
-frame-one law (i ∷ data_) ensembles (frames.Datum a) (frames.Ensemble b) p q = absurd q
-frame-one law (i ∷ data_) ensembles (frames.Ensemble a) b p q = absurd p
-
-abbrev geodetic-made : List ℕ → Frame → Option MeridianParts → SystemParts → TailParts → GeodeticParts
-geodetic-made x0 x1 x2 x3 x4 = record { name = x0; frame = x1; meridian = x2; system = x3; tail = x4 }
-
-geodetic-equal : (x0 y0 : List ℕ) (x1 y1 : Frame) (x2 y2 : Option MeridianParts) (x3 y3 : SystemParts) (x4 y4 : TailParts) → x0 ≡ y0 → x1 ≡ y1 → x2 ≡ y2 → x3 ≡ y3 → x4 ≡ y4 →
-    geodetic-made x0 x1 x2 x3 x4 ≡ geodetic-made y0 y1 y2 y3 y4
-geodetic-equal x0 y0 x1 y1 x2 y2 x3 y3 x4 y4 e0 e1 e2 e3 e4 = cc
-
-geodetic-one : DenotesOne → (c : Class) → IsOne (ReadsGeodetic c)
-geodetic-one law c item a b p q =
-    geodetic-equal a.name b.name a.frame b.frame a.meridian b.meridian a.system b.system a.tail b.tail
-    (text-of-one c item a.name b.name p.name q.name)
-    (frame-one law (those c class.GeodeticFrame (arguments item)) (those c class.GeodeticEnsemble (arguments item)) a.frame b.frame p.frame q.frame)
-    (one-optional (ReadsMeridian class.PrimeMeridian) (meridian-one law class.PrimeMeridian) (those c class.PrimeMeridian (arguments item)) a.meridian b.meridian p.meridian q.meridian)
-    (system-one law c item a.system b.system p.system q.system)
-    (tail-one law c item a.tail b.tail p.tail q.tail)
-
-pub crs-one : DenotesOne → (c : Class) → IsOne (ReadsCrs c)
-crs-one law c item (crs.Geodetic a) (crs.Geodetic b) p q = ap (λ x. crs.Geodetic x) (geodetic-one law c item a b p q)
 
 -- of some faults one is the first
 abbrev refused-made : ℕ → ℕ → Refused

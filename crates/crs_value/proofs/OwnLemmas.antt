@@ -4,7 +4,7 @@ use Rattle.crs_text.specs.Items.{Item, arguments}
 use Rattle.crs_text.specs.Refusal.{Refused}
 use Rattle.crs_shape.specs.declared.class.Class.{Class}
 use Rattle.crs_shape.specs.declared.class.Class.TheVariants as class
-use Rattle.crs_value.specs.Checks.{AnyOf, UnknownType, UnknownDirection, OfCrs, OfUnit, dimensions_of, HasSystem, Own, BreaksAmong, IsLeast}
+use Rattle.crs_value.specs.Checks.{AnyOf, UnknownType, UnknownDirection, OfCrs, OfCompound, OfUnit, dimensions_of, HasSystem, Own, BreaksAmong, IsLeast}
 use Rattle.crs_value.specs.Reading.{those}
 
 -- a CRS with a coordinate system breaks by itself what such a CRS breaks
@@ -13,7 +13,13 @@ pub own-crs : (c : Class) (item : Item) (o : Option Refused) → HasSystem c →
 unfolding Own
 own-crs class.GeodeticCrs item o is h = h
 own-crs class.GeographicCrs item o is h = h
+own-crs class.ProjectedCrs item o is h = h
+own-crs class.VerticalCrs item o is h = h
 own-crs other item o is h = absurd is
+
+pub own-compound : (c : Class) (item : Item) (o : Option Refused) → c ≡ class.CompoundCrs → IsLeast (OfCompound (arguments item)) o → IsLeast (Own c item) o
+unfolding Own
+own-compound c item o e h = let P : Class → Type 0 = λ x. IsLeast (Own x item) o in subst P (sym e) h
 
 module _ (c : Class) (item : Item) (o : Option Refused) (h : IsLeast (OfUnit c item) o) where
   at-unit : (d : Class) → c ≡ d → ((k : IsLeast (OfUnit d item) o) → IsLeast (Own d item) o) → IsLeast (Own c item) o

@@ -125,6 +125,9 @@ formed-text (node place keyword square first others close) h = word-text keyword
 abbrev pub Tells : {V : Type 0} → Class → (Item → V → Type 0) → (V → Type 0) → Type 0
 Tells {V = V} c R P = (item : Item) (value : V) → IsSound c item → R item value → P value
 
+pub tells-as : {V : Type 0} (R : Class → Item → V → Type 0) (P : V → Type 0) (c d : Class) → c ≡ d → Tells d (R d) P → Tells c (R c) P
+tells-as R P c d same tells = let Q : Class → Type 0 = λ x. Tells x (R x) P in subst Q (sym same) tells
+
 pub first-tells : {V : Type 0} (R : Item → V → Type 0) (P : V → Type 0) (c : Class) → Tells c R P → (items : List Item) (value : V) → AllSound c items →
     ReadsFirst R items value → P value
 first-tells R P c tells [] value sound reads = absurd reads

@@ -265,6 +265,8 @@ own-of-crs : (c : Class) (item : Item) (fault : Refused) → HasSystem c → OfC
 unfolding Own
 own-of-crs class.GeodeticCrs item fault is h = h
 own-of-crs class.GeographicCrs item fault is h = h
+own-of-crs class.ProjectedCrs item fault is h = h
+own-of-crs class.VerticalCrs item fault is h = h
 own-of-crs other item fault is h = absurd is
 
 -- the nodes `CS`, the axes and the shared units of a sound CRS break no check

@@ -1,5 +1,5 @@
 -- What sound usages and ends of CRSs say is sound.
-use Rattle.std.proofs.Common.{◌≡◌, ℕ, ◌+◌, ◌≤◌, Bool, true, false, ◌||◌, not, IsTrue, inl, inr, drop, Option, Some, None, List, [], ◌∷◌, refl, ◌∙◌, ap, arith}
+use Rattle.std.proofs.Common.{◌≡◌, ℕ, ◌+◌, ◌≤◌, length, Bool, true, false, ◌||◌, not, IsTrue, inl, inr, drop, Option, Some, None, List, [], ◌∷◌, refl, ◌∙◌, ap, arith}
 use Rattle.std.specs.Prelude.{IsSome}
 use Rattle.std.proofs.lemmas.Bool.{or_cases}
 use Rattle.crs_text.specs.Items.{Item, leaf, node, More, arguments}
@@ -8,13 +8,14 @@ use Rattle.crs_shape.specs.declared.class.Class.{Class}
 use Rattle.crs_shape.specs.declared.class.Class.TheVariants as class
 use Rattle.crs_shape.specs.Counts.{one_if, how_many, most, is_bounded}
 use Rattle.crs_shape.specs.Shape.{Allowed}
+use Rattle.crs_shape.specs.Shaped.{Shaped}
 use Rattle.crs_shape.specs.Slots.{SlotParts, slots_of}
 use Rattle.crs_value.specs.declared.unit_kind.UnitKind.TheVariants as kinds
 use Rattle.crs_value.specs.Reading.{is_same, is_class, those, ReadsOptional}
 use Rattle.crs_value.specs.Reads.{ReadsTextOf, ReadsUnit, ReadsBox, ReadsExtent, ReadsUsage, ReadsTail}
 use Rattle.crs_value.specs.Sound.{IsUnitOf}
 use Rattle.crs_value.specs.SoundUsages.{IsBox, IsExtent, IsUsage, SaysSome, IsTail}
-use Rattle.crs_value.proofs.ArgumentLemmas.{arguments-sound, those-first}
+use Rattle.crs_value.proofs.ArgumentLemmas.{arguments-sound, those-first, those-many}
 use Rattle.crs_value.proofs.SoundLemmas.{Tells, optional-tells, each-tells, optional-text-tells, number-first, ids-tell, length-tells}
 
 pub box-tells : (c : Class) → Tells c (ReadsBox c) IsBox
@@ -52,6 +53,20 @@ usage-tells c item value sound reads = record {
 
 abbrev pub SlotsBound : Type 0
 SlotsBound = (test : Class → Bool) (slots : List SlotParts) (classes : List Class) → IsTrue (is_bounded test slots) → Allowed slots classes → how_many test classes ≤ most test slots
+
+nothing : {A : Type 0} (xs : List A) → length xs ≤ 0 → xs ≡ []
+nothing [] h = refl
+nothing (x ∷ xs) h = absurd (omega (arith, h))
+
+-- a node has no arguments of a class that none of its slots takes
+pub arguments-none : SlotsBound → (parent c : Class) (item : Item) → IsTrue (is_bounded (is_same c) (slots_of parent)) → most (is_same c) (slots_of parent) ≡ 0 →
+    Shaped parent item → those parent c (arguments item) ≡ []
+arguments-none law parent c (leaf kind place raw) bounded none shaped = refl
+arguments-none law parent c (node place keyword square first others close) bounded none shaped =
+    let shape = shaped.1 in
+    let many = those-many parent c (shape.0 ∷ shape.1.0) (More first others) (shape.1.1.0, (shape.1.1.1.0, shape.1.1.1.1.0)) in
+    let few = law (is_same c) (slots_of parent) (shape.0 ∷ shape.1.0) bounded shape.1.1.1.1.1 in
+    nothing (those parent c (More first others)) (omega (arith, many, few, none))
 
 abbrev is_part : Class → Bool
 is_part d = is_same class.Scope d || is_same class.Area d || is_same class.BoundingBox d || is_same class.VerticalExtent d

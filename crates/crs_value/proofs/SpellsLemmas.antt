@@ -1,16 +1,19 @@
 -- From a root without a fault of shape to its shape.
-use Rattle.std.proofs.Common.{◌≡◌, ◌↔◌, inl, inr, Some, sym, ◌∙◌, subst}
-use Rattle.crs_text.specs.Items.{Item}
+use Rattle.std.proofs.Common.{◌≡◌, ◌↔◌, ℕ, true, false, inl, inr, Some, List, [], ◌∷◌, if◌then◌else◌, sym, ◌∙◌, subst}
+use Rattle.crs_text.specs.Items.{Item, leaf, node}
 use Rattle.crs_text.specs.Refusal.{Refused}
 use Rattle.crs_shape.specs.declared.class.Class.{Class}
+use Rattle.crs_shape.specs.Keywords.{is_keyword, first_named, root_classes, root_named}
 use Rattle.crs_shape.specs.Shaped.{Shaped}
 use Rattle.crs_shape.specs.ShapeFault.{IsFree, Inside, AtRoot, class_of_root}
 use Rattle.crs_value.specs.declared.crs.Crs.{Crs}
 use Rattle.crs_value.specs.Checks.{Breaks, IsLeast}
+use Rattle.crs_value.specs.Found.{IsAmong}
 use Rattle.crs_value.specs.ReadsCrs.{ReadsCrs}
 use Rattle.crs_value.specs.Spells.{SpellsCrs, BreaksFirst, RefusesCrs}
 use Rattle.crs_value.proofs.CheckLemmas.{DenotesOne}
-use Rattle.crs_value.proofs.OneLemmas.{crs-one, least-one-only}
+use Rattle.crs_value.proofs.OneCrsLemmas.{crs-one}
+use Rattle.crs_value.proofs.OneLemmas.{least-one-only}
 
 abbrev pub NoFaultIsShape : Type 0
 NoFaultIsShape = (c : Class) (item : Item) → IsFree (Inside c item) ↔ Shaped c item
@@ -19,6 +22,23 @@ pub root-shaped : NoFaultIsShape → (item other : Item) (c : Class) → other �
 root-shaped law item other c same e free =
     let P : Item → Type 0 = λ i. Shaped c i in
     subst P (sym same) ((law c item).0 (λ fault inside. free fault (inr (c, (e, inside)))))
+
+-- a whole text's class is one of five
+first-among : (cs : List Class) (word : List ℕ) (c : Class) → first_named cs word ≡ Some c → IsAmong cs c
+first-among [] word c e = cc
+first-among (d ∷ ds) word c e =
+    elim (is_keyword d word) as (λ b. (if b then Some d else first_named ds word) ≡ Some c → IsAmong (d ∷ ds) c) [
+      | true ↦ λ h. inl (some-class d c h)
+      | false ↦ λ h. inr (first-among ds word c h)
+    ] e
+  where
+    some-class : (x y : Class) → Some x ≡ Some y → y ≡ x
+    some-class x y h = cc
+
+pub root-among : (item : Item) (c : Class) → class_of_root item ≡ Some c → IsAmong root_classes c
+unfolding root_named
+root-among (leaf kind place raw) c e = cc
+root-among (node place keyword square first others close) c e = first-among root_classes keyword c e
 
 class-one : (item : Item) (c d : Class) → class_of_root item ≡ Some c → class_of_root item ≡ Some d → c ≡ d
 class-one item c d e f = let h : Some c ≡ Some d = sym e ∙ f in cc

@@ -27,6 +27,11 @@ abbrev pub AnyOf : (Item → Refused → Type 0) → List Item → Refused → T
 AnyOf Broken [] fault = ⊥
 AnyOf Broken (item ∷ items) fault = Broken item fault ⊎ AnyOf Broken items fault
 
+-- the first of these items is so
+abbrev pub FirstIs : (Item → Type 0) → List Item → Type 0
+FirstIs Is [] = ⊥
+FirstIs Is (item ∷ items) = Is item
+
 -- ---- 21: a type or a direction that is no such word
 
 abbrev pub UnknownType : Item → Refused → Type 0
@@ -69,10 +74,26 @@ geographic_dimensions types.Ellipsoidal = 2 ∷ 3 ∷ []
 geographic_dimensions types.Spherical = []
 geographic_dimensions types.Vertical = []
 
+-- those of a projected CRS
+abbrev pub projected_dimensions : SystemType → List ℕ
+projected_dimensions types.Cartesian = 2 ∷ 3 ∷ []
+projected_dimensions types.Ellipsoidal = []
+projected_dimensions types.Spherical = []
+projected_dimensions types.Vertical = []
+
+-- those of a vertical CRS
+abbrev pub vertical_dimensions : SystemType → List ℕ
+vertical_dimensions types.Cartesian = []
+vertical_dimensions types.Ellipsoidal = []
+vertical_dimensions types.Spherical = []
+vertical_dimensions types.Vertical = 1 ∷ []
+
 -- the dimensions of a CRS of this class
 abbrev pub dimensions_of : Class → SystemType → List ℕ
 dimensions_of class.GeodeticCrs = geodetic_dimensions
 dimensions_of class.GeographicCrs = geographic_dimensions
+dimensions_of class.ProjectedCrs = projected_dimensions
+dimensions_of class.VerticalCrs = vertical_dimensions
 dimensions_of other = λ type_read. []
 
 -- the number is one of these
@@ -84,6 +105,31 @@ abbrev pub BadSystem : (SystemType → List ℕ) → Item → Refused → Type 0
 BadSystem dimensions cs fault =
     (fault ≡ at 23 cs)
     × ((type_read : SystemType) × ((dimension : Value) × (HasType cs type_read × HasDimension cs dimension × ¬ (IsOneOf dimension (dimensions type_read)))))
+
+-- ---- 24: a compound's horizontal part that is geodetic and not geographic, or whose dimension isn't 2
+
+-- the CRS's node `CS` has a known type that isn't ellipsoidal
+abbrev pub IsNotEllipsoidal : Item → Type 0
+IsNotEllipsoidal cs = (type_read : SystemType) × (HasType cs type_read × (type_read ≢ types.Ellipsoidal))
+
+-- the dimension of the node `CS` isn't 2
+abbrev pub IsNotPlane : Item → Type 0
+IsNotPlane cs = (dimension : Value) × (HasDimension cs dimension × ¬ (SameNumber (exact dimension) (whole_number 2)))
+
+-- a node `CS` that a horizontal part of this class may not have
+abbrev pub IsNotHorizontal : Class → Item → Type 0
+IsNotHorizontal class.GeodeticCrs cs = IsNotEllipsoidal cs ⊎ IsNotPlane cs
+IsNotHorizontal class.GeographicCrs cs = IsNotEllipsoidal cs ⊎ IsNotPlane cs
+IsNotHorizontal other cs = IsNotPlane cs
+
+-- a part of this class, by its node `CS`
+abbrev pub BadPart : Class → Item → Refused → Type 0
+BadPart c part fault = (fault ≡ at 24 part) × FirstIs (IsNotHorizontal c) (those c class.CoordinateSystem (arguments part))
+
+-- the horizontal parts among a compound's arguments
+abbrev pub BadParts : List Class → Items → Refused → Type 0
+BadParts [] items fault = ⊥
+BadParts (c ∷ cs) items fault = AnyOf (BadPart c) (those class.CompoundCrs c items) fault ⊎ BadParts cs items fault
 
 -- ---- 25: the number of axes isn't the dimension
 
@@ -235,6 +281,8 @@ BadSystems dimensions systems axes units fault =
 abbrev pub HasSystem : Class → Type 0
 HasSystem class.GeodeticCrs = Unit {0}
 HasSystem class.GeographicCrs = Unit {0}
+HasSystem class.ProjectedCrs = Unit {0}
+HasSystem class.VerticalCrs = Unit {0}
 HasSystem other = ⊥
 
 -- the checks of a CRS that has a coordinate system
@@ -243,6 +291,13 @@ OfCrs dimensions c item fault =
     RepeatsAny c (arguments item) once fault
     ⊎ BadSystems dimensions (those c class.CoordinateSystem (arguments item)) (those c class.Axis (arguments item))
     (those c class.AxisUnit (arguments item)) fault
+
+-- the classes of a compound's horizontal part
+abbrev pub horizontal_classes : List Class
+horizontal_classes = class.GeodeticCrs ∷ class.GeographicCrs ∷ class.ProjectedCrs ∷ []
+
+abbrev pub OfCompound : Items → Refused → Type 0
+OfCompound items fault = RepeatsAny class.CompoundCrs items once fault ⊎ BadParts horizontal_classes items fault
 
 abbrev pub OfUnit : Class → Item → Refused → Type 0
 OfUnit c item fault = AnyOf NotAbove (those c class.Number (arguments item)) fault
@@ -254,6 +309,9 @@ OfEllipsoid numbers fault = AnyOf NotAbove (take 1 numbers) fault ⊎ AnyOf IsNe
 unfoldable pub Own : Class → Item → Refused → Type 0
 Own class.GeodeticCrs item fault = OfCrs geodetic_dimensions class.GeodeticCrs item fault
 Own class.GeographicCrs item fault = OfCrs geographic_dimensions class.GeographicCrs item fault
+Own class.ProjectedCrs item fault = OfCrs projected_dimensions class.ProjectedCrs item fault
+Own class.VerticalCrs item fault = OfCrs vertical_dimensions class.VerticalCrs item fault
+Own class.CompoundCrs item fault = OfCompound (arguments item) fault
 Own class.GeodeticFrame item fault = Repeats class.GeodeticFrame (arguments item) class.Anchor fault
 Own class.VerticalFrame item fault = Repeats class.VerticalFrame (arguments item) class.Anchor fault
 Own class.Ellipsoid item fault = OfEllipsoid (those class.Ellipsoid class.Number (arguments item)) fault

@@ -1,6 +1,7 @@
--- Geodetic and geographic CRSs as they are written.
+-- Geodetic, projected and vertical CRSs as they are written.
 use Rattle.std.specs.Prelude.{ℕ, List, Option}
-use Rattle.crs_value.specs.Values.{MeridianParts, SystemParts, TailParts}
+use Rattle.crs_value.specs.ConversionValues.{ConversionParts, GeoidModelParts}
+use Rattle.crs_value.specs.Values.{IdentParts, UnitParts, MeridianParts, SystemParts, TailParts}
 use Rattle.crs_value.specs.declared.frame.Frame.{Frame}
 
 -- a geodetic or geographic CRS
@@ -9,4 +10,28 @@ pub record GeodeticParts : Type 0 where
   pub frame : Frame
   pub meridian : Option MeridianParts
   pub system : SystemParts
+  pub tail : TailParts
+
+-- the CRS that a projected one is based on, and the unit of its angles, if one is written
+pub record BaseParts : Type 0 where
+  pub name : List ℕ
+  pub frame : Frame
+  pub meridian : Option MeridianParts
+  pub unit : Option UnitParts
+  pub ids : List IdentParts
+
+-- a projected CRS
+pub record ProjectedParts : Type 0 where
+  pub name : List ℕ
+  pub base : BaseParts
+  pub conversion : ConversionParts
+  pub system : SystemParts
+  pub tail : TailParts
+
+-- a vertical CRS
+pub record VerticalParts : Type 0 where
+  pub name : List ℕ
+  pub frame : Frame
+  pub system : SystemParts
+  pub geoid_models : List GeoidModelParts
   pub tail : TailParts

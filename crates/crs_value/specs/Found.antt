@@ -1,5 +1,5 @@
--- Arguments of one class from one on, as the program goes through them.
-use Rattle.std.specs.Prelude.{ℕ, List, [], ◌∷◌, Option, Some, None}
+-- Arguments of one class from one on, as the program goes through them, and classes of which one is read.
+use Rattle.std.specs.Prelude.{◌≡◌, ℕ, List, [], ◌∷◌, Option, Some, None, ◌⊎◌}
 use Rattle.crs_text.specs.Items.{Item, rest_of, here}
 use Rattle.crs_shape.specs.declared.class.Class.{Class}
 use Rattle.crs_shape.specs.Shaped.{Shaped}
@@ -14,3 +14,8 @@ from_found tree parent c (Some id) = item_at tree id ∷ those parent c (rest_of
 abbrev pub AllShaped : Class → List Item → Type 0
 AllShaped c [] = Unit {0}
 AllShaped c (item ∷ items) = Shaped c item × AllShaped c items
+
+-- the class is one of these
+abbrev pub IsAmong : List Class → Class → Type 0
+IsAmong [] c = ⊥
+IsAmong (d ∷ ds) c = (c ≡ d) ⊎ IsAmong ds c

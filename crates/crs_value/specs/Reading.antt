@@ -1,5 +1,6 @@
 -- Readings: what is read from an item, or from the arguments of one class.
 use Rattle.std.specs.Prelude.{◌≡◌, ℕ, ◌<◌, Bool, false, List, [], ◌∷◌, Option, Some, None, if◌then◌else◌}
+use Rattle.std.specs.List.{list_any}
 use denote.Enum.Bare.{sameb}
 use Rattle.crs_text.specs.Items.{Item, Items, End, More, first_of, rest_of, here, HasId}
 use Rattle.crs_shape.specs.contracts.class.Class.{the_type}
@@ -47,6 +48,10 @@ those parent c (More item items) = if is_a parent c item then item ∷ those par
 abbrev pub Requires : Class → Class → ℕ → Type 0
 Requires c d n = n < least (is_same d) (slots_of c)
 
+-- the slots of a class require an argument of one of these classes
+abbrev pub RequiresOneOf : Class → List Class → Type 0
+RequiresOneOf c ds = 0 < least (λ d. list_any (λ e. is_same e d) ds) (slots_of c)
+
 -- the number of the first of these arguments, behind which the later ones stand; none where there are none
 abbrev pub IsFound : Item → Class → Class → List Item → Option ℕ → Type 0
 IsFound tree parent c items None = items ≡ []
@@ -63,6 +68,11 @@ ReadsOptional Reads [] None = Unit {0}
 ReadsOptional Reads [] (Some value) = ⊥
 ReadsOptional Reads (item ∷ items) None = ⊥
 ReadsOptional Reads (item ∷ items) (Some value) = Reads item value
+
+-- the value is read from the first of these items, and where there are none as the rest says
+abbrev pub ReadsElse : {V : Type 0} → (Item → V → Type 0) → List Item → (V → Type 0) → V → Type 0
+ReadsElse Reads [] Otherwise value = Otherwise value
+ReadsElse Reads (item ∷ items) Otherwise value = Reads item value
 
 -- a value is read from each of these items, in order
 abbrev pub ReadsEach : {V : Type 0} → (Item → V → Type 0) → List Item → List V → Type 0

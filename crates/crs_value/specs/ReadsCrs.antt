@@ -1,8 +1,10 @@
--- What a geodetic or geographic CRS says.
-use Rattle.std.specs.Prelude.{List, [], ◌∷◌}
+-- What coordinate reference systems say.
+use Rattle.std.specs.Prelude.{◌≡◌}
 use Rattle.crs_text.specs.Items.{Item, arguments}
 use Rattle.crs_shape.specs.declared.class.Class.{Class}
 use Rattle.crs_shape.specs.declared.class.Class.TheVariants as class
+use Rattle.crs_value.specs.declared.compound.Horizontal.{Horizontal}
+use Rattle.crs_value.specs.declared.compound.Horizontal.TheVariants as horizontal
 use Rattle.crs_value.specs.declared.crs.Crs.{Crs}
 use Rattle.crs_value.specs.declared.crs.Crs.TheVariants as crs
 use Rattle.crs_value.specs.declared.crs.Kind.{Kind}
@@ -11,16 +13,32 @@ use Rattle.crs_value.specs.declared.frame.Frame.{Frame}
 use Rattle.crs_value.specs.declared.frame.Frame.TheVariants as frame
 use Rattle.crs_value.specs.declared.system_type.SystemType.{SystemType}
 use Rattle.crs_value.specs.declared.system_type.SystemType.TheVariants as types
-use Rattle.crs_value.specs.CrsValues.{GeodeticParts}
-use Rattle.crs_value.specs.Reading.{those, ReadsFirst, ReadsOptional}
-use Rattle.crs_value.specs.Reads.{ReadsTextOf, ReadsDatum, ReadsEnsemble, ReadsMeridian, ReadsSystem, ReadsTail}
+use Rattle.crs_value.specs.CompoundValues.{CompoundParts}
+use Rattle.crs_value.specs.CrsValues.{GeodeticParts, BaseParts, ProjectedParts, VerticalParts}
+use Rattle.crs_value.specs.Reading.{those, ReadsFirst, ReadsOptional, ReadsEach, ReadsElse}
+use Rattle.crs_value.specs.Reads.{ReadsTextOf, ReadsIds, ReadsUnit, ReadsDatum, ReadsEnsemble, ReadsMeridian, ReadsSystem, ReadsTail}
+use Rattle.crs_value.specs.ReadsConversion.{ReadsConversion, ReadsGeoidModel}
 
--- the frame of a CRS: its reference frame, or where there is none its ensemble
-abbrev pub ReadsFrame : List Item → List Item → Frame → Type 0
-ReadsFrame [] ensembles (frame.Datum datum) = ⊥
-ReadsFrame [] ensembles (frame.Ensemble ensemble) = ReadsFirst (ReadsEnsemble class.GeodeticEnsemble) ensembles ensemble
-ReadsFrame (item ∷ items) ensembles (frame.Datum datum) = ReadsDatum class.GeodeticFrame item datum
-ReadsFrame (item ∷ items) ensembles (frame.Ensemble ensemble) = ⊥
+-- the item is a reference frame of this class, and this is its value
+abbrev pub ReadsAsDatum : Class → Item → Frame → Type 0
+ReadsAsDatum d item (frame.Datum datum) = ReadsDatum d item datum
+ReadsAsDatum d item (frame.Ensemble ensemble) = ⊥
+
+-- the item is an ensemble of this class, and this is its value
+abbrev pub ReadsAsEnsemble : Class → Item → Frame → Type 0
+ReadsAsEnsemble e item (frame.Datum datum) = ⊥
+ReadsAsEnsemble e item (frame.Ensemble ensemble) = ReadsEnsemble e item ensemble
+
+-- the frame of a CRS: its reference frame, of the one class, or where there is none its ensemble, of the other
+abbrev pub ReadsFrame : Class → Class → Class → Item → Frame → Type 0
+ReadsFrame d e c item value =
+    ReadsElse (ReadsAsDatum d) (those c d (arguments item)) (ReadsFirst (ReadsAsEnsemble e) (those c e (arguments item))) value
+
+abbrev pub ReadsGeodeticFrame : Class → Item → Frame → Type 0
+ReadsGeodeticFrame = ReadsFrame class.GeodeticFrame class.GeodeticEnsemble
+
+abbrev pub ReadsVerticalFrame : Class → Item → Frame → Type 0
+ReadsVerticalFrame = ReadsFrame class.VerticalFrame class.VerticalEnsemble
 
 -- the classes of a geodetic or geographic CRS
 abbrev pub IsGeodeticClass : Class → Type 0
@@ -30,16 +48,58 @@ IsGeodeticClass other = ⊥
 
 pub record ReadsGeodetic (c : Class) (item : Item) (parts : GeodeticParts) : Type 0 where
   pub name : ReadsTextOf c item parts.name
-  pub frame : ReadsFrame (those c class.GeodeticFrame (arguments item)) (those c class.GeodeticEnsemble (arguments item)) parts.frame
+  pub frame : ReadsGeodeticFrame c item parts.frame
   pub meridian : ReadsOptional (ReadsMeridian class.PrimeMeridian) (those c class.PrimeMeridian (arguments item)) parts.meridian
   pub system : ReadsSystem c item parts.system
   pub tail : ReadsTail c item parts.tail
 
+pub record ReadsBase (c : Class) (item : Item) (parts : BaseParts) : Type 0 where
+  pub name : ReadsTextOf c item parts.name
+  pub frame : ReadsGeodeticFrame c item parts.frame
+  pub meridian : ReadsOptional (ReadsMeridian class.PrimeMeridian) (those c class.PrimeMeridian (arguments item)) parts.meridian
+  pub unit : ReadsOptional (ReadsUnit class.AngleUnit) (those c class.AngleUnit (arguments item)) parts.unit
+  pub ids : ReadsIds c item parts.ids
+
+pub record ReadsProjected (c : Class) (item : Item) (parts : ProjectedParts) : Type 0 where
+  pub name : ReadsTextOf c item parts.name
+  pub base : ReadsFirst (ReadsBase class.BaseCrs) (those c class.BaseCrs (arguments item)) parts.base
+  pub conversion : ReadsFirst (ReadsConversion class.Conversion) (those c class.Conversion (arguments item)) parts.conversion
+  pub system : ReadsSystem c item parts.system
+  pub tail : ReadsTail c item parts.tail
+
+pub record ReadsVertical (c : Class) (item : Item) (parts : VerticalParts) : Type 0 where
+  pub name : ReadsTextOf c item parts.name
+  pub frame : ReadsVerticalFrame c item parts.frame
+  pub system : ReadsSystem c item parts.system
+  pub geoid_models : ReadsEach (ReadsGeoidModel class.GeoidModel) (those c class.GeoidModel (arguments item)) parts.geoid_models
+  pub tail : ReadsTail c item parts.tail
+
+-- the item is a horizontal CRS of this class, and this is its value
+abbrev pub ReadsAsHorizontal : Class → Item → Horizontal → Type 0
+ReadsAsHorizontal c item (horizontal.Geodetic geodetic) = IsGeodeticClass c × ReadsGeodetic c item geodetic
+ReadsAsHorizontal c item (horizontal.Projected projected) = (c ≡ class.ProjectedCrs) × ReadsProjected c item projected
+
+-- a compound's horizontal part: its geodetic, geographic or projected CRS
+abbrev pub ReadsHorizontal : Class → Item → Horizontal → Type 0
+ReadsHorizontal c item value =
+    ReadsElse (ReadsAsHorizontal class.GeodeticCrs) (those c class.GeodeticCrs (arguments item))
+    (ReadsElse (ReadsAsHorizontal class.GeographicCrs) (those c class.GeographicCrs (arguments item))
+    (ReadsFirst (ReadsAsHorizontal class.ProjectedCrs) (those c class.ProjectedCrs (arguments item)))) value
+
+pub record ReadsCompound (c : Class) (item : Item) (parts : CompoundParts) : Type 0 where
+  pub name : ReadsTextOf c item parts.name
+  pub horizontal : ReadsHorizontal c item parts.horizontal
+  pub vertical : ReadsFirst (ReadsVertical class.VerticalCrs) (those c class.VerticalCrs (arguments item)) parts.vertical
+  pub tail : ReadsTail c item parts.tail
+
 -- the value of a whole text of this class
 abbrev pub ReadsCrs : Class → Item → Crs → Type 0
-ReadsCrs c item (crs.Geodetic geodetic) = ReadsGeodetic c item geodetic
+ReadsCrs c item (crs.Geodetic geodetic) = IsGeodeticClass c × ReadsGeodetic c item geodetic
+ReadsCrs c item (crs.Projected projected) = (c ≡ class.ProjectedCrs) × ReadsProjected c item projected
+ReadsCrs c item (crs.Vertical vertical) = (c ≡ class.VerticalCrs) × ReadsVertical c item vertical
+ReadsCrs c item (crs.Compound compound) = (c ≡ class.CompoundCrs) × ReadsCompound c item compound
 
--- geographic exactly if the system is ellipsoidal
+-- a geodetic CRS is geographic exactly if its system is ellipsoidal
 abbrev pub kind_by : SystemType → Kind
 kind_by types.Cartesian = kind.Geodetic
 kind_by types.Ellipsoidal = kind.Geographic
@@ -48,3 +108,6 @@ kind_by types.Vertical = kind.Geodetic
 
 abbrev pub kind_of : Crs → Kind
 kind_of (crs.Geodetic geodetic) = kind_by geodetic.system.system_type
+kind_of (crs.Projected projected) = kind.Projected
+kind_of (crs.Vertical vertical) = kind.Vertical
+kind_of (crs.Compound compound) = kind.Compound

@@ -8,7 +8,7 @@ use Rattle.crs_shape.specs.declared.class.Class.{Class}
 use Rattle.crs_shape.specs.ShapeFault.{IsFree, AtRoot, class_of_root}
 use Rattle.crs_value.specs.declared.crs.Crs.{Crs}
 use Rattle.crs_value.specs.Checks.{Breaks, IsLeast}
-use Rattle.crs_value.specs.ReadsCrs.{IsGeodeticClass, ReadsCrs}
+use Rattle.crs_value.specs.ReadsCrs.{ReadsCrs}
 
 -- the item has no fault of shape, breaks no check, and says this value
 pub record SpellsCrs (item : Item) (value : Crs) : Type 0 where
@@ -33,7 +33,3 @@ RefusesCrs item fault = AtRoot item fault ⊎ BreaksFirst item fault
 abbrev pub IsFaultOf : Item → Fault → Type 0
 IsFaultOf item (faults.Refused refusal) = RefusesCrs item refusal
 IsFaultOf item (faults.Memory e) = Unit {0}
-
--- where the item has a root's class, it is that of a geodetic or geographic CRS
-abbrev pub IsGeodeticRoot : Item → Type 0
-IsGeodeticRoot item = (c : Class) → class_of_root item ≡ Some c → IsGeodeticClass c

@@ -1,11 +1,14 @@
 //! Coordinate reference systems.
 ghost use Rattle.std.specs.Prelude.{◌≡◌};
 
+use crate::compound::Compound;
 use crate::frame::Frame;
 use crate::meridian::Meridian;
+use crate::projected::Projected;
 use crate::system::System;
 use crate::system_type::SystemType;
 use crate::usage::Tail;
+use crate::vertical::Vertical;
 use std::marker::Model;
 
 /// A geodetic or geographic CRS, `GEODCRS[name, frame, (meridian), system, tail]` or with `GEOGCRS`.
@@ -26,7 +29,7 @@ pub struct Geodetic<'a> {
 
 impl<'a> Model for Geodetic<'a> {
     ghost use Rattle.crs_value.specs.CrsValues.{GeodeticParts};
-    ghost use Rattle.crs_value.specs.SoundGeodetic.{IsGeodetic};
+    ghost use Rattle.crs_value.specs.SoundSingle.{IsGeodetic};
 
     ghost Value = { GeodeticParts };
 
@@ -46,6 +49,12 @@ impl<'a> Model for Geodetic<'a> {
 pub enum Crs<'a> {
     /// A geodetic or geographic CRS.
     Geodetic(Geodetic<'a>),
+    /// A projected CRS.
+    Projected(Projected<'a>),
+    /// A vertical CRS.
+    Vertical(Vertical<'a>),
+    /// A compound CRS.
+    Compound(Compound<'a>),
 }
 
 /// What a coordinate reference system is. ISO 19162:2019, "Coordinate reference systems".
@@ -55,12 +64,18 @@ pub enum Kind {
     Geodetic,
     /// Geographic: geodetic with an ellipsoidal system.
     Geographic,
+    /// Projected.
+    Projected,
+    /// Vertical.
+    Vertical,
+    /// Compound: horizontal and vertical.
+    Compound,
 }
 
 impl Crs<'_> {
     ghost use Rattle.crs_value.specs.ReadsCrs.{kind_of};
 
-    /// What the system is: a CRS is geographic exactly if its coordinate system is ellipsoidal.
+    /// What the system is: a geodetic CRS is geographic exactly if its coordinate system is ellipsoidal.
     pub fn kind(&self) -> Kind
         ensures { result ≡ kind_of self.now }
     {
@@ -70,6 +85,9 @@ impl Crs<'_> {
                 SystemType::Cartesian | SystemType::Spherical | SystemType::Vertical =>
                     Kind::Geodetic,
             },
+            Crs::Projected(_) => Kind::Projected,
+            Crs::Vertical(_) => Kind::Vertical,
+            Crs::Compound(_) => Kind::Compound,
         }
     }
 }

@@ -5,7 +5,7 @@ ghost use Rattle.crs_text.specs.Refusal.{Refused};
 ghost use Rattle.crs_text.specs.Written.{AreFormed};
 ghost use Rattle.crs_value.specs.declared.crs.Crs.{Crs};
 ghost use Rattle.crs_value.specs.SoundCrs.{IsCrs};
-ghost use Rattle.crs_value.specs.Spells.{SpellsCrs, BreaksFirst, RefusesCrs, IsGeodeticRoot};
+ghost use Rattle.crs_value.specs.Spells.{SpellsCrs, BreaksFirst, RefusesCrs};
 
 use crate::crs::Crs;
 use crs_decimal::laws::denotes_one;
@@ -32,7 +32,7 @@ pub fn refused_once()
 /// A value that a well-formed item spells is all that is asked of a CRS: its texts are well formed, its
 /// decimals are in their normal form and within their bounds, its axes and units fit. Profile.
 pub fn spelled_is_sound()
-    ensures { (item : Item) (value : Crs) → AreFormed item → IsGeodeticRoot item → SpellsCrs item value → IsCrs value }
+    ensures { (item : Item) (value : Crs) → AreFormed item → SpellsCrs item value → IsCrs value }
 {
     no_fault_is_shape();
     slots_count();
@@ -45,6 +45,15 @@ pub fn crs_is_sound(crs: &Crs<'_>)
     match crs {
         Crs::Geodetic(geodetic) => {
             let _name = geodetic.name;
+        }
+        Crs::Projected(projected) => {
+            let _name = projected.name;
+        }
+        Crs::Vertical(vertical) => {
+            let _name = vertical.name;
+        }
+        Crs::Compound(compound) => {
+            let _name = compound.name;
         }
     }
 }

@@ -7,6 +7,7 @@ ghost use Rattle.crs_value.specs.Reading.{item_at, those};
 
 use crate::arguments::{class_in, first, later};
 use crate::checks::{Check, any_from, any_of, lesser};
+use crate::component_checks::compound;
 use crate::crs_checks::whole_crs;
 use crate::repeats::repeats;
 use crate::single_checks::{AboveZero, NotNegative, UnknownDirection, UnknownType};
@@ -32,7 +33,10 @@ fn ellipsoid(items: &Items<'_>, id: ItemId) -> Option<Refusal>
 fn has_system(class: Class) -> bool
     ensures { IsTrue result ↔ HasSystem class }
 {
-    matches!(class, Class::GeodeticCrs | Class::GeographicCrs)
+    matches!(
+        class,
+        Class::GeodeticCrs | Class::GeographicCrs | Class::ProjectedCrs | Class::VerticalCrs
+    )
 }
 
 // The checks that a node of a class without a coordinate system breaks by itself.
@@ -44,7 +48,9 @@ fn own_of_part(items: &Items<'_>, id: ItemId, class: Class) -> Option<Refusal>
     ensures { IsLeast (Own class (item_at items.now id)) result }
 {
     match class {
-        Class::GeodeticCrs | Class::GeographicCrs => unreachable!(),
+        Class::GeodeticCrs | Class::GeographicCrs | Class::ProjectedCrs | Class::VerticalCrs =>
+            unreachable!(),
+        Class::CompoundCrs => compound(items, id),
         Class::GeodeticFrame | Class::VerticalFrame => repeats(items, id, class, Class::Anchor),
         Class::Ellipsoid => ellipsoid(items, id),
         Class::LengthUnit

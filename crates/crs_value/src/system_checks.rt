@@ -26,7 +26,7 @@ pub(crate) fn type_of(items: &Items<'_>, cs: ItemId) -> Option<SystemType>
     SystemType::read(items.raw(word))
 }
 
-fn is_number(value: &Decimal, n: u64) -> bool
+pub(crate) fn is_number(value: &Decimal, n: u64) -> bool
     ensures { IsTrue result ↔ SameNumber (exact value.now) (whole_number n) }
 {
     same_number_is_equivalence();
@@ -51,6 +51,8 @@ fn is_allowed(class: Class, system_type: SystemType, dimension: &Decimal) -> boo
         (Class::GeodeticCrs, SystemType::Ellipsoidal) => is_two_or_three(dimension),
         (Class::GeodeticCrs, SystemType::Spherical) => is_two_or_three(dimension),
         (Class::GeographicCrs, SystemType::Ellipsoidal) => is_two_or_three(dimension),
+        (Class::ProjectedCrs, SystemType::Cartesian) => is_two_or_three(dimension),
+        (Class::VerticalCrs, SystemType::Vertical) => is_number(dimension, 1),
         _ => false,
     }
 }

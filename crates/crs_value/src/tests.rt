@@ -1,36 +1,29 @@
-//! Worked rows: texts and the number and place of their refusals, 0 where they are accepted.
-ghost use Rattle.std.specs.Prelude.{IsTrue};
-ghost use Rattle.crs_value.specs.Spells.{IsGeodeticRoot};
+//! Worked rows: texts with their kinds, or with the number and place of their refusals.
 
-use crate::value_of;
-use crs_shape::{Class, root_class};
-use crs_text::{Fault, Items, read_items};
+use crate::{Crs, Kind, read, value_of};
+use crs_text::{Fault, read_items};
 use std::alloc::Global;
 use std::test::Fail;
 
-fn judged(alloc: Global, text: &[u8]) -> (u8, usize) {
-    match read_items(alloc, text) {
-        Err(fault) => number(fault),
-        Ok(items) => judged_items(alloc, &items),
-    }
-}
-
-fn judged_items(alloc: Global, items: &Items<'_>) -> (u8, usize) {
-    if !is_geodetic(items) {
-        return (98, 0);
-    }
-    match value_of(alloc, items) {
+fn judged(answer: Result<Crs<'_>, Fault>) -> (u8, usize) {
+    match answer {
         Ok(_value) => (0, 0),
         Err(fault) => number(fault),
     }
 }
 
-fn is_geodetic(items: &Items<'_>) -> bool
-    ensures { IsTrue result → IsGeodeticRoot items.now }
-{
-    match root_class(items.raw(items.root())) {
-        Some(Class::GeodeticCrs | Class::GeographicCrs) => true,
-        _ => false,
+// By the items of the text.
+fn judged_by_items(alloc: Global, text: &[u8]) -> (u8, usize) {
+    match read_items(alloc, text) {
+        Err(fault) => number(fault),
+        Ok(items) => judged(value_of(alloc, &items)),
+    }
+}
+
+fn kind_of(alloc: Global, text: &[u8]) -> Option<Kind> {
+    match read(alloc, text) {
+        Ok(value) => Some(value.kind()),
+        Err(_fault) => None,
     }
 }
 
@@ -41,6 +34,7 @@ fn number(fault: Fault) -> (u8, usize) {
     }
 }
 
+// Geodetic and geographic texts; 0 where they are accepted.
 const CASES: [(&[u8], u8, usize); 27] = [
     (
         b"GEOGCRS[\"A\",DATUM[\"D\",ELLIPSOID[\"E\",6378137,0]],CS[ellipsoidal,2],AXIS[\"lat\",north],AXIS[\"lon\",east],ANGLEUNIT[\"degree\",0.0174532925199433]]",
@@ -178,12 +172,229 @@ const CASES: [(&[u8], u8, usize); 27] = [
     (b"GEOGCRS[\"A\",FOO[\"D\"]]", 11, 12),
 ];
 
+const KINDS: [(&[u8], Kind); 15] = [
+    (
+        b"VERTCRS[\"H\",VDATUM[\"D\"],CS[vertical,1],AXIS[\"h\",up,LENGTHUNIT[\"metre\",1]]]",
+        Kind::Vertical,
+    ),
+    (
+        b"VERTCRS[\"\"\"\",VDATUM[\"D\"],CS[vertical,1],AXIS[\"h\",up,LENGTHUNIT[\"metre\",1]]]",
+        Kind::Vertical,
+    ),
+    (
+        b"VERTCRS[\"\",VDATUM[\"D\"],CS[vertical,1],AXIS[\"h\",up,LENGTHUNIT[\"metre\",1]]]",
+        Kind::Vertical,
+    ),
+    (
+        b"VERTCRS[\"a],b\",VDATUM[\"D\"],CS[vertical,1],AXIS[\"h\",up,LENGTHUNIT[\"metre\",1]]]",
+        Kind::Vertical,
+    ),
+    (
+        b"COMPOUNDCRS[\"C\",GEOGCRS[\"A\",DATUM[\"D\",ELLIPSOID[\"E\",6378137,0]],CS[ellipsoidal,2],AXIS[\"lat\",north],AXIS[\"lon\",east],ANGLEUNIT[\"degree\",0.0174532925199433]],VERTCRS[\"H\",VDATUM[\"D\"],CS[vertical,1],AXIS[\"h\",up,LENGTHUNIT[\"metre\",1]],GEOIDMODEL[\"M\"]]]",
+        Kind::Compound,
+    ),
+    (
+        b"GEOGCRS[\"WGS 84\",\n    ENSEMBLE[\"World Geodetic System 1984 ensemble\",\n        MEMBER[\"World Geodetic System 1984 (Transit)\"],\n        MEMBER[\"World Geodetic System 1984 (G730)\"],\n        ELLIPSOID[\"WGS 84\",6378137,298.257223563,\n            LENGTHUNIT[\"metre\",1]],\n        ENSEMBLEACCURACY[2.0]],\n    PRIMEM[\"Greenwich\",0,\n        ANGLEUNIT[\"degree\",0.0174532925199433]],\n    CS[ellipsoidal,2],\n        AXIS[\"geodetic latitude (Lat)\",north,\n            ORDER[1],\n            ANGLEUNIT[\"degree\",0.0174532925199433]],\n        AXIS[\"geodetic longitude (Lon)\",east,\n            ORDER[2],\n            ANGLEUNIT[\"degree\",0.0174532925199433]],\n    USAGE[\n        SCOPE[\"Horizontal component of 3D system.\"],\n        AREA[\"World, 180\xC2\xB0W to 180\xC2\xB0E.\"],\n        BBOX[-90,-180,90,180]],\n    ID[\"EPSG\",4326]]",
+        Kind::Geographic,
+    ),
+    (
+        b"PROJCRS[\"U\",BASEGEOGCRS[\"B\",DATUM[\"D\",ELLIPSOID[\"E\",6378137,298.257223563]]],CONVERSION[\"UTM zone 31N\",METHOD[\"Transverse Mercator\",ID[\"EPSG\",9807]],PARAMETER[\"Longitude of natural origin\",3,ANGLEUNIT[\"degree\",0.0174532925199433]],PARAMETER[\"Scale factor at natural origin\",0.9996,SCALEUNIT[\"unity\",1]],PARAMETER[\"False easting\",500000,LENGTHUNIT[\"metre\",1]]],CS[Cartesian,2],AXIS[\"(E)\",east],AXIS[\"(N)\",north],LENGTHUNIT[\"metre\",1]]",
+        Kind::Projected,
+    ),
+    (
+        b"PROJCRS[\"U\",BASEGEOGCRS[\"B\",DATUM[\"D\",ELLIPSOID[\"E\",6378137,298.257223563]]],CONVERSION[\"UTM zone 31N\",METHOD[\"Transverse Mercator\",ID[\"EPSG\",9807]],PARAMETER[\"Longitude of natural origin\",3,ANGLEUNIT[\"degree\",0.0174532925199433]],PARAMETER[\"Scale factor at natural origin\",0.9996,SCALEUNIT[\"unity\",1]],PARAMETER[\"False easting\",500000,LENGTHUNIT[\"metre\",1]]],CS[Cartesian,2],AXIS[\"(E)\",south,MERIDIAN[90,ANGLEUNIT[\"degree\",0.0174532925199433]]],AXIS[\"(N)\",south,MERIDIAN[180,ANGLEUNIT[\"degree\",0.0174532925199433]]],LENGTHUNIT[\"metre\",1]]",
+        Kind::Projected,
+    ),
+    (
+        b"GEODCRS[\"X\",DATUM[\"D\",ELLIPSOID[\"E\",6378137,0]],CS[Cartesian,3],AXIS[\"(X)\",geocentricX],AXIS[\"(Y)\",geocentricY],AXIS[\"(Z)\",geocentricZ],UNIT[\"metre\",1]]",
+        Kind::Geodetic,
+    ),
+    (
+        b"GEODCRS[\"A\",DATUM[\"D\",ELLIPSOID[\"E\",6378137,0]],CS[ellipsoidal,2],AXIS[\"lat\",north],AXIS[\"lon\",east],ANGLEUNIT[\"degree\",0.0174532925199433]]",
+        Kind::Geographic,
+    ),
+    (
+        b"COMPOUNDCRS[\"C\",GEODCRS[\"A\",DATUM[\"D\",ELLIPSOID[\"E\",6378137,0]],CS[ellipsoidal,2],AXIS[\"lat\",north],AXIS[\"lon\",east],ANGLEUNIT[\"degree\",0.0174532925199433]],VERTCRS[\"H\",VDATUM[\"D\"],CS[vertical,1],AXIS[\"h\",up,LENGTHUNIT[\"metre\",1]]]]",
+        Kind::Compound,
+    ),
+    (
+        b"COMPOUNDCRS[\"C\",GEOGCRS[\"A\",DATUM[\"D\",ELLIPSOID[\"E\",6378137,0]],CS[ellipsoidal,2.0],AXIS[\"lat\",north],AXIS[\"lon\",east],ANGLEUNIT[\"degree\",0.0174532925199433]],VERTCRS[\"H\",VDATUM[\"D\"],CS[vertical,1],AXIS[\"h\",up,LENGTHUNIT[\"metre\",1]]]]",
+        Kind::Compound,
+    ),
+    (
+        b"COMPOUNDCRS[\"C\",PROJCRS[\"U\",BASEGEOGCRS[\"B\",DATUM[\"D\",ELLIPSOID[\"E\",6378137,298.257223563]]],CONVERSION[\"UTM zone 31N\",METHOD[\"Transverse Mercator\",ID[\"EPSG\",9807]],PARAMETER[\"Longitude of natural origin\",3,ANGLEUNIT[\"degree\",0.0174532925199433]],PARAMETER[\"Scale factor at natural origin\",0.9996,SCALEUNIT[\"unity\",1]],PARAMETER[\"False easting\",500000,LENGTHUNIT[\"metre\",1]]],CS[Cartesian,2],AXIS[\"(E)\",east],AXIS[\"(N)\",north],LENGTHUNIT[\"metre\",1]],VERTCRS[\"H\",VDATUM[\"D\"],CS[vertical,1],AXIS[\"h\",up,LENGTHUNIT[\"metre\",1]]]]",
+        Kind::Compound,
+    ),
+    (
+        b"VERTCRS[\"H\",ENSEMBLE[\"N\",MEMBER[\"M\"],ENSEMBLEACCURACY[0.1]],CS[vertical,1],AXIS[\"h\",up,LENGTHUNIT[\"metre\",1]]]",
+        Kind::Vertical,
+    ),
+    (
+        b"PROJCRS[\"U\",BASEGEOGCRS[\"B\",DATUM[\"D\",ELLIPSOID[\"E\",6378137,298.257223563]]],CONVERSION[\"UTM zone 31N\",METHOD[\"Transverse Mercator\",ID[\"EPSG\",9807]],PARAMETER[\"Longitude of natural origin\",3,ANGLEUNIT[\"degree\",0.0174532925199433]],PARAMETER[\"Scale factor at natural origin\",0.9996,SCALEUNIT[\"unity\",1]],PARAMETER[\"False easting\",500000,LENGTHUNIT[\"metre\",1]]],CS[Cartesian,3],AXIS[\"(E)\",east],AXIS[\"(N)\",north],AXIS[\"h\",up],LENGTHUNIT[\"metre\",1]]",
+        Kind::Projected,
+    ),
+];
+
+const REFUSED: [(&[u8], u8, usize); 26] = [
+    (
+        b"VERTCRS[\"H\",VDATUM[\"D\"],CS[vertical,1],AXIS[\"h\",up,LENGTHUNIT[\"metre\",1]],USAGE[AREA[\"a\"],SCOPE[\"s\"]]]",
+        12,
+        90,
+    ),
+    (
+        b"VERTCRS[\"H\",VDATUM[\"D\"],CS[flat,1],AXIS[\"h\",up,LENGTHUNIT[\"metre\",1]]]",
+        21,
+        27,
+    ),
+    (
+        b"VERTCRS[\"H\",VDATUM[\"D\"],CS[vertical,1],AXIS[\"h\",up,LENGTHUNIT[\"metre\",1]],REMARK[\"a\"],REMARK[\"b\"]]",
+        22,
+        86,
+    ),
+    (
+        b"VERTCRS[\"H\",VDATUM[\"D\"],CS[vertical,2],AXIS[\"h\",up,LENGTHUNIT[\"metre\",1]]]",
+        23,
+        24,
+    ),
+    (
+        b"COMPOUNDCRS[\"C\",GEOGCRS[\"A\",DATUM[\"D\",ELLIPSOID[\"E\",6378137,0]],CS[ellipsoidal,3],AXIS[\"lat\",north],AXIS[\"lon\",east],AXIS[\"h\",up],ANGLEUNIT[\"degree\",0.0174532925199433]],VERTCRS[\"H\",VDATUM[\"D\"],CS[vertical,1],AXIS[\"h\",up,LENGTHUNIT[\"metre\",1]]]]",
+        24,
+        16,
+    ),
+    (
+        b"VERTCRS[\"H\",VDATUM[\"D\"],CS[vertical,1],AXIS[\"h\",up,LENGTHUNIT[\"metre\",1]],AXIS[\"k\",up,LENGTHUNIT[\"metre\",1]]]",
+        25,
+        24,
+    ),
+    (
+        b"VERTCRS[\"H\",VDATUM[\"D\"],CS[vertical,1],AXIS[\"h\",up,LENGTHUNIT[\"metre\",0]]]",
+        28,
+        70,
+    ),
+    (b"VERTCRS[\"H\"", 7, 11),
+    (b"VERTCRS[\"H\",VDATUM[\"D\"],CS[vertical]]", 13, 35),
+    (b"DATUM[\"x\"]", 12, 0),
+    (
+        b"VERTCRS[\"H\",VDATUM[\"D\"],CS[vertical,2],AXIS[\"h\",up,LENGTHUNIT[\"metre\",1]],REMARK[\"a\"],REMARK[\"b\"]]",
+        22,
+        86,
+    ),
+    (
+        b"VERTCRS[\"H\",VDATUM[\"D\",ANCHOREPOCH[2010.00]],CS[vertical,1],AXIS[\"h\",up,LENGTHUNIT[\"metre\",1]]]",
+        11,
+        23,
+    ),
+    (
+        b"VERTCRS[\"H\",VDATUM[\"D\"],CS[vertical,1],AXIS[\"h\",up,ORDER[2],LENGTHUNIT[\"metre\",1]]]",
+        26,
+        51,
+    ),
+    (
+        b"VERTCRS[\"H\",VDATUM[\"D\"],CS[vertical,1],AXIS[\"h\",up,LENGTHUNIT[\"metre\",1]],MODEL[\"x\"]]",
+        11,
+        74,
+    ),
+    (
+        b"COMPOUNDCRS[\"C\",VERTCRS[\"H\",VDATUM[\"D\"],CS[vertical,1],AXIS[\"h\",up,LENGTHUNIT[\"metre\",1]]],VERTCRS[\"H\",VDATUM[\"D\"],CS[vertical,1],AXIS[\"h\",up,LENGTHUNIT[\"metre\",1]]]]",
+        12,
+        16,
+    ),
+    (
+        b"COMPOUNDCRS[\"C\",GEOGCRS[\"A\",DATUM[\"D\",ELLIPSOID[\"E\",6378137,0]],CS[ellipsoidal,2],AXIS[\"lat\",north],AXIS[\"lon\",east],ANGLEUNIT[\"degree\",0.0174532925199433]]]",
+        13,
+        156,
+    ),
+    (
+        b"VERTCRS[\"H\",VDATUM[\"D\",ANCHOR[\"a\"],ANCHOR[\"b\"]],CS[vertical,1],AXIS[\"h\",up,LENGTHUNIT[\"metre\",1]]]",
+        22,
+        35,
+    ),
+    // compound CRSs and projected ones
+    (
+        b"COMPOUNDCRS[\"C\",GEODCRS[\"X\",DATUM[\"D\",ELLIPSOID[\"E\",6378137,0]],CS[Cartesian,3],AXIS[\"(X)\",geocentricX],AXIS[\"(Y)\",geocentricY],AXIS[\"(Z)\",geocentricZ],UNIT[\"metre\",1]],VERTCRS[\"H\",VDATUM[\"D\"],CS[vertical,1],AXIS[\"h\",up,LENGTHUNIT[\"metre\",1]]]]",
+        24,
+        16,
+    ),
+    (
+        b"COMPOUNDCRS[\"C\",GEODCRS[\"A\",DATUM[\"D\",ELLIPSOID[\"E\",6378137,0]],CS[spherical,2],AXIS[\"lat\",north],AXIS[\"lon\",east],ANGLEUNIT[\"degree\",0.0174532925199433]],VERTCRS[\"H\",VDATUM[\"D\"],CS[vertical,1],AXIS[\"h\",up,LENGTHUNIT[\"metre\",1]]]]",
+        24,
+        16,
+    ),
+    (
+        b"COMPOUNDCRS[\"C\",GEOGCRS[\"A\",DATUM[\"D\",ELLIPSOID[\"E\",6378137,0]],CS[Cartesian,2],AXIS[\"lat\",north],AXIS[\"lon\",east],ANGLEUNIT[\"degree\",0.0174532925199433]],VERTCRS[\"H\",VDATUM[\"D\"],CS[vertical,1],AXIS[\"h\",up,LENGTHUNIT[\"metre\",1]]]]",
+        23,
+        64,
+    ),
+    (
+        b"COMPOUNDCRS[\"C\",PROJCRS[\"U\",BASEGEOGCRS[\"B\",DATUM[\"D\",ELLIPSOID[\"E\",6378137,298.257223563]]],CONVERSION[\"UTM zone 31N\",METHOD[\"Transverse Mercator\",ID[\"EPSG\",9807]],PARAMETER[\"Longitude of natural origin\",3,ANGLEUNIT[\"degree\",0.0174532925199433]],PARAMETER[\"Scale factor at natural origin\",0.9996,SCALEUNIT[\"unity\",1]],PARAMETER[\"False easting\",500000,LENGTHUNIT[\"metre\",1]]],CS[Cartesian,3],AXIS[\"(E)\",east],AXIS[\"(N)\",north],AXIS[\"h\",up],LENGTHUNIT[\"metre\",1]],VERTCRS[\"H\",VDATUM[\"D\"],CS[vertical,1],AXIS[\"h\",up,LENGTHUNIT[\"metre\",1]]]]",
+        24,
+        16,
+    ),
+    (
+        b"PROJCRS[\"U\",BASEGEOGCRS[\"B\",DATUM[\"D\",ELLIPSOID[\"E\",6378137,298.257223563]]],CONVERSION[\"UTM zone 31N\",METHOD[\"Transverse Mercator\",ID[\"EPSG\",9807]],PARAMETER[\"Longitude of natural origin\",3,ANGLEUNIT[\"degree\",0.0174532925199433]],PARAMETER[\"Scale factor at natural origin\",0.9996,SCALEUNIT[\"unity\",1]],PARAMETER[\"False easting\",500000,LENGTHUNIT[\"metre\",1]]],CS[ellipsoidal,2],AXIS[\"(E)\",east],AXIS[\"(N)\",north],LENGTHUNIT[\"metre\",1]]",
+        23,
+        360,
+    ),
+    (
+        b"COMPOUNDCRS[\"C\",GEOGCRS[\"A\",DATUM[\"D\",ELLIPSOID[\"E\",6378137,0]],CS[ellipsoidal,2],AXIS[\"lat\",north],AXIS[\"lon\",east],ANGLEUNIT[\"degree\",0.0174532925199433]],VERTCRS[\"H\",VDATUM[\"D\"],CS[vertical,1],AXIS[\"h\",up,LENGTHUNIT[\"metre\",1]]],REMARK[\"a\"],REMARK[\"b\"]]",
+        22,
+        244,
+    ),
+    (
+        b"COMPOUNDCRS[\"C\",GEOGCRS[\"A\",DATUM[\"D\",ELLIPSOID[\"E\",6378137,0]],CS[ellipsoidal,2],AXIS[\"lat\",north],AXIS[\"lon\",east]],VERTCRS[\"H\",VDATUM[\"D\"],CS[vertical,1],AXIS[\"h\",up,LENGTHUNIT[\"metre\",1]]]]",
+        27,
+        82,
+    ),
+    (
+        b"PROJCRS[\"U\",BASEGEOGCRS[\"B\",DATUM[\"D\",ELLIPSOID[\"E\",6378137,298.257223563]]],CONVERSION[\"UTM zone 31N\",METHOD[\"Transverse Mercator\",ID[\"EPSG\",9807]],PARAMETER[\"Longitude of natural origin\",3,ANGLEUNIT[\"degree\",0.0174532925199433]],PARAMETER[\"Scale factor at natural origin\",0.9996,SCALEUNIT[\"unity\",-1]],PARAMETER[\"False easting\",500000,LENGTHUNIT[\"metre\",1]]],CS[Cartesian,2],AXIS[\"(E)\",east],AXIS[\"(N)\",north],LENGTHUNIT[\"metre\",1]]",
+        28,
+        299,
+    ),
+    (
+        b"PROJCRS[\"U\",BASEGEOGCRS[\"B\",DATUM[\"D\",ELLIPSOID[\"E\",0,298.257223563]]],CONVERSION[\"UTM zone 31N\",METHOD[\"Transverse Mercator\",ID[\"EPSG\",9807]],PARAMETER[\"Longitude of natural origin\",3,ANGLEUNIT[\"degree\",0.0174532925199433]],PARAMETER[\"Scale factor at natural origin\",0.9996,SCALEUNIT[\"unity\",1]],PARAMETER[\"False easting\",500000,LENGTHUNIT[\"metre\",1]]],CS[Cartesian,2],AXIS[\"(E)\",east],AXIS[\"(N)\",north],LENGTHUNIT[\"metre\",1]]",
+        28,
+        52,
+    ),
+];
+
 #[test]
 fn answers_worked_rows(rt: HostRuntime) -> Result<(), Fail> {
     for (text, number, place) in CASES {
-        let found = judged(rt.alloc(), text);
-        assert_eq!(rt; found.0, number, "number {text:?}");
-        assert_eq!(rt; found.1, place, "place {text:?}");
+        assert_eq!(rt;
+            judged(read(rt.alloc(), text)),
+            (number, place),
+            "read {text:?}"
+        );
+        assert_eq!(rt;
+            judged_by_items(rt.alloc(), text),
+            (number, place),
+            "items {text:?}"
+        );
+    }
+    Ok(())
+}
+
+#[test]
+fn refuses_worked_rows(rt: HostRuntime) -> Result<(), Fail> {
+    for (text, number, place) in REFUSED {
+        assert_eq!(rt;
+            judged(read(rt.alloc(), text)),
+            (number, place),
+            "read {text:?}"
+        );
+        assert_eq!(rt;
+            judged_by_items(rt.alloc(), text),
+            (number, place),
+            "items {text:?}"
+        );
+    }
+    Ok(())
+}
+
+#[test]
+fn knows_kinds(rt: HostRuntime) -> Result<(), Fail> {
+    for (text, kind) in KINDS {
+        assert_eq!(rt; kind_of(rt.alloc(), text), Some(kind), "kind {text:?}");
     }
     Ok(())
 }

@@ -1,13 +1,14 @@
 //! From the items of a text to its value.
-ghost use Rattle.std.specs.Prelude.{Some, MatchResult};
-ghost use Rattle.crs_value.specs.Spells.{SpellsCrs, IsFaultOf, IsGeodeticRoot};
+ghost use Rattle.std.specs.Prelude.{MatchResult};
+ghost use Rattle.crs_value.specs.Spells.{SpellsCrs, IsFaultOf};
+ghost use Rattle.crs_value.specs.SpellsText.{Spells, IsFaultOfText};
 
 use crate::crs::Crs;
-use crate::geodetic::read_geodetic;
 use crate::own_checks::first_break;
+use crate::whole::read_crs;
+use crs_shape::fit_root;
 use crs_shape::laws::no_fault_is_shape;
-use crs_shape::{Class, fit_root};
-use crs_text::{Fault, Items};
+use crs_text::{Fault, Items, read_items};
 use std::alloc::Global;
 
 /// The value that the items of a text spell, with the text's bytes borrowed.
@@ -15,9 +16,8 @@ use std::alloc::Global;
 /// `Refused`: the items spell no value. The number is 11 to 13 for a fault of shape; else it is that of
 /// the check that is broken first, from 21 on: the lowest number, and of these the least place.
 /// `Memory`: memory for a list was refused. Time is linear in the items.
-/// ISO 19162:2019, "Geodetic and geographic CRS"; the checks are the profile's.
+/// ISO 19162:2019, "Coordinate reference systems"; the checks are the profile's.
 pub fn value_of<'a>(alloc: Global, items: &Items<'a>) -> Result<Crs<'a>, Fault>
-    requires { IsGeodeticRoot items.now }
     ensures { MatchResult result (SpellsCrs items.now) (IsFaultOf items.now) }
 {
     no_fault_is_shape();
@@ -30,8 +30,23 @@ pub fn value_of<'a>(alloc: Global, items: &Items<'a>) -> Result<Crs<'a>, Fault>
     if let Some(refusal) = first_break(items, root, class) {
         return Err(Fault::Refused(refusal));
     }
-    match read_geodetic(alloc, items, root, class) {
-        Ok(geodetic) => Ok(Crs::Geodetic(geodetic)),
+    match read_crs(alloc, items, root, class) {
+        Ok(crs) => Ok(crs),
         Err(e) => Err(Fault::Memory(e)),
+    }
+}
+
+/// The value that a text spells, with its bytes borrowed.
+///
+/// `Refused`: the text spells no value. The number is 1 to 8 for a fault of the text; else 11 to 13 for a
+/// fault of shape; else it is that of the check that is broken first, from 21 on. The place counts bytes
+/// from 0. `Memory`: memory for the items or for a list was refused. Time is linear in the text.
+/// ISO 19162:2019, "Coordinate reference systems"; the limits and the checks are the profile's.
+pub fn read<'a>(alloc: Global, bytes: &'a [u8]) -> Result<Crs<'a>, Fault>
+    ensures { MatchResult result (Spells bytes.now) (IsFaultOfText bytes.now) }
+{
+    match read_items(alloc, bytes) {
+        Ok(items) => value_of(alloc, &items),
+        Err(fault) => Err(fault),
     }
 }

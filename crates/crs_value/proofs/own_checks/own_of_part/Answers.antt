@@ -1,6 +1,9 @@
 use Rattle.crs_value.specs.Reading.{item_at}
-use Rattle.crs_value.proofs.OwnLemmas.{own-unit, own-system, own-axis}
+use Rattle.crs_value.proofs.OwnLemmas.{own-compound, own-unit, own-system, own-axis}
 use Rattle.crs_value.proofs.own_checks.own_of_part.Goals as goal
+
+pub returns-in-CompoundCrs : goal.returns-in-CompoundCrs
+returns-in-CompoundCrs c = own-compound c.args.class (item_at c.args.items.now c.args.id) c.compound.result c.in-CompoundCrs.is c.compound.ensures
 
 pub returns-in-LengthUnit : goal.returns-in-LengthUnit
 returns-in-LengthUnit c = own-unit c.args.class (item_at c.args.items.now c.args.id) c.any_of.result c.any_of.ensures c.in-LengthUnit.is

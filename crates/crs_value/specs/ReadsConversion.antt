@@ -1,0 +1,44 @@
+-- What conversions and geoid models say.
+use Rattle.std.specs.Prelude.{List, [], ◌∷◌, Option, Some, None}
+use Rattle.crs_text.specs.Items.{Item, arguments}
+use Rattle.crs_shape.specs.declared.class.Class.{Class}
+use Rattle.crs_shape.specs.declared.class.Class.TheVariants as class
+use Rattle.crs_value.specs.ConversionValues.{MethodParts, ParameterParts, ConversionParts, GeoidModelParts}
+use Rattle.crs_value.specs.Reading.{those, ReadsFirst, ReadsEach, ReadsElse}
+use Rattle.crs_value.specs.Reads.{ReadsTextOf, ReadsNumberOf, ReadsIds, ReadsUnit}
+use Rattle.crs_value.specs.Values.{UnitParts}
+
+pub record ReadsMethod (c : Class) (item : Item) (parts : MethodParts) : Type 0 where
+  pub name : ReadsTextOf c item parts.name
+  pub ids : ReadsIds c item parts.ids
+
+-- the classes of a parameter's unit; in a parameter the keyword `UNIT` names the plain one alone
+abbrev pub parameter_units : List Class
+parameter_units = class.PlainUnit ∷ class.LengthUnit ∷ class.AngleUnit ∷ class.ScaleUnit ∷ []
+
+-- the item is a unit of this class, and this is its value
+abbrev pub ReadsAsUnit : Class → Item → Option UnitParts → Type 0
+ReadsAsUnit d item None = ⊥
+ReadsAsUnit d item (Some unit) = ReadsUnit d item unit
+
+-- the unit is the argument of one of these classes, if there is one; a node of the right shape has one at most
+abbrev pub ReadsUnitOf : List Class → Class → Item → Option UnitParts → Type 0
+ReadsUnitOf [] c item None = Unit {0}
+ReadsUnitOf [] c item (Some unit) = ⊥
+ReadsUnitOf (d ∷ ds) c item unit = ReadsElse (ReadsAsUnit d) (those c d (arguments item)) (ReadsUnitOf ds c item) unit
+
+pub record ReadsParameter (c : Class) (item : Item) (parts : ParameterParts) : Type 0 where
+  pub name : ReadsTextOf c item parts.name
+  pub value : ReadsNumberOf c item parts.value
+  pub unit : ReadsUnitOf parameter_units c item parts.unit
+  pub ids : ReadsIds c item parts.ids
+
+pub record ReadsConversion (c : Class) (item : Item) (parts : ConversionParts) : Type 0 where
+  pub name : ReadsTextOf c item parts.name
+  pub method : ReadsFirst (ReadsMethod class.Method) (those c class.Method (arguments item)) parts.method
+  pub parameters : ReadsEach (ReadsParameter class.Parameter) (those c class.Parameter (arguments item)) parts.parameters
+  pub ids : ReadsIds c item parts.ids
+
+pub record ReadsGeoidModel (c : Class) (item : Item) (parts : GeoidModelParts) : Type 0 where
+  pub name : ReadsTextOf c item parts.name
+  pub ids : ReadsIds c item parts.ids

@@ -1,0 +1,109 @@
+//! Compound CRSs.
+ghost use Rattle.std.specs.Prelude.{IfOk};
+ghost use Rattle.crs_text.specs.Items.{HasId};
+ghost use Rattle.crs_value.specs.Checks.{IsSound};
+ghost use Rattle.crs_value.specs.Reading.{item_at};
+ghost use Rattle.crs_value.specs.ReadsCrs.{ReadsHorizontal};
+
+use crate::arguments::first;
+use crate::crs::Geodetic;
+use crate::geodetic::read_geodetic;
+use crate::node::{Node, one, text};
+use crate::projected::Projected;
+use crate::usage::Tail;
+use crate::vertical::Vertical;
+use crs_shape::Class;
+use crs_shape::laws::slots_count;
+use crs_text::{ItemId, Items};
+use std::alloc::{AllocError, Global};
+use std::marker::Model;
+
+/// The horizontal part of a compound CRS. ISO 19162:2019, "Compound CRS".
+#[derive(Drop)]
+pub enum Horizontal<'a> {
+    /// A geographic CRS.
+    Geodetic(Geodetic<'a>),
+    /// A projected CRS.
+    Projected(Projected<'a>),
+}
+
+/// A compound CRS, `COMPOUNDCRS[name, horizontal, vertical, tail]`.
+/// ISO 19162:2019, "Compound CRS".
+#[derive(Drop)]
+pub struct Compound<'a> {
+    /// The name.
+    pub name: &'a [u8],
+    /// The horizontal part, geographic or projected, of dimension 2.
+    pub horizontal: Horizontal<'a>,
+    /// The vertical part.
+    pub vertical: Vertical<'a>,
+    /// Usages, identifiers and remark.
+    pub tail: Tail<'a>,
+}
+
+impl<'a> Model for Compound<'a> {
+    ghost use Rattle.crs_value.specs.CompoundValues.{CompoundParts};
+    ghost use Rattle.crs_value.specs.SoundCompound.{IsCompound};
+
+    ghost Value = { CompoundParts };
+
+    ghost view = { λ c. record { name = c.name.now; horizontal = c.horizontal; vertical = c.vertical; tail = c.tail } };
+
+    ghost invariant = { λ c. IsCompound (record {
+      name = c.name.now;
+      horizontal = c.horizontal;
+      vertical = c.vertical;
+      tail = c.tail;
+    }) };
+}
+
+// The horizontal part of a compound CRS.
+fn read_horizontal<'a>(
+    alloc: Global,
+    items: &Items<'a>,
+    id: ItemId,
+) -> Result<Horizontal<'a>, AllocError>
+    requires has { HasId items.now id }
+    requires sound { IsSound Class.CompoundCrs (item_at items.now id) }
+    ensures { IfOk result (λ value. ReadsHorizontal Class.CompoundCrs (item_at items.now id) value) }
+{
+    slots_count();
+    if let Some(found) = first(items, id, Class::CompoundCrs, Class::GeodeticCrs) {
+        let geodetic = read_geodetic(alloc, items, found, Class::GeodeticCrs)?;
+        return Ok(Horizontal::Geodetic(geodetic));
+    }
+    if let Some(found) = first(items, id, Class::CompoundCrs, Class::GeographicCrs) {
+        let geographic = read_geodetic(alloc, items, found, Class::GeographicCrs)?;
+        return Ok(Horizontal::Geodetic(geographic));
+    }
+    let Some(found) = first(items, id, Class::CompoundCrs, Class::ProjectedCrs) else {
+        unreachable!()
+    };
+    let projected = Projected::read(alloc, items, found, Class::ProjectedCrs)?;
+    Ok(Horizontal::Projected(projected))
+}
+
+impl<'a> Node<'a> for Compound<'a> {
+    ghost use Rattle.std.specs.Prelude.{◌≡◌};
+    ghost use Rattle.crs_shape.specs.declared.class.Class.TheVariants as classes;
+    ghost use Rattle.crs_value.specs.ReadsCrs.{ReadsCompound};
+
+    ghost Suits = { λ c. c ≡ classes.CompoundCrs };
+
+    ghost Reads = { λ c item parts. ReadsCompound c item parts };
+
+    fn read(
+        alloc: Global,
+        items: &Items<'a>,
+        id: ItemId,
+        class: Class,
+    ) -> Result<Self, AllocError> {
+        slots_count();
+        Ok(Compound {
+            name: text(items, id, class),
+            horizontal: read_horizontal(alloc, items, id)?,
+            vertical: one(alloc, items, id, class, Class::VerticalCrs)?,
+            tail: Tail::read(alloc, items, id, class)?,
+        })
+    }
+}

@@ -1,0 +1,135 @@
+//! Projected CRSs and their base CRSs.
+
+use crate::conversion::Conversion;
+use crate::crs_frame::geodetic_frame;
+use crate::frame::Frame;
+use crate::ident::Ident;
+use crate::list::List;
+use crate::meridian::Meridian;
+use crate::node::{Node, many, one, optional, text};
+use crate::system::{System, read_system};
+use crate::unit::Unit;
+use crate::usage::Tail;
+use crs_shape::Class;
+use crs_shape::laws::slots_count;
+use crs_text::{ItemId, Items};
+use std::alloc::{AllocError, Global};
+use std::marker::Model;
+
+/// A projected CRS, `PROJCRS[name, base, conversion, system, tail]`.
+/// ISO 19162:2019, "Projected CRS".
+#[derive(Drop)]
+pub struct Projected<'a> {
+    /// The name.
+    pub name: &'a [u8],
+    /// The geodetic or geographic CRS that the conversion starts from.
+    pub base: Base<'a>,
+    /// The conversion.
+    pub conversion: Conversion<'a>,
+    /// The coordinate system.
+    pub system: System<'a>,
+    /// Usages, identifiers and remark.
+    pub tail: Tail<'a>,
+}
+
+impl<'a> Model for Projected<'a> {
+    ghost use Rattle.crs_value.specs.CrsValues.{ProjectedParts};
+    ghost use Rattle.crs_value.specs.SoundSingle.{IsProjected};
+
+    ghost Value = { ProjectedParts };
+
+    ghost view = { λ p. record { name = p.name.now; base = p.base; conversion = p.conversion; system = p.system; tail = p.tail } };
+
+    ghost invariant = { λ p. IsProjected (record {
+      name = p.name.now;
+      base = p.base;
+      conversion = p.conversion;
+      system = p.system;
+      tail = p.tail;
+    }) };
+}
+
+/// The base of a projected CRS, `BASEGEOGCRS[name, frame, (meridian), (unit), id..]` or with
+/// `BASEGEODCRS`. ISO 19162:2019, "Base CRS".
+#[derive(Drop)]
+pub struct Base<'a> {
+    /// The name.
+    pub name: &'a [u8],
+    /// The geodetic frame or ensemble.
+    pub frame: Frame<'a>,
+    /// The prime meridian; None where Greenwich isn't said.
+    pub meridian: Option<Meridian<'a>>,
+    /// The unit of its angles.
+    pub unit: Option<Unit<'a>>,
+    /// The identifiers, as written.
+    pub ids: List<Ident<'a>>,
+}
+
+impl<'a> Model for Base<'a> {
+    ghost use Rattle.crs_value.specs.CrsValues.{BaseParts};
+    ghost use Rattle.crs_value.specs.SoundSingle.{IsBase};
+
+    ghost Value = { BaseParts };
+
+    ghost view = { λ b. record { name = b.name.now; frame = b.frame; meridian = b.meridian; unit = b.unit; ids = b.ids } };
+
+    ghost invariant = { λ b. IsBase (record {
+      name = b.name.now;
+      frame = b.frame;
+      meridian = b.meridian;
+      unit = b.unit;
+      ids = b.ids;
+    }) };
+}
+
+impl<'a> Node<'a> for Projected<'a> {
+    ghost use Rattle.std.specs.Prelude.{◌≡◌};
+    ghost use Rattle.crs_shape.specs.declared.class.Class.TheVariants as classes;
+    ghost use Rattle.crs_value.specs.ReadsCrs.{ReadsProjected};
+
+    ghost Suits = { λ c. c ≡ classes.ProjectedCrs };
+
+    ghost Reads = { λ c item parts. ReadsProjected c item parts };
+
+    fn read(
+        alloc: Global,
+        items: &Items<'a>,
+        id: ItemId,
+        class: Class,
+    ) -> Result<Self, AllocError> {
+        slots_count();
+        Ok(Projected {
+            name: text(items, id, class),
+            base: one(alloc, items, id, class, Class::BaseCrs)?,
+            conversion: one(alloc, items, id, class, Class::Conversion)?,
+            system: read_system(alloc, items, id, class)?,
+            tail: Tail::read(alloc, items, id, class)?,
+        })
+    }
+}
+
+impl<'a> Node<'a> for Base<'a> {
+    ghost use Rattle.std.specs.Prelude.{◌≡◌};
+    ghost use Rattle.crs_shape.specs.declared.class.Class.TheVariants as classes;
+    ghost use Rattle.crs_value.specs.ReadsCrs.{ReadsBase};
+
+    ghost Suits = { λ c. c ≡ classes.BaseCrs };
+
+    ghost Reads = { λ c item parts. ReadsBase c item parts };
+
+    fn read(
+        alloc: Global,
+        items: &Items<'a>,
+        id: ItemId,
+        class: Class,
+    ) -> Result<Self, AllocError> {
+        slots_count();
+        Ok(Base {
+            name: text(items, id, class),
+            frame: geodetic_frame(alloc, items, id, class)?,
+            meridian: optional(alloc, items, id, class, Class::PrimeMeridian)?,
+            unit: optional(alloc, items, id, class, Class::AngleUnit)?,
+            ids: many(alloc, items, id, class, Class::Identifier)?,
+        })
+    }
+}

@@ -1,0 +1,41 @@
+//! Reading whole texts, by their class.
+ghost use Rattle.std.specs.Prelude.{IfOk};
+ghost use Rattle.crs_text.specs.Items.{HasId};
+ghost use Rattle.crs_shape.specs.Keywords.{root_classes};
+ghost use Rattle.crs_value.specs.Checks.{IsSound};
+ghost use Rattle.crs_value.specs.Found.{IsAmong};
+ghost use Rattle.crs_value.specs.Reading.{item_at};
+ghost use Rattle.crs_value.specs.ReadsCrs.{ReadsCrs};
+
+use crate::compound::Compound;
+use crate::crs::Crs;
+use crate::geodetic::read_geodetic;
+use crate::node::Node;
+use crate::projected::Projected;
+use crate::vertical::Vertical;
+use crs_shape::Class;
+use crs_text::{ItemId, Items};
+use std::alloc::{AllocError, Global};
+
+// The value of a whole text of this class.
+pub(crate) fn read_crs<'a>(
+    alloc: Global,
+    items: &Items<'a>,
+    id: ItemId,
+    class: Class,
+) -> Result<Crs<'a>, AllocError>
+    requires has { HasId items.now id }
+    requires sound { IsSound class (item_at items.now id) }
+    requires root { IsAmong root_classes class }
+    ensures { IfOk result (λ value. ReadsCrs class (item_at items.now id) value) }
+{
+    match class {
+        Class::GeodeticCrs | Class::GeographicCrs => Ok(Crs::Geodetic(read_geodetic(
+            alloc, items, id, class,
+        )?)),
+        Class::ProjectedCrs => Ok(Crs::Projected(Projected::read(alloc, items, id, class)?)),
+        Class::VerticalCrs => Ok(Crs::Vertical(Vertical::read(alloc, items, id, class)?)),
+        Class::CompoundCrs => Ok(Crs::Compound(Compound::read(alloc, items, id, class)?)),
+        _ => unreachable!(),
+    }
+}
