@@ -34,7 +34,8 @@ SuitsAxis system_type axis unit = Suits (asked_kind system_type axis.direction) 
 
 -- a shared unit stands for the one kind that all axes ask for
 abbrev pub SuitsAll : SystemType → List AxisParts → UnitParts → Type 0
-SuitsAll system_type axes unit = (kind : UnitKind) × (Each (λ axis. asked_kind system_type axis.direction ≡ kind) axes × Suits kind unit.kind)
+SuitsAll system_type axes unit =
+    (kind : UnitKind) × (Each (λ axis. asked_kind system_type axis.direction ≡ kind) axes × Suits kind unit.kind)
 
 -- with no shared unit each axis has one of its own that fits; else none has one, and the shared one fits all
 abbrev pub HasUnits : SystemType → List AxisParts → Option UnitParts → Type 0

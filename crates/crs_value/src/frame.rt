@@ -43,7 +43,12 @@ impl<'a> Model for Datum<'a> {
 
     ghost view = { λ d. record { name = d.name.now; ellipsoid = d.ellipsoid; anchor = option_copied d.anchor; ids = d.ids } };
 
-    ghost invariant = { λ d. IsDatum (record { name = d.name.now; ellipsoid = d.ellipsoid; anchor = option_copied d.anchor; ids = d.ids }) };
+    ghost invariant = { λ d. IsDatum (record {
+      name = d.name.now;
+      ellipsoid = d.ellipsoid;
+      anchor = option_copied d.anchor;
+      ids = d.ids;
+    }) };
 }
 
 /// A datum ensemble, `ENSEMBLE[name, member.., ellipsoid, accuracy, id..]`; one of vertical frames has
@@ -136,7 +141,8 @@ impl<'a> Node<'a> for Ensemble<'a> {
     ghost use Rattle.crs_value.specs.Reading.{Requires};
     ghost use Rattle.crs_value.specs.Reads.{ReadsEnsemble};
 
-    ghost Suits = { λ c. Requires c classes.Text 0 × Requires c classes.Member 0 × Requires c classes.EnsembleAccuracy 0 };
+    ghost Suits = { λ c. Requires c classes.Text 0 × Requires c classes.Member 0
+        × Requires c classes.EnsembleAccuracy 0 };
 
     ghost Reads = { λ c item parts. ReadsEnsemble c item parts };
 

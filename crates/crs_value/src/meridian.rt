@@ -32,7 +32,12 @@ impl<'a> Model for Meridian<'a> {
 
     ghost view = { λ m. record { name = m.name.now; longitude = m.longitude; unit = m.unit; ids = m.ids } };
 
-    ghost invariant = { λ m. IsMeridian (record { name = m.name.now; longitude = m.longitude; unit = m.unit; ids = m.ids }) };
+    ghost invariant = { λ m. IsMeridian (record {
+      name = m.name.now;
+      longitude = m.longitude;
+      unit = m.unit;
+      ids = m.ids;
+    }) };
 }
 
 impl<'a> Node<'a> for Meridian<'a> {

@@ -34,7 +34,12 @@ impl<'a> Model for Usage<'a> {
 
     ghost view = { λ u. record { scope = option_copied u.scope; area = option_copied u.area; bbox = u.bbox; extent = u.extent } };
 
-    ghost invariant = { λ u. IsUsage (record { scope = option_copied u.scope; area = option_copied u.area; bbox = u.bbox; extent = u.extent }) };
+    ghost invariant = { λ u. IsUsage (record {
+      scope = option_copied u.scope;
+      area = option_copied u.area;
+      bbox = u.bbox;
+      extent = u.extent;
+    }) };
 }
 
 /// A box, `BBOX[south, west, north, east]`, in degrees. ISO 19162:2019, "Geographic bounding box".
@@ -58,7 +63,12 @@ impl Model for BoundingBox {
 
     ghost view = { λ b. record { south = b.south; west = b.west; north = b.north; east = b.east } };
 
-    ghost invariant = { λ b. IsBox (record { south = b.south; west = b.west; north = b.north; east = b.east }) };
+    ghost invariant = { λ b. IsBox (record {
+      south = b.south;
+      west = b.west;
+      north = b.north;
+      east = b.east;
+    }) };
 }
 
 /// An extent in height, `VERTICALEXTENT[minimum, maximum, (unit)]`.
@@ -107,7 +117,12 @@ impl<'a> Model for Tail<'a> {
 
     ghost view = { λ t. record { usages = t.usages; bare = t.bare; ids = t.ids; remark = option_copied t.remark } };
 
-    ghost invariant = { λ t. IsTail (record { usages = t.usages; bare = t.bare; ids = t.ids; remark = option_copied t.remark }) };
+    ghost invariant = { λ t. IsTail (record {
+      usages = t.usages;
+      bare = t.bare;
+      ids = t.ids;
+      remark = option_copied t.remark;
+    }) };
 }
 
 impl<'a> Node<'a> for BoundingBox {
