@@ -4,6 +4,7 @@ pub mod CheckLemmas
 pub mod ComponentLemmas
 pub mod ConversionLemmas
 pub mod CrsLemmas
+pub mod DecideLemmas
 pub mod FrameLemmas
 pub mod IdentLemmas
 pub mod KnownLemmas
@@ -15,6 +16,14 @@ pub mod OneLemmas
 pub mod OrderLemmas
 pub mod OwnLemmas
 pub mod PlaceLemmas
+pub mod SoundAxisLemmas
+pub mod SoundCompoundLemmas
+pub mod SoundConversionLemmas
+pub mod SoundCrsLemmas
+pub mod SoundFrameLemmas
+pub mod SoundLemmas
+pub mod SoundSystemLemmas
+pub mod SoundUsageLemmas
 pub mod SpellsLemmas
 pub mod SystemLemmas
 pub mod TextLemmas
