@@ -6,6 +6,7 @@ mod fitting;
 mod keyword;
 pub mod laws;
 mod slot;
+mod spelling;
 mod table;
 
 pub use class::Class;

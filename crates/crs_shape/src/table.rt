@@ -1,10 +1,12 @@
 //! The slots of each class.
 ghost use Rattle.std.specs.Prelude.{◌≡◌, map};
-ghost use Rattle.crs_shape.specs.Slots.{shown, slots_of, named_in, class_named};
+ghost use Rattle.std.specs.List.{find};
+ghost use Rattle.crs_shape.specs.KeywordTable.{is_part};
+ghost use Rattle.crs_shape.specs.Slots.{shown, slots_of, class_named};
 
 use crate::class::Class;
-use crate::keyword::first_class;
 use crate::slot::Slot;
+use crate::spelling::classes_with;
 
 // exactly one argument, of one of these classes
 macro_rules! one {
@@ -185,21 +187,174 @@ pub fn slots(class: Class) -> &'static [Slot]
 }
 
 /// The class that this keyword names in a parent of this class; None where it names none. Profile.
-#[tactic(auto, unfolding(crate::specs::Slots::class_named))]
 pub fn class_of(parent: Class, keyword: &[u8]) -> Option<Class>
     ensures { result ≡ class_named parent keyword.now }
 {
-    class_among(slots(parent), keyword)
+    first_part(parent, classes_with(keyword))
 }
 
-fn class_among(slots: &[Slot], keyword: &[u8]) -> Option<Class>
-    ensures { result ≡ named_in (map shown slots.now) keyword.now }
+fn first_part(parent: Class, classes: &[Class]) -> Option<Class>
+    ensures { result ≡ find (is_part parent) classes.now }
 {
-    for slot in slots {
-        let class = first_class(slot.classes, keyword);
-        if class.is_some() {
-            return class;
+    for class in classes {
+        if is_part(parent, *class) {
+            return Some(*class);
         }
     }
     None
+}
+
+// Whether arguments of this class may stand in a parent of that class.
+fn is_part(parent: Class, class: Class) -> bool
+    ensures { result ≡ is_part parent class }
+{
+    match parent {
+        Class::GeodeticCrs | Class::GeographicCrs => matches!(
+            class,
+            Class::Text
+                | Class::GeodeticFrame
+                | Class::GeodeticEnsemble
+                | Class::PrimeMeridian
+                | Class::CoordinateSystem
+                | Class::Axis
+                | Class::AxisUnit
+                | Class::Usage
+                | Class::Scope
+                | Class::Area
+                | Class::BoundingBox
+                | Class::VerticalExtent
+                | Class::Identifier
+                | Class::Remark
+        ),
+        Class::ProjectedCrs => matches!(
+            class,
+            Class::Text
+                | Class::BaseCrs
+                | Class::Conversion
+                | Class::CoordinateSystem
+                | Class::Axis
+                | Class::AxisUnit
+                | Class::Usage
+                | Class::Scope
+                | Class::Area
+                | Class::BoundingBox
+                | Class::VerticalExtent
+                | Class::Identifier
+                | Class::Remark
+        ),
+        Class::BaseCrs => matches!(
+            class,
+            Class::Text
+                | Class::GeodeticFrame
+                | Class::GeodeticEnsemble
+                | Class::PrimeMeridian
+                | Class::AngleUnit
+                | Class::Identifier
+        ),
+        Class::VerticalCrs => matches!(
+            class,
+            Class::Text
+                | Class::VerticalFrame
+                | Class::VerticalEnsemble
+                | Class::CoordinateSystem
+                | Class::Axis
+                | Class::AxisUnit
+                | Class::GeoidModel
+                | Class::Usage
+                | Class::Scope
+                | Class::Area
+                | Class::BoundingBox
+                | Class::VerticalExtent
+                | Class::Identifier
+                | Class::Remark
+        ),
+        Class::CompoundCrs => matches!(
+            class,
+            Class::Text
+                | Class::GeodeticCrs
+                | Class::GeographicCrs
+                | Class::ProjectedCrs
+                | Class::VerticalCrs
+                | Class::Usage
+                | Class::Scope
+                | Class::Area
+                | Class::BoundingBox
+                | Class::VerticalExtent
+                | Class::Identifier
+                | Class::Remark
+        ),
+        Class::GeodeticFrame => matches!(
+            class,
+            Class::Text | Class::Ellipsoid | Class::Anchor | Class::Identifier
+        ),
+        Class::VerticalFrame => matches!(class, Class::Text | Class::Anchor | Class::Identifier),
+        Class::GeodeticEnsemble => matches!(
+            class,
+            Class::Text
+                | Class::Member
+                | Class::Ellipsoid
+                | Class::EnsembleAccuracy
+                | Class::Identifier
+        ),
+        Class::VerticalEnsemble => matches!(
+            class,
+            Class::Text | Class::Member | Class::EnsembleAccuracy | Class::Identifier
+        ),
+        Class::Ellipsoid => matches!(
+            class,
+            Class::Text | Class::Number | Class::LengthUnit | Class::Identifier
+        ),
+        Class::PrimeMeridian => matches!(
+            class,
+            Class::Text | Class::Number | Class::AngleUnit | Class::Identifier
+        ),
+        Class::LengthUnit
+        | Class::AngleUnit
+        | Class::ScaleUnit
+        | Class::PlainUnit
+        | Class::AxisUnit => matches!(class, Class::Text | Class::Number | Class::Identifier),
+        Class::CoordinateSystem => matches!(class, Class::Word | Class::Number | Class::Identifier),
+        Class::Axis => matches!(
+            class,
+            Class::Text
+                | Class::Word
+                | Class::Meridian
+                | Class::Order
+                | Class::AxisUnit
+                | Class::Identifier
+        ),
+        Class::Meridian => matches!(class, Class::Number | Class::AngleUnit),
+        Class::Conversion => matches!(
+            class,
+            Class::Text | Class::Method | Class::Parameter | Class::Identifier
+        ),
+        Class::Parameter => matches!(
+            class,
+            Class::Text
+                | Class::Number
+                | Class::PlainUnit
+                | Class::LengthUnit
+                | Class::AngleUnit
+                | Class::ScaleUnit
+                | Class::Identifier
+        ),
+        Class::Method | Class::Member | Class::GeoidModel => {
+            matches!(class, Class::Text | Class::Identifier)
+        }
+        Class::Usage => matches!(
+            class,
+            Class::Scope | Class::Area | Class::BoundingBox | Class::VerticalExtent
+        ),
+        Class::VerticalExtent => matches!(class, Class::Number | Class::LengthUnit),
+        Class::Identifier => matches!(
+            class,
+            Class::Text | Class::Number | Class::Citation | Class::Uri
+        ),
+        Class::Order | Class::EnsembleAccuracy | Class::BoundingBox => {
+            matches!(class, Class::Number)
+        }
+        Class::Anchor | Class::Scope | Class::Area | Class::Remark | Class::Citation | Class::Uri =>
+            { matches!(class, Class::Text) }
+        Class::Number | Class::Text | Class::Word => false,
+    }
 }
