@@ -167,6 +167,7 @@ step-is_of parent c slots left item e =
   where
     none : {X : Type 0} {x : X} → Some x ≡ None → ⊥
     none p = cc
+
     to : {d : Class} (o : Option (List SlotParts)) → Some (c, left) ≡ step_to d o → Some d ≡ Some c
     to None p = cc
     to (Some next) p = sym (ap (option_map (λ s. s.0)) p)

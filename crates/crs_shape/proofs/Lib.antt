@@ -10,3 +10,4 @@ pub mod RootLemmas
 pub mod SlotLemmas
 pub mod TableLemmas
 pub mod WalkLemmas
+pub mod WordLemmas

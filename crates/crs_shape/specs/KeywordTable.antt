@@ -1,6 +1,7 @@
 -- The table of keywords: each keyword once, under its length, with the classes that have it.
-use Rattle.std.specs.Prelude.{ℕ, Bool, List, [], ◌∷◌, codes, length, if◌then◌else◌, ◌==◌}
+use Rattle.std.specs.Prelude.{◌≡◌, ◌≤◌, ◌<◌, slice_index, ℕ, Bool, List, [], ◌∷◌, codes, length, if◌then◌else◌, ◌==◌}
 use Rattle.std.specs.List.{list_any}
+use Rattle.std.specs.Char.{to_ascii_lowercase}
 use Rattle.std.specs.Str.{str_eq_ignore_ascii_case}
 use denote.Enum.Bare.{sameb}
 use Rattle.crs_shape.specs.contracts.class.Class.{the_type}
@@ -94,3 +95,8 @@ is_part parent c = list_any (λ s. takes s c) (slots_of parent)
 -- whether it is a class of a whole text
 abbrev pub is_root : Class → Bool
 is_root c = list_any (λ d. sameb the_type d c) root_classes
+
+-- two words are the same from one place up to another, letter case aside
+abbrev pub AreSameWithin : List ℕ → List ℕ → ℕ → ℕ → Type 0
+AreSameWithin a b low high =
+    (k : ℕ) → low ≤ k → k < high → to_ascii_lowercase (slice_index a k) ≡ to_ascii_lowercase (slice_index b k)

@@ -1,9 +1,15 @@
 //! Keywords by their spelling.
-ghost use Rattle.std.specs.Prelude.{◌≡◌, map};
+ghost use Rattle.std.specs.Prelude.{◌≡◌, ◌+◌, ◌≤◌, ◌↔◌, IsTrue, length, map};
+ghost use Rattle.std.specs.Char.{to_ascii_lowercase};
 ghost use Rattle.std.specs.Str.{str_eq_ignore_ascii_case};
-ghost use Rattle.crs_shape.specs.KeywordTable.{shown, of_length, classes_among, classes_with};
+ghost use Rattle.crs_shape.specs.KeywordTable.{shown, of_length, classes_among, classes_with, AreSameWithin};
 
 use crate::class::Class;
+
+// Bytes that are compared at once.
+const BLOCK: usize = 8;
+
+const HALF_BLOCK: usize = 4;
 
 // A keyword and the classes that have it. Where several of them may stand in one parent, that which the
 // keyword names there goes first.
@@ -111,8 +117,51 @@ fn classes_among(keywords: &[Keyword], word: &[u8]) -> &'static [Class]
     &[]
 }
 
+// Whether two words are the same, letter case aside.
 pub(crate) fn same_word(keyword: &[u8], word: &[u8]) -> bool
     ensures { result ≡ str_eq_ignore_ascii_case keyword.now word.now }
 {
-    keyword.eq_ignore_ascii_case(word)
+    same_letters(keyword, word)
+}
+
+fn same_letters(a: &[u8], b: &[u8]) -> bool
+    ensures { IsTrue result ↔ (map to_ascii_lowercase a.now ≡ map to_ascii_lowercase b.now) }
+{
+    a.len() == b.len() && same_blocks(a, b)
+}
+
+// By blocks of bytes, of which the last may overlap the one before.
+fn same_blocks(a: &[u8], b: &[u8]) -> bool
+    requires { length a.now ≡ length b.now }
+    ensures { IsTrue result ↔ AreSameWithin a.now b.now 0 (length a.now) }
+{
+    if a.len() < HALF_BLOCK {
+        return same_block(a, b, 0, a.len());
+    }
+    if a.len() < BLOCK {
+        return same_block(a, b, 0, HALF_BLOCK)
+            && same_block(a, b, a.len() - HALF_BLOCK, HALF_BLOCK);
+    }
+    let last = a.len() - BLOCK;
+    let mut at = 0;
+    while at < last {
+        if !same_block(a, b, at, BLOCK) {
+            return false;
+        }
+        at += BLOCK;
+    }
+    same_block(a, b, last, BLOCK)
+}
+
+// The loop has no early exit, so that it is compiled to vector code.
+#[inline(always)]
+fn same_block(a: &[u8], b: &[u8], at: usize, size: usize) -> bool
+    requires { (at + size ≤ length a.now) × (at + size ≤ length b.now) }
+    ensures { IsTrue result ↔ AreSameWithin a.now b.now at (at + size) }
+{
+    let mut same = true;
+    for i in 0..size {
+        same &= a[at + i].to_ascii_lowercase() == b[at + i].to_ascii_lowercase();
+    }
+    same
 }

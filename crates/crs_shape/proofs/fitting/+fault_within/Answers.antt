@@ -25,19 +25,19 @@ returns-in_default-step t c =
 pub returns-in-Some-within : goal.returns-in-Some-within
 returns-in-Some-within t c =
     let fault : c.match-close.within ≡ first_inside c.in-Some-step.named (first_of (here c.args.items.now c.in-Some.argument)) =
-        elim c.match-close.branch [
-          | in-None w ↦ w.within-is ∙ no_arguments _ _ (going_class _ _ _ _ _ _ _ _ (going_at _ _ _ _ _ _ _ c.loop-next.invariant c.in-Some.is) c.in-Some-step.ensures) (sym w.in-None.ensures)
-          | in-Some-close w ↦ w.within-is ∙ w.fault_within-within.ensures
-        ] in
+    elim c.match-close.branch [
+      | in-None w ↦ w.within-is ∙ no_arguments _ _ (going_class _ _ _ _ _ _ _ _ (going_at _ _ _ _ _ _ _ c.loop-next.invariant c.in-Some.is) c.in-Some-step.ensures) (sym w.in-None.ensures)
+      | in-Some-close w ↦ w.within-is ∙ w.fault_within-within.ensures
+    ] in
     going_inside _ _ _ _ _ _ _ _ _ (going_at _ _ _ _ _ _ _ c.loop-next.invariant c.in-Some.is) c.in-Some-step.ensures (sym c.in-Some-within.is ∙ fault)
 
 pub loop-next-preserved : goal.loop-next-preserved
 loop-next-preserved t c =
     let fault : c.match-close.within ≡ first_inside c.in-Some-step.named (first_of (here c.args.items.now c.in-Some.argument)) =
-        elim c.match-close.branch [
-          | in-None w ↦ w.within-is ∙ no_arguments _ _ (going_class _ _ _ _ _ _ _ _ (going_at _ _ _ _ _ _ _ c.loop-next.invariant c.in-Some.is) c.in-Some-step.ensures) (sym w.in-None.ensures)
-          | in-Some-close w ↦ w.within-is ∙ w.fault_within-within.ensures
-        ] in
+    elim c.match-close.branch [
+      | in-None w ↦ w.within-is ∙ no_arguments _ _ (going_class _ _ _ _ _ _ _ _ (going_at _ _ _ _ _ _ _ c.loop-next.invariant c.in-Some.is) c.in-Some-step.ensures) (sym w.in-None.ensures)
+      | in-Some-close w ↦ w.within-is ∙ w.fault_within-within.ensures
+    ] in
     going_on _ _ _ _ _ _ _ _ _ (going_at _ _ _ _ _ _ _ c.loop-next.invariant c.in-Some.is) c.in-Some-step.ensures (sym c.in_default-within.is ∙ fault) c.next-next.ensures
 
 pub returns-then-may_end : goal.returns-then-may_end
