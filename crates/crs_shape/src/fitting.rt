@@ -1,5 +1,8 @@
 //! Whether items have the shape of a class.
 ghost use Rattle.std.specs.Prelude.{◌≡◌, ◌+◌, ◌^◌, ◌<◌, ◌&&◌, not, true, false, Some, IsTrue, IsFalse, MatchResult, option_map};
+ghost use Rattle.std.specs.List.{list_any};
+ghost use denote.Enum.Bare.{sameb};
+ghost use Rattle.crs_shape.specs.contracts.class.Class.{the_type};
 ghost use Rattle.crs_text.specs.Items.{first_of, close_of, here, HasId};
 ghost use Rattle.crs_text.specs.Refusal.{is_refusal};
 ghost use Rattle.crs_shape.specs.FirstFault.{step_of, first_inside};
@@ -209,7 +212,19 @@ impl Walk {
 fn takes(slot: &Slot, class: Class) -> bool
     ensures { result ≡ takes (shown slot.now) class }
 {
-    slot.classes.contains(&class)
+    has(slot.classes, class)
+}
+
+// Mostly the first class is the one, so that a plain loop is quicker than `contains`.
+fn has(classes: &[Class], class: Class) -> bool
+    ensures { result ≡ list_any (λ d. sameb the_type d class) classes.now }
+{
+    for own in classes {
+        if *own == class {
+            return true;
+        }
+    }
+    false
 }
 
 fn waits(slot: &Slot, filled: bool) -> bool
