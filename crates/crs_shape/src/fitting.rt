@@ -1,13 +1,10 @@
 //! Whether items have the shape of a class.
 ghost use Rattle.std.specs.Prelude.{◌≡◌, ◌+◌, ◌^◌, ◌<◌, ◌&&◌, not, true, false, Some, IsTrue, IsFalse, MatchResult, option_map};
-ghost use Rattle.std.specs.List.{list_any};
-ghost use denote.Enum.Bare.{sameb};
-ghost use Rattle.crs_shape.specs.contracts.class.Class.{the_type};
 ghost use Rattle.crs_text.specs.Items.{first_of, close_of, here, HasId};
 ghost use Rattle.crs_text.specs.Refusal.{is_refusal};
 ghost use Rattle.crs_shape.specs.FirstFault.{step_of, first_inside};
 ghost use Rattle.crs_shape.specs.ShapeFault.{class_in, is_of, misplaced, missing, IsFree, IsOnly, Inside, AtRoot, class_of_root};
-ghost use Rattle.crs_shape.specs.Slots.{shown, takes};
+ghost use Rattle.crs_shape.specs.Slots.{shown};
 ghost use Rattle.crs_shape.specs.Walk.{after, may_end, left_of};
 
 use crate::class::Class;
@@ -183,7 +180,7 @@ impl Walk {
         let mut filled = self.filled;
         for at in self.at..row.len() {
             let slot = &row[at];
-            if takes(slot, class) {
+            if slot.takes(class) {
                 return Some(filled_by_one(slot, at));
             }
             if waits(slot, filled) {
@@ -207,24 +204,6 @@ impl Walk {
         }
         true
     }
-}
-
-fn takes(slot: &Slot, class: Class) -> bool
-    ensures { result ≡ takes (shown slot.now) class }
-{
-    has(slot.classes, class)
-}
-
-// Mostly the first class is the one, so that a plain loop is quicker than `contains`.
-fn has(classes: &[Class], class: Class) -> bool
-    ensures { result ≡ list_any (λ d. sameb the_type d class) classes.now }
-{
-    for own in classes {
-        if *own == class {
-            return true;
-        }
-    }
-    false
 }
 
 fn waits(slot: &Slot, filled: bool) -> bool

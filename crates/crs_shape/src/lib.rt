@@ -5,6 +5,7 @@ mod class;
 mod fitting;
 mod keyword;
 pub mod laws;
+mod part;
 mod slot;
 mod spelling;
 mod table;
