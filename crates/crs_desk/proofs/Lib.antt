@@ -1,3 +1,4 @@
+mod JudgedLemmas
 mod KnownText
 pub mod ArgumentLemmas
 pub mod OneLemmas

@@ -1,9 +1,11 @@
--- What `canon` writes for a text, and its status.
+-- What `canon` and `check` write for a text, and their status.
 use Rattle.std.specs.Prelude.{◌≡◌, ◌++◌, ◌⊎◌, ℕ, List, [], ◌∷◌, codes, decimal}
-use Rattle.crs_text.specs.Items.{Item}
 use Rattle.crs_text.specs.Refusal.{Refused, name_of}
-use Rattle.crs_text.specs.TextFault.{SpellsNode, RefusesText}
-use Rattle.crs_shape.specs.ShapeFault.{AtRoot, IsFree}
+use Rattle.crs_value.specs.declared.crs.Crs.{Crs}
+use Rattle.crs_value.specs.declared.crs.Kind.{Kind}
+use Rattle.crs_value.specs.declared.crs.Kind.TheVariants as kind
+use Rattle.crs_value.specs.ReadsCrs.{kind_of}
+use Rattle.crs_value.specs.SpellsText.{Spells, Refuses}
 use Rattle.crs_desk.specs.ThinReads.{IsThin}
 use Rattle.crs_desk.specs.ThinCanonical.{IsCanonical}
 
@@ -11,32 +13,43 @@ use Rattle.crs_desk.specs.ThinCanonical.{IsCanonical}
 abbrev pub refused_text : ℕ → ℕ → List ℕ
 refused_text number place = codes "refused " ++ decimal number ++ codes " " ++ name_of number ++ codes " at " ++ decimal place
 
+abbrev pub kind_word : Kind → List ℕ
+kind_word kind.Geodetic = codes "geodetic"
+kind_word kind.Geographic = codes "geographic"
+kind_word kind.Projected = codes "projected"
+kind_word kind.Vertical = codes "vertical"
+kind_word kind.Compound = codes "compound"
+
 -- these bytes and a line end are written, with this status
 pub record IsLine (bytes : List ℕ) (end : ℕ) (written : List ℕ) (status : ℕ) : Type 0 where
   pub line : written ≡ bytes ++ 10 ∷ []
   pub is_status : status ≡ end
 
+-- the text spells a CRS of this kind
+abbrev pub IsKindOf : List ℕ → Kind → Type 0
+IsKindOf text found = (value : Crs) × Spells text value × (found ≡ kind_of value)
+
 -- a thin text's canonical text, with status 0
 abbrev pub WritesCanonical : List ℕ → List ℕ → ℕ → Type 0
 WritesCanonical text written status = (canonical : List ℕ) × IsCanonical text canonical × IsLine canonical 0 written status
 
--- the text is no node, or has a fault of shape
-abbrev pub IsRefused : List ℕ → Refused → Type 0
-IsRefused text refusal = RefusesText text refusal.number refusal.place ⊎ ((item : Item) × SpellsNode text item × AtRoot item refusal)
-
--- the text is a node without a fault of shape
-abbrev pub HasShape : List ℕ → Type 0
-HasShape text = (item : Item) × SpellsNode text item × IsFree (AtRoot item)
+-- `accepted` and the kind of the CRS that the text spells, with status 0
+abbrev pub WritesAccepted : List ℕ → List ℕ → ℕ → Type 0
+WritesAccepted text written status = (found : Kind) × IsKindOf text found × IsLine (codes "accepted " ++ kind_word found) 0 written status
 
 -- the refusal of a text, with status 1
 abbrev pub WritesRefusal : List ℕ → List ℕ → ℕ → Type 0
-WritesRefusal text written status = (refusal : Refused) × IsRefused text refusal × IsLine (refused_text refusal.number refusal.place) 1 written status
+WritesRefusal text written status = (refusal : Refused) × Refuses text refusal × IsLine (refused_text refusal.number refusal.place) 1 written status
 
--- `not yet` for a text that has a shape and isn't thin, with status 1
+-- `not yet` for a text that spells a CRS and isn't thin, with status 1
 abbrev pub WritesNotYet : List ℕ → List ℕ → ℕ → Type 0
-WritesNotYet text written status = HasShape text × ¬ (IsThin text) × IsLine (codes "not yet") 1 written status
+WritesNotYet text written status = ((value : Crs) × Spells text value) × ¬ (IsThin text) × IsLine (codes "not yet") 1 written status
 
 -- what `canon` writes for a text, and its status
 unfoldable pub IsCanonOutput : List ℕ → List ℕ → ℕ → Type 0
 IsCanonOutput text written status =
     WritesCanonical text written status ⊎ (WritesRefusal text written status ⊎ WritesNotYet text written status)
+
+-- what `check` writes for a text, and its status
+unfoldable pub IsCheckOutput : List ℕ → List ℕ → ℕ → Type 0
+IsCheckOutput text written status = WritesAccepted text written status ⊎ WritesRefusal text written status

@@ -3,21 +3,25 @@
 
 pub use canon::Canon;
 pub use canon_run::run_canon;
+pub use check_run::run_check;
 pub use crs_line::{Request, RequestFault, request};
+pub use crs_value::Level;
 pub use fault::RunFault;
-pub use level::Level;
 pub use sink::Sink;
 pub use source::Source;
 pub use thin::{Direction, SystemType, thin_canon};
 
 mod canon;
 mod canon_run;
+mod check_run;
 mod fault;
+mod judging;
 pub mod laws;
-mod level;
+mod print;
 mod sink;
 mod source;
 #[cfg(test)]
 mod tests;
 mod text;
+mod text_run;
 mod thin;

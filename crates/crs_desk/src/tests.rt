@@ -1,5 +1,5 @@
 //! Readers and writers that a program may meet, over the public calls.
-use crate::{Canon, Level, RunFault, Sink, Source, run_canon};
+use crate::{Canon, Level, RunFault, Sink, Source, run_canon, run_check};
 use std::io;
 use std::io::{Read, Write};
 use std::test::Fail;
@@ -28,6 +28,32 @@ impl Read for Repeats {
         }
         self.left -= count as u64;
         Ok(count)
+    }
+}
+
+// A reader of a text in pieces, that fails at one of its calls.
+#[derive(Clone, Copy)]
+struct Pieces<'a> {
+    left: &'a [u8],
+    piece: usize,
+    fails_at: u32,
+    calls: u32,
+}
+
+impl<'a> Read for Pieces<'a> {
+    fn read(&mut self, buf: &mut [u8]) -> io::Result<usize> {
+        self.calls = self.calls.saturating_add(1);
+        if self.calls == self.fails_at {
+            return Err(io::Error::from(io::ErrorKind::Interrupted));
+        }
+        let count = self.left.len().min(self.piece).min(buf.len());
+        let mut taken = 0;
+        for (place, byte) in buf.iter_mut().zip(self.left).take(count) {
+            *place = *byte;
+            taken += 1;
+        }
+        self.left = self.left.get(taken..).unwrap_or(&[]);
+        Ok(taken)
     }
 }
 
@@ -137,6 +163,44 @@ fn ends_by_the_writer(rt: HostRuntime) {
     let mut source = Source::new(reader_of(b' ', 3, 1, NEVER));
     let mut sink = Sink::new(Refuses);
     let outcome = run_canon(rt.alloc(), Level::Full, &mut source, &mut sink);
+    assert_eq!(rt; outcome, Err(RunFault::WriteFailed));
+    assert!(rt; sink.failed() && !source.failed());
+}
+
+// 150 bytes: ten pieces of 16 bytes, and a read that shows the end.
+const GEOGRAPHIC: &[u8] = b"GEODETICCRS(\"A\",TRF(\"D\",SPHEROID(\"E\",6378137.0,298.257223563)),CS(ellipsoidal,2),AXIS(\"lat\",NORTH),AXIS(\"lon\",east),UNIT(\"degree\",0.0174532925199433))";
+
+fn pieces_of(text: &[u8], fails_at: u32) -> Pieces<'_> {
+    Pieces {
+        left: text,
+        piece: 16,
+        fails_at,
+        calls: 0,
+    }
+}
+
+#[test]
+fn checks_in_pieces(rt: HostRuntime) -> Result<(), Fail> {
+    for fails_at in 1..=12 {
+        let mut written = Vec::new(rt.alloc());
+        let mut source = Source::new(pieces_of(GEOGRAPHIC, fails_at));
+        let outcome = run_check(rt.alloc(), &mut source, &mut Sink::new(&mut written));
+        let (wanted, line) = if fails_at < 12 {
+            (Err(RunFault::ReadFailed), b"".as_slice())
+        } else {
+            (Ok(0), b"accepted geographic\n".as_slice())
+        };
+        assert_eq!(rt; outcome, wanted, "{fails_at}");
+        assert!(rt; written.as_slice() == line, "{fails_at}");
+    }
+    Ok(())
+}
+
+#[test]
+fn checks_into_a_writer_that_fails(rt: HostRuntime) {
+    let mut source = Source::new(pieces_of(GEOGRAPHIC, NEVER));
+    let mut sink = Sink::new(Refuses);
+    let outcome = run_check(rt.alloc(), &mut source, &mut sink);
     assert_eq!(rt; outcome, Err(RunFault::WriteFailed));
     assert!(rt; sink.failed() && !source.failed());
 }

@@ -51,7 +51,7 @@ unfolding IsKnown AreKnown entered_at IsFree
 requested_some None free some = cc
 requested_some (Some stop) free some =
     known_among stop.1 (λ s. answers_to stop.0 (label_of s)) (built desk).subs
-    ((λ answers rows. refl), ((λ answers rows. absurd (answers_help stop.0 free (or_false _ answers))), tt)) some
+    ((λ answers rows. refl), ((λ answers rows. refl), ((λ answers rows. absurd (answers_help stop.0 free (or_false _ answers))), tt))) some
 
 mapped_some : {T U : Type 0} (f : T → U) (found : Option T) → is_some found ≡ true → IsSome (option_map f found)
 mapped_some f None some = cc

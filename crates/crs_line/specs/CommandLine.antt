@@ -4,7 +4,7 @@ use Rattle.std.specs.Str.{bytes_eq}
 use Rattle.clap.specs.Words.{App, Row, Text, kind_of, new_app, subcommand_of, takes, with_subcommand}
 use Rattle.clap.specs.Simple.{new_shape, on_top}
 use Rattle.crs_line.specs.declared.asked.Request.{Request}
-use Rattle.crs_line.specs.declared.asked.Request.TheVariants.{Canon}
+use Rattle.crs_line.specs.declared.asked.Request.TheVariants.{Canon, Check}
 use Rattle.crs_line.specs.declared.asked.RequestFault.{RequestFault}
 use Rattle.crs_line.specs.declared.asked.RequestFault.TheVariants.{Line, Memory}
 use Rattle.clap.specs.declared.error.Error.{Error}
@@ -12,13 +12,13 @@ use Rattle.clap.specs.declared.error.kind.ErrorKind.TheVariants as kind
 
 -- `crsdesk`, which wants one of its commands
 abbrev pub desk : App
-desk = with_subcommand
-    (on_top (λ s. record s { subcommand_required = true }) (new_app (codes "crsdesk")))
-    (new_shape (codes "canon"))
+desk =
+    let alone = on_top (λ s. record s { subcommand_required = true }) (new_app (codes "crsdesk")) in
+    with_subcommand (with_subcommand alone (new_shape (codes "canon"))) (new_shape (codes "check"))
 
 -- the request of a command's name and of what stands after it
 abbrev pub request_of : Text × List Row → Option Request
-request_of found = if bytes_eq found.0 (codes "canon") then Some Canon else None
+request_of found = if bytes_eq found.0 (codes "canon") then Some Canon else (if bytes_eq found.0 (codes "check") then Some Check else None)
 
 -- the request of the command that was named
 abbrev pub requested : Option (Text × List Row) → Option Request

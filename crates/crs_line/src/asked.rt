@@ -6,6 +6,8 @@ use thiserror::Error;
 pub enum Request {
     /// The canonical text of the text on standard input.
     Canon,
+    /// Whether the text on standard input is accepted, and what it spells.
+    Check,
 }
 
 /// Why a command line gives no request.

@@ -36,10 +36,12 @@ fn desk_command<'a>(alloc: Global) -> Result<Command<'a>, AllocError>
     ensures globals { IfOk result (λ command. (fields_of command).has_globals ≡ false) }
 {
     let canon = Command::new(alloc, "canon").about("Writes the canonical text of standard input");
+    let check = Command::new(alloc, "check").about("Tells what standard input spells, or where it is refused");
     Command::new(alloc, "crsdesk")
         .about("Reads, compares and spells coordinate reference systems")
         .subcommand_required(true)
-        .subcommand(canon)
+        .subcommand(canon)?
+        .subcommand(check)
 }
 
 fn refusal(error: clap::Error) -> RequestFault
@@ -57,6 +59,7 @@ fn named(matches: &ArgMatches) -> Request
 {
     match matches.subcommand() {
         Some(("canon", _)) => Request::Canon,
+        Some(("check", _)) => Request::Check,
         _ => unreachable!(),
     }
 }

@@ -8,15 +8,20 @@ fn takes_a_command(rt: HostRuntime) -> Result<(), Fail> {
         .ok()
         .ok_or("a request")?;
     assert!(rt; matches!(&wanted, Request::Canon));
+    let other = request(rt.alloc(), &["crsdesk", "check"])
+        .ok()
+        .ok_or("a request")?;
+    assert!(rt; matches!(&other, Request::Check));
     Ok(())
 }
 
 #[test]
 fn shows_clap_texts(rt: HostRuntime) {
-    let cases: [(&[&str], bool); 6] = [
+    let cases: [(&[&str], bool); 7] = [
         (&["crsdesk"], true),
         (&["crsdesk", "frob"], true),
         (&["crsdesk", "canon", "--frob"], true),
+        (&["crsdesk", "check", "canon"], true),
         (&["crsdesk", "--help"], false),
         (&["crsdesk", "canon", "-h"], false),
         (&["crsdesk", "help"], false),

@@ -1,6 +1,6 @@
 //! From the name of a call to its answer.
 use crate::texts::Column;
-use crate::{numbers, runs, shapes, texts};
+use crate::{numbers, runs, shapes, texts, values};
 use std::alloc::{AllocError, Global};
 
 /// Appends the answer of a call to an input, as a row writes it.
@@ -21,7 +21,10 @@ pub fn put_answer(
         "prefixes" => texts::put_prefixes(out, alloc, input),
         "fit_root" => shapes::put_class(out, alloc, input),
         "thin_canon" => runs::put_thin(out, alloc, input),
-        "run_canon" => runs::put_run(out, alloc, input),
+        "run_canon" => runs::put_canon(out, alloc, input),
+        "run_check" => runs::put_check(out, alloc, input),
+        "read" => values::put_read(out, alloc, input),
+        "value_of" => values::put_value_of(out, alloc, input),
         _ => out.push_str("no such call"),
     }
 }

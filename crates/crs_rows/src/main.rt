@@ -9,10 +9,11 @@ mod rows;
 mod runs;
 mod shapes;
 mod texts;
+mod values;
 
 use std::{fs, io};
 
-const FILES: [&str; 10] = [
+const FILES: [&str; 12] = [
     "decimals",
     "refusals",
     "tokens",
@@ -20,9 +21,11 @@ const FILES: [&str; 10] = [
     "items",
     "prefixes",
     "shapes",
+    "values",
     "before_dynamic",
     "thin",
     "runs",
+    "checks",
 ];
 
 fn main(rt: HostRuntime) -> io::Result<()> {

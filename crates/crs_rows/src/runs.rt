@@ -1,6 +1,6 @@
-//! The calls that answer the canonical text of a thin text.
+//! The runs of commands, and the canonical text of a thin text.
 use crate::escapes::put_text;
-use crs_desk::{Level, RunFault, Sink, Source, run_canon, thin_canon};
+use crs_desk::{Level, RunFault, Sink, Source, run_canon, run_check, thin_canon};
 use std::alloc::{AllocError, Global};
 
 /// `text` and the canonical text; `none` where the text isn't thin.
@@ -14,21 +14,38 @@ pub fn put_thin(out: &mut String, alloc: Global, input: &[u8]) -> Result<(), All
     }
 }
 
-/// The status of a run over a reader and a writer in memory, or its fault, and what it has written.
-pub fn put_run(out: &mut String, alloc: Global, input: &[u8]) -> Result<(), AllocError> {
+/// The status of `canon` over a reader and a writer in memory, or its fault, and what it has written.
+pub fn put_canon(out: &mut String, alloc: Global, input: &[u8]) -> Result<(), AllocError> {
     let mut written = Vec::new(alloc);
-    put_outcome(out, run(alloc, input, &mut written))?;
+    put_outcome(out, canon(alloc, input, &mut written))?;
+    put_written(out, &written)
+}
+
+/// The same of `check`.
+pub fn put_check(out: &mut String, alloc: Global, input: &[u8]) -> Result<(), AllocError> {
+    let mut written = Vec::new(alloc);
+    put_outcome(out, check(alloc, input, &mut written))?;
+    put_written(out, &written)
+}
+
+fn put_written(out: &mut String, written: &[u8]) -> Result<(), AllocError> {
     if written.is_empty() {
         return out.push_str(", nothing written");
     }
     out.push_str(", written ")?;
-    put_text(out, &written)
+    put_text(out, written)
 }
 
-fn run(alloc: Global, input: &[u8], written: &mut Vec<u8>) -> Result<u8, RunFault> {
+fn canon(alloc: Global, input: &[u8], written: &mut Vec<u8>) -> Result<u8, RunFault> {
     let mut source = Source::new(input);
     let mut sink = Sink::new(written);
     run_canon(alloc, Level::Full, &mut source, &mut sink)
+}
+
+fn check(alloc: Global, input: &[u8], written: &mut Vec<u8>) -> Result<u8, RunFault> {
+    let mut source = Source::new(input);
+    let mut sink = Sink::new(written);
+    run_check(alloc, &mut source, &mut sink)
 }
 
 fn put_outcome(out: &mut String, outcome: Result<u8, RunFault>) -> Result<(), AllocError> {

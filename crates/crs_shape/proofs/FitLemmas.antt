@@ -1,12 +1,15 @@
 -- The fault of an item, as the loop over its arguments finds it.
-use Rattle.std.proofs.Common.{◌≡◌, ◌≢◌, ℕ, ◌+◌, ◌<◌, Bool, true, false, Option, Some, None, List, refl, sym, ◌∙◌, ap, subst, arith}
+use Rattle.std.proofs.Common.{◌≡◌, ◌≢◌, ℕ, ◌+◌, ◌<◌, Bool, true, false, Option, Some, None, List, [], ◌∷◌, if◌then◌else◌, option_map, refl, sym, ◌∙◌, ap, subst, arith}
 use Rattle.crs_text.specs.Items.{Item, leaf, node, Items, End, More, arguments, first_of, rest_of, close_of, size_of, sizes, here, HasId, IsAt}
 use Rattle.crs_text.specs.Refusal.{Refused}
 use Rattle.crs_shape.specs.declared.class.Class.{Class}
-use Rattle.crs_shape.specs.Slots.{SlotParts, slots_of}
-use Rattle.crs_shape.specs.Walk.{may_end}
-use Rattle.crs_shape.specs.ShapeFault.{is_of, misplaced, missing}
-use Rattle.crs_shape.specs.FirstFault.{or_later, step_of, fault_by, fault_from, first_inside, first_among}
+use denote.Enum.Bare.{true_same}
+use Rattle.crs_shape.specs.contracts.class.Class.{the_type}
+use Rattle.crs_shape.specs.Keywords.{is_keyword, first_named}
+use Rattle.crs_shape.specs.Slots.{SlotParts, slots_of, named_in, class_named}
+use Rattle.crs_shape.specs.Walk.{after, may_end}
+use Rattle.crs_shape.specs.ShapeFault.{class_of_kind, class_in, is_of, misplaced, missing}
+use Rattle.crs_shape.specs.FirstFault.{or_later, step_to, step_of, fault_by, fault_from, first_inside, first_among}
 
 -- the items from one on, where there is one
 abbrev pub from : Item → Option ℕ → Items
@@ -128,3 +131,47 @@ going_short tree c item close slots b going e t = rw (sym e ∙ t) at going.same
 pub going_at : (tree : Item) (c : Class) (item : Item) (close : ℕ) (slots : List SlotParts) (next other : Option ℕ) → Going tree c item close slots next → next ≡ other →
     Going tree c item close slots other
 going_at tree c item close slots next other going e = subst (Going tree c item close slots) e going
+
+-- an argument is of the class that it has in its parent
+
+first-has : (cs : List Class) (word : List ℕ) (c : Class) → first_named cs word ≡ Some c → is_keyword c word ≡ true
+first-has [] word c e = cc
+first-has (d ∷ ds) word c e =
+    elim (is_keyword d word) as (λ b. is_keyword d word ≡ b → (if b then Some d else first_named ds word) ≡ Some c → is_keyword c word ≡ true) [
+      | true ↦ λ has same. subst (λ x. is_keyword x word ≡ true) (Some-one same) has
+      | false ↦ λ has later. first-has ds word c later
+    ] refl e
+  where
+    Some-one : {a b : Class} → Some a ≡ Some b → a ≡ b
+    Some-one same = cc
+
+named-has : (slots : List SlotParts) (word : List ℕ) (c : Class) → named_in slots word ≡ Some c → is_keyword c word ≡ true
+named-has [] word c e = cc
+named-has (s ∷ ss) word c e =
+    elim (first_named s.classes word) as (λ o. first_named s.classes word ≡ o → is_keyword c word ≡ true) [
+      | None ↦ λ f. named-has ss word c (rw f at e)
+      | Some d ↦ λ f. first-has s.classes word c (f ∙ (rw f at e))
+    ] refl
+
+class-is_of : (parent c : Class) (item : Item) → class_in parent item ≡ Some c → is_of c item ≡ true
+unfolding class_named
+class-is_of parent c (leaf kind place raw) e = true_same the_type (class_of_kind kind) c cc
+class-is_of parent c (node place keyword square first others close) e = named-has (slots_of parent) keyword c e
+
+step-is_of : (parent c : Class) (slots left : List SlotParts) (item : Item) → Some (c, left) ≡ step_of parent slots item → is_of c item ≡ true
+step-is_of parent c slots left item e =
+    elim (class_in parent item) as (λ o. class_in parent item ≡ o → is_of c item ≡ true) [
+      | None ↦ λ f. absurd (none (rw f at e))
+      | Some d ↦ λ f. class-is_of parent c item (f ∙ to (after slots d) (rw f at e))
+    ] refl
+  where
+    none : {X : Type 0} {x : X} → Some x ≡ None → ⊥
+    none p = cc
+
+    to : {d : Class} (o : Option (List SlotParts)) → Some (c, left) ≡ step_to d o → Some d ≡ Some c
+    to None p = cc
+    to (Some next) p = sym (ap (option_map (λ s. s.0)) p)
+
+pub going_class : (tree : Item) (c : Class) (item : Item) (close : ℕ) (slots left : List SlotParts) (named : Class) (id : ℕ) → Going tree c item close slots (Some id) →
+    Some (named, left) ≡ step_of c slots (first_of (here tree id)) → is_of named (first_of (here tree id)) ≡ true
+going_class tree c item close slots left named id going e = step-is_of c named slots left (first_of (here tree id)) e

@@ -2,6 +2,7 @@ pub mod BoolLemmas
 pub mod CountLemmas
 pub mod FaultLemmas
 pub mod FitLemmas
+pub mod KeywordTableLemmas
 pub mod KeywordLemmas
 pub mod ListLemmas
 pub mod ShapedLemmas
@@ -9,3 +10,4 @@ pub mod RootLemmas
 pub mod SlotLemmas
 pub mod TableLemmas
 pub mod WalkLemmas
+pub mod WordLemmas

@@ -1,5 +1,6 @@
 pub mod Counts
 pub mod FirstFault
+pub mod KeywordTable
 pub mod Keywords
 pub mod Shape
 pub mod ShapeFault

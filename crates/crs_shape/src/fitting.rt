@@ -1,10 +1,10 @@
 //! Whether items have the shape of a class.
-ghost use Rattle.std.specs.Prelude.{◌≡◌, ◌+◌, ◌^◌, ◌<◌, ◌&&◌, not, true, false, IsTrue, IsFalse, MatchResult, option_map};
-ghost use Rattle.crs_text.specs.Items.{first_of, here, HasId};
+ghost use Rattle.std.specs.Prelude.{◌≡◌, ◌+◌, ◌^◌, ◌<◌, ◌&&◌, not, true, false, Some, IsTrue, IsFalse, MatchResult, option_map};
+ghost use Rattle.crs_text.specs.Items.{first_of, close_of, here, HasId};
 ghost use Rattle.crs_text.specs.Refusal.{is_refusal};
 ghost use Rattle.crs_shape.specs.FirstFault.{step_of, first_inside};
 ghost use Rattle.crs_shape.specs.ShapeFault.{class_in, is_of, misplaced, missing, IsFree, IsOnly, Inside, AtRoot, class_of_root};
-ghost use Rattle.crs_shape.specs.Slots.{shown, takes};
+ghost use Rattle.crs_shape.specs.Slots.{shown};
 ghost use Rattle.crs_shape.specs.Walk.{after, may_end, left_of};
 
 use crate::class::Class;
@@ -69,6 +69,16 @@ fn first_fault(items: &Items<'_>, id: ItemId, class: Class) -> Option<Refusal>
         return Some(misplaced(items, id));
     }
     let close = items.close(id)?;
+    fault_within(items, id, class, close)
+}
+
+// The fault of the arguments of a node of this class, whose closing delimiter is at `close`.
+fn fault_within(items: &Items<'_>, id: ItemId, class: Class, close: usize) -> Option<Refusal>
+    requires has { HasId items.now id }
+    requires class { IsTrue (is_of class (first_of (here items.now id))) }
+    requires node { close_of (first_of (here items.now id)) ≡ Some close }
+    ensures { result ≡ first_inside class (first_of (here items.now id)) }
+{
     let row = slots(class);
     let mut walk = Walk {
         at: 0,
@@ -79,7 +89,11 @@ fn first_fault(items: &Items<'_>, id: ItemId, class: Class) -> Option<Refusal>
         let Some((named, stepped)) = step(items, argument, class, row, walk) else {
             return Some(misplaced(items, argument));
         };
-        if let Some(fault) = first_fault(items, argument, named) {
+        let within = match items.close(argument) {
+            None => None,
+            Some(end) => fault_within(items, argument, named, end),
+        };
+        if let Some(fault) = within {
             return Some(fault);
         }
         walk = stepped;
@@ -166,7 +180,7 @@ impl Walk {
         let mut filled = self.filled;
         for at in self.at..row.len() {
             let slot = &row[at];
-            if takes(slot, class) {
+            if slot.takes(class) {
                 return Some(filled_by_one(slot, at));
             }
             if waits(slot, filled) {
@@ -190,12 +204,6 @@ impl Walk {
         }
         true
     }
-}
-
-fn takes(slot: &Slot, class: Class) -> bool
-    ensures { result ≡ takes (shown slot.now) class }
-{
-    slot.classes.contains(&class)
 }
 
 fn waits(slot: &Slot, filled: bool) -> bool

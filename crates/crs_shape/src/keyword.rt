@@ -1,10 +1,13 @@
 //! Keywords.
 ghost use Rattle.std.specs.Prelude.{◌≡◌, map};
-ghost use Rattle.std.specs.List.{list_any};
+ghost use Rattle.std.specs.List.{find, list_any};
 ghost use Rattle.std.specs.Str.{str_eq_ignore_ascii_case};
-ghost use Rattle.crs_shape.specs.Keywords.{keywords_of, is_keyword, first_named, is_known, root_named};
+ghost use Rattle.crs_shape.specs.KeywordTable.{is_root};
+ghost use Rattle.crs_shape.specs.Keywords.{keywords_of, is_keyword, is_known, root_named};
+ghost use Rattle.crs_shape.specs.Shape.{has_class};
 
 use crate::class::Class;
+use crate::spelling::{classes_with, same_word};
 
 /// The keywords of a class, none for an item that isn't a node. The first is the one that is written;
 /// but a unit on an axis is written by its kind.
@@ -67,86 +70,49 @@ pub fn keywords(class: Class) -> &'static [&'static [u8]]
     }
 }
 
-const EVERY_CLASS: [Class; 40] = [
-    Class::Number,
-    Class::Text,
-    Class::Word,
-    Class::GeodeticCrs,
-    Class::GeographicCrs,
-    Class::ProjectedCrs,
-    Class::VerticalCrs,
-    Class::CompoundCrs,
-    Class::BaseCrs,
-    Class::GeodeticFrame,
-    Class::VerticalFrame,
-    Class::GeodeticEnsemble,
-    Class::VerticalEnsemble,
-    Class::Member,
-    Class::EnsembleAccuracy,
-    Class::Anchor,
-    Class::Ellipsoid,
-    Class::PrimeMeridian,
-    Class::LengthUnit,
-    Class::AngleUnit,
-    Class::ScaleUnit,
-    Class::PlainUnit,
-    Class::AxisUnit,
-    Class::CoordinateSystem,
-    Class::Axis,
-    Class::Meridian,
-    Class::Order,
-    Class::Conversion,
-    Class::Method,
-    Class::Parameter,
-    Class::GeoidModel,
-    Class::Usage,
-    Class::Scope,
-    Class::Area,
-    Class::BoundingBox,
-    Class::VerticalExtent,
-    Class::Identifier,
-    Class::Citation,
-    Class::Uri,
-    Class::Remark,
-];
-
-const ROOT_CLASSES: [Class; 5] = [
-    Class::GeodeticCrs,
-    Class::GeographicCrs,
-    Class::ProjectedCrs,
-    Class::VerticalCrs,
-    Class::CompoundCrs,
-];
-
 /// The class that this keyword names at the head of a text; None where it is no CRS's keyword.
 /// Profile.
-#[tactic(auto, unfolding(crate::specs::Keywords::root_named))]
 pub fn root_class(keyword: &[u8]) -> Option<Class>
     ensures { result ≡ root_named keyword.now }
 {
-    first_class(&ROOT_CLASSES, keyword)
+    first_root(classes_with(keyword))
+}
+
+fn first_root(classes: &[Class]) -> Option<Class>
+    ensures { result ≡ find is_root classes.now }
+{
+    for class in classes {
+        if is_root(*class) {
+            return Some(*class);
+        }
+    }
+    None
+}
+
+fn is_root(class: Class) -> bool
+    ensures { result ≡ is_root class }
+{
+    matches!(
+        class,
+        Class::GeodeticCrs
+            | Class::GeographicCrs
+            | Class::ProjectedCrs
+            | Class::VerticalCrs
+            | Class::CompoundCrs
+    )
 }
 
 /// Whether this word is a keyword of any class. Profile.
 pub fn known(keyword: &[u8]) -> bool
     ensures { result ≡ is_known keyword.now }
 {
-    match first_class(&EVERY_CLASS, keyword) {
-        Some(_) => true,
-        None => false,
-    }
+    has_class(classes_with(keyword))
 }
 
-// The first of these classes that has this keyword.
-pub(crate) fn first_class(classes: &[Class], keyword: &[u8]) -> Option<Class>
-    ensures { result ≡ first_named classes.now keyword.now }
+fn has_class(classes: &[Class]) -> bool
+    ensures { result ≡ has_class classes.now }
 {
-    for class in classes {
-        if has_keyword(*class, keyword) {
-            return Some(*class);
-        }
-    }
-    None
+    !classes.is_empty()
 }
 
 #[tactic(auto, unfolding(crate::specs::Keywords::is_keyword))]
@@ -165,10 +131,4 @@ fn is_among(keywords: &[&[u8]], word: &[u8]) -> bool
         }
     }
     false
-}
-
-fn same_word(keyword: &[u8], word: &[u8]) -> bool
-    ensures { result ≡ str_eq_ignore_ascii_case keyword.now word.now }
-{
-    keyword.eq_ignore_ascii_case(word)
 }

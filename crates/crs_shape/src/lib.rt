@@ -5,7 +5,9 @@ mod class;
 mod fitting;
 mod keyword;
 pub mod laws;
+mod part;
 mod slot;
+mod spelling;
 mod table;
 
 pub use class::Class;

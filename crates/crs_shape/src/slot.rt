@@ -1,6 +1,9 @@
 //! Slots.
 ghost use Rattle.std.specs.Prelude.{◌≡◌};
-ghost use Rattle.crs_shape.specs.Slots.{shown};
+ghost use Rattle.std.specs.List.{list_any};
+ghost use denote.Enum.Bare.{sameb};
+ghost use Rattle.crs_shape.specs.contracts.class.Class.{the_type};
+ghost use Rattle.crs_shape.specs.Slots.{shown, takes};
 
 use crate::class::Class;
 
@@ -34,4 +37,23 @@ impl Slot {
     {
         self.many
     }
+
+    // Whether arguments of this class may stand here.
+    pub(crate) fn takes(&self, class: Class) -> bool
+        ensures { result ≡ takes (shown self.now) class }
+    {
+        has(self.classes, class)
+    }
+}
+
+// Mostly the first class is the one, so that a plain loop is quicker than `contains`.
+fn has(classes: &[Class], class: Class) -> bool
+    ensures { result ≡ list_any (λ d. sameb the_type d class) classes.now }
+{
+    for own in classes {
+        if *own == class {
+            return true;
+        }
+    }
+    false
 }

@@ -1,10 +1,13 @@
 //! The slots of each class.
 ghost use Rattle.std.specs.Prelude.{◌≡◌, map};
-ghost use Rattle.crs_shape.specs.Slots.{shown, slots_of, named_in, class_named};
+ghost use Rattle.std.specs.List.{find};
+ghost use Rattle.crs_shape.specs.KeywordTable.{is_part};
+ghost use Rattle.crs_shape.specs.Slots.{shown, slots_of, class_named};
 
 use crate::class::Class;
-use crate::keyword::first_class;
+use crate::part::is_part;
 use crate::slot::Slot;
+use crate::spelling::classes_with;
 
 // exactly one argument, of one of these classes
 macro_rules! one {
@@ -185,20 +188,18 @@ pub fn slots(class: Class) -> &'static [Slot]
 }
 
 /// The class that this keyword names in a parent of this class; None where it names none. Profile.
-#[tactic(auto, unfolding(crate::specs::Slots::class_named))]
 pub fn class_of(parent: Class, keyword: &[u8]) -> Option<Class>
     ensures { result ≡ class_named parent keyword.now }
 {
-    class_among(slots(parent), keyword)
+    first_part(parent, classes_with(keyword))
 }
 
-fn class_among(slots: &[Slot], keyword: &[u8]) -> Option<Class>
-    ensures { result ≡ named_in (map shown slots.now) keyword.now }
+fn first_part(parent: Class, classes: &[Class]) -> Option<Class>
+    ensures { result ≡ find (is_part parent) classes.now }
 {
-    for slot in slots {
-        let class = first_class(slot.classes, keyword);
-        if class.is_some() {
-            return class;
+    for class in classes {
+        if is_part(parent, *class) {
+            return Some(*class);
         }
     }
     None

@@ -6,9 +6,10 @@ use Rattle.crs_text.specs.Tokens as tokens
 use Rattle.crs_text.specs.Tokens.{Token, single, comma, opening, closing, spelling, IsFormed, Forms, IsAfterWhite, Fronts, AreTokens}
 use Rattle.crs_text.specs.Items.{Item}
 use Rattle.crs_text.specs.Rows.{rows}
-use Rattle.crs_text.specs.Tree.{StandsAt, Stands, AllStand, Each, IsNumberInBounds, IsTable}
+use Rattle.crs_text.specs.Tree.{StandsAt, Stands, AllStand, Each, IsTable}
 use Rattle.crs_text.specs.TextFault.{SpellsNode}
 use Rattle.crs_text.specs.declared.table.Row.{Row}
+use Rattle.crs_text.proofs.WrittenLemmas.{fronts_formed}
 
 -- the bytes end the source
 abbrev EndsIn : List ℕ → List ℕ → Type 0
@@ -42,22 +43,10 @@ all_stand source (t ∷ ts) bytes left ends p =
     let at = cut_front source bytes p.2.white p.0 ends p.2.parts in
     (stands source t p.0 p.1 at p.3, all_stand source ts p.1 left (cut_front source p.0 (spelling t) p.1 at p.3.spelled) p.4)
 
-in_bounds : (t : Token) → IsFormed t → IsNumberInBounds t
-in_bounds (single tokens.number place raw) f = f.2
-in_bounds (single tokens.text place raw) f = tt
-in_bounds (single tokens.word place raw) f = tt
-in_bounds comma f = tt
-in_bounds (opening square) f = tt
-in_bounds (closing place square) f = tt
-
-all_in_bounds : (total : ℕ) (ts : List Token) (bytes left : List ℕ) → Fronts total bytes ts left → Each IsNumberInBounds ts
-all_in_bounds total [] bytes left p = tt
-all_in_bounds total (t ∷ ts) bytes left p = (in_bounds t p.3.formed, all_in_bounds total ts p.1 left p.4)
-
 pub table_of_spelled : (source : List ℕ) (table : List Row) (item : Item) → SpellsNode source item → table ≡ rows 0 item → IsTable source table item
 table_of_spelled source table item s e = record {
   rows = e;
   stand = subst (AllStand source) s.2.are (all_stand source s.0 source [] ([], refl) s.1);
-  numbers = subst (Each IsNumberInBounds) s.2.are (all_in_bounds (length source) s.0 source [] s.1);
+  formed = subst (Each IsFormed) s.2.are (fronts_formed (length source) source [] s.0 s.1);
   node = s.2.is_node;
 }

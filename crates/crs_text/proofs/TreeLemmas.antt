@@ -5,15 +5,17 @@ use Rattle.crs_decimal.specs.Bounds.{IsInBounds}
 use Rattle.crs_decimal.specs.Fault.{IsFault}
 use Rattle.crs_decimal.specs.declared.fault.NumberFault.{NumberFault}
 use Rattle.crs_decimal.specs.declared.fault.NumberFault.TheVariants.{Malformed, Range}
-use Rattle.crs_text.specs.Tokens.{Kind, number, text, word, Token, single, closing}
+use Rattle.crs_text.specs.Tokens.{Kind, number, text, word, Token, single, closing, IsFormed}
 use Rattle.crs_text.specs.Items.{Item, leaf, node, Items, End, More, tokens, others_tokens, first_of, kind_of, raw_of, place_of, here, HasId}
 use Rattle.crs_text.specs.Table.{item_kind, leaf_row}
 use Rattle.crs_text.specs.Rows.{rows, rows_of_items, row_of}
-use Rattle.crs_text.specs.Tree.{part_of, parts, parts_of_items, tree, tree-parts, raw_place, part, tree_of, StandsAt, Stands, Each, AllStand, IsNumberInBounds, IsTable}
+use Rattle.crs_text.specs.Tree.{part_of, parts, parts_of_items, tree, tree-parts, raw_place, part, tree_of, StandsAt, Stands, Each, AllStand, IsTable}
 use Rattle.crs_text.specs.declared.items.ItemKind.TheVariants.{Number}
 use Rattle.crs_text.specs.declared.table.Row.{Row}
 use Rattle.crs_text.proofs.HereLemmas.{Here, items_at, heres, heres_in, heres_of}
+use Rattle.crs_text.specs.Written.{AreFormed}
 use Rattle.crs_text.proofs.IdLemmas.{length-heres, items-at, lt_from_has}
+use Rattle.crs_text.proofs.WrittenLemmas.{formed_of}
 
 pub each_left : (P : Token → Type 0) (a b : List Token) → Each P (a ++ b) → Each P a
 each_left P [] b h = tt
@@ -139,15 +141,19 @@ module _ (source : List ℕ) (tree : Item) (id : ℕ) (row : Row) (stand : AllSt
 abbrev pub IsBoundedHere : Item → Type 0
 IsBoundedHere item = kind_of item ≡ Number → IsInBounds (raw_of item)
 
-bounded_here : (item : Item) → Each IsNumberInBounds (tokens item) → IsBoundedHere item
-bounded_here (leaf number place raw) h = λ e. h.0
+bounded_here : (item : Item) → Each IsFormed (tokens item) → IsBoundedHere item
+bounded_here (leaf number place raw) h = λ e. h.0.2
 bounded_here (leaf text place raw) h = λ e. cc
 bounded_here (leaf word place raw) h = λ e. cc
 bounded_here (node place keyword square first others close) h = λ e. cc
 
 -- each number of a tree is within the bounds
-pub bounded : (tree : Item) (id : ℕ) → Each IsNumberInBounds (tokens tree) → HasId tree id → IsBoundedHere (first_of (here tree id))
-bounded tree id h has = each_item IsNumberInBounds IsBoundedHere bounded_here tree id h (lt_from_has tree id has)
+pub bounded : (tree : Item) (id : ℕ) → Each IsFormed (tokens tree) → HasId tree id → IsBoundedHere (first_of (here tree id))
+bounded tree id h has = each_item IsFormed IsBoundedHere bounded_here tree id h (lt_from_has tree id has)
+
+-- each item of a tree is well formed
+pub formed : (tree : Item) (id : ℕ) → Each IsFormed (tokens tree) → HasId tree id → AreFormed (first_of (here tree id))
+formed tree id h has = each_item IsFormed AreFormed formed_of tree id h (lt_from_has tree id has)
 
 -- what is within the bounds has no fault
 pub no_fault : (bytes : List ℕ) (fault : NumberFault) → IsInBounds bytes → IsFault bytes fault → ⊥

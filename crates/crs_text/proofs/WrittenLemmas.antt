@@ -5,6 +5,7 @@ use Rattle.crs_text.specs.Quoted.{StopsAt}
 use Rattle.crs_text.specs.Tokens.{Kind, number, text, word, Token, single, comma, opening, closing, is_white, IsWord, IsSingle, single_spelling, takes, IsFormed, Forms, Fronts}
 use Rattle.crs_text.specs.Items.{Item, leaf, node, Items, End, More, tokens, others_tokens, depth, depths, IsNode}
 use Rattle.crs_text.specs.TextFault.{SpellsNode}
+use Rattle.crs_text.specs.Tree.{Each}
 use Rattle.crs_text.specs.Written.{item_text, others_text, AreFormed, AreAllFormed, SameItem, SameItems, at_place, at_places, WrittenSpells}
 use Rattle.crs_text.proofs.FrontsLemmas.{dark_start, dark_word, at_once}
 
@@ -109,10 +110,9 @@ mutual
 -- ---- what a text spells is formed
 
 abbrev AllFormed : List Token → Type 0
-AllFormed [] = Unit {0}
-AllFormed (t ∷ ts) = IsFormed t × AllFormed ts
+AllFormed ts = Each IsFormed ts
 
-fronts_formed : (total : ℕ) (bytes left : List ℕ) (ts : List Token) → Fronts total bytes ts left → AllFormed ts
+pub fronts_formed : (total : ℕ) (bytes left : List ℕ) (ts : List Token) → Fronts total bytes ts left → AllFormed ts
 fronts_formed total bytes left [] p = tt
 fronts_formed total bytes left (t ∷ ts) p = (p.3.formed, fronts_formed total p.1 left ts p.4)
 
@@ -133,6 +133,9 @@ mutual
       let f = formed_item item (others_tokens items ++ rest) inside in
       let g = formed_items items rest f.1 in
       ((f.0, g.0), g.1)
+
+pub formed_of : (item : Item) → Each IsFormed (tokens item) → AreFormed item
+formed_of item all = (formed_item item [] (subst AllFormed (sym (append-nil (tokens item))) all)).0
 
 -- the tokens of an item that a text spells are formed
 pub spelled_formed : (bytes : List ℕ) (item : Item) → SpellsNode bytes item → AreFormed item

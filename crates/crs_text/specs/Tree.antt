@@ -2,8 +2,7 @@
 use Rattle.std.specs.Prelude.{◌≡◌, ℕ, zero, suc, ◌+◌, ◌≤◌, Bool, List, [], ◌∷◌, ◌++◌, length, take, drop, map, refl}
 use Rattle.std.specs.Coded.{Coded, coded_ℕ, coded_bool, coded_list, coded×, code_by}
 use Rattle.std.proofs.Common.{◌∙◌, ap, sym, append_assoc}
-use Rattle.crs_decimal.specs.Bounds.{IsInBounds}
-use Rattle.crs_text.specs.Tokens.{number, text, word, Token, single, comma, opening, closing}
+use Rattle.crs_text.specs.Tokens.{number, text, word, Token, single, comma, opening, closing, IsFormed}
 use Rattle.crs_text.specs.Items.{Item, leaf, node, Items, End, More, tokens, arguments, count, first_of, skip, only, kind_of, raw_of, place_of, IsNode}
 use Rattle.crs_text.specs.Rows.{rows, square_of, close_place}
 use Rattle.crs_text.specs.declared.items.ItemKind.{ItemKind}
@@ -176,18 +175,9 @@ Each P (t ∷ ts) = P t × Each P ts
 abbrev pub AllStand : List ℕ → List Token → Type 0
 AllStand source ts = Each (Stands source) ts
 
--- a number is within the bounds
-abbrev pub IsNumberInBounds : Token → Type 0
-IsNumberInBounds (single number place raw) = IsInBounds raw
-IsNumberInBounds (single text place raw) = Unit {0}
-IsNumberInBounds (single word place raw) = Unit {0}
-IsNumberInBounds comma = Unit {0}
-IsNumberInBounds (opening square) = Unit {0}
-IsNumberInBounds (closing place square) = Unit {0}
-
--- the rows are those of a node whose tokens stand in the source, its numbers within the bounds
+-- the rows are those of a node whose tokens are well formed and stand in the source
 pub record IsTable (source : List ℕ) (table : List Row) (item : Item) : Type 0 where
   pub rows : table ≡ rows 0 item
   pub stand : AllStand source (tokens item)
-  pub numbers : Each IsNumberInBounds (tokens item)
+  pub formed : Each IsFormed (tokens item)
   pub node : IsNode item

@@ -3,6 +3,7 @@ ghost use Rattle.crs_text.specs.Items.{More, End, arguments, count, first_of, re
 ghost use Rattle.crs_text.specs.Table.{no_row};
 ghost use Rattle.crs_text.specs.Rows.{rows, row_of};
 ghost use Rattle.crs_text.specs.Tree.{raw_place};
+ghost use Rattle.crs_text.specs.Written.{AreFormed};
 
 use crate::table::{Row, Table};
 use crs_decimal::Decimal;
@@ -154,6 +155,15 @@ impl<'a> Items<'a> {
         let source = self.source;
         let row = self.row(id);
         part_of(source, raw_place(row.kind, row.place), row.length)
+    }
+
+    /// Each single token and each keyword in the item is well formed: a call that does nothing, and whose
+    /// contract is the law. Profile.
+    pub fn formed(&self, _id: ItemId)
+        requires { HasId self.now _id }
+        ensures { AreFormed (first_of (here self.now _id)) }
+    {
+        let _source = self.source;
     }
 
     /// The value of a number; `None` for other items.

@@ -4,6 +4,7 @@ use denote.Enum.Bare.{sameb, same_true}
 use Rattle.crs_text.specs.Items.{Item, leaf, node, Items, End, More, arguments, count, first_of, rest_of, kind_of, here, HasId, IsAt}
 use Rattle.crs_text.specs.Refusal.{Refused}
 use Rattle.crs_text.specs.Tokens.{Kind, number, text, word}
+use Rattle.crs_text.specs.Written.{AreFormed, AreAllFormed}
 use Rattle.crs_shape.specs.contracts.class.Class.{the_type}
 use Rattle.crs_text.specs.declared.items.ItemKind.TheVariants as kinds
 use Rattle.crs_shape.specs.declared.class.Class.{Class}
@@ -53,12 +54,13 @@ same_class d c e = same_true the_type (search rules) d c e
 class_by : (c : Class) (o : Option Class) (d : Class) → o ≡ Some d → is_class c o ≡ sameb the_type d c
 class_by c o d e = ap (is_class c) e
 
-sound_as : (parent c : Class) (item : Item) (d : Class) → class_in parent item ≡ Some d → Shaped d item →
+sound_as : (parent c : Class) (item : Item) (d : Class) → AreFormed item → class_in parent item ≡ Some d → Shaped d item →
     ((fault : Refused) → ¬ (AtClass (class_in parent item) (λ x. Breaks x item fault))) → is_a parent c item ≡ true → IsSound c item
-sound_as parent c item d named shaped free e =
+sound_as parent c item d formed named shaped free e =
     let same : d ≡ c = same_class d c (sym (class_by c (class_in parent item) d named) ∙ e) in
     let P : Class → Type 0 = λ x. Shaped x item in
     record {
+      formed = formed;
       shaped = subst P same shaped;
       unbroken = λ fault broken.
           let Q : Option Class → Type 0 = λ o. AtClass o (λ x. Breaks x item fault) in
@@ -66,14 +68,14 @@ sound_as parent c item d named shaped free e =
           free fault (subst Q (sym named) (subst R (sym same) broken));
     }
 
-those-sound : (parent c : Class) (ds : List Class) (items : Items) → AreShaped parent ds items → ((fault : Refused) → ¬ (BreaksAmong parent items fault)) →
+those-sound : (parent c : Class) (ds : List Class) (items : Items) → AreAllFormed items → AreShaped parent ds items → ((fault : Refused) → ¬ (BreaksAmong parent items fault)) →
     AllSound c (those parent c items)
-those-sound parent c ds End shaped free = tt
-those-sound parent c [] (More item items) shaped free = absurd shaped
-those-sound parent c (d ∷ ds) (More item items) shaped free =
-    let rest = those-sound parent c ds items shaped.1.1 (λ fault b. free fault (inr b)) in
+those-sound parent c ds End formed shaped free = tt
+those-sound parent c [] (More item items) formed shaped free = absurd shaped
+those-sound parent c (d ∷ ds) (More item items) formed shaped free =
+    let rest = those-sound parent c ds items formed.1 shaped.1.1 (λ fault b. free fault (inr b)) in
     elim (is_a parent c item) as (λ b. is_a parent c item ≡ b → AllSound c (if b then item ∷ those parent c items else those parent c items)) [
-      | true ↦ λ e. (sound_as parent c item d shaped.0 shaped.1.0 (λ fault b. free fault (inl b)) e, rest)
+      | true ↦ λ e. (sound_as parent c item d formed.0 shaped.0 shaped.1.0 (λ fault b. free fault (inl b)) e, rest)
       | false ↦ λ e. rest
     ] refl
 
@@ -81,7 +83,7 @@ pub arguments-sound : (parent c : Class) (item : Item) → IsSound parent item �
 arguments-sound parent c (leaf kind place raw) sound = tt
 arguments-sound parent c (node place keyword square first others close) sound =
     let shape = sound.shaped in
-    those-sound parent c (shape.1.0 ∷ shape.1.1.0) (More first others) (shape.1.1.1.0, (shape.1.1.1.1.0, shape.1.1.1.1.1.0))
+    those-sound parent c (shape.1.0 ∷ shape.1.1.0) (More first others) (sound.formed.1, sound.formed.2) (shape.1.1.1.0, (shape.1.1.1.1.0, shape.1.1.1.1.1.0))
     (λ fault b. sound.unbroken fault (inr b))
 
 -- ---- as many as the slots require

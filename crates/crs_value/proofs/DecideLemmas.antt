@@ -1,219 +1,122 @@
--- Decisions: a fact or its refutation; a value that is read, or none.
-use Rattle.std.proofs.Common.{◌≡◌, ◌≢◌, ◌↔◌, ℕ, zero, suc, ◌+◌, ◌*◌, ◌^◌, ◌<◌, ◌≤◌, ◌⊎◌, inl, inr, Bool, true, false, List, [], ◌∷◌, length, get_or, refl, sym, ◌∙◌, ap, subst, arith, ℤ, pos, negsuc}
-use Rattle.std.specs.Str.{bytes_eq, str_to_ascii_lowercase}
-use Rattle.std.proofs.lemmas.Bool.{cases_eq}
-use Rattle.std.proofs.lemmas.Slice.Eq.{bytes_eq-Decides}
-use Rattle.crs_decimal.specs.Number.{Number, SameNumber, whole_number}
+-- Facts that hold or don't: of numbers, of positions and of kinds of unit.
+use Rattle.std.proofs.Common.{◌≡◌, ℕ, zero, suc, Bool, true, false, inl, inr, ◌⊎◌, List, [], ◌∷◌, refl, sym, ◌∙◌, ap, subst, arith}
+use Rattle.std.specs.Prelude.{◌==◌}
+use Rattle.std.proofs.lemmas.Bool.{eqb-true, eqb-false}
+use Rattle.crs_decimal.specs.Number.{SameNumber, whole_number}
 use Rattle.crs_decimal.specs.Value.{Value, exact}
-use Rattle.crs_value.specs.declared.direction.Direction.{Direction}
 use Rattle.crs_value.specs.declared.system_type.SystemType.{SystemType}
 use Rattle.crs_value.specs.declared.system_type.SystemType.TheVariants as types
 use Rattle.crs_value.specs.declared.unit_kind.UnitKind.{UnitKind}
 use Rattle.crs_value.specs.declared.unit_kind.UnitKind.TheVariants as kinds
-use Rattle.crs_value.specs.Checks.{IsOneOf, IsPosition, IsAboveZero}
-use Rattle.crs_value.specs.Words.{SpellsWord, direction_word, system_word}
-use Rattle.crs_value.proofs.WordLemmas.{directions, direction_place, direction_placed, direction_within}
+use Rattle.crs_value.specs.Checks.{IsPosition, IsOneOf}
+use Rattle.crs_value.specs.Sound.{Each, Suits}
+use Rattle.crs_value.proofs.WordLemmas.{kind_place}
 
-abbrev pub Decided : Type 0 → Type 0
-Decided C = C ⊎ (¬ C)
+-- it holds or it doesn't
+abbrev pub Either : Type 0 → Type 0
+Either P = P ⊎ (P → ⊥)
 
-abbrev pub Known : {V : Type 0} → (V → Type 0) → Type 0
-Known {V = V} R = ((value : V) × R value) ⊎ ((value : V) → ¬ (R value))
+-- what isn't not so is so
+pub stable : (P : Type 0) → Either P → ((P → ⊥) → ⊥) → P
+stable P (inl h) twice = h
+stable P (inr never) twice = absurd (twice never)
 
-pub decided-as : {A B : Type 0} → (A → B) → (B → A) → Decided A → Decided B
-decided-as to back (inl a) = inl (to a)
-decided-as to back (inr fails) = inr (λ b. fails (back b))
+pub both-either : (P Q : Type 0) → Either P → Either Q → Either (P × Q)
+both-either P Q (inl p) (inl q) = inl (p, q)
+both-either P Q (inl p) (inr never) = inr (λ h. never h.1)
+both-either P Q (inr never) q = inr (λ h. never h.0)
 
-pub decided-both : {A B : Type 0} → Decided A → Decided B → Decided (A × B)
-decided-both (inl a) (inl b) = inl (a, b)
-decided-both (inl a) (inr fails) = inr (λ h. fails h.1)
-decided-both (inr fails) b = inr (λ h. fails h.0)
+pub one-either : (P Q : Type 0) → Either P → Either Q → Either (P ⊎ Q)
+one-either P Q (inl p) q = inl (inl p)
+one-either P Q (inr never) (inl q) = inl (inr q)
+one-either P Q (inr never) (inr none) = inr (λ h. elim h [ inl p ↦ never p | inr q ↦ none q ])
 
-pub decided-either : {A B : Type 0} → Decided A → Decided B → Decided (A ⊎ B)
-decided-either (inl a) b = inl (inl a)
-decided-either (inr fails) (inl b) = inl (inr b)
-decided-either {A = A} {B = B} (inr fails) (inr lacks) = inr neither
-  where
-    neither : A ⊎ B → ⊥
-    neither (inl a) = fails a
-    neither (inr b) = lacks b
+pub nat-either : (m n : ℕ) → Either (m ≡ n)
+nat-either m n = elim (m == n) as (λ b. (m == n) ≡ b → Either (m ≡ n)) [
+  | true ↦ λ e. inl (eqb-true m n e)
+  | false ↦ λ e. inr (eqb-false m n e)
+] refl
 
-pub decided-not : {A : Type 0} → Decided A → Decided (¬ A)
-decided-not (inl a) = inr (λ f. f a)
-decided-not (inr fails) = inl fails
+pub nil-either : {A : Type 0} (xs : List A) → Either (xs ≡ [])
+nil-either [] = inl refl
+nil-either (x ∷ xs) = inr (λ e. cc)
 
--- a condition on the one value that is read
-pub decided-some : {V : Type 0} (R C : V → Type 0) → ((a b : V) → R a → R b → a ≡ b) → Known R → ((v : V) → R v → Decided (C v)) → Decided ((v : V) × (R v × C v))
-decided-some R C one (inr none) dec = inr (λ h. none h.0 h.1.0)
-decided-some {V = V} R C one (inl found) dec = by (dec found.0 found.1)
-  where
-    by : Decided (C found.0) → Decided ((v : V) × (R v × C v))
-    by (inl c) = inl (found.0, (found.1, c))
-    by (inr fails) = inr (λ h. fails (subst C (one h.0 found.0 h.1.0 found.1) h.1.1))
+positive-either : (b : Bool) → Either (b ≡ false)
+positive-either true = inr (λ e. cc)
+positive-either false = inl refl
 
--- whether this is the one value that is read
-pub decided-this : {V : Type 0} (R : V → Type 0) (value : V) → ((a b : V) → R a → R b → a ≡ b) → Known R → ((v : V) → Decided (v ≡ value)) → Decided (R value)
-decided-this R value one (inr none) dec = inr (λ h. none value h)
-decided-this {V = V} R value one (inl found) dec = by (dec found.0)
-  where
-    by : Decided (found.0 ≡ value) → Decided (R value)
-    by (inl e) = inl (subst R e found.1)
-    by (inr fails) = inr (λ h. fails (one found.0 value found.1 h))
-
--- ---- words
-
-pub decided-word : (raw name : List ℕ) → Decided (SpellsWord raw name)
-decided-word raw name =
-    elim (bytes_eq (str_to_ascii_lowercase raw) (str_to_ascii_lowercase name)) as (λ b. bytes_eq (str_to_ascii_lowercase raw) (str_to_ascii_lowercase name) ≡ b → Decided (SpellsWord raw name)) [
-      | true ↦ λ e. inl (test.0 e)
-      | false ↦ λ e. inr (λ h. let k : true ≡ false = sym (test.1 h) ∙ e in cc)
-    ] refl
-  where
-    test : (bytes_eq (str_to_ascii_lowercase raw) (str_to_ascii_lowercase name) ≡ true) ↔ SpellsWord raw name
-    test = bytes_eq-Decides (str_to_ascii_lowercase raw) (str_to_ascii_lowercase name)
-
-pub type-known : (raw : List ℕ) → Known (λ t. SpellsWord raw (system_word t))
-type-known raw =
-    by (decided-word raw (system_word types.Cartesian)) (decided-word raw (system_word types.Ellipsoidal)) (decided-word raw (system_word types.Spherical))
-    (decided-word raw (system_word types.Vertical))
-  where
-    Is : SystemType → Type 0
-    Is t = SpellsWord raw (system_word t)
-
-    none : (Is types.Cartesian → ⊥) → (Is types.Ellipsoidal → ⊥) → (Is types.Spherical → ⊥) → (Is types.Vertical → ⊥) → (t : SystemType) → Is t → ⊥
-    none a b c d types.Cartesian h = a h
-    none a b c d types.Ellipsoidal h = b h
-    none a b c d types.Spherical h = c h
-    none a b c d types.Vertical h = d h
-
-    by : Decided (Is types.Cartesian) → Decided (Is types.Ellipsoidal) → Decided (Is types.Spherical) → Decided (Is types.Vertical) → Known Is
-    by (inl a) b c d = inl (types.Cartesian, a)
-    by (inr a) (inl b) c d = inl (types.Ellipsoidal, b)
-    by (inr a) (inr b) (inl c) d = inl (types.Spherical, c)
-    by (inr a) (inr b) (inr c) (inl d) = inl (types.Vertical, d)
-    by (inr a) (inr b) (inr c) (inr d) = inr (none a b c d)
-
-abbrev Among : List ℕ → List Direction → Type 0
-Among raw ds = ((d : Direction) × SpellsWord raw (direction_word d)) ⊎ ((k : ℕ) (d : Direction) → k < length ds → ¬ (SpellsWord raw (direction_word (get_or ds k d))))
-
-more-among : (raw : List ℕ) (d : Direction) (ds : List Direction) → Decided (SpellsWord raw (direction_word d)) → Among raw ds → Among raw (d ∷ ds)
-more-among raw d ds (inl h) rest = inl (d, h)
-more-among raw d ds (inr fails) (inl found) = inl found
-more-among raw d ds (inr fails) (inr none) = inr at
-  where
-    at : (k : ℕ) (e : Direction) → k < length (d ∷ ds) → ¬ (SpellsWord raw (direction_word (get_or (d ∷ ds) k e)))
-    at zero e within h = fails h
-    at (suc k) e within h = none k e (omega arith) h
-
-among : (raw : List ℕ) (ds : List Direction) → Among raw ds
-among raw [] = inr (λ k d within h. absurd (omega arith))
-among raw (d ∷ ds) = more-among raw d ds (decided-word raw (direction_word d)) (among raw ds)
-
-pub direction-known : (raw : List ℕ) → Known (λ d. SpellsWord raw (direction_word d))
-direction-known raw = by (among raw directions)
-  where
-    by : Among raw directions → Known (λ d. SpellsWord raw (direction_word d))
-    by (inl found) = inl found
-    by (inr none) = inr (λ d h.
-        let P : Direction → Type 0 = λ e. SpellsWord raw (direction_word e) in
-        none (direction_place d) d (direction_within d) (subst P (sym (direction_placed d)) h))
-
-pub decided-kind : (a b : UnitKind) → Decided (a ≡ b)
-decided-kind kinds.Length kinds.Length = inl refl
-decided-kind kinds.Length kinds.Angle = inr (λ e. cc)
-decided-kind kinds.Length kinds.Scale = inr (λ e. cc)
-decided-kind kinds.Length kinds.Plain = inr (λ e. cc)
-decided-kind kinds.Angle kinds.Length = inr (λ e. cc)
-decided-kind kinds.Angle kinds.Angle = inl refl
-decided-kind kinds.Angle kinds.Scale = inr (λ e. cc)
-decided-kind kinds.Angle kinds.Plain = inr (λ e. cc)
-decided-kind kinds.Scale kinds.Length = inr (λ e. cc)
-decided-kind kinds.Scale kinds.Angle = inr (λ e. cc)
-decided-kind kinds.Scale kinds.Scale = inl refl
-decided-kind kinds.Scale kinds.Plain = inr (λ e. cc)
-decided-kind kinds.Plain kinds.Length = inr (λ e. cc)
-decided-kind kinds.Plain kinds.Angle = inr (λ e. cc)
-decided-kind kinds.Plain kinds.Scale = inr (λ e. cc)
-decided-kind kinds.Plain kinds.Plain = inl refl
-
-pub decided-kinds : (P : UnitKind → Type 0) → ((k : UnitKind) → Decided (P k)) → Decided ((k : UnitKind) × P k)
-decided-kinds P dec = by (dec kinds.Length) (dec kinds.Angle) (dec kinds.Scale) (dec kinds.Plain)
-  where
-    none : (P kinds.Length → ⊥) → (P kinds.Angle → ⊥) → (P kinds.Scale → ⊥) → (P kinds.Plain → ⊥) → (k : UnitKind) → P k → ⊥
-    none a b c d kinds.Length h = a h
-    none a b c d kinds.Angle h = b h
-    none a b c d kinds.Scale h = c h
-    none a b c d kinds.Plain h = d h
-
-    by : Decided (P kinds.Length) → Decided (P kinds.Angle) → Decided (P kinds.Scale) → Decided (P kinds.Plain) → Decided ((k : UnitKind) × P k)
-    by (inl a) b c d = inl (kinds.Length, a)
-    by (inr a) (inl b) c d = inl (kinds.Angle, b)
-    by (inr a) (inr b) (inl c) d = inl (kinds.Scale, c)
-    by (inr a) (inr b) (inr c) (inl d) = inl (kinds.Plain, d)
-    by (inr a) (inr b) (inr c) (inr d) = inr (λ h. none a b c d h.0 h.1)
-
-pub not-ellipsoidal : (t : SystemType) → Decided (t ≢ types.Ellipsoidal)
-not-ellipsoidal types.Cartesian = inl (λ e. cc)
-not-ellipsoidal types.Ellipsoidal = inr (λ f. f refl)
-not-ellipsoidal types.Spherical = inl (λ e. cc)
-not-ellipsoidal types.Vertical = inl (λ e. cc)
+pub ellipsoidal-either : (system_type : SystemType) → Either (system_type ≡ types.Ellipsoidal)
+ellipsoidal-either types.Cartesian = inr (λ e. cc)
+ellipsoidal-either types.Ellipsoidal = inl refl
+ellipsoidal-either types.Spherical = inr (λ e. cc)
+ellipsoidal-either types.Vertical = inr (λ e. cc)
 
 -- ---- numbers
 
-pub decided-nat : (m n : ℕ) → Decided (m ≡ n)
-decided-nat m n = cases_eq m n
+pub same-either : (value : Value) (n : ℕ) → Either (SameNumber (exact value) (whole_number n))
+same-either value n =
+    both-either _ _ (nat-either _ _) (one-either _ _ (positive-either value.negative) (both-either _ _ (nat-either value.digits 0) (nat-either n 0)))
 
-pub decided-bool : (a b : Bool) → Decided (a ≡ b)
-decided-bool true true = inl refl
-decided-bool true false = inr (λ e. cc)
-decided-bool false true = inr (λ e. cc)
-decided-bool false false = inl refl
+pub one-of-either : (value : Value) (ns : List ℕ) → Either (IsOneOf value ns)
+one-of-either value [] = inr (λ h. absurd h)
+one-of-either value (n ∷ ns) = one-either _ _ (same-either value n) (one-of-either value ns)
 
-pub decided-same : (a b : Number) → Decided (SameNumber a b)
-decided-same a b =
-    decided-both (decided-nat (a.digits * 10 ^ (a.up + b.down)) (b.digits * 10 ^ (b.up + a.down)))
-    (decided-either (decided-bool a.negative b.negative) (decided-both (decided-nat a.digits 0) (decided-nat b.digits 0)))
-
-decided-int : (a b : ℤ) → Decided (a ≡ b)
-decided-int (pos m) (pos n) = decided-as (λ e. ap pos e) (λ e. cc) (decided-nat m n)
-decided-int (pos m) (negsuc n) = inr (λ e. cc)
-decided-int (negsuc m) (pos n) = inr (λ e. cc)
-decided-int (negsuc m) (negsuc n) = decided-as (λ e. ap negsuc e) (λ e. cc) (decided-nat m n)
-
-abbrev value-made : Bool → ℕ → ℤ → Value
-value-made negative digits power = record { negative = negative; digits = digits; power = power }
-
-value-equal : (a b : Bool) (m n : ℕ) (p q : ℤ) → a ≡ b → m ≡ n → p ≡ q → value-made a m p ≡ value-made b n q
-value-equal a b m n p q d e f = cc
-
-pub decided-value : (a b : Value) → Decided (a ≡ b)
-decided-value a b =
-    decided-as (λ h. value-equal a.negative b.negative a.digits b.digits a.power b.power h.0 h.1.0 h.1.1)
-    (λ e. (ap (λ v. v.negative) e, (ap (λ v. v.digits) e, ap (λ v. v.power) e)))
-    (decided-both (decided-bool a.negative b.negative) (decided-both (decided-nat a.digits b.digits) (decided-int a.power b.power)))
-
-pub decided-one-of : (value : Value) (ns : List ℕ) → Decided (IsOneOf value ns)
-decided-one-of value [] = inr (λ h. h)
-decided-one-of value (n ∷ ns) = decided-either (decided-same (exact value) (whole_number n)) (decided-one-of value ns)
-
-position-more : (n : ℕ) (value : Value) → IsPosition n value ⊎ SameNumber (exact value) (whole_number (suc n)) → IsPosition (suc n) value
-position-more n value (inl h) = (h.0, (h.1.0, omega (arith, h.1.1), h.1.2))
-position-more n value (inr h) = (suc n, (omega arith, omega arith, h))
-
-position-less : (n : ℕ) (value : Value) → IsPosition (suc n) value → IsPosition n value ⊎ SameNumber (exact value) (whole_number (suc n))
-position-less n value h = by (cases_eq h.0 (suc n))
+pub position-either : (n : ℕ) (value : Value) → Either (IsPosition n value)
+position-either zero value = inr (λ h. let a = h.1.0 in let b = h.1.1 in absurd (omega (arith, a, b)))
+position-either (suc n) value = elim (same-either value (suc n)) [
+  | inl same ↦ inl (suc n, (omega arith, omega arith, same))
+  | inr never ↦ elim (position-either n value) [
+    | inl h ↦ inl (h.0, (h.1.0, (let b = h.1.1 in omega (arith, b)), h.1.2))
+    | inr none ↦ inr (λ h. last h (nat-either h.0 (suc n)) never none)
+  ]
+]
   where
-    by : (h.0 ≡ suc n) ⊎ (¬ (h.0 ≡ suc n)) → IsPosition n value ⊎ SameNumber (exact value) (whole_number (suc n))
-    by (inl e) = let P : ℕ → Type 0 = λ k. SameNumber (exact value) (whole_number k) in inr (subst P e h.1.2)
-    by (inr fails) = inl (h.0, (h.1.0, less h.0 n fails h.1.1, h.1.2))
-      where
-        less : (k m : ℕ) → ¬ (k ≡ suc m) → k ≤ suc m → k ≤ m
-        less k m ne le = omega arith
+    last : (h : IsPosition (suc n) value) → Either (h.0 ≡ suc n) → (SameNumber (exact value) (whole_number (suc n)) → ⊥) → (IsPosition n value → ⊥) → ⊥
+    last h (inl e) never none = let P : ℕ → Type 0 = λ k. SameNumber (exact value) (whole_number k) in never (subst P e h.1.2)
+    last h (inr other) never none = none (h.0, (h.1.0, (let b = h.1.1 in omega (arith, b, other)), h.1.2))
 
-pub decided-position : (n : ℕ) (value : Value) → Decided (IsPosition n value)
-decided-position zero value = inr (λ h. absurd (omega (arith, h.1.0, h.1.1)))
-decided-position (suc n) value =
-    decided-as (position-more n value) (position-less n value) (decided-either (decided-position n value) (decided-same (exact value) (whole_number (suc n))))
+-- ---- kinds of unit
 
-pub decided-above : (value : Value) → Decided (IsAboveZero value)
-decided-above value = decided-both (decided-bool value.negative false) (decided-not (decided-nat value.digits 0))
+abbrev kind_at : ℕ → UnitKind
+kind_at zero = kinds.Length
+kind_at (suc zero) = kinds.Angle
+kind_at (suc (suc zero)) = kinds.Scale
+kind_at (suc (suc (suc n))) = kinds.Plain
+
+kind-back : (kind : UnitKind) → kind_at (kind_place kind) ≡ kind
+kind-back kinds.Length = refl
+kind-back kinds.Angle = refl
+kind-back kinds.Scale = refl
+kind-back kinds.Plain = refl
+
+pub kind-either : (j k : UnitKind) → Either (j ≡ k)
+kind-either j k = elim (nat-either (kind_place j) (kind_place k)) [
+  | inl e ↦ inl (sym (kind-back j) ∙ ap kind_at e ∙ kind-back k)
+  | inr never ↦ inr (λ e. never (ap kind_place e))
+]
+
+pub suits-either : (asked kind : UnitKind) → Either (Suits asked kind)
+suits-either asked kind = one-either _ _ (kind-either kind asked) (kind-either kind kinds.Plain)
+
+pub each-either : {V : Type 0} (P : V → Type 0) → ((value : V) → Either (P value)) → (values : List V) → Either (Each P values)
+each-either P either [] = inl tt
+each-either P either (value ∷ values) = both-either _ _ (either value) (each-either P either values)
+
+-- some kind of unit is so, or none is
+pub some-kind : (P : UnitKind → Type 0) → ((kind : UnitKind) → Either (P kind)) → Either ((kind : UnitKind) × P kind)
+some-kind P either = elim (either kinds.Length) [
+  | inl h ↦ inl (kinds.Length, h)
+  | inr a ↦ elim (either kinds.Angle) [
+    | inl h ↦ inl (kinds.Angle, h)
+    | inr b ↦ elim (either kinds.Scale) [
+      | inl h ↦ inl (kinds.Scale, h)
+      | inr c ↦ elim (either kinds.Plain) [ inl h ↦ inl (kinds.Plain, h) | inr d ↦ inr (λ some. none some.0 a b c d some.1) ]
+    ]
+  ]
+]
+  where
+    none : (kind : UnitKind) → (P kinds.Length → ⊥) → (P kinds.Angle → ⊥) → (P kinds.Scale → ⊥) → (P kinds.Plain → ⊥) → P kind → ⊥
+    none kinds.Length a b c d h = a h
+    none kinds.Angle a b c d h = b h
+    none kinds.Scale a b c d h = c h
+    none kinds.Plain a b c d h = d h

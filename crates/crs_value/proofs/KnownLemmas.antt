@@ -33,7 +33,7 @@ known-type (node place keyword square first others close) w more sound e none =
     let P : List Item → Type 0 = λ xs. AnyOf UnknownType xs (at 21 w) in
     sound.unbroken (at 21 w) (inl (subst P (sym e) (inl (refl, none))))
 
-abbrev NoneOf : List (List ℕ) → List ℕ → Type 0
+abbrev pub NoneOf : List (List ℕ) → List ℕ → Type 0
 NoneOf [] raw = Unit {0}
 NoneOf (w ∷ ws) raw = ¬ (SpellsWord raw w) × NoneOf ws raw
 
@@ -44,7 +44,7 @@ or-cases false b e other = e
 spelled : (w raw : List ℕ) → str_eq_ignore_ascii_case w raw ≡ true → SpellsWord raw w
 spelled w raw e = sym ((bytes_eq-Decides (str_to_ascii_lowercase w) (str_to_ascii_lowercase raw)).0 e)
 
-none-of : (ws : List (List ℕ)) (raw : List ℕ) → NoneOf ws raw → is_one_of ws raw ≡ true → ⊥
+pub none-of : (ws : List (List ℕ)) (raw : List ℕ) → NoneOf ws raw → is_one_of ws raw ≡ true → ⊥
 none-of [] raw none e = cc
 none-of (w ∷ ws) raw none e =
     none-of ws raw none.1 (or-cases (str_eq_ignore_ascii_case w raw) (is_one_of ws raw) e (λ f. none.0 (spelled w raw f)))
@@ -57,7 +57,7 @@ unit-words class.PlainUnit raw is none = (none kinds.Plain, tt)
 unit-words class.AxisUnit raw is none = (none kinds.Length, (none kinds.Angle, (none kinds.Plain, tt)))
 unit-words other raw is none = absurd is
 
-unit-no-leaf : (c : Class) (kind : Kind) (place : ℕ) (raw : List ℕ) → IsUnitClass c → Shaped c (leaf kind place raw) → ⊥
+pub unit-no-leaf : (c : Class) (kind : Kind) (place : ℕ) (raw : List ℕ) → IsUnitClass c → Shaped c (leaf kind place raw) → ⊥
 unit-no-leaf class.LengthUnit number place raw is shaped = cc
 unit-no-leaf class.LengthUnit text place raw is shaped = cc
 unit-no-leaf class.LengthUnit word place raw is shaped = cc

@@ -21,8 +21,17 @@ pub mod ReadyLemmas
 pub mod SomeCrsLemmas
 pub mod SomeLeastLemmas
 pub mod SomeValueLemmas
+pub mod SoundAxisLemmas
+pub mod SoundCompoundLemmas
+pub mod SoundConversionLemmas
+pub mod SoundCrsLemmas
+pub mod SoundFrameLemmas
+pub mod SoundLemmas
+pub mod SoundSystemLemmas
+pub mod SoundUsageLemmas
 pub mod SpellsLemmas
 pub mod SystemLemmas
 pub mod TextLemmas
 pub mod UnitLemmas
+pub mod WhetherLemmas
 pub mod WordLemmas

@@ -13,7 +13,7 @@ use Rattle.crs_value.specs.Found.{AllShaped}
 use Rattle.crs_value.specs.Reading.{is_a, those, ReadsFirst}
 use Rattle.crs_value.specs.Reads.{ReadsNumber}
 use Rattle.crs_value.proofs.ArgumentLemmas.{arguments-shaped, shaped-number}
-use Rattle.crs_value.proofs.DecideLemmas.{Known}
+use Rattle.crs_value.proofs.WhetherLemmas.{Known}
 
 abbrev pub Numbers : Type 0
 Numbers = (bytes : List ℕ) → IsInBounds bytes → (v : Value) × (IsNormal v × Denotes bytes (exact v))

@@ -19,7 +19,7 @@ use Rattle.crs_value.specs.Reading.{those, ReadsFirst}
 use Rattle.crs_value.specs.Reads.{ReadsNumber, ReadsType, ReadsDirection}
 use Rattle.crs_value.specs.Words.{unit_word}
 use Rattle.crs_value.proofs.CheckLemmas.{DenotesOne, number-one}
-use Rattle.crs_value.proofs.DecideLemmas.{Decided, Known, decided-as, decided-both, decided-either, decided-not, decided-some, decided-this, decided-word, type-known, direction-known, decided-kind, decided-kinds, not-ellipsoidal, decided-bool, decided-same, decided-value, decided-one-of, decided-position, decided-above}
+use Rattle.crs_value.proofs.WhetherLemmas.{Decided, Known, decided-as, decided-both, decided-either, decided-not, decided-some, decided-this, decided-word, type-known, direction-known, decided-kind, decided-kinds, not-ellipsoidal, decided-bool, decided-same, decided-value, decided-one-of, decided-position, decided-above}
 use Rattle.crs_value.proofs.LeastLemmas.{least-same, least-either, least-one, least-not, least-is}
 use Rattle.crs_value.proofs.ReadyLemmas.{Numbers, Ready, AllReady, those-ready, append-ready, drop-ready, number-some, first-known}
 use Rattle.crs_value.proofs.SystemLemmas.{first-one, type-is-one, dimension-is-one}

@@ -4,6 +4,7 @@ use Rattle.crs_decimal.specs.Number.{SameNumber, whole_number}
 use Rattle.crs_decimal.specs.Value.{Value, exact}
 use Rattle.crs_text.specs.Items.{Item, leaf, node, Items, End, More, arguments, place_of}
 use Rattle.crs_text.specs.Refusal.{Refused}
+use Rattle.crs_text.specs.Written.{AreFormed}
 use Rattle.crs_shape.specs.declared.class.Class.{Class}
 use Rattle.crs_shape.specs.declared.class.Class.TheVariants as class
 use Rattle.crs_shape.specs.ShapeFault.{class_in}
@@ -340,8 +341,9 @@ abbrev mutual
   BreaksAmong c End fault = ⊥
   BreaksAmong c (More item items) fault = AtClass (class_in c item) (λ d. Breaks d item fault) ⊎ BreaksAmong c items fault
 
--- an item of the shape of its class that breaks no check
+-- a well-formed item of the shape of its class that breaks no check
 pub record IsSound (c : Class) (item : Item) : Type 0 where
+  pub formed : AreFormed item
   pub shaped : Shaped c item
   pub unbroken : (fault : Refused) → ¬ (Breaks c item fault)
 

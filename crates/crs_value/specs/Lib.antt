@@ -8,6 +8,14 @@ pub mod Reading
 pub mod Reads
 pub mod ReadsConversion
 pub mod ReadsCrs
+pub mod Sound
+pub mod SoundCompound
+pub mod SoundConversion
+pub mod SoundCrs
+pub mod SoundFrames
+pub mod SoundSingle
+pub mod SoundSystem
+pub mod SoundUsages
 pub mod Spells
 pub mod SpellsText
 pub mod Values

@@ -34,6 +34,7 @@ pub struct Axis<'a> {
 }
 
 impl<'a> Model for Axis<'a> {
+    ghost use Rattle.crs_value.specs.Sound.{IsAxis};
     ghost use Rattle.crs_value.specs.Values.{AxisParts};
 
     ghost Value = { AxisParts };
@@ -46,6 +47,15 @@ impl<'a> Model for Axis<'a> {
       unit = a.unit;
       ids = a.ids;
     } };
+
+    ghost invariant = { λ a. IsAxis (record {
+      name = a.name.now;
+      direction = a.direction;
+      meridian = a.meridian;
+      order = a.order;
+      unit = a.unit;
+      ids = a.ids;
+    }) };
 }
 
 /// The meridian of an axis at a pole, `MERIDIAN[longitude, unit]`.
@@ -59,11 +69,14 @@ pub struct AxisMeridian<'a> {
 }
 
 impl<'a> Model for AxisMeridian<'a> {
+    ghost use Rattle.crs_value.specs.Sound.{IsAxisMeridian};
     ghost use Rattle.crs_value.specs.Values.{AxisMeridianParts};
 
     ghost Value = { AxisMeridianParts };
 
     ghost view = { λ m. record { longitude = m.longitude; unit = m.unit } };
+
+    ghost invariant = { λ m. IsAxisMeridian (record { longitude = m.longitude; unit = m.unit }) };
 }
 
 impl<'a> Node<'a> for AxisMeridian<'a> {

@@ -43,15 +43,18 @@ pub struct Compound<'a> {
 
 impl<'a> Model for Compound<'a> {
     ghost use Rattle.crs_value.specs.CompoundValues.{CompoundParts};
+    ghost use Rattle.crs_value.specs.SoundCompound.{IsCompound};
 
     ghost Value = { CompoundParts };
 
-    ghost view = { λ c. record {
+    ghost view = { λ c. record { name = c.name.now; horizontal = c.horizontal; vertical = c.vertical; tail = c.tail } };
+
+    ghost invariant = { λ c. IsCompound (record {
       name = c.name.now;
       horizontal = c.horizontal;
       vertical = c.vertical;
       tail = c.tail;
-    } };
+    }) };
 }
 
 // The horizontal part of a compound CRS.
@@ -95,6 +98,7 @@ impl<'a> Node<'a> for Compound<'a> {
         id: ItemId,
         class: Class,
     ) -> Result<Self, AllocError> {
+        slots_count();
         Ok(Compound {
             name: text(items, id, class),
             horizontal: read_horizontal(alloc, items, id)?,

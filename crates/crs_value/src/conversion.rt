@@ -32,10 +32,18 @@ pub struct Conversion<'a> {
 
 impl<'a> Model for Conversion<'a> {
     ghost use Rattle.crs_value.specs.ConversionValues.{ConversionParts};
+    ghost use Rattle.crs_value.specs.SoundConversion.{IsConversion};
 
     ghost Value = { ConversionParts };
 
     ghost view = { λ c. record { name = c.name.now; method = c.method; parameters = c.parameters; ids = c.ids } };
+
+    ghost invariant = { λ c. IsConversion (record {
+      name = c.name.now;
+      method = c.method;
+      parameters = c.parameters;
+      ids = c.ids;
+    }) };
 }
 
 /// The method of a conversion, `METHOD[name, id..]`.
@@ -50,10 +58,13 @@ pub struct Method<'a> {
 
 impl<'a> Model for Method<'a> {
     ghost use Rattle.crs_value.specs.ConversionValues.{MethodParts};
+    ghost use Rattle.crs_value.specs.SoundConversion.{IsMethod};
 
     ghost Value = { MethodParts };
 
     ghost view = { λ m. record { name = m.name.now; ids = m.ids } };
+
+    ghost invariant = { λ m. IsMethod (record { name = m.name.now; ids = m.ids }) };
 }
 
 /// A parameter of a conversion, `PARAMETER[name, value, (unit), id..]`.
@@ -72,10 +83,13 @@ pub struct Parameter<'a> {
 
 impl<'a> Model for Parameter<'a> {
     ghost use Rattle.crs_value.specs.ConversionValues.{ParameterParts};
+    ghost use Rattle.crs_value.specs.SoundConversion.{IsParameter};
 
     ghost Value = { ParameterParts };
 
     ghost view = { λ p. record { name = p.name.now; value = p.value; unit = p.unit; ids = p.ids } };
+
+    ghost invariant = { λ p. IsParameter (record { name = p.name.now; value = p.value; unit = p.unit; ids = p.ids }) };
 }
 
 const PARAMETER_UNITS: [Class; 4] = [

@@ -29,10 +29,19 @@ pub struct Geodetic<'a> {
 
 impl<'a> Model for Geodetic<'a> {
     ghost use Rattle.crs_value.specs.CrsValues.{GeodeticParts};
+    ghost use Rattle.crs_value.specs.SoundSingle.{IsGeodetic};
 
     ghost Value = { GeodeticParts };
 
     ghost view = { λ g. record { name = g.name.now; frame = g.frame; meridian = g.meridian; system = g.system; tail = g.tail } };
+
+    ghost invariant = { λ g. IsGeodetic (record {
+      name = g.name.now;
+      frame = g.frame;
+      meridian = g.meridian;
+      system = g.system;
+      tail = g.tail;
+    }) };
 }
 
 /// A coordinate reference system. ISO 19162:2019, "Coordinate reference systems".

@@ -27,7 +27,8 @@ fn read_frame<'a>(
     requires sound { IsSound class (item_at items.now id) }
     requires there { RequiresOneOf class (frame ∷ ensemble ∷ []) }
     requires frame { Requires frame Class.Text 0 }
-    requires ensemble { Requires ensemble Class.Text 0 × Requires ensemble Class.EnsembleAccuracy 0 }
+    requires ensemble { Requires ensemble Class.Text 0 × Requires ensemble Class.Member 0
+        × Requires ensemble Class.EnsembleAccuracy 0 }
     ensures { IfOk result (λ value. ReadsFrame frame ensemble class (item_at items.now id) value) }
 {
     slots_count();

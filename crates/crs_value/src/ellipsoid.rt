@@ -27,6 +27,7 @@ pub struct Ellipsoid<'a> {
 }
 
 impl<'a> Model for Ellipsoid<'a> {
+    ghost use Rattle.crs_value.specs.SoundFrames.{IsEllipsoid};
     ghost use Rattle.crs_value.specs.Values.{EllipsoidParts};
 
     ghost Value = { EllipsoidParts };
@@ -38,15 +39,22 @@ impl<'a> Model for Ellipsoid<'a> {
       unit = e.unit;
       ids = e.ids;
     } };
+
+    ghost invariant = { λ e. IsEllipsoid (record {
+      name = e.name.now;
+      semi_major_axis = e.semi_major_axis;
+      inverse_flattening = e.inverse_flattening;
+      unit = e.unit;
+      ids = e.ids;
+    }) };
 }
 
 impl<'a> Node<'a> for Ellipsoid<'a> {
     ghost use Rattle.std.specs.Prelude.{◌≡◌};
     ghost use Rattle.crs_shape.specs.declared.class.Class.TheVariants as classes;
-    ghost use Rattle.crs_value.specs.Reading.{Requires};
     ghost use Rattle.crs_value.specs.Reads.{ReadsEllipsoid};
 
-    ghost Suits = { λ c. Requires c classes.Text 0 × Requires c classes.Number 1 };
+    ghost Suits = { λ c. c ≡ classes.Ellipsoid };
 
     ghost Reads = { λ c item parts. ReadsEllipsoid c item parts };
 

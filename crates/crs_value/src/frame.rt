@@ -6,6 +6,7 @@ use crate::list::List;
 use crate::node::{Node, many, one_number, optional, optional_text, text};
 use crs_decimal::Decimal;
 use crs_shape::Class;
+use crs_shape::laws::slots_count;
 use crs_text::{ItemId, Items};
 use std::alloc::{AllocError, Global};
 use std::marker::Model;
@@ -35,11 +36,19 @@ pub struct Datum<'a> {
 
 impl<'a> Model for Datum<'a> {
     ghost use Rattle.std.specs.Option.{option_copied};
+    ghost use Rattle.crs_value.specs.SoundFrames.{IsDatum};
     ghost use Rattle.crs_value.specs.Values.{DatumParts};
 
     ghost Value = { DatumParts };
 
     ghost view = { λ d. record { name = d.name.now; ellipsoid = d.ellipsoid; anchor = option_copied d.anchor; ids = d.ids } };
+
+    ghost invariant = { λ d. IsDatum (record {
+      name = d.name.now;
+      ellipsoid = d.ellipsoid;
+      anchor = option_copied d.anchor;
+      ids = d.ids;
+    }) };
 }
 
 /// A datum ensemble, `ENSEMBLE[name, member.., ellipsoid, accuracy, id..]`; one of vertical frames has
@@ -59,6 +68,7 @@ pub struct Ensemble<'a> {
 }
 
 impl<'a> Model for Ensemble<'a> {
+    ghost use Rattle.crs_value.specs.SoundFrames.{IsEnsemble};
     ghost use Rattle.crs_value.specs.Values.{EnsembleParts};
 
     ghost Value = { EnsembleParts };
@@ -70,6 +80,14 @@ impl<'a> Model for Ensemble<'a> {
       accuracy = e.accuracy;
       ids = e.ids;
     } };
+
+    ghost invariant = { λ e. IsEnsemble (record {
+      name = e.name.now;
+      members = e.members;
+      ellipsoid = e.ellipsoid;
+      accuracy = e.accuracy;
+      ids = e.ids;
+    }) };
 }
 
 /// A member of a datum ensemble, `MEMBER[name, id..]`. ISO 19162:2019, "Datum ensemble".
@@ -82,11 +100,14 @@ pub struct Member<'a> {
 }
 
 impl<'a> Model for Member<'a> {
+    ghost use Rattle.crs_value.specs.SoundFrames.{IsMember};
     ghost use Rattle.crs_value.specs.Values.{MemberParts};
 
     ghost Value = { MemberParts };
 
     ghost view = { λ m. record { name = m.name.now; ids = m.ids } };
+
+    ghost invariant = { λ m. IsMember (record { name = m.name.now; ids = m.ids }) };
 }
 
 impl<'a> Node<'a> for Datum<'a> {
@@ -120,7 +141,8 @@ impl<'a> Node<'a> for Ensemble<'a> {
     ghost use Rattle.crs_value.specs.Reading.{Requires};
     ghost use Rattle.crs_value.specs.Reads.{ReadsEnsemble};
 
-    ghost Suits = { λ c. Requires c classes.Text 0 × Requires c classes.EnsembleAccuracy 0 };
+    ghost Suits = { λ c. Requires c classes.Text 0 × Requires c classes.Member 0
+        × Requires c classes.EnsembleAccuracy 0 };
 
     ghost Reads = { λ c item parts. ReadsEnsemble c item parts };
 
@@ -130,6 +152,7 @@ impl<'a> Node<'a> for Ensemble<'a> {
         id: ItemId,
         class: Class,
     ) -> Result<Self, AllocError> {
+        slots_count();
         Ok(Ensemble {
             name: text(items, id, class),
             members: many(alloc, items, id, class, Class::Member)?,

@@ -11,6 +11,7 @@ use crate::node::{Node, optional, text};
 use crate::system::read_system;
 use crate::usage::Tail;
 use crs_shape::Class;
+use crs_shape::laws::slots_count;
 use crs_text::{ItemId, Items};
 use std::alloc::{AllocError, Global};
 
@@ -26,6 +27,7 @@ pub(crate) fn read_geodetic<'a>(
     requires class { IsGeodeticClass class }
     ensures { IfOk result (λ value. ReadsGeodetic class (item_at items.now id) value) }
 {
+    slots_count();
     Ok(Geodetic {
         name: text(items, id, class),
         frame: geodetic_frame(alloc, items, id, class)?,

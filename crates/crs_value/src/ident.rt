@@ -30,6 +30,7 @@ pub struct Ident<'a> {
 
 impl<'a> Model for Ident<'a> {
     ghost use Rattle.std.specs.Option.{option_copied};
+    ghost use Rattle.crs_value.specs.Sound.{IsIdent};
     ghost use Rattle.crs_value.specs.Values.{IdentParts};
 
     ghost Value = { IdentParts };
@@ -41,6 +42,14 @@ impl<'a> Model for Ident<'a> {
       citation = option_copied i.citation;
       uri = option_copied i.uri;
     } };
+
+    ghost invariant = { λ i. IsIdent (record {
+      authority = i.authority.now;
+      code = i.code.now;
+      version = option_copied i.version;
+      citation = option_copied i.citation;
+      uri = option_copied i.uri;
+    }) };
 }
 
 // What stands at this place among the arguments, if that is no node.

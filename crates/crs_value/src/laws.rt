@@ -2,10 +2,13 @@
 ghost use Rattle.std.specs.Prelude.{◌≡◌, ◌≤◌, ◌⊎◌, ℕ, List, length};
 ghost use Rattle.crs_text.specs.Items.{Item};
 ghost use Rattle.crs_text.specs.Refusal.{Refused};
+ghost use Rattle.crs_text.specs.Written.{AreFormed};
 ghost use Rattle.crs_value.specs.declared.crs.Crs.{Crs};
+ghost use Rattle.crs_value.specs.SoundCrs.{IsCrs};
 ghost use Rattle.crs_value.specs.Spells.{SpellsCrs, RefusesCrs};
 ghost use Rattle.crs_value.specs.SpellsText.{Spells, Refuses, IsRefusal};
 
+use crate::crs::Crs;
 use crs_decimal::laws::{denotes_one, denotes_some};
 use crs_shape::laws::{fault_at_root_is_one, no_fault_is_shape, slots_count};
 
@@ -52,4 +55,33 @@ pub fn one_answer()
     fault_at_root_is_one();
     no_fault_is_shape();
     slots_count();
+}
+
+/// A value that a well-formed item spells is all that is asked of a CRS: its texts are well formed, its
+/// decimals are in their normal form and within their bounds, its axes and units fit. Profile.
+pub fn spelled_is_sound()
+    ensures { (item : Item) (value : Crs) → AreFormed item → SpellsCrs item value → IsCrs value }
+{
+    no_fault_is_shape();
+    slots_count();
+}
+
+/// So is every CRS, whoever made it. Profile.
+pub fn crs_is_sound(crs: &Crs<'_>)
+    ensures { IsCrs crs.now }
+{
+    match crs {
+        Crs::Geodetic(geodetic) => {
+            let _name = geodetic.name;
+        }
+        Crs::Projected(projected) => {
+            let _name = projected.name;
+        }
+        Crs::Vertical(vertical) => {
+            let _name = vertical.name;
+        }
+        Crs::Compound(compound) => {
+            let _name = compound.name;
+        }
+    }
 }

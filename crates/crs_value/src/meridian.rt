@@ -25,11 +25,19 @@ pub struct Meridian<'a> {
 }
 
 impl<'a> Model for Meridian<'a> {
+    ghost use Rattle.crs_value.specs.SoundFrames.{IsMeridian};
     ghost use Rattle.crs_value.specs.Values.{MeridianParts};
 
     ghost Value = { MeridianParts };
 
     ghost view = { λ m. record { name = m.name.now; longitude = m.longitude; unit = m.unit; ids = m.ids } };
+
+    ghost invariant = { λ m. IsMeridian (record {
+      name = m.name.now;
+      longitude = m.longitude;
+      unit = m.unit;
+      ids = m.ids;
+    }) };
 }
 
 impl<'a> Node<'a> for Meridian<'a> {

@@ -11,6 +11,7 @@ use crate::system::{System, read_system};
 use crate::unit::Unit;
 use crate::usage::Tail;
 use crs_shape::Class;
+use crs_shape::laws::slots_count;
 use crs_text::{ItemId, Items};
 use std::alloc::{AllocError, Global};
 use std::marker::Model;
@@ -33,16 +34,19 @@ pub struct Projected<'a> {
 
 impl<'a> Model for Projected<'a> {
     ghost use Rattle.crs_value.specs.CrsValues.{ProjectedParts};
+    ghost use Rattle.crs_value.specs.SoundSingle.{IsProjected};
 
     ghost Value = { ProjectedParts };
 
-    ghost view = { λ p. record {
+    ghost view = { λ p. record { name = p.name.now; base = p.base; conversion = p.conversion; system = p.system; tail = p.tail } };
+
+    ghost invariant = { λ p. IsProjected (record {
       name = p.name.now;
       base = p.base;
       conversion = p.conversion;
       system = p.system;
       tail = p.tail;
-    } };
+    }) };
 }
 
 /// The base of a projected CRS, `BASEGEOGCRS[name, frame, (meridian), (unit), id..]` or with
@@ -63,16 +67,19 @@ pub struct Base<'a> {
 
 impl<'a> Model for Base<'a> {
     ghost use Rattle.crs_value.specs.CrsValues.{BaseParts};
+    ghost use Rattle.crs_value.specs.SoundSingle.{IsBase};
 
     ghost Value = { BaseParts };
 
-    ghost view = { λ b. record {
+    ghost view = { λ b. record { name = b.name.now; frame = b.frame; meridian = b.meridian; unit = b.unit; ids = b.ids } };
+
+    ghost invariant = { λ b. IsBase (record {
       name = b.name.now;
       frame = b.frame;
       meridian = b.meridian;
       unit = b.unit;
       ids = b.ids;
-    } };
+    }) };
 }
 
 impl<'a> Node<'a> for Projected<'a> {
@@ -90,6 +97,7 @@ impl<'a> Node<'a> for Projected<'a> {
         id: ItemId,
         class: Class,
     ) -> Result<Self, AllocError> {
+        slots_count();
         Ok(Projected {
             name: text(items, id, class),
             base: one(alloc, items, id, class, Class::BaseCrs)?,
@@ -115,6 +123,7 @@ impl<'a> Node<'a> for Base<'a> {
         id: ItemId,
         class: Class,
     ) -> Result<Self, AllocError> {
+        slots_count();
         Ok(Base {
             name: text(items, id, class),
             frame: geodetic_frame(alloc, items, id, class)?,

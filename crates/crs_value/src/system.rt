@@ -1,7 +1,7 @@
 //! Coordinate systems.
 ghost use Rattle.std.specs.Prelude.{IfOk};
 ghost use Rattle.crs_text.specs.Items.{HasId, arguments};
-ghost use Rattle.crs_value.specs.Checks.{IsSound};
+ghost use Rattle.crs_value.specs.Checks.{IsSound, HasSystem};
 ghost use Rattle.crs_value.specs.Reading.{item_at, those, Requires, ReadsFirst};
 ghost use Rattle.crs_value.specs.Reads.{ReadsType, ReadsSystem};
 
@@ -13,6 +13,7 @@ use crate::system_type::SystemType;
 use crate::unit::Unit;
 use crs_decimal::Decimal;
 use crs_shape::Class;
+use crs_shape::laws::slots_count;
 use crs_text::{ItemId, Items};
 use std::alloc::{AllocError, Global};
 use std::marker::Model;
@@ -34,6 +35,7 @@ pub struct System<'a> {
 }
 
 impl<'a> Model for System<'a> {
+    ghost use Rattle.crs_value.specs.SoundSystem.{IsSystem};
     ghost use Rattle.crs_value.specs.Values.{SystemParts};
 
     ghost Value = { SystemParts };
@@ -45,6 +47,14 @@ impl<'a> Model for System<'a> {
       axes = s.axes;
       unit = s.unit;
     } };
+
+    ghost invariant = { λ s. IsSystem (record {
+      system_type = s.system_type;
+      dimension = s.dimension;
+      ids = s.ids;
+      axes = s.axes;
+      unit = s.unit;
+    }) };
 }
 
 fn system_type(items: &Items<'_>, id: ItemId) -> SystemType
@@ -69,9 +79,11 @@ pub(crate) fn read_system<'a>(
 ) -> Result<System<'a>, AllocError>
     requires has { HasId items.now id }
     requires sound { IsSound class (item_at items.now id) }
-    requires there { Requires class Class.CoordinateSystem 0 }
+    requires system { HasSystem class }
+    requires there { Requires class Class.CoordinateSystem 0 × Requires class Class.Axis 0 }
     ensures { IfOk result (λ system. ReadsSystem class (item_at items.now id) system) }
 {
+    slots_count();
     let head = required(items, id, class, Class::CoordinateSystem);
     Ok(System {
         system_type: system_type(items, head),

@@ -29,11 +29,14 @@ pub struct Unit<'a> {
 }
 
 impl<'a> Model for Unit<'a> {
+    ghost use Rattle.crs_value.specs.Sound.{IsUnit};
     ghost use Rattle.crs_value.specs.Values.{UnitParts};
 
     ghost Value = { UnitParts };
 
     ghost view = { λ u. record { kind = u.kind; name = u.name.now; factor = u.factor; ids = u.ids } };
+
+    ghost invariant = { λ u. IsUnit (record { kind = u.kind; name = u.name.now; factor = u.factor; ids = u.ids }) };
 }
 
 fn kind(items: &Items<'_>, id: ItemId, class: Class) -> UnitKind

@@ -6,6 +6,7 @@ use crate::node::{Node, many, number_at, optional, optional_text};
 use crate::unit::Unit;
 use crs_decimal::Decimal;
 use crs_shape::Class;
+use crs_shape::laws::slots_count;
 use crs_text::{ItemId, Items};
 use std::alloc::{AllocError, Global};
 use std::marker::Model;
@@ -26,11 +27,19 @@ pub struct Usage<'a> {
 
 impl<'a> Model for Usage<'a> {
     ghost use Rattle.std.specs.Option.{option_copied};
+    ghost use Rattle.crs_value.specs.SoundUsages.{IsUsage};
     ghost use Rattle.crs_value.specs.Values.{UsageParts};
 
     ghost Value = { UsageParts };
 
     ghost view = { λ u. record { scope = option_copied u.scope; area = option_copied u.area; bbox = u.bbox; extent = u.extent } };
+
+    ghost invariant = { λ u. IsUsage (record {
+      scope = option_copied u.scope;
+      area = option_copied u.area;
+      bbox = u.bbox;
+      extent = u.extent;
+    }) };
 }
 
 /// A box, `BBOX[south, west, north, east]`, in degrees. ISO 19162:2019, "Geographic bounding box".
@@ -47,11 +56,19 @@ pub struct BoundingBox {
 }
 
 impl Model for BoundingBox {
+    ghost use Rattle.crs_value.specs.SoundUsages.{IsBox};
     ghost use Rattle.crs_value.specs.Values.{BoxParts};
 
     ghost Value = { BoxParts };
 
     ghost view = { λ b. record { south = b.south; west = b.west; north = b.north; east = b.east } };
+
+    ghost invariant = { λ b. IsBox (record {
+      south = b.south;
+      west = b.west;
+      north = b.north;
+      east = b.east;
+    }) };
 }
 
 /// An extent in height, `VERTICALEXTENT[minimum, maximum, (unit)]`.
@@ -67,11 +84,14 @@ pub struct Extent<'a> {
 }
 
 impl<'a> Model for Extent<'a> {
+    ghost use Rattle.crs_value.specs.SoundUsages.{IsExtent};
     ghost use Rattle.crs_value.specs.Values.{ExtentParts};
 
     ghost Value = { ExtentParts };
 
     ghost view = { λ e. record { minimum = e.minimum; maximum = e.maximum; unit = e.unit } };
+
+    ghost invariant = { λ e. IsExtent (record { minimum = e.minimum; maximum = e.maximum; unit = e.unit }) };
 }
 
 /// A CRS's end: usages, bare parts of one, identifiers and a remark, in any order.
@@ -90,11 +110,19 @@ pub struct Tail<'a> {
 
 impl<'a> Model for Tail<'a> {
     ghost use Rattle.std.specs.Option.{option_copied};
+    ghost use Rattle.crs_value.specs.SoundUsages.{IsTail};
     ghost use Rattle.crs_value.specs.Values.{TailParts};
 
     ghost Value = { TailParts };
 
     ghost view = { λ t. record { usages = t.usages; bare = t.bare; ids = t.ids; remark = option_copied t.remark } };
+
+    ghost invariant = { λ t. IsTail (record {
+      usages = t.usages;
+      bare = t.bare;
+      ids = t.ids;
+      remark = option_copied t.remark;
+    }) };
 }
 
 impl<'a> Node<'a> for BoundingBox {
@@ -189,6 +217,7 @@ impl<'a> Node<'a> for Tail<'a> {
         id: ItemId,
         class: Class,
     ) -> Result<Self, AllocError> {
+        slots_count();
         Ok(Tail {
             usages: many(alloc, items, id, class, Class::Usage)?,
             bare: Usage::read(alloc, items, id, class)?,

@@ -22,6 +22,7 @@ pub fn value_of<'a>(alloc: Global, items: &Items<'a>) -> Result<Crs<'a>, Fault>
 {
     no_fault_is_shape();
     let root = items.root();
+    items.formed(root);
     let class = match fit_root(items) {
         Ok(class) => class,
         Err(refusal) => return Err(Fault::Refused(refusal)),

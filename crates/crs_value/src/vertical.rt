@@ -8,6 +8,7 @@ use crate::node::{Node, many, text};
 use crate::system::{System, read_system};
 use crate::usage::Tail;
 use crs_shape::Class;
+use crs_shape::laws::slots_count;
 use crs_text::{ItemId, Items};
 use std::alloc::{AllocError, Global};
 use std::marker::Model;
@@ -30,6 +31,7 @@ pub struct Vertical<'a> {
 
 impl<'a> Model for Vertical<'a> {
     ghost use Rattle.crs_value.specs.CrsValues.{VerticalParts};
+    ghost use Rattle.crs_value.specs.SoundSingle.{IsVertical};
 
     ghost Value = { VerticalParts };
 
@@ -40,6 +42,14 @@ impl<'a> Model for Vertical<'a> {
       geoid_models = v.geoid_models;
       tail = v.tail;
     } };
+
+    ghost invariant = { λ v. IsVertical (record {
+      name = v.name.now;
+      frame = v.frame;
+      system = v.system;
+      geoid_models = v.geoid_models;
+      tail = v.tail;
+    }) };
 }
 
 /// A geoid model, `GEOIDMODEL[name, id..]`. ISO 19162:2019, "Vertical CRS".
@@ -53,10 +63,13 @@ pub struct GeoidModel<'a> {
 
 impl<'a> Model for GeoidModel<'a> {
     ghost use Rattle.crs_value.specs.ConversionValues.{GeoidModelParts};
+    ghost use Rattle.crs_value.specs.SoundConversion.{IsGeoidModel};
 
     ghost Value = { GeoidModelParts };
 
     ghost view = { λ g. record { name = g.name.now; ids = g.ids } };
+
+    ghost invariant = { λ g. IsGeoidModel (record { name = g.name.now; ids = g.ids }) };
 }
 
 impl<'a> Node<'a> for Vertical<'a> {
@@ -74,6 +87,7 @@ impl<'a> Node<'a> for Vertical<'a> {
         id: ItemId,
         class: Class,
     ) -> Result<Self, AllocError> {
+        slots_count();
         Ok(Vertical {
             name: text(items, id, class),
             frame: vertical_frame(alloc, items, id, class)?,

@@ -1,7 +1,7 @@
 //! `crsdesk`: reads WKT2 texts of coordinate reference systems, and spells each in one way.
 #![tactic(auto)]
 
-use crs_desk::{Level, Request, RequestFault, RunFault, Sink, Source, request, run_canon};
+use crs_desk::{Level, Request, RequestFault, RunFault, Sink, Source, request, run_canon, run_check};
 use std::alloc::{AllocError, Global};
 use std::process::ExitCode;
 use std::{env, io};
@@ -47,6 +47,7 @@ fn answer(rt: &HostRuntime, wanted: &Request) -> u8 {
     let mut sink = Sink::new(rt.stdout());
     let outcome = match wanted {
         Request::Canon => run_canon(rt.alloc(), Level::Full, &mut source, &mut sink),
+        Request::Check => run_check(rt.alloc(), &mut source, &mut sink),
     };
     match &outcome {
         Ok(status) => *status,

@@ -10,6 +10,7 @@ first_break-requires-clause-shaped c =
 
 pub read_crs-requires-clause-sound : goal.read_crs-requires-clause-sound
 read_crs-requires-clause-sound c = record {
+  formed = c.formed.ensures;
   shaped =
       root-shaped c.no_fault_is_shape.ensures c.args.items.now (item_at c.args.items.now c.root-root.result) c.in-Ok.class (ap first_of c.root-root.ensures.root) c.in-Ok.ensures.0 c.in-Ok.ensures.1;
   unbroken = c.in_default.ensures;

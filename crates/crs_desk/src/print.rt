@@ -1,0 +1,30 @@
+//! The lines that commands print.
+ghost use Rattle.std.specs.Prelude.{◌≡◌, ◌++◌, ◌∷◌, [], IfOk};
+ghost use Rattle.crs_desk.specs.Output.{refused_text};
+
+use crs_text::Refusal;
+use itoa::Buffer;
+use std::alloc::{AllocError, Global};
+
+// `refused N NAME at P` and a line end.
+pub(crate) fn refused_line(alloc: Global, refusal: Refusal) -> Result<Vec<u8>, AllocError>
+    ensures { IfOk result (λ line. line.items ≡ refused_text refusal.number refusal.place ++ 10 ∷ []) }
+{
+    let mut digits = Buffer::new();
+    let mut line = Vec::from_slice(alloc, b"refused ")?;
+    line.extend_from_slice(digits.format(refusal.number()).as_bytes())?;
+    line.push(b' ')?;
+    line.extend_from_slice(refusal.name().as_bytes())?;
+    line.extend_from_slice(b" at ")?;
+    line.extend_from_slice(digits.format(refusal.place()).as_bytes())?;
+    line.extend_from_slice(b"\n")?;
+    Ok(line)
+}
+
+pub(crate) fn line_of(alloc: Global, bytes: &[u8]) -> Result<Vec<u8>, AllocError>
+    ensures { IfOk result (λ line. line.items ≡ bytes.now ++ 10 ∷ []) }
+{
+    let mut line = Vec::from_slice(alloc, bytes)?;
+    line.push(b'\n')?;
+    Ok(line)
+}

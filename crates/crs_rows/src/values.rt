@@ -1,0 +1,47 @@
+//! The calls on the values of texts.
+use crate::texts::put_fault;
+use crs_text::{Fault, read_items};
+use crs_value::{Crs, Kind, read, value_of};
+use std::alloc::{AllocError, Global};
+
+/// `kind` and the kind of the CRS that a text spells, or its refusal.
+pub fn put_read(out: &mut String, alloc: Global, input: &[u8]) -> Result<(), AllocError> {
+    put_value(out, read(alloc, input))
+}
+
+/// The same by the text's items.
+pub fn put_value_of(out: &mut String, alloc: Global, input: &[u8]) -> Result<(), AllocError> {
+    match read_items(alloc, input) {
+        Ok(items) => put_value(out, value_of(alloc, &items)),
+        Err(fault) => put_fault(out, fault),
+    }
+}
+
+fn put_value(out: &mut String, value: Result<Crs<'_>, Fault>) -> Result<(), AllocError> {
+    match kind_of(value) {
+        Ok(kind) => put_kind(out, kind),
+        Err(fault) => put_fault(out, fault),
+    }
+}
+
+fn kind_of(value: Result<Crs<'_>, Fault>) -> Result<Kind, Fault> {
+    match value {
+        Ok(crs) => Ok(crs.kind()),
+        Err(fault) => Err(fault),
+    }
+}
+
+fn put_kind(out: &mut String, kind: Kind) -> Result<(), AllocError> {
+    out.push_str("kind ")?;
+    out.push_str(kind_word(kind))
+}
+
+fn kind_word(kind: Kind) -> &'static str {
+    match kind {
+        Kind::Geodetic => "geodetic",
+        Kind::Geographic => "geographic",
+        Kind::Projected => "projected",
+        Kind::Vertical => "vertical",
+        Kind::Compound => "compound",
+    }
+}

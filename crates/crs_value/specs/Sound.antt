@@ -1,0 +1,60 @@
+-- What is asked of identifiers, units and axes by themselves: well-formed texts, decimals in their normal form, and
+-- units of a kind that fits.
+use Rattle.std.specs.Prelude.{◌≡◌, ◌≢◌, ℕ, List, [], ◌∷◌, ◌⊎◌, IsUtf8, IfSome}
+use Rattle.crs_decimal.specs.Value.{IsNormal}
+use Rattle.crs_text.specs.Quoted.{IsInside}
+use Rattle.crs_value.specs.declared.unit_kind.UnitKind.{UnitKind}
+use Rattle.crs_value.specs.declared.unit_kind.UnitKind.TheVariants as kinds
+use Rattle.crs_value.specs.Checks.{IsAboveZero}
+use Rattle.crs_value.specs.Values.{IdentParts, UnitParts, AxisMeridianParts, AxisParts}
+
+-- each of these is so
+abbrev pub Each : {V : Type 0} → (V → Type 0) → List V → Type 0
+Each P [] = Unit {0}
+Each P (value ∷ values) = P value × Each P values
+
+-- what may stand between the quotes of a text: characters in UTF-8, each quote among them doubled
+abbrev pub IsText : List ℕ → Type 0
+IsText text = IsInside text × IsUtf8 text
+
+-- an identifier; a code or a version is a text, quoted or not
+pub record IsIdent (ident : IdentParts) : Type 0 where
+  pub authority : IsText ident.authority
+  pub code : IsText ident.code
+  pub version : IfSome ident.version IsText
+  pub citation : IfSome ident.citation IsText
+  pub uri : IfSome ident.uri IsText
+
+-- ---- units
+
+-- a unit's factor is above zero
+pub record IsUnit (unit : UnitParts) : Type 0 where
+  pub name : IsText unit.name
+  pub factor : IsNormal unit.factor
+  pub above_zero : IsAboveZero unit.factor
+  pub ids : Each IsIdent unit.ids
+
+-- a kind of unit that stands for the asked one: that kind itself, or the plain one
+abbrev pub Suits : UnitKind → UnitKind → Type 0
+Suits asked kind = (kind ≡ asked) ⊎ (kind ≡ kinds.Plain)
+
+-- a unit that stands for one of the asked kind
+abbrev pub IsUnitOf : UnitKind → UnitParts → Type 0
+IsUnitOf asked unit = IsUnit unit × Suits asked unit.kind
+
+-- a unit of an axis, or one that axes share, isn't one of scale
+abbrev pub IsAxisUnit : UnitParts → Type 0
+IsAxisUnit unit = IsUnit unit × (unit.kind ≢ kinds.Scale)
+
+-- ---- axes
+
+pub record IsAxisMeridian (meridian : AxisMeridianParts) : Type 0 where
+  pub longitude : IsNormal meridian.longitude
+  pub unit : IsUnitOf kinds.Angle meridian.unit
+
+pub record IsAxis (axis : AxisParts) : Type 0 where
+  pub name : IsText axis.name
+  pub meridian : IfSome axis.meridian IsAxisMeridian
+  pub order : IfSome axis.order IsNormal
+  pub unit : IfSome axis.unit IsAxisUnit
+  pub ids : Each IsIdent axis.ids

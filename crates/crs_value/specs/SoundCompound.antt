@@ -1,0 +1,28 @@
+-- What is asked of a compound CRS by itself.
+use Rattle.std.specs.Prelude.{◌≡◌}
+use Rattle.crs_decimal.specs.Number.{SameNumber, whole_number}
+use Rattle.crs_decimal.specs.Value.{exact}
+use Rattle.crs_value.specs.declared.compound.Horizontal.{Horizontal}
+use Rattle.crs_value.specs.declared.compound.Horizontal.TheVariants as horizontal
+use Rattle.crs_value.specs.declared.system_type.SystemType.TheVariants as types
+use Rattle.crs_value.specs.CompoundValues.{CompoundParts}
+use Rattle.crs_value.specs.Sound.{IsText}
+use Rattle.crs_value.specs.SoundSingle.{IsGeodetic, IsProjected, IsVertical}
+use Rattle.crs_value.specs.SoundUsages.{IsTail}
+use Rattle.crs_value.specs.Values.{SystemParts}
+
+-- a system of dimension 2
+abbrev pub IsPlane : SystemParts → Type 0
+IsPlane system = SameNumber (exact system.dimension) (whole_number 2)
+
+-- the horizontal part is a geographic or a projected CRS of dimension 2
+abbrev pub IsHorizontal : Horizontal → Type 0
+IsHorizontal (horizontal.Geodetic geodetic) =
+    IsGeodetic geodetic × (geodetic.system.system_type ≡ types.Ellipsoidal) × IsPlane geodetic.system
+IsHorizontal (horizontal.Projected projected) = IsProjected projected × IsPlane projected.system
+
+pub record IsCompound (compound : CompoundParts) : Type 0 where
+  pub name : IsText compound.name
+  pub horizontal : IsHorizontal compound.horizontal
+  pub vertical : IsVertical compound.vertical
+  pub tail : IsTail compound.tail

@@ -1,0 +1,42 @@
+-- What is asked of ellipsoids, prime meridians, reference frames and ensembles by themselves.
+use Rattle.std.specs.Prelude.{◌≡◌, ◌≢◌, false, [], IfSome}
+use Rattle.crs_decimal.specs.Value.{IsNormal}
+use Rattle.crs_value.specs.declared.unit_kind.UnitKind.TheVariants as kinds
+use Rattle.crs_value.specs.Checks.{IsAboveZero}
+use Rattle.crs_value.specs.Sound.{Each, IsText, IsIdent, IsUnitOf}
+use Rattle.crs_value.specs.Values.{EllipsoidParts, MeridianParts, MemberParts, DatumParts, EnsembleParts}
+
+-- an ellipsoid's semi-major axis is above zero, its inverse flattening isn't negative
+pub record IsEllipsoid (ellipsoid : EllipsoidParts) : Type 0 where
+  pub name : IsText ellipsoid.name
+  pub semi_major_axis : IsNormal ellipsoid.semi_major_axis
+  pub above_zero : IsAboveZero ellipsoid.semi_major_axis
+  pub inverse_flattening : IsNormal ellipsoid.inverse_flattening
+  pub not_negative : ellipsoid.inverse_flattening.negative ≡ false
+  pub unit : IfSome ellipsoid.unit (IsUnitOf kinds.Length)
+  pub ids : Each IsIdent ellipsoid.ids
+
+pub record IsMeridian (meridian : MeridianParts) : Type 0 where
+  pub name : IsText meridian.name
+  pub longitude : IsNormal meridian.longitude
+  pub unit : IfSome meridian.unit (IsUnitOf kinds.Angle)
+  pub ids : Each IsIdent meridian.ids
+
+pub record IsMember (member : MemberParts) : Type 0 where
+  pub name : IsText member.name
+  pub ids : Each IsIdent member.ids
+
+pub record IsDatum (datum : DatumParts) : Type 0 where
+  pub name : IsText datum.name
+  pub ellipsoid : IfSome datum.ellipsoid IsEllipsoid
+  pub anchor : IfSome datum.anchor IsText
+  pub ids : Each IsIdent datum.ids
+
+-- a datum ensemble has at least one member
+pub record IsEnsemble (ensemble : EnsembleParts) : Type 0 where
+  pub name : IsText ensemble.name
+  pub some : ensemble.members ≢ []
+  pub members : Each IsMember ensemble.members
+  pub ellipsoid : IfSome ensemble.ellipsoid IsEllipsoid
+  pub accuracy : IsNormal ensemble.accuracy
+  pub ids : Each IsIdent ensemble.ids

@@ -1,0 +1,56 @@
+-- What is asked of geodetic, projected and vertical CRSs, and of base CRSs, by themselves.
+use Rattle.std.specs.Prelude.{IfSome, IsSome, IsNone}
+use Rattle.crs_value.specs.declared.frame.Frame.{Frame}
+use Rattle.crs_value.specs.declared.frame.Frame.TheVariants as frame
+use Rattle.crs_value.specs.declared.unit_kind.UnitKind.TheVariants as kinds
+use Rattle.crs_value.specs.Checks.{IsOneOf, geodetic_dimensions, projected_dimensions, vertical_dimensions}
+use Rattle.crs_value.specs.CrsValues.{GeodeticParts, BaseParts, ProjectedParts, VerticalParts}
+use Rattle.crs_value.specs.Sound.{Each, IsText, IsIdent, IsUnitOf}
+use Rattle.crs_value.specs.SoundConversion.{IsConversion, IsGeoidModel}
+use Rattle.crs_value.specs.SoundFrames.{IsMeridian, IsDatum, IsEnsemble}
+use Rattle.crs_value.specs.SoundSystem.{IsSystem}
+use Rattle.crs_value.specs.SoundUsages.{IsTail}
+
+-- a geodetic frame or ensemble has an ellipsoid
+abbrev pub IsGeodeticFrame : Frame → Type 0
+IsGeodeticFrame (frame.Datum datum) = IsDatum datum × IsSome datum.ellipsoid
+IsGeodeticFrame (frame.Ensemble ensemble) = IsEnsemble ensemble × IsSome ensemble.ellipsoid
+
+-- a vertical one has none
+abbrev pub IsVerticalFrame : Frame → Type 0
+IsVerticalFrame (frame.Datum datum) = IsDatum datum × IsNone datum.ellipsoid
+IsVerticalFrame (frame.Ensemble ensemble) = IsEnsemble ensemble × IsNone ensemble.ellipsoid
+
+-- the dimension is one that a geodetic CRS allows for the type of its system
+pub record IsGeodetic (geodetic : GeodeticParts) : Type 0 where
+  pub name : IsText geodetic.name
+  pub frame : IsGeodeticFrame geodetic.frame
+  pub meridian : IfSome geodetic.meridian IsMeridian
+  pub system : IsSystem geodetic.system
+  pub dimension : IsOneOf geodetic.system.dimension (geodetic_dimensions geodetic.system.system_type)
+  pub tail : IsTail geodetic.tail
+
+pub record IsBase (base : BaseParts) : Type 0 where
+  pub name : IsText base.name
+  pub frame : IsGeodeticFrame base.frame
+  pub meridian : IfSome base.meridian IsMeridian
+  pub unit : IfSome base.unit (IsUnitOf kinds.Angle)
+  pub ids : Each IsIdent base.ids
+
+-- likewise of a projected CRS
+pub record IsProjected (projected : ProjectedParts) : Type 0 where
+  pub name : IsText projected.name
+  pub base : IsBase projected.base
+  pub conversion : IsConversion projected.conversion
+  pub system : IsSystem projected.system
+  pub dimension : IsOneOf projected.system.dimension (projected_dimensions projected.system.system_type)
+  pub tail : IsTail projected.tail
+
+-- and of a vertical one
+pub record IsVertical (vertical : VerticalParts) : Type 0 where
+  pub name : IsText vertical.name
+  pub frame : IsVerticalFrame vertical.frame
+  pub system : IsSystem vertical.system
+  pub dimension : IsOneOf vertical.system.dimension (vertical_dimensions vertical.system.system_type)
+  pub geoid_models : Each IsGeoidModel vertical.geoid_models
+  pub tail : IsTail vertical.tail
