@@ -8,4 +8,5 @@ pub mod PlainLemmas
 pub mod PowerLemmas
 pub mod RunLemmas
 pub mod SplitLemmas
+pub mod ValueLemmas
 pub mod WrittenLemmas

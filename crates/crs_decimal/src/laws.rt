@@ -50,6 +50,12 @@ pub fn decided()
         (IsInBounds bytes ⊎ (HasForm bytes × ¬ (IsInBounds bytes))) ⊎ (¬ (HasForm bytes)) }
 {}
 
+/// Bytes that are a number in bounds denote a normal value.
+pub fn denotes_some()
+    ensures { (bytes : List ℕ) → IsInBounds bytes →
+        (v : Value) × (IsNormal v × Denotes bytes (exact v)) }
+{}
+
 /// The plain spelling of a normal value is plain, denotes the value, is no longer than 79 bytes,
 /// and is the only plain spelling that denotes it.
 pub fn plain_is_the_one()

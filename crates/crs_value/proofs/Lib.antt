@@ -5,6 +5,7 @@ pub mod ComponentLemmas
 pub mod ConversionLemmas
 pub mod CrsLemmas
 pub mod DecideLemmas
+pub mod EitherLemmas
 pub mod FrameLemmas
 pub mod IdentLemmas
 pub mod KnownLemmas
@@ -16,6 +17,10 @@ pub mod OneLemmas
 pub mod OrderLemmas
 pub mod OwnLemmas
 pub mod PlaceLemmas
+pub mod ReadyLemmas
+pub mod SomeCrsLemmas
+pub mod SomeLeastLemmas
+pub mod SomeValueLemmas
 pub mod SoundAxisLemmas
 pub mod SoundCompoundLemmas
 pub mod SoundConversionLemmas
@@ -28,4 +33,5 @@ pub mod SpellsLemmas
 pub mod SystemLemmas
 pub mod TextLemmas
 pub mod UnitLemmas
+pub mod WhetherLemmas
 pub mod WordLemmas

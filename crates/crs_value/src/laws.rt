@@ -1,5 +1,5 @@
 //! The laws of values: calls that do nothing, and whose contracts are the laws.
-ghost use Rattle.std.specs.Prelude.{◌≡◌, ◌≤◌, ℕ, List, length};
+ghost use Rattle.std.specs.Prelude.{◌≡◌, ◌≤◌, ◌⊎◌, ℕ, List, length};
 ghost use Rattle.crs_text.specs.Items.{Item};
 ghost use Rattle.crs_text.specs.Refusal.{Refused};
 ghost use Rattle.crs_text.specs.Written.{AreFormed};
@@ -9,7 +9,7 @@ ghost use Rattle.crs_value.specs.Spells.{SpellsCrs, RefusesCrs};
 ghost use Rattle.crs_value.specs.SpellsText.{Spells, Refuses, IsRefusal};
 
 use crate::crs::Crs;
-use crs_decimal::laws::denotes_one;
+use crs_decimal::laws::{denotes_one, denotes_some};
 use crs_shape::laws::{fault_at_root_is_one, no_fault_is_shape, slots_count};
 
 /// An item spells one value at most. Profile.
@@ -39,19 +39,22 @@ pub fn one_answer()
     ensures refusal { (text : List ℕ) (a b : Refused) → Refuses text a → Refuses text b → a ≡ b }
     ensures apart { (text : List ℕ) (value : Crs) (fault : Refused) → Spells text value → ¬
         (Refuses text fault) }
-{
-    crs_text::laws::one_answer();
-    denotes_one();
-    fault_at_root_is_one();
-}
 
-/// A refusal of a text has a number from 1 to 8, 11 to 13 or 21 to 28, and a place in the text or at its end.
-/// Profile.
-pub fn refused_within()
-    ensures { (text : List ℕ) (fault : Refused) → Refuses text fault → IsRefusal fault.number ×
+    // A refusal has a number from 1 to 8, 11 to 13 or 21 to 28, and a place in the text or at its end.
+    ensures within { (text : List ℕ) (fault : Refused) → Refuses text fault → IsRefusal fault.number ×
         (fault.place ≤ length text) }
+
+    // Each list of bytes is one or the other.
+    ensures either { (text : List ℕ) → ((value : Crs) × Spells text value)
+        ⊎ ((fault : Refused) × Refuses text fault) }
 {
     crs_text::laws::one_answer();
+    crs_text::laws::written_items();
+    denotes_one();
+    denotes_some();
+    fault_at_root_is_one();
+    no_fault_is_shape();
+    slots_count();
 }
 
 /// A value that a well-formed item spells is all that is asked of a CRS: its texts are well formed, its

@@ -1,3 +1,5 @@
+use Rattle.crs_value.proofs.EitherLemmas.{text-answer}
+use Rattle.crs_value.proofs.NumberLemmas.{refused-within}
 use Rattle.crs_value.proofs.TextLemmas.{text-one, text-refused-one, text-apart}
 use Rattle.crs_value.proofs.laws.one_answer.Goals as goal
 
@@ -10,3 +12,11 @@ returns-clause-refusal c =
 
 pub returns-clause-apart : goal.returns-clause-apart
 returns-clause-apart c = text-apart c.one_answer.ensures.node c.one_answer.ensures.apart
+
+pub returns-clause-within : goal.returns-clause-within
+returns-clause-within c = refused-within c.one_answer.ensures.within
+
+pub returns-clause-either : goal.returns-clause-either
+returns-clause-either c =
+    text-answer c.denotes_some.ensures c.denotes_one.ensures c.slots_count.ensures.least c.no_fault_is_shape.ensures c.one_answer.ensures.either
+    c.fault_at_root_is_one.ensures.either c.written_items.ensures.formed

@@ -1,0 +1,66 @@
+-- Each text is spelled or refused.
+use Rattle.std.proofs.Common.{◌≡◌, ℕ, ◌⊎◌, inl, inr, Some, None, List, refl}
+use Rattle.crs_text.specs.Items.{Item}
+use Rattle.crs_text.specs.Refusal.{Refused}
+use Rattle.crs_text.specs.TextFault.{SpellsNode, RefusesText}
+use Rattle.crs_text.specs.Written.{AreFormed}
+use Rattle.crs_shape.specs.declared.class.Class.{Class}
+use Rattle.crs_shape.specs.ShapeFault.{IsFree, AtRoot, class_of_root, misplaced}
+use Rattle.crs_shape.specs.Shaped.{Shaped}
+use Rattle.crs_value.specs.declared.crs.Crs.{Crs}
+use Rattle.crs_value.specs.Checks.{Breaks}
+use Rattle.crs_value.specs.Spells.{SpellsCrs, RefusesCrs}
+use Rattle.crs_value.specs.SpellsText.{Spells, Refuses}
+use Rattle.crs_value.proofs.ArgumentLemmas.{SlotsCount}
+use Rattle.crs_value.proofs.CheckLemmas.{DenotesOne}
+use Rattle.crs_value.proofs.ReadyLemmas.{Numbers}
+use Rattle.crs_value.proofs.SomeLeastLemmas.{HasLeast, breaks-least}
+use Rattle.crs_value.proofs.SomeCrsLemmas.{crs-some}
+use Rattle.crs_value.proofs.SpellsLemmas.{NoFaultIsShape, root-shaped, root-among}
+
+abbrev pub NodeOrRefusal : Type 0
+NodeOrRefusal = (bytes : List ℕ) → ((item : Item) × SpellsNode bytes item) ⊎ ((n place : ℕ) × RefusesText bytes n place)
+
+abbrev pub FreeOrFault : Type 0
+FreeOrFault = (item : Item) → IsFree (AtRoot item) ⊎ ((fault : Refused) × AtRoot item fault)
+
+abbrev pub NodeIsFormed : Type 0
+NodeIsFormed = (bytes : List ℕ) (item : Item) → SpellsNode bytes item → AreFormed item
+
+abbrev ItemAnswer : Item → Type 0
+ItemAnswer item = ((value : Crs) × SpellsCrs item value) ⊎ ((fault : Refused) × RefusesCrs item fault)
+
+abbrev pub TextAnswer : List ℕ → Type 0
+TextAnswer text = ((value : Crs) × Spells text value) ⊎ ((fault : Refused) × Refuses text fault)
+
+module _ (numbers : Numbers) (one : DenotesOne) (slots : SlotsCount) (shape : NoFaultIsShape) where
+  checked : (item : Item) (c : Class) → class_of_root item ≡ Some c → IsFree (AtRoot item) → AreFormed item → Shaped c item → HasLeast (Breaks c item) → ItemAnswer item
+  checked item c e free formed shaped (Some fault, least) = inr (fault, inr (record { class_read = c; root = e; shaped = free; first = least }))
+  checked item c e free formed shaped (None, unbroken) =
+      let value = crs-some numbers slots item c (root-among item c e) (record { shaped = shaped; formed = formed; unbroken = unbroken }) in
+      inl (value.0, record { class_read = c; root = e; shaped = free; unbroken = unbroken; reads = value.1 })
+
+  free-answer : (item : Item) → IsFree (AtRoot item) → AreFormed item → ItemAnswer item
+  free-answer item free formed =
+      elim (class_of_root item) as (λ o. class_of_root item ≡ o → ItemAnswer item) [
+        | None ↦ λ e. absurd (free (misplaced item) (inl (e, refl)))
+        | Some c ↦ λ e. let shaped = root-shaped shape item item c refl e free in checked item c e free formed shaped (breaks-least numbers one c item (shaped, formed))
+      ] refl
+
+  item-answer : FreeOrFault → (item : Item) → AreFormed item → ItemAnswer item
+  item-answer decided item formed = by (decided item)
+    where
+      by : IsFree (AtRoot item) ⊎ ((fault : Refused) × AtRoot item fault) → ItemAnswer item
+      by (inl free) = free-answer item free formed
+      by (inr found) = inr (found.0, inl found.1)
+
+  pub text-answer : NodeOrRefusal → FreeOrFault → NodeIsFormed → (text : List ℕ) → TextAnswer text
+  text-answer nodes decided formed text = by (nodes text)
+    where
+      of_item : (item : Item) → SpellsNode text item → ItemAnswer item → TextAnswer text
+      of_item item spells (inl found) = inl (found.0, (item, (spells, found.1)))
+      of_item item spells (inr found) = inr (found.0, inr (item, (spells, found.1)))
+
+      by : ((item : Item) × SpellsNode text item) ⊎ ((n place : ℕ) × RefusesText text n place) → TextAnswer text
+      by (inl node) = of_item node.0 node.1 (item-answer decided node.0 (formed text node.0 node.1))
+      by (inr refused) = inr (record { number = refused.0; place = refused.1 }, inl refused.2)
