@@ -168,7 +168,8 @@ fn ends_by_the_writer(rt: HostRuntime) {
 }
 
 // 150 bytes: ten pieces of 16 bytes, and a read that shows the end.
-const GEOGRAPHIC: &[u8] = b"GEODETICCRS(\"A\",TRF(\"D\",SPHEROID(\"E\",6378137.0,298.257223563)),CS(ellipsoidal,2),AXIS(\"lat\",NORTH),AXIS(\"lon\",east),UNIT(\"degree\",0.0174532925199433))";
+const GEOGRAPHIC: &[u8] =
+    b"GEODETICCRS(\"A\",TRF(\"D\",SPHEROID(\"E\",6378137.0,298.257223563)),CS(ellipsoidal,2),AXIS(\"lat\",NORTH),AXIS(\"lon\",east),UNIT(\"degree\",0.0174532925199433))";
 
 fn pieces_of(text: &[u8], fails_at: u32) -> Pieces<'_> {
     Pieces {

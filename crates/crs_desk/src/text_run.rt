@@ -33,9 +33,7 @@ pub(crate) fn run_text<A: Answer, R: Read, W: Write>(
     ensures too_long { IsErrOf result (RunFault.TooLong 0) ↔ (1048576 < r.new.taken) × (r.new.failed ≡ false) }
 {
     let text = read_text(alloc, r)?;
-    let (output, status) = answer
-        .output(alloc, &text)
-        .map_err(|_| RunFault::Memory)?;
+    let (output, status) = answer.output(alloc, &text).map_err(|_| RunFault::Memory)?;
     w.write_all(&output).map_err(|_| RunFault::WriteFailed)?;
     Ok(status)
 }

@@ -36,7 +36,9 @@ fn desk_command<'a>(alloc: Global) -> Result<Command<'a>, AllocError>
     ensures globals { IfOk result (λ command. (fields_of command).has_globals ≡ false) }
 {
     let canon = Command::new(alloc, "canon").about("Writes the canonical text of standard input");
-    let check = Command::new(alloc, "check").about("Tells what standard input spells, or where it is refused");
+    let check = Command::new(alloc, "check").about(
+        "Tells what standard input spells, or where it is refused",
+    );
     Command::new(alloc, "crsdesk")
         .about("Reads, compares and spells coordinate reference systems")
         .subcommand_required(true)

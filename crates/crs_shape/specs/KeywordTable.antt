@@ -1,5 +1,6 @@
 -- The table of keywords: each keyword once, under its length, with the classes that have it.
-use Rattle.std.specs.Prelude.{◌≡◌, ◌≤◌, ◌<◌, slice_index, ℕ, Bool, List, [], ◌∷◌, codes, length, if◌then◌else◌, ◌==◌}
+use Rattle.std.specs.Prelude.{◌≡◌, ◌≤◌, ◌<◌, ◌==◌, slice_index, ℕ, Bool, List, [], ◌∷◌, codes, length, if◌then◌else◌}
+use Prim.Native.String.{String}
 use Rattle.std.specs.List.{list_any}
 use Rattle.std.specs.Char.{to_ascii_lowercase}
 use Rattle.std.specs.Str.{str_eq_ignore_ascii_case}
@@ -20,56 +21,77 @@ pub record KeywordParts : Type 0 where
 abbrev pub shown : Keyword → KeywordParts
 shown k = record { word = k.word.now; classes = k.classes.now }
 
-abbrev pub of_one : List ℕ → Class → KeywordParts
-of_one word c = record { word = word; classes = c ∷ [] }
+abbrev pub one : String → Class → KeywordParts
+one word c = record { word = codes word; classes = c ∷ [] }
 
-abbrev pub of_some : List ℕ → List Class → KeywordParts
-of_some word cs = record { word = word; classes = cs }
+abbrev pub some : String → List Class → KeywordParts
+some word cs = record { word = codes word; classes = cs }
+
+-- the keywords of two letters, of three, and so on
+abbrev pub two : List KeywordParts
+two = one "ID" class.Identifier ∷ one "CS" class.CoordinateSystem ∷ []
+
+abbrev pub three : List KeywordParts
+three = one "TRF" class.GeodeticFrame ∷ one "VRF" class.VerticalFrame ∷ one "URI" class.Uri ∷ []
+
+abbrev pub four : List KeywordParts
+four =
+    one "AXIS" class.Axis ∷ one "BBOX" class.BoundingBox ∷ one "AREA" class.Area ∷
+    some "UNIT" (class.PlainUnit ∷ class.LengthUnit ∷ class.AngleUnit ∷ class.AxisUnit ∷ []) ∷ []
+
+abbrev pub five : List KeywordParts
+five =
+    one "ORDER" class.Order ∷ one "SCOPE" class.Scope ∷ one "USAGE" class.Usage ∷
+    one "DATUM" class.GeodeticFrame ∷ []
+
+abbrev pub six : List KeywordParts
+six =
+    one "MEMBER" class.Member ∷ one "PRIMEM" class.PrimeMeridian ∷ one "METHOD" class.Method ∷
+    one "VDATUM" class.VerticalFrame ∷ one "REMARK" class.Remark ∷ one "ANCHOR" class.Anchor ∷ []
+
+abbrev pub seven : List KeywordParts
+seven =
+    one "GEOGCRS" class.GeographicCrs ∷ one "PROJCRS" class.ProjectedCrs ∷ one "GEODCRS" class.GeodeticCrs ∷
+    one "VERTCRS" class.VerticalCrs ∷ []
+
+abbrev pub eight : List KeywordParts
+eight =
+    some "ENSEMBLE" (class.GeodeticEnsemble ∷ class.VerticalEnsemble ∷ []) ∷ one "MERIDIAN" class.Meridian ∷
+    one "SPHEROID" class.Ellipsoid ∷ one "CITATION" class.Citation ∷ []
+
+abbrev pub nine : List KeywordParts
+nine =
+    some "ANGLEUNIT" (class.AngleUnit ∷ class.AxisUnit ∷ []) ∷ one "PARAMETER" class.Parameter ∷
+    one "ELLIPSOID" class.Ellipsoid ∷ one "SCALEUNIT" class.ScaleUnit ∷ []
+
+abbrev pub ten : List KeywordParts
+ten =
+    some "LENGTHUNIT" (class.LengthUnit ∷ class.AxisUnit ∷ []) ∷ one "CONVERSION" class.Conversion ∷
+    one "PROJECTION" class.Method ∷ one "GEOIDMODEL" class.GeoidModel ∷ []
+
+abbrev pub eleven : List KeywordParts
+eleven =
+    one "BASEGEOGCRS" class.BaseCrs ∷ one "BASEGEODCRS" class.BaseCrs ∷ one "COMPOUNDCRS" class.CompoundCrs ∷
+    one "GEODETICCRS" class.GeodeticCrs ∷ one "VERTICALCRS" class.VerticalCrs ∷ []
+
+abbrev pub twelve : List KeywordParts
+twelve = one "PROJECTEDCRS" class.ProjectedCrs ∷ []
+
+abbrev pub thirteen : List KeywordParts
+thirteen =
+    one "PRIMEMERIDIAN" class.PrimeMeridian ∷ one "GEODETICDATUM" class.GeodeticFrame ∷
+    one "VERTICALDATUM" class.VerticalFrame ∷ one "GEOGRAPHICCRS" class.GeographicCrs ∷ []
+
+abbrev pub fourteen : List KeywordParts
+fourteen = one "VERTICALEXTENT" class.VerticalExtent ∷ []
+
+abbrev pub sixteen : List KeywordParts
+sixteen = one "ENSEMBLEACCURACY" class.EnsembleAccuracy ∷ []
 
 abbrev pub every_length : List (ℕ × List KeywordParts)
 every_length =
-    (2, of_one (codes "ID") class.Identifier ∷ of_one (codes "CS") class.CoordinateSystem ∷ []) ∷
-    (3, of_one (codes "TRF") class.GeodeticFrame ∷ of_one (codes "VRF") class.VerticalFrame ∷ of_one (codes "URI") class.Uri ∷ []) ∷ (
-      4,
-      of_one (codes "AXIS") class.Axis ∷ of_one (codes "BBOX") class.BoundingBox ∷ of_one (codes "AREA") class.Area ∷
-          of_some (codes "UNIT") (class.PlainUnit ∷ class.LengthUnit ∷ class.AngleUnit ∷ class.AxisUnit ∷ []) ∷ [],
-    ) ∷ (
-      5,
-      of_one (codes "ORDER") class.Order ∷ of_one (codes "SCOPE") class.Scope ∷ of_one (codes "USAGE") class.Usage ∷
-          of_one (codes "DATUM") class.GeodeticFrame ∷ [],
-    ) ∷ (
-      6,
-      of_one (codes "MEMBER") class.Member ∷ of_one (codes "PRIMEM") class.PrimeMeridian ∷ of_one (codes "METHOD") class.Method ∷
-          of_one (codes "VDATUM") class.VerticalFrame ∷ of_one (codes "REMARK") class.Remark ∷ of_one (codes "ANCHOR") class.Anchor ∷ [],
-    ) ∷ (
-      7,
-      of_one (codes "GEOGCRS") class.GeographicCrs ∷ of_one (codes "PROJCRS") class.ProjectedCrs ∷
-          of_one (codes "GEODCRS") class.GeodeticCrs ∷ of_one (codes "VERTCRS") class.VerticalCrs ∷ [],
-    ) ∷ (
-      8,
-      of_some (codes "ENSEMBLE") (class.GeodeticEnsemble ∷ class.VerticalEnsemble ∷ []) ∷ of_one (codes "MERIDIAN") class.Meridian ∷
-          of_one (codes "SPHEROID") class.Ellipsoid ∷ of_one (codes "CITATION") class.Citation ∷ [],
-    ) ∷ (
-      9,
-      of_some (codes "ANGLEUNIT") (class.AngleUnit ∷ class.AxisUnit ∷ []) ∷ of_one (codes "PARAMETER") class.Parameter ∷
-          of_one (codes "ELLIPSOID") class.Ellipsoid ∷ of_one (codes "SCALEUNIT") class.ScaleUnit ∷ [],
-    ) ∷ (
-      10,
-      of_some (codes "LENGTHUNIT") (class.LengthUnit ∷ class.AxisUnit ∷ []) ∷ of_one (codes "CONVERSION") class.Conversion ∷
-          of_one (codes "PROJECTION") class.Method ∷ of_one (codes "GEOIDMODEL") class.GeoidModel ∷ [],
-    ) ∷ (
-      11,
-      of_one (codes "BASEGEOGCRS") class.BaseCrs ∷ of_one (codes "BASEGEODCRS") class.BaseCrs ∷
-          of_one (codes "COMPOUNDCRS") class.CompoundCrs ∷ of_one (codes "GEODETICCRS") class.GeodeticCrs ∷
-          of_one (codes "VERTICALCRS") class.VerticalCrs ∷ [],
-    ) ∷
-    (12, of_one (codes "PROJECTEDCRS") class.ProjectedCrs ∷ []) ∷ (
-      13,
-      of_one (codes "PRIMEMERIDIAN") class.PrimeMeridian ∷ of_one (codes "GEODETICDATUM") class.GeodeticFrame ∷
-          of_one (codes "VERTICALDATUM") class.VerticalFrame ∷ of_one (codes "GEOGRAPHICCRS") class.GeographicCrs ∷ [],
-    ) ∷
-    (14, of_one (codes "VERTICALEXTENT") class.VerticalExtent ∷ []) ∷
-    (16, of_one (codes "ENSEMBLEACCURACY") class.EnsembleAccuracy ∷ []) ∷ []
+    (2, two) ∷ (3, three) ∷ (4, four) ∷ (5, five) ∷ (6, six) ∷ (7, seven) ∷ (8, eight) ∷ (9, nine) ∷ (10, ten) ∷
+    (11, eleven) ∷ (12, twelve) ∷ (13, thirteen) ∷ (14, fourteen) ∷ (16, sixteen) ∷ []
 
 abbrev pub at_length : ℕ → List (ℕ × List KeywordParts) → List KeywordParts
 at_length n [] = []

@@ -1,7 +1,9 @@
 //! `crsdesk`: reads WKT2 texts of coordinate reference systems, and spells each in one way.
 #![tactic(auto)]
 
-use crs_desk::{Level, Request, RequestFault, RunFault, Sink, Source, request, run_canon, run_check};
+use crs_desk::{
+    Level, Request, RequestFault, RunFault, Sink, Source, request, run_canon, run_check,
+};
 use std::alloc::{AllocError, Global};
 use std::process::ExitCode;
 use std::{env, io};
