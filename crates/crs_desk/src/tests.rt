@@ -47,13 +47,11 @@ impl<'a> Read for Pieces<'a> {
             return Err(io::Error::from(io::ErrorKind::Interrupted));
         }
         let count = self.left.len().min(self.piece).min(buf.len());
-        let mut taken = 0;
         for (place, byte) in buf.iter_mut().zip(self.left).take(count) {
             *place = *byte;
-            taken += 1;
         }
-        self.left = self.left.get(taken..).unwrap_or(&[]);
-        Ok(taken)
+        self.left = self.left.get(count..).unwrap_or(&[]);
+        Ok(count)
     }
 }
 
