@@ -136,3 +136,8 @@ named_in (s ∷ ss) word = or_later (first_named s.classes word) (named_in ss wo
 -- the class that a keyword names in a parent
 unfoldable pub class_named : Class → List ℕ → Option Class
 class_named parent word = named_in (slots_of parent) word
+
+-- whether it is this class
+abbrev pub is_class : Class → Option Class → Bool
+is_class c None = false
+is_class c (Some d) = sameb the_type d c

@@ -2,9 +2,10 @@
 ghost use Rattle.std.specs.Prelude.{◌≡◌, map};
 ghost use Rattle.std.specs.List.{find};
 ghost use Rattle.crs_shape.specs.KeywordTable.{is_part};
-ghost use Rattle.crs_shape.specs.Slots.{shown, slots_of, class_named};
+ghost use Rattle.crs_shape.specs.Slots.{shown, slots_of, class_named, is_class};
 
 use crate::class::Class;
+use crate::keyword::has_keyword;
 use crate::part::is_part;
 use crate::slot::Slot;
 use crate::spelling::classes_with;
@@ -203,4 +204,21 @@ fn first_part(parent: Class, classes: &[Class]) -> Option<Class>
         }
     }
     None
+}
+
+/// Whether this keyword names that class in a parent of this class; it asks for less than `class_of`
+/// where the keyword is none of that class. Profile.
+pub fn names(parent: Class, keyword: &[u8], class: Class) -> bool
+    ensures { result ≡ is_class class (class_named parent keyword.now) }
+{
+    has_keyword(class, keyword) && is_class(class_of(parent, keyword), class)
+}
+
+fn is_class(named: Option<Class>, class: Class) -> bool
+    ensures { result ≡ is_class class named }
+{
+    match named {
+        None => false,
+        Some(other) => other == class,
+    }
 }

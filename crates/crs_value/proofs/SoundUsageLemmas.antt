@@ -11,7 +11,8 @@ use Rattle.crs_shape.specs.Shape.{Allowed}
 use Rattle.crs_shape.specs.Shaped.{Shaped}
 use Rattle.crs_shape.specs.Slots.{SlotParts, slots_of}
 use Rattle.crs_value.specs.declared.unit_kind.UnitKind.TheVariants as kinds
-use Rattle.crs_value.specs.Reading.{is_same, is_class, those, ReadsOptional}
+use Rattle.crs_value.specs.Reading.{is_same, those, ReadsOptional}
+use Rattle.crs_shape.specs.Slots.{is_class}
 use Rattle.crs_value.specs.Reads.{ReadsTextOf, ReadsUnit, ReadsBox, ReadsExtent, ReadsUsage, ReadsTail}
 use Rattle.crs_value.specs.Sound.{IsUnitOf}
 use Rattle.crs_value.specs.SoundUsages.{IsBox, IsExtent, IsUsage, SaysSome, IsTail}

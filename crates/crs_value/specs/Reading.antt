@@ -1,5 +1,5 @@
 -- Readings: what is read from an item, or from the arguments of one class.
-use Rattle.std.specs.Prelude.{◌≡◌, ℕ, ◌<◌, Bool, false, List, [], ◌∷◌, Option, Some, None, if◌then◌else◌}
+use Rattle.std.specs.Prelude.{◌≡◌, ℕ, ◌<◌, Bool, List, [], ◌∷◌, Option, Some, None, if◌then◌else◌}
 use Rattle.std.specs.List.{list_any}
 use denote.Enum.Bare.{sameb}
 use Rattle.crs_text.specs.Items.{Item, Items, End, More, first_of, rest_of, here, HasId}
@@ -7,7 +7,7 @@ use Rattle.crs_shape.specs.contracts.class.Class.{the_type}
 use Rattle.crs_shape.specs.declared.class.Class.{Class}
 use Rattle.crs_shape.specs.Counts.{least}
 use Rattle.crs_shape.specs.ShapeFault.{class_in}
-use Rattle.crs_shape.specs.Slots.{slots_of}
+use Rattle.crs_shape.specs.Slots.{slots_of, is_class}
 
 -- the item of this number in a tree
 abbrev pub item_at : Item → ℕ → Item
@@ -30,10 +30,6 @@ IsReading reads (Some value) = reads value
 
 abbrev pub is_same : Class → Class → Bool
 is_same c d = sameb the_type d c
-
-abbrev pub is_class : Class → Option Class → Bool
-is_class c None = false
-is_class c (Some d) = sameb the_type d c
 
 -- whether an item is of this class in its parent
 abbrev pub is_a : Class → Class → Item → Bool

@@ -4,7 +4,7 @@ ghost use Rattle.crs_text.specs.Items.{arguments, rest_of, here, HasId};
 ghost use Rattle.crs_shape.specs.ShapeFault.{class_in};
 ghost use Rattle.crs_value.specs.Reading.{item_at, ahead, Holds, is_a, those, IsFound};
 
-use crs_shape::{Class, class_of};
+use crs_shape::{Class, class_of, names};
 use crs_text::{ItemId, ItemKind, Items};
 
 // The class of an item in a parent of this class.
@@ -24,9 +24,11 @@ fn is_a(items: &Items<'_>, id: ItemId, parent: Class, class: Class) -> bool
     requires { HasId items.now id }
     ensures { result ≡ is_a parent class (item_at items.now id) }
 {
-    match class_in(items, id, parent) {
-        None => false,
-        Some(named) => named == class,
+    match items.kind(id) {
+        ItemKind::Number => class == Class::Number,
+        ItemKind::Text => class == Class::Text,
+        ItemKind::Word => class == Class::Word,
+        ItemKind::Node => names(parent, items.raw(id), class),
     }
 }
 

@@ -17,7 +17,6 @@ use std::marker::Model;
 
 /// An axis, `AXIS[name, direction, (meridian), (order), (unit), id..]`.
 /// ISO 19162:2019, "Axis".
-#[derive(Drop)]
 pub struct Axis<'a> {
     /// The name and abbreviation, unsplit.
     pub name: &'a [u8],
@@ -56,6 +55,20 @@ impl<'a> Model for Axis<'a> {
       unit = a.unit;
       ids = a.ids;
     }) };
+}
+
+// By hand, so that whoever drops one calls this, and proves nothing of its parts.
+impl Drop for Axis<'_> {
+    fn drop(self) {
+        let Axis {
+            name: _,
+            direction: _,
+            meridian: _,
+            order: _,
+            unit: _,
+            ids: _,
+        } = self;
+    }
 }
 
 /// The meridian of an axis at a pole, `MERIDIAN[longitude, unit]`.

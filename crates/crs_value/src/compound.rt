@@ -29,7 +29,6 @@ pub enum Horizontal<'a> {
 
 /// A compound CRS, `COMPOUNDCRS[name, horizontal, vertical, tail]`.
 /// ISO 19162:2019, "Compound CRS".
-#[derive(Drop)]
 pub struct Compound<'a> {
     /// The name.
     pub name: &'a [u8],
@@ -55,6 +54,18 @@ impl<'a> Model for Compound<'a> {
       vertical = c.vertical;
       tail = c.tail;
     }) };
+}
+
+// By hand, so that whoever drops one calls this, and proves nothing of its parts.
+impl Drop for Compound<'_> {
+    fn drop(self) {
+        let Compound {
+            name: _,
+            horizontal: _,
+            vertical: _,
+            tail: _,
+        } = self;
+    }
 }
 
 // The horizontal part of a compound CRS.

@@ -18,7 +18,6 @@ use std::marker::Model;
 
 /// A conversion, `CONVERSION[name, method, parameter.., id..]`: how projected coordinates come from
 /// those of the base CRS. ISO 19162:2019, "Map projection conversion".
-#[derive(Drop)]
 pub struct Conversion<'a> {
     /// The name.
     pub name: &'a [u8],
@@ -44,6 +43,18 @@ impl<'a> Model for Conversion<'a> {
       parameters = c.parameters;
       ids = c.ids;
     }) };
+}
+
+// By hand, so that whoever drops one calls this, and proves nothing of its parts.
+impl Drop for Conversion<'_> {
+    fn drop(self) {
+        let Conversion {
+            name: _,
+            method: _,
+            parameters: _,
+            ids: _,
+        } = self;
+    }
 }
 
 /// The method of a conversion, `METHOD[name, id..]`.

@@ -13,7 +13,6 @@ use std::marker::Model;
 
 /// A geodetic or geographic CRS, `GEODCRS[name, frame, (meridian), system, tail]` or with `GEOGCRS`.
 /// ISO 19162:2019, "Geodetic and geographic CRS".
-#[derive(Drop)]
 pub struct Geodetic<'a> {
     /// The name.
     pub name: &'a [u8],
@@ -42,6 +41,19 @@ impl<'a> Model for Geodetic<'a> {
       system = g.system;
       tail = g.tail;
     }) };
+}
+
+// By hand, so that whoever drops one calls this, and proves nothing of its parts.
+impl Drop for Geodetic<'_> {
+    fn drop(self) {
+        let Geodetic {
+            name: _,
+            frame: _,
+            meridian: _,
+            system: _,
+            tail: _,
+        } = self;
+    }
 }
 
 /// A coordinate reference system. ISO 19162:2019, "Coordinate reference systems".

@@ -12,7 +12,6 @@ use std::marker::Model;
 
 /// An ellipsoid, `ELLIPSOID[name, semi-major axis, inverse flattening, (unit), id..]`.
 /// ISO 19162:2019, "Ellipsoid".
-#[derive(Drop)]
 pub struct Ellipsoid<'a> {
     /// The name.
     pub name: &'a [u8],
@@ -47,6 +46,19 @@ impl<'a> Model for Ellipsoid<'a> {
       unit = e.unit;
       ids = e.ids;
     }) };
+}
+
+// By hand, so that whoever drops one calls this, and proves nothing of its parts.
+impl Drop for Ellipsoid<'_> {
+    fn drop(self) {
+        let Ellipsoid {
+            name: _,
+            semi_major_axis: _,
+            inverse_flattening: _,
+            unit: _,
+            ids: _,
+        } = self;
+    }
 }
 
 impl<'a> Node<'a> for Ellipsoid<'a> {

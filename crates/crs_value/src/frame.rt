@@ -22,7 +22,6 @@ pub enum Frame<'a> {
 
 /// A geodetic reference frame, `DATUM[name, ellipsoid, anchor.., id..]`, or a vertical one, which has
 /// no ellipsoid. ISO 19162:2019, "Datum".
-#[derive(Drop)]
 pub struct Datum<'a> {
     /// The name.
     pub name: &'a [u8],
@@ -51,9 +50,20 @@ impl<'a> Model for Datum<'a> {
     }) };
 }
 
+// By hand, so that whoever drops one calls this, and proves nothing of its parts.
+impl Drop for Datum<'_> {
+    fn drop(self) {
+        let Datum {
+            name: _,
+            ellipsoid: _,
+            anchor: _,
+            ids: _,
+        } = self;
+    }
+}
+
 /// A datum ensemble, `ENSEMBLE[name, member.., ellipsoid, accuracy, id..]`; one of vertical frames has
 /// no ellipsoid. ISO 19162:2019, "Datum ensemble".
-#[derive(Drop)]
 pub struct Ensemble<'a> {
     /// The name.
     pub name: &'a [u8],
@@ -88,6 +98,19 @@ impl<'a> Model for Ensemble<'a> {
       accuracy = e.accuracy;
       ids = e.ids;
     }) };
+}
+
+// By hand, so that whoever drops one calls this, and proves nothing of its parts.
+impl Drop for Ensemble<'_> {
+    fn drop(self) {
+        let Ensemble {
+            name: _,
+            members: _,
+            ellipsoid: _,
+            accuracy: _,
+            ids: _,
+        } = self;
+    }
 }
 
 /// A member of a datum ensemble, `MEMBER[name, id..]`. ISO 19162:2019, "Datum ensemble".

@@ -12,7 +12,6 @@ use std::marker::Model;
 
 /// A prime meridian, `PRIMEM[name, longitude, (unit), id..]`.
 /// ISO 19162:2019, "Prime meridian".
-#[derive(Drop)]
 pub struct Meridian<'a> {
     /// The name.
     pub name: &'a [u8],
@@ -38,6 +37,18 @@ impl<'a> Model for Meridian<'a> {
       unit = m.unit;
       ids = m.ids;
     }) };
+}
+
+// By hand, so that whoever drops one calls this, and proves nothing of its parts.
+impl Drop for Meridian<'_> {
+    fn drop(self) {
+        let Meridian {
+            name: _,
+            longitude: _,
+            unit: _,
+            ids: _,
+        } = self;
+    }
 }
 
 impl<'a> Node<'a> for Meridian<'a> {

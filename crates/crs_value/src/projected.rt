@@ -18,7 +18,6 @@ use std::marker::Model;
 
 /// A projected CRS, `PROJCRS[name, base, conversion, system, tail]`.
 /// ISO 19162:2019, "Projected CRS".
-#[derive(Drop)]
 pub struct Projected<'a> {
     /// The name.
     pub name: &'a [u8],
@@ -49,9 +48,21 @@ impl<'a> Model for Projected<'a> {
     }) };
 }
 
+// By hand, so that whoever drops one calls this, and proves nothing of its parts.
+impl Drop for Projected<'_> {
+    fn drop(self) {
+        let Projected {
+            name: _,
+            base: _,
+            conversion: _,
+            system: _,
+            tail: _,
+        } = self;
+    }
+}
+
 /// The base of a projected CRS, `BASEGEOGCRS[name, frame, (meridian), (unit), id..]` or with
 /// `BASEGEODCRS`. ISO 19162:2019, "Base CRS".
-#[derive(Drop)]
 pub struct Base<'a> {
     /// The name.
     pub name: &'a [u8],
@@ -80,6 +91,19 @@ impl<'a> Model for Base<'a> {
       unit = b.unit;
       ids = b.ids;
     }) };
+}
+
+// By hand, so that whoever drops one calls this, and proves nothing of its parts.
+impl Drop for Base<'_> {
+    fn drop(self) {
+        let Base {
+            name: _,
+            frame: _,
+            meridian: _,
+            unit: _,
+            ids: _,
+        } = self;
+    }
 }
 
 impl<'a> Node<'a> for Projected<'a> {

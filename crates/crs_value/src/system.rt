@@ -20,7 +20,6 @@ use std::marker::Model;
 
 /// A coordinate system: `CS[type, dimension, id..]`, the axes beside it, and their shared unit.
 /// ISO 19162:2019, "Coordinate system".
-#[derive(Drop)]
 pub struct System<'a> {
     /// The type.
     pub system_type: SystemType,
@@ -55,6 +54,19 @@ impl<'a> Model for System<'a> {
       axes = s.axes;
       unit = s.unit;
     }) };
+}
+
+// By hand, so that whoever drops one calls this, and proves nothing of its parts.
+impl Drop for System<'_> {
+    fn drop(self) {
+        let System {
+            system_type: _,
+            dimension: _,
+            ids: _,
+            axes: _,
+            unit: _,
+        } = self;
+    }
 }
 
 fn system_type(items: &Items<'_>, id: ItemId) -> SystemType

@@ -96,7 +96,6 @@ impl<'a> Model for Extent<'a> {
 
 /// A CRS's end: usages, bare parts of one, identifiers and a remark, in any order.
 /// ISO 19162:2019, "Scope, extent, identifier and remark"; the order is the profile's.
-#[derive(Drop)]
 pub struct Tail<'a> {
     /// The usages, as written.
     pub usages: List<Usage<'a>>,
@@ -123,6 +122,18 @@ impl<'a> Model for Tail<'a> {
       ids = t.ids;
       remark = option_copied t.remark;
     }) };
+}
+
+// By hand, so that whoever drops one calls this, and proves nothing of its parts.
+impl Drop for Tail<'_> {
+    fn drop(self) {
+        let Tail {
+            usages: _,
+            bare: _,
+            ids: _,
+            remark: _,
+        } = self;
+    }
 }
 
 impl<'a> Node<'a> for BoundingBox {

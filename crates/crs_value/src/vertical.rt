@@ -15,7 +15,6 @@ use std::marker::Model;
 
 /// A vertical CRS, `VERTCRS[name, frame, system, tail]`, with geoid models in its tail.
 /// ISO 19162:2019, "Vertical CRS".
-#[derive(Drop)]
 pub struct Vertical<'a> {
     /// The name.
     pub name: &'a [u8],
@@ -50,6 +49,19 @@ impl<'a> Model for Vertical<'a> {
       geoid_models = v.geoid_models;
       tail = v.tail;
     }) };
+}
+
+// By hand, so that whoever drops one calls this, and proves nothing of its parts.
+impl Drop for Vertical<'_> {
+    fn drop(self) {
+        let Vertical {
+            name: _,
+            frame: _,
+            system: _,
+            geoid_models: _,
+            tail: _,
+        } = self;
+    }
 }
 
 /// A geoid model, `GEOIDMODEL[name, id..]`. ISO 19162:2019, "Vertical CRS".
