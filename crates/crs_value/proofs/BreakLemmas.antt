@@ -8,7 +8,8 @@ use Rattle.crs_text.specs.declared.items.ItemKind.TheVariants as kinds
 use Rattle.crs_shape.specs.declared.class.Class.{Class}
 use Rattle.crs_shape.specs.Shaped.{Shaped, AreShaped}
 use Rattle.crs_shape.specs.ShapeFault.{class_in}
-use Rattle.crs_value.specs.Checks.{AtClass, Own, Breaks, BreaksAmong, IsLeast}
+use Rattle.crs_value.specs.Break.{IsLeast}
+use Rattle.crs_value.specs.Checks.{AtClass, Own, Breaks, BreaksAmong}
 use Rattle.crs_value.specs.Least.{lesser}
 use Rattle.crs_value.specs.Reading.{item_at, ahead, Holds}
 use Rattle.crs_value.proofs.ArgumentLemmas.{ahead_at, holds_at}

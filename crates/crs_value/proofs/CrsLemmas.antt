@@ -4,7 +4,12 @@ use Rattle.crs_text.specs.Items.{Item, arguments}
 use Rattle.crs_text.specs.Refusal.{Refused}
 use Rattle.crs_shape.specs.declared.class.Class.{Class}
 use Rattle.crs_shape.specs.declared.class.Class.TheVariants as class
-use Rattle.crs_value.specs.Checks.{at, AnyOf, BadOrders, BadOrder, LacksOrder, IsBadOrder, BadOwnUnit, Misfits, HasOwnUnit, IsSuperfluous, BadUnit, OfAxes, OfHead, RepeatsAny, once, OfCrs, BreaksAmong, dimensions_of, IsLeast, orders_in, units_in}
+use Rattle.crs_value.specs.BadOrder.{BadOrders, BadOrder, LacksOrder, IsBadOrder, orders_in}
+use Rattle.crs_value.specs.BadSystem.{dimensions_of}
+use Rattle.crs_value.specs.BadUnit.{BadOwnUnit, Misfits, HasOwnUnit, IsSuperfluous, BadUnit, units_in}
+use Rattle.crs_value.specs.Break.{at, AnyOf, IsLeast}
+use Rattle.crs_value.specs.Checks.{OfAxes, OfHead, once, OfCrs, BreaksAmong}
+use Rattle.crs_value.specs.Repeated.{RepeatsAny}
 use Rattle.crs_value.specs.Least.{lesser}
 use Rattle.crs_value.specs.Reading.{those}
 use Rattle.crs_value.proofs.LeastLemmas.{least-same, least-below, either-is}

@@ -8,7 +8,8 @@ use Rattle.crs_value.specs.declared.system_type.SystemType.{SystemType}
 use Rattle.crs_value.specs.declared.system_type.SystemType.TheVariants as types
 use Rattle.crs_value.specs.declared.unit_kind.UnitKind.{UnitKind}
 use Rattle.crs_value.specs.declared.unit_kind.UnitKind.TheVariants as kinds
-use Rattle.crs_value.specs.Checks.{IsPosition, IsOneOf}
+use Rattle.crs_value.specs.BadOrder.{IsPosition}
+use Rattle.crs_value.specs.BadSystem.{IsOneOf}
 use Rattle.crs_value.specs.Sound.{Each, Suits}
 use Rattle.crs_value.proofs.WordLemmas.{kind_place}
 

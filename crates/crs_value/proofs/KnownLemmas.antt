@@ -12,7 +12,9 @@ use Rattle.crs_value.specs.declared.direction.Direction.{Direction}
 use Rattle.crs_value.specs.declared.system_type.SystemType.{SystemType}
 use Rattle.crs_value.specs.declared.unit_kind.UnitKind.{UnitKind}
 use Rattle.crs_value.specs.declared.unit_kind.UnitKind.TheVariants as kinds
-use Rattle.crs_value.specs.Checks.{at, AnyOf, UnknownType, UnknownDirection, Own, IsSound}
+use Rattle.crs_value.specs.BadWords.{UnknownType, UnknownDirection}
+use Rattle.crs_value.specs.Break.{at, AnyOf}
+use Rattle.crs_value.specs.Checks.{Own, IsSound}
 use Rattle.crs_value.specs.Reading.{those}
 use Rattle.crs_value.specs.Reads.{ReadsType, ReadsDirection, ReadsKind, IsUnitClass}
 use Rattle.crs_value.specs.Words.{SpellsWord, unit_word}

@@ -3,7 +3,7 @@ use Rattle.std.proofs.Common.{◌≡◌, ℕ, ◌<◌, ◌≤◌, nat_lt, ◌==�
 use Rattle.std.proofs.lemmas.Bool.Decides.{nat_tests}
 use Rattle.crs_text.specs.Items.{Item}
 use Rattle.crs_text.specs.Refusal.{Refused}
-use Rattle.crs_value.specs.Checks.{AnyOf, IsBefore, IsLeast}
+use Rattle.crs_value.specs.Break.{AnyOf, IsBefore, IsLeast}
 use Rattle.crs_value.specs.Least.{is_before, lesser}
 
 before-trans : (a b c : Refused) → IsBefore a b → IsBefore b c → IsBefore a c

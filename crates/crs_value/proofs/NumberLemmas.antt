@@ -7,7 +7,15 @@ use Rattle.crs_shape.specs.declared.class.Class.{Class}
 use Rattle.crs_shape.specs.declared.class.Class.TheVariants as class
 use Rattle.crs_shape.specs.ShapeFault.{class_in}
 use Rattle.crs_value.specs.declared.system_type.SystemType.{SystemType}
-use Rattle.crs_value.specs.Checks.{at, AnyOf, UnknownType, UnknownDirection, IsRepeated, Repeats, RepeatsAny, BadPart, BadParts, LacksOrder, IsBadOrder, BadOrders, BadOrder, orders_in, units_in, Misfits, BadOwnUnit, IsSuperfluous, HasOwnUnit, BadUnit, NotAbove, IsNegative, once, OfHead, OfAxes, OfCrs, OfCompound, OfUnit, OfEllipsoid, Own, AtClass, Breaks, BreaksAmong, horizontal_classes, dimensions_of}
+use Rattle.crs_value.specs.BadNumber.{NotAbove, IsNegative}
+use Rattle.crs_value.specs.BadOrder.{LacksOrder, IsBadOrder, BadOrders, BadOrder, orders_in}
+use Rattle.crs_value.specs.BadPart.{BadPart, BadParts}
+use Rattle.crs_value.specs.BadSystem.{dimensions_of}
+use Rattle.crs_value.specs.BadUnit.{units_in, Misfits, BadOwnUnit, IsSuperfluous, HasOwnUnit, BadUnit}
+use Rattle.crs_value.specs.BadWords.{UnknownType, UnknownDirection}
+use Rattle.crs_value.specs.Break.{at, AnyOf}
+use Rattle.crs_value.specs.Checks.{once, OfHead, OfAxes, OfCrs, OfCompound, OfUnit, OfEllipsoid, Own, AtClass, Breaks, BreaksAmong, horizontal_classes}
+use Rattle.crs_value.specs.Repeated.{IsRepeated, Repeats, RepeatsAny}
 use Rattle.crs_value.specs.Reading.{is_a, those}
 use Rattle.crs_value.specs.SpellsText.{IsFrom, IsRefusal, Refuses}
 use Rattle.crs_value.proofs.PlaceLemmas.{Within, AreWithin, Fine, fine-as, node-within, place-within, arguments-within, root-fine}

@@ -13,7 +13,15 @@ use Rattle.crs_value.specs.declared.system_type.SystemType.{SystemType}
 use Rattle.crs_value.specs.declared.system_type.SystemType.TheVariants as types
 use Rattle.crs_value.specs.declared.unit_kind.UnitKind.{UnitKind}
 use Rattle.crs_value.specs.declared.unit_kind.UnitKind.TheVariants as kinds
-use Rattle.crs_value.specs.Checks.{at, AnyOf, FirstIs, UnknownType, UnknownDirection, IsRepeated, Repeats, RepeatsAny, HasType, HasDimension, IsOneOf, BadSystem, IsNotEllipsoidal, IsNotPlane, IsNotHorizontal, BadPart, BadParts, BadCount, orders_in, SomeHasOrder, AllHaveOrder, LacksOrder, ReadsOrder, IsPosition, HasThis, OneHas, IsWrongOrder, IsBadOrder, BadOrders, BadOrder, asked_kind, Asks, Fits, units_in, LacksUnit, Misfits, BadOwnUnit, IsSuperfluous, HasOwnUnit, AllAsk, SharedFits, BadShared, BadUnit, IsAboveZero, NotAbove, IsNegative, once, OfHead, OfAxes, OfCrs, OfCompound, OfUnit, OfEllipsoid, Own, AtClass, Breaks, BreaksAmong, IsLeast, horizontal_classes, dimensions_of}
+use Rattle.crs_value.specs.BadNumber.{IsAboveZero, NotAbove, IsNegative}
+use Rattle.crs_value.specs.BadOrder.{BadCount, orders_in, SomeHasOrder, AllHaveOrder, LacksOrder, ReadsOrder, IsPosition, HasThis, OneHas, IsWrongOrder, IsBadOrder, BadOrders, BadOrder}
+use Rattle.crs_value.specs.BadPart.{IsNotEllipsoidal, IsNotPlane, IsNotHorizontal, BadPart, BadParts}
+use Rattle.crs_value.specs.BadSystem.{HasType, HasDimension, IsOneOf, BadSystem, dimensions_of}
+use Rattle.crs_value.specs.BadUnit.{asked_kind, Asks, Fits, units_in, LacksUnit, Misfits, BadOwnUnit, IsSuperfluous, HasOwnUnit, AllAsk, SharedFits, BadShared, BadUnit}
+use Rattle.crs_value.specs.BadWords.{UnknownType, UnknownDirection}
+use Rattle.crs_value.specs.Break.{at, AnyOf, FirstIs, IsLeast}
+use Rattle.crs_value.specs.Checks.{once, OfHead, OfAxes, OfCrs, OfCompound, OfUnit, OfEllipsoid, Own, AtClass, Breaks, BreaksAmong, horizontal_classes}
+use Rattle.crs_value.specs.Repeated.{IsRepeated, Repeats, RepeatsAny}
 use Rattle.crs_value.specs.Least.{lesser}
 use Rattle.crs_value.specs.Reading.{those, ReadsFirst}
 use Rattle.crs_value.specs.Reads.{ReadsNumber, ReadsType, ReadsDirection}

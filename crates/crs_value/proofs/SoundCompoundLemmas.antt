@@ -10,7 +10,9 @@ use Rattle.crs_value.specs.declared.compound.Horizontal.TheVariants as horizonta
 use Rattle.crs_value.specs.declared.crs.Crs.{Crs}
 use Rattle.crs_value.specs.declared.crs.Crs.TheVariants as crs
 use Rattle.crs_value.specs.declared.system_type.SystemType.TheVariants as types
-use Rattle.crs_value.specs.Checks.{at, AnyOf, FirstIs, IsNotEllipsoidal, IsNotPlane, IsNotHorizontal, BadPart, BadParts, horizontal_classes, OfCompound, Own, IsSound}
+use Rattle.crs_value.specs.BadPart.{IsNotEllipsoidal, IsNotPlane, IsNotHorizontal, BadPart, BadParts}
+use Rattle.crs_value.specs.Break.{at, AnyOf, FirstIs}
+use Rattle.crs_value.specs.Checks.{horizontal_classes, OfCompound, Own, IsSound}
 use Rattle.crs_value.specs.Reading.{those, ReadsFirst, ReadsElse}
 use Rattle.crs_value.specs.Reads.{ReadsHead}
 use Rattle.crs_value.specs.ReadsCrs.{ReadsVertical, ReadsProjected, ReadsAsHorizontal, ReadsCompound, ReadsCrs}

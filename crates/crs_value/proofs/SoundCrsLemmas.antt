@@ -12,7 +12,8 @@ use Rattle.crs_value.specs.declared.frame.Frame.TheVariants as frames
 use Rattle.crs_value.specs.declared.system_type.SystemType.{SystemType}
 use Rattle.crs_value.specs.declared.system_type.SystemType.TheVariants as types
 use Rattle.crs_value.specs.declared.unit_kind.UnitKind.TheVariants as kinds
-use Rattle.crs_value.specs.Checks.{IsOneOf, geodetic_dimensions, dimensions_of, HasSystem, IsSound}
+use Rattle.crs_value.specs.BadSystem.{IsOneOf, geodetic_dimensions, dimensions_of}
+use Rattle.crs_value.specs.Checks.{HasSystem, IsSound}
 use Rattle.crs_value.specs.Reading.{is_same, those, Requires, ReadsFirst, ReadsOptional, ReadsElse}
 use Rattle.crs_value.specs.Reads.{ReadsUnit, ReadsEllipsoid, ReadsMeridian, ReadsDatum, ReadsEnsemble, ReadsSystem}
 use Rattle.crs_value.specs.ReadsConversion.{ReadsConversion, ReadsGeoidModel}

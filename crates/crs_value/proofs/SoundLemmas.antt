@@ -18,7 +18,9 @@ use Rattle.crs_shape.specs.Keywords.{is_keyword, keywords_of}
 use Rattle.crs_shape.specs.Shaped.{Shaped}
 use Rattle.crs_value.specs.declared.unit_kind.UnitKind.{UnitKind}
 use Rattle.crs_value.specs.declared.unit_kind.UnitKind.TheVariants as kinds
-use Rattle.crs_value.specs.Checks.{at, AnyOf, IsAboveZero, NotAbove, OfUnit, Own, IsSound}
+use Rattle.crs_value.specs.BadNumber.{IsAboveZero, NotAbove}
+use Rattle.crs_value.specs.Break.{at, AnyOf}
+use Rattle.crs_value.specs.Checks.{OfUnit, Own, IsSound}
 use Rattle.crs_value.specs.Reading.{those, ReadsFirst, ReadsOptional, ReadsEach}
 use Rattle.crs_value.specs.Reads.{ReadsText, ReadsNumber, ReadsKind, ReadsTextOf, ReadsNumberOf, single_of, ReadsIdent, ReadsIds, IsUnitClass, ReadsUnit}
 use Rattle.crs_value.specs.Sound.{Each, IsText, IsIdent, IsUnit, Suits, IsUnitOf, IsAxisUnit}

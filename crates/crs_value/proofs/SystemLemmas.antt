@@ -8,7 +8,9 @@ use Rattle.crs_text.specs.Refusal.{Refused}
 use Rattle.crs_shape.specs.declared.class.Class.{Class}
 use Rattle.crs_shape.specs.declared.class.Class.TheVariants as class
 use Rattle.crs_value.specs.declared.system_type.SystemType.{SystemType}
-use Rattle.crs_value.specs.Checks.{at, HasType, HasDimension, IsOneOf, BadSystem, BadCount, IsLeast}
+use Rattle.crs_value.specs.BadOrder.{BadCount}
+use Rattle.crs_value.specs.BadSystem.{HasType, HasDimension, IsOneOf, BadSystem}
+use Rattle.crs_value.specs.Break.{at, IsLeast}
 use Rattle.crs_value.specs.Reading.{is_a, those, IsReading, ReadsFirst}
 use Rattle.crs_value.specs.Reads.{ReadsNumber, ReadsType}
 use Rattle.crs_value.proofs.CheckLemmas.{DenotesOne, number-one}

@@ -1,3 +1,10 @@
+pub mod BadNumber
+pub mod BadOrder
+pub mod BadPart
+pub mod BadSystem
+pub mod BadUnit
+pub mod BadWords
+pub mod Break
 pub mod Checks
 pub mod CompoundValues
 pub mod ConversionValues
@@ -8,6 +15,7 @@ pub mod Reading
 pub mod Reads
 pub mod ReadsConversion
 pub mod ReadsCrs
+pub mod Repeated
 pub mod Sound
 pub mod SoundCompound
 pub mod SoundConversion

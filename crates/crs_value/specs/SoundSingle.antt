@@ -3,7 +3,7 @@ use Rattle.std.specs.Prelude.{IfSome, IsSome, IsNone}
 use Rattle.crs_value.specs.declared.frame.Frame.{Frame}
 use Rattle.crs_value.specs.declared.frame.Frame.TheVariants as frame
 use Rattle.crs_value.specs.declared.unit_kind.UnitKind.TheVariants as kinds
-use Rattle.crs_value.specs.Checks.{IsOneOf, geodetic_dimensions, projected_dimensions, vertical_dimensions}
+use Rattle.crs_value.specs.BadSystem.{IsOneOf, geodetic_dimensions, projected_dimensions, vertical_dimensions}
 use Rattle.crs_value.specs.CrsValues.{GeodeticParts, BaseParts, ProjectedParts, VerticalParts}
 use Rattle.crs_value.specs.Sound.{Each, IsText, IsIdent, IsUnitOf}
 use Rattle.crs_value.specs.SoundConversion.{IsConversion, IsGeoidModel}

@@ -5,7 +5,8 @@ use Rattle.crs_decimal.specs.Number.{SameNumber, whole_number}
 use Rattle.crs_decimal.specs.Value.{Value, IsNormal, exact}
 use Rattle.crs_value.specs.declared.system_type.SystemType.{SystemType}
 use Rattle.crs_value.specs.declared.unit_kind.UnitKind.{UnitKind}
-use Rattle.crs_value.specs.Checks.{IsPosition, asked_kind}
+use Rattle.crs_value.specs.BadOrder.{IsPosition}
+use Rattle.crs_value.specs.BadUnit.{asked_kind}
 use Rattle.crs_value.specs.Sound.{Each, IsIdent, Suits, IsAxisUnit, IsAxis}
 use Rattle.crs_value.specs.Values.{UnitParts, AxisParts, SystemParts}
 

@@ -2,7 +2,9 @@
 ghost use Rattle.std.specs.Prelude.{◌↔◌, IsTrue};
 ghost use Rattle.crs_text.specs.Items.{HasId, arguments};
 ghost use Rattle.crs_shape.specs.Shaped.{Shaped};
-ghost use Rattle.crs_value.specs.Checks.{AnyOf, IsLeast, IsNotEllipsoidal, IsNotPlane, IsNotHorizontal, FirstIs, BadPart, OfCompound};
+ghost use Rattle.crs_value.specs.BadPart.{IsNotEllipsoidal, IsNotPlane, IsNotHorizontal, BadPart};
+ghost use Rattle.crs_value.specs.Break.{AnyOf, IsLeast, FirstIs};
+ghost use Rattle.crs_value.specs.Checks.{OfCompound};
 ghost use Rattle.crs_value.specs.Reading.{item_at, those, Requires};
 
 use crate::checks::{Check, any_of, lesser, refusal_at};
@@ -69,7 +71,7 @@ struct Component {
 impl Check for Component {
     ghost use Rattle.std.specs.Prelude.{◌≡◌};
     ghost use Rattle.crs_shape.specs.declared.class.Class.TheVariants as classes;
-    ghost use Rattle.crs_value.specs.Checks.{BadPart};
+    ghost use Rattle.crs_value.specs.BadPart.{BadPart};
     ghost use Rattle.crs_value.specs.Reading.{Requires};
 
     ghost Fits = { λ s tree class. (class ≡ s.class) × Requires class classes.CoordinateSystem 0 };

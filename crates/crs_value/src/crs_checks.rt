@@ -2,7 +2,10 @@
 ghost use Rattle.std.specs.Prelude.{◌≡◌, ◌<◌, ◌⊎◌, IfSome, Some};
 ghost use Rattle.crs_text.specs.Items.{HasId, arguments};
 ghost use Rattle.crs_shape.specs.Shaped.{Shaped};
-ghost use Rattle.crs_value.specs.Checks.{AnyOf, IsLeast, BreaksAmong, RepeatsAny, once, OfHead, OfAxes, OfCrs, dimensions_of};
+ghost use Rattle.crs_value.specs.BadSystem.{dimensions_of};
+ghost use Rattle.crs_value.specs.Break.{AnyOf, IsLeast};
+ghost use Rattle.crs_value.specs.Checks.{BreaksAmong, once, OfHead, OfAxes, OfCrs};
+ghost use Rattle.crs_value.specs.Repeated.{RepeatsAny};
 ghost use Rattle.crs_value.specs.Reading.{item_at, those};
 
 use crate::checks::{Check, any_of, lesser};
@@ -27,7 +30,8 @@ impl Check for HeadOf {
     ghost use Rattle.std.specs.Prelude.{◌≡◌};
     ghost use Rattle.crs_text.specs.Items.{HasId, arguments};
     ghost use Rattle.crs_shape.specs.declared.class.Class.TheVariants as classes;
-    ghost use Rattle.crs_value.specs.Checks.{OfHead, dimensions_of};
+    ghost use Rattle.crs_value.specs.BadSystem.{dimensions_of};
+    ghost use Rattle.crs_value.specs.Checks.{OfHead};
     ghost use Rattle.crs_value.specs.Reading.{item_at, those};
 
     ghost Fits = { λ s tree class. HasId tree s.crs × (class ≡ classes.CoordinateSystem) };
@@ -54,7 +58,7 @@ impl Check for UnitsOf {
     ghost use Rattle.crs_text.specs.Items.{HasId, arguments};
     ghost use Rattle.crs_shape.specs.Shaped.{Shaped};
     ghost use Rattle.crs_shape.specs.declared.class.Class.TheVariants as classes;
-    ghost use Rattle.crs_value.specs.Checks.{BadUnit};
+    ghost use Rattle.crs_value.specs.BadUnit.{BadUnit};
     ghost use Rattle.crs_value.specs.Reading.{item_at, those};
 
     ghost Fits = { λ s tree class. HasId tree s.crs × Shaped s.class (item_at tree s.crs) × (class ≡ classes.CoordinateSystem) };

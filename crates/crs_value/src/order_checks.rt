@@ -2,7 +2,8 @@
 ghost use Rattle.std.specs.Prelude.{◌≡◌, ◌≢◌, ◌↔◌, ◌≤◌, [], IsTrue, Some, length, take};
 ghost use Rattle.crs_text.specs.Items.{HasId, arguments};
 ghost use Rattle.crs_shape.specs.Shaped.{Shaped};
-ghost use Rattle.crs_value.specs.Checks.{AnyOf, IsLeast, IsPosition, HasThis, OneHas, LacksOrder, orders_in, SomeHasOrder, BadOrders, BadOrder};
+ghost use Rattle.crs_value.specs.BadOrder.{IsPosition, HasThis, OneHas, LacksOrder, orders_in, SomeHasOrder, BadOrders, BadOrder};
+ghost use Rattle.crs_value.specs.Break.{AnyOf, IsLeast};
 ghost use Rattle.crs_value.specs.Reading.{item_at, those};
 
 use crate::arguments::{first, later};
@@ -82,7 +83,7 @@ impl Check for Position {
     ghost use Rattle.crs_text.specs.Items.{HasId, arguments};
     ghost use Rattle.crs_shape.specs.Shaped.{Shaped};
     ghost use Rattle.crs_shape.specs.declared.class.Class.TheVariants as classes;
-    ghost use Rattle.crs_value.specs.Checks.{IsBadOrder};
+    ghost use Rattle.crs_value.specs.BadOrder.{IsBadOrder};
     ghost use Rattle.crs_value.specs.Reading.{item_at, those};
 
     ghost Fits = { λ s tree class. HasId tree s.crs × Shaped s.class (item_at tree s.crs) × (class ≡ classes.Order)
@@ -109,7 +110,7 @@ struct Orderless;
 impl Check for Orderless {
     ghost use Rattle.std.specs.Prelude.{◌≡◌};
     ghost use Rattle.crs_shape.specs.declared.class.Class.TheVariants as classes;
-    ghost use Rattle.crs_value.specs.Checks.{LacksOrder};
+    ghost use Rattle.crs_value.specs.BadOrder.{LacksOrder};
 
     ghost Fits = { λ s tree class. class ≡ classes.Axis };
 

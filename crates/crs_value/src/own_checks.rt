@@ -2,7 +2,8 @@
 ghost use Rattle.std.specs.Prelude.{◌↔◌, ◌⊎◌, IsTrue};
 ghost use Rattle.crs_text.specs.Items.{HasId, arguments};
 ghost use Rattle.crs_shape.specs.Shaped.{Shaped};
-ghost use Rattle.crs_value.specs.Checks.{IsLeast, HasSystem, OfEllipsoid, Own, Breaks, BreaksAmong};
+ghost use Rattle.crs_value.specs.Break.{IsLeast};
+ghost use Rattle.crs_value.specs.Checks.{HasSystem, OfEllipsoid, Own, Breaks, BreaksAmong};
 ghost use Rattle.crs_value.specs.Reading.{item_at, those};
 
 use crate::arguments::{class_in, first, later};

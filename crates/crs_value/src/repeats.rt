@@ -1,7 +1,9 @@
 //! The checks of what may stand once.
 ghost use Rattle.crs_text.specs.Items.{HasId, arguments};
 ghost use Rattle.crs_shape.specs.Shaped.{Shaped};
-ghost use Rattle.crs_value.specs.Checks.{IsLeast, Repeats, RepeatsAny, once};
+ghost use Rattle.crs_value.specs.Break.{IsLeast};
+ghost use Rattle.crs_value.specs.Checks.{once};
+ghost use Rattle.crs_value.specs.Repeated.{Repeats, RepeatsAny};
 ghost use Rattle.crs_value.specs.Reading.{item_at};
 
 use crate::arguments::{first, later};

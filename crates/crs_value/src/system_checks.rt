@@ -4,7 +4,9 @@ ghost use Rattle.crs_decimal.specs.Number.{SameNumber, whole_number};
 ghost use Rattle.crs_decimal.specs.Value.{exact};
 ghost use Rattle.crs_text.specs.Items.{HasId, arguments};
 ghost use Rattle.crs_shape.specs.Shaped.{Shaped};
-ghost use Rattle.crs_value.specs.Checks.{IsLeast, HasType, IsOneOf, dimensions_of, BadSystem, BadCount};
+ghost use Rattle.crs_value.specs.BadOrder.{BadCount};
+ghost use Rattle.crs_value.specs.BadSystem.{HasType, IsOneOf, dimensions_of, BadSystem};
+ghost use Rattle.crs_value.specs.Break.{IsLeast};
 ghost use Rattle.crs_value.specs.Reading.{item_at, those, IsReading};
 
 use crate::arguments::{first, later};

@@ -2,7 +2,8 @@
 ghost use Rattle.std.specs.Prelude.{◌≡◌, ◌↔◌, IsTrue};
 ghost use Rattle.crs_text.specs.Items.{HasId, arguments};
 ghost use Rattle.crs_shape.specs.Shaped.{Shaped};
-ghost use Rattle.crs_value.specs.Checks.{IsLeast, asked_kind, Asks, Fits, AllAsk, SharedFits, BadShared, BadUnit};
+ghost use Rattle.crs_value.specs.BadUnit.{asked_kind, Asks, Fits, AllAsk, SharedFits, BadShared, BadUnit};
+ghost use Rattle.crs_value.specs.Break.{IsLeast};
 ghost use Rattle.crs_value.specs.Reading.{item_at, those, IsReading, ReadsFirst};
 ghost use Rattle.crs_value.specs.Reads.{ReadsDirection};
 
@@ -74,7 +75,7 @@ impl Check for Misfit {
     ghost use Rattle.crs_text.specs.Items.{HasId};
     ghost use Rattle.crs_shape.specs.Shaped.{Shaped};
     ghost use Rattle.crs_shape.specs.declared.class.Class.TheVariants as classes;
-    ghost use Rattle.crs_value.specs.Checks.{Misfits};
+    ghost use Rattle.crs_value.specs.BadUnit.{Misfits};
     ghost use Rattle.crs_value.specs.Reading.{item_at};
 
     ghost Fits = { λ s tree class. HasId tree s.cs × HasId tree s.axis × Shaped classes.CoordinateSystem (item_at tree s.cs)
@@ -103,7 +104,7 @@ impl Check for OwnUnit {
     ghost use Rattle.crs_text.specs.Items.{HasId};
     ghost use Rattle.crs_shape.specs.Shaped.{Shaped};
     ghost use Rattle.crs_shape.specs.declared.class.Class.TheVariants as classes;
-    ghost use Rattle.crs_value.specs.Checks.{BadOwnUnit};
+    ghost use Rattle.crs_value.specs.BadUnit.{BadOwnUnit};
     ghost use Rattle.crs_value.specs.Reading.{item_at};
 
     ghost Fits = { λ s tree class. HasId tree s.cs × Shaped classes.CoordinateSystem (item_at tree s.cs) × (class ≡ classes.Axis) };
@@ -127,7 +128,7 @@ impl Check for OwnUnit {
 struct Superfluous;
 
 impl Check for Superfluous {
-    ghost use Rattle.crs_value.specs.Checks.{IsSuperfluous};
+    ghost use Rattle.crs_value.specs.BadUnit.{IsSuperfluous};
 
     ghost Fits = { λ s tree class. Unit {0} };
 
@@ -145,7 +146,7 @@ struct NoUnit;
 impl Check for NoUnit {
     ghost use Rattle.std.specs.Prelude.{◌≡◌};
     ghost use Rattle.crs_shape.specs.declared.class.Class.TheVariants as classes;
-    ghost use Rattle.crs_value.specs.Checks.{HasOwnUnit};
+    ghost use Rattle.crs_value.specs.BadUnit.{HasOwnUnit};
 
     ghost Fits = { λ s tree class. class ≡ classes.Axis };
 

@@ -1,6 +1,6 @@
 use Rattle.std.proofs.Common.{List, subst, sym}
 use Rattle.crs_text.specs.Items.{Item, arguments}
-use Rattle.crs_value.specs.Checks.{AnyOf, IsLeast}
+use Rattle.crs_value.specs.Break.{AnyOf, IsLeast}
 use Rattle.crs_value.specs.Reading.{item_at, those}
 use Rattle.crs_value.proofs.ArgumentLemmas.{found-is, found-shaped}
 use Rattle.crs_value.proofs.checks.any_of.Goals as goal

@@ -3,7 +3,10 @@ use Rattle.crs_text.specs.Items.{arguments}
 use Rattle.crs_text.specs.Refusal.{Refused}
 use Rattle.crs_shape.specs.declared.class.Class.{Class}
 use Rattle.crs_shape.specs.declared.class.Class.TheVariants as class
-use Rattle.crs_value.specs.Checks.{AnyOf, BadPart, BadParts, RepeatsAny, horizontal_classes, once, IsLeast}
+use Rattle.crs_value.specs.BadPart.{BadPart, BadParts}
+use Rattle.crs_value.specs.Break.{AnyOf, IsLeast}
+use Rattle.crs_value.specs.Checks.{horizontal_classes, once}
+use Rattle.crs_value.specs.Repeated.{RepeatsAny}
 use Rattle.crs_value.specs.Reading.{item_at, those}
 use Rattle.crs_value.proofs.LeastLemmas.{either-is}
 use Rattle.crs_value.proofs.component_checks.compound.Goals as goal

@@ -1,6 +1,8 @@
 use Rattle.crs_text.specs.Items.{arguments}
 use Rattle.crs_shape.specs.declared.class.Class.TheVariants as class
-use Rattle.crs_value.specs.Checks.{AnyOf, BadOrder, BadUnit}
+use Rattle.crs_value.specs.BadOrder.{BadOrder}
+use Rattle.crs_value.specs.BadUnit.{BadUnit}
+use Rattle.crs_value.specs.Break.{AnyOf}
 use Rattle.crs_value.specs.Reading.{item_at, those}
 use Rattle.crs_value.proofs.LeastLemmas.{either-is}
 use Rattle.crs_value.proofs.crs_checks.of_axes.Goals as goal

@@ -1,6 +1,6 @@
 use Rattle.std.proofs.Common.{subst}
 use Rattle.crs_value.specs.declared.unit_kind.UnitKind.{UnitKind}
-use Rattle.crs_value.specs.Checks.{Asks}
+use Rattle.crs_value.specs.BadUnit.{Asks}
 use Rattle.crs_value.specs.Reading.{item_at}
 use Rattle.crs_value.proofs.UnitLemmas.{asks-one}
 use Rattle.crs_value.proofs.unit_checks.asks.Goals as goal

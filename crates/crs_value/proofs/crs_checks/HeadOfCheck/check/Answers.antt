@@ -1,6 +1,7 @@
 use Rattle.crs_text.specs.Items.{arguments}
 use Rattle.crs_shape.specs.declared.class.Class.TheVariants as class
-use Rattle.crs_value.specs.Checks.{BadSystem, BadCount, dimensions_of}
+use Rattle.crs_value.specs.BadOrder.{BadCount}
+use Rattle.crs_value.specs.BadSystem.{BadSystem, dimensions_of}
 use Rattle.crs_value.specs.Reading.{item_at, those}
 use Rattle.crs_value.proofs.LeastLemmas.{either-is}
 use Rattle.crs_value.proofs.crs_checks.HeadOfCheck.check.Goals as goal

@@ -1,0 +1,67 @@
+-- 25: the number of axes isn't the dimension. 26: an order on some axes and not on all, or orders that aren't the
+-- whole numbers from 1 on, each once.
+use Rattle.std.specs.Prelude.{◌≡◌, ◌≢◌, ℕ, ◌≤◌, length, List, [], ◌∷◌, ◌++◌, ◌⊎◌}
+use Rattle.crs_decimal.specs.Number.{SameNumber, whole_number}
+use Rattle.crs_decimal.specs.Value.{Value, exact}
+use Rattle.crs_text.specs.Items.{Item, arguments}
+use Rattle.crs_text.specs.Refusal.{Refused}
+use Rattle.crs_shape.specs.declared.class.Class.TheVariants as class
+use Rattle.crs_value.specs.Reading.{those, ReadsFirst}
+use Rattle.crs_value.specs.Reads.{ReadsNumberOf}
+use Rattle.crs_value.specs.Break.{at, AnyOf}
+use Rattle.crs_value.specs.BadSystem.{HasDimension}
+
+-- ---- the number of axes
+
+abbrev pub BadCount : List Item → Item → Refused → Type 0
+BadCount axes cs fault =
+    (fault ≡ at 25 cs) × ((dimension : Value) × (HasDimension cs dimension × ¬ (SameNumber (exact dimension) (whole_number (length axes)))))
+
+-- ---- orders
+
+abbrev pub orders_in : Item → List Item
+orders_in axis = those class.Axis class.Order (arguments axis)
+
+abbrev pub SomeHasOrder : List Item → Type 0
+SomeHasOrder [] = ⊥
+SomeHasOrder (axis ∷ axes) = (orders_in axis ≢ []) ⊎ SomeHasOrder axes
+
+abbrev pub AllHaveOrder : List Item → Type 0
+AllHaveOrder [] = Unit {0}
+AllHaveOrder (axis ∷ axes) = (orders_in axis ≢ []) × AllHaveOrder axes
+
+abbrev pub LacksOrder : Item → Refused → Type 0
+LacksOrder axis fault = (fault ≡ at 26 axis) × (orders_in axis ≡ [])
+
+abbrev pub ReadsOrder : Item → Value → Type 0
+ReadsOrder order value = ReadsNumberOf class.Order order value
+
+-- the number is whole, from 1 to n
+abbrev pub IsPosition : ℕ → Value → Type 0
+IsPosition n value = (k : ℕ) × ((1 ≤ k) × (k ≤ n) × SameNumber (exact value) (whole_number k))
+
+-- the axis has this order
+abbrev pub HasThis : Value → Item → Type 0
+HasThis value axis = ReadsFirst ReadsOrder (orders_in axis) value
+
+-- one of these axes has this order
+abbrev pub OneHas : Value → List Item → Type 0
+OneHas value [] = ⊥
+OneHas value (axis ∷ axes) = HasThis value axis ⊎ OneHas value axes
+
+-- an order that is no position among n axes, or that one of the axes before has
+abbrev pub IsWrongOrder : ℕ → List Item → Item → Type 0
+IsWrongOrder n before order = (value : Value) × (ReadsOrder order value × (¬ (IsPosition n value) ⊎ OneHas value before))
+
+abbrev pub IsBadOrder : ℕ → List Item → Item → Refused → Type 0
+IsBadOrder n before order fault = (fault ≡ at 26 order) × IsWrongOrder n before order
+
+-- the bad orders of these axes, behind those before
+abbrev pub BadOrders : ℕ → List Item → List Item → Refused → Type 0
+BadOrders n before [] fault = ⊥
+BadOrders n before (axis ∷ axes) fault = AnyOf (IsBadOrder n before) (orders_in axis) fault ⊎ BadOrders n (before ++ axis ∷ []) axes fault
+
+-- some axes have an order, and this one lacks it; or all have one, and this is no position or stands twice
+abbrev pub BadOrder : List Item → Refused → Type 0
+BadOrder axes fault =
+    (SomeHasOrder axes × AnyOf LacksOrder axes fault) ⊎ (AllHaveOrder axes × BadOrders (length axes) [] axes fault)

@@ -1,0 +1,65 @@
+-- 23: a type and dimension of a coordinate system that the CRS doesn't allow.
+use Rattle.std.specs.Prelude.{◌≡◌, ℕ, List, [], ◌∷◌, ◌⊎◌}
+use Rattle.crs_decimal.specs.Number.{SameNumber, whole_number}
+use Rattle.crs_decimal.specs.Value.{Value, exact}
+use Rattle.crs_text.specs.Items.{Item, arguments}
+use Rattle.crs_text.specs.Refusal.{Refused}
+use Rattle.crs_shape.specs.declared.class.Class.{Class}
+use Rattle.crs_shape.specs.declared.class.Class.TheVariants as class
+use Rattle.crs_value.specs.declared.system_type.SystemType.{SystemType}
+use Rattle.crs_value.specs.declared.system_type.SystemType.TheVariants as types
+use Rattle.crs_value.specs.Reading.{those, ReadsFirst}
+use Rattle.crs_value.specs.Reads.{ReadsNumberOf, ReadsType}
+use Rattle.crs_value.specs.Break.{at}
+
+abbrev pub HasType : Item → SystemType → Type 0
+HasType cs value = ReadsFirst ReadsType (those class.CoordinateSystem class.Word (arguments cs)) value
+
+abbrev pub HasDimension : Item → Value → Type 0
+HasDimension cs value = ReadsNumberOf class.CoordinateSystem cs value
+
+-- the dimensions of a geodetic CRS's system
+abbrev pub geodetic_dimensions : SystemType → List ℕ
+geodetic_dimensions types.Cartesian = 3 ∷ []
+geodetic_dimensions types.Ellipsoidal = 2 ∷ 3 ∷ []
+geodetic_dimensions types.Spherical = 2 ∷ 3 ∷ []
+geodetic_dimensions types.Vertical = []
+
+-- those of a CRS that is called geographic
+abbrev pub geographic_dimensions : SystemType → List ℕ
+geographic_dimensions types.Cartesian = []
+geographic_dimensions types.Ellipsoidal = 2 ∷ 3 ∷ []
+geographic_dimensions types.Spherical = []
+geographic_dimensions types.Vertical = []
+
+-- those of a projected CRS
+abbrev pub projected_dimensions : SystemType → List ℕ
+projected_dimensions types.Cartesian = 2 ∷ 3 ∷ []
+projected_dimensions types.Ellipsoidal = []
+projected_dimensions types.Spherical = []
+projected_dimensions types.Vertical = []
+
+-- those of a vertical CRS
+abbrev pub vertical_dimensions : SystemType → List ℕ
+vertical_dimensions types.Cartesian = []
+vertical_dimensions types.Ellipsoidal = []
+vertical_dimensions types.Spherical = []
+vertical_dimensions types.Vertical = 1 ∷ []
+
+-- the dimensions of a CRS of this class
+abbrev pub dimensions_of : Class → SystemType → List ℕ
+dimensions_of class.GeodeticCrs = geodetic_dimensions
+dimensions_of class.GeographicCrs = geographic_dimensions
+dimensions_of class.ProjectedCrs = projected_dimensions
+dimensions_of class.VerticalCrs = vertical_dimensions
+dimensions_of other = λ type_read. []
+
+-- the number is one of these
+abbrev pub IsOneOf : Value → List ℕ → Type 0
+IsOneOf value [] = ⊥
+IsOneOf value (n ∷ ns) = SameNumber (exact value) (whole_number n) ⊎ IsOneOf value ns
+
+abbrev pub BadSystem : (SystemType → List ℕ) → Item → Refused → Type 0
+BadSystem dimensions cs fault =
+    (fault ≡ at 23 cs)
+    × ((type_read : SystemType) × ((dimension : Value) × (HasType cs type_read × HasDimension cs dimension × ¬ (IsOneOf dimension (dimensions type_read)))))

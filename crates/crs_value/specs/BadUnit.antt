@@ -1,0 +1,74 @@
+-- 27: a unit that is missing, doesn't fit, or stands beside a shared one.
+use Rattle.std.specs.Prelude.{◌≡◌, List, [], ◌∷◌, ◌⊎◌}
+use Rattle.crs_text.specs.Items.{Item, arguments}
+use Rattle.crs_text.specs.Refusal.{Refused}
+use Rattle.crs_shape.specs.declared.class.Class.TheVariants as class
+use Rattle.crs_value.specs.declared.direction.Direction.{Direction}
+use Rattle.crs_value.specs.declared.direction.Direction.TheVariants as direction
+use Rattle.crs_value.specs.declared.system_type.SystemType.{SystemType}
+use Rattle.crs_value.specs.declared.system_type.SystemType.TheVariants as types
+use Rattle.crs_value.specs.declared.unit_kind.UnitKind.{UnitKind}
+use Rattle.crs_value.specs.declared.unit_kind.UnitKind.TheVariants as kinds
+use Rattle.crs_value.specs.Reading.{those, ReadsFirst}
+use Rattle.crs_value.specs.Reads.{ReadsDirection, ReadsKind}
+use Rattle.crs_value.specs.Break.{at, AnyOf}
+use Rattle.crs_value.specs.BadSystem.{HasType}
+
+-- the kind of unit that an axis asks for, by the type of its system and its own direction
+abbrev pub vertical_kind : Direction → UnitKind
+vertical_kind direction.Up = kinds.Length
+vertical_kind direction.Down = kinds.Length
+vertical_kind other = kinds.Angle
+
+abbrev pub asked_kind : SystemType → Direction → UnitKind
+asked_kind types.Cartesian d = kinds.Length
+asked_kind types.Ellipsoidal d = vertical_kind d
+asked_kind types.Spherical d = vertical_kind d
+asked_kind types.Vertical d = kinds.Length
+
+-- this node `CS` and this axis ask for a unit of this kind
+abbrev pub Asks : Item → Item → UnitKind → Type 0
+Asks cs axis kind =
+    (type_read : SystemType) × ((direction_read : Direction) × (HasType cs type_read
+    × ReadsFirst ReadsDirection (those class.Axis class.Word (arguments axis)) direction_read
+    × (kind ≡ asked_kind type_read direction_read)))
+
+-- a unit fits if its keyword is `UNIT` or says the asked kind
+abbrev pub Fits : Item → UnitKind → Type 0
+Fits unit kind = ReadsKind unit kinds.Plain ⊎ ReadsKind unit kind
+
+abbrev pub units_in : Item → List Item
+units_in axis = those class.Axis class.AxisUnit (arguments axis)
+
+abbrev pub LacksUnit : Item → Refused → Type 0
+LacksUnit axis fault = (fault ≡ at 27 axis) × (units_in axis ≡ [])
+
+abbrev pub Misfits : Item → Item → Item → Refused → Type 0
+Misfits cs axis unit fault = (fault ≡ at 27 unit) × ((kind : UnitKind) × (Asks cs axis kind × ¬ (Fits unit kind)))
+
+-- with no shared unit: an axis without a unit, or a unit that doesn't fit
+abbrev pub BadOwnUnit : Item → Item → Refused → Type 0
+BadOwnUnit cs axis fault = LacksUnit axis fault ⊎ AnyOf (Misfits cs axis) (units_in axis) fault
+
+abbrev pub IsSuperfluous : Item → Refused → Type 0
+IsSuperfluous unit fault = fault ≡ at 27 unit
+
+-- with a shared unit: each unit on an axis
+abbrev pub HasOwnUnit : Item → Refused → Type 0
+HasOwnUnit axis fault = AnyOf IsSuperfluous (units_in axis) fault
+
+abbrev pub AllAsk : Item → List Item → UnitKind → Type 0
+AllAsk cs [] kind = Unit {0}
+AllAsk cs (axis ∷ axes) kind = Asks cs axis kind × AllAsk cs axes kind
+
+-- a shared unit fits if all axes ask for one kind, and it fits that
+abbrev pub SharedFits : Item → List Item → Item → Type 0
+SharedFits cs axes unit = (kind : UnitKind) × (AllAsk cs axes kind × Fits unit kind)
+
+abbrev pub BadShared : Item → List Item → Item → Refused → Type 0
+BadShared cs axes unit fault = (fault ≡ at 27 unit) × ¬ (SharedFits cs axes unit)
+
+abbrev pub BadUnit : List Item → List Item → Item → Refused → Type 0
+BadUnit axes [] cs fault = AnyOf (BadOwnUnit cs) axes fault
+BadUnit axes (unit ∷ units) cs fault =
+    AnyOf HasOwnUnit axes fault ⊎ BadShared cs axes unit fault

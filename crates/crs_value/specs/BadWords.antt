@@ -1,0 +1,14 @@
+-- 21: a type or a direction that is no such word.
+use Rattle.std.specs.Prelude.{◌≡◌}
+use Rattle.crs_text.specs.Items.{Item}
+use Rattle.crs_text.specs.Refusal.{Refused}
+use Rattle.crs_value.specs.declared.direction.Direction.{Direction}
+use Rattle.crs_value.specs.declared.system_type.SystemType.{SystemType}
+use Rattle.crs_value.specs.Reads.{ReadsType, ReadsDirection}
+use Rattle.crs_value.specs.Break.{at}
+
+abbrev pub UnknownType : Item → Refused → Type 0
+UnknownType item fault = (fault ≡ at 21 item) × ((value : SystemType) → ¬ (ReadsType item value))
+
+abbrev pub UnknownDirection : Item → Refused → Type 0
+UnknownDirection item fault = (fault ≡ at 21 item) × ((value : Direction) → ¬ (ReadsDirection item value))
