@@ -1,6 +1,6 @@
 //! From the name of a call to its answer.
 use crate::texts::Column;
-use crate::{numbers, runs, shapes, texts, values};
+use crate::{numbers, runs, sameness, shapes, texts, values};
 use std::alloc::{AllocError, Global};
 
 /// Appends the answer of a call to an input, as a row writes it.
@@ -25,6 +25,7 @@ pub fn put_answer(
         "run_check" => runs::put_check(out, alloc, input),
         "read" => values::put_read(out, alloc, input),
         "value_of" => values::put_value_of(out, alloc, input),
+        "same" => sameness::put_same(out, alloc, input),
         _ => out.push_str("no such call"),
     }
 }

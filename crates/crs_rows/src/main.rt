@@ -7,13 +7,14 @@ mod escapes;
 mod numbers;
 mod rows;
 mod runs;
+mod sameness;
 mod shapes;
 mod texts;
 mod values;
 
 use std::{fs, io};
 
-const FILES: [&str; 12] = [
+const FILES: [&str; 13] = [
     "decimals",
     "refusals",
     "tokens",
@@ -26,6 +27,7 @@ const FILES: [&str; 12] = [
     "thin",
     "runs",
     "checks",
+    "same",
 ];
 
 fn main(rt: HostRuntime) -> io::Result<()> {

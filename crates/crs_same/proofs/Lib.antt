@@ -1,0 +1,3 @@
+mod AxisLemmas
+mod LevelLemmas
+mod NumberLemmas

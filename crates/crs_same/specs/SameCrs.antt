@@ -1,0 +1,72 @@
+-- When coordinate reference systems are the same.
+use Rattle.std.specs.Prelude.{◌≡◌}
+use Rattle.crs_value.specs.declared.compound.Horizontal.{Horizontal}
+use Rattle.crs_value.specs.declared.compound.Horizontal.TheVariants as horizontal
+use Rattle.crs_value.specs.declared.crs.Crs.{Crs}
+use Rattle.crs_value.specs.declared.crs.Crs.TheVariants as crs
+use Rattle.crs_value.specs.declared.level.Level.{Level}
+use Rattle.crs_value.specs.declared.unit_kind.UnitKind.TheVariants as kinds
+use Rattle.crs_value.specs.CompoundValues.{CompoundParts}
+use Rattle.crs_value.specs.CrsValues.{GeodeticParts, BaseParts, ProjectedParts, VerticalParts}
+use Rattle.crs_value.specs.ReadsCrs.{kind_of}
+use Rattle.crs_same.specs.Sets.{SameSet, BothOrNeither}
+use Rattle.crs_same.specs.SameConversions.{SameConversion, SameGeoidModel}
+use Rattle.crs_same.specs.SameFrames.{SameFrame, SameMeridian}
+use Rattle.crs_same.specs.SameIdents.{SameIdents}
+use Rattle.crs_same.specs.SameSystems.{SameSystem}
+use Rattle.crs_same.specs.SameUnits.{SameUnit}
+use Rattle.crs_same.specs.SameUsages.{SameTail}
+
+pub record SameGeodetic (level : Level) (a b : GeodeticParts) : Type 0 where
+  pub name : a.name ≡ b.name
+  pub frame : SameFrame level a.frame b.frame
+  pub meridian : SameMeridian level a.meridian b.meridian
+  pub system : SameSystem level a.system b.system
+  pub tail : SameTail level a.tail b.tail
+
+-- a missing unit differs from each that is there
+pub record SameBase (level : Level) (a b : BaseParts) : Type 0 where
+  pub name : a.name ≡ b.name
+  pub frame : SameFrame level a.frame b.frame
+  pub meridian : SameMeridian level a.meridian b.meridian
+  pub unit : BothOrNeither (SameUnit kinds.Angle level) a.unit b.unit
+  pub ids : SameIdents level a.ids b.ids
+
+pub record SameProjected (level : Level) (a b : ProjectedParts) : Type 0 where
+  pub name : a.name ≡ b.name
+  pub base : SameBase level a.base b.base
+  pub conversion : SameConversion level a.conversion b.conversion
+  pub system : SameSystem level a.system b.system
+  pub tail : SameTail level a.tail b.tail
+
+pub record SameVertical (level : Level) (a b : VerticalParts) : Type 0 where
+  pub name : a.name ≡ b.name
+  pub frame : SameFrame level a.frame b.frame
+  pub system : SameSystem level a.system b.system
+  pub geoid_models : SameSet (SameGeoidModel level) a.geoid_models b.geoid_models
+  pub tail : SameTail level a.tail b.tail
+
+abbrev pub SameHorizontal : Level → Horizontal → Horizontal → Type 0
+SameHorizontal level (horizontal.Geodetic a) (horizontal.Geodetic b) = SameGeodetic level a b
+SameHorizontal level (horizontal.Geodetic a) (horizontal.Projected b) = ⊥
+SameHorizontal level (horizontal.Projected a) (horizontal.Geodetic b) = ⊥
+SameHorizontal level (horizontal.Projected a) (horizontal.Projected b) = SameProjected level a b
+
+pub record SameCompound (level : Level) (a b : CompoundParts) : Type 0 where
+  pub name : a.name ≡ b.name
+  pub horizontal : SameHorizontal level a.horizontal b.horizontal
+  pub vertical : SameVertical level a.vertical b.vertical
+  pub tail : SameTail level a.tail b.tail
+
+-- the same parts
+abbrev pub SameParts : Level → Crs → Crs → Type 0
+SameParts level (crs.Geodetic a) (crs.Geodetic b) = SameGeodetic level a b
+SameParts level (crs.Projected a) (crs.Projected b) = SameProjected level a b
+SameParts level (crs.Vertical a) (crs.Vertical b) = SameVertical level a b
+SameParts level (crs.Compound a) (crs.Compound b) = SameCompound level a b
+SameParts level a b = ⊥
+
+-- the same kind, of five, and the same parts
+pub record SameCrs (level : Level) (a b : Crs) : Type 0 where
+  pub kind : kind_of a ≡ kind_of b
+  pub parts : SameParts level a b

@@ -1,0 +1,18 @@
+-- When identifiers are the same, one by one and as a set.
+use Rattle.std.specs.Prelude.{◌≡◌, List}
+use Rattle.crs_value.specs.declared.level.Level.{Level}
+use Rattle.crs_value.specs.declared.level.Level.TheVariants as levels
+use Rattle.crs_value.specs.Values.{IdentParts}
+use Rattle.crs_same.specs.Sets.{SameSet}
+
+-- texts are the same when their characters are; what may be missing is missing in both or the same in both
+pub record SameIdent (a b : IdentParts) : Type 0 where
+  pub authority : a.authority ≡ b.authority
+  pub code : a.code ≡ b.code
+  pub version : a.version ≡ b.version
+  pub citation : a.citation ≡ b.citation
+  pub uri : a.uri ≡ b.uri
+
+-- the identifiers of a part
+abbrev pub SameIdents : Level → List IdentParts → List IdentParts → Type 0
+SameIdents levels.Full xs ys = SameSet SameIdent xs ys

@@ -1,0 +1,46 @@
+-- When units are the same.
+use Rattle.std.specs.Prelude.{◌≡◌, List, [], Option, Some, None, codes}
+use Rattle.crs_decimal.specs.Number.{SameNumber, whole_number}
+use Rattle.crs_decimal.specs.Value.{Value, exact}
+use Rattle.crs_value.specs.declared.level.Level.{Level}
+use Rattle.crs_value.specs.declared.level.Level.TheVariants as levels
+use Rattle.crs_value.specs.declared.unit_kind.UnitKind.{UnitKind}
+use Rattle.crs_value.specs.declared.unit_kind.UnitKind.TheVariants as kinds
+use Rattle.crs_value.specs.Values.{IdentParts, UnitParts}
+use Rattle.crs_same.specs.SameIdents.{SameIdents}
+
+-- two decimals are the same number
+unfoldable pub SameValue : Value → Value → Type 0
+SameValue a b = SameNumber (exact a) (exact b)
+
+-- the kind of a unit where this kind is asked: `UNIT` is of that
+abbrev pub kind_as : UnitKind → UnitKind → UnitKind
+kind_as asked kinds.Plain = asked
+kind_as asked kinds.Length = kinds.Length
+kind_as asked kinds.Angle = kinds.Angle
+kind_as asked kinds.Scale = kinds.Scale
+
+-- the same unit, where this kind is asked
+pub record SameUnit (asked : UnitKind) (level : Level) (a b : UnitParts) : Type 0 where
+  pub kind : kind_as asked a.kind ≡ kind_as asked b.kind
+  pub name : a.name ≡ b.name
+  pub factor : SameValue a.factor b.factor
+  pub ids : SameIdents level a.ids b.ids
+
+-- no identifier counts
+abbrev pub HasNoIdents : Level → List IdentParts → Type 0
+HasNoIdents levels.Full ids = ids ≡ []
+
+-- what a missing unit of length stands for: "metre" of factor 1, without identifiers
+pub record IsMetre (level : Level) (unit : UnitParts) : Type 0 where
+  pub kind : kind_as kinds.Length unit.kind ≡ kinds.Length
+  pub name : unit.name ≡ codes "metre"
+  pub factor : SameNumber (exact unit.factor) (whole_number 1)
+  pub ids : HasNoIdents level unit.ids
+
+-- the same unit of length, where a missing one is the metre
+abbrev pub SameLength : Level → Option UnitParts → Option UnitParts → Type 0
+SameLength level None None = Unit {0}
+SameLength level None (Some b) = IsMetre level b
+SameLength level (Some a) None = IsMetre level a
+SameLength level (Some a) (Some b) = SameUnit kinds.Length level a b

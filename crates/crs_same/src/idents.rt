@@ -1,0 +1,45 @@
+//! Identifiers.
+ghost use Rattle.std.specs.Prelude.{◌↔◌, IsTrue};
+ghost use Rattle.crs_same.specs.SameIdents.{SameIdent, SameIdents};
+ghost use Rattle.crs_same.specs.Sets.{SameSet};
+
+use crate::sets::{Member, same_set};
+use crate::texts::{same_optional_text, same_text};
+use crs_value::{Ident, Level, List};
+
+/// Whether two identifiers are the same: authority and code, and version, citation and URI, each in both or in
+/// neither. Profile.
+pub fn same_ident<'a>(a: &Ident<'a>, b: &Ident<'a>) -> bool
+    ensures { IsTrue result ↔ SameIdent a.now b.now }
+{
+    same_text(a.authority, b.authority)
+        && same_text(a.code, b.code)
+        && same_optional_text(a.version, b.version)
+        && same_optional_text(a.citation, b.citation)
+        && same_optional_text(a.uri, b.uri)
+}
+
+impl Member for Ident<'_> {
+    ghost use Rattle.crs_same.specs.SameIdents.{SameIdent};
+
+    ghost Same = { λ level a b. SameIdent a b };
+
+    fn is_same(&self, other: &Self, _level: Level) -> bool {
+        same_ident(self, other)
+    }
+}
+
+fn same_ident_set<'a>(a: &[Ident<'a>], b: &[Ident<'a>]) -> bool
+    ensures { IsTrue result ↔ SameSet SameIdent a.now b.now }
+{
+    same_set(a, b, Level::Full)
+}
+
+// The identifiers of a part.
+pub(crate) fn same_idents<'a>(a: &List<Ident<'a>>, b: &List<Ident<'a>>, level: Level) -> bool
+    ensures { IsTrue result ↔ SameIdents level a.now b.now }
+{
+    match level {
+        Level::Full => same_ident_set(a.as_slice(), b.as_slice()),
+    }
+}

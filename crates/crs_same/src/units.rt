@@ -1,0 +1,79 @@
+//! Units.
+ghost use Rattle.std.specs.Prelude.{◌≡◌, ◌↔◌, IsTrue};
+ghost use Rattle.std.specs.Option.{option_copied};
+ghost use Rattle.crs_same.specs.Sets.{BothOrNeither};
+ghost use Rattle.crs_same.specs.SameUnits.{SameUnit, SameLength, IsMetre, HasNoIdents, kind_as};
+
+use crate::idents::same_idents;
+use crate::numbers::{is_whole, same_value};
+use crate::texts::same_text;
+use crs_value::{Ident, Level, List, Unit, UnitKind};
+
+fn kind_as(asked: UnitKind, kind: UnitKind) -> UnitKind
+    ensures { result ≡ kind_as asked kind }
+{
+    match kind {
+        UnitKind::Plain => asked,
+        UnitKind::Length | UnitKind::Angle | UnitKind::Scale => kind,
+    }
+}
+
+fn same_kind(a: UnitKind, b: UnitKind) -> bool
+    ensures { IsTrue result ↔ (a ≡ b) }
+{
+    a == b
+}
+
+// Where this kind is asked, which `UNIT` is of.
+pub(crate) fn same_unit_as<'a>(asked: UnitKind, a: &Unit<'a>, b: &Unit<'a>, level: Level) -> bool
+    ensures { IsTrue result ↔ SameUnit asked level a.now b.now }
+{
+    same_kind(kind_as(asked, a.kind), kind_as(asked, b.kind))
+        && same_text(a.name, b.name)
+        && same_value(&a.factor, &b.factor)
+        && same_idents(&a.ids, &b.ids, level)
+}
+
+// Both are missing, or both are there and the same where this kind is asked.
+pub(crate) fn same_units_as<'a>(
+    asked: UnitKind,
+    a: Option<&Unit<'a>>,
+    b: Option<&Unit<'a>>,
+    level: Level,
+) -> bool
+    ensures { IsTrue result ↔ BothOrNeither (SameUnit asked level) (option_copied a.entry) (option_copied b.entry) }
+{
+    match (a, b) {
+        (None, None) => true,
+        (Some(x), Some(y)) => same_unit_as(asked, x, y, level),
+        (None, Some(_)) | (Some(_), None) => false,
+    }
+}
+
+pub(crate) fn has_no_idents(ids: &List<Ident<'_>>, level: Level) -> bool
+    ensures { IsTrue result ↔ HasNoIdents level ids.now }
+{
+    match level {
+        Level::Full => ids.as_slice().is_empty(),
+    }
+}
+
+fn is_metre(unit: &Unit<'_>, level: Level) -> bool
+    ensures { IsTrue result ↔ IsMetre level unit.now }
+{
+    same_kind(kind_as(UnitKind::Length, unit.kind), UnitKind::Length)
+        && same_text(unit.name, b"metre")
+        && is_whole(&unit.factor, 1)
+        && has_no_idents(&unit.ids, level)
+}
+
+// Of lengths: a missing unit is the metre.
+pub(crate) fn same_length<'a>(a: &Option<Unit<'a>>, b: &Option<Unit<'a>>, level: Level) -> bool
+    ensures { IsTrue result ↔ SameLength level a.now b.now }
+{
+    match (a, b) {
+        (None, None) => true,
+        (Some(unit), None) | (None, Some(unit)) => is_metre(unit, level),
+        (Some(x), Some(y)) => same_unit_as(UnitKind::Length, x, y, level),
+    }
+}

@@ -1,0 +1,126 @@
+//! Usages, and the ends of CRSs.
+ghost use Rattle.std.specs.Prelude.{◌≡◌, ◌↔◌, IsTrue};
+ghost use Rattle.crs_value.specs.declared.level.Level.{Level};
+ghost use Rattle.crs_same.specs.Sets.{BothOrNeither, HasSame, AllHaveSame};
+ghost use Rattle.crs_same.specs.SameUsages.{SameBox, SameExtent, SameUsage, says_some, usages_of, SameUsages, SameRemark, SameTail};
+
+use crate::idents::same_idents;
+use crate::numbers::same_value;
+use crate::texts::same_optional_text;
+use crate::units::same_length;
+use crs_value::{BoundingBox, Extent, Level, Tail, Usage};
+
+fn same_box(a: &BoundingBox, b: &BoundingBox) -> bool
+    ensures { IsTrue result ↔ SameBox a.now b.now }
+{
+    same_value(&a.south, &b.south)
+        && same_value(&a.west, &b.west)
+        && same_value(&a.north, &b.north)
+        && same_value(&a.east, &b.east)
+}
+
+fn same_boxes(a: &Option<BoundingBox>, b: &Option<BoundingBox>) -> bool
+    ensures { IsTrue result ↔ BothOrNeither SameBox a.now b.now }
+{
+    match (a, b) {
+        (None, None) => true,
+        (Some(x), Some(y)) => same_box(x, y),
+        (None, Some(_)) | (Some(_), None) => false,
+    }
+}
+
+fn same_extent<'a>(a: &Extent<'a>, b: &Extent<'a>, level: Level) -> bool
+    ensures { IsTrue result ↔ SameExtent level a.now b.now }
+{
+    same_value(&a.minimum, &b.minimum)
+        && same_value(&a.maximum, &b.maximum)
+        && same_length(&a.unit, &b.unit, level)
+}
+
+fn same_extents<'a>(a: &Option<Extent<'a>>, b: &Option<Extent<'a>>, level: Level) -> bool
+    ensures { IsTrue result ↔ BothOrNeither (SameExtent level) a.now b.now }
+{
+    match (a, b) {
+        (None, None) => true,
+        (Some(x), Some(y)) => same_extent(x, y, level),
+        (None, Some(_)) | (Some(_), None) => false,
+    }
+}
+
+fn same_usage<'a>(a: &Usage<'a>, b: &Usage<'a>) -> bool
+    ensures { IsTrue result ↔ SameUsage a.now b.now }
+{
+    same_optional_text(a.scope, b.scope)
+        && same_optional_text(a.area, b.area)
+        && same_boxes(&a.bbox, &b.bbox)
+        && same_extents(&a.extent, &b.extent, Level::Full)
+}
+
+fn says_some(usage: &Usage<'_>) -> bool
+    ensures { result ≡ says_some usage.now }
+{
+    usage.scope.is_some() || usage.area.is_some() || usage.bbox.is_some() || usage.extent.is_some()
+}
+
+fn has_same<'a>(usage: &Usage<'a>, others: &[Usage<'a>]) -> bool
+    ensures { IsTrue result ↔ HasSame SameUsage usage.now others.now }
+{
+    for other in others {
+        if same_usage(usage, other) {
+            return true;
+        }
+    }
+    false
+}
+
+// Among the usages at an end, the bare one included.
+fn has_same_in<'a>(usage: &Usage<'a>, tail: &Tail<'a>) -> bool
+    ensures { IsTrue result ↔ HasSame SameUsage usage.now (usages_of tail.now) }
+{
+    if says_some(&tail.bare) && same_usage(usage, &tail.bare) {
+        return true;
+    }
+    has_same(usage, tail.usages.as_slice())
+}
+
+fn all_have_same<'a>(usages: &[Usage<'a>], tail: &Tail<'a>) -> bool
+    ensures { IsTrue result ↔ AllHaveSame SameUsage usages.now (usages_of tail.now) }
+{
+    for usage in usages {
+        if !has_same_in(usage, tail) {
+            return false;
+        }
+    }
+    true
+}
+
+fn all_have_same_in<'a>(a: &Tail<'a>, b: &Tail<'a>) -> bool
+    ensures { IsTrue result ↔ AllHaveSame SameUsage (usages_of a.now) (usages_of b.now) }
+{
+    if says_some(&a.bare) && !has_same_in(&a.bare, b) {
+        return false;
+    }
+    all_have_same(a.usages.as_slice(), b)
+}
+
+fn same_usages<'a>(a: &Tail<'a>, b: &Tail<'a>, level: Level) -> bool
+    ensures { IsTrue result ↔ SameUsages level a.now b.now }
+{
+    match level {
+        Level::Full => all_have_same_in(a, b) && all_have_same_in(b, a),
+    }
+}
+
+fn same_remark<'a>(a: &Tail<'a>, b: &Tail<'a>, level: Level) -> bool
+    ensures { IsTrue result ↔ SameRemark level a.now b.now }
+{
+    match level {
+        Level::Full => same_optional_text(a.remark, b.remark),
+    }
+}
+
+pub(crate) fn same_tail<'a>(a: &Tail<'a>, b: &Tail<'a>, level: Level) -> bool
+    ensures { IsTrue result ↔ SameTail level a.now b.now }
+{
+    same_usages(a, b, level) && same_idents(&a.ids, &b.ids, level) && same_remark(a, b, level)
+}
