@@ -1,30 +1,46 @@
--- The search for an axis at a position: what is left decides.
-use Rattle.std.proofs.Common.{◌≡◌, ℕ, suc, ◌+◌, ◌<◌, ◌↔◌, length, drop, get_or, Bool, true, false, IsTrue, List, ◌∷◌, inl, inr, sym, ◌∙◌, ap, subst, arith}
-use Rattle.std.proofs.Math.Seq.{drop-cons}
+-- The search for the axis at a position: what is left decides.
+use Rattle.std.proofs.Common.{◌≡◌, ℕ, ◌+◌, drop, List, [], ◌∷◌, inl, inr, refl, sym, subst}
+use Rattle.std.specs.Prelude.{⊤}
 use Rattle.crs_value.specs.Values.{AxisParts}
-use Rattle.crs_same.specs.SameSystems.{IsAt, HasAt}
+use Rattle.crs_same.specs.SameSystems.{HasAt}
 
-pub at-on : {X : Type 0} (position : ℕ) (P : AxisParts → Type 0) (axes : List AxisParts) (place index : ℕ) (axis : AxisParts) (b : Bool) →
-    index < length axes → axis ≡ get_or axes index axis → (place ≡ index + 1) × (X ↔ HasAt position P place (drop index axes)) →
-    (IsTrue b ↔ (IsAt position place axis.order × P axis)) → b ≡ false → (place + 1 ≡ index + 1 + 1) × (X ↔ HasAt position P (place + 1) (drop (index + 1) axes))
-at-on {X = X} position P axes place index axis b less is left test miss = (omega (arith, left.0), (forth, back))
-  where
-    next : suc index ≡ index + 1
-    next = omega arith
+-- the axes from this index on, the first of which is written at this place, are searched still
+pub record IsLeft (position place index : ℕ) (axes : List AxisParts) : Type 0 where
+  pub counted : place ≡ index + 1
+  pub found : (axis : AxisParts) → HasAt position (λ x. x ≡ axis) place (drop index axes) → HasAt position (λ x. x ≡ axis) 1 axes
+  pub all : HasAt position (λ x. ⊤) 1 axes → HasAt position (λ x. ⊤) place (drop index axes)
 
-    here : drop index axes ≡ axis ∷ drop (index + 1) axes
-    here =
-        drop-cons axes index axis less ∙ ap (λ a. a ∷ drop (suc index) axes) (sym is)
-        ∙ ap (λ n. axis ∷ drop n axes) next
+-- ---- the axes at a position
 
-    none : IsAt position place axis.order × P axis → ⊥
-    none h = let yes : b ≡ true = test.1 h in cc
+has-mapped : (P Q : AxisParts → Type 0) (position place : ℕ) (axes : List AxisParts) → ((axis : AxisParts) → P axis → Q axis) →
+    HasAt position P place axes → HasAt position Q place axes
+has-mapped P Q position place [] on h = absurd h
+has-mapped P Q position place (axis ∷ axes) on (inl h) = inl (h.0, on axis h.1)
+has-mapped P Q position place (axis ∷ axes) on (inr h) = inr (has-mapped P Q position (place + 1) axes on h)
 
-    forth : X → HasAt position P (place + 1) (drop (index + 1) axes)
-    forth x = elim (subst (HasAt position P place) here (left.1.0 x)) [
-      | inl h ↦ absurd (none h)
-      | inr h ↦ h
-    ]
+has-of : (P : AxisParts → Type 0) (position place : ℕ) (axes : List AxisParts) (axis : AxisParts) → HasAt position (λ x. x ≡ axis) place axes → P axis →
+    HasAt position P place axes
+has-of P position place axes axis h p = has-mapped (λ x. x ≡ axis) P position place axes (λ x e. subst P (sym e) p) h
 
-    back : HasAt position P (place + 1) (drop (index + 1) axes) → X
-    back h = left.1.1 (subst (HasAt position P place) (sym here) (inr h))
+which : (P : AxisParts → Type 0) (position place : ℕ) (axes : List AxisParts) → HasAt position P place axes →
+    (axis : AxisParts) × P axis × HasAt position (λ x. x ≡ axis) place axes
+which P position place [] h = absurd h
+which P position place (axis ∷ axes) (inl h) = (axis, h.1, inl (h.0, refl))
+which P position place (axis ∷ axes) (inr h) = let w = which P position (place + 1) axes h in (w.0, w.1, inr w.2)
+
+abbrev IsOneAt : ℕ → List AxisParts → Type 0
+IsOneAt position axes = (x y : AxisParts) → HasAt position (λ axis. axis ≡ x) 1 axes → HasAt position (λ axis. axis ≡ y) 1 axes → x ≡ y
+
+of-has : (P : AxisParts → Type 0) (position : ℕ) (axes : List AxisParts) (axis : AxisParts) → IsOneAt position axes →
+    HasAt position (λ x. x ≡ axis) 1 axes → HasAt position P 1 axes → P axis
+of-has P position axes axis one at h = let w = which P position 1 axes h in subst P (one w.0 axis w.2 at) w.1
+
+pub at-both : (R : AxisParts → AxisParts → Type 0) (position : ℕ) (xs ys : List AxisParts) (x y : AxisParts) →
+    HasAt position (λ axis. axis ≡ x) 1 xs → HasAt position (λ axis. axis ≡ y) 1 ys → R x y → HasAt position (λ a. HasAt position (λ b. R a b) 1 ys) 1 xs
+at-both R position xs ys x y at-x at-y r =
+    has-of (λ a. HasAt position (λ b. R a b) 1 ys) position 1 xs x at-x (has-of (λ b. R x b) position 1 ys y at-y r)
+
+pub of-both : (R : AxisParts → AxisParts → Type 0) (position : ℕ) (xs ys : List AxisParts) (x y : AxisParts) → IsOneAt position xs → IsOneAt position ys →
+    HasAt position (λ axis. axis ≡ x) 1 xs → HasAt position (λ axis. axis ≡ y) 1 ys → HasAt position (λ a. HasAt position (λ b. R a b) 1 ys) 1 xs → R x y
+of-both R position xs ys x y one-x one-y at-x at-y h =
+    of-has (λ b. R x b) position ys y one-y at-y (of-has (λ a. HasAt position (λ b. R a b) 1 ys) position xs x one-x at-x h)

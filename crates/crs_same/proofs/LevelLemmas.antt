@@ -1,5 +1,5 @@
 -- What the levels leave out.
-use Rattle.std.proofs.Common.{◌≡◌, ◌↔◌, Bool, IsTrue, List}
+use Rattle.std.proofs.Common.{◌↔◌, Bool, IsTrue, List}
 use Rattle.crs_value.specs.declared.level.Level.{Level}
 use Rattle.crs_value.specs.declared.level.Level.TheVariants as levels
 use Rattle.crs_value.specs.Values.{IdentParts}

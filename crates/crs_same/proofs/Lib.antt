@@ -1,3 +1,6 @@
 mod AxisLemmas
+mod CountLemmas
+mod FrontLemmas
 mod LevelLemmas
 mod NumberLemmas
+mod PositionLemmas

@@ -4,7 +4,7 @@ use Rattle.crs_decimal.specs.Number.{Number, SameNumber, whole_number}
 use Rattle.crs_decimal.specs.Value.{Value, exact}
 use Rattle.std.proofs.lemmas.Bool.Decides.{nat_tests}
 
-wholes-same : (m n : ℕ) → SameNumber (whole_number m) (whole_number n) → m ≡ n
+pub wholes-same : (m n : ℕ) → SameNumber (whole_number m) (whole_number n) → m ≡ n
 wholes-same m n h = let s : m * 1 ≡ n * 1 = h.0 in omega (arith, s)
 
 nat-eq-true : (m n : ℕ) → nat_eq m n ≡ true → m ≡ n

@@ -1,3 +1,8 @@
+pub mod FirstInCrs
+pub mod FirstInFrames
+pub mod FirstInSystems
+pub mod FirstPart
+pub mod Paths
 pub mod SameConversions
 pub mod SameCrs
 pub mod SameFrames

@@ -8,7 +8,7 @@ use Rattle.crs_value.specs.declared.level.Level.{Level}
 use Rattle.crs_value.specs.declared.unit_kind.UnitKind.TheVariants as kinds
 use Rattle.crs_value.specs.CompoundValues.{CompoundParts}
 use Rattle.crs_value.specs.CrsValues.{GeodeticParts, BaseParts, ProjectedParts, VerticalParts}
-use Rattle.crs_value.specs.ReadsCrs.{kind_of}
+use Rattle.crs_value.specs.ReadsCrs.{kind_by, kind_of}
 use Rattle.crs_same.specs.Sets.{SameSet, BothOrNeither}
 use Rattle.crs_same.specs.SameConversions.{SameConversion, SameGeoidModel}
 use Rattle.crs_same.specs.SameFrames.{SameFrame, SameMeridian}
@@ -17,7 +17,9 @@ use Rattle.crs_same.specs.SameSystems.{SameSystem}
 use Rattle.crs_same.specs.SameUnits.{SameUnit}
 use Rattle.crs_same.specs.SameUsages.{SameTail}
 
+-- both are geographic, or neither is
 pub record SameGeodetic (level : Level) (a b : GeodeticParts) : Type 0 where
+  pub kind : kind_by a.system.system_type ≡ kind_by b.system.system_type
   pub name : a.name ≡ b.name
   pub frame : SameFrame level a.frame b.frame
   pub meridian : SameMeridian level a.meridian b.meridian

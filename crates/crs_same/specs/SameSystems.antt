@@ -34,6 +34,15 @@ pub record SameAxisIn (asked : UnitKind) (level : Level) (a b : AxisParts) (firs
 unfoldable pub SameAxis : Level → SystemParts → SystemParts → AxisParts → AxisParts → Type 0
 SameAxis level a b x y = SameAxisIn (asked_kind a.system_type x.direction) level x y (own_or x.unit a.unit) (own_or y.unit b.unit)
 
+-- two axes by themselves: with their own orders and units, `UNIT` being a kind of its own
+pub record SameAxisAlone (level : Level) (a b : AxisParts) : Type 0 where
+  pub name : a.name ≡ b.name
+  pub direction : a.direction ≡ b.direction
+  pub meridian : BothOrNeither (SameAxisMeridian level) a.meridian b.meridian
+  pub order : BothOrNeither SameValue a.order b.order
+  pub unit : BothOrNeither (SameUnit kinds.Plain level) a.unit b.unit
+  pub ids : SameIdents level a.ids b.ids
+
 -- ---- positions
 
 -- the position of the axis that is written at this place: its order, or without one its place
@@ -46,16 +55,16 @@ abbrev pub HasAt : ℕ → (AxisParts → Type 0) → ℕ → List AxisParts →
 HasAt position P place [] = ⊥
 HasAt position P place (axis ∷ axes) = (IsAt position place axis.order × P axis) ⊎ HasAt position P (place + 1) axes
 
--- the other system has a same axis at this position
-unfoldable pub HasSameAxis : Level → SystemParts → SystemParts → ℕ → AxisParts → Type 0
-HasSameAxis level a b position x = HasAt position (λ y. SameAxis level a b x y) 1 b.axes
-
 -- the axes at this position are the same
 abbrev pub SameAt : Level → SystemParts → SystemParts → ℕ → Type 0
-SameAt level a b position = HasAt position (λ x. HasSameAxis level a b position x) 1 a.axes
+SameAt level a b position = HasAt position (λ x. HasAt position (λ y. SameAxis level a b x y) 1 b.axes) 1 a.axes
+
+-- the axes at each position are the same
+abbrev pub SameAxes : Level → SystemParts → SystemParts → Type 0
+SameAxes level a b = (position : ℕ) → 1 ≤ position → position ≤ length a.axes → SameAt level a b position
 
 pub record SameSystem (level : Level) (a b : SystemParts) : Type 0 where
   pub system_type : a.system_type ≡ b.system_type
   pub dimension : SameValue a.dimension b.dimension
   pub ids : SameIdents level a.ids b.ids
-  pub axes : (position : ℕ) → 1 ≤ position → position ≤ length a.axes → SameAt level a b position
+  pub axes : SameAxes level a b

@@ -1,19 +1,37 @@
 //! Conversions and geoid models.
-ghost use Rattle.std.specs.Prelude.{◌↔◌, IsTrue};
+ghost use Rattle.std.specs.Prelude.{◌≡◌, ◌≤◌, ◌↔◌, IsTrue, None, length};
+ghost use Rattle.crs_same.specs.FirstInCrs.{FirstInMethod, FirstInConversion};
 ghost use Rattle.crs_same.specs.Sets.{SameSet};
 ghost use Rattle.crs_same.specs.SameConversions.{SameMethod, SameParameter, SameConversion, SameGeoidModel};
 
 use crate::idents::same_idents;
 use crate::numbers::same_value;
+use crate::path::Path;
 use crate::sets::{Member, same_set};
+use crate::step::Step;
 use crate::texts::same_text;
 use crate::units::same_units_as;
 use crs_value::{Conversion, GeoidModel, Level, Method, Parameter, UnitKind};
 
-fn same_method<'a>(a: &Method<'a>, b: &Method<'a>, level: Level) -> bool
+fn first_in_method<'a>(at: &Path, a: &Method<'a>, b: &Method<'a>, level: Level) -> Option<Path>
+    requires { length at.now ≤ 4 }
+    ensures first { FirstInMethod at.now level a.now b.now result }
+    ensures same { (result ≡ None) ↔ SameMethod level a.now b.now }
+{
+    if !same_text(a.name, b.name) {
+        return Some(at.then(Step::Name));
+    }
+    if !same_idents(&a.ids, &b.ids, level) {
+        return Some(at.then(Step::Id));
+    }
+    None
+}
+
+/// Whether two methods are the same: name and identifiers. ISO 19162:2019, "Map projection".
+pub fn same_method<'a>(a: &Method<'a>, b: &Method<'a>, level: Level) -> bool
     ensures { IsTrue result ↔ SameMethod level a.now b.now }
 {
-    same_text(a.name, b.name) && same_idents(&a.ids, &b.ids, level)
+    first_in_method(&Path::start(), a, b, level).is_none()
 }
 
 impl Member for Parameter<'_> {
@@ -22,16 +40,19 @@ impl Member for Parameter<'_> {
     ghost Same = { λ level a b. SameParameter level a b };
 
     fn is_same(&self, other: &Self, level: Level) -> bool {
-        same_text(self.name, other.name)
-            && same_value(&self.value, &other.value)
-            && same_units_as(
-                UnitKind::Plain,
-                self.unit.as_ref(),
-                other.unit.as_ref(),
-                level,
-            )
-            && same_idents(&self.ids, &other.ids, level)
+        same_parameter(self, other, level)
     }
+}
+
+/// Whether two parameters are the same: name, number, identifiers, and the units in both or in neither; `UNIT` is a kind
+/// of its own. ISO 19162:2019, "Map projection parameter"; units: profile.
+pub fn same_parameter<'a>(a: &Parameter<'a>, b: &Parameter<'a>, level: Level) -> bool
+    ensures { IsTrue result ↔ SameParameter level a.now b.now }
+{
+    same_text(a.name, b.name)
+        && same_value(&a.value, &b.value)
+        && same_units_as(UnitKind::Plain, a.unit.as_ref(), b.unit.as_ref(), level)
+        && same_idents(&a.ids, &b.ids, level)
 }
 
 impl Member for GeoidModel<'_> {
@@ -40,8 +61,15 @@ impl Member for GeoidModel<'_> {
     ghost Same = { λ level a b. SameGeoidModel level a b };
 
     fn is_same(&self, other: &Self, level: Level) -> bool {
-        same_text(self.name, other.name) && same_idents(&self.ids, &other.ids, level)
+        same_geoid_model(self, other, level)
     }
+}
+
+/// Whether two geoid models are the same: name and identifiers. ISO 19162:2019, "Geoid model".
+pub fn same_geoid_model<'a>(a: &GeoidModel<'a>, b: &GeoidModel<'a>, level: Level) -> bool
+    ensures { IsTrue result ↔ SameGeoidModel level a.now b.now }
+{
+    same_text(a.name, b.name) && same_idents(&a.ids, &b.ids, level)
 }
 
 fn same_parameters<'a>(a: &[Parameter<'a>], b: &[Parameter<'a>], level: Level) -> bool
@@ -60,11 +88,36 @@ pub(crate) fn same_geoid_models<'a>(
     same_set(a, b, level)
 }
 
-pub(crate) fn same_conversion<'a>(a: &Conversion<'a>, b: &Conversion<'a>, level: Level) -> bool
+#[tactic(auto, unfolding(crate::specs::FirstInCrs::FirstInConversion))]
+pub(crate) fn first_in_conversion<'a>(
+    at: &Path,
+    a: &Conversion<'a>,
+    b: &Conversion<'a>,
+    level: Level,
+) -> Option<Path>
+    requires { length at.now ≤ 3 }
+    ensures first { FirstInConversion at.now level a.now b.now result }
+    ensures same { (result ≡ None) ↔ SameConversion level a.now b.now }
+{
+    if !same_text(a.name, b.name) {
+        return Some(at.then(Step::Name));
+    }
+    if let Some(path) = first_in_method(&at.then(Step::Method), &a.method, &b.method, level) {
+        return Some(path);
+    }
+    if !same_parameters(a.parameters.as_slice(), b.parameters.as_slice(), level) {
+        return Some(at.then(Step::Parameters));
+    }
+    if !same_idents(&a.ids, &b.ids, level) {
+        return Some(at.then(Step::Id));
+    }
+    None
+}
+
+/// Whether two conversions are the same: name, method, the set of parameters, and identifiers.
+/// ISO 19162:2019, "Map projection".
+pub fn same_conversion<'a>(a: &Conversion<'a>, b: &Conversion<'a>, level: Level) -> bool
     ensures { IsTrue result ↔ SameConversion level a.now b.now }
 {
-    same_text(a.name, b.name)
-        && same_method(&a.method, &b.method, level)
-        && same_parameters(a.parameters.as_slice(), b.parameters.as_slice(), level)
-        && same_idents(&a.ids, &b.ids, level)
+    first_in_conversion(&Path::start(), a, b, level).is_none()
 }

@@ -8,8 +8,8 @@ use crate::texts::{same_optional_text, same_text};
 use crs_value::{Ident, Level, List};
 
 /// Whether two identifiers are the same: authority and code, and version, citation and URI, each in both or in
-/// neither. Profile.
-pub fn same_ident<'a>(a: &Ident<'a>, b: &Ident<'a>) -> bool
+/// neither. An identifier by itself is compared alike at every level. Profile.
+pub fn same_ident<'a>(a: &Ident<'a>, b: &Ident<'a>, _level: Level) -> bool
     ensures { IsTrue result ↔ SameIdent a.now b.now }
 {
     same_text(a.authority, b.authority)
@@ -24,8 +24,8 @@ impl Member for Ident<'_> {
 
     ghost Same = { λ level a b. SameIdent a b };
 
-    fn is_same(&self, other: &Self, _level: Level) -> bool {
-        same_ident(self, other)
+    fn is_same(&self, other: &Self, level: Level) -> bool {
+        same_ident(self, other, level)
     }
 }
 

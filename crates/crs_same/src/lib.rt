@@ -6,14 +6,20 @@ mod conversions;
 mod crs;
 mod frames;
 mod idents;
+pub mod laws;
 mod numbers;
+pub mod parts;
+mod path;
 mod sets;
+mod step;
 mod systems;
 mod texts;
 mod units;
 mod usages;
 
-pub use crs::same;
+pub use crs::{first_part, same};
+pub use path::Path;
+pub use step::Step;
 
 #[cfg(test)]
 mod tests;

@@ -1,18 +1,24 @@
 //! Axes and coordinate systems.
-ghost use Rattle.std.specs.Prelude.{◌≡◌, ◌↔◌, ◌≤◌, ℕ, length, IsTrue};
+ghost use Rattle.std.specs.Prelude.{◌≡◌, ◌↔◌, ◌≤◌, None, length, ⊤, IsTrue, IfSome, IfNone};
 ghost use Rattle.std.specs.Option.{option_copied};
 ghost use Rattle.crs_value.specs.BadUnit.{asked_kind};
 ghost use Rattle.crs_same.specs.Sets.{BothOrNeither};
-ghost use Rattle.crs_same.specs.SameSystems.{SameAxisMeridian, own_or, SameAxis, IsAt, HasSameAxis, SameAt, SameSystem};
+ghost use Rattle.crs_same.specs.FirstInSystems.{FirstInAxis, FirstAt, FirstInAxes, FirstInSystem};
+ghost use Rattle.crs_same.specs.SameSystems.{SameAxisMeridian, own_or, SameAxis, SameAxisAlone, IsAt, HasAt, SameAt, SameAxes, SameSystem};
+ghost use Rattle.crs_same.specs.SameUnits.{SameValue};
 
 use crate::idents::same_idents;
+use crate::laws::{as_many_axes, one_axis_each};
 use crate::numbers::{is_whole, same_value};
+use crate::path::Path;
+use crate::step::Step;
 use crate::texts::same_text;
 use crate::units::{same_unit_as, same_units_as};
 use crs_decimal::Decimal;
 use crs_value::{Axis, AxisMeridian, Direction, Level, System, SystemType, Unit, UnitKind};
 
-fn same_axis_meridian<'a>(a: &AxisMeridian<'a>, b: &AxisMeridian<'a>, level: Level) -> bool
+/// Whether the meridians of two axes are the same: longitude and unit. ISO 19162:2019, "Axis direction".
+pub fn same_axis_meridian<'a>(a: &AxisMeridian<'a>, b: &AxisMeridian<'a>, level: Level) -> bool
     ensures { IsTrue result ↔ SameAxisMeridian level a.now b.now }
 {
     same_value(&a.longitude, &b.longitude) && same_unit_as(UnitKind::Angle, &a.unit, &b.unit, level)
@@ -63,21 +69,42 @@ fn same_type(a: SystemType, b: SystemType) -> bool
     a == b
 }
 
-// An axis of each of two systems.
-#[tactic(auto, unfolding(crate::specs::SameSystems::SameAxis))]
-fn same_axis<'a>(a: &System<'a>, b: &System<'a>, x: &Axis<'a>, y: &Axis<'a>, level: Level) -> bool
-    ensures { IsTrue result ↔ SameAxis level a.now b.now x.now y.now }
+// The parts of an axis of each of two systems.
+#[tactic(auto, unfolding(crate::specs::FirstInSystems::FirstInAxis, crate::specs::SameSystems::SameAxis))]
+fn first_in_axis<'a>(
+    at: &Path,
+    a: &System<'a>,
+    b: &System<'a>,
+    x: &Axis<'a>,
+    y: &Axis<'a>,
+    level: Level,
+) -> Option<Path>
+    requires { length at.now ≤ 4 }
+    ensures first { FirstInAxis at.now level a.now b.now x.now y.now result }
+    ensures same { (result ≡ None) ↔ SameAxis level a.now b.now x.now y.now }
 {
-    same_text(x.name, y.name)
-        && same_direction(x.direction, y.direction)
-        && same_axis_meridians(&x.meridian, &y.meridian, level)
-        && same_units_as(
-            asked_kind(a.system_type, x.direction),
-            own_or(&x.unit, &a.unit),
-            own_or(&y.unit, &b.unit),
-            level,
-        )
-        && same_idents(&x.ids, &y.ids, level)
+    if !same_text(x.name, y.name) {
+        return Some(at.then(Step::Name));
+    }
+    if !same_direction(x.direction, y.direction) {
+        return Some(at.then(Step::Direction));
+    }
+    if !same_axis_meridians(&x.meridian, &y.meridian, level) {
+        return Some(at.then(Step::Meridian));
+    }
+    let asked = asked_kind(a.system_type, x.direction);
+    if !same_units_as(
+        asked,
+        own_or(&x.unit, &a.unit),
+        own_or(&y.unit, &b.unit),
+        level,
+    ) {
+        return Some(at.then(Step::Unit));
+    }
+    if !same_idents(&x.ids, &y.ids, level) {
+        return Some(at.then(Step::Id));
+    }
+    None
 }
 
 // Whether an axis that is written at this place, from 1 on, has this position.
@@ -90,84 +117,103 @@ fn is_at(position: u64, place: u64, order: Option<Decimal>) -> bool
     }
 }
 
-// Whether the axis that is written at this place of the second system has the position, and is the same.
-fn is_same_at<'a>(
-    a: &System<'a>,
-    b: &System<'a>,
-    x: &Axis<'a>,
-    y: &Axis<'a>,
-    position: u64,
-    place: u64,
-    level: Level,
-) -> bool
-    ensures { IsTrue result ↔ (IsAt position place y.now.order × SameAxis level a.now b.now x.now y.now) }
-{
-    is_at(position, place, y.order) && same_axis(a, b, x, y, level)
-}
-
-#[tactic(auto, unfolding(crate::specs::SameSystems::HasSameAxis))]
-fn has_same_axis<'a>(
-    a: &System<'a>,
-    b: &System<'a>,
-    x: &Axis<'a>,
-    position: u64,
-    level: Level,
-) -> bool
-    ensures { IsTrue result ↔ HasSameAxis level a.now b.now position x.now }
+// The axis at this position.
+fn axis_at<'b, 'a>(axes: &'b [Axis<'a>], position: u64) -> Option<&'b Axis<'a>>
+    ensures at { IfSome (option_copied result) (λ axis. HasAt position (λ x. x ≡ axis) 1 axes.entry.now) }
+    ensures none { IfNone result (¬ (HasAt position (λ x. ⊤) 1 axes.entry.now)) }
 {
     let mut place = 1;
-    for y in b.axes.as_slice() {
-        if is_same_at(a, b, x, y, position, place, level) {
-            return true;
+    for axis in axes {
+        if is_at(position, place, axis.order) {
+            return Some(axis);
         }
         place += 1;
     }
-    false
+    None
 }
 
-// Whether the axis that is written at this place of the first system has the position, and the second a same one.
-fn has_same_at<'a>(
+// The parts of the axes at this position.
+fn first_at<'a>(
+    at: &Path,
     a: &System<'a>,
     b: &System<'a>,
-    x: &Axis<'a>,
     position: u64,
-    place: u64,
     level: Level,
-) -> bool
-    ensures { IsTrue result ↔ (IsAt position place x.now.order × HasSameAxis level a.now b.now position x.now) }
+) -> Option<Path>
+    requires room { length at.now ≤ 3 }
+    requires position { 1 ≤ position }
+    requires in_first { position ≤ length a.now.axes }
+    requires in_second { position ≤ length b.now.axes }
+    ensures first { FirstAt at.now level a.now b.now position result }
+    ensures same { (result ≡ None) ↔ SameAt level a.now b.now position }
 {
-    is_at(position, place, x.order) && has_same_axis(a, b, x, position, level)
-}
-
-fn same_at<'a>(a: &System<'a>, b: &System<'a>, position: u64, level: Level) -> bool
-    ensures { IsTrue result ↔ SameAt level a.now b.now position }
-{
-    let mut place = 1;
-    for x in a.axes.as_slice() {
-        if has_same_at(a, b, x, position, place, level) {
-            return true;
-        }
-        place += 1;
+    one_axis_each();
+    let x = axis_at(a.axes.as_slice(), position);
+    let y = axis_at(b.axes.as_slice(), position);
+    match (x, y) {
+        (Some(x), Some(y)) => first_in_axis(&at.then(Step::Axis(position)), a, b, x, y, level),
+        _ => unreachable!(),
     }
-    false
 }
 
-fn same_axes<'a>(a: &System<'a>, b: &System<'a>, level: Level) -> bool
-    ensures { IsTrue result ↔ ((position : ℕ) → 1 ≤ position → position ≤ length a.now.axes → SameAt level a.now b.now position) }
+fn first_in_axes<'a>(at: &Path, a: &System<'a>, b: &System<'a>, level: Level) -> Option<Path>
+    requires room { length at.now ≤ 3 }
+    requires as_many { length a.now.axes ≡ length b.now.axes }
+    ensures first { FirstInAxes at.now level a.now b.now result }
+    ensures same { (result ≡ None) ↔ SameAxes level a.now b.now }
 {
     for index in 0..a.axes.as_slice().len() {
-        if !same_at(a, b, index as u64 + 1, level) {
-            return false;
+        let found = first_at(at, a, b, index as u64 + 1, level);
+        if found.is_some() {
+            return found;
         }
     }
-    true
+    None
 }
 
-pub(crate) fn same_system<'a>(a: &System<'a>, b: &System<'a>, level: Level) -> bool
-    ensures { IsTrue result ↔ SameSystem level a.now b.now }
+#[tactic(auto, unfolding(crate::specs::FirstInSystems::FirstInSystem))]
+pub(crate) fn first_in_system<'a>(
+    at: &Path,
+    a: &System<'a>,
+    b: &System<'a>,
+    level: Level,
+) -> Option<Path>
+    requires { length at.now ≤ 3 }
+    ensures first { FirstInSystem at.now level a.now b.now result }
+    ensures same { (result ≡ None) ↔ SameSystem level a.now b.now }
 {
-    same_type(a.system_type, b.system_type)
-        && same_value(&a.dimension, &b.dimension)
+    if !same_type(a.system_type, b.system_type) {
+        return Some(at.then(Step::SystemType));
+    }
+    if !same_value(&a.dimension, &b.dimension) {
+        return Some(at.then(Step::Dimension));
+    }
+    if !same_idents(&a.ids, &b.ids, level) {
+        return Some(at.then(Step::Id));
+    }
+    as_many_axes();
+    first_in_axes(at, a, b, level)
+}
+
+/// Whether two axes by themselves are the same: name, direction, identifiers, and meridian, order and unit, each in both or
+/// in neither; `UNIT` is a kind of its own. ISO 19162:2019, "Axis"; order and unit: profile.
+pub fn same_axis<'a>(a: &Axis<'a>, b: &Axis<'a>, level: Level) -> bool
+    ensures { IsTrue result ↔ SameAxisAlone level a.now b.now }
+{
+    same_text(a.name, b.name)
+        && same_direction(a.direction, b.direction)
+        && same_axis_meridians(&a.meridian, &b.meridian, level)
+        && same_order(a.order, b.order)
+        && same_units_as(UnitKind::Plain, a.unit.as_ref(), b.unit.as_ref(), level)
         && same_idents(&a.ids, &b.ids, level)
-        && same_axes(a, b, level)
+}
+
+fn same_order(a: Option<Decimal>, b: Option<Decimal>) -> bool
+    ensures { IsTrue result ↔ BothOrNeither SameValue a b }
+{
+    match (a, b) {
+        (None, None) => true,
+        (Some(x), Some(y)) => same_value(&x, &y),
+        (None, Some(_)) | (Some(_), None) => false,
+    }
 }

@@ -1,6 +1,7 @@
 //! Units.
 ghost use Rattle.std.specs.Prelude.{◌≡◌, ◌↔◌, IsTrue};
 ghost use Rattle.std.specs.Option.{option_copied};
+ghost use Rattle.crs_value.specs.declared.unit_kind.UnitKind.TheVariants as kinds;
 ghost use Rattle.crs_same.specs.Sets.{BothOrNeither};
 ghost use Rattle.crs_same.specs.SameUnits.{SameUnit, SameLength, IsMetre, HasNoIdents, kind_as};
 
@@ -32,6 +33,13 @@ pub(crate) fn same_unit_as<'a>(asked: UnitKind, a: &Unit<'a>, b: &Unit<'a>, leve
         && same_text(a.name, b.name)
         && same_value(&a.factor, &b.factor)
         && same_idents(&a.ids, &b.ids, level)
+}
+
+/// Whether two units are the same: kind, name, factor and identifiers; `UNIT` is a kind of its own. Profile.
+pub fn same_unit<'a>(a: &Unit<'a>, b: &Unit<'a>, level: Level) -> bool
+    ensures { IsTrue result ↔ SameUnit kinds.Plain level a.now b.now }
+{
+    same_unit_as(UnitKind::Plain, a, b, level)
 }
 
 // Both are missing, or both are there and the same where this kind is asked.

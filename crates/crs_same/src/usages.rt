@@ -1,16 +1,21 @@
 //! Usages, and the ends of CRSs.
-ghost use Rattle.std.specs.Prelude.{◌≡◌, ◌↔◌, IsTrue};
+ghost use Rattle.std.specs.Prelude.{◌≡◌, ◌≤◌, ◌↔◌, IsTrue, None, length};
 ghost use Rattle.crs_value.specs.declared.level.Level.{Level};
+ghost use Rattle.crs_same.specs.FirstInCrs.{FirstInTail};
 ghost use Rattle.crs_same.specs.Sets.{BothOrNeither, HasSame, AllHaveSame};
 ghost use Rattle.crs_same.specs.SameUsages.{SameBox, SameExtent, SameUsage, says_some, usages_of, SameUsages, SameRemark, SameTail};
 
 use crate::idents::same_idents;
 use crate::numbers::same_value;
+use crate::path::Path;
+use crate::step::Step;
 use crate::texts::same_optional_text;
 use crate::units::same_length;
 use crs_value::{BoundingBox, Extent, Level, Tail, Usage};
 
-fn same_box(a: &BoundingBox, b: &BoundingBox) -> bool
+/// Whether two bounding boxes are the same: south, west, north and east. Boxes say no level.
+/// ISO 19162:2019, "Geographic bounding box".
+pub fn same_box(a: &BoundingBox, b: &BoundingBox) -> bool
     ensures { IsTrue result ↔ SameBox a.now b.now }
 {
     same_value(&a.south, &b.south)
@@ -29,7 +34,9 @@ fn same_boxes(a: &Option<BoundingBox>, b: &Option<BoundingBox>) -> bool
     }
 }
 
-fn same_extent<'a>(a: &Extent<'a>, b: &Extent<'a>, level: Level) -> bool
+/// Whether two vertical extents are the same: minimum, maximum and unit. A missing unit is the metre.
+/// ISO 19162:2019, "Vertical extent"; unit: profile.
+pub fn same_extent<'a>(a: &Extent<'a>, b: &Extent<'a>, level: Level) -> bool
     ensures { IsTrue result ↔ SameExtent level a.now b.now }
 {
     same_value(&a.minimum, &b.minimum)
@@ -47,7 +54,9 @@ fn same_extents<'a>(a: &Option<Extent<'a>>, b: &Option<Extent<'a>>, level: Level
     }
 }
 
-fn same_usage<'a>(a: &Usage<'a>, b: &Usage<'a>) -> bool
+/// Whether two usages are the same: scope, area, bounding box and vertical extent, each in both or in neither. A usage by
+/// itself is compared alike at every level. ISO 19162:2019, "Scope and extent".
+pub fn same_usage<'a>(a: &Usage<'a>, b: &Usage<'a>, _level: Level) -> bool
     ensures { IsTrue result ↔ SameUsage a.now b.now }
 {
     same_optional_text(a.scope, b.scope)
@@ -66,7 +75,7 @@ fn has_same<'a>(usage: &Usage<'a>, others: &[Usage<'a>]) -> bool
     ensures { IsTrue result ↔ HasSame SameUsage usage.now others.now }
 {
     for other in others {
-        if same_usage(usage, other) {
+        if same_usage(usage, other, Level::Full) {
             return true;
         }
     }
@@ -77,7 +86,7 @@ fn has_same<'a>(usage: &Usage<'a>, others: &[Usage<'a>]) -> bool
 fn has_same_in<'a>(usage: &Usage<'a>, tail: &Tail<'a>) -> bool
     ensures { IsTrue result ↔ HasSame SameUsage usage.now (usages_of tail.now) }
 {
-    if says_some(&tail.bare) && same_usage(usage, &tail.bare) {
+    if says_some(&tail.bare) && same_usage(usage, &tail.bare, Level::Full) {
         return true;
     }
     has_same(usage, tail.usages.as_slice())
@@ -119,8 +128,20 @@ fn same_remark<'a>(a: &Tail<'a>, b: &Tail<'a>, level: Level) -> bool
     }
 }
 
-pub(crate) fn same_tail<'a>(a: &Tail<'a>, b: &Tail<'a>, level: Level) -> bool
-    ensures { IsTrue result ↔ SameTail level a.now b.now }
+#[tactic(auto, unfolding(crate::specs::FirstInCrs::FirstInTail))]
+pub(crate) fn first_in_tail<'a>(at: &Path, a: &Tail<'a>, b: &Tail<'a>, level: Level) -> Option<Path>
+    requires { length at.now ≤ 4 }
+    ensures first { FirstInTail at.now level a.now b.now result }
+    ensures same { (result ≡ None) ↔ SameTail level a.now b.now }
 {
-    same_usages(a, b, level) && same_idents(&a.ids, &b.ids, level) && same_remark(a, b, level)
+    if !same_usages(a, b, level) {
+        return Some(at.then(Step::Usage));
+    }
+    if !same_idents(&a.ids, &b.ids, level) {
+        return Some(at.then(Step::Id));
+    }
+    if !same_remark(a, b, level) {
+        return Some(at.then(Step::Remark));
+    }
+    None
 }

@@ -1,4 +1,4 @@
-use Rattle.std.proofs.Common.{rules, ◌↔◌}
+use Rattle.std.proofs.Common.{rules}
 use Rattle.crs_same.proofs.LevelLemmas.{idents-full}
 use Rattle.crs_same.proofs.idents.same_idents.Goals as goal
 

@@ -1,0 +1,97 @@
+-- The parts of coordinate reference systems, in order.
+use Rattle.std.specs.Prelude.{◌≡◌, Option, List, []}
+use Rattle.crs_value.specs.declared.compound.Horizontal.{Horizontal}
+use Rattle.crs_value.specs.declared.compound.Horizontal.TheVariants as horizontal
+use Rattle.crs_value.specs.declared.crs.Crs.{Crs}
+use Rattle.crs_value.specs.declared.crs.Crs.TheVariants as crs
+use Rattle.crs_value.specs.declared.level.Level.{Level}
+use Rattle.crs_value.specs.declared.unit_kind.UnitKind.TheVariants as kinds
+use Rattle.crs_value.specs.CompoundValues.{CompoundParts}
+use Rattle.crs_value.specs.ConversionValues.{MethodParts, ConversionParts}
+use Rattle.crs_value.specs.CrsValues.{GeodeticParts, BaseParts, ProjectedParts, VerticalParts}
+use Rattle.crs_value.specs.ReadsCrs.{kind_by}
+use Rattle.crs_value.specs.Values.{TailParts}
+use Rattle.crs_same.specs.declared.step.Step.{Step}
+use Rattle.crs_same.specs.declared.step.Step.TheVariants as step
+use Rattle.crs_same.specs.FirstInFrames.{FirstInMeridian, FirstInFrame}
+use Rattle.crs_same.specs.FirstInSystems.{FirstInSystem}
+use Rattle.crs_same.specs.FirstPart.{◌▸◌, ◌⨾◌, Part}
+use Rattle.crs_same.specs.SameConversions.{SameParameter, SameGeoidModel}
+use Rattle.crs_same.specs.SameIdents.{SameIdents}
+use Rattle.crs_same.specs.SameUnits.{SameUnit}
+use Rattle.crs_same.specs.SameUsages.{SameUsages, SameRemark}
+use Rattle.crs_same.specs.Sets.{SameSet, BothOrNeither}
+
+abbrev pub FirstInMethod : List Step → Level → MethodParts → MethodParts → Option (List Step) → Type 0
+FirstInMethod at level a b =
+    Part (at ▸ step.Name) (a.name ≡ b.name)
+    ⨾ Part (at ▸ step.Id) (SameIdents level a.ids b.ids)
+
+unfoldable pub FirstInConversion : List Step → Level → ConversionParts → ConversionParts → Option (List Step) → Type 0
+FirstInConversion at level a b =
+    Part (at ▸ step.Name) (a.name ≡ b.name)
+    ⨾ FirstInMethod (at ▸ step.Method) level a.method b.method
+    ⨾ Part (at ▸ step.Parameters) (SameSet (SameParameter level) a.parameters b.parameters)
+    ⨾ Part (at ▸ step.Id) (SameIdents level a.ids b.ids)
+
+-- the end of a CRS
+unfoldable pub FirstInTail : List Step → Level → TailParts → TailParts → Option (List Step) → Type 0
+FirstInTail at level a b =
+    Part (at ▸ step.Usage) (SameUsages level a b)
+    ⨾ Part (at ▸ step.Id) (SameIdents level a.ids b.ids)
+    ⨾ Part (at ▸ step.Remark) (SameRemark level a b)
+
+-- the kind is geodetic or geographic
+unfoldable pub FirstInGeodetic : List Step → Level → GeodeticParts → GeodeticParts → Option (List Step) → Type 0
+FirstInGeodetic at level a b =
+    Part (at ▸ step.Kind) (kind_by a.system.system_type ≡ kind_by b.system.system_type)
+    ⨾ Part (at ▸ step.Name) (a.name ≡ b.name)
+    ⨾ FirstInFrame (at ▸ step.Datum) level a.frame b.frame
+    ⨾ FirstInMeridian (at ▸ step.Meridian) level a.meridian b.meridian
+    ⨾ FirstInSystem (at ▸ step.System) level a.system b.system
+    ⨾ FirstInTail at level a.tail b.tail
+
+unfoldable pub FirstInBase : List Step → Level → BaseParts → BaseParts → Option (List Step) → Type 0
+FirstInBase at level a b =
+    Part (at ▸ step.Name) (a.name ≡ b.name)
+    ⨾ FirstInFrame (at ▸ step.Datum) level a.frame b.frame
+    ⨾ FirstInMeridian (at ▸ step.Meridian) level a.meridian b.meridian
+    ⨾ Part (at ▸ step.Unit) (BothOrNeither (SameUnit kinds.Angle level) a.unit b.unit)
+    ⨾ Part (at ▸ step.Id) (SameIdents level a.ids b.ids)
+
+unfoldable pub FirstInProjected : List Step → Level → ProjectedParts → ProjectedParts → Option (List Step) → Type 0
+FirstInProjected at level a b =
+    Part (at ▸ step.Name) (a.name ≡ b.name)
+    ⨾ FirstInBase (at ▸ step.Base) level a.base b.base
+    ⨾ FirstInConversion (at ▸ step.Conversion) level a.conversion b.conversion
+    ⨾ FirstInSystem (at ▸ step.System) level a.system b.system
+    ⨾ FirstInTail at level a.tail b.tail
+
+unfoldable pub FirstInVertical : List Step → Level → VerticalParts → VerticalParts → Option (List Step) → Type 0
+FirstInVertical at level a b =
+    Part (at ▸ step.Name) (a.name ≡ b.name)
+    ⨾ FirstInFrame (at ▸ step.Datum) level a.frame b.frame
+    ⨾ FirstInSystem (at ▸ step.System) level a.system b.system
+    ⨾ Part (at ▸ step.Geoid) (SameSet (SameGeoidModel level) a.geoid_models b.geoid_models)
+    ⨾ FirstInTail at level a.tail b.tail
+
+unfoldable pub FirstInHorizontal : List Step → Level → Horizontal → Horizontal → Option (List Step) → Type 0
+FirstInHorizontal at level (horizontal.Geodetic a) (horizontal.Geodetic b) = FirstInGeodetic at level a b
+FirstInHorizontal at level (horizontal.Geodetic a) (horizontal.Projected b) = Part (at ▸ step.Kind) ⊥
+FirstInHorizontal at level (horizontal.Projected a) (horizontal.Geodetic b) = Part (at ▸ step.Kind) ⊥
+FirstInHorizontal at level (horizontal.Projected a) (horizontal.Projected b) = FirstInProjected at level a b
+
+unfoldable pub FirstInCompound : List Step → Level → CompoundParts → CompoundParts → Option (List Step) → Type 0
+FirstInCompound at level a b =
+    Part (at ▸ step.Name) (a.name ≡ b.name)
+    ⨾ FirstInHorizontal (at ▸ step.Horizontal) level a.horizontal b.horizontal
+    ⨾ FirstInVertical (at ▸ step.Vertical) level a.vertical b.vertical
+    ⨾ FirstInTail at level a.tail b.tail
+
+-- two CRSs of different kinds differ in that
+abbrev pub FirstInCrs : Level → Crs → Crs → Option (List Step) → Type 0
+FirstInCrs level (crs.Geodetic a) (crs.Geodetic b) = FirstInGeodetic [] level a b
+FirstInCrs level (crs.Projected a) (crs.Projected b) = FirstInProjected [] level a b
+FirstInCrs level (crs.Vertical a) (crs.Vertical b) = FirstInVertical [] level a b
+FirstInCrs level (crs.Compound a) (crs.Compound b) = FirstInCompound [] level a b
+FirstInCrs level a b = Part ([] ▸ step.Kind) ⊥

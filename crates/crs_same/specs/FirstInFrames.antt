@@ -1,0 +1,76 @@
+-- The parts of ellipsoids, prime meridians, reference frames and ensembles, in order.
+use Rattle.std.specs.Prelude.{◌≡◌, Option, Some, None, List, ◌⊎◌, codes}
+use Rattle.crs_value.specs.declared.frame.Frame.{Frame}
+use Rattle.crs_value.specs.declared.frame.Frame.TheVariants as frame
+use Rattle.crs_value.specs.declared.level.Level.{Level}
+use Rattle.crs_value.specs.declared.unit_kind.UnitKind.TheVariants as kinds
+use Rattle.crs_value.specs.Values.{EllipsoidParts, MeridianParts, DatumParts, EnsembleParts}
+use Rattle.crs_same.specs.declared.step.Step.{Step}
+use Rattle.crs_same.specs.declared.step.Step.TheVariants as step
+use Rattle.crs_same.specs.FirstPart.{◌▸◌, ◌⨾◌, Nothing, Part}
+use Rattle.crs_same.specs.SameFrames.{IsZero, SameMember}
+use Rattle.crs_same.specs.SameIdents.{SameIdents}
+use Rattle.crs_same.specs.SameUnits.{SameValue, SameUnit, SameLength, HasNoIdents}
+use Rattle.crs_same.specs.Sets.{SameSet, BothOrNeither}
+
+abbrev pub FirstInEllipsoid : List Step → Level → EllipsoidParts → EllipsoidParts → Option (List Step) → Type 0
+FirstInEllipsoid at level a b =
+    Part (at ▸ step.Name) (a.name ≡ b.name)
+    ⨾ Part (at ▸ step.SemiMajor) (SameValue a.semi_major_axis b.semi_major_axis)
+    ⨾ Part (at ▸ step.Flattening) (SameValue a.inverse_flattening b.inverse_flattening)
+    ⨾ Part (at ▸ step.Unit) (SameLength level a.unit b.unit)
+    ⨾ Part (at ▸ step.Id) (SameIdents level a.ids b.ids)
+
+-- where only one side has an ellipsoid, its name is the first part that is on one side alone
+abbrev pub FirstInEllipsoids : List Step → Level → Option EllipsoidParts → Option EllipsoidParts → Option (List Step) → Type 0
+FirstInEllipsoids at level None None = Nothing
+FirstInEllipsoids at level None (Some b) = Part (at ▸ step.Name) ⊥
+FirstInEllipsoids at level (Some a) None = Part (at ▸ step.Name) ⊥
+FirstInEllipsoids at level (Some a) (Some b) = FirstInEllipsoid at level a b
+
+-- ---- prime meridians
+
+-- at longitude 0 there is no unit
+abbrev pub FirstInGiven : List Step → Level → MeridianParts → MeridianParts → Option (List Step) → Type 0
+FirstInGiven at level a b =
+    Part (at ▸ step.Name) (a.name ≡ b.name)
+    ⨾ Part (at ▸ step.Longitude) (SameValue a.longitude b.longitude)
+    ⨾ Part (at ▸ step.Unit) (IsZero a.longitude ⊎ BothOrNeither (SameUnit kinds.Angle level) a.unit b.unit)
+    ⨾ Part (at ▸ step.Id) (SameIdents level a.ids b.ids)
+
+-- beside a missing one, which is Greenwich
+abbrev pub FirstBesideGreenwich : List Step → Level → MeridianParts → Option (List Step) → Type 0
+FirstBesideGreenwich at level meridian =
+    Part (at ▸ step.Name) (meridian.name ≡ codes "Greenwich")
+    ⨾ Part (at ▸ step.Longitude) (IsZero meridian.longitude)
+    ⨾ Part (at ▸ step.Id) (HasNoIdents level meridian.ids)
+
+unfoldable pub FirstInMeridian : List Step → Level → Option MeridianParts → Option MeridianParts → Option (List Step) → Type 0
+FirstInMeridian at level None None = Nothing
+FirstInMeridian at level None (Some b) = FirstBesideGreenwich at level b
+FirstInMeridian at level (Some a) None = FirstBesideGreenwich at level a
+FirstInMeridian at level (Some a) (Some b) = FirstInGiven at level a b
+
+-- ---- frames
+
+abbrev pub FirstInDatum : List Step → Level → DatumParts → DatumParts → Option (List Step) → Type 0
+FirstInDatum at level a b =
+    Part (at ▸ step.Name) (a.name ≡ b.name)
+    ⨾ FirstInEllipsoids (at ▸ step.Ellipsoid) level a.ellipsoid b.ellipsoid
+    ⨾ Part (at ▸ step.Anchor) (a.anchor ≡ b.anchor)
+    ⨾ Part (at ▸ step.Id) (SameIdents level a.ids b.ids)
+
+abbrev pub FirstInEnsemble : List Step → Level → EnsembleParts → EnsembleParts → Option (List Step) → Type 0
+FirstInEnsemble at level a b =
+    Part (at ▸ step.Name) (a.name ≡ b.name)
+    ⨾ Part (at ▸ step.Members) (SameSet (SameMember level) a.members b.members)
+    ⨾ FirstInEllipsoids (at ▸ step.Ellipsoid) level a.ellipsoid b.ellipsoid
+    ⨾ Part (at ▸ step.Accuracy) (SameValue a.accuracy b.accuracy)
+    ⨾ Part (at ▸ step.Id) (SameIdents level a.ids b.ids)
+
+-- a reference frame and an ensemble differ in their kind
+unfoldable pub FirstInFrame : List Step → Level → Frame → Frame → Option (List Step) → Type 0
+FirstInFrame at level (frame.Datum a) (frame.Datum b) = FirstInDatum at level a b
+FirstInFrame at level (frame.Datum a) (frame.Ensemble b) = Part (at ▸ step.Kind) ⊥
+FirstInFrame at level (frame.Ensemble a) (frame.Datum b) = Part (at ▸ step.Kind) ⊥
+FirstInFrame at level (frame.Ensemble a) (frame.Ensemble b) = FirstInEnsemble at level a b
