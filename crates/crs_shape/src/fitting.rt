@@ -166,7 +166,7 @@ fn refusal(number: u8, place: usize) -> Refusal
 }
 
 // Where a walk over a row of slots stands: before slot number `at`, which has an argument already if `filled`.
-#[derive(Clone, Copy, Debug)]
+#[derive(Clone, Copy)]
 struct Walk {
     at: usize,
     filled: bool,

@@ -13,7 +13,7 @@ const HALF_BLOCK: usize = 4;
 
 // A keyword and the classes that have it. Where several of them may stand in one parent, that which the
 // keyword names there goes first.
-#[derive(Clone, Copy, Debug)]
+#[derive(Clone, Copy)]
 pub(crate) struct Keyword {
     word: &'static [u8],
     classes: &'static [Class],

@@ -12,7 +12,7 @@ use bstr::ByteSlice;
 use crs_decimal::{Decimal, NumberFault};
 
 /// What stands in front of what is left; lengths count the raw bytes of a single token.
-#[derive(Clone, Copy, Debug, PartialEq, Eq)]
+#[derive(Clone, Copy)]
 pub(crate) enum Lexed {
     Number { length: usize },
     Text { length: usize },

@@ -10,8 +10,6 @@ mod reading;
 mod refusal;
 mod scanning;
 mod table;
-#[cfg(test)]
-mod tests;
 mod utf8;
 
 pub use fault::Fault;

@@ -26,7 +26,7 @@ impl Model for Refusal {
 }
 
 /// Why a text is no node.
-#[derive(Clone, Copy, Debug, PartialEq, Eq)]
+#[derive(Clone, Copy)]
 pub(crate) enum Reason {
     /// A byte begins no token.
     BadCharacter,

@@ -12,7 +12,7 @@ use std::marker::Model;
 const LIMIT: usize = 12;
 
 /// Where the tokens so far have led.
-#[derive(Clone, Copy, Debug, PartialEq, Eq)]
+#[derive(Clone, Copy)]
 pub(crate) enum Position {
     /// At the start, after an opening delimiter or a comma.
     BeforeItem,
@@ -23,7 +23,7 @@ pub(crate) enum Position {
 }
 
 /// What became of an opening delimiter.
-#[derive(Clone, Copy, Debug, PartialEq, Eq)]
+#[derive(Clone, Copy)]
 pub(crate) enum Opened {
     Taken,
     /// It stands after a word, and as many as may be are open.
@@ -34,7 +34,7 @@ pub(crate) enum Opened {
 /// An item: its first byte's place, the length of its raw bytes, which begin there or behind a
 /// quote; a node's closing delimiter, its count of arguments and of all items in it, itself
 /// included; and how many delimiters are open around it.
-#[derive(Clone, Copy, Debug)]
+#[derive(Clone, Copy)]
 pub(crate) struct Row {
     pub(crate) kind: ItemKind,
     pub(crate) square: bool,
@@ -47,7 +47,7 @@ pub(crate) struct Row {
 }
 
 /// An open node: its row, its delimiter, and how many of its arguments have begun.
-#[derive(Clone, Copy, Debug)]
+#[derive(Clone, Copy)]
 pub(crate) struct Open {
     row: usize,
     square: bool,
@@ -55,7 +55,7 @@ pub(crate) struct Open {
 }
 
 /// The items that have begun, and the nodes that are open.
-#[derive(Drop, Debug)]
+#[derive(Drop)]
 pub(crate) struct Table {
     rows: Vec<Row>,
     opens: [Open; 12],
@@ -260,7 +260,7 @@ impl Table {
     pub(crate) fn is_whole(&self) -> bool
         ensures { result ≡ is_whole self.now }
     {
-        self.position == Position::AfterItem && self.depth == 0
+        matches!(self.position, Position::AfterItem) && self.depth == 0
     }
 
     /// The rows alone.
