@@ -7,8 +7,6 @@ mod fault;
 pub mod laws;
 mod mantissa;
 mod reading;
-#[cfg(test)]
-mod tests;
 mod writing;
 
 pub use decimal::Decimal;

@@ -20,8 +20,6 @@ pub mod laws;
 mod print;
 mod sink;
 mod source;
-#[cfg(test)]
-mod tests;
 mod text;
 mod text_run;
 mod thin;

@@ -6,8 +6,6 @@ mod direction;
 mod items;
 mod reading;
 mod system_type;
-#[cfg(test)]
-mod tests;
 mod values;
 mod writing;
 

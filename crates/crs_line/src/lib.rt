@@ -6,5 +6,3 @@ pub use line::request;
 
 mod asked;
 mod line;
-#[cfg(test)]
-mod tests;

@@ -1,10 +1,25 @@
 //! From the name of a call to its answer.
+use crate::runs::Command;
 use crate::texts::Column;
 use crate::{numbers, runs, sameness, shapes, texts, values};
 use std::alloc::{AllocError, Global};
 
-/// Appends the answer of a call to an input, as a row writes it.
+/// Appends the answer of a call to an input, as a row writes it; behind a blank the call may have words.
 pub fn put_answer(
+    out: &mut String,
+    alloc: Global,
+    call: &str,
+    input: &[u8],
+) -> Result<(), AllocError> {
+    match call.split_once(' ') {
+        Some(("run_canon", words)) => runs::put_run(out, alloc, Command::Canon, words, input),
+        Some(("run_check", words)) => runs::put_run(out, alloc, Command::Check, words, input),
+        Some(_) => out.push_str("no such call"),
+        None => put_plain_answer(out, alloc, call, input),
+    }
+}
+
+fn put_plain_answer(
     out: &mut String,
     alloc: Global,
     call: &str,
@@ -13,19 +28,54 @@ pub fn put_answer(
     match call {
         "Decimal::parse" => numbers::put_plain(out, input),
         "Decimal::whole" => numbers::put_whole(out, input),
+        "Decimal::digits" => numbers::put_parts(out, input),
+        "Decimal::same_number" => numbers::put_equality(out, input),
+        "Decimal::write" => numbers::put_appended(out, input),
+        "NumberFault" => numbers::put_displayed(out, input),
         "Refusal::new" => numbers::put_name(out, input),
+        _ => put_text_answer(out, alloc, call, input),
+    }
+}
+
+fn put_text_answer(
+    out: &mut String,
+    alloc: Global,
+    call: &str,
+    input: &[u8],
+) -> Result<(), AllocError> {
+    match call {
         "read_items" => texts::put_tree(out, alloc, input),
         "places" => texts::put_column(out, alloc, input, Column::Place),
         "closes" => texts::put_column(out, alloc, input, Column::Close),
         "numbers" => texts::put_column(out, alloc, input, Column::Number),
+        "sizes" => texts::put_column(out, alloc, input, Column::Size),
+        "nexts" => texts::put_column(out, alloc, input, Column::Next),
         "prefixes" => texts::put_prefixes(out, alloc, input),
         "fit_root" => shapes::put_class(out, alloc, input),
-        "thin_canon" => runs::put_thin(out, alloc, input),
-        "run_canon" => runs::put_canon(out, alloc, input),
-        "run_check" => runs::put_check(out, alloc, input),
+        "fit" => shapes::put_fit(out, alloc, input),
+        "class_of" => shapes::put_keywords(out, input),
+        "slots" => shapes::put_slots(out, input),
+        "known" => shapes::put_known(out, input),
+        _ => put_value_answer(out, alloc, call, input),
+    }
+}
+
+fn put_value_answer(
+    out: &mut String,
+    alloc: Global,
+    call: &str,
+    input: &[u8],
+) -> Result<(), AllocError> {
+    match call {
         "read" => values::put_read(out, alloc, input),
         "value_of" => values::put_value_of(out, alloc, input),
+        "first_axis" => values::put_axis(out, alloc, input),
         "same" => sameness::put_same(out, alloc, input),
+        "same_axis" => sameness::put_same_axis(out, alloc, input),
+        "thin_canon" => runs::put_thin(out, alloc, input),
+        "Canon::same" => runs::put_same_canon(out, alloc, input),
+        "run_canon" => runs::put_canon(out, alloc, input),
+        "run_check" => runs::put_check(out, alloc, input),
         _ => out.push_str("no such call"),
     }
 }

@@ -9,12 +9,13 @@ mod rows;
 mod runs;
 mod sameness;
 mod shapes;
+mod streams;
 mod texts;
 mod values;
 
 use std::{fs, io};
 
-const FILES: [&str; 13] = [
+const FILES: [&str; 15] = [
     "decimals",
     "refusals",
     "tokens",
@@ -22,10 +23,12 @@ const FILES: [&str; 13] = [
     "items",
     "prefixes",
     "shapes",
+    "tables",
     "values",
     "before_dynamic",
     "thin",
     "runs",
+    "streams",
     "checks",
     "same",
 ];

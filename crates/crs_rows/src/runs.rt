@@ -1,6 +1,8 @@
 //! The runs of commands, and the canonical text of a thin text.
 use crate::escapes::put_text;
-use crs_desk::{Level, RunFault, Sink, Source, run_canon, run_check, thin_canon};
+use crate::sameness::split_line;
+use crate::streams::{Manner, Page, Pieces};
+use crs_desk::{Canon, Level, RunFault, Sink, Source, run_canon, run_check, thin_canon};
 use std::alloc::{AllocError, Global};
 
 /// `text` and the canonical text; `none` where the text isn't thin.
@@ -11,6 +13,23 @@ pub fn put_thin(out: &mut String, alloc: Global, input: &[u8]) -> Result<(), All
             put_text(out, canon.bytes())
         }
         None => out.push_str("none"),
+    }
+}
+
+/// Whether the canonical texts of two texts, one a line, are the same, and whether one is the same as itself.
+pub fn put_same_canon(out: &mut String, alloc: Global, input: &[u8]) -> Result<(), AllocError> {
+    let (first, second) = split_line(input);
+    match (thin_canon(alloc, first)?, thin_canon(alloc, second)?) {
+        (Some(a), Some(b)) => out.push_str(sameness(&a, &b)),
+        _ => out.push_str("none"),
+    }
+}
+
+fn sameness(a: &Canon, b: &Canon) -> &'static str {
+    match (a.same(a) && a.level() == Level::Full, a.same(b), b.same(a)) {
+        (true, true, true) => "same",
+        (true, false, false) => "different",
+        _ => "one way",
     }
 }
 
@@ -46,6 +65,76 @@ fn check(alloc: Global, input: &[u8], written: &mut Vec<u8>) -> Result<u8, RunFa
     let mut source = Source::new(input);
     let mut sink = Sink::new(written);
     run_check(alloc, &mut source, &mut sink)
+}
+
+/// A command that reads one text.
+#[derive(Clone, Copy)]
+pub enum Command {
+    Canon,
+    Check,
+}
+
+/// The outcome of a command whose text is read in this manner, the count of reads, which of source and sink has
+/// failed, and what was written; `no such manner` where the words say none.
+pub fn put_run(
+    out: &mut String,
+    alloc: Global,
+    command: Command,
+    words: &str,
+    input: &[u8],
+) -> Result<(), AllocError> {
+    match Manner::read(words) {
+        Some(manner) => put_run_in(out, alloc, command, manner, input),
+        None => out.push_str("no such manner"),
+    }
+}
+
+fn put_run_in(
+    out: &mut String,
+    alloc: Global,
+    command: Command,
+    manner: Manner,
+    input: &[u8],
+) -> Result<(), AllocError> {
+    let mut page = Page {
+        written: Vec::new(alloc),
+        is_unwritable: manner.is_unwritable,
+    };
+    put_ended(out, alloc, command, Pieces::new(input, manner), &mut page)?;
+    put_written(out, &page.written)
+}
+
+fn put_ended(
+    out: &mut String,
+    alloc: Global,
+    command: Command,
+    reader: Pieces<'_>,
+    page: &mut Page,
+) -> Result<(), AllocError> {
+    let mut source = Source::new(reader);
+    let mut sink = Sink::new(page);
+    let outcome = match command {
+        Command::Canon => run_canon(alloc, Level::Full, &mut source, &mut sink),
+        Command::Check => run_check(alloc, &mut source, &mut sink),
+    };
+    put_outcome(out, outcome)?;
+    put_streams(out, source.reads(), source.failed(), sink.failed())
+}
+
+fn put_streams(
+    out: &mut String,
+    reads: u32,
+    source_failed: bool,
+    sink_failed: bool,
+) -> Result<(), AllocError> {
+    write!(out, ", reads {reads}")?;
+    if source_failed {
+        out.push_str(", source failed")?;
+    }
+    if sink_failed {
+        out.push_str(", sink failed")?;
+    }
+    Ok(())
 }
 
 fn put_outcome(out: &mut String, outcome: Result<u8, RunFault>) -> Result<(), AllocError> {

@@ -2,20 +2,70 @@
 use crate::escapes::put_text;
 use crate::texts::put_fault;
 use bstr::ByteSlice;
+use crs_same::parts::same_axis;
 use crs_same::{Path, first_part, same};
-use crs_text::Fault;
-use crs_value::{Crs, Level, read};
+use crs_value::{Axis, Crs, Level, read};
 use std::alloc::{AllocError, Global};
 
 /// `same` for the CRSs of two texts, one a line, or `different` and the first part that differs, or the refusal of the
 /// first text that has one; `one way` where the calls or the orders of the two disagree.
 pub fn put_same(out: &mut String, alloc: Global, input: &[u8]) -> Result<(), AllocError> {
     let (first, second) = split_line(input);
-    match compared(alloc, first, second) {
-        Ok(Outcome::Same) => out.push_str("same"),
-        Ok(Outcome::Different(path)) => put_path(out, alloc, &path),
-        Ok(Outcome::OneWay) => out.push_str("one way"),
+    match read(alloc, first) {
+        Ok(crs) => put_same_as(out, alloc, &crs, second),
         Err(fault) => put_fault(out, fault),
+    }
+}
+
+fn put_same_as<'a>(
+    out: &mut String,
+    alloc: Global,
+    first: &Crs<'a>,
+    second: &'a [u8],
+) -> Result<(), AllocError> {
+    match read(alloc, second) {
+        Ok(crs) => put_outcome(out, alloc, told(first, &crs)),
+        Err(fault) => put_fault(out, fault),
+    }
+}
+
+/// The same of the first axes of two vertical CRSs by themselves, without the part; `no axes` for other texts.
+pub fn put_same_axis(out: &mut String, alloc: Global, input: &[u8]) -> Result<(), AllocError> {
+    let (first, second) = split_line(input);
+    match read(alloc, first) {
+        Ok(crs) => put_same_axis_as(out, alloc, first_axis(&crs), second),
+        Err(fault) => put_fault(out, fault),
+    }
+}
+
+fn put_same_axis_as<'a>(
+    out: &mut String,
+    alloc: Global,
+    first: Option<&Axis<'a>>,
+    second: &'a [u8],
+) -> Result<(), AllocError> {
+    match read(alloc, second) {
+        Ok(crs) => out.push_str(axes_told(first, first_axis(&crs))),
+        Err(fault) => put_fault(out, fault),
+    }
+}
+
+/// The first axis of a vertical CRS.
+pub fn first_axis<'b, 'a>(crs: &'b Crs<'a>) -> Option<&'b Axis<'a>> {
+    match crs {
+        Crs::Vertical(vertical) => vertical.system.axes.as_slice().first(),
+        Crs::Geodetic(_) | Crs::Projected(_) | Crs::Compound(_) => None,
+    }
+}
+
+fn axes_told<'a>(first: Option<&Axis<'a>>, second: Option<&Axis<'a>>) -> &'static str {
+    let (Some(x), Some(y)) = (first, second) else {
+        return "no axes";
+    };
+    match (same_axis(x, y, Level::Full), same_axis(y, x, Level::Full)) {
+        (true, true) => "same",
+        (false, false) => "different",
+        _ => "one way",
     }
 }
 
@@ -26,17 +76,12 @@ enum Outcome {
     OneWay,
 }
 
-fn split_line(input: &[u8]) -> (&[u8], &[u8]) {
+/// What stands before the first line end, and what stands behind it.
+pub fn split_line(input: &[u8]) -> (&[u8], &[u8]) {
     match input.find_byte(b'\n') {
         Some(end) => (&input[..end], &input[end + 1..]),
         None => (input, &[]),
     }
-}
-
-fn compared(alloc: Global, first: &[u8], second: &[u8]) -> Result<Outcome, Fault> {
-    let a = read(alloc, first)?;
-    let b = read(alloc, second)?;
-    Ok(told(&a, &b))
 }
 
 fn told<'a>(a: &Crs<'a>, b: &Crs<'a>) -> Outcome {
@@ -62,6 +107,14 @@ fn are_alike(a: Option<&Path>, b: Option<&Path>) -> bool {
         (None, None) => true,
         (Some(x), Some(y)) => x.steps() == y.steps(),
         (None, Some(_)) | (Some(_), None) => false,
+    }
+}
+
+fn put_outcome(out: &mut String, alloc: Global, outcome: Outcome) -> Result<(), AllocError> {
+    match outcome {
+        Outcome::Same => out.push_str("same"),
+        Outcome::Different(path) => put_path(out, alloc, &path),
+        Outcome::OneWay => out.push_str("one way"),
     }
 }
 

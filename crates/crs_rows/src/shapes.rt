@@ -1,7 +1,9 @@
 //! The calls on the shapes of texts.
 use crate::escapes::put_text;
+use crate::sameness::split_line;
 use crate::texts::{put_fault, put_refusal};
-use crs_shape::{Class, fit_root, keywords};
+use bstr::ByteSlice;
+use crs_shape::{Class, Slot, class_of, fit, fit_root, keywords, known, root_class, slots};
 use crs_text::{Refusal, read_items};
 use std::alloc::{AllocError, Global};
 
@@ -27,5 +29,106 @@ fn put_keyword(out: &mut String, class: Class) -> Result<(), AllocError> {
     match keywords(class).first() {
         Some(keyword) => put_text(out, keyword),
         None => Ok(()),
+    }
+}
+
+// The class that keywords lead to, parted by blanks: the first names a root, each other one what it names in the class
+// before it.
+fn class_at(path: &[u8]) -> Option<Class> {
+    let (root, mut rest) = split_blank(path);
+    let mut class = root_class(root)?;
+    for _turn in 0..path.len() {
+        if rest.is_empty() {
+            break;
+        }
+        let (keyword, further) = split_blank(rest);
+        class = class_of(class, keyword)?;
+        rest = further;
+    }
+    Some(class)
+}
+
+fn split_blank(path: &[u8]) -> (&[u8], &[u8]) {
+    match path.find_byte(b' ') {
+        Some(end) => (&path[..end], &path[end + 1..]),
+        None => (path, &[]),
+    }
+}
+
+/// `keywords` and those of the class that keywords lead to from a root; `none` where they name nothing there.
+pub fn put_keywords(out: &mut String, input: &[u8]) -> Result<(), AllocError> {
+    match class_at(input) {
+        Some(class) => {
+            out.push_str("keywords")?;
+            for keyword in keywords(class) {
+                out.push(' ')?;
+                put_text(out, keyword)?;
+            }
+            Ok(())
+        }
+        None => out.push_str("none"),
+    }
+}
+
+/// The slots of the class that keywords lead to: each with the classes that may stand there by their first keywords, or
+/// as `number`, `text` and `word`, joined by `|`, and a mark: `?` where it may be left out, `+` where it may be
+/// repeated, `*` for both.
+pub fn put_slots(out: &mut String, input: &[u8]) -> Result<(), AllocError> {
+    match class_at(input) {
+        Some(class) => {
+            out.push_str("slots")?;
+            for slot in slots(class) {
+                out.push(' ')?;
+                put_slot(out, slot)?;
+            }
+            Ok(())
+        }
+        None => out.push_str("none"),
+    }
+}
+
+fn put_slot(out: &mut String, slot: &Slot) -> Result<(), AllocError> {
+    for (index, class) in slot.classes().iter().enumerate() {
+        if index > 0 {
+            out.push('|')?;
+        }
+        put_class_word(out, *class)?;
+    }
+    out.push_str(match (slot.required(), slot.many()) {
+        (true, false) => "",
+        (false, false) => "?",
+        (true, true) => "+",
+        (false, true) => "*",
+    })
+}
+
+fn put_class_word(out: &mut String, class: Class) -> Result<(), AllocError> {
+    match class {
+        Class::Number => out.push_str("number"),
+        Class::Text => out.push_str("text"),
+        Class::Word => out.push_str("word"),
+        _ => put_keyword(out, class),
+    }
+}
+
+/// Whether any class has the keyword.
+pub fn put_known(out: &mut String, input: &[u8]) -> Result<(), AllocError> {
+    out.push_str(if known(input) { "known" } else { "unknown" })
+}
+
+/// `fits` where a text has the shape of the class that the keywords of the line before it lead to, or its refusal.
+pub fn put_fit(out: &mut String, alloc: Global, input: &[u8]) -> Result<(), AllocError> {
+    let (path, text) = split_line(input);
+    match (class_at(path), read_items(alloc, text)) {
+        (None, _) => out.push_str("none"),
+        (Some(class), Ok(items)) => put_shape(out, fit(&items, items.root(), class)),
+        (Some(_class), Err(fault)) => put_fault(out, fault),
+    }
+}
+
+fn put_shape(out: &mut String, fitted: Result<(), Refusal>) -> Result<(), AllocError> {
+    match fitted {
+        Ok(()) => out.push_str("fits"),
+        Err(refusal) => put_refusal(out, refusal),
     }
 }

@@ -19,6 +19,10 @@ pub enum Column {
     Close,
     /// The value of a number.
     Number,
+    /// How many items are in it, itself included.
+    Size,
+    /// The place of the argument behind it in its node.
+    Next,
 }
 
 impl Column {
@@ -27,6 +31,8 @@ impl Column {
             Column::Place => "places",
             Column::Close => "closes",
             Column::Number => "numbers",
+            Column::Size => "sizes",
+            Column::Next => "nexts",
         }
     }
 }
@@ -150,6 +156,8 @@ fn put_each(
         Column::Place => write!(out, " {}", items.place(id))?,
         Column::Close => put_close(out, items.close(id))?,
         Column::Number => put_number(out, items.number(id))?,
+        Column::Size => write!(out, " {}", items.size(id))?,
+        Column::Next => put_next(out, items, id)?,
     }
     for i in 0..items.arg_count(id) {
         if depth > 0
@@ -159,6 +167,15 @@ fn put_each(
         }
     }
     Ok(())
+}
+
+fn put_next(out: &mut String, items: &Items<'_>, id: ItemId) -> Result<(), AllocError>
+    requires { HasId items.now id }
+{
+    match items.next(id) {
+        Some(next) => write!(out, " {}", items.place(next)),
+        None => out.push_str(" none"),
+    }
 }
 
 fn put_close(out: &mut String, close: Option<usize>) -> Result<(), AllocError> {

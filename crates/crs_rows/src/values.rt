@@ -1,7 +1,10 @@
 //! The calls on the values of texts.
+use crate::escapes::put_text;
+use crate::numbers::put_spelling;
+use crate::sameness::first_axis;
 use crate::texts::put_fault;
 use crs_text::{Fault, read_items};
-use crs_value::{Crs, Kind, read, value_of};
+use crs_value::{Axis, Crs, Kind, read, value_of};
 use std::alloc::{AllocError, Global};
 
 /// `kind` and the kind of the CRS that a text spells, or its refusal.
@@ -43,5 +46,36 @@ fn kind_word(kind: Kind) -> &'static str {
         Kind::Projected => "projected",
         Kind::Vertical => "vertical",
         Kind::Compound => "compound",
+    }
+}
+
+/// Of the first axis of a vertical CRS its name, its order and its unit's name, as they are written; `no axis` for
+/// another CRS.
+pub fn put_axis(out: &mut String, alloc: Global, input: &[u8]) -> Result<(), AllocError> {
+    match read(alloc, input) {
+        Ok(crs) => put_axis_parts(out, first_axis(&crs)),
+        Err(fault) => put_fault(out, fault),
+    }
+}
+
+fn put_axis_parts(out: &mut String, axis: Option<&Axis<'_>>) -> Result<(), AllocError> {
+    let Some(axis) = axis else {
+        return out.push_str("no axis");
+    };
+    out.push_str("axis ")?;
+    put_text(out, axis.name)?;
+    match &axis.order {
+        Some(order) => {
+            out.push_str(", order ")?;
+            put_spelling(out, order)?;
+        }
+        None => out.push_str(", no order")?,
+    }
+    match &axis.unit {
+        Some(unit) => {
+            out.push_str(", unit ")?;
+            put_text(out, unit.name)
+        }
+        None => out.push_str(", no unit"),
     }
 }

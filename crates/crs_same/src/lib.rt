@@ -20,6 +20,3 @@ mod usages;
 pub use crs::{first_part, same};
 pub use path::Path;
 pub use step::Step;
-
-#[cfg(test)]
-mod tests;

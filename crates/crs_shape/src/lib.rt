@@ -15,6 +15,3 @@ pub use fitting::{fit, fit_root};
 pub use keyword::{keywords, known, root_class};
 pub use slot::Slot;
 pub use table::{class_of, names, slots};
-
-#[cfg(test)]
-mod tests;

@@ -29,8 +29,6 @@ mod single_checks;
 mod system;
 mod system_checks;
 mod system_type;
-#[cfg(test)]
-mod tests;
 mod unit;
 mod unit_checks;
 mod unit_kind;
