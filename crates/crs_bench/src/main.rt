@@ -40,7 +40,9 @@ fn report(rt: &HostRuntime, rounds: u32, texts: &[&[u8]]) -> io::Result<()> {
         let timing = timed(rt, stage, rounds, texts)?;
         let name = stage.name();
         let tally = timing.tally();
-        println!(rt; "{name}: {tally}")?;
+        let count = tally.counted();
+        let counted = stage.counted();
+        println!(rt; "{name}: {tally}, {count} {counted}")?;
         eprintln!(rt; "{name}: {timing}")?;
     }
     Ok(())

@@ -1,14 +1,15 @@
 //! The stages from a text to its canonical spelling, as they are called from outside.
 
 use crate::tally::Outcome;
+use crs_same::same;
 use crs_shape::fit_root;
 use crs_text::{Fault, Items, read_items};
-use crs_value::value_of;
+use crs_value::{Crs, Level, read, value_of};
 use std::alloc::{AllocError, Global};
 
 /// A stage, those before it included. A further one is a variant here, its place in `STAGES`, a name,
 /// and an arm in `outcome`.
-#[derive(Clone, Copy, Debug, PartialEq, Eq)]
+#[derive(Clone, Copy)]
 pub enum Stage {
     /// Tokens and items.
     Items,
@@ -16,10 +17,12 @@ pub enum Stage {
     Shape,
     /// The value of the items: their shape, the checks, and what they say.
     Value,
+    /// The value compared with itself and with that of the next text, which is read for it.
+    Same,
 }
 
 /// All stages, in the order in which they are run.
-pub const STAGES: [Stage; 3] = [Stage::Items, Stage::Shape, Stage::Value];
+pub const STAGES: [Stage; 4] = [Stage::Items, Stage::Shape, Stage::Value, Stage::Same];
 
 impl Stage {
     /// The name under which it is reported.
@@ -28,15 +31,30 @@ impl Stage {
             Stage::Items => "items",
             Stage::Shape => "shape",
             Stage::Value => "value",
+            Stage::Same => "same",
         }
     }
 
-    /// What the stage makes of a text.
-    pub fn outcome(self, alloc: Global, text: &[u8]) -> Result<Outcome, AllocError> {
+    /// What the stage counts.
+    pub fn counted(self) -> &'static str {
+        match self {
+            Stage::Items | Stage::Shape | Stage::Value => "items",
+            Stage::Same => "same",
+        }
+    }
+
+    /// What the stage makes of a text that stands before another one.
+    pub fn outcome<'t>(
+        self,
+        alloc: Global,
+        text: &'t [u8],
+        next: &'t [u8],
+    ) -> Result<Outcome, AllocError> {
         match self {
             Stage::Items => items(alloc, text),
             Stage::Shape => shape(alloc, text),
             Stage::Value => value(alloc, text),
+            Stage::Same => compared(alloc, text, next),
         }
     }
 }
@@ -77,5 +95,29 @@ fn valued(alloc: Global, items: &Items<'_>) -> Result<Outcome, AllocError> {
         Ok(_crs) => Ok(Outcome::Accepted(items.size(items.root()))),
         Err(Fault::Refused(_)) => Ok(Outcome::Refused),
         Err(Fault::Memory(error)) => Err(error),
+    }
+}
+
+fn compared<'t>(alloc: Global, text: &'t [u8], next: &'t [u8]) -> Result<Outcome, AllocError> {
+    match read(alloc, text) {
+        Ok(crs) => against(alloc, &crs, next),
+        Err(Fault::Refused(_)) => Ok(Outcome::Refused),
+        Err(Fault::Memory(error)) => Err(error),
+    }
+}
+
+fn against<'t>(alloc: Global, crs: &Crs<'t>, next: &'t [u8]) -> Result<Outcome, AllocError> {
+    let itself = usize::from(same(crs, crs, Level::Full));
+    match is_same_as(alloc, crs, next) {
+        Ok(next) => Ok(Outcome::Accepted(itself + usize::from(next))),
+        Err(Fault::Refused(_)) => Ok(Outcome::Accepted(itself)),
+        Err(Fault::Memory(error)) => Err(error),
+    }
+}
+
+fn is_same_as<'a>(alloc: Global, crs: &Crs<'a>, next: &'a [u8]) -> Result<bool, Fault> {
+    match read(alloc, next) {
+        Ok(other) => Ok(same(crs, &other, Level::Full)),
+        Err(fault) => Err(fault),
     }
 }

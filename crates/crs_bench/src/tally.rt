@@ -3,19 +3,19 @@
 use std::fmt;
 
 /// What became of one text.
-#[derive(Clone, Copy, Debug, PartialEq, Eq)]
+#[derive(Clone, Copy)]
 pub enum Outcome {
-    /// It was taken, with so many items.
+    /// It was taken, and so many were counted.
     Accepted(usize),
     Refused,
 }
 
 /// Counts over all texts of a round.
-#[derive(Clone, Copy, Debug, PartialEq, Eq)]
+#[derive(Clone, Copy)]
 pub struct Tally {
     texts: u64,
     bytes: u64,
-    items: u64,
+    counted: u64,
     refused: u64,
 }
 
@@ -23,7 +23,7 @@ impl Tally {
     pub const EMPTY: Tally = Tally {
         texts: 0,
         bytes: 0,
-        items: 0,
+        counted: 0,
         refused: 0,
     };
 
@@ -32,7 +32,7 @@ impl Tally {
         self.texts = self.texts.saturating_add(1);
         self.bytes = self.bytes.saturating_add(text.len() as u64);
         match outcome {
-            Outcome::Accepted(items) => self.items = self.items.saturating_add(items as u64),
+            Outcome::Accepted(count) => self.counted = self.counted.saturating_add(count as u64),
             Outcome::Refused => self.refused = self.refused.saturating_add(1),
         }
     }
@@ -40,6 +40,11 @@ impl Tally {
     /// How many texts.
     pub fn texts(&self) -> u64 {
         self.texts
+    }
+
+    /// How many were counted in the texts that weren't refused.
+    pub fn counted(&self) -> u64 {
+        self.counted
     }
 
     /// How many bytes the texts have.
@@ -52,11 +57,7 @@ impl fmt::Display for Tally {
     fn fmt<W: fmt::Write>(&self, f: &mut fmt::Formatter<W>) -> fmt::Result {
         let texts = self.texts;
         let bytes = self.bytes;
-        let items = self.items;
         let refused = self.refused;
-        write!(
-            f,
-            "{texts} texts, {bytes} bytes, {items} items, {refused} refused"
-        )
+        write!(f, "{texts} texts, {bytes} bytes, {refused} refused")
     }
 }

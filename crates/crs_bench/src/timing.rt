@@ -8,7 +8,7 @@ use std::time::{Duration, Instant};
 use std::{fmt, io};
 
 /// The time that some rounds over a catalogue took, and what each of them came to.
-#[derive(Clone, Copy, Debug)]
+#[derive(Clone, Copy)]
 pub struct Timing {
     tally: Tally,
     rounds: u32,
@@ -37,8 +37,9 @@ pub fn timed(
 
 fn one_round(alloc: Global, stage: Stage, texts: &[&[u8]]) -> Result<Tally, AllocError> {
     let mut tally = Tally::EMPTY;
-    for text in texts {
-        tally.add(text, stage.outcome(alloc, text)?);
+    for (index, text) in texts.iter().enumerate() {
+        let next = texts.get(index.saturating_add(1)).unwrap_or(text);
+        tally.add(text, stage.outcome(alloc, text, next)?);
     }
     Ok(tally)
 }

@@ -1,7 +1,8 @@
+pub mod ArgumentLemmas
 mod JudgedLemmas
 mod KnownText
-pub mod ArgumentLemmas
 pub mod OneLemmas
+pub mod SameOutputLemmas
 pub mod ThinAnswerLemmas
 pub mod ThinCanonicalLemmas
 pub mod ThinNoneLemmas

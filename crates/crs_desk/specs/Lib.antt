@@ -1,6 +1,7 @@
 pub mod Canonical
 pub mod Ending
 pub mod Output
+pub mod SameOutput
 pub mod Streams
 pub mod ThinCanonical
 pub mod ThinReading

@@ -4,9 +4,10 @@ ghost use Rattle.crs_desk.specs.Output.{IsCanonOutput};
 ghost use Rattle.crs_desk.specs.ThinReads.{IsThin};
 ghost use Rattle.crs_desk.specs.Streams.{fresh_sink, fresh_source};
 
+use crate::answer::{Answer, write_answer};
 use crate::judging::judged;
 use crate::print::{line_of, refused_line};
-use crate::text_run::{Answer, run_text};
+use crate::text::read_text;
 use crate::{Level, RunFault, Sink, Source, thin_canon};
 use std::alloc::{AllocError, Global};
 use std::io::{Read, Write};
@@ -31,23 +32,25 @@ pub fn run_canon<R: Read, W: Write>(
     ensures write_failed { IsErrOf result RunFault.WriteFailed ↔ (w.new.failed ≡ true) }
     ensures too_long { IsErrOf result (RunFault.TooLong 0) ↔ (1048576 < r.new.taken) × (r.new.failed ≡ false) }
 {
-    run_text(alloc, &CanonAnswer { level }, r, w)
+    let text = read_text(alloc, r)?;
+    write_answer(alloc, &CanonAnswer { level, text: &text }, w)
 }
 
-// The canonical text at this level.
+// The canonical text of a text, at this level.
 #[derive(Drop)]
-struct CanonAnswer {
+struct CanonAnswer<'t> {
     level: Level,
+    text: &'t [u8],
 }
 
-impl Answer for CanonAnswer {
+impl Answer for CanonAnswer<'_> {
     ghost use Rattle.crs_desk.specs.Output.{IsCanonOutput};
 
-    ghost Output = { λ s text written status. IsCanonOutput text written status };
+    ghost Output = { λ s written status. IsCanonOutput s.text.now written status };
 
-    fn output(&self, alloc: Global, text: &[u8]) -> Result<(Vec<u8>, u8), AllocError> {
+    fn output(&self, alloc: Global) -> Result<(Vec<u8>, u8), AllocError> {
         let Level::Full = self.level;
-        canon_output(alloc, text)
+        canon_output(alloc, self.text)
     }
 }
 
@@ -77,7 +80,7 @@ fn uncanonical_line(alloc: Global, text: &[u8]) -> Result<Vec<u8>, AllocError>
             Ok(line)
         }
         Err(refusal) => {
-            let line = refused_line(alloc, refusal)?;
+            let line = refused_line(alloc, b"", refusal)?;
             Ok(line)
         }
     }

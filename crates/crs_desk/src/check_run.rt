@@ -3,9 +3,10 @@ ghost use Rattle.crs_desk.specs.Ending.{IsAnswered, IsRunFault};
 ghost use Rattle.crs_desk.specs.Output.{IsCheckOutput, kind_word};
 ghost use Rattle.crs_desk.specs.Streams.{fresh_sink, fresh_source};
 
+use crate::answer::{Answer, write_answer};
 use crate::judging::judged;
 use crate::print::refused_line;
-use crate::text_run::{Answer, run_text};
+use crate::text::read_text;
 use crate::{RunFault, Sink, Source};
 use crs_value::Kind;
 use std::alloc::{AllocError, Global};
@@ -29,25 +30,29 @@ pub fn run_check<R: Read, W: Write>(
     ensures write_failed { IsErrOf result RunFault.WriteFailed ↔ (w.new.failed ≡ true) }
     ensures too_long { IsErrOf result (RunFault.TooLong 0) ↔ (1048576 < r.new.taken) × (r.new.failed ≡ false) }
 {
-    run_text(alloc, &CheckAnswer, r, w)
+    let text = read_text(alloc, r)?;
+    write_answer(alloc, &CheckAnswer { text: &text }, w)
 }
 
-// The kind of the CRS, or the refusal.
-struct CheckAnswer;
+// The kind of the CRS that a text spells, or the refusal.
+#[derive(Drop)]
+struct CheckAnswer<'t> {
+    text: &'t [u8],
+}
 
-impl Answer for CheckAnswer {
+impl Answer for CheckAnswer<'_> {
     ghost use Rattle.crs_desk.specs.Output.{IsCheckOutput};
 
-    ghost Output = { λ s text written status. IsCheckOutput text written status };
+    ghost Output = { λ s written status. IsCheckOutput s.text.now written status };
 
-    fn output(&self, alloc: Global, text: &[u8]) -> Result<(Vec<u8>, u8), AllocError> {
-        match judged(alloc, text)? {
+    fn output(&self, alloc: Global) -> Result<(Vec<u8>, u8), AllocError> {
+        match judged(alloc, self.text)? {
             Ok(kind) => {
                 let line = accepted_line(alloc, kind)?;
                 Ok((line, 0))
             }
             Err(refusal) => {
-                let line = refused_line(alloc, refusal)?;
+                let line = refused_line(alloc, b"", refusal)?;
                 Ok((line, 1))
             }
         }

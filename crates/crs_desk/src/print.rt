@@ -6,12 +6,17 @@ use crs_text::Refusal;
 use itoa::Buffer;
 use std::alloc::{AllocError, Global};
 
-// `refused N NAME at P` and a line end.
-pub(crate) fn refused_line(alloc: Global, refusal: Refusal) -> Result<Vec<u8>, AllocError>
-    ensures { IfOk result (λ line. line.items ≡ refused_text refusal.number refusal.place ++ 10 ∷ []) }
+// `refused N NAME at P` behind these bytes, and a line end.
+pub(crate) fn refused_line(
+    alloc: Global,
+    front: &[u8],
+    refusal: Refusal,
+) -> Result<Vec<u8>, AllocError>
+    ensures { IfOk result (λ line. line.items ≡ (front.now ++ refused_text refusal.number refusal.place) ++ 10 ∷ []) }
 {
     let mut digits = Buffer::new();
-    let mut line = Vec::from_slice(alloc, b"refused ")?;
+    let mut line = Vec::from_slice(alloc, front)?;
+    line.extend_from_slice(b"refused ")?;
     line.extend_from_slice(digits.format(refusal.number()).as_bytes())?;
     line.push(b' ')?;
     line.extend_from_slice(refusal.name().as_bytes())?;

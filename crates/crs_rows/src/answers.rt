@@ -14,6 +14,7 @@ pub fn put_answer(
     match call.split_once(' ') {
         Some(("run_canon", words)) => runs::put_run(out, alloc, Command::Canon, words, input),
         Some(("run_check", words)) => runs::put_run(out, alloc, Command::Check, words, input),
+        Some(("run_same", "unwritable")) => runs::put_unwritable_same(out, alloc, input),
         Some(_) => out.push_str("no such call"),
         None => put_plain_answer(out, alloc, call, input),
     }
@@ -76,6 +77,7 @@ fn put_value_answer(
         "Canon::same" => runs::put_same_canon(out, alloc, input),
         "run_canon" => runs::put_canon(out, alloc, input),
         "run_check" => runs::put_check(out, alloc, input),
+        "run_same" => runs::put_same(out, alloc, input),
         _ => out.push_str("no such call"),
     }
 }

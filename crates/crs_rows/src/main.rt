@@ -15,7 +15,7 @@ mod values;
 
 use std::{fs, io};
 
-const FILES: [&str; 15] = [
+const FILES: [&str; 16] = [
     "decimals",
     "refusals",
     "tokens",
@@ -31,6 +31,7 @@ const FILES: [&str; 15] = [
     "streams",
     "checks",
     "same",
+    "same_runs",
 ];
 
 fn main(rt: HostRuntime) -> io::Result<()> {

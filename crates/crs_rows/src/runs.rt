@@ -2,7 +2,7 @@
 use crate::escapes::put_text;
 use crate::sameness::split_line;
 use crate::streams::{Manner, Page, Pieces};
-use crs_desk::{Canon, Level, RunFault, Sink, Source, run_canon, run_check, thin_canon};
+use crs_desk::{Canon, Level, RunFault, Sink, Source, run_canon, run_check, run_same, thin_canon};
 use std::alloc::{AllocError, Global};
 
 /// `text` and the canonical text; `none` where the text isn't thin.
@@ -45,6 +45,40 @@ pub fn put_check(out: &mut String, alloc: Global, input: &[u8]) -> Result<(), Al
     let mut written = Vec::new(alloc);
     put_outcome(out, check(alloc, input, &mut written))?;
     put_written(out, &written)
+}
+
+/// The same of `same` for two texts, one a line.
+pub fn put_same(out: &mut String, alloc: Global, input: &[u8]) -> Result<(), AllocError> {
+    put_same_into(out, alloc, input, false)
+}
+
+/// The same into a writer that fails.
+pub fn put_unwritable_same(
+    out: &mut String,
+    alloc: Global,
+    input: &[u8],
+) -> Result<(), AllocError> {
+    put_same_into(out, alloc, input, true)
+}
+
+fn put_same_into(
+    out: &mut String,
+    alloc: Global,
+    input: &[u8],
+    is_unwritable: bool,
+) -> Result<(), AllocError> {
+    let mut page = Page {
+        written: Vec::new(alloc),
+        is_unwritable,
+    };
+    let (first, second) = split_line(input);
+    let outcome = same(alloc, first, second, &mut page);
+    put_outcome(out, outcome)?;
+    put_written(out, &page.written)
+}
+
+fn same(alloc: Global, first: &[u8], second: &[u8], page: &mut Page) -> Result<u8, RunFault> {
+    run_same(alloc, Level::Full, first, second, &mut Sink::new(page))
 }
 
 fn put_written(out: &mut String, written: &[u8]) -> Result<(), AllocError> {

@@ -92,7 +92,7 @@ pub struct Page {
     pub is_unwritable: bool,
 }
 
-impl Write for &mut Page {
+impl Write for Page {
     fn write(&mut self, buf: &[u8]) -> io::Result<usize> {
         if self.is_unwritable {
             return Err(io::Error::from(io::ErrorKind::BrokenPipe));

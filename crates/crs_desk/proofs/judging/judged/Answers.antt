@@ -1,8 +1,7 @@
 use Rattle.crs_desk.proofs.JudgedLemmas.{refused-text}
 use Rattle.crs_desk.proofs.judging.judged.Goals as goal
 
-pub returns-in-Some : goal.returns-in-Some
-returns-in-Some c =
+pub returns-in_ok-refusal_in-in-Err : goal.returns-in_ok-refusal_in-in-Err
+returns-in_ok-refusal_in-in-Err c =
     let fault = rw c.in-Err.is at c.read.ensures in
-    let refusal = rw c.in-Some.is at c.refusal.ensures in
-    refused-text c.args.text.now c.in-Err.fault c.in-Some.refusal fault refusal
+    refused-text c.args.text.now c.in-Err.fault c.in_ok-refusal_in-in-Err.field-0 fault c.in_ok-refusal_in-in-Err.ensures

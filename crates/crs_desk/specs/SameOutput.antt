@@ -1,0 +1,41 @@
+-- What `same` writes for two texts, and its status.
+use Rattle.std.specs.Prelude.{◌≡◌, ◌++◌, ◌⊎◌, ℕ, List, Option, Some, None, codes}
+use Rattle.crs_text.specs.Refusal.{Refused}
+use Rattle.crs_value.specs.declared.crs.Crs.{Crs}
+use Rattle.crs_value.specs.declared.level.Level.{Level}
+use Rattle.crs_value.specs.SpellsText.{Spells, Refuses}
+use Rattle.crs_same.specs.declared.step.Step.{Step}
+use Rattle.crs_same.specs.FirstInCrs.{FirstInCrs}
+use Rattle.crs_same.specs.Paths.{path_text}
+use Rattle.crs_same.specs.SameCrs.{SameCrs}
+use Rattle.crs_desk.specs.Output.{IsLine, refused_text}
+
+-- the refusal of a text behind the word that says which text it is, with status 1
+abbrev pub WritesRefusalOf : List ℕ → List ℕ → List ℕ → ℕ → Type 0
+WritesRefusalOf which text written status = (refusal : Refused) × Refuses text refusal × IsLine (which ++ refused_text refusal.number refusal.place) 1 written status
+
+-- what two CRSs have in common: `same` with status 0, or `different` and the first part that differs, with status 1
+abbrev pub WritesSame : Level → Crs → Crs → List ℕ → ℕ → Type 0
+WritesSame level a b written status = SameCrs level a b × IsLine (codes "same") 0 written status
+
+abbrev pub WritesDifferent : Level → Crs → Crs → List ℕ → ℕ → Type 0
+WritesDifferent level a b written status = (path : List Step) × FirstInCrs level a b (Some path) × IsLine (codes "different " ++ path_text path) 1 written status
+
+-- the first text is refused; or it spells a CRS and the second is refused; or both do, the same or different ones
+unfoldable pub IsSameOutput : Level → List ℕ → List ℕ → List ℕ → ℕ → Type 0
+IsSameOutput level first second written status =
+    WritesRefusalOf (codes "first ") first written status
+    ⊎ ((a : Crs) × Spells first a × WritesRefusalOf (codes "second ") second written status)
+    ⊎ ((a b : Crs) × Spells first a × Spells second b × WritesSame level a b written status)
+    ⊎ ((a b : Crs) × Spells first a × Spells second b × WritesDifferent level a b written status)
+
+-- of these what stands behind a first text that spells this CRS
+unfoldable pub IsSecondOutput : Level → Crs → List ℕ → List ℕ → ℕ → Type 0
+IsSecondOutput level a second written status =
+    WritesRefusalOf (codes "second ") second written status
+    ⊎ ((b : Crs) × Spells second b × (WritesSame level a b written status ⊎ WritesDifferent level a b written status))
+
+-- what is written of the first part that differs
+abbrev pub WritesPart : Option (List Step) → List ℕ → ℕ → Type 0
+WritesPart None written status = IsLine (codes "same") 0 written status
+WritesPart (Some path) written status = IsLine (codes "different " ++ path_text path) 1 written status

@@ -1,0 +1,115 @@
+ghost use Rattle.std.specs.Prelude.{◌≡◌, ◌↔◌, ◌++◌, ◌∷◌, [], IfOk, IfErr, IsErrOf, codes, true};
+ghost use Rattle.crs_same.specs.Paths.{path_text};
+ghost use Rattle.crs_desk.specs.Ending.{IsWritten, IsWriteFault};
+ghost use Rattle.crs_desk.specs.SameOutput.{IsSameOutput, IsSecondOutput, WritesPart};
+ghost use Rattle.crs_desk.specs.Streams.{fresh_sink};
+
+use crate::answer::{Answer, write_answer};
+use crate::judging::refusal_in;
+use crate::print::refused_line;
+use crate::{Level, RunFault, Sink};
+use crs_same::{Path, first_part};
+use crs_value::{Crs, read};
+use std::alloc::{AllocError, Global};
+use std::io::Write;
+
+/// Writes whether two texts spell the same CRS at a level: `same`, with status 0; or, with status 1, `different` and the
+/// path of the first part that differs, or `first` or `second` and the refusal of the first text that spells no CRS.
+/// `WriteFailed` where the sink has failed, `Memory` where memory ran out, and then nothing was written. Profile.
+pub fn run_same<W: Write>(
+    alloc: Global,
+    level: Level,
+    a: &[u8],
+    b: &[u8],
+    w: &mut Sink<W>,
+) -> Result<u8, RunFault>
+    requires { w.old ≡ fresh_sink w.old.contents }
+    ensures answered { IfOk result (IsWritten (IsSameOutput level a.now b.now) w.old w.new) }
+    ensures fault { IfErr result (IsWriteFault w.old w.new) }
+    ensures write_failed { IsErrOf result RunFault.WriteFailed ↔ (w.new.failed ≡ true) }
+{
+    let answer = SameAnswer {
+        level,
+        first: a,
+        second: b,
+    };
+    write_answer(alloc, &answer, w)
+}
+
+// Whether two texts spell the same CRS, at this level.
+#[derive(Drop)]
+struct SameAnswer<'t> {
+    level: Level,
+    first: &'t [u8],
+    second: &'t [u8],
+}
+
+impl Answer for SameAnswer<'_> {
+    ghost use Rattle.crs_desk.specs.SameOutput.{IsSameOutput};
+
+    ghost Output = { λ s written status. IsSameOutput s.level s.first.now s.second.now written status };
+
+    fn output(&self, alloc: Global) -> Result<(Vec<u8>, u8), AllocError> {
+        first_output(alloc, self.level, self.first, self.second)
+    }
+}
+
+fn first_output<'t>(
+    alloc: Global,
+    level: Level,
+    first: &'t [u8],
+    second: &'t [u8],
+) -> Result<(Vec<u8>, u8), AllocError>
+    ensures { IfOk result (λ output. IsSameOutput level first.now second.now output.0.items output.1) }
+{
+    match read(alloc, first) {
+        Ok(crs) => second_output(alloc, level, &crs, second),
+        Err(fault) => {
+            let line = refused_line(alloc, b"first ", refusal_in(fault)?)?;
+            Ok((line, 1))
+        }
+    }
+}
+
+// Behind a first text that spells a CRS.
+fn second_output<'t>(
+    alloc: Global,
+    level: Level,
+    first: &Crs<'t>,
+    second: &'t [u8],
+) -> Result<(Vec<u8>, u8), AllocError>
+    ensures { IfOk result (λ output. IsSecondOutput level first.now second.now output.0.items output.1) }
+{
+    match read(alloc, second) {
+        Ok(crs) => part_output(alloc, first_part(first, &crs, level)),
+        Err(fault) => {
+            let line = refused_line(alloc, b"second ", refusal_in(fault)?)?;
+            Ok((line, 1))
+        }
+    }
+}
+
+fn part_output(alloc: Global, found: Option<Path>) -> Result<(Vec<u8>, u8), AllocError>
+    ensures { IfOk result (λ output. WritesPart found output.0.items output.1) }
+{
+    match found {
+        None => {
+            let line = Vec::from_slice(alloc, b"same\n")?;
+            Ok((line, 0))
+        }
+        Some(path) => {
+            let line = different_line(alloc, &path)?;
+            Ok((line, 1))
+        }
+    }
+}
+
+// `different PATH` and a line end.
+fn different_line(alloc: Global, path: &Path) -> Result<Vec<u8>, AllocError>
+    ensures { IfOk result (λ line. line.items ≡ (codes "different " ++ path_text path.now) ++ 10 ∷ []) }
+{
+    let mut line = Vec::from_slice(alloc, b"different ")?;
+    path.write(&mut line)?;
+    line.push(b'\n')?;
+    Ok(line)
+}
