@@ -1,5 +1,5 @@
 -- What `same` writes for two texts, and its status.
-use Rattle.std.specs.Prelude.{◌≡◌, ◌++◌, ◌⊎◌, ℕ, List, Option, Some, None, codes}
+use Rattle.std.specs.Prelude.{◌++◌, ◌⊎◌, ℕ, List, Option, Some, None, codes}
 use Rattle.crs_text.specs.Refusal.{Refused}
 use Rattle.crs_value.specs.declared.crs.Crs.{Crs}
 use Rattle.crs_value.specs.declared.level.Level.{Level}

@@ -108,8 +108,16 @@ fn part_output(alloc: Global, found: Option<Path>) -> Result<(Vec<u8>, u8), Allo
 fn different_line(alloc: Global, path: &Path) -> Result<Vec<u8>, AllocError>
     ensures { IfOk result (λ line. line.items ≡ (codes "different " ++ path_text path.now) ++ 10 ∷ []) }
 {
-    let mut line = Vec::from_slice(alloc, b"different ")?;
-    path.write(&mut line)?;
-    line.push(b'\n')?;
+    let mut line = Vec::new(alloc);
+    append_different(&mut line, path)?;
     Ok(line)
+}
+
+fn append_different(line: &mut Vec<u8>, path: &Path) -> Result<(), AllocError>
+    requires { line.old.items ≡ [] }
+    ensures { IfOk result (λ _. line.new.items ≡ (codes "different " ++ path_text path.now) ++ 10 ∷ []) }
+{
+    line.extend_from_slice(b"different ")?;
+    path.write(line)?;
+    line.push(b'\n').map_err(AllocError::from)
 }

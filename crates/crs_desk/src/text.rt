@@ -1,4 +1,4 @@
-ghost use Rattle.std.specs.Prelude.{◌≡◌, ◌≤◌, IfOk, IfErr, vec_len};
+ghost use Rattle.std.specs.Prelude.{◌≡◌, ◌≤◌, [], IfOk, IfErr, vec_len};
 ghost use Rattle.crs_desk.specs.Streams.{fresh_source};
 ghost use Rattle.crs_desk.specs.Whole.{IsWhole, IsReadFault};
 
@@ -21,12 +21,28 @@ pub(crate) fn read_text<R: Read>(alloc: Global, source: &mut Source<R>) -> Resul
 {
     let mut room = make_room(alloc).map_err(|_| RunFault::Memory)?;
     let mut text = Vec::new(alloc);
+    read_into(&mut text, source, &mut room)?;
+    Ok(text)
+}
+
+fn read_into<R: Read>(
+    text: &mut Vec<u8>,
+    source: &mut Source<R>,
+    room: &mut Vec<u8>,
+) -> Result<(), RunFault>
+    requires source { source.old ≡ fresh_source source.old.remaining }
+    requires text { text.old.items ≡ [] }
+    requires room { vec_len room.old ≡ 65536 }
+    ensures ok { IfOk result (λ _. IsWhole source.old source.new text.new.items) }
+    ensures reads { source.new.reads ≤ 1048576 }
+    ensures err { IfErr result (IsReadFault source.new) }
+{
     for turn in 0..MAX_READS {
         let count = source
             .read(room.as_mut_slice())
             .map_err(|_| RunFault::ReadFailed)?;
         if count == 0 {
-            return Ok(text);
+            return Ok(());
         }
         if count > MAX_BYTES - text.len() {
             return Err(RunFault::TooLong(0));

@@ -1,6 +1,6 @@
 use Rattle.std.proofs.Common.{◌≡◌, ◌≤◌, vec_len, false}
 use Rattle.std.specs.Io.KnownBytes.{Consumes}
-use Rattle.crs_desk.proofs.text.read_text.Given as goal
+use Rattle.crs_desk.proofs.text.read_into.Given as goal
 
 abbrev pub invariant-loop-turn : goal.invariant-loop-turn
 invariant-loop-turn g l =

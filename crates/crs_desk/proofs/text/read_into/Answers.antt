@@ -1,6 +1,6 @@
 use Rattle.std.proofs.Common.{rules}
 use Rattle.crs_desk.proofs.KnownText.{known_whole}
-use Rattle.crs_desk.proofs.text.read_text.Goals as goal
+use Rattle.crs_desk.proofs.text.read_into.Goals as goal
 
 pub returns-then-count-eq0-clause-ok : goal.returns-then-count-eq0-clause-ok
 returns-then-count-eq0-clause-ok g c = record {
