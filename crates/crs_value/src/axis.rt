@@ -73,7 +73,6 @@ impl Drop for Axis<'_> {
 
 /// The meridian of an axis at a pole, `MERIDIAN[longitude, unit]`.
 /// ISO 19162:2019, "Axis direction".
-#[derive(Drop)]
 pub struct AxisMeridian<'a> {
     /// The longitude, in the unit.
     pub longitude: Decimal,
@@ -90,6 +89,16 @@ impl<'a> Model for AxisMeridian<'a> {
     ghost view = { λ m. record { longitude = m.longitude; unit = m.unit } };
 
     ghost invariant = { λ m. IsAxisMeridian (record { longitude = m.longitude; unit = m.unit }) };
+}
+
+// By hand, so that whoever drops one calls this, and proves nothing of its parts.
+impl Drop for AxisMeridian<'_> {
+    fn drop(self) {
+        let AxisMeridian {
+            longitude: _,
+            unit: _,
+        } = self;
+    }
 }
 
 impl<'a> Node<'a> for AxisMeridian<'a> {

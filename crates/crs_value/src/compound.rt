@@ -19,12 +19,21 @@ use std::alloc::{AllocError, Global};
 use std::marker::Model;
 
 /// The horizontal part of a compound CRS. ISO 19162:2019, "Compound CRS".
-#[derive(Drop)]
 pub enum Horizontal<'a> {
     /// A geographic CRS.
     Geodetic(Geodetic<'a>),
     /// A projected CRS.
     Projected(Projected<'a>),
+}
+
+// By hand, so that whoever drops one calls this, and proves nothing of its parts.
+impl Drop for Horizontal<'_> {
+    fn drop(self) {
+        match self {
+            Horizontal::Geodetic(_) => {}
+            Horizontal::Projected(_) => {}
+        }
+    }
 }
 
 /// A compound CRS, `COMPOUNDCRS[name, horizontal, vertical, tail]`.
@@ -80,18 +89,15 @@ fn read_horizontal<'a>(
 {
     slots_count();
     if let Some(found) = first(items, id, Class::CompoundCrs, Class::GeodeticCrs) {
-        let geodetic = read_geodetic(alloc, items, found, Class::GeodeticCrs)?;
-        return Ok(Horizontal::Geodetic(geodetic));
+        return read_geodetic(alloc, items, found, Class::GeodeticCrs).map(Horizontal::Geodetic);
     }
     if let Some(found) = first(items, id, Class::CompoundCrs, Class::GeographicCrs) {
-        let geographic = read_geodetic(alloc, items, found, Class::GeographicCrs)?;
-        return Ok(Horizontal::Geodetic(geographic));
+        return read_geodetic(alloc, items, found, Class::GeographicCrs).map(Horizontal::Geodetic);
     }
     let Some(found) = first(items, id, Class::CompoundCrs, Class::ProjectedCrs) else {
         unreachable!()
     };
-    let projected = Projected::read(alloc, items, found, Class::ProjectedCrs)?;
-    Ok(Horizontal::Projected(projected))
+    Projected::read(alloc, items, found, Class::ProjectedCrs).map(Horizontal::Projected)
 }
 
 impl<'a> Node<'a> for Compound<'a> {

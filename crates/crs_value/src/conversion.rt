@@ -59,7 +59,6 @@ impl Drop for Conversion<'_> {
 
 /// The method of a conversion, `METHOD[name, id..]`.
 /// ISO 19162:2019, "Map projection method".
-#[derive(Drop)]
 pub struct Method<'a> {
     /// The name.
     pub name: &'a [u8],
@@ -78,9 +77,15 @@ impl<'a> Model for Method<'a> {
     ghost invariant = { λ m. IsMethod (record { name = m.name.now; ids = m.ids }) };
 }
 
+// By hand, so that whoever drops one calls this, and proves nothing of its parts.
+impl Drop for Method<'_> {
+    fn drop(self) {
+        let Method { name: _, ids: _ } = self;
+    }
+}
+
 /// A parameter of a conversion, `PARAMETER[name, value, (unit), id..]`.
 /// ISO 19162:2019, "Map projection parameter".
-#[derive(Drop)]
 pub struct Parameter<'a> {
     /// The name.
     pub name: &'a [u8],
@@ -101,6 +106,18 @@ impl<'a> Model for Parameter<'a> {
     ghost view = { λ p. record { name = p.name.now; value = p.value; unit = p.unit; ids = p.ids } };
 
     ghost invariant = { λ p. IsParameter (record { name = p.name.now; value = p.value; unit = p.unit; ids = p.ids }) };
+}
+
+// By hand, so that whoever drops one calls this, and proves nothing of its parts.
+impl Drop for Parameter<'_> {
+    fn drop(self) {
+        let Parameter {
+            name: _,
+            value: _,
+            unit: _,
+            ids: _,
+        } = self;
+    }
 }
 
 const PARAMETER_UNITS: [Class; 4] = [

@@ -33,12 +33,12 @@ fn read_frame<'a>(
 {
     slots_count();
     if let Some(found) = first(items, id, class, frame) {
-        return Ok(Frame::Datum(Datum::read(alloc, items, found, frame)?));
+        return Datum::read(alloc, items, found, frame).map(Frame::Datum);
     }
     let Some(found) = first(items, id, class, ensemble) else {
         unreachable!()
     };
-    Ok(Frame::Ensemble(Ensemble::read(alloc, items, found, ensemble)?))
+    Ensemble::read(alloc, items, found, ensemble).map(Frame::Ensemble)
 }
 
 // The frame of a geodetic or geographic CRS, or of a base CRS.

@@ -12,12 +12,21 @@ use std::alloc::{AllocError, Global};
 use std::marker::Model;
 
 /// What a CRS's coordinates refer to. ISO 19162:2019, "Datum".
-#[derive(Drop)]
 pub enum Frame<'a> {
     /// A reference frame.
     Datum(Datum<'a>),
     /// A datum ensemble.
     Ensemble(Ensemble<'a>),
+}
+
+// By hand, so that whoever drops one calls this, and proves nothing of its parts.
+impl Drop for Frame<'_> {
+    fn drop(self) {
+        match self {
+            Frame::Datum(_) => {}
+            Frame::Ensemble(_) => {}
+        }
+    }
 }
 
 /// A geodetic reference frame, `DATUM[name, ellipsoid, anchor.., id..]`, or a vertical one, which has
@@ -114,7 +123,6 @@ impl Drop for Ensemble<'_> {
 }
 
 /// A member of a datum ensemble, `MEMBER[name, id..]`. ISO 19162:2019, "Datum ensemble".
-#[derive(Drop)]
 pub struct Member<'a> {
     /// The name.
     pub name: &'a [u8],
@@ -131,6 +139,13 @@ impl<'a> Model for Member<'a> {
     ghost view = { λ m. record { name = m.name.now; ids = m.ids } };
 
     ghost invariant = { λ m. IsMember (record { name = m.name.now; ids = m.ids }) };
+}
+
+// By hand, so that whoever drops one calls this, and proves nothing of its parts.
+impl Drop for Member<'_> {
+    fn drop(self) {
+        let Member { name: _, ids: _ } = self;
+    }
 }
 
 impl<'a> Node<'a> for Datum<'a> {

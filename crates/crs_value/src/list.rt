@@ -5,7 +5,6 @@ use std::alloc::{AllocError, Global};
 use std::marker::Model;
 
 /// A list in a value, seen as its members in order. Profile.
-#[derive(Drop)]
 pub struct List<T> {
     members: Vec<T>,
 }
@@ -16,6 +15,13 @@ impl<T> Model for List<T> {
     ghost Value = { std.List T };
 
     ghost view = { λ a. a.members.items };
+}
+
+// By hand, so that whoever drops one calls this, and proves nothing of its parts.
+impl<T: Drop> Drop for List<T> {
+    fn drop(self) {
+        let List { members: _ } = self;
+    }
 }
 
 impl<T> List<T> {

@@ -16,7 +16,6 @@ use std::marker::Model;
 
 /// A unit, `LENGTHUNIT[name, factor, id..]` or with another keyword of a unit.
 /// ISO 19162:2019, "Units".
-#[derive(Drop)]
 pub struct Unit<'a> {
     /// The kind, as the keyword says it.
     pub kind: UnitKind,
@@ -37,6 +36,18 @@ impl<'a> Model for Unit<'a> {
     ghost view = { λ u. record { kind = u.kind; name = u.name.now; factor = u.factor; ids = u.ids } };
 
     ghost invariant = { λ u. IsUnit (record { kind = u.kind; name = u.name.now; factor = u.factor; ids = u.ids }) };
+}
+
+// By hand, so that whoever drops one calls this, and proves nothing of its parts.
+impl Drop for Unit<'_> {
+    fn drop(self) {
+        let Unit {
+            kind: _,
+            name: _,
+            factor: _,
+            ids: _,
+        } = self;
+    }
 }
 
 fn kind(items: &Items<'_>, id: ItemId, class: Class) -> UnitKind

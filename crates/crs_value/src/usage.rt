@@ -13,7 +13,6 @@ use std::marker::Model;
 
 /// A usage, `USAGE[(scope), (area), (box), (extent)]`; or the parts of one that stand bare at a CRS's
 /// end, as in the 2015 edition. ISO 19162:2019, "Scope and extent".
-#[derive(Drop)]
 pub struct Usage<'a> {
     /// What the CRS is for.
     pub scope: Option<&'a [u8]>,
@@ -40,6 +39,18 @@ impl<'a> Model for Usage<'a> {
       bbox = u.bbox;
       extent = u.extent;
     }) };
+}
+
+// By hand, so that whoever drops one calls this, and proves nothing of its parts.
+impl Drop for Usage<'_> {
+    fn drop(self) {
+        let Usage {
+            scope: _,
+            area: _,
+            bbox: _,
+            extent: _,
+        } = self;
+    }
 }
 
 /// A box, `BBOX[south, west, north, east]`, in degrees. ISO 19162:2019, "Geographic bounding box".
@@ -73,7 +84,6 @@ impl Model for BoundingBox {
 
 /// An extent in height, `VERTICALEXTENT[minimum, maximum, (unit)]`.
 /// ISO 19162:2019, "Vertical extent".
-#[derive(Drop)]
 pub struct Extent<'a> {
     /// The lowest height, in the unit, in metres where none is written.
     pub minimum: Decimal,
@@ -92,6 +102,17 @@ impl<'a> Model for Extent<'a> {
     ghost view = { λ e. record { minimum = e.minimum; maximum = e.maximum; unit = e.unit } };
 
     ghost invariant = { λ e. IsExtent (record { minimum = e.minimum; maximum = e.maximum; unit = e.unit }) };
+}
+
+// By hand, so that whoever drops one calls this, and proves nothing of its parts.
+impl Drop for Extent<'_> {
+    fn drop(self) {
+        let Extent {
+            minimum: _,
+            maximum: _,
+            unit: _,
+        } = self;
+    }
 }
 
 /// A CRS's end: usages, bare parts of one, identifiers and a remark, in any order.

@@ -30,10 +30,7 @@ pub fn value_of<'a>(alloc: Global, items: &Items<'a>) -> Result<Crs<'a>, Fault>
     if let Some(refusal) = first_break(items, root, class) {
         return Err(Fault::Refused(refusal));
     }
-    match read_crs(alloc, items, root, class) {
-        Ok(crs) => Ok(crs),
-        Err(e) => Err(Fault::Memory(e)),
-    }
+    read_crs(alloc, items, root, class).map_err(Fault::Memory)
 }
 
 /// The value that a text spells, with its bytes borrowed.

@@ -30,12 +30,12 @@ pub(crate) fn read_crs<'a>(
     ensures { IfOk result (λ value. ReadsCrs class (item_at items.now id) value) }
 {
     match class {
-        Class::GeodeticCrs | Class::GeographicCrs => Ok(Crs::Geodetic(read_geodetic(
-            alloc, items, id, class,
-        )?)),
-        Class::ProjectedCrs => Ok(Crs::Projected(Projected::read(alloc, items, id, class)?)),
-        Class::VerticalCrs => Ok(Crs::Vertical(Vertical::read(alloc, items, id, class)?)),
-        Class::CompoundCrs => Ok(Crs::Compound(Compound::read(alloc, items, id, class)?)),
+        Class::GeodeticCrs | Class::GeographicCrs => read_geodetic(alloc, items, id, class).map(
+            Crs::Geodetic,
+        ),
+        Class::ProjectedCrs => Projected::read(alloc, items, id, class).map(Crs::Projected),
+        Class::VerticalCrs => Vertical::read(alloc, items, id, class).map(Crs::Vertical),
+        Class::CompoundCrs => Compound::read(alloc, items, id, class).map(Crs::Compound),
         _ => unreachable!(),
     }
 }
