@@ -4,7 +4,7 @@
 pub use canon::Canon;
 pub use canon_run::run_canon;
 pub use check_run::run_check;
-pub use crs_line::{Request, RequestFault, request};
+pub use crs_line::{LineWord, Request, RequestFault, request};
 pub use crs_value::Level;
 pub use fault::RunFault;
 pub use same_run::run_same;

@@ -1,15 +1,15 @@
--- A line that `clap` takes enters no `help`: that word is answered by an error.
-use Rattle.std.proofs.Common.{◌≡◌, ℕ, List, [], ◌∷◌, Option, Some, None, Bool, true, false, not, ◌&&◌, cond, refl, codes, sym}
+-- A line that the command takes enters no `help`: that word is answered by an error.
+use Rattle.std.proofs.Common.{◌≡◌, ℕ, List, [], ◌∷◌, Option, Some, None, Bool, true, false, not, ◌||◌, cond, refl, codes, sym}
 use Rattle.std.specs.Str.{bytes_eq}
 use Rattle.std.specs.List.{fold}
 use Rattle.std.proofs.lemmas.Slice.Eq.{bytes_eq-Decides}
-use Rattle.clap.specs.Words.{Shape, Text, Rule, Kinds, built, fault_of}
-use Rattle.clap.specs.Simple.{argument_words, names_of}
+use Rattle.clap.specs.Words.{Shape, Text, Rule, built}
+use Rattle.clap.specs.Simple.{names_of}
 use Rattle.crs_line.specs.CommandLine.{desk}
 use Rattle.clap.specs.Walk.{Held, Names, Walk, Waiting, Step, Outcome, after_step, next, trailing, subcommand, value, idle, option, positional, done, waits, plain, refused, subcommand_met, subcommand_or_other, long_or_other, short_or_plain, after_flag, plain_word, walked, word_met, to_positional, arg_by_index, bundle, long_met, arg_by_long, walk_from, nothing_held, stop_after}
 use Rattle.clap.specs.Lexer.{long_of, short_of}
-use Rattle.clap.specs.Kinds.{or_else}
-use Rattle.clap.specs.Faults.{other_fault, word_fault, turn_fault, walk_fault}
+use Rattle.clap.specs.Takes.{other_passes, word_passes, turn_passes, walk_passes}
+use Rattle.clap.proofs.WalkLemmas.{both}
 
 abbrev pub is_help : Text → Bool
 is_help name = bytes_eq name (codes "help")
@@ -56,36 +56,27 @@ unfolding IsUsual
 dashes_are_usual true h position other usual = tt
 dashes_are_usual false h position other usual = usual
 
-no_kind : (help disabled : Bool) (kinds : Kinds) → disabled ≡ false
-    → cond (help && not disabled) kinds [] ≡ [] → (kinds ≡ [] → ⊥) → help ≡ false
-no_kind true true kinds enabled none some = cc
-no_kind true false kinds enabled none some = absurd (some none)
-no_kind false disabled kinds enabled none some = refl
+no_help : (help disabled : Bool) → disabled ≡ false → (not help || disabled) ≡ true → help ≡ false
+no_help true true enabled passes = cc
+no_help true false enabled passes = cc
+no_help false disabled enabled passes = refl
 
 word_is_usual : (s : Shape) (found : Option Text) (waiting : Waiting) (position : ℕ) (word : Text) (h : Held)
-    → s.disable_help_subcommand ≡ false → other_fault s found word h ≡ []
+    → s.disable_help_subcommand ≡ false → other_passes s found word h ≡ true
     → IsUsual (subcommand_or_other s.rules found waiting position word h).1
 unfolding IsUsual
-word_is_usual s (Some name) waiting position word h enabled none =
-    no_kind (is_help name) s.disable_help_subcommand _ enabled none (λ e. cc)
-word_is_usual s None waiting position word h enabled none =
+word_is_usual s (Some name) waiting position word h enabled passes =
+    no_help (is_help name) s.disable_help_subcommand enabled passes
+word_is_usual s None waiting position word h enabled passes =
     dashes_are_usual _ h position _ (long_is_usual s.rules waiting word (long_of word) h)
 
-first_none : (first second : Kinds) → or_else first second ≡ [] → first ≡ []
-first_none [] second none = refl
-first_none (k ∷ ks) second none = none
-
-second_none : (first second : Kinds) → or_else first second ≡ [] → second ≡ []
-second_none [] second none = none
-second_none (k ∷ ks) second none = cc
-
 met_is_usual : (s : Shape) (names : Names) (is_trailing : Bool) (waiting : Waiting) (position : ℕ) (word : Text) (h : Held)
-    → s.disable_help_subcommand ≡ false → word_fault s names is_trailing waiting word h ≡ []
+    → s.disable_help_subcommand ≡ false → word_passes s names is_trailing waiting word h ≡ true
     → IsUsual (word_met s.rules names is_trailing waiting position word h).1
 unfolding IsUsual
-met_is_usual s names true waiting position word h enabled none = tt
-met_is_usual s names false waiting position word h enabled none =
-    word_is_usual s (subcommand_met names waiting word) waiting position word h enabled none
+met_is_usual s names true waiting position word h enabled passes = tt
+met_is_usual s names false waiting position word h enabled passes =
+    word_is_usual s (subcommand_met names waiting word) waiting position word h enabled passes
 
 positional_is_free : (c : List Rule) (a : Option Rule) (word : Text) (w : Walk) (h : Held) → w.stopped ≡ None
     → IsFree (to_positional c a word w h).stopped
@@ -104,30 +95,29 @@ step_is_free c word w h value goes_on usual = positional_is_free c (arg_by_index
 turn_is_free : (s : Shape) (names : Names) (held : Held) (waiting : Waiting) (position : ℕ) (is_trailing : Bool)
     (stopped : Option (Text × List Text)) (word : Text) → s.disable_help_subcommand ≡ false → IsFree stopped
     → let w : Walk = record { held = held; waiting = waiting; position = position; is_trailing = is_trailing; stopped = stopped } in
-    turn_fault s names w word ≡ [] → IsFree (walked s.rules names w word).stopped
+    turn_passes s names w word ≡ true → IsFree (walked s.rules names w word).stopped
 unfolding walked IsFree
-turn_is_free s names held waiting position is_trailing None word enabled free none =
+turn_is_free s names held waiting position is_trailing None word enabled free passes =
     let w : Walk = record { held = held; waiting = waiting; position = position; is_trailing = is_trailing; stopped = None } in
     let met = word_met s.rules names is_trailing waiting position word held in
     step_is_free s.rules word w met.0 met.1 refl
-    (met_is_usual s names is_trailing waiting position word held enabled (first_none _ _ none))
-turn_is_free s names held waiting position is_trailing (Some stop) word enabled free none = free
+    (met_is_usual s names is_trailing waiting position word held enabled (both (word_passes s names is_trailing waiting word held) _ passes).0)
+turn_is_free s names held waiting position is_trailing (Some stop) word enabled free passes = free
 
 walk_is_free : (s : Shape) (names : Names) (w : Walk) (words : List Text) → s.disable_help_subcommand ≡ false
-    → IsFree w.stopped → walk_fault s names w words ≡ [] → IsFree (fold (walked s.rules names) w words).stopped
-unfolding walk_fault
-walk_is_free s names w [] enabled free none = free
-walk_is_free s names w (word ∷ words) enabled free none =
+    → IsFree w.stopped → walk_passes s names w words ≡ true → IsFree (fold (walked s.rules names) w words).stopped
+unfolding walk_passes
+walk_is_free s names w [] enabled free passes = free
+walk_is_free s names w (word ∷ words) enabled free passes =
+    let each = both (turn_passes s names w word) _ passes in
     walk_is_free s names (walked s.rules names w word) words enabled
-    (turn_is_free s names w.held w.waiting w.position w.is_trailing w.stopped word enabled free (first_none _ _ none))
-    (second_none _ _ none)
+    (turn_is_free s names w.held w.waiting w.position w.is_trailing w.stopped word enabled free each.0) each.1
 
--- where no kind of error comes, the walk of the desk stops at no `help`
-pub line_is_free : (words : List Text) → fault_of desk words ≡ []
-    → IsFree (stop_after (built desk).top.rules (names_of (built desk)) (argument_words desk words))
+-- where the command's own level takes the words, its walk stops at no `help`
+pub stops_at_no_help : (words : List Text) → walk_passes (built desk).top (names_of (built desk)) (walk_from nothing_held) words ≡ true
+    → IsFree (stop_after (built desk).top.rules (names_of (built desk)) words)
 unfolding IsFree
-line_is_free words none =
-    walk_is_free (built desk).top (names_of (built desk)) (walk_from nothing_held) (argument_words desk words) refl tt (first_none _ _ none)
+stops_at_no_help words passes = walk_is_free (built desk).top (names_of (built desk)) (walk_from nothing_held) words refl tt passes
 
 -- a word that answers to `help` is `help`
 pub answers_help : (word : Text) → is_help word ≡ false → bytes_eq (codes "help") word ≡ true → ⊥

@@ -1,2 +1,4 @@
+mod FaultLemmas
 mod HelpLemmas
+mod OperandLemmas
 mod CommandLemmas

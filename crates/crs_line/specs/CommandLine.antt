@@ -1,36 +1,55 @@
--- The command line: what `clap`'s definition of a simple command gives for the words.
-use Rattle.std.specs.Prelude.{◌≡◌, ◌≢◌, true, false, List, Option, Some, None, codes, option_and_then, if◌then◌else◌}
+-- The command line: what `clap`'s definition of the commands gives for the words.
+use Rattle.std.specs.Prelude.{◌≡◌, ◌≢◌, [], ◌∷◌, true, false, List, Option, Some, None, codes, option_and_then, if◌then◌else◌}
 use Rattle.std.specs.Str.{bytes_eq}
-use Rattle.clap.specs.Words.{App, Row, Text, kind_of, new_app, subcommand_of, takes, with_subcommand}
+use Rattle.clap.specs.Words.{App, IsAmong, Row, Rule, Shape, Text, fault_of, first_of, kind_of, new_app, new_rule, subcommand_of, takes, with_subcommand}
 use Rattle.clap.specs.Simple.{new_shape, on_top}
 use Rattle.crs_line.specs.declared.asked.Request.{Request}
-use Rattle.crs_line.specs.declared.asked.Request.TheVariants.{Canon, Check}
+use Rattle.crs_line.specs.declared.asked.Request.TheVariants.{Canon, Check, Same}
 use Rattle.crs_line.specs.declared.asked.RequestFault.{RequestFault}
 use Rattle.crs_line.specs.declared.asked.RequestFault.TheVariants.{Line, Memory}
 use Rattle.clap.specs.declared.error.Error.{Error}
 use Rattle.clap.specs.declared.error.kind.ErrorKind.TheVariants as kind
 
--- `crsdesk`, which wants one of its commands
-abbrev pub desk : App
-desk =
-    let alone = on_top (λ s. record s { subcommand_required = true }) (new_app (codes "crsdesk")) in
+-- an operand that has to be given, one word
+abbrev pub operand : Text → Rule
+operand id = record (new_rule id) { required = true; value_names = 1 }
+
+-- `same`, which wants a first text and a second
+abbrev pub same_shape : Shape
+same_shape = record (new_shape (codes "same")) { rules = operand (codes "first") ∷ operand (codes "second") ∷ [] }
+
+-- `crsdesk` with the commands that read standard input; it has a version, and wants one of its commands
+abbrev pub input_desk : App
+input_desk =
+    let alone = on_top (λ s. record s { has_version = true; subcommand_required = true }) (new_app (codes "crsdesk")) in
     with_subcommand (with_subcommand alone (new_shape (codes "canon"))) (new_shape (codes "check"))
 
--- the request of a command's name and of what stands after it
+-- `crsdesk`
+abbrev pub desk : App
+desk = with_subcommand input_desk same_shape
+
+-- two texts are compared where both are there
+abbrev pub same_texts : Option Text → Option Text → Option Request
+same_texts (Some first) (Some second) = Some (Same first second)
+same_texts first second = None
+
+-- the texts of `same`, among its matches
+abbrev pub same_of : List Row → Option Request
+same_of rows = same_texts (first_of (codes "first") rows) (first_of (codes "second") rows)
+
+-- the request of a command's name and of its matches
 abbrev pub request_of : Text × List Row → Option Request
-request_of found = if bytes_eq found.0 (codes "canon") then Some Canon else (if bytes_eq found.0 (codes "check") then Some Check else None)
+request_of (name, rows) = if bytes_eq name (codes "canon") then Some Canon
+    else (if bytes_eq name (codes "check") then Some Check else (if bytes_eq name (codes "same") then same_of rows else None))
 
--- the request of the command that was named
-abbrev pub requested : Option (Text × List Row) → Option Request
-requested found = option_and_then request_of found
-
--- what the words ask for; the first of them is the program's name
+-- what the words ask for, where the command takes them; the first of them is the program's name
 abbrev pub asked : List Text → Option Request
-asked words = requested (subcommand_of desk words)
+asked words = if takes desk words then option_and_then request_of (subcommand_of desk words) else None
 
--- a line is refused only where the command doesn't take it, and want of memory is told apart from that
+-- a line is refused only where the command doesn't take it, by an error that it gives for the words;
+-- want of memory is told apart from that
 abbrev pub IsRefusal : List Text → RequestFault → Type 0
-IsRefusal words (Line error) = (kind_of error ≢ kind.OutOfMemory) × (takes desk words ≡ false)
+IsRefusal words (Line error) = (kind_of error ≢ kind.OutOfMemory) × (takes desk words ≡ false) × IsAmong (kind_of error) (fault_of desk words)
 IsRefusal words (Memory error) = Unit {0}
 
 -- `clap`'s error is handed on, but for want of memory

@@ -1,3 +1,4 @@
+use crate::LineWord;
 use std::alloc::AllocError;
 use thiserror::Error;
 
@@ -8,12 +9,14 @@ pub enum Request {
     Canon,
     /// Whether the text on standard input is accepted, and what it spells.
     Check,
+    /// Whether two texts, the first and the second, spell the same.
+    Same(LineWord, LineWord),
 }
 
 /// Why a command line gives no request.
 #[derive(Debug, Drop, Error)]
 pub enum RequestFault {
-    /// The line is wrong, or asks for help: `clap`'s own text, on the stream that `clap` picks.
+    /// The line is wrong, or asks for help or the version: `clap`'s own text, on the stream that `clap` picks.
     #[error("{0}")]
     Line(clap::Error),
     /// Memory ran out.

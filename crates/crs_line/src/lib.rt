@@ -1,8 +1,11 @@
-//! The command line: which command is asked for, read by `clap`.
+//! The command line: which command is asked for, with its texts, read by `clap`.
 #![tactic(auto)]
 
 pub use asked::{Request, RequestFault};
-pub use line::request;
+pub use line::{VERSION, request};
+pub use word::LineWord;
 
 mod asked;
+mod laws;
 mod line;
+mod word;

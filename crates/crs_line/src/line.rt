@@ -1,27 +1,32 @@
-ghost use Rattle.std.specs.Prelude.{◌≡◌, map, IfOk, IfErr, IsSome, Some, false};
-ghost use Rattle.clap.specs.Words.{app_of, subcommand_rows_of};
+ghost use Rattle.std.specs.Prelude.{◌≡◌, [], map, IfOk, IfErr, IsSome, Some, false, option_and_then};
+ghost use Rattle.clap.specs.Words.{app_of, fault_of, found_of, rows_of, shape_of, subcommand_rows_of};
 ghost use Rattle.clap.specs.declared.builder.command.Command.TheViews.{out-Command as fields_of};
-ghost use Rattle.crs_line.specs.CommandLine.{HandsOn, IsRefusal, asked, desk, requested};
+ghost use Rattle.crs_line.specs.CommandLine.{HandsOn, IsRefusal, asked, desk, input_desk, request_of, same_of, same_shape};
 
-use crate::{Request, RequestFault};
+use crate::{LineWord, Request, RequestFault};
 use clap::error::ErrorKind;
-use clap::{ArgMatches, Command};
+use clap::{Arg, ArgMatches, Command};
 use std::alloc::{AllocError, Global};
 
+/// The version that `--version` prints.
+pub const VERSION: &str = "0.1.0";
+
 /// What the words of a command line ask for. The first word is the program's name.
-/// `Line` where `clap` refuses the words or help is asked for, `Memory` where memory ran out. Profile.
+/// `Line` where `clap` refuses the words, or help or the version is asked for, `Memory` where memory ran out. Profile.
 pub fn request<'a>(alloc: Global, words: &'a [&'a str]) -> Result<Request, RequestFault>
     ensures ok { IfOk result (λ found. asked (map (λ word. word.now) words.entry.now) ≡ Some found) }
+    ensures faultless { IfOk result (λ found. fault_of desk (map (λ word. word.now) words.entry.now) ≡ []) }
     ensures refused { IfErr result (IsRefusal (map (λ word. word.now) words.entry.now)) }
 {
     let matches = matches_of(alloc, words)?;
-    Ok(named(&matches))
+    named(alloc, &matches).map_err(RequestFault::Memory)
 }
 
 fn matches_of<'a>(alloc: Global, words: &'a [&'a str]) -> Result<ArgMatches<'a>, RequestFault>
     ensures ok { IfOk result (λ matches. asked (map (λ word. word.now) words.entry.now)
-        ≡ requested (subcommand_rows_of matches)) }
-    ensures some { IfOk result (λ matches. IsSome (requested (subcommand_rows_of matches))) }
+        ≡ option_and_then request_of (subcommand_rows_of matches)) }
+    ensures some { IfOk result (λ matches. IsSome (option_and_then request_of (subcommand_rows_of matches))) }
+    ensures faultless { IfOk result (λ matches. fault_of desk (map (λ word. word.now) words.entry.now) ≡ []) }
     ensures refused { IfErr result (IsRefusal (map (λ word. word.now) words.entry.now)) }
 {
     let command = desk_command(alloc).map_err(RequestFault::Memory)?;
@@ -35,15 +40,37 @@ fn desk_command<'a>(alloc: Global) -> Result<Command<'a>, AllocError>
     ensures shape { IfOk result (λ command. app_of command ≡ desk) }
     ensures globals { IfOk result (λ command. (fields_of command).has_globals ≡ false) }
 {
+    let same = same_command(alloc)?;
+    with_inputs(alloc)?.subcommand(same)
+}
+
+// The commands that read standard input.
+fn with_inputs<'a>(alloc: Global) -> Result<Command<'a>, AllocError>
+    ensures shape { IfOk result (λ command. app_of command ≡ input_desk) }
+    ensures globals { IfOk result (λ command. (fields_of command).has_globals ≡ false) }
+{
     let canon = Command::new(alloc, "canon").about("Writes the canonical text of standard input");
     let check = Command::new(alloc, "check").about(
         "Tells what standard input spells, or where it is refused",
     );
     Command::new(alloc, "crsdesk")
         .about("Reads, compares and spells coordinate reference systems")
+        .version(VERSION)
         .subcommand_required(true)
         .subcommand(canon)?
         .subcommand(check)
+}
+
+fn same_command<'a>(alloc: Global) -> Result<Command<'a>, AllocError>
+    ensures shape { IfOk result (λ command. shape_of command ≡ same_shape) }
+    ensures globals { IfOk result (λ command. (fields_of command).has_globals ≡ false) }
+{
+    let first = Arg::new(alloc, "first").value_name("A").required(true);
+    let second = Arg::new(alloc, "second").value_name("B").required(true);
+    Command::new(alloc, "same")
+        .about("Compares two texts")
+        .arg(first)?
+        .arg(second)
 }
 
 fn refusal(error: clap::Error) -> RequestFault
@@ -55,13 +82,28 @@ fn refusal(error: clap::Error) -> RequestFault
     RequestFault::Line(error)
 }
 
-fn named(matches: &ArgMatches) -> Request
-    requires { IsSome (requested (subcommand_rows_of matches.now)) }
-    ensures { requested (subcommand_rows_of matches.now) ≡ Some result }
+fn named(alloc: Global, matches: &ArgMatches) -> Result<Request, AllocError>
+    requires { IsSome (option_and_then request_of (subcommand_rows_of matches.now)) }
+    ensures { IfOk result (λ found. option_and_then request_of (subcommand_rows_of matches.now) ≡ Some found) }
 {
     match matches.subcommand() {
-        Some(("canon", _)) => Request::Canon,
-        Some(("check", _)) => Request::Check,
+        Some(("canon", _)) => Ok(Request::Canon),
+        Some(("check", _)) => Ok(Request::Check),
+        Some(("same", operands)) => same_request(alloc, operands),
+        _ => unreachable!(),
+    }
+}
+
+fn same_request(alloc: Global, operands: &ArgMatches) -> Result<Request, AllocError>
+    requires { IsSome (same_of (rows_of (found_of operands.now))) }
+    ensures { IfOk result (λ found. same_of (rows_of (found_of operands.now)) ≡ Some found) }
+{
+    match (operands.get_str("first"), operands.get_str("second")) {
+        (Some(first), Some(second)) => {
+            let first = LineWord::new(alloc, first)?;
+            let second = LineWord::new(alloc, second)?;
+            Ok(Request::Same(first, second))
+        }
         _ => unreachable!(),
     }
 }

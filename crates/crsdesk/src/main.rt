@@ -1,8 +1,9 @@
-//! `crsdesk`: reads WKT2 texts of coordinate reference systems, and spells each in one way.
+//! `crsdesk`: reads WKT2 texts of coordinate reference systems, compares them, and spells each in one way.
 #![tactic(auto)]
 
 use crs_desk::{
-    Level, Request, RequestFault, RunFault, Sink, Source, request, run_canon, run_check,
+    Level, LineWord, Request, RequestFault, RunFault, Sink, Source, request, run_canon, run_check,
+    run_same,
 };
 use std::alloc::{AllocError, Global};
 use std::process::ExitCode;
@@ -45,16 +46,33 @@ fn answer_texts(rt: &HostRuntime, words: &[&str]) -> u8 {
 }
 
 fn answer(rt: &HostRuntime, wanted: &Request) -> u8 {
-    let mut source = Source::new(rt.stdin());
-    let mut sink = Sink::new(rt.stdout());
     let outcome = match wanted {
-        Request::Canon => run_canon(rt.alloc(), Level::Full, &mut source, &mut sink),
-        Request::Check => run_check(rt.alloc(), &mut source, &mut sink),
+        Request::Canon => canon(rt),
+        Request::Check => check(rt),
+        Request::Same(first, second) => same(rt, first, second),
     };
     match &outcome {
         Ok(status) => *status,
         Err(fault) => report(rt, fault),
     }
+}
+
+fn canon(rt: &HostRuntime) -> Result<u8, RunFault> {
+    let mut source = Source::new(rt.stdin());
+    let mut sink = Sink::new(rt.stdout());
+    run_canon(rt.alloc(), Level::Full, &mut source, &mut sink)
+}
+
+fn check(rt: &HostRuntime) -> Result<u8, RunFault> {
+    let mut source = Source::new(rt.stdin());
+    let mut sink = Sink::new(rt.stdout());
+    run_check(rt.alloc(), &mut source, &mut sink)
+}
+
+fn same(rt: &HostRuntime, first: &LineWord, second: &LineWord) -> Result<u8, RunFault> {
+    let a = first.as_str().as_bytes();
+    let b = second.as_str().as_bytes();
+    run_same(rt.alloc(), Level::Full, a, b, &mut Sink::new(rt.stdout()))
 }
 
 // A second failure, of standard error itself, can't be told to anyone.
