@@ -1,8 +1,10 @@
 //! Ellipsoids, prime meridians, reference frames and ensembles.
-ghost use Rattle.std.specs.Prelude.{◌≡◌, ◌≤◌, ◌↔◌, IsTrue, None, length};
+ghost use Rattle.std.specs.Prelude.{◌≡◌, ◌≤◌, ◌↔◌, ◌⊎◌, IsTrue, None, length};
+ghost use Rattle.crs_value.specs.declared.unit_kind.UnitKind.TheVariants as kinds;
 ghost use Rattle.crs_same.specs.FirstInFrames.{FirstInEllipsoid, FirstInEllipsoids, FirstInGiven, FirstBesideGreenwich, FirstInMeridian, FirstInDatum, FirstInEnsemble, FirstInFrame};
 ghost use Rattle.crs_same.specs.Sets.{BothOrNeither, SameSet};
-ghost use Rattle.crs_same.specs.SameFrames.{SameEllipsoid, SameMeridian, IsGreenwich, SameGiven, SameMember, SameDatum, SameEnsemble, SameFrame};
+ghost use Rattle.crs_same.specs.SameUnits.{SameUnit};
+ghost use Rattle.crs_same.specs.SameFrames.{SameEllipsoid, SameMeridian, IsZero, IsGreenwich, SameGiven, SameMember, SameDatum, SameEnsemble, SameFrame};
 
 use crate::idents::same_idents;
 use crate::numbers::{is_whole, same_value};
@@ -67,6 +69,15 @@ pub fn same_ellipsoid<'a>(a: &Ellipsoid<'a>, b: &Ellipsoid<'a>, level: Level) ->
     first_in_ellipsoid(Path::start(), a, b, level).is_none()
 }
 
+// Of meridians with one longitude: at 0 the unit doesn't count.
+fn same_meridian_units<'a>(a: &Meridian<'a>, b: &Meridian<'a>, level: Level) -> bool
+    ensures { IsTrue result ↔
+        (IsZero a.now.longitude ⊎ BothOrNeither (SameUnit kinds.Angle level) a.now.unit b.now.unit) }
+{
+    is_whole(&a.longitude, 0)
+        || same_units_as(UnitKind::Angle, a.unit.as_ref(), b.unit.as_ref(), level)
+}
+
 fn first_in_given<'a>(at: Path, a: &Meridian<'a>, b: &Meridian<'a>, level: Level) -> Option<Path>
     requires { length at ≤ 4 }
     ensures first { FirstInGiven at level a.now b.now result }
@@ -78,9 +89,7 @@ fn first_in_given<'a>(at: Path, a: &Meridian<'a>, b: &Meridian<'a>, level: Level
     if !same_value(&a.longitude, &b.longitude) {
         return Some(at.then(Step::Longitude));
     }
-    if !(is_whole(&a.longitude, 0)
-        || same_units_as(UnitKind::Angle, a.unit.as_ref(), b.unit.as_ref(), level))
-    {
+    if !same_meridian_units(a, b, level) {
         return Some(at.then(Step::Unit));
     }
     if !same_idents(&a.ids, &b.ids, level) {
