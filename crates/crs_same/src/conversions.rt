@@ -13,9 +13,9 @@ use crate::texts::same_text;
 use crate::units::same_units_as;
 use crs_value::{Conversion, GeoidModel, Level, Method, Parameter, UnitKind};
 
-fn first_in_method<'a>(at: &Path, a: &Method<'a>, b: &Method<'a>, level: Level) -> Option<Path>
-    requires { length at.now ≤ 4 }
-    ensures first { FirstInMethod at.now level a.now b.now result }
+fn first_in_method<'a>(at: Path, a: &Method<'a>, b: &Method<'a>, level: Level) -> Option<Path>
+    requires { length at ≤ 4 }
+    ensures first { FirstInMethod at level a.now b.now result }
     ensures same { (result ≡ None) ↔ SameMethod level a.now b.now }
 {
     if !same_text(a.name, b.name) {
@@ -31,7 +31,7 @@ fn first_in_method<'a>(at: &Path, a: &Method<'a>, b: &Method<'a>, level: Level) 
 pub fn same_method<'a>(a: &Method<'a>, b: &Method<'a>, level: Level) -> bool
     ensures { IsTrue result ↔ SameMethod level a.now b.now }
 {
-    first_in_method(&Path::start(), a, b, level).is_none()
+    first_in_method(Path::start(), a, b, level).is_none()
 }
 
 impl Member for Parameter<'_> {
@@ -90,19 +90,19 @@ pub(crate) fn same_geoid_models<'a>(
 
 #[tactic(auto, unfolding(crate::specs::FirstInCrs::FirstInConversion))]
 pub(crate) fn first_in_conversion<'a>(
-    at: &Path,
+    at: Path,
     a: &Conversion<'a>,
     b: &Conversion<'a>,
     level: Level,
 ) -> Option<Path>
-    requires { length at.now ≤ 3 }
-    ensures first { FirstInConversion at.now level a.now b.now result }
+    requires { length at ≤ 3 }
+    ensures first { FirstInConversion at level a.now b.now result }
     ensures same { (result ≡ None) ↔ SameConversion level a.now b.now }
 {
     if !same_text(a.name, b.name) {
         return Some(at.then(Step::Name));
     }
-    if let Some(path) = first_in_method(&at.then(Step::Method), &a.method, &b.method, level) {
+    if let Some(path) = first_in_method(at.then(Step::Method), &a.method, &b.method, level) {
         return Some(path);
     }
     if !same_parameters(a.parameters.as_slice(), b.parameters.as_slice(), level) {
@@ -119,5 +119,5 @@ pub(crate) fn first_in_conversion<'a>(
 pub fn same_conversion<'a>(a: &Conversion<'a>, b: &Conversion<'a>, level: Level) -> bool
     ensures { IsTrue result ↔ SameConversion level a.now b.now }
 {
-    first_in_conversion(&Path::start(), a, b, level).is_none()
+    first_in_conversion(Path::start(), a, b, level).is_none()
 }

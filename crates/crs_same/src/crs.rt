@@ -25,14 +25,9 @@ fn same_geodetic_kind(a: SystemType, b: SystemType) -> bool
 }
 
 #[tactic(auto, unfolding(crate::specs::FirstInCrs::FirstInGeodetic))]
-fn first_in_geodetic<'a>(
-    at: &Path,
-    a: &Geodetic<'a>,
-    b: &Geodetic<'a>,
-    level: Level,
-) -> Option<Path>
-    requires { length at.now ≤ 2 }
-    ensures first { FirstInGeodetic at.now level a.now b.now result }
+fn first_in_geodetic<'a>(at: Path, a: &Geodetic<'a>, b: &Geodetic<'a>, level: Level) -> Option<Path>
+    requires { length at ≤ 2 }
+    ensures first { FirstInGeodetic at level a.now b.now result }
     ensures same { (result ≡ None) ↔ SameGeodetic level a.now b.now }
 {
     if !same_geodetic_kind(a.system.system_type, b.system.system_type) {
@@ -41,14 +36,14 @@ fn first_in_geodetic<'a>(
     if !same_text(a.name, b.name) {
         return Some(at.then(Step::Name));
     }
-    if let Some(path) = first_in_frame(&at.then(Step::Datum), &a.frame, &b.frame, level) {
+    if let Some(path) = first_in_frame(at.then(Step::Datum), &a.frame, &b.frame, level) {
         return Some(path);
     }
     let meridian = at.then(Step::Meridian);
-    if let Some(path) = first_in_meridian(&meridian, &a.meridian, &b.meridian, level) {
+    if let Some(path) = first_in_meridian(meridian, &a.meridian, &b.meridian, level) {
         return Some(path);
     }
-    if let Some(path) = first_in_system(&at.then(Step::System), &a.system, &b.system, level) {
+    if let Some(path) = first_in_system(at.then(Step::System), &a.system, &b.system, level) {
         return Some(path);
     }
     first_in_tail(at, &a.tail, &b.tail, level)
@@ -59,23 +54,23 @@ fn first_in_geodetic<'a>(
 pub fn same_geodetic<'a>(a: &Geodetic<'a>, b: &Geodetic<'a>, level: Level) -> bool
     ensures { IsTrue result ↔ SameGeodetic level a.now b.now }
 {
-    first_in_geodetic(&Path::start(), a, b, level).is_none()
+    first_in_geodetic(Path::start(), a, b, level).is_none()
 }
 
 #[tactic(auto, unfolding(crate::specs::FirstInCrs::FirstInBase))]
-fn first_in_base<'a>(at: &Path, a: &Base<'a>, b: &Base<'a>, level: Level) -> Option<Path>
-    requires { length at.now ≤ 2 }
-    ensures first { FirstInBase at.now level a.now b.now result }
+fn first_in_base<'a>(at: Path, a: &Base<'a>, b: &Base<'a>, level: Level) -> Option<Path>
+    requires { length at ≤ 2 }
+    ensures first { FirstInBase at level a.now b.now result }
     ensures same { (result ≡ None) ↔ SameBase level a.now b.now }
 {
     if !same_text(a.name, b.name) {
         return Some(at.then(Step::Name));
     }
-    if let Some(path) = first_in_frame(&at.then(Step::Datum), &a.frame, &b.frame, level) {
+    if let Some(path) = first_in_frame(at.then(Step::Datum), &a.frame, &b.frame, level) {
         return Some(path);
     }
     let meridian = at.then(Step::Meridian);
-    if let Some(path) = first_in_meridian(&meridian, &a.meridian, &b.meridian, level) {
+    if let Some(path) = first_in_meridian(meridian, &a.meridian, &b.meridian, level) {
         return Some(path);
     }
     if !same_units_as(UnitKind::Angle, a.unit.as_ref(), b.unit.as_ref(), level) {
@@ -92,31 +87,31 @@ fn first_in_base<'a>(at: &Path, a: &Base<'a>, b: &Base<'a>, level: Level) -> Opt
 pub fn same_base<'a>(a: &Base<'a>, b: &Base<'a>, level: Level) -> bool
     ensures { IsTrue result ↔ SameBase level a.now b.now }
 {
-    first_in_base(&Path::start(), a, b, level).is_none()
+    first_in_base(Path::start(), a, b, level).is_none()
 }
 
 #[tactic(auto, unfolding(crate::specs::FirstInCrs::FirstInProjected))]
 fn first_in_projected<'a>(
-    at: &Path,
+    at: Path,
     a: &Projected<'a>,
     b: &Projected<'a>,
     level: Level,
 ) -> Option<Path>
-    requires { length at.now ≤ 1 }
-    ensures first { FirstInProjected at.now level a.now b.now result }
+    requires { length at ≤ 1 }
+    ensures first { FirstInProjected at level a.now b.now result }
     ensures same { (result ≡ None) ↔ SameProjected level a.now b.now }
 {
     if !same_text(a.name, b.name) {
         return Some(at.then(Step::Name));
     }
-    if let Some(path) = first_in_base(&at.then(Step::Base), &a.base, &b.base, level) {
+    if let Some(path) = first_in_base(at.then(Step::Base), &a.base, &b.base, level) {
         return Some(path);
     }
     let conversion = at.then(Step::Conversion);
-    if let Some(path) = first_in_conversion(&conversion, &a.conversion, &b.conversion, level) {
+    if let Some(path) = first_in_conversion(conversion, &a.conversion, &b.conversion, level) {
         return Some(path);
     }
-    if let Some(path) = first_in_system(&at.then(Step::System), &a.system, &b.system, level) {
+    if let Some(path) = first_in_system(at.then(Step::System), &a.system, &b.system, level) {
         return Some(path);
     }
     first_in_tail(at, &a.tail, &b.tail, level)
@@ -126,27 +121,22 @@ fn first_in_projected<'a>(
 pub fn same_projected<'a>(a: &Projected<'a>, b: &Projected<'a>, level: Level) -> bool
     ensures { IsTrue result ↔ SameProjected level a.now b.now }
 {
-    first_in_projected(&Path::start(), a, b, level).is_none()
+    first_in_projected(Path::start(), a, b, level).is_none()
 }
 
 #[tactic(auto, unfolding(crate::specs::FirstInCrs::FirstInVertical))]
-fn first_in_vertical<'a>(
-    at: &Path,
-    a: &Vertical<'a>,
-    b: &Vertical<'a>,
-    level: Level,
-) -> Option<Path>
-    requires { length at.now ≤ 2 }
-    ensures first { FirstInVertical at.now level a.now b.now result }
+fn first_in_vertical<'a>(at: Path, a: &Vertical<'a>, b: &Vertical<'a>, level: Level) -> Option<Path>
+    requires { length at ≤ 2 }
+    ensures first { FirstInVertical at level a.now b.now result }
     ensures same { (result ≡ None) ↔ SameVertical level a.now b.now }
 {
     if !same_text(a.name, b.name) {
         return Some(at.then(Step::Name));
     }
-    if let Some(path) = first_in_frame(&at.then(Step::Datum), &a.frame, &b.frame, level) {
+    if let Some(path) = first_in_frame(at.then(Step::Datum), &a.frame, &b.frame, level) {
         return Some(path);
     }
-    if let Some(path) = first_in_system(&at.then(Step::System), &a.system, &b.system, level) {
+    if let Some(path) = first_in_system(at.then(Step::System), &a.system, &b.system, level) {
         return Some(path);
     }
     if !same_geoid_models(a.geoid_models.as_slice(), b.geoid_models.as_slice(), level) {
@@ -160,18 +150,18 @@ fn first_in_vertical<'a>(
 pub fn same_vertical<'a>(a: &Vertical<'a>, b: &Vertical<'a>, level: Level) -> bool
     ensures { IsTrue result ↔ SameVertical level a.now b.now }
 {
-    first_in_vertical(&Path::start(), a, b, level).is_none()
+    first_in_vertical(Path::start(), a, b, level).is_none()
 }
 
 #[tactic(auto, unfolding(crate::specs::FirstInCrs::FirstInHorizontal))]
 fn first_in_horizontal<'a>(
-    at: &Path,
+    at: Path,
     a: &Horizontal<'a>,
     b: &Horizontal<'a>,
     level: Level,
 ) -> Option<Path>
-    requires { length at.now ≤ 1 }
-    ensures first { FirstInHorizontal at.now level a.now b.now result }
+    requires { length at ≤ 1 }
+    ensures first { FirstInHorizontal at level a.now b.now result }
     ensures same { (result ≡ None) ↔ SameHorizontal level a.now b.now }
 {
     match (a, b) {
@@ -183,25 +173,20 @@ fn first_in_horizontal<'a>(
 }
 
 #[tactic(auto, unfolding(crate::specs::FirstInCrs::FirstInCompound))]
-fn first_in_compound<'a>(
-    at: &Path,
-    a: &Compound<'a>,
-    b: &Compound<'a>,
-    level: Level,
-) -> Option<Path>
-    requires { length at.now ≤ 0 }
-    ensures first { FirstInCompound at.now level a.now b.now result }
+fn first_in_compound<'a>(at: Path, a: &Compound<'a>, b: &Compound<'a>, level: Level) -> Option<Path>
+    requires { length at ≤ 0 }
+    ensures first { FirstInCompound at level a.now b.now result }
     ensures same { (result ≡ None) ↔ SameCompound level a.now b.now }
 {
     if !same_text(a.name, b.name) {
         return Some(at.then(Step::Name));
     }
     let horizontal = at.then(Step::Horizontal);
-    if let Some(path) = first_in_horizontal(&horizontal, &a.horizontal, &b.horizontal, level) {
+    if let Some(path) = first_in_horizontal(horizontal, &a.horizontal, &b.horizontal, level) {
         return Some(path);
     }
     let vertical = at.then(Step::Vertical);
-    if let Some(path) = first_in_vertical(&vertical, &a.vertical, &b.vertical, level) {
+    if let Some(path) = first_in_vertical(vertical, &a.vertical, &b.vertical, level) {
         return Some(path);
     }
     first_in_tail(at, &a.tail, &b.tail, level)
@@ -211,7 +196,7 @@ fn first_in_compound<'a>(
 pub fn same_compound<'a>(a: &Compound<'a>, b: &Compound<'a>, level: Level) -> bool
     ensures { IsTrue result ↔ SameCompound level a.now b.now }
 {
-    first_in_compound(&Path::start(), a, b, level).is_none()
+    first_in_compound(Path::start(), a, b, level).is_none()
 }
 
 /// The first part in which two CRSs differ, in the order of the canonical text, `kind` before all; None exactly where they
@@ -220,13 +205,12 @@ pub fn first_part<'a>(a: &Crs<'a>, b: &Crs<'a>, level: Level) -> Option<Path>
     ensures first { FirstInCrs level a.now b.now result }
     ensures same { (result ≡ None) ↔ SameCrs level a.now b.now }
 {
-    let at = Path::start();
     match (a, b) {
-        (Crs::Geodetic(x), Crs::Geodetic(y)) => first_in_geodetic(&at, x, y, level),
-        (Crs::Projected(x), Crs::Projected(y)) => first_in_projected(&at, x, y, level),
-        (Crs::Vertical(x), Crs::Vertical(y)) => first_in_vertical(&at, x, y, level),
-        (Crs::Compound(x), Crs::Compound(y)) => first_in_compound(&at, x, y, level),
-        _ => Some(at.then(Step::Kind)),
+        (Crs::Geodetic(x), Crs::Geodetic(y)) => first_in_geodetic(Path::start(), x, y, level),
+        (Crs::Projected(x), Crs::Projected(y)) => first_in_projected(Path::start(), x, y, level),
+        (Crs::Vertical(x), Crs::Vertical(y)) => first_in_vertical(Path::start(), x, y, level),
+        (Crs::Compound(x), Crs::Compound(y)) => first_in_compound(Path::start(), x, y, level),
+        _ => Some(Path::start().then(Step::Kind)),
     }
 }
 

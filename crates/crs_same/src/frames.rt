@@ -1,8 +1,10 @@
 //! Ellipsoids, prime meridians, reference frames and ensembles.
-ghost use Rattle.std.specs.Prelude.{◌≡◌, ◌≤◌, ◌↔◌, IsTrue, None, length};
+ghost use Rattle.std.specs.Prelude.{◌≡◌, ◌≤◌, ◌↔◌, ◌⊎◌, IsTrue, None, length};
+ghost use Rattle.crs_value.specs.declared.unit_kind.UnitKind.TheVariants as kinds;
 ghost use Rattle.crs_same.specs.FirstInFrames.{FirstInEllipsoid, FirstInEllipsoids, FirstInGiven, FirstBesideGreenwich, FirstInMeridian, FirstInDatum, FirstInEnsemble, FirstInFrame};
 ghost use Rattle.crs_same.specs.Sets.{BothOrNeither, SameSet};
-ghost use Rattle.crs_same.specs.SameFrames.{SameEllipsoid, SameMeridian, IsGreenwich, SameGiven, SameMember, SameDatum, SameEnsemble, SameFrame};
+ghost use Rattle.crs_same.specs.SameUnits.{SameUnit};
+ghost use Rattle.crs_same.specs.SameFrames.{SameEllipsoid, SameMeridian, IsZero, IsGreenwich, SameGiven, SameMember, SameDatum, SameEnsemble, SameFrame};
 
 use crate::idents::same_idents;
 use crate::numbers::{is_whole, same_value};
@@ -14,13 +16,13 @@ use crate::units::{has_no_idents, same_length, same_units_as};
 use crs_value::{Datum, Ellipsoid, Ensemble, Frame, Level, Member, Meridian, UnitKind};
 
 fn first_in_ellipsoid<'a>(
-    at: &Path,
+    at: Path,
     a: &Ellipsoid<'a>,
     b: &Ellipsoid<'a>,
     level: Level,
 ) -> Option<Path>
-    requires { length at.now ≤ 4 }
-    ensures first { FirstInEllipsoid at.now level a.now b.now result }
+    requires { length at ≤ 4 }
+    ensures first { FirstInEllipsoid at level a.now b.now result }
     ensures same { (result ≡ None) ↔ SameEllipsoid level a.now b.now }
 {
     if !same_text(a.name, b.name) {
@@ -43,13 +45,13 @@ fn first_in_ellipsoid<'a>(
 
 // Of frames: an ellipsoid in both, or in neither.
 fn first_in_ellipsoids<'a>(
-    at: &Path,
+    at: Path,
     a: &Option<Ellipsoid<'a>>,
     b: &Option<Ellipsoid<'a>>,
     level: Level,
 ) -> Option<Path>
-    requires { length at.now ≤ 4 }
-    ensures first { FirstInEllipsoids at.now level a.now b.now result }
+    requires { length at ≤ 4 }
+    ensures first { FirstInEllipsoids at level a.now b.now result }
     ensures same { (result ≡ None) ↔ BothOrNeither (SameEllipsoid level) a.now b.now }
 {
     match (a, b) {
@@ -64,12 +66,21 @@ fn first_in_ellipsoids<'a>(
 pub fn same_ellipsoid<'a>(a: &Ellipsoid<'a>, b: &Ellipsoid<'a>, level: Level) -> bool
     ensures { IsTrue result ↔ SameEllipsoid level a.now b.now }
 {
-    first_in_ellipsoid(&Path::start(), a, b, level).is_none()
+    first_in_ellipsoid(Path::start(), a, b, level).is_none()
 }
 
-fn first_in_given<'a>(at: &Path, a: &Meridian<'a>, b: &Meridian<'a>, level: Level) -> Option<Path>
-    requires { length at.now ≤ 4 }
-    ensures first { FirstInGiven at.now level a.now b.now result }
+// Of meridians with one longitude: at 0 the unit doesn't count.
+fn same_meridian_units<'a>(a: &Meridian<'a>, b: &Meridian<'a>, level: Level) -> bool
+    ensures { IsTrue result ↔
+        (IsZero a.now.longitude ⊎ BothOrNeither (SameUnit kinds.Angle level) a.now.unit b.now.unit) }
+{
+    is_whole(&a.longitude, 0)
+        || same_units_as(UnitKind::Angle, a.unit.as_ref(), b.unit.as_ref(), level)
+}
+
+fn first_in_given<'a>(at: Path, a: &Meridian<'a>, b: &Meridian<'a>, level: Level) -> Option<Path>
+    requires { length at ≤ 4 }
+    ensures first { FirstInGiven at level a.now b.now result }
     ensures same { (result ≡ None) ↔ SameGiven level a.now b.now }
 {
     if !same_text(a.name, b.name) {
@@ -78,9 +89,7 @@ fn first_in_given<'a>(at: &Path, a: &Meridian<'a>, b: &Meridian<'a>, level: Leve
     if !same_value(&a.longitude, &b.longitude) {
         return Some(at.then(Step::Longitude));
     }
-    if !(is_whole(&a.longitude, 0)
-        || same_units_as(UnitKind::Angle, a.unit.as_ref(), b.unit.as_ref(), level))
-    {
+    if !same_meridian_units(a, b, level) {
         return Some(at.then(Step::Unit));
     }
     if !same_idents(&a.ids, &b.ids, level) {
@@ -90,9 +99,9 @@ fn first_in_given<'a>(at: &Path, a: &Meridian<'a>, b: &Meridian<'a>, level: Leve
 }
 
 // Beside a missing one, which is Greenwich.
-fn first_beside_greenwich(at: &Path, meridian: &Meridian<'_>, level: Level) -> Option<Path>
-    requires { length at.now ≤ 4 }
-    ensures first { FirstBesideGreenwich at.now level meridian.now result }
+fn first_beside_greenwich(at: Path, meridian: &Meridian<'_>, level: Level) -> Option<Path>
+    requires { length at ≤ 4 }
+    ensures first { FirstBesideGreenwich at level meridian.now result }
     ensures same { (result ≡ None) ↔ IsGreenwich level meridian.now }
 {
     if !same_text(meridian.name, b"Greenwich") {
@@ -109,13 +118,13 @@ fn first_beside_greenwich(at: &Path, meridian: &Meridian<'_>, level: Level) -> O
 
 #[tactic(auto, unfolding(crate::specs::FirstInFrames::FirstInMeridian))]
 pub(crate) fn first_in_meridian<'a>(
-    at: &Path,
+    at: Path,
     a: &Option<Meridian<'a>>,
     b: &Option<Meridian<'a>>,
     level: Level,
 ) -> Option<Path>
-    requires { length at.now ≤ 4 }
-    ensures first { FirstInMeridian at.now level a.now b.now result }
+    requires { length at ≤ 4 }
+    ensures first { FirstInMeridian at level a.now b.now result }
     ensures same { (result ≡ None) ↔ SameMeridian level a.now b.now }
 {
     match (a, b) {
@@ -132,7 +141,7 @@ pub(crate) fn first_in_meridian<'a>(
 pub fn same_meridian<'a>(a: &Meridian<'a>, b: &Meridian<'a>, level: Level) -> bool
     ensures { IsTrue result ↔ SameGiven level a.now b.now }
 {
-    first_in_given(&Path::start(), a, b, level).is_none()
+    first_in_given(Path::start(), a, b, level).is_none()
 }
 
 impl SetMember for Member<'_> {
@@ -158,16 +167,16 @@ fn same_members<'a>(a: &[Member<'a>], b: &[Member<'a>], level: Level) -> bool
     same_set(a, b, level)
 }
 
-fn first_in_datum<'a>(at: &Path, a: &Datum<'a>, b: &Datum<'a>, level: Level) -> Option<Path>
-    requires { length at.now ≤ 3 }
-    ensures first { FirstInDatum at.now level a.now b.now result }
+fn first_in_datum<'a>(at: Path, a: &Datum<'a>, b: &Datum<'a>, level: Level) -> Option<Path>
+    requires { length at ≤ 3 }
+    ensures first { FirstInDatum at level a.now b.now result }
     ensures same { (result ≡ None) ↔ SameDatum level a.now b.now }
 {
     if !same_text(a.name, b.name) {
         return Some(at.then(Step::Name));
     }
     let below = at.then(Step::Ellipsoid);
-    if let Some(path) = first_in_ellipsoids(&below, &a.ellipsoid, &b.ellipsoid, level) {
+    if let Some(path) = first_in_ellipsoids(below, &a.ellipsoid, &b.ellipsoid, level) {
         return Some(path);
     }
     if !same_optional_text(a.anchor, b.anchor) {
@@ -179,14 +188,9 @@ fn first_in_datum<'a>(at: &Path, a: &Datum<'a>, b: &Datum<'a>, level: Level) -> 
     None
 }
 
-fn first_in_ensemble<'a>(
-    at: &Path,
-    a: &Ensemble<'a>,
-    b: &Ensemble<'a>,
-    level: Level,
-) -> Option<Path>
-    requires { length at.now ≤ 3 }
-    ensures first { FirstInEnsemble at.now level a.now b.now result }
+fn first_in_ensemble<'a>(at: Path, a: &Ensemble<'a>, b: &Ensemble<'a>, level: Level) -> Option<Path>
+    requires { length at ≤ 3 }
+    ensures first { FirstInEnsemble at level a.now b.now result }
     ensures same { (result ≡ None) ↔ SameEnsemble level a.now b.now }
 {
     if !same_text(a.name, b.name) {
@@ -196,7 +200,7 @@ fn first_in_ensemble<'a>(
         return Some(at.then(Step::Members));
     }
     let below = at.then(Step::Ellipsoid);
-    if let Some(path) = first_in_ellipsoids(&below, &a.ellipsoid, &b.ellipsoid, level) {
+    if let Some(path) = first_in_ellipsoids(below, &a.ellipsoid, &b.ellipsoid, level) {
         return Some(path);
     }
     if !same_value(&a.accuracy, &b.accuracy) {
@@ -210,13 +214,13 @@ fn first_in_ensemble<'a>(
 
 #[tactic(auto, unfolding(crate::specs::FirstInFrames::FirstInFrame))]
 pub(crate) fn first_in_frame<'a>(
-    at: &Path,
+    at: Path,
     a: &Frame<'a>,
     b: &Frame<'a>,
     level: Level,
 ) -> Option<Path>
-    requires { length at.now ≤ 3 }
-    ensures first { FirstInFrame at.now level a.now b.now result }
+    requires { length at ≤ 3 }
+    ensures first { FirstInFrame at level a.now b.now result }
     ensures same { (result ≡ None) ↔ SameFrame level a.now b.now }
 {
     match (a, b) {
@@ -233,7 +237,7 @@ pub(crate) fn first_in_frame<'a>(
 pub fn same_datum<'a>(a: &Datum<'a>, b: &Datum<'a>, level: Level) -> bool
     ensures { IsTrue result ↔ SameDatum level a.now b.now }
 {
-    first_in_datum(&Path::start(), a, b, level).is_none()
+    first_in_datum(Path::start(), a, b, level).is_none()
 }
 
 /// Whether two ensembles are the same: name, the set of members, the ellipsoid in both or in neither, accuracy and
@@ -241,12 +245,12 @@ pub fn same_datum<'a>(a: &Datum<'a>, b: &Datum<'a>, level: Level) -> bool
 pub fn same_ensemble<'a>(a: &Ensemble<'a>, b: &Ensemble<'a>, level: Level) -> bool
     ensures { IsTrue result ↔ SameEnsemble level a.now b.now }
 {
-    first_in_ensemble(&Path::start(), a, b, level).is_none()
+    first_in_ensemble(Path::start(), a, b, level).is_none()
 }
 
 /// Whether two frames are the same: both reference frames or both ensembles, and the same as such. Profile.
 pub fn same_frame<'a>(a: &Frame<'a>, b: &Frame<'a>, level: Level) -> bool
     ensures { IsTrue result ↔ SameFrame level a.now b.now }
 {
-    first_in_frame(&Path::start(), a, b, level).is_none()
+    first_in_frame(Path::start(), a, b, level).is_none()
 }

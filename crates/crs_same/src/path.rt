@@ -38,6 +38,16 @@ impl Path {
         }
     }
 
+    // The same path once more.
+    pub(crate) fn copied(&self) -> Path
+        ensures { result ≡ self.now }
+    {
+        Path {
+            steps: self.steps,
+            len: self.len,
+        }
+    }
+
     // One step further.
     pub(crate) fn then(&self, step: Step) -> Path
         requires { length self.now < 5 }

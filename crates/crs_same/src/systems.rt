@@ -72,15 +72,15 @@ fn same_type(a: SystemType, b: SystemType) -> bool
 // The parts of an axis of each of two systems.
 #[tactic(auto, unfolding(crate::specs::FirstInSystems::FirstInAxis, crate::specs::SameSystems::SameAxis))]
 fn first_in_axis<'a>(
-    at: &Path,
+    at: Path,
     a: &System<'a>,
     b: &System<'a>,
     x: &Axis<'a>,
     y: &Axis<'a>,
     level: Level,
 ) -> Option<Path>
-    requires { length at.now ≤ 4 }
-    ensures first { FirstInAxis at.now level a.now b.now x.now y.now result }
+    requires { length at ≤ 4 }
+    ensures first { FirstInAxis at level a.now b.now x.now y.now result }
     ensures same { (result ≡ None) ↔ SameAxis level a.now b.now x.now y.now }
 {
     if !same_text(x.name, y.name) {
@@ -134,36 +134,36 @@ fn axis_at<'b, 'a>(axes: &'b [Axis<'a>], position: u64) -> Option<&'b Axis<'a>>
 
 // The parts of the axes at this position.
 fn first_at<'a>(
-    at: &Path,
+    at: Path,
     a: &System<'a>,
     b: &System<'a>,
     position: u64,
     level: Level,
 ) -> Option<Path>
-    requires room { length at.now ≤ 3 }
+    requires room { length at ≤ 3 }
     requires position { 1 ≤ position }
     requires in_first { position ≤ length a.now.axes }
     requires in_second { position ≤ length b.now.axes }
-    ensures first { FirstAt at.now level a.now b.now position result }
+    ensures first { FirstAt at level a.now b.now position result }
     ensures same { (result ≡ None) ↔ SameAt level a.now b.now position }
 {
     one_axis_each();
     let x = axis_at(a.axes.as_slice(), position);
     let y = axis_at(b.axes.as_slice(), position);
     match (x, y) {
-        (Some(x), Some(y)) => first_in_axis(&at.then(Step::Axis(position)), a, b, x, y, level),
+        (Some(x), Some(y)) => first_in_axis(at.then(Step::Axis(position)), a, b, x, y, level),
         _ => unreachable!(),
     }
 }
 
-fn first_in_axes<'a>(at: &Path, a: &System<'a>, b: &System<'a>, level: Level) -> Option<Path>
-    requires room { length at.now ≤ 3 }
+fn first_in_axes<'a>(at: Path, a: &System<'a>, b: &System<'a>, level: Level) -> Option<Path>
+    requires room { length at ≤ 3 }
     requires as_many { length a.now.axes ≡ length b.now.axes }
-    ensures first { FirstInAxes at.now level a.now b.now result }
+    ensures first { FirstInAxes at level a.now b.now result }
     ensures same { (result ≡ None) ↔ SameAxes level a.now b.now }
 {
     for index in 0..a.axes.as_slice().len() {
-        let found = first_at(at, a, b, index as u64 + 1, level);
+        let found = first_at(at.copied(), a, b, index as u64 + 1, level);
         if found.is_some() {
             return found;
         }
@@ -173,13 +173,13 @@ fn first_in_axes<'a>(at: &Path, a: &System<'a>, b: &System<'a>, level: Level) ->
 
 #[tactic(auto, unfolding(crate::specs::FirstInSystems::FirstInSystem))]
 pub(crate) fn first_in_system<'a>(
-    at: &Path,
+    at: Path,
     a: &System<'a>,
     b: &System<'a>,
     level: Level,
 ) -> Option<Path>
-    requires { length at.now ≤ 3 }
-    ensures first { FirstInSystem at.now level a.now b.now result }
+    requires { length at ≤ 3 }
+    ensures first { FirstInSystem at level a.now b.now result }
     ensures same { (result ≡ None) ↔ SameSystem level a.now b.now }
 {
     if !same_type(a.system_type, b.system_type) {

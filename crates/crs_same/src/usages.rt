@@ -129,9 +129,9 @@ fn same_remark<'a>(a: &Tail<'a>, b: &Tail<'a>, level: Level) -> bool
 }
 
 #[tactic(auto, unfolding(crate::specs::FirstInCrs::FirstInTail))]
-pub(crate) fn first_in_tail<'a>(at: &Path, a: &Tail<'a>, b: &Tail<'a>, level: Level) -> Option<Path>
-    requires { length at.now ≤ 4 }
-    ensures first { FirstInTail at.now level a.now b.now result }
+pub(crate) fn first_in_tail<'a>(at: Path, a: &Tail<'a>, b: &Tail<'a>, level: Level) -> Option<Path>
+    requires { length at ≤ 4 }
+    ensures first { FirstInTail at level a.now b.now result }
     ensures same { (result ≡ None) ↔ SameTail level a.now b.now }
 {
     if !same_usages(a, b, level) {

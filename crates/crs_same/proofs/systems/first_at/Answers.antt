@@ -14,7 +14,7 @@ at-y c = search rules
 
 pub returns-clause-first : goal.returns-clause-first
 returns-clause-first c =
-    at-both (λ x y. FirstInAxis (c.args.at.now ++ step.Axis c.args.position ∷ []) c.args.level c.args.a.now c.args.b.now x y c.first_in_axis.result)
+    at-both (λ x y. FirstInAxis (c.args.at ++ step.Axis c.args.position ∷ []) c.args.level c.args.a.now c.args.b.now x y c.first_in_axis.result)
     c.args.position c.args.a.now.axes c.args.b.now.axes c.in-Some-Some.x.now c.in-Some-Some.y.now (at-x c) (at-y c) (search rules)
 
 pub returns-clause-same : goal.returns-clause-same
