@@ -1,9 +1,10 @@
 -- Which lines of `same` are taken, word by word.
-use Rattle.std.proofs.Common.{◌≡◌, ◌≢◌, ℕ, List, [], ◌∷◌, length, Option, Some, None, Bool, true, false, not, ◌&&◌, ◌||◌, cond, refl, codes, zero, suc, drop, ap, ◌∙◌, sym, true≢false, option_and_then}
+use Rattle.std.proofs.Common.{◌≡◌, ◌≢◌, ◌<◌, ap₂, nat_lt, subst, ℕ, List, [], ◌∷◌, length, Option, Some, None, Bool, true, false, not, ◌&&◌, ◌||◌, cond, refl, codes, zero, suc, drop, ap, ◌∙◌, sym, true≢false, option_and_then}
 use Rattle.std.specs.Prelude.{◌==◌, encode_utf8, slice_get}
 use Rattle.std.specs.Option.{option_map_or}
-use Rattle.std.specs.Str.{bytes_eq, chars}
-use Rattle.clap.specs.Lexer.{long_of, long_of_rest, short_of, short_of_rest, strip_byte}
+use Rattle.std.specs.Str.{bytes_eq, chars, chars_after, continuation_len, lead_bits}
+use Rattle.std.proofs.lemmas.Bool.{eqb-true, lt-ltb}
+use Rattle.clap.specs.Lexer.{long_of, long_of_rest, name_and_value, short_of, short_of_rest, strip_byte}
 use Rattle.clap.specs.Words.{Rule, Text, subcommand_of, takes}
 use Rattle.std.specs.List.{list_all}
 use Rattle.std.proofs.lemmas.Slice.Eq.{bytes_eq-Decides}
@@ -107,6 +108,57 @@ pub one_text : (program word : Text) → takes desk (program ∷ codes "same" �
 unfolding clap_on_literals
 one_text program word = false_unless (takes desk (program ∷ codes "same" ∷ word ∷ []))
     (λ taken. one_word_fails word (both (level_passes built_same [] nothing_held (word ∷ []) false) _ taken).0)
+
+-- ---- a flag, which `same` doesn't have
+
+starts_with : (c : ℕ) (rest : Text) → slice_get (chars_after 0 c rest) 0 ≡ Some c
+starts_with c [] = refl
+starts_with c (b ∷ rest) = refl
+
+first_char : (byte : ℕ) (rest : Text) → byte < 128 → slice_get (chars (byte ∷ rest)) 0 ≡ Some byte
+unfolding chars
+first_char byte rest low =
+    let is_low : nat_lt byte 128 ≡ true = lt-ltb byte 128 low in
+    let alone : continuation_len byte ≡ 0 = rw is_low refl in
+    let whole : lead_bits byte ≡ byte = rw is_low refl in
+    ap₂ (λ n c. slice_get (chars_after n c rest) 0) alone whole ∙ starts_with byte rest
+
+short_flag_fails : (byte : ℕ) (rest : Text) → byte < 128 → bundle_passes rules false (byte ∷ rest) nothing_held ≡ true → ⊥
+unfolding flags_pass
+short_flag_fails byte rest low passes =
+    let test = flags_pass rules false (length rest) in
+    let left = drop (length (encode_utf8 byte)) (byte ∷ rest) in
+    short_help_fails (104 == byte || false) left (test left 0)
+    (subst (λ x. bundle_step_passes rules false x (byte ∷ rest) 0 nothing_held test ≡ true) (first_char byte rest low) passes)
+
+flag_fails : (byte : ℕ) (rest : Text) (is : Bool) → (byte == 45) ≡ is → byte < 128 → bytes_eq (45 ∷ byte ∷ rest) (45 ∷ 45 ∷ []) ≡ false
+    → flag_word_passes rules false (option_and_then long_of_rest (cond is (Some rest) None)) (45 ∷ byte ∷ rest) nothing_held ≡ true → ⊥
+flag_fails byte [] true hyphen low dashes passes =
+    let two : 45 ∷ byte ∷ [] ≡ 45 ∷ 45 ∷ [] = ap (λ b. 45 ∷ b ∷ []) (eqb-true byte 45 hyphen) in
+    absurd (true≢false (sym ((bytes_eq-Decides (45 ∷ byte ∷ []) (45 ∷ 45 ∷ [])).1 two) ∙ dashes))
+flag_fails byte (b ∷ rest) true hyphen low dashes passes =
+    let p = name_and_value (b ∷ rest) in help_fails (bytes_eq (codes "help") p.0 || false) p.1 passes
+flag_fails byte rest false hyphen low dashes passes =
+    short_flag_fails byte rest low
+    (subst (λ is. option_map_or (λ f. bundle_passes rules false f nothing_held) (cond is None (Some (byte ∷ rest))) true ≡ true) hyphen passes)
+
+flag_level_fails : (byte : ℕ) (rest second : Text) → byte < 128 → 45 ∷ byte ∷ rest ≢ 45 ∷ 45 ∷ []
+    → level_passes built_same [] nothing_held ((45 ∷ byte ∷ rest) ∷ second ∷ []) false ≡ true → ⊥
+unfolding walk_passes
+flag_level_fails byte rest second low flag passes =
+    let word : Text = 45 ∷ byte ∷ rest in
+    let dashes = false_unless (bytes_eq word (45 ∷ 45 ∷ [])) (λ same. flag ((bytes_eq-Decides word (45 ∷ 45 ∷ [])).0 same)) in
+    let turns = both (walk_passes built_same [] (walk_from nothing_held) (word ∷ second ∷ [])) _ passes in
+    let turn = both (turn_passes built_same [] (walk_from nothing_held) word) _ turns.0 in
+    let here = both (word_passes built_same [] false idle word nothing_held) _ turn.0 in
+    flag_fails byte rest (byte == 45) refl low dashes
+    (subst (λ is. (is || flag_word_passes rules false (long_of word) word nothing_held) ≡ true) dashes here.0)
+
+pub flag_refused : (program rest second : Text) (byte : ℕ) → byte < 128 → 45 ∷ byte ∷ rest ≢ codes "--"
+    → takes desk (program ∷ codes "same" ∷ (45 ∷ byte ∷ rest) ∷ second ∷ []) ≡ false
+unfolding clap_on_literals
+flag_refused program rest second byte low flag = false_unless (takes desk (program ∷ codes "same" ∷ (45 ∷ byte ∷ rest) ∷ second ∷ []))
+    (λ taken. flag_level_fails byte rest second low flag (both (level_passes built_same [] nothing_held ((45 ∷ byte ∷ rest) ∷ second ∷ []) false) _ taken).0)
 
 -- ---- two words that are no flags
 

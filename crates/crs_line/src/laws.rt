@@ -1,5 +1,5 @@
 //! Laws of the definitions, as contracts of functions that do nothing.
-ghost use Rattle.std.specs.Prelude.{◌≡◌, [], ◌∷◌, List, Some, IsSome, true, false, codes};
+ghost use Rattle.std.specs.Prelude.{◌≡◌, ◌≢◌, ◌<◌, ℕ, [], ◌∷◌, List, Some, IsSome, true, false, codes};
 ghost use Rattle.clap.specs.Words.{Text, takes};
 ghost use Rattle.crs_line.specs.CommandLine.{asked, desk, is_plain_word};
 ghost use Rattle.crs_line.specs.declared.asked.Request.TheVariants.{Same};
@@ -22,4 +22,10 @@ pub fn two_words_are_the_texts()
 pub fn same_wants_two_texts()
     ensures none { (program : Text) → takes desk (program ∷ codes "same" ∷ []) ≡ false }
     ensures one { (program word : Text) → takes desk (program ∷ codes "same" ∷ word ∷ []) ≡ false }
+{}
+
+/// A first word that begins as a flag, a hyphen (45) and an ASCII character, but for `--`, is no text of `same`.
+pub fn same_has_no_flags()
+    ensures { (program rest second : Text) (byte : ℕ) → byte < 128 → 45 ∷ byte ∷ rest ≢ codes "--" →
+        takes desk (program ∷ codes "same" ∷ (45 ∷ byte ∷ rest) ∷ second ∷ []) ≡ false }
 {}
