@@ -18,13 +18,15 @@ operand id = record (new_rule id) { required = true; value_names = 1 }
 abbrev pub same_shape : Shape
 same_shape = record (new_shape (codes "same")) { rules = operand (codes "first") ∷ operand (codes "second") ∷ [] }
 
--- `crsdesk` with the commands that read standard input; it has a version, and wants one of its commands
-abbrev pub input_desk : App
-input_desk =
-    let alone = on_top (λ s. record s { has_version = true; subcommand_required = true }) (new_app (codes "crsdesk")) in
-    with_subcommand (with_subcommand alone (new_shape (codes "canon"))) (new_shape (codes "check"))
+-- `crsdesk` alone; it has a version, and wants one of its commands
+abbrev pub lone_desk : App
+lone_desk = on_top (λ s. record s { has_version = true; subcommand_required = true }) (new_app (codes "crsdesk"))
 
--- `crsdesk`
+-- with the commands that read standard input
+abbrev pub input_desk : App
+input_desk = with_subcommand (with_subcommand lone_desk (new_shape (codes "canon"))) (new_shape (codes "check"))
+
+-- and with `same`
 abbrev pub desk : App
 desk = with_subcommand input_desk same_shape
 
