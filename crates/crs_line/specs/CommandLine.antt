@@ -22,11 +22,11 @@ same_shape = record (new_shape (codes "same")) { rules = operand (codes "first")
 abbrev pub lone_desk : App
 lone_desk = on_top (λ s. record s { has_version = true; subcommand_required = true }) (new_app (codes "crsdesk"))
 
--- with the commands that read standard input
+-- `crsdesk` with `canon` and `check`, which read standard input
 abbrev pub input_desk : App
 input_desk = with_subcommand (with_subcommand lone_desk (new_shape (codes "canon"))) (new_shape (codes "check"))
 
--- and with `same`
+-- `crsdesk` with all its commands
 abbrev pub desk : App
 desk = with_subcommand input_desk same_shape
 
