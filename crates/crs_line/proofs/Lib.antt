@@ -2,3 +2,4 @@ mod FaultLemmas
 mod HelpLemmas
 mod OperandLemmas
 mod CommandLemmas
+mod LineLemmas

@@ -296,15 +296,27 @@ built_same = record (new_shape (codes "same")) {
   is_built = true;
 }
 
-pub texts_there : (words : List Text) → level_passes built_same [] nothing_held words false ≡ true → IsSome (same_of (rows_at built_same words).1)
-texts_there words passes =
+-- no row is without a value, and both texts are given
+given_texts : (words : List Text) → level_passes built_same [] nothing_held words false ≡ true
+    → HaveValues (rows_after built_same.rules [] words)
+    × ((is_given (codes "first") (rows_after built_same.rules [] words) ≡ true) × (is_given (codes "second") (rows_after built_same.rules [] words) ≡ true))
+given_texts words passes =
     let rows = rows_after built_same.rules [] words in
     let level = level_rows built_same words
     ((λ again values. operand_keeps (codes "first") 1 again values), ((λ again values. operand_keeps (codes "second") 2 again values), ((λ again values rows uses have. have), tt))) passes in
     let given = both (is_given (codes "first") rows) _ level.1 in
-    let others = both (is_given (codes "second") rows) _ given.1 in
+    (level.0, (given.0, (both (is_given (codes "second") rows) _ given.1).0))
+
+pub second_given : (words : List Text) → level_passes built_same [] nothing_held words false ≡ true
+    → is_given (codes "second") (rows_after built_same.rules [] words) ≡ true
+second_given words passes = (given_texts words passes).1.1
+
+pub texts_there : (words : List Text) → level_passes built_same [] nothing_held words false ≡ true → IsSome (same_of (rows_at built_same words).1)
+texts_there words passes =
+    let rows = rows_after built_same.rules [] words in
+    let given = given_texts words passes in
     both_there (first_of (codes "first") rows) (first_of (codes "second") rows)
-    (given_there (codes "first") rows level.0 given.0) (given_there (codes "second") rows level.0 others.0)
+    (given_there (codes "first") rows given.0 given.1.0) (given_there (codes "second") rows given.0 given.1.1)
 
 -- the getters' texts are the request
 pub texts_read : (f : Found) (first second : Option (Bor Text)) → option_map (λ s. s.now) first ≡ first_value f (codes "first")

@@ -1,5 +1,5 @@
 -- The command line: what `clap`'s definition of the commands gives for the words.
-use Rattle.std.specs.Prelude.{◌≡◌, ◌≢◌, [], ◌∷◌, true, false, List, Option, Some, None, codes, option_and_then, if◌then◌else◌}
+use Rattle.std.specs.Prelude.{◌≡◌, ◌≢◌, ◌==◌, [], ◌∷◌, Bool, true, false, not, List, Option, Some, None, codes, option_and_then, if◌then◌else◌}
 use Rattle.std.specs.Str.{bytes_eq}
 use Rattle.clap.specs.Words.{App, IsAmong, Row, Rule, Shape, Text, fault_of, first_of, kind_of, new_app, new_rule, subcommand_of, takes, with_subcommand}
 use Rattle.clap.specs.Simple.{new_shape, on_top}
@@ -18,13 +18,15 @@ operand id = record (new_rule id) { required = true; value_names = 1 }
 abbrev pub same_shape : Shape
 same_shape = record (new_shape (codes "same")) { rules = operand (codes "first") ∷ operand (codes "second") ∷ [] }
 
--- `crsdesk` with the commands that read standard input; it has a version, and wants one of its commands
-abbrev pub input_desk : App
-input_desk =
-    let alone = on_top (λ s. record s { has_version = true; subcommand_required = true }) (new_app (codes "crsdesk")) in
-    with_subcommand (with_subcommand alone (new_shape (codes "canon"))) (new_shape (codes "check"))
+-- `crsdesk` alone; it has a version, and wants one of its commands
+abbrev pub lone_desk : App
+lone_desk = on_top (λ s. record s { has_version = true; subcommand_required = true }) (new_app (codes "crsdesk"))
 
--- `crsdesk`
+-- `crsdesk` with `canon` and `check`, which read standard input
+abbrev pub input_desk : App
+input_desk = with_subcommand (with_subcommand lone_desk (new_shape (codes "canon"))) (new_shape (codes "check"))
+
+-- `crsdesk` with all its commands
 abbrev pub desk : App
 desk = with_subcommand input_desk same_shape
 
@@ -45,6 +47,12 @@ request_of (name, rows) = if bytes_eq name (codes "canon") then Some Canon
 -- what the words ask for, where the command takes them; the first of them is the program's name
 abbrev pub asked : List Text → Option Request
 asked words = if takes desk words then option_and_then request_of (subcommand_of desk words) else None
+
+-- a word that is no flag: it begins with no hyphen, or is one
+abbrev pub is_plain_word : Text → Bool
+is_plain_word [] = true
+is_plain_word (byte ∷ []) = true
+is_plain_word (byte ∷ next ∷ rest) = not (byte == 45)
 
 -- a line is refused only where the command doesn't take it, by an error that it gives for the words;
 -- want of memory is told apart from that

@@ -1,7 +1,7 @@
 ghost use Rattle.std.specs.Prelude.{◌≡◌, [], map, IfOk, IfErr, IsSome, Some, false, option_and_then};
-ghost use Rattle.clap.specs.Words.{app_of, fault_of, found_of, rows_of, shape_of, subcommand_rows_of};
+ghost use Rattle.clap.specs.Words.{app_of, fault_of, found_of, rows_of, rule_of, shape_of, subcommand_rows_of};
 ghost use Rattle.clap.specs.declared.builder.command.Command.TheViews.{out-Command as fields_of};
-ghost use Rattle.crs_line.specs.CommandLine.{HandsOn, IsRefusal, asked, desk, input_desk, request_of, same_of, same_shape};
+ghost use Rattle.crs_line.specs.CommandLine.{HandsOn, IsRefusal, asked, desk, input_desk, lone_desk, operand, request_of, same_of, same_shape};
 
 use crate::{LineWord, Request, RequestFault};
 use clap::error::ErrorKind;
@@ -53,24 +53,37 @@ fn with_inputs<'a>(alloc: Global) -> Result<Command<'a>, AllocError>
     let check = Command::new(alloc, "check").about(
         "Tells what standard input spells, or where it is refused",
     );
+    desk_alone(alloc).subcommand(canon)?.subcommand(check)
+}
+
+fn desk_alone<'a>(alloc: Global) -> Command<'a>
+    ensures shape { app_of result ≡ lone_desk }
+    ensures globals { (fields_of result).has_globals ≡ false }
+{
     Command::new(alloc, "crsdesk")
         .about("Reads, compares and spells coordinate reference systems")
         .version(VERSION)
         .subcommand_required(true)
-        .subcommand(canon)?
-        .subcommand(check)
 }
 
 fn same_command<'a>(alloc: Global) -> Result<Command<'a>, AllocError>
     ensures shape { IfOk result (λ command. shape_of command ≡ same_shape) }
     ensures globals { IfOk result (λ command. (fields_of command).has_globals ≡ false) }
 {
-    let first = Arg::new(alloc, "first").value_name("A").required(true);
-    let second = Arg::new(alloc, "second").value_name("B").required(true);
+    let first = needed_word(alloc, "first", "A");
+    let second = needed_word(alloc, "second", "B");
     Command::new(alloc, "same")
         .about("Compares two texts")
         .arg(first)?
         .arg(second)
+}
+
+// An operand that has to be given, and what help calls it.
+fn needed_word<'a>(alloc: Global, id: &'a str, shown: &'a str) -> Arg<'a>
+    ensures rule { rule_of result ≡ operand id.entry.now }
+    ensures local { result.global ≡ false }
+{
+    Arg::new(alloc, id).value_name(shown).required(true)
 }
 
 fn refusal(error: clap::Error) -> RequestFault
