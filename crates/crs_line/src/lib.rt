@@ -6,6 +6,6 @@ pub use line::{VERSION, request};
 pub use word::LineWord;
 
 mod asked;
-mod laws;
+pub mod laws;
 mod line;
 mod word;
