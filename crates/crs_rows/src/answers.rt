@@ -1,7 +1,7 @@
 //! From the name of a call to its answer.
 use crate::runs::Command;
 use crate::texts::Column;
-use crate::{numbers, runs, sameness, shapes, texts, values};
+use crate::{lines, numbers, runs, sameness, shapes, texts, values};
 use std::alloc::{AllocError, Global};
 
 /// Appends the answer of a call to an input, as a row writes it; behind a blank the call may have words.
@@ -78,6 +78,7 @@ fn put_value_answer(
         "run_canon" => runs::put_canon(out, alloc, input),
         "run_check" => runs::put_check(out, alloc, input),
         "run_same" => runs::put_same(out, alloc, input),
+        "request" => lines::put_request(out, alloc, input),
         _ => out.push_str("no such call"),
     }
 }

@@ -4,6 +4,7 @@
 
 mod answers;
 mod escapes;
+mod lines;
 mod numbers;
 mod rows;
 mod runs;
@@ -15,7 +16,7 @@ mod values;
 
 use std::{fs, io};
 
-const FILES: [&str; 16] = [
+const FILES: [&str; 17] = [
     "decimals",
     "refusals",
     "tokens",
@@ -32,6 +33,7 @@ const FILES: [&str; 16] = [
     "checks",
     "same",
     "same_runs",
+    "lines",
 ];
 
 fn main(rt: HostRuntime) -> io::Result<()> {
