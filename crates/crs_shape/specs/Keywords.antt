@@ -1,5 +1,6 @@
--- Keywords: a node begins with a keyword of its class. A class's first keyword is the one that is written;
--- all are read without regard to case.
+-- Keywords: a node begins with a keyword of its class. A class's first keyword is the one that is written, but a
+-- geodetic CRS with an ellipsoidal system is written as a geographic one, and a unit on an axis by its kind. All are
+-- read without regard to case.
 use Rattle.std.specs.Prelude.{ℕ, Bool, Option, Some, None, List, [], ◌∷◌, codes, if◌then◌else◌}
 use Rattle.std.specs.List.{list_any}
 use Rattle.std.specs.Str.{str_eq_ignore_ascii_case}

@@ -9,8 +9,8 @@ ghost use Rattle.crs_shape.specs.Shape.{has_class};
 use crate::class::Class;
 use crate::spelling::{classes_with, same_word};
 
-/// The keywords of a class, none for an item that isn't a node. The first is the one that is written;
-/// but a unit on an axis is written by its kind.
+/// The keywords of a class, none for an item that isn't a node. The first is the one that is written; but a
+/// geodetic CRS with an ellipsoidal system is written as a geographic one, and a unit on an axis by its kind.
 pub fn keywords(class: Class) -> &'static [&'static [u8]]
     ensures { map (λ k. k.now) result.now ≡ keywords_of class }
 {

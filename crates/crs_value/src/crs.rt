@@ -18,7 +18,7 @@ pub struct Geodetic<'a> {
     pub name: &'a [u8],
     /// The geodetic frame or ensemble.
     pub frame: Frame<'a>,
-    /// The prime meridian; None where Greenwich isn't said.
+    /// The prime meridian; None where none is written, which stands for Greenwich.
     pub meridian: Option<Meridian<'a>>,
     /// The coordinate system.
     pub system: System<'a>,

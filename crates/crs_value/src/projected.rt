@@ -68,7 +68,7 @@ pub struct Base<'a> {
     pub name: &'a [u8],
     /// The geodetic frame or ensemble.
     pub frame: Frame<'a>,
-    /// The prime meridian; None where Greenwich isn't said.
+    /// The prime meridian; None where none is written, which stands for Greenwich.
     pub meridian: Option<Meridian<'a>>,
     /// The unit of its angles.
     pub unit: Option<Unit<'a>>,
