@@ -22,7 +22,7 @@ has-of : (P : AxisParts → Type 0) (position place : ℕ) (axes : List AxisPart
     HasAt position P place axes
 has-of P position place axes axis h p = has-mapped (λ x. x ≡ axis) P position place axes (λ x e. subst P (sym e) p) h
 
-which : (P : AxisParts → Type 0) (position place : ℕ) (axes : List AxisParts) → HasAt position P place axes →
+pub which : (P : AxisParts → Type 0) (position place : ℕ) (axes : List AxisParts) → HasAt position P place axes →
     (axis : AxisParts) × P axis × HasAt position (λ x. x ≡ axis) place axes
 which P position place [] h = absurd h
 which P position place (axis ∷ axes) (inl h) = (axis, h.1, inl (h.0, refl))
@@ -44,3 +44,12 @@ pub of-both : (R : AxisParts → AxisParts → Type 0) (position : ℕ) (xs ys :
     HasAt position (λ axis. axis ≡ x) 1 xs → HasAt position (λ axis. axis ≡ y) 1 ys → HasAt position (λ a. HasAt position (λ b. R a b) 1 ys) 1 xs → R x y
 of-both R position xs ys x y one-x one-y at-x at-y h =
     of-has (λ b. R x b) position ys y one-y at-y (of-has (λ a. HasAt position (λ b. R a b) 1 ys) position xs x one-x at-x h)
+
+pub which-both : (R : AxisParts → AxisParts → Type 0) (position : ℕ) (xs ys : List AxisParts) →
+    HasAt position (λ a. HasAt position (λ b. R a b) 1 ys) 1 xs →
+    (x : AxisParts) × (y : AxisParts) × R x y
+    × HasAt position (λ axis. axis ≡ x) 1 xs × HasAt position (λ axis. axis ≡ y) 1 ys
+which-both R position xs ys h =
+    let v = which (λ a. HasAt position (λ b. R a b) 1 ys) position 1 xs h in
+    let w = which (λ b. R v.0 b) position 1 ys v.1 in
+    (v.0, w.0, w.1, v.2, w.2)

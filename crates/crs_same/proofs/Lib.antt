@@ -4,3 +4,8 @@ mod FrontLemmas
 mod LevelLemmas
 mod NumberLemmas
 mod PositionLemmas
+mod SamenessLemmas
+mod SamenessOfCrsLemmas
+mod SamenessOfFramesLemmas
+mod SamenessOfPartsLemmas
+mod SamenessOfSystemsLemmas

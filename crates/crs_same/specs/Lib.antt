@@ -10,4 +10,5 @@ pub mod SameIdents
 pub mod SameSystems
 pub mod SameUnits
 pub mod SameUsages
+pub mod Sameness
 pub mod Sets

@@ -172,6 +172,14 @@ fn first_in_horizontal<'a>(
     }
 }
 
+/// Whether two horizontal parts of compound CRSs are the same: both geodetic or both projected, and the same as such.
+/// ISO 19162:2019, "Compound CRS".
+pub fn same_horizontal<'a>(a: &Horizontal<'a>, b: &Horizontal<'a>, level: Level) -> bool
+    ensures { IsTrue result ↔ SameHorizontal level a.now b.now }
+{
+    first_in_horizontal(Path::start(), a, b, level).is_none()
+}
+
 #[tactic(auto, unfolding(crate::specs::FirstInCrs::FirstInCompound))]
 fn first_in_compound<'a>(at: Path, a: &Compound<'a>, b: &Compound<'a>, level: Level) -> Option<Path>
     requires { length at ≤ 0 }

@@ -1,9 +1,20 @@
 //! Laws of the definitions, as contracts of functions that do nothing.
 ghost use Rattle.std.specs.Prelude.{◌≡◌, ◌≤◌, ℕ, ⊤, length};
+ghost use Rattle.crs_value.specs.declared.level.Level.{Level};
+ghost use Rattle.crs_value.specs.declared.unit_kind.UnitKind.{UnitKind};
+ghost use Rattle.crs_value.specs.SoundCompound.{IsHorizontal, IsCompound};
+ghost use Rattle.crs_value.specs.SoundCrs.{IsCrs};
+ghost use Rattle.crs_value.specs.SoundSingle.{IsGeodetic, IsProjected, IsVertical};
 ghost use Rattle.crs_value.specs.SoundSystem.{IsSystem};
 ghost use Rattle.crs_value.specs.Values.{AxisParts, SystemParts};
-ghost use Rattle.crs_same.specs.SameSystems.{HasAt};
-ghost use Rattle.crs_same.specs.SameUnits.{SameValue};
+ghost use Rattle.crs_same.specs.Sameness.{IsSameness, IsSamenessOf};
+ghost use Rattle.crs_same.specs.SameConversions.{SameMethod, SameParameter, SameConversion, SameGeoidModel};
+ghost use Rattle.crs_same.specs.SameCrs.{SameGeodetic, SameBase, SameProjected, SameVertical, SameHorizontal, SameCompound, SameCrs};
+ghost use Rattle.crs_same.specs.SameFrames.{SameEllipsoid, SameGiven, SameMeridian, SameMember, SameDatum, SameEnsemble, SameFrame};
+ghost use Rattle.crs_same.specs.SameIdents.{SameIdent, SameIdents};
+ghost use Rattle.crs_same.specs.SameSystems.{SameAxisMeridian, SameAxisAlone, HasAt, SameSystem};
+ghost use Rattle.crs_same.specs.SameUnits.{SameValue, SameUnit, SameLength};
+ghost use Rattle.crs_same.specs.SameUsages.{SameBox, SameExtent, SameUsage, SameTail};
 
 use crs_decimal::laws::{normal_is_one, same_number_is_equivalence};
 
@@ -25,4 +36,253 @@ pub fn as_many_axes()
         length a.axes ≡ length b.axes }
 {
     same_number_is_equivalence();
+}
+
+// ---- sameness is an equivalence
+
+/// Being the same number is an equivalence on decimals.
+pub fn same_value_is_equivalence()
+    ensures { IsSameness SameValue }
+{
+    same_number_is_equivalence();
+}
+
+/// Sameness of identifiers is an equivalence.
+pub fn same_ident_is_equivalence()
+    ensures { IsSameness SameIdent }
+{}
+
+/// Sameness of sets of identifiers is an equivalence.
+pub fn same_idents_is_equivalence()
+    ensures { (level : Level) → IsSameness (SameIdents level) }
+{
+    same_ident_is_equivalence();
+}
+
+/// Sameness of units is an equivalence, whichever kind is asked.
+pub fn same_unit_is_equivalence()
+    ensures { (asked : UnitKind) (level : Level) → IsSameness (SameUnit asked level) }
+{
+    same_value_is_equivalence();
+    same_idents_is_equivalence();
+}
+
+/// Sameness of units of length, of which a missing one is the metre, is an equivalence.
+pub fn same_length_is_equivalence()
+    ensures { (level : Level) → IsSameness (SameLength level) }
+{
+    same_value_is_equivalence();
+    same_unit_is_equivalence();
+}
+
+/// Sameness of methods is an equivalence.
+pub fn same_method_is_equivalence()
+    ensures { (level : Level) → IsSameness (SameMethod level) }
+{
+    same_idents_is_equivalence();
+}
+
+/// Sameness of parameters is an equivalence.
+pub fn same_parameter_is_equivalence()
+    ensures { (level : Level) → IsSameness (SameParameter level) }
+{
+    same_value_is_equivalence();
+    same_unit_is_equivalence();
+    same_idents_is_equivalence();
+}
+
+/// Sameness of conversions is an equivalence.
+pub fn same_conversion_is_equivalence()
+    ensures { (level : Level) → IsSameness (SameConversion level) }
+{
+    same_method_is_equivalence();
+    same_parameter_is_equivalence();
+    same_idents_is_equivalence();
+}
+
+/// Sameness of geoid models is an equivalence.
+pub fn same_geoid_model_is_equivalence()
+    ensures { (level : Level) → IsSameness (SameGeoidModel level) }
+{
+    same_idents_is_equivalence();
+}
+
+/// Sameness of bounding boxes is an equivalence.
+pub fn same_box_is_equivalence()
+    ensures { IsSameness SameBox }
+{
+    same_value_is_equivalence();
+}
+
+/// Sameness of vertical extents is an equivalence.
+pub fn same_extent_is_equivalence()
+    ensures { (level : Level) → IsSameness (SameExtent level) }
+{
+    same_value_is_equivalence();
+    same_length_is_equivalence();
+}
+
+/// Sameness of usages is an equivalence.
+pub fn same_usage_is_equivalence()
+    ensures { IsSameness SameUsage }
+{
+    same_box_is_equivalence();
+    same_extent_is_equivalence();
+}
+
+/// Sameness of the ends of CRSs is an equivalence.
+pub fn same_tail_is_equivalence()
+    ensures { (level : Level) → IsSameness (SameTail level) }
+{
+    same_usage_is_equivalence();
+    same_idents_is_equivalence();
+}
+
+/// Sameness of ellipsoids is an equivalence.
+pub fn same_ellipsoid_is_equivalence()
+    ensures { (level : Level) → IsSameness (SameEllipsoid level) }
+{
+    same_value_is_equivalence();
+    same_length_is_equivalence();
+    same_idents_is_equivalence();
+}
+
+/// Sameness of prime meridians is an equivalence, also where a missing one is Greenwich.
+pub fn same_meridian_is_equivalence()
+    ensures given { (level : Level) → IsSameness (SameGiven level) }
+    ensures optional { (level : Level) → IsSameness (SameMeridian level) }
+{
+    same_value_is_equivalence();
+    same_unit_is_equivalence();
+    same_idents_is_equivalence();
+}
+
+/// Sameness of members of ensembles is an equivalence.
+pub fn same_member_is_equivalence()
+    ensures { (level : Level) → IsSameness (SameMember level) }
+{
+    same_idents_is_equivalence();
+}
+
+/// Sameness of reference frames is an equivalence.
+pub fn same_datum_is_equivalence()
+    ensures { (level : Level) → IsSameness (SameDatum level) }
+{
+    same_ellipsoid_is_equivalence();
+    same_idents_is_equivalence();
+}
+
+/// Sameness of ensembles is an equivalence.
+pub fn same_ensemble_is_equivalence()
+    ensures { (level : Level) → IsSameness (SameEnsemble level) }
+{
+    same_value_is_equivalence();
+    same_member_is_equivalence();
+    same_ellipsoid_is_equivalence();
+    same_idents_is_equivalence();
+}
+
+/// Sameness of frames, be they reference frames or ensembles, is an equivalence.
+pub fn same_frame_is_equivalence()
+    ensures { (level : Level) → IsSameness (SameFrame level) }
+{
+    same_datum_is_equivalence();
+    same_ensemble_is_equivalence();
+}
+
+/// Sameness of the meridians of axes is an equivalence.
+pub fn same_axis_meridian_is_equivalence()
+    ensures { (level : Level) → IsSameness (SameAxisMeridian level) }
+{
+    same_value_is_equivalence();
+    same_unit_is_equivalence();
+}
+
+/// Sameness of axes by themselves is an equivalence.
+pub fn same_axis_is_equivalence()
+    ensures { (level : Level) → IsSameness (SameAxisAlone level) }
+{
+    same_value_is_equivalence();
+    same_axis_meridian_is_equivalence();
+    same_unit_is_equivalence();
+    same_idents_is_equivalence();
+}
+
+/// Sameness of coordinate systems is an equivalence.
+pub fn same_system_is_equivalence()
+    ensures { (level : Level) → IsSamenessOf IsSystem (SameSystem level) }
+{
+    same_value_is_equivalence();
+    same_axis_meridian_is_equivalence();
+    same_unit_is_equivalence();
+    same_idents_is_equivalence();
+    one_axis_each();
+    as_many_axes();
+}
+
+/// Sameness of base CRSs is an equivalence.
+pub fn same_base_is_equivalence()
+    ensures { (level : Level) → IsSameness (SameBase level) }
+{
+    same_frame_is_equivalence();
+    same_meridian_is_equivalence();
+    same_unit_is_equivalence();
+    same_idents_is_equivalence();
+}
+
+/// Sameness of geodetic and geographic CRSs is an equivalence.
+pub fn same_geodetic_is_equivalence()
+    ensures { (level : Level) → IsSamenessOf IsGeodetic (SameGeodetic level) }
+{
+    same_frame_is_equivalence();
+    same_meridian_is_equivalence();
+    same_system_is_equivalence();
+    same_tail_is_equivalence();
+}
+
+/// Sameness of projected CRSs is an equivalence.
+pub fn same_projected_is_equivalence()
+    ensures { (level : Level) → IsSamenessOf IsProjected (SameProjected level) }
+{
+    same_base_is_equivalence();
+    same_conversion_is_equivalence();
+    same_system_is_equivalence();
+    same_tail_is_equivalence();
+}
+
+/// Sameness of vertical CRSs is an equivalence.
+pub fn same_vertical_is_equivalence()
+    ensures { (level : Level) → IsSamenessOf IsVertical (SameVertical level) }
+{
+    same_frame_is_equivalence();
+    same_system_is_equivalence();
+    same_geoid_model_is_equivalence();
+    same_tail_is_equivalence();
+}
+
+/// Sameness of the horizontal parts of compound CRSs is an equivalence.
+pub fn same_horizontal_is_equivalence()
+    ensures { (level : Level) → IsSamenessOf IsHorizontal (SameHorizontal level) }
+{
+    same_geodetic_is_equivalence();
+    same_projected_is_equivalence();
+}
+
+/// Sameness of compound CRSs is an equivalence.
+pub fn same_compound_is_equivalence()
+    ensures { (level : Level) → IsSamenessOf IsCompound (SameCompound level) }
+{
+    same_horizontal_is_equivalence();
+    same_vertical_is_equivalence();
+    same_tail_is_equivalence();
+}
+
+/// Sameness of CRSs is an equivalence.
+pub fn same_crs_is_equivalence()
+    ensures { (level : Level) → IsSamenessOf IsCrs (SameCrs level) }
+{
+    same_geodetic_is_equivalence();
+    same_projected_is_equivalence();
+    same_vertical_is_equivalence();
+    same_compound_is_equivalence();
 }

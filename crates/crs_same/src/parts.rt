@@ -1,7 +1,9 @@
 //! Whether two parts are the same: a call for each kind of node.
 
 pub use crate::conversions::{same_conversion, same_geoid_model, same_method, same_parameter};
-pub use crate::crs::{same_base, same_compound, same_geodetic, same_projected, same_vertical};
+pub use crate::crs::{
+    same_base, same_compound, same_geodetic, same_horizontal, same_projected, same_vertical,
+};
 pub use crate::frames::{
     same_datum, same_ellipsoid, same_ensemble, same_frame, same_member, same_meridian,
 };

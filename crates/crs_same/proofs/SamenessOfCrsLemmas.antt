@@ -1,0 +1,145 @@
+-- The sameness of coordinate reference systems.
+use Rattle.crs_value.specs.declared.compound.Horizontal.{Horizontal}
+use Rattle.crs_value.specs.declared.compound.Horizontal.TheVariants as horizontal
+use Rattle.crs_value.specs.declared.crs.Crs.{Crs}
+use Rattle.crs_value.specs.declared.crs.Crs.TheVariants as crs
+use Rattle.crs_value.specs.declared.level.Level.{Level}
+use Rattle.crs_value.specs.declared.unit_kind.UnitKind.TheVariants as kinds
+use Rattle.crs_value.specs.ReadsCrs.{kind_by, kind_of}
+use Rattle.crs_value.specs.SoundCompound.{IsHorizontal, IsCompound}
+use Rattle.crs_value.specs.SoundCrs.{IsCrs}
+use Rattle.crs_value.specs.SoundSingle.{IsGeodetic, IsProjected, IsVertical}
+use Rattle.crs_value.specs.SoundSystem.{IsSystem}
+use Rattle.crs_same.specs.Sameness.{IsSameness, IsSamenessOf}
+use Rattle.crs_same.specs.SameConversions.{SameConversion, SameGeoidModel}
+use Rattle.crs_same.specs.SameCrs.{SameGeodetic, SameBase, SameProjected, SameVertical, SameHorizontal, SameCompound}
+use Rattle.crs_same.specs.SameCrs.{SameParts, SameCrs}
+use Rattle.crs_same.specs.SameFrames.{SameMeridian, SameFrame}
+use Rattle.crs_same.specs.SameIdents.{SameIdents}
+use Rattle.crs_same.specs.SameSystems.{SameSystem}
+use Rattle.crs_same.specs.SameUnits.{SameUnit}
+use Rattle.crs_same.specs.SameUsages.{SameTail}
+use Rattle.crs_same.proofs.SamenessLemmas.{equal-by, by, ◌⊗◌, in-words, over, of, optional, set}
+
+pub base : (level : Level) → IsSameness (SameFrame level) → IsSameness (SameMeridian level) →
+    IsSameness (SameUnit kinds.Angle level) →
+    IsSameness (SameIdents level) → IsSameness (SameBase level)
+base level frames meridians angle ids =
+    in-words
+    (equal-by (λ a. a.name) ⊗ by (λ a. a.frame) frames ⊗ by (λ a. a.meridian) meridians
+    ⊗ by (λ a. a.unit) (optional angle) ⊗ by (λ a. a.ids) ids)
+    (λ a b s. (s.name, (s.frame, (s.meridian, (s.unit, s.ids)))))
+    (λ a b p. record { name = p.0; frame = p.1.0; meridian = p.1.1.0; unit = p.1.1.1.0; ids = p.1.1.1.1 })
+
+module _ (level : Level) (systems : IsSamenessOf IsSystem (SameSystem level)) (ends : IsSameness (SameTail level)) where
+  pub geodetic : IsSameness (SameFrame level) → IsSameness (SameMeridian level) →
+      IsSamenessOf IsGeodetic (SameGeodetic level)
+  geodetic frames meridians =
+      over (in-words
+      (equal-by (λ x. kind_by x.0.system.system_type) ⊗ equal-by (λ x. x.0.name) ⊗ by (λ x. x.0.frame) frames
+      ⊗ by (λ x. x.0.meridian) meridians ⊗ by (λ x. (x.0.system, x.1.system)) (of systems) ⊗ by (λ x. x.0.tail) ends)
+      (λ x y s. (s.kind, (s.name, (s.frame, (s.meridian, (s.system, s.tail))))))
+      (λ x y p. record {
+        kind = p.0;
+        name = p.1.0;
+        frame = p.1.1.0;
+        meridian = p.1.1.1.0;
+        system = p.1.1.1.1.0;
+        tail = p.1.1.1.1.1;
+      }))
+
+  pub projected : IsSameness (SameBase level) → IsSameness (SameConversion level) →
+      IsSamenessOf IsProjected (SameProjected level)
+  projected bases conversions =
+      over (in-words
+      (equal-by (λ x. x.0.name) ⊗ by (λ x. x.0.base) bases ⊗ by (λ x. x.0.conversion) conversions
+      ⊗ by (λ x. (x.0.system, x.1.system)) (of systems) ⊗ by (λ x. x.0.tail) ends)
+      (λ x y s. (s.name, (s.base, (s.conversion, (s.system, s.tail)))))
+      (λ x y p. record { name = p.0; base = p.1.0; conversion = p.1.1.0; system = p.1.1.1.0; tail = p.1.1.1.1 }))
+
+  pub vertical : IsSameness (SameFrame level) → IsSameness (SameGeoidModel level) →
+      IsSamenessOf IsVertical (SameVertical level)
+  vertical frames models =
+      over (in-words
+      (equal-by (λ x. x.0.name) ⊗ by (λ x. x.0.frame) frames ⊗ by (λ x. (x.0.system, x.1.system)) (of systems)
+      ⊗ by (λ x. x.0.geoid_models) (set models) ⊗ by (λ x. x.0.tail) ends)
+      (λ x y s. (s.name, (s.frame, (s.system, (s.geoid_models, s.tail)))))
+      (λ x y p. record { name = p.0; frame = p.1.0; system = p.1.1.0; geoid_models = p.1.1.1.0; tail = p.1.1.1.1 }))
+
+-- ---- compounds
+
+pub horizontal-of : (level : Level) → IsSamenessOf IsGeodetic (SameGeodetic level) →
+    IsSamenessOf IsProjected (SameProjected level) →
+    IsSamenessOf IsHorizontal (SameHorizontal level)
+horizontal-of level g p = record { reflexive = itself; symmetric = swapped; transitive = joined }
+  where
+    itself : (a : Horizontal) → IsHorizontal a → SameHorizontal level a a
+    itself (horizontal.Geodetic a) is = g.reflexive a is.0
+    itself (horizontal.Projected a) is = p.reflexive a is.0
+
+    swapped : (a b : Horizontal) → IsHorizontal a → IsHorizontal b → SameHorizontal level a b → SameHorizontal level b a
+    swapped (horizontal.Geodetic a) (horizontal.Geodetic b) x y s = g.symmetric a b x.0 y.0 s
+    swapped (horizontal.Projected a) (horizontal.Projected b) x y s = p.symmetric a b x.0 y.0 s
+    swapped (horizontal.Geodetic a) (horizontal.Projected b) x y s = absurd s
+    swapped (horizontal.Projected a) (horizontal.Geodetic b) x y s = absurd s
+
+    joined : (a b c : Horizontal) → IsHorizontal a → IsHorizontal b → IsHorizontal c → SameHorizontal level a b →
+        SameHorizontal level b c →
+        SameHorizontal level a c
+    joined (horizontal.Geodetic a) (horizontal.Geodetic b) (horizontal.Geodetic c) x y z s t =
+        g.transitive a b c x.0 y.0 z.0 s t
+    joined (horizontal.Geodetic a) (horizontal.Geodetic b) (horizontal.Projected c) x y z s t = absurd t
+    joined (horizontal.Geodetic a) (horizontal.Projected b) c x y z s t = absurd s
+    joined (horizontal.Projected a) (horizontal.Geodetic b) c x y z s t = absurd s
+    joined (horizontal.Projected a) (horizontal.Projected b) (horizontal.Geodetic c) x y z s t = absurd t
+    joined (horizontal.Projected a) (horizontal.Projected b) (horizontal.Projected c) x y z s t =
+        p.transitive a b c x.0 y.0 z.0 s t
+
+pub compound : (level : Level) → IsSamenessOf IsHorizontal (SameHorizontal level) →
+    IsSamenessOf IsVertical (SameVertical level) →
+    IsSameness (SameTail level) → IsSamenessOf IsCompound (SameCompound level)
+compound level horizontals verticals ends =
+    over (in-words
+    (equal-by (λ x. x.0.name) ⊗ by (λ x. (x.0.horizontal, x.1.horizontal)) (of horizontals)
+    ⊗ by (λ x. (x.0.vertical, x.1.vertical)) (of verticals) ⊗ by (λ x. x.0.tail) ends)
+    (λ x y s. (s.name, (s.horizontal, (s.vertical, s.tail))))
+    (λ x y p. record { name = p.0; horizontal = p.1.0; vertical = p.1.1.0; tail = p.1.1.1 }))
+
+-- ---- of each kind
+
+module _ (level : Level)
+    (g : IsSamenessOf IsGeodetic (SameGeodetic level)) (p : IsSamenessOf IsProjected (SameProjected level))
+    (v : IsSamenessOf IsVertical (SameVertical level)) (c : IsSamenessOf IsCompound (SameCompound level)) where
+  parts : IsSamenessOf IsCrs (SameParts level)
+  parts = record { reflexive = itself; symmetric = swapped; transitive = joined }
+    where
+      itself : (a : Crs) → IsCrs a → SameParts level a a
+      itself (crs.Geodetic a) is = g.reflexive a is
+      itself (crs.Projected a) is = p.reflexive a is
+      itself (crs.Vertical a) is = v.reflexive a is
+      itself (crs.Compound a) is = c.reflexive a is
+
+      swapped : (a b : Crs) → IsCrs a → IsCrs b → SameParts level a b → SameParts level b a
+      swapped (crs.Geodetic a) (crs.Geodetic b) x y s = g.symmetric a b x y s
+      swapped (crs.Projected a) (crs.Projected b) x y s = p.symmetric a b x y s
+      swapped (crs.Vertical a) (crs.Vertical b) x y s = v.symmetric a b x y s
+      swapped (crs.Compound a) (crs.Compound b) x y s = c.symmetric a b x y s
+      swapped a b x y s = absurd s
+
+      joined : (a b d : Crs) → IsCrs a → IsCrs b → IsCrs d → SameParts level a b → SameParts level b d →
+          SameParts level a d
+      joined (crs.Geodetic a) (crs.Geodetic b) (crs.Geodetic d) x y z s t = g.transitive a b d x y z s t
+      joined (crs.Projected a) (crs.Projected b) (crs.Projected d) x y z s t = p.transitive a b d x y z s t
+      joined (crs.Vertical a) (crs.Vertical b) (crs.Vertical d) x y z s t = v.transitive a b d x y z s t
+      joined (crs.Compound a) (crs.Compound b) (crs.Compound d) x y z s t = c.transitive a b d x y z s t
+      joined (crs.Geodetic a) (crs.Geodetic b) d x y z s t = absurd t
+      joined (crs.Projected a) (crs.Projected b) d x y z s t = absurd t
+      joined (crs.Vertical a) (crs.Vertical b) d x y z s t = absurd t
+      joined (crs.Compound a) (crs.Compound b) d x y z s t = absurd t
+      joined a b d x y z s t = absurd s
+
+  pub crs-of : IsSamenessOf IsCrs (SameCrs level)
+  crs-of =
+      over (in-words (equal-by (λ x. kind_of x.0) ⊗ of parts)
+      (λ x y s. (s.kind, s.parts))
+      (λ x y p. record { kind = p.0; parts = p.1 }))

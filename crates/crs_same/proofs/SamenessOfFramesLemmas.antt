@@ -1,0 +1,148 @@
+-- The sameness of ellipsoids, prime meridians, reference frames and ensembles.
+use Rattle.std.proofs.Common.{◌∙◌, sym, ◌⊎◌, inl, inr}
+use Rattle.crs_value.specs.declared.frame.Frame.{Frame}
+use Rattle.crs_value.specs.declared.frame.Frame.TheVariants as frame
+use Rattle.crs_value.specs.declared.level.Level.{Level}
+use Rattle.crs_value.specs.declared.unit_kind.UnitKind.TheVariants as kinds
+use Rattle.crs_value.specs.Values.{MeridianParts}
+use Rattle.crs_same.specs.Sameness.{IsSameness}
+use Rattle.crs_same.specs.SameFrames.{SameEllipsoid, IsZero, IsGreenwich, SameGiven, SameMeridian, SameMember}
+use Rattle.crs_same.specs.SameFrames.{SameDatum, SameEnsemble, SameFrame}
+use Rattle.crs_same.specs.SameIdents.{SameIdents}
+use Rattle.crs_same.specs.SameUnits.{SameValue, SameUnit, SameLength}
+use Rattle.crs_same.specs.Sets.{BothOrNeither}
+use Rattle.crs_same.proofs.SamenessLemmas.{equal-by, by, ◌⊗◌, in-words, optional, with-default, set}
+use Rattle.crs_same.proofs.SamenessOfPartsLemmas.{whole, none-beside-none, none-alike}
+
+pub ellipsoid : (level : Level) → IsSameness SameValue → IsSameness (SameLength level) → IsSameness (SameIdents level) →
+    IsSameness (SameEllipsoid level)
+ellipsoid level number long ids =
+    in-words
+    (equal-by (λ a. a.name) ⊗ by (λ a. a.semi_major_axis) number ⊗ by (λ a. a.inverse_flattening) number
+    ⊗ by (λ a. a.unit) long ⊗ by (λ a. a.ids) ids)
+    (λ a b s. (s.name, (s.semi_major_axis, (s.inverse_flattening, (s.unit, s.ids)))))
+    (λ a b p. record {
+      name = p.0;
+      semi_major_axis = p.1.0;
+      inverse_flattening = p.1.1.0;
+      unit = p.1.1.1.0;
+      ids = p.1.1.1.1;
+    })
+
+-- ---- prime meridians
+
+module _ (level : Level) (number : IsSameness SameValue) (angle : IsSameness (SameUnit kinds.Angle level)) where
+  zero-beside-zero : (a b : MeridianParts) → SameValue a.longitude b.longitude → IsZero a.longitude → IsZero b.longitude
+  unfolding SameValue
+  zero-beside-zero a b s zero =
+      number.transitive b.longitude a.longitude (whole 0) (number.symmetric a.longitude b.longitude s) zero
+
+  zeros-alike : (a b : MeridianParts) → IsZero a.longitude → IsZero b.longitude → SameValue a.longitude b.longitude
+  unfolding SameValue
+  zeros-alike a b zero also =
+      number.transitive a.longitude (whole 0) b.longitude zero (number.symmetric b.longitude (whole 0) also)
+
+  -- in longitude, and in the unit where that counts
+  abbrev SameAngle : MeridianParts → MeridianParts → Type 0
+  SameAngle a b =
+      SameValue a.longitude b.longitude
+      × (IsZero a.longitude ⊎ BothOrNeither (SameUnit kinds.Angle level) a.unit b.unit)
+
+  units : IsSameness (BothOrNeither (SameUnit kinds.Angle level))
+  units = optional angle
+
+  same-angle : IsSameness SameAngle
+  same-angle = record {
+    reflexive = λ a. (number.reflexive a.longitude, inr (units.reflexive a.unit));
+    symmetric = λ a b s. (
+      number.symmetric a.longitude b.longitude s.0,
+      elim s.1 [
+        | inl zero ↦ inl (zero-beside-zero a b s.0 zero)
+        | inr first ↦ inr (units.symmetric a.unit b.unit first)
+      ],
+    );
+    transitive = λ a b c s t. (
+      number.transitive a.longitude b.longitude c.longitude s.0 t.0,
+      elim s.1 [
+        | inl zero ↦ inl zero
+        | inr first ↦ elim t.1 [
+          | inl zero ↦ inl (zero-beside-zero b a (number.symmetric a.longitude b.longitude s.0) zero)
+          | inr second ↦ inr (units.transitive a.unit b.unit c.unit first second)
+        ]
+      ],
+    );
+  }
+
+  pub given : IsSameness (SameIdents level) → IsSameness (SameGiven level)
+  given ids =
+      in-words (equal-by (λ a. a.name) ⊗ same-angle ⊗ by (λ a. a.ids) ids)
+      (λ a b s. (s.name, ((s.longitude, s.unit), s.ids)))
+      (λ a b p. record { name = p.0; longitude = p.1.0.0; unit = p.1.0.1; ids = p.1.1 })
+
+  greenwich-beside-greenwich : (a b : MeridianParts) → IsGreenwich level a → SameGiven level a b → IsGreenwich level b
+  greenwich-beside-greenwich a b g s = record {
+    name = sym s.name ∙ g.name;
+    longitude = zero-beside-zero a b s.longitude g.longitude;
+    ids = none-beside-none level a.ids b.ids g.ids s.ids;
+  }
+
+  greenwiches-alike : (a b : MeridianParts) → IsGreenwich level a → IsGreenwich level b → SameGiven level a b
+  greenwiches-alike a b g h = record {
+    name = g.name ∙ sym h.name;
+    longitude = zeros-alike a b g.longitude h.longitude;
+    unit = inl g.longitude;
+    ids = none-alike level a.ids b.ids g.ids h.ids;
+  }
+
+  pub meridian : IsSameness (SameIdents level) → IsSameness (SameMeridian level)
+  meridian ids =
+      with-default (IsGreenwich level) (SameMeridian level) (given ids) greenwich-beside-greenwich greenwiches-alike
+      tt (λ b. (λ h. h, λ h. h)) (λ a. (λ h. h, λ h. h)) (λ a b. (λ h. h, λ h. h))
+
+-- ---- frames
+
+pub member : (level : Level) → IsSameness (SameIdents level) → IsSameness (SameMember level)
+member level ids =
+    in-words (equal-by (λ a. a.name) ⊗ by (λ a. a.ids) ids)
+    (λ a b s. (s.name, s.ids))
+    (λ a b p. record { name = p.0; ids = p.1 })
+
+pub datum : (level : Level) → IsSameness (SameEllipsoid level) → IsSameness (SameIdents level) →
+    IsSameness (SameDatum level)
+datum level round ids =
+    in-words
+    (equal-by (λ a. a.name) ⊗ by (λ a. a.ellipsoid) (optional round) ⊗ equal-by (λ a. a.anchor) ⊗ by (λ a. a.ids) ids)
+    (λ a b s. (s.name, (s.ellipsoid, (s.anchor, s.ids))))
+    (λ a b p. record { name = p.0; ellipsoid = p.1.0; anchor = p.1.1.0; ids = p.1.1.1 })
+
+pub ensemble : (level : Level) → IsSameness SameValue → IsSameness (SameMember level) →
+    IsSameness (SameEllipsoid level) →
+    IsSameness (SameIdents level) → IsSameness (SameEnsemble level)
+ensemble level number one round ids =
+    in-words
+    (equal-by (λ a. a.name) ⊗ by (λ a. a.members) (set one) ⊗ by (λ a. a.ellipsoid) (optional round)
+    ⊗ by (λ a. a.accuracy) number ⊗ by (λ a. a.ids) ids)
+    (λ a b s. (s.name, (s.members, (s.ellipsoid, (s.accuracy, s.ids)))))
+    (λ a b p. record { name = p.0; members = p.1.0; ellipsoid = p.1.1.0; accuracy = p.1.1.1.0; ids = p.1.1.1.1 })
+
+pub frame-of : (level : Level) → IsSameness (SameDatum level) → IsSameness (SameEnsemble level) →
+    IsSameness (SameFrame level)
+frame-of level d e = record { reflexive = itself; symmetric = swapped; transitive = joined }
+  where
+    itself : (a : Frame) → SameFrame level a a
+    itself (frame.Datum a) = d.reflexive a
+    itself (frame.Ensemble a) = e.reflexive a
+
+    swapped : (a b : Frame) → SameFrame level a b → SameFrame level b a
+    swapped (frame.Datum a) (frame.Datum b) s = d.symmetric a b s
+    swapped (frame.Datum a) (frame.Ensemble b) s = absurd s
+    swapped (frame.Ensemble a) (frame.Datum b) s = absurd s
+    swapped (frame.Ensemble a) (frame.Ensemble b) s = e.symmetric a b s
+
+    joined : (a b c : Frame) → SameFrame level a b → SameFrame level b c → SameFrame level a c
+    joined (frame.Datum a) (frame.Datum b) (frame.Datum c) s t = d.transitive a b c s t
+    joined (frame.Datum a) (frame.Datum b) (frame.Ensemble c) s t = absurd t
+    joined (frame.Datum a) (frame.Ensemble b) c s t = absurd s
+    joined (frame.Ensemble a) (frame.Datum b) c s t = absurd s
+    joined (frame.Ensemble a) (frame.Ensemble b) (frame.Datum c) s t = absurd t
+    joined (frame.Ensemble a) (frame.Ensemble b) (frame.Ensemble c) s t = e.transitive a b c s t

@@ -1,0 +1,131 @@
+-- The sameness of axes and of coordinate systems, position by position.
+use Rattle.std.proofs.Common.{◌≡◌, ◌∙◌, refl, sym, ap, subst, ℕ, ◌≤◌, length, Option}
+use Rattle.std.specs.Prelude.{⊤}
+use Rattle.crs_value.specs.declared.level.Level.{Level}
+use Rattle.crs_value.specs.declared.unit_kind.UnitKind.{UnitKind}
+use Rattle.crs_value.specs.declared.unit_kind.UnitKind.TheVariants as kinds
+use Rattle.crs_value.specs.BadUnit.{asked_kind}
+use Rattle.crs_value.specs.SoundSystem.{IsSystem}
+use Rattle.crs_value.specs.Values.{UnitParts, AxisParts, SystemParts}
+use Rattle.crs_same.specs.Sameness.{IsSameness, IsSamenessOf}
+use Rattle.crs_same.specs.SameIdents.{SameIdents}
+use Rattle.crs_same.specs.SameSystems.{SameAxisMeridian, own_or, SameAxisIn, SameAxis, SameAxisAlone, HasAt, SameAxes}
+use Rattle.crs_same.specs.SameSystems.{SameSystem}
+use Rattle.crs_same.specs.SameUnits.{SameValue, SameUnit}
+use Rattle.crs_same.proofs.AxisLemmas.{which, at-both, which-both}
+use Rattle.crs_same.proofs.SamenessLemmas.{equal-by, by, ◌⊗◌, in-words, optional}
+
+-- ---- axes
+
+pub axis-meridian : (level : Level) → IsSameness SameValue → IsSameness (SameUnit kinds.Angle level) →
+    IsSameness (SameAxisMeridian level)
+axis-meridian level number angle =
+    in-words (by (λ a. a.longitude) number ⊗ by (λ a. a.unit) angle)
+    (λ a b s. (s.longitude, s.unit))
+    (λ a b p. record { longitude = p.0; unit = p.1 })
+
+pub axis-alone : (level : Level) → IsSameness SameValue → IsSameness (SameAxisMeridian level) →
+    IsSameness (SameUnit kinds.Plain level) →
+    IsSameness (SameIdents level) → IsSameness (SameAxisAlone level)
+axis-alone level number along one ids =
+    in-words
+    (equal-by (λ a. a.name) ⊗ equal-by (λ a. a.direction) ⊗ by (λ a. a.meridian) (optional along)
+    ⊗ by (λ a. a.order) (optional number)
+    ⊗ by (λ a. a.unit) (optional one) ⊗ by (λ a. a.ids) ids)
+    (λ a b s. (s.name, (s.direction, (s.meridian, (s.order, (s.unit, s.ids))))))
+    (λ a b p. record {
+      name = p.0;
+      direction = p.1.0;
+      meridian = p.1.1.0;
+      order = p.1.1.1.0;
+      unit = p.1.1.1.1.0;
+      ids = p.1.1.1.1.1;
+    })
+
+module _ (level : Level) (along : IsSameness (SameAxisMeridian level)) (ids : IsSameness (SameIdents level))
+    (units : (asked : UnitKind) → IsSameness (SameUnit asked level)) where
+  -- of axes with their units
+  axis-in : (asked : UnitKind) →
+      IsSameness (λ (x y : AxisParts × Option UnitParts). SameAxisIn asked level x.0 y.0 x.1 y.1)
+  axis-in asked =
+      in-words
+      (equal-by (λ x. x.0.name) ⊗ equal-by (λ x. x.0.direction) ⊗ by (λ x. x.0.meridian) (optional along)
+      ⊗ by (λ x. x.1) (optional (units asked)) ⊗ by (λ x. x.0.ids) ids)
+      (λ x y s. (s.name, (s.direction, (s.meridian, (s.unit, s.ids)))))
+      (λ x y p. record { name = p.0; direction = p.1.0; meridian = p.1.1.0; unit = p.1.1.1.0; ids = p.1.1.1.1 })
+
+  axis-itself : (a : SystemParts) (x : AxisParts) → SameAxis level a a x x
+  unfolding SameAxis
+  axis-itself a x = (axis-in (asked_kind a.system_type x.direction)).reflexive (x, own_or x.unit a.unit)
+
+  axis-swapped : (a b : SystemParts) (x y : AxisParts) → a.system_type ≡ b.system_type → SameAxis level a b x y →
+      SameAxis level b a y x
+  unfolding SameAxis
+  axis-swapped a b x y e s =
+      subst (λ asked. SameAxisIn asked level y x (own_or y.unit b.unit) (own_or x.unit a.unit))
+      (ap (λ t. asked_kind t x.direction) e ∙ ap (asked_kind b.system_type) s.direction)
+      ((axis-in (asked_kind a.system_type x.direction)).symmetric (x, own_or x.unit a.unit) (y, own_or y.unit b.unit) s)
+
+  axis-joined : (a b c : SystemParts) (x y z : AxisParts) → a.system_type ≡ b.system_type → SameAxis level a b x y →
+      SameAxis level b c y z → SameAxis level a c x z
+  unfolding SameAxis
+  axis-joined a b c x y z e s t =
+      (axis-in (asked_kind a.system_type x.direction)).transitive (x, own_or x.unit a.unit) (y, own_or y.unit b.unit)
+      (z, own_or z.unit c.unit) s
+      (subst (λ asked. SameAxisIn asked level y z (own_or y.unit b.unit) (own_or z.unit c.unit))
+      (sym (ap (λ t. asked_kind t x.direction) e ∙ ap (asked_kind b.system_type) s.direction)) t)
+
+  -- ---- coordinate systems
+
+  module _ (number : IsSameness SameValue)
+      (some : (a : SystemParts) → IsSystem a → (position : ℕ) → 1 ≤ position → position ≤ length a.axes →
+      HasAt position (λ axis. ⊤) 1 a.axes)
+      (one : (a : SystemParts) → IsSystem a → (position : ℕ) (x y : AxisParts) →
+      HasAt position (λ axis. axis ≡ x) 1 a.axes → HasAt position (λ axis. axis ≡ y) 1 a.axes → x ≡ y)
+      (as-many : (a b : SystemParts) → IsSystem a → IsSystem b → SameValue a.dimension b.dimension →
+      length a.axes ≡ length b.axes) where
+    axes-themselves : (a : SystemParts) → IsSystem a → SameAxes level a a
+    axes-themselves a is position first last =
+        let w = which (λ axis. ⊤) position 1 a.axes (some a is position first last) in
+        at-both (λ x y. SameAxis level a a x y) position a.axes a.axes w.0 w.0 w.2 w.2 (axis-itself a w.0)
+
+    axes-swapped : (a b : SystemParts) → IsSystem a → IsSystem b → SameSystem level a b → SameAxes level b a
+    axes-swapped a b is-a is-b s position first last =
+        let equal : length b.axes ≡ length a.axes = sym (as-many a b is-a is-b s.dimension) in
+        let within : position ≤ length a.axes = subst (λ n. position ≤ n) equal last in
+        let w = which-both (λ x y. SameAxis level a b x y) position a.axes b.axes (s.axes position first within) in
+        at-both (λ y x. SameAxis level b a y x) position b.axes a.axes w.1 w.0 w.4 w.3
+        (axis-swapped a b w.0 w.1 s.system_type w.2)
+
+    axes-joined : (a b c : SystemParts) → IsSystem a → IsSystem b → SameSystem level a b → SameSystem level b c →
+        SameAxes level a c
+    axes-joined a b c is-a is-b s t position first last =
+        let within : position ≤ length b.axes = subst (λ n. position ≤ n) (as-many a b is-a is-b s.dimension) last in
+        let v = which-both (λ x y. SameAxis level a b x y) position a.axes b.axes (s.axes position first last) in
+        let w = which-both (λ y z. SameAxis level b c y z) position b.axes c.axes (t.axes position first within) in
+        let equal : v.1 ≡ w.0 = one b is-b position v.1 w.0 v.4 w.3 in
+        let same : SameAxis level a b v.0 w.0 = subst (λ y. SameAxis level a b v.0 y) equal v.2 in
+        at-both (λ x z. SameAxis level a c x z) position a.axes c.axes v.0 w.1 v.3 w.4
+        (axis-joined a b c v.0 w.0 w.1 s.system_type same w.2)
+
+    pub system : IsSamenessOf IsSystem (SameSystem level)
+    system = record {
+      reflexive = λ a is. record {
+        system_type = refl;
+        dimension = number.reflexive a.dimension;
+        ids = ids.reflexive a.ids;
+        axes = axes-themselves a is;
+      };
+      symmetric = λ a b is-a is-b s. record {
+        system_type = sym s.system_type;
+        dimension = number.symmetric a.dimension b.dimension s.dimension;
+        ids = ids.symmetric a.ids b.ids s.ids;
+        axes = axes-swapped a b is-a is-b s;
+      };
+      transitive = λ a b c is-a is-b is-c s t. record {
+        system_type = s.system_type ∙ t.system_type;
+        dimension = number.transitive a.dimension b.dimension c.dimension s.dimension t.dimension;
+        ids = ids.transitive a.ids b.ids c.ids s.ids t.ids;
+        axes = axes-joined a b c is-a is-b s t;
+      };
+    }

@@ -1,0 +1,7 @@
+use Rattle.crs_same.proofs.SamenessOfFramesLemmas.{ellipsoid}
+use Rattle.crs_same.proofs.laws.same_ellipsoid_is_equivalence.Goals as goal
+
+pub returns : goal.returns
+returns c level =
+    ellipsoid level c.same_value_is_equivalence.ensures (c.same_length_is_equivalence.ensures level)
+    (c.same_idents_is_equivalence.ensures level)

@@ -1,0 +1,7 @@
+use Rattle.crs_same.proofs.SamenessOfFramesLemmas.{ensemble}
+use Rattle.crs_same.proofs.laws.same_ensemble_is_equivalence.Goals as goal
+
+pub returns : goal.returns
+returns c level =
+    ensemble level c.same_value_is_equivalence.ensures (c.same_member_is_equivalence.ensures level)
+    (c.same_ellipsoid_is_equivalence.ensures level) (c.same_idents_is_equivalence.ensures level)

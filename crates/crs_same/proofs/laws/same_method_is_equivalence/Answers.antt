@@ -1,0 +1,5 @@
+use Rattle.crs_same.proofs.SamenessOfPartsLemmas.{method}
+use Rattle.crs_same.proofs.laws.same_method_is_equivalence.Goals as goal
+
+pub returns : goal.returns
+returns c level = method level (c.same_idents_is_equivalence.ensures level)

@@ -1,0 +1,5 @@
+use Rattle.crs_same.proofs.SamenessOfPartsLemmas.{tail}
+use Rattle.crs_same.proofs.laws.same_tail_is_equivalence.Goals as goal
+
+pub returns : goal.returns
+returns c level = tail level c.same_usage_is_equivalence.ensures (c.same_idents_is_equivalence.ensures level)
