@@ -1,0 +1,10 @@
+pub mod Normal
+pub mod NormalOwn
+pub mod Ordered
+pub mod SpelledConversions
+pub mod SpelledCrs
+pub mod SpelledFrames
+pub mod SpelledItems
+pub mod SpelledSystems
+pub mod SpelledUnits
+pub mod SpelledUsages
