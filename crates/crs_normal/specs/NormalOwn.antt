@@ -7,7 +7,6 @@ use Rattle.std.specs.declared.cmp.Ordering.TheVariants.{Less}
 use Rattle.crs_decimal.specs.Spelling.{is_digit}
 use Rattle.crs_text.specs.Items.{Item, Items, End, More, arguments, kind_of, raw_of, skip}
 use Rattle.crs_text.specs.Written.{item_text}
-use Rattle.crs_text.specs.declared.items.ItemKind.{ItemKind}
 use Rattle.crs_text.specs.declared.items.ItemKind.TheVariants as kinds
 use Rattle.crs_shape.specs.declared.class.Class.{Class}
 use Rattle.crs_shape.specs.declared.class.Class.TheVariants as class

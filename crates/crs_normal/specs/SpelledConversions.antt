@@ -1,6 +1,6 @@
 -- A bridge: conversions and geoid models in their one form, and as items.
-use Rattle.std.specs.Prelude.{ℕ, List, codes, map}
-use Rattle.crs_text.specs.Items.{Item, Items, End, More}
+use Rattle.std.specs.Prelude.{List, codes, map}
+use Rattle.crs_text.specs.Items.{Item, End, More}
 use Rattle.crs_text.specs.Written.{item_text}
 use Rattle.crs_value.specs.ConversionValues.{MethodParts, ParameterParts, ConversionParts, GeoidModelParts}
 use Rattle.crs_value.specs.declared.level.Level.{Level}

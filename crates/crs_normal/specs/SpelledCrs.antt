@@ -1,6 +1,6 @@
 -- A bridge: coordinate reference systems in their one form, and as items.
 use Rattle.std.specs.Prelude.{ℕ, List, codes}
-use Rattle.crs_text.specs.Items.{Item, Items, End, More}
+use Rattle.crs_text.specs.Items.{Item, End, More}
 use Rattle.crs_value.specs.CompoundValues.{CompoundParts}
 use Rattle.crs_value.specs.CrsValues.{GeodeticParts, BaseParts, ProjectedParts, VerticalParts}
 use Rattle.crs_value.specs.declared.compound.Horizontal.{Horizontal}

@@ -1,7 +1,7 @@
 -- A bridge: identifiers and units in their one form, and as items.
 use Rattle.std.specs.Prelude.{ℕ, false, List, [], Option, Some, None, codes, pos}
 use Rattle.crs_decimal.specs.Value.{Value}
-use Rattle.crs_text.specs.Items.{Item, Items, End, More}
+use Rattle.crs_text.specs.Items.{Item, End, More}
 use Rattle.crs_text.specs.Written.{item_text}
 use Rattle.crs_value.specs.Values.{IdentParts, UnitParts}
 use Rattle.crs_value.specs.Words.{unit_word}

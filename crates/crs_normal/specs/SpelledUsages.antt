@@ -1,5 +1,5 @@
 -- A bridge: usages and the ends of CRSs in their one form, and as items.
-use Rattle.std.specs.Prelude.{ℕ, List, [], Option, Some, None, codes, map}
+use Rattle.std.specs.Prelude.{ℕ, List, Option, Some, None, codes, map}
 use Rattle.std.specs.Option.{option_map}
 use Rattle.crs_text.specs.Items.{Item, Items, End, More}
 use Rattle.crs_text.specs.Written.{item_text}

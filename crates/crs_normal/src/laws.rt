@@ -1,12 +1,3 @@
-//! Laws of normal texts.
-ghost use Rattle.std.specs.Prelude.{ℕ, List};
-ghost use Rattle.crs_text.specs.TextFault.{SpellsNode};
-ghost use Rattle.crs_text.specs.Items.{Item};
-ghost use Rattle.crs_value.specs.declared.level.Level.{Level};
-ghost use Rattle.crs_normal.specs.Normal.{IsNormalText};
+//! Laws of the one form of values and of normal texts: calls that do nothing, and whose contracts are the laws.
 
-/// A normal text is a node.
-pub fn normal_is_node()
-    ensures { (level : Level) (bytes : List ℕ) → IsNormalText level bytes → (item : Item) × SpellsNode bytes item }
-{
-}
+pub mod values;
