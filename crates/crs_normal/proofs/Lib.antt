@@ -1,0 +1,3 @@
+mod FrameSameLemmas
+mod LawLemmas
+mod UnitSameLemmas

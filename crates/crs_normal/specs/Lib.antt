@@ -1,3 +1,4 @@
+pub mod Decides
 pub mod Normal
 pub mod NormalOwn
 pub mod Ordered
