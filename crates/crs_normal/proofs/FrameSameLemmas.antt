@@ -14,7 +14,7 @@ use Rattle.crs_same.specs.SameFrames.{IsGreenwich, IsZero, SameDatum, SameEllips
 use Rattle.crs_same.specs.SameIdents.{SameIdents}
 use Rattle.crs_same.specs.SameUnits.{HasNoIdents, SameLength, SameUnit, SameValue}
 use Rattle.crs_same.specs.Sets.{BothOrNeither, SameSet}
-use Rattle.crs_normal.specs.Decides.{Decides, Maybe, SetsDecide}
+use Rattle.crs_normal.specs.Decides.{FormDecides, Maybe, SetsDecide}
 use Rattle.crs_normal.specs.SpelledFrames.{greenwich, is_zero, norm_datum, norm_ellipsoid, norm_ensemble, norm_frame, norm_given, norm_member, norm_meridian, set_members}
 use Rattle.crs_normal.specs.SpelledUnits.{norm_length, norm_units, set_idents, whole_value}
 use Rattle.crs_normal.proofs.LawLemmas.{Laws, options-agree, values-agree}
@@ -36,13 +36,16 @@ counted : {A : Type 0} (p q : Bool) (x y : Option A) → p ≡ q → ((if p then
 counted true true x y e = (λ f. inl refl, λ s. refl)
 counted true false x y e = absurd (false≢true (sym e))
 counted false true x y e = absurd (false≢true e)
-counted false false x y e = (λ f. inr f, λ s. elim s [
-  | inl f ↦ absurd (false≢true f)
-  | inr f ↦ f
-])
+counted false false x y e = (
+  λ f. inr f,
+  λ s. elim s [
+    | inl f ↦ absurd (false≢true f)
+    | inr f ↦ f
+  ],
+)
 
 module _ (laws : Laws) (sets : SetsDecide) (level : Level) where
-  pub ellipsoid-agrees : Decides IsEllipsoid (norm_ellipsoid level) (SameEllipsoid level)
+  pub ellipsoid-agrees : FormDecides IsEllipsoid (norm_ellipsoid level) (SameEllipsoid level)
   ellipsoid-agrees a b in-a in-b = (
     λ e. record {
       name = ap (λ (x : EllipsoidParts). x.name) e;
@@ -72,7 +75,7 @@ module _ (laws : Laws) (sets : SetsDecide) (level : Level) where
       ids : (set_idents level a.ids ≡ set_idents level b.ids) ↔ SameIdents level a.ids b.ids
       ids = sets.idents level a.ids b.ids in-a.ids in-b.ids
 
-  pub ellipsoids-agree : Decides (Maybe IsEllipsoid) (option_map (norm_ellipsoid level)) (BothOrNeither (SameEllipsoid level))
+  pub ellipsoids-agree : FormDecides (Maybe IsEllipsoid) (option_map (norm_ellipsoid level)) (BothOrNeither (SameEllipsoid level))
   ellipsoids-agree =
       options-agree IsEllipsoid (norm_ellipsoid level) (SameEllipsoid level) ellipsoid-agrees (option_map (norm_ellipsoid level)) refl (λ x. refl)
 
@@ -103,15 +106,15 @@ module _ (laws : Laws) (sets : SetsDecide) (level : Level) where
   abbrev unit_in : MeridianParts → Option UnitParts
   unit_in m = if is_zero m.longitude then None else norm_units level kinds.Angle m.unit
 
-  given-agrees : Decides IsMeridian (norm_given level) (SameGiven level)
+  given-agrees : FormDecides IsMeridian (norm_given level) (SameGiven level)
   given-agrees a b in-a in-b = (
     λ e. let at : a.longitude ≡ b.longitude = ap (λ (x : MeridianParts). x.longitude) e in
-    record {
-      name = ap (λ (x : MeridianParts). x.name) e;
-      longitude = longitude.0 at;
-      unit = (unit at).0 (ap (λ (x : MeridianParts). x.unit) e);
-      ids = ids.0 (ap (λ (x : MeridianParts). x.ids) e);
-    },
+        record {
+          name = ap (λ (x : MeridianParts). x.name) e;
+          longitude = longitude.0 at;
+          unit = (unit at).0 (ap (λ (x : MeridianParts). x.unit) e);
+          ids = ids.0 (ap (λ (x : MeridianParts). x.ids) e);
+        },
     λ s. λ i. record {
       name = s.name i;
       longitude = longitude.1 s.longitude i;
@@ -147,7 +150,7 @@ module _ (laws : Laws) (sets : SetsDecide) (level : Level) where
       ids : (set_idents level a.ids ≡ set_idents level b.ids) ↔ SameIdents level a.ids b.ids
       ids = sets.idents level a.ids b.ids in-a.ids in-b.ids
 
-  pub meridian-agrees : Decides (Maybe IsMeridian) (norm_meridian level) (SameMeridian level)
+  pub meridian-agrees : FormDecides (Maybe IsMeridian) (norm_meridian level) (SameMeridian level)
   meridian-agrees None None in-a in-b = (λ e. tt, λ s. refl)
   meridian-agrees None (Some b) in-a in-b = (
     λ e. (greenwich-agrees b in-b).0 (some-one (norm_given level b) greenwich (sym e)),
@@ -164,7 +167,7 @@ module _ (laws : Laws) (sets : SetsDecide) (level : Level) where
 
   -- ---- frames
 
-  pub member-agrees : Decides IsMember (norm_member level) (SameMember level)
+  pub member-agrees : FormDecides IsMember (norm_member level) (SameMember level)
   member-agrees a b in-a in-b = (
     λ e. record { name = ap (λ (x : MemberParts). x.name) e; ids = ids.0 (ap (λ (x : MemberParts). x.ids) e) },
     λ s. λ i. record { name = s.name i; ids = ids.1 s.ids i },
@@ -173,7 +176,7 @@ module _ (laws : Laws) (sets : SetsDecide) (level : Level) where
       ids : (set_idents level a.ids ≡ set_idents level b.ids) ↔ SameIdents level a.ids b.ids
       ids = sets.idents level a.ids b.ids in-a.ids in-b.ids
 
-  pub datum-agrees : Decides IsDatum (norm_datum level) (SameDatum level)
+  pub datum-agrees : FormDecides IsDatum (norm_datum level) (SameDatum level)
   datum-agrees a b in-a in-b = (
     λ e. record {
       name = ap (λ (x : DatumParts). x.name) e;
@@ -190,7 +193,7 @@ module _ (laws : Laws) (sets : SetsDecide) (level : Level) where
       ids : (set_idents level a.ids ≡ set_idents level b.ids) ↔ SameIdents level a.ids b.ids
       ids = sets.idents level a.ids b.ids in-a.ids in-b.ids
 
-  pub ensemble-agrees : Decides IsEnsemble (norm_ensemble level) (SameEnsemble level)
+  pub ensemble-agrees : FormDecides IsEnsemble (norm_ensemble level) (SameEnsemble level)
   ensemble-agrees a b in-a in-b = (
     λ e. record {
       name = ap (λ (x : EnsembleParts). x.name) e;
@@ -225,7 +228,7 @@ module _ (laws : Laws) (sets : SetsDecide) (level : Level) where
   IsFrame (frame.Datum d) = IsDatum d
   IsFrame (frame.Ensemble e) = IsEnsemble e
 
-  frame-agrees : Decides IsFrame (norm_frame level) (SameFrame level)
+  frame-agrees : FormDecides IsFrame (norm_frame level) (SameFrame level)
   frame-agrees (frame.Datum a) (frame.Datum b) in-a in-b = (
     λ e. (datum-agrees a b in-a in-b).0 cc,
     λ s. ap (λ d. frame.Datum d) ((datum-agrees a b in-a in-b).1 s),
@@ -245,8 +248,8 @@ module _ (laws : Laws) (sets : SetsDecide) (level : Level) where
   vertical-is (frame.Datum d) sound = sound.0
   vertical-is (frame.Ensemble e) sound = sound.0
 
-  pub geodetic-frame-agrees : Decides IsGeodeticFrame (norm_frame level) (SameFrame level)
+  pub geodetic-frame-agrees : FormDecides IsGeodeticFrame (norm_frame level) (SameFrame level)
   geodetic-frame-agrees a b in-a in-b = frame-agrees a b (geodetic-is a in-a) (geodetic-is b in-b)
 
-  pub vertical-frame-agrees : Decides IsVerticalFrame (norm_frame level) (SameFrame level)
+  pub vertical-frame-agrees : FormDecides IsVerticalFrame (norm_frame level) (SameFrame level)
   vertical-frame-agrees a b in-a in-b = frame-agrees a b (vertical-is a in-a) (vertical-is b in-b)

@@ -11,7 +11,7 @@ use Rattle.crs_value.specs.Values.{AxisParts, SystemParts}
 use Rattle.crs_same.specs.SameSystems.{HasAt}
 use Rattle.crs_same.specs.SameUnits.{SameValue}
 use Rattle.crs_same.specs.Sets.{BothOrNeither}
-use Rattle.crs_normal.specs.Decides.{Decides, Maybe}
+use Rattle.crs_normal.specs.Decides.{FormDecides, Maybe}
 
 pub record Laws : Type 0 where
   pub one_form : (bytes : List ℕ) (p q : Parts) → Spells bytes p → Spells bytes q → p ≡ q
@@ -25,13 +25,13 @@ pub record Laws : Type 0 where
   pub one_axis : (system : SystemParts) → IsSystem system → (position : ℕ) (x y : AxisParts) → HasAt position (λ axis. axis ≡ x) 1 system.axes → HasAt position (λ axis. axis ≡ y) 1 system.axes → x ≡ y
   pub as_many : (a b : SystemParts) → IsSystem a → IsSystem b → SameValue a.dimension b.dimension → length a.axes ≡ length b.axes
 
-pub values-agree : Laws → Decides IsNormal (λ value. value) SameValue
+pub values-agree : Laws → FormDecides IsNormal (λ value. value) SameValue
 unfolding SameValue
 values-agree laws a b in-a in-b = ((laws.normal_is_one a b in-a in-b).1, (laws.normal_is_one a b in-a in-b).0)
 
 -- a part that may be missing, where the form of one that is there decides
-pub options-agree : {A : Type 0} (Is : A → Type 0) (form : A → A) (Same : A → A → Type 0) → Decides Is form Same →
-    (all : Option A → Option A) → all None ≡ None → ((x : A) → all (Some x) ≡ Some (form x)) → Decides (Maybe Is) all (BothOrNeither Same)
+pub options-agree : {A : Type 0} (Is : A → Type 0) (form : A → A) (Same : A → A → Type 0) → FormDecides Is form Same →
+    (all : Option A → Option A) → all None ≡ None → ((x : A) → all (Some x) ≡ Some (form x)) → FormDecides (Maybe Is) all (BothOrNeither Same)
 options-agree Is form Same agree all none some None None in-a in-b = (λ e. tt, λ s. refl)
 options-agree Is form Same agree all none some None (Some b) in-a in-b = (λ e. let u : None ≡ Some (form b) = sym none ∙ e ∙ some b in cc, λ s. absurd s)
 options-agree Is form Same agree all none some (Some a) None in-a in-b = (λ e. let u : Some (form a) ≡ None = sym (some a) ∙ e ∙ none in cc, λ s. absurd s)

@@ -1,3 +1,6 @@
+mod ConversionSameLemmas
 mod FrameSameLemmas
 mod LawLemmas
+mod TailSameLemmas
 mod UnitSameLemmas
+mod WholeLemmas

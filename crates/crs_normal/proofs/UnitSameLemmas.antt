@@ -11,7 +11,7 @@ use Rattle.crs_value.specs.declared.unit_kind.UnitKind.TheVariants as kinds
 use Rattle.crs_same.specs.SameIdents.{SameIdents}
 use Rattle.crs_same.specs.SameUnits.{HasNoIdents, IsMetre, SameLength, SameUnit, SameValue}
 use Rattle.crs_same.specs.Sets.{BothOrNeither}
-use Rattle.crs_normal.specs.Decides.{Decides, Maybe, SetsDecide}
+use Rattle.crs_normal.specs.Decides.{FormDecides, Maybe, SetsDecide}
 use Rattle.crs_normal.specs.SpelledUnits.{metre, norm_length, norm_unit, norm_units, set_idents, whole_value}
 use Rattle.crs_normal.proofs.LawLemmas.{Laws, options-agree, values-agree}
 
@@ -43,7 +43,7 @@ whole-agrees laws k normal v in-v = let same = laws.normal_is_one v (whole_value
 -- ---- units
 
 module _ (laws : Laws) (sets : SetsDecide) (level : Level) where
-  pub unit-agrees : (asked : UnitKind) → Decides IsUnit (norm_unit level asked) (SameUnit asked level)
+  pub unit-agrees : (asked : UnitKind) → FormDecides IsUnit (norm_unit level asked) (SameUnit asked level)
   unit-agrees asked a b in-a in-b = (
     λ e. record {
       kind = ap (λ (u : UnitParts). u.kind) e;
@@ -60,12 +60,12 @@ module _ (laws : Laws) (sets : SetsDecide) (level : Level) where
       ids : (set_idents level a.ids ≡ set_idents level b.ids) ↔ SameIdents level a.ids b.ids
       ids = sets.idents level a.ids b.ids in-a.ids in-b.ids
 
-  pub units-agree : (asked : UnitKind) → Decides (Maybe IsUnit) (norm_units level asked) (BothOrNeither (SameUnit asked level))
+  pub units-agree : (asked : UnitKind) → FormDecides (Maybe IsUnit) (norm_units level asked) (BothOrNeither (SameUnit asked level))
   units-agree asked =
       options-agree IsUnit (norm_unit level asked) (SameUnit asked level) (unit-agrees asked) (norm_units level asked) refl (λ u. refl)
 
   -- where a kind is asked as well
-  pub units-of-agree : (kind asked : UnitKind) → Decides (Maybe (IsUnitOf kind)) (norm_units level asked) (BothOrNeither (SameUnit asked level))
+  pub units-of-agree : (kind asked : UnitKind) → FormDecides (Maybe (IsUnitOf kind)) (norm_units level asked) (BothOrNeither (SameUnit asked level))
   units-of-agree kind asked =
       options-agree (IsUnitOf kind) (norm_unit level asked) (SameUnit asked level) (λ a b in-a in-b. unit-agrees asked a b in-a.0 in-b.0) (norm_units level asked) refl (λ u. refl)
 
@@ -86,7 +86,7 @@ module _ (laws : Laws) (sets : SetsDecide) (level : Level) where
       ids : (set_idents level u.ids ≡ []) ↔ HasNoIdents level u.ids
       ids = none-agree sets level u.ids in-u.ids
 
-  pub length-agrees : Decides (Maybe (IsUnitOf kinds.Length)) (norm_length level) (SameLength level)
+  pub length-agrees : FormDecides (Maybe (IsUnitOf kinds.Length)) (norm_length level) (SameLength level)
   length-agrees None None in-a in-b = (λ e. tt, λ s. refl)
   length-agrees None (Some b) in-a in-b = (λ e. (metre-agrees b in-b.0).0 (sym e), λ s. sym ((metre-agrees b in-b.0).1 s))
   length-agrees (Some a) None in-a in-b = metre-agrees a in-a.0

@@ -22,8 +22,8 @@ use Rattle.crs_normal.specs.SpelledUnits.{set_idents}
 use Rattle.crs_normal.specs.SpelledUsages.{set_usages}
 
 -- of the values for which `Is` holds: they have the same form exactly where they are the same
-abbrev pub Decides : {A B : Type 0} → (A → Type 0) → (A → B) → (A → A → Type 0) → Type 0
-Decides Is form Same = (a b : _) → Is a → Is b → (form a ≡ form b) ↔ Same a b
+abbrev pub FormDecides : {A B : Type 0} → (A → Type 0) → (A → B) → (A → A → Type 0) → Type 0
+FormDecides Is form Same = (a b : _) → Is a → Is b → (form a ≡ form b) ↔ Same a b
 
 -- a usage that says something
 abbrev pub IsSomeUsage : UsageParts → Type 0
@@ -31,11 +31,11 @@ IsSomeUsage usage = IsUsage usage × SaysSome usage
 
 -- the forms of the sets decide which sets are the same
 pub record SetsDecide : Type 0 where
-  pub idents : (level : Level) → Decides (Each IsIdent) (set_idents level) (SameIdents level)
-  pub members : (level : Level) → Decides (Each IsMember) (set_members level) (SameSet (SameMember level))
-  pub parameters : (level : Level) → Decides (Each IsParameter) (set_parameters level) (SameSet (SameParameter level))
-  pub geoid_models : (level : Level) → Decides (Each IsGeoidModel) (set_geoid_models level) (SameSet (SameGeoidModel level))
-  pub usages : Decides (Each IsSomeUsage) (set_usages levels.Full) (SameSet SameUsage)
+  pub idents : (level : Level) → FormDecides (Each IsIdent) (set_idents level) (SameIdents level)
+  pub members : (level : Level) → FormDecides (Each IsMember) (set_members level) (SameSet (SameMember level))
+  pub parameters : (level : Level) → FormDecides (Each IsParameter) (set_parameters level) (SameSet (SameParameter level))
+  pub geoid_models : (level : Level) → FormDecides (Each IsGeoidModel) (set_geoid_models level) (SameSet (SameGeoidModel level))
+  pub usages : FormDecides (Each IsSomeUsage) (set_usages levels.Full) (SameSet SameUsage)
 
 -- a part that may be missing, with what is asked of it where it is there
 abbrev pub Maybe : {A : Type 0} → (A → Type 0) → Option A → Type 0
@@ -47,4 +47,4 @@ IsNumbered system = IsSystem system × (length system.axes < 10 ^ 18)
 
 -- the one form of a CRS decides sameness, at each level
 abbrev pub DecidesSameness : Type 0
-DecidesSameness = (level : Level) → Decides IsCrs (norm_crs level) (SameCrs level)
+DecidesSameness = (level : Level) → FormDecides IsCrs (norm_crs level) (SameCrs level)
