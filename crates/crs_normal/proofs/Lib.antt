@@ -1,6 +1,8 @@
+mod AxisSameLemmas
 mod ConversionSameLemmas
 mod FrameSameLemmas
 mod LawLemmas
+mod SystemSameLemmas
 mod TailSameLemmas
 mod UnitSameLemmas
 mod WholeLemmas
