@@ -13,9 +13,10 @@ use Rattle.crs_same.specs.SameSystems.{HasAt, IsAt, SameAxis, SameAxisMeridian, 
 use Rattle.crs_same.specs.SameUnits.{SameUnit, SameValue}
 use Rattle.crs_same.specs.Sets.{BothOrNeither}
 use Rattle.crs_normal.specs.Decides.{FormDecides, Maybe, SetsDecide}
+use Rattle.crs_normal.specs.LowerLaws.{LowerLaws}
 use Rattle.crs_normal.specs.SpelledSystems.{axis_at, is_at, norm_axis, norm_axis_meridian, norm_axis_meridians}
 use Rattle.crs_normal.specs.SpelledUnits.{norm_unit, norm_units, set_idents}
-use Rattle.crs_normal.proofs.LawLemmas.{Laws, options-agree, values-agree}
+use Rattle.crs_normal.proofs.PartSameLemmas.{options-agree, values-agree}
 use Rattle.crs_normal.proofs.UnitSameLemmas.{unit-agrees, units-agree}
 use Rattle.crs_normal.proofs.WholeLemmas.{number-tested}
 
@@ -26,7 +27,7 @@ own-sound (Some own) shared in-own in-shared = in-own.0
 own-sound None (Some shared) in-own in-shared = in-shared.0
 own-sound None None in-own in-shared = tt
 
-module _ (laws : Laws) (sets : SetsDecide) (level : Level) where
+module _ (laws : LowerLaws) (sets : SetsDecide) (level : Level) where
   pub axis-meridian-agrees : FormDecides IsAxisMeridian (norm_axis_meridian level) (SameAxisMeridian level)
   axis-meridian-agrees a b in-a in-b = (
     λ e. record {
@@ -132,7 +133,7 @@ pub record Found (position place : ℕ) (axes : List AxisParts) : Type 0 where
   pub is : axis_at position place axes ≡ Some axis
   pub at : HasAt position (λ x. x ≡ axis) place axes
 
-place-tested : Laws → (position place : ℕ) (order : Option Value) → position < 10 ^ 18 → Maybe IsNormal order → (is_at position place order ≡ true) ↔ IsAt position place order
+place-tested : LowerLaws → (position place : ℕ) (order : Option Value) → position < 10 ^ 18 → Maybe IsNormal order → (is_at position place order ≡ true) ↔ IsAt position place order
 place-tested laws position place None less normal = Decides-eqb place position
 place-tested laws position place (Some order) less normal = number-tested laws order position normal less
 
@@ -151,7 +152,7 @@ found-here-or-behind P position place axis axes tested behind h = by (is_at posi
       | inr g ↦ let r = behind g in record { axis = r.axis; is = taken false e ∙ r.is; at = inr r.at }
     ]
 
-pub found : Laws → (P : AxisParts → Type 0) (position place : ℕ) (axes : List AxisParts) → position < 10 ^ 18 → Each IsAxis axes →
+pub found : LowerLaws → (P : AxisParts → Type 0) (position place : ℕ) (axes : List AxisParts) → position < 10 ^ 18 → Each IsAxis axes →
     HasAt position P place axes → Found position place axes
 found laws P position place [] less sound h = absurd h
 found laws P position place (axis ∷ axes) less sound h =

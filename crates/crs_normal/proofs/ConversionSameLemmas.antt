@@ -9,12 +9,13 @@ use Rattle.crs_same.specs.SameIdents.{SameIdents}
 use Rattle.crs_same.specs.SameUnits.{SameUnit, SameValue}
 use Rattle.crs_same.specs.Sets.{BothOrNeither, SameSet}
 use Rattle.crs_normal.specs.Decides.{FormDecides, SetsDecide}
+use Rattle.crs_normal.specs.LowerLaws.{LowerLaws}
 use Rattle.crs_normal.specs.SpelledConversions.{norm_conversion, norm_geoid_model, norm_method, norm_parameter, set_parameters}
 use Rattle.crs_normal.specs.SpelledUnits.{norm_units, set_idents}
-use Rattle.crs_normal.proofs.LawLemmas.{Laws, values-agree}
+use Rattle.crs_normal.proofs.PartSameLemmas.{values-agree}
 use Rattle.crs_normal.proofs.UnitSameLemmas.{units-agree}
 
-module _ (laws : Laws) (sets : SetsDecide) (level : Level) where
+module _ (laws : LowerLaws) (sets : SetsDecide) (level : Level) where
   pub method-agrees : FormDecides IsMethod (norm_method level) (SameMethod level)
   method-agrees a b in-a in-b = (
     λ e. record { name = ap (λ (x : MethodParts). x.name) e; ids = ids.0 (ap (λ (x : MethodParts). x.ids) e) },

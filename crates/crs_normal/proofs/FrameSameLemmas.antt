@@ -15,9 +15,10 @@ use Rattle.crs_same.specs.SameIdents.{SameIdents}
 use Rattle.crs_same.specs.SameUnits.{HasNoIdents, SameLength, SameUnit, SameValue}
 use Rattle.crs_same.specs.Sets.{BothOrNeither, SameSet}
 use Rattle.crs_normal.specs.Decides.{FormDecides, Maybe, SetsDecide}
+use Rattle.crs_normal.specs.LowerLaws.{LowerLaws}
 use Rattle.crs_normal.specs.SpelledFrames.{greenwich, is_zero, norm_datum, norm_ellipsoid, norm_ensemble, norm_frame, norm_given, norm_member, norm_meridian, set_members}
 use Rattle.crs_normal.specs.SpelledUnits.{norm_length, norm_units, set_idents, whole_value}
-use Rattle.crs_normal.proofs.LawLemmas.{Laws, options-agree, values-agree}
+use Rattle.crs_normal.proofs.PartSameLemmas.{options-agree, values-agree}
 use Rattle.crs_normal.proofs.UnitSameLemmas.{length-agrees, none-agree, some-one, units-of-agree, whole-agrees}
 
 -- ---- longitude 0
@@ -25,7 +26,7 @@ use Rattle.crs_normal.proofs.UnitSameLemmas.{length-agrees, none-agree, some-one
 scaled : (d x y : ℕ) → d ≡ 0 → d * x ≡ 0 * y
 scaled d x y e = let f : d * x ≡ 0 * x = ap (λ n. n * x) e in omega (arith, f)
 
-zero-agrees : Laws → (v : Value) → IsNormal v → (is_zero v ≡ true) ↔ IsZero v
+zero-agrees : LowerLaws → (v : Value) → IsNormal v → (is_zero v ≡ true) ↔ IsZero v
 zero-agrees laws v in-v = (
   λ e. let none : v.digits ≡ 0 = eqb-true v.digits 0 e in (scaled v.digits _ _ none, inr (none, refl)),
   λ s. ap is_zero ((whole-agrees laws 0 refl v in-v).1 s),
@@ -44,7 +45,7 @@ counted false false x y e = (
   ],
 )
 
-module _ (laws : Laws) (sets : SetsDecide) (level : Level) where
+module _ (laws : LowerLaws) (sets : SetsDecide) (level : Level) where
   pub ellipsoid-agrees : FormDecides IsEllipsoid (norm_ellipsoid level) (SameEllipsoid level)
   ellipsoid-agrees a b in-a in-b = (
     λ e. record {

@@ -1,7 +1,8 @@
 mod AxisSameLemmas
 mod ConversionSameLemmas
+mod CrsSameLemmas
 mod FrameSameLemmas
-mod LawLemmas
+mod PartSameLemmas
 mod SystemSameLemmas
 mod TailSameLemmas
 mod UnitSameLemmas

@@ -8,16 +8,17 @@ use Rattle.crs_same.specs.SameIdents.{SameIdents}
 use Rattle.crs_same.specs.SameSystems.{SameAt, SameAxes, SameAxis, SameSystem}
 use Rattle.crs_same.specs.SameUnits.{SameValue}
 use Rattle.crs_normal.specs.Decides.{FormDecides, IsNumbered, SetsDecide}
+use Rattle.crs_normal.specs.LowerLaws.{LowerLaws}
 use Rattle.crs_normal.specs.SpelledSystems.{axes_from, norm_axis, norm_system, with_axis}
 use Rattle.crs_normal.specs.SpelledUnits.{set_idents}
 use Rattle.crs_normal.proofs.AxisSameLemmas.{Found, axis-agrees, both-agree, found, sound-at}
-use Rattle.crs_normal.proofs.LawLemmas.{Laws, values-agree}
+use Rattle.crs_normal.proofs.PartSameLemmas.{values-agree}
 
 -- lists with a first member
 heads-agree : {P Q : Type 0} (x y : AxisParts) (xs ys : List AxisParts) → (x ≡ y) ↔ P → (xs ≡ ys) ↔ Q → ((x ∷ xs) ≡ (y ∷ ys)) ↔ (P × Q)
 heads-agree x y xs ys head tail = (λ e. (head.0 cc, tail.0 cc), λ s. λ i. head.1 s.0 i ∷ tail.1 s.1 i)
 
-module _ (laws : Laws) (sets : SetsDecide) (level : Level) where
+module _ (laws : LowerLaws) (sets : SetsDecide) (level : Level) where
   found-at : (system : SystemParts) → IsNumbered system → (k : ℕ) → 1 ≤ k → k ≤ length system.axes → Found k 1 system.axes
   found-at system sound k first last =
       found laws (λ axis. ⊤) k 1 system.axes (omega (arith, sound.1)) sound.0.axes (laws.some_axis system sound.0 k first last)
@@ -53,8 +54,7 @@ module _ (laws : Laws) (sets : SetsDecide) (level : Level) where
       let of-b : axes_from level b k (suc n) ≡ norm_axis level b k y.axis ∷ axes_from level b (k + 1) n = ap (λ f. with_axis level b k f (axes_from level b (k + 1) n)) y.is in
       let lists =
       heads-agree (norm_axis level a k x.axis) (norm_axis level b k y.axis) (axes_from level a (k + 1) n) (axes_from level b (k + 1) n)
-      (position-agrees a b k in-a in-b type x y) rest in
-      (
+      (position-agrees a b k in-a in-b type x y) rest in (
         λ e. (from-agrees a b k n).0 (lists.0 (sym of-a ∙ e ∙ of-b)),
         λ s. of-a ∙ lists.1 ((from-agrees a b k n).1 s) ∙ sym of-b,
       )
@@ -63,8 +63,7 @@ module _ (laws : Laws) (sets : SetsDecide) (level : Level) where
       (axes_from level a 1 (length a.axes) ≡ axes_from level b 1 (length b.axes)) ↔ SameAxes level a b
   all-agree a b in-a in-b type long =
       let count : axes_from level b 1 (length a.axes) ≡ axes_from level b 1 (length b.axes) = ap (λ n. axes_from level b 1 n) long in
-      let each = axes-agree a b in-a in-b type long 1 (length a.axes) (omega arith) (omega arith) in
-      (
+      let each = axes-agree a b in-a in-b type long 1 (length a.axes) (omega arith) (omega arith) in (
         λ e p least most. each.0 (e ∙ sym count) p least (omega (arith, most)),
         λ s. each.1 (λ p least most. s p least (omega (arith, most))) ∙ count,
       )
@@ -72,13 +71,13 @@ module _ (laws : Laws) (sets : SetsDecide) (level : Level) where
   pub system-agrees : FormDecides IsNumbered (norm_system level) (SameSystem level)
   system-agrees a b in-a in-b = (
     λ e. let type : a.system_type ≡ b.system_type = ap (λ (x : SystemParts). x.system_type) e in
-    let size : SameValue a.dimension b.dimension = dimension.0 (ap (λ (x : SystemParts). x.dimension) e) in
-    record {
-      system_type = type;
-      dimension = size;
-      ids = ids.0 (ap (λ (x : SystemParts). x.ids) e);
-      axes = (axes type size).0 (ap (λ (x : SystemParts). x.axes) e);
-    },
+        let size : SameValue a.dimension b.dimension = dimension.0 (ap (λ (x : SystemParts). x.dimension) e) in
+        record {
+          system_type = type;
+          dimension = size;
+          ids = ids.0 (ap (λ (x : SystemParts). x.ids) e);
+          axes = (axes type size).0 (ap (λ (x : SystemParts). x.axes) e);
+        },
     λ s. λ i. record {
       system_type = s.system_type i;
       dimension = dimension.1 s.dimension i;

@@ -12,12 +12,13 @@ use Rattle.crs_same.specs.SameUnits.{SameLength, SameValue}
 use Rattle.crs_same.specs.SameUsages.{SameBox, SameExtent, SameRemark, SameTail, SameUsage, SameUsages, says_some, usages_of}
 use Rattle.crs_same.specs.Sets.{BothOrNeither}
 use Rattle.crs_normal.specs.Decides.{FormDecides, IsSomeUsage, SetsDecide}
+use Rattle.crs_normal.specs.LowerLaws.{LowerLaws}
 use Rattle.crs_normal.specs.SpelledUnits.{norm_length, set_idents}
 use Rattle.crs_normal.specs.SpelledUsages.{norm_extent, norm_remark, norm_tail, norm_usage, nothing, set_usages}
-use Rattle.crs_normal.proofs.LawLemmas.{Laws, options-agree, values-agree}
+use Rattle.crs_normal.proofs.PartSameLemmas.{options-agree, values-agree}
 use Rattle.crs_normal.proofs.UnitSameLemmas.{length-agrees, some-one}
 
-module _ (laws : Laws) where
+module _ (laws : LowerLaws) where
   pub box-agrees : FormDecides IsBox (λ box. box) SameBox
   box-agrees a b in-a in-b = (
     λ e. record {
@@ -41,7 +42,7 @@ module _ (laws : Laws) where
       east : (a.east ≡ b.east) ↔ SameValue a.east b.east
       east = values-agree laws a.east b.east in-a.east in-b.east
 
-module _ (laws : Laws) (sets : SetsDecide) where
+module _ (laws : LowerLaws) (sets : SetsDecide) where
   pub extent-agrees : (level : Level) → FormDecides IsExtent (norm_extent level) (SameExtent level)
   extent-agrees level a b in-a in-b = (
     λ e. record {

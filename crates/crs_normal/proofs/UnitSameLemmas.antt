@@ -12,8 +12,9 @@ use Rattle.crs_same.specs.SameIdents.{SameIdents}
 use Rattle.crs_same.specs.SameUnits.{HasNoIdents, IsMetre, SameLength, SameUnit, SameValue}
 use Rattle.crs_same.specs.Sets.{BothOrNeither}
 use Rattle.crs_normal.specs.Decides.{FormDecides, Maybe, SetsDecide}
+use Rattle.crs_normal.specs.LowerLaws.{LowerLaws}
 use Rattle.crs_normal.specs.SpelledUnits.{metre, norm_length, norm_unit, norm_units, set_idents, whole_value}
-use Rattle.crs_normal.proofs.LawLemmas.{Laws, options-agree, values-agree}
+use Rattle.crs_normal.proofs.PartSameLemmas.{options-agree, values-agree}
 
 pub some-one : {A : Type 0} (a b : A) → Some a ≡ Some b → a ≡ b
 some-one a b e = cc
@@ -37,12 +38,12 @@ module _ (sets : SetsDecide) where
 
 -- ---- whole numbers
 
-pub whole-agrees : Laws → (k : ℕ) → IsNormal (whole_value k) → (v : Value) → IsNormal v → (v ≡ whole_value k) ↔ SameNumber (exact v) (whole_number k)
+pub whole-agrees : LowerLaws → (k : ℕ) → IsNormal (whole_value k) → (v : Value) → IsNormal v → (v ≡ whole_value k) ↔ SameNumber (exact v) (whole_number k)
 whole-agrees laws k normal v in-v = let same = laws.normal_is_one v (whole_value k) in-v normal in (same.1, same.0)
 
 -- ---- units
 
-module _ (laws : Laws) (sets : SetsDecide) (level : Level) where
+module _ (laws : LowerLaws) (sets : SetsDecide) (level : Level) where
   pub unit-agrees : (asked : UnitKind) → FormDecides IsUnit (norm_unit level asked) (SameUnit asked level)
   unit-agrees asked a b in-a in-b = (
     λ e. record {

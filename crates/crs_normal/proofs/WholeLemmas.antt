@@ -10,8 +10,8 @@ use Rattle.crs_decimal.specs.Number.{SameNumber, whole_number}
 use Rattle.crs_decimal.specs.Plain.{IsPlain, IsTrim, plain}
 use Rattle.crs_decimal.specs.Spelling.{AreDigits, Parts, Spells, text, unsigned}
 use Rattle.crs_decimal.specs.Value.{Value, IsNormal, exact}
+use Rattle.crs_normal.specs.LowerLaws.{LowerLaws}
 use Rattle.crs_normal.specs.SpelledSystems.{is_number}
-use Rattle.crs_normal.proofs.LawLemmas.{Laws}
 
 abbrev read_on : ℕ → List ℕ → ℕ
 read_on n ds = fold (λ m d. m * 10 + (d - 48)) n ds
@@ -64,7 +64,7 @@ number-same n l =
 
 -- ---- the test
 
-module _ (laws : Laws) where
+module _ (laws : LowerLaws) where
   decimal-denotes : (v : Value) (n : ℕ) → n < 10 ^ 18 → SameNumber (exact v) (whole_number n) → Denotes (decimal n) (exact v)
   decimal-denotes v n l s =
       let b = laws.digits_alone (decimal n) (digits_decimal own n (omega arith)) (decimal_nonempty n (omega arith)) (length-decimal-le 18 n (omega arith) l (omega arith)) in (

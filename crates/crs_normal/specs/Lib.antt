@@ -1,4 +1,5 @@
 pub mod Decides
+pub mod LowerLaws
 pub mod Normal
 pub mod NormalOwn
 pub mod Ordered

@@ -2,10 +2,152 @@
 ghost use Rattle.std.specs.Prelude.{ℕ, List};
 ghost use Rattle.crs_text.specs.TextFault.{SpellsNode};
 ghost use Rattle.crs_text.specs.Items.{Item};
+ghost use Rattle.crs_value.specs.Sound.{IsAxisMeridian, IsUnit, IsUnitOf};
+ghost use Rattle.crs_value.specs.SoundCompound.{IsCompound, IsHorizontal};
+ghost use Rattle.crs_value.specs.SoundConversion.{IsConversion, IsGeoidModel, IsMethod, IsParameter};
+ghost use Rattle.crs_value.specs.SoundFrames.{IsDatum, IsEllipsoid, IsEnsemble, IsMember, IsMeridian};
+ghost use Rattle.crs_value.specs.SoundSingle.{IsBase, IsGeodetic, IsProjected, IsVertical};
+ghost use Rattle.crs_value.specs.SoundSingle.{IsGeodeticFrame, IsVerticalFrame};
+ghost use Rattle.crs_value.specs.SoundUsages.{IsBox, IsExtent, IsTail, IsUsage};
 ghost use Rattle.crs_value.specs.declared.level.Level.{Level};
+ghost use Rattle.crs_value.specs.declared.unit_kind.UnitKind.{UnitKind};
+ghost use Rattle.crs_value.specs.declared.unit_kind.UnitKind.TheVariants as kinds;
+ghost use Rattle.crs_same.specs.SameConversions.{SameConversion, SameGeoidModel, SameMethod, SameParameter};
+ghost use Rattle.crs_same.specs.SameCrs.{SameBase, SameCompound, SameGeodetic, SameHorizontal};
+ghost use Rattle.crs_same.specs.SameCrs.{SameProjected, SameVertical};
+ghost use Rattle.crs_same.specs.SameFrames.{SameDatum, SameEllipsoid, SameEnsemble, SameFrame};
+ghost use Rattle.crs_same.specs.SameFrames.{SameMember, SameMeridian};
+ghost use Rattle.crs_same.specs.SameSystems.{SameAxisMeridian, SameSystem};
+ghost use Rattle.crs_same.specs.SameUnits.{SameLength, SameUnit};
+ghost use Rattle.crs_same.specs.SameUsages.{SameBox, SameExtent, SameTail, SameUsage};
+ghost use Rattle.crs_same.specs.Sets.{BothOrNeither};
+ghost use Rattle.crs_normal.specs.Decides.{DecidesSameness, FormDecides, IsNumbered, Maybe, SetsDecide};
+ghost use Rattle.crs_normal.specs.LowerLaws.{LowerLaws};
 ghost use Rattle.crs_normal.specs.Normal.{IsNormalText};
+ghost use Rattle.crs_normal.specs.SpelledConversions.{norm_conversion, norm_geoid_model};
+ghost use Rattle.crs_normal.specs.SpelledConversions.{norm_method, norm_parameter};
+ghost use Rattle.crs_normal.specs.SpelledCrs.{norm_base, norm_compound, norm_geodetic, norm_horizontal};
+ghost use Rattle.crs_normal.specs.SpelledCrs.{norm_projected, norm_vertical};
+ghost use Rattle.crs_normal.specs.SpelledFrames.{norm_datum, norm_ellipsoid, norm_ensemble, norm_frame};
+ghost use Rattle.crs_normal.specs.SpelledFrames.{norm_member, norm_meridian};
+ghost use Rattle.crs_normal.specs.SpelledSystems.{norm_axis_meridian, norm_system};
+ghost use Rattle.crs_normal.specs.SpelledUnits.{norm_length, norm_unit, norm_units};
+ghost use Rattle.crs_normal.specs.SpelledUsages.{norm_extent, norm_tail, norm_usage};
+
+use crs_decimal::laws::{
+    digits_alone, normal_is_one, one_form, plain_is_the_one, same_number_is_equivalence,
+};
+use crs_same::laws::{as_many_axes, one_axis_each};
 
 /// A normal text is a node.
 pub fn normal_is_node()
     ensures { (level : Level) (bytes : List ℕ) → IsNormalText level bytes → (item : Item) × SpellsNode bytes item }
 {}
+
+// What is taken from the lower crates.
+fn lower_laws()
+    ensures { LowerLaws }
+{
+    digits_alone();
+    normal_is_one();
+    one_form();
+    plain_is_the_one();
+    same_number_is_equivalence();
+    as_many_axes();
+    one_axis_each();
+}
+
+/// Units have one form exactly where they are the same, whatever kind is asked; a missing unit of
+/// length is the metre.
+pub fn same_units_have_one_form()
+    ensures one { SetsDecide → (level : Level) (asked : UnitKind) →
+        FormDecides IsUnit (norm_unit level asked) (SameUnit asked level) }
+    ensures optional { SetsDecide → (level : Level) (asked : UnitKind) →
+        FormDecides (Maybe IsUnit) (norm_units level asked) (BothOrNeither (SameUnit asked level)) }
+    ensures length { SetsDecide → (level : Level) →
+        FormDecides (Maybe (IsUnitOf kinds.Length)) (norm_length level) (SameLength level) }
+{
+    lower_laws();
+}
+
+/// So have ellipsoids, prime meridians, members, reference frames and ensembles; a missing prime
+/// meridian is Greenwich.
+pub fn same_frames_have_one_form()
+    ensures ellipsoid { SetsDecide → (level : Level) →
+        FormDecides IsEllipsoid (norm_ellipsoid level) (SameEllipsoid level) }
+    ensures meridian { SetsDecide → (level : Level) →
+        FormDecides (Maybe IsMeridian) (norm_meridian level) (SameMeridian level) }
+    ensures member { SetsDecide → (level : Level) →
+        FormDecides IsMember (norm_member level) (SameMember level) }
+    ensures datum { SetsDecide → (level : Level) →
+        FormDecides IsDatum (norm_datum level) (SameDatum level) }
+    ensures ensemble { SetsDecide → (level : Level) →
+        FormDecides IsEnsemble (norm_ensemble level) (SameEnsemble level) }
+    ensures geodetic { SetsDecide → (level : Level) →
+        FormDecides IsGeodeticFrame (norm_frame level) (SameFrame level) }
+    ensures vertical { SetsDecide → (level : Level) →
+        FormDecides IsVerticalFrame (norm_frame level) (SameFrame level) }
+{
+    lower_laws();
+}
+
+/// So have coordinate systems, axis by axis as they stand at their positions.
+pub fn same_systems_have_one_form()
+    ensures meridian { SetsDecide → (level : Level) →
+        FormDecides IsAxisMeridian (norm_axis_meridian level) (SameAxisMeridian level) }
+    ensures system { SetsDecide → (level : Level) →
+        FormDecides IsNumbered (norm_system level) (SameSystem level) }
+{
+    lower_laws();
+}
+
+/// So have conversions, with their methods and parameters, and geoid models.
+pub fn same_conversions_have_one_form()
+    ensures method { SetsDecide → (level : Level) →
+        FormDecides IsMethod (norm_method level) (SameMethod level) }
+    ensures parameter { SetsDecide → (level : Level) →
+        FormDecides IsParameter (norm_parameter level) (SameParameter level) }
+    ensures conversion { SetsDecide → (level : Level) →
+        FormDecides IsConversion (norm_conversion level) (SameConversion level) }
+    ensures geoid_model { SetsDecide → (level : Level) →
+        FormDecides IsGeoidModel (norm_geoid_model level) (SameGeoidModel level) }
+{
+    lower_laws();
+}
+
+/// So have boxes, extents, usages and the ends of CRSs; what stands bare there is a usage.
+pub fn same_usages_have_one_form()
+    ensures bounding_box { FormDecides IsBox (λ bounds. bounds) SameBox }
+    ensures extent { SetsDecide → (level : Level) →
+        FormDecides IsExtent (norm_extent level) (SameExtent level) }
+    ensures usage { SetsDecide → FormDecides IsUsage norm_usage SameUsage }
+    ensures tail { SetsDecide → (level : Level) →
+        FormDecides IsTail (norm_tail level) (SameTail level) }
+{
+    lower_laws();
+}
+
+/// So have CRSs of each kind, base CRSs and the horizontal parts of compound CRSs.
+pub fn same_kinds_have_one_form()
+    ensures geodetic { SetsDecide → (level : Level) →
+        FormDecides IsGeodetic (norm_geodetic level) (SameGeodetic level) }
+    ensures base { SetsDecide → (level : Level) →
+        FormDecides IsBase (norm_base level) (SameBase level) }
+    ensures projected { SetsDecide → (level : Level) →
+        FormDecides IsProjected (norm_projected level) (SameProjected level) }
+    ensures vertical { SetsDecide → (level : Level) →
+        FormDecides IsVertical (norm_vertical level) (SameVertical level) }
+    ensures horizontal { SetsDecide → (level : Level) →
+        FormDecides IsHorizontal (norm_horizontal level) (SameHorizontal level) }
+    ensures compound { SetsDecide → (level : Level) →
+        FormDecides IsCompound (norm_compound level) (SameCompound level) }
+{
+    lower_laws();
+}
+
+/// CRSs have one form exactly where they are the same.
+pub fn same_crss_have_one_form()
+    ensures { SetsDecide → DecidesSameness }
+{
+    lower_laws();
+}
