@@ -1,5 +1,5 @@
 -- Coordinate reference systems have one form exactly where they are the same.
-use Rattle.std.proofs.Common.{◌≡◌, ◌↔◌, ℕ, ◌*◌, ◌<◌, ◌^◌, inl, inr, List, [], ◌∷◌, length, refl, ap, subst, arith}
+use Rattle.std.proofs.Common.{◌≡◌, ℕ, ◌*◌, ◌<◌, ◌^◌, inl, inr, List, [], ◌∷◌, length, refl, ap, subst, arith}
 use Rattle.crs_decimal.specs.Number.{SameNumber, whole_number}
 use Rattle.crs_decimal.specs.Value.{exact}
 use Rattle.crs_value.specs.BadSystem.{IsOneOf, geodetic_dimensions, projected_dimensions, vertical_dimensions}
@@ -18,22 +18,11 @@ use Rattle.crs_value.specs.declared.level.Level.{Level}
 use Rattle.crs_value.specs.declared.system_type.SystemType.{SystemType}
 use Rattle.crs_value.specs.declared.system_type.SystemType.TheVariants as types
 use Rattle.crs_value.specs.declared.unit_kind.UnitKind.TheVariants as kinds
-use Rattle.crs_same.specs.SameConversions.{SameConversion, SameGeoidModel}
 use Rattle.crs_same.specs.SameCrs.{SameBase, SameCompound, SameCrs, SameGeodetic, SameHorizontal, SameProjected, SameVertical}
-use Rattle.crs_same.specs.SameFrames.{SameFrame, SameMeridian}
-use Rattle.crs_same.specs.SameIdents.{SameIdents}
 use Rattle.crs_same.specs.SameSystems.{SameSystem}
-use Rattle.crs_same.specs.SameUnits.{SameUnit}
-use Rattle.crs_same.specs.SameUsages.{SameTail}
-use Rattle.crs_same.specs.Sets.{BothOrNeither, SameSet}
 use Rattle.crs_normal.specs.Decides.{FormDecides, IsNumbered, SetsDecide}
 use Rattle.crs_normal.specs.LowerLaws.{LowerLaws}
-use Rattle.crs_normal.specs.SpelledConversions.{norm_conversion, set_geoid_models}
 use Rattle.crs_normal.specs.SpelledCrs.{norm_base, norm_compound, norm_crs, norm_geodetic, norm_horizontal, norm_projected, norm_vertical}
-use Rattle.crs_normal.specs.SpelledFrames.{norm_frame, norm_meridian}
-use Rattle.crs_normal.specs.SpelledSystems.{norm_system}
-use Rattle.crs_normal.specs.SpelledUnits.{norm_units, set_idents}
-use Rattle.crs_normal.specs.SpelledUsages.{norm_tail}
 use Rattle.crs_normal.proofs.ConversionSameLemmas.{conversion-agrees}
 use Rattle.crs_normal.proofs.FrameSameLemmas.{geodetic-frame-agrees, meridian-agrees, vertical-frame-agrees}
 use Rattle.crs_normal.proofs.SystemSameLemmas.{system-agrees}
@@ -78,139 +67,98 @@ module _ (laws : LowerLaws) (sets : SetsDecide) (level : Level) where
   -- ---- geodetic and geographic CRSs
 
   pub geodetic-agrees : FormDecides IsGeodetic (norm_geodetic level) (SameGeodetic level)
-  geodetic-agrees a b in-a in-b = (
-    λ e. let alike : SameSystem level a.system b.system = system.0 (ap (λ (x : GeodeticParts). x.system) e) in
-        record {
-          kind = ap kind_by alike.system_type;
-          name = ap (λ (x : GeodeticParts). x.name) e;
-          frame = frame.0 (ap (λ (x : GeodeticParts). x.frame) e);
-          meridian = meridian.0 (ap (λ (x : GeodeticParts). x.meridian) e);
-          system = alike;
-          tail = tail.0 (ap (λ (x : GeodeticParts). x.tail) e);
+  geodetic-agrees a b in-a in-b =
+      let frame = geodetic-frame-agrees laws sets level a.frame b.frame in-a.frame in-b.frame in
+      let meridian = meridian-agrees laws sets level a.meridian b.meridian in-a.meridian in-b.meridian in
+      let system = system-agrees laws sets level a.system b.system (numbered laws a.system in-a.system (geodetic_dimensions a.system.system_type) (geodetic-small a.system.system_type) in-a.dimension) (numbered laws b.system in-b.system (geodetic_dimensions b.system.system_type) (geodetic-small b.system.system_type) in-b.dimension) in
+      let tail = tail-agrees sets level a.tail b.tail in-a.tail in-b.tail in (
+        λ e. let alike : SameSystem level a.system b.system = system.0 (ap (λ (x : GeodeticParts). x.system) e) in
+            record {
+              kind = ap kind_by alike.system_type;
+              name = ap (λ (x : GeodeticParts). x.name) e;
+              frame = frame.0 (ap (λ (x : GeodeticParts). x.frame) e);
+              meridian = meridian.0 (ap (λ (x : GeodeticParts). x.meridian) e);
+              system = alike;
+              tail = tail.0 (ap (λ (x : GeodeticParts). x.tail) e);
+            },
+        λ s. λ i. record {
+          name = s.name i;
+          frame = frame.1 s.frame i;
+          meridian = meridian.1 s.meridian i;
+          system = system.1 s.system i;
+          tail = tail.1 s.tail i;
         },
-    λ s. λ i. record {
-      name = s.name i;
-      frame = frame.1 s.frame i;
-      meridian = meridian.1 s.meridian i;
-      system = system.1 s.system i;
-      tail = tail.1 s.tail i;
-    },
-  )
-    where
-      frame : (norm_frame level a.frame ≡ norm_frame level b.frame) ↔ SameFrame level a.frame b.frame
-      frame = geodetic-frame-agrees laws sets level a.frame b.frame in-a.frame in-b.frame
-
-      meridian : (norm_meridian level a.meridian ≡ norm_meridian level b.meridian) ↔ SameMeridian level a.meridian b.meridian
-      meridian = meridian-agrees laws sets level a.meridian b.meridian in-a.meridian in-b.meridian
-
-      system : (norm_system level a.system ≡ norm_system level b.system) ↔ SameSystem level a.system b.system
-      system =
-          system-agrees laws sets level a.system b.system
-          (numbered laws a.system in-a.system (geodetic_dimensions a.system.system_type) (geodetic-small a.system.system_type) in-a.dimension)
-          (numbered laws b.system in-b.system (geodetic_dimensions b.system.system_type) (geodetic-small b.system.system_type) in-b.dimension)
-
-      tail : (norm_tail level a.tail ≡ norm_tail level b.tail) ↔ SameTail level a.tail b.tail
-      tail = tail-agrees sets level a.tail b.tail in-a.tail in-b.tail
+      )
 
   -- ---- projected CRSs
 
   pub base-agrees : FormDecides IsBase (norm_base level) (SameBase level)
-  base-agrees a b in-a in-b = (
-    λ e. record {
-      name = ap (λ (x : BaseParts). x.name) e;
-      frame = frame.0 (ap (λ (x : BaseParts). x.frame) e);
-      meridian = meridian.0 (ap (λ (x : BaseParts). x.meridian) e);
-      unit = unit.0 (ap (λ (x : BaseParts). x.unit) e);
-      ids = ids.0 (ap (λ (x : BaseParts). x.ids) e);
-    },
-    λ s. λ i. record {
-      name = s.name i;
-      frame = frame.1 s.frame i;
-      meridian = meridian.1 s.meridian i;
-      unit = unit.1 s.unit i;
-      ids = ids.1 s.ids i;
-    },
-  )
-    where
-      frame : (norm_frame level a.frame ≡ norm_frame level b.frame) ↔ SameFrame level a.frame b.frame
-      frame = geodetic-frame-agrees laws sets level a.frame b.frame in-a.frame in-b.frame
-
-      meridian : (norm_meridian level a.meridian ≡ norm_meridian level b.meridian) ↔ SameMeridian level a.meridian b.meridian
-      meridian = meridian-agrees laws sets level a.meridian b.meridian in-a.meridian in-b.meridian
-
-      unit : (norm_units level kinds.Angle a.unit ≡ norm_units level kinds.Angle b.unit) ↔ BothOrNeither (SameUnit kinds.Angle level) a.unit b.unit
-      unit = units-of-agree laws sets level kinds.Angle kinds.Angle a.unit b.unit in-a.unit in-b.unit
-
-      ids : (set_idents level a.ids ≡ set_idents level b.ids) ↔ SameIdents level a.ids b.ids
-      ids = sets.idents level a.ids b.ids in-a.ids in-b.ids
+  base-agrees a b in-a in-b =
+      let frame = geodetic-frame-agrees laws sets level a.frame b.frame in-a.frame in-b.frame in
+      let meridian = meridian-agrees laws sets level a.meridian b.meridian in-a.meridian in-b.meridian in
+      let unit = units-of-agree laws sets level kinds.Angle kinds.Angle a.unit b.unit in-a.unit in-b.unit in
+      let ids = sets.idents level a.ids b.ids in-a.ids in-b.ids in (
+        λ e. record {
+          name = ap (λ (x : BaseParts). x.name) e;
+          frame = frame.0 (ap (λ (x : BaseParts). x.frame) e);
+          meridian = meridian.0 (ap (λ (x : BaseParts). x.meridian) e);
+          unit = unit.0 (ap (λ (x : BaseParts). x.unit) e);
+          ids = ids.0 (ap (λ (x : BaseParts). x.ids) e);
+        },
+        λ s. λ i. record {
+          name = s.name i;
+          frame = frame.1 s.frame i;
+          meridian = meridian.1 s.meridian i;
+          unit = unit.1 s.unit i;
+          ids = ids.1 s.ids i;
+        },
+      )
 
   pub projected-agrees : FormDecides IsProjected (norm_projected level) (SameProjected level)
-  projected-agrees a b in-a in-b = (
-    λ e. record {
-      name = ap (λ (x : ProjectedParts). x.name) e;
-      base = base.0 (ap (λ (x : ProjectedParts). x.base) e);
-      conversion = conversion.0 (ap (λ (x : ProjectedParts). x.conversion) e);
-      system = system.0 (ap (λ (x : ProjectedParts). x.system) e);
-      tail = tail.0 (ap (λ (x : ProjectedParts). x.tail) e);
-    },
-    λ s. λ i. record {
-      name = s.name i;
-      base = base.1 s.base i;
-      conversion = conversion.1 s.conversion i;
-      system = system.1 s.system i;
-      tail = tail.1 s.tail i;
-    },
-  )
-    where
-      base : (norm_base level a.base ≡ norm_base level b.base) ↔ SameBase level a.base b.base
-      base = base-agrees a.base b.base in-a.base in-b.base
-
-      conversion : (norm_conversion level a.conversion ≡ norm_conversion level b.conversion) ↔ SameConversion level a.conversion b.conversion
-      conversion = conversion-agrees laws sets level a.conversion b.conversion in-a.conversion in-b.conversion
-
-      system : (norm_system level a.system ≡ norm_system level b.system) ↔ SameSystem level a.system b.system
-      system =
-          system-agrees laws sets level a.system b.system
-          (numbered laws a.system in-a.system (projected_dimensions a.system.system_type) (projected-small a.system.system_type) in-a.dimension)
-          (numbered laws b.system in-b.system (projected_dimensions b.system.system_type) (projected-small b.system.system_type) in-b.dimension)
-
-      tail : (norm_tail level a.tail ≡ norm_tail level b.tail) ↔ SameTail level a.tail b.tail
-      tail = tail-agrees sets level a.tail b.tail in-a.tail in-b.tail
+  projected-agrees a b in-a in-b =
+      let base = base-agrees a.base b.base in-a.base in-b.base in
+      let conversion = conversion-agrees laws sets level a.conversion b.conversion in-a.conversion in-b.conversion in
+      let system = system-agrees laws sets level a.system b.system (numbered laws a.system in-a.system (projected_dimensions a.system.system_type) (projected-small a.system.system_type) in-a.dimension) (numbered laws b.system in-b.system (projected_dimensions b.system.system_type) (projected-small b.system.system_type) in-b.dimension) in
+      let tail = tail-agrees sets level a.tail b.tail in-a.tail in-b.tail in (
+        λ e. record {
+          name = ap (λ (x : ProjectedParts). x.name) e;
+          base = base.0 (ap (λ (x : ProjectedParts). x.base) e);
+          conversion = conversion.0 (ap (λ (x : ProjectedParts). x.conversion) e);
+          system = system.0 (ap (λ (x : ProjectedParts). x.system) e);
+          tail = tail.0 (ap (λ (x : ProjectedParts). x.tail) e);
+        },
+        λ s. λ i. record {
+          name = s.name i;
+          base = base.1 s.base i;
+          conversion = conversion.1 s.conversion i;
+          system = system.1 s.system i;
+          tail = tail.1 s.tail i;
+        },
+      )
 
   -- ---- vertical CRSs
 
   pub vertical-agrees : FormDecides IsVertical (norm_vertical level) (SameVertical level)
-  vertical-agrees a b in-a in-b = (
-    λ e. record {
-      name = ap (λ (x : VerticalParts). x.name) e;
-      frame = frame.0 (ap (λ (x : VerticalParts). x.frame) e);
-      system = system.0 (ap (λ (x : VerticalParts). x.system) e);
-      geoid_models = models.0 (ap (λ (x : VerticalParts). x.geoid_models) e);
-      tail = tail.0 (ap (λ (x : VerticalParts). x.tail) e);
-    },
-    λ s. λ i. record {
-      name = s.name i;
-      frame = frame.1 s.frame i;
-      system = system.1 s.system i;
-      geoid_models = models.1 s.geoid_models i;
-      tail = tail.1 s.tail i;
-    },
-  )
-    where
-      frame : (norm_frame level a.frame ≡ norm_frame level b.frame) ↔ SameFrame level a.frame b.frame
-      frame = vertical-frame-agrees laws sets level a.frame b.frame in-a.frame in-b.frame
-
-      system : (norm_system level a.system ≡ norm_system level b.system) ↔ SameSystem level a.system b.system
-      system =
-          system-agrees laws sets level a.system b.system
-          (numbered laws a.system in-a.system (vertical_dimensions a.system.system_type) (vertical-small a.system.system_type) in-a.dimension)
-          (numbered laws b.system in-b.system (vertical_dimensions b.system.system_type) (vertical-small b.system.system_type) in-b.dimension)
-
-      models : (set_geoid_models level a.geoid_models ≡ set_geoid_models level b.geoid_models) ↔ SameSet (SameGeoidModel level) a.geoid_models b.geoid_models
-      models = sets.geoid_models level a.geoid_models b.geoid_models in-a.geoid_models in-b.geoid_models
-
-      tail : (norm_tail level a.tail ≡ norm_tail level b.tail) ↔ SameTail level a.tail b.tail
-      tail = tail-agrees sets level a.tail b.tail in-a.tail in-b.tail
+  vertical-agrees a b in-a in-b =
+      let frame = vertical-frame-agrees laws sets level a.frame b.frame in-a.frame in-b.frame in
+      let system = system-agrees laws sets level a.system b.system (numbered laws a.system in-a.system (vertical_dimensions a.system.system_type) (vertical-small a.system.system_type) in-a.dimension) (numbered laws b.system in-b.system (vertical_dimensions b.system.system_type) (vertical-small b.system.system_type) in-b.dimension) in
+      let models = sets.geoid_models level a.geoid_models b.geoid_models in-a.geoid_models in-b.geoid_models in
+      let tail = tail-agrees sets level a.tail b.tail in-a.tail in-b.tail in (
+        λ e. record {
+          name = ap (λ (x : VerticalParts). x.name) e;
+          frame = frame.0 (ap (λ (x : VerticalParts). x.frame) e);
+          system = system.0 (ap (λ (x : VerticalParts). x.system) e);
+          geoid_models = models.0 (ap (λ (x : VerticalParts). x.geoid_models) e);
+          tail = tail.0 (ap (λ (x : VerticalParts). x.tail) e);
+        },
+        λ s. λ i. record {
+          name = s.name i;
+          frame = frame.1 s.frame i;
+          system = system.1 s.system i;
+          geoid_models = models.1 s.geoid_models i;
+          tail = tail.1 s.tail i;
+        },
+      )
 
   -- ---- compound CRSs
 
@@ -227,24 +175,18 @@ module _ (laws : LowerLaws) (sets : SetsDecide) (level : Level) where
   )
 
   pub compound-agrees : FormDecides IsCompound (norm_compound level) (SameCompound level)
-  compound-agrees a b in-a in-b = (
-    λ e. record {
-      name = ap (λ (x : CompoundParts). x.name) e;
-      horizontal = plane.0 (ap (λ (x : CompoundParts). x.horizontal) e);
-      vertical = height.0 (ap (λ (x : CompoundParts). x.vertical) e);
-      tail = tail.0 (ap (λ (x : CompoundParts). x.tail) e);
-    },
-    λ s. λ i. record { name = s.name i; horizontal = plane.1 s.horizontal i; vertical = height.1 s.vertical i; tail = tail.1 s.tail i },
-  )
-    where
-      plane : (norm_horizontal level a.horizontal ≡ norm_horizontal level b.horizontal) ↔ SameHorizontal level a.horizontal b.horizontal
-      plane = horizontal-agrees a.horizontal b.horizontal in-a.horizontal in-b.horizontal
-
-      height : (norm_vertical level a.vertical ≡ norm_vertical level b.vertical) ↔ SameVertical level a.vertical b.vertical
-      height = vertical-agrees a.vertical b.vertical in-a.vertical in-b.vertical
-
-      tail : (norm_tail level a.tail ≡ norm_tail level b.tail) ↔ SameTail level a.tail b.tail
-      tail = tail-agrees sets level a.tail b.tail in-a.tail in-b.tail
+  compound-agrees a b in-a in-b =
+      let plane = horizontal-agrees a.horizontal b.horizontal in-a.horizontal in-b.horizontal in
+      let height = vertical-agrees a.vertical b.vertical in-a.vertical in-b.vertical in
+      let tail = tail-agrees sets level a.tail b.tail in-a.tail in-b.tail in (
+        λ e. record {
+          name = ap (λ (x : CompoundParts). x.name) e;
+          horizontal = plane.0 (ap (λ (x : CompoundParts). x.horizontal) e);
+          vertical = height.0 (ap (λ (x : CompoundParts). x.vertical) e);
+          tail = tail.0 (ap (λ (x : CompoundParts). x.tail) e);
+        },
+        λ s. λ i. record { name = s.name i; horizontal = plane.1 s.horizontal i; vertical = height.1 s.vertical i; tail = tail.1 s.tail i },
+      )
 
   -- ---- all
 

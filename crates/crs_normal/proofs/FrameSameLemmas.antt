@@ -1,5 +1,5 @@
 -- Ellipsoids, prime meridians, reference frames and ensembles have one form exactly where they are the same.
-use Rattle.std.proofs.Common.{◌≡◌, ◌↔◌, ◌⊎◌, ◌*◌, ℕ, inl, inr, Bool, true, false, [], Option, Some, None, refl, sym, ap, arith, if◌then◌else◌}
+use Rattle.std.proofs.Common.{◌≡◌, ◌↔◌, ◌⊎◌, ◌*◌, ℕ, inl, inr, Bool, true, false, Option, Some, None, refl, sym, ap, arith, if◌then◌else◌}
 use Rattle.std.specs.Option.{option_map}
 use Rattle.std.proofs.lemmas.Bool.{eqb-true, false≢true}
 use Rattle.crs_decimal.specs.Value.{Value, IsNormal}
@@ -12,12 +12,12 @@ use Rattle.crs_value.specs.declared.level.Level.{Level}
 use Rattle.crs_value.specs.declared.unit_kind.UnitKind.TheVariants as kinds
 use Rattle.crs_same.specs.SameFrames.{IsGreenwich, IsZero, SameDatum, SameEllipsoid, SameEnsemble, SameFrame, SameGiven, SameMember, SameMeridian}
 use Rattle.crs_same.specs.SameIdents.{SameIdents}
-use Rattle.crs_same.specs.SameUnits.{HasNoIdents, SameLength, SameUnit, SameValue}
-use Rattle.crs_same.specs.Sets.{BothOrNeither, SameSet}
+use Rattle.crs_same.specs.SameUnits.{SameUnit, SameValue}
+use Rattle.crs_same.specs.Sets.{BothOrNeither}
 use Rattle.crs_normal.specs.Decides.{FormDecides, Maybe, SetsDecide}
 use Rattle.crs_normal.specs.LowerLaws.{LowerLaws}
-use Rattle.crs_normal.specs.SpelledFrames.{greenwich, is_zero, norm_datum, norm_ellipsoid, norm_ensemble, norm_frame, norm_given, norm_member, norm_meridian, set_members}
-use Rattle.crs_normal.specs.SpelledUnits.{norm_length, norm_units, set_idents, whole_value}
+use Rattle.crs_normal.specs.SpelledFrames.{greenwich, is_zero, norm_datum, norm_ellipsoid, norm_ensemble, norm_frame, norm_given, norm_member, norm_meridian}
+use Rattle.crs_normal.specs.SpelledUnits.{norm_length, norm_units, set_idents}
 use Rattle.crs_normal.proofs.PartSameLemmas.{options-agree, values-agree}
 use Rattle.crs_normal.proofs.UnitSameLemmas.{length-agrees, none-agree, some-one, units-of-agree, whole-agrees}
 
@@ -47,34 +47,26 @@ counted false false x y e = (
 
 module _ (laws : LowerLaws) (sets : SetsDecide) (level : Level) where
   pub ellipsoid-agrees : FormDecides IsEllipsoid (norm_ellipsoid level) (SameEllipsoid level)
-  ellipsoid-agrees a b in-a in-b = (
-    λ e. record {
-      name = ap (λ (x : EllipsoidParts). x.name) e;
-      semi_major_axis = axis.0 (ap (λ (x : EllipsoidParts). x.semi_major_axis) e);
-      inverse_flattening = flattening.0 (ap (λ (x : EllipsoidParts). x.inverse_flattening) e);
-      unit = unit.0 (some-one (norm_length level a.unit) (norm_length level b.unit) (ap (λ (x : EllipsoidParts). x.unit) e));
-      ids = ids.0 (ap (λ (x : EllipsoidParts). x.ids) e);
-    },
-    λ s. λ i. record {
-      name = s.name i;
-      semi_major_axis = axis.1 s.semi_major_axis i;
-      inverse_flattening = flattening.1 s.inverse_flattening i;
-      unit = Some (unit.1 s.unit i);
-      ids = ids.1 s.ids i;
-    },
-  )
-    where
-      axis : (a.semi_major_axis ≡ b.semi_major_axis) ↔ SameValue a.semi_major_axis b.semi_major_axis
-      axis = values-agree laws a.semi_major_axis b.semi_major_axis in-a.semi_major_axis in-b.semi_major_axis
-
-      flattening : (a.inverse_flattening ≡ b.inverse_flattening) ↔ SameValue a.inverse_flattening b.inverse_flattening
-      flattening = values-agree laws a.inverse_flattening b.inverse_flattening in-a.inverse_flattening in-b.inverse_flattening
-
-      unit : (norm_length level a.unit ≡ norm_length level b.unit) ↔ SameLength level a.unit b.unit
-      unit = length-agrees laws sets level a.unit b.unit in-a.unit in-b.unit
-
-      ids : (set_idents level a.ids ≡ set_idents level b.ids) ↔ SameIdents level a.ids b.ids
-      ids = sets.idents level a.ids b.ids in-a.ids in-b.ids
+  ellipsoid-agrees a b in-a in-b =
+      let axis = values-agree laws a.semi_major_axis b.semi_major_axis in-a.semi_major_axis in-b.semi_major_axis in
+      let flattening = values-agree laws a.inverse_flattening b.inverse_flattening in-a.inverse_flattening in-b.inverse_flattening in
+      let unit = length-agrees laws sets level a.unit b.unit in-a.unit in-b.unit in
+      let ids = sets.idents level a.ids b.ids in-a.ids in-b.ids in (
+        λ e. record {
+          name = ap (λ (x : EllipsoidParts). x.name) e;
+          semi_major_axis = axis.0 (ap (λ (x : EllipsoidParts). x.semi_major_axis) e);
+          inverse_flattening = flattening.0 (ap (λ (x : EllipsoidParts). x.inverse_flattening) e);
+          unit = unit.0 (some-one (norm_length level a.unit) (norm_length level b.unit) (ap (λ (x : EllipsoidParts). x.unit) e));
+          ids = ids.0 (ap (λ (x : EllipsoidParts). x.ids) e);
+        },
+        λ s. λ i. record {
+          name = s.name i;
+          semi_major_axis = axis.1 s.semi_major_axis i;
+          inverse_flattening = flattening.1 s.inverse_flattening i;
+          unit = Some (unit.1 s.unit i);
+          ids = ids.1 s.ids i;
+        },
+      )
 
   pub ellipsoids-agree : FormDecides (Maybe IsEllipsoid) (option_map (norm_ellipsoid level)) (BothOrNeither (SameEllipsoid level))
   ellipsoids-agree =
@@ -83,25 +75,21 @@ module _ (laws : LowerLaws) (sets : SetsDecide) (level : Level) where
   -- ---- prime meridians
 
   greenwich-agrees : (m : MeridianParts) → IsMeridian m → (norm_given level m ≡ greenwich) ↔ IsGreenwich level m
-  greenwich-agrees m in-m = (
-    λ e. record {
-      name = ap (λ (x : MeridianParts). x.name) e;
-      longitude = longitude.0 (ap (λ (x : MeridianParts). x.longitude) e);
-      ids = ids.0 (ap (λ (x : MeridianParts). x.ids) e);
-    },
-    λ s. λ i. record {
-      name = s.name i;
-      longitude = longitude.1 s.longitude i;
-      unit = ap (λ t. if t then None else norm_units level kinds.Angle m.unit) ((zero-agrees laws m.longitude in-m.longitude).1 s.longitude) i;
-      ids = ids.1 s.ids i;
-    },
-  )
-    where
-      longitude : (m.longitude ≡ whole_value 0) ↔ IsZero m.longitude
-      longitude = whole-agrees laws 0 refl m.longitude in-m.longitude
-
-      ids : (set_idents level m.ids ≡ []) ↔ HasNoIdents level m.ids
-      ids = none-agree sets level m.ids in-m.ids
+  greenwich-agrees m in-m =
+      let longitude = whole-agrees laws 0 refl m.longitude in-m.longitude in
+      let ids = none-agree sets level m.ids in-m.ids in (
+        λ e. record {
+          name = ap (λ (x : MeridianParts). x.name) e;
+          longitude = longitude.0 (ap (λ (x : MeridianParts). x.longitude) e);
+          ids = ids.0 (ap (λ (x : MeridianParts). x.ids) e);
+        },
+        λ s. λ i. record {
+          name = s.name i;
+          longitude = longitude.1 s.longitude i;
+          unit = ap (λ t. if t then None else norm_units level kinds.Angle m.unit) ((zero-agrees laws m.longitude in-m.longitude).1 s.longitude) i;
+          ids = ids.1 s.ids i;
+        },
+      )
 
   -- the unit as it stands in the form
   abbrev unit_in : MeridianParts → Option UnitParts
@@ -169,60 +157,46 @@ module _ (laws : LowerLaws) (sets : SetsDecide) (level : Level) where
   -- ---- frames
 
   pub member-agrees : FormDecides IsMember (norm_member level) (SameMember level)
-  member-agrees a b in-a in-b = (
-    λ e. record { name = ap (λ (x : MemberParts). x.name) e; ids = ids.0 (ap (λ (x : MemberParts). x.ids) e) },
-    λ s. λ i. record { name = s.name i; ids = ids.1 s.ids i },
-  )
-    where
-      ids : (set_idents level a.ids ≡ set_idents level b.ids) ↔ SameIdents level a.ids b.ids
-      ids = sets.idents level a.ids b.ids in-a.ids in-b.ids
+  member-agrees a b in-a in-b =
+      let ids = sets.idents level a.ids b.ids in-a.ids in-b.ids in (
+        λ e. record { name = ap (λ (x : MemberParts). x.name) e; ids = ids.0 (ap (λ (x : MemberParts). x.ids) e) },
+        λ s. λ i. record { name = s.name i; ids = ids.1 s.ids i },
+      )
 
   pub datum-agrees : FormDecides IsDatum (norm_datum level) (SameDatum level)
-  datum-agrees a b in-a in-b = (
-    λ e. record {
-      name = ap (λ (x : DatumParts). x.name) e;
-      ellipsoid = ellipsoid.0 (ap (λ (x : DatumParts). x.ellipsoid) e);
-      anchor = ap (λ (x : DatumParts). x.anchor) e;
-      ids = ids.0 (ap (λ (x : DatumParts). x.ids) e);
-    },
-    λ s. λ i. record { name = s.name i; ellipsoid = ellipsoid.1 s.ellipsoid i; anchor = s.anchor i; ids = ids.1 s.ids i },
-  )
-    where
-      ellipsoid : (option_map (norm_ellipsoid level) a.ellipsoid ≡ option_map (norm_ellipsoid level) b.ellipsoid) ↔ BothOrNeither (SameEllipsoid level) a.ellipsoid b.ellipsoid
-      ellipsoid = ellipsoids-agree a.ellipsoid b.ellipsoid in-a.ellipsoid in-b.ellipsoid
-
-      ids : (set_idents level a.ids ≡ set_idents level b.ids) ↔ SameIdents level a.ids b.ids
-      ids = sets.idents level a.ids b.ids in-a.ids in-b.ids
+  datum-agrees a b in-a in-b =
+      let ellipsoid = ellipsoids-agree a.ellipsoid b.ellipsoid in-a.ellipsoid in-b.ellipsoid in
+      let ids = sets.idents level a.ids b.ids in-a.ids in-b.ids in (
+        λ e. record {
+          name = ap (λ (x : DatumParts). x.name) e;
+          ellipsoid = ellipsoid.0 (ap (λ (x : DatumParts). x.ellipsoid) e);
+          anchor = ap (λ (x : DatumParts). x.anchor) e;
+          ids = ids.0 (ap (λ (x : DatumParts). x.ids) e);
+        },
+        λ s. λ i. record { name = s.name i; ellipsoid = ellipsoid.1 s.ellipsoid i; anchor = s.anchor i; ids = ids.1 s.ids i },
+      )
 
   pub ensemble-agrees : FormDecides IsEnsemble (norm_ensemble level) (SameEnsemble level)
-  ensemble-agrees a b in-a in-b = (
-    λ e. record {
-      name = ap (λ (x : EnsembleParts). x.name) e;
-      members = members.0 (ap (λ (x : EnsembleParts). x.members) e);
-      ellipsoid = ellipsoid.0 (ap (λ (x : EnsembleParts). x.ellipsoid) e);
-      accuracy = accuracy.0 (ap (λ (x : EnsembleParts). x.accuracy) e);
-      ids = ids.0 (ap (λ (x : EnsembleParts). x.ids) e);
-    },
-    λ s. λ i. record {
-      name = s.name i;
-      members = members.1 s.members i;
-      ellipsoid = ellipsoid.1 s.ellipsoid i;
-      accuracy = accuracy.1 s.accuracy i;
-      ids = ids.1 s.ids i;
-    },
-  )
-    where
-      members : (set_members level a.members ≡ set_members level b.members) ↔ SameSet (SameMember level) a.members b.members
-      members = sets.members level a.members b.members in-a.members in-b.members
-
-      ellipsoid : (option_map (norm_ellipsoid level) a.ellipsoid ≡ option_map (norm_ellipsoid level) b.ellipsoid) ↔ BothOrNeither (SameEllipsoid level) a.ellipsoid b.ellipsoid
-      ellipsoid = ellipsoids-agree a.ellipsoid b.ellipsoid in-a.ellipsoid in-b.ellipsoid
-
-      accuracy : (a.accuracy ≡ b.accuracy) ↔ SameValue a.accuracy b.accuracy
-      accuracy = values-agree laws a.accuracy b.accuracy in-a.accuracy in-b.accuracy
-
-      ids : (set_idents level a.ids ≡ set_idents level b.ids) ↔ SameIdents level a.ids b.ids
-      ids = sets.idents level a.ids b.ids in-a.ids in-b.ids
+  ensemble-agrees a b in-a in-b =
+      let members = sets.members level a.members b.members in-a.members in-b.members in
+      let ellipsoid = ellipsoids-agree a.ellipsoid b.ellipsoid in-a.ellipsoid in-b.ellipsoid in
+      let accuracy = values-agree laws a.accuracy b.accuracy in-a.accuracy in-b.accuracy in
+      let ids = sets.idents level a.ids b.ids in-a.ids in-b.ids in (
+        λ e. record {
+          name = ap (λ (x : EnsembleParts). x.name) e;
+          members = members.0 (ap (λ (x : EnsembleParts). x.members) e);
+          ellipsoid = ellipsoid.0 (ap (λ (x : EnsembleParts). x.ellipsoid) e);
+          accuracy = accuracy.0 (ap (λ (x : EnsembleParts). x.accuracy) e);
+          ids = ids.0 (ap (λ (x : EnsembleParts). x.ids) e);
+        },
+        λ s. λ i. record {
+          name = s.name i;
+          members = members.1 s.members i;
+          ellipsoid = ellipsoid.1 s.ellipsoid i;
+          accuracy = accuracy.1 s.accuracy i;
+          ids = ids.1 s.ids i;
+        },
+      )
 
   -- either sort of frame
   abbrev IsFrame : Frame → Type 0

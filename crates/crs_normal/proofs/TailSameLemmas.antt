@@ -7,78 +7,56 @@ use Rattle.crs_value.specs.SoundUsages.{IsBox, IsExtent, IsTail, IsUsage, SaysSo
 use Rattle.crs_value.specs.Values.{BoxParts, ExtentParts, TailParts, UsageParts}
 use Rattle.crs_value.specs.declared.level.Level.{Level}
 use Rattle.crs_value.specs.declared.level.Level.TheVariants as levels
-use Rattle.crs_same.specs.SameIdents.{SameIdents}
-use Rattle.crs_same.specs.SameUnits.{SameLength, SameValue}
 use Rattle.crs_same.specs.SameUsages.{SameBox, SameExtent, SameRemark, SameTail, SameUsage, SameUsages, says_some, usages_of}
-use Rattle.crs_same.specs.Sets.{BothOrNeither}
 use Rattle.crs_normal.specs.Decides.{FormDecides, IsSomeUsage, SetsDecide}
 use Rattle.crs_normal.specs.LowerLaws.{LowerLaws}
-use Rattle.crs_normal.specs.SpelledUnits.{norm_length, set_idents}
+use Rattle.crs_normal.specs.SpelledUnits.{norm_length}
 use Rattle.crs_normal.specs.SpelledUsages.{norm_extent, norm_remark, norm_tail, norm_usage, nothing, set_usages}
 use Rattle.crs_normal.proofs.PartSameLemmas.{options-agree, values-agree}
 use Rattle.crs_normal.proofs.UnitSameLemmas.{length-agrees, some-one}
 
 module _ (laws : LowerLaws) where
   pub box-agrees : FormDecides IsBox (λ box. box) SameBox
-  box-agrees a b in-a in-b = (
-    λ e. record {
-      south = south.0 (ap (λ (x : BoxParts). x.south) e);
-      west = west.0 (ap (λ (x : BoxParts). x.west) e);
-      north = north.0 (ap (λ (x : BoxParts). x.north) e);
-      east = east.0 (ap (λ (x : BoxParts). x.east) e);
-    },
-    λ s. λ i. record { south = south.1 s.south i; west = west.1 s.west i; north = north.1 s.north i; east = east.1 s.east i },
-  )
-    where
-      south : (a.south ≡ b.south) ↔ SameValue a.south b.south
-      south = values-agree laws a.south b.south in-a.south in-b.south
-
-      west : (a.west ≡ b.west) ↔ SameValue a.west b.west
-      west = values-agree laws a.west b.west in-a.west in-b.west
-
-      north : (a.north ≡ b.north) ↔ SameValue a.north b.north
-      north = values-agree laws a.north b.north in-a.north in-b.north
-
-      east : (a.east ≡ b.east) ↔ SameValue a.east b.east
-      east = values-agree laws a.east b.east in-a.east in-b.east
+  box-agrees a b in-a in-b =
+      let south = values-agree laws a.south b.south in-a.south in-b.south in
+      let west = values-agree laws a.west b.west in-a.west in-b.west in
+      let north = values-agree laws a.north b.north in-a.north in-b.north in
+      let east = values-agree laws a.east b.east in-a.east in-b.east in (
+        λ e. record {
+          south = south.0 (ap (λ (x : BoxParts). x.south) e);
+          west = west.0 (ap (λ (x : BoxParts). x.west) e);
+          north = north.0 (ap (λ (x : BoxParts). x.north) e);
+          east = east.0 (ap (λ (x : BoxParts). x.east) e);
+        },
+        λ s. λ i. record { south = south.1 s.south i; west = west.1 s.west i; north = north.1 s.north i; east = east.1 s.east i },
+      )
 
 module _ (laws : LowerLaws) (sets : SetsDecide) where
   pub extent-agrees : (level : Level) → FormDecides IsExtent (norm_extent level) (SameExtent level)
-  extent-agrees level a b in-a in-b = (
-    λ e. record {
-      minimum = minimum.0 (ap (λ (x : ExtentParts). x.minimum) e);
-      maximum = maximum.0 (ap (λ (x : ExtentParts). x.maximum) e);
-      unit = unit.0 (some-one (norm_length level a.unit) (norm_length level b.unit) (ap (λ (x : ExtentParts). x.unit) e));
-    },
-    λ s. λ i. record { minimum = minimum.1 s.minimum i; maximum = maximum.1 s.maximum i; unit = Some (unit.1 s.unit i) },
-  )
-    where
-      minimum : (a.minimum ≡ b.minimum) ↔ SameValue a.minimum b.minimum
-      minimum = values-agree laws a.minimum b.minimum in-a.minimum in-b.minimum
-
-      maximum : (a.maximum ≡ b.maximum) ↔ SameValue a.maximum b.maximum
-      maximum = values-agree laws a.maximum b.maximum in-a.maximum in-b.maximum
-
-      unit : (norm_length level a.unit ≡ norm_length level b.unit) ↔ SameLength level a.unit b.unit
-      unit = length-agrees laws sets level a.unit b.unit in-a.unit in-b.unit
+  extent-agrees level a b in-a in-b =
+      let minimum = values-agree laws a.minimum b.minimum in-a.minimum in-b.minimum in
+      let maximum = values-agree laws a.maximum b.maximum in-a.maximum in-b.maximum in
+      let unit = length-agrees laws sets level a.unit b.unit in-a.unit in-b.unit in (
+        λ e. record {
+          minimum = minimum.0 (ap (λ (x : ExtentParts). x.minimum) e);
+          maximum = maximum.0 (ap (λ (x : ExtentParts). x.maximum) e);
+          unit = unit.0 (some-one (norm_length level a.unit) (norm_length level b.unit) (ap (λ (x : ExtentParts). x.unit) e));
+        },
+        λ s. λ i. record { minimum = minimum.1 s.minimum i; maximum = maximum.1 s.maximum i; unit = Some (unit.1 s.unit i) },
+      )
 
   pub usage-agrees : FormDecides IsUsage norm_usage SameUsage
-  usage-agrees a b in-a in-b = (
-    λ e. record {
-      scope = ap (λ (x : UsageParts). x.scope) e;
-      area = ap (λ (x : UsageParts). x.area) e;
-      bbox = bbox.0 (ap (λ (x : UsageParts). x.bbox) e);
-      extent = extent.0 (ap (λ (x : UsageParts). x.extent) e);
-    },
-    λ s. λ i. record { scope = s.scope i; area = s.area i; bbox = bbox.1 s.bbox i; extent = extent.1 s.extent i },
-  )
-    where
-      bbox : (a.bbox ≡ b.bbox) ↔ BothOrNeither SameBox a.bbox b.bbox
-      bbox = options-agree IsBox (λ x. x) SameBox (box-agrees laws) (λ x. x) refl (λ x. refl) a.bbox b.bbox in-a.bbox in-b.bbox
-
-      extent : (option_map (norm_extent levels.Full) a.extent ≡ option_map (norm_extent levels.Full) b.extent) ↔ BothOrNeither (SameExtent levels.Full) a.extent b.extent
-      extent =
-          options-agree IsExtent (norm_extent levels.Full) (SameExtent levels.Full) (extent-agrees levels.Full) (option_map (norm_extent levels.Full)) refl (λ x. refl) a.extent b.extent in-a.extent in-b.extent
+  usage-agrees a b in-a in-b =
+      let bbox = options-agree IsBox (λ x. x) SameBox (box-agrees laws) (λ x. x) refl (λ x. refl) a.bbox b.bbox in-a.bbox in-b.bbox in
+      let extent = options-agree IsExtent (norm_extent levels.Full) (SameExtent levels.Full) (extent-agrees levels.Full) (option_map (norm_extent levels.Full)) refl (λ x. refl) a.extent b.extent in-a.extent in-b.extent in (
+        λ e. record {
+          scope = ap (λ (x : UsageParts). x.scope) e;
+          area = ap (λ (x : UsageParts). x.area) e;
+          bbox = bbox.0 (ap (λ (x : UsageParts). x.bbox) e);
+          extent = extent.0 (ap (λ (x : UsageParts). x.extent) e);
+        },
+        λ s. λ i. record { scope = s.scope i; area = s.area i; bbox = bbox.1 s.bbox i; extent = extent.1 s.extent i },
+      )
 
 -- ---- the usages at a CRS's end
 
@@ -112,20 +90,14 @@ module _ (sets : SetsDecide) where
   remarks-agree levels.Full a b = (λ e. e, λ s. s)
 
   pub tail-agrees : (level : Level) → FormDecides IsTail (norm_tail level) (SameTail level)
-  tail-agrees level a b in-a in-b = (
-    λ e. record {
-      usages = usages.0 (ap (λ (x : TailParts). x.usages) e);
-      ids = ids.0 (ap (λ (x : TailParts). x.ids) e);
-      remark = remark.0 (ap (λ (x : TailParts). x.remark) e);
-    },
-    λ s. λ i. record { usages = usages.1 s.usages i; bare = nothing; ids = ids.1 s.ids i; remark = remark.1 s.remark i },
-  )
-    where
-      usages : (set_usages level (usages_of a) ≡ set_usages level (usages_of b)) ↔ SameUsages level a b
-      usages = usages-agree level a b in-a in-b
-
-      remark : (norm_remark level a.remark ≡ norm_remark level b.remark) ↔ SameRemark level a b
-      remark = remarks-agree level a b
-
-      ids : (set_idents level a.ids ≡ set_idents level b.ids) ↔ SameIdents level a.ids b.ids
-      ids = sets.idents level a.ids b.ids in-a.ids in-b.ids
+  tail-agrees level a b in-a in-b =
+      let usages = usages-agree level a b in-a in-b in
+      let remark = remarks-agree level a b in
+      let ids = sets.idents level a.ids b.ids in-a.ids in-b.ids in (
+        λ e. record {
+          usages = usages.0 (ap (λ (x : TailParts). x.usages) e);
+          ids = ids.0 (ap (λ (x : TailParts). x.ids) e);
+          remark = remark.0 (ap (λ (x : TailParts). x.remark) e);
+        },
+        λ s. λ i. record { usages = usages.1 s.usages i; bare = nothing; ids = ids.1 s.ids i; remark = remark.1 s.remark i },
+      )

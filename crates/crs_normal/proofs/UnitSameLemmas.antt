@@ -9,7 +9,7 @@ use Rattle.crs_value.specs.declared.level.Level.TheVariants as levels
 use Rattle.crs_value.specs.declared.unit_kind.UnitKind.{UnitKind}
 use Rattle.crs_value.specs.declared.unit_kind.UnitKind.TheVariants as kinds
 use Rattle.crs_same.specs.SameIdents.{SameIdents}
-use Rattle.crs_same.specs.SameUnits.{HasNoIdents, IsMetre, SameLength, SameUnit, SameValue}
+use Rattle.crs_same.specs.SameUnits.{HasNoIdents, IsMetre, SameLength, SameUnit}
 use Rattle.crs_same.specs.Sets.{BothOrNeither}
 use Rattle.crs_normal.specs.Decides.{FormDecides, Maybe, SetsDecide}
 use Rattle.crs_normal.specs.LowerLaws.{LowerLaws}
@@ -45,21 +45,17 @@ whole-agrees laws k normal v in-v = let same = laws.normal_is_one v (whole_value
 
 module _ (laws : LowerLaws) (sets : SetsDecide) (level : Level) where
   pub unit-agrees : (asked : UnitKind) → FormDecides IsUnit (norm_unit level asked) (SameUnit asked level)
-  unit-agrees asked a b in-a in-b = (
-    λ e. record {
-      kind = ap (λ (u : UnitParts). u.kind) e;
-      name = ap (λ (u : UnitParts). u.name) e;
-      factor = factor.0 (ap (λ (u : UnitParts). u.factor) e);
-      ids = ids.0 (ap (λ (u : UnitParts). u.ids) e);
-    },
-    λ s. λ i. record { kind = s.kind i; name = s.name i; factor = factor.1 s.factor i; ids = ids.1 s.ids i },
-  )
-    where
-      factor : (a.factor ≡ b.factor) ↔ SameValue a.factor b.factor
-      factor = values-agree laws a.factor b.factor in-a.factor in-b.factor
-
-      ids : (set_idents level a.ids ≡ set_idents level b.ids) ↔ SameIdents level a.ids b.ids
-      ids = sets.idents level a.ids b.ids in-a.ids in-b.ids
+  unit-agrees asked a b in-a in-b =
+      let factor = values-agree laws a.factor b.factor in-a.factor in-b.factor in
+      let ids = sets.idents level a.ids b.ids in-a.ids in-b.ids in (
+        λ e. record {
+          kind = ap (λ (u : UnitParts). u.kind) e;
+          name = ap (λ (u : UnitParts). u.name) e;
+          factor = factor.0 (ap (λ (u : UnitParts). u.factor) e);
+          ids = ids.0 (ap (λ (u : UnitParts). u.ids) e);
+        },
+        λ s. λ i. record { kind = s.kind i; name = s.name i; factor = factor.1 s.factor i; ids = ids.1 s.ids i },
+      )
 
   pub units-agree : (asked : UnitKind) → FormDecides (Maybe IsUnit) (norm_units level asked) (BothOrNeither (SameUnit asked level))
   units-agree asked =
@@ -71,21 +67,17 @@ module _ (laws : LowerLaws) (sets : SetsDecide) (level : Level) where
       options-agree (IsUnitOf kind) (norm_unit level asked) (SameUnit asked level) (λ a b in-a in-b. unit-agrees asked a b in-a.0 in-b.0) (norm_units level asked) refl (λ u. refl)
 
   metre-agrees : (u : UnitParts) → IsUnit u → (norm_unit level kinds.Length u ≡ metre) ↔ IsMetre level u
-  metre-agrees u in-u = (
-    λ e. record {
-      kind = ap (λ (u : UnitParts). u.kind) e;
-      name = ap (λ (u : UnitParts). u.name) e;
-      factor = factor.0 (ap (λ (u : UnitParts). u.factor) e);
-      ids = ids.0 (ap (λ (u : UnitParts). u.ids) e);
-    },
-    λ s. λ i. record { kind = s.kind i; name = s.name i; factor = factor.1 s.factor i; ids = ids.1 s.ids i },
-  )
-    where
-      factor : (u.factor ≡ whole_value 1) ↔ SameNumber (exact u.factor) (whole_number 1)
-      factor = whole-agrees laws 1 refl u.factor in-u.factor
-
-      ids : (set_idents level u.ids ≡ []) ↔ HasNoIdents level u.ids
-      ids = none-agree sets level u.ids in-u.ids
+  metre-agrees u in-u =
+      let factor = whole-agrees laws 1 refl u.factor in-u.factor in
+      let ids = none-agree sets level u.ids in-u.ids in (
+        λ e. record {
+          kind = ap (λ (u : UnitParts). u.kind) e;
+          name = ap (λ (u : UnitParts). u.name) e;
+          factor = factor.0 (ap (λ (u : UnitParts). u.factor) e);
+          ids = ids.0 (ap (λ (u : UnitParts). u.ids) e);
+        },
+        λ s. λ i. record { kind = s.kind i; name = s.name i; factor = factor.1 s.factor i; ids = ids.1 s.ids i },
+      )
 
   pub length-agrees : FormDecides (Maybe (IsUnitOf kinds.Length)) (norm_length level) (SameLength level)
   length-agrees None None in-a in-b = (λ e. tt, λ s. refl)
