@@ -44,12 +44,21 @@ module _ (laws : LowerLaws) (sets : SetsDecide) (level : Level) where
           parameters = parameters.0 (ap (λ (x : ConversionParts). x.parameters) e);
           ids = ids.0 (ap (λ (x : ConversionParts). x.ids) e);
         },
-        λ s. λ i. record { name = s.name i; method = method.1 s.method i; parameters = parameters.1 s.parameters i; ids = ids.1 s.ids i },
+        λ s. λ i. record {
+          name = s.name i;
+          method = method.1 s.method i;
+          parameters = parameters.1 s.parameters i;
+          ids = ids.1 s.ids i;
+        },
       )
 
   pub geoid-model-agrees : FormDecides IsGeoidModel (norm_geoid_model level) (SameGeoidModel level)
   geoid-model-agrees a b in-a in-b =
       let ids = sets.idents level a.ids b.ids in-a.ids in-b.ids in (
-        λ e. record { name = ap (λ (x : GeoidModelParts). x.name) e; ids = ids.0 (ap (λ (x : GeoidModelParts). x.ids) e) },
+        λ e. record {
+          name = ap (λ (x : GeoidModelParts). x.name) e;
+          ids =
+              ids.0 (ap (λ (x : GeoidModelParts). x.ids) e);
+        },
         λ s. λ i. record { name = s.name i; ids = ids.1 s.ids i },
       )

@@ -18,11 +18,13 @@ use Rattle.crs_value.specs.declared.level.Level.{Level}
 use Rattle.crs_value.specs.declared.system_type.SystemType.{SystemType}
 use Rattle.crs_value.specs.declared.system_type.SystemType.TheVariants as types
 use Rattle.crs_value.specs.declared.unit_kind.UnitKind.TheVariants as kinds
-use Rattle.crs_same.specs.SameCrs.{SameBase, SameCompound, SameCrs, SameGeodetic, SameHorizontal, SameProjected, SameVertical}
+use Rattle.crs_same.specs.SameCrs.{SameBase, SameCompound, SameCrs, SameGeodetic, SameHorizontal, SameProjected}
+use Rattle.crs_same.specs.SameCrs.{SameVertical}
 use Rattle.crs_same.specs.SameSystems.{SameSystem}
 use Rattle.crs_normal.specs.Decides.{FormDecides, IsNumbered, SetsDecide}
 use Rattle.crs_normal.specs.LowerLaws.{LowerLaws}
-use Rattle.crs_normal.specs.SpelledCrs.{norm_base, norm_compound, norm_crs, norm_geodetic, norm_horizontal, norm_projected, norm_vertical}
+use Rattle.crs_normal.specs.SpelledCrs.{norm_base, norm_compound, norm_crs, norm_geodetic, norm_horizontal}
+use Rattle.crs_normal.specs.SpelledCrs.{norm_projected, norm_vertical}
 use Rattle.crs_normal.proofs.ConversionSameLemmas.{conversion-agrees}
 use Rattle.crs_normal.proofs.FrameSameLemmas.{geodetic-frame-agrees, meridian-agrees, vertical-frame-agrees}
 use Rattle.crs_normal.proofs.SystemSameLemmas.{system-agrees}
@@ -37,11 +39,13 @@ IsSmall n = n < 10 ^ 18
 wholes-same : (m n : ℕ) → SameNumber (whole_number m) (whole_number n) → m ≡ n
 wholes-same m n h = let s : m * 1 ≡ n * 1 = h.0 in omega (arith, s)
 
-numbered : LowerLaws → (system : SystemParts) → IsSystem system → (ns : List ℕ) → Each IsSmall ns → IsOneOf system.dimension ns → IsNumbered system
+numbered : LowerLaws → (system : SystemParts) → IsSystem system → (ns : List ℕ) → Each IsSmall ns →
+    IsOneOf system.dimension ns → IsNumbered system
 numbered laws system sound [] small one = absurd one
 numbered laws system sound (n ∷ ns) small (inl s) =
     let e : n ≡ length system.axes = wholes-same n (length system.axes)
-    (laws.transitive (whole_number n) (exact system.dimension) (whole_number (length system.axes)) (laws.symmetric (exact system.dimension) (whole_number n) s) sound.count) in
+    (laws.transitive (whole_number n) (exact system.dimension) (whole_number (length system.axes))
+    (laws.symmetric (exact system.dimension) (whole_number n) s) sound.count) in
     (sound, subst IsSmall e small.0)
 numbered laws system sound (n ∷ ns) small (inr s) = numbered laws system sound ns small.1 s
 
@@ -63,6 +67,21 @@ vertical-small types.Ellipsoidal = tt
 vertical-small types.Spherical = tt
 vertical-small types.Vertical = (omega arith, tt)
 
+geodetic-numbered : LowerLaws → (g : GeodeticParts) → IsGeodetic g → IsNumbered g.system
+geodetic-numbered laws g sound =
+    let type = g.system.system_type in
+    numbered laws g.system sound.system (geodetic_dimensions type) (geodetic-small type) sound.dimension
+
+projected-numbered : LowerLaws → (p : ProjectedParts) → IsProjected p → IsNumbered p.system
+projected-numbered laws p sound =
+    let type = p.system.system_type in
+    numbered laws p.system sound.system (projected_dimensions type) (projected-small type) sound.dimension
+
+vertical-numbered : LowerLaws → (v : VerticalParts) → IsVertical v → IsNumbered v.system
+vertical-numbered laws v sound =
+    let type = v.system.system_type in
+    numbered laws v.system sound.system (vertical_dimensions type) (vertical-small type) sound.dimension
+
 module _ (laws : LowerLaws) (sets : SetsDecide) (level : Level) where
   -- ---- geodetic and geographic CRSs
 
@@ -70,7 +89,9 @@ module _ (laws : LowerLaws) (sets : SetsDecide) (level : Level) where
   geodetic-agrees a b in-a in-b =
       let frame = geodetic-frame-agrees laws sets level a.frame b.frame in-a.frame in-b.frame in
       let meridian = meridian-agrees laws sets level a.meridian b.meridian in-a.meridian in-b.meridian in
-      let system = system-agrees laws sets level a.system b.system (numbered laws a.system in-a.system (geodetic_dimensions a.system.system_type) (geodetic-small a.system.system_type) in-a.dimension) (numbered laws b.system in-b.system (geodetic_dimensions b.system.system_type) (geodetic-small b.system.system_type) in-b.dimension) in
+      let numbered-a = geodetic-numbered laws a in-a in
+      let numbered-b = geodetic-numbered laws b in-b in
+      let system = system-agrees laws sets level a.system b.system numbered-a numbered-b in
       let tail = tail-agrees sets level a.tail b.tail in-a.tail in-b.tail in (
         λ e. let alike : SameSystem level a.system b.system = system.0 (ap (λ (x : GeodeticParts). x.system) e) in
             record {
@@ -118,7 +139,9 @@ module _ (laws : LowerLaws) (sets : SetsDecide) (level : Level) where
   projected-agrees a b in-a in-b =
       let base = base-agrees a.base b.base in-a.base in-b.base in
       let conversion = conversion-agrees laws sets level a.conversion b.conversion in-a.conversion in-b.conversion in
-      let system = system-agrees laws sets level a.system b.system (numbered laws a.system in-a.system (projected_dimensions a.system.system_type) (projected-small a.system.system_type) in-a.dimension) (numbered laws b.system in-b.system (projected_dimensions b.system.system_type) (projected-small b.system.system_type) in-b.dimension) in
+      let numbered-a = projected-numbered laws a in-a in
+      let numbered-b = projected-numbered laws b in-b in
+      let system = system-agrees laws sets level a.system b.system numbered-a numbered-b in
       let tail = tail-agrees sets level a.tail b.tail in-a.tail in-b.tail in (
         λ e. record {
           name = ap (λ (x : ProjectedParts). x.name) e;
@@ -141,7 +164,9 @@ module _ (laws : LowerLaws) (sets : SetsDecide) (level : Level) where
   pub vertical-agrees : FormDecides IsVertical (norm_vertical level) (SameVertical level)
   vertical-agrees a b in-a in-b =
       let frame = vertical-frame-agrees laws sets level a.frame b.frame in-a.frame in-b.frame in
-      let system = system-agrees laws sets level a.system b.system (numbered laws a.system in-a.system (vertical_dimensions a.system.system_type) (vertical-small a.system.system_type) in-a.dimension) (numbered laws b.system in-b.system (vertical_dimensions b.system.system_type) (vertical-small b.system.system_type) in-b.dimension) in
+      let numbered-a = vertical-numbered laws a in-a in
+      let numbered-b = vertical-numbered laws b in-b in
+      let system = system-agrees laws sets level a.system b.system numbered-a numbered-b in
       let models = sets.geoid_models level a.geoid_models b.geoid_models in-a.geoid_models in-b.geoid_models in
       let tail = tail-agrees sets level a.tail b.tail in-a.tail in-b.tail in (
         λ e. record {
@@ -185,7 +210,12 @@ module _ (laws : LowerLaws) (sets : SetsDecide) (level : Level) where
           vertical = height.0 (ap (λ (x : CompoundParts). x.vertical) e);
           tail = tail.0 (ap (λ (x : CompoundParts). x.tail) e);
         },
-        λ s. λ i. record { name = s.name i; horizontal = plane.1 s.horizontal i; vertical = height.1 s.vertical i; tail = tail.1 s.tail i },
+        λ s. λ i. record {
+          name = s.name i;
+          horizontal = plane.1 s.horizontal i;
+          vertical = height.1 s.vertical i;
+          tail = tail.1 s.tail i;
+        },
       )
 
   -- ---- all

@@ -1,5 +1,6 @@
 -- Ellipsoids, prime meridians, reference frames and ensembles have one form exactly where they are the same.
-use Rattle.std.proofs.Common.{◌≡◌, ◌↔◌, ◌⊎◌, ◌*◌, ℕ, inl, inr, Bool, true, false, Option, Some, None, refl, sym, ap, arith, if◌then◌else◌}
+use Rattle.std.proofs.Common.{◌≡◌, ◌↔◌, ◌⊎◌, ◌*◌, ℕ, inl, inr, Bool, true, false, Option, Some, None, refl, sym, ap}
+use Rattle.std.proofs.Common.{arith, if◌then◌else◌}
 use Rattle.std.specs.Option.{option_map}
 use Rattle.std.proofs.lemmas.Bool.{eqb-true, false≢true}
 use Rattle.crs_decimal.specs.Value.{Value, IsNormal}
@@ -10,13 +11,15 @@ use Rattle.crs_value.specs.declared.frame.Frame.{Frame}
 use Rattle.crs_value.specs.declared.frame.Frame.TheVariants as frame
 use Rattle.crs_value.specs.declared.level.Level.{Level}
 use Rattle.crs_value.specs.declared.unit_kind.UnitKind.TheVariants as kinds
-use Rattle.crs_same.specs.SameFrames.{IsGreenwich, IsZero, SameDatum, SameEllipsoid, SameEnsemble, SameFrame, SameGiven, SameMember, SameMeridian}
+use Rattle.crs_same.specs.SameFrames.{IsGreenwich, IsZero, SameDatum, SameEllipsoid, SameEnsemble, SameFrame, SameGiven}
+use Rattle.crs_same.specs.SameFrames.{SameMember, SameMeridian}
 use Rattle.crs_same.specs.SameIdents.{SameIdents}
 use Rattle.crs_same.specs.SameUnits.{SameUnit, SameValue}
 use Rattle.crs_same.specs.Sets.{BothOrNeither}
 use Rattle.crs_normal.specs.Decides.{FormDecides, Maybe, SetsDecide}
 use Rattle.crs_normal.specs.LowerLaws.{LowerLaws}
-use Rattle.crs_normal.specs.SpelledFrames.{greenwich, is_zero, norm_datum, norm_ellipsoid, norm_ensemble, norm_frame, norm_given, norm_member, norm_meridian}
+use Rattle.crs_normal.specs.SpelledFrames.{greenwich, is_zero, norm_datum, norm_ellipsoid, norm_ensemble, norm_frame}
+use Rattle.crs_normal.specs.SpelledFrames.{norm_given, norm_member, norm_meridian}
 use Rattle.crs_normal.specs.SpelledUnits.{norm_length, norm_units, set_idents}
 use Rattle.crs_normal.proofs.PartSameLemmas.{options-agree, values-agree}
 use Rattle.crs_normal.proofs.UnitSameLemmas.{length-agrees, none-agree, some-one, units-of-agree, whole-agrees}
@@ -33,7 +36,8 @@ zero-agrees laws v in-v = (
 )
 
 -- parts that count where the test fails, which is the same on both sides
-counted : {A : Type 0} (p q : Bool) (x y : Option A) → p ≡ q → ((if p then None else x) ≡ (if q then None else y)) ↔ ((p ≡ true) ⊎ (x ≡ y))
+counted : {A : Type 0} (p q : Bool) (x y : Option A) → p ≡ q → ((if p then None else x) ≡ (if q then None else y))
+    ↔ ((p ≡ true) ⊎ (x ≡ y))
 counted true true x y e = (λ f. inl refl, λ s. refl)
 counted true false x y e = absurd (false≢true (sym e))
 counted false true x y e = absurd (false≢true e)
@@ -49,14 +53,16 @@ module _ (laws : LowerLaws) (sets : SetsDecide) (level : Level) where
   pub ellipsoid-agrees : FormDecides IsEllipsoid (norm_ellipsoid level) (SameEllipsoid level)
   ellipsoid-agrees a b in-a in-b =
       let axis = values-agree laws a.semi_major_axis b.semi_major_axis in-a.semi_major_axis in-b.semi_major_axis in
-      let flattening = values-agree laws a.inverse_flattening b.inverse_flattening in-a.inverse_flattening in-b.inverse_flattening in
+      let flattening =
+      values-agree laws a.inverse_flattening b.inverse_flattening in-a.inverse_flattening in-b.inverse_flattening in
       let unit = length-agrees laws sets level a.unit b.unit in-a.unit in-b.unit in
       let ids = sets.idents level a.ids b.ids in-a.ids in-b.ids in (
         λ e. record {
           name = ap (λ (x : EllipsoidParts). x.name) e;
           semi_major_axis = axis.0 (ap (λ (x : EllipsoidParts). x.semi_major_axis) e);
           inverse_flattening = flattening.0 (ap (λ (x : EllipsoidParts). x.inverse_flattening) e);
-          unit = unit.0 (some-one (norm_length level a.unit) (norm_length level b.unit) (ap (λ (x : EllipsoidParts). x.unit) e));
+          unit = unit.0 (some-one (norm_length level a.unit) (norm_length level b.unit)
+              (ap (λ (x : EllipsoidParts). x.unit) e));
           ids = ids.0 (ap (λ (x : EllipsoidParts). x.ids) e);
         },
         λ s. λ i. record {
@@ -68,9 +74,11 @@ module _ (laws : LowerLaws) (sets : SetsDecide) (level : Level) where
         },
       )
 
-  pub ellipsoids-agree : FormDecides (Maybe IsEllipsoid) (option_map (norm_ellipsoid level)) (BothOrNeither (SameEllipsoid level))
+  pub ellipsoids-agree : FormDecides (Maybe IsEllipsoid) (option_map (norm_ellipsoid level))
+      (BothOrNeither (SameEllipsoid level))
   ellipsoids-agree =
-      options-agree IsEllipsoid (norm_ellipsoid level) (SameEllipsoid level) ellipsoid-agrees (option_map (norm_ellipsoid level)) refl (λ x. refl)
+      options-agree IsEllipsoid (norm_ellipsoid level) (SameEllipsoid level) ellipsoid-agrees
+      (option_map (norm_ellipsoid level)) refl (λ x. refl)
 
   -- ---- prime meridians
 
@@ -86,7 +94,8 @@ module _ (laws : LowerLaws) (sets : SetsDecide) (level : Level) where
         λ s. λ i. record {
           name = s.name i;
           longitude = longitude.1 s.longitude i;
-          unit = ap (λ t. if t then None else norm_units level kinds.Angle m.unit) ((zero-agrees laws m.longitude in-m.longitude).1 s.longitude) i;
+          unit = ap (λ t. if t then None else norm_units level kinds.Angle m.unit)
+              ((zero-agrees laws m.longitude in-m.longitude).1 s.longitude) i;
           ids = ids.1 s.ids i;
         },
       )
@@ -118,13 +127,17 @@ module _ (laws : LowerLaws) (sets : SetsDecide) (level : Level) where
       zero-a : (is_zero a.longitude ≡ true) ↔ IsZero a.longitude
       zero-a = zero-agrees laws a.longitude in-a.longitude
 
-      angles : (norm_units level kinds.Angle a.unit ≡ norm_units level kinds.Angle b.unit) ↔ BothOrNeither (SameUnit kinds.Angle level) a.unit b.unit
+      angles : (norm_units level kinds.Angle a.unit ≡ norm_units level kinds.Angle b.unit)
+          ↔ BothOrNeither (SameUnit kinds.Angle level) a.unit b.unit
       angles = units-of-agree laws sets level kinds.Angle kinds.Angle a.unit b.unit in-a.unit in-b.unit
 
-      tested : a.longitude ≡ b.longitude → (unit_in a ≡ unit_in b) ↔ ((is_zero a.longitude ≡ true) ⊎ (norm_units level kinds.Angle a.unit ≡ norm_units level kinds.Angle b.unit))
-      tested at = counted (is_zero a.longitude) (is_zero b.longitude) (norm_units level kinds.Angle a.unit) (norm_units level kinds.Angle b.unit) (ap is_zero at)
+      tested : a.longitude ≡ b.longitude → (unit_in a ≡ unit_in b)
+          ↔ ((is_zero a.longitude ≡ true) ⊎ (norm_units level kinds.Angle a.unit ≡ norm_units level kinds.Angle b.unit))
+      tested at = counted (is_zero a.longitude) (is_zero b.longitude) (norm_units level kinds.Angle a.unit)
+          (norm_units level kinds.Angle b.unit) (ap is_zero at)
 
-      unit : a.longitude ≡ b.longitude → (unit_in a ≡ unit_in b) ↔ (IsZero a.longitude ⊎ BothOrNeither (SameUnit kinds.Angle level) a.unit b.unit)
+      unit : a.longitude ≡ b.longitude → (unit_in a ≡ unit_in b)
+          ↔ (IsZero a.longitude ⊎ BothOrNeither (SameUnit kinds.Angle level) a.unit b.unit)
       unit at = (
         λ e. elim ((tested at).0 e) [
           | inl z ↦ inl (zero-a.0 z)
@@ -173,7 +186,12 @@ module _ (laws : LowerLaws) (sets : SetsDecide) (level : Level) where
           anchor = ap (λ (x : DatumParts). x.anchor) e;
           ids = ids.0 (ap (λ (x : DatumParts). x.ids) e);
         },
-        λ s. λ i. record { name = s.name i; ellipsoid = ellipsoid.1 s.ellipsoid i; anchor = s.anchor i; ids = ids.1 s.ids i },
+        λ s. λ i. record {
+          name = s.name i;
+          ellipsoid = ellipsoid.1 s.ellipsoid i;
+          anchor = s.anchor i;
+          ids = ids.1 s.ids i;
+        },
       )
 
   pub ensemble-agrees : FormDecides IsEnsemble (norm_ensemble level) (SameEnsemble level)

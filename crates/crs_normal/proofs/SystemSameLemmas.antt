@@ -1,5 +1,6 @@
 -- Coordinate systems have one form exactly where they are the same.
-use Rattle.std.proofs.Common.{◌≡◌, ◌↔◌, ◌∙◌, ℕ, zero, suc, ◌+◌, ◌<◌, ◌≤◌, ◌⊎◌, inl, inr, List, ◌∷◌, None, length, refl, sym, ap, subst, arith}
+use Rattle.std.proofs.Common.{◌≡◌, ◌↔◌, ◌∙◌, ℕ, zero, suc, ◌+◌, ◌<◌, ◌≤◌, ◌⊎◌, inl, inr, List, ◌∷◌, None, length, refl}
+use Rattle.std.proofs.Common.{sym, ap, subst, arith}
 use Rattle.std.specs.Prelude.{⊤}
 use Rattle.std.proofs.lemmas.Bool.{cases_lt}
 use Rattle.crs_value.specs.Values.{AxisParts, SystemParts}
@@ -15,21 +16,27 @@ use Rattle.crs_normal.proofs.AxisSameLemmas.{Found, axis-agrees, both-agree, fou
 use Rattle.crs_normal.proofs.PartSameLemmas.{values-agree}
 
 -- lists with a first member
-heads-agree : {P Q : Type 0} (x y : AxisParts) (xs ys : List AxisParts) → (x ≡ y) ↔ P → (xs ≡ ys) ↔ Q → ((x ∷ xs) ≡ (y ∷ ys)) ↔ (P × Q)
+heads-agree : {P Q : Type 0} (x y : AxisParts) (xs ys : List AxisParts) → (x ≡ y) ↔ P → (xs ≡ ys) ↔ Q →
+    ((x ∷ xs) ≡ (y ∷ ys)) ↔ (P × Q)
 heads-agree x y xs ys head tail = (λ e. (head.0 cc, tail.0 cc), λ s. λ i. head.1 s.0 i ∷ tail.1 s.1 i)
 
 module _ (laws : LowerLaws) (sets : SetsDecide) (level : Level) where
-  found-at : (system : SystemParts) → IsNumbered system → (k : ℕ) → 1 ≤ k → k ≤ length system.axes → Found k 1 system.axes
+  found-at : (system : SystemParts) → IsNumbered system → (k : ℕ) → 1 ≤ k → k ≤ length system.axes →
+      Found k 1 system.axes
   found-at system sound k first last =
-      found laws (λ axis. ⊤) k 1 system.axes (omega (arith, sound.1)) sound.0.axes (laws.some_axis system sound.0 k first last)
+      found laws (λ axis. ⊤) k 1 system.axes (omega (arith, sound.1)) sound.0.axes
+      (laws.some_axis system sound.0 k first last)
 
-  position-agrees : (a b : SystemParts) (k : ℕ) → IsNumbered a → IsNumbered b → a.system_type ≡ b.system_type → (x : Found k 1 a.axes) (y : Found k 1 b.axes) →
+  position-agrees : (a b : SystemParts) (k : ℕ) → IsNumbered a → IsNumbered b → a.system_type ≡ b.system_type →
+      (x : Found k 1 a.axes) (y : Found k 1 b.axes) →
       (norm_axis level a k x.axis ≡ norm_axis level b k y.axis) ↔ SameAt level a b k
   position-agrees a b k in-a in-b type x y =
       let axes : (norm_axis level a k x.axis ≡ norm_axis level b k y.axis) ↔ SameAxis level a b x.axis y.axis =
-      axis-agrees laws sets level a b k x.axis y.axis type in-a.0.unit in-b.0.unit (sound-at k 1 a.axes x.axis in-a.0.axes x.at) (sound-at k 1 b.axes y.axis in-b.0.axes y.at) in
+      axis-agrees laws sets level a b k x.axis y.axis type in-a.0.unit in-b.0.unit
+      (sound-at k 1 a.axes x.axis in-a.0.axes x.at) (sound-at k 1 b.axes y.axis in-b.0.axes y.at) in
       let both : SameAxis level a b x.axis y.axis ↔ SameAt level a b k =
-      both-agree (λ p q. SameAxis level a b p q) k a.axes b.axes x.axis y.axis (laws.one_axis a in-a.0 k) (laws.one_axis b in-b.0 k) x.at y.at in
+      both-agree (λ p q. SameAxis level a b p q) k a.axes b.axes x.axis y.axis (laws.one_axis a in-a.0 k)
+      (laws.one_axis b in-b.0 k) x.at y.at in
       (λ e. both.0 (axes.0 e), λ s. axes.1 (both.1 s))
 
   -- the axes at `n` positions from k on
@@ -37,32 +44,44 @@ module _ (laws : LowerLaws) (sets : SetsDecide) (level : Level) where
   SameFrom a b k n = (p : ℕ) → k ≤ p → p < k + n → SameAt level a b p
 
   from-agrees : (a b : SystemParts) (k n : ℕ) → SameAt level a b k × SameFrom a b (k + 1) n ↔ SameFrom a b k (suc n)
-  from-agrees a b k n = (λ s p least most. by s p least most (cases_lt k p), λ s. (s k (omega arith) (omega arith), λ p least most. s p (omega (arith, least)) (omega (arith, most))))
+  from-agrees a b k n = (
+    λ s p least most. by s p least most (cases_lt k p),
+    λ s. (s k (omega arith) (omega arith), λ p least most. s p (omega (arith, least)) (omega (arith, most))),
+  )
     where
-      by : SameAt level a b k × SameFrom a b (k + 1) n → (p : ℕ) → k ≤ p → p < k + suc n → (k < p) ⊎ (p ≤ k) → SameAt level a b p
+      by : SameAt level a b k × SameFrom a b (k + 1) n → (p : ℕ) → k ≤ p → p < k + suc n → (k < p) ⊎ (p ≤ k) →
+          SameAt level a b p
       by s p least most (inl more) = s.1 p (omega (arith, more)) (omega (arith, most))
       by s p least most (inr less) = let e : k ≡ p = omega (arith, least, less) in subst (λ q. SameAt level a b q) e s.0
 
-  axes-agree : (a b : SystemParts) → IsNumbered a → IsNumbered b → a.system_type ≡ b.system_type → length a.axes ≡ length b.axes →
-      (k n : ℕ) → 1 ≤ k → k + n ≤ suc (length a.axes) → (axes_from level a k n ≡ axes_from level b k n) ↔ SameFrom a b k n
-  axes-agree a b in-a in-b type long k zero first last = (λ e p least most. absurd (omega (arith, least, most)), λ s. refl)
+  axes-agree : (a b : SystemParts) → IsNumbered a → IsNumbered b → a.system_type ≡ b.system_type →
+      length a.axes ≡ length b.axes →
+      (k n : ℕ) → 1 ≤ k → k + n ≤ suc (length a.axes) → (axes_from level a k n ≡ axes_from level b k n)
+      ↔ SameFrom a b k n
+  axes-agree a b in-a in-b type long k zero first last =
+      (λ e p least most. absurd (omega (arith, least, most)), λ s. refl)
   axes-agree a b in-a in-b type long k (suc n) first last =
       let x = found-at a in-a k first (omega (arith, last)) in
       let y = found-at b in-b k first (omega (arith, last, long)) in
       let rest = axes-agree a b in-a in-b type long (k + 1) n (omega arith) (omega (arith, last)) in
-      let of-a : axes_from level a k (suc n) ≡ norm_axis level a k x.axis ∷ axes_from level a (k + 1) n = ap (λ f. with_axis level a k f (axes_from level a (k + 1) n)) x.is in
-      let of-b : axes_from level b k (suc n) ≡ norm_axis level b k y.axis ∷ axes_from level b (k + 1) n = ap (λ f. with_axis level b k f (axes_from level b (k + 1) n)) y.is in
+      let of-a : axes_from level a k (suc n) ≡ norm_axis level a k x.axis ∷ axes_from level a (k + 1) n =
+      ap (λ f. with_axis level a k f (axes_from level a (k + 1) n)) x.is in
+      let of-b : axes_from level b k (suc n) ≡ norm_axis level b k y.axis ∷ axes_from level b (k + 1) n =
+      ap (λ f. with_axis level b k f (axes_from level b (k + 1) n)) y.is in
       let lists =
-      heads-agree (norm_axis level a k x.axis) (norm_axis level b k y.axis) (axes_from level a (k + 1) n) (axes_from level b (k + 1) n)
+      heads-agree (norm_axis level a k x.axis) (norm_axis level b k y.axis) (axes_from level a (k + 1) n)
+      (axes_from level b (k + 1) n)
       (position-agrees a b k in-a in-b type x y) rest in (
         λ e. (from-agrees a b k n).0 (lists.0 (sym of-a ∙ e ∙ of-b)),
         λ s. of-a ∙ lists.1 ((from-agrees a b k n).1 s) ∙ sym of-b,
       )
 
-  all-agree : (a b : SystemParts) → IsNumbered a → IsNumbered b → a.system_type ≡ b.system_type → length a.axes ≡ length b.axes →
+  all-agree : (a b : SystemParts) → IsNumbered a → IsNumbered b → a.system_type ≡ b.system_type →
+      length a.axes ≡ length b.axes →
       (axes_from level a 1 (length a.axes) ≡ axes_from level b 1 (length b.axes)) ↔ SameAxes level a b
   all-agree a b in-a in-b type long =
-      let count : axes_from level b 1 (length a.axes) ≡ axes_from level b 1 (length b.axes) = ap (λ n. axes_from level b 1 n) long in
+      let count : axes_from level b 1 (length a.axes) ≡ axes_from level b 1 (length b.axes) =
+      ap (λ n. axes_from level b 1 n) long in
       let each = axes-agree a b in-a in-b type long 1 (length a.axes) (omega arith) (omega arith) in (
         λ e p least most. each.0 (e ∙ sym count) p least (omega (arith, most)),
         λ s. each.1 (λ p least most. s p least (omega (arith, most))) ∙ count,

@@ -1,5 +1,6 @@
 -- Boxes, extents, usages and the ends of CRSs have one form exactly where they are the same.
-use Rattle.std.proofs.Common.{◌≡◌, ◌↔◌, ℕ, inl, inr, Bool, true, false, List, [], ◌∷◌, Option, Some, None, refl, ap, if◌then◌else◌}
+use Rattle.std.proofs.Common.{◌≡◌, ◌↔◌, ℕ, inl, inr, Bool, true, false, List, [], ◌∷◌, Option, Some, None, refl, ap}
+use Rattle.std.proofs.Common.{if◌then◌else◌}
 use Rattle.std.specs.Option.{option_map}
 use Rattle.std.proofs.lemmas.Bool.{false≢true}
 use Rattle.crs_value.specs.Sound.{Each}
@@ -7,7 +8,8 @@ use Rattle.crs_value.specs.SoundUsages.{IsBox, IsExtent, IsTail, IsUsage, SaysSo
 use Rattle.crs_value.specs.Values.{BoxParts, ExtentParts, TailParts, UsageParts}
 use Rattle.crs_value.specs.declared.level.Level.{Level}
 use Rattle.crs_value.specs.declared.level.Level.TheVariants as levels
-use Rattle.crs_same.specs.SameUsages.{SameBox, SameExtent, SameRemark, SameTail, SameUsage, SameUsages, says_some, usages_of}
+use Rattle.crs_same.specs.SameUsages.{SameBox, SameExtent, SameRemark, SameTail, SameUsage, SameUsages, says_some}
+use Rattle.crs_same.specs.SameUsages.{usages_of}
 use Rattle.crs_normal.specs.Decides.{FormDecides, IsSomeUsage, SetsDecide}
 use Rattle.crs_normal.specs.LowerLaws.{LowerLaws}
 use Rattle.crs_normal.specs.SpelledUnits.{norm_length}
@@ -28,7 +30,12 @@ module _ (laws : LowerLaws) where
           north = north.0 (ap (λ (x : BoxParts). x.north) e);
           east = east.0 (ap (λ (x : BoxParts). x.east) e);
         },
-        λ s. λ i. record { south = south.1 s.south i; west = west.1 s.west i; north = north.1 s.north i; east = east.1 s.east i },
+        λ s. λ i. record {
+          south = south.1 s.south i;
+          west = west.1 s.west i;
+          north = north.1 s.north i;
+          east = east.1 s.east i;
+        },
       )
 
 module _ (laws : LowerLaws) (sets : SetsDecide) where
@@ -40,15 +47,24 @@ module _ (laws : LowerLaws) (sets : SetsDecide) where
         λ e. record {
           minimum = minimum.0 (ap (λ (x : ExtentParts). x.minimum) e);
           maximum = maximum.0 (ap (λ (x : ExtentParts). x.maximum) e);
-          unit = unit.0 (some-one (norm_length level a.unit) (norm_length level b.unit) (ap (λ (x : ExtentParts). x.unit) e));
+          unit = unit.0 (some-one (norm_length level a.unit) (norm_length level b.unit)
+              (ap (λ (x : ExtentParts). x.unit) e));
         },
-        λ s. λ i. record { minimum = minimum.1 s.minimum i; maximum = maximum.1 s.maximum i; unit = Some (unit.1 s.unit i) },
+        λ s. λ i. record {
+          minimum = minimum.1 s.minimum i;
+          maximum = maximum.1 s.maximum i;
+          unit =
+              Some (unit.1 s.unit i);
+        },
       )
 
   pub usage-agrees : FormDecides IsUsage norm_usage SameUsage
   usage-agrees a b in-a in-b =
-      let bbox = options-agree IsBox (λ x. x) SameBox (box-agrees laws) (λ x. x) refl (λ x. refl) a.bbox b.bbox in-a.bbox in-b.bbox in
-      let extent = options-agree IsExtent (norm_extent levels.Full) (SameExtent levels.Full) (extent-agrees levels.Full) (option_map (norm_extent levels.Full)) refl (λ x. refl) a.extent b.extent in-a.extent in-b.extent in (
+      let bbox = options-agree IsBox (λ x. x) SameBox (box-agrees laws) (λ x. x) refl
+      (λ x. refl) a.bbox b.bbox in-a.bbox in-b.bbox in
+      let extent = options-agree IsExtent (norm_extent levels.Full) (SameExtent levels.Full)
+      (extent-agrees levels.Full) (option_map (norm_extent levels.Full)) refl
+      (λ x. refl) a.extent b.extent in-a.extent in-b.extent in (
         λ e. record {
           scope = ap (λ (x : UsageParts). x.scope) e;
           area = ap (λ (x : UsageParts). x.area) e;
@@ -64,7 +80,8 @@ some-said : (u : UsageParts) → says_some u ≡ true → SaysSome u
 some-said u e = said u.scope u.area u.bbox u.extent e
   where
     said : (s a : Option (List ℕ)) (b : Option BoxParts) (x : Option ExtentParts) →
-        says_some (record { scope = s; area = a; bbox = b; extent = x }) ≡ true → SaysSome (record { scope = s; area = a; bbox = b; extent = x })
+        says_some (record { scope = s; area = a; bbox = b; extent = x }) ≡ true →
+        SaysSome (record { scope = s; area = a; bbox = b; extent = x })
     said (Some v) a b x e = inl refl
     said None (Some v) b x e = inr (inl refl)
     said None None (Some v) x e = inr (inr (inl refl))
@@ -83,10 +100,13 @@ usages-sound t sound = by (says_some t.bare) refl
     by false e = each-some t.usages sound.usages sound.each_some
 
 module _ (sets : SetsDecide) where
-  usages-agree : (level : Level) (a b : TailParts) → IsTail a → IsTail b → (set_usages level (usages_of a) ≡ set_usages level (usages_of b)) ↔ SameUsages level a b
-  usages-agree levels.Full a b in-a in-b = sets.usages (usages_of a) (usages_of b) (usages-sound a in-a) (usages-sound b in-b)
+  usages-agree : (level : Level) (a b : TailParts) → IsTail a → IsTail b →
+      (set_usages level (usages_of a) ≡ set_usages level (usages_of b)) ↔ SameUsages level a b
+  usages-agree levels.Full a b in-a in-b =
+      sets.usages (usages_of a) (usages_of b) (usages-sound a in-a) (usages-sound b in-b)
 
-  remarks-agree : (level : Level) (a b : TailParts) → (norm_remark level a.remark ≡ norm_remark level b.remark) ↔ SameRemark level a b
+  remarks-agree : (level : Level) (a b : TailParts) → (norm_remark level a.remark ≡ norm_remark level b.remark)
+      ↔ SameRemark level a b
   remarks-agree levels.Full a b = (λ e. e, λ s. s)
 
   pub tail-agrees : (level : Level) → FormDecides IsTail (norm_tail level) (SameTail level)
@@ -99,5 +119,10 @@ module _ (sets : SetsDecide) where
           ids = ids.0 (ap (λ (x : TailParts). x.ids) e);
           remark = remark.0 (ap (λ (x : TailParts). x.remark) e);
         },
-        λ s. λ i. record { usages = usages.1 s.usages i; bare = nothing; ids = ids.1 s.ids i; remark = remark.1 s.remark i },
+        λ s. λ i. record {
+          usages = usages.1 s.usages i;
+          bare = nothing;
+          ids = ids.1 s.ids i;
+          remark = remark.1 s.remark i;
+        },
       )

@@ -1,4 +1,4 @@
--- Units have one form exactly where they are the same: by themselves, as an asked kind, and with the metre for a missing one.
+-- Units have one form exactly where they are the same: alone, as an asked kind, and where a missing one is the metre.
 use Rattle.std.proofs.Common.{◌≡◌, ◌↔◌, ◌∙◌, ℕ, List, [], ◌∷◌, Some, None, refl, sym, ap}
 use Rattle.crs_decimal.specs.Number.{SameNumber, whole_number}
 use Rattle.crs_decimal.specs.Value.{Value, IsNormal, exact}
@@ -30,7 +30,8 @@ module _ (sets : SetsDecide) where
   none-same levels.Full [] s = refl
   none-same levels.Full (ident ∷ ids) s = absurd s.0.0
 
-  pub none-agree : (level : Level) (ids : List IdentParts) → Each IsIdent ids → (set_idents level ids ≡ []) ↔ HasNoIdents level ids
+  pub none-agree : (level : Level) (ids : List IdentParts) → Each IsIdent ids → (set_idents level ids ≡ [])
+      ↔ HasNoIdents level ids
   none-agree levels.Full ids sound = (
     λ e. none-same levels.Full ids ((sets.idents levels.Full ids [] sound tt).0 (e ∙ sym (no-form levels.Full))),
     λ e. ap (set_idents levels.Full) e ∙ no-form levels.Full,
@@ -38,7 +39,8 @@ module _ (sets : SetsDecide) where
 
 -- ---- whole numbers
 
-pub whole-agrees : LowerLaws → (k : ℕ) → IsNormal (whole_value k) → (v : Value) → IsNormal v → (v ≡ whole_value k) ↔ SameNumber (exact v) (whole_number k)
+pub whole-agrees : LowerLaws → (k : ℕ) → IsNormal (whole_value k) → (v : Value) → IsNormal v → (v ≡ whole_value k)
+    ↔ SameNumber (exact v) (whole_number k)
 whole-agrees laws k normal v in-v = let same = laws.normal_is_one v (whole_value k) in-v normal in (same.1, same.0)
 
 -- ---- units
@@ -57,14 +59,18 @@ module _ (laws : LowerLaws) (sets : SetsDecide) (level : Level) where
         λ s. λ i. record { kind = s.kind i; name = s.name i; factor = factor.1 s.factor i; ids = ids.1 s.ids i },
       )
 
-  pub units-agree : (asked : UnitKind) → FormDecides (Maybe IsUnit) (norm_units level asked) (BothOrNeither (SameUnit asked level))
+  pub units-agree : (asked : UnitKind) →
+      FormDecides (Maybe IsUnit) (norm_units level asked) (BothOrNeither (SameUnit asked level))
   units-agree asked =
-      options-agree IsUnit (norm_unit level asked) (SameUnit asked level) (unit-agrees asked) (norm_units level asked) refl (λ u. refl)
+      options-agree IsUnit (norm_unit level asked) (SameUnit asked level) (unit-agrees asked)
+      (norm_units level asked) refl (λ u. refl)
 
   -- where a kind is asked as well
-  pub units-of-agree : (kind asked : UnitKind) → FormDecides (Maybe (IsUnitOf kind)) (norm_units level asked) (BothOrNeither (SameUnit asked level))
+  pub units-of-agree : (kind asked : UnitKind) →
+      FormDecides (Maybe (IsUnitOf kind)) (norm_units level asked) (BothOrNeither (SameUnit asked level))
   units-of-agree kind asked =
-      options-agree (IsUnitOf kind) (norm_unit level asked) (SameUnit asked level) (λ a b in-a in-b. unit-agrees asked a b in-a.0 in-b.0) (norm_units level asked) refl (λ u. refl)
+      options-agree (IsUnitOf kind) (norm_unit level asked) (SameUnit asked level)
+      (λ a b in-a in-b. unit-agrees asked a b in-a.0 in-b.0) (norm_units level asked) refl (λ u. refl)
 
   metre-agrees : (u : UnitParts) → IsUnit u → (norm_unit level kinds.Length u ≡ metre) ↔ IsMetre level u
   metre-agrees u in-u =
@@ -81,6 +87,7 @@ module _ (laws : LowerLaws) (sets : SetsDecide) (level : Level) where
 
   pub length-agrees : FormDecides (Maybe (IsUnitOf kinds.Length)) (norm_length level) (SameLength level)
   length-agrees None None in-a in-b = (λ e. tt, λ s. refl)
-  length-agrees None (Some b) in-a in-b = (λ e. (metre-agrees b in-b.0).0 (sym e), λ s. sym ((metre-agrees b in-b.0).1 s))
+  length-agrees None (Some b) in-a in-b =
+      (λ e. (metre-agrees b in-b.0).0 (sym e), λ s. sym ((metre-agrees b in-b.0).1 s))
   length-agrees (Some a) None in-a in-b = metre-agrees a in-a.0
   length-agrees (Some a) (Some b) in-a in-b = unit-agrees kinds.Length a b in-a.0 in-b.0

@@ -33,8 +33,10 @@ IsSomeUsage usage = IsUsage usage × SaysSome usage
 pub record SetsDecide : Type 0 where
   pub idents : (level : Level) → FormDecides (Each IsIdent) (set_idents level) (SameIdents level)
   pub members : (level : Level) → FormDecides (Each IsMember) (set_members level) (SameSet (SameMember level))
-  pub parameters : (level : Level) → FormDecides (Each IsParameter) (set_parameters level) (SameSet (SameParameter level))
-  pub geoid_models : (level : Level) → FormDecides (Each IsGeoidModel) (set_geoid_models level) (SameSet (SameGeoidModel level))
+  pub parameters : (level : Level) →
+      FormDecides (Each IsParameter) (set_parameters level) (SameSet (SameParameter level))
+  pub geoid_models : (level : Level) →
+      FormDecides (Each IsGeoidModel) (set_geoid_models level) (SameSet (SameGeoidModel level))
   pub usages : FormDecides (Each IsSomeUsage) (set_usages levels.Full) (SameSet SameUsage)
 
 -- a part that may be missing, with what is asked of it where it is there

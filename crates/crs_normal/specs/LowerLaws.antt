@@ -18,8 +18,11 @@ pub record LowerLaws : Type 0 where
   pub digits_alone : (bytes : List ℕ) → AreDigits bytes → 0 < length bytes → length bytes ≤ 18 → IsInBounds bytes
   pub denotes : (v : Value) → IsNormal v → Denotes (plain v) (exact v)
   pub only : (v : Value) (bytes : List ℕ) → IsNormal v → IsPlain bytes → Denotes bytes (exact v) → bytes ≡ plain v
-  pub some_axis : (system : SystemParts) → IsSystem system → (position : ℕ) → 1 ≤ position → position ≤ length system.axes →
+  pub some_axis : (system : SystemParts) → IsSystem system → (position : ℕ) → 1 ≤ position →
+      position ≤ length system.axes →
       HasAt position (λ axis. ⊤) 1 system.axes
-  pub one_axis : (system : SystemParts) → IsSystem system → (position : ℕ) (x y : AxisParts) → HasAt position (λ axis. axis ≡ x) 1 system.axes →
+  pub one_axis : (system : SystemParts) → IsSystem system → (position : ℕ) (x y : AxisParts) →
+      HasAt position (λ axis. axis ≡ x) 1 system.axes →
       HasAt position (λ axis. axis ≡ y) 1 system.axes → x ≡ y
-  pub as_many : (a b : SystemParts) → IsSystem a → IsSystem b → SameValue a.dimension b.dimension → length a.axes ≡ length b.axes
+  pub as_many : (a b : SystemParts) → IsSystem a → IsSystem b → SameValue a.dimension b.dimension →
+      length a.axes ≡ length b.axes

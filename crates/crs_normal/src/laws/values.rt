@@ -1,14 +1,15 @@
 //! The one form of a value decides whether it is the same as another.
-ghost use Rattle.std.specs.Prelude.{ℕ, List};
+ghost use Rattle.std.specs.Prelude.{◌≡◌, ◌↔◌, ℕ, List};
 ghost use Rattle.crs_text.specs.TextFault.{SpellsNode};
 ghost use Rattle.crs_text.specs.Items.{Item};
-ghost use Rattle.crs_value.specs.Sound.{IsAxisMeridian, IsUnit, IsUnitOf};
+ghost use Rattle.crs_value.specs.Sound.{IsAxis, IsAxisMeridian, IsAxisUnit, IsUnit, IsUnitOf};
 ghost use Rattle.crs_value.specs.SoundCompound.{IsCompound, IsHorizontal};
 ghost use Rattle.crs_value.specs.SoundConversion.{IsConversion, IsGeoidModel, IsMethod, IsParameter};
 ghost use Rattle.crs_value.specs.SoundFrames.{IsDatum, IsEllipsoid, IsEnsemble, IsMember, IsMeridian};
 ghost use Rattle.crs_value.specs.SoundSingle.{IsBase, IsGeodetic, IsProjected, IsVertical};
 ghost use Rattle.crs_value.specs.SoundSingle.{IsGeodeticFrame, IsVerticalFrame};
 ghost use Rattle.crs_value.specs.SoundUsages.{IsBox, IsExtent, IsTail, IsUsage};
+ghost use Rattle.crs_value.specs.Values.{AxisParts, SystemParts};
 ghost use Rattle.crs_value.specs.declared.level.Level.{Level};
 ghost use Rattle.crs_value.specs.declared.unit_kind.UnitKind.{UnitKind};
 ghost use Rattle.crs_value.specs.declared.unit_kind.UnitKind.TheVariants as kinds;
@@ -17,7 +18,7 @@ ghost use Rattle.crs_same.specs.SameCrs.{SameBase, SameCompound, SameGeodetic, S
 ghost use Rattle.crs_same.specs.SameCrs.{SameProjected, SameVertical};
 ghost use Rattle.crs_same.specs.SameFrames.{SameDatum, SameEllipsoid, SameEnsemble, SameFrame};
 ghost use Rattle.crs_same.specs.SameFrames.{SameMember, SameMeridian};
-ghost use Rattle.crs_same.specs.SameSystems.{SameAxisMeridian, SameSystem};
+ghost use Rattle.crs_same.specs.SameSystems.{SameAxis, SameAxisMeridian, SameSystem};
 ghost use Rattle.crs_same.specs.SameUnits.{SameLength, SameUnit};
 ghost use Rattle.crs_same.specs.SameUsages.{SameBox, SameExtent, SameTail, SameUsage};
 ghost use Rattle.crs_same.specs.Sets.{BothOrNeither};
@@ -30,7 +31,7 @@ ghost use Rattle.crs_normal.specs.SpelledCrs.{norm_base, norm_compound, norm_geo
 ghost use Rattle.crs_normal.specs.SpelledCrs.{norm_projected, norm_vertical};
 ghost use Rattle.crs_normal.specs.SpelledFrames.{norm_datum, norm_ellipsoid, norm_ensemble, norm_frame};
 ghost use Rattle.crs_normal.specs.SpelledFrames.{norm_member, norm_meridian};
-ghost use Rattle.crs_normal.specs.SpelledSystems.{norm_axis_meridian, norm_system};
+ghost use Rattle.crs_normal.specs.SpelledSystems.{norm_axis, norm_axis_meridians, norm_system};
 ghost use Rattle.crs_normal.specs.SpelledUnits.{norm_length, norm_unit, norm_units};
 ghost use Rattle.crs_normal.specs.SpelledUsages.{norm_extent, norm_tail, norm_usage};
 
@@ -91,10 +92,13 @@ pub fn same_frames_have_one_form()
     lower_laws();
 }
 
-/// So have coordinate systems, axis by axis as they stand at their positions.
+/// So have coordinate systems, and their axes at a position; whole numbers of at most 18 digits count the axes.
 pub fn same_systems_have_one_form()
     ensures meridian { SetsDecide → (level : Level) →
-        FormDecides IsAxisMeridian (norm_axis_meridian level) (SameAxisMeridian level) }
+        FormDecides (Maybe IsAxisMeridian) (norm_axis_meridians level) (BothOrNeither (SameAxisMeridian level)) }
+    ensures axis { SetsDecide → (level : Level) (a b : SystemParts) (position : ℕ) (x y : AxisParts) →
+        a.system_type ≡ b.system_type → Maybe IsAxisUnit a.unit → Maybe IsAxisUnit b.unit → IsAxis x → IsAxis y →
+        (norm_axis level a position x ≡ norm_axis level b position y) ↔ SameAxis level a b x y }
     ensures system { SetsDecide → (level : Level) →
         FormDecides IsNumbered (norm_system level) (SameSystem level) }
 {
@@ -116,7 +120,7 @@ pub fn same_conversions_have_one_form()
 }
 
 /// So have boxes, extents, usages and the ends of CRSs; what stands bare there is a usage.
-pub fn same_usages_have_one_form()
+pub fn same_tails_have_one_form()
     ensures bounding_box { FormDecides IsBox (λ bounds. bounds) SameBox }
     ensures extent { SetsDecide → (level : Level) →
         FormDecides IsExtent (norm_extent level) (SameExtent level) }

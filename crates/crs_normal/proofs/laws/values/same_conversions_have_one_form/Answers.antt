@@ -1,4 +1,5 @@
-use Rattle.crs_normal.proofs.ConversionSameLemmas.{conversion-agrees, geoid-model-agrees, method-agrees, parameter-agrees}
+use Rattle.crs_normal.proofs.ConversionSameLemmas.{conversion-agrees, geoid-model-agrees, method-agrees}
+use Rattle.crs_normal.proofs.ConversionSameLemmas.{parameter-agrees}
 use Rattle.crs_normal.proofs.laws.values.same_conversions_have_one_form.Goals as goal
 
 pub returns-clause-method : goal.returns-clause-method

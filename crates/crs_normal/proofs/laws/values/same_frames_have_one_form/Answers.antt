@@ -1,4 +1,5 @@
-use Rattle.crs_normal.proofs.FrameSameLemmas.{datum-agrees, ellipsoid-agrees, ensemble-agrees, geodetic-frame-agrees, member-agrees, meridian-agrees, vertical-frame-agrees}
+use Rattle.crs_normal.proofs.FrameSameLemmas.{datum-agrees, ellipsoid-agrees, ensemble-agrees, geodetic-frame-agrees}
+use Rattle.crs_normal.proofs.FrameSameLemmas.{member-agrees, meridian-agrees, vertical-frame-agrees}
 use Rattle.crs_normal.proofs.laws.values.same_frames_have_one_form.Goals as goal
 
 pub returns-clause-ellipsoid : goal.returns-clause-ellipsoid

@@ -1,4 +1,5 @@
-use Rattle.crs_normal.proofs.CrsSameLemmas.{base-agrees, compound-agrees, geodetic-agrees, horizontal-agrees, projected-agrees, vertical-agrees}
+use Rattle.crs_normal.proofs.CrsSameLemmas.{base-agrees, compound-agrees, geodetic-agrees, horizontal-agrees}
+use Rattle.crs_normal.proofs.CrsSameLemmas.{projected-agrees, vertical-agrees}
 use Rattle.crs_normal.proofs.laws.values.same_kinds_have_one_form.Goals as goal
 
 pub returns-clause-geodetic : goal.returns-clause-geodetic

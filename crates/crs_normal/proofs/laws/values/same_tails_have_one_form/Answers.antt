@@ -1,5 +1,5 @@
 use Rattle.crs_normal.proofs.TailSameLemmas.{box-agrees, extent-agrees, tail-agrees, usage-agrees}
-use Rattle.crs_normal.proofs.laws.values.same_usages_have_one_form.Goals as goal
+use Rattle.crs_normal.proofs.laws.values.same_tails_have_one_form.Goals as goal
 
 pub returns-clause-bounding_box : goal.returns-clause-bounding_box
 returns-clause-bounding_box c = box-agrees c.lower_laws.ensures
