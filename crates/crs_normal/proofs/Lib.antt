@@ -1,1 +1,3 @@
+pub mod IdentLemmas
+pub mod ItemLemmas
 pub mod SetLemmas
