@@ -1,11 +1,11 @@
 -- Identifiers: the item of one reads as it wherever it stands, equal texts are of equal identifiers, and the set of them
 -- in order is one exactly where they are the same set.
-use Rattle.std.proofs.Common.{◌≡◌, ◌≤◌, ◌↔◌, ℕ, suc, ◌+◌, Bool, true, false, ◌&&◌, codes, if◌then◌else◌, IfSome, Option, Some, None, List, [], ◌∷◌, length, map, map-id, nat_le, refl, sym, ◌∙◌, ap, subst, arith}
+use Rattle.std.proofs.Common.{◌≡◌, ◌≤◌, ◌↔◌, ℕ, suc, ◌+◌, Bool, true, false, ◌&&◌, codes, if◌then◌else◌, Option, Some, None, List, [], length, map, map-id, nat_le, refl, ap, subst, arith}
 use Rattle.std.proofs.lemmas.Bool.{and_parts, leb-true}
 use Rattle.std.specs.List.{list_all}
 use Rattle.crs_decimal.specs.Spelling.{is_digit}
-use Rattle.crs_text.specs.Items.{Item, leaf, node, Items, End, More, arguments, skip, IsNode}
-use Rattle.crs_text.specs.Tokens.{Kind, number, text, IsSingle, IsWord}
+use Rattle.crs_text.specs.Items.{Item, leaf, Items, End, More, IsNode}
+use Rattle.crs_text.specs.Tokens.{number, text, IsSingle, IsWord}
 use Rattle.crs_text.specs.Written.{at_place, at_places, item_text}
 use Rattle.crs_shape.specs.declared.class.Class.{Class}
 use Rattle.crs_shape.specs.declared.class.Class.TheVariants as class
@@ -14,16 +14,16 @@ use Rattle.crs_shape.specs.Slots.{class_named, is_class}
 use Rattle.crs_shape.specs.ShapeFault.{class_of_kind}
 use Rattle.crs_value.specs.declared.level.Level.{Level}
 use Rattle.crs_value.specs.declared.level.Level.TheVariants as levels
-use Rattle.crs_value.specs.Reading.{those, is_a, ReadsFirst, ReadsOptional, ReadsEach}
-use Rattle.crs_value.specs.Reads.{ReadsText, ReadsTextOf, single_of, ReadsIdent, ReadsIds}
+use Rattle.crs_value.specs.Reading.{ReadsFirst, ReadsOptional}
+use Rattle.crs_value.specs.Reads.{ReadsText, ReadsTextOf, single_of, ReadsIdent}
 use Rattle.crs_value.specs.Sound.{Each, IsText, IsIdent}
 use Rattle.crs_value.specs.Values.{IdentParts}
 use Rattle.crs_same.specs.SameIdents.{SameIdent, SameIdents}
 use Rattle.crs_same.specs.Sets.{SameSet}
 use Rattle.crs_normal.specs.Ordered.{in_order}
-use Rattle.crs_normal.specs.SpelledItems.{code_item, each, is_short, opt, text_item, text_node}
+use Rattle.crs_normal.specs.SpelledItems.{code_item, is_short, opt, text_item, text_node}
 use Rattle.crs_normal.specs.SpelledUnits.{item_ident, set_idents}
-use Rattle.crs_normal.proofs.ItemLemmas.{Laws, AreFit, IsFit, IsOf, IsWritable, Gives, Lacks, each-read, fit-each, fit-end, fit-leaf, fit-more, fit-node, fit-opt, gives-over, lacks-end, number-single, opt-over, opt-read, told}
+use Rattle.crs_normal.proofs.ItemLemmas.{Laws, IsFit, IsOf, IsWritable, Gives, fit-end, fit-leaf, fit-more, fit-node, fit-opt, gives-over, lacks-end, number-single, opt-over, opt-read, told}
 use Rattle.crs_normal.proofs.SetLemmas.{each-in_order, set-agrees}
 
 -- ---- a code: a number or a text

@@ -1,12 +1,12 @@
 -- Written items: that they are well formed and not too deep, what their arguments of a class are wherever they stand, and
 -- that equal texts are of equal values.
-use Rattle.std.proofs.Common.{◌≡◌, ◌≤◌, ◌↔◌, ℕ, suc, ◌+◌, ◌<◌, max, Bool, true, false, if◌then◌else◌, IfSome, Option, Some, None, List, [], ◌∷◌, length, refl, sym, ◌∙◌, ap, subst, arith}
+use Rattle.std.proofs.Common.{◌≡◌, ◌≤◌, ◌↔◌, ℕ, suc, ◌+◌, ◌<◌, Bool, true, false, if◌then◌else◌, IfSome, Option, Some, None, List, [], ◌∷◌, length, refl, sym, subst, arith}
 use Rattle.crs_decimal.specs.Bounds.{Denotes, IsInBounds}
 use Rattle.crs_decimal.specs.Number.{SameNumber}
 use Rattle.crs_decimal.specs.Plain.{plain}
 use Rattle.crs_decimal.specs.Spelling.{AreDigits, HasForm, IsRun}
 use Rattle.crs_decimal.specs.Value.{Value, IsNormal, exact}
-use Rattle.crs_text.specs.Items.{Item, leaf, node, Items, End, More, arguments, depth, depths, IsNode}
+use Rattle.crs_text.specs.Items.{Item, leaf, Items, End, More, arguments, depth, depths, IsNode}
 use Rattle.crs_text.specs.TextFault.{SpellsNode}
 use Rattle.crs_text.specs.Tokens.{Kind, number, IsSingle, IsWord}
 use Rattle.crs_text.specs.Written.{AreFormed, AreAllFormed, WrittenSpells, at_place, at_places, item_text}

@@ -1,3 +1,6 @@
 pub mod IdentLemmas
 pub mod ItemLemmas
+pub mod MemberLemmas
+pub mod MemberUnitLemmas
+pub mod ParameterLemmas
 pub mod SetLemmas
