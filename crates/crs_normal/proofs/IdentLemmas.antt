@@ -23,19 +23,20 @@ use Rattle.crs_same.specs.Sets.{SameSet}
 use Rattle.crs_normal.specs.Ordered.{in_order}
 use Rattle.crs_normal.specs.SpelledItems.{code_item, is_short, opt, text_item, text_node}
 use Rattle.crs_normal.specs.SpelledUnits.{item_ident, set_idents}
-use Rattle.crs_normal.proofs.ItemLemmas.{Laws, IsFit, IsOf, IsWritable, Gives, fit-end, fit-leaf, fit-more, fit-node, fit-opt, gives-over, lacks-end, number-single, opt-over, opt-read, told}
+use Rattle.crs_normal.specs.TextLaws.{TextLaws}
+use Rattle.crs_normal.proofs.ItemLemmas.{IsFit, IsOf, IsWritable, Gives, fit-end, fit-leaf, fit-more, fit-node, fit-opt, gives-over, lacks-end, number-single, opt-over, opt-read, told}
 use Rattle.crs_normal.proofs.SetLemmas.{each-in_order, set-agrees}
 
 -- ---- a code: a number or a text
 
-short-single : Laws → (raw : List ℕ) → IsText raw → (b : Bool) → is_short raw ≡ b → IsSingle (if b then number else text) raw
+short-single : TextLaws → (raw : List ℕ) → IsText raw → (b : Bool) → is_short raw ≡ b → IsSingle (if b then number else text) raw
 short-single laws raw t false e = t
 short-single laws raw t true e =
     let p = and_parts (list_all is_digit raw && nat_le 1 (length raw)) (nat_le (length raw) 18) e in
     let q = and_parts (list_all is_digit raw) (nat_le 1 (length raw)) p.0 in
     number-single laws raw (laws.digits raw q.0 (leb-true 1 (length raw) q.1) (leb-true (length raw) 18 p.1))
 
-pub code-fit : Laws → (n : ℕ) (raw : List ℕ) → IsText raw → IsFit n (code_item raw)
+pub code-fit : TextLaws → (n : ℕ) (raw : List ℕ) → IsText raw → IsFit n (code_item raw)
 code-fit laws n raw t = fit-leaf n (if is_short raw then number else text) 0 raw (short-single laws raw t (is_short raw) refl)
 
 pub text-fit : (n : ℕ) (raw : List ℕ) → IsText raw → IsFit n (text_item raw)
@@ -118,6 +119,7 @@ citation-read x s =
     (opt-read class.Identifier class.Citation (text_node (codes "CITATION")) IsText (ReadsTextOf class.Citation) (λ raw t. citation-is raw)
     (λ raw t place. text-read class.Citation (codes "CITATION") raw place) x.citation (opt (text_node (codes "URI")) x.uri End) s.citation
     (opt-over class.Identifier class.Citation (text_node (codes "URI")) uri-over (λ l. l ≡ []) x.uri End (lacks-end class.Identifier class.Citation)))))
+
 uri-read : (x : IdentParts) → IsIdent x → Gives class.Identifier class.Uri (SaysUri x) (ident-items x)
 uri-read x s =
     gives-over class.Identifier class.Uri (SaysUri x) (text_item x.authority) (More (code_item x.code) (behind-code x)) (λ place. refl)
@@ -126,6 +128,7 @@ uri-read x s =
     (opt-over class.Identifier class.Uri (text_node (codes "CITATION")) citation-over (SaysUri x) x.citation (opt (text_node (codes "URI")) x.uri End)
     (opt-read class.Identifier class.Uri (text_node (codes "URI")) IsText (ReadsTextOf class.Uri) (λ raw t. uri-is raw)
     (λ raw t place. text-read class.Uri (codes "URI") raw place) x.uri End s.uri (lacks-end class.Identifier class.Uri)))))
+
 -- ---- an identifier
 
 pub ident-read : (x : IdentParts) → IsIdent x → (place : ℕ) → ReadsIdent class.Identifier (at_place place (item_ident x)) x
@@ -140,7 +143,7 @@ ident-read x s place = record {
 pub source-fit : (n : ℕ) (keyword raw : List ℕ) → IsWord keyword → IsText raw → IsFit (suc n) (text_node keyword raw)
 source-fit n keyword raw w t = fit-node n keyword (text_item raw) End w (text-fit n raw t) (fit-end n)
 
-pub ident-fit : Laws → (x : IdentParts) → IsIdent x → IsFit 2 (item_ident x)
+pub ident-fit : TextLaws → (x : IdentParts) → IsIdent x → IsFit 2 (item_ident x)
 ident-fit laws x s =
     fit-node 1 (codes "ID") (text_item x.authority) (More (code_item x.code) (behind-code x)) (refl, refl) (text-fit 1 x.authority s.authority)
     (fit-more 1 (code_item x.code) (behind-code x) (code-fit laws 1 x.code s.code)
@@ -157,7 +160,7 @@ writable n item l f is = record { formed = f.0; is_node = is; within = omega (ar
 abbrev pub ReadsIdentOnce : Type 0
 ReadsIdentOnce = (c : Class) (item : Item) (a b : IdentParts) → ReadsIdent c item a → ReadsIdent c item b → a ≡ b
 
-ident-told : Laws → ReadsIdentOnce → (a b : IdentParts) → IsIdent a → IsIdent b → item_text (item_ident a) ≡ item_text (item_ident b) → a ≡ b
+ident-told : TextLaws → ReadsIdentOnce → (a b : IdentParts) → IsIdent a → IsIdent b → item_text (item_ident a) ≡ item_text (item_ident b) → a ≡ b
 ident-told laws once =
     told item_ident (ReadsIdent class.Identifier) IsIdent laws (once class.Identifier) (λ x s. writable 2 (item_ident x) (omega arith) (ident-fit laws x s) tt) ident-read
 
@@ -176,7 +179,7 @@ ident-agrees a b = (
   λ s. λ i. ident-made (s.authority i) (s.code i) (s.version i) (s.citation i) (s.uri i),
 )
 
-pub idents-agree : Laws → ReadsIdentOnce → (level : Level) (xs ys : List IdentParts) → Each IsIdent xs → Each IsIdent ys →
+pub idents-agree : TextLaws → ReadsIdentOnce → (level : Level) (xs ys : List IdentParts) → Each IsIdent xs → Each IsIdent ys →
     (set_idents level xs ≡ set_idents level ys) ↔ SameIdents level xs ys
 unfolding set_idents
 idents-agree laws once levels.Full xs ys p q =

@@ -1,28 +1,19 @@
 -- Written items: that they are well formed and not too deep, what their arguments of a class are wherever they stand, and
 -- that equal texts are of equal values.
-use Rattle.std.proofs.Common.{◌≡◌, ◌≤◌, ◌↔◌, ℕ, suc, ◌+◌, ◌<◌, Bool, true, false, if◌then◌else◌, IfSome, Option, Some, None, List, [], ◌∷◌, length, refl, sym, subst, arith}
-use Rattle.crs_decimal.specs.Bounds.{Denotes, IsInBounds}
-use Rattle.crs_decimal.specs.Number.{SameNumber}
+use Rattle.std.proofs.Common.{◌≡◌, ◌≤◌, ℕ, suc, ◌+◌, Bool, true, false, if◌then◌else◌, IfSome, Option, Some, None, List, [], ◌∷◌, length, refl, sym, subst, arith}
+use Rattle.crs_decimal.specs.Bounds.{IsInBounds}
 use Rattle.crs_decimal.specs.Plain.{plain}
-use Rattle.crs_decimal.specs.Spelling.{AreDigits, HasForm, IsRun}
-use Rattle.crs_decimal.specs.Value.{Value, IsNormal, exact}
+use Rattle.crs_decimal.specs.Spelling.{IsRun}
+use Rattle.crs_decimal.specs.Value.{Value, IsNormal}
 use Rattle.crs_text.specs.Items.{Item, leaf, Items, End, More, arguments, depth, depths, IsNode}
 use Rattle.crs_text.specs.TextFault.{SpellsNode}
 use Rattle.crs_text.specs.Tokens.{Kind, number, IsSingle, IsWord}
-use Rattle.crs_text.specs.Written.{AreFormed, AreAllFormed, WrittenSpells, at_place, at_places, item_text}
+use Rattle.crs_text.specs.Written.{AreFormed, AreAllFormed, at_place, at_places, item_text}
 use Rattle.crs_shape.specs.declared.class.Class.{Class}
 use Rattle.crs_value.specs.Reading.{those, is_a, ReadsOptional, ReadsEach}
 use Rattle.crs_value.specs.Sound.{Each}
 use Rattle.crs_normal.specs.SpelledItems.{each, node_of, node_from, number_item, opt}
-
--- the laws of texts and decimals
-pub record Laws : Type 0 where
-  pub spells : WrittenSpells
-  pub one_node : (bytes : List ℕ) (i j : Item) → SpellsNode bytes i → SpellsNode bytes j → i ≡ j
-  pub one_value : (a b : Value) → IsNormal a → IsNormal b → SameNumber (exact a) (exact b) ↔ (a ≡ b)
-  pub denotes : (v : Value) → IsNormal v → Denotes (plain v) (exact v)
-  pub run : (bytes : List ℕ) → HasForm bytes → IsRun bytes
-  pub digits : (bytes : List ℕ) → AreDigits bytes → 0 < length bytes → length bytes ≤ 18 → IsInBounds bytes
+use Rattle.crs_normal.specs.TextLaws.{TextLaws}
 
 -- ---- well-formed items of some depth
 
@@ -64,10 +55,10 @@ run-single : (raw : List ℕ) → IsRun raw → IsInBounds raw → IsSingle numb
 run-single [] r b = absurd r
 run-single (c ∷ cs) r b = (r.0, r.1, b)
 
-pub number-single : Laws → (raw : List ℕ) → IsInBounds raw → IsSingle number raw
+pub number-single : TextLaws → (raw : List ℕ) → IsInBounds raw → IsSingle number raw
 number-single laws raw b = run-single raw (laws.run raw (b.0, b.1)) b
 
-pub value-fit : Laws → (n : ℕ) (v : Value) → IsNormal v → IsFit n (number_item v)
+pub value-fit : TextLaws → (n : ℕ) (v : Value) → IsNormal v → IsFit n (number_item v)
 value-fit laws n v h = let d = laws.denotes v h in fit-leaf n number 0 (plain v) (number-single laws (plain v) (d.0, d.1, d.2))
 
 -- ---- arguments of a class, wherever the items stand
@@ -136,13 +127,13 @@ pub record IsWritable (item : Item) : Type 0 where
   pub within : depth item ≤ 12
 
 -- writable items with the same text are equal but for places and delimiters
-pub one-by-text : Laws → (i j : Item) → IsWritable i → IsWritable j → item_text i ≡ item_text j → at_place 0 i ≡ at_place 0 j
+pub one-by-text : TextLaws → (i j : Item) → IsWritable i → IsWritable j → item_text i ≡ item_text j → at_place 0 i ≡ at_place 0 j
 one-by-text laws i j a b e =
     laws.one_node (item_text i) (at_place 0 i) (at_place 0 j) (laws.spells i a.formed a.is_node a.within)
     (subst (λ t. SpellsNode t (at_place 0 j)) (sym e) (laws.spells j b.formed b.is_node b.within))
 
 -- values are equal where the texts of their items are, if each is read from its item
-pub told : {V : Type 0} (item : V → Item) (R : Item → V → Type 0) (Q : V → Type 0) → Laws → ((i : Item) (a b : V) → R i a → R i b → a ≡ b) →
+pub told : {V : Type 0} (item : V → Item) (R : Item → V → Type 0) (Q : V → Type 0) → TextLaws → ((i : Item) (a b : V) → R i a → R i b → a ≡ b) →
     ((x : V) → Q x → IsWritable (item x)) → ((x : V) → Q x → (place : ℕ) → R (at_place place (item x)) x) → (a b : V) → Q a → Q b →
     item_text (item a) ≡ item_text (item b) → a ≡ b
 told item R Q laws once writable reads a b p q e =

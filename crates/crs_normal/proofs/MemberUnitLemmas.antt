@@ -19,8 +19,9 @@ use Rattle.crs_same.specs.SameUnits.{SameUnit, SameValue}
 use Rattle.crs_same.specs.Sets.{BothOrNeither}
 use Rattle.crs_normal.specs.SpelledItems.{each, number_item, text_item}
 use Rattle.crs_normal.specs.SpelledUnits.{item_ident, item_unit, norm_unit, norm_units}
+use Rattle.crs_normal.specs.TextLaws.{TextLaws}
 use Rattle.crs_normal.proofs.IdentLemmas.{ReadsIdentOnce, ident-fit, ident-read, idents-agree, idents-kept, text-fit}
-use Rattle.crs_normal.proofs.ItemLemmas.{Laws, AreFit, IsFit, IsOf, Gives, each-over, each-read, fit-deeper, fit-each, fit-end, fit-more, fit-node, gives-over, lacks-end, value-fit}
+use Rattle.crs_normal.proofs.ItemLemmas.{AreFit, IsFit, IsOf, Gives, each-over, each-read, fit-deeper, fit-each, fit-end, fit-more, fit-node, gives-over, lacks-end, value-fit}
 
 -- ---- the identifiers of a node
 
@@ -41,22 +42,22 @@ ids-read c e ids s =
     each-read c class.Identifier item_ident IsIdent (ReadsIdent class.Identifier) (λ x q place. ap (is_class class.Identifier) e) ident-read ids End s
     (lacks-end c class.Identifier)
 
-pub ids-fit : Laws → (n : ℕ) → 2 ≤ n → (ids : List IdentParts) → Each IsIdent ids → AreFit n (each item_ident ids End)
+pub ids-fit : TextLaws → (n : ℕ) → 2 ≤ n → (ids : List IdentParts) → Each IsIdent ids → AreFit n (each item_ident ids End)
 ids-fit laws n l ids s =
     fit-each n item_ident IsIdent (λ x q. fit-deeper 2 n (item_ident x) l (ident-fit laws x q)) ids End s (fit-end n)
 
 -- ---- numbers
 
-pub number-read : Laws → (v : Value) → IsNormal v → (place : ℕ) → ReadsNumber (at_place place (number_item v)) v
+pub number-read : TextLaws → (v : Value) → IsNormal v → (place : ℕ) → ReadsNumber (at_place place (number_item v)) v
 number-read laws v h place = (h, laws.denotes v h)
 
-pub values-agree : Laws → (a b : Value) → IsNormal a → IsNormal b → (a ≡ b) ↔ SameValue a b
+pub values-agree : TextLaws → (a b : Value) → IsNormal a → IsNormal b → (a ≡ b) ↔ SameValue a b
 unfolding SameValue
 values-agree laws a b p q = ((laws.one_value a b p q).1, (laws.one_value a b p q).0)
 
 -- ---- units
 
-pub unit-read : Laws → (c : Class) → NamesId c → (u : UnitParts) → IsUnit u → (place : ℕ) → ReadsUnit c (at_place place (item_unit u)) u
+pub unit-read : TextLaws → (c : Class) → NamesId c → (u : UnitParts) → IsUnit u → (place : ℕ) → ReadsUnit c (at_place place (item_unit u)) u
 unit-read laws c e u s place = record {
   kind = refl;
   name = refl;
@@ -74,7 +75,7 @@ unit-is-word kinds.Angle = (refl, refl)
 unit-is-word kinds.Scale = (refl, refl)
 unit-is-word kinds.Plain = (refl, refl)
 
-pub unit-fit : Laws → (u : UnitParts) → IsUnit u → IsFit 3 (item_unit u)
+pub unit-fit : TextLaws → (u : UnitParts) → IsUnit u → IsFit 3 (item_unit u)
 unit-fit laws u s =
     fit-node 2 (unit_word u.kind) (text_item u.name) (More (number_item u.factor) (each item_ident u.ids End)) (unit-is-word u.kind) (text-fit 2 u.name s.name)
     (fit-more 2 (number_item u.factor) (each item_ident u.ids End) (value-fit laws 2 u.factor s.factor) (ids-fit laws 2 (omega arith) u.ids s.ids))
@@ -90,12 +91,11 @@ unit-kept level asked u s = record {
 abbrev unit-made : UnitKind → List ℕ → Value → List IdentParts → UnitParts
 unit-made x0 x1 x2 x3 = record { kind = x0; name = x1; factor = x2; ids = x3 }
 
-pub unit-agrees : Laws → ReadsIdentOnce → (level : Level) (asked : UnitKind) (a b : UnitParts) → IsUnit a → IsUnit b →
+pub unit-agrees : TextLaws → ReadsIdentOnce → (level : Level) (asked : UnitKind) (a b : UnitParts) → IsUnit a → IsUnit b →
     (norm_unit level asked a ≡ norm_unit level asked b) ↔ SameUnit asked level a b
 unit-agrees laws once level asked a b p q =
     let ids = idents-agree laws once level a.ids b.ids p.ids q.ids in
-    let factors = values-agree laws a.factor b.factor p.factor q.factor in
-    (
+    let factors = values-agree laws a.factor b.factor p.factor q.factor in (
       λ e. record {
         kind = ap (λ x. x.kind) e;
         name = ap (λ x. x.name) e;
@@ -122,7 +122,7 @@ option-agrees {B = B} norm Q Same agree opts n s (Some a) (Some b) p q =
         or z None = z
         or z (Some w) = w
 
-pub units-agree : Laws → ReadsIdentOnce → (level : Level) (asked : UnitKind) (a b : Option UnitParts) → IfSome a IsUnit → IfSome b IsUnit →
+pub units-agree : TextLaws → ReadsIdentOnce → (level : Level) (asked : UnitKind) (a b : Option UnitParts) → IfSome a IsUnit → IfSome b IsUnit →
     (norm_units level asked a ≡ norm_units level asked b) ↔ BothOrNeither (SameUnit asked level) a b
 units-agree laws once level asked a b p q =
     option-agrees (norm_unit level asked) IsUnit (SameUnit asked level) (unit-agrees laws once level asked) (norm_units level asked) refl (λ u. refl) a b p q

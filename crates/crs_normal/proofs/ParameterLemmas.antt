@@ -24,11 +24,11 @@ use Rattle.crs_same.specs.Sets.{SameSet}
 use Rattle.crs_normal.specs.SpelledConversions.{item_parameter, norm_parameter, set_parameters}
 use Rattle.crs_normal.specs.SpelledItems.{each, node_of, number_item, opt, text_item}
 use Rattle.crs_normal.specs.SpelledUnits.{item_ident, item_unit, norm_units}
+use Rattle.crs_normal.specs.TextLaws.{TextLaws}
 use Rattle.crs_normal.proofs.IdentLemmas.{ReadsIdentOnce, idents-agree, idents-kept, text-fit, writable}
-use Rattle.crs_normal.proofs.ItemLemmas.{Laws, IsFit, IsOf, Gives, Lacks, fit-more, fit-node, fit-opt, gives-first, gives-over, opt-over, told, value-fit}
+use Rattle.crs_normal.proofs.ItemLemmas.{IsFit, IsOf, Gives, Lacks, fit-more, fit-node, fit-opt, gives-first, gives-over, opt-over, told, value-fit}
 use Rattle.crs_normal.proofs.MemberUnitLemmas.{NamesId, ids-fit, ids-over, ids-read, number-read, unit-fit, unit-kept, unit-read, units-agree, values-agree}
 use Rattle.crs_normal.proofs.SetLemmas.{set-agrees}
-
 
 parameter-names : NamesId class.Parameter
 unfolding class_named is_keyword
@@ -85,7 +85,7 @@ else-over : (d : Class) (Other : Option UnitParts → Type 0) (o : Option UnitPa
     (start : ℕ) → ReadsElse (ReadsAsUnit d) (those class.Parameter d (at_places start items)) Other o
 else-over d Other o items g h start = subst (λ l. ReadsElse (ReadsAsUnit d) l Other o) (sym (g start)) h
 
-module _ (laws : Laws) (name : List ℕ) (value : Value) (ids : List IdentParts) where
+module _ (laws : TextLaws) (name : List ℕ) (value : Value) (ids : List IdentParts) where
   abbrev with-unit : Option UnitParts → Items
   with-unit o = parameter-items name value (opt item_unit o (each item_ident ids End))
 
@@ -169,7 +169,7 @@ module _ (laws : Laws) (name : List ℕ) (value : Value) (ids : List IdentParts)
 
 -- ---- a parameter
 
-pub parameter-read : Laws → (p : ParameterParts) → IsParameter p → (place : ℕ) → ReadsParameter class.Parameter (at_place place (item_parameter p)) p
+pub parameter-read : TextLaws → (p : ParameterParts) → IsParameter p → (place : ℕ) → ReadsParameter class.Parameter (at_place place (item_parameter p)) p
 parameter-read laws p s place = record {
   name = refl;
   value = number-read laws p.value s.value 0;
@@ -177,7 +177,7 @@ parameter-read laws p s place = record {
   ids = parameter-ids p s.ids (place + 9);
 }
 
-pub parameter-fit : Laws → (p : ParameterParts) → IsParameter p → IsFit 4 (item_parameter p)
+pub parameter-fit : TextLaws → (p : ParameterParts) → IsParameter p → IsFit 4 (item_parameter p)
 parameter-fit laws p s =
     fit-node 3 (codes "PARAMETER") (text_item p.name) (More (number_item p.value) (opt item_unit p.unit (each item_ident p.ids End))) (refl, refl)
     (text-fit 3 p.name s.name)
@@ -199,7 +199,7 @@ parameter-kept level p s = record {
 abbrev pub ReadsParameterOnce : Type 0
 ReadsParameterOnce = (c : Class) (item : Item) (a b : ParameterParts) → ReadsParameter c item a → ReadsParameter c item b → a ≡ b
 
-pub parameter-told : Laws → ReadsParameterOnce → (a b : ParameterParts) → IsParameter a → IsParameter b →
+pub parameter-told : TextLaws → ReadsParameterOnce → (a b : ParameterParts) → IsParameter a → IsParameter b →
     item_text (item_parameter a) ≡ item_text (item_parameter b) → a ≡ b
 parameter-told laws once =
     told item_parameter (ReadsParameter class.Parameter) IsParameter laws (once class.Parameter)
@@ -208,13 +208,12 @@ parameter-told laws once =
 abbrev parameter-made : List ℕ → Value → Option UnitParts → List IdentParts → ParameterParts
 parameter-made x0 x1 x2 x3 = record { name = x0; value = x1; unit = x2; ids = x3 }
 
-parameter-agrees : Laws → ReadsIdentOnce → (level : Level) (a b : ParameterParts) → IsParameter a → IsParameter b →
+parameter-agrees : TextLaws → ReadsIdentOnce → (level : Level) (a b : ParameterParts) → IsParameter a → IsParameter b →
     (norm_parameter level a ≡ norm_parameter level b) ↔ SameParameter level a b
 parameter-agrees laws once level a b p q =
     let ids = idents-agree laws once level a.ids b.ids p.ids q.ids in
     let values = values-agree laws a.value b.value p.value q.value in
-    let units = units-agree laws once level kinds.Plain a.unit b.unit p.unit q.unit in
-    (
+    let units = units-agree laws once level kinds.Plain a.unit b.unit p.unit q.unit in (
       λ e. record {
         name = ap (λ x. x.name) e;
         value = values.0 (ap (λ x. x.value) e);
@@ -224,7 +223,7 @@ parameter-agrees laws once level a b p q =
       λ s. λ i. parameter-made (s.name i) (values.1 s.value i) (units.1 s.unit i) (ids.1 s.ids i),
     )
 
-pub parameters-agree : Laws → ReadsIdentOnce → ReadsParameterOnce → (level : Level) (xs ys : List ParameterParts) → Each IsParameter xs → Each IsParameter ys →
+pub parameters-agree : TextLaws → ReadsIdentOnce → ReadsParameterOnce → (level : Level) (xs ys : List ParameterParts) → Each IsParameter xs → Each IsParameter ys →
     (set_parameters level xs ≡ set_parameters level ys) ↔ SameSet (SameParameter level) xs ys
 unfolding set_parameters
 parameters-agree laws idents once level xs ys p q =

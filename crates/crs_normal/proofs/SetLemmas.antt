@@ -82,8 +82,11 @@ module _ {A : Type 0} (bytes : A → List ℕ) where
   put-ascends x (y ∷ ys) h =
       by-order (Ascends bytes) (x ∷ y ∷ ys) (y ∷ ys) (y ∷ put bytes x ys) (slice_cmp nat_cmp (bytes x) (bytes y))
       (λ e. (
-        (e, each-of (λ z. Below (bytes x) (bytes z)) ys
-        (λ z q. nat_list_cmp_total.trans (bytes x) (bytes y) (bytes z) e (each-has (λ w. Below (bytes y) (bytes w)) ys z h.0 q))),
+        (
+          e,
+          each-of (λ z. Below (bytes x) (bytes z)) ys
+              (λ z q. nat_list_cmp_total.trans (bytes x) (bytes y) (bytes z) e (each-has (λ w. Below (bytes y) (bytes w)) ys z h.0 q)),
+        ),
         h,
       )) (λ e. h)
       (λ e. (each-put (λ z. Below (bytes y) (bytes z)) x ys (above (bytes x) (bytes y) e) h.0, put-ascends x ys h.1))
@@ -222,5 +225,5 @@ module _ {V A : Type 0} (norm : V → A) (bytes : A → List ℕ) (Q : V → Typ
   set-agrees agree tells xs ys g h = (
     λ e. (all-to agree xs ys g h (moved tells xs ys g e), all-to agree ys xs h g (moved tells ys xs h (sym e))),
     λ s. ascending-one bytes (in_order bytes (map norm xs)) (in_order bytes (map norm ys)) (in_order-ascends bytes (map norm xs))
-    (in_order-ascends bytes (map norm ys)) (kept agree tells xs ys g h s.0) (kept agree tells ys xs h g s.1),
+        (in_order-ascends bytes (map norm ys)) (kept agree tells xs ys g h s.0) (kept agree tells ys xs h g s.1),
   )

@@ -1,8 +1,8 @@
 -- Usages: the item of one that says something reads as it wherever it stands, and as sets they have one form.
-use Rattle.std.proofs.Common.{◌≡◌, ◌≢◌, ◌≤◌, ◌↔◌, ◌⊎◌, ℕ, suc, ◌+◌, Bool, true, false, true≢false, codes, IfSome, IsSome, is_some, Option, Some, None, option_map, List, [], ◌∷◌, inl, inr, length, map, refl, sym, ◌∙◌, ap, subst, arith}
+use Rattle.std.proofs.Common.{◌≡◌, ◌↔◌, ◌⊎◌, ℕ, suc, ◌+◌, Bool, true, false, true≢false, codes, IfSome, IsSome, Option, Some, None, option_map, List, [], inl, inr, length, refl, sym, ◌∙◌, ap, subst, arith}
 use Rattle.crs_text.specs.Items.{Item, Items, End, More, IsNode, arguments}
 use Rattle.crs_text.specs.Tokens.{IsWord}
-use Rattle.crs_text.specs.Written.{at_place, at_places, item_text}
+use Rattle.crs_text.specs.Written.{at_place, item_text}
 use Rattle.crs_shape.specs.declared.class.Class.{Class}
 use Rattle.crs_shape.specs.declared.class.Class.TheVariants as class
 use Rattle.crs_shape.specs.Keywords.{is_keyword}
@@ -14,12 +14,13 @@ use Rattle.crs_value.specs.Sound.{Each, IsText}
 use Rattle.crs_value.specs.SoundUsages.{IsBox, IsExtent, IsUsage, SaysSome}
 use Rattle.crs_value.specs.Values.{BoxParts, ExtentParts, UsageParts}
 use Rattle.crs_same.specs.SameUsages.{SameBox, SameExtent, SameUsage}
-use Rattle.crs_same.specs.Sets.{BothOrNeither, SameSet}
-use Rattle.crs_normal.specs.SpelledItems.{node_from, node_of, opt, text_node}
+use Rattle.crs_same.specs.Sets.{SameSet}
+use Rattle.crs_normal.specs.SpelledItems.{node_from, opt, text_node}
 use Rattle.crs_normal.specs.SpelledUsages.{item_box, item_extent, item_usage, norm_extent, norm_usage, set_usages}
+use Rattle.crs_normal.specs.TextLaws.{TextLaws}
 use Rattle.crs_normal.proofs.ExtentLemmas.{IsWrittenExtent, box-agrees, box-fit, box-read, extent-agrees, extent-fit, extent-kept, extent-read}
 use Rattle.crs_normal.proofs.IdentLemmas.{ReadsIdentOnce, source-fit, text-read, writable}
-use Rattle.crs_normal.proofs.ItemLemmas.{Laws, AreFit, Gives, IsFit, IsOf, Lacks, fit-deeper, fit-end, fit-node, fit-opt, from-arguments, lacks-end, opt-over, opt-read, told}
+use Rattle.crs_normal.proofs.ItemLemmas.{AreFit, Gives, IsFit, IsOf, fit-deeper, fit-end, fit-node, fit-opt, from-arguments, lacks-end, opt-over, opt-read, told}
 use Rattle.crs_normal.proofs.MemberUnitLemmas.{option-agrees}
 use Rattle.crs_normal.proofs.SetLemmas.{set-agrees}
 
@@ -93,7 +94,7 @@ of-arguments : (d : Class) (P : List Item → Type 0) (u : UsageParts) → Gives
 of-arguments d P u g place =
     subst (λ items. P (those class.Usage d items)) (sym (from-arguments (codes "USAGE") (from-scope u) place)) (g (place + length (codes "USAGE")))
 
-module _ (laws : Laws) (u : UsageParts) (s : IsWrittenUsage u) where
+module _ (laws : TextLaws) (u : UsageParts) (s : IsWrittenUsage u) where
   scope-read : Gives class.Usage class.Scope (λ l. ReadsOptional (ReadsTextOf class.Scope) l u.scope) (from-scope u)
   scope-read =
       opt-read class.Usage class.Scope (text_node (codes "SCOPE")) IsText (ReadsTextOf class.Scope) (λ raw t. scope-is class.Scope true refl raw)
@@ -138,7 +139,7 @@ from-fit n keyword End w g = (w, omega arith)
 from-fit n keyword (More first others) w g =
     fit-node n keyword first others w (g.0.0, omega (arith, g.1)) (g.0.1, omega (arith, g.1))
 
-pub usage-fit : Laws → (u : UsageParts) → IsWrittenUsage u → IsFit 5 (item_usage u)
+pub usage-fit : TextLaws → (u : UsageParts) → IsWrittenUsage u → IsFit 5 (item_usage u)
 usage-fit laws u s =
     from-fit 4 (codes "USAGE") (from-scope u) (refl, refl)
     (fit-opt 4 (text_node (codes "SCOPE")) IsText (λ raw t. source-fit 3 (codes "SCOPE") raw (refl, refl) t) u.scope (from-area u) s.scope
@@ -192,7 +193,7 @@ usage-kept u s = record {
 abbrev pub ReadsUsageOnce : Type 0
 ReadsUsageOnce = (c : Class) (item : Item) (a b : UsageParts) → ReadsUsage c item a → ReadsUsage c item b → a ≡ b
 
-pub usage-told : Laws → ReadsUsageOnce → (a b : UsageParts) → IsWrittenUsage a → IsWrittenUsage b → item_text (item_usage a) ≡ item_text (item_usage b) → a ≡ b
+pub usage-told : TextLaws → ReadsUsageOnce → (a b : UsageParts) → IsWrittenUsage a → IsWrittenUsage b → item_text (item_usage a) ≡ item_text (item_usage b) → a ≡ b
 usage-told laws once =
     told item_usage (ReadsUsage class.Usage) IsWrittenUsage laws (once class.Usage)
     (λ x s. writable 5 (item_usage x) (omega arith) (usage-fit laws x s) (usage-is-node x s.some)) (usage-read laws)
@@ -200,13 +201,12 @@ usage-told laws once =
 abbrev usage-made : Option (List ℕ) → Option (List ℕ) → Option BoxParts → Option ExtentParts → UsageParts
 usage-made x0 x1 x2 x3 = record { scope = x0; area = x1; bbox = x2; extent = x3 }
 
-usage-agrees : Laws → ReadsIdentOnce → (a b : UsageParts) → IsSomeUsage a → IsSomeUsage b → (norm_usage a ≡ norm_usage b) ↔ SameUsage a b
+usage-agrees : TextLaws → ReadsIdentOnce → (a b : UsageParts) → IsSomeUsage a → IsSomeUsage b → (norm_usage a ≡ norm_usage b) ↔ SameUsage a b
 usage-agrees laws once a b p q =
     let bboxes = option-agrees (λ x. x) IsBox SameBox (box-agrees laws) (λ o. o) refl (λ x. refl) a.bbox b.bbox p.0.bbox q.0.bbox in
     let extents =
     option-agrees (norm_extent levels.Full) IsExtent (SameExtent levels.Full) (extent-agrees laws once levels.Full)
-    (option_map (norm_extent levels.Full)) refl (λ x. refl) a.extent b.extent p.0.extent q.0.extent in
-    (
+    (option_map (norm_extent levels.Full)) refl (λ x. refl) a.extent b.extent p.0.extent q.0.extent in (
       λ e. record {
         scope = ap (λ x. x.scope) e;
         area = ap (λ x. x.area) e;
@@ -216,7 +216,7 @@ usage-agrees laws once a b p q =
       λ s. λ i. usage-made (s.scope i) (s.area i) (bboxes.1 s.bbox i) (extents.1 s.extent i),
     )
 
-pub usages-agree : Laws → ReadsIdentOnce → ReadsUsageOnce → (xs ys : List UsageParts) → Each IsSomeUsage xs → Each IsSomeUsage ys →
+pub usages-agree : TextLaws → ReadsIdentOnce → ReadsUsageOnce → (xs ys : List UsageParts) → Each IsSomeUsage xs → Each IsSomeUsage ys →
     (set_usages levels.Full xs ≡ set_usages levels.Full ys) ↔ SameSet SameUsage xs ys
 unfolding set_usages
 usages-agree laws idents once xs ys p q =

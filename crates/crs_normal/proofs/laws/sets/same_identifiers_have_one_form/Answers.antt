@@ -2,14 +2,4 @@ use Rattle.crs_normal.proofs.IdentLemmas.{idents-agree}
 use Rattle.crs_normal.proofs.laws.sets.same_identifiers_have_one_form.Goals as goal
 
 pub returns : goal.returns
-returns c =
-    idents-agree
-    (record {
-      spells = c.written_items.ensures.spells;
-      one_node = c.one_answer.ensures.node;
-      one_value = c.normal_is_one.ensures;
-      denotes = c.plain_is_the_one.ensures.denotes;
-      run = c.spelled_as_a_run.ensures;
-      digits = c.digits_alone.ensures;
-    })
-    c.members_read_once.ensures.ident
+returns c = idents-agree c.text_laws.ensures c.members_read_once.ensures.ident
