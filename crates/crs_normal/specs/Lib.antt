@@ -10,3 +10,4 @@ pub mod SpelledItems
 pub mod SpelledSystems
 pub mod SpelledUnits
 pub mod SpelledUsages
+pub mod TextLaws
