@@ -35,6 +35,10 @@ ghost use Rattle.crs_normal.specs.SpelledSystems.{norm_axis, norm_axis_meridians
 ghost use Rattle.crs_normal.specs.SpelledUnits.{norm_length, norm_unit, norm_units};
 ghost use Rattle.crs_normal.specs.SpelledUsages.{norm_extent, norm_tail, norm_usage};
 
+use crate::laws::sets::{
+    same_geoid_models_have_one_form, same_identifiers_have_one_form, same_members_have_one_form,
+    same_parameters_have_one_form, same_usages_have_one_form,
+};
 use crs_decimal::laws::{
     digits_alone, normal_is_one, one_form, plain_is_the_one, same_number_is_equivalence,
 };
@@ -58,100 +62,118 @@ fn lower_laws()
     one_axis_each();
 }
 
+// The forms of sets decide which sets are the same.
+fn sets_decide()
+    ensures { SetsDecide }
+{
+    same_identifiers_have_one_form();
+    same_members_have_one_form();
+    same_parameters_have_one_form();
+    same_geoid_models_have_one_form();
+    same_usages_have_one_form();
+}
+
 /// Units have one form exactly where they are the same, whatever kind is asked; a missing unit of
 /// length is the metre.
 pub fn same_units_have_one_form()
-    ensures one { SetsDecide → (level : Level) (asked : UnitKind) →
+    ensures one { (level : Level) (asked : UnitKind) →
         FormDecides IsUnit (norm_unit level asked) (SameUnit asked level) }
-    ensures optional { SetsDecide → (level : Level) (asked : UnitKind) →
+    ensures optional { (level : Level) (asked : UnitKind) →
         FormDecides (Maybe IsUnit) (norm_units level asked) (BothOrNeither (SameUnit asked level)) }
-    ensures length { SetsDecide → (level : Level) →
+    ensures length { (level : Level) →
         FormDecides (Maybe (IsUnitOf kinds.Length)) (norm_length level) (SameLength level) }
 {
     lower_laws();
+    sets_decide();
 }
 
 /// So have ellipsoids, prime meridians, members, reference frames and ensembles; a missing prime
 /// meridian is Greenwich.
 pub fn same_frames_have_one_form()
-    ensures ellipsoid { SetsDecide → (level : Level) →
+    ensures ellipsoid { (level : Level) →
         FormDecides IsEllipsoid (norm_ellipsoid level) (SameEllipsoid level) }
-    ensures meridian { SetsDecide → (level : Level) →
+    ensures meridian { (level : Level) →
         FormDecides (Maybe IsMeridian) (norm_meridian level) (SameMeridian level) }
-    ensures member { SetsDecide → (level : Level) →
+    ensures member { (level : Level) →
         FormDecides IsMember (norm_member level) (SameMember level) }
-    ensures datum { SetsDecide → (level : Level) →
+    ensures datum { (level : Level) →
         FormDecides IsDatum (norm_datum level) (SameDatum level) }
-    ensures ensemble { SetsDecide → (level : Level) →
+    ensures ensemble { (level : Level) →
         FormDecides IsEnsemble (norm_ensemble level) (SameEnsemble level) }
-    ensures geodetic { SetsDecide → (level : Level) →
+    ensures geodetic { (level : Level) →
         FormDecides IsGeodeticFrame (norm_frame level) (SameFrame level) }
-    ensures vertical { SetsDecide → (level : Level) →
+    ensures vertical { (level : Level) →
         FormDecides IsVerticalFrame (norm_frame level) (SameFrame level) }
 {
     lower_laws();
+    sets_decide();
 }
 
 /// So have coordinate systems, and their axes at a position; whole numbers of at most 18 digits count the axes.
 pub fn same_systems_have_one_form()
-    ensures meridian { SetsDecide → (level : Level) →
+    ensures meridian { (level : Level) →
         FormDecides (Maybe IsAxisMeridian) (norm_axis_meridians level) (BothOrNeither (SameAxisMeridian level)) }
-    ensures axis { SetsDecide → (level : Level) (a b : SystemParts) (position : ℕ) (x y : AxisParts) →
+    ensures axis { (level : Level) (a b : SystemParts) (position : ℕ) (x y : AxisParts) →
         a.system_type ≡ b.system_type → Maybe IsAxisUnit a.unit → Maybe IsAxisUnit b.unit → IsAxis x → IsAxis y →
         (norm_axis level a position x ≡ norm_axis level b position y) ↔ SameAxis level a b x y }
-    ensures system { SetsDecide → (level : Level) →
+    ensures system { (level : Level) →
         FormDecides IsNumbered (norm_system level) (SameSystem level) }
 {
     lower_laws();
+    sets_decide();
 }
 
 /// So have conversions, with their methods and parameters, and geoid models.
 pub fn same_conversions_have_one_form()
-    ensures method { SetsDecide → (level : Level) →
+    ensures method { (level : Level) →
         FormDecides IsMethod (norm_method level) (SameMethod level) }
-    ensures parameter { SetsDecide → (level : Level) →
+    ensures parameter { (level : Level) →
         FormDecides IsParameter (norm_parameter level) (SameParameter level) }
-    ensures conversion { SetsDecide → (level : Level) →
+    ensures conversion { (level : Level) →
         FormDecides IsConversion (norm_conversion level) (SameConversion level) }
-    ensures geoid_model { SetsDecide → (level : Level) →
+    ensures geoid_model { (level : Level) →
         FormDecides IsGeoidModel (norm_geoid_model level) (SameGeoidModel level) }
 {
     lower_laws();
+    sets_decide();
 }
 
 /// So have boxes, extents, usages and the ends of CRSs; what stands bare there is a usage.
 pub fn same_tails_have_one_form()
     ensures bounding_box { FormDecides IsBox (λ bounds. bounds) SameBox }
-    ensures extent { SetsDecide → (level : Level) →
+    ensures extent { (level : Level) →
         FormDecides IsExtent (norm_extent level) (SameExtent level) }
-    ensures usage { SetsDecide → FormDecides IsUsage norm_usage SameUsage }
-    ensures tail { SetsDecide → (level : Level) →
+    ensures usage { FormDecides IsUsage norm_usage SameUsage }
+    ensures tail { (level : Level) →
         FormDecides IsTail (norm_tail level) (SameTail level) }
 {
     lower_laws();
+    sets_decide();
 }
 
 /// So have CRSs of each kind, base CRSs and the horizontal parts of compound CRSs.
 pub fn same_kinds_have_one_form()
-    ensures geodetic { SetsDecide → (level : Level) →
+    ensures geodetic { (level : Level) →
         FormDecides IsGeodetic (norm_geodetic level) (SameGeodetic level) }
-    ensures base { SetsDecide → (level : Level) →
+    ensures base { (level : Level) →
         FormDecides IsBase (norm_base level) (SameBase level) }
-    ensures projected { SetsDecide → (level : Level) →
+    ensures projected { (level : Level) →
         FormDecides IsProjected (norm_projected level) (SameProjected level) }
-    ensures vertical { SetsDecide → (level : Level) →
+    ensures vertical { (level : Level) →
         FormDecides IsVertical (norm_vertical level) (SameVertical level) }
-    ensures horizontal { SetsDecide → (level : Level) →
+    ensures horizontal { (level : Level) →
         FormDecides IsHorizontal (norm_horizontal level) (SameHorizontal level) }
-    ensures compound { SetsDecide → (level : Level) →
+    ensures compound { (level : Level) →
         FormDecides IsCompound (norm_compound level) (SameCompound level) }
 {
     lower_laws();
+    sets_decide();
 }
 
 /// CRSs have one form exactly where they are the same.
 pub fn same_crss_have_one_form()
-    ensures { SetsDecide → DecidesSameness }
+    ensures { DecidesSameness }
 {
     lower_laws();
+    sets_decide();
 }

@@ -3,22 +3,22 @@ use Rattle.crs_normal.proofs.FrameSameLemmas.{member-agrees, meridian-agrees, ve
 use Rattle.crs_normal.proofs.laws.values.same_frames_have_one_form.Goals as goal
 
 pub returns-clause-ellipsoid : goal.returns-clause-ellipsoid
-returns-clause-ellipsoid c = ellipsoid-agrees c.lower_laws.ensures
+returns-clause-ellipsoid c = ellipsoid-agrees c.lower_laws.ensures c.sets_decide.ensures
 
 pub returns-clause-meridian : goal.returns-clause-meridian
-returns-clause-meridian c = meridian-agrees c.lower_laws.ensures
+returns-clause-meridian c = meridian-agrees c.lower_laws.ensures c.sets_decide.ensures
 
 pub returns-clause-member : goal.returns-clause-member
-returns-clause-member c = member-agrees c.lower_laws.ensures
+returns-clause-member c = member-agrees c.lower_laws.ensures c.sets_decide.ensures
 
 pub returns-clause-datum : goal.returns-clause-datum
-returns-clause-datum c = datum-agrees c.lower_laws.ensures
+returns-clause-datum c = datum-agrees c.lower_laws.ensures c.sets_decide.ensures
 
 pub returns-clause-ensemble : goal.returns-clause-ensemble
-returns-clause-ensemble c = ensemble-agrees c.lower_laws.ensures
+returns-clause-ensemble c = ensemble-agrees c.lower_laws.ensures c.sets_decide.ensures
 
 pub returns-clause-geodetic : goal.returns-clause-geodetic
-returns-clause-geodetic c = geodetic-frame-agrees c.lower_laws.ensures
+returns-clause-geodetic c = geodetic-frame-agrees c.lower_laws.ensures c.sets_decide.ensures
 
 pub returns-clause-vertical : goal.returns-clause-vertical
-returns-clause-vertical c = vertical-frame-agrees c.lower_laws.ensures
+returns-clause-vertical c = vertical-frame-agrees c.lower_laws.ensures c.sets_decide.ensures

@@ -5,10 +5,10 @@ pub returns-clause-bounding_box : goal.returns-clause-bounding_box
 returns-clause-bounding_box c = box-agrees c.lower_laws.ensures
 
 pub returns-clause-extent : goal.returns-clause-extent
-returns-clause-extent c = extent-agrees c.lower_laws.ensures
+returns-clause-extent c = extent-agrees c.lower_laws.ensures c.sets_decide.ensures
 
 pub returns-clause-usage : goal.returns-clause-usage
-returns-clause-usage c = usage-agrees c.lower_laws.ensures
+returns-clause-usage c = usage-agrees c.lower_laws.ensures c.sets_decide.ensures
 
 pub returns-clause-tail : goal.returns-clause-tail
-returns-clause-tail c = tail-agrees
+returns-clause-tail c = tail-agrees c.sets_decide.ensures
