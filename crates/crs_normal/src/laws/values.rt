@@ -74,7 +74,7 @@ fn sets_decide()
 }
 
 /// Units have one form exactly where they are the same, whatever kind is asked; a missing unit of
-/// length is the metre.
+/// length is the metre. Profile.
 pub fn same_units_have_one_form()
     ensures one { (level : Level) (asked : UnitKind) →
         FormDecides IsUnit (norm_unit level asked) (SameUnit asked level) }
@@ -88,7 +88,7 @@ pub fn same_units_have_one_form()
 }
 
 /// So have ellipsoids, prime meridians, members, reference frames and ensembles; a missing prime
-/// meridian is Greenwich.
+/// meridian is Greenwich. Profile.
 pub fn same_frames_have_one_form()
     ensures ellipsoid { (level : Level) →
         FormDecides IsEllipsoid (norm_ellipsoid level) (SameEllipsoid level) }
@@ -109,12 +109,15 @@ pub fn same_frames_have_one_form()
     sets_decide();
 }
 
-/// So have coordinate systems, and their axes at a position; whole numbers of at most 18 digits count the axes.
+/// So have coordinate systems, and the axes at one position of two. The number of axes has at most
+/// 18 digits. Profile.
 pub fn same_systems_have_one_form()
     ensures meridian { (level : Level) →
-        FormDecides (Maybe IsAxisMeridian) (norm_axis_meridians level) (BothOrNeither (SameAxisMeridian level)) }
+        FormDecides (Maybe IsAxisMeridian) (norm_axis_meridians level)
+        (BothOrNeither (SameAxisMeridian level)) }
     ensures axis { (level : Level) (a b : SystemParts) (position : ℕ) (x y : AxisParts) →
-        a.system_type ≡ b.system_type → Maybe IsAxisUnit a.unit → Maybe IsAxisUnit b.unit → IsAxis x → IsAxis y →
+        a.system_type ≡ b.system_type → Maybe IsAxisUnit a.unit → Maybe IsAxisUnit b.unit →
+        IsAxis x → IsAxis y →
         (norm_axis level a position x ≡ norm_axis level b position y) ↔ SameAxis level a b x y }
     ensures system { (level : Level) →
         FormDecides IsNumbered (norm_system level) (SameSystem level) }
@@ -123,7 +126,7 @@ pub fn same_systems_have_one_form()
     sets_decide();
 }
 
-/// So have conversions, with their methods and parameters, and geoid models.
+/// So have conversions, with their methods and parameters, and geoid models. Profile.
 pub fn same_conversions_have_one_form()
     ensures method { (level : Level) →
         FormDecides IsMethod (norm_method level) (SameMethod level) }
@@ -138,7 +141,7 @@ pub fn same_conversions_have_one_form()
     sets_decide();
 }
 
-/// So have boxes, extents, usages and the ends of CRSs; what stands bare there is a usage.
+/// So have boxes, extents, usages and the ends of CRSs; what stands bare there is a usage. Profile.
 pub fn same_tails_have_one_form()
     ensures bounding_box { FormDecides IsBox (λ bounds. bounds) SameBox }
     ensures extent { (level : Level) →
@@ -151,7 +154,7 @@ pub fn same_tails_have_one_form()
     sets_decide();
 }
 
-/// So have CRSs of each kind, base CRSs and the horizontal parts of compound CRSs.
+/// So have CRSs of each kind, base CRSs and the horizontal parts of compound CRSs. Profile.
 pub fn same_kinds_have_one_form()
     ensures geodetic { (level : Level) →
         FormDecides IsGeodetic (norm_geodetic level) (SameGeodetic level) }
@@ -170,7 +173,7 @@ pub fn same_kinds_have_one_form()
     sets_decide();
 }
 
-/// CRSs have one form exactly where they are the same.
+/// CRSs have one form exactly where they are the same. Profile.
 pub fn same_crss_have_one_form()
     ensures { DecidesSameness }
 {
