@@ -57,7 +57,7 @@ parameter-equal : (x0 y0 : List ℕ) (x1 y1 : Value) (x2 y2 : Option UnitParts) 
     parameter-made x0 x1 x2 x3 ≡ parameter-made y0 y1 y2 y3
 parameter-equal x0 y0 x1 y1 x2 y2 x3 y3 e0 e1 e2 e3 = cc
 
-parameter-one : DenotesOne → (c : Class) → IsOne (ReadsParameter c)
+pub parameter-one : DenotesOne → (c : Class) → IsOne (ReadsParameter c)
 parameter-one law c item a b p q =
     parameter-equal a.name b.name a.value b.value a.unit b.unit a.ids b.ids
     (text-of-one c item a.name b.name p.name q.name)
@@ -87,7 +87,7 @@ geoid_model-equal : (x0 y0 : List ℕ) (x1 y1 : List IdentParts) → x0 ≡ y0 �
     geoid_model-made x0 x1 ≡ geoid_model-made y0 y1
 geoid_model-equal x0 y0 x1 y1 e0 e1 = cc
 
-geoid_model-one : (c : Class) → IsOne (ReadsGeoidModel c)
+pub geoid_model-one : (c : Class) → IsOne (ReadsGeoidModel c)
 geoid_model-one c item a b p q =
     geoid_model-equal a.name b.name a.ids b.ids
     (text-of-one c item a.name b.name p.name q.name)

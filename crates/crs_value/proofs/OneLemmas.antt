@@ -165,7 +165,7 @@ member-equal : (x0 y0 : List ℕ) (x1 y1 : List IdentParts) → x0 ≡ y0 → x1
     member-made x0 x1 ≡ member-made y0 y1
 member-equal x0 y0 x1 y1 e0 e1 = cc
 
-member-one : (c : Class) → IsOne (ReadsMember c)
+pub member-one : (c : Class) → IsOne (ReadsMember c)
 member-one c item a b p q =
     member-equal a.name b.name a.ids b.ids
     (text-of-one c item a.name b.name p.name q.name)
@@ -224,7 +224,7 @@ extent-equal : (x0 y0 : Value) (x1 y1 : Value) (x2 y2 : Option UnitParts) → x0
     extent-made x0 x1 x2 ≡ extent-made y0 y1 y2
 extent-equal x0 y0 x1 y1 x2 y2 e0 e1 e2 = cc
 
-extent-one : DenotesOne → (c : Class) → IsOne (ReadsExtent c)
+pub extent-one : DenotesOne → (c : Class) → IsOne (ReadsExtent c)
 extent-one law c item a b p q =
     extent-equal a.minimum b.minimum a.maximum b.maximum a.unit b.unit
     (number-at-one law 0 c item a.minimum b.minimum p.minimum q.minimum)
@@ -238,7 +238,7 @@ usage-equal : (x0 y0 : Option (List ℕ)) (x1 y1 : Option (List ℕ)) (x2 y2 : O
     usage-made x0 x1 x2 x3 ≡ usage-made y0 y1 y2 y3
 usage-equal x0 y0 x1 y1 x2 y2 x3 y3 e0 e1 e2 e3 = cc
 
-usage-one : DenotesOne → (c : Class) → IsOne (ReadsUsage c)
+pub usage-one : DenotesOne → (c : Class) → IsOne (ReadsUsage c)
 usage-one law c item a b p q =
     usage-equal a.scope b.scope a.area b.area a.bbox b.bbox a.extent b.extent
     (one-optional (ReadsTextOf class.Scope) (text-of-one class.Scope) (those c class.Scope (arguments item)) a.scope b.scope p.scope q.scope)

@@ -3,10 +3,15 @@ ghost use Rattle.std.specs.Prelude.{◌≡◌, ◌≤◌, ◌⊎◌, ℕ, List, 
 ghost use Rattle.crs_text.specs.Items.{Item};
 ghost use Rattle.crs_text.specs.Refusal.{Refused};
 ghost use Rattle.crs_text.specs.Written.{AreFormed};
+ghost use Rattle.crs_shape.specs.declared.class.Class.{Class};
+ghost use Rattle.crs_value.specs.ConversionValues.{ParameterParts, GeoidModelParts};
 ghost use Rattle.crs_value.specs.declared.crs.Crs.{Crs};
+ghost use Rattle.crs_value.specs.Reads.{ReadsIdent, ReadsUnit, ReadsMember, ReadsExtent, ReadsUsage};
+ghost use Rattle.crs_value.specs.ReadsConversion.{ReadsParameter, ReadsGeoidModel};
 ghost use Rattle.crs_value.specs.SoundCrs.{IsCrs};
 ghost use Rattle.crs_value.specs.Spells.{SpellsCrs, RefusesCrs};
 ghost use Rattle.crs_value.specs.SpellsText.{Spells, Refuses, IsRefusal};
+ghost use Rattle.crs_value.specs.Values.{IdentParts, UnitParts, MemberParts, ExtentParts, UsageParts};
 
 use crate::crs::Crs;
 use crs_decimal::laws::{denotes_one, denotes_some};
@@ -15,6 +20,26 @@ use crs_shape::laws::{fault_at_root_is_one, no_fault_is_shape, slots_count};
 /// An item spells one value at most. Profile.
 pub fn spells_one()
     ensures { (item : Item) (a b : Crs) → SpellsCrs item a → SpellsCrs item b → a ≡ b }
+{
+    denotes_one();
+}
+
+/// An item is read as one identifier at most, whatever class it is asked to be, and so on. Profile.
+pub fn members_read_once()
+    ensures ident { (class : Class) (item : Item) (a b : IdentParts) →
+        ReadsIdent class item a → ReadsIdent class item b → a ≡ b }
+    ensures unit { (class : Class) (item : Item) (a b : UnitParts) →
+        ReadsUnit class item a → ReadsUnit class item b → a ≡ b }
+    ensures member { (class : Class) (item : Item) (a b : MemberParts) →
+        ReadsMember class item a → ReadsMember class item b → a ≡ b }
+    ensures parameter { (class : Class) (item : Item) (a b : ParameterParts) →
+        ReadsParameter class item a → ReadsParameter class item b → a ≡ b }
+    ensures geoid_model { (class : Class) (item : Item) (a b : GeoidModelParts) →
+        ReadsGeoidModel class item a → ReadsGeoidModel class item b → a ≡ b }
+    ensures extent { (class : Class) (item : Item) (a b : ExtentParts) →
+        ReadsExtent class item a → ReadsExtent class item b → a ≡ b }
+    ensures usage { (class : Class) (item : Item) (a b : UsageParts) →
+        ReadsUsage class item a → ReadsUsage class item b → a ≡ b }
 {
     denotes_one();
 }

@@ -1,0 +1,251 @@
+-- Coordinate reference systems have one form exactly where they are the same.
+use Rattle.std.proofs.Common.{◌≡◌, ℕ, ◌*◌, ◌<◌, ◌^◌, inl, inr, List, [], ◌∷◌, length, refl, ap, subst, arith}
+use Rattle.crs_decimal.specs.Number.{SameNumber, whole_number}
+use Rattle.crs_decimal.specs.Value.{exact}
+use Rattle.crs_value.specs.BadSystem.{IsOneOf, geodetic_dimensions, projected_dimensions, vertical_dimensions}
+use Rattle.crs_value.specs.CompoundValues.{CompoundParts}
+use Rattle.crs_value.specs.CrsValues.{BaseParts, GeodeticParts, ProjectedParts, VerticalParts}
+use Rattle.crs_value.specs.ReadsCrs.{kind_by}
+use Rattle.crs_value.specs.Sound.{Each}
+use Rattle.crs_value.specs.SoundCompound.{IsCompound, IsHorizontal}
+use Rattle.crs_value.specs.SoundCrs.{IsCrs}
+use Rattle.crs_value.specs.SoundSingle.{IsBase, IsGeodetic, IsProjected, IsVertical}
+use Rattle.crs_value.specs.SoundSystem.{IsSystem}
+use Rattle.crs_value.specs.Values.{SystemParts}
+use Rattle.crs_value.specs.declared.compound.Horizontal.TheVariants as horizontal
+use Rattle.crs_value.specs.declared.crs.Crs.TheVariants as crs
+use Rattle.crs_value.specs.declared.level.Level.{Level}
+use Rattle.crs_value.specs.declared.system_type.SystemType.{SystemType}
+use Rattle.crs_value.specs.declared.system_type.SystemType.TheVariants as types
+use Rattle.crs_value.specs.declared.unit_kind.UnitKind.TheVariants as kinds
+use Rattle.crs_same.specs.SameCrs.{SameBase, SameCompound, SameCrs, SameGeodetic, SameHorizontal, SameProjected}
+use Rattle.crs_same.specs.SameCrs.{SameVertical}
+use Rattle.crs_same.specs.SameSystems.{SameSystem}
+use Rattle.crs_normal.specs.Decides.{FormDecides, IsNumbered, SetsDecide}
+use Rattle.crs_normal.specs.LowerLaws.{LowerLaws}
+use Rattle.crs_normal.specs.SpelledCrs.{norm_base, norm_compound, norm_crs, norm_geodetic, norm_horizontal}
+use Rattle.crs_normal.specs.SpelledCrs.{norm_projected, norm_vertical}
+use Rattle.crs_normal.proofs.ConversionSameLemmas.{conversion-agrees}
+use Rattle.crs_normal.proofs.FrameSameLemmas.{geodetic-frame-agrees, meridian-agrees, vertical-frame-agrees}
+use Rattle.crs_normal.proofs.SystemSameLemmas.{system-agrees}
+use Rattle.crs_normal.proofs.TailSameLemmas.{tail-agrees}
+use Rattle.crs_normal.proofs.UnitSameLemmas.{units-of-agree}
+
+-- ---- the number of axes is small
+
+abbrev IsSmall : ℕ → Type 0
+IsSmall n = n < 10 ^ 18
+
+wholes-same : (m n : ℕ) → SameNumber (whole_number m) (whole_number n) → m ≡ n
+wholes-same m n h = let s : m * 1 ≡ n * 1 = h.0 in omega (arith, s)
+
+numbered : LowerLaws → (system : SystemParts) → IsSystem system → (ns : List ℕ) → Each IsSmall ns →
+    IsOneOf system.dimension ns → IsNumbered system
+numbered laws system sound [] small one = absurd one
+numbered laws system sound (n ∷ ns) small (inl s) =
+    let e : n ≡ length system.axes = wholes-same n (length system.axes)
+    (laws.transitive (whole_number n) (exact system.dimension) (whole_number (length system.axes))
+    (laws.symmetric (exact system.dimension) (whole_number n) s) sound.count) in
+    (sound, subst IsSmall e small.0)
+numbered laws system sound (n ∷ ns) small (inr s) = numbered laws system sound ns small.1 s
+
+geodetic-small : (t : SystemType) → Each IsSmall (geodetic_dimensions t)
+geodetic-small types.Cartesian = (omega arith, tt)
+geodetic-small types.Ellipsoidal = (omega arith, (omega arith, tt))
+geodetic-small types.Spherical = (omega arith, (omega arith, tt))
+geodetic-small types.Vertical = tt
+
+projected-small : (t : SystemType) → Each IsSmall (projected_dimensions t)
+projected-small types.Cartesian = (omega arith, (omega arith, tt))
+projected-small types.Ellipsoidal = tt
+projected-small types.Spherical = tt
+projected-small types.Vertical = tt
+
+vertical-small : (t : SystemType) → Each IsSmall (vertical_dimensions t)
+vertical-small types.Cartesian = tt
+vertical-small types.Ellipsoidal = tt
+vertical-small types.Spherical = tt
+vertical-small types.Vertical = (omega arith, tt)
+
+geodetic-numbered : LowerLaws → (g : GeodeticParts) → IsGeodetic g → IsNumbered g.system
+geodetic-numbered laws g sound =
+    let type = g.system.system_type in
+    numbered laws g.system sound.system (geodetic_dimensions type) (geodetic-small type) sound.dimension
+
+projected-numbered : LowerLaws → (p : ProjectedParts) → IsProjected p → IsNumbered p.system
+projected-numbered laws p sound =
+    let type = p.system.system_type in
+    numbered laws p.system sound.system (projected_dimensions type) (projected-small type) sound.dimension
+
+vertical-numbered : LowerLaws → (v : VerticalParts) → IsVertical v → IsNumbered v.system
+vertical-numbered laws v sound =
+    let type = v.system.system_type in
+    numbered laws v.system sound.system (vertical_dimensions type) (vertical-small type) sound.dimension
+
+module _ (laws : LowerLaws) (sets : SetsDecide) (level : Level) where
+  -- ---- geodetic and geographic CRSs
+
+  pub geodetic-agrees : FormDecides IsGeodetic (norm_geodetic level) (SameGeodetic level)
+  geodetic-agrees a b in-a in-b =
+      let frame = geodetic-frame-agrees laws sets level a.frame b.frame in-a.frame in-b.frame in
+      let meridian = meridian-agrees laws sets level a.meridian b.meridian in-a.meridian in-b.meridian in
+      let numbered-a = geodetic-numbered laws a in-a in
+      let numbered-b = geodetic-numbered laws b in-b in
+      let system = system-agrees laws sets level a.system b.system numbered-a numbered-b in
+      let tail = tail-agrees sets level a.tail b.tail in-a.tail in-b.tail in (
+        λ e. let alike : SameSystem level a.system b.system = system.0 (ap (λ (x : GeodeticParts). x.system) e) in
+            record {
+              kind = ap kind_by alike.system_type;
+              name = ap (λ (x : GeodeticParts). x.name) e;
+              frame = frame.0 (ap (λ (x : GeodeticParts). x.frame) e);
+              meridian = meridian.0 (ap (λ (x : GeodeticParts). x.meridian) e);
+              system = alike;
+              tail = tail.0 (ap (λ (x : GeodeticParts). x.tail) e);
+            },
+        λ s. λ i. record {
+          name = s.name i;
+          frame = frame.1 s.frame i;
+          meridian = meridian.1 s.meridian i;
+          system = system.1 s.system i;
+          tail = tail.1 s.tail i;
+        },
+      )
+
+  -- ---- projected CRSs
+
+  pub base-agrees : FormDecides IsBase (norm_base level) (SameBase level)
+  base-agrees a b in-a in-b =
+      let frame = geodetic-frame-agrees laws sets level a.frame b.frame in-a.frame in-b.frame in
+      let meridian = meridian-agrees laws sets level a.meridian b.meridian in-a.meridian in-b.meridian in
+      let unit = units-of-agree laws sets level kinds.Angle kinds.Angle a.unit b.unit in-a.unit in-b.unit in
+      let ids = sets.idents level a.ids b.ids in-a.ids in-b.ids in (
+        λ e. record {
+          name = ap (λ (x : BaseParts). x.name) e;
+          frame = frame.0 (ap (λ (x : BaseParts). x.frame) e);
+          meridian = meridian.0 (ap (λ (x : BaseParts). x.meridian) e);
+          unit = unit.0 (ap (λ (x : BaseParts). x.unit) e);
+          ids = ids.0 (ap (λ (x : BaseParts). x.ids) e);
+        },
+        λ s. λ i. record {
+          name = s.name i;
+          frame = frame.1 s.frame i;
+          meridian = meridian.1 s.meridian i;
+          unit = unit.1 s.unit i;
+          ids = ids.1 s.ids i;
+        },
+      )
+
+  pub projected-agrees : FormDecides IsProjected (norm_projected level) (SameProjected level)
+  projected-agrees a b in-a in-b =
+      let base = base-agrees a.base b.base in-a.base in-b.base in
+      let conversion = conversion-agrees laws sets level a.conversion b.conversion in-a.conversion in-b.conversion in
+      let numbered-a = projected-numbered laws a in-a in
+      let numbered-b = projected-numbered laws b in-b in
+      let system = system-agrees laws sets level a.system b.system numbered-a numbered-b in
+      let tail = tail-agrees sets level a.tail b.tail in-a.tail in-b.tail in (
+        λ e. record {
+          name = ap (λ (x : ProjectedParts). x.name) e;
+          base = base.0 (ap (λ (x : ProjectedParts). x.base) e);
+          conversion = conversion.0 (ap (λ (x : ProjectedParts). x.conversion) e);
+          system = system.0 (ap (λ (x : ProjectedParts). x.system) e);
+          tail = tail.0 (ap (λ (x : ProjectedParts). x.tail) e);
+        },
+        λ s. λ i. record {
+          name = s.name i;
+          base = base.1 s.base i;
+          conversion = conversion.1 s.conversion i;
+          system = system.1 s.system i;
+          tail = tail.1 s.tail i;
+        },
+      )
+
+  -- ---- vertical CRSs
+
+  pub vertical-agrees : FormDecides IsVertical (norm_vertical level) (SameVertical level)
+  vertical-agrees a b in-a in-b =
+      let frame = vertical-frame-agrees laws sets level a.frame b.frame in-a.frame in-b.frame in
+      let numbered-a = vertical-numbered laws a in-a in
+      let numbered-b = vertical-numbered laws b in-b in
+      let system = system-agrees laws sets level a.system b.system numbered-a numbered-b in
+      let models = sets.geoid_models level a.geoid_models b.geoid_models in-a.geoid_models in-b.geoid_models in
+      let tail = tail-agrees sets level a.tail b.tail in-a.tail in-b.tail in (
+        λ e. record {
+          name = ap (λ (x : VerticalParts). x.name) e;
+          frame = frame.0 (ap (λ (x : VerticalParts). x.frame) e);
+          system = system.0 (ap (λ (x : VerticalParts). x.system) e);
+          geoid_models = models.0 (ap (λ (x : VerticalParts). x.geoid_models) e);
+          tail = tail.0 (ap (λ (x : VerticalParts). x.tail) e);
+        },
+        λ s. λ i. record {
+          name = s.name i;
+          frame = frame.1 s.frame i;
+          system = system.1 s.system i;
+          geoid_models = models.1 s.geoid_models i;
+          tail = tail.1 s.tail i;
+        },
+      )
+
+  -- ---- compound CRSs
+
+  pub horizontal-agrees : FormDecides IsHorizontal (norm_horizontal level) (SameHorizontal level)
+  horizontal-agrees (horizontal.Geodetic a) (horizontal.Geodetic b) in-a in-b = (
+    λ e. (geodetic-agrees a b in-a.0 in-b.0).0 cc,
+    λ s. ap (λ x. horizontal.Geodetic x) ((geodetic-agrees a b in-a.0 in-b.0).1 s),
+  )
+  horizontal-agrees (horizontal.Geodetic a) (horizontal.Projected b) in-a in-b = (λ e. cc, λ s. absurd s)
+  horizontal-agrees (horizontal.Projected a) (horizontal.Geodetic b) in-a in-b = (λ e. cc, λ s. absurd s)
+  horizontal-agrees (horizontal.Projected a) (horizontal.Projected b) in-a in-b = (
+    λ e. (projected-agrees a b in-a.0 in-b.0).0 cc,
+    λ s. ap (λ x. horizontal.Projected x) ((projected-agrees a b in-a.0 in-b.0).1 s),
+  )
+
+  pub compound-agrees : FormDecides IsCompound (norm_compound level) (SameCompound level)
+  compound-agrees a b in-a in-b =
+      let plane = horizontal-agrees a.horizontal b.horizontal in-a.horizontal in-b.horizontal in
+      let height = vertical-agrees a.vertical b.vertical in-a.vertical in-b.vertical in
+      let tail = tail-agrees sets level a.tail b.tail in-a.tail in-b.tail in (
+        λ e. record {
+          name = ap (λ (x : CompoundParts). x.name) e;
+          horizontal = plane.0 (ap (λ (x : CompoundParts). x.horizontal) e);
+          vertical = height.0 (ap (λ (x : CompoundParts). x.vertical) e);
+          tail = tail.0 (ap (λ (x : CompoundParts). x.tail) e);
+        },
+        λ s. λ i. record {
+          name = s.name i;
+          horizontal = plane.1 s.horizontal i;
+          vertical = height.1 s.vertical i;
+          tail = tail.1 s.tail i;
+        },
+      )
+
+  -- ---- all
+
+  pub crs-agrees : FormDecides IsCrs (norm_crs level) (SameCrs level)
+  crs-agrees (crs.Geodetic a) (crs.Geodetic b) in-a in-b = (
+    λ e. let s : SameGeodetic level a b = (geodetic-agrees a b in-a in-b).0 cc in record { kind = s.kind; parts = s },
+    λ s. ap (λ x. crs.Geodetic x) ((geodetic-agrees a b in-a in-b).1 s.parts),
+  )
+  crs-agrees (crs.Projected a) (crs.Projected b) in-a in-b = (
+    λ e. record { kind = refl; parts = (projected-agrees a b in-a in-b).0 cc },
+    λ s. ap (λ x. crs.Projected x) ((projected-agrees a b in-a in-b).1 s.parts),
+  )
+  crs-agrees (crs.Vertical a) (crs.Vertical b) in-a in-b = (
+    λ e. record { kind = refl; parts = (vertical-agrees a b in-a in-b).0 cc },
+    λ s. ap (λ x. crs.Vertical x) ((vertical-agrees a b in-a in-b).1 s.parts),
+  )
+  crs-agrees (crs.Compound a) (crs.Compound b) in-a in-b = (
+    λ e. record { kind = refl; parts = (compound-agrees a b in-a in-b).0 cc },
+    λ s. ap (λ x. crs.Compound x) ((compound-agrees a b in-a in-b).1 s.parts),
+  )
+  crs-agrees (crs.Geodetic a) (crs.Projected b) in-a in-b = (λ e. cc, λ s. absurd s.parts)
+  crs-agrees (crs.Geodetic a) (crs.Vertical b) in-a in-b = (λ e. cc, λ s. absurd s.parts)
+  crs-agrees (crs.Geodetic a) (crs.Compound b) in-a in-b = (λ e. cc, λ s. absurd s.parts)
+  crs-agrees (crs.Projected a) (crs.Geodetic b) in-a in-b = (λ e. cc, λ s. absurd s.parts)
+  crs-agrees (crs.Projected a) (crs.Vertical b) in-a in-b = (λ e. cc, λ s. absurd s.parts)
+  crs-agrees (crs.Projected a) (crs.Compound b) in-a in-b = (λ e. cc, λ s. absurd s.parts)
+  crs-agrees (crs.Vertical a) (crs.Geodetic b) in-a in-b = (λ e. cc, λ s. absurd s.parts)
+  crs-agrees (crs.Vertical a) (crs.Projected b) in-a in-b = (λ e. cc, λ s. absurd s.parts)
+  crs-agrees (crs.Vertical a) (crs.Compound b) in-a in-b = (λ e. cc, λ s. absurd s.parts)
+  crs-agrees (crs.Compound a) (crs.Geodetic b) in-a in-b = (λ e. cc, λ s. absurd s.parts)
+  crs-agrees (crs.Compound a) (crs.Projected b) in-a in-b = (λ e. cc, λ s. absurd s.parts)
+  crs-agrees (crs.Compound a) (crs.Vertical b) in-a in-b = (λ e. cc, λ s. absurd s.parts)

@@ -1,0 +1,185 @@
+-- Boxes and extents of a usage: their items read as them wherever they stand, and their one form agrees with sameness.
+use Rattle.std.proofs.Common.{◌≡◌, ◌↔◌, ℕ, ◌+◌, true, codes, IfSome, Option, Some, None, List, [], ◌∷◌, inl, inr, refl, sym, ◌∙◌, ap, arith}
+use Rattle.crs_decimal.specs.Value.{Value, IsNormal}
+use Rattle.crs_text.specs.Items.{End, More}
+use Rattle.crs_text.specs.Written.{at_place}
+use Rattle.crs_shape.specs.declared.class.Class.TheVariants as class
+use Rattle.crs_shape.specs.Keywords.{is_keyword}
+use Rattle.crs_shape.specs.Slots.{class_named, is_class}
+use Rattle.crs_value.specs.declared.level.Level.{Level}
+use Rattle.crs_value.specs.declared.level.Level.TheVariants as levels
+use Rattle.crs_value.specs.declared.unit_kind.UnitKind.{UnitKind}
+use Rattle.crs_value.specs.declared.unit_kind.UnitKind.TheVariants as kinds
+use Rattle.crs_value.specs.Reading.{ReadsOptional}
+use Rattle.crs_value.specs.Reads.{ReadsBox, ReadsExtent, ReadsUnit}
+use Rattle.crs_value.specs.Sound.{Each, IsIdent, IsUnit, IsUnitOf, Suits}
+use Rattle.crs_value.specs.SoundUsages.{IsBox, IsExtent}
+use Rattle.crs_value.specs.Values.{BoxParts, ExtentParts, IdentParts, UnitParts}
+use Rattle.crs_value.specs.Words.{unit_word}
+use Rattle.crs_same.specs.SameUnits.{HasNoIdents, IsMetre, SameLength, kind_as}
+use Rattle.crs_same.specs.SameUsages.{SameBox, SameExtent}
+use Rattle.crs_normal.specs.SpelledItems.{number_item, opt}
+use Rattle.crs_normal.specs.SpelledUnits.{item_unit, metre, norm_length, norm_unit, set_idents, whole_value}
+use Rattle.crs_normal.specs.SpelledUsages.{item_box, item_extent, norm_extent}
+use Rattle.crs_normal.specs.TextLaws.{TextLaws}
+use Rattle.crs_normal.proofs.IdentLemmas.{ReadsIdentOnce, idents-agree}
+use Rattle.crs_normal.proofs.ItemLemmas.{Gives, IsFit, IsOf, fit-end, fit-more, fit-node, fit-opt, gives-over, lacks-end, opt-read, value-fit}
+use Rattle.crs_normal.proofs.MemberUnitLemmas.{NamesId, number-read, unit-agrees, unit-fit, unit-kept, unit-read, values-agree}
+
+-- ---- units of length, where a missing one is the metre
+
+-- a unit of length by its own keyword
+abbrev pub IsLength : UnitParts → Type 0
+IsLength u = IsUnit u × (u.kind ≡ kinds.Length)
+
+metre-is : IsUnit metre
+unfolding lib.Utf8.encode
+metre-is = record {
+  name = ((codes "metre", refl), (codes "metre", (refl, refl)));
+  factor = refl;
+  above_zero = (refl, λ e. absurd (omega arith));
+  ids = tt;
+}
+
+length-kind : (k : UnitKind) → Suits kinds.Length k → kind_as kinds.Length k ≡ kinds.Length
+length-kind k (inl e) = ap (kind_as kinds.Length) e
+length-kind k (inr e) = ap (kind_as kinds.Length) e
+
+pub length-kept : (level : Level) (o : Option UnitParts) → IfSome o (IsUnitOf kinds.Length) → IsLength (norm_length level o)
+length-kept level None s = (metre-is, refl)
+length-kept level (Some u) s = (unit-kept level kinds.Length u s.0, length-kind u.kind s.1)
+
+none-agrees : TextLaws → ReadsIdentOnce → (level : Level) (ids : List IdentParts) → Each IsIdent ids → ([] ≡ set_idents level ids) ↔ HasNoIdents level ids
+unfolding set_idents
+none-agrees laws once levels.Full [] s = (λ e. refl, λ e. refl)
+none-agrees laws once levels.Full (x ∷ xs) s =
+    (λ e. absurd ((idents-agree laws once levels.Full (x ∷ xs) [] s tt).0 (sym e)).0.0, λ e. sym (ap (set_idents levels.Full) e))
+
+abbrev unit-made : UnitKind → List ℕ → Value → List IdentParts → UnitParts
+unit-made x0 x1 x2 x3 = record { kind = x0; name = x1; factor = x2; ids = x3 }
+
+metre-agrees : TextLaws → ReadsIdentOnce → (level : Level) (u : UnitParts) → IsUnit u → (metre ≡ norm_unit level kinds.Length u) ↔ IsMetre level u
+metre-agrees laws once level u s =
+    let ids = none-agrees laws once level u.ids s.ids in
+    let factor = laws.one_value u.factor (whole_value 1) s.factor refl in (
+      λ e. record {
+        kind = ap (λ x. x.kind) (sym e);
+        name = ap (λ x. x.name) (sym e);
+        factor = factor.1 (ap (λ x. x.factor) (sym e));
+        ids = ids.0 (ap (λ x. x.ids) e);
+      },
+      λ m. λ i. unit-made (sym m.kind i) (sym m.name i) (sym (factor.0 m.factor) i) (ids.1 m.ids i),
+    )
+
+pub length-agrees : TextLaws → ReadsIdentOnce → (level : Level) (a b : Option UnitParts) → IfSome a (IsUnitOf kinds.Length) → IfSome b (IsUnitOf kinds.Length) →
+    (norm_length level a ≡ norm_length level b) ↔ SameLength level a b
+length-agrees laws once level None None p q = (λ e. tt, λ h. refl)
+length-agrees laws once level None (Some b) p q = metre-agrees laws once level b q.0
+length-agrees laws once level (Some a) None p q =
+    let h = metre-agrees laws once level a p.0 in (λ e. h.0 (sym e), λ m. sym (h.1 m))
+length-agrees laws once level (Some a) (Some b) p q = unit-agrees laws once level kinds.Length a b p.0 q.0
+
+-- ---- boxes
+
+pub box-read : TextLaws → (b : BoxParts) → IsBox b → (place : ℕ) → ReadsBox class.BoundingBox (at_place place (item_box b)) b
+box-read laws b s place = record {
+  south = number-read laws b.south s.south 0;
+  west = number-read laws b.west s.west 0;
+  north = number-read laws b.north s.north 0;
+  east = number-read laws b.east s.east 0;
+}
+
+pub box-fit : TextLaws → (b : BoxParts) → IsBox b → IsFit 1 (item_box b)
+box-fit laws b s =
+    fit-node 0 (codes "BBOX") (number_item b.south) (More (number_item b.west) (More (number_item b.north) (More (number_item b.east) End))) (refl, refl)
+    (value-fit laws 0 b.south s.south)
+    (fit-more 0 (number_item b.west) (More (number_item b.north) (More (number_item b.east) End)) (value-fit laws 0 b.west s.west)
+    (fit-more 0 (number_item b.north) (More (number_item b.east) End) (value-fit laws 0 b.north s.north)
+    (fit-more 0 (number_item b.east) End (value-fit laws 0 b.east s.east) (fit-end 0))))
+
+abbrev box-made : Value → Value → Value → Value → BoxParts
+box-made x0 x1 x2 x3 = record { south = x0; west = x1; north = x2; east = x3 }
+
+pub box-agrees : TextLaws → (a b : BoxParts) → IsBox a → IsBox b → (a ≡ b) ↔ SameBox a b
+box-agrees laws a b p q =
+    let south = values-agree laws a.south b.south p.south q.south in
+    let west = values-agree laws a.west b.west p.west q.west in
+    let north = values-agree laws a.north b.north p.north q.north in
+    let east = values-agree laws a.east b.east p.east q.east in (
+      λ e. record {
+        south = south.0 (ap (λ x. x.south) e);
+        west = west.0 (ap (λ x. x.west) e);
+        north = north.0 (ap (λ x. x.north) e);
+        east = east.0 (ap (λ x. x.east) e);
+      },
+      λ s. λ i. box-made (south.1 s.south i) (west.1 s.west i) (north.1 s.north i) (east.1 s.east i),
+    )
+
+-- ---- extents
+
+-- an extent whose unit, if it is written, is of length by its own keyword
+pub record IsWrittenExtent (e : ExtentParts) : Type 0 where
+  pub minimum : IsNormal e.minimum
+  pub maximum : IsNormal e.maximum
+  pub unit : IfSome e.unit IsLength
+
+length-names : NamesId class.LengthUnit
+unfolding class_named is_keyword
+length-names = refl
+
+named-length : class_named class.VerticalExtent (codes "LENGTHUNIT") ≡ Some class.LengthUnit
+unfolding class_named is_keyword
+named-length = refl
+
+length-is : (u : UnitParts) → IsLength u → IsOf true class.VerticalExtent class.LengthUnit (item_unit u)
+length-is u s place =
+    ap (λ k. is_class class.LengthUnit (class_named class.VerticalExtent (unit_word k))) s.1 ∙ ap (is_class class.LengthUnit) named-length
+
+extent-unit : TextLaws → (e : ExtentParts) → IsWrittenExtent e →
+    Gives class.VerticalExtent class.LengthUnit (λ l. ReadsOptional (ReadsUnit class.LengthUnit) l e.unit)
+    (More (number_item e.minimum) (More (number_item e.maximum) (opt item_unit e.unit End)))
+extent-unit laws e s =
+    gives-over class.VerticalExtent class.LengthUnit (λ l. ReadsOptional (ReadsUnit class.LengthUnit) l e.unit) (number_item e.minimum)
+    (More (number_item e.maximum) (opt item_unit e.unit End)) (λ place. refl)
+    (gives-over class.VerticalExtent class.LengthUnit (λ l. ReadsOptional (ReadsUnit class.LengthUnit) l e.unit) (number_item e.maximum)
+    (opt item_unit e.unit End) (λ place. refl)
+    (opt-read class.VerticalExtent class.LengthUnit item_unit IsLength (ReadsUnit class.LengthUnit) length-is
+    (λ u q. unit-read laws class.LengthUnit length-names u q.0) e.unit End s.unit (lacks-end class.VerticalExtent class.LengthUnit)))
+
+pub extent-read : TextLaws → (e : ExtentParts) → IsWrittenExtent e → (place : ℕ) → ReadsExtent class.VerticalExtent (at_place place (item_extent e)) e
+extent-read laws e s place = record {
+  minimum = number-read laws e.minimum s.minimum 0;
+  maximum = number-read laws e.maximum s.maximum 0;
+  unit = extent-unit laws e s (place + 14);
+}
+
+pub extent-fit : TextLaws → (e : ExtentParts) → IsWrittenExtent e → IsFit 4 (item_extent e)
+extent-fit laws e s =
+    fit-node 3 (codes "VERTICALEXTENT") (number_item e.minimum) (More (number_item e.maximum) (opt item_unit e.unit End)) (refl, refl)
+    (value-fit laws 3 e.minimum s.minimum)
+    (fit-more 3 (number_item e.maximum) (opt item_unit e.unit End) (value-fit laws 3 e.maximum s.maximum)
+    (fit-opt 3 item_unit IsLength (λ u q. unit-fit laws u q.0) e.unit End s.unit (fit-end 3)))
+
+pub extent-kept : (level : Level) (e : ExtentParts) → IsExtent e → IsWrittenExtent (norm_extent level e)
+extent-kept level e s = record { minimum = s.minimum; maximum = s.maximum; unit = length-kept level e.unit s.unit }
+
+abbrev extent-made : Value → Value → UnitParts → ExtentParts
+extent-made x0 x1 x2 = record { minimum = x0; maximum = x1; unit = Some x2 }
+
+abbrev unit-or : UnitParts → Option UnitParts → UnitParts
+unit-or u None = u
+unit-or u (Some v) = v
+
+pub extent-agrees : TextLaws → ReadsIdentOnce → (level : Level) (a b : ExtentParts) → IsExtent a → IsExtent b →
+    (norm_extent level a ≡ norm_extent level b) ↔ SameExtent level a b
+extent-agrees laws once level a b p q =
+    let minimum = values-agree laws a.minimum b.minimum p.minimum q.minimum in
+    let maximum = values-agree laws a.maximum b.maximum p.maximum q.maximum in
+    let unit = length-agrees laws once level a.unit b.unit p.unit q.unit in (
+      λ e. record {
+        minimum = minimum.0 (ap (λ x. x.minimum) e);
+        maximum = maximum.0 (ap (λ x. x.maximum) e);
+        unit = unit.0 (ap (λ x. unit-or metre x.unit) e);
+      },
+      λ s. λ i. extent-made (minimum.1 s.minimum i) (maximum.1 s.maximum i) (unit.1 s.unit i),
+    )

@@ -1,0 +1,25 @@
+-- Numbers, and parts that may be missing, have one form exactly where they are the same.
+use Rattle.std.proofs.Common.{◌≡◌, ◌∙◌, Option, Some, None, refl, sym, ap}
+use Rattle.crs_decimal.specs.Value.{IsNormal}
+use Rattle.crs_same.specs.SameUnits.{SameValue}
+use Rattle.crs_same.specs.Sets.{BothOrNeither}
+use Rattle.crs_normal.specs.LowerLaws.{LowerLaws}
+use Rattle.crs_normal.specs.Decides.{FormDecides, Maybe}
+
+pub values-agree : LowerLaws → FormDecides IsNormal (λ value. value) SameValue
+unfolding SameValue
+values-agree laws a b in-a in-b = ((laws.normal_is_one a b in-a in-b).1, (laws.normal_is_one a b in-a in-b).0)
+
+-- a part that may be missing, where the form of one that is there decides
+pub options-agree : {A : Type 0} (Is : A → Type 0) (form : A → A) (Same : A → A → Type 0) → FormDecides Is form Same →
+    (all : Option A → Option A) → all None ≡ None → ((x : A) → all (Some x) ≡ Some (form x)) →
+    FormDecides (Maybe Is) all (BothOrNeither Same)
+options-agree Is form Same agree all none some None None in-a in-b = (λ e. tt, λ s. refl)
+options-agree Is form Same agree all none some None (Some b) in-a in-b =
+    (λ e. let u : None ≡ Some (form b) = sym none ∙ e ∙ some b in cc, λ s. absurd s)
+options-agree Is form Same agree all none some (Some a) None in-a in-b =
+    (λ e. let u : Some (form a) ≡ None = sym (some a) ∙ e ∙ none in cc, λ s. absurd s)
+options-agree Is form Same agree all none some (Some a) (Some b) in-a in-b = (
+  λ e. let u : Some (form a) ≡ Some (form b) = sym (some a) ∙ e ∙ some b in (agree a b in-a in-b).0 cc,
+  λ s. some a ∙ ap (λ x. Some x) ((agree a b in-a in-b).1 s) ∙ sym (some b),
+)

@@ -1,0 +1,5 @@
+use Rattle.crs_normal.proofs.UsageLemmas.{usages-agree}
+use Rattle.crs_normal.proofs.laws.sets.same_usages_have_one_form.Goals as goal
+
+pub returns : goal.returns
+returns c = usages-agree c.text_laws.ensures c.members_read_once.ensures.ident c.members_read_once.ensures.usage

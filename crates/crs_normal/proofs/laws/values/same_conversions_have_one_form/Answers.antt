@@ -1,0 +1,15 @@
+use Rattle.crs_normal.proofs.ConversionSameLemmas.{conversion-agrees, geoid-model-agrees, method-agrees}
+use Rattle.crs_normal.proofs.ConversionSameLemmas.{parameter-agrees}
+use Rattle.crs_normal.proofs.laws.values.same_conversions_have_one_form.Goals as goal
+
+pub returns-clause-method : goal.returns-clause-method
+returns-clause-method c = method-agrees c.lower_laws.ensures c.sets_decide.ensures
+
+pub returns-clause-parameter : goal.returns-clause-parameter
+returns-clause-parameter c = parameter-agrees c.lower_laws.ensures c.sets_decide.ensures
+
+pub returns-clause-conversion : goal.returns-clause-conversion
+returns-clause-conversion c = conversion-agrees c.lower_laws.ensures c.sets_decide.ensures
+
+pub returns-clause-geoid_model : goal.returns-clause-geoid_model
+returns-clause-geoid_model c = geoid-model-agrees c.lower_laws.ensures c.sets_decide.ensures

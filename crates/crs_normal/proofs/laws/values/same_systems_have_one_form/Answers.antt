@@ -1,0 +1,12 @@
+use Rattle.crs_normal.proofs.AxisSameLemmas.{axis-agrees, axis-meridians-agree}
+use Rattle.crs_normal.proofs.SystemSameLemmas.{system-agrees}
+use Rattle.crs_normal.proofs.laws.values.same_systems_have_one_form.Goals as goal
+
+pub returns-clause-meridian : goal.returns-clause-meridian
+returns-clause-meridian c = axis-meridians-agree c.lower_laws.ensures c.sets_decide.ensures
+
+pub returns-clause-axis : goal.returns-clause-axis
+returns-clause-axis c = axis-agrees c.lower_laws.ensures c.sets_decide.ensures
+
+pub returns-clause-system : goal.returns-clause-system
+returns-clause-system c = system-agrees c.lower_laws.ensures c.sets_decide.ensures

@@ -1,0 +1,14 @@
+use Rattle.crs_normal.proofs.TailSameLemmas.{box-agrees, extent-agrees, tail-agrees, usage-agrees}
+use Rattle.crs_normal.proofs.laws.values.same_tails_have_one_form.Goals as goal
+
+pub returns-clause-bounding_box : goal.returns-clause-bounding_box
+returns-clause-bounding_box c = box-agrees c.lower_laws.ensures
+
+pub returns-clause-extent : goal.returns-clause-extent
+returns-clause-extent c = extent-agrees c.lower_laws.ensures c.sets_decide.ensures
+
+pub returns-clause-usage : goal.returns-clause-usage
+returns-clause-usage c = usage-agrees c.lower_laws.ensures c.sets_decide.ensures
+
+pub returns-clause-tail : goal.returns-clause-tail
+returns-clause-tail c = tail-agrees c.sets_decide.ensures

@@ -1,0 +1,13 @@
+pub mod Decides
+pub mod LowerLaws
+pub mod Normal
+pub mod NormalOwn
+pub mod Ordered
+pub mod SpelledConversions
+pub mod SpelledCrs
+pub mod SpelledFrames
+pub mod SpelledItems
+pub mod SpelledSystems
+pub mod SpelledUnits
+pub mod SpelledUsages
+pub mod TextLaws

@@ -1,0 +1,74 @@
+-- Normal texts: the one spelling of a CRS, as a property of a text. It says what is asked beyond acceptance; which
+-- arguments a node has and in which order they stand is the shape's.
+use Rattle.std.specs.Prelude.{◌≡◌, ◌⊎◌, ℕ, Some, List, [], ◌∷◌, codes}
+use Rattle.crs_decimal.specs.Plain.{IsPlain}
+use Rattle.crs_text.specs.Items.{Item, leaf, node, Items, End, More}
+use Rattle.crs_text.specs.TextFault.{SpellsNode}
+use Rattle.crs_text.specs.Tokens.{Kind, number, text, word}
+use Rattle.crs_text.specs.Written.{item_text}
+use Rattle.crs_shape.specs.declared.class.Class.{Class}
+use Rattle.crs_shape.specs.declared.class.Class.TheVariants as class
+use Rattle.crs_shape.specs.Keywords.{keywords_of}
+use Rattle.crs_shape.specs.ShapeFault.{class_in, class_of_root}
+use Rattle.crs_value.specs.Checks.{AtClass}
+use Rattle.crs_value.specs.declared.direction.Direction.{Direction}
+use Rattle.crs_value.specs.declared.level.Level.{Level}
+use Rattle.crs_value.specs.declared.level.Level.TheVariants as levels
+use Rattle.crs_value.specs.declared.system_type.SystemType.{SystemType}
+use Rattle.crs_value.specs.Words.{direction_word, system_word}
+use Rattle.crs_normal.specs.NormalOwn.{HasSets, Own}
+
+abbrev pub IsFirst : List ℕ → List (List ℕ) → Type 0
+IsFirst keyword [] = ⊥
+IsFirst keyword (first ∷ others) = keyword ≡ first
+
+-- the first keyword of each class; a unit on an axis by its kind
+abbrev pub IsWritten : Class → List ℕ → Type 0
+IsWritten class.AxisUnit keyword = (keyword ≡ codes "LENGTHUNIT") ⊎ (keyword ≡ codes "ANGLEUNIT")
+IsWritten c keyword = IsFirst keyword (keywords_of c)
+
+-- every number but a code or version is plain
+abbrev pub IsNumberIn : Class → List ℕ → Type 0
+IsNumberIn class.Identifier raw = Unit {0}
+IsNumberIn c raw = IsPlain raw
+
+-- types and directions in their own letters
+abbrev pub IsWordIn : Class → List ℕ → Type 0
+IsWordIn class.CoordinateSystem raw = (system_type : SystemType) × (raw ≡ system_word system_type)
+IsWordIn class.Axis raw = (direction : Direction) × (raw ≡ direction_word direction)
+IsWordIn c raw = Unit {0}
+
+-- a single item in a node of this class
+abbrev pub IsSingleIn : Class → Kind → List ℕ → Type 0
+IsSingleIn parent number raw = IsNumberIn parent raw
+IsSingleIn parent text raw = Unit {0}
+IsSingleIn parent word raw = IsWordIn parent raw
+
+-- what the level asks of a node
+abbrev pub AtLevel : Level → Class → Item → Type 0
+AtLevel levels.Full c item = Unit {0}
+
+abbrev mutual
+  -- an item of a class in a node of another
+  pub IsNormalIn : Level → Class → Class → Item → Type 0
+  IsNormalIn level parent c (leaf kind place raw) = IsSingleIn parent kind raw
+  IsNormalIn level parent c (node place keyword square first others close) =
+      IsWritten c keyword
+      × AtLevel level c (node place keyword square first others close)
+      × Own c (node place keyword square first others close)
+      × HasSets c (node place keyword square first others close)
+      × AtClass (class_in c first) (λ d. IsNormalIn level c d first)
+      × AreNormalIn level c others
+
+  pub AreNormalIn : Level → Class → Items → Type 0
+  AreNormalIn level c End = Unit {0}
+  AreNormalIn level c (More item items) = AtClass (class_in c item) (λ d. IsNormalIn level c d item) × AreNormalIn level c items
+
+-- a text that is its item written without white space and in square delimiters, and normal within
+pub record IsNormalText (level : Level) (bytes : List ℕ) : Type 0 where
+  pub item : Item
+  pub class_read : Class
+  pub spells : SpellsNode bytes item
+  pub root : class_of_root item ≡ Some class_read
+  pub written : bytes ≡ item_text item
+  pub normal : IsNormalIn level class_read class_read item

@@ -1,0 +1,132 @@
+-- What a canonical text asks of a node by itself, beyond what is asked of every accepted text.
+use Rattle.std.specs.Prelude.{◌≡◌, ◌≢◌, ◌≤◌, ◌⊎◌, ◌+◌, ℕ, true, List, [], ◌∷◌, ◌++◌, map, length, codes, decimal}
+use Rattle.std.specs.List.{list_all}
+use Rattle.std.specs.Cmp.Lexicographic.{slice_cmp}
+use Rattle.std.specs.Ordering.{nat_cmp}
+use Rattle.std.specs.declared.cmp.Ordering.TheVariants.{Less}
+use Rattle.crs_decimal.specs.Spelling.{is_digit}
+use Rattle.crs_text.specs.Items.{Item, Items, End, More, arguments, kind_of, raw_of, skip}
+use Rattle.crs_text.specs.Written.{item_text}
+use Rattle.crs_text.specs.declared.items.ItemKind.TheVariants as kinds
+use Rattle.crs_shape.specs.declared.class.Class.{Class}
+use Rattle.crs_shape.specs.declared.class.Class.TheVariants as class
+use Rattle.crs_shape.specs.ShapeFault.{class_in}
+use Rattle.crs_value.specs.Checks.{AtClass}
+use Rattle.crs_value.specs.Reading.{those}
+use Rattle.crs_value.specs.Reads.{single_of}
+
+abbrev pub Each : {A : Type 0} → (A → Type 0) → List A → Type 0
+Each P [] = Unit {0}
+Each P (x ∷ xs) = P x × Each P xs
+
+-- ---- what stands in a node, and what doesn't
+
+abbrev pub Has : Class → Class → Item → Type 0
+Has c d item = those c d (arguments item) ≢ []
+
+abbrev pub Lacks : Class → Class → Item → Type 0
+Lacks c d item = those c d (arguments item) ≡ []
+
+-- the bytes of a node's numbers, and of its words
+abbrev pub numbers_in : Class → Item → List (List ℕ)
+numbers_in c item = map raw_of (those c class.Number (arguments item))
+
+abbrev pub words_in : Class → Item → List (List ℕ)
+words_in c item = map raw_of (those c class.Word (arguments item))
+
+-- ---- sets: identifiers, usages, members of an ensemble, parameters, geoid models
+
+-- the one is written before the other, by their bytes
+abbrev pub IsBelow : Item → Item → Type 0
+IsBelow item other = slice_cmp nat_cmp (item_text item) (item_text other) ≡ Less
+
+-- each is below all behind it
+abbrev pub Ascend : List Item → Type 0
+Ascend [] = Unit {0}
+Ascend (item ∷ items) = Each (IsBelow item) items × Ascend items
+
+abbrev pub set_classes : List Class
+set_classes = class.Identifier ∷ class.Usage ∷ class.Member ∷ class.Parameter ∷ class.GeoidModel ∷ []
+
+abbrev pub HasSets : Class → Item → Type 0
+HasSets c item = Each (λ d. Ascend (those c d (arguments item))) set_classes
+
+-- ---- axes: by position, each with its order and its own unit; none is shared
+
+abbrev pub HasOrder : ℕ → Item → Type 0
+HasOrder k axis = map (numbers_in class.Order) (those class.Axis class.Order (arguments axis)) ≡ (decimal k ∷ []) ∷ []
+
+-- the axes have the orders from k on
+abbrev pub AreOrdered : ℕ → List Item → Type 0
+AreOrdered k [] = Unit {0}
+AreOrdered k (axis ∷ axes) = HasOrder k axis × AreOrdered (k + 1) axes
+
+pub record HasAxes (c : Class) (item : Item) : Type 0 where
+  pub ordered : AreOrdered 1 (those c class.Axis (arguments item))
+  pub own_units : Each (Has class.Axis class.AxisUnit) (those c class.Axis (arguments item))
+  pub none_shared : Lacks c class.AxisUnit item
+
+-- ---- the end of a CRS: geoid models, usages, identifiers, remark; no part of a usage stands bare
+
+-- where an argument of this class stands at a CRS's end, what stands before the end at 0
+abbrev pub rank : Class → ℕ
+rank class.GeoidModel = 1
+rank class.Usage = 2
+rank class.Identifier = 3
+rank class.Remark = 4
+rank other = 0
+
+-- the ranks of the arguments never fall, from this one on
+abbrev pub Rise : Class → ℕ → Items → Type 0
+Rise c least End = Unit {0}
+Rise c least (More item items) = AtClass (class_in c item) (λ d. (least ≤ rank d) × Rise c (rank d) items)
+
+abbrev pub bare_classes : List Class
+bare_classes = class.Scope ∷ class.Area ∷ class.BoundingBox ∷ class.VerticalExtent ∷ []
+
+pub record HasTail (c : Class) (item : Item) : Type 0 where
+  pub in_order : Rise c 0 (arguments item)
+  pub none_bare : Each (λ d. Lacks c d item) bare_classes
+
+-- ---- codes: 1 to 18 digits stand without quotes, everything else in quotes
+
+pub record IsShort (raw : List ℕ) : Type 0 where
+  pub digits : list_all is_digit raw ≡ true
+  pub some : 1 ≤ length raw
+  pub few : length raw ≤ 18
+
+abbrev pub IsCode : Item → Type 0
+IsCode item =
+    (IsShort (raw_of item) × (kind_of item ≡ kinds.Number)) ⊎ (¬ (IsShort (raw_of item)) × (kind_of item ≡ kinds.Text))
+
+-- the code and the version of an identifier
+abbrev pub HasCodes : Item → Type 0
+HasCodes item = Each IsCode (single_of (skip 1 (arguments item)) ++ single_of (skip 2 (arguments item)))
+
+-- ---- each class
+
+-- at longitude 0 a prime meridian has no unit
+abbrev pub HasUnitIfAny : Item → Type 0
+HasUnitIfAny item = numbers_in class.PrimeMeridian item ≡ codes "0" ∷ [] → Lacks class.PrimeMeridian class.AngleUnit item
+
+-- a geographic CRS is written as one
+abbrev pub IsNotEllipsoidal : Class → Item → Type 0
+IsNotEllipsoidal c item =
+    Each (λ cs. words_in class.CoordinateSystem cs ≢ codes "ellipsoidal" ∷ []) (those c class.CoordinateSystem (arguments item))
+
+-- what a node of this class has: the defaults are written
+abbrev pub Own : Class → Item → Type 0
+Own class.GeodeticCrs item =
+    IsNotEllipsoidal class.GeodeticCrs item × Has class.GeodeticCrs class.PrimeMeridian item
+    × HasAxes class.GeodeticCrs item × HasTail class.GeodeticCrs item
+Own class.GeographicCrs item =
+    Has class.GeographicCrs class.PrimeMeridian item × HasAxes class.GeographicCrs item × HasTail class.GeographicCrs item
+Own class.ProjectedCrs item = HasAxes class.ProjectedCrs item × HasTail class.ProjectedCrs item
+Own class.VerticalCrs item = HasAxes class.VerticalCrs item × HasTail class.VerticalCrs item
+Own class.CompoundCrs item = HasTail class.CompoundCrs item
+Own class.BaseCrs item = Has class.BaseCrs class.PrimeMeridian item
+Own class.Ellipsoid item = Has class.Ellipsoid class.LengthUnit item
+Own class.VerticalExtent item = Has class.VerticalExtent class.LengthUnit item
+Own class.PrimeMeridian item = HasUnitIfAny item
+Own class.Identifier item = HasCodes item
+Own other item = Unit {0}

@@ -1,0 +1,48 @@
+-- A bridge: the pieces of which canonical items are made. All places are 0; a written text shows none.
+use Rattle.std.specs.Prelude.{ℕ, true, ◌&&◌, nat_le, Bool, List, [], ◌∷◌, Option, Some, None, length, if◌then◌else◌}
+use Rattle.std.specs.List.{list_all}
+use Rattle.crs_decimal.specs.Plain.{plain}
+use Rattle.crs_decimal.specs.Spelling.{is_digit}
+use Rattle.crs_decimal.specs.Value.{Value}
+use Rattle.crs_text.specs.Items.{Item, leaf, node, Items, End, More}
+use Rattle.crs_text.specs.Tokens.{number, text, word}
+
+abbrev pub text_item : List ℕ → Item
+text_item raw = leaf text 0 raw
+
+abbrev pub word_item : List ℕ → Item
+word_item raw = leaf word 0 raw
+
+abbrev pub number_item : Value → Item
+number_item value = leaf number 0 (plain value)
+
+abbrev pub node_of : List ℕ → Item → Items → Item
+node_of keyword first others = node 0 keyword true first others 0
+
+-- a node of these arguments; without any a word, which no text has there
+abbrev pub node_from : List ℕ → Items → Item
+node_from keyword End = word_item keyword
+node_from keyword (More first others) = node_of keyword first others
+
+-- a node of one text, and of one number
+abbrev pub text_node : List ℕ → List ℕ → Item
+text_node keyword raw = node_of keyword (text_item raw) End
+
+abbrev pub number_node : List ℕ → Value → Item
+number_node keyword value = node_of keyword (number_item value) End
+
+-- an item for a part that may be missing, and one for each part of a list, before others
+abbrev pub opt : {A : Type 0} → (A → Item) → Option A → Items → Items
+opt spell None rest = rest
+opt spell (Some value) rest = More (spell value) rest
+
+abbrev pub each : {A : Type 0} → (A → Item) → List A → Items → Items
+each spell [] rest = rest
+each spell (value ∷ values) rest = More (spell value) (each spell values rest)
+
+-- whether a code stands without quotes: it is 1 to 18 digits
+abbrev pub is_short : List ℕ → Bool
+is_short raw = list_all is_digit raw && nat_le 1 (length raw) && nat_le (length raw) 18
+
+abbrev pub code_item : List ℕ → Item
+code_item raw = leaf (if is_short raw then number else text) 0 raw

@@ -1,0 +1,55 @@
+-- A bridge: usages and the ends of CRSs in their one form, and as items.
+use Rattle.std.specs.Prelude.{ℕ, List, Option, Some, None, codes, map}
+use Rattle.std.specs.Option.{option_map}
+use Rattle.crs_text.specs.Items.{Item, Items, End, More}
+use Rattle.crs_text.specs.Written.{item_text}
+use Rattle.crs_value.specs.Values.{BoxParts, ExtentParts, UsageParts, TailParts}
+use Rattle.crs_value.specs.declared.level.Level.{Level}
+use Rattle.crs_value.specs.declared.level.Level.TheVariants as levels
+use Rattle.crs_same.specs.SameUsages.{usages_of}
+use Rattle.crs_normal.specs.Ordered.{in_order}
+use Rattle.crs_normal.specs.SpelledItems.{each, node_from, node_of, number_item, opt, text_node}
+use Rattle.crs_normal.specs.SpelledUnits.{item_ident, item_unit, norm_length, set_idents}
+
+-- the unit is written; an extent in a usage keeps the identifiers of its unit at each level
+abbrev pub norm_extent : Level → ExtentParts → ExtentParts
+norm_extent level e = record { minimum = e.minimum; maximum = e.maximum; unit = Some (norm_length level e.unit) }
+
+abbrev pub norm_usage : UsageParts → UsageParts
+norm_usage u = record { scope = u.scope; area = u.area; bbox = u.bbox; extent = option_map (norm_extent levels.Full) u.extent }
+
+abbrev pub item_box : BoxParts → Item
+item_box b =
+    node_of (codes "BBOX") (number_item b.south)
+    (More (number_item b.west) (More (number_item b.north) (More (number_item b.east) End)))
+
+abbrev pub item_extent : ExtentParts → Item
+item_extent e =
+    node_of (codes "VERTICALEXTENT") (number_item e.minimum) (More (number_item e.maximum) (opt item_unit e.unit End))
+
+abbrev pub item_usage : UsageParts → Item
+item_usage u =
+    node_from (codes "USAGE") (opt (text_node (codes "SCOPE")) u.scope (opt (text_node (codes "AREA")) u.area
+    (opt item_box u.bbox (opt item_extent u.extent End))))
+
+-- usages as a set
+unfoldable pub set_usages : Level → List UsageParts → List UsageParts
+set_usages levels.Full usages = in_order (λ u. item_text (item_usage u)) (map norm_usage usages)
+
+abbrev pub nothing : UsageParts
+nothing = record { scope = None; area = None; bbox = None; extent = None }
+
+abbrev pub norm_remark : Level → Option (List ℕ) → Option (List ℕ)
+norm_remark levels.Full remark = remark
+
+-- the bare parts are a usage
+abbrev pub norm_tail : Level → TailParts → TailParts
+norm_tail level t = record {
+  usages = set_usages level (usages_of t);
+  bare = nothing;
+  ids = set_idents level t.ids;
+  remark = norm_remark level t.remark;
+}
+
+abbrev pub tail_items : TailParts → Items
+tail_items t = each item_usage t.usages (each item_ident t.ids (opt (text_node (codes "REMARK")) t.remark End))

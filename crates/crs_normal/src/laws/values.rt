@@ -1,0 +1,182 @@
+//! The one form of a value decides whether it is the same as another.
+ghost use Rattle.std.specs.Prelude.{◌≡◌, ◌↔◌, ℕ, List};
+ghost use Rattle.crs_text.specs.TextFault.{SpellsNode};
+ghost use Rattle.crs_text.specs.Items.{Item};
+ghost use Rattle.crs_value.specs.Sound.{IsAxis, IsAxisMeridian, IsAxisUnit, IsUnit, IsUnitOf};
+ghost use Rattle.crs_value.specs.SoundCompound.{IsCompound, IsHorizontal};
+ghost use Rattle.crs_value.specs.SoundConversion.{IsConversion, IsGeoidModel, IsMethod, IsParameter};
+ghost use Rattle.crs_value.specs.SoundFrames.{IsDatum, IsEllipsoid, IsEnsemble, IsMember, IsMeridian};
+ghost use Rattle.crs_value.specs.SoundSingle.{IsBase, IsGeodetic, IsProjected, IsVertical};
+ghost use Rattle.crs_value.specs.SoundSingle.{IsGeodeticFrame, IsVerticalFrame};
+ghost use Rattle.crs_value.specs.SoundUsages.{IsBox, IsExtent, IsTail, IsUsage};
+ghost use Rattle.crs_value.specs.Values.{AxisParts, SystemParts};
+ghost use Rattle.crs_value.specs.declared.level.Level.{Level};
+ghost use Rattle.crs_value.specs.declared.unit_kind.UnitKind.{UnitKind};
+ghost use Rattle.crs_value.specs.declared.unit_kind.UnitKind.TheVariants as kinds;
+ghost use Rattle.crs_same.specs.SameConversions.{SameConversion, SameGeoidModel, SameMethod, SameParameter};
+ghost use Rattle.crs_same.specs.SameCrs.{SameBase, SameCompound, SameGeodetic, SameHorizontal};
+ghost use Rattle.crs_same.specs.SameCrs.{SameProjected, SameVertical};
+ghost use Rattle.crs_same.specs.SameFrames.{SameDatum, SameEllipsoid, SameEnsemble, SameFrame};
+ghost use Rattle.crs_same.specs.SameFrames.{SameMember, SameMeridian};
+ghost use Rattle.crs_same.specs.SameSystems.{SameAxis, SameAxisMeridian, SameSystem};
+ghost use Rattle.crs_same.specs.SameUnits.{SameLength, SameUnit};
+ghost use Rattle.crs_same.specs.SameUsages.{SameBox, SameExtent, SameTail, SameUsage};
+ghost use Rattle.crs_same.specs.Sets.{BothOrNeither};
+ghost use Rattle.crs_normal.specs.Decides.{DecidesSameness, FormDecides, IsNumbered, Maybe, SetsDecide};
+ghost use Rattle.crs_normal.specs.LowerLaws.{LowerLaws};
+ghost use Rattle.crs_normal.specs.Normal.{IsNormalText};
+ghost use Rattle.crs_normal.specs.SpelledConversions.{norm_conversion, norm_geoid_model};
+ghost use Rattle.crs_normal.specs.SpelledConversions.{norm_method, norm_parameter};
+ghost use Rattle.crs_normal.specs.SpelledCrs.{norm_base, norm_compound, norm_geodetic, norm_horizontal};
+ghost use Rattle.crs_normal.specs.SpelledCrs.{norm_projected, norm_vertical};
+ghost use Rattle.crs_normal.specs.SpelledFrames.{norm_datum, norm_ellipsoid, norm_ensemble, norm_frame};
+ghost use Rattle.crs_normal.specs.SpelledFrames.{norm_member, norm_meridian};
+ghost use Rattle.crs_normal.specs.SpelledSystems.{norm_axis, norm_axis_meridians, norm_system};
+ghost use Rattle.crs_normal.specs.SpelledUnits.{norm_length, norm_unit, norm_units};
+ghost use Rattle.crs_normal.specs.SpelledUsages.{norm_extent, norm_tail, norm_usage};
+
+use crate::laws::sets::{
+    same_geoid_models_have_one_form, same_identifiers_have_one_form, same_members_have_one_form,
+    same_parameters_have_one_form, same_usages_have_one_form,
+};
+use crs_decimal::laws::{
+    digits_alone, normal_is_one, one_form, plain_is_the_one, same_number_is_equivalence,
+};
+use crs_same::laws::{as_many_axes, one_axis_each};
+
+/// A normal text is a node.
+pub fn normal_is_node()
+    ensures { (level : Level) (bytes : List ℕ) → IsNormalText level bytes → (item : Item) × SpellsNode bytes item }
+{}
+
+// What is taken from the lower crates.
+fn lower_laws()
+    ensures { LowerLaws }
+{
+    digits_alone();
+    normal_is_one();
+    one_form();
+    plain_is_the_one();
+    same_number_is_equivalence();
+    as_many_axes();
+    one_axis_each();
+}
+
+// The forms of sets decide which sets are the same.
+fn sets_decide()
+    ensures { SetsDecide }
+{
+    same_identifiers_have_one_form();
+    same_members_have_one_form();
+    same_parameters_have_one_form();
+    same_geoid_models_have_one_form();
+    same_usages_have_one_form();
+}
+
+/// Units have one form exactly where they are the same, whatever kind is asked; a missing unit of
+/// length is the metre. Profile.
+pub fn same_units_have_one_form()
+    ensures one { (level : Level) (asked : UnitKind) →
+        FormDecides IsUnit (norm_unit level asked) (SameUnit asked level) }
+    ensures optional { (level : Level) (asked : UnitKind) →
+        FormDecides (Maybe IsUnit) (norm_units level asked) (BothOrNeither (SameUnit asked level)) }
+    ensures length { (level : Level) →
+        FormDecides (Maybe (IsUnitOf kinds.Length)) (norm_length level) (SameLength level) }
+{
+    lower_laws();
+    sets_decide();
+}
+
+/// So have ellipsoids, prime meridians, members, reference frames and ensembles; a missing prime
+/// meridian is Greenwich. Profile.
+pub fn same_frames_have_one_form()
+    ensures ellipsoid { (level : Level) →
+        FormDecides IsEllipsoid (norm_ellipsoid level) (SameEllipsoid level) }
+    ensures meridian { (level : Level) →
+        FormDecides (Maybe IsMeridian) (norm_meridian level) (SameMeridian level) }
+    ensures member { (level : Level) →
+        FormDecides IsMember (norm_member level) (SameMember level) }
+    ensures datum { (level : Level) →
+        FormDecides IsDatum (norm_datum level) (SameDatum level) }
+    ensures ensemble { (level : Level) →
+        FormDecides IsEnsemble (norm_ensemble level) (SameEnsemble level) }
+    ensures geodetic { (level : Level) →
+        FormDecides IsGeodeticFrame (norm_frame level) (SameFrame level) }
+    ensures vertical { (level : Level) →
+        FormDecides IsVerticalFrame (norm_frame level) (SameFrame level) }
+{
+    lower_laws();
+    sets_decide();
+}
+
+/// So have coordinate systems, and the axes at one position of two. The number of axes has at most
+/// 18 digits. Profile.
+pub fn same_systems_have_one_form()
+    ensures meridian { (level : Level) →
+        FormDecides (Maybe IsAxisMeridian) (norm_axis_meridians level)
+        (BothOrNeither (SameAxisMeridian level)) }
+    ensures axis { (level : Level) (a b : SystemParts) (position : ℕ) (x y : AxisParts) →
+        a.system_type ≡ b.system_type → Maybe IsAxisUnit a.unit → Maybe IsAxisUnit b.unit →
+        IsAxis x → IsAxis y →
+        (norm_axis level a position x ≡ norm_axis level b position y) ↔ SameAxis level a b x y }
+    ensures system { (level : Level) →
+        FormDecides IsNumbered (norm_system level) (SameSystem level) }
+{
+    lower_laws();
+    sets_decide();
+}
+
+/// So have conversions, with their methods and parameters, and geoid models. Profile.
+pub fn same_conversions_have_one_form()
+    ensures method { (level : Level) →
+        FormDecides IsMethod (norm_method level) (SameMethod level) }
+    ensures parameter { (level : Level) →
+        FormDecides IsParameter (norm_parameter level) (SameParameter level) }
+    ensures conversion { (level : Level) →
+        FormDecides IsConversion (norm_conversion level) (SameConversion level) }
+    ensures geoid_model { (level : Level) →
+        FormDecides IsGeoidModel (norm_geoid_model level) (SameGeoidModel level) }
+{
+    lower_laws();
+    sets_decide();
+}
+
+/// So have boxes, extents, usages and the ends of CRSs; what stands bare there is a usage. Profile.
+pub fn same_tails_have_one_form()
+    ensures bounding_box { FormDecides IsBox (λ bounds. bounds) SameBox }
+    ensures extent { (level : Level) →
+        FormDecides IsExtent (norm_extent level) (SameExtent level) }
+    ensures usage { FormDecides IsUsage norm_usage SameUsage }
+    ensures tail { (level : Level) →
+        FormDecides IsTail (norm_tail level) (SameTail level) }
+{
+    lower_laws();
+    sets_decide();
+}
+
+/// So have CRSs of each kind, base CRSs and the horizontal parts of compound CRSs. Profile.
+pub fn same_kinds_have_one_form()
+    ensures geodetic { (level : Level) →
+        FormDecides IsGeodetic (norm_geodetic level) (SameGeodetic level) }
+    ensures base { (level : Level) →
+        FormDecides IsBase (norm_base level) (SameBase level) }
+    ensures projected { (level : Level) →
+        FormDecides IsProjected (norm_projected level) (SameProjected level) }
+    ensures vertical { (level : Level) →
+        FormDecides IsVertical (norm_vertical level) (SameVertical level) }
+    ensures horizontal { (level : Level) →
+        FormDecides IsHorizontal (norm_horizontal level) (SameHorizontal level) }
+    ensures compound { (level : Level) →
+        FormDecides IsCompound (norm_compound level) (SameCompound level) }
+{
+    lower_laws();
+    sets_decide();
+}
+
+/// CRSs have one form exactly where they are the same. Profile.
+pub fn same_crss_have_one_form()
+    ensures { DecidesSameness }
+{
+    lower_laws();
+    sets_decide();
+}
