@@ -18,12 +18,13 @@ use Rattle.crs_value.specs.Values.{BoxParts, ExtentParts, IdentParts, UnitParts}
 use Rattle.crs_value.specs.Words.{unit_word}
 use Rattle.crs_same.specs.SameUnits.{HasNoIdents, IsMetre, SameLength, kind_as}
 use Rattle.crs_same.specs.SameUsages.{SameBox, SameExtent}
+use Rattle.crs_normal.specs.Fit.{IsFit}
 use Rattle.crs_normal.specs.SpelledItems.{number_item, opt}
 use Rattle.crs_normal.specs.SpelledUnits.{item_unit, metre, norm_length, norm_unit, set_idents, whole_value}
 use Rattle.crs_normal.specs.SpelledUsages.{item_box, item_extent, norm_extent}
 use Rattle.crs_normal.specs.TextLaws.{TextLaws}
 use Rattle.crs_normal.proofs.IdentLemmas.{ReadsIdentOnce, idents-agree}
-use Rattle.crs_normal.proofs.ItemLemmas.{Gives, IsFit, IsOf, fit-end, fit-more, fit-node, fit-opt, gives-over, lacks-end, opt-read, value-fit}
+use Rattle.crs_normal.proofs.ItemLemmas.{Gives, IsOf, fit-end, fit-more, fit-node, fit-opt, gives-over, lacks-end, opt-read, value-fit}
 use Rattle.crs_normal.proofs.MemberUnitLemmas.{NamesId, number-read, unit-agrees, unit-fit, unit-kept, unit-read, values-agree}
 
 -- ---- units of length, where a missing one is the metre

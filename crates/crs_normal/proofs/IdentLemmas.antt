@@ -20,11 +20,12 @@ use Rattle.crs_value.specs.Sound.{Each, IsText, IsIdent}
 use Rattle.crs_value.specs.Values.{IdentParts}
 use Rattle.crs_same.specs.SameIdents.{SameIdent, SameIdents}
 use Rattle.crs_same.specs.Sets.{SameSet}
+use Rattle.crs_normal.specs.Fit.{IsFit}
 use Rattle.crs_normal.specs.Ordered.{in_order}
 use Rattle.crs_normal.specs.SpelledItems.{code_item, is_short, opt, text_item, text_node}
 use Rattle.crs_normal.specs.SpelledUnits.{item_ident, set_idents}
 use Rattle.crs_normal.specs.TextLaws.{TextLaws}
-use Rattle.crs_normal.proofs.ItemLemmas.{IsFit, IsOf, IsWritable, Gives, fit-end, fit-leaf, fit-more, fit-node, fit-opt, gives-over, lacks-end, number-single, opt-over, opt-read, told}
+use Rattle.crs_normal.proofs.ItemLemmas.{IsOf, IsWritable, Gives, fit-end, fit-leaf, fit-more, fit-node, fit-opt, gives-over, lacks-end, number-single, opt-over, opt-read, told}
 use Rattle.crs_normal.proofs.SetLemmas.{each-in_order, set-agrees}
 
 -- ---- a code: a number or a text
@@ -160,7 +161,7 @@ writable n item l f is = record { formed = f.0; is_node = is; within = omega (ar
 abbrev pub ReadsIdentOnce : Type 0
 ReadsIdentOnce = (c : Class) (item : Item) (a b : IdentParts) → ReadsIdent c item a → ReadsIdent c item b → a ≡ b
 
-ident-told : TextLaws → ReadsIdentOnce → (a b : IdentParts) → IsIdent a → IsIdent b → item_text (item_ident a) ≡ item_text (item_ident b) → a ≡ b
+pub ident-told : TextLaws → ReadsIdentOnce → (a b : IdentParts) → IsIdent a → IsIdent b → item_text (item_ident a) ≡ item_text (item_ident b) → a ≡ b
 ident-told laws once =
     told item_ident (ReadsIdent class.Identifier) IsIdent laws (once class.Identifier) (λ x s. writable 2 (item_ident x) (omega arith) (ident-fit laws x s) tt) ident-read
 

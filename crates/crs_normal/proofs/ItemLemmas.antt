@@ -12,13 +12,11 @@ use Rattle.crs_text.specs.Written.{AreFormed, AreAllFormed, at_place, at_places,
 use Rattle.crs_shape.specs.declared.class.Class.{Class}
 use Rattle.crs_value.specs.Reading.{those, is_a, ReadsOptional, ReadsEach}
 use Rattle.crs_value.specs.Sound.{Each}
+use Rattle.crs_normal.specs.Fit.{IsFit}
 use Rattle.crs_normal.specs.SpelledItems.{each, node_of, node_from, number_item, opt}
 use Rattle.crs_normal.specs.TextLaws.{TextLaws}
 
 -- ---- well-formed items of some depth
-
-abbrev pub IsFit : ℕ → Item → Type 0
-IsFit n item = AreFormed item × (depth item ≤ n)
 
 abbrev pub AreFit : ℕ → Items → Type 0
 AreFit n items = AreAllFormed items × (depths items ≤ n)

@@ -4,5 +4,6 @@ pub mod ItemLemmas
 pub mod MemberLemmas
 pub mod MemberUnitLemmas
 pub mod ParameterLemmas
+pub mod SameItemLemmas
 pub mod SetLemmas
 pub mod UsageLemmas

@@ -18,13 +18,14 @@ use Rattle.crs_value.specs.Values.{IdentParts, MemberParts}
 use Rattle.crs_same.specs.SameConversions.{SameGeoidModel}
 use Rattle.crs_same.specs.SameFrames.{SameMember}
 use Rattle.crs_same.specs.Sets.{SameSet}
+use Rattle.crs_normal.specs.Fit.{IsFit}
 use Rattle.crs_normal.specs.SpelledConversions.{item_geoid_model, norm_geoid_model, set_geoid_models}
 use Rattle.crs_normal.specs.SpelledFrames.{item_member, norm_member, set_members}
 use Rattle.crs_normal.specs.SpelledItems.{each, text_item}
 use Rattle.crs_normal.specs.SpelledUnits.{item_ident}
 use Rattle.crs_normal.specs.TextLaws.{TextLaws}
 use Rattle.crs_normal.proofs.IdentLemmas.{ReadsIdentOnce, idents-agree, idents-kept, text-fit, writable}
-use Rattle.crs_normal.proofs.ItemLemmas.{IsFit, Gives, fit-node, gives-over, told}
+use Rattle.crs_normal.proofs.ItemLemmas.{Gives, fit-node, gives-over, told}
 use Rattle.crs_normal.proofs.MemberUnitLemmas.{NamesId, ids-fit, ids-read}
 use Rattle.crs_normal.proofs.SetLemmas.{set-agrees}
 

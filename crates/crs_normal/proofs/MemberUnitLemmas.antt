@@ -3,9 +3,10 @@ use Rattle.std.proofs.Common.{◌≡◌, ◌≤◌, ◌↔◌, ℕ, ◌+◌, fal
 use Rattle.crs_decimal.specs.Value.{Value, IsNormal}
 use Rattle.crs_text.specs.Items.{Item, End, More}
 use Rattle.crs_text.specs.Tokens.{IsWord}
-use Rattle.crs_text.specs.Written.{at_place}
+use Rattle.crs_text.specs.Written.{at_place, item_text}
 use Rattle.crs_shape.specs.declared.class.Class.{Class}
 use Rattle.crs_shape.specs.declared.class.Class.TheVariants as class
+use Rattle.crs_shape.specs.Keywords.{is_keyword}
 use Rattle.crs_shape.specs.Slots.{class_named, is_class}
 use Rattle.crs_value.specs.declared.level.Level.{Level}
 use Rattle.crs_value.specs.declared.unit_kind.UnitKind.{UnitKind}
@@ -17,11 +18,12 @@ use Rattle.crs_value.specs.Values.{IdentParts, UnitParts}
 use Rattle.crs_value.specs.Words.{unit_word}
 use Rattle.crs_same.specs.SameUnits.{SameUnit, SameValue}
 use Rattle.crs_same.specs.Sets.{BothOrNeither}
+use Rattle.crs_normal.specs.Fit.{IsFit}
 use Rattle.crs_normal.specs.SpelledItems.{each, number_item, text_item}
 use Rattle.crs_normal.specs.SpelledUnits.{item_ident, item_unit, norm_unit, norm_units}
 use Rattle.crs_normal.specs.TextLaws.{TextLaws}
-use Rattle.crs_normal.proofs.IdentLemmas.{ReadsIdentOnce, ident-fit, ident-read, idents-agree, idents-kept, text-fit}
-use Rattle.crs_normal.proofs.ItemLemmas.{AreFit, IsFit, IsOf, Gives, each-over, each-read, fit-deeper, fit-each, fit-end, fit-more, fit-node, gives-over, lacks-end, value-fit}
+use Rattle.crs_normal.proofs.IdentLemmas.{ReadsIdentOnce, ident-fit, ident-read, idents-agree, idents-kept, text-fit, writable}
+use Rattle.crs_normal.proofs.ItemLemmas.{AreFit, IsOf, Gives, each-over, each-read, fit-deeper, fit-each, fit-end, fit-more, fit-node, gives-over, lacks-end, told, value-fit}
 
 -- ---- the identifiers of a node
 
@@ -79,6 +81,19 @@ pub unit-fit : TextLaws → (u : UnitParts) → IsUnit u → IsFit 3 (item_unit 
 unit-fit laws u s =
     fit-node 2 (unit_word u.kind) (text_item u.name) (More (number_item u.factor) (each item_ident u.ids End)) (unit-is-word u.kind) (text-fit 2 u.name s.name)
     (fit-more 2 (number_item u.factor) (each item_ident u.ids End) (value-fit laws 2 u.factor s.factor) (ids-fit laws 2 (omega arith) u.ids s.ids))
+
+length-names : NamesId class.LengthUnit
+unfolding class_named is_keyword
+length-names = refl
+
+abbrev pub ReadsUnitOnce : Type 0
+ReadsUnitOnce = (c : Class) (item : Item) (a b : UnitParts) → ReadsUnit c item a → ReadsUnit c item b → a ≡ b
+
+-- the class is any in which `ID` is an identifier
+pub unit-told : TextLaws → ReadsUnitOnce → (a b : UnitParts) → IsUnit a → IsUnit b → item_text (item_unit a) ≡ item_text (item_unit b) → a ≡ b
+unit-told laws once =
+    told item_unit (ReadsUnit class.LengthUnit) IsUnit laws (once class.LengthUnit)
+    (λ x s. writable 3 (item_unit x) (omega arith) (unit-fit laws x s) tt) (unit-read laws class.LengthUnit length-names)
 
 pub unit-kept : (level : Level) (asked : UnitKind) (u : UnitParts) → IsUnit u → IsUnit (norm_unit level asked u)
 unit-kept level asked u s = record {

@@ -21,12 +21,13 @@ use Rattle.crs_value.specs.Values.{IdentParts, UnitParts}
 use Rattle.crs_value.specs.Words.{unit_word}
 use Rattle.crs_same.specs.SameConversions.{SameParameter}
 use Rattle.crs_same.specs.Sets.{SameSet}
+use Rattle.crs_normal.specs.Fit.{IsFit}
 use Rattle.crs_normal.specs.SpelledConversions.{item_parameter, norm_parameter, set_parameters}
 use Rattle.crs_normal.specs.SpelledItems.{each, node_of, number_item, opt, text_item}
 use Rattle.crs_normal.specs.SpelledUnits.{item_ident, item_unit, norm_units}
 use Rattle.crs_normal.specs.TextLaws.{TextLaws}
 use Rattle.crs_normal.proofs.IdentLemmas.{ReadsIdentOnce, idents-agree, idents-kept, text-fit, writable}
-use Rattle.crs_normal.proofs.ItemLemmas.{IsFit, IsOf, Gives, Lacks, fit-more, fit-node, fit-opt, gives-first, gives-over, opt-over, told, value-fit}
+use Rattle.crs_normal.proofs.ItemLemmas.{IsOf, Gives, Lacks, fit-more, fit-node, fit-opt, gives-first, gives-over, opt-over, told, value-fit}
 use Rattle.crs_normal.proofs.MemberUnitLemmas.{NamesId, ids-fit, ids-over, ids-read, number-read, unit-fit, unit-kept, unit-read, units-agree, values-agree}
 use Rattle.crs_normal.proofs.SetLemmas.{set-agrees}
 

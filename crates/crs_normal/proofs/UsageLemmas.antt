@@ -15,12 +15,13 @@ use Rattle.crs_value.specs.SoundUsages.{IsBox, IsExtent, IsUsage, SaysSome}
 use Rattle.crs_value.specs.Values.{BoxParts, ExtentParts, UsageParts}
 use Rattle.crs_same.specs.SameUsages.{SameBox, SameExtent, SameUsage}
 use Rattle.crs_same.specs.Sets.{SameSet}
+use Rattle.crs_normal.specs.Fit.{IsFit}
 use Rattle.crs_normal.specs.SpelledItems.{node_from, opt, text_node}
 use Rattle.crs_normal.specs.SpelledUsages.{item_box, item_extent, item_usage, norm_extent, norm_usage, set_usages}
 use Rattle.crs_normal.specs.TextLaws.{TextLaws}
 use Rattle.crs_normal.proofs.ExtentLemmas.{IsWrittenExtent, box-agrees, box-fit, box-read, extent-agrees, extent-fit, extent-kept, extent-read}
 use Rattle.crs_normal.proofs.IdentLemmas.{ReadsIdentOnce, source-fit, text-read, writable}
-use Rattle.crs_normal.proofs.ItemLemmas.{AreFit, Gives, IsFit, IsOf, fit-deeper, fit-end, fit-node, fit-opt, from-arguments, lacks-end, opt-over, opt-read, told}
+use Rattle.crs_normal.proofs.ItemLemmas.{AreFit, Gives, IsOf, fit-deeper, fit-end, fit-node, fit-opt, from-arguments, lacks-end, opt-over, opt-read, told}
 use Rattle.crs_normal.proofs.MemberUnitLemmas.{option-agrees}
 use Rattle.crs_normal.proofs.SetLemmas.{set-agrees}
 
