@@ -22,12 +22,15 @@ is-end (More item items) = false
 mutual
   pub same-placed : (i j : Item) (p q : ℕ) → at_place p i ≡ at_place q j → SameItem i j
   same-placed (leaf kind place raw) (leaf kind' place' raw') p q e = (ap leaf-kind e, ap raw_of e)
-  same-placed (leaf kind place raw) (node place' keyword' square' first' others' close') p q e = absurd (true≢false (ap is-leaf e))
-  same-placed (node place keyword square first others close) (leaf kind' place' raw') p q e = absurd (true≢false (ap is-leaf (sym e)))
-  same-placed (node place keyword square first others close) (node place' keyword' square' first' others' close') p q e = (
+  same-placed (leaf kind place raw) (node place' keyword' square' first' others' close') p q e =
+      absurd (true≢false (ap is-leaf e))
+  same-placed (node place keyword square first others close) (leaf kind' place' raw') p q e =
+      absurd (true≢false (ap is-leaf (sym e)))
+  same-placed (node place keyword square first others close) (node place' keyword' s' first' others' c') p q e = (
     ap raw_of e,
     same-placed first first' (p + length keyword + 1) (q + length keyword' + 1) (ap (λ x. first_of (arguments x)) e),
-    all-same-placed others others' (p + length keyword + 1 + length (item_text first)) (q + length keyword' + 1 + length (item_text first'))
+    all-same-placed others others' (p + length keyword + 1 + length (item_text first))
+        (q + length keyword' + 1 + length (item_text first'))
         (ap (λ x. rest_of (arguments x)) e),
   )
 
@@ -40,9 +43,15 @@ mutual
     all-same-placed is js (p + 1 + length (item_text i)) (q + 1 + length (item_text j)) (ap rest_of e),
   )
 
-pub same-by-text : TextLaws → (i j : Item) → AreFormed i → IsNode i → depth i ≤ 12 → AreFormed j → IsNode j → depth j ≤ 12 →
+pub same-by-text : TextLaws → (i j : Item) → AreFormed i → IsNode i → depth i ≤ 12 → AreFormed j → IsNode j →
+    depth j ≤ 12 →
     item_text i ≡ item_text j → (at_place 0 i ≡ at_place 0 j) × SameItem i j
 same-by-text laws i j f n d f' n' d' e =
     let h =
-    one-by-text laws i j (record { formed = f; is_node = n; within = d }) (record { formed = f'; is_node = n'; within = d' }) e in
+    one-by-text laws i j (record {
+      formed =
+          f;
+      is_node = n;
+      within = d;
+    }) (record { formed = f'; is_node = n'; within = d' }) e in
     (h, same-placed i j 0 0 h)

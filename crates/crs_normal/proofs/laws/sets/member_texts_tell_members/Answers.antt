@@ -14,20 +14,25 @@ returns-clause-identifier c = ident-told c.text_laws.ensures c.members_read_once
 
 pub returns-clause-unit : goal.returns-clause-unit
 returns-clause-unit c level asked a b p q =
-    unit-told c.text_laws.ensures c.members_read_once.ensures.unit (norm_unit level asked a) (norm_unit level asked b) (unit-kept level asked a p) (unit-kept level asked b q)
+    unit-told c.text_laws.ensures c.members_read_once.ensures.unit (norm_unit level asked a) (norm_unit level asked b)
+    (unit-kept level asked a p) (unit-kept level asked b q)
 
 pub returns-clause-member : goal.returns-clause-member
 returns-clause-member c level a b p q =
-    member-told c.text_laws.ensures c.members_read_once.ensures.member (norm_member level a) (norm_member level b) (member-kept level a p) (member-kept level b q)
+    member-told c.text_laws.ensures c.members_read_once.ensures.member (norm_member level a) (norm_member level b)
+    (member-kept level a p) (member-kept level b q)
 
 pub returns-clause-parameter : goal.returns-clause-parameter
 returns-clause-parameter c level a b p q =
-    parameter-told c.text_laws.ensures c.members_read_once.ensures.parameter (norm_parameter level a) (norm_parameter level b) (parameter-kept level a p) (parameter-kept level b q)
+    parameter-told c.text_laws.ensures c.members_read_once.ensures.parameter (norm_parameter level a)
+    (norm_parameter level b) (parameter-kept level a p) (parameter-kept level b q)
 
 pub returns-clause-geoid_model : goal.returns-clause-geoid_model
 returns-clause-geoid_model c level a b p q =
-    geoid-told c.text_laws.ensures c.members_read_once.ensures.geoid_model (norm_geoid_model level a) (norm_geoid_model level b) (geoid-kept level a p) (geoid-kept level b q)
+    geoid-told c.text_laws.ensures c.members_read_once.ensures.geoid_model (norm_geoid_model level a)
+    (norm_geoid_model level b) (geoid-kept level a p) (geoid-kept level b q)
 
 pub returns-clause-usage : goal.returns-clause-usage
 returns-clause-usage c a b p some q other =
-    usage-told c.text_laws.ensures c.members_read_once.ensures.usage (norm_usage a) (norm_usage b) (usage-kept a (p, some)) (usage-kept b (q, other))
+    usage-told c.text_laws.ensures c.members_read_once.ensures.usage (norm_usage a) (norm_usage b)
+    (usage-kept a (p, some)) (usage-kept b (q, other))

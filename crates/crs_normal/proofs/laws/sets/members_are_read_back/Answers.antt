@@ -14,19 +14,22 @@ pub returns-clause-identifier : goal.returns-clause-identifier
 returns-clause-identifier c x place s = ident-read x s place
 
 pub returns-clause-unit : goal.returns-clause-unit
-returns-clause-unit c level class asked x place names s = unit-read c.text_laws.ensures class names (norm_unit level asked x) (unit-kept level asked x s) place
+returns-clause-unit c level class asked x place names s =
+    unit-read c.text_laws.ensures class names (norm_unit level asked x) (unit-kept level asked x s) place
 
 pub returns-clause-member : goal.returns-clause-member
 returns-clause-member c level x place s = member-read (norm_member level x) (member-kept level x s) place
 
 pub returns-clause-parameter : goal.returns-clause-parameter
-returns-clause-parameter c level x place s = parameter-read c.text_laws.ensures (norm_parameter level x) (parameter-kept level x s) place
+returns-clause-parameter c level x place s =
+    parameter-read c.text_laws.ensures (norm_parameter level x) (parameter-kept level x s) place
 
 pub returns-clause-geoid_model : goal.returns-clause-geoid_model
 returns-clause-geoid_model c level x place s = geoid-read (norm_geoid_model level x) (geoid-kept level x s) place
 
 pub returns-clause-extent : goal.returns-clause-extent
-returns-clause-extent c level x place s = extent-read c.text_laws.ensures (norm_extent level x) (extent-kept level x s) place
+returns-clause-extent c level x place s =
+    extent-read c.text_laws.ensures (norm_extent level x) (extent-kept level x s) place
 
 pub returns-clause-usage : goal.returns-clause-usage
 returns-clause-usage c x place s some = usage-read c.text_laws.ensures (norm_usage x) (usage-kept x (s, some)) place

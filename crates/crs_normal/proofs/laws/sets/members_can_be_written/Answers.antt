@@ -14,13 +14,15 @@ pub returns-clause-identifier : goal.returns-clause-identifier
 returns-clause-identifier c = ident-fit c.text_laws.ensures
 
 pub returns-clause-unit : goal.returns-clause-unit
-returns-clause-unit c level asked x s = unit-fit c.text_laws.ensures (norm_unit level asked x) (unit-kept level asked x s)
+returns-clause-unit c level asked x s =
+    unit-fit c.text_laws.ensures (norm_unit level asked x) (unit-kept level asked x s)
 
 pub returns-clause-member : goal.returns-clause-member
 returns-clause-member c level x s = member-fit c.text_laws.ensures (norm_member level x) (member-kept level x s)
 
 pub returns-clause-parameter : goal.returns-clause-parameter
-returns-clause-parameter c level x s = parameter-fit c.text_laws.ensures (norm_parameter level x) (parameter-kept level x s)
+returns-clause-parameter c level x s =
+    parameter-fit c.text_laws.ensures (norm_parameter level x) (parameter-kept level x s)
 
 pub returns-clause-geoid_model : goal.returns-clause-geoid_model
 returns-clause-geoid_model c level x s = geoid-fit c.text_laws.ensures (norm_geoid_model level x) (geoid-kept level x s)
@@ -30,4 +32,5 @@ returns-clause-extent c level x s = extent-fit c.text_laws.ensures (norm_extent 
 
 pub returns-clause-usage : goal.returns-clause-usage
 returns-clause-usage c x s some =
-    let kept = usage-kept x (s, some) in (usage-fit c.text_laws.ensures (norm_usage x) kept, usage-is-node (norm_usage x) kept.some)
+    let kept = usage-kept x (s, some) in
+    (usage-fit c.text_laws.ensures (norm_usage x) kept, usage-is-node (norm_usage x) kept.some)
