@@ -1,4 +1,5 @@
 pub mod Fit
+pub mod Flat
 pub mod Normal
 pub mod NormalOwn
 pub mod Ordered

@@ -22,6 +22,7 @@ ghost use Rattle.crs_same.specs.SameIdents.{SameIdents};
 ghost use Rattle.crs_same.specs.SameUsages.{SameUsage};
 ghost use Rattle.crs_same.specs.Sets.{SameSet};
 ghost use Rattle.crs_normal.specs.Fit.{IsFit};
+ghost use Rattle.crs_normal.specs.Flat.{flat};
 ghost use Rattle.crs_normal.specs.SpelledConversions.{item_geoid_model, item_parameter, norm_geoid_model, norm_parameter, set_geoid_models, set_parameters};
 ghost use Rattle.crs_normal.specs.SpelledFrames.{item_member, norm_member, set_members};
 ghost use Rattle.crs_normal.specs.SpelledUnits.{item_ident, item_unit, norm_unit, set_idents};
@@ -93,7 +94,7 @@ pub fn same_usages_have_one_form()
 /// Nodes that can be written, and whose written texts are equal, are equal but for places and delimiters. Profile.
 pub fn written_text_tells_the_item()
     ensures { (i j : Item) → AreFormed i → IsNode i → depth i ≤ 12 → AreFormed j → IsNode j → depth j ≤ 12 →
-        item_text i ≡ item_text j → (at_place 0 i ≡ at_place 0 j) × SameItem i j }
+        item_text i ≡ item_text j → (at_place 0 i ≡ at_place 0 j) × SameItem i j × (flat i ≡ flat j) }
 {
     text_laws();
 }
