@@ -18,12 +18,13 @@ use Rattle.crs_value.specs.Values.{BoxParts, ExtentParts, IdentParts, UnitParts}
 use Rattle.crs_value.specs.Words.{unit_word}
 use Rattle.crs_same.specs.SameUnits.{HasNoIdents, IsMetre, SameLength, kind_as}
 use Rattle.crs_same.specs.SameUsages.{SameBox, SameExtent}
+use Rattle.crs_normal.specs.Fit.{IsFit}
 use Rattle.crs_normal.specs.SpelledItems.{number_item, opt}
 use Rattle.crs_normal.specs.SpelledUnits.{item_unit, metre, norm_length, norm_unit, set_idents, whole_value}
 use Rattle.crs_normal.specs.SpelledUsages.{item_box, item_extent, norm_extent}
 use Rattle.crs_normal.specs.TextLaws.{TextLaws}
 use Rattle.crs_normal.proofs.IdentLemmas.{ReadsIdentOnce, idents-agree}
-use Rattle.crs_normal.proofs.ItemLemmas.{Gives, IsFit, IsOf, fit-end, fit-more, fit-node, fit-opt, gives-over, lacks-end, opt-read, value-fit}
+use Rattle.crs_normal.proofs.ItemLemmas.{Gives, IsOf, fit-end, fit-more, fit-node, fit-opt, gives-over, lacks-end, opt-read, value-fit}
 use Rattle.crs_normal.proofs.MemberUnitLemmas.{NamesId, number-read, unit-agrees, unit-fit, unit-kept, unit-read, values-agree}
 
 -- ---- units of length, where a missing one is the metre
@@ -45,20 +46,26 @@ length-kind : (k : UnitKind) → Suits kinds.Length k → kind_as kinds.Length k
 length-kind k (inl e) = ap (kind_as kinds.Length) e
 length-kind k (inr e) = ap (kind_as kinds.Length) e
 
-pub length-kept : (level : Level) (o : Option UnitParts) → IfSome o (IsUnitOf kinds.Length) → IsLength (norm_length level o)
+pub length-kept : (level : Level) (o : Option UnitParts) → IfSome o (IsUnitOf kinds.Length) →
+    IsLength (norm_length level o)
 length-kept level None s = (metre-is, refl)
 length-kept level (Some u) s = (unit-kept level kinds.Length u s.0, length-kind u.kind s.1)
 
-none-agrees : TextLaws → ReadsIdentOnce → (level : Level) (ids : List IdentParts) → Each IsIdent ids → ([] ≡ set_idents level ids) ↔ HasNoIdents level ids
+none-agrees : TextLaws → ReadsIdentOnce → (level : Level) (ids : List IdentParts) → Each IsIdent ids →
+    ([] ≡ set_idents level ids) ↔ HasNoIdents level ids
 unfolding set_idents
 none-agrees laws once levels.Full [] s = (λ e. refl, λ e. refl)
-none-agrees laws once levels.Full (x ∷ xs) s =
-    (λ e. absurd ((idents-agree laws once levels.Full (x ∷ xs) [] s tt).0 (sym e)).0.0, λ e. sym (ap (set_idents levels.Full) e))
+none-agrees laws once levels.Full (x ∷ xs) s = (
+  λ e. absurd ((idents-agree laws once levels.Full (x ∷ xs) [] s tt).0 (sym e)).0.0,
+  λ e.
+      sym (ap (set_idents levels.Full) e),
+)
 
 abbrev unit-made : UnitKind → List ℕ → Value → List IdentParts → UnitParts
 unit-made x0 x1 x2 x3 = record { kind = x0; name = x1; factor = x2; ids = x3 }
 
-metre-agrees : TextLaws → ReadsIdentOnce → (level : Level) (u : UnitParts) → IsUnit u → (metre ≡ norm_unit level kinds.Length u) ↔ IsMetre level u
+metre-agrees : TextLaws → ReadsIdentOnce → (level : Level) (u : UnitParts) → IsUnit u →
+    (metre ≡ norm_unit level kinds.Length u) ↔ IsMetre level u
 metre-agrees laws once level u s =
     let ids = none-agrees laws once level u.ids s.ids in
     let factor = laws.one_value u.factor (whole_value 1) s.factor refl in (
@@ -71,7 +78,8 @@ metre-agrees laws once level u s =
       λ m. λ i. unit-made (sym m.kind i) (sym m.name i) (sym (factor.0 m.factor) i) (ids.1 m.ids i),
     )
 
-pub length-agrees : TextLaws → ReadsIdentOnce → (level : Level) (a b : Option UnitParts) → IfSome a (IsUnitOf kinds.Length) → IfSome b (IsUnitOf kinds.Length) →
+pub length-agrees : TextLaws → ReadsIdentOnce → (level : Level) (a b : Option UnitParts) →
+    IfSome a (IsUnitOf kinds.Length) → IfSome b (IsUnitOf kinds.Length) →
     (norm_length level a ≡ norm_length level b) ↔ SameLength level a b
 length-agrees laws once level None None p q = (λ e. tt, λ h. refl)
 length-agrees laws once level None (Some b) p q = metre-agrees laws once level b q.0
@@ -81,7 +89,8 @@ length-agrees laws once level (Some a) (Some b) p q = unit-agrees laws once leve
 
 -- ---- boxes
 
-pub box-read : TextLaws → (b : BoxParts) → IsBox b → (place : ℕ) → ReadsBox class.BoundingBox (at_place place (item_box b)) b
+pub box-read : TextLaws → (b : BoxParts) → IsBox b → (place : ℕ) →
+    ReadsBox class.BoundingBox (at_place place (item_box b)) b
 box-read laws b s place = record {
   south = number-read laws b.south s.south 0;
   west = number-read laws b.west s.west 0;
@@ -91,9 +100,11 @@ box-read laws b s place = record {
 
 pub box-fit : TextLaws → (b : BoxParts) → IsBox b → IsFit 1 (item_box b)
 box-fit laws b s =
-    fit-node 0 (codes "BBOX") (number_item b.south) (More (number_item b.west) (More (number_item b.north) (More (number_item b.east) End))) (refl, refl)
+    fit-node 0 (codes "BBOX") (number_item b.south)
+    (More (number_item b.west) (More (number_item b.north) (More (number_item b.east) End))) (refl, refl)
     (value-fit laws 0 b.south s.south)
-    (fit-more 0 (number_item b.west) (More (number_item b.north) (More (number_item b.east) End)) (value-fit laws 0 b.west s.west)
+    (fit-more 0 (number_item b.west) (More (number_item b.north) (More (number_item b.east) End))
+    (value-fit laws 0 b.west s.west)
     (fit-more 0 (number_item b.north) (More (number_item b.east) End) (value-fit laws 0 b.north s.north)
     (fit-more 0 (number_item b.east) End (value-fit laws 0 b.east s.east) (fit-end 0))))
 
@@ -133,20 +144,25 @@ named-length = refl
 
 length-is : (u : UnitParts) → IsLength u → IsOf true class.VerticalExtent class.LengthUnit (item_unit u)
 length-is u s place =
-    ap (λ k. is_class class.LengthUnit (class_named class.VerticalExtent (unit_word k))) s.1 ∙ ap (is_class class.LengthUnit) named-length
+    ap (λ k. is_class class.LengthUnit (class_named class.VerticalExtent (unit_word k))) s.1 ∙
+    ap (is_class class.LengthUnit) named-length
 
 extent-unit : TextLaws → (e : ExtentParts) → IsWrittenExtent e →
     Gives class.VerticalExtent class.LengthUnit (λ l. ReadsOptional (ReadsUnit class.LengthUnit) l e.unit)
     (More (number_item e.minimum) (More (number_item e.maximum) (opt item_unit e.unit End)))
 extent-unit laws e s =
-    gives-over class.VerticalExtent class.LengthUnit (λ l. ReadsOptional (ReadsUnit class.LengthUnit) l e.unit) (number_item e.minimum)
+    gives-over class.VerticalExtent class.LengthUnit (λ l. ReadsOptional (ReadsUnit class.LengthUnit) l e.unit)
+    (number_item e.minimum)
     (More (number_item e.maximum) (opt item_unit e.unit End)) (λ place. refl)
-    (gives-over class.VerticalExtent class.LengthUnit (λ l. ReadsOptional (ReadsUnit class.LengthUnit) l e.unit) (number_item e.maximum)
+    (gives-over class.VerticalExtent class.LengthUnit (λ l. ReadsOptional (ReadsUnit class.LengthUnit) l e.unit)
+    (number_item e.maximum)
     (opt item_unit e.unit End) (λ place. refl)
     (opt-read class.VerticalExtent class.LengthUnit item_unit IsLength (ReadsUnit class.LengthUnit) length-is
-    (λ u q. unit-read laws class.LengthUnit length-names u q.0) e.unit End s.unit (lacks-end class.VerticalExtent class.LengthUnit)))
+    (λ u q. unit-read laws class.LengthUnit length-names u q.0) e.unit End s.unit
+    (lacks-end class.VerticalExtent class.LengthUnit)))
 
-pub extent-read : TextLaws → (e : ExtentParts) → IsWrittenExtent e → (place : ℕ) → ReadsExtent class.VerticalExtent (at_place place (item_extent e)) e
+pub extent-read : TextLaws → (e : ExtentParts) → IsWrittenExtent e → (place : ℕ) →
+    ReadsExtent class.VerticalExtent (at_place place (item_extent e)) e
 extent-read laws e s place = record {
   minimum = number-read laws e.minimum s.minimum 0;
   maximum = number-read laws e.maximum s.maximum 0;
@@ -155,7 +171,8 @@ extent-read laws e s place = record {
 
 pub extent-fit : TextLaws → (e : ExtentParts) → IsWrittenExtent e → IsFit 4 (item_extent e)
 extent-fit laws e s =
-    fit-node 3 (codes "VERTICALEXTENT") (number_item e.minimum) (More (number_item e.maximum) (opt item_unit e.unit End)) (refl, refl)
+    fit-node 3 (codes "VERTICALEXTENT") (number_item e.minimum)
+    (More (number_item e.maximum) (opt item_unit e.unit End)) (refl, refl)
     (value-fit laws 3 e.minimum s.minimum)
     (fit-more 3 (number_item e.maximum) (opt item_unit e.unit End) (value-fit laws 3 e.maximum s.maximum)
     (fit-opt 3 item_unit IsLength (λ u q. unit-fit laws u q.0) e.unit End s.unit (fit-end 3)))

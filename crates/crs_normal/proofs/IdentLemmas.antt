@@ -1,5 +1,5 @@
--- Identifiers: the item of one reads as it wherever it stands, equal texts are of equal identifiers, and the set of them
--- in order is one exactly where they are the same set.
+-- Identifiers: the item of one reads as it wherever it stands, equal texts are of equal identifiers, and the set of
+-- them in order is one exactly where they are the same set.
 use Rattle.std.proofs.Common.{◌≡◌, ◌≤◌, ◌↔◌, ℕ, suc, ◌+◌, Bool, true, false, ◌&&◌, codes, if◌then◌else◌, Option, Some, None, List, [], length, map, map-id, nat_le, refl, ap, subst, arith}
 use Rattle.std.proofs.lemmas.Bool.{and_parts, leb-true}
 use Rattle.std.specs.List.{list_all}
@@ -20,16 +20,18 @@ use Rattle.crs_value.specs.Sound.{Each, IsText, IsIdent}
 use Rattle.crs_value.specs.Values.{IdentParts}
 use Rattle.crs_same.specs.SameIdents.{SameIdent, SameIdents}
 use Rattle.crs_same.specs.Sets.{SameSet}
+use Rattle.crs_normal.specs.Fit.{IsFit}
 use Rattle.crs_normal.specs.Ordered.{in_order}
 use Rattle.crs_normal.specs.SpelledItems.{code_item, is_short, opt, text_item, text_node}
 use Rattle.crs_normal.specs.SpelledUnits.{item_ident, set_idents}
 use Rattle.crs_normal.specs.TextLaws.{TextLaws}
-use Rattle.crs_normal.proofs.ItemLemmas.{IsFit, IsOf, IsWritable, Gives, fit-end, fit-leaf, fit-more, fit-node, fit-opt, gives-over, lacks-end, number-single, opt-over, opt-read, told}
+use Rattle.crs_normal.proofs.ItemLemmas.{IsOf, IsWritable, Gives, fit-end, fit-leaf, fit-more, fit-node, fit-opt, gives-over, lacks-end, number-single, opt-over, opt-read, told}
 use Rattle.crs_normal.proofs.SetLemmas.{each-in_order, set-agrees}
 
 -- ---- a code: a number or a text
 
-short-single : TextLaws → (raw : List ℕ) → IsText raw → (b : Bool) → is_short raw ≡ b → IsSingle (if b then number else text) raw
+short-single : TextLaws → (raw : List ℕ) → IsText raw → (b : Bool) → is_short raw ≡ b →
+    IsSingle (if b then number else text) raw
 short-single laws raw t false e = t
 short-single laws raw t true e =
     let p = and_parts (list_all is_digit raw && nat_le 1 (length raw)) (nat_le (length raw) 18) e in
@@ -37,19 +39,22 @@ short-single laws raw t true e =
     number-single laws raw (laws.digits raw q.0 (leb-true 1 (length raw) q.1) (leb-true (length raw) 18 p.1))
 
 pub code-fit : TextLaws → (n : ℕ) (raw : List ℕ) → IsText raw → IsFit n (code_item raw)
-code-fit laws n raw t = fit-leaf n (if is_short raw then number else text) 0 raw (short-single laws raw t (is_short raw) refl)
+code-fit laws n raw t =
+    fit-leaf n (if is_short raw then number else text) 0 raw (short-single laws raw t (is_short raw) refl)
 
 pub text-fit : (n : ℕ) (raw : List ℕ) → IsText raw → IsFit n (text_item raw)
 text-fit n raw t = fit-leaf n text 0 raw t
 
-code-read : (raw : List ℕ) (place : ℕ) (rest : Items) → ReadsFirst ReadsText (single_of (More (at_place place (code_item raw)) rest)) raw
+code-read : (raw : List ℕ) (place : ℕ) (rest : Items) →
+    ReadsFirst ReadsText (single_of (More (at_place place (code_item raw)) rest)) raw
 code-read raw place rest = by (is_short raw)
   where
     by : (b : Bool) → ReadsFirst ReadsText (single_of (More (leaf (if b then number else text) place raw) rest)) raw
     by true = refl
     by false = refl
 
-code-over : (c d : Class) → is_class d (Some class.Number) ≡ false → is_class d (Some class.Text) ≡ false → (raw : List ℕ) → IsOf false c d (code_item raw)
+code-over : (c d : Class) → is_class d (Some class.Number) ≡ false → is_class d (Some class.Text) ≡ false →
+    (raw : List ℕ) → IsOf false c d (code_item raw)
 code-over c d n t raw place = by (is_short raw)
   where
     by : (b : Bool) → is_class d (Some (class_of_kind (if b then number else text))) ≡ false
@@ -67,19 +72,28 @@ behind-code x = opt code_item x.version (behind-version x)
 abbrev ident-items : IdentParts → Items
 ident-items x = More (text_item x.authority) (More (code_item x.code) (behind-code x))
 
-version-read : (x : IdentParts) (start : ℕ) → ReadsOptional ReadsText (single_of (at_places start (behind-code x))) x.version
+version-read : (x : IdentParts) (start : ℕ) →
+    ReadsOptional ReadsText (single_of (at_places start (behind-code x))) x.version
 version-read x start = by x.version x.citation x.uri
   where
-    optional : (v : List ℕ) (place : ℕ) (rest : Items) → ReadsOptional ReadsText (single_of (More (at_place place (code_item v)) rest)) (Some v)
+    optional : (v : List ℕ) (place : ℕ) (rest : Items) →
+        ReadsOptional ReadsText (single_of (More (at_place place (code_item v)) rest)) (Some v)
     optional v place rest = kinds (is_short v)
       where
-        kinds : (b : Bool) → ReadsOptional ReadsText (single_of (More (leaf (if b then number else text) place v) rest)) (Some v)
+        kinds : (b : Bool) → ReadsOptional ReadsText
+            (single_of (More (leaf (if b then number else text) place v) rest)) (Some v)
         kinds true = refl
         kinds false = refl
 
     by : (v c u : Option (List ℕ)) →
-        ReadsOptional ReadsText (single_of (at_places start (opt code_item v (opt (text_node (codes "CITATION")) c (opt (text_node (codes "URI")) u End))))) v
-    by (Some v) c u = optional v (start + 1) (at_places (start + 1 + length (item_text (code_item v))) (opt (text_node (codes "CITATION")) c (opt (text_node (codes "URI")) u End)))
+        ReadsOptional ReadsText
+        (single_of
+        (at_places start
+        (opt code_item v (opt (text_node (codes "CITATION")) c (opt (text_node (codes "URI")) u End))))) v
+    by (Some v) c u =
+        optional v (start + 1)
+        (at_places (start + 1 + length (item_text (code_item v)))
+        (opt (text_node (codes "CITATION")) c (opt (text_node (codes "URI")) u End)))
     by None (Some c) u = tt
     by None None (Some u) = tt
     by None None None = tt
@@ -102,7 +116,8 @@ citation-over : (raw : List ℕ) → IsOf false class.Identifier class.Uri (text
 unfolding class_named is_keyword
 citation-over raw place = refl
 
-pub text-read : (c : Class) (keyword raw : List ℕ) (place : ℕ) → ReadsTextOf c (at_place place (text_node keyword raw)) raw
+pub text-read : (c : Class) (keyword raw : List ℕ) (place : ℕ) →
+    ReadsTextOf c (at_place place (text_node keyword raw)) raw
 text-read c keyword raw place = refl
 
 abbrev SaysCitation : IdentParts → List Item → Type 0
@@ -113,28 +128,44 @@ SaysUri x l = ReadsOptional (ReadsTextOf class.Uri) l x.uri
 
 citation-read : (x : IdentParts) → IsIdent x → Gives class.Identifier class.Citation (SaysCitation x) (ident-items x)
 citation-read x s =
-    gives-over class.Identifier class.Citation (SaysCitation x) (text_item x.authority) (More (code_item x.code) (behind-code x)) (λ place. refl)
-    (gives-over class.Identifier class.Citation (SaysCitation x) (code_item x.code) (behind-code x) (code-over class.Identifier class.Citation refl refl x.code)
-    (opt-over class.Identifier class.Citation code_item (code-over class.Identifier class.Citation refl refl) (SaysCitation x) x.version (behind-version x)
-    (opt-read class.Identifier class.Citation (text_node (codes "CITATION")) IsText (ReadsTextOf class.Citation) (λ raw t. citation-is raw)
-    (λ raw t place. text-read class.Citation (codes "CITATION") raw place) x.citation (opt (text_node (codes "URI")) x.uri End) s.citation
-    (opt-over class.Identifier class.Citation (text_node (codes "URI")) uri-over (λ l. l ≡ []) x.uri End (lacks-end class.Identifier class.Citation)))))
+    gives-over class.Identifier class.Citation (SaysCitation x) (text_item x.authority)
+    (More (code_item x.code) (behind-code x)) (λ place. refl)
+    (gives-over class.Identifier class.Citation (SaysCitation x) (code_item x.code) (behind-code x)
+    (code-over class.Identifier class.Citation refl refl x.code)
+    (opt-over class.Identifier class.Citation code_item (code-over class.Identifier class.Citation refl refl)
+    (SaysCitation x) x.version (behind-version x)
+    (opt-read class.Identifier class.Citation (text_node (codes "CITATION")) IsText (ReadsTextOf class.Citation)
+    (λ raw t. citation-is raw)
+    (λ raw t place. text-read class.Citation (codes "CITATION") raw place) x.citation
+    (opt (text_node (codes "URI")) x.uri End) s.citation
+    (opt-over class.Identifier class.Citation (text_node (codes "URI")) uri-over (λ l. l ≡ []) x.uri End
+    (lacks-end class.Identifier class.Citation)))))
 
 uri-read : (x : IdentParts) → IsIdent x → Gives class.Identifier class.Uri (SaysUri x) (ident-items x)
 uri-read x s =
-    gives-over class.Identifier class.Uri (SaysUri x) (text_item x.authority) (More (code_item x.code) (behind-code x)) (λ place. refl)
-    (gives-over class.Identifier class.Uri (SaysUri x) (code_item x.code) (behind-code x) (code-over class.Identifier class.Uri refl refl x.code)
-    (opt-over class.Identifier class.Uri code_item (code-over class.Identifier class.Uri refl refl) (SaysUri x) x.version (behind-version x)
-    (opt-over class.Identifier class.Uri (text_node (codes "CITATION")) citation-over (SaysUri x) x.citation (opt (text_node (codes "URI")) x.uri End)
+    gives-over class.Identifier class.Uri (SaysUri x) (text_item x.authority) (More (code_item x.code) (behind-code x))
+    (λ place. refl)
+    (gives-over class.Identifier class.Uri (SaysUri x) (code_item x.code) (behind-code x)
+    (code-over class.Identifier class.Uri refl refl x.code)
+    (opt-over class.Identifier class.Uri code_item (code-over class.Identifier class.Uri refl refl) (SaysUri x)
+    x.version (behind-version x)
+    (opt-over class.Identifier class.Uri (text_node (codes "CITATION")) citation-over (SaysUri x) x.citation
+    (opt (text_node (codes "URI")) x.uri End)
     (opt-read class.Identifier class.Uri (text_node (codes "URI")) IsText (ReadsTextOf class.Uri) (λ raw t. uri-is raw)
-    (λ raw t place. text-read class.Uri (codes "URI") raw place) x.uri End s.uri (lacks-end class.Identifier class.Uri)))))
+    (λ raw t place. text-read class.Uri (codes "URI") raw place) x.uri End s.uri
+    (lacks-end class.Identifier class.Uri)))))
 
 -- ---- an identifier
 
-pub ident-read : (x : IdentParts) → IsIdent x → (place : ℕ) → ReadsIdent class.Identifier (at_place place (item_ident x)) x
+pub ident-read : (x : IdentParts) → IsIdent x → (place : ℕ) →
+    ReadsIdent class.Identifier (at_place place (item_ident x)) x
 ident-read x s place = record {
   authority = refl;
-  code = code-read x.code _ (at_places (place + 2 + 1 + length (item_text (text_item x.authority)) + 1 + length (item_text (code_item x.code))) (behind-code x));
+  code =
+      code-read x.code _
+      (at_places
+      (place + 2 + 1 + length (item_text (text_item x.authority)) + 1 + length (item_text (code_item x.code)))
+      (behind-code x));
   version = version-read x _;
   citation = citation-read x s _;
   uri = uri-read x s _;
@@ -145,12 +176,15 @@ source-fit n keyword raw w t = fit-node n keyword (text_item raw) End w (text-fi
 
 pub ident-fit : TextLaws → (x : IdentParts) → IsIdent x → IsFit 2 (item_ident x)
 ident-fit laws x s =
-    fit-node 1 (codes "ID") (text_item x.authority) (More (code_item x.code) (behind-code x)) (refl, refl) (text-fit 1 x.authority s.authority)
+    fit-node 1 (codes "ID") (text_item x.authority) (More (code_item x.code) (behind-code x)) (refl, refl)
+    (text-fit 1 x.authority s.authority)
     (fit-more 1 (code_item x.code) (behind-code x) (code-fit laws 1 x.code s.code)
     (fit-opt 1 code_item IsText (code-fit laws 1) x.version (behind-version x) s.version
-    (fit-opt 1 (text_node (codes "CITATION")) IsText (λ raw t. source-fit 0 (codes "CITATION") raw (refl, refl) t) x.citation
+    (fit-opt 1 (text_node (codes "CITATION")) IsText (λ raw t. source-fit 0 (codes "CITATION") raw (refl, refl) t)
+    x.citation
     (opt (text_node (codes "URI")) x.uri End) s.citation
-    (fit-opt 1 (text_node (codes "URI")) IsText (λ raw t. source-fit 0 (codes "URI") raw (refl, refl) t) x.uri End s.uri (fit-end 1)))))
+    (fit-opt 1 (text_node (codes "URI")) IsText (λ raw t. source-fit 0 (codes "URI") raw (refl, refl) t) x.uri End
+    s.uri (fit-end 1)))))
 
 pub writable : (n : ℕ) (item : Item) → n ≤ 12 → IsFit n item → IsNode item → IsWritable item
 writable n item l f is = record { formed = f.0; is_node = is; within = omega (arith, l, f.1) }
@@ -160,9 +194,11 @@ writable n item l f is = record { formed = f.0; is_node = is; within = omega (ar
 abbrev pub ReadsIdentOnce : Type 0
 ReadsIdentOnce = (c : Class) (item : Item) (a b : IdentParts) → ReadsIdent c item a → ReadsIdent c item b → a ≡ b
 
-ident-told : TextLaws → ReadsIdentOnce → (a b : IdentParts) → IsIdent a → IsIdent b → item_text (item_ident a) ≡ item_text (item_ident b) → a ≡ b
+pub ident-told : TextLaws → ReadsIdentOnce → (a b : IdentParts) → IsIdent a → IsIdent b →
+    item_text (item_ident a) ≡ item_text (item_ident b) → a ≡ b
 ident-told laws once =
-    told item_ident (ReadsIdent class.Identifier) IsIdent laws (once class.Identifier) (λ x s. writable 2 (item_ident x) (omega arith) (ident-fit laws x s) tt) ident-read
+    told item_ident (ReadsIdent class.Identifier) IsIdent laws (once class.Identifier)
+    (λ x s. writable 2 (item_ident x) (omega arith) (ident-fit laws x s) tt) ident-read
 
 abbrev ident-made : List ℕ → List ℕ → Option (List ℕ) → Option (List ℕ) → Option (List ℕ) → IdentParts
 ident-made x0 x1 x2 x3 x4 = record { authority = x0; code = x1; version = x2; citation = x3; uri = x4 }
@@ -179,7 +215,8 @@ ident-agrees a b = (
   λ s. λ i. ident-made (s.authority i) (s.code i) (s.version i) (s.citation i) (s.uri i),
 )
 
-pub idents-agree : TextLaws → ReadsIdentOnce → (level : Level) (xs ys : List IdentParts) → Each IsIdent xs → Each IsIdent ys →
+pub idents-agree : TextLaws → ReadsIdentOnce → (level : Level) (xs ys : List IdentParts) → Each IsIdent xs →
+    Each IsIdent ys →
     (set_idents level xs ≡ set_idents level ys) ↔ SameIdents level xs ys
 unfolding set_idents
 idents-agree laws once levels.Full xs ys p q =

@@ -1,5 +1,5 @@
--- Written items: that they are well formed and not too deep, what their arguments of a class are wherever they stand, and
--- that equal texts are of equal values.
+-- Written items: that they are well formed and not too deep, what their arguments of a class are wherever they stand,
+-- and that equal texts are of equal values.
 use Rattle.std.proofs.Common.{◌≡◌, ◌≤◌, ℕ, suc, ◌+◌, Bool, true, false, if◌then◌else◌, IfSome, Option, Some, None, List, [], ◌∷◌, length, refl, sym, subst, arith}
 use Rattle.crs_decimal.specs.Bounds.{IsInBounds}
 use Rattle.crs_decimal.specs.Plain.{plain}
@@ -12,13 +12,11 @@ use Rattle.crs_text.specs.Written.{AreFormed, AreAllFormed, at_place, at_places,
 use Rattle.crs_shape.specs.declared.class.Class.{Class}
 use Rattle.crs_value.specs.Reading.{those, is_a, ReadsOptional, ReadsEach}
 use Rattle.crs_value.specs.Sound.{Each}
+use Rattle.crs_normal.specs.Fit.{IsFit}
 use Rattle.crs_normal.specs.SpelledItems.{each, node_of, node_from, number_item, opt}
 use Rattle.crs_normal.specs.TextLaws.{TextLaws}
 
 -- ---- well-formed items of some depth
-
-abbrev pub IsFit : ℕ → Item → Type 0
-IsFit n item = AreFormed item × (depth item ≤ n)
 
 abbrev pub AreFit : ℕ → Items → Type 0
 AreFit n items = AreAllFormed items × (depths items ≤ n)
@@ -32,22 +30,26 @@ fit-more n item items f g = ((f.0, g.0), omega (arith, f.1, g.1))
 pub fit-leaf : (n : ℕ) (kind : Kind) (place : ℕ) (raw : List ℕ) → IsSingle kind raw → IsFit n (leaf kind place raw)
 fit-leaf n kind place raw f = (f, omega arith)
 
-pub fit-node : (n : ℕ) (keyword : List ℕ) (first : Item) (others : Items) → IsWord keyword → IsFit n first → AreFit n others →
+pub fit-node : (n : ℕ) (keyword : List ℕ) (first : Item) (others : Items) → IsWord keyword → IsFit n first →
+    AreFit n others →
     IsFit (suc n) (node_of keyword first others)
 fit-node n keyword first others w f g = ((w, f.0, g.0), omega (arith, f.1, g.1))
 
 pub fit-deeper : (m n : ℕ) (item : Item) → m ≤ n → IsFit m item → IsFit n item
 fit-deeper m n item l f = (f.0, omega (arith, l, f.1))
 
-pub fit-opt : {A : Type 0} (n : ℕ) (spell : A → Item) (P : A → Type 0) → ((x : A) → P x → IsFit n (spell x)) → (o : Option A) (rest : Items) →
+pub fit-opt : {A : Type 0} (n : ℕ) (spell : A → Item) (P : A → Type 0) → ((x : A) → P x → IsFit n (spell x)) →
+    (o : Option A) (rest : Items) →
     IfSome o P → AreFit n rest → AreFit n (opt spell o rest)
 fit-opt n spell P f None rest p g = g
 fit-opt n spell P f (Some x) rest p g = fit-more n (spell x) rest (f x p) g
 
-pub fit-each : {A : Type 0} (n : ℕ) (spell : A → Item) (P : A → Type 0) → ((x : A) → P x → IsFit n (spell x)) → (xs : List A) (rest : Items) →
+pub fit-each : {A : Type 0} (n : ℕ) (spell : A → Item) (P : A → Type 0) → ((x : A) → P x → IsFit n (spell x)) →
+    (xs : List A) (rest : Items) →
     Each P xs → AreFit n rest → AreFit n (each spell xs rest)
 fit-each n spell P f [] rest p g = g
-fit-each n spell P f (x ∷ xs) rest p g = fit-more n (spell x) (each spell xs rest) (f x p.0) (fit-each n spell P f xs rest p.1 g)
+fit-each n spell P f (x ∷ xs) rest p g =
+    fit-more n (spell x) (each spell xs rest) (f x p.0) (fit-each n spell P f xs rest p.1 g)
 
 -- ---- numbers
 
@@ -59,7 +61,8 @@ pub number-single : TextLaws → (raw : List ℕ) → IsInBounds raw → IsSingl
 number-single laws raw b = run-single raw (laws.run raw (b.0, b.1)) b
 
 pub value-fit : TextLaws → (n : ℕ) (v : Value) → IsNormal v → IsFit n (number_item v)
-value-fit laws n v h = let d = laws.denotes v h in fit-leaf n number 0 (plain v) (number-single laws (plain v) (d.0, d.1, d.2))
+value-fit laws n v h =
+    let d = laws.denotes v h in fit-leaf n number 0 (plain v) (number-single laws (plain v) (d.0, d.1, d.2))
 
 -- ---- arguments of a class, wherever the items stand
 
@@ -77,44 +80,59 @@ module _ (c d : Class) where
   abbrev chosen : Bool → Item → List Item → List Item
   chosen b item l = if b then item ∷ l else l
 
-  pub gives-over : (P : List Item → Type 0) (item : Item) (items : Items) → IsOf false c d item → Gives c d P items → Gives c d P (More item items)
+  pub gives-over : (P : List Item → Type 0) (item : Item) (items : Items) → IsOf false c d item → Gives c d P items →
+      Gives c d P (More item items)
   gives-over P item items e g start =
-      subst (λ b. P (chosen b (at_place (start + 1) item) (those c d (at_places (start + 1 + length (item_text item)) items)))) (sym (e (start + 1)))
+      subst
+      (λ b.
+      P (chosen b (at_place (start + 1) item) (those c d (at_places (start + 1 + length (item_text item)) items))))
+      (sym (e (start + 1)))
       (g (start + 1 + length (item_text item)))
 
   -- the first one, and what is said of the others
   pub gives-first : (P : List Item → Type 0) (item : Item) (items : Items) → IsOf true c d item →
       ((place start : ℕ) → P (at_place place item ∷ those c d (at_places start items))) → Gives c d P (More item items)
   gives-first P item items e g start =
-      subst (λ b. P (chosen b (at_place (start + 1) item) (those c d (at_places (start + 1 + length (item_text item)) items)))) (sym (e (start + 1)))
+      subst
+      (λ b.
+      P (chosen b (at_place (start + 1) item) (those c d (at_places (start + 1 + length (item_text item)) items))))
+      (sym (e (start + 1)))
       (g (start + 1) (start + 1 + length (item_text item)))
 
   module _ {A : Type 0} (spell : A → Item) where
-    pub opt-over : ((x : A) → IsOf false c d (spell x)) → (P : List Item → Type 0) (o : Option A) (rest : Items) → Gives c d P rest →
+    pub opt-over : ((x : A) → IsOf false c d (spell x)) → (P : List Item → Type 0) (o : Option A) (rest : Items) →
+        Gives c d P rest →
         Gives c d P (opt spell o rest)
     opt-over e P None rest g = g
     opt-over e P (Some x) rest g = gives-over P (spell x) rest (e x) g
 
-    pub each-over : ((x : A) → IsOf false c d (spell x)) → (P : List Item → Type 0) (xs : List A) (rest : Items) → Gives c d P rest →
+    pub each-over : ((x : A) → IsOf false c d (spell x)) → (P : List Item → Type 0) (xs : List A) (rest : Items) →
+        Gives c d P rest →
         Gives c d P (each spell xs rest)
     each-over e P [] rest g = g
     each-over e P (x ∷ xs) rest g = gives-over P (spell x) (each spell xs rest) (e x) (each-over e P xs rest g)
 
-    module _ (Q : A → Type 0) (R : Item → A → Type 0) (e : (x : A) → Q x → IsOf true c d (spell x)) (r : (x : A) → Q x → (place : ℕ) → R (at_place place (spell x)) x) where
-      pub opt-read : (o : Option A) (rest : Items) → IfSome o Q → Lacks rest → Gives c d (λ l. ReadsOptional R l o) (opt spell o rest)
+    module _ (Q : A → Type 0) (R : Item → A → Type 0) (e : (x : A) → Q x → IsOf true c d (spell x)) (r : (x : A) →
+        Q x → (place : ℕ) → R (at_place place (spell x)) x) where
+      pub opt-read : (o : Option A) (rest : Items) → IfSome o Q → Lacks rest →
+          Gives c d (λ l. ReadsOptional R l o) (opt spell o rest)
       opt-read None rest q g start = subst (λ l. ReadsOptional R l None) (sym (g start)) tt
-      opt-read (Some x) rest q g start = gives-first (λ l. ReadsOptional R l (Some x)) (spell x) rest (e x q) (λ place s. r x q place) start
+      opt-read (Some x) rest q g start =
+          gives-first (λ l. ReadsOptional R l (Some x)) (spell x) rest (e x q) (λ place s. r x q place) start
 
-      pub each-read : (xs : List A) (rest : Items) → Each Q xs → Lacks rest → Gives c d (λ l. ReadsEach R l xs) (each spell xs rest)
+      pub each-read : (xs : List A) (rest : Items) → Each Q xs → Lacks rest →
+          Gives c d (λ l. ReadsEach R l xs) (each spell xs rest)
       each-read [] rest q g start = subst (λ l. ReadsEach R l []) (sym (g start)) tt
       each-read (x ∷ xs) rest q g start =
-          gives-first (λ l. ReadsEach R l (x ∷ xs)) (spell x) (each spell xs rest) (e x q.0) (λ place s. (r x q.0 place, each-read xs rest q.1 g s)) start
+          gives-first (λ l. ReadsEach R l (x ∷ xs)) (spell x) (each spell xs rest) (e x q.0)
+          (λ place s. (r x q.0 place, each-read xs rest q.1 g s)) start
 
 pub lacks-end : (c d : Class) → Lacks c d End
 lacks-end c d start = refl
 
 -- the arguments of a node that may have none
-pub from-arguments : (keyword : List ℕ) (items : Items) (place : ℕ) → arguments (at_place place (node_from keyword items)) ≡ at_places (place + length keyword) items
+pub from-arguments : (keyword : List ℕ) (items : Items) (place : ℕ) →
+    arguments (at_place place (node_from keyword items)) ≡ at_places (place + length keyword) items
 from-arguments keyword End place = refl
 from-arguments keyword (More first others) place = refl
 
@@ -127,14 +145,17 @@ pub record IsWritable (item : Item) : Type 0 where
   pub within : depth item ≤ 12
 
 -- writable items with the same text are equal but for places and delimiters
-pub one-by-text : TextLaws → (i j : Item) → IsWritable i → IsWritable j → item_text i ≡ item_text j → at_place 0 i ≡ at_place 0 j
+pub one-by-text : TextLaws → (i j : Item) → IsWritable i → IsWritable j → item_text i ≡ item_text j →
+    at_place 0 i ≡ at_place 0 j
 one-by-text laws i j a b e =
     laws.one_node (item_text i) (at_place 0 i) (at_place 0 j) (laws.spells i a.formed a.is_node a.within)
     (subst (λ t. SpellsNode t (at_place 0 j)) (sym e) (laws.spells j b.formed b.is_node b.within))
 
 -- values are equal where the texts of their items are, if each is read from its item
-pub told : {V : Type 0} (item : V → Item) (R : Item → V → Type 0) (Q : V → Type 0) → TextLaws → ((i : Item) (a b : V) → R i a → R i b → a ≡ b) →
-    ((x : V) → Q x → IsWritable (item x)) → ((x : V) → Q x → (place : ℕ) → R (at_place place (item x)) x) → (a b : V) → Q a → Q b →
+pub told : {V : Type 0} (item : V → Item) (R : Item → V → Type 0) (Q : V → Type 0) → TextLaws →
+    ((i : Item) (a b : V) → R i a → R i b → a ≡ b) →
+    ((x : V) → Q x → IsWritable (item x)) → ((x : V) → Q x → (place : ℕ) → R (at_place place (item x)) x) → (a b : V) →
+    Q a → Q b →
     item_text (item a) ≡ item_text (item b) → a ≡ b
 told item R Q laws once writable reads a b p q e =
     once (at_place 0 (item a)) a b (reads a p 0)

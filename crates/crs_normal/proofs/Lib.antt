@@ -9,6 +9,7 @@ pub mod MemberLemmas
 pub mod MemberUnitLemmas
 pub mod ParameterLemmas
 mod PartSameLemmas
+pub mod SameItemLemmas
 pub mod SetLemmas
 mod SystemSameLemmas
 mod TailSameLemmas

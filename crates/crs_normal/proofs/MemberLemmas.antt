@@ -1,4 +1,5 @@
--- Members of an ensemble and geoid models: their items read as them wherever they stand, and as sets they have one form.
+-- Members of an ensemble and geoid models: their items read as them wherever they stand, and as sets they have one
+-- form.
 use Rattle.std.proofs.Common.{◌≡◌, ◌↔◌, ℕ, ◌+◌, codes, List, refl, ap, arith}
 use Rattle.crs_text.specs.Items.{Item, End, More}
 use Rattle.crs_text.specs.Written.{at_place, item_text}
@@ -18,13 +19,14 @@ use Rattle.crs_value.specs.Values.{IdentParts, MemberParts}
 use Rattle.crs_same.specs.SameConversions.{SameGeoidModel}
 use Rattle.crs_same.specs.SameFrames.{SameMember}
 use Rattle.crs_same.specs.Sets.{SameSet}
+use Rattle.crs_normal.specs.Fit.{IsFit}
 use Rattle.crs_normal.specs.SpelledConversions.{item_geoid_model, norm_geoid_model, set_geoid_models}
 use Rattle.crs_normal.specs.SpelledFrames.{item_member, norm_member, set_members}
 use Rattle.crs_normal.specs.SpelledItems.{each, text_item}
 use Rattle.crs_normal.specs.SpelledUnits.{item_ident}
 use Rattle.crs_normal.specs.TextLaws.{TextLaws}
 use Rattle.crs_normal.proofs.IdentLemmas.{ReadsIdentOnce, idents-agree, idents-kept, text-fit, writable}
-use Rattle.crs_normal.proofs.ItemLemmas.{IsFit, Gives, fit-node, gives-over, told}
+use Rattle.crs_normal.proofs.ItemLemmas.{Gives, fit-node, gives-over, told}
 use Rattle.crs_normal.proofs.MemberUnitLemmas.{NamesId, ids-fit, ids-read}
 use Rattle.crs_normal.proofs.SetLemmas.{set-agrees}
 
@@ -35,7 +37,9 @@ ReadsIds ids l = ReadsEach (ReadsIdent class.Identifier) l ids
 
 named-ids : (c : Class) → NamesId c → (name : List ℕ) (ids : List IdentParts) → Each IsIdent ids →
     Gives c class.Identifier (ReadsIds ids) (More (text_item name) (each item_ident ids End))
-named-ids c e name ids s = gives-over c class.Identifier (ReadsIds ids) (text_item name) (each item_ident ids End) (λ p. refl) (ids-read c e ids s)
+named-ids c e name ids s =
+    gives-over c class.Identifier (ReadsIds ids) (text_item name) (each item_ident ids End) (λ p. refl)
+    (ids-read c e ids s)
 
 member-names : NamesId class.Member
 unfolding class_named is_keyword
@@ -47,7 +51,8 @@ geoid-names = refl
 
 -- ---- members of an ensemble
 
-pub member-read : (m : MemberParts) → IsMember m → (place : ℕ) → ReadsMember class.Member (at_place place (item_member m)) m
+pub member-read : (m : MemberParts) → IsMember m → (place : ℕ) →
+    ReadsMember class.Member (at_place place (item_member m)) m
 member-read m s place = record { name = refl; ids = named-ids class.Member member-names m.name m.ids s.ids (place + 6) }
 
 pub member-fit : TextLaws → (m : MemberParts) → IsMember m → IsFit 3 (item_member m)
@@ -61,7 +66,8 @@ member-kept level m s = record { name = s.name; ids = idents-kept level m.ids s.
 abbrev pub ReadsMemberOnce : Type 0
 ReadsMemberOnce = (c : Class) (item : Item) (a b : MemberParts) → ReadsMember c item a → ReadsMember c item b → a ≡ b
 
-pub member-told : TextLaws → ReadsMemberOnce → (a b : MemberParts) → IsMember a → IsMember b → item_text (item_member a) ≡ item_text (item_member b) → a ≡ b
+pub member-told : TextLaws → ReadsMemberOnce → (a b : MemberParts) → IsMember a → IsMember b →
+    item_text (item_member a) ≡ item_text (item_member b) → a ≡ b
 member-told laws once =
     told item_member (ReadsMember class.Member) IsMember laws (once class.Member)
     (λ x s. writable 3 (item_member x) (omega arith) (member-fit laws x s) tt) member-read
@@ -77,28 +83,35 @@ member-agrees laws once level a b p q =
       λ s. λ i. member-made (s.name i) (ids.1 s.ids i),
     )
 
-pub members-agree : TextLaws → ReadsIdentOnce → ReadsMemberOnce → (level : Level) (xs ys : List MemberParts) → Each IsMember xs → Each IsMember ys →
+pub members-agree : TextLaws → ReadsIdentOnce → ReadsMemberOnce → (level : Level) (xs ys : List MemberParts) →
+    Each IsMember xs → Each IsMember ys →
     (set_members level xs ≡ set_members level ys) ↔ SameSet (SameMember level) xs ys
 unfolding set_members
 members-agree laws idents once level xs ys p q =
-    set-agrees (norm_member level) (λ m. item_text (item_member m)) IsMember (SameMember level) (member-agrees laws idents level)
-    (λ a b s t. member-told laws once (norm_member level a) (norm_member level b) (member-kept level a s) (member-kept level b t)) xs ys p q
+    set-agrees (norm_member level) (λ m. item_text (item_member m)) IsMember (SameMember level)
+    (member-agrees laws idents level)
+    (λ a b s t. member-told laws once (norm_member level a) (norm_member level b) (member-kept level a s)
+    (member-kept level b t)) xs ys p q
 
 -- ---- geoid models
 
-pub geoid-read : (g : GeoidModelParts) → IsGeoidModel g → (place : ℕ) → ReadsGeoidModel class.GeoidModel (at_place place (item_geoid_model g)) g
-geoid-read g s place = record { name = refl; ids = named-ids class.GeoidModel geoid-names g.name g.ids s.ids (place + 10) }
+pub geoid-read : (g : GeoidModelParts) → IsGeoidModel g → (place : ℕ) →
+    ReadsGeoidModel class.GeoidModel (at_place place (item_geoid_model g)) g
+geoid-read g s place =
+    record { name = refl; ids = named-ids class.GeoidModel geoid-names g.name g.ids s.ids (place + 10) }
 
 pub geoid-fit : TextLaws → (g : GeoidModelParts) → IsGeoidModel g → IsFit 3 (item_geoid_model g)
 geoid-fit laws g s =
-    fit-node 2 (codes "GEOIDMODEL") (text_item g.name) (each item_ident g.ids End) (refl, refl) (text-fit 2 g.name s.name)
+    fit-node 2 (codes "GEOIDMODEL") (text_item g.name) (each item_ident g.ids End) (refl, refl)
+    (text-fit 2 g.name s.name)
     (ids-fit laws 2 (omega arith) g.ids s.ids)
 
 pub geoid-kept : (level : Level) (g : GeoidModelParts) → IsGeoidModel g → IsGeoidModel (norm_geoid_model level g)
 geoid-kept level g s = record { name = s.name; ids = idents-kept level g.ids s.ids }
 
 abbrev pub ReadsGeoidOnce : Type 0
-ReadsGeoidOnce = (c : Class) (item : Item) (a b : GeoidModelParts) → ReadsGeoidModel c item a → ReadsGeoidModel c item b → a ≡ b
+ReadsGeoidOnce =
+    (c : Class) (item : Item) (a b : GeoidModelParts) → ReadsGeoidModel c item a → ReadsGeoidModel c item b → a ≡ b
 
 pub geoid-told : TextLaws → ReadsGeoidOnce → (a b : GeoidModelParts) → IsGeoidModel a → IsGeoidModel b →
     item_text (item_geoid_model a) ≡ item_text (item_geoid_model b) → a ≡ b
@@ -117,9 +130,12 @@ geoid-agrees laws once level a b p q =
       λ s. λ i. geoid-made (s.name i) (ids.1 s.ids i),
     )
 
-pub geoids-agree : TextLaws → ReadsIdentOnce → ReadsGeoidOnce → (level : Level) (xs ys : List GeoidModelParts) → Each IsGeoidModel xs → Each IsGeoidModel ys →
+pub geoids-agree : TextLaws → ReadsIdentOnce → ReadsGeoidOnce → (level : Level) (xs ys : List GeoidModelParts) →
+    Each IsGeoidModel xs → Each IsGeoidModel ys →
     (set_geoid_models level xs ≡ set_geoid_models level ys) ↔ SameSet (SameGeoidModel level) xs ys
 unfolding set_geoid_models
 geoids-agree laws idents once level xs ys p q =
-    set-agrees (norm_geoid_model level) (λ g. item_text (item_geoid_model g)) IsGeoidModel (SameGeoidModel level) (geoid-agrees laws idents level)
-    (λ a b s t. geoid-told laws once (norm_geoid_model level a) (norm_geoid_model level b) (geoid-kept level a s) (geoid-kept level b t)) xs ys p q
+    set-agrees (norm_geoid_model level) (λ g. item_text (item_geoid_model g)) IsGeoidModel (SameGeoidModel level)
+    (geoid-agrees laws idents level)
+    (λ a b s t. geoid-told laws once (norm_geoid_model level a) (norm_geoid_model level b) (geoid-kept level a s)
+    (geoid-kept level b t)) xs ys p q

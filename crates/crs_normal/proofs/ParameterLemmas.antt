@@ -1,5 +1,6 @@
--- Parameters: the item of one reads as it wherever it stands, its unit being of the class that its keyword names, and as sets
--- they have one form.
+-- Parameters: the item of one reads as it wherever it stands, its unit being of the class that its keyword names, and
+-- as
+-- sets they have one form.
 use Rattle.std.proofs.Common.{◌≡◌, ◌↔◌, ℕ, ◌+◌, Bool, true, false, codes, IfSome, Option, Some, None, List, [], ◌∷◌, refl, sym, ◌∙◌, ap, subst, arith}
 use Rattle.crs_decimal.specs.Value.{Value}
 use Rattle.crs_text.specs.Items.{Item, Items, End, More}
@@ -21,12 +22,13 @@ use Rattle.crs_value.specs.Values.{IdentParts, UnitParts}
 use Rattle.crs_value.specs.Words.{unit_word}
 use Rattle.crs_same.specs.SameConversions.{SameParameter}
 use Rattle.crs_same.specs.Sets.{SameSet}
+use Rattle.crs_normal.specs.Fit.{IsFit}
 use Rattle.crs_normal.specs.SpelledConversions.{item_parameter, norm_parameter, set_parameters}
 use Rattle.crs_normal.specs.SpelledItems.{each, node_of, number_item, opt, text_item}
 use Rattle.crs_normal.specs.SpelledUnits.{item_ident, item_unit, norm_units}
 use Rattle.crs_normal.specs.TextLaws.{TextLaws}
 use Rattle.crs_normal.proofs.IdentLemmas.{ReadsIdentOnce, idents-agree, idents-kept, text-fit, writable}
-use Rattle.crs_normal.proofs.ItemLemmas.{IsFit, IsOf, Gives, Lacks, fit-more, fit-node, fit-opt, gives-first, gives-over, opt-over, told, value-fit}
+use Rattle.crs_normal.proofs.ItemLemmas.{IsOf, Gives, Lacks, fit-more, fit-node, fit-opt, gives-first, gives-over, opt-over, told, value-fit}
 use Rattle.crs_normal.proofs.MemberUnitLemmas.{NamesId, ids-fit, ids-over, ids-read, number-read, unit-fit, unit-kept, unit-read, units-agree, values-agree}
 use Rattle.crs_normal.proofs.SetLemmas.{set-agrees}
 
@@ -38,8 +40,10 @@ abbrev parameter-items : List ℕ → Value → Items → Items
 parameter-items name value rest = More (text_item name) (More (number_item value) rest)
 
 -- what is said of those behind the number holds of all arguments
-behind-value : (d : Class) → is_class d (Some class.Text) ≡ false → is_class d (Some class.Number) ≡ false → (P : List Item → Type 0) →
-    (name : List ℕ) (value : Value) (rest : Items) → Gives class.Parameter d P rest → Gives class.Parameter d P (parameter-items name value rest)
+behind-value : (d : Class) → is_class d (Some class.Text) ≡ false → is_class d (Some class.Number) ≡ false →
+    (P : List Item → Type 0) →
+    (name : List ℕ) (value : Value) (rest : Items) → Gives class.Parameter d P rest → Gives class.Parameter d P
+    (parameter-items name value rest)
 behind-value d t n P name value rest g =
     gives-over class.Parameter d P (text_item name) (More (number_item value) rest) (λ place. t)
     (gives-over class.Parameter d P (number_item value) rest (λ place. n) g)
@@ -60,8 +64,10 @@ named-as kinds.Angle = refl
 named-as kinds.Scale = refl
 named-as kinds.Plain = refl
 
-unit-is : (d : Class) (b : Bool) (u : UnitParts) (k : UnitKind) → u.kind ≡ k → is_class d (Some (class-as k)) ≡ b → IsOf b class.Parameter d (item_unit u)
-unit-is d b u k e h place = ap (λ j. is_class d (class_named class.Parameter (unit_word j))) e ∙ ap (is_class d) (named-as k) ∙ h
+unit-is : (d : Class) (b : Bool) (u : UnitParts) (k : UnitKind) → u.kind ≡ k → is_class d (Some (class-as k)) ≡ b →
+    IsOf b class.Parameter d (item_unit u)
+unit-is d b u k e h place =
+    ap (λ j. is_class d (class_named class.Parameter (unit_word j))) e ∙ ap (is_class d) (named-as k) ∙ h
 
 unit-no-id : (u : UnitParts) → IsOf false class.Parameter class.Identifier (item_unit u)
 unit-no-id u = by u.kind refl
@@ -78,10 +84,12 @@ parameter-ids : (p : ParameterParts) → Each IsIdent p.ids →
 parameter-ids p s =
     behind-value class.Identifier refl refl (λ l. ReadsEach (ReadsIdent class.Identifier) l p.ids) p.name p.value
     (opt item_unit p.unit (each item_ident p.ids End))
-    (opt-over class.Parameter class.Identifier item_unit unit-no-id (λ l. ReadsEach (ReadsIdent class.Identifier) l p.ids) p.unit
+    (opt-over class.Parameter class.Identifier item_unit unit-no-id
+    (λ l. ReadsEach (ReadsIdent class.Identifier) l p.ids) p.unit
     (each item_ident p.ids End) (ids-read class.Parameter parameter-names p.ids s))
 
-else-over : (d : Class) (Other : Option UnitParts → Type 0) (o : Option UnitParts) (items : Items) → Lacks class.Parameter d items → Other o →
+else-over : (d : Class) (Other : Option UnitParts → Type 0) (o : Option UnitParts) (items : Items) →
+    Lacks class.Parameter d items → Other o →
     (start : ℕ) → ReadsElse (ReadsAsUnit d) (those class.Parameter d (at_places start items)) Other o
 else-over d Other o items g h start = subst (λ l. ReadsElse (ReadsAsUnit d) l Other o) (sym (g start)) h
 
@@ -89,28 +97,38 @@ module _ (laws : TextLaws) (name : List ℕ) (value : Value) (ids : List IdentPa
   abbrev with-unit : Option UnitParts → Items
   with-unit o = parameter-items name value (opt item_unit o (each item_ident ids End))
 
-  no-unit : (d : Class) → is_class d (Some class.Text) ≡ false → is_class d (Some class.Number) ≡ false → is_class d (Some class.Identifier) ≡ false →
+  no-unit : (d : Class) → is_class d (Some class.Text) ≡ false → is_class d (Some class.Number) ≡ false →
+      is_class d (Some class.Identifier) ≡ false →
       Lacks class.Parameter d (with-unit None)
   no-unit d t n i =
-      behind-value d t n (λ l. l ≡ []) name value (each item_ident ids End) (ids-over class.Parameter d parameter-names i (λ l. l ≡ []) ids refl)
+      behind-value d t n (λ l. l ≡ []) name value (each item_ident ids End)
+      (ids-over class.Parameter d parameter-names i (λ l. l ≡ []) ids refl)
 
-  other-unit : (d : Class) → is_class d (Some class.Text) ≡ false → is_class d (Some class.Number) ≡ false → is_class d (Some class.Identifier) ≡ false →
-      (u : UnitParts) (k : UnitKind) → u.kind ≡ k → is_class d (Some (class-as k)) ≡ false → Lacks class.Parameter d (with-unit (Some u))
+  other-unit : (d : Class) → is_class d (Some class.Text) ≡ false → is_class d (Some class.Number) ≡ false →
+      is_class d (Some class.Identifier) ≡ false →
+      (u : UnitParts) (k : UnitKind) → u.kind ≡ k → is_class d (Some (class-as k)) ≡ false → Lacks class.Parameter d
+      (with-unit (Some u))
   other-unit d t n i u k e h =
       behind-value d t n (λ l. l ≡ []) name value (More (item_unit u) (each item_ident ids End))
       (gives-over class.Parameter d (λ l. l ≡ []) (item_unit u) (each item_ident ids End) (unit-is d false u k e h)
       (ids-over class.Parameter d parameter-names i (λ l. l ≡ []) ids refl))
 
-  this-unit : (d : Class) (Other : Option UnitParts → Type 0) → is_class d (Some class.Text) ≡ false → is_class d (Some class.Number) ≡ false → NamesId d →
+  this-unit : (d : Class) (Other : Option UnitParts → Type 0) → is_class d (Some class.Text) ≡ false →
+      is_class d (Some class.Number) ≡ false → NamesId d →
       (u : UnitParts) → IsUnit u → (k : UnitKind) → u.kind ≡ k → is_class d (Some (class-as k)) ≡ true →
       Gives class.Parameter d (λ l. ReadsElse (ReadsAsUnit d) l Other (Some u)) (with-unit (Some u))
   this-unit d Other t n names u s k e h =
-      behind-value d t n (λ l. ReadsElse (ReadsAsUnit d) l Other (Some u)) name value (More (item_unit u) (each item_ident ids End))
-      (gives-first class.Parameter d (λ l. ReadsElse (ReadsAsUnit d) l Other (Some u)) (item_unit u) (each item_ident ids End) (unit-is d true u k e h)
+      behind-value d t n (λ l. ReadsElse (ReadsAsUnit d) l Other (Some u)) name value
+      (More (item_unit u) (each item_ident ids End))
+      (gives-first class.Parameter d (λ l. ReadsElse (ReadsAsUnit d) l Other (Some u)) (item_unit u)
+      (each item_ident ids End) (unit-is d true u k e h)
       (λ place start. unit-read laws d names u s place))
 
   abbrev whole : Option UnitParts → ℕ → Item
-  whole o place = at_place place (node_of (codes "PARAMETER") (text_item name) (More (number_item value) (opt item_unit o (each item_ident ids End))))
+  whole o place =
+      at_place place
+      (node_of (codes "PARAMETER") (text_item name)
+      (More (number_item value) (opt item_unit o (each item_ident ids End))))
 
   -- the readings that follow those of the classes before
   abbrev From : List Class → Option UnitParts → ℕ → Option UnitParts → Type 0
@@ -132,44 +150,60 @@ module _ (laws : TextLaws) (name : List ℕ) (value : Value) (ids : List IdentPa
   unfolding class_named is_keyword
   scale-names = refl
 
-  some-read : (u : UnitParts) → IsUnit u → (place : ℕ) (k : UnitKind) → u.kind ≡ k → ReadsUnitOf parameter_units class.Parameter (whole (Some u) place) (Some u)
+  some-read : (u : UnitParts) → IsUnit u → (place : ℕ) (k : UnitKind) → u.kind ≡ k →
+      ReadsUnitOf parameter_units class.Parameter (whole (Some u) place) (Some u)
   some-read u s place kinds.Plain e =
-      this-unit class.PlainUnit (From (class.LengthUnit ∷ class.AngleUnit ∷ class.ScaleUnit ∷ []) (Some u) place) refl refl plain-names u s kinds.Plain e refl
+      this-unit class.PlainUnit (From (class.LengthUnit ∷ class.AngleUnit ∷ class.ScaleUnit ∷ []) (Some u) place) refl
+      refl plain-names u s kinds.Plain e refl
       (place + 9)
   some-read u s place kinds.Length e =
-      else-over class.PlainUnit (From (class.LengthUnit ∷ class.AngleUnit ∷ class.ScaleUnit ∷ []) (Some u) place) (Some u) (with-unit (Some u))
+      else-over class.PlainUnit (From (class.LengthUnit ∷ class.AngleUnit ∷ class.ScaleUnit ∷ []) (Some u) place)
+      (Some u) (with-unit (Some u))
       (other-unit class.PlainUnit refl refl refl u kinds.Length e refl)
-      (this-unit class.LengthUnit (From (class.AngleUnit ∷ class.ScaleUnit ∷ []) (Some u) place) refl refl length-names u s kinds.Length e refl (place + 9))
+      (this-unit class.LengthUnit (From (class.AngleUnit ∷ class.ScaleUnit ∷ []) (Some u) place) refl refl length-names
+      u s kinds.Length e refl (place + 9))
       (place + 9)
   some-read u s place kinds.Angle e =
-      else-over class.PlainUnit (From (class.LengthUnit ∷ class.AngleUnit ∷ class.ScaleUnit ∷ []) (Some u) place) (Some u) (with-unit (Some u))
+      else-over class.PlainUnit (From (class.LengthUnit ∷ class.AngleUnit ∷ class.ScaleUnit ∷ []) (Some u) place)
+      (Some u) (with-unit (Some u))
       (other-unit class.PlainUnit refl refl refl u kinds.Angle e refl)
-      (else-over class.LengthUnit (From (class.AngleUnit ∷ class.ScaleUnit ∷ []) (Some u) place) (Some u) (with-unit (Some u))
+      (else-over class.LengthUnit (From (class.AngleUnit ∷ class.ScaleUnit ∷ []) (Some u) place) (Some u)
+      (with-unit (Some u))
       (other-unit class.LengthUnit refl refl refl u kinds.Angle e refl)
-      (this-unit class.AngleUnit (From (class.ScaleUnit ∷ []) (Some u) place) refl refl angle-names u s kinds.Angle e refl (place + 9)) (place + 9))
+      (this-unit class.AngleUnit (From (class.ScaleUnit ∷ []) (Some u) place) refl refl angle-names u s kinds.Angle e
+      refl (place + 9)) (place + 9))
       (place + 9)
   some-read u s place kinds.Scale e =
-      else-over class.PlainUnit (From (class.LengthUnit ∷ class.AngleUnit ∷ class.ScaleUnit ∷ []) (Some u) place) (Some u) (with-unit (Some u))
+      else-over class.PlainUnit (From (class.LengthUnit ∷ class.AngleUnit ∷ class.ScaleUnit ∷ []) (Some u) place)
+      (Some u) (with-unit (Some u))
       (other-unit class.PlainUnit refl refl refl u kinds.Scale e refl)
-      (else-over class.LengthUnit (From (class.AngleUnit ∷ class.ScaleUnit ∷ []) (Some u) place) (Some u) (with-unit (Some u))
+      (else-over class.LengthUnit (From (class.AngleUnit ∷ class.ScaleUnit ∷ []) (Some u) place) (Some u)
+      (with-unit (Some u))
       (other-unit class.LengthUnit refl refl refl u kinds.Scale e refl)
       (else-over class.AngleUnit (From (class.ScaleUnit ∷ []) (Some u) place) (Some u) (with-unit (Some u))
       (other-unit class.AngleUnit refl refl refl u kinds.Scale e refl)
-      (this-unit class.ScaleUnit (From [] (Some u) place) refl refl scale-names u s kinds.Scale e refl (place + 9)) (place + 9)) (place + 9)) (place + 9)
+      (this-unit class.ScaleUnit (From [] (Some u) place) refl refl scale-names u s kinds.Scale e refl (place + 9))
+      (place + 9)) (place + 9)) (place + 9)
 
-  unit-of : (o : Option UnitParts) → IfSome o IsUnit → (place : ℕ) → ReadsUnitOf parameter_units class.Parameter (whole o place) o
+  unit-of : (o : Option UnitParts) → IfSome o IsUnit → (place : ℕ) →
+      ReadsUnitOf parameter_units class.Parameter (whole o place) o
   unit-of None s place =
-      else-over class.PlainUnit (From (class.LengthUnit ∷ class.AngleUnit ∷ class.ScaleUnit ∷ []) None place) None (with-unit None)
+      else-over class.PlainUnit (From (class.LengthUnit ∷ class.AngleUnit ∷ class.ScaleUnit ∷ []) None place) None
+      (with-unit None)
       (no-unit class.PlainUnit refl refl refl)
-      (else-over class.LengthUnit (From (class.AngleUnit ∷ class.ScaleUnit ∷ []) None place) None (with-unit None) (no-unit class.LengthUnit refl refl refl)
-      (else-over class.AngleUnit (From (class.ScaleUnit ∷ []) None place) None (with-unit None) (no-unit class.AngleUnit refl refl refl)
-      (else-over class.ScaleUnit (From [] None place) None (with-unit None) (no-unit class.ScaleUnit refl refl refl) tt (place + 9)) (place + 9)) (place + 9))
+      (else-over class.LengthUnit (From (class.AngleUnit ∷ class.ScaleUnit ∷ []) None place) None (with-unit None)
+      (no-unit class.LengthUnit refl refl refl)
+      (else-over class.AngleUnit (From (class.ScaleUnit ∷ []) None place) None (with-unit None)
+      (no-unit class.AngleUnit refl refl refl)
+      (else-over class.ScaleUnit (From [] None place) None (with-unit None) (no-unit class.ScaleUnit refl refl refl) tt
+      (place + 9)) (place + 9)) (place + 9))
       (place + 9)
   unit-of (Some u) s place = some-read u s place u.kind refl
 
 -- ---- a parameter
 
-pub parameter-read : TextLaws → (p : ParameterParts) → IsParameter p → (place : ℕ) → ReadsParameter class.Parameter (at_place place (item_parameter p)) p
+pub parameter-read : TextLaws → (p : ParameterParts) → IsParameter p → (place : ℕ) →
+    ReadsParameter class.Parameter (at_place place (item_parameter p)) p
 parameter-read laws p s place = record {
   name = refl;
   value = number-read laws p.value s.value 0;
@@ -179,12 +213,16 @@ parameter-read laws p s place = record {
 
 pub parameter-fit : TextLaws → (p : ParameterParts) → IsParameter p → IsFit 4 (item_parameter p)
 parameter-fit laws p s =
-    fit-node 3 (codes "PARAMETER") (text_item p.name) (More (number_item p.value) (opt item_unit p.unit (each item_ident p.ids End))) (refl, refl)
+    fit-node 3 (codes "PARAMETER") (text_item p.name)
+    (More (number_item p.value) (opt item_unit p.unit (each item_ident p.ids End))) (refl, refl)
     (text-fit 3 p.name s.name)
-    (fit-more 3 (number_item p.value) (opt item_unit p.unit (each item_ident p.ids End)) (value-fit laws 3 p.value s.value)
-    (fit-opt 3 item_unit IsUnit (unit-fit laws) p.unit (each item_ident p.ids End) s.unit (ids-fit laws 3 (omega arith) p.ids s.ids)))
+    (fit-more 3 (number_item p.value) (opt item_unit p.unit (each item_ident p.ids End))
+    (value-fit laws 3 p.value s.value)
+    (fit-opt 3 item_unit IsUnit (unit-fit laws) p.unit (each item_ident p.ids End) s.unit
+    (ids-fit laws 3 (omega arith) p.ids s.ids)))
 
-pub units-kept : (level : Level) (asked : UnitKind) (o : Option UnitParts) → IfSome o IsUnit → IfSome (norm_units level asked o) IsUnit
+pub units-kept : (level : Level) (asked : UnitKind) (o : Option UnitParts) → IfSome o IsUnit →
+    IfSome (norm_units level asked o) IsUnit
 units-kept level asked None s = s
 units-kept level asked (Some u) s = unit-kept level asked u s
 
@@ -197,7 +235,8 @@ parameter-kept level p s = record {
 }
 
 abbrev pub ReadsParameterOnce : Type 0
-ReadsParameterOnce = (c : Class) (item : Item) (a b : ParameterParts) → ReadsParameter c item a → ReadsParameter c item b → a ≡ b
+ReadsParameterOnce =
+    (c : Class) (item : Item) (a b : ParameterParts) → ReadsParameter c item a → ReadsParameter c item b → a ≡ b
 
 pub parameter-told : TextLaws → ReadsParameterOnce → (a b : ParameterParts) → IsParameter a → IsParameter b →
     item_text (item_parameter a) ≡ item_text (item_parameter b) → a ≡ b
@@ -223,9 +262,12 @@ parameter-agrees laws once level a b p q =
       λ s. λ i. parameter-made (s.name i) (values.1 s.value i) (units.1 s.unit i) (ids.1 s.ids i),
     )
 
-pub parameters-agree : TextLaws → ReadsIdentOnce → ReadsParameterOnce → (level : Level) (xs ys : List ParameterParts) → Each IsParameter xs → Each IsParameter ys →
+pub parameters-agree : TextLaws → ReadsIdentOnce → ReadsParameterOnce → (level : Level) (xs ys : List ParameterParts) →
+    Each IsParameter xs → Each IsParameter ys →
     (set_parameters level xs ≡ set_parameters level ys) ↔ SameSet (SameParameter level) xs ys
 unfolding set_parameters
 parameters-agree laws idents once level xs ys p q =
-    set-agrees (norm_parameter level) (λ x. item_text (item_parameter x)) IsParameter (SameParameter level) (parameter-agrees laws idents level)
-    (λ a b s t. parameter-told laws once (norm_parameter level a) (norm_parameter level b) (parameter-kept level a s) (parameter-kept level b t)) xs ys p q
+    set-agrees (norm_parameter level) (λ x. item_text (item_parameter x)) IsParameter (SameParameter level)
+    (parameter-agrees laws idents level)
+    (λ a b s t. parameter-told laws once (norm_parameter level a) (norm_parameter level b) (parameter-kept level a s)
+    (parameter-kept level b t)) xs ys p q

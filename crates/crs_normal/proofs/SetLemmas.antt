@@ -36,7 +36,8 @@ below-both a b p q = below-self a (nat_list_cmp_total.trans a b a p q)
 above : (a b : List ℕ) → slice_cmp nat_cmp a b ≡ Greater → Below b a
 above a b e = nat_list_cmp_total.antisymm b a ∙ ap ordering_reverse e
 
-by-order : {X : Type 0} (P : X → Type 0) (a b c : X) (o : Ordering) → (o ≡ Less → P a) → (o ≡ Equal → P b) → (o ≡ Greater → P c) →
+by-order : {X : Type 0} (P : X → Type 0) (a b c : X) (o : Ordering) → (o ≡ Less → P a) → (o ≡ Equal → P b) →
+    (o ≡ Greater → P c) →
     P (match_ordering o a b c)
 by-order P a b c Less f g h = f refl
 by-order P a b c Equal f g h = g refl
@@ -57,21 +58,25 @@ module _ {A : Type 0} (bytes : A → List ℕ) where
   has-old : (x z : A) (ys : List A) → Has z ys → Has z (put bytes x ys)
   has-old x z [] h = absurd h
   has-old x z (y ∷ ys) h =
-      by-order (Has z) (x ∷ y ∷ ys) (y ∷ ys) (y ∷ put bytes x ys) (slice_cmp nat_cmp (bytes x) (bytes y)) (λ e. inr h) (λ e. h)
+      by-order (Has z) (x ∷ y ∷ ys) (y ∷ ys) (y ∷ put bytes x ys) (slice_cmp nat_cmp (bytes x) (bytes y)) (λ e. inr h)
+      (λ e. h)
       (λ e. ⊎_elim (λ q. inl q) (λ t. inr (has-old x z ys t)) h)
 
   has-back : (x z : A) (ys : List A) → Has z (put bytes x ys) → (z ≡ x) ⊎ Has z ys
   has-back x z [] h = h
   has-back x z (y ∷ ys) h =
-      by-order (λ l. Has z l → (z ≡ x) ⊎ Has z (y ∷ ys)) (x ∷ y ∷ ys) (y ∷ ys) (y ∷ put bytes x ys) (slice_cmp nat_cmp (bytes x) (bytes y))
+      by-order (λ l. Has z l → (z ≡ x) ⊎ Has z (y ∷ ys)) (x ∷ y ∷ ys) (y ∷ ys) (y ∷ put bytes x ys)
+      (slice_cmp nat_cmp (bytes x) (bytes y))
       (λ e p. p) (λ e p. inr p)
       (λ e p. ⊎_elim (λ q. inr (inl q)) (λ t. ⊎_elim (λ q. inl q) (λ u. inr (inr u)) (has-back x z ys t)) p) h
 
   has-new : (x : A) (ys : List A) → ((y : A) → Has y ys → bytes x ≡ bytes y → x ≡ y) → Has x (put bytes x ys)
   has-new x [] tells = inl refl
   has-new x (y ∷ ys) tells =
-      by-order (Has x) (x ∷ y ∷ ys) (y ∷ ys) (y ∷ put bytes x ys) (slice_cmp nat_cmp (bytes x) (bytes y)) (λ e. inl refl)
-      (λ e. inl (tells y (inl refl) (exact_bytes (bytes x) (bytes y) e))) (λ e. inr (has-new x ys (λ z h. tells z (inr h))))
+      by-order (Has x) (x ∷ y ∷ ys) (y ∷ ys) (y ∷ put bytes x ys) (slice_cmp nat_cmp (bytes x) (bytes y))
+      (λ e. inl refl)
+      (λ e. inl (tells y (inl refl) (exact_bytes (bytes x) (bytes y) e)))
+      (λ e. inr (has-new x ys (λ z h. tells z (inr h))))
 
   each-put : (P : A → Type 0) (x : A) (ys : List A) → P x → Each P ys → Each P (put bytes x ys)
   each-put P x ys p h =
@@ -85,7 +90,8 @@ module _ {A : Type 0} (bytes : A → List ℕ) where
         (
           e,
           each-of (λ z. Below (bytes x) (bytes z)) ys
-              (λ z q. nat_list_cmp_total.trans (bytes x) (bytes y) (bytes z) e (each-has (λ w. Below (bytes y) (bytes w)) ys z h.0 q)),
+              (λ z q. nat_list_cmp_total.trans (bytes x) (bytes y) (bytes z) e
+              (each-has (λ w. Below (bytes y) (bytes w)) ys z h.0 q)),
         ),
         h,
       )) (λ e. h)
@@ -102,18 +108,22 @@ module _ {A : Type 0} (bytes : A → List ℕ) where
   all-back : (z : A) (sorted xs : List A) → Has z (put_all bytes sorted xs) → Has z sorted ⊎ Has z xs
   all-back z sorted [] h = inl h
   all-back z sorted (x ∷ xs) h =
-      ⊎_elim (λ q. ⊎_elim (λ e. inr (inl e)) (λ t. inl t) (has-back x z sorted q)) (λ t. inr (inr t)) (all-back z (put bytes x sorted) xs h)
+      ⊎_elim (λ q. ⊎_elim (λ e. inr (inl e)) (λ t. inl t) (has-back x z sorted q)) (λ t. inr (inr t))
+      (all-back z (put bytes x sorted) xs h)
 
   -- of members of this kind, equal bytes are of equal ones
   abbrev pub Tells : (A → Type 0) → Type 0
   Tells P = (a b : A) → P a → P b → bytes a ≡ bytes b → a ≡ b
 
-  all-new : (P : A → Type 0) → Tells P → (z : A) (sorted xs : List A) → Each P sorted → Each P xs → Has z xs → Has z (put_all bytes sorted xs)
+  all-new : (P : A → Type 0) → Tells P → (z : A) (sorted xs : List A) → Each P sorted → Each P xs → Has z xs →
+      Has z (put_all bytes sorted xs)
   all-new P tells z sorted [] s h q = absurd q
   all-new P tells z sorted (x ∷ xs) s h (inl e) =
       all-old z (put bytes x sorted) xs
-      (subst (λ w. Has w (put bytes x sorted)) (sym e) (has-new x sorted (λ y q. tells x y h.0 (each-has P sorted y s q))))
-  all-new P tells z sorted (x ∷ xs) s h (inr q) = all-new P tells z (put bytes x sorted) xs (each-put P x sorted h.0 s) h.1 q
+      (subst (λ w. Has w (put bytes x sorted)) (sym e)
+      (has-new x sorted (λ y q. tells x y h.0 (each-has P sorted y s q))))
+  all-new P tells z sorted (x ∷ xs) s h (inr q) =
+      all-new P tells z (put bytes x sorted) xs (each-put P x sorted h.0 s) h.1 q
 
   -- ---- lists in order
 
@@ -123,41 +133,53 @@ module _ {A : Type 0} (bytes : A → List ℕ) where
   pub in_order-back : (z : A) (xs : List A) → Has z (in_order bytes xs) → Has z xs
   in_order-back z xs h = ⊎_elim (λ q. absurd q) (λ t. t) (all-back z [] xs h)
 
-  pub in_order-has : (P : A → Type 0) → Tells P → (z : A) (xs : List A) → Each P xs → Has z xs → Has z (in_order bytes xs)
+  pub in_order-has : (P : A → Type 0) → Tells P → (z : A) (xs : List A) → Each P xs → Has z xs →
+      Has z (in_order bytes xs)
   in_order-has P tells z xs h q = all-new P tells z [] xs tt h q
 
   pub each-in_order : (P : A → Type 0) (xs : List A) → Each P xs → Each P (in_order bytes xs)
   each-in_order P xs h = each-of P (in_order bytes xs) (λ z q. each-has P xs z h (in_order-back z xs q))
 
   -- lists that ascend and have the same members are equal
-  pub ascending-one : (xs ys : List A) → Ascends bytes xs → Ascends bytes ys → ((z : A) → Has z xs → Has z ys) → ((z : A) → Has z ys → Has z xs) →
+  pub ascending-one : (xs ys : List A) → Ascends bytes xs → Ascends bytes ys → ((z : A) → Has z xs → Has z ys) →
+      ((z : A) → Has z ys → Has z xs) →
       xs ≡ ys
   ascending-one [] [] a b f g = refl
   ascending-one [] (y ∷ ys) a b f g = absurd (g y (inl refl))
   ascending-one (x ∷ xs) [] a b f g = absurd (f x (inl refl))
   ascending-one (x ∷ xs) (y ∷ ys) a b f g =
       let h = head (f x (inl refl)) (g y (inl refl)) in
-      let t = ascending-one xs ys a.1 b.1 (λ z q. later x y xs ys z a.0 h q (f z (inr q))) (λ z q. later y x ys xs z b.0 (sym h) q (g z (inr q))) in
+      let t = ascending-one xs ys a.1 b.1 (λ z q. later x y xs ys z a.0 h q (f z (inr q)))
+      (λ z q. later y x ys xs z b.0 (sym h) q (g z (inr q))) in
       λ i. h i ∷ t i
     where
       head : Has x (y ∷ ys) → Has y (x ∷ xs) → x ≡ y
       head (inl e) q = e
       head (inr p) (inl e) = sym e
       head (inr p) (inr q) =
-          absurd (below-both (bytes x) (bytes y) (each-has (λ z. Below (bytes x) (bytes z)) xs y a.0 q) (each-has (λ z. Below (bytes y) (bytes z)) ys x b.0 p))
+          absurd
+          (below-both (bytes x) (bytes y) (each-has (λ z. Below (bytes x) (bytes z)) xs y a.0 q)
+          (each-has (λ z. Below (bytes y) (bytes z)) ys x b.0 p))
 
-      later : (v w : A) (vs ws : List A) (z : A) → Each (λ u. Below (bytes v) (bytes u)) vs → v ≡ w → Has z vs → Has z (w ∷ ws) → Has z ws
+      later : (v w : A) (vs ws : List A) (z : A) → Each (λ u. Below (bytes v) (bytes u)) vs → v ≡ w → Has z vs →
+          Has z (w ∷ ws) → Has z ws
       later v w vs ws z s e q (inl p) =
-          absurd (below-self (bytes v) (subst (λ u. Below (bytes v) (bytes u)) (p ∙ sym e) (each-has (λ u. Below (bytes v) (bytes u)) vs z s q)))
+          absurd
+          (below-self (bytes v)
+          (subst (λ u. Below (bytes v) (bytes u)) (p ∙ sym e) (each-has (λ u. Below (bytes v) (bytes u)) vs z s q)))
       later v w vs ws z s e q (inr p) = p
 
   ascending-tells : (xs : List A) → Ascends bytes xs → Tells (λ z. Has z xs)
   ascending-tells [] s a b p q e = absurd p
   ascending-tells (x ∷ xs) s a b (inl p) (inl q) e = p ∙ sym q
   ascending-tells (x ∷ xs) s a b (inl p) (inr q) e =
-      absurd (below-self (bytes x) (subst (Below (bytes x)) (sym e ∙ ap bytes p) (each-has (λ u. Below (bytes x) (bytes u)) xs b s.0 q)))
+      absurd
+      (below-self (bytes x)
+      (subst (Below (bytes x)) (sym e ∙ ap bytes p) (each-has (λ u. Below (bytes x) (bytes u)) xs b s.0 q)))
   ascending-tells (x ∷ xs) s a b (inr p) (inl q) e =
-      absurd (below-self (bytes x) (subst (Below (bytes x)) (e ∙ ap bytes q) (each-has (λ u. Below (bytes x) (bytes u)) xs a s.0 p)))
+      absurd
+      (below-self (bytes x)
+      (subst (Below (bytes x)) (e ∙ ap bytes q) (each-has (λ u. Below (bytes x) (bytes u)) xs a s.0 p)))
   ascending-tells (x ∷ xs) s a b (inr p) (inr q) e = ascending-tells xs s.1 a b p q e
 
   -- what ascends is in order
@@ -187,12 +209,14 @@ module _ {V A : Type 0} (norm : V → A) (bytes : A → List ℕ) (Q : V → Typ
   has-from agree x (y ∷ ys) q h (inl s) = inl ((agree x y q h.0).1 s)
   has-from agree x (y ∷ ys) q h (inr p) = inr (has-from agree x ys q h.1 p)
 
-  all-to : Agrees → (xs ys : List V) → Each Q xs → Each Q ys → ((z : A) → Has z (map norm xs) → Has z (map norm ys)) → AllHaveSame Same xs ys
+  all-to : Agrees → (xs ys : List V) → Each Q xs → Each Q ys → ((z : A) → Has z (map norm xs) → Has z (map norm ys)) →
+      AllHaveSame Same xs ys
   all-to agree [] ys g h f = tt
   all-to agree (x ∷ xs) ys g h f =
       (has-to agree x ys g.0 h (f (norm x) (inl refl)), all-to agree xs ys g.1 h (λ z p. f z (inr p)))
 
-  all-from : Agrees → (xs ys : List V) → Each Q xs → Each Q ys → AllHaveSame Same xs ys → (z : A) → Has z (map norm xs) → Has z (map norm ys)
+  all-from : Agrees → (xs ys : List V) → Each Q xs → Each Q ys → AllHaveSame Same xs ys → (z : A) →
+      Has z (map norm xs) → Has z (map norm ys)
   all-from agree [] ys g h s z p = absurd p
   all-from agree (x ∷ xs) ys g h s z (inl e) = subst (λ w. Has w (map norm ys)) (sym e) (has-from agree x ys g.0 h s.0)
   all-from agree (x ∷ xs) ys g h s z (inr p) = all-from agree xs ys g.1 h s.1 z p
@@ -224,6 +248,7 @@ module _ {V A : Type 0} (norm : V → A) (bytes : A → List ℕ) (Q : V → Typ
       (in_order bytes (map norm xs) ≡ in_order bytes (map norm ys)) ↔ SameSet Same xs ys
   set-agrees agree tells xs ys g h = (
     λ e. (all-to agree xs ys g h (moved tells xs ys g e), all-to agree ys xs h g (moved tells ys xs h (sym e))),
-    λ s. ascending-one bytes (in_order bytes (map norm xs)) (in_order bytes (map norm ys)) (in_order-ascends bytes (map norm xs))
+    λ s. ascending-one bytes (in_order bytes (map norm xs)) (in_order bytes (map norm ys))
+        (in_order-ascends bytes (map norm xs))
         (in_order-ascends bytes (map norm ys)) (kept agree tells xs ys g h s.0) (kept agree tells ys xs h g s.1),
   )

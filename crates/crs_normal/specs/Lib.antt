@@ -1,4 +1,6 @@
 pub mod Decides
+pub mod Fit
+pub mod Flat
 pub mod LowerLaws
 pub mod Normal
 pub mod NormalOwn

@@ -24,7 +24,8 @@ pub fn spells_one()
     denotes_one();
 }
 
-/// An item is read as one identifier at most, whatever class it is asked to be, and so on. Profile.
+/// An item is read as one identifier at most, of whatever class it is; likewise the other members of sets, and the
+/// units and extents in them. Profile.
 pub fn members_read_once()
     ensures ident { (class : Class) (item : Item) (a b : IdentParts) →
         ReadsIdent class item a → ReadsIdent class item b → a ≡ b }

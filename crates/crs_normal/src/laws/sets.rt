@@ -1,22 +1,32 @@
 //! Sets: put in order, the one forms of the members are one list exactly where the sets are the same.
-ghost use Rattle.std.specs.Prelude.{◌≡◌, ◌↔◌, List};
+ghost use Rattle.std.specs.Prelude.{◌≡◌, ◌≤◌, ◌↔◌, ℕ, List, Some, codes};
+ghost use Rattle.crs_text.specs.Items.{Item, IsNode, depth};
+ghost use Rattle.crs_text.specs.Written.{AreFormed, SameItem, at_place, item_text};
+ghost use Rattle.crs_shape.specs.declared.class.Class.{Class};
+ghost use Rattle.crs_shape.specs.declared.class.Class.TheVariants as class;
+ghost use Rattle.crs_shape.specs.Slots.{class_named};
 ghost use Rattle.crs_value.specs.ConversionValues.{GeoidModelParts, ParameterParts};
 ghost use Rattle.crs_value.specs.declared.level.Level.{Level};
 ghost use Rattle.crs_value.specs.declared.level.Level.TheVariants as levels;
-ghost use Rattle.crs_value.specs.Sound.{Each, IsIdent};
+ghost use Rattle.crs_value.specs.declared.unit_kind.UnitKind.{UnitKind};
+ghost use Rattle.crs_value.specs.Reads.{ReadsExtent, ReadsIdent, ReadsMember, ReadsUnit, ReadsUsage};
+ghost use Rattle.crs_value.specs.ReadsConversion.{ReadsGeoidModel, ReadsParameter};
+ghost use Rattle.crs_value.specs.Sound.{Each, IsIdent, IsUnit};
 ghost use Rattle.crs_value.specs.SoundConversion.{IsGeoidModel, IsParameter};
 ghost use Rattle.crs_value.specs.SoundFrames.{IsMember};
-ghost use Rattle.crs_value.specs.SoundUsages.{IsUsage, SaysSome};
-ghost use Rattle.crs_value.specs.Values.{IdentParts, MemberParts, UsageParts};
+ghost use Rattle.crs_value.specs.SoundUsages.{IsExtent, IsUsage, SaysSome};
+ghost use Rattle.crs_value.specs.Values.{ExtentParts, IdentParts, MemberParts, UnitParts, UsageParts};
 ghost use Rattle.crs_same.specs.SameConversions.{SameGeoidModel, SameParameter};
 ghost use Rattle.crs_same.specs.SameFrames.{SameMember};
 ghost use Rattle.crs_same.specs.SameIdents.{SameIdents};
 ghost use Rattle.crs_same.specs.SameUsages.{SameUsage};
 ghost use Rattle.crs_same.specs.Sets.{SameSet};
-ghost use Rattle.crs_normal.specs.SpelledConversions.{set_geoid_models, set_parameters};
-ghost use Rattle.crs_normal.specs.SpelledFrames.{set_members};
-ghost use Rattle.crs_normal.specs.SpelledUnits.{set_idents};
-ghost use Rattle.crs_normal.specs.SpelledUsages.{set_usages};
+ghost use Rattle.crs_normal.specs.Fit.{IsFit};
+ghost use Rattle.crs_normal.specs.Flat.{flat};
+ghost use Rattle.crs_normal.specs.SpelledConversions.{item_geoid_model, item_parameter, norm_geoid_model, norm_parameter, set_geoid_models, set_parameters};
+ghost use Rattle.crs_normal.specs.SpelledFrames.{item_member, norm_member, set_members};
+ghost use Rattle.crs_normal.specs.SpelledUnits.{item_ident, item_unit, norm_unit, set_idents};
+ghost use Rattle.crs_normal.specs.SpelledUsages.{item_extent, item_usage, norm_extent, norm_usage, set_usages};
 ghost use Rattle.crs_normal.specs.TextLaws.{TextLaws};
 
 use crs_decimal::laws::{digits_alone, normal_is_one, plain_is_the_one, spelled_as_a_run};
@@ -76,6 +86,83 @@ pub fn same_usages_have_one_form()
     ensures { (xs ys : List UsageParts) → Each (λ usage. IsUsage usage × SaysSome usage) xs →
         Each (λ usage. IsUsage usage × SaysSome usage) ys →
         (set_usages levels.Full xs ≡ set_usages levels.Full ys) ↔ SameSet SameUsage xs ys }
+{
+    text_laws();
+    members_read_once();
+}
+
+/// Nodes that can be written, and whose written texts are equal, are equal but for places and delimiters. Profile.
+pub fn written_text_tells_the_item()
+    ensures { (i j : Item) → AreFormed i → IsNode i → depth i ≤ 12 → AreFormed j → IsNode j → depth j ≤ 12 →
+        item_text i ≡ item_text j → (at_place 0 i ≡ at_place 0 j) × SameItem i j × (flat i ≡ flat j) }
+{
+    text_laws();
+}
+
+/// The item of a member's one form reads as that form, wherever it stands in a text. Profile.
+pub fn members_are_read_back()
+    ensures identifier { (ident : IdentParts) (place : ℕ) → IsIdent ident →
+        ReadsIdent class.Identifier (at_place place (item_ident ident)) ident }
+
+    // A unit does in each class in which `ID` is an identifier.
+    ensures unit { (level : Level) (c : Class) (asked : UnitKind) (unit : UnitParts) (place : ℕ) →
+        class_named c (codes "ID") ≡ Some class.Identifier → IsUnit unit →
+        ReadsUnit c (at_place place (item_unit (norm_unit level asked unit))) (norm_unit level asked unit) }
+    ensures member { (level : Level) (member : MemberParts) (place : ℕ) → IsMember member →
+        ReadsMember class.Member (at_place place (item_member (norm_member level member))) (norm_member level member) }
+    ensures parameter { (level : Level) (parameter : ParameterParts) (place : ℕ) → IsParameter parameter →
+        ReadsParameter class.Parameter (at_place place (item_parameter (norm_parameter level parameter)))
+        (norm_parameter level parameter) }
+    ensures geoid_model { (level : Level) (model : GeoidModelParts) (place : ℕ) → IsGeoidModel model →
+        ReadsGeoidModel class.GeoidModel (at_place place (item_geoid_model (norm_geoid_model level model)))
+        (norm_geoid_model level model) }
+    ensures extent { (level : Level) (extent : ExtentParts) (place : ℕ) → IsExtent extent →
+        ReadsExtent class.VerticalExtent (at_place place (item_extent (norm_extent level extent)))
+        (norm_extent level extent) }
+    ensures usage { (usage : UsageParts) (place : ℕ) → IsUsage usage → SaysSome usage →
+        ReadsUsage class.Usage (at_place place (item_usage (norm_usage usage))) (norm_usage usage) }
+{
+    text_laws();
+}
+
+/// The item of a member's one form can be written: it is well formed, and nests no deeper than this. Profile.
+pub fn members_can_be_written()
+    ensures identifier { (ident : IdentParts) → IsIdent ident → IsFit 2 (item_ident ident) }
+    ensures unit { (level : Level) (asked : UnitKind) (unit : UnitParts) → IsUnit unit →
+        IsFit 3 (item_unit (norm_unit level asked unit)) }
+    ensures member { (level : Level) (member : MemberParts) → IsMember member →
+        IsFit 3 (item_member (norm_member level member)) }
+    ensures parameter { (level : Level) (parameter : ParameterParts) → IsParameter parameter →
+        IsFit 4 (item_parameter (norm_parameter level parameter)) }
+    ensures geoid_model { (level : Level) (model : GeoidModelParts) → IsGeoidModel model →
+        IsFit 3 (item_geoid_model (norm_geoid_model level model)) }
+    ensures extent { (level : Level) (extent : ExtentParts) → IsExtent extent →
+        IsFit 4 (item_extent (norm_extent level extent)) }
+    ensures usage { (usage : UsageParts) → IsUsage usage → SaysSome usage →
+        IsFit 5 (item_usage (norm_usage usage)) × IsNode (item_usage (norm_usage usage)) }
+{
+    text_laws();
+}
+
+/// Members of which the one forms have equal texts have equal forms. Profile.
+pub fn member_texts_tell_members()
+    ensures identifier { (a b : IdentParts) → IsIdent a → IsIdent b →
+        item_text (item_ident a) ≡ item_text (item_ident b) → a ≡ b }
+    ensures unit { (level : Level) (asked : UnitKind) (a b : UnitParts) → IsUnit a → IsUnit b →
+        item_text (item_unit (norm_unit level asked a)) ≡ item_text (item_unit (norm_unit level asked b)) →
+        norm_unit level asked a ≡ norm_unit level asked b }
+    ensures member { (level : Level) (a b : MemberParts) → IsMember a → IsMember b →
+        item_text (item_member (norm_member level a)) ≡ item_text (item_member (norm_member level b)) →
+        norm_member level a ≡ norm_member level b }
+    ensures parameter { (level : Level) (a b : ParameterParts) → IsParameter a → IsParameter b →
+        item_text (item_parameter (norm_parameter level a)) ≡ item_text (item_parameter (norm_parameter level b)) →
+        norm_parameter level a ≡ norm_parameter level b }
+    ensures geoid_model { (level : Level) (a b : GeoidModelParts) → IsGeoidModel a → IsGeoidModel b →
+        item_text (item_geoid_model (norm_geoid_model level a))
+        ≡ item_text (item_geoid_model (norm_geoid_model level b)) →
+        norm_geoid_model level a ≡ norm_geoid_model level b }
+    ensures usage { (a b : UsageParts) → IsUsage a → SaysSome a → IsUsage b → SaysSome b →
+        item_text (item_usage (norm_usage a)) ≡ item_text (item_usage (norm_usage b)) → norm_usage a ≡ norm_usage b }
 {
     text_laws();
     members_read_once();

@@ -1,0 +1,38 @@
+use Rattle.crs_normal.proofs.IdentLemmas.{ident-told}
+use Rattle.crs_normal.proofs.MemberLemmas.{geoid-kept, geoid-told, member-kept, member-told}
+use Rattle.crs_normal.proofs.MemberUnitLemmas.{unit-kept, unit-told}
+use Rattle.crs_normal.proofs.ParameterLemmas.{parameter-kept, parameter-told}
+use Rattle.crs_normal.proofs.UsageLemmas.{usage-kept, usage-told}
+use Rattle.crs_normal.specs.SpelledConversions.{norm_geoid_model, norm_parameter}
+use Rattle.crs_normal.specs.SpelledFrames.{norm_member}
+use Rattle.crs_normal.specs.SpelledUnits.{norm_unit}
+use Rattle.crs_normal.specs.SpelledUsages.{norm_usage}
+use Rattle.crs_normal.proofs.laws.sets.member_texts_tell_members.Goals as goal
+
+pub returns-clause-identifier : goal.returns-clause-identifier
+returns-clause-identifier c = ident-told c.text_laws.ensures c.members_read_once.ensures.ident
+
+pub returns-clause-unit : goal.returns-clause-unit
+returns-clause-unit c level asked a b p q =
+    unit-told c.text_laws.ensures c.members_read_once.ensures.unit (norm_unit level asked a) (norm_unit level asked b)
+    (unit-kept level asked a p) (unit-kept level asked b q)
+
+pub returns-clause-member : goal.returns-clause-member
+returns-clause-member c level a b p q =
+    member-told c.text_laws.ensures c.members_read_once.ensures.member (norm_member level a) (norm_member level b)
+    (member-kept level a p) (member-kept level b q)
+
+pub returns-clause-parameter : goal.returns-clause-parameter
+returns-clause-parameter c level a b p q =
+    parameter-told c.text_laws.ensures c.members_read_once.ensures.parameter (norm_parameter level a)
+    (norm_parameter level b) (parameter-kept level a p) (parameter-kept level b q)
+
+pub returns-clause-geoid_model : goal.returns-clause-geoid_model
+returns-clause-geoid_model c level a b p q =
+    geoid-told c.text_laws.ensures c.members_read_once.ensures.geoid_model (norm_geoid_model level a)
+    (norm_geoid_model level b) (geoid-kept level a p) (geoid-kept level b q)
+
+pub returns-clause-usage : goal.returns-clause-usage
+returns-clause-usage c a b p some q other =
+    usage-told c.text_laws.ensures c.members_read_once.ensures.usage (norm_usage a) (norm_usage b)
+    (usage-kept a (p, some)) (usage-kept b (q, other))

@@ -1,0 +1,7 @@
+-- Items that can be written: well formed, and nested no deeper than some number of delimiters.
+use Rattle.std.specs.Prelude.{◌≤◌, ℕ}
+use Rattle.crs_text.specs.Items.{Item, depth}
+use Rattle.crs_text.specs.Written.{AreFormed}
+
+abbrev pub IsFit : ℕ → Item → Type 0
+IsFit n item = AreFormed item × (depth item ≤ n)
