@@ -1,4 +1,5 @@
 pub mod Decides
+pub mod Examples
 pub mod Fit
 pub mod Flat
 pub mod LowerLaws

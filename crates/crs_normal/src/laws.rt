@@ -1,4 +1,5 @@
 //! Laws of the one form of values and of normal texts: calls that do nothing, and whose contracts are the laws.
 
+pub mod examples;
 pub mod sets;
 pub mod values;
