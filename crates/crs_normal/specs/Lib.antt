@@ -1,3 +1,4 @@
+pub mod Flat
 pub mod Normal
 pub mod NormalOwn
 pub mod Ordered

@@ -1,0 +1,12 @@
+-- Items without their places and kinds of delimiters: all places 0, all delimiters square, as canonical items have them.
+use Rattle.std.specs.Prelude.{true}
+use Rattle.crs_text.specs.Items.{Item, leaf, node, Items, End, More}
+
+abbrev mutual
+  pub flat : Item → Item
+  flat (leaf kind place raw) = leaf kind 0 raw
+  flat (node place keyword square first others close) = node 0 keyword true (flat first) (flats others) 0
+
+  pub flats : Items → Items
+  flats End = End
+  flats (More item items) = More (flat item) (flats items)
