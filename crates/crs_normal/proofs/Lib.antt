@@ -1,1 +1,3 @@
+pub mod AscendLemmas
+pub mod FormLemmas
 pub mod ViewLemmas
