@@ -1,3 +1,5 @@
 pub mod AscendLemmas
 pub mod FormLemmas
+pub mod IdentNormalLemmas
+pub mod LeafLemmas
 pub mod ViewLemmas

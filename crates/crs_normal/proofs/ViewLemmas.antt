@@ -31,6 +31,7 @@ flats-onto (item ∷ items) rest = ap (More (flat item)) (flats-onto items rest)
 pub record InSlot (c : Class) (slot : SlotParts) (item : Item) : Type 0 where
   pub at : Class
   pub named : class_in c item ≡ Some at
+  pub shaped : Shaped at item
   pub taken : takes slot at ≡ true
 
 pub record Front (c : Class) (slot : SlotParts) (front : List Item) : Type 0 where
@@ -63,7 +64,7 @@ cut c slot (d ∷ run) after (More item items) taken shaped =
       front = item ∷ r.front;
       rest = r.rest;
       are = ap (More item) r.are;
-      inside = (record { at = d; named = shaped.0; taken = taken.0 }, r.inside);
+      inside = (record { at = d; named = shaped.0; shaped = shaped.1.0; taken = taken.0 }, r.inside);
       many = ap suc r.many;
       shaped = r.shaped;
     }
@@ -105,6 +106,14 @@ pub flats-spread : (c : Class) (slots : List SlotParts) (items : Items) (v : Vie
 flats-spread c [] items v = ap flats v
 flats-spread c (slot ∷ slots) items v =
     ap flats v.1.1.1.0 ∙ flats-onto v.0 v.1.0 ∙ ap (flats_onto v.0) (flats-spread c slots v.1.0 v.1.1.1.1)
+
+abbrev pub rebuilt : (c : Class) (slots : List SlotParts) (items : Items) → View c slots items → Items
+rebuilt c [] items v = End
+rebuilt c (slot ∷ slots) items v = onto v.0 (rebuilt c slots v.1.0 v.1.1.1.1)
+
+pub items-rebuilt : (c : Class) (slots : List SlotParts) (items : Items) (v : View c slots items) → items ≡ rebuilt c slots items v
+items-rebuilt c [] items v = v
+items-rebuilt c (slot ∷ slots) items v = v.1.1.1.0 ∙ ap (onto v.0) (items-rebuilt c slots v.1.0 v.1.1.1.1)
 
 -- ---- those of a class
 
@@ -175,11 +184,11 @@ not-of c d slot none item s =
     clash : takes slot d ≡ true → ⊥
     clash h = let k : true ≡ false = sym h ∙ none in cc
 
-or-false : (b : Bool) → (b || false) ≡ true → b ≡ true
+pub or-false : (b : Bool) → (b || false) ≡ true → b ≡ true
 or-false true h = refl
 or-false false h = h
 
-of-one : (c d e : Class) (slot : SlotParts) → slot.classes ≡ e ∷ [] → takes slot d ≡ true → (item : Item) → InSlot c slot item → is_a c d item ≡ true
+pub of-one : (c d e : Class) (slot : SlotParts) → slot.classes ≡ e ∷ [] → takes slot d ≡ true → (item : Item) → InSlot c slot item → is_a c d item ≡ true
 of-one c d e slot one h item s =
     let listed = λ (x : Class). ap (λ (es : List Class). list_any (λ y. sameb the_type y x) es) one in
     let f = or-false (sameb the_type e d) (sym (listed d) ∙ h) in
@@ -210,3 +219,9 @@ those-looked c d [] items v = ap (those c d) v
 those-looked c d (slot ∷ slots) items v =
     ap (those c d) v.1.1.1.0 ∙ those-picked c d slot v.0 v.1.0 v.1.1.0
     ∙ ap (picked c d slot v.0) (those-looked c d slots v.1.0 v.1.1.1.1)
+
+-- the item in a slot for one
+pub alone : {c : Class} {slot : SlotParts} (front : List Item) → Front c slot front → IsTrue slot.required → IsFalse slot.many → (item : Item) × (front ≡ item ∷ [])
+alone [] f required single = let h = f.enough required in absurd (omega arith)
+alone (item ∷ []) f required single = (item, refl)
+alone (item ∷ other ∷ others) f required single = let h = f.not_more single in absurd (omega arith)
