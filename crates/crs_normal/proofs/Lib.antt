@@ -1,7 +1,9 @@
 pub mod AscendLemmas
+pub mod EllipsoidNormalLemmas
 pub mod FormLemmas
 pub mod IdentNormalLemmas
 pub mod LeafLemmas
+pub mod PairLemmas
 pub mod UnitNormalLemmas
 pub mod ViewLemmas
 pub mod WordFormLemmas
