@@ -54,9 +54,9 @@ ellipsoid-form law level c (node place keyword square first others close) x good
 -- zero has one normal value
 no-digits : (n : Bool) (p : ℤ) → is_normal (record { negative = n; digits = 0; power = p }) ≡ true →
     ◌≡◌ {A = Value} (record { negative = n; digits = 0; power = p }) zero
-no-digits true p h = let k : false ≡ true = (and_parts _ _ h).1 in absurd (cc)
+no-digits true p h = let k : false ≡ true = (and_parts (true && is_power p) false h).1 in absurd (cc)
 no-digits false (pos n) h = ap (λ (m : ℕ). record { negative = false; digits = 0; power = pos m }) (eqb-true n 0 (and_parts _ _ h).1)
-no-digits false (negsuc n) h = let k : false ≡ true = (and_parts _ _ h).1 in absurd (cc)
+no-digits false (negsuc n) h = let k : false ≡ true = (and_parts (true && is_power (negsuc n)) false h).1 in absurd (cc)
 
 zero-is : (v : Value) → IsNormal v → is_zero v ≡ true → v ≡ zero
 zero-is v normal e =

@@ -3,6 +3,7 @@ pub mod EllipsoidNormalLemmas
 pub mod FormLemmas
 pub mod IdentNormalLemmas
 pub mod LeafLemmas
+pub mod NamedNormalLemmas
 pub mod PairLemmas
 pub mod UnitNormalLemmas
 pub mod ViewLemmas
