@@ -6,5 +6,6 @@ pub mod LeafLemmas
 pub mod NamedNormalLemmas
 pub mod PairLemmas
 pub mod UnitNormalLemmas
+pub mod UsageNormalLemmas
 pub mod ViewLemmas
 pub mod WordFormLemmas
