@@ -1,6 +1,7 @@
 pub mod Flat
 pub mod Normal
 pub mod NormalOwn
+pub mod OneForm
 pub mod Ordered
 pub mod SpelledConversions
 pub mod SpelledCrs
