@@ -1,6 +1,8 @@
 pub mod AscendLemmas
+pub mod CheckedLemmas
 pub mod EllipsoidNormalLemmas
 pub mod FormLemmas
+pub mod FrameNormalLemmas
 pub mod IdentNormalLemmas
 pub mod LeafLemmas
 pub mod NamedNormalLemmas
