@@ -39,7 +39,7 @@ single-vertical_anchor : (keyword : List ℕ) (place : ℕ) (square : Bool) (fir
 unfolding Own
 single-vertical_anchor keyword place square first others close free = once-only _ (λ fault b. free fault (inl b))
 
-none-read : {V : Type 0} (R : Item → V → Type 0) (found : List Item) → found ≡ [] → (value : Option V) → ReadsOptional R found value → value ≡ None
+pub none-read : {V : Type 0} (R : Item → V → Type 0) (found : List Item) → found ≡ [] → (value : Option V) → ReadsOptional R found value → value ≡ None
 none-read R found e None reads = refl
 none-read R found e (Some v) reads = absurd (subst (λ (xs : List Item). ReadsOptional R xs (Some v)) e reads)
 

@@ -1,6 +1,7 @@
 pub mod AscendLemmas
 pub mod CheckedLemmas
 pub mod EllipsoidNormalLemmas
+pub mod EnsembleNormalLemmas
 pub mod FormLemmas
 pub mod FrameNormalLemmas
 pub mod IdentNormalLemmas
