@@ -1,4 +1,5 @@
 pub mod AscendLemmas
+pub mod AxisNormalLemmas
 pub mod CheckedLemmas
 pub mod EllipsoidNormalLemmas
 pub mod EnsembleNormalLemmas
