@@ -9,6 +9,9 @@ pub mod IdentNormalLemmas
 pub mod LeafLemmas
 pub mod NamedNormalLemmas
 pub mod PairLemmas
+pub mod RankLemmas
+pub mod SystemNormalLemmas
+pub mod TailNormalLemmas
 pub mod UnitNormalLemmas
 pub mod UsageNormalLemmas
 pub mod ViewLemmas
