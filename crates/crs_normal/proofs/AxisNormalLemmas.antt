@@ -15,6 +15,7 @@ use Rattle.crs_value.specs.Reads.{ReadsAxis, ReadsAxisMeridian, ReadsDirection, 
 use Rattle.crs_value.specs.Values.{AxisMeridianParts, AxisParts, SystemParts, UnitParts}
 use Rattle.crs_value.specs.Words.{SpellsWord, direction_word, system_word}
 use Rattle.crs_value.specs.declared.level.Level.{Level}
+use Rattle.crs_value.specs.declared.system_type.SystemType.{SystemType}
 use Rattle.crs_value.specs.declared.unit_kind.UnitKind.{UnitKind}
 use Rattle.crs_value.specs.declared.unit_kind.UnitKind.TheVariants as kinds
 use Rattle.crs_same.specs.SameSystems.{own_or}
@@ -45,11 +46,14 @@ direction-form level item value good reads =
     let one = direction-one w.0 value (subst (λ (bytes : List ℕ). SpellsWord bytes (direction_word value)) w.1 reads) in
     flat-word-leaf item good.shaped ∙ ap word_item (w.1 ∙ ap direction_word one)
 
-pub type-form : (level : Level) → Form level class.CoordinateSystem class.Word ReadsType (λ t. word_item (system_word t))
-type-form level item value good reads =
+pub type-raw : (level : Level) (item : Item) (value : SystemType) → IsGood level class.CoordinateSystem class.Word item → ReadsType item value →
+    raw_of item ≡ system_word value
+type-raw level item value good reads =
     let w = word-normal level class.CoordinateSystem item good.shaped good.normal in
-    let one = type-one w.0 value (subst (λ (bytes : List ℕ). SpellsWord bytes (system_word value)) w.1 reads) in
-    flat-word-leaf item good.shaped ∙ ap word_item (w.1 ∙ ap system_word one)
+    w.1 ∙ ap system_word (type-one w.0 value (subst (λ (bytes : List ℕ). SpellsWord bytes (system_word value)) w.1 reads))
+
+pub type-form : (level : Level) → Form level class.CoordinateSystem class.Word ReadsType (λ t. word_item (system_word t))
+type-form level item value good reads = flat-word-leaf item good.shaped ∙ ap word_item (type-raw level item value good reads)
 
 -- ---- the meridian of an axis
 
