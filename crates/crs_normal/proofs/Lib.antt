@@ -5,6 +5,7 @@ pub mod EllipsoidNormalLemmas
 pub mod EnsembleNormalLemmas
 pub mod FormLemmas
 pub mod FrameNormalLemmas
+pub mod GeodeticNormalLemmas
 pub mod HeadLemmas
 pub mod IdentNormalLemmas
 pub mod LeafLemmas

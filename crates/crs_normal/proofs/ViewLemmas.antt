@@ -225,3 +225,7 @@ pub alone : {c : Class} {slot : SlotParts} (front : List Item) → Front c slot 
 alone [] f required single = let h = f.enough required in absurd (omega arith)
 alone (item ∷ []) f required single = (item, refl)
 alone (item ∷ other ∷ others) f required single = let h = f.not_more single in absurd (omega arith)
+
+-- a slot that doesn't take a class has none of it
+pub slot-lacks : (c d : Class) (slot : SlotParts) (front : List Item) → takes slot d ≡ false → Front c slot front → those c d (onto front End) ≡ []
+slot-lacks c d slot front none f = none-those c d front (each-so (InSlot c slot) (λ i. is_a c d i ≡ false) (not-of c d slot none) front f.inside)
