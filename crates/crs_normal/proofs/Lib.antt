@@ -1,6 +1,7 @@
 pub mod AscendLemmas
 pub mod AxisNormalLemmas
 pub mod CheckedLemmas
+pub mod CompoundNormalLemmas
 pub mod EllipsoidNormalLemmas
 pub mod EnsembleNormalLemmas
 pub mod FormLemmas
@@ -11,6 +12,7 @@ pub mod IdentNormalLemmas
 pub mod LeafLemmas
 pub mod NamedNormalLemmas
 pub mod PairLemmas
+pub mod ProjectedNormalLemmas
 pub mod RankLemmas
 pub mod SystemNormalLemmas
 pub mod TailNormalLemmas
