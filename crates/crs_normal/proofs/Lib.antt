@@ -16,6 +16,7 @@ pub mod ProjectedNormalLemmas
 pub mod RankLemmas
 pub mod SystemNormalLemmas
 pub mod TailNormalLemmas
+pub mod TextNormalLemmas
 pub mod UnitNormalLemmas
 pub mod UsageNormalLemmas
 pub mod ViewLemmas
