@@ -1,12 +1,11 @@
 -- A normal axis is the one form of its value at its position.
-use Rattle.std.proofs.Common.{◌≡◌, ◌≢◌, ℕ, ◌+◌, ◌≤◌, length, map, replicate, Bool, true, false, Option, Some, None, List, [], ◌∷◌, ◌++◌, codes, decimal, refl, sym, ◌∙◌, ap, subst}
+use Rattle.std.proofs.Common.{◌≡◌, ◌≢◌, ℕ, map, true, false, Option, Some, None, List, [], ◌∷◌, ◌++◌, codes, decimal, refl, sym, ◌∙◌, ap, subst}
 use Rattle.crs_decimal.specs.Plain.{plain}
 use Rattle.crs_decimal.specs.Value.{Value}
-use Rattle.crs_text.specs.Items.{Item, leaf, node, Items, End, More, arguments, raw_of}
+use Rattle.crs_text.specs.Items.{Item, leaf, node, Items, End, More, raw_of}
 use Rattle.crs_text.specs.Tokens.{number, text, word}
 use Rattle.crs_shape.specs.declared.class.Class.{Class}
 use Rattle.crs_shape.specs.declared.class.Class.TheVariants as class
-use Rattle.crs_shape.specs.Keywords.{is_keyword}
 use Rattle.crs_shape.specs.Shaped.{Shaped}
 use Rattle.crs_shape.specs.Slots.{slots_of}
 use Rattle.crs_value.specs.BadUnit.{asked_kind}
@@ -19,16 +18,16 @@ use Rattle.crs_value.specs.declared.system_type.SystemType.{SystemType}
 use Rattle.crs_value.specs.declared.unit_kind.UnitKind.{UnitKind}
 use Rattle.crs_value.specs.declared.unit_kind.UnitKind.TheVariants as kinds
 use Rattle.crs_same.specs.SameSystems.{own_or}
-use Rattle.crs_normal.specs.Flat.{flat, flats}
+use Rattle.crs_normal.specs.Flat.{flat}
 use Rattle.crs_normal.specs.Normal.{IsNormalIn, IsWordIn}
 use Rattle.crs_normal.specs.NormalOwn.{Each, Has, HasOrder, numbers_in}
-use Rattle.crs_normal.specs.SpelledItems.{each, number_item, number_node, opt, text_item, word_item}
+use Rattle.crs_normal.specs.SpelledItems.{number_item, number_node, opt, text_item, word_item}
 use Rattle.crs_normal.specs.SpelledSystems.{item_axis, item_axis_meridian, norm_axis, norm_axis_meridian, norm_axis_meridians}
 use Rattle.crs_normal.specs.SpelledUnits.{item_unit, norm_unit, norm_units, whole_value}
 use Rattle.crs_normal.proofs.FormLemmas.{Form, IsGood, kept-good, node-spelled, one-spelled, opened, optional-spelled}
 use Rattle.crs_normal.proofs.LeafLemmas.{PlainIsOne, flat-word-leaf, no-word, number-form, number-node-form, number-normal, text-form}
 use Rattle.crs_normal.proofs.UnitNormalLemmas.{idents-spelled, in-angle, in-axis, unit-form}
-use Rattle.crs_normal.proofs.ViewLemmas.{flats_onto, flats-spread, those-looked}
+use Rattle.crs_normal.proofs.ViewLemmas.{flats-spread, those-looked}
 use Rattle.crs_normal.proofs.WordFormLemmas.{direction-one, type-one}
 
 -- ---- directions and types in their own letters
@@ -156,28 +155,27 @@ axis-form law level c system k (node place keyword square first others close) x 
     let v4 = v3.1.1.1.1 in
     let v5 = v4.1.1.1.1 in
     let asked = asked_kind system.system_type x.direction in
-    let known = order-known law level k (those d class.Order items) x.order (kept-good level d class.Order items o.kept) ordered reads.order in
-    (
+    let known = order-known law level k (those d class.Order items) x.order (kept-good level d class.Order items o.kept) ordered reads.order in (
       node-spelled place keyword _ square first others close _ o.written
-      (flats-spread d (slots_of d) items v
-      ∙ one-spelled level d class.Text ReadsText text_item (text-form level d) (those d class.Text items) v.0 (kept-good level d class.Text items o.kept)
-      (those-looked d class.Text (slots_of d) items v) (v.1.1.0.not_more refl) x.name reads.name _ _
-      (one-spelled level d class.Word ReadsDirection (λ w. word_item (direction_word w)) (direction-form level) (those d class.Word items) v1.0
-      (kept-good level d class.Word items o.kept) (those-looked d class.Word (slots_of d) items v) (v1.1.1.0.not_more refl) x.direction reads.direction _ _
-      (optional-spelled level d class.Meridian (ReadsAxisMeridian class.Meridian) (λ m. item_axis_meridian (norm_axis_meridian level m)) (axis_meridian-form law level d)
-      (those d class.Meridian items) v2.0 (kept-good level d class.Meridian items o.kept) (those-looked d class.Meridian (slots_of d) items v)
-      (v2.1.1.0.not_more refl) x.meridian reads.meridian _ _
-      (optional-spelled level d class.Order (ReadsNumberOf class.Order) (number_node (codes "ORDER"))
-      (number-node-form law level d class.Order (codes "ORDER") refl (λ bytes h. h) (λ raw h. h))
-      (those d class.Order items) v3.0 (kept-good level d class.Order items o.kept) (those-looked d class.Order (slots_of d) items v)
-      (v3.1.1.0.not_more refl) x.order reads.order _ _
-      (optional-spelled level d class.AxisUnit (ReadsUnit class.AxisUnit) (λ u. item_unit (norm_unit level asked u))
-      (unit-form law level d class.AxisUnit asked refl (in-axis asked) (λ raw h. h))
-      (those d class.AxisUnit items) v4.0 (kept-good level d class.AxisUnit items o.kept) (those-looked d class.AxisUnit (slots_of d) items v)
-      (v4.1.1.0.not_more refl) x.unit reads.unit _ _
-      (idents-spelled level d items v5.0 o.kept (those-looked d class.Identifier (slots_of d) items v) o.sets.0 x.ids reads.ids End End refl)
-      ∙ opt-own level system asked (those d class.AxisUnit items) x.unit own reads.unit _)
-      ∙ opt-order k x.order known.0 known.1.0 known.1.1 _)
-      ∙ opt-meridians level x.meridian _))),
+          (flats-spread d (slots_of d) items v
+          ∙ one-spelled level d class.Text ReadsText text_item (text-form level d) (those d class.Text items) v.0 (kept-good level d class.Text items o.kept)
+          (those-looked d class.Text (slots_of d) items v) (v.1.1.0.not_more refl) x.name reads.name _ _
+          (one-spelled level d class.Word ReadsDirection (λ w. word_item (direction_word w)) (direction-form level) (those d class.Word items) v1.0
+          (kept-good level d class.Word items o.kept) (those-looked d class.Word (slots_of d) items v) (v1.1.1.0.not_more refl) x.direction reads.direction _ _
+          (optional-spelled level d class.Meridian (ReadsAxisMeridian class.Meridian) (λ m. item_axis_meridian (norm_axis_meridian level m)) (axis_meridian-form law level d)
+          (those d class.Meridian items) v2.0 (kept-good level d class.Meridian items o.kept) (those-looked d class.Meridian (slots_of d) items v)
+          (v2.1.1.0.not_more refl) x.meridian reads.meridian _ _
+          (optional-spelled level d class.Order (ReadsNumberOf class.Order) (number_node (codes "ORDER"))
+          (number-node-form law level d class.Order (codes "ORDER") refl (λ bytes h. h) (λ raw h. h))
+          (those d class.Order items) v3.0 (kept-good level d class.Order items o.kept) (those-looked d class.Order (slots_of d) items v)
+          (v3.1.1.0.not_more refl) x.order reads.order _ _
+          (optional-spelled level d class.AxisUnit (ReadsUnit class.AxisUnit) (λ u. item_unit (norm_unit level asked u))
+          (unit-form law level d class.AxisUnit asked refl (in-axis asked) (λ raw h. h))
+          (those d class.AxisUnit items) v4.0 (kept-good level d class.AxisUnit items o.kept) (those-looked d class.AxisUnit (slots_of d) items v)
+          (v4.1.1.0.not_more refl) x.unit reads.unit _ _
+          (idents-spelled level d items v5.0 o.kept (those-looked d class.Identifier (slots_of d) items v) o.sets.0 x.ids reads.ids End End refl)
+          ∙ opt-own level system asked (those d class.AxisUnit items) x.unit own reads.unit _)
+          ∙ opt-order k x.order known.0 known.1.0 known.1.1 _)
+          ∙ opt-meridians level x.meridian _))),
       record { value = known.0; order = known.1.0; spelled = known.1.1 },
     )

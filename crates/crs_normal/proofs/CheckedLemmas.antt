@@ -1,16 +1,14 @@
 -- Arguments of a node that breaks no check break none.
-use Rattle.std.proofs.Common.{◌≡◌, ℕ, ◌≤◌, ◌<◌, length, drop, Bool, true, false, inl, inr, Option, Some, None, List, [], ◌∷◌, if◌then◌else◌, refl, sym, ◌∙◌, ap, subst, arith}
-use denote.Enum.Bare.{sameb}
-use Rattle.crs_text.specs.Items.{Item, Items, End, More, node}
+use Rattle.std.proofs.Common.{◌≡◌, ◌≤◌, length, drop, true, false, inl, inr, Option, Some, List, [], ◌∷◌, if◌then◌else◌, refl, sym, ◌∙◌, ap, subst, arith}
+use Rattle.crs_text.specs.Items.{Item, Items, End, More}
 use Rattle.crs_text.specs.Refusal.{Refused}
-use Rattle.crs_shape.specs.contracts.class.Class.{the_type}
 use Rattle.crs_shape.specs.declared.class.Class.{Class}
 use Rattle.crs_shape.specs.Shaped.{AreShaped}
 use Rattle.crs_shape.specs.ShapeFault.{class_in}
 use Rattle.crs_shape.specs.Slots.{is_class}
 use Rattle.crs_value.specs.Break.{AnyOf}
 use Rattle.crs_value.specs.Checks.{AtClass, Breaks, BreaksAmong}
-use Rattle.crs_value.specs.Reading.{is_a, those, ReadsEach, ReadsFirst, ReadsOptional}
+use Rattle.crs_value.specs.Reading.{is_a, those, ReadsFirst}
 use Rattle.crs_value.specs.Repeated.{IsRepeated}
 use Rattle.crs_normal.specs.NormalOwn.{Each}
 use Rattle.crs_normal.proofs.ViewLemmas.{same_class}

@@ -1,13 +1,13 @@
 -- Normal compound CRSs, and normal CRSs of any kind, are the one form of their values.
-use Rattle.std.proofs.Common.{◌≡◌, ℕ, ◌≤◌, length, Bool, true, false, inl, inr, List, [], ◌∷◌, if◌then◌else◌, codes, refl, sym, ◌∙◌, ap, subst}
-use Rattle.crs_text.specs.Items.{Item, leaf, node, Items, End, More, arguments}
+use Rattle.std.proofs.Common.{◌≡◌, Bool, true, false, inl, inr, List, [], ◌∷◌, if◌then◌else◌, refl, sym, ◌∙◌, ap, subst}
+use Rattle.crs_text.specs.Items.{Item, leaf, node, End, More}
 use Rattle.crs_shape.specs.declared.class.Class.{Class}
 use Rattle.crs_shape.specs.declared.class.Class.TheVariants as class
 use Rattle.crs_shape.specs.Slots.{slots_of, tail}
 use Rattle.crs_value.specs.Checks.{Own}
 use Rattle.crs_value.specs.Reading.{is_a, those, ReadsElse, ReadsFirst}
 use Rattle.crs_value.specs.Reads.{ReadsText}
-use Rattle.crs_value.specs.ReadsCrs.{IsGeodeticClass, ReadsAsHorizontal, ReadsCompound, ReadsCrs, ReadsGeodetic, ReadsProjected, ReadsVertical}
+use Rattle.crs_value.specs.ReadsCrs.{ReadsAsHorizontal, ReadsCompound, ReadsCrs, ReadsProjected, ReadsVertical}
 use Rattle.crs_value.specs.declared.compound.Horizontal.{Horizontal}
 use Rattle.crs_value.specs.declared.compound.Horizontal.TheVariants as horizontal
 use Rattle.crs_value.specs.declared.crs.Crs.{Crs}
@@ -126,10 +126,10 @@ compound-form laws level c (node place keyword square first others close) x good
     let found = found-of d item v3.0 (models ∙ sym (slot-lacks d class.GeoidModel tail v3.0 refl v3.1.1.0)) (looked class.Usage) (looked class.Identifier) (looked class.Remark) in
     let p = alone v1.0 v1.1.1.0 refl refl in
     let part = horizontal-spelled laws level d v1.0 (those d class.GeodeticCrs items) (those d class.GeographicCrs items) (those d class.ProjectedCrs items) p
-      (record { are = looked class.GeodeticCrs; good = kept-good level d class.GeodeticCrs items k; free = free class.GeodeticCrs })
-      (record { are = looked class.GeographicCrs; good = kept-good level d class.GeographicCrs items k; free = free class.GeographicCrs })
-      (record { are = looked class.ProjectedCrs; good = kept-good level d class.ProjectedCrs items k; free = free class.ProjectedCrs })
-      x.horizontal reads.horizontal in
+    (record { are = looked class.GeodeticCrs; good = kept-good level d class.GeodeticCrs items k; free = free class.GeodeticCrs })
+    (record { are = looked class.GeographicCrs; good = kept-good level d class.GeographicCrs items k; free = free class.GeographicCrs })
+    (record { are = looked class.ProjectedCrs; good = kept-good level d class.ProjectedCrs items k; free = free class.ProjectedCrs })
+    x.horizontal reads.horizontal in
     node-spelled place keyword _ square first others close _ o.written
     (flats-spread d (slots_of d) items v
     ∙ one-spelled level d class.Text ReadsText text_item (text-form level d) (those d class.Text items) v.0 (kept-good level d class.Text items k)

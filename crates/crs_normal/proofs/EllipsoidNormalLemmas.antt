@@ -1,6 +1,6 @@
 -- Normal ellipsoids and prime meridians are the one form of their values.
-use Rattle.std.proofs.Common.{◌≡◌, ◌≢◌, ℕ, ◌≤◌, ◌&&◌, length, map, Bool, true, false, Option, Some, None, List, [], ◌∷◌, if◌then◌else◌, codes, refl, sym, ◌∙◌, ap, subst}
-use Rattle.std.specs.Prelude.{ℤ, pos, negsuc, ◌==◌}
+use Rattle.std.proofs.Common.{◌≡◌, ℕ, ◌&&◌, map, Bool, true, false, Option, Some, None, List, [], ◌∷◌, if◌then◌else◌, codes, refl, ◌∙◌, ap, subst}
+use Rattle.std.specs.Prelude.{ℤ, pos, negsuc}
 use Rattle.std.proofs.lemmas.Bool.{and_parts, eqb-true}
 use Rattle.crs_decimal.specs.Plain.{plain}
 use Rattle.crs_decimal.specs.Value.{Value, IsNormal, is_normal, is_power, zero}
@@ -10,19 +10,18 @@ use Rattle.crs_shape.specs.declared.class.Class.TheVariants as class
 use Rattle.crs_shape.specs.Slots.{slots_of}
 use Rattle.crs_value.specs.Reading.{those, ReadsFirst, ReadsOptional}
 use Rattle.crs_value.specs.Reads.{ReadsEllipsoid, ReadsMeridian, ReadsNumber, ReadsText, ReadsUnit}
-use Rattle.crs_value.specs.Values.{EllipsoidParts, MeridianParts, UnitParts}
+use Rattle.crs_value.specs.Values.{UnitParts}
 use Rattle.crs_value.specs.declared.level.Level.{Level}
 use Rattle.crs_value.specs.declared.unit_kind.UnitKind.TheVariants as kinds
-use Rattle.crs_normal.specs.Flat.{flat, flats}
 use Rattle.crs_normal.specs.NormalOwn.{Each}
 use Rattle.crs_normal.specs.SpelledFrames.{is_zero, item_ellipsoid, item_meridian, norm_ellipsoid, norm_given}
-use Rattle.crs_normal.specs.SpelledItems.{each, number_item, opt, text_item}
+use Rattle.crs_normal.specs.SpelledItems.{number_item, opt, text_item}
 use Rattle.crs_normal.specs.SpelledUnits.{item_unit, norm_unit, norm_units}
 use Rattle.crs_normal.proofs.FormLemmas.{Form, IsGood, kept-good, node-spelled, one-spelled, opened, optional-spelled}
 use Rattle.crs_normal.proofs.LeafLemmas.{PlainIsOne, number-form, number-normal, text-form}
 use Rattle.crs_normal.proofs.PairLemmas.{Alone, opt-length, opt-units, two-spelled}
 use Rattle.crs_normal.proofs.UnitNormalLemmas.{idents-spelled, in-angle, in-length, unit-form}
-use Rattle.crs_normal.proofs.ViewLemmas.{alone, flats_onto, flats-spread, those-looked}
+use Rattle.crs_normal.proofs.ViewLemmas.{alone, flats-spread, those-looked}
 
 pub ellipsoid-form : PlainIsOne → (level : Level) (c : Class) → Form level c class.Ellipsoid (ReadsEllipsoid class.Ellipsoid) (λ e. item_ellipsoid (norm_ellipsoid level e))
 ellipsoid-form law level c (leaf kind place raw) x good reads = absurd reads.name

@@ -1,25 +1,23 @@
 -- Normal ensembles, frames of either sort, and base CRSs are the one form of their values.
-use Rattle.std.proofs.Common.{◌≡◌, ◌≢◌, ℕ, ◌≤◌, length, Bool, true, false, inl, inr, Option, Some, None, List, [], ◌∷◌, if◌then◌else◌, codes, refl, sym, ◌∙◌, ap, subst}
+use Rattle.std.proofs.Common.{◌≡◌, ◌≢◌, ℕ, Bool, true, false, inr, Option, Some, None, List, [], ◌∷◌, if◌then◌else◌, codes, refl, sym, ◌∙◌, ap, subst}
 use Rattle.std.specs.Option.{option_map}
-use Rattle.crs_text.specs.Items.{Item, leaf, node, Items, End, More, arguments}
-use Rattle.crs_text.specs.Refusal.{Refused}
+use Rattle.crs_text.specs.Items.{Item, leaf, node, Items, End, More}
 use Rattle.crs_shape.specs.declared.class.Class.{Class}
 use Rattle.crs_shape.specs.declared.class.Class.TheVariants as class
 use Rattle.crs_shape.specs.Slots.{slots_of}
-use Rattle.crs_value.specs.CrsValues.{BaseParts}
 use Rattle.crs_value.specs.Reading.{is_a, those, ReadsElse, ReadsFirst, ReadsOptional}
 use Rattle.crs_value.specs.Reads.{ReadsDatum, ReadsEllipsoid, ReadsEnsemble, ReadsMember, ReadsMeridian, ReadsNumberOf, ReadsText, ReadsUnit}
-use Rattle.crs_value.specs.ReadsCrs.{ReadsAsDatum, ReadsAsEnsemble, ReadsBase, ReadsFrame}
-use Rattle.crs_value.specs.Values.{DatumParts, EllipsoidParts, EnsembleParts, MeridianParts}
+use Rattle.crs_value.specs.ReadsCrs.{ReadsAsDatum, ReadsAsEnsemble, ReadsBase}
+use Rattle.crs_value.specs.Values.{EllipsoidParts, MeridianParts}
 use Rattle.crs_value.specs.declared.frame.Frame.{Frame}
 use Rattle.crs_value.specs.declared.frame.Frame.TheVariants as frame
 use Rattle.crs_value.specs.declared.level.Level.{Level}
 use Rattle.crs_value.specs.declared.unit_kind.UnitKind.TheVariants as kinds
-use Rattle.crs_normal.specs.Flat.{flat, flats}
+use Rattle.crs_normal.specs.Flat.{flat}
 use Rattle.crs_normal.specs.NormalOwn.{Each}
 use Rattle.crs_normal.specs.SpelledCrs.{item_base, norm_base}
 use Rattle.crs_normal.specs.SpelledFrames.{item_datum, item_ellipsoid, item_ensemble, item_frame, item_member, item_meridian, norm_datum, norm_ellipsoid, norm_ensemble, norm_frame, norm_given, norm_member, norm_meridian, set_members}
-use Rattle.crs_normal.specs.SpelledItems.{each, number_node, opt, text_item}
+use Rattle.crs_normal.specs.SpelledItems.{number_node, opt, text_item}
 use Rattle.crs_normal.specs.SpelledUnits.{item_unit, norm_unit}
 use Rattle.crs_normal.proofs.CheckedLemmas.{Checked, IsUnbroken, those-unbroken}
 use Rattle.crs_normal.proofs.EllipsoidNormalLemmas.{ZeroPlain, ellipsoid-form, meridian-form}

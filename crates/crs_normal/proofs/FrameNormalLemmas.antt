@@ -1,31 +1,24 @@
 -- Normal reference frames and ensembles are the one form of their values.
-use Rattle.std.proofs.Common.{◌≡◌, ◌≢◌, ℕ, ◌≤◌, length, Bool, true, false, inl, inr, Option, Some, None, List, [], ◌∷◌, if◌then◌else◌, codes, refl, sym, ◌∙◌, ap, subst}
+use Rattle.std.proofs.Common.{◌≡◌, ℕ, ◌≤◌, length, Bool, inl, Option, Some, None, List, [], codes, refl, sym, ◌∙◌, ap, subst}
 use Rattle.std.specs.Option.{option_map}
-use Rattle.crs_text.specs.Items.{Item, leaf, node, Items, End, More, arguments}
-use Rattle.crs_text.specs.Refusal.{Refused}
+use Rattle.crs_text.specs.Items.{Item, leaf, node, Items, End, More}
 use Rattle.crs_shape.specs.declared.class.Class.{Class}
 use Rattle.crs_shape.specs.declared.class.Class.TheVariants as class
 use Rattle.crs_shape.specs.Slots.{slots_of}
-use Rattle.crs_value.specs.Checks.{BreaksAmong, Own}
-use Rattle.crs_value.specs.Reading.{is_a, those, ReadsElse, ReadsFirst, ReadsOptional}
-use Rattle.crs_value.specs.Reads.{ReadsDatum, ReadsEllipsoid, ReadsEnsemble, ReadsMember, ReadsNumberOf, ReadsText, ReadsTextOf}
-use Rattle.crs_value.specs.ReadsCrs.{ReadsAsDatum, ReadsAsEnsemble, ReadsFrame}
-use Rattle.crs_value.specs.Values.{DatumParts, EllipsoidParts, EnsembleParts}
-use Rattle.crs_value.specs.declared.frame.Frame.{Frame}
-use Rattle.crs_value.specs.declared.frame.Frame.TheVariants as frame
+use Rattle.crs_value.specs.Checks.{Own}
+use Rattle.crs_value.specs.Reading.{those, ReadsOptional}
+use Rattle.crs_value.specs.Reads.{ReadsDatum, ReadsEllipsoid, ReadsText, ReadsTextOf}
+use Rattle.crs_value.specs.Values.{EllipsoidParts}
 use Rattle.crs_value.specs.declared.level.Level.{Level}
-use Rattle.crs_normal.specs.Flat.{flat, flats}
-use Rattle.crs_normal.specs.NormalOwn.{Each}
-use Rattle.crs_normal.specs.SpelledFrames.{item_datum, item_ellipsoid, item_ensemble, item_frame, item_member, norm_datum, norm_ellipsoid, norm_ensemble, norm_frame, norm_member, set_members}
-use Rattle.crs_normal.specs.SpelledItems.{each, number_node, opt, text_item, text_node}
+use Rattle.crs_normal.specs.SpelledFrames.{item_datum, item_ellipsoid, norm_datum, norm_ellipsoid}
+use Rattle.crs_normal.specs.SpelledItems.{opt, text_item, text_node}
 use Rattle.crs_normal.proofs.CheckedLemmas.{Checked, IsUnbroken, as-few, once-only}
 use Rattle.crs_normal.proofs.EllipsoidNormalLemmas.{ellipsoid-form}
-use Rattle.crs_normal.proofs.FormLemmas.{Form, IsGood, kept-good, node-spelled, one-spelled, opened, optional-spelled, set-spelled}
-use Rattle.crs_normal.proofs.LeafLemmas.{PlainIsOne, number-node-form, text-form, text-node-form}
-use Rattle.crs_normal.proofs.NamedNormalLemmas.{member-form}
-use Rattle.crs_normal.proofs.PairLemmas.{Alone, opt-mapped}
+use Rattle.crs_normal.proofs.FormLemmas.{Form, kept-good, node-spelled, one-spelled, opened, optional-spelled}
+use Rattle.crs_normal.proofs.LeafLemmas.{PlainIsOne, text-form, text-node-form}
+use Rattle.crs_normal.proofs.PairLemmas.{opt-mapped}
 use Rattle.crs_normal.proofs.UnitNormalLemmas.{idents-spelled}
-use Rattle.crs_normal.proofs.ViewLemmas.{flats_onto, flats-spread, onto, those-looked}
+use Rattle.crs_normal.proofs.ViewLemmas.{flats-spread, those-looked}
 
 -- ---- what a node of this class has by itself, where it breaks no check
 

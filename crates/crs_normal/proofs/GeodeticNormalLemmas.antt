@@ -1,13 +1,11 @@
 -- Normal geodetic and geographic CRSs are the one form of their values.
-use Rattle.std.proofs.Common.{◌≡◌, ◌≢◌, ℕ, ◌+◌, ◌^◌, ◌≤◌, ◌<◌, length, inl, inr, List, [], ◌∷◌, codes, refl, sym, ◌∙◌, ap, subst}
+use Rattle.std.proofs.Common.{◌≡◌, ◌≢◌, ℕ, ◌+◌, ◌^◌, ◌≤◌, ◌<◌, length, inl, inr, List, [], codes, refl, sym, ◌∙◌, ap, subst}
 use Rattle.crs_text.specs.Items.{Item, leaf, node, Items, End, More, arguments}
-use Rattle.crs_text.specs.Refusal.{Refused}
 use Rattle.crs_shape.specs.declared.class.Class.{Class}
 use Rattle.crs_shape.specs.declared.class.Class.TheVariants as class
 use Rattle.crs_shape.specs.Slots.{geodetic_slots, tail}
 use Rattle.crs_value.specs.BadSystem.{geodetic_dimensions, geographic_dimensions}
 use Rattle.crs_value.specs.Checks.{Own}
-use Rattle.crs_value.specs.ConversionValues.{GeoidModelParts}
 use Rattle.crs_value.specs.CrsValues.{GeodeticParts}
 use Rattle.crs_value.specs.Reading.{those, ReadsEach}
 use Rattle.crs_value.specs.Reads.{ReadsAxis, ReadsMeridian, ReadsText}
@@ -16,7 +14,7 @@ use Rattle.crs_value.specs.ReadsCrs.{ReadsGeodetic}
 use Rattle.crs_value.specs.declared.level.Level.{Level}
 use Rattle.crs_value.specs.declared.system_type.SystemType.{SystemType}
 use Rattle.crs_value.specs.declared.system_type.SystemType.TheVariants as types
-use Rattle.crs_normal.specs.Flat.{flat, flats}
+use Rattle.crs_normal.specs.Flat.{flats}
 use Rattle.crs_normal.specs.NormalOwn.{Each, Has, HasAxes, HasSets, HasTail, Rise}
 use Rattle.crs_normal.specs.SpelledConversions.{item_geoid_model, set_geoid_models}
 use Rattle.crs_normal.specs.SpelledCrs.{geodetic_keyword, item_geodetic, norm_geodetic}
@@ -27,13 +25,13 @@ use Rattle.crs_normal.specs.SpelledUsages.{tail_items}
 use Rattle.crs_normal.proofs.CheckedLemmas.{Checked, IsUnbroken, once-only, those-unbroken}
 use Rattle.crs_normal.proofs.EllipsoidNormalLemmas.{meridian-form}
 use Rattle.crs_normal.proofs.EnsembleNormalLemmas.{geodetic_frame-spelled, opt-meridian}
-use Rattle.crs_normal.proofs.FormLemmas.{Form, IsGood, Kept, kept-good, node-spelled, one-spelled, opened, optional-spelled}
+use Rattle.crs_normal.proofs.FormLemmas.{Form, Kept, kept-good, node-spelled, one-spelled, opened, optional-spelled}
 use Rattle.crs_normal.proofs.HeadLemmas.{AreFree, Laws, SameThose, each-length, ends-of, few-axes, geographic-type, not-ellipsoidal, small-geodetic, small-geographic}
 use Rattle.crs_normal.proofs.LeafLemmas.{text-form}
 use Rattle.crs_normal.proofs.RankLemmas.{rise-behind}
 use Rattle.crs_normal.proofs.SystemNormalLemmas.{system-spelled}
 use Rattle.crs_normal.proofs.TailNormalLemmas.{EndsIn, tail-spelled}
-use Rattle.crs_normal.proofs.ViewLemmas.{View, alone, flats_onto, flats-spread, items-rebuilt, onto, slot-lacks, those-looked}
+use Rattle.crs_normal.proofs.ViewLemmas.{View, alone, flats-spread, items-rebuilt, onto, slot-lacks, those-looked}
 
 -- ---- ends without geoid models
 
@@ -116,11 +114,11 @@ geodetic-form laws level c (node place keyword square first others close) x good
     let o = opened level c d place keyword square first others close good.shaped good.normal in
     let items = More first others in
     let free : AreFree geodetic_dimensions (those d class.CoordinateSystem items) (those d class.Axis items) (those d class.AxisUnit items) =
-      λ fault b. checked.0 fault (inl (inr b)) in
+    λ fault b. checked.0 fault (inl (inr b)) in
     let frames = those-unbroken d class.GeodeticFrame o.kept.classes items o.kept.shaped (λ fault b. checked.0 fault (inr b)) in
     let remarks = once-only (those d class.Remark items) (λ fault b. checked.0 fault (inl (inl (inr (inr (inr (inr (inl b)))))))) in
     let within = few-axes laws geodetic_dimensions small-geodetic _ _ _ free x.system reads.system.head
-      (each-length (ReadsAxis class.Axis) (those d class.Axis items) x.system.axes reads.system.axes) in
+    (each-length (ReadsAxis class.Axis) (those d class.Axis items) x.system.axes reads.system.axes) in
     let other = not-ellipsoidal level d (those d class.CoordinateSystem items) (kept-good level d class.CoordinateSystem items o.kept) o.own.0 x.system reads.system.head in
     node-spelled place keyword _ square first others close (geodetic_items (norm_geodetic level x)) (o.written ∙ plain-keyword x.system.system_type other)
     (geodetic-args laws level d item o.kept o.sets o.own.1 o.own.2 o.own.3 o.slots frames remarks x within reads)
@@ -136,11 +134,11 @@ geographic-form laws level c (node place keyword square first others close) x go
     let o = opened level c d place keyword square first others close good.shaped good.normal in
     let items = More first others in
     let free : AreFree geographic_dimensions (those d class.CoordinateSystem items) (those d class.Axis items) (those d class.AxisUnit items) =
-      λ fault b. checked.0 fault (inl (inr b)) in
+    λ fault b. checked.0 fault (inl (inr b)) in
     let frames = those-unbroken d class.GeodeticFrame o.kept.classes items o.kept.shaped (λ fault b. checked.0 fault (inr b)) in
     let remarks = once-only (those d class.Remark items) (λ fault b. checked.0 fault (inl (inl (inr (inr (inr (inr (inl b)))))))) in
     let within = few-axes laws geographic_dimensions small-geographic _ _ _ free x.system reads.system.head
-      (each-length (ReadsAxis class.Axis) (those d class.Axis items) x.system.axes reads.system.axes) in
+    (each-length (ReadsAxis class.Axis) (those d class.Axis items) x.system.axes reads.system.axes) in
     let same = geographic-type (those d class.CoordinateSystem items) (those d class.Axis items) (those d class.AxisUnit items) free x.system reads.system.head in
     node-spelled place keyword _ square first others close (geodetic_items (norm_geodetic level x)) (o.written ∙ ap geodetic_keyword (sym same))
     (geodetic-args laws level d item o.kept o.sets o.own.0 o.own.1 o.own.2 o.slots frames remarks x within reads)

@@ -1,10 +1,10 @@
 -- What the checks say of a normal CRS: how many axes there are, of which type its system is, and what stands at its end.
-use Rattle.std.proofs.Common.{◌≡◌, ◌≢◌, ℕ, suc, ◌+◌, ◌*◌, ◌^◌, ◌≤◌, ◌<◌, length, map, Bool, true, false, inl, inr, Option, Some, None, List, [], ◌∷◌, codes, refl, sym, ◌∙◌, ap, subst, arith}
+use Rattle.std.proofs.Common.{◌≡◌, ◌≢◌, ℕ, suc, ◌+◌, ◌*◌, ◌^◌, ◌≤◌, ◌<◌, length, map, true, false, inl, inr, List, [], ◌∷◌, codes, refl, sym, ◌∙◌, ap, subst, arith}
 use Rattle.std.specs.Prelude.{nat_lt}
 use Rattle.std.proofs.lemmas.Bool.{ltb-true, ltb-false}
 use Rattle.crs_decimal.specs.Number.{Number, SameNumber, whole_number}
 use Rattle.crs_decimal.specs.Value.{Value, exact}
-use Rattle.crs_text.specs.Items.{Item, leaf, node, Items, End, More, arguments, raw_of}
+use Rattle.crs_text.specs.Items.{Item, leaf, node, End, More, arguments, raw_of}
 use Rattle.crs_text.specs.Refusal.{Refused}
 use Rattle.crs_shape.specs.declared.class.Class.{Class}
 use Rattle.crs_shape.specs.declared.class.Class.TheVariants as class
@@ -25,7 +25,7 @@ use Rattle.crs_normal.proofs.EllipsoidNormalLemmas.{ZeroPlain}
 use Rattle.crs_normal.proofs.FormLemmas.{IsGood, kept-good, opened}
 use Rattle.crs_normal.proofs.LeafLemmas.{PlainIsOne}
 use Rattle.crs_normal.proofs.RankLemmas.{EndsAs, HasNoBare, end-as, none-here, vertical_end-as}
-use Rattle.crs_normal.proofs.ViewLemmas.{InSlot, alone, each-so, onto, those-looked}
+use Rattle.crs_normal.proofs.ViewLemmas.{InSlot, alone, onto, those-looked}
 
 -- the laws of decimals that are needed
 pub record Laws : Type 0 where
@@ -73,9 +73,31 @@ few-axes laws dimensions small (cs ∷ more) axes units free x reads count =
 
     too-many : 2 ^ 64 ≤ length x.axes + 1 → ⊥
     too-many many =
-        free (at 25 cs) (inl (inl (inr (refl, (x.dimension, (reads.dimension, λ same.
-        free (at 23 cs) (inl (inl (inl (refl, (x.system_type, (x.dimension, (reads.system_type, reads.dimension, λ one.
-        three (small-one laws x.dimension (dimensions x.system_type) (small x.system_type) one (length axes) same) many)))))))))))))
+        free (at 25 cs) (inl (inl (inr (
+          refl,
+          (
+            x.dimension,
+            (
+              reads.dimension,
+              λ same.
+                  free (at 23 cs) (inl (inl (inl (
+                    refl,
+                    (
+                      x.system_type,
+                      (
+                        x.dimension,
+                        (
+                          reads.system_type,
+                          reads.dimension,
+                          λ one.
+                              three (small-one laws x.dimension (dimensions x.system_type) (small x.system_type) one (length axes) same) many,
+                        ),
+                      ),
+                    ),
+                  )))),
+            ),
+          ),
+        ))))
 
 pub small-geodetic : (t : SystemType) → AreSmall (geodetic_dimensions t)
 small-geodetic types.Cartesian = (omega arith, tt)
@@ -111,8 +133,21 @@ geographic-type (cs ∷ more) axes units free x reads = by x.system_type reads.s
   where
     wrong : (t : SystemType) → geographic_dimensions t ≡ [] → ReadsFirst ReadsType (those class.CoordinateSystem class.Word (arguments cs)) t → ⊥
     wrong t none read =
-        free (at 23 cs) (inl (inl (inl (refl, (t, (x.dimension, (read, reads.dimension, λ one.
-        subst (λ (ns : List ℕ). IsOneOf x.dimension ns) none one)))))))
+        free (at 23 cs) (inl (inl (inl (
+          refl,
+          (
+            t,
+            (
+              x.dimension,
+              (
+                read,
+                reads.dimension,
+                λ one.
+                    subst (λ (ns : List ℕ). IsOneOf x.dimension ns) none one,
+              ),
+            ),
+          ),
+        ))))
 
     by : (t : SystemType) → ReadsFirst ReadsType (those class.CoordinateSystem class.Word (arguments cs)) t → t ≡ types.Ellipsoidal
     by types.Ellipsoidal read = refl

@@ -1,11 +1,11 @@
 -- A normal identifier is the one form of its value.
-use Rattle.std.proofs.Common.{◌≡◌, ◌≢◌, ℕ, ◌≤◌, ◌<◌, ◌&&◌, ◌||◌, length, map, Bool, true, false, inl, inr, Option, Some, None, List, [], ◌∷◌, ◌++◌, if◌then◌else◌, codes, refl, sym, ◌∙◌, ap, subst, arith}
+use Rattle.std.proofs.Common.{◌≡◌, ℕ, ◌≤◌, ◌&&◌, ◌||◌, length, Bool, true, false, inl, inr, Option, Some, None, List, [], ◌∷◌, ◌++◌, if◌then◌else◌, codes, refl, sym, ◌∙◌, ap, subst, arith}
 use Rattle.std.specs.Prelude.{nat_le}
 use Rattle.std.specs.List.{list_all}
 use Rattle.std.proofs.lemmas.Bool.{and_parts, and_from, le-leb, leb-true}
 use denote.Enum.Bare.{sameb}
 use Rattle.crs_decimal.specs.Spelling.{is_digit}
-use Rattle.crs_text.specs.Items.{Item, leaf, node, Items, End, More, raw_of, skip}
+use Rattle.crs_text.specs.Items.{Item, leaf, node, Items, End, More, skip}
 use Rattle.crs_text.specs.Tokens.{Kind, number, text, word}
 use Rattle.crs_shape.specs.contracts.class.Class.{the_type}
 use Rattle.crs_shape.specs.declared.class.Class.{Class}
@@ -13,19 +13,18 @@ use Rattle.crs_shape.specs.declared.class.Class.TheVariants as class
 use Rattle.crs_shape.specs.Keywords.{is_keyword}
 use Rattle.crs_shape.specs.ShapeFault.{class_of_kind}
 use Rattle.crs_shape.specs.Shaped.{Shaped}
-use Rattle.crs_shape.specs.Slots.{SlotParts, one, one_of, optional, optional_of, slots_of, takes}
-use Rattle.crs_value.specs.Reading.{is_a, those, ReadsFirst, ReadsOptional, ReadsEach}
+use Rattle.crs_shape.specs.Slots.{one, optional, optional_of, slots_of}
+use Rattle.crs_value.specs.Reading.{is_a, those, ReadsFirst, ReadsOptional}
 use Rattle.crs_value.specs.Reads.{ReadsText, ReadsTextOf, ReadsIdent, single_of}
 use Rattle.crs_value.specs.Values.{IdentParts}
 use Rattle.crs_value.specs.declared.level.Level.{Level}
-use Rattle.crs_value.specs.declared.level.Level.TheVariants as levels
 use Rattle.crs_normal.specs.Flat.{flat, flats}
-use Rattle.crs_normal.specs.NormalOwn.{Ascend, Each, IsCode, IsShort}
-use Rattle.crs_normal.specs.SpelledItems.{code_item, each, is_short, opt, text_item, text_node}
-use Rattle.crs_normal.specs.SpelledUnits.{item_ident, set_idents}
-use Rattle.crs_normal.proofs.FormLemmas.{Form, IsGood, Kept, kept-good, node-spelled, one-spelled, opened, optional-spelled, set-spelled}
-use Rattle.crs_normal.proofs.LeafLemmas.{flat-text-leaf, no-number, no-text, text-form, text-node-form}
-use Rattle.crs_normal.proofs.ViewLemmas.{Front, InSlot, View, items-rebuilt, alone, flats_onto, flats-spread, of-one, onto, or-false, same_class, those-looked}
+use Rattle.crs_normal.specs.NormalOwn.{Each, IsCode, IsShort}
+use Rattle.crs_normal.specs.SpelledItems.{code_item, is_short, opt, text_item, text_node}
+use Rattle.crs_normal.specs.SpelledUnits.{item_ident}
+use Rattle.crs_normal.proofs.FormLemmas.{Form, Kept, kept-good, node-spelled, opened, optional-spelled}
+use Rattle.crs_normal.proofs.LeafLemmas.{flat-text-leaf, no-number, no-text, text-node-form}
+use Rattle.crs_normal.proofs.ViewLemmas.{InSlot, View, items-rebuilt, alone, flats_onto, flats-spread, of-one, onto, or-false, same_class, those-looked}
 
 -- ---- codes
 
@@ -162,21 +161,21 @@ ident-args level items k v are_codes x authority code version citation uri =
     let behind : Items = onto v3.0 (onto v4.0 End) in
     let rest : Items = onto v2.0 behind in
     let are : items ≡ More a.0 (More b.0 rest) =
-      items-rebuilt class.Identifier (slots_of class.Identifier) items v
-      ∙ ap (λ xs. onto xs (onto v1.0 rest)) a.1 ∙ ap (λ xs. More a.0 (onto xs rest)) b.1 in
+    items-rebuilt class.Identifier (slots_of class.Identifier) items v
+    ∙ ap (λ xs. onto xs (onto v1.0 rest)) a.1 ∙ ap (λ xs. More a.0 (onto xs rest)) b.1 in
     let coded = code-flat b.0 rest x.code (single_of rest)
-      (subst (λ (is : Items). ReadsFirst ReadsText (single_of (skip 1 is)) x.code) are code)
-      (subst (λ (is : Items). Each IsCode (single_of (skip 1 is) ++ single_of (skip 2 is))) are are_codes) in
+    (subst (λ (is : Items). ReadsFirst ReadsText (single_of (skip 1 is)) x.code) are code)
+    (subst (λ (is : Items). Each IsCode (single_of (skip 1 is) ++ single_of (skip 2 is))) are are_codes) in
     let text-first = (subst (Each (InSlot class.Identifier (one class.Text))) a.1 v.1.1.0.inside).0 in
     let named = text-flat a.0 (More b.0 rest) text-first x.authority (subst (λ (is : Items). ReadsFirst ReadsText (those class.Identifier class.Text is) x.authority) are authority) in
     let citations = optional-spelled level class.Identifier class.Citation (ReadsTextOf class.Citation) (text_node (codes "CITATION"))
-      (text-node-form level class.Identifier class.Citation (codes "CITATION") refl (λ bytes h. h))
-      (those class.Identifier class.Citation items) v3.0 (kept-good level class.Identifier class.Citation items k)
-      (those-looked class.Identifier class.Citation (slots_of class.Identifier) items v) (v3.1.1.0.not_more refl) x.citation citation in
+    (text-node-form level class.Identifier class.Citation (codes "CITATION") refl (λ bytes h. h))
+    (those class.Identifier class.Citation items) v3.0 (kept-good level class.Identifier class.Citation items k)
+    (those-looked class.Identifier class.Citation (slots_of class.Identifier) items v) (v3.1.1.0.not_more refl) x.citation citation in
     let uris = optional-spelled level class.Identifier class.Uri (ReadsTextOf class.Uri) (text_node (codes "URI"))
-      (text-node-form level class.Identifier class.Uri (codes "URI") refl (λ bytes h. h))
-      (those class.Identifier class.Uri items) v4.0 (kept-good level class.Identifier class.Uri items k)
-      (those-looked class.Identifier class.Uri (slots_of class.Identifier) items v) (v4.1.1.0.not_more refl) x.uri uri in
+    (text-node-form level class.Identifier class.Uri (codes "URI") refl (λ bytes h. h))
+    (those class.Identifier class.Uri items) v4.0 (kept-good level class.Identifier class.Uri items k)
+    (those-looked class.Identifier class.Uri (slots_of class.Identifier) items v) (v4.1.1.0.not_more refl) x.uri uri in
     flats-spread class.Identifier (slots_of class.Identifier) items v
     ∙ ap (λ xs. flats_onto xs (flats_onto v1.0 (flats_onto v2.0 (flats_onto v3.0 (flats_onto v4.0 End))))) a.1
     ∙ ap (λ xs. More (flat a.0) (flats_onto xs (flats_onto v2.0 (flats_onto v3.0 (flats_onto v4.0 End))))) b.1

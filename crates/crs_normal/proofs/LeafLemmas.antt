@@ -1,10 +1,10 @@
 -- Texts and numbers, and nodes of one text or one number, are the one form of what is read from them.
-use Rattle.std.proofs.Common.{◌≡◌, ℕ, ◌≤◌, length, Bool, true, false, List, [], ◌∷◌, refl, sym, ◌∙◌, ap, subst}
+use Rattle.std.proofs.Common.{◌≡◌, ℕ, true, false, List, [], ◌∷◌, refl, sym, ◌∙◌, ap, subst}
 use Rattle.crs_decimal.specs.Bounds.{Denotes}
 use Rattle.crs_decimal.specs.Plain.{IsPlain, plain}
 use Rattle.crs_decimal.specs.Value.{Value, IsNormal, exact}
-use Rattle.crs_text.specs.Items.{Item, leaf, node, Items, End, More, raw_of}
-use Rattle.crs_text.specs.Tokens.{Kind, number, text, word}
+use Rattle.crs_text.specs.Items.{Item, leaf, node, End, More, raw_of}
+use Rattle.crs_text.specs.Tokens.{number, text, word}
 use Rattle.crs_shape.specs.declared.class.Class.{Class}
 use Rattle.crs_shape.specs.declared.class.Class.TheVariants as class
 use Rattle.crs_shape.specs.Keywords.{is_keyword}
@@ -13,10 +13,10 @@ use Rattle.crs_shape.specs.Slots.{SlotParts, one, slots_of}
 use Rattle.crs_value.specs.Reading.{those}
 use Rattle.crs_value.specs.Reads.{ReadsText, ReadsNumber, ReadsTextOf, ReadsNumberOf}
 use Rattle.crs_value.specs.declared.level.Level.{Level}
-use Rattle.crs_normal.specs.Flat.{flat, flats}
+use Rattle.crs_normal.specs.Flat.{flat}
 use Rattle.crs_normal.specs.Normal.{IsNormalIn, IsNumberIn, IsWritten}
 use Rattle.crs_normal.specs.SpelledItems.{number_item, number_node, text_item, text_node}
-use Rattle.crs_normal.proofs.FormLemmas.{Form, IsGood, Opened, kept-good, node-spelled, one-spelled, opened}
+use Rattle.crs_normal.proofs.FormLemmas.{Form, kept-good, node-spelled, one-spelled, opened}
 use Rattle.crs_normal.proofs.ViewLemmas.{View, flats-spread, those-looked}
 
 -- the law of plain spellings: a normal value has just one

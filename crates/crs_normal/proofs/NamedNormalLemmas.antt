@@ -1,5 +1,5 @@
 -- Normal members, methods, geoid models, parameters and conversions are the one form of their values.
-use Rattle.std.proofs.Common.{◌≡◌, ℕ, ◌≤◌, ◌<◌, ◌||◌, length, Bool, true, false, Option, Some, None, List, [], ◌∷◌, if◌then◌else◌, codes, refl, sym, ◌∙◌, ap, subst, arith}
+use Rattle.std.proofs.Common.{◌≡◌, ℕ, ◌≤◌, ◌||◌, length, Bool, true, false, Option, Some, None, List, [], ◌∷◌, if◌then◌else◌, codes, refl, sym, ◌∙◌, ap, subst, arith}
 use Rattle.std.specs.List.{list_any}
 use denote.Enum.Bare.{sameb}
 use Rattle.crs_text.specs.Items.{Item, leaf, node, Items, End, More, arguments}
@@ -8,14 +8,13 @@ use Rattle.crs_shape.specs.declared.class.Class.{Class}
 use Rattle.crs_shape.specs.declared.class.Class.TheVariants as class
 use Rattle.crs_shape.specs.ShapeFault.{class_in}
 use Rattle.crs_shape.specs.Slots.{SlotParts, is_class, named_slots, slots_of, unit_slots}
-use Rattle.crs_value.specs.ConversionValues.{ConversionParts, GeoidModelParts, MethodParts, ParameterParts}
 use Rattle.crs_value.specs.Reading.{is_a, those, ReadsElse}
 use Rattle.crs_value.specs.Reads.{ReadsIds, ReadsMember, ReadsNumber, ReadsText, ReadsTextOf}
 use Rattle.crs_value.specs.ReadsConversion.{parameter_units, ReadsAsUnit, ReadsConversion, ReadsGeoidModel, ReadsMethod, ReadsParameter, ReadsUnitOf}
 use Rattle.crs_value.specs.Values.{IdentParts, UnitParts}
 use Rattle.crs_value.specs.declared.level.Level.{Level}
 use Rattle.crs_value.specs.declared.unit_kind.UnitKind.TheVariants as kinds
-use Rattle.crs_normal.specs.Flat.{flat, flats}
+use Rattle.crs_normal.specs.Flat.{flat}
 use Rattle.crs_normal.specs.Normal.{IsWritten}
 use Rattle.crs_normal.specs.NormalOwn.{Each}
 use Rattle.crs_normal.specs.SpelledConversions.{item_conversion, item_geoid_model, item_method, item_parameter, norm_conversion, norm_geoid_model, norm_method, norm_parameter, set_parameters}
@@ -25,7 +24,7 @@ use Rattle.crs_normal.specs.SpelledUnits.{item_ident, item_unit, norm_units, set
 use Rattle.crs_normal.proofs.FormLemmas.{Form, IsGood, Kept, kept-good, node-spelled, one-spelled, opened, set-spelled}
 use Rattle.crs_normal.proofs.LeafLemmas.{ArePlain, PlainIsOne, number-form, text-form}
 use Rattle.crs_normal.proofs.UnitNormalLemmas.{KindIn, idents-spelled, in-angle, in-length, in-plain, in-scale, unit-form}
-use Rattle.crs_normal.proofs.ViewLemmas.{InSlot, View, each-so, flats_onto, flats-spread, onto, or-false, same_class, those-looked}
+use Rattle.crs_normal.proofs.ViewLemmas.{View, each-so, flats_onto, flats-spread, onto, same_class, those-looked}
 
 -- a node of a name and identifiers
 named-flat : (level : Level) (c d : Class) (keyword : List ℕ) → slots_of d ≡ named_slots → ((bytes : List ℕ) → IsWritten d bytes → bytes ≡ keyword) →
@@ -141,7 +140,6 @@ parameter-form law level c (node place keyword square first others close) x good
     ∙ unit-of law level d (node place keyword square first others close) o.kept v2.0 (v2.1.1.0.not_more refl) parameter_units every-unit
     (looked class.PlainUnit, (looked class.LengthUnit, (looked class.AngleUnit, (looked class.ScaleUnit, tt))))
     (each-so _ _ (λ i s. record { at = s.at; named = s.named; taken = s.taken }) v2.0 v2.1.1.0.inside) x.unit reads.unit _)))
-
 
 pub conversion-form : PlainIsOne → (level : Level) (c : Class) → Form level c class.Conversion (ReadsConversion class.Conversion) (λ p. item_conversion (norm_conversion level p))
 unfolding set_parameters

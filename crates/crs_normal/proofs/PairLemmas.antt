@@ -1,5 +1,5 @@
 -- Several numbers in slots of their own, and optional units, as they are written.
-use Rattle.std.proofs.Common.{◌≡◌, ◌≢◌, ℕ, ◌≤◌, length, drop, Option, Some, None, List, [], ◌∷◌, refl, sym, ◌∙◌, ap, subst}
+use Rattle.std.proofs.Common.{◌≡◌, ◌≢◌, drop, Option, Some, None, List, [], ◌∷◌, refl, ◌∙◌, ap, subst}
 use Rattle.std.specs.Option.{option_map}
 use Rattle.crs_decimal.specs.Value.{Value}
 use Rattle.crs_text.specs.Items.{Item, Items, More}
@@ -44,9 +44,9 @@ pub four-spelled : PlainIsOne → (level : Level) (c : Class) → ArePlain c →
     flats_onto f (flats_onto g (flats_onto h (flats_onto k rest))) ≡ More (number_item x) (More (number_item y) (More (number_item z) (More (number_item w) after)))
 four-spelled law level c plains found f g h k good e p q r s x y z w a b d t rest after same =
     let are : found ≡ p.0 ∷ q.0 ∷ r.0 ∷ s.0 ∷ [] =
-      e ∙ ap (λ xs. and_then xs (and_then g (and_then h k))) p.1 ∙ ap (λ xs. and_then (p.0 ∷ []) (and_then xs (and_then h k))) q.1
-      ∙ ap (λ xs. and_then (p.0 ∷ []) (and_then (q.0 ∷ []) (and_then xs k))) r.1
-      ∙ ap (λ xs. and_then (p.0 ∷ []) (and_then (q.0 ∷ []) (and_then (r.0 ∷ []) xs))) s.1 in
+    e ∙ ap (λ xs. and_then xs (and_then g (and_then h k))) p.1 ∙ ap (λ xs. and_then (p.0 ∷ []) (and_then xs (and_then h k))) q.1
+    ∙ ap (λ xs. and_then (p.0 ∷ []) (and_then (q.0 ∷ []) (and_then xs k))) r.1
+    ∙ ap (λ xs. and_then (p.0 ∷ []) (and_then (q.0 ∷ []) (and_then (r.0 ∷ []) xs))) s.1 in
     let goods = subst (Each (IsGood level c class.Number)) are good in
     let first = number-form law level c plains p.0 x goods.0 (subst (λ (xs : List Item). ReadsFirst ReadsNumber (drop 0 xs) x) are a) in
     let second = number-form law level c plains q.0 y goods.1.0 (subst (λ (xs : List Item). ReadsFirst ReadsNumber (drop 1 xs) y) are b) in

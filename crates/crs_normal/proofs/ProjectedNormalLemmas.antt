@@ -1,6 +1,6 @@
 -- Normal projected and vertical CRSs are the one form of their values.
-use Rattle.std.proofs.Common.{◌≡◌, ℕ, ◌+◌, ◌^◌, ◌≤◌, ◌<◌, length, inl, inr, List, [], ◌∷◌, codes, refl, sym, ◌∙◌, ap, subst}
-use Rattle.crs_text.specs.Items.{Item, leaf, node, Items, End, More, arguments}
+use Rattle.std.proofs.Common.{inl, inr, [], refl, sym, ◌∙◌, subst}
+use Rattle.crs_text.specs.Items.{leaf, node, End, More}
 use Rattle.crs_shape.specs.declared.class.Class.{Class}
 use Rattle.crs_shape.specs.declared.class.Class.TheVariants as class
 use Rattle.crs_shape.specs.Slots.{slots_of, tail}
@@ -47,11 +47,11 @@ projected-form laws level c (node place keyword square first others close) x goo
     let v6 = v5.1.1.1.1 in
     let looked = λ (e : Class). those-looked d e (slots_of d) items v in
     let free : AreFree projected_dimensions (those d class.CoordinateSystem items) (those d class.Axis items) (those d class.AxisUnit items) =
-      λ fault b. checked.0 fault (inl (inr b)) in
+    λ fault b. checked.0 fault (inl (inr b)) in
     let bases = those-unbroken d class.BaseCrs k.classes items k.shaped (λ fault b. checked.0 fault (inr b)) in
     let remarks = once-only (those d class.Remark items) (λ fault b. checked.0 fault (inl (inl (inr (inr (inr (inr (inl b)))))))) in
     let within = few-axes laws projected_dimensions small-projected _ _ _ free x.system reads.system.head
-      (each-length (ReadsAxis class.Axis) (those d class.Axis items) x.system.axes reads.system.axes) in
+    (each-length (ReadsAxis class.Axis) (those d class.Axis items) x.system.axes reads.system.axes) in
     let has_tail = o.own.1 in
     let rise = rise-six d 0 v.0 v1.0 v2.0 v3.0 v4.0 v5.0 (onto v6.0 End) (subst (Rise d 0) (items-rebuilt d (slots_of d) items v) has_tail.in_order) in
     let ends = ends-of d item v6.0 has_tail (looked class.Scope) (looked class.Area) (looked class.BoundingBox) (looked class.VerticalExtent) v6.1.1.0.inside in
@@ -91,11 +91,11 @@ vertical-form laws level c (node place keyword square first others close) x good
     let v5 = v4.1.1.1.1 in
     let looked = λ (e : Class). those-looked d e (slots_of d) items v in
     let free : AreFree vertical_dimensions (those d class.CoordinateSystem items) (those d class.Axis items) (those d class.AxisUnit items) =
-      λ fault b. checked.0 fault (inl (inr b)) in
+    λ fault b. checked.0 fault (inl (inr b)) in
     let frames = those-unbroken d class.VerticalFrame k.classes items k.shaped (λ fault b. checked.0 fault (inr b)) in
     let remarks = once-only (those d class.Remark items) (λ fault b. checked.0 fault (inl (inl (inr (inr (inr (inr (inl b)))))))) in
     let within = few-axes laws vertical_dimensions small-vertical _ _ _ free x.system reads.system.head
-      (each-length (ReadsAxis class.Axis) (those d class.Axis items) x.system.axes reads.system.axes) in
+    (each-length (ReadsAxis class.Axis) (those d class.Axis items) x.system.axes reads.system.axes) in
     let has_tail = o.own.1 in
     let rise = rise-six d 0 [] v.0 v1.0 v2.0 v3.0 v4.0 (onto v5.0 End) (subst (Rise d 0) (items-rebuilt d (slots_of d) items v) has_tail.in_order) in
     let ends = vertical_ends-of d item v5.0 has_tail (looked class.Scope) (looked class.Area) (looked class.BoundingBox) (looked class.VerticalExtent) v5.1.1.0.inside in

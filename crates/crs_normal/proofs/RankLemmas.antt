@@ -11,7 +11,7 @@ use Rattle.crs_shape.specs.Slots.{is_class, tail, vertical_tail}
 use Rattle.crs_value.specs.Checks.{AtClass}
 use Rattle.crs_value.specs.Reading.{is_a, those}
 use Rattle.crs_normal.specs.NormalOwn.{Each, Rise, rank}
-use Rattle.crs_normal.proofs.ViewLemmas.{InSlot, flats_onto, onto, same_class}
+use Rattle.crs_normal.proofs.ViewLemmas.{InSlot, onto, same_class}
 
 -- ---- ranks rise behind the first arguments too
 

@@ -1,10 +1,8 @@
 -- A normal coordinate system is the one form of its value: its axes stand by position.
-use Rattle.std.proofs.Common.{◌≡◌, ℕ, zero, suc, ◌+◌, ◌^◌, ◌≤◌, ◌<◌, length, Bool, true, false, Option, Some, None, List, [], ◌∷◌, ◌++◌, if◌then◌else◌, codes, decimal, refl, sym, ◌∙◌, ap, subst, arith, append_assoc, length-append}
+use Rattle.std.proofs.Common.{◌≡◌, ℕ, suc, ◌+◌, ◌^◌, ◌≤◌, ◌<◌, length, true, false, Some, List, [], ◌∷◌, ◌++◌, if◌then◌else◌, decimal, refl, sym, ◌∙◌, ap, subst, arith, append_assoc, length-append}
 use Rattle.std.specs.Str.{bytes_eq}
 use Rattle.std.proofs.lemmas.Fmt.{decimal_injective}
 use Rattle.std.proofs.lemmas.Slice.Eq.{bytes_eq-Decides}
-use Rattle.crs_decimal.specs.Plain.{plain}
-use Rattle.crs_decimal.specs.Value.{Value}
 use Rattle.crs_text.specs.Items.{Item, leaf, node, Items, End, More, arguments}
 use Rattle.crs_shape.specs.declared.class.Class.{Class}
 use Rattle.crs_shape.specs.declared.class.Class.TheVariants as class
@@ -14,10 +12,9 @@ use Rattle.crs_value.specs.Reads.{ReadsAxis, ReadsHead, ReadsNumber, ReadsSystem
 use Rattle.crs_value.specs.Values.{AxisParts, SystemParts}
 use Rattle.crs_value.specs.Words.{system_word}
 use Rattle.crs_value.specs.declared.level.Level.{Level}
-use Rattle.crs_normal.specs.Flat.{flat, flats}
 use Rattle.crs_normal.specs.NormalOwn.{AreOrdered, Each, Has, HasAxes}
 use Rattle.crs_normal.specs.SpelledItems.{each, number_item, word_item}
-use Rattle.crs_normal.specs.SpelledSystems.{axes_from, axis_at, is_at, is_number, item_axis, item_head, norm_axis, norm_system, system_items, with_axis}
+use Rattle.crs_normal.specs.SpelledSystems.{axes_from, axis_at, is_at, item_axis, item_head, norm_axis, norm_system, system_items, with_axis}
 use Rattle.crs_normal.proofs.AxisNormalLemmas.{IsNumbered, axis-form, type-form}
 use Rattle.crs_normal.proofs.FormLemmas.{Form, IsGood, Kept, kept-good, node-spelled, one-spelled, opened}
 use Rattle.crs_normal.proofs.LeafLemmas.{PlainIsOne, number-form}

@@ -1,30 +1,30 @@
 -- The end of a normal CRS is the one form of its value.
-use Rattle.std.proofs.Common.{◌≡◌, ℕ, ◌≤◌, ◌||◌, length, map, Bool, true, false, Option, Some, None, List, [], ◌∷◌, ◌++◌, if◌then◌else◌, codes, refl, sym, ◌∙◌, ap, subst}
+use Rattle.std.proofs.Common.{◌≡◌, ℕ, ◌≤◌, ◌||◌, length, Bool, true, false, Some, None, List, [], ◌∷◌, ◌++◌, if◌then◌else◌, codes, refl, sym, ◌∙◌, ap}
 use Rattle.crs_text.specs.Items.{Item, Items, End, More, arguments}
 use Rattle.crs_shape.specs.declared.class.Class.{Class}
 use Rattle.crs_shape.specs.declared.class.Class.TheVariants as class
 use Rattle.crs_shape.specs.ShapeFault.{class_in}
-use Rattle.crs_shape.specs.Slots.{SlotParts, is_class, tail}
+use Rattle.crs_shape.specs.Slots.{is_class}
 use Rattle.crs_value.specs.ConversionValues.{GeoidModelParts}
-use Rattle.crs_value.specs.Reading.{is_a, those, ReadsEach, ReadsOptional}
+use Rattle.crs_value.specs.Reading.{is_a, those, ReadsEach}
 use Rattle.crs_value.specs.Reads.{ReadsTail, ReadsTextOf, ReadsUsage}
 use Rattle.crs_value.specs.ReadsConversion.{ReadsGeoidModel}
 use Rattle.crs_value.specs.Values.{TailParts, UsageParts}
 use Rattle.crs_value.specs.declared.level.Level.{Level}
 use Rattle.crs_value.specs.declared.level.Level.TheVariants as levels
 use Rattle.crs_same.specs.SameUsages.{is_there, says_some, usages_of}
-use Rattle.crs_normal.specs.Flat.{flat, flats}
+use Rattle.crs_normal.specs.Flat.{flat}
 use Rattle.crs_normal.specs.NormalOwn.{Each, HasSets, HasTail, Rise}
 use Rattle.crs_normal.specs.SpelledConversions.{item_geoid_model, norm_geoid_model, set_geoid_models}
 use Rattle.crs_normal.specs.SpelledItems.{each, opt, text_node}
 use Rattle.crs_normal.specs.SpelledUnits.{item_ident, set_idents}
-use Rattle.crs_normal.specs.SpelledUsages.{item_usage, norm_remark, norm_tail, norm_usage, set_usages, tail_items}
+use Rattle.crs_normal.specs.SpelledUsages.{item_usage, norm_tail, norm_usage, set_usages, tail_items}
 use Rattle.crs_normal.proofs.CheckedLemmas.{as-few}
-use Rattle.crs_normal.proofs.FormLemmas.{IsGood, Kept, kept-good, optional-spelled, set-spelled}
+use Rattle.crs_normal.proofs.FormLemmas.{Kept, kept-good, optional-spelled, set-spelled}
 use Rattle.crs_normal.proofs.FrameNormalLemmas.{none-read}
 use Rattle.crs_normal.proofs.LeafLemmas.{PlainIsOne, text-node-form}
 use Rattle.crs_normal.proofs.NamedNormalLemmas.{geoid_model-form}
-use Rattle.crs_normal.proofs.RankLemmas.{EndsAs, HasNoBare, Split, none-here, rise-behind, split}
+use Rattle.crs_normal.proofs.RankLemmas.{EndsAs, Split, split}
 use Rattle.crs_normal.proofs.UnitNormalLemmas.{idents-spelled}
 use Rattle.crs_normal.proofs.UsageNormalLemmas.{usage-form}
 use Rattle.crs_normal.proofs.ViewLemmas.{each-so, flats_onto, onto}

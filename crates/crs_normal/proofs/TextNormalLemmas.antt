@@ -1,5 +1,5 @@
 -- A normal text is the one form of the value that it spells, written.
-use Rattle.std.proofs.Common.{◌≡◌, ◌↔◌, ℕ, inr, Some, List, refl, sym, ◌∙◌, ap, subst}
+use Rattle.std.proofs.Common.{◌≡◌, ◌↔◌, ℕ, inr, Some, List, sym, ◌∙◌, ap, subst}
 use Rattle.crs_text.specs.Items.{Item}
 use Rattle.crs_text.specs.TextFault.{SpellsNode}
 use Rattle.crs_text.specs.Written.{item_text}

@@ -1,26 +1,25 @@
 -- Normal units and lists of identifiers are the one form of their values.
-use Rattle.std.proofs.Common.{◌≡◌, ℕ, ◌≤◌, length, map, inl, inr, Option, Some, None, List, [], ◌∷◌, codes, refl, sym, ◌∙◌, ap, subst}
+use Rattle.std.proofs.Common.{◌≡◌, ℕ, map, inl, inr, List, [], ◌∷◌, refl, sym, ◌∙◌, ap, subst}
 use Rattle.crs_text.specs.Items.{Item, leaf, node, Items, End, More}
 use Rattle.crs_text.specs.Written.{item_text}
 use Rattle.crs_shape.specs.declared.class.Class.{Class}
 use Rattle.crs_shape.specs.declared.class.Class.TheVariants as class
 use Rattle.crs_shape.specs.Slots.{SlotParts, slots_of, unit_slots}
 use Rattle.crs_value.specs.Reading.{those, ReadsEach}
-use Rattle.crs_value.specs.Reads.{ReadsIdent, ReadsIds, ReadsNumber, ReadsText, ReadsUnit}
-use Rattle.crs_value.specs.Values.{IdentParts, UnitParts}
+use Rattle.crs_value.specs.Reads.{ReadsIdent, ReadsNumber, ReadsText, ReadsUnit}
+use Rattle.crs_value.specs.Values.{IdentParts}
 use Rattle.crs_value.specs.Words.{SpellsWord, unit_word}
 use Rattle.crs_value.specs.declared.level.Level.{Level}
 use Rattle.crs_value.specs.declared.level.Level.TheVariants as levels
 use Rattle.crs_value.specs.declared.unit_kind.UnitKind.{UnitKind}
 use Rattle.crs_value.specs.declared.unit_kind.UnitKind.TheVariants as kinds
 use Rattle.crs_same.specs.SameUnits.{kind_as}
-use Rattle.crs_normal.specs.Flat.{flat, flats}
 use Rattle.crs_normal.specs.Normal.{IsWritten}
-use Rattle.crs_normal.specs.NormalOwn.{Ascend, Each}
+use Rattle.crs_normal.specs.NormalOwn.{Ascend}
 use Rattle.crs_normal.specs.Ordered.{in_order}
-use Rattle.crs_normal.specs.SpelledItems.{each, number_item, opt, text_item}
-use Rattle.crs_normal.specs.SpelledUnits.{item_ident, item_unit, norm_unit, norm_units, set_idents}
-use Rattle.crs_normal.proofs.FormLemmas.{Form, IsGood, Kept, kept-good, node-spelled, one-spelled, opened, set-spelled}
+use Rattle.crs_normal.specs.SpelledItems.{each, number_item, text_item}
+use Rattle.crs_normal.specs.SpelledUnits.{item_ident, item_unit, norm_unit, set_idents}
+use Rattle.crs_normal.proofs.FormLemmas.{Form, Kept, kept-good, node-spelled, one-spelled, opened, set-spelled}
 use Rattle.crs_normal.proofs.IdentNormalLemmas.{ident-form}
 use Rattle.crs_normal.proofs.LeafLemmas.{ArePlain, PlainIsOne, number-form, text-form}
 use Rattle.crs_normal.proofs.ViewLemmas.{View, flats_onto, flats-spread, those-looked}

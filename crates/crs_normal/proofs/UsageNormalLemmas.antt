@@ -1,25 +1,23 @@
 -- Normal boxes, extents and usages are the one form of their values.
-use Rattle.std.proofs.Common.{◌≡◌, ℕ, ◌≤◌, length, Bool, true, false, Option, Some, None, List, [], ◌∷◌, codes, refl, sym, ◌∙◌, ap, subst}
-use Rattle.crs_text.specs.Items.{Item, leaf, node, Items, End, More}
+use Rattle.std.proofs.Common.{◌≡◌, true, false, codes, refl, ◌∙◌}
+use Rattle.crs_text.specs.Items.{leaf, node, End, More}
 use Rattle.crs_text.specs.Tokens.{number, text, word}
 use Rattle.crs_shape.specs.declared.class.Class.{Class}
 use Rattle.crs_shape.specs.declared.class.Class.TheVariants as class
 use Rattle.crs_shape.specs.Slots.{slots_of}
 use Rattle.crs_value.specs.Reading.{those}
 use Rattle.crs_value.specs.Reads.{ReadsBox, ReadsExtent, ReadsTextOf, ReadsUnit, ReadsUsage}
-use Rattle.crs_value.specs.Values.{BoxParts, ExtentParts, UsageParts}
 use Rattle.crs_value.specs.declared.level.Level.{Level}
 use Rattle.crs_value.specs.declared.level.Level.TheVariants as levels
 use Rattle.crs_value.specs.declared.unit_kind.UnitKind.TheVariants as kinds
-use Rattle.crs_normal.specs.Flat.{flat, flats}
-use Rattle.crs_normal.specs.SpelledItems.{opt, text_node}
+use Rattle.crs_normal.specs.SpelledItems.{text_node}
 use Rattle.crs_normal.specs.SpelledUnits.{item_unit, norm_unit}
 use Rattle.crs_normal.specs.SpelledUsages.{item_box, item_extent, item_usage, norm_extent, norm_usage}
-use Rattle.crs_normal.proofs.FormLemmas.{Form, IsGood, kept-good, node-spelled, opened, optional-spelled}
+use Rattle.crs_normal.proofs.FormLemmas.{Form, kept-good, node-spelled, opened, optional-spelled}
 use Rattle.crs_normal.proofs.LeafLemmas.{PlainIsOne, text-node-form}
 use Rattle.crs_normal.proofs.PairLemmas.{four-spelled, opt-length, opt-mapped, two-spelled}
 use Rattle.crs_normal.proofs.UnitNormalLemmas.{in-length, unit-form}
-use Rattle.crs_normal.proofs.ViewLemmas.{alone, flats_onto, flats-spread, those-looked}
+use Rattle.crs_normal.proofs.ViewLemmas.{alone, flats-spread, those-looked}
 
 pub box-form : PlainIsOne → (level : Level) (c : Class) → Form level c class.BoundingBox (ReadsBox class.BoundingBox) item_box
 box-form law level c (leaf kind place raw) x good reads = absurd reads.south

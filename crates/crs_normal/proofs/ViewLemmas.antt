@@ -1,15 +1,15 @@
 -- A shaped node slot by slot: the arguments in each slot, and how those of a class are found among them.
-use Rattle.std.proofs.Common.{◌≡◌, ℕ, suc, ◌≤◌, ◌<◌, ◌||◌, length, Bool, true, false, IsTrue, IsFalse, inl, inr, Option, Some, None, List, [], ◌∷◌, ◌++◌, if◌then◌else◌, refl, sym, ◌∙◌, ap, subst, arith, rules}
+use Rattle.std.proofs.Common.{◌≡◌, suc, ◌≤◌, ◌||◌, length, Bool, true, false, IsTrue, IsFalse, Some, List, [], ◌∷◌, ◌++◌, if◌then◌else◌, refl, sym, ◌∙◌, ap, subst, arith, rules}
 use Rattle.std.specs.List.{list_any}
 use denote.Enum.Bare.{sameb, same_true}
-use Rattle.crs_text.specs.Items.{Item, leaf, node, Items, End, More}
+use Rattle.crs_text.specs.Items.{Item, Items, End, More}
 use Rattle.crs_shape.specs.contracts.class.Class.{the_type}
 use Rattle.crs_shape.specs.declared.class.Class.{Class}
 use Rattle.crs_shape.specs.Shape.{AllTaken, Fills, Fit, joined, Allowed}
 use Rattle.crs_shape.specs.Shaped.{Shaped, AreShaped}
 use Rattle.crs_shape.specs.ShapeFault.{class_in}
 use Rattle.crs_shape.specs.Slots.{SlotParts, slots_of, takes, is_class}
-use Rattle.crs_value.specs.Reading.{is_same, is_a, those}
+use Rattle.crs_value.specs.Reading.{is_a, those}
 use Rattle.crs_normal.specs.Flat.{flat, flats}
 use Rattle.crs_normal.specs.NormalOwn.{Each}
 
