@@ -5,6 +5,7 @@ pub mod Flat
 pub mod LowerLaws
 pub mod Normal
 pub mod NormalOwn
+pub mod OneForm
 pub mod Ordered
 pub mod SpelledConversions
 pub mod SpelledCrs

@@ -1,0 +1,231 @@
+-- A shaped node slot by slot: the arguments in each slot, and how those of a class are found among them.
+use Rattle.std.proofs.Common.{◌≡◌, suc, ◌≤◌, ◌||◌, length, Bool, true, false, IsTrue, IsFalse, Some, List, [], ◌∷◌, ◌++◌, if◌then◌else◌, refl, sym, ◌∙◌, ap, subst, arith, rules}
+use Rattle.std.specs.List.{list_any}
+use denote.Enum.Bare.{sameb, same_true}
+use Rattle.crs_text.specs.Items.{Item, Items, End, More}
+use Rattle.crs_shape.specs.contracts.class.Class.{the_type}
+use Rattle.crs_shape.specs.declared.class.Class.{Class}
+use Rattle.crs_shape.specs.Shape.{AllTaken, Fills, Fit, joined, Allowed}
+use Rattle.crs_shape.specs.Shaped.{Shaped, AreShaped}
+use Rattle.crs_shape.specs.ShapeFault.{class_in}
+use Rattle.crs_shape.specs.Slots.{SlotParts, slots_of, takes, is_class}
+use Rattle.crs_value.specs.Reading.{is_a, those}
+use Rattle.crs_normal.specs.Flat.{flat, flats}
+use Rattle.crs_normal.specs.NormalOwn.{Each}
+
+-- these items, and others behind them
+abbrev pub onto : List Item → Items → Items
+onto [] rest = rest
+onto (item ∷ items) rest = More item (onto items rest)
+
+abbrev pub flats_onto : List Item → Items → Items
+flats_onto [] rest = rest
+flats_onto (item ∷ items) rest = More (flat item) (flats_onto items rest)
+
+pub flats-onto : (front : List Item) (rest : Items) → flats (onto front rest) ≡ flats_onto front (flats rest)
+flats-onto [] rest = refl
+flats-onto (item ∷ items) rest = ap (More (flat item)) (flats-onto items rest)
+
+-- ---- the arguments in a slot
+
+pub record InSlot (c : Class) (slot : SlotParts) (item : Item) : Type 0 where
+  pub at : Class
+  pub named : class_in c item ≡ Some at
+  pub shaped : Shaped at item
+  pub taken : takes slot at ≡ true
+
+pub record Front (c : Class) (slot : SlotParts) (front : List Item) : Type 0 where
+  pub inside : Each (InSlot c slot) front
+  pub enough : IsTrue slot.required → 1 ≤ length front
+  pub not_more : IsFalse slot.many → length front ≤ 1
+
+-- the items in each slot
+abbrev pub View : Class → List SlotParts → Items → Type 0
+View c [] items = items ≡ End
+View c (slot ∷ slots) items =
+    (front : List Item) × ((rest : Items) × (Front c slot front × ((items ≡ onto front rest) × View c slots rest)))
+
+-- the items of a run of classes, and those behind
+record Run (c : Class) (slot : SlotParts) (run after : List Class) (items : Items) : Type 0 where
+  front : List Item
+  rest : Items
+  are : items ≡ onto front rest
+  inside : Each (InSlot c slot) front
+  many : length front ≡ length run
+  shaped : AreShaped c after rest
+
+cut : (c : Class) (slot : SlotParts) (run after : List Class) (items : Items) → AllTaken slot run → AreShaped c (run ++ after) items →
+    Run c slot run after items
+cut c slot [] after items taken shaped = record { front = []; rest = items; are = refl; inside = tt; many = refl; shaped = shaped }
+cut c slot (d ∷ run) after End taken shaped = absurd shaped
+cut c slot (d ∷ run) after (More item items) taken shaped =
+    let r = cut c slot run after items taken.1 shaped.1.1 in
+    record {
+      front = item ∷ r.front;
+      rest = r.rest;
+      are = ap (More item) r.are;
+      inside = (record { at = d; named = shaped.0; shaped = shaped.1.0; taken = taken.0 }, r.inside);
+      many = ap suc r.many;
+      shaped = r.shaped;
+    }
+
+none-left : (c : Class) (items : Items) → AreShaped c [] items → items ≡ End
+none-left c End shaped = refl
+none-left c (More item items) shaped = absurd shaped
+
+view-of : (c : Class) (slots : List SlotParts) (runs : List (List Class)) (items : Items) → Fit slots runs →
+    AreShaped c (joined runs) items → View c slots items
+view-of c [] [] items fit shaped = none-left c items shaped
+view-of c [] (run ∷ runs) items fit shaped = absurd fit
+view-of c (slot ∷ slots) [] items fit shaped = absurd fit
+view-of c (slot ∷ slots) (run ∷ runs) items fit shaped =
+    let fills = fit.0 in
+    let r = cut c slot run (joined runs) items fills.taken shaped in
+    (r.front, (r.rest, (front fills r, (r.are, view-of c slots runs r.rest fit.1 r.shaped))))
+  where
+    front : (fills : Fills slot run) (r : Run c slot run (joined runs) items) → Front c slot r.front
+    front fills r = record {
+      inside = r.inside;
+      enough = λ e. let h = fills.enough e in let m = r.many in omega arith;
+      not_more = λ e. let h = fills.not_more e in let m = r.many in omega arith;
+    }
+
+pub view : (c : Class) (classes : List Class) (items : Items) → Allowed (slots_of c) classes → AreShaped c classes items →
+    View c (slots_of c) items
+view c classes items allowed shaped =
+    let P : List Class → Type 0 = λ ds. AreShaped c ds items in
+    view-of c (slots_of c) allowed.0 items allowed.1.0 (subst P allowed.1.1 shaped)
+
+-- ---- all slots, written one after another
+
+abbrev pub spread : (c : Class) (slots : List SlotParts) (items : Items) → View c slots items → Items
+spread c [] items v = End
+spread c (slot ∷ slots) items v = flats_onto v.0 (spread c slots v.1.0 v.1.1.1.1)
+
+pub flats-spread : (c : Class) (slots : List SlotParts) (items : Items) (v : View c slots items) → flats items ≡ spread c slots items v
+flats-spread c [] items v = ap flats v
+flats-spread c (slot ∷ slots) items v =
+    ap flats v.1.1.1.0 ∙ flats-onto v.0 v.1.0 ∙ ap (flats_onto v.0) (flats-spread c slots v.1.0 v.1.1.1.1)
+
+abbrev pub rebuilt : (c : Class) (slots : List SlotParts) (items : Items) → View c slots items → Items
+rebuilt c [] items v = End
+rebuilt c (slot ∷ slots) items v = onto v.0 (rebuilt c slots v.1.0 v.1.1.1.1)
+
+pub items-rebuilt : (c : Class) (slots : List SlotParts) (items : Items) (v : View c slots items) → items ≡ rebuilt c slots items v
+items-rebuilt c [] items v = v
+items-rebuilt c (slot ∷ slots) items v = v.1.1.1.0 ∙ ap (onto v.0) (items-rebuilt c slots v.1.0 v.1.1.1.1)
+
+-- ---- those of a class
+
+abbrev pub and_then : List Item → List Item → List Item
+and_then front [] = front
+and_then front (item ∷ items) = front ++ (item ∷ items)
+
+-- the items of this class in a slot: all, if it is of no other
+abbrev pub chosen : Class → Class → List Class → List Item → List Item
+chosen c d (e ∷ []) front = front
+chosen c d others front = those c d (onto front End)
+
+abbrev pub picked : Class → Class → SlotParts → List Item → List Item → List Item
+picked c d slot front rest = if takes slot d then and_then (chosen c d slot.classes front) rest else rest
+
+abbrev pub looked : (c d : Class) (slots : List SlotParts) (items : Items) → View c slots items → List Item
+looked c d [] items v = []
+looked c d (slot ∷ slots) items v = picked c d slot v.0 (looked c d slots v.1.0 v.1.1.1.1)
+
+nothing-behind : (xs : List Item) → xs ++ [] ≡ xs
+nothing-behind [] = refl
+nothing-behind (x ∷ xs) = ap (λ ys. x ∷ ys) (nothing-behind xs)
+
+and_then-is : (front rest : List Item) → front ++ rest ≡ and_then front rest
+and_then-is front [] = nothing-behind front
+and_then-is front (item ∷ items) = refl
+
+those-split : (c d : Class) (front : List Item) (rest : Items) → those c d (onto front rest) ≡ those c d (onto front End) ++ those c d rest
+those-split c d [] rest = refl
+those-split c d (item ∷ items) rest =
+    elim (is_a c d item) as (λ b. (if b then item ∷ those c d (onto items rest) else those c d (onto items rest))
+    ≡ (if b then item ∷ those c d (onto items End) else those c d (onto items End)) ++ those c d rest) [
+      | true ↦ ap (λ xs. item ∷ xs) (those-split c d items rest)
+      | false ↦ those-split c d items rest
+    ]
+
+all-those : (c d : Class) (front : List Item) → Each (λ item. is_a c d item ≡ true) front → those c d (onto front End) ≡ front
+all-those c d [] h = refl
+all-those c d (item ∷ items) h =
+    ap (λ b. if b then item ∷ those c d (onto items End) else those c d (onto items End)) h.0
+    ∙ ap (λ xs. item ∷ xs) (all-those c d items h.1)
+
+none-those : (c d : Class) (front : List Item) → Each (λ item. is_a c d item ≡ false) front → those c d (onto front End) ≡ []
+none-those c d [] h = refl
+none-those c d (item ∷ items) h =
+    ap (λ b. if b then item ∷ those c d (onto items End) else those c d (onto items End)) h.0 ∙ none-those c d items h.1
+
+pub each-so : {A : Type 0} (P Q : A → Type 0) → ((x : A) → P x → Q x) → (xs : List A) → Each P xs → Each Q xs
+each-so P Q f [] h = tt
+each-so P Q f (x ∷ xs) h = (f x h.0, each-so P Q f xs h.1)
+
+pub same_class : (d c : Class) → sameb the_type d c ≡ true → d ≡ c
+same_class d c e = same_true the_type (search rules) d c e
+
+named-as : (c d : Class) (item : Item) (at : Class) → class_in c item ≡ Some at → is_a c d item ≡ sameb the_type at d
+named-as c d item at e = ap (is_class d) e
+
+taken-as : (slot : SlotParts) (at d : Class) → at ≡ d → takes slot at ≡ true → takes slot d ≡ true
+taken-as slot at d e h = subst (λ (x : Class). takes slot x ≡ true) e h
+
+not-of : (c d : Class) (slot : SlotParts) → takes slot d ≡ false → (item : Item) → InSlot c slot item → is_a c d item ≡ false
+not-of c d slot none item s =
+    elim (sameb the_type s.at d) as (λ b. sameb the_type s.at d ≡ b → is_a c d item ≡ b → is_a c d item ≡ false) [
+      | true ↦ λ e f. absurd (clash (taken-as slot s.at d (same_class s.at d e) s.taken))
+      | false ↦ λ e f. f
+    ] refl (named-as c d item s.at s.named)
+  where
+    clash : takes slot d ≡ true → ⊥
+    clash h = let k : true ≡ false = sym h ∙ none in cc
+
+pub or-false : (b : Bool) → (b || false) ≡ true → b ≡ true
+or-false true h = refl
+or-false false h = h
+
+pub of-one : (c d e : Class) (slot : SlotParts) → slot.classes ≡ e ∷ [] → takes slot d ≡ true → (item : Item) → InSlot c slot item → is_a c d item ≡ true
+of-one c d e slot one h item s =
+    let listed = λ (x : Class). ap (λ (es : List Class). list_any (λ y. sameb the_type y x) es) one in
+    let f = or-false (sameb the_type e d) (sym (listed d) ∙ h) in
+    let g = same_class e s.at (or-false (sameb the_type e s.at) (sym (listed s.at) ∙ s.taken)) in
+    named-as c d item s.at s.named ∙ ap (λ (x : Class). sameb the_type x d) (sym g) ∙ f
+
+those-chosen : (c d : Class) (slot : SlotParts) (classes : List Class) (front : List Item) → slot.classes ≡ classes → takes slot d ≡ true → Front c slot front →
+    those c d (onto front End) ≡ chosen c d classes front
+those-chosen c d slot [] front e h f = refl
+those-chosen c d slot (k ∷ []) front e h f = all-those c d front (each-so (InSlot c slot) (λ i. is_a c d i ≡ true) (of-one c d k slot e h) front f.inside)
+those-chosen c d slot (k ∷ l ∷ ls) front e h f = refl
+
+-- what stands in a slot that doesn't take the class is none of those
+those-picked : (c d : Class) (slot : SlotParts) (front : List Item) (rest : Items) → Front c slot front →
+    those c d (onto front rest) ≡ picked c d slot front (those c d rest)
+those-picked c d slot front rest f =
+    those-split c d front rest
+    ∙ (elim (takes slot d) as (λ b. takes slot d ≡ b → those c d (onto front End) ++ those c d rest
+    ≡ (if b then and_then (chosen c d slot.classes front) (those c d rest) else those c d rest)) [
+      | true ↦ λ e. ap (λ xs. xs ++ those c d rest) (those-chosen c d slot slot.classes front refl e f)
+          ∙ and_then-is (chosen c d slot.classes front) (those c d rest)
+      | false ↦ λ e. ap (λ xs. xs ++ those c d rest)
+          (none-those c d front (each-so (InSlot c slot) (λ i. is_a c d i ≡ false) (not-of c d slot e) front f.inside))
+    ] refl)
+
+pub those-looked : (c d : Class) (slots : List SlotParts) (items : Items) (v : View c slots items) → those c d items ≡ looked c d slots items v
+those-looked c d [] items v = ap (those c d) v
+those-looked c d (slot ∷ slots) items v =
+    ap (those c d) v.1.1.1.0 ∙ those-picked c d slot v.0 v.1.0 v.1.1.0
+    ∙ ap (picked c d slot v.0) (those-looked c d slots v.1.0 v.1.1.1.1)
+
+-- the item in a slot for one
+pub alone : {c : Class} {slot : SlotParts} (front : List Item) → Front c slot front → IsTrue slot.required → IsFalse slot.many → (item : Item) × (front ≡ item ∷ [])
+alone [] f required single = let h = f.enough required in absurd (omega arith)
+alone (item ∷ []) f required single = (item, refl)
+alone (item ∷ other ∷ others) f required single = let h = f.not_more single in absurd (omega arith)
+
+-- a slot that doesn't take a class has none of it
+pub slot-lacks : (c d : Class) (slot : SlotParts) (front : List Item) → takes slot d ≡ false → Front c slot front → those c d (onto front End) ≡ []
+slot-lacks c d slot front none f = none-those c d front (each-so (InSlot c slot) (λ i. is_a c d i ≡ false) (not-of c d slot none) front f.inside)
