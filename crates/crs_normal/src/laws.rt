@@ -3,4 +3,5 @@
 pub mod examples;
 pub mod normal;
 pub mod sets;
+pub mod texts;
 pub mod values;
