@@ -1,0 +1,5 @@
+pub mod AscendLemmas
+pub mod MadeLemmas
+pub mod MadeLeafLemmas
+pub mod MadeFitLemmas
+pub mod MadeIdentLemmas

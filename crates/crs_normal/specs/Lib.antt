@@ -1,3 +1,4 @@
+pub mod Made
 pub mod Normal
 pub mod NormalOwn
 pub mod Ordered

@@ -1,0 +1,19 @@
+-- What is shown of a made item: it is accepted and normal as one of its class.
+use Rattle.std.specs.Prelude.{ℕ, ◌≤◌}
+use Rattle.crs_text.specs.Items.{Item, depth, IsNode}
+use Rattle.crs_text.specs.Written.{AreFormed}
+use Rattle.crs_text.specs.Refusal.{Refused}
+use Rattle.crs_shape.specs.declared.class.Class.{Class}
+use Rattle.crs_shape.specs.Shaped.{Shaped}
+use Rattle.crs_value.specs.Checks.{Breaks}
+use Rattle.crs_value.specs.declared.level.Level.{Level}
+use Rattle.crs_normal.specs.Normal.{IsNormalIn}
+
+-- the item has no fault of shape, breaks no check and is normal, in whichever node it stands
+pub record IsMade (level : Level) (c : Class) (most : ℕ) (item : Item) : Type 0 where
+  pub is_node : IsNode item
+  pub formed : AreFormed item
+  pub within : depth item ≤ most
+  pub shaped : Shaped c item
+  pub unbroken : (fault : Refused) → ¬ (Breaks c item fault)
+  pub normal : (parent : Class) → IsNormalIn level parent c item
