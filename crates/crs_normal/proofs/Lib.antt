@@ -3,3 +3,5 @@ pub mod MadeLemmas
 pub mod MadeLeafLemmas
 pub mod MadeFitLemmas
 pub mod MadeIdentLemmas
+pub mod MadeUnitLemmas
+pub mod MadeNamedLemmas

@@ -17,6 +17,7 @@ use Rattle.crs_value.specs.declared.level.Level.TheVariants as levels
 use Rattle.crs_value.specs.Reads.{single_of}
 use Rattle.crs_value.specs.Sound.{Each, IsIdent, IsText}
 use Rattle.crs_value.specs.Values.{IdentParts}
+use Rattle.crs_normal.specs.DecimalLaws.{DecimalLaws}
 use Rattle.crs_normal.specs.Made.{IsMade}
 use Rattle.crs_normal.specs.Normal.{IsWritten}
 use Rattle.crs_normal.specs.NormalOwn.{Ascend, IsCode, IsShort, Own, set_classes}
@@ -25,7 +26,7 @@ use Rattle.crs_normal.specs.SpelledItems.{code_item, node_of, opt, text_item, te
 use Rattle.crs_normal.specs.SpelledUnits.{item_ident, set_idents}
 use Rattle.crs_normal.proofs.AscendLemmas.{in_order-ascends, in_order-each, items-ascend}
 use Rattle.crs_normal.proofs.MadeFitLemmas.{fills-one, fills-optional, runs-fit}
-use Rattle.crs_normal.proofs.MadeLeafLemmas.{Laws, IsCodeKind, code-kind, code-made, code_kind, text-made}
+use Rattle.crs_normal.proofs.MadeLeafLemmas.{IsCodeKind, code-kind, code-made, code_kind, text-made}
 use Rattle.crs_normal.proofs.MadeLemmas.{IsKept, Made, Run, RunsMade, Sees, alone, as-argument, given, items_in, line, lines, node-made, opt-line}
 
 -- ---- nodes of one text
@@ -133,7 +134,7 @@ codes-are i number v s h w = (inl (h, refl), version-is v i.version i.citation i
 codes-are i text v s h w = (inr (h.0, refl), version-is v i.version i.citation i.uri _ w)
 codes-are i word v s h w = absurd h
 
-ident-kept : Laws → (level : Level) (i : IdentParts) (k v : Kind) → IsIdent i → IsCodeKind k i.code → IsVersionKind v i.version →
+ident-kept : DecimalLaws → (level : Level) (i : IdentParts) (k v : Kind) → IsIdent i → IsCodeKind k i.code → IsVersionKind v i.version →
     IsKept level 1 class.Identifier (codes "ID") (ident_runs i k v)
 unfolding is_keyword BreaksOwn class_named
 ident-kept l level i k v h a b = record {
@@ -184,7 +185,7 @@ ident-lines i =
     (version-line i.version (opt (text_node (codes "CITATION")) i.citation (opt (text_node (codes "URI")) i.uri End))
     ∙ ap (line (given (λ raw. leaf (version_kind i.version) 0 raw) i.version)) (simp opt-line))
 
-pub ident-made : Laws → (level : Level) (i : IdentParts) → IsIdent i → (p : ℕ) → IsMade level class.Identifier 2 (at_place p (item_ident i))
+pub ident-made : DecimalLaws → (level : Level) (i : IdentParts) → IsIdent i → (p : ℕ) → IsMade level class.Identifier 2 (at_place p (item_ident i))
 ident-made l level i h =
     node-made level 1 class.Identifier (codes "ID") (text_item i.authority)
     (More (code_item i.code) (opt code_item i.version (opt (text_node (codes "CITATION")) i.citation (opt (text_node (codes "URI")) i.uri End))))
@@ -206,7 +207,7 @@ idents-sound levels.Full ids h = in_order-each (λ i. item_text (item_ident i)) 
 abbrev pub ids_run : Level → List IdentParts → Run
 ids_run level ids = record { of = class.Identifier; items = map item_ident (set_idents level ids) }
 
-pub ids-made : Laws → (level : Level) (most : ℕ) (parent : Class) (ids : List IdentParts) → 2 ≤ most → class_named parent (codes "ID") ≡ Some class.Identifier →
+pub ids-made : DecimalLaws → (level : Level) (most : ℕ) (parent : Class) (ids : List IdentParts) → 2 ≤ most → class_named parent (codes "ID") ≡ Some class.Identifier →
     Each IsIdent ids → Each (Made level most parent class.Identifier) (map item_ident (set_idents level ids))
 ids-made l level most parent ids deep named h =
     each-item IsIdent (Made level most parent class.Identifier) item_ident (set_idents level ids) (idents-sound level ids h)

@@ -17,18 +17,11 @@ use Rattle.crs_shape.specs.contracts.class.Class.{the_type}
 use Rattle.crs_shape.specs.ShapeFault.{class_of_kind}
 use Rattle.crs_value.specs.declared.level.Level.{Level}
 use Rattle.crs_value.specs.Sound.{IsText}
+use Rattle.crs_normal.specs.DecimalLaws.{DecimalLaws}
 use Rattle.crs_normal.specs.Normal.{IsNumberIn, IsSingleIn, IsWordIn}
 use Rattle.crs_normal.specs.NormalOwn.{IsShort}
 use Rattle.crs_normal.specs.SpelledItems.{is_short, number_item, text_item, word_item}
 use Rattle.crs_normal.proofs.MadeLemmas.{Made}
-
--- the laws of decimals that are wanted
-pub record Laws : Type 0 where
-  pub is_plain : (v : Value) → IsNormal v → IsPlain (plain v)
-  pub denotes : (v : Value) → IsNormal v → Denotes (plain v) (exact v)
-  pub denotes_one : (bytes : List ℕ) (a b : Value) → IsNormal a → IsNormal b → Denotes bytes (exact a) → Denotes bytes (exact b) → a ≡ b
-  pub as_run : (bytes : List ℕ) → HasForm bytes → IsRun bytes
-  pub digits_alone : (bytes : List ℕ) → AreDigits bytes → 0 < length bytes → length bytes ≤ 18 → IsInBounds bytes
 
 leaf-made : (level : Level) (most : ℕ) (parent : Class) (kind : Kind) (raw : List ℕ) → IsSingle kind raw → IsSingleIn parent kind raw →
     IsTrue (sameb the_type (class_of_kind kind) (class_of_kind kind)) → Made level most parent (class_of_kind kind) (leaf kind 0 raw)
@@ -48,7 +41,7 @@ run-single : (raw : List ℕ) → IsRun raw → IsInBounds raw → IsSingle numb
 run-single [] h b = absurd h
 run-single (d ∷ ds) h b = (h.0, h.1, b)
 
-pub number-made : Laws → (level : Level) (most : ℕ) (parent : Class) (v : Value) → IsNormal v → Made level most parent class.Number (number_item v)
+pub number-made : DecimalLaws → (level : Level) (most : ℕ) (parent : Class) (v : Value) → IsNormal v → Made level most parent class.Number (number_item v)
 number-made l level most parent v n =
     let d : Denotes (plain v) (exact v) = l.denotes v n in
     leaf-made level most parent number (plain v) (run-single (plain v) (l.as_run (plain v) (d.0, d.1)) (d.0, d.1, d.2))
@@ -103,7 +96,7 @@ code-kind raw h = by (is_short raw) refl
     by true e = true-short raw e
     by false e = (λ s. let k : true ≡ false = sym (short-true raw s) ∙ e in cc, h)
 
-code-single : Laws → (kind : Kind) (raw : List ℕ) → IsCodeKind kind raw → IsSingle kind raw
+code-single : DecimalLaws → (kind : Kind) (raw : List ℕ) → IsCodeKind kind raw → IsSingle kind raw
 code-single l number raw h =
     let s : 0 < length raw = let k : 1 ≤ length raw = h.some in omega arith in
     let b : IsInBounds raw = l.digits_alone raw h.digits s h.few in
@@ -111,7 +104,7 @@ code-single l number raw h =
 code-single l text raw h = h.1
 code-single l word raw h = absurd h
 
-pub code-made : Laws → (level : Level) (most : ℕ) (kind : Kind) (raw : List ℕ) → IsCodeKind kind raw →
+pub code-made : DecimalLaws → (level : Level) (most : ℕ) (kind : Kind) (raw : List ℕ) → IsCodeKind kind raw →
     Made level most class.Identifier (class_of_kind kind) (leaf kind 0 raw)
 code-made l level most number raw h = leaf-made level most class.Identifier number raw (code-single l number raw h) tt refl
 code-made l level most text raw h = leaf-made level most class.Identifier text raw (code-single l text raw h) tt refl

@@ -1,3 +1,4 @@
+pub mod DecimalLaws
 pub mod Made
 pub mod Normal
 pub mod NormalOwn

@@ -1,12 +1,15 @@
 -- What is shown of a made item: it is accepted and normal as one of its class.
-use Rattle.std.specs.Prelude.{ℕ, ◌≤◌}
+use Rattle.std.specs.Prelude.{◌≡◌, ◌⊎◌, ℕ, ◌≤◌}
 use Rattle.crs_text.specs.Items.{Item, depth, IsNode}
 use Rattle.crs_text.specs.Written.{AreFormed}
 use Rattle.crs_text.specs.Refusal.{Refused}
 use Rattle.crs_shape.specs.declared.class.Class.{Class}
+use Rattle.crs_shape.specs.declared.class.Class.TheVariants as class
 use Rattle.crs_shape.specs.Shaped.{Shaped}
 use Rattle.crs_value.specs.Checks.{Breaks}
 use Rattle.crs_value.specs.declared.level.Level.{Level}
+use Rattle.crs_value.specs.declared.unit_kind.UnitKind.{UnitKind}
+use Rattle.crs_value.specs.declared.unit_kind.UnitKind.TheVariants as kinds
 use Rattle.crs_normal.specs.Normal.{IsNormalIn}
 
 -- the item has no fault of shape, breaks no check and is normal, in whichever node it stands
@@ -17,3 +20,12 @@ pub record IsMade (level : Level) (c : Class) (most : ℕ) (item : Item) : Type 
   pub shaped : Shaped c item
   pub unbroken : (fault : Refused) → ¬ (Breaks c item fault)
   pub normal : (parent : Class) → IsNormalIn level parent c item
+
+-- a unit of this kind stands as one of this class
+abbrev pub IsKindIn : Class → UnitKind → Type 0
+IsKindIn class.LengthUnit kind = kind ≡ kinds.Length
+IsKindIn class.AngleUnit kind = kind ≡ kinds.Angle
+IsKindIn class.ScaleUnit kind = kind ≡ kinds.Scale
+IsKindIn class.PlainUnit kind = kind ≡ kinds.Plain
+IsKindIn class.AxisUnit kind = (kind ≡ kinds.Length) ⊎ (kind ≡ kinds.Angle)
+IsKindIn other kind = ⊥

@@ -1,0 +1,1 @@
+-- Members, methods and geoid models are made: a name and identifiers.
