@@ -5,3 +5,6 @@ pub mod MadeFitLemmas
 pub mod MadeIdentLemmas
 pub mod MadeUnitLemmas
 pub mod MadeNamedLemmas
+pub mod MadeEllipsoidLemmas
+pub mod MadeMeridianLemmas
+pub mod MadeConversionLemmas

@@ -1,0 +1,1 @@
+-- Prime meridians are made.
