@@ -8,3 +8,5 @@ pub mod MadeNamedLemmas
 pub mod MadeEllipsoidLemmas
 pub mod MadeMeridianLemmas
 pub mod MadeConversionLemmas
+pub mod MadeFrameLemmas
+pub mod MadeUsageLemmas

@@ -1,6 +1,5 @@
 -- Identifiers and lists of them are made.
 use Rattle.std.proofs.Common.{◌≡◌, ℕ, ◌+◌, ◌≤◌, ◌<◌, true, false, IsTrue, Option, Some, None, List, [], ◌∷◌, ◌++◌, length, map, codes, IfSome, inl, inr, refl, sym, ap, subst, ◌∙◌, arith}
-use Rattle.std.proofs.lemmas.List.{append-nil}
 use Rattle.crs_text.specs.Items.{Item, leaf, Items, End, More, arguments, skip}
 use Rattle.crs_text.specs.Refusal.{Refused}
 use Rattle.crs_text.specs.Tokens.{IsWord, Kind, number, text, word}
@@ -24,7 +23,7 @@ use Rattle.crs_normal.specs.NormalOwn.{Ascend, IsCode, IsShort, Own, set_classes
 use Rattle.crs_normal.specs.Ordered.{in_order}
 use Rattle.crs_normal.specs.SpelledItems.{code_item, node_of, opt, text_item, text_node}
 use Rattle.crs_normal.specs.SpelledUnits.{item_ident, set_idents}
-use Rattle.crs_normal.proofs.AscendLemmas.{in_order-ascends, in_order-each, items-ascend}
+use Rattle.crs_normal.proofs.AscendLemmas.{in_order-each, set-ascends}
 use Rattle.crs_normal.proofs.MadeFitLemmas.{fills-one, fills-optional, runs-fit}
 use Rattle.crs_normal.proofs.MadeLeafLemmas.{IsCodeKind, code-kind, code-made, code_kind, text-made}
 use Rattle.crs_normal.proofs.MadeLemmas.{IsKept, Made, Run, RunsMade, Sees, alone, as-argument, given, items_in, line, lines, node-made, opt-line}
@@ -216,6 +215,4 @@ ids-made l level most parent ids deep named h =
 -- nothing stands behind them that is one
 pub ids-ascend : (level : Level) (ids : List IdentParts) → Ascend (map item_ident (set_idents level ids) ++ [])
 unfolding set_idents
-ids-ascend levels.Full ids =
-    subst Ascend (sym (append-nil (map item_ident (in_order (λ i. item_text (item_ident i)) ids))))
-    (items-ascend item_ident (in_order (λ i. item_text (item_ident i)) ids) (in_order-ascends (λ i. item_text (item_ident i)) ids))
+ids-ascend levels.Full ids = set-ascends item_ident ids
