@@ -10,3 +10,5 @@ pub mod MadeMeridianLemmas
 pub mod MadeConversionLemmas
 pub mod MadeFrameLemmas
 pub mod MadeUsageLemmas
+pub mod MadeWordLemmas
+pub mod MadeAxisLemmas

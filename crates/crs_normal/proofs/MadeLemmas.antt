@@ -253,7 +253,7 @@ pub record IsKept (level : Level) (most : ℕ) (c : Class) (keyword : List ℕ) 
 at-level : (level : Level) (c : Class) (item : Item) → AtLevel level c item
 at-level levels.Full c item = tt
 
-sees : (level : Level) (most : ℕ) (c : Class) (keyword : List ℕ) (first : Item) (others : Items) (runs : List Run) (p : ℕ) →
+pub sees : (level : Level) (most : ℕ) (c : Class) (keyword : List ℕ) (first : Item) (others : Items) (runs : List Run) (p : ℕ) →
     More first others ≡ lines runs → RunsMade level most c runs → Sees c runs (at_place p (node_of keyword first others))
 sees level most c keyword first others runs p same made = record {
   start = p + length keyword;

@@ -7,4 +7,5 @@ returns c = record {
   denotes_one = c.denotes_one.ensures;
   as_run = c.spelled_as_a_run.ensures;
   digits_alone = c.digits_alone.ensures;
+  normal_one = c.normal_is_one.ensures;
 }
