@@ -12,3 +12,5 @@ pub mod MadeFrameLemmas
 pub mod MadeUsageLemmas
 pub mod MadeWordLemmas
 pub mod MadeAxisLemmas
+pub mod MadeSystemLemmas
+pub mod MadeCheckLemmas

@@ -12,7 +12,7 @@ ghost use Rattle.crs_normal.specs.DecimalLaws.{DecimalLaws};
 ghost use Rattle.crs_normal.specs.Made.{IsKindIn, IsMade};
 ghost use Rattle.crs_normal.specs.SpelledUnits.{item_ident, item_unit, norm_unit};
 
-use crs_decimal::laws::{denotes_one, digits_alone, normal_is_one, plain_is_the_one, spelled_as_a_run};
+use crs_decimal::laws::{denotes_one, digits_alone, normal_is_one, plain_is_the_one, same_number_is_equivalence, spelled_as_a_run};
 
 // The laws of decimals, as one fact.
 fn decimal_laws()
@@ -22,6 +22,7 @@ fn decimal_laws()
     digits_alone();
     normal_is_one();
     plain_is_the_one();
+    same_number_is_equivalence();
     spelled_as_a_run();
 }
 

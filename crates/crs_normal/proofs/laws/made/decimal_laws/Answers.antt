@@ -8,4 +8,6 @@ returns c = record {
   as_run = c.spelled_as_a_run.ensures;
   digits_alone = c.digits_alone.ensures;
   normal_one = c.normal_is_one.ensures;
+  symmetric = c.same_number_is_equivalence.ensures.symmetric;
+  transitive = c.same_number_is_equivalence.ensures.transitive;
 }

@@ -1,0 +1,1 @@
+-- A system that is made breaks no check.
