@@ -121,19 +121,19 @@ module _ (l : DecimalLaws) (level : Level) (s : SystemParts) (h : IsSystem s) (e
   axes-are zero k low high = tt
   axes-are (suc m) k low high =
       let f = axis-found k low (omega arith) in
-      let low' : 1 ≤ k + 1 = omega arith in
-      let high' : (k + 1) + m ≤ length s.axes + 1 = omega arith in
+      let low_next : 1 ≤ k + 1 = omega arith in
+      let high_next : (k + 1) + m ≤ length s.axes + 1 = omega arith in
       subst (λ o. AreAxes level s k (with_axis level s k o (axes_from level s (k + 1) m))) (sym f.1.1)
-      ((f.0, (f.1.0, refl)), axes-are m (k + 1) low' high')
+      ((f.0, (f.1.0, refl)), axes-are m (k + 1) low_next high_next)
 
   axes-count : (m k : ℕ) → 1 ≤ k → k + m ≤ length s.axes + 1 → length (axes_from level s k m) ≡ m
   axes-count zero k low high = refl
   axes-count (suc m) k low high =
       let f = axis-found k low (omega arith) in
-      let low' : 1 ≤ k + 1 = omega arith in
-      let high' : (k + 1) + m ≤ length s.axes + 1 = omega arith in
+      let low_next : 1 ≤ k + 1 = omega arith in
+      let high_next : (k + 1) + m ≤ length s.axes + 1 = omega arith in
       subst (λ o. length (with_axis level s k o (axes_from level s (k + 1) m)) ≡ suc m) (sym f.1.1)
-      (ap suc (axes-count m (k + 1) low' high'))
+      (ap suc (axes-count m (k + 1) low_next high_next))
 
   -- all of them
   pub all-axes : AreAxes level s 1 (axes_from level s 1 (length s.axes))
@@ -148,13 +148,13 @@ pub axes-made : DecimalLaws → (level : Level) (s : SystemParts) (most : ℕ) (
 unfolding norm_axis
 axes-made l level s most parent k [] deep named h low high = tt
 axes-made l level s most parent k (a ∷ rest) deep named h low high =
-    let low' : 1 ≤ k + 1 = omega arith in
-    let high' : (k + 1) + length rest ≤ 4 = omega arith in
+    let low_next : 1 ≤ k + 1 = omega arith in
+    let high_next : (k + 1) + length rest ≤ 4 = omega arith in
     let small : k ≤ 3 = omega arith in (
       subst (λ b. Made level most parent class.Axis (item_axis b)) (sym h.0.1.1)
       (as-argument level 5 most parent class.Axis (item_axis (norm_axis level s k h.0.0)) deep named
       (axis-made l level s k h.0.0 h.0.1.0 low small)),
-      axes-made l level s most parent (k + 1) rest deep named h.1 low' high',
+      axes-made l level s most parent (k + 1) rest deep named h.1 low_next high_next,
     )
 
 -- these items are axes with the orders from k on
@@ -168,12 +168,12 @@ axes-seen l level s k [] [] p h low high = tt
 axes-seen l level s k [] (a ∷ rest) p h low high = tt
 axes-seen l level s k (item ∷ items) [] p h low high = absurd p
 axes-seen l level s k (item ∷ items) (a ∷ rest) p h low high =
-    let low' : 1 ≤ k + 1 = omega arith in
-    let high' : (k + 1) + length rest ≤ 4 = omega arith in
+    let low_next : 1 ≤ k + 1 = omega arith in
+    let high_next : (k + 1) + length rest ≤ 4 = omega arith in
     let small : k ≤ 3 = omega arith in (
       subst (IsAxisItem s.system_type k) (sym (p.0.1 ∙ ap (λ b. at_place p.0.0 (item_axis b)) h.0.1.1))
       (axis-seen l level s k h.0.0 h.0.1.0 low small p.0.0),
-      axes-seen l level s (k + 1) items rest p.1 h.1 low' high',
+      axes-seen l level s (k + 1) items rest p.1 h.1 low_next high_next,
     )
 
 -- ---- the node `CS`
