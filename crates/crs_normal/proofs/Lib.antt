@@ -14,3 +14,5 @@ pub mod MadeWordLemmas
 pub mod MadeAxisLemmas
 pub mod MadeSystemLemmas
 pub mod MadeCheckLemmas
+pub mod MadeTailLemmas
+pub mod MadeCrsLemmas

@@ -79,3 +79,12 @@ runs-fit (slot ∷ slots) (run ∷ runs) h = slot-fits slot slots run (classes r
 -- the last slot takes all that is left
 pub last-fits : (cs : List Class) (run : List Class) → AllTaken (any_of cs) run → Allowed (any_of cs ∷ []) run
 last-fits cs run t = (run ∷ [], ((record { taken = t; enough = λ h. cc; not_more = λ h. cc }, tt), sym (append-nil run)))
+
+-- runs for the first slots, and for the others
+pub fit-before : (slots more : List SlotParts) (runs rest : List Run) → FitRuns slots runs → Allowed more (classes rest) →
+    Allowed (slots ++ more) (classes (runs ++ rest))
+fit-before [] more [] rest h a = a
+fit-before [] more (run ∷ runs) rest h a = absurd h
+fit-before (slot ∷ slots) more [] rest h a = absurd h
+fit-before (slot ∷ slots) more (run ∷ runs) rest h a =
+    slot-fits slot (slots ++ more) run (classes (runs ++ rest)) h.0 (fit-before slots more runs rest h.1 a)

@@ -185,7 +185,7 @@ made-lines level most c (run ∷ runs) h =
 
 -- ---- what holds of the arguments of a node
 
-at-class : (P : Class → Type 0) (o : Option Class) (d : Class) → o ≡ Some d → P d → AtClass o P
+pub at-class : (P : Class → Type 0) (o : Option Class) (d : Class) → o ≡ Some d → P d → AtClass o P
 at-class P o d e h = subst (λ o. AtClass o P) (sym e) h
 
 not-at-class : (P : Class → Type 0) (o : Option Class) (d : Class) → o ≡ Some d → ¬ (P d) → ¬ (AtClass o P)
@@ -314,3 +314,9 @@ as-argument level n most parent c j h named made = record {
       let w : depth (at_place p j) ≤ n = m.within in
       record { formed = m.formed; within = omega arith; shaped = m.shaped; unbroken = m.unbroken; normal = m.normal parent };
 }
+
+-- what stands in a node of these classes
+pub views : (c : Class) (runs : List Run) (item : Item) (es : List Class) → Sees c runs item →
+    Each (λ e. ArePlaced (those c e (arguments item)) (items_in e runs)) es
+views c runs item [] s = tt
+views c runs item (e ∷ es) s = (s.view e, views c runs item es s)

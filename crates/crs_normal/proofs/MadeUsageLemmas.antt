@@ -6,6 +6,7 @@ use Rattle.crs_text.specs.Written.{at_place}
 use Rattle.crs_shape.specs.declared.class.Class.{Class}
 use Rattle.crs_shape.specs.declared.class.Class.TheVariants as class
 use Rattle.crs_shape.specs.Keywords.{is_keyword}
+use Rattle.crs_shape.specs.ShapeFault.{class_in}
 use Rattle.crs_shape.specs.Slots.{class_named, slots_of}
 use Rattle.crs_value.specs.Checks.{Own as BreaksOwn}
 use Rattle.crs_value.specs.declared.level.Level.{Level}
@@ -157,3 +158,13 @@ usage-made l levels.Full u h some =
       own = λ item s. tt;
       unbroken = λ item fault s k. k;
     })
+
+from-named : (c d : Class) (keyword : List ℕ) (js : Items) → js ≢ End → class_named c keyword ≡ Some d → class_in c (node_from keyword js) ≡ Some d
+from-named c d keyword End some named = absurd (some refl)
+from-named c d keyword (More first others) some named = named
+
+-- a usage that says something is named as one
+pub usage-named : (c : Class) (u : UsageParts) → SaysSome u → class_named c (codes "USAGE") ≡ Some class.Usage →
+    class_in c (item_usage (norm_usage u)) ≡ Some class.Usage
+usage-named c u some named =
+    from-named c class.Usage (codes "USAGE") (usage_items (norm_usage u)) (some-item u.scope u.area u.bbox u.extent some) named

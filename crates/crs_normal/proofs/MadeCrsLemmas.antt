@@ -1,0 +1,1 @@
+-- CRSs are made.
