@@ -15,4 +15,5 @@ pub mod MadeAxisLemmas
 pub mod MadeSystemLemmas
 pub mod MadeCheckLemmas
 pub mod MadeTailLemmas
+pub mod MadeBehindLemmas
 pub mod MadeCrsLemmas
