@@ -16,4 +16,7 @@ pub mod MadeSystemLemmas
 pub mod MadeCheckLemmas
 pub mod MadeTailLemmas
 pub mod MadeBehindLemmas
-pub mod MadeCrsLemmas
+pub mod MadeGeodeticLemmas
+pub mod MadeProjectedLemmas
+pub mod MadeVerticalLemmas
+pub mod MadeCompoundLemmas

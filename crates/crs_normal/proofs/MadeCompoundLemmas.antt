@@ -1,0 +1,1 @@
+-- Compound CRSs are made.

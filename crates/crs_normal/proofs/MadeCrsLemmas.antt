@@ -1,1 +1,0 @@
--- CRSs are made.

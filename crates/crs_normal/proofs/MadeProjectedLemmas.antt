@@ -1,0 +1,1 @@
+-- Projected CRSs are made.

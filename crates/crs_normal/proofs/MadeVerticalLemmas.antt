@@ -1,0 +1,1 @@
+-- Vertical CRSs are made.
