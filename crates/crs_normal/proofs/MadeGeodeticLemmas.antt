@@ -41,7 +41,7 @@ use Rattle.crs_normal.proofs.MadeFitLemmas.{fills-any, fills-one, fills-optional
 use Rattle.crs_normal.proofs.MadeFrameLemmas.{geodetic-frame-made, geodetic_class}
 use Rattle.crs_normal.proofs.MadeIdentLemmas.{ids-ascend}
 use Rattle.crs_normal.proofs.MadeLeafLemmas.{text-made}
-use Rattle.crs_normal.proofs.MadeLemmas.{ArePlaced, IsKept, Made, Run, RunsMade, Sees, alone, as-argument, classes, each-line, given, items_in, line, lines, node-made, opt-line, views}
+use Rattle.crs_normal.proofs.MadeLemmas.{ArePlaced, IsKept, Made, Run, RunsMade, Sees, alone, as-argument, classes, each-line, given, items_in, line, lines, node-made, opt-line, sees, views}
 use Rattle.crs_normal.proofs.MadeMeridianLemmas.{meridian-argument}
 use Rattle.crs_normal.proofs.MadeSystemLemmas.{IsHeadItem}
 use Rattle.crs_normal.proofs.MadeTailLemmas.{IsTailSeen, NamesTail, RunsRise, has-tail, no-repeats, tail-fits, tail_runs, usages-ascend}
@@ -268,3 +268,23 @@ geodetic-made l each_at level g h =
     (geodetic_runs level g) (simp (opt-line, each-line))
     (geodetic-kept l level (root_class g.system.system_type) (geodetic_keyword g.system.system_type) g (is-root g.system.system_type)
     (few-system l each_at geodetic_dimensions geodetic-small g.system h.system h.dimension) h)
+
+-- the system of a CRS, as the checks of a compound see it
+pub geodetic-seen : DecimalLaws → AxisEach → (level : Level) (g : GeodeticParts) → IsGeodetic g → (p : ℕ) →
+    IsSystemSeen g.system.system_type g.system.dimension
+    (those (root_class g.system.system_type) class.CoordinateSystem (arguments (at_place p (item_geodetic (norm_geodetic level g)))))
+    (those (root_class g.system.system_type) class.Axis (arguments (at_place p (item_geodetic (norm_geodetic level g)))))
+    (those (root_class g.system.system_type) class.AxisUnit (arguments (at_place p (item_geodetic (norm_geodetic level g)))))
+geodetic-seen l each_at level g h p =
+    let c : Class = root_class g.system.system_type in
+    let item : Item = at_place p (item_geodetic (norm_geodetic level g)) in
+    let few : IsFew g.system = few-system l each_at geodetic_dimensions geodetic-small g.system h.system h.dimension in
+    let s : Sees c (geodetic_runs level g) item =
+        sees level 5 c (geodetic_keyword g.system.system_type) (text_item g.name)
+        (More (item_frame (codes "DATUM") (norm_frame level g.frame))
+        (opt item_meridian (norm_meridian level g.meridian) (system_items (norm_system level g.system) (tail_items (norm_tail level g.tail)))))
+        (geodetic_runs level g) p (simp (opt-line, each-line))
+        (geodetic-runs-made l level c (geodetic_keyword g.system.system_type) g (is-root g.system.system_type) few h) in
+    system-seen l level c item g.system g.tail few
+    (frame-shows c item (text_item g.name) (item_frame (codes "DATUM") (norm_frame level g.frame)) g.frame
+    (meridian_run level g ∷ behind level g.system g.tail) (views c (geodetic_runs level g) item geodetic_classes s)).1
