@@ -20,3 +20,4 @@ pub mod MadeGeodeticLemmas
 pub mod MadeProjectedLemmas
 pub mod MadeVerticalLemmas
 pub mod MadeCompoundLemmas
+pub mod MadeCrsLemmas

@@ -23,7 +23,7 @@ use Rattle.crs_value.specs.SoundFrames.{IsDatum, IsEllipsoid, IsEnsemble, IsMemb
 use Rattle.crs_value.specs.SoundSingle.{IsGeodeticFrame, IsVerticalFrame}
 use Rattle.crs_value.specs.Values.{DatumParts, EllipsoidParts, EnsembleParts, IdentParts, MemberParts}
 use Rattle.crs_normal.specs.DecimalLaws.{DecimalLaws}
-use Rattle.crs_normal.specs.Made.{IsMade}
+use Rattle.crs_normal.specs.Made.{IsMade, geodetic_class, vertical_class}
 use Rattle.crs_normal.specs.Normal.{IsWritten}
 use Rattle.crs_normal.specs.NormalOwn.{Ascend, Own}
 use Rattle.crs_normal.specs.SpelledFrames.{item_ellipsoid, item_frame, item_member, norm_ellipsoid, norm_frame, norm_member, set_members}
@@ -184,7 +184,7 @@ unfolding BreaksOwn class_named is_keyword
 geodetic-ensemble-made l level None e some f h = absurd (cc some)
 geodetic-ensemble-made l level (Some x) e some f h =
     node-made level 4 class.GeodeticEnsemble (codes "ENSEMBLE") (text_item e.name) (ensemble_others level (Some x) e)
-    (geodetic_ensemble_runs level x e) (simp (opt-line, each-line)) (record {
+    (geodetic_ensemble_runs level x e) (simp each-line) (record {
       letters = (refl, refl);
       known = refl;
       written = refl;
@@ -231,14 +231,6 @@ vertical-ensemble-made l level None e none h =
     })
 
 -- ---- frames
-
-abbrev pub geodetic_class : Frame → Class
-geodetic_class (frame.Datum d) = class.GeodeticFrame
-geodetic_class (frame.Ensemble e) = class.GeodeticEnsemble
-
-abbrev pub vertical_class : Frame → Class
-vertical_class (frame.Datum d) = class.VerticalFrame
-vertical_class (frame.Ensemble e) = class.VerticalEnsemble
 
 pub geodetic-frame-made : DecimalLaws → (level : Level) (f : Frame) → IsGeodeticFrame f → (p : ℕ) →
     IsMade level (geodetic_class f) 5 (at_place p (item_frame (codes "DATUM") (norm_frame level f)))

@@ -26,7 +26,7 @@ use Rattle.crs_value.specs.Values.{MeridianParts}
 use Rattle.crs_value.specs.Words.{system_word}
 use Rattle.crs_same.specs.SameUsages.{usages_of}
 use Rattle.crs_normal.specs.DecimalLaws.{DecimalLaws}
-use Rattle.crs_normal.specs.Made.{IsMade}
+use Rattle.crs_normal.specs.Made.{IsMade, geodetic_class, root_class}
 use Rattle.crs_normal.specs.Normal.{IsWritten}
 use Rattle.crs_normal.specs.NormalOwn.{Ascend, Has, HasAxes, HasTail, Own, rank, set_classes, words_in}
 use Rattle.crs_normal.specs.SpelledCrs.{geodetic_keyword, item_geodetic, norm_geodetic}
@@ -38,7 +38,7 @@ use Rattle.crs_normal.specs.SpelledUsages.{norm_tail, tail_items}
 use Rattle.crs_normal.proofs.MadeBehindLemmas.{AxisEach, IsFew, NamesSystem, Shows, axes-some, axes_run, behind, behind-made, crs_classes, few-system, no_unit_run, system-seen, tail-seen}
 use Rattle.crs_normal.proofs.MadeCheckLemmas.{IsSystemSeen, has-axes, no-bad-systems}
 use Rattle.crs_normal.proofs.MadeFitLemmas.{fills-any, fills-one, fills-optional, fills-some, fit-before, last-fits}
-use Rattle.crs_normal.proofs.MadeFrameLemmas.{geodetic-frame-made, geodetic_class}
+use Rattle.crs_normal.proofs.MadeFrameLemmas.{geodetic-frame-made}
 use Rattle.crs_normal.proofs.MadeIdentLemmas.{ids-ascend}
 use Rattle.crs_normal.proofs.MadeLeafLemmas.{text-made}
 use Rattle.crs_normal.proofs.MadeLemmas.{ArePlaced, IsKept, Made, Run, RunsMade, Sees, alone, as-argument, classes, each-line, given, items_in, line, lines, node-made, opt-line, sees, views}
@@ -107,12 +107,6 @@ record IsRootClass (t : SystemType) (c : Class) (keyword : List ℕ) : Type 0 wh
   breaks : (item : Item) (fault : Refused) → BreaksOwn c item fault → OfCrs dimensions c item fault
   own : (item : Item) → Each (λ cs. words_in class.CoordinateSystem cs ≡ system_word t ∷ []) (those c class.CoordinateSystem (arguments item)) →
       Has c class.PrimeMeridian item → HasAxes c item → HasTail c item → Own c item
-
-abbrev pub root_class : SystemType → Class
-root_class types.Cartesian = class.GeodeticCrs
-root_class types.Ellipsoidal = class.GeographicCrs
-root_class types.Spherical = class.GeodeticCrs
-root_class types.Vertical = class.GeodeticCrs
 
 other-words : (w : List ℕ) (items : List Item) → w ≢ codes "ellipsoidal" → Each (λ cs. words_in class.CoordinateSystem cs ≡ w ∷ []) items →
     Each (λ cs. words_in class.CoordinateSystem cs ≢ codes "ellipsoidal" ∷ []) items

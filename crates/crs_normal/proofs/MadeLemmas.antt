@@ -37,7 +37,7 @@ mutual
       let o = texts-at (p + length keyword + 1 + length (item_text first)) others in
       λ i. keyword ++ 91 ∷ (f i ++ (o i ++ 93 ∷ []))
 
-  texts-at : (p : ℕ) (js : Items) → others_text (at_places p js) ≡ others_text js
+  pub texts-at : (p : ℕ) (js : Items) → others_text (at_places p js) ≡ others_text js
   texts-at p End = refl
   texts-at p (More j js) =
       let f = text-at (p + 1) j in

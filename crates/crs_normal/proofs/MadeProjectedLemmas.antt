@@ -20,7 +20,7 @@ use Rattle.crs_value.specs.Sound.{Each}
 use Rattle.crs_value.specs.SoundSingle.{IsBase, IsProjected}
 use Rattle.crs_same.specs.SameUsages.{usages_of}
 use Rattle.crs_normal.specs.DecimalLaws.{DecimalLaws}
-use Rattle.crs_normal.specs.Made.{IsMade}
+use Rattle.crs_normal.specs.Made.{IsMade, geodetic_class}
 use Rattle.crs_normal.specs.SpelledConversions.{item_conversion, norm_conversion}
 use Rattle.crs_normal.specs.SpelledCrs.{item_base, item_projected, norm_base, norm_projected}
 use Rattle.crs_normal.specs.SpelledFrames.{item_frame, item_meridian, norm_frame, norm_meridian}
@@ -33,7 +33,6 @@ use Rattle.crs_normal.proofs.MadeCheckLemmas.{IsSystemSeen, has-axes, no-bad-sys
 use Rattle.crs_normal.proofs.MadeConversionLemmas.{conversion-made}
 use Rattle.crs_normal.proofs.MadeEllipsoidLemmas.{given-unit}
 use Rattle.crs_normal.proofs.MadeFitLemmas.{fills-any, fills-one, fills-optional, fills-some, fit-before, last-fits, runs-fit}
-use Rattle.crs_normal.proofs.MadeFrameLemmas.{geodetic_class}
 use Rattle.crs_normal.proofs.MadeGeodeticLemmas.{end_classes, frame-argument, frame-sets, frame-shows, frame-taken, geodetic_classes, meridian-there}
 use Rattle.crs_normal.proofs.MadeIdentLemmas.{ids-ascend, ids-made, ids_run}
 use Rattle.crs_normal.proofs.MadeLeafLemmas.{text-made}

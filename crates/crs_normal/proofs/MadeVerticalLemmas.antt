@@ -24,7 +24,7 @@ use Rattle.crs_value.specs.SoundConversion.{IsGeoidModel}
 use Rattle.crs_value.specs.SoundSingle.{IsVertical, IsVerticalFrame}
 use Rattle.crs_same.specs.SameUsages.{usages_of}
 use Rattle.crs_normal.specs.DecimalLaws.{DecimalLaws}
-use Rattle.crs_normal.specs.Made.{IsMade}
+use Rattle.crs_normal.specs.Made.{IsMade, vertical_class}
 use Rattle.crs_normal.specs.NormalOwn.{Ascend, rank, set_classes}
 use Rattle.crs_normal.specs.SpelledConversions.{item_geoid_model, norm_geoid_model, set_geoid_models}
 use Rattle.crs_normal.specs.SpelledCrs.{item_vertical, norm_vertical}
@@ -37,7 +37,7 @@ use Rattle.crs_normal.proofs.AscendLemmas.{set-ascends, set-each}
 use Rattle.crs_normal.proofs.MadeBehindLemmas.{AxisEach, IsFew, NamesSystem, Shows, axes-argument, axes-some, axes_run, behind, crs_classes, few-system, head-argument, no_unit_run, system-seen, tail-seen}
 use Rattle.crs_normal.proofs.MadeCheckLemmas.{IsSystemSeen, has-axes, no-bad-systems}
 use Rattle.crs_normal.proofs.MadeFitLemmas.{fills-one, fills-optional, fills-some, fit-before, last-fits, taken-more}
-use Rattle.crs_normal.proofs.MadeFrameLemmas.{vertical-frame-made, vertical_class}
+use Rattle.crs_normal.proofs.MadeFrameLemmas.{vertical-frame-made}
 use Rattle.crs_normal.proofs.MadeGeodeticLemmas.{end_classes}
 use Rattle.crs_normal.proofs.MadeIdentLemmas.{ids-ascend}
 use Rattle.crs_normal.proofs.MadeLeafLemmas.{text-made}

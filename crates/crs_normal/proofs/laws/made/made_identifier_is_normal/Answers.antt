@@ -2,4 +2,4 @@ use Rattle.crs_normal.proofs.MadeIdentLemmas.{ident-made}
 use Rattle.crs_normal.proofs.laws.made.made_identifier_is_normal.Goals as goal
 
 pub returns : goal.returns
-returns c = λ level ident place h. ident-made c.decimal_laws.ensures level ident h place
+returns c = λ level x place h. ident-made c.decimal_laws.ensures level x h place
