@@ -1,8 +1,10 @@
 pub mod Decides
+pub mod DecimalLaws
 pub mod Examples
 pub mod Fit
 pub mod Flat
 pub mod LowerLaws
+pub mod Made
 pub mod Normal
 pub mod NormalOwn
 pub mod OneForm

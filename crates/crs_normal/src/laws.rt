@@ -1,6 +1,7 @@
 //! Laws of the one form of values and of normal texts: calls that do nothing, and whose contracts are the laws.
 
 pub mod examples;
+pub mod made;
 pub mod normal;
 pub mod sets;
 pub mod texts;

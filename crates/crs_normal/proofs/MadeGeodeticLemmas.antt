@@ -1,0 +1,284 @@
+-- Geodetic and geographic CRSs are made.
+use Rattle.std.proofs.Common.{◌≡◌, ◌≢◌, ◌⊎◌, ℕ, ◌+◌, ◌≤◌, ◌++◌, true, IsTrue, Option, Some, None, List, [], ◌∷◌, length, map, codes, inl, inr, refl, sym, ap, subst, ◌∙◌, arith}
+use Rattle.crs_decimal.specs.Value.{Value}
+use Rattle.crs_text.specs.Items.{Item, Items, More, arguments, raw_of}
+use Rattle.crs_text.specs.Refusal.{Refused}
+use Rattle.crs_text.specs.Tokens.{IsWord}
+use Rattle.crs_text.specs.Written.{at_place}
+use Rattle.crs_shape.specs.declared.class.Class.{Class}
+use Rattle.crs_shape.specs.declared.class.Class.TheVariants as class
+use Rattle.crs_shape.specs.Keywords.{is_keyword}
+use Rattle.crs_shape.specs.Shape.{Allowed}
+use Rattle.crs_shape.specs.ShapeFault.{class_in}
+use Rattle.crs_shape.specs.Slots.{class_named, geodetic_slots, one, one_of, optional, slots_of, some, tail, takes}
+use Rattle.crs_value.specs.BadSystem.{IsOneOf, geodetic_dimensions, geographic_dimensions}
+use Rattle.crs_value.specs.Checks.{OfCrs, Own as BreaksOwn}
+use Rattle.crs_value.specs.CrsValues.{GeodeticParts}
+use Rattle.crs_value.specs.declared.frame.Frame.{Frame}
+use Rattle.crs_value.specs.declared.frame.Frame.TheVariants as frame
+use Rattle.crs_value.specs.declared.level.Level.{Level}
+use Rattle.crs_value.specs.declared.system_type.SystemType.{SystemType}
+use Rattle.crs_value.specs.declared.system_type.SystemType.TheVariants as types
+use Rattle.crs_value.specs.Reading.{those}
+use Rattle.crs_value.specs.Sound.{Each}
+use Rattle.crs_value.specs.SoundSingle.{IsGeodetic, IsGeodeticFrame}
+use Rattle.crs_value.specs.Values.{MeridianParts}
+use Rattle.crs_value.specs.Words.{system_word}
+use Rattle.crs_same.specs.SameUsages.{usages_of}
+use Rattle.crs_normal.specs.DecimalLaws.{DecimalLaws}
+use Rattle.crs_normal.specs.Made.{IsMade, geodetic_class, root_class}
+use Rattle.crs_normal.specs.Normal.{IsWritten}
+use Rattle.crs_normal.specs.NormalOwn.{Ascend, Has, HasAxes, HasTail, Own, rank, set_classes, words_in}
+use Rattle.crs_normal.specs.SpelledCrs.{geodetic_keyword, item_geodetic, norm_geodetic}
+use Rattle.crs_normal.specs.SpelledFrames.{item_frame, item_meridian, norm_frame, norm_meridian}
+use Rattle.crs_normal.specs.SpelledItems.{opt, text_item, word_item}
+use Rattle.crs_normal.specs.SpelledSystems.{item_head, norm_system, system_items}
+use Rattle.crs_normal.specs.SpelledUnits.{item_unit}
+use Rattle.crs_normal.specs.SpelledUsages.{norm_tail, tail_items}
+use Rattle.crs_normal.proofs.MadeBehindLemmas.{AxisEach, IsFew, NamesSystem, Shows, axes-some, axes_run, behind, behind-made, crs_classes, few-system, no_unit_run, system-seen, tail-seen}
+use Rattle.crs_normal.proofs.MadeCheckLemmas.{IsSystemSeen, has-axes, no-bad-systems}
+use Rattle.crs_normal.proofs.MadeFitLemmas.{fills-any, fills-one, fills-optional, fills-some, fit-before, last-fits}
+use Rattle.crs_normal.proofs.MadeFrameLemmas.{geodetic-frame-made}
+use Rattle.crs_normal.proofs.MadeIdentLemmas.{ids-ascend}
+use Rattle.crs_normal.proofs.MadeLeafLemmas.{text-made}
+use Rattle.crs_normal.proofs.MadeLemmas.{ArePlaced, IsKept, Made, Run, RunsMade, Sees, alone, as-argument, classes, each-line, given, items_in, line, lines, node-made, opt-line, sees, views}
+use Rattle.crs_normal.proofs.MadeMeridianLemmas.{meridian-argument}
+use Rattle.crs_normal.proofs.MadeSystemLemmas.{IsHeadItem}
+use Rattle.crs_normal.proofs.MadeTailLemmas.{IsTailSeen, NamesTail, RunsRise, has-tail, no-repeats, tail-fits, tail_runs, usages-ascend}
+
+-- ---- the frame as an argument, of one class or the other
+
+-- a class names the nodes of a geodetic frame
+pub record NamesFrame (c : Class) : Type 0 where
+  pub datum : class_named c (codes "DATUM") ≡ Some class.GeodeticFrame
+  pub ensemble : class_named c (codes "ENSEMBLE") ≡ Some class.GeodeticEnsemble
+
+frame-named : (level : Level) (c : Class) (f : Frame) → NamesFrame c → class_in c (item_frame (codes "DATUM") (norm_frame level f)) ≡ Some (geodetic_class f)
+frame-named level c (frame.Datum d) n = n.datum
+frame-named level c (frame.Ensemble e) n = n.ensemble
+
+pub frame-argument : DecimalLaws → (level : Level) (most : ℕ) (c : Class) (f : Frame) → 5 ≤ most → NamesFrame c → IsGeodeticFrame f →
+    Made level most c (geodetic_class f) (item_frame (codes "DATUM") (norm_frame level f))
+frame-argument l level most c f deep n h =
+    as-argument level 5 most c (geodetic_class f) (item_frame (codes "DATUM") (norm_frame level f)) deep (frame-named level c f n) (geodetic-frame-made l level f h)
+
+pub frame-taken : (f : Frame) → takes (one_of (class.GeodeticFrame ∷ class.GeodeticEnsemble ∷ [])) (geodetic_class f) ≡ true
+frame-taken (frame.Datum d) = refl
+frame-taken (frame.Ensemble e) = refl
+
+frame-rank : (f : Frame) → rank (geodetic_class f) ≡ 0
+frame-rank (frame.Datum d) = refl
+frame-rank (frame.Ensemble e) = refl
+
+pub frame-sets : (f : Frame) (n j : Item) (rest : List Run) → Each (λ d. Ascend (items_in d rest)) set_classes →
+    Each (λ d. Ascend (items_in d (alone class.Text n ∷ alone (geodetic_class f) j ∷ rest))) set_classes
+frame-sets (frame.Datum d) n j rest h = h
+frame-sets (frame.Ensemble e) n j rest h = h
+
+-- what stands in a CRS or base with a prime meridian
+abbrev pub geodetic_classes : List Class
+geodetic_classes = class.PrimeMeridian ∷ crs_classes
+
+pub frame-shows : (c : Class) (item n j : Item) (f : Frame) (rest : List Run) →
+    Each (Shows c item (alone class.Text n ∷ alone (geodetic_class f) j ∷ rest)) geodetic_classes → Each (Shows c item rest) geodetic_classes
+frame-shows c item n j (frame.Datum d) rest h = h
+frame-shows c item n j (frame.Ensemble e) rest h = h
+
+pub meridian-there : (level : Level) (m : Option MeridianParts) (items : List Item) → ArePlaced items (given item_meridian (norm_meridian level m) ++ []) → items ≢ []
+meridian-there level None [] h e = h
+meridian-there level None (x ∷ items) h e = cc
+meridian-there level (Some m) [] h e = h
+meridian-there level (Some m) (x ∷ items) h e = cc
+
+-- ---- the class of a CRS by the type of its system
+
+-- a class and keyword for CRSs with a system of this type
+record IsRootClass (t : SystemType) (c : Class) (keyword : List ℕ) : Type 0 where
+  letters : IsWord keyword
+  known : IsTrue (is_keyword c keyword)
+  written : IsWritten c keyword
+  slots : slots_of c ≡ geodetic_slots
+  frames : NamesFrame c
+  systems : NamesSystem c
+  tails : NamesTail c
+  meridian : class_named c (codes "PRIMEM") ≡ Some class.PrimeMeridian
+  dimensions : SystemType → List ℕ
+  allows : (d : Value) → IsOneOf d (geodetic_dimensions t) → IsOneOf d (dimensions t)
+  breaks : (item : Item) (fault : Refused) → BreaksOwn c item fault → OfCrs dimensions c item fault
+  own : (item : Item) → Each (λ cs. words_in class.CoordinateSystem cs ≡ system_word t ∷ []) (those c class.CoordinateSystem (arguments item)) →
+      Has c class.PrimeMeridian item → HasAxes c item → HasTail c item → Own c item
+
+other-words : (w : List ℕ) (items : List Item) → w ≢ codes "ellipsoidal" → Each (λ cs. words_in class.CoordinateSystem cs ≡ w ∷ []) items →
+    Each (λ cs. words_in class.CoordinateSystem cs ≢ codes "ellipsoidal" ∷ []) items
+other-words w [] n h = tt
+other-words w (x ∷ items) n h =
+    (λ e. let k : w ∷ [] ≡ codes "ellipsoidal" ∷ [] = sym h.0 ∙ e in let q : w ≡ codes "ellipsoidal" = cc in n q, other-words w items n h.1)
+
+geodetic-root : (t : SystemType) → system_word t ≢ codes "ellipsoidal" → IsRootClass t class.GeodeticCrs (codes "GEODCRS")
+unfolding BreaksOwn class_named is_keyword
+geodetic-root t n = record {
+  letters = (refl, refl);
+  known = refl;
+  written = refl;
+  slots = refl;
+  frames = record { datum = refl; ensemble = refl };
+  systems = record { head = refl; axis = refl };
+  tails = record { usage = refl; ident = refl; remark = refl };
+  meridian = refl;
+  dimensions = geodetic_dimensions;
+  allows = λ d h. h;
+  breaks = λ item fault b. b;
+  own = λ item words meridian axes end.
+      (other-words (system_word t) (those class.GeodeticCrs class.CoordinateSystem (arguments item)) n words, meridian, axes, end);
+}
+
+geographic-root : IsRootClass types.Ellipsoidal class.GeographicCrs (codes "GEOGCRS")
+unfolding BreaksOwn class_named is_keyword
+geographic-root = record {
+  letters = (refl, refl);
+  known = refl;
+  written = refl;
+  slots = refl;
+  frames = record { datum = refl; ensemble = refl };
+  systems = record { head = refl; axis = refl };
+  tails = record { usage = refl; ident = refl; remark = refl };
+  meridian = refl;
+  dimensions = geographic_dimensions;
+  allows = λ d h. h;
+  breaks = λ item fault b. b;
+  own = λ item words meridian axes end. (meridian, axes, end);
+}
+
+is-root : (t : SystemType) → IsRootClass t (root_class t) (geodetic_keyword t)
+is-root types.Cartesian = geodetic-root types.Cartesian (λ e. cc)
+is-root types.Ellipsoidal = geographic-root
+is-root types.Spherical = geodetic-root types.Spherical (λ e. cc)
+is-root types.Vertical = geodetic-root types.Vertical (λ e. cc)
+
+-- ---- the CRSs
+
+abbrev meridian_run : Level → GeodeticParts → Run
+meridian_run level g = record { of = class.PrimeMeridian; items = given item_meridian (norm_meridian level g.meridian) }
+
+abbrev geodetic_runs : Level → GeodeticParts → List Run
+geodetic_runs level g =
+    alone class.Text (text_item g.name) ∷ alone (geodetic_class g.frame) (item_frame (codes "DATUM") (norm_frame level g.frame)) ∷
+    meridian_run level g ∷ behind level g.system g.tail
+
+abbrev pub end_classes : List Class
+end_classes =
+    class.Usage ∷ class.Scope ∷ class.Area ∷ class.BoundingBox ∷ class.VerticalExtent ∷ class.Identifier ∷ class.Remark ∷ []
+
+geodetic-small : (t : SystemType) → Each (λ m. m ≤ 3) (geodetic_dimensions t)
+geodetic-small types.Cartesian = (omega arith, tt)
+geodetic-small types.Ellipsoidal = (omega arith, (omega arith, tt))
+geodetic-small types.Spherical = (omega arith, (omega arith, tt))
+geodetic-small types.Vertical = tt
+
+geodetic-allowed : DecimalLaws → (level : Level) (g : GeodeticParts) → IsFew g.system → Allowed geodetic_slots (classes (geodetic_runs level g))
+geodetic-allowed l level g few =
+    fit-before (one class.Text ∷ one_of (class.GeodeticFrame ∷ class.GeodeticEnsemble ∷ []) ∷ optional class.PrimeMeridian ∷
+    one class.CoordinateSystem ∷ some class.Axis ∷ optional class.AxisUnit ∷ []) (tail ∷ [])
+    (alone class.Text (text_item g.name) ∷ alone (geodetic_class g.frame) (item_frame (codes "DATUM") (norm_frame level g.frame)) ∷
+    meridian_run level g ∷ alone class.CoordinateSystem (item_head (norm_system level g.system)) ∷ axes_run level g.system ∷ no_unit_run ∷ [])
+    (tail_runs level g.tail)
+    (fills-one refl, (fills-one (frame-taken g.frame), (fills-optional item_meridian (norm_meridian level g.meridian) refl, (fills-one refl,
+    (fills-some refl (axes-some l level g.system few), (fills-optional item_unit None refl, tt))))))
+    (last-fits end_classes (classes (tail_runs level g.tail)) (tail-fits end_classes level g.tail refl refl refl))
+
+pub end-sets : (level : Level) (g : GeodeticParts) → Each (λ d. Ascend (items_in d (meridian_run level g ∷ behind level g.system g.tail))) set_classes
+end-sets level g = (ids-ascend level g.tail.ids, (usages-ascend level (usages_of g.tail), (tt, (tt, (tt, tt)))))
+
+geodetic-runs-made : DecimalLaws → (level : Level) (c : Class) (keyword : List ℕ) (g : GeodeticParts) → IsRootClass g.system.system_type c keyword →
+    IsFew g.system → IsGeodetic g → RunsMade level 5 c (geodetic_runs level g)
+geodetic-runs-made l level c keyword g r few h = (
+  (text-made level 5 c g.name h.name, tt),
+  ((frame-argument l level 5 c g.frame (omega arith) r.frames h.frame, tt),
+  (meridian-argument l level 5 c g.meridian (omega arith) r.meridian h.meridian,
+  behind-made l level 5 c g.system g.tail (omega arith) r.systems r.tails few h.tail)),
+)
+
+geodetic-rise : (level : Level) (g : GeodeticParts) → RunsRise 0 (geodetic_runs level g)
+geodetic-rise level g =
+    let e : rank (geodetic_class g.frame) ≡ 0 = frame-rank g.frame in
+    (omega arith, (omega arith, (omega arith, (omega arith, (omega arith, (omega arith, (omega arith, (omega arith, (omega arith, tt)))))))))
+
+-- the word of each node `CS`
+system-words : (t : SystemType) (d : Value) (systems axes units : List Item) → IsSystemSeen t d systems axes units →
+    Each (λ cs. words_in class.CoordinateSystem cs ≡ system_word t ∷ []) systems
+system-words t d systems axes units s =
+    subst (λ cs. Each (λ i. words_in class.CoordinateSystem i ≡ system_word t ∷ []) cs) (sym s.systems_are)
+    (word (those class.CoordinateSystem class.Word (arguments s.head)) s.is_head.words, tt)
+  where
+    word : (words : List Item) → ArePlaced words (word_item (system_word t) ∷ []) → map raw_of words ≡ system_word t ∷ []
+    word [] p = absurd p
+    word (x ∷ []) p = ap (λ i. raw_of i ∷ []) p.0.1
+    word (x ∷ y ∷ words) p = absurd p.1
+
+geodetic-kept : DecimalLaws → (level : Level) (c : Class) (keyword : List ℕ) (g : GeodeticParts) → IsRootClass g.system.system_type c keyword →
+    IsFew g.system → IsGeodetic g → IsKept level 5 c keyword (geodetic_runs level g)
+geodetic-kept l level c keyword g r few h = record {
+  letters = r.letters;
+  known = r.known;
+  written = r.written;
+  made = geodetic-runs-made l level c keyword g r few h;
+  allowed = subst (λ slots. Allowed slots (classes (geodetic_runs level g))) (sym r.slots) (geodetic-allowed l level g few);
+  sets = frame-sets g.frame (text_item g.name) (item_frame (codes "DATUM") (norm_frame level g.frame))
+      (meridian_run level g ∷ behind level g.system g.tail) (end-sets level g);
+  own = λ item s.
+      let v = shown item s in
+      let seen = system-seen l level c item g.system g.tail few v.1 in
+      r.own item
+      (system-words g.system.system_type g.system.dimension (those c class.CoordinateSystem (arguments item)) (those c class.Axis (arguments item))
+      (those c class.AxisUnit (arguments item)) seen)
+      (meridian-there level g.meridian (those c class.PrimeMeridian (arguments item)) v.0)
+      (has-axes c item g.system.system_type g.system.dimension seen)
+      (has-tail level 5 c (geodetic_runs level g) item s (geodetic-runs-made l level c keyword g r few h) (geodetic-rise level g)
+      (tail-seen level c item g.tail v.1.1.1.1));
+  unbroken = λ item fault s b.
+      let v = shown item s in
+      no-break item fault (tail-seen level c item g.tail v.1.1.1.1) (system-seen l level c item g.system g.tail few v.1) (r.breaks item fault b);
+}
+  where
+    shown : (item : Item) → Sees c (geodetic_runs level g) item → Each (Shows c item (meridian_run level g ∷ behind level g.system g.tail)) geodetic_classes
+    shown item s =
+        frame-shows c item (text_item g.name) (item_frame (codes "DATUM") (norm_frame level g.frame)) g.frame
+        (meridian_run level g ∷ behind level g.system g.tail) (views c (geodetic_runs level g) item geodetic_classes s)
+
+    no-break : (item : Item) (fault : Refused) → IsTailSeen c item → IsSystemSeen g.system.system_type g.system.dimension
+        (those c class.CoordinateSystem (arguments item)) (those c class.Axis (arguments item)) (those c class.AxisUnit (arguments item)) →
+        ¬ (OfCrs r.dimensions c item fault)
+    no-break item fault t q (inl b) = no-repeats c item fault t b
+    no-break item fault t q (inr b) =
+        no-bad-systems l r.dimensions g.system.system_type g.system.dimension (those c class.CoordinateSystem (arguments item))
+        (those c class.Axis (arguments item)) (those c class.AxisUnit (arguments item)) fault h.system.dimension (r.allows g.system.dimension h.dimension) q b
+
+pub geodetic-made : DecimalLaws → AxisEach → (level : Level) (g : GeodeticParts) → IsGeodetic g → (p : ℕ) →
+    IsMade level (root_class g.system.system_type) 6 (at_place p (item_geodetic (norm_geodetic level g)))
+geodetic-made l each_at level g h =
+    node-made level 5 (root_class g.system.system_type) (geodetic_keyword g.system.system_type) (text_item g.name)
+    (More (item_frame (codes "DATUM") (norm_frame level g.frame))
+    (opt item_meridian (norm_meridian level g.meridian) (system_items (norm_system level g.system) (tail_items (norm_tail level g.tail)))))
+    (geodetic_runs level g) (simp (opt-line, each-line))
+    (geodetic-kept l level (root_class g.system.system_type) (geodetic_keyword g.system.system_type) g (is-root g.system.system_type)
+    (few-system l each_at geodetic_dimensions geodetic-small g.system h.system h.dimension) h)
+
+-- the system of a CRS, as the checks of a compound see it
+pub geodetic-seen : DecimalLaws → AxisEach → (level : Level) (g : GeodeticParts) → IsGeodetic g → (p : ℕ) →
+    IsSystemSeen g.system.system_type g.system.dimension
+    (those (root_class g.system.system_type) class.CoordinateSystem (arguments (at_place p (item_geodetic (norm_geodetic level g)))))
+    (those (root_class g.system.system_type) class.Axis (arguments (at_place p (item_geodetic (norm_geodetic level g)))))
+    (those (root_class g.system.system_type) class.AxisUnit (arguments (at_place p (item_geodetic (norm_geodetic level g)))))
+geodetic-seen l each_at level g h p =
+    let c : Class = root_class g.system.system_type in
+    let item : Item = at_place p (item_geodetic (norm_geodetic level g)) in
+    let few : IsFew g.system = few-system l each_at geodetic_dimensions geodetic-small g.system h.system h.dimension in
+    let s : Sees c (geodetic_runs level g) item =
+        sees level 5 c (geodetic_keyword g.system.system_type) (text_item g.name)
+        (More (item_frame (codes "DATUM") (norm_frame level g.frame))
+        (opt item_meridian (norm_meridian level g.meridian) (system_items (norm_system level g.system) (tail_items (norm_tail level g.tail)))))
+        (geodetic_runs level g) p (simp (opt-line, each-line))
+        (geodetic-runs-made l level c (geodetic_keyword g.system.system_type) g (is-root g.system.system_type) few h) in
+    system-seen l level c item g.system g.tail few
+    (frame-shows c item (text_item g.name) (item_frame (codes "DATUM") (norm_frame level g.frame)) g.frame
+    (meridian_run level g ∷ behind level g.system g.tail) (views c (geodetic_runs level g) item geodetic_classes s)).1

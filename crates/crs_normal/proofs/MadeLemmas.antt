@@ -1,0 +1,322 @@
+-- A node of arguments that are accepted and normal is so itself: what it asks of its arguments is said of them as runs
+-- of one class each, with all places left out.
+use Rattle.std.proofs.Common.{◌≡◌, ℕ, suc, ◌+◌, ◌≤◌, max, ◌⊎◌, Bool, true, false, IsTrue, IsFalse, Option, Some, None, List, [], ◌∷◌, ◌++◌, map, length, if◌then◌else◌, inl, inr, refl, sym, ap, ap₂, subst, ◌∙◌, arith}
+use Rattle.std.specs.Cmp.Lexicographic.{slice_cmp}
+use Rattle.std.specs.Ordering.{nat_cmp}
+use Rattle.crs_text.specs.Items.{Item, leaf, node, Items, End, More, arguments, depth, depths}
+use Rattle.crs_text.specs.Refusal.{Refused}
+use Rattle.crs_text.specs.Tokens.{IsWord}
+use Rattle.crs_text.specs.Written.{AreFormed, AreAllFormed, at_place, at_places, item_text, others_text}
+use Rattle.crs_shape.specs.declared.class.Class.{Class}
+use Rattle.crs_shape.specs.Keywords.{is_keyword}
+use Rattle.crs_shape.specs.Shape.{Allowed}
+use Rattle.crs_shape.specs.ShapeFault.{class_in}
+use Rattle.crs_shape.specs.Shaped.{Shaped, AreShaped}
+use Rattle.crs_shape.specs.Slots.{is_class, slots_of}
+use Rattle.crs_value.specs.Break.{AnyOf}
+use Rattle.crs_value.specs.Checks.{AtClass, Breaks, BreaksAmong, Own as BreaksOwn}
+use Rattle.crs_value.specs.declared.level.Level.{Level}
+use Rattle.crs_value.specs.declared.level.Level.TheVariants as levels
+use Rattle.crs_value.specs.Reading.{is_same, those}
+use Rattle.crs_normal.specs.Made.{IsMade}
+use Rattle.crs_normal.specs.Normal.{AreNormalIn, AtLevel, IsNormalIn, IsWritten}
+use Rattle.crs_normal.specs.NormalOwn.{Ascend, Each, HasSets, IsBelow, Own, set_classes}
+use Rattle.crs_normal.specs.SpelledItems.{each, node_of, opt}
+
+-- ---- places
+
+pub class-at : (c : Class) (p : ℕ) (j : Item) → class_in c (at_place p j) ≡ class_in c j
+class-at c p (leaf kind place raw) = refl
+class-at c p (node place keyword square first others close) = refl
+
+mutual
+  pub text-at : (p : ℕ) (j : Item) → item_text (at_place p j) ≡ item_text j
+  text-at p (leaf kind place raw) = refl
+  text-at p (node place keyword square first others close) =
+      let f = text-at (p + length keyword + 1) first in
+      let o = texts-at (p + length keyword + 1 + length (item_text first)) others in
+      λ i. keyword ++ 91 ∷ (f i ++ (o i ++ 93 ∷ []))
+
+  pub texts-at : (p : ℕ) (js : Items) → others_text (at_places p js) ≡ others_text js
+  texts-at p End = refl
+  texts-at p (More j js) =
+      let f = text-at (p + 1) j in
+      let o = texts-at (p + 1 + length (item_text j)) js in
+      λ i. 44 ∷ (f i ++ o i)
+
+-- these items are those, each at some place
+abbrev pub ArePlaced : List Item → List Item → Type 0
+ArePlaced [] [] = Unit {0}
+ArePlaced [] (j ∷ js) = ⊥
+ArePlaced (x ∷ xs) [] = ⊥
+ArePlaced (x ∷ xs) (j ∷ js) = ((p : ℕ) × (x ≡ at_place p j)) × ArePlaced xs js
+
+if-placed : (b : Bool) (p : ℕ) (j : Item) (xs js : List Item) → ArePlaced xs js →
+    ArePlaced (if b then at_place p j ∷ xs else xs) (if b then j ∷ js else js)
+if-placed true p j xs js h = ((p, refl), h)
+if-placed false p j xs js h = h
+
+those-placed : (c e : Class) (s : ℕ) (js : Items) → ArePlaced (those c e (at_places s js)) (those c e js)
+those-placed c e s End = tt
+those-placed c e s (More (leaf kind place raw) js) =
+    if-placed (is_class e (class_in c (leaf kind place raw))) (s + 1) (leaf kind place raw)
+    (those c e (at_places (s + 1 + length (item_text (leaf kind place raw))) js)) (those c e js)
+    (those-placed c e (s + 1 + length (item_text (leaf kind place raw))) js)
+those-placed c e s (More (node place keyword square first others close) js) =
+    let j : Item = node place keyword square first others close in
+    if-placed (is_class e (class_in c j)) (s + 1) j
+    (those c e (at_places (s + 1 + length (item_text j)) js)) (those c e js)
+    (those-placed c e (s + 1 + length (item_text j)) js)
+
+placed-below : (p : ℕ) (j : Item) (xs js : List Item) → ArePlaced xs js → Each (IsBelow j) js → Each (IsBelow (at_place p j)) xs
+placed-below p j [] [] h b = tt
+placed-below p j [] (k ∷ ks) h b = tt
+placed-below p j (x ∷ xs) [] h b = absurd h
+placed-below p j (x ∷ xs) (k ∷ ks) h b =
+    (ap₂ (slice_cmp nat_cmp) (text-at p j) (ap item_text h.0.1 ∙ text-at h.0.0 k) ∙ b.0, placed-below p j xs ks h.1 b.1)
+
+pub placed-ascend : (xs js : List Item) → ArePlaced xs js → Ascend js → Ascend xs
+placed-ascend [] [] h a = tt
+placed-ascend [] (j ∷ js) h a = tt
+placed-ascend (x ∷ xs) [] h a = absurd h
+placed-ascend (x ∷ xs) (j ∷ js) h a =
+    subst (λ y. Each (IsBelow y) xs × Ascend xs) (sym h.0.1) (placed-below h.0.0 j xs js h.1 a.0, placed-ascend xs js h.1 a.1)
+
+-- ---- runs: arguments of one class, in order
+
+pub record Run : Type 0 where
+  pub of : Class
+  pub items : List Item
+
+abbrev pub alone : Class → Item → Run
+alone c j = record { of = c; items = j ∷ [] }
+
+-- the item of a part that may be missing
+abbrev pub given : {A : Type 0} → (A → Item) → Option A → List Item
+given spell None = []
+given spell (Some x) = spell x ∷ []
+
+abbrev pub line : List Item → Items → Items
+line [] rest = rest
+line (j ∷ js) rest = More j (line js rest)
+
+abbrev pub lines : List Run → Items
+lines [] = End
+lines (run ∷ runs) = line run.items (lines runs)
+
+abbrev pub repeated : Class → List Item → List Class → List Class
+repeated c [] rest = rest
+repeated c (j ∷ js) rest = c ∷ repeated c js rest
+
+abbrev pub classes : List Run → List Class
+classes [] = []
+classes (run ∷ runs) = repeated run.of run.items (classes runs)
+
+-- the arguments of a class
+abbrev pub items_in : Class → List Run → List Item
+items_in e [] = []
+items_in e (run ∷ runs) = if is_same e run.of then run.items ++ items_in e runs else items_in e runs
+
+pub each-line : {A : Type 0} (spell : A → Item) (xs : List A) (rest : Items) → each spell xs rest ≡ line (map spell xs) rest
+each-line spell [] rest = refl
+each-line spell (x ∷ xs) rest = ap (λ r. More (spell x) r) (each-line spell xs rest)
+
+pub opt-line : {A : Type 0} (spell : A → Item) (x : Option A) (rest : Items) → opt spell x rest ≡ line (given spell x) rest
+opt-line spell None rest = refl
+opt-line spell (Some x) rest = refl
+
+-- ---- arguments
+
+-- an argument at a place
+pub record IsFine (level : Level) (most : ℕ) (parent c : Class) (item : Item) : Type 0 where
+  pub formed : AreFormed item
+  pub within : depth item ≤ most
+  pub shaped : Shaped c item
+  pub unbroken : (fault : Refused) → ¬ (Breaks c item fault)
+  pub normal : IsNormalIn level parent c item
+
+-- an argument at any place
+pub record Made (level : Level) (most : ℕ) (parent c : Class) (item : Item) : Type 0 where
+  pub named : class_in parent item ≡ Some c
+  pub fine : (p : ℕ) → IsFine level most parent c (at_place p item)
+
+abbrev pub RunsMade : Level → ℕ → Class → List Run → Type 0
+RunsMade level most c [] = Unit {0}
+RunsMade level most c (run ∷ runs) = Each (Made level most c run.of) run.items × RunsMade level most c runs
+
+abbrev AreMade : Level → ℕ → Class → List Class → Items → Type 0
+AreMade level most c [] End = Unit {0}
+AreMade level most c [] (More j js) = ⊥
+AreMade level most c (d ∷ ds) End = ⊥
+AreMade level most c (d ∷ ds) (More j js) = Made level most c d j × AreMade level most c ds js
+
+named-if : (c d e : Class) (j : Item) (js : Items) → class_in c j ≡ Some d →
+    those c e (More j js) ≡ (if is_same e d then j ∷ those c e js else those c e js)
+named-if c d e j js h = ap (λ o. if is_class e o then j ∷ those c e js else those c e js) h
+
+named-run : (level : Level) (most : ℕ) (c e d : Class) (b : Bool) → is_same e d ≡ b → (js : List Item) (rest : Items) → Each (Made level most c d) js →
+    those c e (line js rest) ≡ (if b then js ++ those c e rest else those c e rest)
+named-run level most c e d true q [] rest h = refl
+named-run level most c e d true q (j ∷ js) rest h =
+    named-if c d e j (line js rest) h.0.named
+    ∙ ap (λ b. if b then j ∷ those c e (line js rest) else those c e (line js rest)) q
+    ∙ ap (λ t. j ∷ t) (named-run level most c e d true q js rest h.1)
+named-run level most c e d false q [] rest h = refl
+named-run level most c e d false q (j ∷ js) rest h =
+    named-if c d e j (line js rest) h.0.named
+    ∙ ap (λ b. if b then j ∷ those c e (line js rest) else those c e (line js rest)) q
+    ∙ named-run level most c e d false q js rest h.1
+
+those-lines : (level : Level) (most : ℕ) (c e : Class) (runs : List Run) → RunsMade level most c runs → those c e (lines runs) ≡ items_in e runs
+those-lines level most c e [] h = refl
+those-lines level most c e (run ∷ runs) h =
+    named-run level most c e run.of (is_same e run.of) refl run.items (lines runs) h.0
+    ∙ ap (λ t. if is_same e run.of then run.items ++ t else t) (those-lines level most c e runs h.1)
+
+made-line : (level : Level) (most : ℕ) (c d : Class) (js : List Item) (ds : List Class) (rest : Items) → Each (Made level most c d) js →
+    AreMade level most c ds rest → AreMade level most c (repeated d js ds) (line js rest)
+made-line level most c d [] ds rest h more = more
+made-line level most c d (j ∷ js) ds rest h more = (h.0, made-line level most c d js ds rest h.1 more)
+
+made-lines : (level : Level) (most : ℕ) (c : Class) (runs : List Run) → RunsMade level most c runs → AreMade level most c (classes runs) (lines runs)
+made-lines level most c [] h = tt
+made-lines level most c (run ∷ runs) h =
+    made-line level most c run.of run.items (classes runs) (lines runs) h.0 (made-lines level most c runs h.1)
+
+-- ---- what holds of the arguments of a node
+
+pub at-class : (P : Class → Type 0) (o : Option Class) (d : Class) → o ≡ Some d → P d → AtClass o P
+at-class P o d e h = subst (λ o. AtClass o P) (sym e) h
+
+not-at-class : (P : Class → Type 0) (o : Option Class) (d : Class) → o ≡ Some d → ¬ (P d) → ¬ (AtClass o P)
+not-at-class P o d e h a = h (subst (λ o. AtClass o P) e a)
+
+module _ (level : Level) (most : ℕ) (c : Class) where
+  all-formed : (s : ℕ) (ds : List Class) (js : Items) → AreMade level most c ds js → AreAllFormed (at_places s js)
+  all-formed s [] End h = tt
+  all-formed s [] (More j js) h = absurd h
+  all-formed s (d ∷ ds) End h = tt
+  all-formed s (d ∷ ds) (More j js) h = ((h.0.fine (s + 1)).formed, all-formed (s + 1 + length (item_text j)) ds js h.1)
+
+  all-within : (s : ℕ) (ds : List Class) (js : Items) → AreMade level most c ds js → depths (at_places s js) ≤ most
+  all-within s [] End h = omega arith
+  all-within s [] (More j js) h = absurd h
+  all-within s (d ∷ ds) End h = omega arith
+  all-within s (d ∷ ds) (More j js) h =
+      let a : depth (at_place (s + 1) j) ≤ most = (h.0.fine (s + 1)).within in
+      let b : depths (at_places (s + 1 + length (item_text j)) js) ≤ most = all-within (s + 1 + length (item_text j)) ds js h.1 in
+      omega arith
+
+  all-shaped : (s : ℕ) (ds : List Class) (js : Items) → AreMade level most c ds js → AreShaped c ds (at_places s js)
+  all-shaped s [] End h = tt
+  all-shaped s [] (More j js) h = h
+  all-shaped s (d ∷ ds) End h = h
+  all-shaped s (d ∷ ds) (More j js) h =
+      (class-at c (s + 1) j ∙ h.0.named, ((h.0.fine (s + 1)).shaped, all-shaped (s + 1 + length (item_text j)) ds js h.1))
+
+  all-unbroken : (fault : Refused) (s : ℕ) (ds : List Class) (js : Items) → AreMade level most c ds js → ¬ (BreaksAmong c (at_places s js) fault)
+  all-unbroken fault s [] End h b = b
+  all-unbroken fault s [] (More j js) h b = absurd h
+  all-unbroken fault s (d ∷ ds) End h b = b
+  all-unbroken fault s (d ∷ ds) (More j js) h (inl b) =
+      not-at-class (λ e. Breaks e (at_place (s + 1) j) fault) (class_in c (at_place (s + 1) j)) d (class-at c (s + 1) j ∙ h.0.named)
+      ((h.0.fine (s + 1)).unbroken fault) b
+  all-unbroken fault s (d ∷ ds) (More j js) h (inr b) = all-unbroken fault (s + 1 + length (item_text j)) ds js h.1 b
+
+  all-normal : (s : ℕ) (ds : List Class) (js : Items) → AreMade level most c ds js → AreNormalIn level c (at_places s js)
+  all-normal s [] End h = tt
+  all-normal s [] (More j js) h = absurd h
+  all-normal s (d ∷ ds) End h = tt
+  all-normal s (d ∷ ds) (More j js) h =
+      (at-class (λ e. IsNormalIn level c e (at_place (s + 1) j)) (class_in c (at_place (s + 1) j)) d (class-at c (s + 1) j ∙ h.0.named)
+      (h.0.fine (s + 1)).normal, all-normal (s + 1 + length (item_text j)) ds js h.1)
+
+-- ---- nodes
+
+-- an item whose arguments are these
+pub record Sees (c : Class) (runs : List Run) (item : Item) : Type 0 where
+  pub start : ℕ
+  pub are : arguments item ≡ at_places start (lines runs)
+  pub view : (e : Class) → ArePlaced (those c e (arguments item)) (items_in e runs)
+
+-- what a node with these arguments needs
+pub record IsKept (level : Level) (most : ℕ) (c : Class) (keyword : List ℕ) (runs : List Run) : Type 0 where
+  pub letters : IsWord keyword
+  pub known : IsTrue (is_keyword c keyword)
+  pub written : IsWritten c keyword
+  pub made : RunsMade level most c runs
+  pub allowed : Allowed (slots_of c) (classes runs)
+  pub sets : Each (λ d. Ascend (items_in d runs)) set_classes
+  pub own : (item : Item) → Sees c runs item → Own c item
+  pub unbroken : (item : Item) (fault : Refused) → Sees c runs item → ¬ (BreaksOwn c item fault)
+
+at-level : (level : Level) (c : Class) (item : Item) → AtLevel level c item
+at-level levels.Full c item = tt
+
+pub sees : (level : Level) (most : ℕ) (c : Class) (keyword : List ℕ) (first : Item) (others : Items) (runs : List Run) (p : ℕ) →
+    More first others ≡ lines runs → RunsMade level most c runs → Sees c runs (at_place p (node_of keyword first others))
+sees level most c keyword first others runs p same made = record {
+  start = p + length keyword;
+  are = ap (at_places (p + length keyword)) same;
+  view = λ e. subst (ArePlaced (those c e (at_places (p + length keyword) (More first others))))
+      (ap (those c e) same ∙ those-lines level most c e runs made) (those-placed c e (p + length keyword) (More first others));
+}
+
+each-set : (c : Class) (runs : List Run) (item : Item) (es : List Class) → Sees c runs item → Each (λ d. Ascend (items_in d runs)) es →
+    Each (λ d. Ascend (those c d (arguments item))) es
+each-set c runs item [] s h = tt
+each-set c runs item (e ∷ es) s h =
+    (placed-ascend (those c e (arguments item)) (items_in e runs) (s.view e) h.0, each-set c runs item es s h.1)
+
+node-at : (level : Level) (most : ℕ) (c : Class) (keyword : List ℕ) (first : Item) (others : Items) (runs : List Run) (ds : List Class) (p : ℕ) →
+    More first others ≡ lines runs → ds ≡ classes runs → AreMade level most c ds (More first others) → IsKept level most c keyword runs →
+    IsMade level c (suc most) (at_place p (node_of keyword first others))
+node-at level most c keyword first others runs [] p same ds h k = absurd h
+node-at level most c keyword first others runs (d ∷ ds) p same q h k =
+    let f = h.0.fine (p + length keyword + 1) in
+    let s : ℕ = p + length keyword + 1 + length (item_text first) in
+    let i : Item = at_place p (node_of keyword first others) in
+    let look : Sees c runs i = sees level most c keyword first others runs p same k.made in
+    let n : class_in c (at_place (p + length keyword + 1) first) ≡ Some d = class-at c (p + length keyword + 1) first ∙ h.0.named in
+    let deep : depths (at_places s others) ≤ most = all-within level most c s ds others h.1 in
+    let high : depth (at_place (p + length keyword + 1) first) ≤ most = f.within in
+    record {
+      is_node = tt;
+      formed = (k.letters, f.formed, all-formed level most c s ds others h.1);
+      within = omega arith;
+      shaped = (k.known, (d, (ds, (n, (f.shaped, (all-shaped level most c s ds others h.1,
+          subst (Allowed (slots_of c)) (sym q) k.allowed))))));
+      unbroken = λ fault b. unbroken-node fault d (at_place (p + length keyword + 1) first) f.unbroken n (all-unbroken level most c fault s ds others h.1) (k.unbroken i fault look) b;
+      normal = λ parent. (k.written, at-level level c i, k.own i look, each-set c runs i set_classes look k.sets,
+          at-class (λ e. IsNormalIn level c e (at_place (p + length keyword + 1) first)) (class_in c (at_place (p + length keyword + 1) first)) d n f.normal,
+          all-normal level most c s ds others h.1);
+    }
+  where
+    unbroken-node : (fault : Refused) (d : Class) (j : Item) {O M : Type 0} → ((fault : Refused) → ¬ (Breaks d j fault)) → class_in c j ≡ Some d → ¬ M → ¬ O →
+        ¬ (O ⊎ (AtClass (class_in c j) (λ e. Breaks e j fault) ⊎ M))
+    unbroken-node fault d j u n m o (inl b) = o b
+    unbroken-node fault d j u n m o (inr (inl b)) = not-at-class (λ e. Breaks e j fault) (class_in c j) d n (u fault) b
+    unbroken-node fault d j u n m o (inr (inr b)) = m b
+
+-- a node whose arguments are these runs is made
+pub node-made : (level : Level) (most : ℕ) (c : Class) (keyword : List ℕ) (first : Item) (others : Items) (runs : List Run) →
+    More first others ≡ lines runs → IsKept level most c keyword runs → (p : ℕ) → IsMade level c (suc most) (at_place p (node_of keyword first others))
+node-made level most c keyword first others runs same k p =
+    node-at level most c keyword first others runs (classes runs) p same refl
+    (subst (AreMade level most c (classes runs)) (sym same) (made-lines level most c runs k.made)) k
+
+-- a made node as an argument of another
+pub as-argument : (level : Level) (n most : ℕ) (parent c : Class) (j : Item) → n ≤ most → class_in parent j ≡ Some c →
+    ((p : ℕ) → IsMade level c n (at_place p j)) → Made level most parent c j
+as-argument level n most parent c j h named made = record {
+  named = named;
+  fine = λ p. let m = made p in
+      let w : depth (at_place p j) ≤ n = m.within in
+      record { formed = m.formed; within = omega arith; shaped = m.shaped; unbroken = m.unbroken; normal = m.normal parent };
+}
+
+-- what stands in a node of these classes
+pub views : (c : Class) (runs : List Run) (item : Item) (es : List Class) → Sees c runs item →
+    Each (λ e. ArePlaced (those c e (arguments item)) (items_in e runs)) es
+views c runs item [] s = tt
+views c runs item (e ∷ es) s = (s.view e, views c runs item es s)

@@ -1,0 +1,174 @@
+-- The ends of CRSs are made.
+use Rattle.std.proofs.Common.{◌≡◌, ◌≢◌, ◌⊎◌, ℕ, ◌+◌, ◌≤◌, ◌++◌, Bool, true, false, IsTrue, Option, Some, None, List, [], ◌∷◌, length, map, drop, codes, IfSome, IsSome, if◌then◌else◌, inl, inr, refl, sym, ap, subst, ◌∙◌, arith}
+use Rattle.crs_text.specs.Items.{Item, Items, End, More, arguments}
+use Rattle.crs_text.specs.Refusal.{Refused}
+use Rattle.crs_text.specs.Written.{at_place, at_places, item_text}
+use Rattle.crs_shape.specs.declared.class.Class.{Class}
+use Rattle.crs_shape.specs.declared.class.Class.TheVariants as class
+use Rattle.crs_shape.specs.Keywords.{is_keyword}
+use Rattle.crs_shape.specs.Shape.{AllTaken, Allowed}
+use Rattle.crs_shape.specs.ShapeFault.{class_in}
+use Rattle.crs_shape.specs.Slots.{any_of, class_named, slots_of, takes}
+use Rattle.crs_value.specs.Break.{AnyOf}
+use Rattle.crs_value.specs.Checks.{AtClass, Own as BreaksOwn, once}
+use Rattle.crs_value.specs.declared.level.Level.{Level}
+use Rattle.crs_value.specs.declared.level.Level.TheVariants as levels
+use Rattle.crs_value.specs.Reading.{those}
+use Rattle.crs_value.specs.Repeated.{IsRepeated, RepeatsAny}
+use Rattle.crs_value.specs.Sound.{Each, IsText}
+use Rattle.crs_value.specs.SoundUsages.{IsTail, IsUsage, SaysSome}
+use Rattle.crs_value.specs.Values.{BoxParts, ExtentParts, TailParts, UsageParts}
+use Rattle.crs_same.specs.SameUsages.{is_there, says_some, usages_of}
+use Rattle.crs_normal.specs.DecimalLaws.{DecimalLaws}
+use Rattle.crs_normal.specs.Made.{IsMade}
+use Rattle.crs_normal.specs.NormalOwn.{Ascend, HasTail, Lacks, Rise, bare_classes, rank}
+use Rattle.crs_normal.specs.SpelledItems.{text_item, text_node}
+use Rattle.crs_normal.specs.SpelledUsages.{item_usage, norm_remark, norm_tail, norm_usage, set_usages, tail_items}
+use Rattle.crs_normal.proofs.MadeAscendLemmas.{set-ascends, set-each}
+use Rattle.crs_normal.proofs.MadeEllipsoidLemmas.{placed-none}
+use Rattle.crs_normal.proofs.MadeFitLemmas.{fills-one, last-fits, runs-fit, taken-more}
+use Rattle.crs_normal.proofs.MadeFrameLemmas.{not-repeated}
+use Rattle.crs_normal.proofs.MadeIdentLemmas.{given-made, ids-made, ids_run, text-node-made}
+use Rattle.crs_normal.proofs.MadeLemmas.{ArePlaced, Made, Run, RunsMade, Sees, alone, as-argument, at-class, class-at, classes, each-line, given, line, lines, opt-line}
+use Rattle.crs_normal.proofs.MadeUsageLemmas.{usage-made, usage-named}
+
+-- ---- the usages, the bare parts being one more
+
+some-there : (s a : Option (List ℕ)) (b : Option BoxParts) (e : Option ExtentParts) →
+    says_some (record { scope = s; area = a; bbox = b; extent = e }) ≡ true → IsSome s ⊎ (IsSome a ⊎ (IsSome b ⊎ IsSome e))
+some-there (Some s) a b e h = inl refl
+some-there None (Some a) b e h = inr (inl refl)
+some-there None None (Some b) e h = inr (inr (inl refl))
+some-there None None None (Some e) h = inr (inr (inr refl))
+some-there None None None None h = cc
+
+abbrev IsSaid : UsageParts → Type 0
+IsSaid u = IsUsage u × SaysSome u
+
+said : (us : List UsageParts) → Each IsUsage us → Each SaysSome us → Each IsSaid us
+said [] h s = tt
+said (u ∷ us) h s = ((h.0, s.0), said us h.1 s.1)
+
+usages-said : (t : TailParts) → IsTail t → Each IsSaid (usages_of t)
+usages-said t h = by (says_some t.bare) refl
+  where
+    by : (b : Bool) → says_some t.bare ≡ b → Each IsSaid (if b then t.bare ∷ t.usages else t.usages)
+    by true e = ((h.bare, some-there t.bare.scope t.bare.area t.bare.bbox t.bare.extent e), said t.usages h.usages h.each_some)
+    by false e = said t.usages h.usages h.each_some
+
+usages-made : DecimalLaws → (level : Level) (most : ℕ) (parent : Class) (us : List UsageParts) → 5 ≤ most →
+    class_named parent (codes "USAGE") ≡ Some class.Usage → Each IsSaid us → Each (Made level most parent class.Usage) (map item_usage (set_usages level us))
+unfolding set_usages
+usages-made l levels.Full most parent us deep named h =
+    set-each norm_usage item_usage IsSaid (Made levels.Full most parent class.Usage) us h
+    (λ u q. as-argument levels.Full 5 most parent class.Usage (item_usage (norm_usage u)) deep (usage-named parent u q.1 named) (usage-made l levels.Full u q.0 q.1))
+
+pub usages-ascend : (level : Level) (us : List UsageParts) → Ascend (map item_usage (set_usages level us) ++ [])
+unfolding set_usages
+usages-ascend levels.Full us = set-ascends item_usage (map norm_usage us)
+
+-- ---- the remark
+
+remark-made : (level : Level) (raw : List ℕ) → IsText raw → (p : ℕ) → IsMade level class.Remark 1 (at_place p (text_node (codes "REMARK") raw))
+unfolding is_keyword BreaksOwn
+remark-made level raw h =
+    text-node-made level class.Remark (codes "REMARK") raw (refl, refl) refl refl
+    (runs-fit (slots_of class.Remark) (alone class.Text (text_item raw) ∷ []) (fills-one refl, tt)) (λ item. tt) (λ item fault b. b) h
+
+remark-text : (level : Level) (remark : Option (List ℕ)) → IfSome remark IsText → IfSome (norm_remark level remark) IsText
+remark-text levels.Full remark h = h
+
+-- ---- the end of a CRS
+
+abbrev remark_items : Level → TailParts → List Item
+remark_items level t = given (text_node (codes "REMARK")) (norm_remark level t.remark)
+
+abbrev pub tail_runs : Level → TailParts → List Run
+tail_runs level t =
+    record { of = class.Usage; items = map item_usage (set_usages level (usages_of t)) } ∷ ids_run level t.ids ∷
+    record { of = class.Remark; items = remark_items level t } ∷ []
+
+pub tail-lines : (level : Level) (t : TailParts) → tail_items (norm_tail level t) ≡ lines (tail_runs level t)
+tail-lines level t = simp (each-line, opt-line)
+
+-- a class of CRS names the nodes of its end
+pub record NamesTail (c : Class) : Type 0 where
+  pub usage : class_named c (codes "USAGE") ≡ Some class.Usage
+  pub ident : class_named c (codes "ID") ≡ Some class.Identifier
+  pub remark : class_named c (codes "REMARK") ≡ Some class.Remark
+
+pub tail-runs-made : DecimalLaws → (level : Level) (most : ℕ) (c : Class) (t : TailParts) → 5 ≤ most → NamesTail c → IsTail t →
+    RunsMade level most c (tail_runs level t)
+tail-runs-made l level most c t deep n h =
+    let two : 2 ≤ most = omega arith in
+    let one : 1 ≤ most = omega arith in (
+      usages-made l level most c (usages_of t) deep n.usage (usages-said t h),
+      (ids-made l level most c t.ids two n.ident h.ids,
+      (given-made level most c class.Remark IsText (text_node (codes "REMARK")) (norm_remark level t.remark) (remark-text level t.remark h.remark)
+      (λ raw q. as-argument level 1 most c class.Remark (text_node (codes "REMARK") raw) one n.remark (remark-made level raw q)), tt)),
+    )
+
+pub tail-fits : (cs : List Class) (level : Level) (t : TailParts) → takes (any_of cs) class.Usage ≡ true → takes (any_of cs) class.Identifier ≡ true →
+    takes (any_of cs) class.Remark ≡ true → AllTaken (any_of cs) (classes (tail_runs level t))
+tail-fits cs level t u i r =
+    taken-more (any_of cs) class.Usage (map item_usage (set_usages level (usages_of t))) (classes (ids_run level t.ids ∷ record { of = class.Remark; items = remark_items level t } ∷ [])) u
+    (taken-more (any_of cs) class.Identifier ((ids_run level t.ids).items) (classes (record { of = class.Remark; items = remark_items level t } ∷ [])) i
+    (taken-more (any_of cs) class.Remark (remark_items level t) [] r tt))
+
+-- ---- ranks never fall
+
+-- the ranks of the runs never fall, from this one on
+abbrev pub RunsRise : ℕ → List Run → Type 0
+RunsRise least [] = Unit {0}
+RunsRise least (run ∷ runs) = (least ≤ rank run.of) × RunsRise (rank run.of) runs
+
+rise-lower : (c : Class) (m n : ℕ) (items : Items) → m ≤ n → Rise c n items → Rise c m items
+rise-lower c m n End h r = tt
+rise-lower c m n (More item items) h r = by (class_in c item) r
+  where
+    by : (o : Option Class) → AtClass o (λ d. (n ≤ rank d) × Rise c (rank d) items) → AtClass o (λ d. (m ≤ rank d) × Rise c (rank d) items)
+    by None q = q
+    by (Some d) q = let k : n ≤ rank d = q.0 in (omega arith, q.1)
+
+rise-line : (level : Level) (most : ℕ) (c d : Class) (js : List Item) (rest : Items) (least s : ℕ) → Each (Made level most c d) js → least ≤ rank d →
+    ((s : ℕ) → Rise c (rank d) (at_places s rest)) → Rise c least (at_places s (line js rest))
+rise-line level most c d [] rest least s h low more = rise-lower c least (rank d) (at_places s rest) low (more s)
+rise-line level most c d (j ∷ js) rest least s h low more =
+    at-class (λ e. (least ≤ rank e) × Rise c (rank e) (at_places (s + 1 + length (item_text j)) (line js rest))) (class_in c (at_place (s + 1) j)) d
+    (class-at c (s + 1) j ∙ h.0.named) (low, rise-line level most c d js rest (rank d) (s + 1 + length (item_text j)) h.1 (omega arith) more)
+
+rise-lines : (level : Level) (most : ℕ) (c : Class) (runs : List Run) (least s : ℕ) → RunsMade level most c runs → RunsRise least runs →
+    Rise c least (at_places s (lines runs))
+rise-lines level most c [] least s h r = tt
+rise-lines level most c (run ∷ runs) least s h r =
+    rise-line level most c run.of run.items (lines runs) least s h.0 r.0 (λ q. rise-lines level most c runs (rank run.of) q h.1 r.1)
+
+-- ---- what the checks see of the end
+
+-- no part of a usage stands bare, and there is one remark at most
+pub record IsTailSeen (c : Class) (item : Item) : Type 0 where
+  pub scope : those c class.Scope (arguments item) ≡ []
+  pub area : those c class.Area (arguments item) ≡ []
+  pub bbox : those c class.BoundingBox (arguments item) ≡ []
+  pub extent : those c class.VerticalExtent (arguments item) ≡ []
+  pub remarks : Option (List ℕ)
+  pub remark : ArePlaced (those c class.Remark (arguments item)) (given (text_node (codes "REMARK")) remarks ++ [])
+
+none-repeated : (items : List Item) (fault : Refused) → items ≡ [] → ¬ (AnyOf IsRepeated (drop 1 items) fault)
+none-repeated items fault e b = subst (λ is. AnyOf IsRepeated (drop 1 is) fault) e b
+
+pub no-repeats : (c : Class) (item : Item) (fault : Refused) → IsTailSeen c item → ¬ (RepeatsAny c (arguments item) once fault)
+no-repeats c item fault s (inl b) = none-repeated (those c class.Scope (arguments item)) fault s.scope b
+no-repeats c item fault s (inr (inl b)) = none-repeated (those c class.Area (arguments item)) fault s.area b
+no-repeats c item fault s (inr (inr (inl b))) = none-repeated (those c class.BoundingBox (arguments item)) fault s.bbox b
+no-repeats c item fault s (inr (inr (inr (inl b)))) = none-repeated (those c class.VerticalExtent (arguments item)) fault s.extent b
+no-repeats c item fault s (inr (inr (inr (inr (inl b))))) =
+    not-repeated (text_node (codes "REMARK")) s.remarks (those c class.Remark (arguments item)) fault s.remark b
+no-repeats c item fault s (inr (inr (inr (inr (inr b))))) = b
+
+pub has-tail : (level : Level) (most : ℕ) (c : Class) (runs : List Run) (item : Item) → Sees c runs item → RunsMade level most c runs → RunsRise 0 runs →
+    IsTailSeen c item → HasTail c item
+has-tail level most c runs item s m r t = record {
+  in_order = subst (Rise c 0) (sym s.are) (rise-lines level most c runs 0 s.start m r);
+  none_bare = (t.scope, (t.area, (t.bbox, (t.extent, tt))));
+}

@@ -1,0 +1,190 @@
+-- Vertical CRSs are made.
+use Rattle.std.proofs.Common.{◌≡◌, ◌⊎◌, ℕ, ◌+◌, ◌≤◌, ◌++◌, true, Option, Some, None, List, [], ◌∷◌, length, map, codes, inl, inr, refl, sym, ap, subst, ◌∙◌, arith}
+use Rattle.crs_text.specs.Items.{Item, Items, More, arguments}
+use Rattle.crs_text.specs.Refusal.{Refused}
+use Rattle.crs_text.specs.Written.{at_place}
+use Rattle.crs_shape.specs.declared.class.Class.{Class}
+use Rattle.crs_shape.specs.declared.class.Class.TheVariants as class
+use Rattle.crs_shape.specs.Keywords.{is_keyword}
+use Rattle.crs_shape.specs.Shape.{Allowed}
+use Rattle.crs_shape.specs.ShapeFault.{class_in}
+use Rattle.crs_shape.specs.Slots.{any_of, class_named, one, one_of, optional, slots_of, some, takes, vertical_tail}
+use Rattle.crs_value.specs.BadSystem.{vertical_dimensions}
+use Rattle.crs_value.specs.Checks.{OfCrs, Own as BreaksOwn}
+use Rattle.crs_value.specs.ConversionValues.{GeoidModelParts}
+use Rattle.crs_value.specs.CrsValues.{VerticalParts}
+use Rattle.crs_value.specs.declared.frame.Frame.{Frame}
+use Rattle.crs_value.specs.declared.frame.Frame.TheVariants as frame
+use Rattle.crs_value.specs.declared.level.Level.{Level}
+use Rattle.crs_value.specs.declared.system_type.SystemType.{SystemType}
+use Rattle.crs_value.specs.declared.system_type.SystemType.TheVariants as types
+use Rattle.crs_value.specs.Reading.{those}
+use Rattle.crs_value.specs.Sound.{Each}
+use Rattle.crs_value.specs.SoundConversion.{IsGeoidModel}
+use Rattle.crs_value.specs.SoundSingle.{IsVertical, IsVerticalFrame}
+use Rattle.crs_same.specs.SameUsages.{usages_of}
+use Rattle.crs_normal.specs.DecimalLaws.{DecimalLaws}
+use Rattle.crs_normal.specs.Made.{IsMade, vertical_class}
+use Rattle.crs_normal.specs.NormalOwn.{Ascend, rank, set_classes}
+use Rattle.crs_normal.specs.SpelledConversions.{item_geoid_model, norm_geoid_model, set_geoid_models}
+use Rattle.crs_normal.specs.SpelledCrs.{item_vertical, norm_vertical}
+use Rattle.crs_normal.specs.SpelledFrames.{item_frame, norm_frame}
+use Rattle.crs_normal.specs.SpelledItems.{each, opt, text_item}
+use Rattle.crs_normal.specs.SpelledSystems.{item_head, norm_system, system_items}
+use Rattle.crs_normal.specs.SpelledUnits.{item_unit}
+use Rattle.crs_normal.specs.SpelledUsages.{norm_tail, tail_items}
+use Rattle.crs_normal.proofs.MadeAscendLemmas.{set-ascends, set-each}
+use Rattle.crs_normal.proofs.MadeBehindLemmas.{AxisEach, IsFew, NamesSystem, Shows, axes-argument, axes-some, axes_run, behind, crs_classes, few-system, head-argument, no_unit_run, system-seen, tail-seen}
+use Rattle.crs_normal.proofs.MadeCheckLemmas.{IsSystemSeen, has-axes, no-bad-systems}
+use Rattle.crs_normal.proofs.MadeFitLemmas.{fills-one, fills-optional, fills-some, fit-before, last-fits, taken-more}
+use Rattle.crs_normal.proofs.MadeFrameLemmas.{vertical-frame-made}
+use Rattle.crs_normal.proofs.MadeGeodeticLemmas.{end_classes}
+use Rattle.crs_normal.proofs.MadeIdentLemmas.{ids-ascend}
+use Rattle.crs_normal.proofs.MadeLeafLemmas.{text-made}
+use Rattle.crs_normal.proofs.MadeLemmas.{IsKept, Made, Run, RunsMade, Sees, alone, as-argument, classes, each-line, items_in, node-made, opt-line, views}
+use Rattle.crs_normal.proofs.MadeNamedLemmas.{geoid-model-made}
+use Rattle.crs_normal.proofs.MadeTailLemmas.{IsTailSeen, RunsRise, has-tail, no-repeats, tail-fits, tail-runs-made, tail_runs, usages-ascend}
+
+-- ---- the frame, of one class or the other
+
+vertical-named : (level : Level) (f : Frame) → class_in class.VerticalCrs (item_frame (codes "VDATUM") (norm_frame level f)) ≡ Some (vertical_class f)
+unfolding class_named is_keyword
+vertical-named level (frame.Datum d) = refl
+vertical-named level (frame.Ensemble e) = refl
+
+vertical-taken : (f : Frame) → takes (one_of (class.VerticalFrame ∷ class.VerticalEnsemble ∷ [])) (vertical_class f) ≡ true
+vertical-taken (frame.Datum d) = refl
+vertical-taken (frame.Ensemble e) = refl
+
+vertical-rank : (f : Frame) → rank (vertical_class f) ≡ 0
+vertical-rank (frame.Datum d) = refl
+vertical-rank (frame.Ensemble e) = refl
+
+vertical-sets : (f : Frame) (n j : Item) (rest : List Run) → Each (λ d. Ascend (items_in d rest)) set_classes →
+    Each (λ d. Ascend (items_in d (alone class.Text n ∷ alone (vertical_class f) j ∷ rest))) set_classes
+vertical-sets (frame.Datum d) n j rest h = h
+vertical-sets (frame.Ensemble e) n j rest h = h
+
+vertical-shows : (item n j : Item) (f : Frame) (rest : List Run) →
+    Each (Shows class.VerticalCrs item (alone class.Text n ∷ alone (vertical_class f) j ∷ rest)) crs_classes →
+    Each (Shows class.VerticalCrs item rest) crs_classes
+vertical-shows item n j (frame.Datum d) rest h = h
+vertical-shows item n j (frame.Ensemble e) rest h = h
+
+-- ---- geoid models
+
+models-made : DecimalLaws → (level : Level) (gs : List GeoidModelParts) → Each IsGeoidModel gs →
+    Each (Made level 5 class.VerticalCrs class.GeoidModel) (map item_geoid_model (set_geoid_models level gs))
+unfolding set_geoid_models class_named is_keyword
+models-made l level gs h =
+    set-each (norm_geoid_model level) item_geoid_model IsGeoidModel (Made level 5 class.VerticalCrs class.GeoidModel) gs h
+    (λ g q. as-argument level 3 5 class.VerticalCrs class.GeoidModel (item_geoid_model (norm_geoid_model level g)) (omega arith) refl (geoid-model-made l level g q))
+
+models-ascend : (level : Level) (gs : List GeoidModelParts) → Ascend (map item_geoid_model (set_geoid_models level gs) ++ [])
+unfolding set_geoid_models
+models-ascend level gs = set-ascends item_geoid_model (map (norm_geoid_model level) gs)
+
+-- ---- vertical CRSs
+
+abbrev models_run : Level → VerticalParts → Run
+models_run level g = record { of = class.GeoidModel; items = map item_geoid_model (set_geoid_models level g.geoid_models) }
+
+-- what a vertical CRS has behind its frame
+abbrev vertical_rest : Level → VerticalParts → List Run
+vertical_rest level g =
+    alone class.CoordinateSystem (item_head (norm_system level g.system)) ∷ axes_run level g.system ∷ no_unit_run ∷
+    models_run level g ∷ tail_runs level g.tail
+
+abbrev vertical_runs : Level → VerticalParts → List Run
+vertical_runs level g =
+    alone class.Text (text_item g.name) ∷ alone (vertical_class g.frame) (item_frame (codes "VDATUM") (norm_frame level g.frame)) ∷ vertical_rest level g
+
+vertical-small : (t : SystemType) → Each (λ m. m ≤ 3) (vertical_dimensions t)
+vertical-small types.Cartesian = tt
+vertical-small types.Ellipsoidal = tt
+vertical-small types.Spherical = tt
+vertical-small types.Vertical = (omega arith, tt)
+
+abbrev model_classes : List Class
+model_classes = class.GeoidModel ∷ end_classes
+
+vertical-allowed : DecimalLaws → (level : Level) (g : VerticalParts) → IsFew g.system → Allowed (slots_of class.VerticalCrs) (classes (vertical_runs level g))
+vertical-allowed l level g few =
+    fit-before (one class.Text ∷ one_of (class.VerticalFrame ∷ class.VerticalEnsemble ∷ []) ∷ one class.CoordinateSystem ∷ some class.Axis ∷
+    optional class.AxisUnit ∷ []) (vertical_tail ∷ [])
+    (alone class.Text (text_item g.name) ∷ alone (vertical_class g.frame) (item_frame (codes "VDATUM") (norm_frame level g.frame)) ∷
+    alone class.CoordinateSystem (item_head (norm_system level g.system)) ∷ axes_run level g.system ∷ no_unit_run ∷ [])
+    (models_run level g ∷ tail_runs level g.tail)
+    (fills-one refl, (fills-one (vertical-taken g.frame), (fills-one refl,
+    (fills-some refl (axes-some l level g.system few), (fills-optional item_unit None refl, tt)))))
+    (last-fits model_classes (classes (models_run level g ∷ tail_runs level g.tail))
+    (taken-more (any_of model_classes) class.GeoidModel (map item_geoid_model (set_geoid_models level g.geoid_models)) (classes (tail_runs level g.tail)) refl
+    (tail-fits model_classes level g.tail refl refl refl)))
+
+vertical-runs-made : DecimalLaws → (level : Level) (g : VerticalParts) → IsFew g.system → IsVertical g →
+    RunsMade level 5 class.VerticalCrs (vertical_runs level g)
+unfolding class_named is_keyword
+vertical-runs-made l level g few h =
+    let names : NamesSystem class.VerticalCrs = record { head = refl; axis = refl } in (
+      (text-made level 5 class.VerticalCrs g.name h.name, tt),
+      ((as-argument level 5 5 class.VerticalCrs (vertical_class g.frame) (item_frame (codes "VDATUM") (norm_frame level g.frame)) (omega arith)
+      (vertical-named level g.frame) (vertical-frame-made l level g.frame h.frame), tt),
+      ((head-argument l level 5 class.VerticalCrs g.system (omega arith) names few.system, tt),
+      (axes-argument l level 5 class.VerticalCrs g.system (omega arith) names few,
+      (tt,
+      (models-made l level g.geoid_models h.geoid_models,
+      tail-runs-made l level 5 class.VerticalCrs g.tail (omega arith) (record { usage = refl; ident = refl; remark = refl }) h.tail))))),
+    )
+
+vertical-rise : (level : Level) (g : VerticalParts) → RunsRise 0 (vertical_runs level g)
+vertical-rise level g =
+    let e : rank (vertical_class g.frame) ≡ 0 = vertical-rank g.frame in
+    (omega arith, (omega arith, (omega arith, (omega arith, (omega arith, (omega arith, (omega arith, (omega arith, (omega arith, tt)))))))))
+
+vertical-breaks : DecimalLaws → (g : VerticalParts) (item : Item) (fault : Refused) → IsVertical g → IsTailSeen class.VerticalCrs item →
+    IsSystemSeen g.system.system_type g.system.dimension (those class.VerticalCrs class.CoordinateSystem (arguments item))
+    (those class.VerticalCrs class.Axis (arguments item)) (those class.VerticalCrs class.AxisUnit (arguments item)) →
+    ¬ (OfCrs vertical_dimensions class.VerticalCrs item fault)
+vertical-breaks l g item fault h t q (inl b) = no-repeats class.VerticalCrs item fault t b
+vertical-breaks l g item fault h t q (inr b) =
+    no-bad-systems l vertical_dimensions g.system.system_type g.system.dimension (those class.VerticalCrs class.CoordinateSystem (arguments item))
+    (those class.VerticalCrs class.Axis (arguments item)) (those class.VerticalCrs class.AxisUnit (arguments item)) fault
+    h.system.dimension h.dimension q b
+
+vertical-shown : (level : Level) (g : VerticalParts) (item : Item) → Sees class.VerticalCrs (vertical_runs level g) item →
+    Each (Shows class.VerticalCrs item (behind level g.system g.tail)) crs_classes
+vertical-shown level g item s =
+    vertical-shows item (text_item g.name) (item_frame (codes "VDATUM") (norm_frame level g.frame)) g.frame (vertical_rest level g)
+    (views class.VerticalCrs (vertical_runs level g) item crs_classes s)
+
+vertical-kept : DecimalLaws → (level : Level) (g : VerticalParts) → IsFew g.system → IsVertical g →
+    IsKept level 5 class.VerticalCrs (codes "VERTCRS") (vertical_runs level g)
+unfolding BreaksOwn is_keyword
+vertical-kept l level g few h = record {
+  letters = (refl, refl);
+  known = refl;
+  written = refl;
+  made = vertical-runs-made l level g few h;
+  allowed = vertical-allowed l level g few;
+  sets = vertical-sets g.frame (text_item g.name) (item_frame (codes "VDATUM") (norm_frame level g.frame)) (vertical_rest level g)
+      (ids-ascend level g.tail.ids, (usages-ascend level (usages_of g.tail), (tt, (tt, (models-ascend level g.geoid_models, tt)))));
+  own = λ item s.
+      let v = vertical-shown level g item s in (
+        has-axes class.VerticalCrs item g.system.system_type g.system.dimension (system-seen l level class.VerticalCrs item g.system g.tail few v),
+        has-tail level 5 class.VerticalCrs (vertical_runs level g) item s (vertical-runs-made l level g few h) (vertical-rise level g)
+        (tail-seen level class.VerticalCrs item g.tail v.1.1.1),
+      );
+  unbroken = λ item fault s b.
+      let v = vertical-shown level g item s in
+      vertical-breaks l g item fault h (tail-seen level class.VerticalCrs item g.tail v.1.1.1)
+      (system-seen l level class.VerticalCrs item g.system g.tail few v) b;
+}
+
+pub vertical-made : DecimalLaws → AxisEach → (level : Level) (g : VerticalParts) → IsVertical g → (p : ℕ) →
+    IsMade level class.VerticalCrs 6 (at_place p (item_vertical (norm_vertical level g)))
+vertical-made l each_at level g h =
+    node-made level 5 class.VerticalCrs (codes "VERTCRS") (text_item g.name)
+    (More (item_frame (codes "VDATUM") (norm_frame level g.frame))
+    (system_items (norm_system level g.system) (each item_geoid_model (set_geoid_models level g.geoid_models) (tail_items (norm_tail level g.tail)))))
+    (vertical_runs level g) (simp (opt-line, each-line))
+    (vertical-kept l level g (few-system l each_at vertical_dimensions vertical-small g.system h.system h.dimension) h)
