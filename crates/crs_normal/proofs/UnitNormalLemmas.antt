@@ -30,20 +30,25 @@ map-same [] = refl
 map-same (x ∷ xs) = ap (λ ys. x ∷ ys) (map-same xs)
 
 -- the identifiers in a slot
-pub idents-spelled : (level : Level) (c : Class) (items : Items) (front : List Item) → Kept level c items → those c class.Identifier items ≡ front →
-    Ascend (those c class.Identifier items) → (ids : List IdentParts) → ReadsEach (ReadsIdent class.Identifier) (those c class.Identifier items) ids →
+pub idents-spelled : (level : Level) (c : Class) (items : Items) (front : List Item) → Kept level c items →
+    those c class.Identifier items ≡ front →
+    Ascend (those c class.Identifier items) → (ids : List IdentParts) →
+    ReadsEach (ReadsIdent class.Identifier) (those c class.Identifier items) ids →
     (rest after : Items) → rest ≡ after → flats_onto front rest ≡ each item_ident (set_idents level ids) after
 unfolding set_idents
 idents-spelled levels.Full c items front k e up ids reads rest after f =
-    set-spelled levels.Full c class.Identifier (ReadsIdent class.Identifier) item_ident (λ x. x) (ident-form levels.Full c)
-    (those c class.Identifier items) front (kept-good levels.Full c class.Identifier items k) e up ids reads rest after f
+    set-spelled levels.Full c class.Identifier (ReadsIdent class.Identifier) item_ident (λ x. x)
+    (ident-form levels.Full c)
+    (those c class.Identifier items) front (kept-good levels.Full c class.Identifier items k) e up ids reads rest after
+    f
     ∙ ap (λ xs. each item_ident (in_order (λ i. item_text (item_ident i)) xs) after) (map-same ids)
 
 -- ---- units
 
 -- a keyword of the class is a kind's word, and that kind stays as it is where this one is asked
 abbrev pub KindIn : UnitKind → Class → Type 0
-KindIn asked d = (keyword : List ℕ) → IsWritten d keyword → (k : UnitKind) × ((keyword ≡ unit_word k) × (kind_as asked k ≡ k))
+KindIn asked d = (keyword : List ℕ) → IsWritten d keyword →
+    (k : UnitKind) × ((keyword ≡ unit_word k) × (kind_as asked k ≡ k))
 
 pub in-length : (asked : UnitKind) → KindIn asked class.LengthUnit
 in-length asked keyword e = (kinds.Length, (e, refl))
@@ -61,13 +66,15 @@ pub in-axis : (asked : UnitKind) → KindIn asked class.AxisUnit
 in-axis asked keyword (inl e) = (kinds.Length, (e, refl))
 in-axis asked keyword (inr e) = (kinds.Angle, (e, refl))
 
-keyword-of : (asked : UnitKind) (keyword : List ℕ) (k kind : UnitKind) → keyword ≡ unit_word k → kind_as asked k ≡ k → SpellsWord keyword (unit_word kind) →
+keyword-of : (asked : UnitKind) (keyword : List ℕ) (k kind : UnitKind) → keyword ≡ unit_word k → kind_as asked k ≡ k →
+    SpellsWord keyword (unit_word kind) →
     keyword ≡ unit_word (kind_as asked kind)
 keyword-of asked keyword k kind e same spells =
     let one = kind-one k kind (subst (λ (w : List ℕ). SpellsWord w (unit_word kind)) e spells) in
     e ∙ ap unit_word (sym same ∙ ap (kind_as asked) one)
 
-pub unit-form : PlainIsOne → (level : Level) (c d : Class) (asked : UnitKind) → slots_of d ≡ unit_slots → KindIn asked d → ArePlain d →
+pub unit-form : PlainIsOne → (level : Level) (c d : Class) (asked : UnitKind) → slots_of d ≡ unit_slots →
+    KindIn asked d → ArePlain d →
     Form level c d (ReadsUnit d) (λ u. item_unit (norm_unit level asked u))
 unit-form law level c d asked slots kind_in plains (leaf kind place raw) x good reads = absurd reads.name
 unit-form law level c d asked slots kind_in plains (node place keyword square first others close) x good reads =
@@ -77,10 +84,15 @@ unit-form law level c d asked slots kind_in plains (node place keyword square fi
     let v1 = v.1.1.1.1 in
     let v2 = v1.1.1.1.1 in
     let k = kind_in keyword o.written in
-    node-spelled place keyword _ square first others close _ (keyword-of asked keyword k.0 x.kind k.1.0 k.1.1 reads.kind)
+    node-spelled place keyword _ square first others close _
+    (keyword-of asked keyword k.0 x.kind k.1.0 k.1.1 reads.kind)
     (flats-spread d unit_slots items v
-    ∙ one-spelled level d class.Text ReadsText text_item (text-form level d) (those d class.Text items) v.0 (kept-good level d class.Text items o.kept)
+    ∙ one-spelled level d class.Text ReadsText text_item (text-form level d) (those d class.Text items) v.0
+    (kept-good level d class.Text items o.kept)
     (those-looked d class.Text unit_slots items v) (v.1.1.0.not_more refl) x.name reads.name _ _
-    (one-spelled level d class.Number ReadsNumber number_item (number-form law level d plains) (those d class.Number items) v1.0
-    (kept-good level d class.Number items o.kept) (those-looked d class.Number unit_slots items v) (v1.1.1.0.not_more refl) x.factor reads.factor _ _
-    (idents-spelled level d items v2.0 o.kept (those-looked d class.Identifier unit_slots items v) o.sets.0 x.ids reads.ids End End refl)))
+    (one-spelled level d class.Number ReadsNumber number_item (number-form law level d plains)
+    (those d class.Number items) v1.0
+    (kept-good level d class.Number items o.kept) (those-looked d class.Number unit_slots items v)
+    (v1.1.1.0.not_more refl) x.factor reads.factor _ _
+    (idents-spelled level d items v2.0 o.kept (those-looked d class.Identifier unit_slots items v) o.sets.0 x.ids
+    reads.ids End End refl)))
