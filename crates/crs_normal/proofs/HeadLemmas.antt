@@ -1,4 +1,5 @@
--- What the checks say of a normal CRS: how many axes there are, of which type its system is, and what stands at its end.
+-- What the checks say of a normal CRS: how many axes there are, of which type its system is, and what stands at its
+-- end.
 use Rattle.std.proofs.Common.{◌≡◌, ◌≢◌, ℕ, suc, ◌+◌, ◌*◌, ◌^◌, ◌≤◌, ◌<◌, length, map, true, false, inl, inr, List, [], ◌∷◌, codes, refl, sym, ◌∙◌, ap, subst, arith}
 use Rattle.std.specs.Prelude.{nat_lt}
 use Rattle.std.proofs.lemmas.Bool.{ltb-true, ltb-false}

@@ -5,8 +5,9 @@ use Rattle.crs_text.specs.Written.{item_text}
 use Rattle.crs_shape.specs.declared.class.Class.{Class}
 use Rattle.crs_shape.specs.declared.class.Class.TheVariants as class
 use Rattle.crs_shape.specs.Slots.{SlotParts, slots_of, unit_slots}
+use Rattle.crs_shape.specs.Shaped.{Shaped}
 use Rattle.crs_value.specs.Reading.{those, ReadsEach}
-use Rattle.crs_value.specs.Reads.{ReadsIdent, ReadsNumber, ReadsText, ReadsUnit}
+use Rattle.crs_value.specs.Reads.{ReadsIdent, ReadsIds, ReadsNumber, ReadsText, ReadsUnit}
 use Rattle.crs_value.specs.Values.{IdentParts}
 use Rattle.crs_value.specs.Words.{SpellsWord, unit_word}
 use Rattle.crs_value.specs.declared.level.Level.{Level}
@@ -14,12 +15,12 @@ use Rattle.crs_value.specs.declared.level.Level.TheVariants as levels
 use Rattle.crs_value.specs.declared.unit_kind.UnitKind.{UnitKind}
 use Rattle.crs_value.specs.declared.unit_kind.UnitKind.TheVariants as kinds
 use Rattle.crs_same.specs.SameUnits.{kind_as}
-use Rattle.crs_normal.specs.Normal.{IsWritten}
+use Rattle.crs_normal.specs.Normal.{IsNormalIn, IsWritten}
 use Rattle.crs_normal.specs.NormalOwn.{Ascend}
 use Rattle.crs_normal.specs.Ordered.{in_order}
 use Rattle.crs_normal.specs.SpelledItems.{each, number_item, text_item}
 use Rattle.crs_normal.specs.SpelledUnits.{item_ident, item_unit, norm_unit, set_idents}
-use Rattle.crs_normal.proofs.FormLemmas.{Form, Kept, kept-good, node-spelled, one-spelled, opened, set-spelled}
+use Rattle.crs_normal.proofs.FormLemmas.{Form, Kept, kept-good, node-spelled, one-spelled, opened, set-ordered, set-spelled}
 use Rattle.crs_normal.proofs.IdentNormalLemmas.{ident-form}
 use Rattle.crs_normal.proofs.LeafLemmas.{ArePlain, PlainIsOne, number-form, text-form}
 use Rattle.crs_normal.proofs.ViewLemmas.{View, flats_onto, flats-spread, those-looked}
@@ -42,6 +43,22 @@ idents-spelled levels.Full c items front k e up ids reads rest after f =
     (those c class.Identifier items) front (kept-good levels.Full c class.Identifier items k) e up ids reads rest after
     f
     ∙ ap (λ xs. each item_ident (in_order (λ i. item_text (item_ident i)) xs) after) (map-same ids)
+
+-- the identifiers of a normal node are in order
+pub idents-ordered : (level : Level) (parent c : Class) (item : Item) (ids : List IdentParts) → Shaped c item →
+    IsNormalIn level parent c item → ReadsIds c item ids → set_idents level ids ≡ ids
+unfolding set_idents
+idents-ordered levels.Full parent c (leaf kind place raw) [] shaped normal reads = refl
+idents-ordered levels.Full parent c (leaf kind place raw) (x ∷ xs) shaped normal reads = absurd reads
+idents-ordered levels.Full parent c (node place keyword square first others close) ids shaped normal reads =
+    let o = opened levels.Full parent c place keyword square first others close shaped normal in
+    let items = More first others in
+    let bytes = λ (i : IdentParts). item_text (item_ident i) in
+    ap (in_order bytes) (sym (map-same ids))
+    ∙ set-ordered levels.Full c class.Identifier (ReadsIdent class.Identifier) item_ident (λ x. x)
+    (ident-form levels.Full c) (those c class.Identifier items)
+    (kept-good levels.Full c class.Identifier items o.kept) o.sets.0 ids reads
+    ∙ map-same ids
 
 -- ---- units
 
