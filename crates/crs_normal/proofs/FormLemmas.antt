@@ -201,8 +201,9 @@ written-ascend spell (i ∷ is) (v ∷ vs) h up =
     (below-written spell i v h.0 is vs h.1 up.0, written-ascend spell is vs h.1 up.1)
 
 -- a set is in order already
-pub set-ordered : {V W : Type 0} (level : Level) (c d : Class) (R : Item → V → Type 0) (spell : W → Item) (norm : V → W) →
-    Form level c d R (λ v. spell (norm v)) → (found : List Item) → Each (IsGood level c d) found → Ascend found →
+pub set-ordered : {V W : Type 0} (level : Level) (c d : Class) (R : Item → V → Type 0) (spell : W → Item)
+    (norm : V → W) → Form level c d R (λ v. spell (norm v)) →
+    (found : List Item) → Each (IsGood level c d) found → Ascend found →
     (values : List V) → ReadsEach R found values →
     in_order (λ w. item_text (spell w)) (map norm values) ≡ map norm values
 set-ordered level c d R spell norm form found good up values reads =

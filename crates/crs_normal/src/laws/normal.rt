@@ -142,9 +142,10 @@ pub fn normal_frame_is_its_form()
 pub fn normal_axis_is_its_form()
     ensures meridian { (level : Level) →
         IsItsForm level class.Meridian ReadsAxisMeridian (λ m. item_axis_meridian (norm_axis_meridian level m)) }
-    ensures axis { (level : Level) (system : SystemParts) (parent : Class) (position : ℕ) (item : Item) (value : AxisParts) →
-        Shaped class.Axis item → IsNormalIn level parent class.Axis item → HasOrder position item →
-        Has class.Axis class.AxisUnit item → ReadsAxis class.Axis item value → flat item ≡ item_axis (norm_axis level system position value) }
+    ensures axis { (level : Level) (system : SystemParts) (parent : Class) (position : ℕ) (item : Item)
+        (value : AxisParts) → Shaped class.Axis item → IsNormalIn level parent class.Axis item →
+        HasOrder position item → Has class.Axis class.AxisUnit item → ReadsAxis class.Axis item value →
+        flat item ≡ item_axis (norm_axis level system position value) }
 {
     plain_is_the_one();
 }
