@@ -16,25 +16,31 @@ abbrev pub Rising : {A : Type 0} → (A → List ℕ) → List A → Type 0
 Rising bytes [] = Unit {0}
 Rising bytes (x ∷ xs) = Each (Below bytes x) xs × Rising bytes xs
 
-put-last : {A : Type 0} (bytes : A → List ℕ) (x : A) (ys : List A) → Each (λ y. Below bytes y x) ys → put bytes x ys ≡ ys ++ x ∷ []
+put-last : {A : Type 0} (bytes : A → List ℕ) (x : A) (ys : List A) → Each (λ y. Below bytes y x) ys →
+    put bytes x ys ≡ ys ++ x ∷ []
 put-last bytes x [] h = refl
 put-last bytes x (y ∷ ys) h =
-    let e : slice_cmp nat_cmp (bytes x) (bytes y) ≡ Greater = nat_list_cmp_total.antisymm (bytes x) (bytes y) ∙ ap ordering_reverse h.0 in
-    ap (λ o. match_ordering o (x ∷ y ∷ ys) (y ∷ ys) (y ∷ put bytes x ys)) e ∙ ap (λ zs. y ∷ zs) (put-last bytes x ys h.1)
+    let e : slice_cmp nat_cmp (bytes x) (bytes y) ≡ Greater = nat_list_cmp_total.antisymm (bytes x) (bytes y)
+    ∙ ap ordering_reverse h.0 in
+    ap (λ o. match_ordering o (x ∷ y ∷ ys) (y ∷ ys) (y ∷ put bytes x ys)) e
+    ∙ ap (λ zs. y ∷ zs) (put-last bytes x ys h.1)
 
 one-more : {A : Type 0} (P : A → Type 0) (xs : List A) (x : A) → Each P xs → P x → Each P (xs ++ x ∷ [])
 one-more P [] x h p = (p, tt)
 one-more P (y ∷ ys) x h p = (h.0, one-more P ys x h.1 p)
 
-heads : {A : Type 0} (bytes : A → List ℕ) (x : A) (xs ys : List A) → Each (λ y. Each (Below bytes y) (x ∷ xs)) ys → Each (λ y. Below bytes y x) ys
+heads : {A : Type 0} (bytes : A → List ℕ) (x : A) (xs ys : List A) → Each (λ y. Each (Below bytes y) (x ∷ xs)) ys →
+    Each (λ y. Below bytes y x) ys
 heads bytes x xs [] h = tt
 heads bytes x xs (y ∷ ys) h = (h.0.0, heads bytes x xs ys h.1)
 
-tails : {A : Type 0} (bytes : A → List ℕ) (x : A) (xs ys : List A) → Each (λ y. Each (Below bytes y) (x ∷ xs)) ys → Each (λ y. Each (Below bytes y) xs) ys
+tails : {A : Type 0} (bytes : A → List ℕ) (x : A) (xs ys : List A) → Each (λ y. Each (Below bytes y) (x ∷ xs)) ys →
+    Each (λ y. Each (Below bytes y) xs) ys
 tails bytes x xs [] h = tt
 tails bytes x xs (y ∷ ys) h = (h.0.1, tails bytes x xs ys h.1)
 
-put-all : {A : Type 0} (bytes : A → List ℕ) (sorted xs : List A) → Each (λ y. Each (Below bytes y) xs) sorted → Rising bytes xs →
+put-all : {A : Type 0} (bytes : A → List ℕ) (sorted xs : List A) → Each (λ y. Each (Below bytes y) xs) sorted →
+    Rising bytes xs →
     put_all bytes sorted xs ≡ sorted ++ xs
 put-all bytes sorted [] below rising = sym (append-nil sorted)
   where
@@ -43,7 +49,8 @@ put-all bytes sorted [] below rising = sym (append-nil sorted)
     append-nil (y ∷ ys) = ap (λ zs. y ∷ zs) (append-nil ys)
 put-all bytes sorted (x ∷ xs) below rising =
     ap (λ ys. put_all bytes ys xs) (put-last bytes x sorted (heads bytes x xs sorted below))
-    ∙ put-all bytes (sorted ++ x ∷ []) xs (one-more (λ y. Each (Below bytes y) xs) sorted x (tails bytes x xs sorted below) rising.0) rising.1
+    ∙ put-all bytes (sorted ++ x ∷ []) xs
+    (one-more (λ y. Each (Below bytes y) xs) sorted x (tails bytes x xs sorted below) rising.0) rising.1
     ∙ append_assoc sorted (x ∷ []) xs
 
 pub in_order-ascending : {A : Type 0} (bytes : A → List ℕ) (xs : List A) → Rising bytes xs → in_order bytes xs ≡ xs

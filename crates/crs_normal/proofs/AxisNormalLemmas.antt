@@ -32,32 +32,39 @@ use Rattle.crs_normal.proofs.WordFormLemmas.{direction-one, type-one}
 
 -- ---- directions and types in their own letters
 
-word-normal : (level : Level) (c : Class) (item : Item) → Shaped class.Word item → IsNormalIn level c class.Word item → IsWordIn c (raw_of item)
+word-normal : (level : Level) (c : Class) (item : Item) → Shaped class.Word item → IsNormalIn level c class.Word item →
+    IsWordIn c (raw_of item)
 word-normal level c (leaf number place raw) shaped normal = let h : false ≡ true = shaped in absurd (cc)
 word-normal level c (leaf text place raw) shaped normal = let h : false ≡ true = shaped in absurd (cc)
 word-normal level c (leaf word place raw) shaped normal = normal
 word-normal level c (node place keyword square first others close) shaped normal =
     let h : false ≡ true = sym (no-word keyword) ∙ shaped.0 in absurd (cc)
 
-pub direction-form : (level : Level) → Form level class.Axis class.Word ReadsDirection (λ d. word_item (direction_word d))
+pub direction-form : (level : Level) →
+    Form level class.Axis class.Word ReadsDirection (λ d. word_item (direction_word d))
 direction-form level item value good reads =
     let w = word-normal level class.Axis item good.shaped good.normal in
     let one = direction-one w.0 value (subst (λ (bytes : List ℕ). SpellsWord bytes (direction_word value)) w.1 reads) in
     flat-word-leaf item good.shaped ∙ ap word_item (w.1 ∙ ap direction_word one)
 
-pub type-raw : (level : Level) (item : Item) (value : SystemType) → IsGood level class.CoordinateSystem class.Word item → ReadsType item value →
+pub type-raw : (level : Level) (item : Item) (value : SystemType) →
+    IsGood level class.CoordinateSystem class.Word item → ReadsType item value →
     raw_of item ≡ system_word value
 type-raw level item value good reads =
     let w = word-normal level class.CoordinateSystem item good.shaped good.normal in
-    w.1 ∙ ap system_word (type-one w.0 value (subst (λ (bytes : List ℕ). SpellsWord bytes (system_word value)) w.1 reads))
+    w.1 ∙ ap system_word (type-one w.0 value
+    (subst (λ (bytes : List ℕ). SpellsWord bytes (system_word value)) w.1 reads))
 
-pub type-form : (level : Level) → Form level class.CoordinateSystem class.Word ReadsType (λ t. word_item (system_word t))
-type-form level item value good reads = flat-word-leaf item good.shaped ∙ ap word_item (type-raw level item value good reads)
+pub type-form : (level : Level) →
+    Form level class.CoordinateSystem class.Word ReadsType (λ t. word_item (system_word t))
+type-form level item value good reads = flat-word-leaf item good.shaped
+    ∙ ap word_item (type-raw level item value good reads)
 
 -- ---- the meridian of an axis
 
 pub axis_meridian-form : PlainIsOne → (level : Level) (c : Class) →
-    Form level c class.Meridian (ReadsAxisMeridian class.Meridian) (λ m. item_axis_meridian (norm_axis_meridian level m))
+    Form level c class.Meridian (ReadsAxisMeridian class.Meridian)
+    (λ m. item_axis_meridian (norm_axis_meridian level m))
 axis_meridian-form law level c (leaf kind place raw) x good reads = absurd reads.longitude
 axis_meridian-form law level c (node place keyword square first others close) x good reads =
     let d = class.Meridian in
@@ -67,33 +74,41 @@ axis_meridian-form law level c (node place keyword square first others close) x 
     let v1 = v.1.1.1.1 in
     node-spelled place keyword _ square first others close _ o.written
     (flats-spread d (slots_of d) items v
-    ∙ one-spelled level d class.Number ReadsNumber number_item (number-form law level d (λ raw h. h)) (those d class.Number items) v.0
-    (kept-good level d class.Number items o.kept) (those-looked d class.Number (slots_of d) items v) (v.1.1.0.not_more refl) x.longitude reads.longitude _ _
+    ∙ one-spelled level d class.Number ReadsNumber number_item (number-form law level d (λ raw h. h))
+    (those d class.Number items) v.0
+    (kept-good level d class.Number items o.kept) (those-looked d class.Number (slots_of d) items v)
+    (v.1.1.0.not_more refl) x.longitude reads.longitude _ _
     (one-spelled level d class.AngleUnit (ReadsUnit class.AngleUnit) (λ u. item_unit (norm_unit level kinds.Angle u))
     (unit-form law level d class.AngleUnit kinds.Angle refl (in-angle kinds.Angle) (λ raw h. h))
-    (those d class.AngleUnit items) v1.0 (kept-good level d class.AngleUnit items o.kept) (those-looked d class.AngleUnit (slots_of d) items v)
+    (those d class.AngleUnit items) v1.0 (kept-good level d class.AngleUnit items o.kept)
+    (those-looked d class.AngleUnit (slots_of d) items v)
     (v1.1.1.0.not_more refl) x.unit reads.unit End End refl))
 
 opt-meridians : (level : Level) (m : Option AxisMeridianParts) (rest : Items) →
-    opt (λ x. item_axis_meridian (norm_axis_meridian level x)) m rest ≡ opt item_axis_meridian (norm_axis_meridians level m) rest
+    opt (λ x. item_axis_meridian (norm_axis_meridian level x)) m rest ≡ opt item_axis_meridian
+    (norm_axis_meridians level m) rest
 opt-meridians level None rest = refl
 opt-meridians level (Some m) rest = refl
 
 -- ---- orders
 
 -- an order is its position
-pub order-plain : PlainIsOne → (level : Level) (k : ℕ) (item : Item) (value : Value) → IsGood level class.Axis class.Order item → ReadsNumberOf class.Order item value →
+pub order-plain : PlainIsOne → (level : Level) (k : ℕ) (item : Item) (value : Value) →
+    IsGood level class.Axis class.Order item → ReadsNumberOf class.Order item value →
     numbers_in class.Order item ≡ decimal k ∷ [] → plain value ≡ decimal k
 order-plain law level k (leaf kind place raw) value good reads are = absurd reads
 order-plain law level k (node place keyword square first others close) value good reads are =
     let o = opened level class.Axis class.Order place keyword square first others close good.shaped good.normal in
-    first-of (those class.Order class.Number (More first others)) (kept-good level class.Order class.Number (More first others) o.kept) reads are
+    first-of (those class.Order class.Number (More first others))
+    (kept-good level class.Order class.Number (More first others) o.kept) reads are
   where
-    first-of : (found : List Item) → Each (IsGood level class.Order class.Number) found → ReadsFirst ReadsNumber found value → map raw_of found ≡ decimal k ∷ [] →
+    first-of : (found : List Item) → Each (IsGood level class.Order class.Number) found →
+        ReadsFirst ReadsNumber found value → map raw_of found ≡ decimal k ∷ [] →
         plain value ≡ decimal k
     first-of [] goods read e = absurd read
     first-of (n ∷ ns) goods read e =
-        let own : raw_of n ≡ plain value = law value (raw_of n) read.0 (number-normal level class.Order n goods.0.shaped goods.0.normal) read.1 in
+        let own : raw_of n ≡ plain value =
+        law value (raw_of n) read.0 (number-normal level class.Order n goods.0.shaped goods.0.normal) read.1 in
         let here : raw_of n ∷ map raw_of ns ≡ decimal k ∷ [] = e in
         cc
 
@@ -110,10 +125,12 @@ pub record IsNumbered (k : ℕ) (axis : AxisParts) : Type 0 where
   pub order : axis.order ≡ Some value
   pub spelled : plain value ≡ decimal k
 
-order-known : PlainIsOne → (level : Level) (k : ℕ) (found : List Item) (o : Option Value) → Each (IsGood level class.Axis class.Order) found →
+order-known : PlainIsOne → (level : Level) (k : ℕ) (found : List Item) (o : Option Value) →
+    Each (IsGood level class.Axis class.Order) found →
     map (numbers_in class.Order) found ≡ (decimal k ∷ []) ∷ [] → ReadsOptional (ReadsNumberOf class.Order) found o →
     (value : Value) × ((o ≡ Some value) × (plain value ≡ decimal k))
-order-known law level k [] o goods are reads = let h : ◌≡◌ {A = List (List (List ℕ))} [] ((decimal k ∷ []) ∷ []) = are in absurd (cc)
+order-known law level k [] o goods are reads = let h : ◌≡◌ {A = List (List (List ℕ))} [] ((decimal k ∷ []) ∷ []) =
+    are in absurd (cc)
 order-known law level k (i ∷ is) None goods are reads = absurd reads
 order-known law level k (i ∷ is) (Some v) goods are reads =
     (v, (refl, order-plain law level k i v goods.0 reads (head are)))
@@ -129,9 +146,11 @@ opt-order k o value e f rest =
 
 -- ---- units
 
-opt-own : (level : Level) (system : SystemParts) (asked : UnitKind) (found : List Item) (unit : Option UnitParts) → found ≢ [] →
+opt-own : (level : Level) (system : SystemParts) (asked : UnitKind) (found : List Item) (unit : Option UnitParts) →
+    found ≢ [] →
     ReadsOptional (ReadsUnit class.AxisUnit) found unit → (rest : Items) →
-    opt (λ u. item_unit (norm_unit level asked u)) unit rest ≡ opt item_unit (norm_units level asked (own_or unit system.unit)) rest
+    opt (λ u. item_unit (norm_unit level asked u)) unit rest ≡ opt item_unit
+    (norm_units level asked (own_or unit system.unit)) rest
 opt-own level system asked [] None some reads rest = absurd (some refl)
 opt-own level system asked [] (Some u) some reads rest = absurd reads
 opt-own level system asked (i ∷ is) None some reads rest = absurd reads
@@ -139,7 +158,8 @@ opt-own level system asked (i ∷ is) (Some u) some reads rest = refl
 
 -- ---- axes
 
-pub axis-form : PlainIsOne → (level : Level) (c : Class) (system : SystemParts) (k : ℕ) (item : Item) (x : AxisParts) → IsGood level c class.Axis item →
+pub axis-form : PlainIsOne → (level : Level) (c : Class) (system : SystemParts) (k : ℕ) (item : Item) (x : AxisParts) →
+    IsGood level c class.Axis item →
     HasOrder k item → Has class.Axis class.AxisUnit item → ReadsAxis class.Axis item x →
     (flat item ≡ item_axis (norm_axis level system k x)) × IsNumbered k x
 unfolding norm_axis
@@ -155,25 +175,34 @@ axis-form law level c system k (node place keyword square first others close) x 
     let v4 = v3.1.1.1.1 in
     let v5 = v4.1.1.1.1 in
     let asked = asked_kind system.system_type x.direction in
-    let known = order-known law level k (those d class.Order items) x.order (kept-good level d class.Order items o.kept) ordered reads.order in (
+    let known = order-known law level k (those d class.Order items) x.order (kept-good level d class.Order items o.kept)
+    ordered reads.order in (
       node-spelled place keyword _ square first others close _ o.written
           (flats-spread d (slots_of d) items v
-          ∙ one-spelled level d class.Text ReadsText text_item (text-form level d) (those d class.Text items) v.0 (kept-good level d class.Text items o.kept)
+          ∙ one-spelled level d class.Text ReadsText text_item (text-form level d) (those d class.Text items) v.0
+          (kept-good level d class.Text items o.kept)
           (those-looked d class.Text (slots_of d) items v) (v.1.1.0.not_more refl) x.name reads.name _ _
-          (one-spelled level d class.Word ReadsDirection (λ w. word_item (direction_word w)) (direction-form level) (those d class.Word items) v1.0
-          (kept-good level d class.Word items o.kept) (those-looked d class.Word (slots_of d) items v) (v1.1.1.0.not_more refl) x.direction reads.direction _ _
-          (optional-spelled level d class.Meridian (ReadsAxisMeridian class.Meridian) (λ m. item_axis_meridian (norm_axis_meridian level m)) (axis_meridian-form law level d)
-          (those d class.Meridian items) v2.0 (kept-good level d class.Meridian items o.kept) (those-looked d class.Meridian (slots_of d) items v)
+          (one-spelled level d class.Word ReadsDirection (λ w. word_item (direction_word w)) (direction-form level)
+          (those d class.Word items) v1.0
+          (kept-good level d class.Word items o.kept) (those-looked d class.Word (slots_of d) items v)
+          (v1.1.1.0.not_more refl) x.direction reads.direction _ _
+          (optional-spelled level d class.Meridian (ReadsAxisMeridian class.Meridian)
+          (λ m. item_axis_meridian (norm_axis_meridian level m)) (axis_meridian-form law level d)
+          (those d class.Meridian items) v2.0 (kept-good level d class.Meridian items o.kept)
+          (those-looked d class.Meridian (slots_of d) items v)
           (v2.1.1.0.not_more refl) x.meridian reads.meridian _ _
           (optional-spelled level d class.Order (ReadsNumberOf class.Order) (number_node (codes "ORDER"))
           (number-node-form law level d class.Order (codes "ORDER") refl (λ bytes h. h) (λ raw h. h))
-          (those d class.Order items) v3.0 (kept-good level d class.Order items o.kept) (those-looked d class.Order (slots_of d) items v)
+          (those d class.Order items) v3.0 (kept-good level d class.Order items o.kept)
+          (those-looked d class.Order (slots_of d) items v)
           (v3.1.1.0.not_more refl) x.order reads.order _ _
           (optional-spelled level d class.AxisUnit (ReadsUnit class.AxisUnit) (λ u. item_unit (norm_unit level asked u))
           (unit-form law level d class.AxisUnit asked refl (in-axis asked) (λ raw h. h))
-          (those d class.AxisUnit items) v4.0 (kept-good level d class.AxisUnit items o.kept) (those-looked d class.AxisUnit (slots_of d) items v)
+          (those d class.AxisUnit items) v4.0 (kept-good level d class.AxisUnit items o.kept)
+          (those-looked d class.AxisUnit (slots_of d) items v)
           (v4.1.1.0.not_more refl) x.unit reads.unit _ _
-          (idents-spelled level d items v5.0 o.kept (those-looked d class.Identifier (slots_of d) items v) o.sets.0 x.ids reads.ids End End refl)
+          (idents-spelled level d items v5.0 o.kept (those-looked d class.Identifier (slots_of d) items v) o.sets.0
+          x.ids reads.ids End End refl)
           ∙ opt-own level system asked (those d class.AxisUnit items) x.unit own reads.unit _)
           ∙ opt-order k x.order known.0 known.1.0 known.1.1 _)
           ∙ opt-meridians level x.meridian _))),

@@ -27,18 +27,21 @@ unbroken-as c d item e named is free fault broken =
     let P : Option Class → Type 0 = λ o. AtClass o (λ x. Breaks x item fault) in
     free fault (subst P (sym named) (subst (λ (x : Class). Breaks x item fault) (sym same) broken))
 
-pub those-unbroken : (c d : Class) (classes : List Class) (items : Items) → AreShaped c classes items → ((fault : Refused) → ¬ (BreaksAmong c items fault)) →
+pub those-unbroken : (c d : Class) (classes : List Class) (items : Items) → AreShaped c classes items →
+    ((fault : Refused) → ¬ (BreaksAmong c items fault)) →
     Each (IsUnbroken d) (those c d items)
 those-unbroken c d classes End shaped free = tt
 those-unbroken c d [] (More item items) shaped free = absurd shaped
 those-unbroken c d (e ∷ es) (More item items) shaped free =
     let rest = those-unbroken c d es items shaped.1.1 (λ fault b. free fault (inr b)) in
-    elim (is_a c d item) as (λ b. is_a c d item ≡ b → Each (IsUnbroken d) (if b then item ∷ those c d items else those c d items)) [
+    elim (is_a c d item) as (λ b. is_a c d item ≡ b →
+    Each (IsUnbroken d) (if b then item ∷ those c d items else those c d items)) [
       | true ↦ λ is. (unbroken-as c d item e shaped.0 is (λ fault b. free fault (inl b)), rest)
       | false ↦ λ is. rest
     ] refl
 
-pub first-checked : {V : Type 0} (d : Class) (R : Item → V → Type 0) (items : List Item) (value : V) → Each (IsUnbroken d) items → ReadsFirst R items value →
+pub first-checked : {V : Type 0} (d : Class) (R : Item → V → Type 0) (items : List Item) (value : V) →
+    Each (IsUnbroken d) items → ReadsFirst R items value →
     ReadsFirst (Checked d R) items value
 first-checked d R [] value free reads = absurd reads
 first-checked d R (item ∷ items) value free reads = (free.0, reads)

@@ -23,7 +23,8 @@ use Rattle.crs_normal.proofs.PairLemmas.{Alone, opt-length, opt-units, two-spell
 use Rattle.crs_normal.proofs.UnitNormalLemmas.{idents-spelled, in-angle, in-length, unit-form}
 use Rattle.crs_normal.proofs.ViewLemmas.{alone, flats-spread, those-looked}
 
-pub ellipsoid-form : PlainIsOne → (level : Level) (c : Class) → Form level c class.Ellipsoid (ReadsEllipsoid class.Ellipsoid) (λ e. item_ellipsoid (norm_ellipsoid level e))
+pub ellipsoid-form : PlainIsOne → (level : Level) (c : Class) →
+    Form level c class.Ellipsoid (ReadsEllipsoid class.Ellipsoid) (λ e. item_ellipsoid (norm_ellipsoid level e))
 ellipsoid-form law level c (leaf kind place raw) x good reads = absurd reads.name
 ellipsoid-form law level c (node place keyword square first others close) x good reads =
     let d = class.Ellipsoid in
@@ -36,16 +37,20 @@ ellipsoid-form law level c (node place keyword square first others close) x good
     let v4 = v3.1.1.1.1 in
     node-spelled place keyword _ square first others close _ o.written
     (flats-spread d (slots_of d) items v
-    ∙ one-spelled level d class.Text ReadsText text_item (text-form level d) (those d class.Text items) v.0 (kept-good level d class.Text items o.kept)
+    ∙ one-spelled level d class.Text ReadsText text_item (text-form level d) (those d class.Text items) v.0
+    (kept-good level d class.Text items o.kept)
     (those-looked d class.Text (slots_of d) items v) (v.1.1.0.not_more refl) x.name reads.name _ _
-    (two-spelled law level d (λ raw h. h) (those d class.Number items) v1.0 v2.0 (kept-good level d class.Number items o.kept)
+    (two-spelled law level d (λ raw h. h) (those d class.Number items) v1.0 v2.0
+    (kept-good level d class.Number items o.kept)
     (those-looked d class.Number (slots_of d) items v) (alone v1.0 v1.1.1.0 refl refl) (alone v2.0 v2.1.1.0 refl refl)
     x.semi_major_axis x.inverse_flattening reads.semi_major_axis reads.inverse_flattening _ _
-    (optional-spelled level d class.LengthUnit (ReadsUnit class.LengthUnit) (λ u. item_unit (norm_unit level kinds.Length u))
+    (optional-spelled level d class.LengthUnit (ReadsUnit class.LengthUnit)
+    (λ u. item_unit (norm_unit level kinds.Length u))
     (unit-form law level d class.LengthUnit kinds.Length refl (in-length kinds.Length) (λ raw h. h))
     (those d class.LengthUnit items) v3.0 (kept-good level d class.LengthUnit items o.kept)
     (those-looked d class.LengthUnit (slots_of d) items v) (v3.1.1.0.not_more refl) x.unit reads.unit _ _
-    (idents-spelled level d items v4.0 o.kept (those-looked d class.Identifier (slots_of d) items v) o.sets.0 x.ids reads.ids End End refl)
+    (idents-spelled level d items v4.0 o.kept (those-looked d class.Identifier (slots_of d) items v) o.sets.0 x.ids
+    reads.ids End End refl)
     ∙ opt-length (ReadsUnit class.LengthUnit) level (those d class.LengthUnit items) x.unit o.own reads.unit _)))
 
 -- ---- prime meridians
@@ -54,33 +59,40 @@ ellipsoid-form law level c (node place keyword square first others close) x good
 no-digits : (n : Bool) (p : ℤ) → is_normal (record { negative = n; digits = 0; power = p }) ≡ true →
     ◌≡◌ {A = Value} (record { negative = n; digits = 0; power = p }) zero
 no-digits true p h = let k : false ≡ true = (and_parts (true && is_power p) false h).1 in absurd (cc)
-no-digits false (pos n) h = ap (λ (m : ℕ). record { negative = false; digits = 0; power = pos m }) (eqb-true n 0 (and_parts _ _ h).1)
+no-digits false (pos n) h =
+    ap (λ (m : ℕ). record { negative = false; digits = 0; power = pos m }) (eqb-true n 0 (and_parts _ _ h).1)
 no-digits false (negsuc n) h = let k : false ≡ true = (and_parts (true && is_power (negsuc n)) false h).1 in absurd (cc)
 
 zero-is : (v : Value) → IsNormal v → is_zero v ≡ true → v ≡ zero
 zero-is v normal e =
     let d = eqb-true v.digits 0 e in
-    let same : v ≡ record { negative = v.negative; digits = 0; power = v.power } = ap (λ (m : ℕ). record { negative = v.negative; digits = m; power = v.power }) d in
+    let same : v ≡ record { negative = v.negative; digits = 0; power = v.power } =
+    ap (λ (m : ℕ). record { negative = v.negative; digits = m; power = v.power }) d in
     same ∙ no-digits v.negative v.power (subst (λ (w : Value). is_normal w ≡ true) same normal)
 
 abbrev pub ZeroPlain : Type 0
 ZeroPlain = plain zero ≡ codes "0"
 
 -- the bytes of a meridian's longitude 0
-zero-written : PlainIsOne → ZeroPlain → (level : Level) (found front : List Item) → Each (IsGood level class.PrimeMeridian class.Number) found →
-    found ≡ front → Alone front → (v : Value) → ReadsFirst ReadsNumber found v → is_zero v ≡ true → map raw_of found ≡ codes "0" ∷ []
+zero-written : PlainIsOne → ZeroPlain → (level : Level) (found front : List Item) →
+    Each (IsGood level class.PrimeMeridian class.Number) found →
+    found ≡ front → Alone front → (v : Value) → ReadsFirst ReadsNumber found v → is_zero v ≡ true →
+    map raw_of found ≡ codes "0" ∷ []
 zero-written law zero_plain level found front good e p v reads is =
     let are = e ∙ p.1 in
     let g = (subst (Each (IsGood level class.PrimeMeridian class.Number)) are good).0 in
     let r = subst (λ (xs : List Item). ReadsFirst ReadsNumber xs v) are reads in
     ap (map raw_of) are
     ∙ ap (λ (bytes : List ℕ). bytes ∷ [])
-    (law v (raw_of p.0) r.0 (number-normal level class.PrimeMeridian p.0 g.shaped g.normal) r.1 ∙ ap plain (zero-is v r.0 is) ∙ zero_plain)
+    (law v (raw_of p.0) r.0 (number-normal level class.PrimeMeridian p.0 g.shaped g.normal) r.1
+    ∙ ap plain (zero-is v r.0 is) ∙ zero_plain)
 
 -- a unit that isn't there at longitude 0
-opt-angle : (level : Level) (is_at_zero : Bool) (found : List Item) (unit : Option UnitParts) → (is_at_zero ≡ true → found ≡ []) →
+opt-angle : (level : Level) (is_at_zero : Bool) (found : List Item) (unit : Option UnitParts) →
+    (is_at_zero ≡ true → found ≡ []) →
     ReadsOptional (ReadsUnit class.AngleUnit) found unit → (rest : Items) →
-    opt (λ u. item_unit (norm_unit level kinds.Angle u)) unit rest ≡ opt item_unit (if is_at_zero then None else norm_units level kinds.Angle unit) rest
+    opt (λ u. item_unit (norm_unit level kinds.Angle u)) unit rest ≡ opt item_unit
+    (if is_at_zero then None else norm_units level kinds.Angle unit) rest
 opt-angle level false found unit none reads rest = opt-units level kinds.Angle unit rest
 opt-angle level true found None none reads rest = refl
 opt-angle level true found (Some u) none reads rest =
@@ -99,16 +111,22 @@ meridian-form law zero_plain level c (node place keyword square first others clo
     let v3 = v2.1.1.1.1 in
     node-spelled place keyword _ square first others close _ o.written
     (flats-spread d (slots_of d) items v
-    ∙ one-spelled level d class.Text ReadsText text_item (text-form level d) (those d class.Text items) v.0 (kept-good level d class.Text items o.kept)
+    ∙ one-spelled level d class.Text ReadsText text_item (text-form level d) (those d class.Text items) v.0
+    (kept-good level d class.Text items o.kept)
     (those-looked d class.Text (slots_of d) items v) (v.1.1.0.not_more refl) x.name reads.name _ _
-    (one-spelled level d class.Number ReadsNumber number_item (number-form law level d (λ raw h. h)) (those d class.Number items) v1.0
-    (kept-good level d class.Number items o.kept) (those-looked d class.Number (slots_of d) items v) (v1.1.1.0.not_more refl) x.longitude reads.longitude _ _
-    (optional-spelled level d class.AngleUnit (ReadsUnit class.AngleUnit) (λ u. item_unit (norm_unit level kinds.Angle u))
+    (one-spelled level d class.Number ReadsNumber number_item (number-form law level d (λ raw h. h))
+    (those d class.Number items) v1.0
+    (kept-good level d class.Number items o.kept) (those-looked d class.Number (slots_of d) items v)
+    (v1.1.1.0.not_more refl) x.longitude reads.longitude _ _
+    (optional-spelled level d class.AngleUnit (ReadsUnit class.AngleUnit)
+    (λ u. item_unit (norm_unit level kinds.Angle u))
     (unit-form law level d class.AngleUnit kinds.Angle refl (in-angle kinds.Angle) (λ raw h. h))
     (those d class.AngleUnit items) v2.0 (kept-good level d class.AngleUnit items o.kept)
     (those-looked d class.AngleUnit (slots_of d) items v) (v2.1.1.0.not_more refl) x.unit reads.unit _ _
-    (idents-spelled level d items v3.0 o.kept (those-looked d class.Identifier (slots_of d) items v) o.sets.0 x.ids reads.ids End End refl)
+    (idents-spelled level d items v3.0 o.kept (those-looked d class.Identifier (slots_of d) items v) o.sets.0 x.ids
+    reads.ids End End refl)
     ∙ opt-angle level (is_zero x.longitude) (those d class.AngleUnit items) x.unit
-    (λ e. o.own (zero-written law zero_plain level (those d class.Number items) v1.0 (kept-good level d class.Number items o.kept)
+    (λ e. o.own (zero-written law zero_plain level (those d class.Number items) v1.0
+    (kept-good level d class.Number items o.kept)
     (those-looked d class.Number (slots_of d) items v) (alone v1.0 v1.1.1.0 refl refl) x.longitude reads.longitude e))
     reads.unit _)))

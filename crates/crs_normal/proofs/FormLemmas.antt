@@ -21,7 +21,8 @@ use Rattle.crs_normal.proofs.ViewLemmas.{View, flats_onto, same_class, view}
 
 -- ---- the text of an item doesn't tell places
 
-node-text : (keyword a b c d : List ℕ) → a ≡ c → b ≡ d → keyword ++ 91 ∷ (a ++ (b ++ 93 ∷ [])) ≡ keyword ++ 91 ∷ (c ++ (d ++ 93 ∷ []))
+node-text : (keyword a b c d : List ℕ) → a ≡ c → b ≡ d →
+    keyword ++ 91 ∷ (a ++ (b ++ 93 ∷ [])) ≡ keyword ++ 91 ∷ (c ++ (d ++ 93 ∷ []))
 node-text keyword a b c d e f = cc
 
 more-text : (a b c d : List ℕ) → a ≡ c → b ≡ d → 44 ∷ (a ++ b) ≡ 44 ∷ (c ++ d)
@@ -31,12 +32,14 @@ mutual
   pub flat-text : (item : Item) → item_text (flat item) ≡ item_text item
   flat-text (leaf kind place raw) = refl
   flat-text (node place keyword square first others close) =
-      node-text keyword (item_text (flat first)) (others_text (flats others)) (item_text first) (others_text others) (flat-text first) (flats-text others)
+      node-text keyword (item_text (flat first)) (others_text (flats others)) (item_text first) (others_text others)
+      (flat-text first) (flats-text others)
 
   flats-text : (items : Items) → others_text (flats items) ≡ others_text items
   flats-text End = refl
   flats-text (More item items) =
-      more-text (item_text (flat item)) (others_text (flats items)) (item_text item) (others_text items) (flat-text item) (flats-text items)
+      more-text (item_text (flat item)) (others_text (flats items)) (item_text item) (others_text items)
+      (flat-text item) (flats-text items)
 
 -- ---- the items of a class in a normal node are of its shape and normal
 
@@ -59,18 +62,21 @@ good-as level c d item e named shaped normal is =
       normal = subst (λ (x : Class). IsNormalIn level c x item) same (subst P named normal);
     }
 
-those-good : (level : Level) (c d : Class) (classes : List Class) (items : Items) → AreShaped c classes items → AreNormalIn level c items →
+those-good : (level : Level) (c d : Class) (classes : List Class) (items : Items) → AreShaped c classes items →
+    AreNormalIn level c items →
     Each (IsGood level c d) (those c d items)
 those-good level c d classes End shaped normal = tt
 those-good level c d [] (More item items) shaped normal = absurd shaped
 those-good level c d (e ∷ es) (More item items) shaped normal =
     let rest = those-good level c d es items shaped.1.1 normal.1 in
-    elim (is_a c d item) as (λ b. is_a c d item ≡ b → Each (IsGood level c d) (if b then item ∷ those c d items else those c d items)) [
+    elim (is_a c d item) as (λ b. is_a c d item ≡ b →
+    Each (IsGood level c d) (if b then item ∷ those c d items else those c d items)) [
       | true ↦ λ is. (good-as level c d item e shaped.0 shaped.1.0 normal.0 is, rest)
       | false ↦ λ is. rest
     ] refl
 
-pub kept-good : (level : Level) (c d : Class) (items : Items) → Kept level c items → Each (IsGood level c d) (those c d items)
+pub kept-good : (level : Level) (c d : Class) (items : Items) → Kept level c items →
+    Each (IsGood level c d) (those c d items)
 kept-good level c d items k = those-good level c d k.classes items k.shaped k.normal
 
 -- ---- a node, opened
@@ -82,8 +88,10 @@ pub record Opened (level : Level) (c : Class) (item : Item) (keyword : List ℕ)
   pub kept : Kept level c (arguments item)
   pub slots : View c (slots_of c) (arguments item)
 
-pub opened : (level : Level) (parent c : Class) (place : ℕ) (keyword : List ℕ) (square : Bool) (first : Item) (others : Items) (close : ℕ) →
-    Shaped c (node place keyword square first others close) → IsNormalIn level parent c (node place keyword square first others close) →
+pub opened : (level : Level) (parent c : Class) (place : ℕ) (keyword : List ℕ) (square : Bool) (first : Item)
+    (others : Items) (close : ℕ) →
+    Shaped c (node place keyword square first others close) →
+    IsNormalIn level parent c (node place keyword square first others close) →
     Opened level c (node place keyword square first others close) keyword
 opened level parent c place keyword square first others close shaped normal =
     let s = shaped.1 in
@@ -96,34 +104,45 @@ opened level parent c place keyword square first others close shaped normal =
       slots = view c (s.0 ∷ s.1.0) (More first others) s.1.1.1.1.1 are;
     }
 
-pub node-spelled : (place : ℕ) (keyword word : List ℕ) (square : Bool) (first : Item) (others : Items) (close : ℕ) (items : Items) → keyword ≡ word →
+pub node-spelled : (place : ℕ) (keyword word : List ℕ) (square : Bool) (first : Item) (others : Items) (close : ℕ)
+    (items : Items) → keyword ≡ word →
     flats (More first others) ≡ items → flat (node place keyword square first others close) ≡ node_from word items
-node-spelled place keyword word square first others close items e f = ap (λ w. node_from w (flats (More first others))) e ∙ ap (node_from word) f
+node-spelled place keyword word square first others close items e f =
+    ap (λ w. node_from w (flats (More first others))) e ∙ ap (node_from word) f
 
 -- ---- what is written for the values
 
 -- the item of a class in another, made flat, is what is written for the value
 abbrev pub Form : {V : Type 0} → Level → Class → Class → (Item → V → Type 0) → (V → Item) → Type 0
-Form {V = V} level c d R spell = (item : Item) (value : V) → IsGood level c d item → R item value → flat item ≡ spell value
+Form {V = V} level c d R spell = (item : Item) (value : V) → IsGood level c d item → R item value →
+    flat item ≡ spell value
 
-pub one-spelled : {V : Type 0} (level : Level) (c d : Class) (R : Item → V → Type 0) (spell : V → Item) → Form level c d R spell →
-    (found front : List Item) → Each (IsGood level c d) found → found ≡ front → length front ≤ 1 → (value : V) → ReadsFirst R found value →
+pub one-spelled : {V : Type 0} (level : Level) (c d : Class) (R : Item → V → Type 0) (spell : V → Item) →
+    Form level c d R spell →
+    (found front : List Item) → Each (IsGood level c d) found → found ≡ front → length front ≤ 1 → (value : V) →
+    ReadsFirst R found value →
     (rest after : Items) → rest ≡ after → flats_onto front rest ≡ More (spell value) after
 one-spelled {V = V} level c d R spell form found front good e few value reads rest after f =
-    alone front few (subst (Each (IsGood level c d)) e good) (subst (λ (xs : List Item). ReadsFirst R xs value) e reads) ∙ ap (More (spell value)) f
+    alone front few (subst (Each (IsGood level c d)) e good) (subst (λ (xs : List Item). ReadsFirst R xs value) e reads)
+    ∙ ap (More (spell value)) f
   where
-    alone : (front : List Item) → length front ≤ 1 → Each (IsGood level c d) front → ReadsFirst R front value → flats_onto front rest ≡ More (spell value) rest
+    alone : (front : List Item) → length front ≤ 1 → Each (IsGood level c d) front → ReadsFirst R front value →
+        flats_onto front rest ≡ More (spell value) rest
     alone [] few good reads = absurd reads
     alone (item ∷ []) few good reads = ap (λ i. More i rest) (form item value good.0 reads)
     alone (item ∷ other ∷ others) few good reads = absurd (omega arith)
 
-pub optional-spelled : {V : Type 0} (level : Level) (c d : Class) (R : Item → V → Type 0) (spell : V → Item) → Form level c d R spell →
-    (found front : List Item) → Each (IsGood level c d) found → found ≡ front → length front ≤ 1 → (value : Option V) → ReadsOptional R found value →
+pub optional-spelled : {V : Type 0} (level : Level) (c d : Class) (R : Item → V → Type 0) (spell : V → Item) →
+    Form level c d R spell →
+    (found front : List Item) → Each (IsGood level c d) found → found ≡ front → length front ≤ 1 → (value : Option V) →
+    ReadsOptional R found value →
     (rest after : Items) → rest ≡ after → flats_onto front rest ≡ opt spell value after
 optional-spelled {V = V} level c d R spell form found front good e few value reads rest after f =
-    alone front few (subst (Each (IsGood level c d)) e good) value (subst (λ (xs : List Item). ReadsOptional R xs value) e reads) ∙ ap (opt spell value) f
+    alone front few (subst (Each (IsGood level c d)) e good) value
+    (subst (λ (xs : List Item). ReadsOptional R xs value) e reads) ∙ ap (opt spell value) f
   where
-    alone : (front : List Item) → length front ≤ 1 → Each (IsGood level c d) front → (value : Option V) → ReadsOptional R front value → flats_onto front rest ≡ opt spell value rest
+    alone : (front : List Item) → length front ≤ 1 → Each (IsGood level c d) front → (value : Option V) →
+        ReadsOptional R front value → flats_onto front rest ≡ opt spell value rest
     alone [] few good None reads = refl
     alone [] few good (Some v) reads = absurd reads
     alone (item ∷ items) few good None reads = absurd reads
@@ -134,15 +153,18 @@ optional-spelled {V = V} level c d R spell form found front good e few value rea
 abbrev pub AreWritten : {V : Type 0} → (V → Item) → List Item → List V → Type 0
 AreWritten spell items values = ReadsEach (λ item value. flat item ≡ spell value) items values
 
-pub each-written : {V W : Type 0} (level : Level) (c d : Class) (R : Item → V → Type 0) (spell : W → Item) (norm : V → W) → Form level c d R (λ v. spell (norm v)) →
-    (items : List Item) → Each (IsGood level c d) items → (values : List V) → ReadsEach R items values → AreWritten spell items (map norm values)
+pub each-written : {V W : Type 0} (level : Level) (c d : Class) (R : Item → V → Type 0) (spell : W → Item) (norm : V →
+    W) → Form level c d R (λ v. spell (norm v)) →
+    (items : List Item) → Each (IsGood level c d) items → (values : List V) → ReadsEach R items values →
+    AreWritten spell items (map norm values)
 each-written level c d R spell norm form [] good [] reads = tt
 each-written level c d R spell norm form [] good (v ∷ vs) reads = absurd reads
 each-written level c d R spell norm form (item ∷ items) good [] reads = absurd reads
 each-written level c d R spell norm form (item ∷ items) good (v ∷ vs) reads =
     (form item v good.0 reads.0, each-written level c d R spell norm form items good.1 vs reads.1)
 
-pub written-onto : {W : Type 0} (spell : W → Item) (items : List Item) (values : List W) → AreWritten spell items values → (rest after : Items) → rest ≡ after →
+pub written-onto : {W : Type 0} (spell : W → Item) (items : List Item) (values : List W) →
+    AreWritten spell items values → (rest after : Items) → rest ≡ after →
     flats_onto items rest ≡ each spell values after
 written-onto spell [] [] h rest after e = e
 written-onto spell [] (v ∷ vs) h rest after e = absurd h
@@ -150,34 +172,55 @@ written-onto spell (item ∷ items) [] h rest after e = absurd h
 written-onto spell (item ∷ items) (v ∷ vs) h rest after e =
     ap (λ i. More i (flats_onto items rest)) h.0 ∙ ap (More (spell v)) (written-onto spell items vs h.1 rest after e)
 
-text-as : {W : Type 0} (spell : W → Item) (item : Item) (value : W) → flat item ≡ spell value → item_text item ≡ item_text (spell value)
+text-as : {W : Type 0} (spell : W → Item) (item : Item) (value : W) → flat item ≡ spell value →
+    item_text item ≡ item_text (spell value)
 text-as spell item value e = sym (flat-text item) ∙ ap item_text e
 
-below-as : {W : Type 0} (spell : W → Item) (i j : Item) (v w : W) → flat i ≡ spell v → flat j ≡ spell w → IsBelow i j → Below (λ x. item_text (spell x)) v w
+below-as : {W : Type 0} (spell : W → Item) (i j : Item) (v w : W) → flat i ≡ spell v → flat j ≡ spell w → IsBelow i j →
+    Below (λ x. item_text (spell x)) v w
 below-as spell i j v w e f below =
     ap (λ (bytes : List ℕ). slice_cmp nat_cmp bytes (item_text (spell w))) (sym (text-as spell i v e))
     ∙ ap (slice_cmp nat_cmp (item_text i)) (sym (text-as spell j w f)) ∙ below
 
 -- ascending items are written for ascending values
-below-written : {W : Type 0} (spell : W → Item) (item : Item) (value : W) → flat item ≡ spell value → (items : List Item) (values : List W) → AreWritten spell items values →
+below-written : {W : Type 0} (spell : W → Item) (item : Item) (value : W) → flat item ≡ spell value →
+    (items : List Item) (values : List W) → AreWritten spell items values →
     Each (IsBelow item) items → Each (Below (λ w. item_text (spell w)) value) values
 below-written spell item value e [] [] h below = tt
 below-written spell item value e [] (v ∷ vs) h below = absurd h
 below-written spell item value e (i ∷ is) [] h below = tt
-below-written spell item value e (i ∷ is) (v ∷ vs) h below = (below-as spell item i value v e h.0 below.0, below-written spell item value e is vs h.1 below.1)
+below-written spell item value e (i ∷ is) (v ∷ vs) h below =
+    (below-as spell item i value v e h.0 below.0, below-written spell item value e is vs h.1 below.1)
 
-written-ascend : {W : Type 0} (spell : W → Item) (items : List Item) (values : List W) → AreWritten spell items values → Ascend items → Rising (λ w. item_text (spell w)) values
+written-ascend : {W : Type 0} (spell : W → Item) (items : List Item) (values : List W) → AreWritten spell items values →
+    Ascend items → Rising (λ w. item_text (spell w)) values
 written-ascend spell [] [] h up = tt
 written-ascend spell [] (v ∷ vs) h up = absurd h
 written-ascend spell (i ∷ is) [] h up = absurd h
-written-ascend spell (i ∷ is) (v ∷ vs) h up = (below-written spell i v h.0 is vs h.1 up.0, written-ascend spell is vs h.1 up.1)
+written-ascend spell (i ∷ is) (v ∷ vs) h up =
+    (below-written spell i v h.0 is vs h.1 up.0, written-ascend spell is vs h.1 up.1)
+
+-- a set is in order already
+pub set-ordered : {V W : Type 0} (level : Level) (c d : Class) (R : Item → V → Type 0) (spell : W → Item)
+    (norm : V → W) → Form level c d R (λ v. spell (norm v)) →
+    (found : List Item) → Each (IsGood level c d) found → Ascend found →
+    (values : List V) → ReadsEach R found values →
+    in_order (λ w. item_text (spell w)) (map norm values) ≡ map norm values
+set-ordered level c d R spell norm form found good up values reads =
+    in_order-ascending (λ w. item_text (spell w)) (map norm values)
+    (written-ascend spell found (map norm values) (each-written level c d R spell norm form found good values reads) up)
 
 -- a set, in order
-pub set-spelled : {V W : Type 0} (level : Level) (c d : Class) (R : Item → V → Type 0) (spell : W → Item) (norm : V → W) → Form level c d R (λ v. spell (norm v)) →
-    (found front : List Item) → Each (IsGood level c d) found → found ≡ front → Ascend found → (values : List V) → ReadsEach R found values →
-    (rest after : Items) → rest ≡ after → flats_onto front rest ≡ each spell (in_order (λ w. item_text (spell w)) (map norm values)) after
+pub set-spelled : {V W : Type 0} (level : Level) (c d : Class) (R : Item → V → Type 0) (spell : W → Item) (norm : V →
+    W) → Form level c d R (λ v. spell (norm v)) →
+    (found front : List Item) → Each (IsGood level c d) found → found ≡ front → Ascend found → (values : List V) →
+    ReadsEach R found values →
+    (rest after : Items) → rest ≡ after →
+    flats_onto front rest ≡ each spell (in_order (λ w. item_text (spell w)) (map norm values)) after
 set-spelled level c d R spell norm form found front good e up values reads rest after f =
     let written = each-written level c d R spell norm form found good values reads in
     ap (λ xs. flats_onto xs rest) (sym e)
     ∙ written-onto spell found (map norm values) written rest after f
-    ∙ ap (λ ws. each spell ws after) (sym (in_order-ascending (λ w. item_text (spell w)) (map norm values) (written-ascend spell found (map norm values) written up)))
+    ∙ ap (λ ws. each spell ws after)
+    (sym (in_order-ascending (λ w. item_text (spell w)) (map norm values)
+    (written-ascend spell found (map norm values) written up)))

@@ -23,23 +23,27 @@ use Rattle.crs_normal.proofs.ViewLemmas.{flats-spread, those-looked}
 -- ---- what a node of this class has by itself, where it breaks no check
 
 single-anchor : (keyword : List ℕ) (place : ℕ) (square : Bool) (first : Item) (others : Items) (close : ℕ) →
-    IsUnbroken class.GeodeticFrame (node place keyword square first others close) → length (those class.GeodeticFrame class.Anchor (More first others)) ≤ 1
+    IsUnbroken class.GeodeticFrame (node place keyword square first others close) →
+    length (those class.GeodeticFrame class.Anchor (More first others)) ≤ 1
 unfolding Own
 single-anchor keyword place square first others close free = once-only _ (λ fault b. free fault (inl b))
 
 single-vertical_anchor : (keyword : List ℕ) (place : ℕ) (square : Bool) (first : Item) (others : Items) (close : ℕ) →
-    IsUnbroken class.VerticalFrame (node place keyword square first others close) → length (those class.VerticalFrame class.Anchor (More first others)) ≤ 1
+    IsUnbroken class.VerticalFrame (node place keyword square first others close) →
+    length (those class.VerticalFrame class.Anchor (More first others)) ≤ 1
 unfolding Own
 single-vertical_anchor keyword place square first others close free = once-only _ (λ fault b. free fault (inl b))
 
-pub none-read : {V : Type 0} (R : Item → V → Type 0) (found : List Item) → found ≡ [] → (value : Option V) → ReadsOptional R found value → value ≡ None
+pub none-read : {V : Type 0} (R : Item → V → Type 0) (found : List Item) → found ≡ [] → (value : Option V) →
+    ReadsOptional R found value → value ≡ None
 none-read R found e None reads = refl
 none-read R found e (Some v) reads = absurd (subst (λ (xs : List Item). ReadsOptional R xs (Some v)) e reads)
 
 -- ---- reference frames
 
 pub geodetic_datum-form : PlainIsOne → (level : Level) (c : Class) →
-    Form level c class.GeodeticFrame (Checked class.GeodeticFrame (ReadsDatum class.GeodeticFrame)) (λ d. item_datum (codes "DATUM") (norm_datum level d))
+    Form level c class.GeodeticFrame (Checked class.GeodeticFrame (ReadsDatum class.GeodeticFrame))
+    (λ d. item_datum (codes "DATUM") (norm_datum level d))
 geodetic_datum-form law level c (leaf kind place raw) x good checked = absurd checked.1.name
 geodetic_datum-form law level c (node place keyword square first others close) x good checked =
     let d = class.GeodeticFrame in
@@ -53,19 +57,25 @@ geodetic_datum-form law level c (node place keyword square first others close) x
     let anchors = those-looked d class.Anchor (slots_of d) items v in
     node-spelled place keyword _ square first others close _ o.written
     (flats-spread d (slots_of d) items v
-    ∙ one-spelled level d class.Text ReadsText text_item (text-form level d) (those d class.Text items) v.0 (kept-good level d class.Text items o.kept)
+    ∙ one-spelled level d class.Text ReadsText text_item (text-form level d) (those d class.Text items) v.0
+    (kept-good level d class.Text items o.kept)
     (those-looked d class.Text (slots_of d) items v) (v.1.1.0.not_more refl) x.name reads.name _ _
-    (optional-spelled level d class.Ellipsoid (ReadsEllipsoid class.Ellipsoid) (λ e. item_ellipsoid (norm_ellipsoid level e)) (ellipsoid-form law level d)
-    (those d class.Ellipsoid items) v1.0 (kept-good level d class.Ellipsoid items o.kept) (those-looked d class.Ellipsoid (slots_of d) items v)
+    (optional-spelled level d class.Ellipsoid (ReadsEllipsoid class.Ellipsoid)
+    (λ e. item_ellipsoid (norm_ellipsoid level e)) (ellipsoid-form law level d)
+    (those d class.Ellipsoid items) v1.0 (kept-good level d class.Ellipsoid items o.kept)
+    (those-looked d class.Ellipsoid (slots_of d) items v)
     (v1.1.1.0.not_more refl) x.ellipsoid reads.ellipsoid _ _
-    (optional-spelled level d class.Anchor (ReadsTextOf class.Anchor) (text_node (codes "ANCHOR")) (text-node-form level d class.Anchor (codes "ANCHOR") refl (λ bytes h. h))
+    (optional-spelled level d class.Anchor (ReadsTextOf class.Anchor) (text_node (codes "ANCHOR"))
+    (text-node-form level d class.Anchor (codes "ANCHOR") refl (λ bytes h. h))
     (those d class.Anchor items) v2.0 (kept-good level d class.Anchor items o.kept) anchors
     (as-few _ _ anchors (single-anchor keyword place square first others close checked.0)) x.anchor reads.anchor _ _
-    (idents-spelled level d items v3.0 o.kept (those-looked d class.Identifier (slots_of d) items v) o.sets.0 x.ids reads.ids End End refl))
+    (idents-spelled level d items v3.0 o.kept (those-looked d class.Identifier (slots_of d) items v) o.sets.0 x.ids
+    reads.ids End End refl))
     ∙ opt-mapped item_ellipsoid (norm_ellipsoid level) x.ellipsoid _))
 
 pub vertical_datum-form : PlainIsOne → (level : Level) (c : Class) →
-    Form level c class.VerticalFrame (Checked class.VerticalFrame (ReadsDatum class.VerticalFrame)) (λ d. item_datum (codes "VDATUM") (norm_datum level d))
+    Form level c class.VerticalFrame (Checked class.VerticalFrame (ReadsDatum class.VerticalFrame))
+    (λ d. item_datum (codes "VDATUM") (norm_datum level d))
 vertical_datum-form law level c (leaf kind place raw) x good checked = absurd checked.1.name
 vertical_datum-form law level c (node place keyword square first others close) x good checked =
     let d = class.VerticalFrame in
@@ -76,16 +86,22 @@ vertical_datum-form law level c (node place keyword square first others close) x
     let v1 = v.1.1.1.1 in
     let v2 = v1.1.1.1.1 in
     let anchors = those-looked d class.Anchor (slots_of d) items v in
-    let bare = none-read (ReadsEllipsoid class.Ellipsoid) (those d class.Ellipsoid items) (those-looked d class.Ellipsoid (slots_of d) items v) x.ellipsoid reads.ellipsoid in
+    let bare = none-read (ReadsEllipsoid class.Ellipsoid) (those d class.Ellipsoid items)
+    (those-looked d class.Ellipsoid (slots_of d) items v) x.ellipsoid reads.ellipsoid in
     node-spelled place keyword _ square first others close _ o.written
     (flats-spread d (slots_of d) items v
-    ∙ one-spelled level d class.Text ReadsText text_item (text-form level d) (those d class.Text items) v.0 (kept-good level d class.Text items o.kept)
+    ∙ one-spelled level d class.Text ReadsText text_item (text-form level d) (those d class.Text items) v.0
+    (kept-good level d class.Text items o.kept)
     (those-looked d class.Text (slots_of d) items v) (v.1.1.0.not_more refl) x.name reads.name _ _
-    (optional-spelled level d class.Anchor (ReadsTextOf class.Anchor) (text_node (codes "ANCHOR")) (text-node-form level d class.Anchor (codes "ANCHOR") refl (λ bytes h. h))
+    (optional-spelled level d class.Anchor (ReadsTextOf class.Anchor) (text_node (codes "ANCHOR"))
+    (text-node-form level d class.Anchor (codes "ANCHOR") refl (λ bytes h. h))
     (those d class.Anchor items) v1.0 (kept-good level d class.Anchor items o.kept) anchors
-    (as-few _ _ anchors (single-vertical_anchor keyword place square first others close checked.0)) x.anchor reads.anchor _ _
-    (idents-spelled level d items v2.0 o.kept (those-looked d class.Identifier (slots_of d) items v) o.sets.0 x.ids reads.ids End End refl)
+    (as-few _ _ anchors (single-vertical_anchor keyword place square first others close checked.0)) x.anchor
+    reads.anchor _ _
+    (idents-spelled level d items v2.0 o.kept (those-looked d class.Identifier (slots_of d) items v) o.sets.0 x.ids
+    reads.ids End End refl)
     ∙ without x.ellipsoid bare _))
   where
-    without : (e : Option EllipsoidParts) → e ≡ None → (rest : Items) → rest ≡ opt item_ellipsoid (option_map (norm_ellipsoid level) e) rest
+    without : (e : Option EllipsoidParts) → e ≡ None → (rest : Items) →
+        rest ≡ opt item_ellipsoid (option_map (norm_ellipsoid level) e) rest
     without e none rest = ap (λ o. opt item_ellipsoid (option_map (norm_ellipsoid level) o) rest) (sym none)

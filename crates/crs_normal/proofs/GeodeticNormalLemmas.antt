@@ -35,8 +35,10 @@ use Rattle.crs_normal.proofs.ViewLemmas.{View, alone, flats-spread, items-rebuil
 
 -- ---- ends without geoid models
 
-pub found-of : (c : Class) (item : Item) (front : List Item) → SameThose c item front class.GeoidModel → SameThose c item front class.Usage →
-    SameThose c item front class.Identifier → SameThose c item front class.Remark → (d : Class) → EndsIn d → SameThose c item front d
+pub found-of : (c : Class) (item : Item) (front : List Item) → SameThose c item front class.GeoidModel →
+    SameThose c item front class.Usage →
+    SameThose c item front class.Identifier → SameThose c item front class.Remark → (d : Class) → EndsIn d →
+    SameThose c item front d
 found-of c item front g u i r class.GeoidModel h = g
 found-of c item front g u i r class.Usage h = u
 found-of c item front g u i r class.Identifier h = i
@@ -50,7 +52,8 @@ no-models level rest = refl
 pub none-read-each : (found : List Item) → found ≡ [] → ReadsEach (ReadsGeoidModel class.GeoidModel) found []
 none-read-each found e = subst (λ (xs : List Item). ReadsEach (ReadsGeoidModel class.GeoidModel) xs []) (sym e) tt
 
-pub rise-six : (c : Class) (k : ℕ) (f g h i j l : List Item) (rest : Items) → Rise c k (onto f (onto g (onto h (onto i (onto j (onto l rest)))))) → (m : ℕ) × Rise c m rest
+pub rise-six : (c : Class) (k : ℕ) (f g h i j l : List Item) (rest : Items) →
+    Rise c k (onto f (onto g (onto h (onto i (onto j (onto l rest)))))) → (m : ℕ) × Rise c m rest
 rise-six c k f g h i j l rest rise =
     let a = rise-behind c k f (onto g (onto h (onto i (onto j (onto l rest))))) rise in
     let b = rise-behind c a.0 g (onto h (onto i (onto j (onto l rest)))) a.1 in
@@ -63,11 +66,16 @@ rise-six c k f g h i j l rest rise =
 
 abbrev geodetic_items : GeodeticParts → Items
 geodetic_items g =
-    More (text_item g.name) (More (item_frame (codes "DATUM") g.frame) (opt item_meridian g.meridian (system_items g.system (tail_items g.tail))))
+    More (text_item g.name)
+    (More (item_frame (codes "DATUM") g.frame)
+    (opt item_meridian g.meridian (system_items g.system (tail_items g.tail))))
 
-geodetic-args : Laws → (level : Level) (c : Class) (item : Item) → Kept level c (arguments item) → HasSets c item → Has c class.PrimeMeridian item → HasAxes c item → HasTail c item →
-    View c geodetic_slots (arguments item) → Each (IsUnbroken class.GeodeticFrame) (those c class.GeodeticFrame (arguments item)) →
-    length (those c class.Remark (arguments item)) ≤ 1 → (x : GeodeticParts) → length x.system.axes + 1 < 2 ^ 64 → ReadsGeodetic c item x →
+geodetic-args : Laws → (level : Level) (c : Class) (item : Item) → Kept level c (arguments item) → HasSets c item →
+    Has c class.PrimeMeridian item → HasAxes c item → HasTail c item →
+    View c geodetic_slots (arguments item) →
+    Each (IsUnbroken class.GeodeticFrame) (those c class.GeodeticFrame (arguments item)) →
+    length (those c class.Remark (arguments item)) ≤ 1 → (x : GeodeticParts) → length x.system.axes + 1 < 2 ^ 64 →
+    ReadsGeodetic c item x →
     flats (arguments item) ≡ geodetic_items (norm_geodetic level x)
 geodetic-args laws level c item k sets has_meridian has_axes has_tail v free few x within reads =
     let law = laws.plain_one in
@@ -79,23 +87,35 @@ geodetic-args laws level c item k sets has_meridian has_axes has_tail v free few
     let v5 = v4.1.1.1.1 in
     let v6 = v5.1.1.1.1 in
     let looked = λ (d : Class). those-looked c d geodetic_slots items v in
-    let rise = rise-six c 0 v.0 v1.0 v2.0 v3.0 v4.0 v5.0 (onto v6.0 End) (subst (Rise c 0) (items-rebuilt c geodetic_slots items v) has_tail.in_order) in
-    let ends = ends-of c item v6.0 has_tail (looked class.Scope) (looked class.Area) (looked class.BoundingBox) (looked class.VerticalExtent) v6.1.1.0.inside in
+    let rise = rise-six c 0 v.0 v1.0 v2.0 v3.0 v4.0 v5.0 (onto v6.0 End)
+    (subst (Rise c 0) (items-rebuilt c geodetic_slots items v) has_tail.in_order) in
+    let ends = ends-of c item v6.0 has_tail (looked class.Scope) (looked class.Area) (looked class.BoundingBox)
+    (looked class.VerticalExtent) v6.1.1.0.inside in
     let models = looked class.GeoidModel in
-    let found = found-of c item v6.0 (models ∙ sym (slot-lacks c class.GeoidModel tail v6.0 refl v6.1.1.0)) (looked class.Usage) (looked class.Identifier) (looked class.Remark) in
+    let found = found-of c item v6.0 (models
+    ∙ sym (slot-lacks c class.GeoidModel tail v6.0 refl v6.1.1.0)) (looked class.Usage) (looked class.Identifier)
+    (looked class.Remark) in
     flats-spread c geodetic_slots items v
-    ∙ one-spelled level c class.Text ReadsText text_item (text-form level c) (those c class.Text items) v.0 (kept-good level c class.Text items k)
+    ∙ one-spelled level c class.Text ReadsText text_item (text-form level c) (those c class.Text items) v.0
+    (kept-good level c class.Text items k)
     (looked class.Text) (v.1.1.0.not_more refl) x.name reads.name _ _
-    (geodetic_frame-spelled law level c (those c class.GeodeticFrame items) (those c class.GeodeticEnsemble items) v1.0 (alone v1.0 v1.1.1.0 refl refl)
+    (geodetic_frame-spelled law level c (those c class.GeodeticFrame items) (those c class.GeodeticEnsemble items) v1.0
+    (alone v1.0 v1.1.1.0 refl refl)
     (looked class.GeodeticFrame) (looked class.GeodeticEnsemble)
-    (kept-good level c class.GeodeticFrame items k) (kept-good level c class.GeodeticEnsemble items k) free x.frame reads.frame _ _
-    (optional-spelled level c class.PrimeMeridian (ReadsMeridian class.PrimeMeridian) (λ m. item_meridian (norm_given level m)) (meridian-form law laws.zero_plain level c)
-    (those c class.PrimeMeridian items) v2.0 (kept-good level c class.PrimeMeridian items k) (looked class.PrimeMeridian) (v2.1.1.0.not_more refl) x.meridian reads.meridian _ _
-    (system-spelled law level c item k has_axes v3.0 v4.0 v5.0 (looked class.CoordinateSystem) (v3.1.1.0.not_more refl) (looked class.Axis) (looked class.AxisUnit)
+    (kept-good level c class.GeodeticFrame items k) (kept-good level c class.GeodeticEnsemble items k) free x.frame
+    reads.frame _ _
+    (optional-spelled level c class.PrimeMeridian (ReadsMeridian class.PrimeMeridian)
+    (λ m. item_meridian (norm_given level m)) (meridian-form law laws.zero_plain level c)
+    (those c class.PrimeMeridian items) v2.0 (kept-good level c class.PrimeMeridian items k)
+    (looked class.PrimeMeridian) (v2.1.1.0.not_more refl) x.meridian reads.meridian _ _
+    (system-spelled law level c item k has_axes v3.0 v4.0 v5.0 (looked class.CoordinateSystem) (v3.1.1.0.not_more refl)
+    (looked class.Axis) (looked class.AxisUnit)
     x.system reads.system within _ _
-    (tail-spelled law level c item k sets has_tail v6.0 rise.0 rise.1 ends found few [] (none-read-each _ models) x.tail reads.tail
+    (tail-spelled law level c item k sets has_tail v6.0 rise.0 rise.1 ends found few [] (none-read-each _ models) x.tail
+    reads.tail
     ∙ no-models level _))
-    ∙ opt-meridian (ReadsMeridian class.PrimeMeridian) level (those c class.PrimeMeridian items) x.meridian has_meridian reads.meridian _))
+    ∙ opt-meridian (ReadsMeridian class.PrimeMeridian) level (those c class.PrimeMeridian items) x.meridian has_meridian
+    reads.meridian _))
 
 plain-keyword : (t : SystemType) → t ≢ types.Ellipsoidal → codes "GEODCRS" ≡ geodetic_keyword t
 plain-keyword types.Ellipsoidal other = absurd (other refl)
@@ -104,7 +124,8 @@ plain-keyword types.Spherical other = refl
 plain-keyword types.Vertical other = refl
 
 pub geodetic-form : Laws → (level : Level) (c : Class) →
-    Form level c class.GeodeticCrs (Checked class.GeodeticCrs (ReadsGeodetic class.GeodeticCrs)) (λ g. item_geodetic (norm_geodetic level g))
+    Form level c class.GeodeticCrs (Checked class.GeodeticCrs (ReadsGeodetic class.GeodeticCrs))
+    (λ g. item_geodetic (norm_geodetic level g))
 unfolding Own
 geodetic-form laws level c (leaf kind place raw) x good checked = absurd checked.1.name
 geodetic-form laws level c (node place keyword square first others close) x good checked =
@@ -113,18 +134,24 @@ geodetic-form laws level c (node place keyword square first others close) x good
     let reads = checked.1 in
     let o = opened level c d place keyword square first others close good.shaped good.normal in
     let items = More first others in
-    let free : AreFree geodetic_dimensions (those d class.CoordinateSystem items) (those d class.Axis items) (those d class.AxisUnit items) =
+    let free : AreFree geodetic_dimensions (those d class.CoordinateSystem items) (those d class.Axis items)
+    (those d class.AxisUnit items) =
     λ fault b. checked.0 fault (inl (inr b)) in
-    let frames = those-unbroken d class.GeodeticFrame o.kept.classes items o.kept.shaped (λ fault b. checked.0 fault (inr b)) in
-    let remarks = once-only (those d class.Remark items) (λ fault b. checked.0 fault (inl (inl (inr (inr (inr (inr (inl b)))))))) in
+    let frames = those-unbroken d class.GeodeticFrame o.kept.classes items o.kept.shaped
+    (λ fault b. checked.0 fault (inr b)) in
+    let remarks = once-only (those d class.Remark items)
+    (λ fault b. checked.0 fault (inl (inl (inr (inr (inr (inr (inl b)))))))) in
     let within = few-axes laws geodetic_dimensions small-geodetic _ _ _ free x.system reads.system.head
     (each-length (ReadsAxis class.Axis) (those d class.Axis items) x.system.axes reads.system.axes) in
-    let other = not-ellipsoidal level d (those d class.CoordinateSystem items) (kept-good level d class.CoordinateSystem items o.kept) o.own.0 x.system reads.system.head in
-    node-spelled place keyword _ square first others close (geodetic_items (norm_geodetic level x)) (o.written ∙ plain-keyword x.system.system_type other)
+    let other = not-ellipsoidal level d (those d class.CoordinateSystem items)
+    (kept-good level d class.CoordinateSystem items o.kept) o.own.0 x.system reads.system.head in
+    node-spelled place keyword _ square first others close (geodetic_items (norm_geodetic level x)) (o.written
+    ∙ plain-keyword x.system.system_type other)
     (geodetic-args laws level d item o.kept o.sets o.own.1 o.own.2 o.own.3 o.slots frames remarks x within reads)
 
 pub geographic-form : Laws → (level : Level) (c : Class) →
-    Form level c class.GeographicCrs (Checked class.GeographicCrs (ReadsGeodetic class.GeographicCrs)) (λ g. item_geodetic (norm_geodetic level g))
+    Form level c class.GeographicCrs (Checked class.GeographicCrs (ReadsGeodetic class.GeographicCrs))
+    (λ g. item_geodetic (norm_geodetic level g))
 unfolding Own
 geographic-form laws level c (leaf kind place raw) x good checked = absurd checked.1.name
 geographic-form laws level c (node place keyword square first others close) x good checked =
@@ -133,12 +160,17 @@ geographic-form laws level c (node place keyword square first others close) x go
     let reads = checked.1 in
     let o = opened level c d place keyword square first others close good.shaped good.normal in
     let items = More first others in
-    let free : AreFree geographic_dimensions (those d class.CoordinateSystem items) (those d class.Axis items) (those d class.AxisUnit items) =
+    let free : AreFree geographic_dimensions (those d class.CoordinateSystem items) (those d class.Axis items)
+    (those d class.AxisUnit items) =
     λ fault b. checked.0 fault (inl (inr b)) in
-    let frames = those-unbroken d class.GeodeticFrame o.kept.classes items o.kept.shaped (λ fault b. checked.0 fault (inr b)) in
-    let remarks = once-only (those d class.Remark items) (λ fault b. checked.0 fault (inl (inl (inr (inr (inr (inr (inl b)))))))) in
+    let frames = those-unbroken d class.GeodeticFrame o.kept.classes items o.kept.shaped
+    (λ fault b. checked.0 fault (inr b)) in
+    let remarks = once-only (those d class.Remark items)
+    (λ fault b. checked.0 fault (inl (inl (inr (inr (inr (inr (inl b)))))))) in
     let within = few-axes laws geographic_dimensions small-geographic _ _ _ free x.system reads.system.head
     (each-length (ReadsAxis class.Axis) (those d class.Axis items) x.system.axes reads.system.axes) in
-    let same = geographic-type (those d class.CoordinateSystem items) (those d class.Axis items) (those d class.AxisUnit items) free x.system reads.system.head in
-    node-spelled place keyword _ square first others close (geodetic_items (norm_geodetic level x)) (o.written ∙ ap geodetic_keyword (sym same))
+    let same = geographic-type (those d class.CoordinateSystem items) (those d class.Axis items)
+    (those d class.AxisUnit items) free x.system reads.system.head in
+    node-spelled place keyword _ square first others close (geodetic_items (norm_geodetic level x)) (o.written
+    ∙ ap geodetic_keyword (sym same))
     (geodetic-args laws level d item o.kept o.sets o.own.0 o.own.1 o.own.2 o.slots frames remarks x within reads)

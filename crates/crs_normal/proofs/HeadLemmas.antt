@@ -1,4 +1,5 @@
--- What the checks say of a normal CRS: how many axes there are, of which type its system is, and what stands at its end.
+-- What the checks say of a normal CRS: how many axes there are, of which type its system is, and what stands at its
+-- end.
 use Rattle.std.proofs.Common.{◌≡◌, ◌≢◌, ℕ, suc, ◌+◌, ◌*◌, ◌^◌, ◌≤◌, ◌<◌, length, map, true, false, inl, inr, List, [], ◌∷◌, codes, refl, sym, ◌∙◌, ap, subst, arith}
 use Rattle.std.specs.Prelude.{nat_lt}
 use Rattle.std.proofs.lemmas.Bool.{ltb-true, ltb-false}
@@ -36,7 +37,8 @@ pub record Laws : Type 0 where
 
 -- ---- how many axes there are
 
-pub each-length : {V : Type 0} (R : Item → V → Type 0) (items : List Item) (values : List V) → ReadsEach R items values → length values ≡ length items
+pub each-length : {V : Type 0} (R : Item → V → Type 0) (items : List Item) (values : List V) →
+    ReadsEach R items values → length values ≡ length items
 each-length R [] [] reads = refl
 each-length R [] (v ∷ vs) reads = absurd reads
 each-length R (i ∷ is) [] reads = absurd reads
@@ -48,7 +50,8 @@ AreSmall ns = Each (λ n. n ≤ 3) ns
 same-whole : (n m : ℕ) → SameNumber (whole_number n) (whole_number m) → n ≡ m
 same-whole n m h = let e : n * 10 ^ (0 + 0) ≡ m * 10 ^ (0 + 0) = h.0 in omega arith
 
-small-one : Laws → (dimension : Value) (ns : List ℕ) → AreSmall ns → IsOneOf dimension ns → (count : ℕ) → SameNumber (exact dimension) (whole_number count) → count ≤ 3
+small-one : Laws → (dimension : Value) (ns : List ℕ) → AreSmall ns → IsOneOf dimension ns → (count : ℕ) →
+    SameNumber (exact dimension) (whole_number count) → count ≤ 3
 small-one laws dimension [] small one count same = absurd one
 small-one laws dimension (n ∷ ns) small (inl one) count same =
     let e = same-whole count n (laws.transitive _ _ _ (laws.symmetric _ _ same) one) in
@@ -59,11 +62,13 @@ small-one laws dimension (n ∷ ns) small (inr one) count same = small-one laws 
 abbrev pub AreFree : (SystemType → List ℕ) → List Item → List Item → List Item → Type 0
 AreFree dimensions systems axes units = (fault : Refused) → ¬ (BadSystems dimensions systems axes units fault)
 
-pub few-axes : Laws → (dimensions : SystemType → List ℕ) → ((t : SystemType) → AreSmall (dimensions t)) → (systems axes units : List Item) → AreFree dimensions systems axes units →
+pub few-axes : Laws → (dimensions : SystemType → List ℕ) → ((t : SystemType) → AreSmall (dimensions t)) →
+    (systems axes units : List Item) → AreFree dimensions systems axes units →
     (x : SystemParts) → ReadsFirst ReadsHead systems x → length x.axes ≡ length axes → length x.axes + 1 < 2 ^ 64
 few-axes laws dimensions small [] axes units free x reads count = absurd reads
 few-axes laws dimensions small (cs ∷ more) axes units free x reads count =
-    elim (nat_lt (length x.axes + 1) (2 ^ 64)) as (λ b. nat_lt (length x.axes + 1) (2 ^ 64) ≡ b → length x.axes + 1 < 2 ^ 64) [
+    elim (nat_lt (length x.axes + 1) (2 ^ 64)) as (λ b. nat_lt (length x.axes + 1) (2 ^ 64) ≡ b →
+    length x.axes + 1 < 2 ^ 64) [
       | true ↦ λ e. ltb-true (length x.axes + 1) (2 ^ 64) e
       | false ↦ λ e. absurd (too-many (ltb-false (length x.axes + 1) (2 ^ 64) e))
     ] refl
@@ -90,7 +95,8 @@ few-axes laws dimensions small (cs ∷ more) axes units free x reads count =
                           reads.system_type,
                           reads.dimension,
                           λ one.
-                              three (small-one laws x.dimension (dimensions x.system_type) (small x.system_type) one (length axes) same) many,
+                              three (small-one laws x.dimension (dimensions x.system_type) (small x.system_type) one
+                              (length axes) same) many,
                         ),
                       ),
                     ),
@@ -126,12 +132,14 @@ small-vertical types.Vertical = (omega arith, tt)
 -- ---- of which type the system is
 
 -- that of a CRS called geographic is ellipsoidal
-pub geographic-type : (systems axes units : List Item) → AreFree geographic_dimensions systems axes units → (x : SystemParts) → ReadsFirst ReadsHead systems x →
+pub geographic-type : (systems axes units : List Item) → AreFree geographic_dimensions systems axes units →
+    (x : SystemParts) → ReadsFirst ReadsHead systems x →
     x.system_type ≡ types.Ellipsoidal
 geographic-type [] axes units free x reads = absurd reads
 geographic-type (cs ∷ more) axes units free x reads = by x.system_type reads.system_type
   where
-    wrong : (t : SystemType) → geographic_dimensions t ≡ [] → ReadsFirst ReadsType (those class.CoordinateSystem class.Word (arguments cs)) t → ⊥
+    wrong : (t : SystemType) → geographic_dimensions t ≡ [] →
+        ReadsFirst ReadsType (those class.CoordinateSystem class.Word (arguments cs)) t → ⊥
     wrong t none read =
         free (at 23 cs) (inl (inl (inl (
           refl,
@@ -149,14 +157,16 @@ geographic-type (cs ∷ more) axes units free x reads = by x.system_type reads.s
           ),
         ))))
 
-    by : (t : SystemType) → ReadsFirst ReadsType (those class.CoordinateSystem class.Word (arguments cs)) t → t ≡ types.Ellipsoidal
+    by : (t : SystemType) → ReadsFirst ReadsType (those class.CoordinateSystem class.Word (arguments cs)) t →
+        t ≡ types.Ellipsoidal
     by types.Ellipsoidal read = refl
     by types.Cartesian read = absurd (wrong types.Cartesian refl read)
     by types.Spherical read = absurd (wrong types.Spherical refl read)
     by types.Vertical read = absurd (wrong types.Vertical refl read)
 
 -- the one word of a node `CS`
-head-word : (level : Level) (c : Class) (item : Item) (x : SystemParts) → IsGood level c class.CoordinateSystem item → ReadsHead item x →
+head-word : (level : Level) (c : Class) (item : Item) (x : SystemParts) → IsGood level c class.CoordinateSystem item →
+    ReadsHead item x →
     words_in class.CoordinateSystem item ≡ system_word x.system_type ∷ []
 head-word level c (leaf kind place raw) x good reads = absurd reads.dimension
 head-word level c (node place keyword square first others close) x good reads =
@@ -171,8 +181,10 @@ head-word level c (node place keyword square first others close) x good reads =
     ap (map raw_of) are ∙ ap (λ (w : List ℕ). w ∷ []) (type-raw level p.0 x.system_type g r)
 
 -- a geodetic CRS that isn't geographic has no ellipsoidal system
-pub not-ellipsoidal : (level : Level) (c : Class) (systems : List Item) → Each (IsGood level c class.CoordinateSystem) systems →
-    Each (λ cs. words_in class.CoordinateSystem cs ≢ codes "ellipsoidal" ∷ []) systems → (x : SystemParts) → ReadsFirst ReadsHead systems x →
+pub not-ellipsoidal : (level : Level) (c : Class) (systems : List Item) →
+    Each (IsGood level c class.CoordinateSystem) systems →
+    Each (λ cs. words_in class.CoordinateSystem cs ≢ codes "ellipsoidal" ∷ []) systems → (x : SystemParts) →
+    ReadsFirst ReadsHead systems x →
     x.system_type ≢ types.Ellipsoidal
 not-ellipsoidal level c [] good none x reads e = absurd reads
 not-ellipsoidal level c (cs ∷ more) good none x reads e =
@@ -183,7 +195,8 @@ not-ellipsoidal level c (cs ∷ more) good none x reads e =
 abbrev pub SameThose : Class → Item → List Item → Class → Type 0
 SameThose c item front d = those c d (arguments item) ≡ those c d (onto front End)
 
-no-bare : (c : Class) (item : Item) (front : List Item) → HasTail c item → SameThose c item front class.Scope → SameThose c item front class.Area →
+no-bare : (c : Class) (item : Item) (front : List Item) → HasTail c item → SameThose c item front class.Scope →
+    SameThose c item front class.Area →
     SameThose c item front class.BoundingBox → SameThose c item front class.VerticalExtent → Each (HasNoBare c) front
 no-bare c item front has a b d e =
     all front
@@ -193,7 +206,8 @@ no-bare c item front has a b d e =
     (none-here c class.VerticalExtent front (sym e ∙ has.none_bare.1.1.1.0))
   where
     all : (xs : List Item) → Each (λ i. is_a c class.Scope i ≡ false) xs → Each (λ i. is_a c class.Area i ≡ false) xs →
-        Each (λ i. is_a c class.BoundingBox i ≡ false) xs → Each (λ i. is_a c class.VerticalExtent i ≡ false) xs → Each (HasNoBare c) xs
+        Each (λ i. is_a c class.BoundingBox i ≡ false) xs → Each (λ i. is_a c class.VerticalExtent i ≡ false) xs →
+        Each (HasNoBare c) xs
     all [] p q r s = tt
     all (x ∷ xs) p q r s = (record { scope = p.0; area = q.0; bbox = r.0; extent = s.0 }, all xs p.1 q.1 r.1 s.1)
 
@@ -201,10 +215,15 @@ both : {P Q R : Item → Type 0} → ((i : Item) → P i → Q i → R i) → (x
 both f [] p q = tt
 both f (x ∷ xs) p q = (f x p.0 q.0, both f xs p.1 q.1)
 
-pub ends-of : (c : Class) (item : Item) (front : List Item) → HasTail c item → SameThose c item front class.Scope → SameThose c item front class.Area →
-    SameThose c item front class.BoundingBox → SameThose c item front class.VerticalExtent → Each (InSlot c tail) front → Each (EndsAs c) front
+pub ends-of : (c : Class) (item : Item) (front : List Item) → HasTail c item → SameThose c item front class.Scope →
+    SameThose c item front class.Area →
+    SameThose c item front class.BoundingBox → SameThose c item front class.VerticalExtent →
+    Each (InSlot c tail) front → Each (EndsAs c) front
 ends-of c item front has a b d e inside = both (end-as c) front (no-bare c item front has a b d e) inside
 
-pub vertical_ends-of : (c : Class) (item : Item) (front : List Item) → HasTail c item → SameThose c item front class.Scope → SameThose c item front class.Area →
-    SameThose c item front class.BoundingBox → SameThose c item front class.VerticalExtent → Each (InSlot c vertical_tail) front → Each (EndsAs c) front
-vertical_ends-of c item front has a b d e inside = both (vertical_end-as c) front (no-bare c item front has a b d e) inside
+pub vertical_ends-of : (c : Class) (item : Item) (front : List Item) → HasTail c item →
+    SameThose c item front class.Scope → SameThose c item front class.Area →
+    SameThose c item front class.BoundingBox → SameThose c item front class.VerticalExtent →
+    Each (InSlot c vertical_tail) front → Each (EndsAs c) front
+vertical_ends-of c item front has a b d e inside =
+    both (vertical_end-as c) front (no-bare c item front has a b d e) inside

@@ -31,7 +31,8 @@ use Rattle.crs_normal.proofs.ViewLemmas.{InSlot, View, items-rebuilt, alone, fla
 short-true : (raw : List ℕ) → IsShort raw → is_short raw ≡ true
 short-true raw h =
     and_from (list_all is_digit raw && nat_le 1 (length raw)) (nat_le (length raw) 18)
-    (and_from (list_all is_digit raw) (nat_le 1 (length raw)) h.digits (le-leb 1 (length raw) h.some)) (le-leb (length raw) 18 h.few)
+    (and_from (list_all is_digit raw) (nat_le 1 (length raw)) h.digits (le-leb 1 (length raw) h.some))
+    (le-leb (length raw) 18 h.few)
 
 short-is : (raw : List ℕ) → is_short raw ≡ true → IsShort raw
 short-is raw e =
@@ -45,14 +46,17 @@ short-false raw h = elim (is_short raw) as (λ b. is_short raw ≡ b → is_shor
   | false ↦ λ e. e
 ] refl
 
-coded : (bytes raw : List ℕ) (b : Bool) → is_short bytes ≡ b → bytes ≡ raw → leaf (if b then number else text) 0 bytes ≡ code_item raw
+coded : (bytes raw : List ℕ) (b : Bool) → is_short bytes ≡ b → bytes ≡ raw →
+    leaf (if b then number else text) 0 bytes ≡ code_item raw
 coded bytes raw b e f = ap (λ t. leaf (if t then number else text) 0 bytes) (sym e) ∙ ap code_item f
 
-as-number : (place : ℕ) (bytes raw : List ℕ) → IsCode (leaf number place bytes) → bytes ≡ raw → leaf number 0 bytes ≡ code_item raw
+as-number : (place : ℕ) (bytes raw : List ℕ) → IsCode (leaf number place bytes) → bytes ≡ raw →
+    leaf number 0 bytes ≡ code_item raw
 as-number place bytes raw (inl h) e = coded bytes raw true (short-true bytes h.0) e
 as-number place bytes raw (inr h) e = let k = h.1 in absurd (cc)
 
-as-text : (place : ℕ) (bytes raw : List ℕ) → IsCode (leaf text place bytes) → bytes ≡ raw → leaf text 0 bytes ≡ code_item raw
+as-text : (place : ℕ) (bytes raw : List ℕ) → IsCode (leaf text place bytes) → bytes ≡ raw →
+    leaf text 0 bytes ≡ code_item raw
 as-text place bytes raw (inl h) e = let k = h.1 in absurd (cc)
 as-text place bytes raw (inr h) e = coded bytes raw false (short-false bytes h.0) e
 
@@ -61,7 +65,8 @@ no-word place bytes (inl h) = let k = h.1 in cc
 no-word place bytes (inr h) = let k = h.1 in cc
 
 -- a single item with the kind of a code is the code's one form
-code-flat : (item : Item) (rest : Items) (raw : List ℕ) (others : List Item) → ReadsFirst ReadsText (single_of (More item rest)) raw →
+code-flat : (item : Item) (rest : Items) (raw : List ℕ) (others : List Item) →
+    ReadsFirst ReadsText (single_of (More item rest)) raw →
     Each IsCode (single_of (More item rest) ++ others) → (flat item ≡ code_item raw) × Each IsCode others
 code-flat (leaf number place bytes) rest raw others reads codes = (as-number place bytes raw codes.0 reads, codes.1)
 code-flat (leaf text place bytes) rest raw others reads codes = (as-text place bytes raw codes.0 reads, codes.1)
@@ -70,28 +75,37 @@ code-flat (node place keyword square first items close) rest raw others reads co
 
 -- ---- versions
 
-node-no-code : (at : Class) (keyword : List ℕ) → is_keyword at keyword ≡ true → (sameb the_type class.Number at || (sameb the_type class.Text at || false)) ≡ true → ⊥
+node-no-code : (at : Class) (keyword : List ℕ) → is_keyword at keyword ≡ true →
+    (sameb the_type class.Number at || (sameb the_type class.Text at || false)) ≡ true → ⊥
 node-no-code at keyword is taken =
-    elim (sameb the_type class.Number at) as (λ b. sameb the_type class.Number at ≡ b → (b || (sameb the_type class.Text at || false)) ≡ true → ⊥) [
-      | true ↦ λ e t. clash (no-number keyword) (subst (λ (x : Class). is_keyword x keyword ≡ true) (sym (same_class class.Number at e)) is)
+    elim (sameb the_type class.Number at) as (λ b. sameb the_type class.Number at ≡ b →
+    (b || (sameb the_type class.Text at || false)) ≡ true → ⊥) [
+      | true ↦ λ e t. clash (no-number keyword)
+          (subst (λ (x : Class). is_keyword x keyword ≡ true) (sym (same_class class.Number at e)) is)
       | false ↦ λ e t. clash (no-text keyword)
-          (subst (λ (x : Class). is_keyword x keyword ≡ true) (sym (same_class class.Text at (or-false (sameb the_type class.Text at) t))) is)
+          (subst (λ (x : Class). is_keyword x keyword ≡ true)
+          (sym (same_class class.Text at (or-false (sameb the_type class.Text at) t))) is)
     ] refl taken
   where
     clash : {b : Bool} → b ≡ false → b ≡ true → ⊥
     clash e f = let h : false ≡ true = sym e ∙ f in cc
 
 -- a version, and what stands behind it
-version-flat : (front : List Item) (behind : Items) → Each (InSlot class.Identifier (optional_of (class.Number ∷ class.Text ∷ []))) front →
-    length front ≤ 1 → single_of behind ≡ [] → (version : Option (List ℕ)) → ReadsOptional ReadsText (single_of (onto front behind)) version →
-    Each IsCode (single_of (onto front behind)) → (rest after : Items) → rest ≡ after → flats_onto front rest ≡ opt code_item version after
+version-flat : (front : List Item) (behind : Items) →
+    Each (InSlot class.Identifier (optional_of (class.Number ∷ class.Text ∷ []))) front →
+    length front ≤ 1 → single_of behind ≡ [] → (version : Option (List ℕ)) →
+    ReadsOptional ReadsText (single_of (onto front behind)) version →
+    Each IsCode (single_of (onto front behind)) → (rest after : Items) → rest ≡ after →
+    flats_onto front rest ≡ opt code_item version after
 version-flat [] behind inside few none None reads codes rest after e = e
 version-flat [] behind inside few none (Some v) reads codes rest after e =
     absurd (subst (λ (xs : List Item). ReadsOptional ReadsText xs (Some v)) none reads)
 version-flat (item ∷ other ∷ others) behind inside few none version reads codes rest after e = absurd (omega arith)
-version-flat (node place keyword square first items close ∷ []) behind inside few none version reads codes rest after e =
+version-flat (node place keyword square first items close ∷ []) behind inside few none version reads codes rest after e
+    =
     let s = inside.0 in absurd (node-no-code s.at keyword s.shaped.0 s.taken)
-version-flat (leaf word place raw ∷ []) behind inside few none version reads codes rest after e = absurd (no-word place raw codes.0)
+version-flat (leaf word place raw ∷ []) behind inside few none version reads codes rest after e =
+    absurd (no-word place raw codes.0)
 version-flat (leaf number place raw ∷ []) behind inside few none None reads codes rest after e = absurd reads
 version-flat (leaf text place raw ∷ []) behind inside few none None reads codes rest after e = absurd reads
 version-flat (leaf number place raw ∷ []) behind inside few none (Some v) reads codes rest after e =
@@ -100,7 +114,8 @@ version-flat (leaf text place raw ∷ []) behind inside few none (Some v) reads 
     ap (λ i. More i rest) (as-text place raw v codes.0 reads) ∙ ap (More (code_item v)) e
 
 -- nodes that stand next give no version
-no-single : (d : Class) → ((kind : Kind) → sameb the_type (class_of_kind kind) d ≡ false) → (item : Item) (rest : Items) → InSlot class.Identifier (optional d) item →
+no-single : (d : Class) → ((kind : Kind) → sameb the_type (class_of_kind kind) d ≡ false) →
+    (item : Item) (rest : Items) → InSlot class.Identifier (optional d) item →
     single_of (More item rest) ≡ []
 no-single d none (node place keyword square first others close) rest s = refl
 no-single d none (leaf kind place raw) rest s = absurd (clash (none kind) shaped)
@@ -124,15 +139,18 @@ no-uri number = refl
 no-uri text = refl
 no-uri word = refl
 
-behind-version : (citations uris : List Item) → Each (InSlot class.Identifier (optional class.Citation)) citations → Each (InSlot class.Identifier (optional class.Uri)) uris →
+behind-version : (citations uris : List Item) → Each (InSlot class.Identifier (optional class.Citation)) citations →
+    Each (InSlot class.Identifier (optional class.Uri)) uris →
     single_of (onto citations (onto uris End)) ≡ []
 behind-version [] [] a b = refl
 behind-version [] (uri ∷ uris) a b = no-single class.Uri no-uri uri (onto uris End) b.0
-behind-version (citation ∷ citations) uris a b = no-single class.Citation no-citation citation (onto citations (onto uris End)) a.0
+behind-version (citation ∷ citations) uris a b =
+    no-single class.Citation no-citation citation (onto citations (onto uris End)) a.0
 
 -- ---- identifiers
 
-first-of : (c d : Class) (item : Item) (rest : Items) (value : List ℕ) → is_a c d item ≡ true → ReadsFirst ReadsText (those c d (More item rest)) value → ReadsText item value
+first-of : (c d : Class) (item : Item) (rest : Items) (value : List ℕ) → is_a c d item ≡ true →
+    ReadsFirst ReadsText (those c d (More item rest)) value → ReadsText item value
 first-of c d item rest value is reads =
     subst (λ (b : Bool). ReadsFirst ReadsText (if b then item ∷ those c d rest else those c d rest) value) is reads
 
@@ -142,15 +160,21 @@ text-flat : (item : Item) (rest : Items) → InSlot class.Identifier (one class.
 text-flat item rest s value reads =
     let at-text = same_class class.Text s.at (or-false (sameb the_type class.Text s.at) s.taken) in
     flat-text-leaf item (subst (λ (x : Class). Shaped x item) (sym at-text) s.shaped)
-    ∙ ap text_item (first-of class.Identifier class.Text item rest value (of-one class.Identifier class.Text class.Text (one class.Text) refl refl item s) reads)
+    ∙ ap text_item (first-of class.Identifier class.Text item rest value
+    (of-one class.Identifier class.Text class.Text (one class.Text) refl refl item s) reads)
 
-ident-args : (level : Level) (items : Items) → Kept level class.Identifier items → (v : View class.Identifier (slots_of class.Identifier) items) →
+ident-args : (level : Level) (items : Items) → Kept level class.Identifier items →
+    (v : View class.Identifier (slots_of class.Identifier) items) →
     Each IsCode (single_of (skip 1 items) ++ single_of (skip 2 items)) → (x : IdentParts) →
     ReadsFirst ReadsText (those class.Identifier class.Text items) x.authority →
-    ReadsFirst ReadsText (single_of (skip 1 items)) x.code → ReadsOptional ReadsText (single_of (skip 2 items)) x.version →
+    ReadsFirst ReadsText (single_of (skip 1 items)) x.code →
+    ReadsOptional ReadsText (single_of (skip 2 items)) x.version →
     ReadsOptional (ReadsTextOf class.Citation) (those class.Identifier class.Citation items) x.citation →
     ReadsOptional (ReadsTextOf class.Uri) (those class.Identifier class.Uri items) x.uri →
-    flats items ≡ More (text_item x.authority) (More (code_item x.code) (opt code_item x.version (opt (text_node (codes "CITATION")) x.citation (opt (text_node (codes "URI")) x.uri End))))
+    flats items ≡ More (text_item x.authority)
+    (More (code_item x.code)
+    (opt code_item x.version
+    (opt (text_node (codes "CITATION")) x.citation (opt (text_node (codes "URI")) x.uri End))))
 ident-args level items k v are_codes x authority code version citation uri =
     let v1 = v.1.1.1.1 in
     let v2 = v1.1.1.1.1 in
@@ -167,11 +191,15 @@ ident-args level items k v are_codes x authority code version citation uri =
     (subst (λ (is : Items). ReadsFirst ReadsText (single_of (skip 1 is)) x.code) are code)
     (subst (λ (is : Items). Each IsCode (single_of (skip 1 is) ++ single_of (skip 2 is))) are are_codes) in
     let text-first = (subst (Each (InSlot class.Identifier (one class.Text))) a.1 v.1.1.0.inside).0 in
-    let named = text-flat a.0 (More b.0 rest) text-first x.authority (subst (λ (is : Items). ReadsFirst ReadsText (those class.Identifier class.Text is) x.authority) are authority) in
-    let citations = optional-spelled level class.Identifier class.Citation (ReadsTextOf class.Citation) (text_node (codes "CITATION"))
+    let named = text-flat a.0 (More b.0 rest) text-first x.authority
+    (subst (λ (is : Items). ReadsFirst ReadsText (those class.Identifier class.Text is) x.authority) are authority)
+    in
+    let citations = optional-spelled level class.Identifier class.Citation (ReadsTextOf class.Citation)
+    (text_node (codes "CITATION"))
     (text-node-form level class.Identifier class.Citation (codes "CITATION") refl (λ bytes h. h))
     (those class.Identifier class.Citation items) v3.0 (kept-good level class.Identifier class.Citation items k)
-    (those-looked class.Identifier class.Citation (slots_of class.Identifier) items v) (v3.1.1.0.not_more refl) x.citation citation in
+    (those-looked class.Identifier class.Citation (slots_of class.Identifier) items v) (v3.1.1.0.not_more refl)
+    x.citation citation in
     let uris = optional-spelled level class.Identifier class.Uri (ReadsTextOf class.Uri) (text_node (codes "URI"))
     (text-node-form level class.Identifier class.Uri (codes "URI") refl (λ bytes h. h))
     (those class.Identifier class.Uri items) v4.0 (kept-good level class.Identifier class.Uri items k)
@@ -180,7 +208,8 @@ ident-args level items k v are_codes x authority code version citation uri =
     ∙ ap (λ xs. flats_onto xs (flats_onto v1.0 (flats_onto v2.0 (flats_onto v3.0 (flats_onto v4.0 End))))) a.1
     ∙ ap (λ xs. More (flat a.0) (flats_onto xs (flats_onto v2.0 (flats_onto v3.0 (flats_onto v4.0 End))))) b.1
     ∙ three named coded.0
-    (version-flat v2.0 behind v2.1.1.0.inside (v2.1.1.0.not_more refl) (behind-version v3.0 v4.0 v3.1.1.0.inside v4.1.1.0.inside) x.version
+    (version-flat v2.0 behind v2.1.1.0.inside (v2.1.1.0.not_more refl)
+    (behind-version v3.0 v4.0 v3.1.1.0.inside v4.1.1.0.inside) x.version
     (subst (λ (is : Items). ReadsOptional ReadsText (single_of (skip 2 is)) x.version) are version) coded.1
     _ _ (citations _ _ (uris End End refl)))
   where
@@ -192,4 +221,5 @@ ident-form level c (leaf kind place raw) x good reads = absurd reads.authority
 ident-form level c (node place keyword square first others close) x good reads =
     let o = opened level c class.Identifier place keyword square first others close good.shaped good.normal in
     node-spelled place keyword (codes "ID") square first others close _ o.written
-    (ident-args level (More first others) o.kept o.slots o.own x reads.authority reads.code reads.version reads.citation reads.uri)
+    (ident-args level (More first others) o.kept o.slots o.own x reads.authority reads.code reads.version reads.citation
+    reads.uri)

@@ -39,21 +39,25 @@ pub flat-text-leaf : (item : Item) → Shaped class.Text item → flat item ≡ 
 flat-text-leaf (leaf number place raw) shaped = cc
 flat-text-leaf (leaf text place raw) shaped = refl
 flat-text-leaf (leaf word place raw) shaped = cc
-flat-text-leaf (node place keyword square first others close) shaped = let h : false ≡ true = sym (no-text keyword) ∙ shaped.0 in cc
+flat-text-leaf (node place keyword square first others close) shaped = let h : false ≡ true = sym (no-text keyword)
+    ∙ shaped.0 in cc
 
 pub flat-number-leaf : (item : Item) → Shaped class.Number item → flat item ≡ leaf number 0 (raw_of item)
 flat-number-leaf (leaf number place raw) shaped = refl
 flat-number-leaf (leaf text place raw) shaped = cc
 flat-number-leaf (leaf word place raw) shaped = cc
-flat-number-leaf (node place keyword square first others close) shaped = let h : false ≡ true = sym (no-number keyword) ∙ shaped.0 in cc
+flat-number-leaf (node place keyword square first others close) shaped = let h : false ≡ true = sym (no-number keyword)
+    ∙ shaped.0 in cc
 
 pub flat-word-leaf : (item : Item) → Shaped class.Word item → flat item ≡ leaf word 0 (raw_of item)
 flat-word-leaf (leaf number place raw) shaped = cc
 flat-word-leaf (leaf text place raw) shaped = cc
 flat-word-leaf (leaf word place raw) shaped = refl
-flat-word-leaf (node place keyword square first others close) shaped = let h : false ≡ true = sym (no-word keyword) ∙ shaped.0 in cc
+flat-word-leaf (node place keyword square first others close) shaped = let h : false ≡ true = sym (no-word keyword)
+    ∙ shaped.0 in cc
 
-pub number-normal : (level : Level) (c : Class) (item : Item) → Shaped class.Number item → IsNormalIn level c class.Number item → IsNumberIn c (raw_of item)
+pub number-normal : (level : Level) (c : Class) (item : Item) → Shaped class.Number item →
+    IsNormalIn level c class.Number item → IsNumberIn c (raw_of item)
 number-normal level c (leaf number place raw) shaped normal = normal
 number-normal level c (leaf text place raw) shaped normal = let h : false ≡ true = shaped in absurd (cc)
 number-normal level c (leaf word place raw) shaped normal = let h : false ≡ true = shaped in absurd (cc)
@@ -67,14 +71,17 @@ text-form level c item value good reads = flat-text-leaf item good.shaped ∙ ap
 abbrev pub ArePlain : Class → Type 0
 ArePlain c = (raw : List ℕ) → IsNumberIn c raw → IsPlain raw
 
-pub number-form : PlainIsOne → (level : Level) (c : Class) → ArePlain c → Form level c class.Number ReadsNumber number_item
+pub number-form : PlainIsOne → (level : Level) (c : Class) → ArePlain c →
+    Form level c class.Number ReadsNumber number_item
 number-form law level c plains item value good reads =
     flat-number-leaf item good.shaped
-    ∙ ap (leaf number 0) (law value (raw_of item) reads.0 (plains (raw_of item) (number-normal level c item good.shaped good.normal)) reads.1)
+    ∙ ap (leaf number 0) (law value (raw_of item) reads.0
+    (plains (raw_of item) (number-normal level c item good.shaped good.normal)) reads.1)
 
 -- ---- a node of one text, and of one number
 
-pub text-node-form : (level : Level) (c d : Class) (keyword : List ℕ) → slots_of d ≡ one class.Text ∷ [] → ((bytes : List ℕ) → IsWritten d bytes → bytes ≡ keyword) →
+pub text-node-form : (level : Level) (c d : Class) (keyword : List ℕ) → slots_of d ≡ one class.Text ∷ [] →
+    ((bytes : List ℕ) → IsWritten d bytes → bytes ≡ keyword) →
     Form level c d (ReadsTextOf d) (text_node keyword)
 text-node-form level c d keyword slots its (leaf kind place raw) value good reads = absurd reads
 text-node-form level c d keyword slots its (node place bytes square first others close) value good reads =
@@ -83,11 +90,14 @@ text-node-form level c d keyword slots its (node place bytes square first others
     let v = subst (λ (ss : List SlotParts). View d ss items) slots o.slots in
     node-spelled place bytes keyword square first others close (More (text_item value) End) (its bytes o.written)
     (flats-spread d (one class.Text ∷ []) items v
-    ∙ one-spelled level d class.Text ReadsText text_item (text-form level d) (those d class.Text items) v.0 (kept-good level d class.Text items o.kept)
+    ∙ one-spelled level d class.Text ReadsText text_item (text-form level d) (those d class.Text items) v.0
+    (kept-good level d class.Text items o.kept)
     (those-looked d class.Text (one class.Text ∷ []) items v) (v.1.1.0.not_more refl) value reads End End refl)
 
-pub number-node-form : PlainIsOne → (level : Level) (c d : Class) (keyword : List ℕ) → slots_of d ≡ one class.Number ∷ [] →
-    ((bytes : List ℕ) → IsWritten d bytes → bytes ≡ keyword) → ArePlain d → Form level c d (ReadsNumberOf d) (number_node keyword)
+pub number-node-form : PlainIsOne → (level : Level) (c d : Class) (keyword : List ℕ) →
+    slots_of d ≡ one class.Number ∷ [] →
+    ((bytes : List ℕ) → IsWritten d bytes → bytes ≡ keyword) → ArePlain d →
+    Form level c d (ReadsNumberOf d) (number_node keyword)
 number-node-form law level c d keyword slots its plains (leaf kind place raw) value good reads = absurd reads
 number-node-form law level c d keyword slots its plains (node place bytes square first others close) value good reads =
     let o = opened level c d place bytes square first others close good.shaped good.normal in
@@ -95,6 +105,7 @@ number-node-form law level c d keyword slots its plains (node place bytes square
     let v = subst (λ (ss : List SlotParts). View d ss items) slots o.slots in
     node-spelled place bytes keyword square first others close (More (number_item value) End) (its bytes o.written)
     (flats-spread d (one class.Number ∷ []) items v
-    ∙ one-spelled level d class.Number ReadsNumber number_item (number-form law level d plains) (those d class.Number items) v.0
+    ∙ one-spelled level d class.Number ReadsNumber number_item (number-form law level d plains)
+    (those d class.Number items) v.0
     (kept-good level d class.Number items o.kept)
     (those-looked d class.Number (one class.Number ∷ []) items v) (v.1.1.0.not_more refl) value reads End End refl)

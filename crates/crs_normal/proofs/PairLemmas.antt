@@ -23,35 +23,49 @@ abbrev pub Alone : List Item → Type 0
 Alone front = (item : Item) × (front ≡ item ∷ [])
 
 -- two numbers, each in a slot of its own
-pub two-spelled : PlainIsOne → (level : Level) (c : Class) → ArePlain c → (found f g : List Item) → Each (IsGood level c class.Number) found →
-    found ≡ and_then f g → Alone f → Alone g → (x y : Value) → ReadsFirst ReadsNumber (drop 0 found) x → ReadsFirst ReadsNumber (drop 1 found) y →
-    (rest after : Items) → rest ≡ after → flats_onto f (flats_onto g rest) ≡ More (number_item x) (More (number_item y) after)
+pub two-spelled : PlainIsOne → (level : Level) (c : Class) → ArePlain c → (found f g : List Item) →
+    Each (IsGood level c class.Number) found →
+    found ≡ and_then f g → Alone f → Alone g → (x y : Value) → ReadsFirst ReadsNumber (drop 0 found) x →
+    ReadsFirst ReadsNumber (drop 1 found) y →
+    (rest after : Items) → rest ≡ after →
+    flats_onto f (flats_onto g rest) ≡ More (number_item x) (More (number_item y) after)
 two-spelled law level c plains found f g good e p q x y a b rest after same =
     let are : found ≡ p.0 ∷ q.0 ∷ [] = e ∙ ap (λ xs. and_then xs g) p.1 ∙ ap (and_then (p.0 ∷ [])) q.1 in
     let goods = subst (Each (IsGood level c class.Number)) are good in
-    let first = number-form law level c plains p.0 x goods.0 (subst (λ (xs : List Item). ReadsFirst ReadsNumber (drop 0 xs) x) are a) in
-    let second = number-form law level c plains q.0 y goods.1.0 (subst (λ (xs : List Item). ReadsFirst ReadsNumber (drop 1 xs) y) are b) in
-    ap (λ xs. flats_onto xs (flats_onto g rest)) p.1 ∙ ap (λ xs. More (flat p.0) (flats_onto xs rest)) q.1 ∙ joined first second same
+    let first = number-form law level c plains p.0 x goods.0
+    (subst (λ (xs : List Item). ReadsFirst ReadsNumber (drop 0 xs) x) are a) in
+    let second = number-form law level c plains q.0 y goods.1.0
+    (subst (λ (xs : List Item). ReadsFirst ReadsNumber (drop 1 xs) y) are b) in
+    ap (λ xs. flats_onto xs (flats_onto g rest)) p.1 ∙ ap (λ xs. More (flat p.0) (flats_onto xs rest)) q.1
+    ∙ joined first second same
   where
     joined : {i j k l : Item} {m n : Items} → i ≡ j → k ≡ l → m ≡ n → More i (More k m) ≡ More j (More l n)
     joined h k l = cc
 
 -- four numbers likewise
-pub four-spelled : PlainIsOne → (level : Level) (c : Class) → ArePlain c → (found f g h k : List Item) → Each (IsGood level c class.Number) found →
+pub four-spelled : PlainIsOne → (level : Level) (c : Class) → ArePlain c → (found f g h k : List Item) →
+    Each (IsGood level c class.Number) found →
     found ≡ and_then f (and_then g (and_then h k)) → Alone f → Alone g → Alone h → Alone k → (x y z w : Value) →
-    ReadsFirst ReadsNumber (drop 0 found) x → ReadsFirst ReadsNumber (drop 1 found) y → ReadsFirst ReadsNumber (drop 2 found) z → ReadsFirst ReadsNumber (drop 3 found) w →
+    ReadsFirst ReadsNumber (drop 0 found) x → ReadsFirst ReadsNumber (drop 1 found) y →
+    ReadsFirst ReadsNumber (drop 2 found) z → ReadsFirst ReadsNumber (drop 3 found) w →
     (rest after : Items) → rest ≡ after →
-    flats_onto f (flats_onto g (flats_onto h (flats_onto k rest))) ≡ More (number_item x) (More (number_item y) (More (number_item z) (More (number_item w) after)))
+    flats_onto f (flats_onto g (flats_onto h (flats_onto k rest))) ≡ More (number_item x)
+    (More (number_item y) (More (number_item z) (More (number_item w) after)))
 four-spelled law level c plains found f g h k good e p q r s x y z w a b d t rest after same =
     let are : found ≡ p.0 ∷ q.0 ∷ r.0 ∷ s.0 ∷ [] =
-    e ∙ ap (λ xs. and_then xs (and_then g (and_then h k))) p.1 ∙ ap (λ xs. and_then (p.0 ∷ []) (and_then xs (and_then h k))) q.1
+    e ∙ ap (λ xs. and_then xs (and_then g (and_then h k))) p.1
+    ∙ ap (λ xs. and_then (p.0 ∷ []) (and_then xs (and_then h k))) q.1
     ∙ ap (λ xs. and_then (p.0 ∷ []) (and_then (q.0 ∷ []) (and_then xs k))) r.1
     ∙ ap (λ xs. and_then (p.0 ∷ []) (and_then (q.0 ∷ []) (and_then (r.0 ∷ []) xs))) s.1 in
     let goods = subst (Each (IsGood level c class.Number)) are good in
-    let first = number-form law level c plains p.0 x goods.0 (subst (λ (xs : List Item). ReadsFirst ReadsNumber (drop 0 xs) x) are a) in
-    let second = number-form law level c plains q.0 y goods.1.0 (subst (λ (xs : List Item). ReadsFirst ReadsNumber (drop 1 xs) y) are b) in
-    let third = number-form law level c plains r.0 z goods.1.1.0 (subst (λ (xs : List Item). ReadsFirst ReadsNumber (drop 2 xs) z) are d) in
-    let fourth = number-form law level c plains s.0 w goods.1.1.1.0 (subst (λ (xs : List Item). ReadsFirst ReadsNumber (drop 3 xs) w) are t) in
+    let first = number-form law level c plains p.0 x goods.0
+    (subst (λ (xs : List Item). ReadsFirst ReadsNumber (drop 0 xs) x) are a) in
+    let second = number-form law level c plains q.0 y goods.1.0
+    (subst (λ (xs : List Item). ReadsFirst ReadsNumber (drop 1 xs) y) are b) in
+    let third = number-form law level c plains r.0 z goods.1.1.0
+    (subst (λ (xs : List Item). ReadsFirst ReadsNumber (drop 2 xs) z) are d) in
+    let fourth = number-form law level c plains s.0 w goods.1.1.1.0
+    (subst (λ (xs : List Item). ReadsFirst ReadsNumber (drop 3 xs) w) are t) in
     ap (λ xs. flats_onto xs (flats_onto g (flats_onto h (flats_onto k rest)))) p.1
     ∙ ap (λ xs. More (flat p.0) (flats_onto xs (flats_onto h (flats_onto k rest)))) q.1
     ∙ ap (λ xs. More (flat p.0) (More (flat q.0) (flats_onto xs (flats_onto k rest)))) r.1
@@ -69,12 +83,14 @@ pub opt-units : (level : Level) (asked : UnitKind) (unit : Option UnitParts) (re
 opt-units level asked None rest = refl
 opt-units level asked (Some u) rest = refl
 
-pub opt-mapped : {V W : Type 0} (spell : W → Item) (norm : V → W) (value : Option V) (rest : Items) → opt (λ v. spell (norm v)) value rest ≡ opt spell (option_map norm value) rest
+pub opt-mapped : {V W : Type 0} (spell : W → Item) (norm : V → W) (value : Option V) (rest : Items) →
+    opt (λ v. spell (norm v)) value rest ≡ opt spell (option_map norm value) rest
 opt-mapped spell norm None rest = refl
 opt-mapped spell norm (Some v) rest = refl
 
 -- a unit of length that is there
-pub opt-length : (R : Item → UnitParts → Type 0) (level : Level) (found : List Item) (unit : Option UnitParts) → found ≢ [] → ReadsOptional R found unit → (rest : Items) →
+pub opt-length : (R : Item → UnitParts → Type 0) (level : Level) (found : List Item) (unit : Option UnitParts) →
+    found ≢ [] → ReadsOptional R found unit → (rest : Items) →
     opt (λ u. item_unit (norm_unit level kinds.Length u)) unit rest ≡ More (item_unit (norm_length level unit)) rest
 opt-length R level [] None some reads rest = absurd (some refl)
 opt-length R level [] (Some u) some reads rest = absurd reads

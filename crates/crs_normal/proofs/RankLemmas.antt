@@ -15,11 +15,13 @@ use Rattle.crs_normal.proofs.ViewLemmas.{InSlot, onto, same_class}
 
 -- ---- ranks rise behind the first arguments too
 
-pub rise-behind : (c : Class) (least : ℕ) (front : List Item) (rest : Items) → Rise c least (onto front rest) → (m : ℕ) × Rise c m rest
+pub rise-behind : (c : Class) (least : ℕ) (front : List Item) (rest : Items) → Rise c least (onto front rest) →
+    (m : ℕ) × Rise c m rest
 rise-behind c least [] rest rise = (least, rise)
 rise-behind c least (item ∷ items) rest rise = by (class_in c item) (λ k h. rise-behind c k items rest h) rise
   where
-    by : (o : Option Class) → ((k : ℕ) → Rise c k (onto items rest) → (m : ℕ) × Rise c m rest) → AtClass o (λ d. (least ≤ rank d) × Rise c (rank d) (onto items rest)) →
+    by : (o : Option Class) → ((k : ℕ) → Rise c k (onto items rest) → (m : ℕ) × Rise c m rest) →
+        AtClass o (λ d. (least ≤ rank d) × Rise c (rank d) (onto items rest)) →
         (m : ℕ) × Rise c m rest
     by None more h = absurd h
     by (Some d) more h = more (rank d) h.1
@@ -42,7 +44,8 @@ test : {P : Type 0} (b rest : Bool) → (b ≡ true → P) → (rest ≡ true �
 test true rest f g h = f refl
 test false rest f g h = g h
 
-named-so : (c : Class) (item : Item) (at d : Class) → class_in c item ≡ Some at → sameb the_type d at ≡ true → class_in c item ≡ Some d
+named-so : (c : Class) (item : Item) (at d : Class) → class_in c item ≡ Some at → sameb the_type d at ≡ true →
+    class_in c item ≡ Some d
 named-so c item at d named e = named ∙ ap (λ x. Some x) (sym (same_class d at e))
 
 clash : {P : Type 0} {b : Bool} → b ≡ false → b ≡ true → P
@@ -53,20 +56,25 @@ end-as c item none s =
     test _ _ (λ e. inr (inl (named-so c item s.at class.Usage s.named e)))
     (test _ _ (λ e. clash none.scope (ap (is_class class.Scope) (named-so c item s.at class.Scope s.named e)))
     (test _ _ (λ e. clash none.area (ap (is_class class.Area) (named-so c item s.at class.Area s.named e)))
-    (test _ _ (λ e. clash none.bbox (ap (is_class class.BoundingBox) (named-so c item s.at class.BoundingBox s.named e)))
-    (test _ _ (λ e. clash none.extent (ap (is_class class.VerticalExtent) (named-so c item s.at class.VerticalExtent s.named e)))
+    (test _ _ (λ e. clash none.bbox
+    (ap (is_class class.BoundingBox) (named-so c item s.at class.BoundingBox s.named e)))
+    (test _ _ (λ e. clash none.extent
+    (ap (is_class class.VerticalExtent) (named-so c item s.at class.VerticalExtent s.named e)))
     (test _ _ (λ e. inr (inr (inl (named-so c item s.at class.Identifier s.named e))))
-    (test _ _ (λ e. inr (inr (inr (named-so c item s.at class.Remark s.named e)))) (λ e. let h : false ≡ true = e in absurd (cc)))))))) s.taken
+    (test _ _ (λ e. inr (inr (inr (named-so c item s.at class.Remark s.named e)))) (λ e. let h : false ≡ true = e in
+    absurd (cc)))))))) s.taken
 
 pub vertical_end-as : (c : Class) (item : Item) → HasNoBare c item → InSlot c vertical_tail item → EndsAs c item
 vertical_end-as c item none s =
     test _ _ (λ e. inl (named-so c item s.at class.GeoidModel s.named e))
     (λ e. end-as c item none (record { at = s.at; named = s.named; shaped = s.shaped; taken = e })) s.taken
 
-pub none-here : (c d : Class) (front : List Item) → those c d (onto front End) ≡ [] → Each (λ item. is_a c d item ≡ false) front
+pub none-here : (c d : Class) (front : List Item) → those c d (onto front End) ≡ [] →
+    Each (λ item. is_a c d item ≡ false) front
 none-here c d [] e = tt
 none-here c d (item ∷ items) e =
-    elim (is_a c d item) as (λ b. is_a c d item ≡ b → (if b then item ∷ those c d (onto items End) else those c d (onto items End)) ≡ [] →
+    elim (is_a c d item) as (λ b. is_a c d item ≡ b →
+    (if b then item ∷ those c d (onto items End) else those c d (onto items End)) ≡ [] →
     (is_a c d item ≡ false) × Each (λ i. is_a c d i ≡ false) items) [
       | true ↦ λ is h. absurd (cc)
       | false ↦ λ is h. (is, none-here c d items h)
@@ -88,10 +96,13 @@ pub record Split (c : Class) (m : ℕ) (front : List Item) : Type 0 where
   pub no_usage : 3 ≤ m → usages ≡ []
   pub no_id : 4 ≤ m → ids ≡ []
 
-rise-as : (c : Class) (m : ℕ) (item : Item) (rest : Items) (d : Class) → class_in c item ≡ Some d → Rise c m (More item rest) → (m ≤ rank d) × Rise c (rank d) rest
-rise-as c m item rest d named rise = subst (λ (o : Option Class). AtClass o (λ x. (m ≤ rank x) × Rise c (rank x) rest)) named rise
+rise-as : (c : Class) (m : ℕ) (item : Item) (rest : Items) (d : Class) → class_in c item ≡ Some d →
+    Rise c m (More item rest) → (m ≤ rank d) × Rise c (rank d) rest
+rise-as c m item rest d named rise =
+    subst (λ (o : Option Class). AtClass o (λ x. (m ≤ rank x) × Rise c (rank x) rest)) named rise
 
-pub split : (c : Class) (m : ℕ) (front : List Item) → Rise c m (onto front End) → Each (EndsAs c) front → Split c m front
+pub split : (c : Class) (m : ℕ) (front : List Item) → Rise c m (onto front End) → Each (EndsAs c) front →
+    Split c m front
 split c m [] rise ends = record {
   models = [];
   usages = [];
@@ -155,7 +166,8 @@ split c m (item ∷ items) rise (inr (inr (inl named)), ends) =
       ids = item ∷ s.ids;
       remarks = s.remarks;
       are = ap (λ xs. item ∷ xs)
-          (s.are ∙ ap (λ xs. xs ++ (s.usages ++ (s.ids ++ s.remarks))) no_models ∙ ap (λ xs. xs ++ (s.ids ++ s.remarks)) no_usages);
+          (s.are ∙ ap (λ xs. xs ++ (s.usages ++ (s.ids ++ s.remarks))) no_models
+          ∙ ap (λ xs. xs ++ (s.ids ++ s.remarks)) no_usages);
       as_model = tt;
       as_usage = tt;
       as_id = (named, s.as_id);
@@ -176,7 +188,8 @@ split c m (item ∷ items) rise (inr (inr (inr named)), ends) =
       ids = [];
       remarks = item ∷ s.remarks;
       are = ap (λ xs. item ∷ xs)
-          (s.are ∙ ap (λ xs. xs ++ (s.usages ++ (s.ids ++ s.remarks))) no_models ∙ ap (λ xs. xs ++ (s.ids ++ s.remarks)) no_usages
+          (s.are ∙ ap (λ xs. xs ++ (s.usages ++ (s.ids ++ s.remarks))) no_models
+          ∙ ap (λ xs. xs ++ (s.ids ++ s.remarks)) no_usages
           ∙ ap (λ xs. xs ++ s.remarks) no_ids);
       as_model = tt;
       as_usage = tt;

@@ -31,12 +31,16 @@ abbrev AllNumbered : ℕ → List AxisParts → Type 0
 AllNumbered k [] = Unit {0}
 AllNumbered k (axis ∷ axes) = IsNumbered k axis × AllNumbered (k + 1) axes
 
-record AreAxes (level : Level) (system : SystemParts) (k : ℕ) (axes : List AxisParts) (items : List Item) (rest : Items) : Type 0 where
+record AreAxes (level : Level) (system : SystemParts) (k : ℕ) (axes : List AxisParts) (items : List Item)
+    (rest : Items) : Type 0 where
   spelled : flats_onto items rest ≡ each item_axis (numbered level system k axes) rest
   numbered_so : AllNumbered k axes
 
-axes-read : PlainIsOne → (level : Level) (c : Class) (system : SystemParts) (k : ℕ) (items : List Item) (axes : List AxisParts) → Each (IsGood level c class.Axis) items →
-    AreOrdered k items → Each (Has class.Axis class.AxisUnit) items → ReadsEach (ReadsAxis class.Axis) items axes → (rest : Items) → AreAxes level system k axes items rest
+axes-read : PlainIsOne →
+    (level : Level) (c : Class) (system : SystemParts) (k : ℕ) (items : List Item) (axes : List AxisParts) →
+    Each (IsGood level c class.Axis) items →
+    AreOrdered k items → Each (Has class.Axis class.AxisUnit) items → ReadsEach (ReadsAxis class.Axis) items axes →
+    (rest : Items) → AreAxes level system k axes items rest
 axes-read law level c system k [] [] good ordered own reads rest = record { spelled = refl; numbered_so = tt }
 axes-read law level c system k [] (x ∷ xs) good ordered own reads rest = absurd reads
 axes-read law level c system k (i ∷ is) [] good ordered own reads rest = absurd reads
@@ -44,7 +48,8 @@ axes-read law level c system k (i ∷ is) (x ∷ xs) good ordered own reads rest
     let this = axis-form law level c system k i x good.0 ordered.0 own.0 reads.0 in
     let more = axes-read law level c system (k + 1) is xs good.1 ordered.1 own.1 reads.1 rest in
     record {
-      spelled = ap (λ j. More j (flats_onto is rest)) this.0 ∙ ap (More (item_axis (norm_axis level system k x))) more.spelled;
+      spelled = ap (λ j. More j (flats_onto is rest)) this.0
+          ∙ ap (More (item_axis (norm_axis level system k x))) more.spelled;
       numbered_so = (this.1, more.numbered_so);
     }
 
@@ -57,7 +62,8 @@ same-bytes xs = (bytes_eq-Decides xs xs).1 refl
 equal-bytes : (xs ys : List ℕ) → bytes_eq xs ys ≡ true → xs ≡ ys
 equal-bytes xs ys e = (bytes_eq-Decides xs ys).0 e
 
-at-order : (k j place : ℕ) (axis : AxisParts) → IsNumbered j axis → is_at k place axis.order ≡ bytes_eq (decimal j) (decimal k)
+at-order : (k j place : ℕ) (axis : AxisParts) → IsNumbered j axis →
+    is_at k place axis.order ≡ bytes_eq (decimal j) (decimal k)
 at-order k j place axis n = ap (is_at k place) n.order ∙ ap (λ bytes. bytes_eq bytes (decimal k)) n.spelled
 
 at-here : (k place : ℕ) (axis : AxisParts) → IsNumbered k axis → is_at k place axis.order ≡ true
@@ -67,7 +73,8 @@ not-here : (k j place : ℕ) (axis : AxisParts) → IsNumbered j axis → j < k 
 not-here k j place axis n less within =
     at-order k j place axis n
     ∙ (elim (bytes_eq (decimal j) (decimal k)) as (λ b. bytes_eq (decimal j) (decimal k) ≡ b → b ≡ false) [
-      | true ↦ λ e. absurd (apart (decimal_injective j k (below less within) within (equal-bytes (decimal j) (decimal k) e)))
+      | true ↦ λ e. absurd (apart
+          (decimal_injective j k (below less within) within (equal-bytes (decimal j) (decimal k) e)))
       | false ↦ λ e. refl
     ] refl)
   where
@@ -78,12 +85,14 @@ not-here k j place axis n less within =
     apart e = omega arith
 
 -- the axis behind those of the lower orders
-axis-behind : (k j place : ℕ) (before : List AxisParts) (axis : AxisParts) (behind : List AxisParts) → AllNumbered j before → j + length before ≡ k → k < limit →
+axis-behind : (k j place : ℕ) (before : List AxisParts) (axis : AxisParts) (behind : List AxisParts) →
+    AllNumbered j before → j + length before ≡ k → k < limit →
     IsNumbered k axis → axis_at k place (before ++ axis ∷ behind) ≡ Some axis
 axis-behind k j place [] axis behind numbered_so e within n =
     ap (λ b. if b then Some axis else axis_at k (place + 1) behind) (at-here k place axis n)
 axis-behind k j place (b ∷ bs) axis behind numbered_so e within n =
-    ap (λ t. if t then Some b else axis_at k (place + 1) (bs ++ axis ∷ behind)) (not-here k j place b numbered_so.0 less within)
+    ap (λ t. if t then Some b else axis_at k (place + 1) (bs ++ axis ∷ behind))
+    (not-here k j place b numbered_so.0 less within)
     ∙ axis-behind k (j + 1) (place + 1) bs axis behind numbered_so.1 step within n
   where
     less : j < k
@@ -92,7 +101,8 @@ axis-behind k j place (b ∷ bs) axis behind numbered_so e within n =
     step : (j + 1) + length bs ≡ k
     step = let h : length (b ∷ bs) ≡ suc (length bs) = refl in omega arith
 
-numbered-more : (j k : ℕ) (before : List AxisParts) (axis : AxisParts) → AllNumbered j before → j + length before ≡ k → IsNumbered k axis → AllNumbered j (before ++ axis ∷ [])
+numbered-more : (j k : ℕ) (before : List AxisParts) (axis : AxisParts) → AllNumbered j before → j + length before ≡ k →
+    IsNumbered k axis → AllNumbered j (before ++ axis ∷ [])
 numbered-more j k [] axis numbered_so e n = (subst (λ m. IsNumbered m axis) (sym (here e)) n, tt)
   where
     here : j + 0 ≡ k → j ≡ k
@@ -102,8 +112,10 @@ numbered-more j k (b ∷ bs) axis numbered_so e n = (numbered_so.0, numbered-mor
     step : (j + 1) + length bs ≡ k
     step = let h : length (b ∷ bs) ≡ suc (length bs) = refl in omega arith
 
-from-numbered : (level : Level) (system : SystemParts) (k : ℕ) (before axes : List AxisParts) → system.axes ≡ before ++ axes → AllNumbered 1 before → AllNumbered k axes →
-    1 + length before ≡ k → k + length axes < limit → axes_from level system k (length axes) ≡ numbered level system k axes
+from-numbered : (level : Level) (system : SystemParts) (k : ℕ) (before axes : List AxisParts) →
+    system.axes ≡ before ++ axes → AllNumbered 1 before → AllNumbered k axes →
+    1 + length before ≡ k → k + length axes < limit →
+    axes_from level system k (length axes) ≡ numbered level system k axes
 from-numbered level system k before [] are lower numbered_so e within = refl
 from-numbered level system k before (axis ∷ axes) are lower numbered_so e within =
     ap (λ found. with_axis level system k found (axes_from level system (k + 1) (length axes)))
@@ -126,7 +138,8 @@ from-numbered level system k before (axis ∷ axes) are lower numbered_so e with
 
 -- ---- systems
 
-head-form : PlainIsOne → (level : Level) (c : Class) → Form level c class.CoordinateSystem ReadsHead (λ s. item_head (norm_system level s))
+head-form : PlainIsOne → (level : Level) (c : Class) →
+    Form level c class.CoordinateSystem ReadsHead (λ s. item_head (norm_system level s))
 head-form law level c (leaf kind place raw) x good reads = absurd reads.dimension
 head-form law level c (node place keyword square first others close) x good reads =
     let d = class.CoordinateSystem in
@@ -137,25 +150,36 @@ head-form law level c (node place keyword square first others close) x good read
     let v2 = v1.1.1.1.1 in
     node-spelled place keyword _ square first others close _ o.written
     (flats-spread d (slots_of d) items v
-    ∙ one-spelled level d class.Word ReadsType (λ t. word_item (system_word t)) (type-form level) (those d class.Word items) v.0
-    (kept-good level d class.Word items o.kept) (those-looked d class.Word (slots_of d) items v) (v.1.1.0.not_more refl) x.system_type reads.system_type _ _
-    (one-spelled level d class.Number ReadsNumber number_item (number-form law level d (λ raw h. h)) (those d class.Number items) v1.0
-    (kept-good level d class.Number items o.kept) (those-looked d class.Number (slots_of d) items v) (v1.1.1.0.not_more refl) x.dimension reads.dimension _ _
-    (idents-spelled level d items v2.0 o.kept (those-looked d class.Identifier (slots_of d) items v) o.sets.0 x.ids reads.ids End End refl)))
+    ∙ one-spelled level d class.Word ReadsType (λ t. word_item (system_word t)) (type-form level)
+    (those d class.Word items) v.0
+    (kept-good level d class.Word items o.kept) (those-looked d class.Word (slots_of d) items v) (v.1.1.0.not_more refl)
+    x.system_type reads.system_type _ _
+    (one-spelled level d class.Number ReadsNumber number_item (number-form law level d (λ raw h. h))
+    (those d class.Number items) v1.0
+    (kept-good level d class.Number items o.kept) (those-looked d class.Number (slots_of d) items v)
+    (v1.1.1.0.not_more refl) x.dimension reads.dimension _ _
+    (idents-spelled level d items v2.0 o.kept (those-looked d class.Identifier (slots_of d) items v) o.sets.0 x.ids
+    reads.ids End End refl)))
 
 -- the node `CS`, the axes and no shared unit
-pub system-spelled : PlainIsOne → (level : Level) (c : Class) (item : Item) → Kept level c (arguments item) → HasAxes c item → (heads axes units : List Item) →
-    those c class.CoordinateSystem (arguments item) ≡ heads → length heads ≤ 1 → those c class.Axis (arguments item) ≡ axes →
-    those c class.AxisUnit (arguments item) ≡ units → (x : SystemParts) → ReadsSystem c item x → length x.axes + 1 < 2 ^ 64 → (rest after : Items) → rest ≡ after →
+pub system-spelled : PlainIsOne → (level : Level) (c : Class) (item : Item) → Kept level c (arguments item) →
+    HasAxes c item → (heads axes units : List Item) →
+    those c class.CoordinateSystem (arguments item) ≡ heads → length heads ≤ 1 →
+    those c class.Axis (arguments item) ≡ axes →
+    those c class.AxisUnit (arguments item) ≡ units → (x : SystemParts) → ReadsSystem c item x →
+    length x.axes + 1 < 2 ^ 64 → (rest after : Items) → rest ≡ after →
     flats_onto heads (flats_onto axes (flats_onto units rest)) ≡ system_items (norm_system level x) after
 system-spelled law level c item k has heads axes units e few f g x reads within rest after same =
     let items = arguments item in
-    let read = axes-read law level c x 1 (those c class.Axis items) x.axes (kept-good level c class.Axis items k) has.ordered has.own_units reads.axes after in
-    one-spelled level c class.CoordinateSystem ReadsHead (λ s. item_head (norm_system level s)) (head-form law level c) (those c class.CoordinateSystem items) heads
+    let read = axes-read law level c x 1 (those c class.Axis items) x.axes (kept-good level c class.Axis items k)
+    has.ordered has.own_units reads.axes after in
+    one-spelled level c class.CoordinateSystem ReadsHead (λ s. item_head (norm_system level s)) (head-form law level c)
+    (those c class.CoordinateSystem items) heads
     (kept-good level c class.CoordinateSystem items k) e few x reads.head _ _
     (ap (λ us. flats_onto axes (flats_onto us rest)) (sym g ∙ has.none_shared)
     ∙ ap (flats_onto axes) same ∙ ap (λ xs. flats_onto xs after) (sym f) ∙ read.spelled
-    ∙ ap (λ xs. each item_axis xs after) (sym (from-numbered level x 1 [] x.axes refl tt read.numbered_so refl (more (length x.axes) within))))
+    ∙ ap (λ xs. each item_axis xs after)
+    (sym (from-numbered level x 1 [] x.axes refl tt read.numbered_so refl (more (length x.axes) within))))
   where
     more : (n : ℕ) → n + 1 < 2 ^ 64 → 1 + n < 2 ^ 64
     more n h = omega arith

@@ -35,15 +35,19 @@ flats-joined : (a b : List Item) (rest : Items) → flats_onto (a ++ b) rest ≡
 flats-joined [] b rest = refl
 flats-joined (x ∷ xs) b rest = ap (More (flat x)) (flats-joined xs b rest)
 
-those-kept : (c d : Class) (a b : List Item) → Each (λ i. is_a c d i ≡ true) a → those c d (onto (a ++ b) End) ≡ a ++ those c d (onto b End)
+those-kept : (c d : Class) (a b : List Item) → Each (λ i. is_a c d i ≡ true) a →
+    those c d (onto (a ++ b) End) ≡ a ++ those c d (onto b End)
 those-kept c d [] b h = refl
 those-kept c d (x ∷ xs) b h =
-    ap (λ t. if t then x ∷ those c d (onto (xs ++ b) End) else those c d (onto (xs ++ b) End)) h.0 ∙ ap (λ ys. x ∷ ys) (those-kept c d xs b h.1)
+    ap (λ t. if t then x ∷ those c d (onto (xs ++ b) End) else those c d (onto (xs ++ b) End)) h.0
+    ∙ ap (λ ys. x ∷ ys) (those-kept c d xs b h.1)
 
-those-passed : (c d : Class) (a b : List Item) → Each (λ i. is_a c d i ≡ false) a → those c d (onto (a ++ b) End) ≡ those c d (onto b End)
+those-passed : (c d : Class) (a b : List Item) → Each (λ i. is_a c d i ≡ false) a →
+    those c d (onto (a ++ b) End) ≡ those c d (onto b End)
 those-passed c d [] b h = refl
 those-passed c d (x ∷ xs) b h =
-    ap (λ t. if t then x ∷ those c d (onto (xs ++ b) End) else those c d (onto (xs ++ b) End)) h.0 ∙ those-passed c d xs b h.1
+    ap (λ t. if t then x ∷ those c d (onto (xs ++ b) End) else those c d (onto (xs ++ b) End)) h.0
+    ∙ those-passed c d xs b h.1
 
 nothing-behind : (xs : List Item) → xs ++ [] ≡ xs
 nothing-behind [] = refl
@@ -53,11 +57,14 @@ those-none : (c d : Class) (a : List Item) → Each (λ i. is_a c d i ≡ false)
 those-none c d a h = ap (λ xs. those c d (onto xs End)) (sym (nothing-behind a)) ∙ those-passed c d a [] h
 
 those-last : (c d : Class) (a : List Item) → Each (λ i. is_a c d i ≡ true) a → those c d (onto a End) ≡ a
-those-last c d a h = ap (λ xs. those c d (onto xs End)) (sym (nothing-behind a)) ∙ those-kept c d a [] h ∙ nothing-behind a
+those-last c d a h = ap (λ xs. those c d (onto xs End)) (sym (nothing-behind a)) ∙ those-kept c d a [] h
+    ∙ nothing-behind a
 
 -- whether items of this class are of that one
-as-class : (c e d : Class) (b : Bool) → is_class d (Some e) ≡ b → (xs : List Item) → Each (λ i. class_in c i ≡ Some e) xs → Each (λ i. is_a c d i ≡ b) xs
-as-class c e d b same xs h = each-so (λ i. class_in c i ≡ Some e) (λ i. is_a c d i ≡ b) (λ i named. ap (is_class d) named ∙ same) xs h
+as-class : (c e d : Class) (b : Bool) → is_class d (Some e) ≡ b → (xs : List Item) →
+    Each (λ i. class_in c i ≡ Some e) xs → Each (λ i. is_a c d i ≡ b) xs
+as-class c e d b same xs h =
+    each-so (λ i. class_in c i ≡ Some e) (λ i. is_a c d i ≡ b) (λ i named. ap (is_class d) named ∙ same) xs h
 
 record Sorted (c : Class) (front : List Item) (m u i r : List Item) : Type 0 where
   are : front ≡ m ++ (u ++ (i ++ r))
@@ -66,7 +73,8 @@ record Sorted (c : Class) (front : List Item) (m u i r : List Item) : Type 0 whe
   ids : those c class.Identifier (onto front End) ≡ i
   remarks : those c class.Remark (onto front End) ≡ r
 
-sorted-of : (c : Class) (k : ℕ) (front : List Item) (s : Split c k front) → Sorted c front s.models s.usages s.ids s.remarks
+sorted-of : (c : Class) (k : ℕ) (front : List Item) (s : Split c k front) →
+    Sorted c front s.models s.usages s.ids s.remarks
 sorted-of c k front s =
     let m = s.models in
     let u = s.usages in
@@ -75,41 +83,52 @@ sorted-of c k front s =
     record {
       are = s.are;
       models = at class.GeoidModel
-          ∙ those-kept c class.GeoidModel m (u ++ (i ++ r)) (as-class c class.GeoidModel class.GeoidModel true refl m s.as_model)
-          ∙ ap (λ xs. m ++ xs) (those-passed c class.GeoidModel u (i ++ r) (as-class c class.Usage class.GeoidModel false refl u s.as_usage)
+          ∙ those-kept c class.GeoidModel m (u ++ (i ++ r))
+          (as-class c class.GeoidModel class.GeoidModel true refl m s.as_model)
+          ∙ ap (λ xs. m ++ xs) (those-passed c class.GeoidModel u (i ++ r)
+          (as-class c class.Usage class.GeoidModel false refl u s.as_usage)
           ∙ those-passed c class.GeoidModel i r (as-class c class.Identifier class.GeoidModel false refl i s.as_id)
           ∙ those-none c class.GeoidModel r (as-class c class.Remark class.GeoidModel false refl r s.as_remark))
           ∙ nothing-behind m;
       usages = at class.Usage
-          ∙ those-passed c class.Usage m (u ++ (i ++ r)) (as-class c class.GeoidModel class.Usage false refl m s.as_model)
+          ∙ those-passed c class.Usage m (u ++ (i ++ r))
+          (as-class c class.GeoidModel class.Usage false refl m s.as_model)
           ∙ those-kept c class.Usage u (i ++ r) (as-class c class.Usage class.Usage true refl u s.as_usage)
-          ∙ ap (λ xs. u ++ xs) (those-passed c class.Usage i r (as-class c class.Identifier class.Usage false refl i s.as_id)
+          ∙ ap (λ xs. u ++ xs) (those-passed c class.Usage i r
+          (as-class c class.Identifier class.Usage false refl i s.as_id)
           ∙ those-none c class.Usage r (as-class c class.Remark class.Usage false refl r s.as_remark))
           ∙ nothing-behind u;
       ids = at class.Identifier
-          ∙ those-passed c class.Identifier m (u ++ (i ++ r)) (as-class c class.GeoidModel class.Identifier false refl m s.as_model)
+          ∙ those-passed c class.Identifier m (u ++ (i ++ r))
+          (as-class c class.GeoidModel class.Identifier false refl m s.as_model)
           ∙ those-passed c class.Identifier u (i ++ r) (as-class c class.Usage class.Identifier false refl u s.as_usage)
           ∙ those-kept c class.Identifier i r (as-class c class.Identifier class.Identifier true refl i s.as_id)
-          ∙ ap (λ xs. i ++ xs) (those-none c class.Identifier r (as-class c class.Remark class.Identifier false refl r s.as_remark))
+          ∙ ap (λ xs. i ++ xs) (those-none c class.Identifier r
+          (as-class c class.Remark class.Identifier false refl r s.as_remark))
           ∙ nothing-behind i;
       remarks = at class.Remark
-          ∙ those-passed c class.Remark m (u ++ (i ++ r)) (as-class c class.GeoidModel class.Remark false refl m s.as_model)
+          ∙ those-passed c class.Remark m (u ++ (i ++ r))
+          (as-class c class.GeoidModel class.Remark false refl m s.as_model)
           ∙ those-passed c class.Remark u (i ++ r) (as-class c class.Usage class.Remark false refl u s.as_usage)
           ∙ those-passed c class.Remark i r (as-class c class.Identifier class.Remark false refl i s.as_id)
           ∙ those-last c class.Remark r (as-class c class.Remark class.Remark true refl r s.as_remark);
     }
   where
-    at : (d : Class) → those c d (onto front End) ≡ those c d (onto (s.models ++ (s.usages ++ (s.ids ++ s.remarks))) End)
+    at : (d : Class) → those c d (onto front End) ≡ those c d
+        (onto (s.models ++ (s.usages ++ (s.ids ++ s.remarks))) End)
     at d = ap (λ xs. those c d (onto xs End)) s.are
 
 -- ---- the bare parts say nothing
 
 says-nothing : (u : UsageParts) → u.scope ≡ None → u.area ≡ None → u.bbox ≡ None → u.extent ≡ None → says_some u ≡ false
-says-nothing u a b d e = four (is_there u.scope) (is_there u.area) (is_there u.bbox) (is_there u.extent) (ap is_there a) (ap is_there b) (ap is_there d) (ap is_there e)
+says-nothing u a b d e =
+    four (is_there u.scope) (is_there u.area) (is_there u.bbox) (is_there u.extent) (ap is_there a) (ap is_there b)
+    (ap is_there d) (ap is_there e)
   where
     four : (p q r s : Bool) → p ≡ false → q ≡ false → r ≡ false → s ≡ false → (p || q || r || s) ≡ false
     four p q r s e f g h =
-        ap (λ x. x || q || r || s) e ∙ ap (λ x. false || x || r || s) f ∙ ap (λ x. false || false || x || s) g ∙ ap (λ x. false || false || false || x) h
+        ap (λ x. x || q || r || s) e ∙ ap (λ x. false || x || r || s) f ∙ ap (λ x. false || false || x || s) g
+        ∙ ap (λ x. false || false || false || x) h
 
 usages-bare : (c : Class) (item : Item) → HasTail c item → (t : TailParts) → ReadsTail c item t → usages_of t ≡ t.usages
 usages-bare c item has t reads =
@@ -130,10 +149,13 @@ EndsIn class.Remark = Unit {0}
 EndsIn other = ⊥
 
 -- the arguments at the end: geoid models, if there are any, and the tail
-pub tail-spelled : PlainIsOne → (level : Level) (c : Class) (item : Item) → Kept level c (arguments item) → HasSets c item → HasTail c item → (front : List Item) (k : ℕ) →
+pub tail-spelled : PlainIsOne → (level : Level) (c : Class) (item : Item) → Kept level c (arguments item) →
+    HasSets c item → HasTail c item → (front : List Item) (k : ℕ) →
     Rise c k (onto front End) → Each (EndsAs c) front →
-    ((d : Class) → EndsIn d → those c d (arguments item) ≡ those c d (onto front End)) → length (those c class.Remark (arguments item)) ≤ 1 →
-    (models : List GeoidModelParts) → ReadsEach (ReadsGeoidModel class.GeoidModel) (those c class.GeoidModel (arguments item)) models →
+    ((d : Class) → EndsIn d → those c d (arguments item) ≡ those c d (onto front End)) →
+    length (those c class.Remark (arguments item)) ≤ 1 →
+    (models : List GeoidModelParts) →
+    ReadsEach (ReadsGeoidModel class.GeoidModel) (those c class.GeoidModel (arguments item)) models →
     (t : TailParts) → ReadsTail c item t →
     flats_onto front End ≡ each item_geoid_model (set_geoid_models level models) (tail_items (norm_tail level t))
 unfolding set_geoid_models set_usages
@@ -145,14 +167,21 @@ tail-spelled law levels.Full c item k sets has front n rise ends found few model
     let remarks = found class.Remark tt ∙ o.remarks in
     ap (λ xs. flats_onto xs End) o.are
     ∙ flats-joined s.models (s.usages ++ (s.ids ++ s.remarks)) End
-    ∙ ap (flats_onto s.models) (flats-joined s.usages (s.ids ++ s.remarks) End ∙ ap (flats_onto s.usages) (flats-joined s.ids s.remarks End))
-    ∙ set-spelled level c class.GeoidModel (ReadsGeoidModel class.GeoidModel) item_geoid_model (norm_geoid_model level) (geoid_model-form level c)
-    (those c class.GeoidModel items) s.models (kept-good level c class.GeoidModel items k) (found class.GeoidModel tt ∙ o.models)
+    ∙ ap (flats_onto s.models) (flats-joined s.usages (s.ids ++ s.remarks) End
+    ∙ ap (flats_onto s.usages) (flats-joined s.ids s.remarks End))
+    ∙ set-spelled level c class.GeoidModel (ReadsGeoidModel class.GeoidModel) item_geoid_model (norm_geoid_model level)
+    (geoid_model-form level c)
+    (those c class.GeoidModel items) s.models (kept-good level c class.GeoidModel items k) (found class.GeoidModel tt
+    ∙ o.models)
     sets.1.1.1.1.0 models read_models _ _
     (set-spelled level c class.Usage (ReadsUsage class.Usage) item_usage norm_usage (usage-form law level c)
-    (those c class.Usage items) s.usages (kept-good level c class.Usage items k) (found class.Usage tt ∙ o.usages) sets.1.0 t.usages reads.usages _ _
+    (those c class.Usage items) s.usages (kept-good level c class.Usage items k) (found class.Usage tt
+    ∙ o.usages) sets.1.0 t.usages reads.usages _ _
     (idents-spelled level c items s.ids k (found class.Identifier tt ∙ o.ids) sets.0 t.ids reads.ids _ _
-    (optional-spelled level c class.Remark (ReadsTextOf class.Remark) (text_node (codes "REMARK")) (text-node-form level c class.Remark (codes "REMARK") refl (λ bytes h. h))
-    (those c class.Remark items) s.remarks (kept-good level c class.Remark items k) remarks (as-few _ _ remarks few) t.remark reads.remark End End refl))
-    ∙ ap (λ us. each item_usage (set_usages levels.Full us) (each item_ident (set_idents levels.Full t.ids) (opt (text_node (codes "REMARK")) t.remark End)))
+    (optional-spelled level c class.Remark (ReadsTextOf class.Remark) (text_node (codes "REMARK"))
+    (text-node-form level c class.Remark (codes "REMARK") refl (λ bytes h. h))
+    (those c class.Remark items) s.remarks (kept-good level c class.Remark items k) remarks (as-few _ _ remarks few)
+    t.remark reads.remark End End refl))
+    ∙ ap (λ us. each item_usage (set_usages levels.Full us)
+    (each item_ident (set_idents levels.Full t.ids) (opt (text_node (codes "REMARK")) t.remark End)))
     (sym (usages-bare c item has t reads)))

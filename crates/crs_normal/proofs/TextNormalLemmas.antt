@@ -26,12 +26,15 @@ pub record TextLaws : Type 0 where
 same-some : {A : Type 0} (a b : A) → Some a ≡ Some b → a ≡ b
 same-some a b e = cc
 
-item-spelled : Laws → TextLaws → (level : Level) (c : Class) (item : Item) (value : Crs) → IsNormalIn level c c item → Shaped c item → IsUnbroken c item → ReadsCrs c item value →
+item-spelled : Laws → TextLaws → (level : Level) (c : Class) (item : Item) (value : Crs) → IsNormalIn level c c item →
+    Shaped c item → IsUnbroken c item → ReadsCrs c item value →
     item_text item ≡ item_text (item_crs (norm_crs level value))
 item-spelled laws texts level c item value normal shaped free reads =
-    sym (flat-text item) ∙ ap item_text (crs-form laws level c c item value (record { shaped = shaped; normal = normal }) free reads)
+    sym (flat-text item) ∙ ap item_text
+    (crs-form laws level c c item value (record { shaped = shaped; normal = normal }) free reads)
 
-pub text-form : Laws → TextLaws → (level : Level) (bytes : List ℕ) (value : Crs) → IsNormalText level bytes → Spells bytes value →
+pub text-form : Laws → TextLaws → (level : Level) (bytes : List ℕ) (value : Crs) → IsNormalText level bytes →
+    Spells bytes value →
     bytes ≡ item_text (item_crs (norm_crs level value))
 text-form laws texts level bytes value n s =
     let same : s.0 ≡ n.item = texts.one_node bytes s.0 n.item s.1.0 n.spells in
@@ -39,5 +42,7 @@ text-form laws texts level bytes value n s =
     let at : r.class_read ≡ n.class_read = same-some r.class_read n.class_read (sym r.root ∙ n.root) in
     let shaped = (texts.shape r.class_read n.item).0 (λ fault h. r.shaped fault (inr (r.class_read, (r.root, h)))) in
     n.written
-    ∙ item-spelled laws texts level n.class_read n.item value n.normal (subst (λ (c : Class). Shaped c n.item) at shaped)
-    (subst (λ (c : Class). IsUnbroken c n.item) at r.unbroken) (subst (λ (c : Class). ReadsCrs c n.item value) at r.reads)
+    ∙ item-spelled laws texts level n.class_read n.item value n.normal
+    (subst (λ (c : Class). Shaped c n.item) at shaped)
+    (subst (λ (c : Class). IsUnbroken c n.item) at r.unbroken)
+    (subst (λ (c : Class). ReadsCrs c n.item value) at r.reads)

@@ -5,8 +5,9 @@ use Rattle.crs_text.specs.Written.{item_text}
 use Rattle.crs_shape.specs.declared.class.Class.{Class}
 use Rattle.crs_shape.specs.declared.class.Class.TheVariants as class
 use Rattle.crs_shape.specs.Slots.{SlotParts, slots_of, unit_slots}
+use Rattle.crs_shape.specs.Shaped.{Shaped}
 use Rattle.crs_value.specs.Reading.{those, ReadsEach}
-use Rattle.crs_value.specs.Reads.{ReadsIdent, ReadsNumber, ReadsText, ReadsUnit}
+use Rattle.crs_value.specs.Reads.{ReadsIdent, ReadsIds, ReadsNumber, ReadsText, ReadsUnit}
 use Rattle.crs_value.specs.Values.{IdentParts}
 use Rattle.crs_value.specs.Words.{SpellsWord, unit_word}
 use Rattle.crs_value.specs.declared.level.Level.{Level}
@@ -14,12 +15,12 @@ use Rattle.crs_value.specs.declared.level.Level.TheVariants as levels
 use Rattle.crs_value.specs.declared.unit_kind.UnitKind.{UnitKind}
 use Rattle.crs_value.specs.declared.unit_kind.UnitKind.TheVariants as kinds
 use Rattle.crs_same.specs.SameUnits.{kind_as}
-use Rattle.crs_normal.specs.Normal.{IsWritten}
+use Rattle.crs_normal.specs.Normal.{IsNormalIn, IsWritten}
 use Rattle.crs_normal.specs.NormalOwn.{Ascend}
 use Rattle.crs_normal.specs.Ordered.{in_order}
 use Rattle.crs_normal.specs.SpelledItems.{each, number_item, text_item}
 use Rattle.crs_normal.specs.SpelledUnits.{item_ident, item_unit, norm_unit, set_idents}
-use Rattle.crs_normal.proofs.FormLemmas.{Form, Kept, kept-good, node-spelled, one-spelled, opened, set-spelled}
+use Rattle.crs_normal.proofs.FormLemmas.{Form, Kept, kept-good, node-spelled, one-spelled, opened, set-ordered, set-spelled}
 use Rattle.crs_normal.proofs.IdentNormalLemmas.{ident-form}
 use Rattle.crs_normal.proofs.LeafLemmas.{ArePlain, PlainIsOne, number-form, text-form}
 use Rattle.crs_normal.proofs.ViewLemmas.{View, flats_onto, flats-spread, those-looked}
@@ -30,20 +31,41 @@ map-same [] = refl
 map-same (x ∷ xs) = ap (λ ys. x ∷ ys) (map-same xs)
 
 -- the identifiers in a slot
-pub idents-spelled : (level : Level) (c : Class) (items : Items) (front : List Item) → Kept level c items → those c class.Identifier items ≡ front →
-    Ascend (those c class.Identifier items) → (ids : List IdentParts) → ReadsEach (ReadsIdent class.Identifier) (those c class.Identifier items) ids →
+pub idents-spelled : (level : Level) (c : Class) (items : Items) (front : List Item) → Kept level c items →
+    those c class.Identifier items ≡ front →
+    Ascend (those c class.Identifier items) → (ids : List IdentParts) →
+    ReadsEach (ReadsIdent class.Identifier) (those c class.Identifier items) ids →
     (rest after : Items) → rest ≡ after → flats_onto front rest ≡ each item_ident (set_idents level ids) after
 unfolding set_idents
 idents-spelled levels.Full c items front k e up ids reads rest after f =
-    set-spelled levels.Full c class.Identifier (ReadsIdent class.Identifier) item_ident (λ x. x) (ident-form levels.Full c)
-    (those c class.Identifier items) front (kept-good levels.Full c class.Identifier items k) e up ids reads rest after f
+    set-spelled levels.Full c class.Identifier (ReadsIdent class.Identifier) item_ident (λ x. x)
+    (ident-form levels.Full c)
+    (those c class.Identifier items) front (kept-good levels.Full c class.Identifier items k) e up ids reads rest after
+    f
     ∙ ap (λ xs. each item_ident (in_order (λ i. item_text (item_ident i)) xs) after) (map-same ids)
+
+-- the identifiers of a normal node are in order
+pub idents-ordered : (level : Level) (parent c : Class) (item : Item) (ids : List IdentParts) → Shaped c item →
+    IsNormalIn level parent c item → ReadsIds c item ids → set_idents level ids ≡ ids
+unfolding set_idents
+idents-ordered levels.Full parent c (leaf kind place raw) [] shaped normal reads = refl
+idents-ordered levels.Full parent c (leaf kind place raw) (x ∷ xs) shaped normal reads = absurd reads
+idents-ordered levels.Full parent c (node place keyword square first others close) ids shaped normal reads =
+    let o = opened levels.Full parent c place keyword square first others close shaped normal in
+    let items = More first others in
+    let bytes = λ (i : IdentParts). item_text (item_ident i) in
+    ap (in_order bytes) (sym (map-same ids))
+    ∙ set-ordered levels.Full c class.Identifier (ReadsIdent class.Identifier) item_ident (λ x. x)
+    (ident-form levels.Full c) (those c class.Identifier items)
+    (kept-good levels.Full c class.Identifier items o.kept) o.sets.0 ids reads
+    ∙ map-same ids
 
 -- ---- units
 
 -- a keyword of the class is a kind's word, and that kind stays as it is where this one is asked
 abbrev pub KindIn : UnitKind → Class → Type 0
-KindIn asked d = (keyword : List ℕ) → IsWritten d keyword → (k : UnitKind) × ((keyword ≡ unit_word k) × (kind_as asked k ≡ k))
+KindIn asked d = (keyword : List ℕ) → IsWritten d keyword →
+    (k : UnitKind) × ((keyword ≡ unit_word k) × (kind_as asked k ≡ k))
 
 pub in-length : (asked : UnitKind) → KindIn asked class.LengthUnit
 in-length asked keyword e = (kinds.Length, (e, refl))
@@ -61,13 +83,15 @@ pub in-axis : (asked : UnitKind) → KindIn asked class.AxisUnit
 in-axis asked keyword (inl e) = (kinds.Length, (e, refl))
 in-axis asked keyword (inr e) = (kinds.Angle, (e, refl))
 
-keyword-of : (asked : UnitKind) (keyword : List ℕ) (k kind : UnitKind) → keyword ≡ unit_word k → kind_as asked k ≡ k → SpellsWord keyword (unit_word kind) →
+keyword-of : (asked : UnitKind) (keyword : List ℕ) (k kind : UnitKind) → keyword ≡ unit_word k → kind_as asked k ≡ k →
+    SpellsWord keyword (unit_word kind) →
     keyword ≡ unit_word (kind_as asked kind)
 keyword-of asked keyword k kind e same spells =
     let one = kind-one k kind (subst (λ (w : List ℕ). SpellsWord w (unit_word kind)) e spells) in
     e ∙ ap unit_word (sym same ∙ ap (kind_as asked) one)
 
-pub unit-form : PlainIsOne → (level : Level) (c d : Class) (asked : UnitKind) → slots_of d ≡ unit_slots → KindIn asked d → ArePlain d →
+pub unit-form : PlainIsOne → (level : Level) (c d : Class) (asked : UnitKind) → slots_of d ≡ unit_slots →
+    KindIn asked d → ArePlain d →
     Form level c d (ReadsUnit d) (λ u. item_unit (norm_unit level asked u))
 unit-form law level c d asked slots kind_in plains (leaf kind place raw) x good reads = absurd reads.name
 unit-form law level c d asked slots kind_in plains (node place keyword square first others close) x good reads =
@@ -77,10 +101,15 @@ unit-form law level c d asked slots kind_in plains (node place keyword square fi
     let v1 = v.1.1.1.1 in
     let v2 = v1.1.1.1.1 in
     let k = kind_in keyword o.written in
-    node-spelled place keyword _ square first others close _ (keyword-of asked keyword k.0 x.kind k.1.0 k.1.1 reads.kind)
+    node-spelled place keyword _ square first others close _
+    (keyword-of asked keyword k.0 x.kind k.1.0 k.1.1 reads.kind)
     (flats-spread d unit_slots items v
-    ∙ one-spelled level d class.Text ReadsText text_item (text-form level d) (those d class.Text items) v.0 (kept-good level d class.Text items o.kept)
+    ∙ one-spelled level d class.Text ReadsText text_item (text-form level d) (those d class.Text items) v.0
+    (kept-good level d class.Text items o.kept)
     (those-looked d class.Text unit_slots items v) (v.1.1.0.not_more refl) x.name reads.name _ _
-    (one-spelled level d class.Number ReadsNumber number_item (number-form law level d plains) (those d class.Number items) v1.0
-    (kept-good level d class.Number items o.kept) (those-looked d class.Number unit_slots items v) (v1.1.1.0.not_more refl) x.factor reads.factor _ _
-    (idents-spelled level d items v2.0 o.kept (those-looked d class.Identifier unit_slots items v) o.sets.0 x.ids reads.ids End End refl)))
+    (one-spelled level d class.Number ReadsNumber number_item (number-form law level d plains)
+    (those d class.Number items) v1.0
+    (kept-good level d class.Number items o.kept) (those-looked d class.Number unit_slots items v)
+    (v1.1.1.0.not_more refl) x.factor reads.factor _ _
+    (idents-spelled level d items v2.0 o.kept (those-looked d class.Identifier unit_slots items v) o.sets.0 x.ids
+    reads.ids End End refl)))

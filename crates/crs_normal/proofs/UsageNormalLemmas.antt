@@ -19,7 +19,8 @@ use Rattle.crs_normal.proofs.PairLemmas.{four-spelled, opt-length, opt-mapped, t
 use Rattle.crs_normal.proofs.UnitNormalLemmas.{in-length, unit-form}
 use Rattle.crs_normal.proofs.ViewLemmas.{alone, flats-spread, those-looked}
 
-pub box-form : PlainIsOne → (level : Level) (c : Class) → Form level c class.BoundingBox (ReadsBox class.BoundingBox) item_box
+pub box-form : PlainIsOne → (level : Level) (c : Class) →
+    Form level c class.BoundingBox (ReadsBox class.BoundingBox) item_box
 box-form law level c (leaf kind place raw) x good reads = absurd reads.south
 box-form law level c (node place keyword square first others close) x good reads =
     let d = class.BoundingBox in
@@ -31,11 +32,15 @@ box-form law level c (node place keyword square first others close) x good reads
     let v3 = v2.1.1.1.1 in
     node-spelled place keyword _ square first others close _ o.written
     (flats-spread d (slots_of d) items v
-    ∙ four-spelled law level d (λ raw h. h) (those d class.Number items) v.0 v1.0 v2.0 v3.0 (kept-good level d class.Number items o.kept)
-    (those-looked d class.Number (slots_of d) items v) (alone v.0 v.1.1.0 refl refl) (alone v1.0 v1.1.1.0 refl refl) (alone v2.0 v2.1.1.0 refl refl)
-    (alone v3.0 v3.1.1.0 refl refl) x.south x.west x.north x.east reads.south reads.west reads.north reads.east End End refl)
+    ∙ four-spelled law level d (λ raw h. h) (those d class.Number items) v.0 v1.0 v2.0 v3.0
+    (kept-good level d class.Number items o.kept)
+    (those-looked d class.Number (slots_of d) items v) (alone v.0 v.1.1.0 refl refl) (alone v1.0 v1.1.1.0 refl refl)
+    (alone v2.0 v2.1.1.0 refl refl)
+    (alone v3.0 v3.1.1.0 refl refl) x.south x.west x.north x.east reads.south reads.west reads.north reads.east End End
+    refl)
 
-pub extent-form : PlainIsOne → (level : Level) (c : Class) → Form level c class.VerticalExtent (ReadsExtent class.VerticalExtent) (λ e. item_extent (norm_extent level e))
+pub extent-form : PlainIsOne → (level : Level) (c : Class) →
+    Form level c class.VerticalExtent (ReadsExtent class.VerticalExtent) (λ e. item_extent (norm_extent level e))
 extent-form law level c (leaf kind place raw) x good reads = absurd reads.minimum
 extent-form law level c (node place keyword square first others close) x good reads =
     let d = class.VerticalExtent in
@@ -46,16 +51,19 @@ extent-form law level c (node place keyword square first others close) x good re
     let v2 = v1.1.1.1.1 in
     node-spelled place keyword _ square first others close _ o.written
     (flats-spread d (slots_of d) items v
-    ∙ two-spelled law level d (λ raw h. h) (those d class.Number items) v.0 v1.0 (kept-good level d class.Number items o.kept)
+    ∙ two-spelled law level d (λ raw h. h) (those d class.Number items) v.0 v1.0
+    (kept-good level d class.Number items o.kept)
     (those-looked d class.Number (slots_of d) items v) (alone v.0 v.1.1.0 refl refl) (alone v1.0 v1.1.1.0 refl refl)
     x.minimum x.maximum reads.minimum reads.maximum _ _
-    (optional-spelled level d class.LengthUnit (ReadsUnit class.LengthUnit) (λ u. item_unit (norm_unit level kinds.Length u))
+    (optional-spelled level d class.LengthUnit (ReadsUnit class.LengthUnit)
+    (λ u. item_unit (norm_unit level kinds.Length u))
     (unit-form law level d class.LengthUnit kinds.Length refl (in-length kinds.Length) (λ raw h. h))
     (those d class.LengthUnit items) v2.0 (kept-good level d class.LengthUnit items o.kept)
     (those-looked d class.LengthUnit (slots_of d) items v) (v2.1.1.0.not_more refl) x.unit reads.unit End End refl
     ∙ opt-length (ReadsUnit class.LengthUnit) level (those d class.LengthUnit items) x.unit o.own reads.unit End))
 
-pub usage-form : PlainIsOne → (level : Level) (c : Class) → Form level c class.Usage (ReadsUsage class.Usage) (λ u. item_usage (norm_usage u))
+pub usage-form : PlainIsOne → (level : Level) (c : Class) →
+    Form level c class.Usage (ReadsUsage class.Usage) (λ u. item_usage (norm_usage u))
 usage-form law level c (leaf number place raw) x good reads = let h : false ≡ true = good.shaped in cc
 usage-form law level c (leaf text place raw) x good reads = let h : false ≡ true = good.shaped in cc
 usage-form law level c (leaf word place raw) x good reads = let h : false ≡ true = good.shaped in cc
@@ -70,16 +78,23 @@ usage-form law levels.Full c (node place keyword square first others close) x go
     let v3 = v2.1.1.1.1 in
     node-spelled place keyword (codes "USAGE") square first others close _ o.written
     (flats-spread d (slots_of d) items v
-    ∙ optional-spelled level d class.Scope (ReadsTextOf class.Scope) (text_node (codes "SCOPE")) (text-node-form level d class.Scope (codes "SCOPE") refl (λ bytes h. h))
-    (those d class.Scope items) v.0 (kept-good level d class.Scope items o.kept) (those-looked d class.Scope (slots_of d) items v) (v.1.1.0.not_more refl)
+    ∙ optional-spelled level d class.Scope (ReadsTextOf class.Scope) (text_node (codes "SCOPE"))
+    (text-node-form level d class.Scope (codes "SCOPE") refl (λ bytes h. h))
+    (those d class.Scope items) v.0 (kept-good level d class.Scope items o.kept)
+    (those-looked d class.Scope (slots_of d) items v) (v.1.1.0.not_more refl)
     x.scope reads.scope _ _
-    (optional-spelled level d class.Area (ReadsTextOf class.Area) (text_node (codes "AREA")) (text-node-form level d class.Area (codes "AREA") refl (λ bytes h. h))
-    (those d class.Area items) v1.0 (kept-good level d class.Area items o.kept) (those-looked d class.Area (slots_of d) items v) (v1.1.1.0.not_more refl)
+    (optional-spelled level d class.Area (ReadsTextOf class.Area) (text_node (codes "AREA"))
+    (text-node-form level d class.Area (codes "AREA") refl (λ bytes h. h))
+    (those d class.Area items) v1.0 (kept-good level d class.Area items o.kept)
+    (those-looked d class.Area (slots_of d) items v) (v1.1.1.0.not_more refl)
     x.area reads.area _ _
     (optional-spelled level d class.BoundingBox (ReadsBox class.BoundingBox) item_box (box-form law level d)
-    (those d class.BoundingBox items) v2.0 (kept-good level d class.BoundingBox items o.kept) (those-looked d class.BoundingBox (slots_of d) items v)
+    (those d class.BoundingBox items) v2.0 (kept-good level d class.BoundingBox items o.kept)
+    (those-looked d class.BoundingBox (slots_of d) items v)
     (v2.1.1.0.not_more refl) x.bbox reads.bbox _ _
-    (optional-spelled level d class.VerticalExtent (ReadsExtent class.VerticalExtent) (λ e. item_extent (norm_extent level e)) (extent-form law level d)
-    (those d class.VerticalExtent items) v3.0 (kept-good level d class.VerticalExtent items o.kept) (those-looked d class.VerticalExtent (slots_of d) items v)
+    (optional-spelled level d class.VerticalExtent (ReadsExtent class.VerticalExtent)
+    (λ e. item_extent (norm_extent level e)) (extent-form law level d)
+    (those d class.VerticalExtent items) v3.0 (kept-good level d class.VerticalExtent items o.kept)
+    (those-looked d class.VerticalExtent (slots_of d) items v)
     (v3.1.1.0.not_more refl) x.extent reads.extent End End refl
     ∙ opt-mapped item_extent (norm_extent level) x.extent End))))

@@ -54,9 +54,11 @@ record Run (c : Class) (slot : SlotParts) (run after : List Class) (items : Item
   many : length front ≡ length run
   shaped : AreShaped c after rest
 
-cut : (c : Class) (slot : SlotParts) (run after : List Class) (items : Items) → AllTaken slot run → AreShaped c (run ++ after) items →
+cut : (c : Class) (slot : SlotParts) (run after : List Class) (items : Items) → AllTaken slot run →
+    AreShaped c (run ++ after) items →
     Run c slot run after items
-cut c slot [] after items taken shaped = record { front = []; rest = items; are = refl; inside = tt; many = refl; shaped = shaped }
+cut c slot [] after items taken shaped =
+    record { front = []; rest = items; are = refl; inside = tt; many = refl; shaped = shaped }
 cut c slot (d ∷ run) after End taken shaped = absurd shaped
 cut c slot (d ∷ run) after (More item items) taken shaped =
     let r = cut c slot run after items taken.1 shaped.1.1 in
@@ -90,7 +92,8 @@ view-of c (slot ∷ slots) (run ∷ runs) items fit shaped =
       not_more = λ e. let h = fills.not_more e in let m = r.many in omega arith;
     }
 
-pub view : (c : Class) (classes : List Class) (items : Items) → Allowed (slots_of c) classes → AreShaped c classes items →
+pub view : (c : Class) (classes : List Class) (items : Items) → Allowed (slots_of c) classes →
+    AreShaped c classes items →
     View c (slots_of c) items
 view c classes items allowed shaped =
     let P : List Class → Type 0 = λ ds. AreShaped c ds items in
@@ -102,7 +105,8 @@ abbrev pub spread : (c : Class) (slots : List SlotParts) (items : Items) → Vie
 spread c [] items v = End
 spread c (slot ∷ slots) items v = flats_onto v.0 (spread c slots v.1.0 v.1.1.1.1)
 
-pub flats-spread : (c : Class) (slots : List SlotParts) (items : Items) (v : View c slots items) → flats items ≡ spread c slots items v
+pub flats-spread : (c : Class) (slots : List SlotParts) (items : Items) (v : View c slots items) →
+    flats items ≡ spread c slots items v
 flats-spread c [] items v = ap flats v
 flats-spread c (slot ∷ slots) items v =
     ap flats v.1.1.1.0 ∙ flats-onto v.0 v.1.0 ∙ ap (flats_onto v.0) (flats-spread c slots v.1.0 v.1.1.1.1)
@@ -111,7 +115,8 @@ abbrev pub rebuilt : (c : Class) (slots : List SlotParts) (items : Items) → Vi
 rebuilt c [] items v = End
 rebuilt c (slot ∷ slots) items v = onto v.0 (rebuilt c slots v.1.0 v.1.1.1.1)
 
-pub items-rebuilt : (c : Class) (slots : List SlotParts) (items : Items) (v : View c slots items) → items ≡ rebuilt c slots items v
+pub items-rebuilt : (c : Class) (slots : List SlotParts) (items : Items) (v : View c slots items) →
+    items ≡ rebuilt c slots items v
 items-rebuilt c [] items v = v
 items-rebuilt c (slot ∷ slots) items v = v.1.1.1.0 ∙ ap (onto v.0) (items-rebuilt c slots v.1.0 v.1.1.1.1)
 
@@ -141,7 +146,8 @@ and_then-is : (front rest : List Item) → front ++ rest ≡ and_then front rest
 and_then-is front [] = nothing-behind front
 and_then-is front (item ∷ items) = refl
 
-those-split : (c d : Class) (front : List Item) (rest : Items) → those c d (onto front rest) ≡ those c d (onto front End) ++ those c d rest
+those-split : (c d : Class) (front : List Item) (rest : Items) →
+    those c d (onto front rest) ≡ those c d (onto front End) ++ those c d rest
 those-split c d [] rest = refl
 those-split c d (item ∷ items) rest =
     elim (is_a c d item) as (λ b. (if b then item ∷ those c d (onto items rest) else those c d (onto items rest))
@@ -150,13 +156,15 @@ those-split c d (item ∷ items) rest =
       | false ↦ those-split c d items rest
     ]
 
-all-those : (c d : Class) (front : List Item) → Each (λ item. is_a c d item ≡ true) front → those c d (onto front End) ≡ front
+all-those : (c d : Class) (front : List Item) → Each (λ item. is_a c d item ≡ true) front →
+    those c d (onto front End) ≡ front
 all-those c d [] h = refl
 all-those c d (item ∷ items) h =
     ap (λ b. if b then item ∷ those c d (onto items End) else those c d (onto items End)) h.0
     ∙ ap (λ xs. item ∷ xs) (all-those c d items h.1)
 
-none-those : (c d : Class) (front : List Item) → Each (λ item. is_a c d item ≡ false) front → those c d (onto front End) ≡ []
+none-those : (c d : Class) (front : List Item) → Each (λ item. is_a c d item ≡ false) front →
+    those c d (onto front End) ≡ []
 none-those c d [] h = refl
 none-those c d (item ∷ items) h =
     ap (λ b. if b then item ∷ those c d (onto items End) else those c d (onto items End)) h.0 ∙ none-those c d items h.1
@@ -174,7 +182,8 @@ named-as c d item at e = ap (is_class d) e
 taken-as : (slot : SlotParts) (at d : Class) → at ≡ d → takes slot at ≡ true → takes slot d ≡ true
 taken-as slot at d e h = subst (λ (x : Class). takes slot x ≡ true) e h
 
-not-of : (c d : Class) (slot : SlotParts) → takes slot d ≡ false → (item : Item) → InSlot c slot item → is_a c d item ≡ false
+not-of : (c d : Class) (slot : SlotParts) → takes slot d ≡ false → (item : Item) → InSlot c slot item →
+    is_a c d item ≡ false
 not-of c d slot none item s =
     elim (sameb the_type s.at d) as (λ b. sameb the_type s.at d ≡ b → is_a c d item ≡ b → is_a c d item ≡ false) [
       | true ↦ λ e f. absurd (clash (taken-as slot s.at d (same_class s.at d e) s.taken))
@@ -188,17 +197,20 @@ pub or-false : (b : Bool) → (b || false) ≡ true → b ≡ true
 or-false true h = refl
 or-false false h = h
 
-pub of-one : (c d e : Class) (slot : SlotParts) → slot.classes ≡ e ∷ [] → takes slot d ≡ true → (item : Item) → InSlot c slot item → is_a c d item ≡ true
+pub of-one : (c d e : Class) (slot : SlotParts) → slot.classes ≡ e ∷ [] → takes slot d ≡ true → (item : Item) →
+    InSlot c slot item → is_a c d item ≡ true
 of-one c d e slot one h item s =
     let listed = λ (x : Class). ap (λ (es : List Class). list_any (λ y. sameb the_type y x) es) one in
     let f = or-false (sameb the_type e d) (sym (listed d) ∙ h) in
     let g = same_class e s.at (or-false (sameb the_type e s.at) (sym (listed s.at) ∙ s.taken)) in
     named-as c d item s.at s.named ∙ ap (λ (x : Class). sameb the_type x d) (sym g) ∙ f
 
-those-chosen : (c d : Class) (slot : SlotParts) (classes : List Class) (front : List Item) → slot.classes ≡ classes → takes slot d ≡ true → Front c slot front →
+those-chosen : (c d : Class) (slot : SlotParts) (classes : List Class) (front : List Item) → slot.classes ≡ classes →
+    takes slot d ≡ true → Front c slot front →
     those c d (onto front End) ≡ chosen c d classes front
 those-chosen c d slot [] front e h f = refl
-those-chosen c d slot (k ∷ []) front e h f = all-those c d front (each-so (InSlot c slot) (λ i. is_a c d i ≡ true) (of-one c d k slot e h) front f.inside)
+those-chosen c d slot (k ∷ []) front e h f =
+    all-those c d front (each-so (InSlot c slot) (λ i. is_a c d i ≡ true) (of-one c d k slot e h) front f.inside)
 those-chosen c d slot (k ∷ l ∷ ls) front e h f = refl
 
 -- what stands in a slot that doesn't take the class is none of those
@@ -214,18 +226,22 @@ those-picked c d slot front rest f =
           (none-those c d front (each-so (InSlot c slot) (λ i. is_a c d i ≡ false) (not-of c d slot e) front f.inside))
     ] refl)
 
-pub those-looked : (c d : Class) (slots : List SlotParts) (items : Items) (v : View c slots items) → those c d items ≡ looked c d slots items v
+pub those-looked : (c d : Class) (slots : List SlotParts) (items : Items) (v : View c slots items) →
+    those c d items ≡ looked c d slots items v
 those-looked c d [] items v = ap (those c d) v
 those-looked c d (slot ∷ slots) items v =
     ap (those c d) v.1.1.1.0 ∙ those-picked c d slot v.0 v.1.0 v.1.1.0
     ∙ ap (picked c d slot v.0) (those-looked c d slots v.1.0 v.1.1.1.1)
 
 -- the item in a slot for one
-pub alone : {c : Class} {slot : SlotParts} (front : List Item) → Front c slot front → IsTrue slot.required → IsFalse slot.many → (item : Item) × (front ≡ item ∷ [])
+pub alone : {c : Class} {slot : SlotParts} (front : List Item) → Front c slot front → IsTrue slot.required →
+    IsFalse slot.many → (item : Item) × (front ≡ item ∷ [])
 alone [] f required single = let h = f.enough required in absurd (omega arith)
 alone (item ∷ []) f required single = (item, refl)
 alone (item ∷ other ∷ others) f required single = let h = f.not_more single in absurd (omega arith)
 
 -- a slot that doesn't take a class has none of it
-pub slot-lacks : (c d : Class) (slot : SlotParts) (front : List Item) → takes slot d ≡ false → Front c slot front → those c d (onto front End) ≡ []
-slot-lacks c d slot front none f = none-those c d front (each-so (InSlot c slot) (λ i. is_a c d i ≡ false) (not-of c d slot none) front f.inside)
+pub slot-lacks : (c d : Class) (slot : SlotParts) (front : List Item) → takes slot d ≡ false → Front c slot front →
+    those c d (onto front End) ≡ []
+slot-lacks c d slot front none f =
+    none-those c d front (each-so (InSlot c slot) (λ i. is_a c d i ≡ false) (not-of c d slot none) front f.inside)

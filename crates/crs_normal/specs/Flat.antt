@@ -1,4 +1,5 @@
--- Items without their places and kinds of delimiters: all places 0, all delimiters square, as canonical items have them.
+-- Items without their places and kinds of delimiters: all places 0 and all delimiters square, as canonical items have
+-- them.
 use Rattle.std.specs.Prelude.{true}
 use Rattle.crs_text.specs.Items.{Item, leaf, node, Items, End, More}
 

@@ -13,10 +13,12 @@ use Rattle.crs_normal.specs.Normal.{IsNormalIn}
 -- a normal item of this class, in a node of any class, is what is written for the value that it says
 abbrev pub IsItsForm : {V : Type 0} → Level → Class → (Class → Item → V → Type 0) → (V → Item) → Type 0
 IsItsForm {V = V} level c Reads form =
-    (parent : Class) (item : Item) (value : V) → Shaped c item → IsNormalIn level parent c item → Reads c item value → flat item ≡ form value
+    (parent : Class) (item : Item) (value : V) → Shaped c item → IsNormalIn level parent c item → Reads c item value →
+    flat item ≡ form value
 
 -- likewise of an item that breaks no check
 abbrev pub IsItsFormUnbroken : {V : Type 0} → Level → Class → (Class → Item → V → Type 0) → (V → Item) → Type 0
 IsItsFormUnbroken {V = V} level c Reads form =
-    (parent : Class) (item : Item) (value : V) → Shaped c item → IsNormalIn level parent c item → ((fault : Refused) → ¬ (Breaks c item fault)) →
+    (parent : Class) (item : Item) (value : V) → Shaped c item → IsNormalIn level parent c item →
+    ((fault : Refused) → ¬ (Breaks c item fault)) →
     Reads c item value → flat item ≡ form value

@@ -4,11 +4,11 @@ ghost use Rattle.crs_shape.specs.declared.class.Class.{Class};
 ghost use Rattle.crs_shape.specs.declared.class.Class.TheVariants as class;
 ghost use Rattle.crs_text.specs.Items.{Item};
 ghost use Rattle.crs_text.specs.Written.{item_text};
-ghost use Rattle.crs_value.specs.Reads.{ReadsIdent, ReadsUnit, ReadsAxisMeridian, ReadsAxis, ReadsEllipsoid, ReadsMeridian, ReadsMember, ReadsDatum, ReadsEnsemble, ReadsBox, ReadsExtent, ReadsUsage};
+ghost use Rattle.crs_value.specs.Reads.{ReadsIdent, ReadsIds, ReadsUnit, ReadsAxisMeridian, ReadsAxis, ReadsEllipsoid, ReadsMeridian, ReadsMember, ReadsDatum, ReadsEnsemble, ReadsBox, ReadsExtent, ReadsUsage};
 ghost use Rattle.crs_value.specs.ReadsConversion.{ReadsMethod, ReadsParameter, ReadsConversion, ReadsGeoidModel};
 ghost use Rattle.crs_value.specs.ReadsCrs.{ReadsBase, ReadsGeodetic, ReadsProjected, ReadsVertical, ReadsCompound, ReadsCrs};
 ghost use Rattle.crs_value.specs.SpellsText.{Spells};
-ghost use Rattle.crs_value.specs.Values.{AxisParts, SystemParts};
+ghost use Rattle.crs_value.specs.Values.{IdentParts, AxisParts, SystemParts};
 ghost use Rattle.crs_value.specs.declared.crs.Crs.{Crs};
 ghost use Rattle.crs_value.specs.declared.level.Level.{Level};
 ghost use Rattle.crs_value.specs.declared.unit_kind.UnitKind.{UnitKind};
@@ -22,7 +22,7 @@ ghost use Rattle.crs_normal.specs.SpelledSystems.{item_axis_meridian, norm_axis_
 ghost use Rattle.crs_shape.specs.Shaped.{Shaped};
 ghost use Rattle.crs_normal.specs.SpelledConversions.{item_method, norm_method, item_parameter, norm_parameter, item_conversion, norm_conversion, item_geoid_model, norm_geoid_model};
 ghost use Rattle.crs_normal.specs.SpelledFrames.{item_ellipsoid, norm_ellipsoid, item_meridian, norm_given, item_member, norm_member, item_datum, norm_datum, item_ensemble, norm_ensemble};
-ghost use Rattle.crs_normal.specs.SpelledUnits.{item_ident, item_unit, norm_unit};
+ghost use Rattle.crs_normal.specs.SpelledUnits.{item_ident, set_idents, item_unit, norm_unit};
 ghost use Rattle.crs_normal.specs.SpelledUsages.{item_box, item_extent, norm_extent, item_usage, norm_usage};
 
 use crs_decimal::laws::{plain_is_the_one, same_number_is_equivalence, worked_examples};
@@ -37,6 +37,12 @@ pub fn flat_item_has_its_text()
 /// A normal identifier is the one form of its value.
 pub fn normal_identifier_is_its_form()
     ensures { (level : Level) → IsItsForm level class.Identifier ReadsIdent item_ident }
+{}
+
+/// The identifiers of a normal node are in order already, each once.
+pub fn normal_identifiers_are_in_order()
+    ensures { (level : Level) (parent c : Class) (item : Item) (ids : List IdentParts) → Shaped c item →
+        IsNormalIn level parent c item → ReadsIds c item ids → set_idents level ids ≡ ids }
 {}
 
 /// A normal unit is the one form of its value, whichever kind is asked, and a plain one where none is.
@@ -57,14 +63,16 @@ pub fn normal_unit_is_its_form()
 
 /// A normal ellipsoid is the one form of its value.
 pub fn normal_ellipsoid_is_its_form()
-    ensures { (level : Level) → IsItsForm level class.Ellipsoid ReadsEllipsoid (λ e. item_ellipsoid (norm_ellipsoid level e)) }
+    ensures { (level : Level) →
+        IsItsForm level class.Ellipsoid ReadsEllipsoid (λ e. item_ellipsoid (norm_ellipsoid level e)) }
 {
     plain_is_the_one();
 }
 
 /// A normal prime meridian is the one form of its value.
 pub fn normal_meridian_is_its_form()
-    ensures { (level : Level) → IsItsForm level class.PrimeMeridian ReadsMeridian (λ m. item_meridian (norm_given level m)) }
+    ensures { (level : Level) →
+        IsItsForm level class.PrimeMeridian ReadsMeridian (λ m. item_meridian (norm_given level m)) }
 {
     plain_is_the_one();
     worked_examples();
@@ -72,29 +80,34 @@ pub fn normal_meridian_is_its_form()
 
 /// A normal member of an ensemble is the one form of its value.
 pub fn normal_member_is_its_form()
-    ensures { (level : Level) → IsItsForm level class.Member ReadsMember (λ m. item_member (norm_member level m)) }
+    ensures { (level : Level) →
+        IsItsForm level class.Member ReadsMember (λ m. item_member (norm_member level m)) }
 {}
 
 /// A normal method is the one form of its value.
 pub fn normal_method_is_its_form()
-    ensures { (level : Level) → IsItsForm level class.Method ReadsMethod (λ m. item_method (norm_method level m)) }
+    ensures { (level : Level) →
+        IsItsForm level class.Method ReadsMethod (λ m. item_method (norm_method level m)) }
 {}
 
 /// A normal geoid model is the one form of its value.
 pub fn normal_geoid_model_is_its_form()
-    ensures { (level : Level) → IsItsForm level class.GeoidModel ReadsGeoidModel (λ g. item_geoid_model (norm_geoid_model level g)) }
+    ensures { (level : Level) →
+        IsItsForm level class.GeoidModel ReadsGeoidModel (λ g. item_geoid_model (norm_geoid_model level g)) }
 {}
 
 /// A normal parameter is the one form of its value.
 pub fn normal_parameter_is_its_form()
-    ensures { (level : Level) → IsItsForm level class.Parameter ReadsParameter (λ p. item_parameter (norm_parameter level p)) }
+    ensures { (level : Level) →
+        IsItsForm level class.Parameter ReadsParameter (λ p. item_parameter (norm_parameter level p)) }
 {
     plain_is_the_one();
 }
 
 /// A normal conversion is the one form of its value.
 pub fn normal_conversion_is_its_form()
-    ensures { (level : Level) → IsItsForm level class.Conversion ReadsConversion (λ c. item_conversion (norm_conversion level c)) }
+    ensures { (level : Level) →
+        IsItsForm level class.Conversion ReadsConversion (λ c. item_conversion (norm_conversion level c)) }
 {
     plain_is_the_one();
 }
@@ -102,18 +115,24 @@ pub fn normal_conversion_is_its_form()
 /// A normal box, a normal extent and a normal usage are the one form of their values.
 pub fn normal_usage_is_its_form()
     ensures bbox { (level : Level) → IsItsForm level class.BoundingBox ReadsBox item_box }
-    ensures extent { (level : Level) → IsItsForm level class.VerticalExtent ReadsExtent (λ e. item_extent (norm_extent level e)) }
-    ensures usage { (level : Level) → IsItsForm level class.Usage ReadsUsage (λ u. item_usage (norm_usage u)) }
+    ensures extent { (level : Level) →
+        IsItsForm level class.VerticalExtent ReadsExtent (λ e. item_extent (norm_extent level e)) }
+    ensures usage { (level : Level) →
+        IsItsForm level class.Usage ReadsUsage (λ u. item_usage (norm_usage u)) }
 {
     plain_is_the_one();
 }
 
 /// A normal ensemble is the one form of its value, and so is a normal reference frame that breaks no check.
 pub fn normal_frame_is_its_form()
-    ensures datum { (level : Level) → IsItsFormUnbroken level class.GeodeticFrame ReadsDatum (λ d. item_datum (codes "DATUM") (norm_datum level d)) }
-    ensures vertical_datum { (level : Level) → IsItsFormUnbroken level class.VerticalFrame ReadsDatum (λ d. item_datum (codes "VDATUM") (norm_datum level d)) }
-    ensures ensemble { (level : Level) → IsItsForm level class.GeodeticEnsemble ReadsEnsemble (λ e. item_ensemble (norm_ensemble level e)) }
-    ensures vertical_ensemble { (level : Level) → IsItsForm level class.VerticalEnsemble ReadsEnsemble (λ e. item_ensemble (norm_ensemble level e)) }
+    ensures datum { (level : Level) →
+        IsItsFormUnbroken level class.GeodeticFrame ReadsDatum (λ d. item_datum (codes "DATUM") (norm_datum level d)) }
+    ensures vertical_datum { (level : Level) →
+        IsItsFormUnbroken level class.VerticalFrame ReadsDatum (λ d. item_datum (codes "VDATUM") (norm_datum level d)) }
+    ensures ensemble { (level : Level) →
+        IsItsForm level class.GeodeticEnsemble ReadsEnsemble (λ e. item_ensemble (norm_ensemble level e)) }
+    ensures vertical_ensemble { (level : Level) →
+        IsItsForm level class.VerticalEnsemble ReadsEnsemble (λ e. item_ensemble (norm_ensemble level e)) }
 {
     plain_is_the_one();
 }
@@ -121,17 +140,20 @@ pub fn normal_frame_is_its_form()
 /// A normal axis with its own unit is the one form of its value at its position, in each system, and so is the normal
 /// meridian of an axis.
 pub fn normal_axis_is_its_form()
-    ensures meridian { (level : Level) → IsItsForm level class.Meridian ReadsAxisMeridian (λ m. item_axis_meridian (norm_axis_meridian level m)) }
-    ensures axis { (level : Level) (system : SystemParts) (parent : Class) (position : ℕ) (item : Item) (value : AxisParts) →
-        Shaped class.Axis item → IsNormalIn level parent class.Axis item → HasOrder position item →
-        Has class.Axis class.AxisUnit item → ReadsAxis class.Axis item value → flat item ≡ item_axis (norm_axis level system position value) }
+    ensures meridian { (level : Level) →
+        IsItsForm level class.Meridian ReadsAxisMeridian (λ m. item_axis_meridian (norm_axis_meridian level m)) }
+    ensures axis { (level : Level) (system : SystemParts) (parent : Class) (position : ℕ) (item : Item)
+        (value : AxisParts) → Shaped class.Axis item → IsNormalIn level parent class.Axis item →
+        HasOrder position item → Has class.Axis class.AxisUnit item → ReadsAxis class.Axis item value →
+        flat item ≡ item_axis (norm_axis level system position value) }
 {
     plain_is_the_one();
 }
 
 /// A normal base CRS that breaks no check is the one form of its value.
 pub fn normal_base_is_its_form()
-    ensures { (level : Level) → IsItsFormUnbroken level class.BaseCrs ReadsBase (λ b. item_base (norm_base level b)) }
+    ensures { (level : Level) →
+        IsItsFormUnbroken level class.BaseCrs ReadsBase (λ b. item_base (norm_base level b)) }
 {
     plain_is_the_one();
     worked_examples();
@@ -139,12 +161,18 @@ pub fn normal_base_is_its_form()
 
 /// A normal CRS that breaks no check is the one form of its value.
 pub fn normal_crs_is_its_form()
-    ensures geodetic { (level : Level) → IsItsFormUnbroken level class.GeodeticCrs ReadsGeodetic (λ g. item_geodetic (norm_geodetic level g)) }
-    ensures geographic { (level : Level) → IsItsFormUnbroken level class.GeographicCrs ReadsGeodetic (λ g. item_geodetic (norm_geodetic level g)) }
-    ensures projected { (level : Level) → IsItsFormUnbroken level class.ProjectedCrs ReadsProjected (λ p. item_projected (norm_projected level p)) }
-    ensures vertical { (level : Level) → IsItsFormUnbroken level class.VerticalCrs ReadsVertical (λ v. item_vertical (norm_vertical level v)) }
-    ensures compound { (level : Level) → IsItsFormUnbroken level class.CompoundCrs ReadsCompound (λ c. item_compound (norm_compound level c)) }
-    ensures any { (level : Level) (c : Class) → IsItsFormUnbroken level c ReadsCrs (λ crs. item_crs (norm_crs level crs)) }
+    ensures geodetic { (level : Level) →
+        IsItsFormUnbroken level class.GeodeticCrs ReadsGeodetic (λ g. item_geodetic (norm_geodetic level g)) }
+    ensures geographic { (level : Level) →
+        IsItsFormUnbroken level class.GeographicCrs ReadsGeodetic (λ g. item_geodetic (norm_geodetic level g)) }
+    ensures projected { (level : Level) →
+        IsItsFormUnbroken level class.ProjectedCrs ReadsProjected (λ p. item_projected (norm_projected level p)) }
+    ensures vertical { (level : Level) →
+        IsItsFormUnbroken level class.VerticalCrs ReadsVertical (λ v. item_vertical (norm_vertical level v)) }
+    ensures compound { (level : Level) →
+        IsItsFormUnbroken level class.CompoundCrs ReadsCompound (λ c. item_compound (norm_compound level c)) }
+    ensures any { (level : Level) (c : Class) →
+        IsItsFormUnbroken level c ReadsCrs (λ crs. item_crs (norm_crs level crs)) }
 {
     plain_is_the_one();
     worked_examples();
