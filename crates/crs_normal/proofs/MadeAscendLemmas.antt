@@ -43,8 +43,11 @@ module _ {A : Type 0} (bytes : A → List ℕ) where
   put-ascends x (y ∷ ys) h =
       by-order Ascends (x ∷ y ∷ ys) (y ∷ ys) (y ∷ put bytes x ys) (slice_cmp nat_cmp (bytes x) (bytes y))
       (λ e. (
-        (e, each-as (λ z. Below (bytes y) (bytes z)) (λ z. Below (bytes x) (bytes z)) ys
-        (λ z q. nat_list_cmp_total.trans (bytes x) (bytes y) (bytes z) e q) h.0),
+        (
+          e,
+          each-as (λ z. Below (bytes y) (bytes z)) (λ z. Below (bytes x) (bytes z)) ys
+              (λ z q. nat_list_cmp_total.trans (bytes x) (bytes y) (bytes z) e q) h.0,
+        ),
         h,
       )) (λ e. h)
       (λ e. (each-put (λ z. Below (bytes y) (bytes z)) x ys (above (bytes x) (bytes y) e) h.0, put-ascends x ys h.1))

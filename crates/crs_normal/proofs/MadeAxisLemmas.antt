@@ -1,10 +1,9 @@
 -- Axes at their positions are made.
-use Rattle.std.proofs.Common.{◌≡◌, ◌≢◌, ℕ, zero, suc, ◌+◌, ◌<◌, ◌≤◌, ◌++◌, true, IsTrue, Option, Some, None, List, [], ◌∷◌, map, codes, IfSome, inl, inr, refl, sym, ap, subst, ◌∙◌, arith}
+use Rattle.std.proofs.Common.{◌≡◌, ℕ, zero, suc, ◌≤◌, Option, Some, None, List, [], ◌∷◌, codes, IfSome, inl, inr, refl, sym, ap, subst, ◌∙◌, arith}
 use Rattle.crs_decimal.specs.Value.{Value, IsNormal}
-use Rattle.crs_text.specs.Items.{Item, Items, End, More, arguments, raw_of}
+use Rattle.crs_text.specs.Items.{Item, Items, End, More, arguments}
 use Rattle.crs_text.specs.Refusal.{Refused}
 use Rattle.crs_text.specs.Written.{at_place}
-use Rattle.crs_shape.specs.declared.class.Class.{Class}
 use Rattle.crs_shape.specs.declared.class.Class.TheVariants as class
 use Rattle.crs_shape.specs.Keywords.{is_keyword}
 use Rattle.crs_shape.specs.Slots.{class_named, slots_of}
@@ -28,7 +27,7 @@ use Rattle.crs_value.specs.Words.{direction_word, unit_word}
 use Rattle.crs_same.specs.SameSystems.{own_or}
 use Rattle.crs_normal.specs.DecimalLaws.{DecimalLaws}
 use Rattle.crs_normal.specs.Made.{IsKindIn, IsMade}
-use Rattle.crs_normal.specs.SpelledItems.{each, node_of, number_item, number_node, opt, text_item, word_item}
+use Rattle.crs_normal.specs.SpelledItems.{each, number_item, number_node, opt, text_item, word_item}
 use Rattle.crs_normal.specs.SpelledSystems.{item_axis, item_axis_meridian, norm_axis, norm_axis_meridian, norm_axis_meridians}
 use Rattle.crs_normal.specs.SpelledUnits.{item_ident, item_unit, norm_unit, norm_units, set_idents, whole_value}
 use Rattle.crs_normal.proofs.MadeEllipsoidLemmas.{suits-kind, unit-argument}
@@ -36,7 +35,7 @@ use Rattle.crs_normal.proofs.MadeFitLemmas.{fills-any, fills-one, fills-optional
 use Rattle.crs_normal.proofs.MadeFrameLemmas.{number-node-made}
 use Rattle.crs_normal.proofs.MadeIdentLemmas.{ids-ascend, ids-made, ids_run}
 use Rattle.crs_normal.proofs.MadeLeafLemmas.{number-made, text-made, word-made}
-use Rattle.crs_normal.proofs.MadeLemmas.{ArePlaced, IsKept, Made, Run, RunsMade, Sees, alone, as-argument, each-line, given, lines, node-made, opt-line, sees}
+use Rattle.crs_normal.proofs.MadeLemmas.{ArePlaced, Made, Run, RunsMade, alone, as-argument, each-line, given, lines, node-made, opt-line, sees}
 use Rattle.crs_normal.proofs.MadeWordLemmas.{direction-letters}
 
 -- ---- positions
@@ -139,16 +138,29 @@ axis-runs-made : DecimalLaws → (level : Level) (t : SystemType) (shared : Opti
 unfolding class_named is_keyword
 axis-runs-made l level t shared k x f low high =
     let asked : UnitKind = asked_kind t x.direction in
-    let inside : IsKindIn class.AxisUnit asked = asked-in t x.direction in
-    (
+    let inside : IsKindIn class.AxisUnit asked = asked-in t x.direction in (
       (text-made level 4 class.Axis x.name f.axis.name, tt),
-      ((word-made level 4 class.Axis (direction_word x.direction) (direction-letters x.direction) (x.direction, refl), tt),
-      (axis-meridians-made l level x.meridian f.axis.meridian,
-      ((as-argument level 1 4 class.Axis class.Order (number_node (codes "ORDER") (whole_value k)) (omega arith) refl
-      (order-made l level (whole_value k) (whole-normal k low high)), tt),
-      ((unit-argument l level 4 class.Axis class.AxisUnit asked f.unit (omega arith) (axis-names asked inside) inside
-      (suits-kind asked f.unit.kind f.suits.1) f.suits.0, tt),
-      (ids-made l level 4 class.Axis x.ids (omega arith) refl f.axis.ids, tt))))),
+      (
+        (word-made level 4 class.Axis (direction_word x.direction) (direction-letters x.direction) (x.direction, refl), tt),
+        (
+          axis-meridians-made l level x.meridian f.axis.meridian,
+          (
+            (
+              as-argument level 1 4 class.Axis class.Order (number_node (codes "ORDER") (whole_value k)) (omega arith) refl
+                  (order-made l level (whole_value k) (whole-normal k low high)),
+              tt,
+            ),
+            (
+              (
+                unit-argument l level 4 class.Axis class.AxisUnit asked f.unit (omega arith) (axis-names asked inside) inside
+                    (suits-kind asked f.unit.kind f.suits.1) f.suits.0,
+                tt,
+              ),
+              (ids-made l level 4 class.Axis x.ids (omega arith) refl f.axis.ids, tt),
+            ),
+          ),
+        ),
+      ),
     )
 
 pub axis-made : DecimalLaws → (level : Level) (s : SystemParts) (k : ℕ) (x : AxisParts) → Fits s.system_type s.unit x → 1 ≤ k → k ≤ 3 → (p : ℕ) →
@@ -162,10 +174,19 @@ axis-made l level s k x f low high =
       known = refl;
       written = refl;
       made = axis-runs-made l level s.system_type s.unit k x f low high;
-      allowed = runs-fit (slots_of class.Axis) (axis_runs level asked k x f.unit)
-          (fills-one refl, (fills-one refl, (fills-optional item_axis_meridian (norm_axis_meridians level x.meridian) refl,
-          (fills-optional (number_node (codes "ORDER")) (Some (whole_value k)) refl,
-          (fills-optional item_unit (Some (norm_unit level asked f.unit)) refl, (fills-any refl, tt))))));
+      allowed = runs-fit (slots_of class.Axis) (axis_runs level asked k x f.unit) (
+        fills-one refl,
+        (
+          fills-one refl,
+          (
+            fills-optional item_axis_meridian (norm_axis_meridians level x.meridian) refl,
+            (
+              fills-optional (number_node (codes "ORDER")) (Some (whole_value k)) refl,
+              (fills-optional item_unit (Some (norm_unit level asked f.unit)) refl, (fills-any refl, tt)),
+            ),
+          ),
+        ),
+      );
       sets = (ids-ascend level x.ids, (tt, (tt, (tt, (tt, tt)))));
       own = λ item v. tt;
       unbroken = λ item fault v b. known-direction x.direction (those class.Axis class.Word (arguments item)) fault (v.view class.Word) b;
@@ -186,8 +207,8 @@ unfolding norm_axis
 axis-seen l level s k x f low high p =
     let asked : UnitKind = asked_kind s.system_type x.direction in
     let look = sees level 4 class.Axis (codes "AXIS") (text_item x.name) (axis_others level asked k x (own_or x.unit s.unit))
-        (axis_runs level asked k x f.unit) p (axis-lines level asked k x (own_or x.unit s.unit) f.unit f.given_unit)
-        (axis-runs-made l level s.system_type s.unit k x f low high) in
+    (axis_runs level asked k x f.unit) p (axis-lines level asked k x (own_or x.unit s.unit) f.unit f.given_unit)
+    (axis-runs-made l level s.system_type s.unit k x f low high) in
     record {
       direction_in = x.direction;
       unit_in = norm_unit level asked f.unit;

@@ -1,10 +1,9 @@
 -- What the CRSs with a coordinate system have behind their other parts is made: the system and the end.
-use Rattle.std.proofs.Common.{◌≡◌, ◌≢◌, ℕ, suc, ◌≤◌, ◌++◌, List, [], ◌∷◌, length, map, codes, Some, refl, sym, ap, subst, ◌∙◌, arith}
+use Rattle.std.proofs.Common.{◌≡◌, ◌≢◌, ℕ, suc, ◌≤◌, List, [], ◌∷◌, length, map, codes, Some, refl, sym, ap, subst, ◌∙◌, arith}
 use Rattle.std.proofs.lemmas.List.{append-nil}
 use Rattle.crs_decimal.specs.Number.{SameNumber, whole_number}
 use Rattle.crs_decimal.specs.Value.{exact}
 use Rattle.crs_text.specs.Items.{Item, arguments}
-use Rattle.crs_text.specs.Written.{at_place}
 use Rattle.crs_shape.specs.declared.class.Class.{Class}
 use Rattle.crs_shape.specs.declared.class.Class.TheVariants as class
 use Rattle.crs_shape.specs.Slots.{class_named}
@@ -135,7 +134,7 @@ system-of l level s (x ∷ y ∷ systems) axes units h p q none = absurd p.1
 system-of l level s (x ∷ []) axes units h p q none =
     let e : length (axes_from level s 1 (length s.axes)) ≡ length s.axes = all-count l level s h.system h.each_at h.few in
     let n : length axes ≡ length s.axes =
-        placed-length axes (axis_items level s) q ∙ mapped-length item_axis (axes_from level s 1 (length s.axes)) ∙ e in
+    placed-length axes (axis_items level s) q ∙ mapped-length item_axis (axes_from level s 1 (length s.axes)) ∙ e in
     let f : length s.axes ≤ 3 = h.few in
     record {
       head = x;

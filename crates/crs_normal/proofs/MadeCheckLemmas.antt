@@ -1,35 +1,31 @@
 -- A system that is made breaks no check, and its axes are normal.
-use Rattle.std.proofs.Common.{◌≡◌, ◌≢◌, ◌⊎◌, ℕ, suc, ◌+◌, ◌<◌, ◌≤◌, ◌++◌, List, [], ◌∷◌, length, map, codes, decimal, inl, inr, refl, sym, ap, subst, ◌∙◌, arith}
+use Rattle.std.proofs.Common.{◌≡◌, ◌⊎◌, ℕ, ◌+◌, ◌<◌, ◌≤◌, ◌++◌, List, [], ◌∷◌, length, map, codes, decimal, inl, inr, refl, sym, ap, subst, ◌∙◌, arith}
 use Rattle.std.proofs.lemmas.List.{append-nil}
 use Rattle.crs_decimal.specs.Number.{SameNumber, whole_number}
-use Rattle.crs_decimal.specs.Plain.{plain}
 use Rattle.crs_decimal.specs.Value.{Value, IsNormal, exact}
-use Rattle.crs_text.specs.Items.{Item, arguments, raw_of}
+use Rattle.crs_text.specs.Items.{Item, arguments}
 use Rattle.crs_text.specs.Refusal.{Refused}
 use Rattle.crs_text.specs.Written.{at_place}
 use Rattle.crs_shape.specs.declared.class.Class.{Class}
 use Rattle.crs_shape.specs.declared.class.Class.TheVariants as class
-use Rattle.crs_value.specs.BadOrder.{BadCount, BadOrder, BadOrders, IsBadOrder, IsPosition, LacksOrder, OneHas, ReadsOrder, orders_in}
-use Rattle.crs_value.specs.BadSystem.{BadSystem, IsOneOf}
-use Rattle.crs_value.specs.BadUnit.{BadOwnUnit, BadUnit, Misfits, asked_kind, units_in}
+use Rattle.crs_value.specs.BadOrder.{BadOrder, BadOrders, IsBadOrder, IsPosition, LacksOrder, OneHas, ReadsOrder, orders_in}
+use Rattle.crs_value.specs.BadSystem.{IsOneOf}
+use Rattle.crs_value.specs.BadUnit.{BadOwnUnit, Misfits, asked_kind, units_in}
 use Rattle.crs_value.specs.Break.{AnyOf}
 use Rattle.crs_value.specs.Checks.{BadSystems, OfHead}
 use Rattle.crs_value.specs.declared.direction.Direction.{Direction}
 use Rattle.crs_value.specs.declared.system_type.SystemType.{SystemType}
-use Rattle.crs_value.specs.declared.unit_kind.UnitKind.{UnitKind}
 use Rattle.crs_value.specs.Reading.{ReadsFirst, those}
 use Rattle.crs_value.specs.Reads.{ReadsDirection, ReadsKind, ReadsNumber, ReadsType}
 use Rattle.crs_value.specs.Sound.{Each}
-use Rattle.crs_value.specs.Values.{UnitParts}
-use Rattle.crs_value.specs.Words.{direction_word, system_word, unit_word}
+use Rattle.crs_value.specs.Words.{direction_word, system_word}
 use Rattle.crs_normal.specs.DecimalLaws.{DecimalLaws}
-use Rattle.crs_normal.specs.NormalOwn.{AreOrdered, Has, HasAxes, HasOrder, numbers_in}
+use Rattle.crs_normal.specs.NormalOwn.{AreOrdered, Has, HasAxes, numbers_in}
 use Rattle.crs_normal.specs.SpelledItems.{number_item, number_node, word_item}
 use Rattle.crs_normal.specs.SpelledUnits.{item_unit, whole_value}
 use Rattle.crs_normal.proofs.MadeAxisLemmas.{IsAxisItem, whole-normal}
-use Rattle.crs_normal.proofs.MadeEllipsoidLemmas.{placed-none, placed-some}
+use Rattle.crs_normal.proofs.MadeEllipsoidLemmas.{placed-some}
 use Rattle.crs_normal.proofs.MadeLemmas.{ArePlaced}
-use Rattle.crs_normal.proofs.MadeMeridianLemmas.{placed-raw}
 use Rattle.crs_normal.proofs.MadeSystemLemmas.{AreAxisItems, IsHeadItem}
 use Rattle.crs_normal.proofs.MadeUnitLemmas.{reads-one}
 use Rattle.crs_normal.proofs.MadeWordLemmas.{one-direction, one-type}
@@ -104,7 +100,7 @@ none-has l k (x ∷ before) high h (inl b) =
     let below : h.0.order < k = h.0.below in
     let small : h.0.order ≤ 3 = omega arith in
     let e : whole_value k ≡ whole_value h.0.order =
-        first-order l (whole_value h.0.order) (whole_value k) (orders_in x) (whole-normal h.0.order low small) h.0.orders b in
+    first-order l (whole_value h.0.order) (whole_value k) (orders_in x) (whole-normal h.0.order low small) h.0.orders b in
     let f : k ≡ h.0.order = ap (λ v. v.digits) e in
     absurd (omega arith)
 none-has l k (x ∷ before) high h (inr b) = none-has l k before high h.1 b
@@ -153,7 +149,7 @@ no-misfit t d k cs axis (u ∷ []) fault h a p (inl b) =
     let e : t ≡ asks.0 = word-type t asks.0 (those class.CoordinateSystem class.Word (arguments cs)) h.words asks.1.1.0 in
     let f : a.direction_in ≡ asks.1.0 = word-direction a.direction_in asks.1.0 (those class.Axis class.Word (arguments axis)) a.words asks.1.1.1 in
     let g : a.unit_in.kind ≡ b.1.0 =
-        a.kind ∙ ap (λ v. asked_kind v a.direction_in) e ∙ ap (asked_kind asks.0) f ∙ sym asks.1.1.2 in
+    a.kind ∙ ap (λ v. asked_kind v a.direction_in) e ∙ ap (asked_kind asks.0) f ∙ sym asks.1.1.2 in
     b.1.1.1 (inr (subst (λ i. ReadsKind i b.1.0) (sym p.0.1) (subst (ReadsKind (at_place p.0.0 (item_unit a.unit_in))) g refl)))
 
 no-own-misfit : (t : SystemType) (d : Value) (k : ℕ) (cs : Item) (axes : List Item) (fault : Refused) → IsHeadItem t d cs → AreAxisItems t k axes →

@@ -1,16 +1,14 @@
 -- Compound CRSs are made, and with them all CRSs.
-use Rattle.std.proofs.Common.{◌≡◌, ◌≢◌, ◌⊎◌, ℕ, ◌+◌, ◌≤◌, ◌++◌, Bool, true, false, Option, Some, None, List, [], ◌∷◌, length, codes, inl, inr, refl, sym, ap, subst, ◌∙◌, arith}
+use Rattle.std.proofs.Common.{◌≡◌, ◌⊎◌, ℕ, Bool, true, false, Some, List, [], ◌∷◌, codes, inl, inr, refl, sym, subst, ◌∙◌, arith}
 use Rattle.crs_decimal.specs.Number.{SameNumber, whole_number}
 use Rattle.crs_decimal.specs.Value.{Value, IsNormal, exact}
-use Rattle.crs_text.specs.Items.{Item, leaf, node, Items, End, More, arguments, depth}
+use Rattle.crs_text.specs.Items.{Item, More, arguments}
 use Rattle.crs_text.specs.Refusal.{Refused}
-use Rattle.crs_text.specs.Written.{WrittenSpells, at_place, at_places, item_text, others_text}
+use Rattle.crs_text.specs.Written.{at_place}
 use Rattle.crs_shape.specs.declared.class.Class.{Class}
 use Rattle.crs_shape.specs.declared.class.Class.TheVariants as class
-use Rattle.crs_shape.specs.Keywords.{is_keyword, root_named}
-use Rattle.crs_shape.specs.Shape.{Allowed}
-use Rattle.crs_shape.specs.ShapeFault.{class_in, class_of_root}
-use Rattle.crs_shape.specs.Slots.{class_named, one, one_of, slots_of, tail, takes}
+use Rattle.crs_shape.specs.Keywords.{is_keyword}
+use Rattle.crs_shape.specs.Slots.{class_named, one, one_of, tail, takes}
 use Rattle.crs_value.specs.BadPart.{BadPart, IsNotEllipsoidal, IsNotHorizontal, IsNotPlane}
 use Rattle.crs_value.specs.Break.{AnyOf, FirstIs}
 use Rattle.crs_value.specs.Checks.{OfCompound, Own as BreaksOwn, horizontal_classes}
@@ -18,33 +16,29 @@ use Rattle.crs_value.specs.CompoundValues.{CompoundParts}
 use Rattle.crs_value.specs.CrsValues.{GeodeticParts, ProjectedParts, VerticalParts}
 use Rattle.crs_value.specs.declared.compound.Horizontal.{Horizontal}
 use Rattle.crs_value.specs.declared.compound.Horizontal.TheVariants as horizontal
-use Rattle.crs_value.specs.declared.crs.Crs.{Crs}
-use Rattle.crs_value.specs.declared.crs.Crs.TheVariants as crs
 use Rattle.crs_value.specs.declared.level.Level.{Level}
 use Rattle.crs_value.specs.declared.system_type.SystemType.{SystemType}
 use Rattle.crs_value.specs.declared.system_type.SystemType.TheVariants as types
 use Rattle.crs_value.specs.Reading.{those}
 use Rattle.crs_value.specs.Sound.{Each, IsText}
 use Rattle.crs_value.specs.SoundCompound.{IsCompound, IsHorizontal, IsPlane}
-use Rattle.crs_value.specs.SoundCrs.{IsCrs}
 use Rattle.crs_value.specs.SoundSingle.{IsGeodetic, IsProjected, IsVertical}
 use Rattle.crs_value.specs.SoundUsages.{IsTail}
 use Rattle.crs_value.specs.Values.{TailParts}
 use Rattle.crs_same.specs.SameUsages.{usages_of}
 use Rattle.crs_normal.specs.DecimalLaws.{DecimalLaws}
-use Rattle.crs_normal.specs.Made.{IsMade, crs_class, root_class}
-use Rattle.crs_normal.specs.Normal.{IsNormalText}
-use Rattle.crs_normal.specs.NormalOwn.{Ascend, rank, set_classes}
-use Rattle.crs_normal.specs.SpelledCrs.{geodetic_keyword, item_compound, item_crs, item_geodetic, item_projected, item_vertical, norm_compound, norm_crs, norm_geodetic, norm_projected, norm_vertical}
+use Rattle.crs_normal.specs.Made.{IsMade, root_class}
+use Rattle.crs_normal.specs.NormalOwn.{Ascend, set_classes}
+use Rattle.crs_normal.specs.SpelledCrs.{geodetic_keyword, item_compound, item_geodetic, item_projected, item_vertical, norm_compound, norm_geodetic, norm_projected, norm_vertical}
 use Rattle.crs_normal.specs.SpelledItems.{node_of, text_item}
 use Rattle.crs_normal.specs.SpelledUsages.{norm_tail, tail_items}
 use Rattle.crs_normal.proofs.MadeBehindLemmas.{AxisEach, Shows, tail-seen, tail_classes}
-use Rattle.crs_normal.proofs.MadeCheckLemmas.{IsSystemSeen, first-number, word-type}
+use Rattle.crs_normal.proofs.MadeCheckLemmas.{first-number, word-type}
 use Rattle.crs_normal.proofs.MadeFitLemmas.{fills-one, fit-before, last-fits}
 use Rattle.crs_normal.proofs.MadeGeodeticLemmas.{end_classes, geodetic-made, geodetic-seen}
 use Rattle.crs_normal.proofs.MadeIdentLemmas.{ids-ascend}
 use Rattle.crs_normal.proofs.MadeLeafLemmas.{text-made}
-use Rattle.crs_normal.proofs.MadeLemmas.{ArePlaced, IsKept, Made, Run, RunsMade, Sees, alone, as-argument, classes, each-line, items_in, node-made, opt-line, views}
+use Rattle.crs_normal.proofs.MadeLemmas.{ArePlaced, Made, Run, RunsMade, alone, as-argument, classes, each-line, items_in, node-made, opt-line, views}
 use Rattle.crs_normal.proofs.MadeProjectedLemmas.{projected-made, projected-seen}
 use Rattle.crs_normal.proofs.MadeSystemLemmas.{IsHeadItem}
 use Rattle.crs_normal.proofs.MadeTailLemmas.{IsTailSeen, RunsRise, has-tail, no-repeats, tail-fits, tail-runs-made, tail_runs, usages-ascend}
@@ -160,9 +154,13 @@ compound-runs-made : DecimalLaws → AxisEach → (level : Level) (b : Bool) (j 
 unfolding class_named is_keyword
 compound-runs-made l each_at level b j name v t s n h g = (
   (text-made level 7 class.CompoundCrs name n, tt),
-  ((s.made, tt),
-  ((as-argument level 6 7 class.CompoundCrs class.VerticalCrs (item_vertical (norm_vertical level v)) (omega arith) refl (vertical-made l each_at level v h), tt),
-  tail-runs-made l level 7 class.CompoundCrs t (omega arith) (record { usage = refl; ident = refl; remark = refl }) g)),
+  (
+    (s.made, tt),
+    (
+      (as-argument level 6 7 class.CompoundCrs class.VerticalCrs (item_vertical (norm_vertical level v)) (omega arith) refl (vertical-made l each_at level v h), tt),
+      tail-runs-made l level 7 class.CompoundCrs t (omega arith) (record { usage = refl; ident = refl; remark = refl }) g,
+    ),
+  ),
 )
 
 side-made : DecimalLaws → AxisEach → (level : Level) (b : Bool) (j : Item) (name : List ℕ) (v : VerticalParts) (t : TailParts) → IsSide level b j →

@@ -1,7 +1,6 @@
 -- Parameters and conversions are made.
-use Rattle.std.proofs.Common.{◌≡◌, ℕ, ◌≤◌, ◌++◌, true, Option, Some, None, List, [], ◌∷◌, map, codes, IfSome, refl, sym, ap, subst, ◌∙◌, arith}
-use Rattle.crs_decimal.specs.Value.{Value, IsNormal}
-use Rattle.crs_text.specs.Items.{Item, End, More}
+use Rattle.std.proofs.Common.{◌≡◌, ℕ, ◌++◌, true, Option, Some, None, List, [], ◌∷◌, map, codes, IfSome, refl, arith}
+use Rattle.crs_text.specs.Items.{End, More}
 use Rattle.crs_text.specs.Written.{at_place}
 use Rattle.crs_shape.specs.declared.class.Class.{Class}
 use Rattle.crs_shape.specs.declared.class.Class.TheVariants as class
@@ -27,7 +26,7 @@ use Rattle.crs_normal.proofs.MadeAscendLemmas.{set-ascends, set-each}
 use Rattle.crs_normal.proofs.MadeFitLemmas.{fills-any, fills-one, fills-optional, runs-fit}
 use Rattle.crs_normal.proofs.MadeIdentLemmas.{ids-ascend, ids-made, ids_run}
 use Rattle.crs_normal.proofs.MadeLeafLemmas.{number-made, text-made}
-use Rattle.crs_normal.proofs.MadeLemmas.{IsKept, Made, Run, Sees, alone, as-argument, each-line, given, items_in, node-made, opt-line}
+use Rattle.crs_normal.proofs.MadeLemmas.{Made, Run, alone, as-argument, each-line, given, items_in, node-made, opt-line}
 use Rattle.crs_normal.proofs.MadeNamedLemmas.{method-made}
 use Rattle.crs_normal.proofs.MadeUnitLemmas.{unit-made}
 
@@ -60,9 +59,11 @@ parameter-unit : DecimalLaws → (level : Level) (x : Option UnitParts) → IfSo
     Each (Made level 3 class.Parameter (given_class x)) (given item_unit (norm_units level kinds.Plain x))
 parameter-unit l level None h = tt
 parameter-unit l level (Some u) h =
-    let k : UnitKind = kind_as kinds.Plain u.kind in
-    (as-argument level 3 3 class.Parameter (kind_class k) (item_unit (norm_unit level kinds.Plain u)) (omega arith) (kind-named k)
-    (unit-made l level (kind_class k) k u (kind-in k) h), tt)
+    let k : UnitKind = kind_as kinds.Plain u.kind in (
+      as-argument level 3 3 class.Parameter (kind_class k) (item_unit (norm_unit level kinds.Plain u)) (omega arith) (kind-named k)
+          (unit-made l level (kind_class k) k u (kind-in k) h),
+      tt,
+    )
 
 abbrev parameter_runs : Level → Class → ParameterParts → List Run
 parameter_runs level c p =
@@ -104,12 +105,18 @@ parameter-made l level m h =
       written = refl;
       made = (
         (text-made level 3 class.Parameter m.name h.name, tt),
-        ((number-made l level 3 class.Parameter m.value h.value, tt),
-        (parameter-unit l level m.unit h.unit, (ids-made l level 3 class.Parameter m.ids (omega arith) refl h.ids, tt))),
+        (
+          (number-made l level 3 class.Parameter m.value h.value, tt),
+          (parameter-unit l level m.unit h.unit, (ids-made l level 3 class.Parameter m.ids (omega arith) refl h.ids, tt)),
+        ),
       );
-      allowed = runs-fit (slots_of class.Parameter) (parameter_runs level (given_class m.unit) m)
-          (fills-one refl, (fills-one refl,
-          (fills-optional item_unit (norm_units level kinds.Plain m.unit) (given-taken m.unit), (fills-any refl, tt))));
+      allowed = runs-fit (slots_of class.Parameter) (parameter_runs level (given_class m.unit) m) (
+        fills-one refl,
+        (
+          fills-one refl,
+          (fills-optional item_unit (norm_units level kinds.Plain m.unit) (given-taken m.unit), (fills-any refl, tt)),
+        ),
+      );
       sets = parameter-sets level m.unit m;
       own = λ item s. tt;
       unbroken = λ item fault s b. b;
@@ -146,8 +153,10 @@ conversion-made l level m h =
       written = refl;
       made = (
         (text-made level 4 class.Conversion m.name h.name, tt),
-        ((as-argument level 3 4 class.Conversion class.Method (item_method (norm_method level m.method)) (omega arith) refl (method-made l level m.method h.method), tt),
-        (parameters-made l level m.parameters h.parameters, (ids-made l level 4 class.Conversion m.ids (omega arith) refl h.ids, tt))),
+        (
+          (as-argument level 3 4 class.Conversion class.Method (item_method (norm_method level m.method)) (omega arith) refl (method-made l level m.method h.method), tt),
+          (parameters-made l level m.parameters h.parameters, (ids-made l level 4 class.Conversion m.ids (omega arith) refl h.ids, tt)),
+        ),
       );
       allowed = runs-fit (slots_of class.Conversion) (conversion_runs level m) (fills-one refl, (fills-one refl, (fills-any refl, (fills-any refl, tt))));
       sets = (ids-ascend level m.ids, (tt, (tt, (parameters-ascend level m.parameters, (tt, tt)))));

@@ -1,5 +1,5 @@
 -- All CRSs are made, and their texts are normal.
-use Rattle.std.proofs.Common.{◌≡◌, ℕ, ◌+◌, ◌≤◌, true, Option, Some, List, [], ◌∷◌, length, codes, refl, sym, ap, subst, ◌∙◌, arith}
+use Rattle.std.proofs.Common.{◌≡◌, ℕ, ◌+◌, ◌≤◌, true, Some, length, refl, sym, ap, subst, ◌∙◌, arith}
 use Rattle.crs_text.specs.Items.{Item, leaf, node, Items, End, More, depth}
 use Rattle.crs_text.specs.Written.{WrittenSpells, at_place, at_places, item_text, others_text}
 use Rattle.crs_text.specs.TextFault.{SpellsNode}

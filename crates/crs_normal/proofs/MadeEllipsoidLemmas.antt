@@ -1,5 +1,5 @@
 -- Units in the nodes that have them, and ellipsoids, are made.
-use Rattle.std.proofs.Common.{◌≡◌, ◌≢◌, ℕ, ◌≤◌, true, false, IsTrue, Option, Some, None, List, [], ◌∷◌, map, codes, IfSome, inl, inr, refl, sym, ap, subst, ◌∙◌, arith}
+use Rattle.std.proofs.Common.{◌≡◌, ◌≢◌, ℕ, ◌≤◌, true, false, Option, Some, None, List, [], ◌∷◌, codes, IfSome, inl, inr, refl, sym, ap, subst, ◌∙◌, arith}
 use Rattle.std.specs.Prelude.{IsUtf8}
 use Rattle.crs_decimal.specs.Value.{Value, IsNormal}
 use Rattle.crs_text.specs.Items.{Item, End, More, arguments}
@@ -16,7 +16,7 @@ use Rattle.crs_value.specs.declared.level.Level.TheVariants as levels
 use Rattle.crs_value.specs.declared.unit_kind.UnitKind.{UnitKind}
 use Rattle.crs_value.specs.declared.unit_kind.UnitKind.TheVariants as kinds
 use Rattle.crs_value.specs.Reading.{those}
-use Rattle.crs_value.specs.Sound.{Each, IsText, IsUnit, IsUnitOf, Suits}
+use Rattle.crs_value.specs.Sound.{Each, IsUnit, IsUnitOf, Suits}
 use Rattle.crs_value.specs.SoundFrames.{IsEllipsoid}
 use Rattle.crs_value.specs.Values.{EllipsoidParts, UnitParts}
 use Rattle.crs_value.specs.Words.{unit_word}
@@ -29,7 +29,7 @@ use Rattle.crs_normal.specs.SpelledUnits.{item_ident, item_unit, metre, norm_len
 use Rattle.crs_normal.proofs.MadeFitLemmas.{fills-any, fills-one, fills-optional, runs-fit}
 use Rattle.crs_normal.proofs.MadeIdentLemmas.{ids-ascend, ids-made, ids_run}
 use Rattle.crs_normal.proofs.MadeLeafLemmas.{number-made, text-made}
-use Rattle.crs_normal.proofs.MadeLemmas.{ArePlaced, IsKept, Made, Run, Sees, alone, as-argument, each-line, given, node-made}
+use Rattle.crs_normal.proofs.MadeLemmas.{ArePlaced, IsKept, Made, Run, alone, as-argument, each-line, given, node-made}
 use Rattle.crs_normal.proofs.MadeUnitLemmas.{not-below, reads-one, unit-made, unit_as}
 
 -- ---- units
@@ -116,10 +116,16 @@ ellipsoid-kept l level e h = record {
   written = refl;
   made = (
     (text-made level 3 class.Ellipsoid e.name h.name, tt),
-    ((number-made l level 3 class.Ellipsoid e.semi_major_axis h.semi_major_axis, tt),
-    ((number-made l level 3 class.Ellipsoid e.inverse_flattening h.inverse_flattening, tt),
-    ((length-argument l level 3 class.Ellipsoid e.unit (omega arith) refl h.unit, tt),
-    (ids-made l level 3 class.Ellipsoid e.ids (omega arith) refl h.ids, tt)))),
+    (
+      (number-made l level 3 class.Ellipsoid e.semi_major_axis h.semi_major_axis, tt),
+      (
+        (number-made l level 3 class.Ellipsoid e.inverse_flattening h.inverse_flattening, tt),
+        (
+          (length-argument l level 3 class.Ellipsoid e.unit (omega arith) refl h.unit, tt),
+          (ids-made l level 3 class.Ellipsoid e.ids (omega arith) refl h.ids, tt),
+        ),
+      ),
+    ),
   );
   allowed = runs-fit (slots_of class.Ellipsoid) (ellipsoid_runs level e)
       (fills-one refl, (fills-one refl, (fills-one refl, (fills-optional item_unit (Some (norm_length level e.unit)) refl, (fills-any refl, tt)))));

@@ -1,5 +1,5 @@
 -- Runs of arguments fill the slots of a class.
-use Rattle.std.proofs.Common.{◌≡◌, ◌≤◌, ◌≢◌, true, IsTrue, IsFalse, Option, Some, None, List, [], ◌∷◌, ◌++◌, length, refl, sym, ap, subst, ◌∙◌, arith}
+use Rattle.std.proofs.Common.{◌≡◌, ◌≤◌, ◌≢◌, true, IsTrue, IsFalse, Option, Some, None, List, [], ◌∷◌, ◌++◌, length, refl, sym, ap, ◌∙◌, arith}
 use Rattle.std.proofs.lemmas.List.{append-nil}
 use Rattle.crs_text.specs.Items.{Item}
 use Rattle.crs_shape.specs.declared.class.Class.{Class}

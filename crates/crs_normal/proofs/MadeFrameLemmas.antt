@@ -1,5 +1,5 @@
 -- Datums and ensembles are made.
-use Rattle.std.proofs.Common.{◌≡◌, ◌≢◌, ℕ, ◌≤◌, ◌++◌, true, IsTrue, Option, Some, None, List, [], ◌∷◌, map, drop, codes, IfSome, IsNone, IsSome, inl, inr, refl, sym, ap, subst, ◌∙◌, arith}
+use Rattle.std.proofs.Common.{◌≡◌, ◌≢◌, ℕ, ◌++◌, IsTrue, Option, Some, None, List, [], ◌∷◌, map, drop, codes, IfSome, IsNone, IsSome, refl, arith}
 use Rattle.std.specs.Option.{option_map}
 use Rattle.crs_decimal.specs.Value.{Value, IsNormal}
 use Rattle.crs_text.specs.Items.{Item, Items, End, More, arguments}
@@ -18,10 +18,10 @@ use Rattle.crs_value.specs.declared.frame.Frame.TheVariants as frame
 use Rattle.crs_value.specs.declared.level.Level.{Level}
 use Rattle.crs_value.specs.Reading.{those}
 use Rattle.crs_value.specs.Repeated.{IsRepeated}
-use Rattle.crs_value.specs.Sound.{Each, IsIdent, IsText}
+use Rattle.crs_value.specs.Sound.{Each, IsText}
 use Rattle.crs_value.specs.SoundFrames.{IsDatum, IsEllipsoid, IsEnsemble, IsMember}
 use Rattle.crs_value.specs.SoundSingle.{IsGeodeticFrame, IsVerticalFrame}
-use Rattle.crs_value.specs.Values.{DatumParts, EllipsoidParts, EnsembleParts, IdentParts, MemberParts}
+use Rattle.crs_value.specs.Values.{DatumParts, EllipsoidParts, EnsembleParts, MemberParts}
 use Rattle.crs_normal.specs.DecimalLaws.{DecimalLaws}
 use Rattle.crs_normal.specs.Made.{IsMade, geodetic_class, vertical_class}
 use Rattle.crs_normal.specs.Normal.{IsWritten}
@@ -34,7 +34,7 @@ use Rattle.crs_normal.proofs.MadeEllipsoidLemmas.{ellipsoid-made}
 use Rattle.crs_normal.proofs.MadeFitLemmas.{fills-any, fills-one, fills-some, runs-fit}
 use Rattle.crs_normal.proofs.MadeIdentLemmas.{given-made, ids-ascend, ids-made, ids_run, text-node-made}
 use Rattle.crs_normal.proofs.MadeLeafLemmas.{number-made, text-made}
-use Rattle.crs_normal.proofs.MadeLemmas.{ArePlaced, IsKept, Made, Run, Sees, alone, as-argument, each-line, given, line, lines, node-made, opt-line}
+use Rattle.crs_normal.proofs.MadeLemmas.{ArePlaced, Made, Run, alone, as-argument, each-line, given, node-made, opt-line}
 use Rattle.crs_normal.proofs.MadeNamedLemmas.{member-made}
 
 -- ---- nodes of one number
@@ -105,8 +105,10 @@ geodetic-datum-made l level (Some x) d some e h =
       written = refl;
       made = (
         (text-made level 4 class.GeodeticFrame d.name h.name, tt),
-        ((as-argument level 4 4 class.GeodeticFrame class.Ellipsoid (item_ellipsoid (norm_ellipsoid level x)) (omega arith) refl (ellipsoid-made l level x e), tt),
-        (anchors-made level class.GeodeticFrame d.anchor refl h.anchor, (ids-made l level 4 class.GeodeticFrame d.ids (omega arith) refl h.ids, tt))),
+        (
+          (as-argument level 4 4 class.GeodeticFrame class.Ellipsoid (item_ellipsoid (norm_ellipsoid level x)) (omega arith) refl (ellipsoid-made l level x e), tt),
+          (anchors-made level class.GeodeticFrame d.anchor refl h.anchor, (ids-made l level 4 class.GeodeticFrame d.ids (omega arith) refl h.ids, tt)),
+        ),
       );
       allowed = runs-fit (slots_of class.GeodeticFrame) (geodetic_datum_runs level x d)
           (fills-one refl, (fills-one refl, (fills-any refl, (fills-any refl, tt))));
@@ -190,10 +192,16 @@ geodetic-ensemble-made l level (Some x) e some f h =
       written = refl;
       made = (
         (text-made level 4 class.GeodeticEnsemble e.name h.name, tt),
-        (members-made l level class.GeodeticEnsemble e.members refl h.members,
-        ((as-argument level 4 4 class.GeodeticEnsemble class.Ellipsoid (item_ellipsoid (norm_ellipsoid level x)) (omega arith) refl (ellipsoid-made l level x f), tt),
-        ((accuracy-argument l level class.GeodeticEnsemble e.accuracy refl h.accuracy, tt),
-        (ids-made l level 4 class.GeodeticEnsemble e.ids (omega arith) refl h.ids, tt)))),
+        (
+          members-made l level class.GeodeticEnsemble e.members refl h.members,
+          (
+            (as-argument level 4 4 class.GeodeticEnsemble class.Ellipsoid (item_ellipsoid (norm_ellipsoid level x)) (omega arith) refl (ellipsoid-made l level x f), tt),
+            (
+              (accuracy-argument l level class.GeodeticEnsemble e.accuracy refl h.accuracy, tt),
+              (ids-made l level 4 class.GeodeticEnsemble e.ids (omega arith) refl h.ids, tt),
+            ),
+          ),
+        ),
       );
       allowed = runs-fit (slots_of class.GeodeticEnsemble) (geodetic_ensemble_runs level x e)
           (fills-one refl, (fills-some refl (members-some level e.members h.some), (fills-one refl, (fills-one refl, (fills-any refl, tt)))));
@@ -219,9 +227,13 @@ vertical-ensemble-made l level None e none h =
       written = refl;
       made = (
         (text-made level 4 class.VerticalEnsemble e.name h.name, tt),
-        (members-made l level class.VerticalEnsemble e.members refl h.members,
-        ((accuracy-argument l level class.VerticalEnsemble e.accuracy refl h.accuracy, tt),
-        (ids-made l level 4 class.VerticalEnsemble e.ids (omega arith) refl h.ids, tt))),
+        (
+          members-made l level class.VerticalEnsemble e.members refl h.members,
+          (
+            (accuracy-argument l level class.VerticalEnsemble e.accuracy refl h.accuracy, tt),
+            (ids-made l level 4 class.VerticalEnsemble e.ids (omega arith) refl h.ids, tt),
+          ),
+        ),
       );
       allowed = runs-fit (slots_of class.VerticalEnsemble) (vertical_ensemble_runs level e)
           (fills-one refl, (fills-some refl (members-some level e.members h.some), (fills-one refl, (fills-any refl, tt))));

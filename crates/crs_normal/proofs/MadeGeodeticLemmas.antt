@@ -1,7 +1,7 @@
 -- Geodetic and geographic CRSs are made.
-use Rattle.std.proofs.Common.{◌≡◌, ◌≢◌, ◌⊎◌, ℕ, ◌+◌, ◌≤◌, ◌++◌, true, IsTrue, Option, Some, None, List, [], ◌∷◌, length, map, codes, inl, inr, refl, sym, ap, subst, ◌∙◌, arith}
+use Rattle.std.proofs.Common.{◌≡◌, ◌≢◌, ℕ, ◌≤◌, ◌++◌, true, IsTrue, Option, Some, None, List, [], ◌∷◌, map, codes, inl, inr, refl, sym, ap, subst, ◌∙◌, arith}
 use Rattle.crs_decimal.specs.Value.{Value}
-use Rattle.crs_text.specs.Items.{Item, Items, More, arguments, raw_of}
+use Rattle.crs_text.specs.Items.{Item, More, arguments, raw_of}
 use Rattle.crs_text.specs.Refusal.{Refused}
 use Rattle.crs_text.specs.Tokens.{IsWord}
 use Rattle.crs_text.specs.Written.{at_place}
@@ -37,13 +37,12 @@ use Rattle.crs_normal.specs.SpelledUnits.{item_unit}
 use Rattle.crs_normal.specs.SpelledUsages.{norm_tail, tail_items}
 use Rattle.crs_normal.proofs.MadeBehindLemmas.{AxisEach, IsFew, NamesSystem, Shows, axes-some, axes_run, behind, behind-made, crs_classes, few-system, no_unit_run, system-seen, tail-seen}
 use Rattle.crs_normal.proofs.MadeCheckLemmas.{IsSystemSeen, has-axes, no-bad-systems}
-use Rattle.crs_normal.proofs.MadeFitLemmas.{fills-any, fills-one, fills-optional, fills-some, fit-before, last-fits}
+use Rattle.crs_normal.proofs.MadeFitLemmas.{fills-one, fills-optional, fills-some, fit-before, last-fits}
 use Rattle.crs_normal.proofs.MadeFrameLemmas.{geodetic-frame-made}
 use Rattle.crs_normal.proofs.MadeIdentLemmas.{ids-ascend}
 use Rattle.crs_normal.proofs.MadeLeafLemmas.{text-made}
-use Rattle.crs_normal.proofs.MadeLemmas.{ArePlaced, IsKept, Made, Run, RunsMade, Sees, alone, as-argument, classes, each-line, given, items_in, line, lines, node-made, opt-line, sees, views}
+use Rattle.crs_normal.proofs.MadeLemmas.{ArePlaced, IsKept, Made, Run, RunsMade, Sees, alone, as-argument, classes, each-line, given, items_in, node-made, opt-line, sees, views}
 use Rattle.crs_normal.proofs.MadeMeridianLemmas.{meridian-argument}
-use Rattle.crs_normal.proofs.MadeSystemLemmas.{IsHeadItem}
 use Rattle.crs_normal.proofs.MadeTailLemmas.{IsTailSeen, NamesTail, RunsRise, has-tail, no-repeats, tail-fits, tail_runs, usages-ascend}
 
 -- ---- the frame as an argument, of one class or the other
@@ -181,9 +180,19 @@ geodetic-allowed l level g few =
     one class.CoordinateSystem ∷ some class.Axis ∷ optional class.AxisUnit ∷ []) (tail ∷ [])
     (alone class.Text (text_item g.name) ∷ alone (geodetic_class g.frame) (item_frame (codes "DATUM") (norm_frame level g.frame)) ∷
     meridian_run level g ∷ alone class.CoordinateSystem (item_head (norm_system level g.system)) ∷ axes_run level g.system ∷ no_unit_run ∷ [])
-    (tail_runs level g.tail)
-    (fills-one refl, (fills-one (frame-taken g.frame), (fills-optional item_meridian (norm_meridian level g.meridian) refl, (fills-one refl,
-    (fills-some refl (axes-some l level g.system few), (fills-optional item_unit None refl, tt))))))
+    (tail_runs level g.tail) (
+      fills-one refl,
+      (
+        fills-one (frame-taken g.frame),
+        (
+          fills-optional item_meridian (norm_meridian level g.meridian) refl,
+          (
+            fills-one refl,
+            (fills-some refl (axes-some l level g.system few), (fills-optional item_unit None refl, tt)),
+          ),
+        ),
+      ),
+    )
     (last-fits end_classes (classes (tail_runs level g.tail)) (tail-fits end_classes level g.tail refl refl refl))
 
 pub end-sets : (level : Level) (g : GeodeticParts) → Each (λ d. Ascend (items_in d (meridian_run level g ∷ behind level g.system g.tail))) set_classes
@@ -193,9 +202,13 @@ geodetic-runs-made : DecimalLaws → (level : Level) (c : Class) (keyword : List
     IsFew g.system → IsGeodetic g → RunsMade level 5 c (geodetic_runs level g)
 geodetic-runs-made l level c keyword g r few h = (
   (text-made level 5 c g.name h.name, tt),
-  ((frame-argument l level 5 c g.frame (omega arith) r.frames h.frame, tt),
-  (meridian-argument l level 5 c g.meridian (omega arith) r.meridian h.meridian,
-  behind-made l level 5 c g.system g.tail (omega arith) r.systems r.tails few h.tail)),
+  (
+    (frame-argument l level 5 c g.frame (omega arith) r.frames h.frame, tt),
+    (
+      meridian-argument l level 5 c g.meridian (omega arith) r.meridian h.meridian,
+      behind-made l level 5 c g.system g.tail (omega arith) r.systems r.tails few h.tail,
+    ),
+  ),
 )
 
 geodetic-rise : (level : Level) (g : GeodeticParts) → RunsRise 0 (geodetic_runs level g)
@@ -274,11 +287,11 @@ geodetic-seen l each_at level g h p =
     let item : Item = at_place p (item_geodetic (norm_geodetic level g)) in
     let few : IsFew g.system = few-system l each_at geodetic_dimensions geodetic-small g.system h.system h.dimension in
     let s : Sees c (geodetic_runs level g) item =
-        sees level 5 c (geodetic_keyword g.system.system_type) (text_item g.name)
-        (More (item_frame (codes "DATUM") (norm_frame level g.frame))
-        (opt item_meridian (norm_meridian level g.meridian) (system_items (norm_system level g.system) (tail_items (norm_tail level g.tail)))))
-        (geodetic_runs level g) p (simp (opt-line, each-line))
-        (geodetic-runs-made l level c (geodetic_keyword g.system.system_type) g (is-root g.system.system_type) few h) in
+    sees level 5 c (geodetic_keyword g.system.system_type) (text_item g.name)
+    (More (item_frame (codes "DATUM") (norm_frame level g.frame))
+    (opt item_meridian (norm_meridian level g.meridian) (system_items (norm_system level g.system) (tail_items (norm_tail level g.tail)))))
+    (geodetic_runs level g) p (simp (opt-line, each-line))
+    (geodetic-runs-made l level c (geodetic_keyword g.system.system_type) g (is-root g.system.system_type) few h) in
     system-seen l level c item g.system g.tail few
     (frame-shows c item (text_item g.name) (item_frame (codes "DATUM") (norm_frame level g.frame)) g.frame
     (meridian_run level g ∷ behind level g.system g.tail) (views c (geodetic_runs level g) item geodetic_classes s)).1

@@ -1,6 +1,6 @@
 -- Identifiers and lists of them are made.
-use Rattle.std.proofs.Common.{◌≡◌, ℕ, ◌+◌, ◌≤◌, ◌<◌, true, false, IsTrue, Option, Some, None, List, [], ◌∷◌, ◌++◌, length, map, codes, IfSome, inl, inr, refl, sym, ap, subst, ◌∙◌, arith}
-use Rattle.crs_text.specs.Items.{Item, leaf, Items, End, More, arguments, skip}
+use Rattle.std.proofs.Common.{◌≡◌, ℕ, ◌+◌, ◌≤◌, true, IsTrue, Option, Some, None, List, [], ◌∷◌, ◌++◌, map, codes, IfSome, inl, inr, refl, sym, ap, subst, ◌∙◌, arith}
+use Rattle.crs_text.specs.Items.{Item, leaf, Items, End, More, skip}
 use Rattle.crs_text.specs.Refusal.{Refused}
 use Rattle.crs_text.specs.Tokens.{IsWord, Kind, number, text, word}
 use Rattle.crs_text.specs.Written.{at_place, at_places, item_text}
@@ -8,7 +8,7 @@ use Rattle.crs_shape.specs.declared.class.Class.{Class}
 use Rattle.crs_shape.specs.declared.class.Class.TheVariants as class
 use Rattle.crs_shape.specs.Keywords.{is_keyword}
 use Rattle.crs_shape.specs.Shape.{Allowed}
-use Rattle.crs_shape.specs.ShapeFault.{class_in, class_of_kind}
+use Rattle.crs_shape.specs.ShapeFault.{class_of_kind}
 use Rattle.crs_shape.specs.Slots.{class_named, one_of, optional_of, slots_of, takes}
 use Rattle.crs_value.specs.Checks.{Own as BreaksOwn}
 use Rattle.crs_value.specs.declared.level.Level.{Level}
@@ -19,14 +19,13 @@ use Rattle.crs_value.specs.Values.{IdentParts}
 use Rattle.crs_normal.specs.DecimalLaws.{DecimalLaws}
 use Rattle.crs_normal.specs.Made.{IsMade}
 use Rattle.crs_normal.specs.Normal.{IsWritten}
-use Rattle.crs_normal.specs.NormalOwn.{Ascend, IsCode, IsShort, Own, set_classes}
-use Rattle.crs_normal.specs.Ordered.{in_order}
-use Rattle.crs_normal.specs.SpelledItems.{code_item, node_of, opt, text_item, text_node}
+use Rattle.crs_normal.specs.NormalOwn.{Ascend, IsCode, Own, set_classes}
+use Rattle.crs_normal.specs.SpelledItems.{code_item, opt, text_item, text_node}
 use Rattle.crs_normal.specs.SpelledUnits.{item_ident, set_idents}
 use Rattle.crs_normal.proofs.MadeAscendLemmas.{in_order-each, set-ascends}
 use Rattle.crs_normal.proofs.MadeFitLemmas.{fills-one, fills-optional, runs-fit}
 use Rattle.crs_normal.proofs.MadeLeafLemmas.{IsCodeKind, code-kind, code-made, code_kind, text-made}
-use Rattle.crs_normal.proofs.MadeLemmas.{IsKept, Made, Run, RunsMade, Sees, alone, as-argument, given, items_in, line, lines, node-made, opt-line}
+use Rattle.crs_normal.proofs.MadeLemmas.{IsKept, Made, Run, alone, as-argument, given, items_in, line, lines, node-made, opt-line}
 
 -- ---- nodes of one text
 
@@ -142,17 +141,33 @@ ident-kept l level i k v h a b = record {
   written = refl;
   made = (
     (text-made level 1 class.Identifier i.authority h.authority, tt),
-    ((code-made l level 1 k i.code a, tt),
-    (given-made level 1 class.Identifier (class_of_kind v) (IsCodeKind v) (λ raw. leaf v 0 raw) i.version (version-given v i.version b)
-    (λ raw q. code-made l level 1 v raw q),
-    (given-made level 1 class.Identifier class.Citation IsText (text_node (codes "CITATION")) i.citation h.citation
-    (λ raw q. as-argument level 1 1 class.Identifier class.Citation (text_node (codes "CITATION") raw) (omega arith) refl (citation-made level raw q)),
-    (given-made level 1 class.Identifier class.Uri IsText (text_node (codes "URI")) i.uri h.uri
-    (λ raw q. as-argument level 1 1 class.Identifier class.Uri (text_node (codes "URI") raw) (omega arith) refl (uri-made level raw q)), tt)))),
+    (
+      (code-made l level 1 k i.code a, tt),
+      (
+        given-made level 1 class.Identifier (class_of_kind v) (IsCodeKind v) (λ raw. leaf v 0 raw) i.version (version-given v i.version b)
+            (λ raw q. code-made l level 1 v raw q),
+        (
+          given-made level 1 class.Identifier class.Citation IsText (text_node (codes "CITATION")) i.citation h.citation
+              (λ raw q. as-argument level 1 1 class.Identifier class.Citation (text_node (codes "CITATION") raw) (omega arith) refl (citation-made level raw q)),
+          (
+            given-made level 1 class.Identifier class.Uri IsText (text_node (codes "URI")) i.uri h.uri
+                (λ raw q. as-argument level 1 1 class.Identifier class.Uri (text_node (codes "URI") raw) (omega arith) refl (uri-made level raw q)),
+            tt,
+          ),
+        ),
+      ),
+    ),
   );
-  allowed = runs-fit (slots_of class.Identifier) (ident_runs i k v)
-      (fills-one refl, (fills-one (code-taken k i.code a), (fills-optional (λ raw. leaf v 0 raw) i.version (version-taken v i.version b),
-      (fills-optional (text_node (codes "CITATION")) i.citation refl, (fills-optional (text_node (codes "URI")) i.uri refl, tt)))));
+  allowed = runs-fit (slots_of class.Identifier) (ident_runs i k v) (
+    fills-one refl,
+    (
+      fills-one (code-taken k i.code a),
+      (
+        fills-optional (λ raw. leaf v 0 raw) i.version (version-taken v i.version b),
+        (fills-optional (text_node (codes "CITATION")) i.citation refl, (fills-optional (text_node (codes "URI")) i.uri refl, tt)),
+      ),
+    ),
+  );
   sets = no-sets i k v;
   own = λ item s. subst (λ js. Each IsCode (single_of (skip 1 js) ++ single_of (skip 2 js))) (sym s.are) (codes-are i k v s.start a b);
   unbroken = λ item fault s b. b;

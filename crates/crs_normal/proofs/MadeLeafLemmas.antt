@@ -1,14 +1,13 @@
 -- Single items that are made: texts, numbers, words and codes.
-use Rattle.std.proofs.Common.{◌≡◌, ℕ, ◌≤◌, ◌<◌, ◌&&◌, Bool, true, false, IsTrue, List, [], ◌∷◌, length, if◌then◌else◌, refl, sym, ap, ◌∙◌, arith}
+use Rattle.std.proofs.Common.{◌≡◌, ℕ, ◌≤◌, ◌<◌, ◌&&◌, Bool, true, false, IsTrue, List, [], ◌∷◌, length, if◌then◌else◌, refl, sym, ◌∙◌, arith}
 use Rattle.std.specs.Prelude.{nat_le}
 use Rattle.std.specs.List.{list_all}
 use Rattle.std.proofs.lemmas.Bool.{le-leb, leb-true}
 use Rattle.crs_decimal.specs.Bounds.{Denotes, IsInBounds}
 use Rattle.crs_decimal.specs.Plain.{IsPlain, plain}
-use Rattle.crs_decimal.specs.Spelling.{AreDigits, HasForm, IsRun, is_digit, is_run_byte, is_run_start}
+use Rattle.crs_decimal.specs.Spelling.{IsRun, is_digit}
 use Rattle.crs_decimal.specs.Value.{Value, IsNormal, exact}
-use Rattle.crs_text.specs.Items.{Item, leaf}
-use Rattle.crs_text.specs.Quoted.{BeginsWith}
+use Rattle.crs_text.specs.Items.{leaf}
 use Rattle.crs_text.specs.Tokens.{Kind, number, text, word, IsSingle, IsWord}
 use Rattle.crs_shape.specs.declared.class.Class.{Class}
 use Rattle.crs_shape.specs.declared.class.Class.TheVariants as class

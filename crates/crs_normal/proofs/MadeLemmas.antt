@@ -1,6 +1,6 @@
 -- A node of arguments that are accepted and normal is so itself: what it asks of its arguments is said of them as runs
 -- of one class each, with all places left out.
-use Rattle.std.proofs.Common.{◌≡◌, ℕ, suc, ◌+◌, ◌≤◌, max, ◌⊎◌, Bool, true, false, IsTrue, IsFalse, Option, Some, None, List, [], ◌∷◌, ◌++◌, map, length, if◌then◌else◌, inl, inr, refl, sym, ap, ap₂, subst, ◌∙◌, arith}
+use Rattle.std.proofs.Common.{◌≡◌, ℕ, suc, ◌+◌, ◌≤◌, ◌⊎◌, Bool, true, false, IsTrue, Option, Some, None, List, [], ◌∷◌, ◌++◌, map, length, if◌then◌else◌, inl, inr, refl, sym, ap, ap₂, subst, ◌∙◌, arith}
 use Rattle.std.specs.Cmp.Lexicographic.{slice_cmp}
 use Rattle.std.specs.Ordering.{nat_cmp}
 use Rattle.crs_text.specs.Items.{Item, leaf, node, Items, End, More, arguments, depth, depths}
@@ -13,14 +13,13 @@ use Rattle.crs_shape.specs.Shape.{Allowed}
 use Rattle.crs_shape.specs.ShapeFault.{class_in}
 use Rattle.crs_shape.specs.Shaped.{Shaped, AreShaped}
 use Rattle.crs_shape.specs.Slots.{is_class, slots_of}
-use Rattle.crs_value.specs.Break.{AnyOf}
 use Rattle.crs_value.specs.Checks.{AtClass, Breaks, BreaksAmong, Own as BreaksOwn}
 use Rattle.crs_value.specs.declared.level.Level.{Level}
 use Rattle.crs_value.specs.declared.level.Level.TheVariants as levels
 use Rattle.crs_value.specs.Reading.{is_same, those}
 use Rattle.crs_normal.specs.Made.{IsMade}
 use Rattle.crs_normal.specs.Normal.{AreNormalIn, AtLevel, IsNormalIn, IsWritten}
-use Rattle.crs_normal.specs.NormalOwn.{Ascend, Each, HasSets, IsBelow, Own, set_classes}
+use Rattle.crs_normal.specs.NormalOwn.{Ascend, Each, IsBelow, Own, set_classes}
 use Rattle.crs_normal.specs.SpelledItems.{each, node_of, opt}
 
 -- ---- places
@@ -227,9 +226,11 @@ module _ (level : Level) (most : ℕ) (c : Class) where
   all-normal s [] End h = tt
   all-normal s [] (More j js) h = absurd h
   all-normal s (d ∷ ds) End h = tt
-  all-normal s (d ∷ ds) (More j js) h =
-      (at-class (λ e. IsNormalIn level c e (at_place (s + 1) j)) (class_in c (at_place (s + 1) j)) d (class-at c (s + 1) j ∙ h.0.named)
-      (h.0.fine (s + 1)).normal, all-normal (s + 1 + length (item_text j)) ds js h.1)
+  all-normal s (d ∷ ds) (More j js) h = (
+    at-class (λ e. IsNormalIn level c e (at_place (s + 1) j)) (class_in c (at_place (s + 1) j)) d (class-at c (s + 1) j ∙ h.0.named)
+        (h.0.fine (s + 1)).normal,
+    all-normal (s + 1 + length (item_text j)) ds js h.1,
+  )
 
 -- ---- nodes
 
@@ -284,12 +285,34 @@ node-at level most c keyword first others runs (d ∷ ds) p same q h k =
       is_node = tt;
       formed = (k.letters, f.formed, all-formed level most c s ds others h.1);
       within = omega arith;
-      shaped = (k.known, (d, (ds, (n, (f.shaped, (all-shaped level most c s ds others h.1,
-          subst (Allowed (slots_of c)) (sym q) k.allowed))))));
+      shaped = (
+        k.known,
+        (
+          d,
+          (
+            ds,
+            (
+              n,
+              (
+                f.shaped,
+                (
+                  all-shaped level most c s ds others h.1,
+                  subst (Allowed (slots_of c)) (sym q) k.allowed,
+                ),
+              ),
+            ),
+          ),
+        ),
+      );
       unbroken = λ fault b. unbroken-node fault d (at_place (p + length keyword + 1) first) f.unbroken n (all-unbroken level most c fault s ds others h.1) (k.unbroken i fault look) b;
-      normal = λ parent. (k.written, at-level level c i, k.own i look, each-set c runs i set_classes look k.sets,
-          at-class (λ e. IsNormalIn level c e (at_place (p + length keyword + 1) first)) (class_in c (at_place (p + length keyword + 1) first)) d n f.normal,
-          all-normal level most c s ds others h.1);
+      normal = λ parent. (
+        k.written,
+        at-level level c i,
+        k.own i look,
+        each-set c runs i set_classes look k.sets,
+        at-class (λ e. IsNormalIn level c e (at_place (p + length keyword + 1) first)) (class_in c (at_place (p + length keyword + 1) first)) d n f.normal,
+        all-normal level most c s ds others h.1,
+      );
     }
   where
     unbroken-node : (fault : Refused) (d : Class) (j : Item) {O M : Type 0} → ((fault : Refused) → ¬ (Breaks d j fault)) → class_in c j ≡ Some d → ¬ M → ¬ O →

@@ -1,5 +1,5 @@
 -- Prime meridians are made.
-use Rattle.std.proofs.Common.{◌≡◌, ℕ, ◌+◌, ◌<◌, ◌≤◌, ◌++◌, Bool, true, false, IsTrue, Option, Some, None, List, [], ◌∷◌, map, codes, decimal, IfSome, if◌then◌else◌, refl, sym, ap, subst, ◌∙◌, arith}
+use Rattle.std.proofs.Common.{◌≡◌, ℕ, ◌<◌, ◌≤◌, ◌++◌, Bool, true, false, Option, Some, None, List, [], ◌∷◌, map, codes, IfSome, if◌then◌else◌, refl, sym, ap, subst, ◌∙◌, arith}
 use Rattle.std.specs.Prelude.{IsUtf8}
 use Rattle.std.proofs.lemmas.Fmt.{decimal_digit}
 use Rattle.crs_decimal.specs.Bounds.{Denotes}
@@ -16,7 +16,7 @@ use Rattle.crs_value.specs.declared.level.Level.{Level}
 use Rattle.crs_value.specs.declared.level.Level.TheVariants as levels
 use Rattle.crs_value.specs.declared.unit_kind.UnitKind.TheVariants as kinds
 use Rattle.crs_value.specs.Reading.{those}
-use Rattle.crs_value.specs.Sound.{Each, IsIdent, IsText, IsUnitOf}
+use Rattle.crs_value.specs.Sound.{Each, IsIdent, IsText}
 use Rattle.crs_value.specs.SoundFrames.{IsMeridian}
 use Rattle.crs_value.specs.Values.{IdentParts, MeridianParts, UnitParts}
 use Rattle.crs_normal.specs.DecimalLaws.{DecimalLaws}
@@ -29,7 +29,7 @@ use Rattle.crs_normal.proofs.MadeEllipsoidLemmas.{given-unit, placed-none}
 use Rattle.crs_normal.proofs.MadeFitLemmas.{fills-any, fills-one, fills-optional, runs-fit}
 use Rattle.crs_normal.proofs.MadeIdentLemmas.{ids-ascend, ids-made, ids_run}
 use Rattle.crs_normal.proofs.MadeLeafLemmas.{number-made, text-made}
-use Rattle.crs_normal.proofs.MadeLemmas.{ArePlaced, IsKept, Made, Run, Sees, alone, as-argument, each-line, given, node-made, opt-line}
+use Rattle.crs_normal.proofs.MadeLemmas.{ArePlaced, Made, Run, Sees, alone, as-argument, each-line, given, node-made, opt-line}
 
 -- ---- the longitude 0
 

@@ -1,5 +1,5 @@
 -- Nodes of a name and identifiers are made: members, methods and geoid models.
-use Rattle.std.proofs.Common.{◌≡◌, ℕ, true, IsTrue, Option, Some, None, List, [], ◌∷◌, codes, refl, sym, subst, arith}
+use Rattle.std.proofs.Common.{◌≡◌, ℕ, IsTrue, Some, List, [], ◌∷◌, codes, refl, sym, subst, arith}
 use Rattle.crs_text.specs.Items.{Item, End}
 use Rattle.crs_text.specs.Refusal.{Refused}
 use Rattle.crs_text.specs.Tokens.{IsWord}
@@ -27,7 +27,7 @@ use Rattle.crs_normal.specs.SpelledUnits.{item_ident, set_idents}
 use Rattle.crs_normal.proofs.MadeFitLemmas.{fills-any, fills-one, runs-fit}
 use Rattle.crs_normal.proofs.MadeIdentLemmas.{ids-ascend, ids-made, ids_run}
 use Rattle.crs_normal.proofs.MadeLeafLemmas.{text-made}
-use Rattle.crs_normal.proofs.MadeLemmas.{IsKept, Run, Sees, alone, classes, each-line, node-made}
+use Rattle.crs_normal.proofs.MadeLemmas.{Run, alone, classes, each-line, node-made}
 
 -- what a class of such nodes is, and its keyword
 record IsNamed (c : Class) (keyword : List ℕ) : Type 0 where

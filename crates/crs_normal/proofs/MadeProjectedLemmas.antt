@@ -1,9 +1,8 @@
 -- Base CRSs and projected CRSs are made.
-use Rattle.std.proofs.Common.{◌≡◌, ◌⊎◌, ℕ, ◌+◌, ◌≤◌, ◌++◌, true, Option, Some, None, List, [], ◌∷◌, length, map, codes, inl, inr, refl, sym, ap, subst, ◌∙◌, arith}
+use Rattle.std.proofs.Common.{ℕ, ◌≤◌, None, List, [], ◌∷◌, codes, inl, inr, refl, arith}
 use Rattle.crs_text.specs.Items.{Item, Items, End, More, arguments}
 use Rattle.crs_text.specs.Refusal.{Refused}
 use Rattle.crs_text.specs.Written.{at_place}
-use Rattle.crs_shape.specs.declared.class.Class.{Class}
 use Rattle.crs_shape.specs.declared.class.Class.TheVariants as class
 use Rattle.crs_shape.specs.Keywords.{is_keyword}
 use Rattle.crs_shape.specs.Shape.{Allowed}
@@ -36,7 +35,7 @@ use Rattle.crs_normal.proofs.MadeFitLemmas.{fills-any, fills-one, fills-optional
 use Rattle.crs_normal.proofs.MadeGeodeticLemmas.{end_classes, frame-argument, frame-sets, frame-shows, frame-taken, geodetic_classes, meridian-there}
 use Rattle.crs_normal.proofs.MadeIdentLemmas.{ids-ascend, ids-made, ids_run}
 use Rattle.crs_normal.proofs.MadeLeafLemmas.{text-made}
-use Rattle.crs_normal.proofs.MadeLemmas.{IsKept, Made, Run, RunsMade, Sees, alone, as-argument, classes, each-line, given, node-made, opt-line, sees, views}
+use Rattle.crs_normal.proofs.MadeLemmas.{IsKept, Run, RunsMade, alone, as-argument, classes, each-line, given, node-made, opt-line, sees, views}
 use Rattle.crs_normal.proofs.MadeMeridianLemmas.{meridian-argument}
 use Rattle.crs_normal.proofs.MadeTailLemmas.{IsTailSeen, RunsRise, has-tail, no-repeats, tail-fits, tail_runs, usages-ascend}
 
@@ -64,14 +63,27 @@ base-made l level b h =
       written = refl;
       made = (
         (text-made level 5 class.BaseCrs b.name h.name, tt),
-        ((frame-argument l level 5 class.BaseCrs b.frame (omega arith) (record { datum = refl; ensemble = refl }) h.frame, tt),
-        (meridian-argument l level 5 class.BaseCrs b.meridian (omega arith) refl h.meridian,
-        (given-unit l level 5 class.BaseCrs class.AngleUnit kinds.Angle b.unit (omega arith) refl refl h.unit,
-        (ids-made l level 5 class.BaseCrs b.ids (omega arith) refl h.ids, tt)))),
+        (
+          (frame-argument l level 5 class.BaseCrs b.frame (omega arith) (record { datum = refl; ensemble = refl }) h.frame, tt),
+          (
+            meridian-argument l level 5 class.BaseCrs b.meridian (omega arith) refl h.meridian,
+            (
+              given-unit l level 5 class.BaseCrs class.AngleUnit kinds.Angle b.unit (omega arith) refl refl h.unit,
+              (ids-made l level 5 class.BaseCrs b.ids (omega arith) refl h.ids, tt),
+            ),
+          ),
+        ),
       );
-      allowed = runs-fit (slots_of class.BaseCrs) (base_runs level b)
-          (fills-one refl, (fills-one (frame-taken b.frame), (fills-optional item_meridian (norm_meridian level b.meridian) refl,
-          (fills-optional item_unit (norm_units level kinds.Angle b.unit) refl, (fills-any refl, tt)))));
+      allowed = runs-fit (slots_of class.BaseCrs) (base_runs level b) (
+        fills-one refl,
+        (
+          fills-one (frame-taken b.frame),
+          (
+            fills-optional item_meridian (norm_meridian level b.meridian) refl,
+            (fills-optional item_unit (norm_units level kinds.Angle b.unit) refl, (fills-any refl, tt)),
+          ),
+        ),
+      );
       sets = frame-sets b.frame (text_item b.name) (item_frame (codes "DATUM") (norm_frame level b.frame)) (base_rest level b)
           (ids-ascend level b.ids, (tt, (tt, (tt, (tt, tt)))));
       own = λ item s.
@@ -104,9 +116,19 @@ projected-allowed l level g few =
     (alone class.Text (text_item g.name) ∷ alone class.BaseCrs (item_base (norm_base level g.base)) ∷
     alone class.Conversion (item_conversion (norm_conversion level g.conversion)) ∷
     alone class.CoordinateSystem (item_head (norm_system level g.system)) ∷ axes_run level g.system ∷ no_unit_run ∷ [])
-    (tail_runs level g.tail)
-    (fills-one refl, (fills-one refl, (fills-one refl, (fills-one refl,
-    (fills-some refl (axes-some l level g.system few), (fills-optional item_unit None refl, tt))))))
+    (tail_runs level g.tail) (
+      fills-one refl,
+      (
+        fills-one refl,
+        (
+          fills-one refl,
+          (
+            fills-one refl,
+            (fills-some refl (axes-some l level g.system few), (fills-optional item_unit None refl, tt)),
+          ),
+        ),
+      ),
+    )
     (last-fits end_classes (classes (tail_runs level g.tail)) (tail-fits end_classes level g.tail refl refl refl))
 
 projected-runs-made : DecimalLaws → (level : Level) (g : ProjectedParts) → IsFew g.system → IsProjected g →
@@ -114,11 +136,18 @@ projected-runs-made : DecimalLaws → (level : Level) (g : ProjectedParts) → I
 unfolding class_named is_keyword
 projected-runs-made l level g few h = (
   (text-made level 6 class.ProjectedCrs g.name h.name, tt),
-  ((as-argument level 6 6 class.ProjectedCrs class.BaseCrs (item_base (norm_base level g.base)) (omega arith) refl (base-made l level g.base h.base), tt),
-  ((as-argument level 5 6 class.ProjectedCrs class.Conversion (item_conversion (norm_conversion level g.conversion)) (omega arith) refl
-  (conversion-made l level g.conversion h.conversion), tt),
-  behind-made l level 6 class.ProjectedCrs g.system g.tail (omega arith) (record { head = refl; axis = refl })
-  (record { usage = refl; ident = refl; remark = refl }) few h.tail)),
+  (
+    (as-argument level 6 6 class.ProjectedCrs class.BaseCrs (item_base (norm_base level g.base)) (omega arith) refl (base-made l level g.base h.base), tt),
+    (
+      (
+        as-argument level 5 6 class.ProjectedCrs class.Conversion (item_conversion (norm_conversion level g.conversion)) (omega arith) refl
+            (conversion-made l level g.conversion h.conversion),
+        tt,
+      ),
+      behind-made l level 6 class.ProjectedCrs g.system g.tail (omega arith) (record { head = refl; axis = refl })
+          (record { usage = refl; ident = refl; remark = refl }) few h.tail,
+    ),
+  ),
 )
 
 projected-rise : (level : Level) (g : ProjectedParts) → RunsRise 0 (projected_runs level g)
@@ -149,7 +178,7 @@ projected-kept l level g few h = record {
       let v = views class.ProjectedCrs (projected_runs level g) item crs_classes s in (
         has-axes class.ProjectedCrs item g.system.system_type g.system.dimension (system-seen l level class.ProjectedCrs item g.system g.tail few v),
         has-tail level 6 class.ProjectedCrs (projected_runs level g) item s (projected-runs-made l level g few h) (projected-rise level g)
-        (tail-seen level class.ProjectedCrs item g.tail v.1.1.1),
+            (tail-seen level class.ProjectedCrs item g.tail v.1.1.1),
       );
   unbroken = λ item fault s b.
       let v = views class.ProjectedCrs (projected_runs level g) item crs_classes s in

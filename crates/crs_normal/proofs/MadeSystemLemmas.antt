@@ -1,14 +1,13 @@
 -- The axes of a system at their positions, and its node `CS`, are made.
-use Rattle.std.proofs.Common.{◌≡◌, ◌≢◌, ◌⊎◌, ℕ, zero, suc, ◌+◌, ◌*◌, ◌^◌, ◌<◌, ◌≤◌, ◌==◌, ◌++◌, Bool, true, false, IsTrue, Option, Some, None, List, [], ◌∷◌, length, map, codes, decimal, IfSome, if◌then◌else◌, inl, inr, refl, sym, ap, subst, ◌∙◌, arith}
+use Rattle.std.proofs.Common.{◌≡◌, ℕ, zero, suc, ◌+◌, ◌*◌, ◌≤◌, Bool, true, false, Option, Some, None, List, [], ◌∷◌, length, map, codes, decimal, IfSome, if◌then◌else◌, inl, inr, refl, sym, ap, subst, ◌∙◌, arith}
 use Rattle.std.specs.Prelude.{IsSomeAnd, ⊤}
-use Rattle.std.specs.Str.{bytes_eq}
 use Rattle.std.proofs.lemmas.Bool.Decides.{Decides-eqb}
 use Rattle.std.proofs.lemmas.List.{append-nil}
 use Rattle.std.proofs.lemmas.Slice.Eq.{bytes_eq-Decides}
 use Rattle.crs_decimal.specs.Number.{SameNumber, whole_number}
 use Rattle.crs_decimal.specs.Plain.{plain}
 use Rattle.crs_decimal.specs.Value.{Value, IsNormal, exact}
-use Rattle.crs_text.specs.Items.{Item, Items, End, More, arguments}
+use Rattle.crs_text.specs.Items.{Item, End, More, arguments}
 use Rattle.crs_text.specs.Refusal.{Refused}
 use Rattle.crs_text.specs.Written.{at_place}
 use Rattle.crs_shape.specs.declared.class.Class.{Class}
@@ -25,7 +24,7 @@ use Rattle.crs_value.specs.declared.system_type.SystemType.{SystemType}
 use Rattle.crs_value.specs.declared.unit_kind.UnitKind.{UnitKind}
 use Rattle.crs_value.specs.Reading.{those}
 use Rattle.crs_value.specs.Reads.{ReadsType}
-use Rattle.crs_value.specs.Sound.{Each, IsAxis, IsAxisUnit, IsIdent, Suits}
+use Rattle.crs_value.specs.Sound.{Each, IsAxis, IsAxisUnit, Suits}
 use Rattle.crs_value.specs.SoundSystem.{HasUnits, IsSystem, SuitsAxis}
 use Rattle.crs_value.specs.Values.{AxisParts, SystemParts, UnitParts}
 use Rattle.crs_value.specs.Words.{system_word}
@@ -39,7 +38,7 @@ use Rattle.crs_normal.proofs.MadeAxisLemmas.{Fits, IsAxisItem, axis-made, axis-s
 use Rattle.crs_normal.proofs.MadeFitLemmas.{fills-any, fills-one, runs-fit}
 use Rattle.crs_normal.proofs.MadeIdentLemmas.{ids-ascend, ids-made, ids_run}
 use Rattle.crs_normal.proofs.MadeLeafLemmas.{number-made, word-made}
-use Rattle.crs_normal.proofs.MadeLemmas.{ArePlaced, IsKept, Made, Run, RunsMade, Sees, alone, as-argument, each-line, lines, node-made, sees}
+use Rattle.crs_normal.proofs.MadeLemmas.{ArePlaced, Made, Run, RunsMade, alone, as-argument, each-line, node-made, sees}
 use Rattle.crs_normal.proofs.MadeWordLemmas.{system-letters}
 
 -- ---- each axis has a unit that fits
@@ -152,8 +151,8 @@ axes-made l level s most parent k (a ∷ rest) deep named h low high =
     let high_next : (k + 1) + length rest ≤ 4 = omega arith in
     let small : k ≤ 3 = omega arith in (
       subst (λ b. Made level most parent class.Axis (item_axis b)) (sym h.0.1.1)
-      (as-argument level 5 most parent class.Axis (item_axis (norm_axis level s k h.0.0)) deep named
-      (axis-made l level s k h.0.0 h.0.1.0 low small)),
+          (as-argument level 5 most parent class.Axis (item_axis (norm_axis level s k h.0.0)) deep named
+          (axis-made l level s k h.0.0 h.0.1.0 low small)),
       axes-made l level s most parent (k + 1) rest deep named h.1 low_next high_next,
     )
 
@@ -172,7 +171,7 @@ axes-seen l level s k (item ∷ items) (a ∷ rest) p h low high =
     let high_next : (k + 1) + length rest ≤ 4 = omega arith in
     let small : k ≤ 3 = omega arith in (
       subst (IsAxisItem s.system_type k) (sym (p.0.1 ∙ ap (λ b. at_place p.0.0 (item_axis b)) h.0.1.1))
-      (axis-seen l level s k h.0.0 h.0.1.0 low small p.0.0),
+          (axis-seen l level s k h.0.0 h.0.1.0 low small p.0.0),
       axes-seen l level s (k + 1) items rest p.1 h.1 low_next high_next,
     )
 
@@ -219,7 +218,7 @@ pub head-seen : DecimalLaws → (level : Level) (s : SystemParts) → IsSystem s
     IsHeadItem s.system_type s.dimension (at_place p (item_head (norm_system level s)))
 head-seen l level s h p =
     let look = sees level 2 class.CoordinateSystem (codes "CS") (word_item (system_word s.system_type))
-        (More (number_item s.dimension) (each item_ident (set_idents level s.ids) End)) (head_runs level s) p (simp each-line) (head-runs-made l level s h) in
+    (More (number_item s.dimension) (each item_ident (set_idents level s.ids) End)) (head_runs level s) p (simp each-line) (head-runs-made l level s h) in
     record { words = look.view class.Word; numbers = look.view class.Number }
 
 -- ---- the number of axes
@@ -229,7 +228,7 @@ pub few-axes : DecimalLaws → (v : Value) (n : ℕ) (ns : List ℕ) → Each (�
 few-axes l v n [] few h s = absurd h
 few-axes l v n (m ∷ ns) few (inl h) s =
     let t : SameNumber (whole_number n) (whole_number m) =
-        l.transitive (whole_number n) (exact v) (whole_number m) (l.symmetric (exact v) (whole_number n) s) h in
+    l.transitive (whole_number n) (exact v) (whole_number m) (l.symmetric (exact v) (whole_number n) s) h in
     let e : n * 1 ≡ m * 1 = t.0 in
     let k : m ≤ 3 = few.0 in
     omega arith

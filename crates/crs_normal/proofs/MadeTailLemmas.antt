@@ -1,12 +1,12 @@
 -- The ends of CRSs are made.
-use Rattle.std.proofs.Common.{◌≡◌, ◌≢◌, ◌⊎◌, ℕ, ◌+◌, ◌≤◌, ◌++◌, Bool, true, false, IsTrue, Option, Some, None, List, [], ◌∷◌, length, map, drop, codes, IfSome, IsSome, if◌then◌else◌, inl, inr, refl, sym, ap, subst, ◌∙◌, arith}
+use Rattle.std.proofs.Common.{◌≡◌, ◌⊎◌, ℕ, ◌+◌, ◌≤◌, ◌++◌, Bool, true, false, Option, Some, None, List, [], ◌∷◌, length, map, drop, codes, IfSome, IsSome, if◌then◌else◌, inl, inr, refl, sym, subst, ◌∙◌, arith}
 use Rattle.crs_text.specs.Items.{Item, Items, End, More, arguments}
 use Rattle.crs_text.specs.Refusal.{Refused}
 use Rattle.crs_text.specs.Written.{at_place, at_places, item_text}
 use Rattle.crs_shape.specs.declared.class.Class.{Class}
 use Rattle.crs_shape.specs.declared.class.Class.TheVariants as class
 use Rattle.crs_shape.specs.Keywords.{is_keyword}
-use Rattle.crs_shape.specs.Shape.{AllTaken, Allowed}
+use Rattle.crs_shape.specs.Shape.{AllTaken}
 use Rattle.crs_shape.specs.ShapeFault.{class_in}
 use Rattle.crs_shape.specs.Slots.{any_of, class_named, slots_of, takes}
 use Rattle.crs_value.specs.Break.{AnyOf}
@@ -18,15 +18,14 @@ use Rattle.crs_value.specs.Repeated.{IsRepeated, RepeatsAny}
 use Rattle.crs_value.specs.Sound.{Each, IsText}
 use Rattle.crs_value.specs.SoundUsages.{IsTail, IsUsage, SaysSome}
 use Rattle.crs_value.specs.Values.{BoxParts, ExtentParts, TailParts, UsageParts}
-use Rattle.crs_same.specs.SameUsages.{is_there, says_some, usages_of}
+use Rattle.crs_same.specs.SameUsages.{says_some, usages_of}
 use Rattle.crs_normal.specs.DecimalLaws.{DecimalLaws}
 use Rattle.crs_normal.specs.Made.{IsMade}
-use Rattle.crs_normal.specs.NormalOwn.{Ascend, HasTail, Lacks, Rise, bare_classes, rank}
+use Rattle.crs_normal.specs.NormalOwn.{Ascend, HasTail, Rise, rank}
 use Rattle.crs_normal.specs.SpelledItems.{text_item, text_node}
 use Rattle.crs_normal.specs.SpelledUsages.{item_usage, norm_remark, norm_tail, norm_usage, set_usages, tail_items}
 use Rattle.crs_normal.proofs.MadeAscendLemmas.{set-ascends, set-each}
-use Rattle.crs_normal.proofs.MadeEllipsoidLemmas.{placed-none}
-use Rattle.crs_normal.proofs.MadeFitLemmas.{fills-one, last-fits, runs-fit, taken-more}
+use Rattle.crs_normal.proofs.MadeFitLemmas.{fills-one, runs-fit, taken-more}
 use Rattle.crs_normal.proofs.MadeFrameLemmas.{not-repeated}
 use Rattle.crs_normal.proofs.MadeIdentLemmas.{given-made, ids-made, ids_run, text-node-made}
 use Rattle.crs_normal.proofs.MadeLemmas.{ArePlaced, Made, Run, RunsMade, Sees, alone, as-argument, at-class, class-at, classes, each-line, given, line, lines, opt-line}
@@ -103,9 +102,14 @@ tail-runs-made l level most c t deep n h =
     let two : 2 ≤ most = omega arith in
     let one : 1 ≤ most = omega arith in (
       usages-made l level most c (usages_of t) deep n.usage (usages-said t h),
-      (ids-made l level most c t.ids two n.ident h.ids,
-      (given-made level most c class.Remark IsText (text_node (codes "REMARK")) (norm_remark level t.remark) (remark-text level t.remark h.remark)
-      (λ raw q. as-argument level 1 most c class.Remark (text_node (codes "REMARK") raw) one n.remark (remark-made level raw q)), tt)),
+      (
+        ids-made l level most c t.ids two n.ident h.ids,
+        (
+          given-made level most c class.Remark IsText (text_node (codes "REMARK")) (norm_remark level t.remark) (remark-text level t.remark h.remark)
+              (λ raw q. as-argument level 1 most c class.Remark (text_node (codes "REMARK") raw) one n.remark (remark-made level raw q)),
+          tt,
+        ),
+      ),
     )
 
 pub tail-fits : (cs : List Class) (level : Level) (t : TailParts) → takes (any_of cs) class.Usage ≡ true → takes (any_of cs) class.Identifier ≡ true →

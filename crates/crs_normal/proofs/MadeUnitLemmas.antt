@@ -1,8 +1,8 @@
 -- Units are made.
-use Rattle.std.proofs.Common.{◌≡◌, ℕ, ◌≤◌, true, IsTrue, Option, Some, None, List, [], ◌∷◌, map, codes, IfSome, inl, inr, refl, sym, ap, subst, ◌∙◌, arith}
+use Rattle.std.proofs.Common.{◌≡◌, ℕ, true, Some, List, [], ◌∷◌, codes, inl, inr, refl, sym, ap, subst, arith}
 use Rattle.crs_decimal.specs.Plain.{plain}
 use Rattle.crs_decimal.specs.Value.{Value, IsNormal}
-use Rattle.crs_text.specs.Items.{Item, End, More, arguments, raw_of}
+use Rattle.crs_text.specs.Items.{Item, End, More, arguments}
 use Rattle.crs_text.specs.Refusal.{Refused}
 use Rattle.crs_text.specs.Tokens.{IsWord}
 use Rattle.crs_text.specs.Written.{at_place}
@@ -20,7 +20,7 @@ use Rattle.crs_value.specs.declared.unit_kind.UnitKind.TheVariants as kinds
 use Rattle.crs_value.specs.Reading.{those}
 use Rattle.crs_value.specs.Reads.{ReadsNumber}
 use Rattle.crs_value.specs.Sound.{IsUnit}
-use Rattle.crs_value.specs.Values.{IdentParts, UnitParts}
+use Rattle.crs_value.specs.Values.{UnitParts}
 use Rattle.crs_value.specs.Words.{unit_word}
 use Rattle.crs_normal.specs.DecimalLaws.{DecimalLaws}
 use Rattle.crs_normal.specs.Made.{IsKindIn, IsMade}
@@ -31,7 +31,7 @@ use Rattle.crs_normal.specs.SpelledUnits.{item_ident, item_unit, set_idents}
 use Rattle.crs_normal.proofs.MadeFitLemmas.{fills-any, fills-one, runs-fit}
 use Rattle.crs_normal.proofs.MadeIdentLemmas.{ids-ascend, ids-made, ids_run}
 use Rattle.crs_normal.proofs.MadeLeafLemmas.{number-made, text-made}
-use Rattle.crs_normal.proofs.MadeLemmas.{ArePlaced, IsKept, Run, Sees, alone, classes, each-line, lines, node-made}
+use Rattle.crs_normal.proofs.MadeLemmas.{ArePlaced, IsKept, Run, alone, classes, each-line, node-made}
 
 -- ---- numbers
 
@@ -125,8 +125,10 @@ unit-kept l level c kind u k h = record {
   written = unit-written c kind k;
   made = (
     (text-made level 2 c u.name h.name, tt),
-    ((number-made l level 2 c u.factor h.factor, tt),
-    (ids-made l level 2 c u.ids (omega arith) (unit-names-id c kind k) h.ids, tt)),
+    (
+      (number-made l level 2 c u.factor h.factor, tt),
+      (ids-made l level 2 c u.ids (omega arith) (unit-names-id c kind k) h.ids, tt),
+    ),
   );
   allowed = subst (λ slots. Allowed slots (classes (unit_runs level u))) (sym (unit-slots c kind k))
       (runs-fit unit_slots (unit_runs level u) (fills-one refl, (fills-one refl, (fills-any refl, tt))));

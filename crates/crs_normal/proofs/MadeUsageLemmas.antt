@@ -1,7 +1,7 @@
 -- Boxes, extents and usages are made.
-use Rattle.std.proofs.Common.{◌≡◌, ◌≢◌, ◌⊎◌, ℕ, suc, ◌≤◌, true, IsTrue, Option, Some, None, List, [], ◌∷◌, map, codes, IfSome, IsSome, inl, inr, refl, sym, ap, subst, ◌∙◌, arith}
+use Rattle.std.proofs.Common.{◌≡◌, ◌≢◌, ◌⊎◌, ℕ, suc, Option, Some, None, List, [], ◌∷◌, codes, IfSome, IsSome, inl, inr, refl, arith}
 use Rattle.std.specs.Option.{option_map}
-use Rattle.crs_text.specs.Items.{Item, Items, End, More, arguments}
+use Rattle.crs_text.specs.Items.{Items, End, More, arguments}
 use Rattle.crs_text.specs.Written.{at_place}
 use Rattle.crs_shape.specs.declared.class.Class.{Class}
 use Rattle.crs_shape.specs.declared.class.Class.TheVariants as class
@@ -23,8 +23,8 @@ use Rattle.crs_normal.specs.SpelledUsages.{item_box, item_extent, item_usage, no
 use Rattle.crs_normal.proofs.MadeEllipsoidLemmas.{length-argument, placed-some}
 use Rattle.crs_normal.proofs.MadeFitLemmas.{fills-one, fills-optional, runs-fit}
 use Rattle.crs_normal.proofs.MadeIdentLemmas.{given-made, text-node-made}
-use Rattle.crs_normal.proofs.MadeLeafLemmas.{number-made, text-made}
-use Rattle.crs_normal.proofs.MadeLemmas.{IsKept, Made, Run, Sees, alone, as-argument, given, lines, node-made, opt-line}
+use Rattle.crs_normal.proofs.MadeLeafLemmas.{number-made}
+use Rattle.crs_normal.proofs.MadeLemmas.{IsKept, Made, Run, alone, as-argument, given, lines, node-made, opt-line}
 
 scope-made : (level : Level) (raw : List ℕ) → IsText raw → (p : ℕ) → IsMade level class.Scope 1 (at_place p (text_node (codes "SCOPE") raw))
 unfolding is_keyword BreaksOwn
@@ -56,9 +56,13 @@ box-made l level b h =
       written = refl;
       made = (
         (number-made l level 0 class.BoundingBox b.south h.south, tt),
-        ((number-made l level 0 class.BoundingBox b.west h.west, tt),
-        ((number-made l level 0 class.BoundingBox b.north h.north, tt),
-        ((number-made l level 0 class.BoundingBox b.east h.east, tt), tt))),
+        (
+          (number-made l level 0 class.BoundingBox b.west h.west, tt),
+          (
+            (number-made l level 0 class.BoundingBox b.north h.north, tt),
+            ((number-made l level 0 class.BoundingBox b.east h.east, tt), tt),
+          ),
+        ),
       );
       allowed = runs-fit (slots_of class.BoundingBox) (box_runs b) (fills-one refl, (fills-one refl, (fills-one refl, (fills-one refl, tt))));
       sets = (tt, (tt, (tt, (tt, (tt, tt)))));
@@ -85,8 +89,10 @@ extent-made l level e h =
       written = refl;
       made = (
         (number-made l level 3 class.VerticalExtent e.minimum h.minimum, tt),
-        ((number-made l level 3 class.VerticalExtent e.maximum h.maximum, tt),
-        ((length-argument l level 3 class.VerticalExtent e.unit (omega arith) refl h.unit, tt), tt)),
+        (
+          (number-made l level 3 class.VerticalExtent e.maximum h.maximum, tt),
+          ((length-argument l level 3 class.VerticalExtent e.unit (omega arith) refl h.unit, tt), tt),
+        ),
       );
       allowed = runs-fit (slots_of class.VerticalExtent) (extent_runs level e)
           (fills-one refl, (fills-one refl, (fills-optional item_unit (Some (norm_length level e.unit)) refl, tt)));
@@ -144,16 +150,24 @@ usage-made l levels.Full u h some =
       written = refl;
       made = (
         given-made levels.Full 4 class.Usage class.Scope IsText (text_node (codes "SCOPE")) u.scope h.scope
-        (λ raw q. as-argument levels.Full 1 4 class.Usage class.Scope (text_node (codes "SCOPE") raw) (omega arith) refl (scope-made levels.Full raw q)),
-        (given-made levels.Full 4 class.Usage class.Area IsText (text_node (codes "AREA")) u.area h.area
-        (λ raw q. as-argument levels.Full 1 4 class.Usage class.Area (text_node (codes "AREA") raw) (omega arith) refl (area-made levels.Full raw q)),
-        (given-made levels.Full 4 class.Usage class.BoundingBox IsBox item_box u.bbox h.bbox
-        (λ b q. as-argument levels.Full 1 4 class.Usage class.BoundingBox (item_box b) (omega arith) refl (box-made l levels.Full b q)),
-        (extents-made l levels.Full u.extent h.extent, tt))),
+            (λ raw q. as-argument levels.Full 1 4 class.Usage class.Scope (text_node (codes "SCOPE") raw) (omega arith) refl (scope-made levels.Full raw q)),
+        (
+          given-made levels.Full 4 class.Usage class.Area IsText (text_node (codes "AREA")) u.area h.area
+              (λ raw q. as-argument levels.Full 1 4 class.Usage class.Area (text_node (codes "AREA") raw) (omega arith) refl (area-made levels.Full raw q)),
+          (
+            given-made levels.Full 4 class.Usage class.BoundingBox IsBox item_box u.bbox h.bbox
+                (λ b q. as-argument levels.Full 1 4 class.Usage class.BoundingBox (item_box b) (omega arith) refl (box-made l levels.Full b q)),
+            (extents-made l levels.Full u.extent h.extent, tt),
+          ),
+        ),
       );
-      allowed = runs-fit (slots_of class.Usage) (usage_runs (norm_usage u))
-          (fills-optional (text_node (codes "SCOPE")) u.scope refl, (fills-optional (text_node (codes "AREA")) u.area refl,
-          (fills-optional item_box u.bbox refl, (fills-optional item_extent (option_map (norm_extent levels.Full) u.extent) refl, tt))));
+      allowed = runs-fit (slots_of class.Usage) (usage_runs (norm_usage u)) (
+        fills-optional (text_node (codes "SCOPE")) u.scope refl,
+        (
+          fills-optional (text_node (codes "AREA")) u.area refl,
+          (fills-optional item_box u.bbox refl, (fills-optional item_extent (option_map (norm_extent levels.Full) u.extent) refl, tt)),
+        ),
+      );
       sets = (tt, (tt, (tt, (tt, (tt, tt)))));
       own = λ item s. tt;
       unbroken = λ item fault s k. k;

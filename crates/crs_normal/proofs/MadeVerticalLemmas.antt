@@ -1,6 +1,6 @@
 -- Vertical CRSs are made.
-use Rattle.std.proofs.Common.{◌≡◌, ◌⊎◌, ℕ, ◌+◌, ◌≤◌, ◌++◌, true, Option, Some, None, List, [], ◌∷◌, length, map, codes, inl, inr, refl, sym, ap, subst, ◌∙◌, arith}
-use Rattle.crs_text.specs.Items.{Item, Items, More, arguments}
+use Rattle.std.proofs.Common.{◌≡◌, ℕ, ◌≤◌, ◌++◌, true, Some, None, List, [], ◌∷◌, map, codes, inl, inr, refl, arith}
+use Rattle.crs_text.specs.Items.{Item, More, arguments}
 use Rattle.crs_text.specs.Refusal.{Refused}
 use Rattle.crs_text.specs.Written.{at_place}
 use Rattle.crs_shape.specs.declared.class.Class.{Class}
@@ -21,7 +21,7 @@ use Rattle.crs_value.specs.declared.system_type.SystemType.TheVariants as types
 use Rattle.crs_value.specs.Reading.{those}
 use Rattle.crs_value.specs.Sound.{Each}
 use Rattle.crs_value.specs.SoundConversion.{IsGeoidModel}
-use Rattle.crs_value.specs.SoundSingle.{IsVertical, IsVerticalFrame}
+use Rattle.crs_value.specs.SoundSingle.{IsVertical}
 use Rattle.crs_same.specs.SameUsages.{usages_of}
 use Rattle.crs_normal.specs.DecimalLaws.{DecimalLaws}
 use Rattle.crs_normal.specs.Made.{IsMade, vertical_class}
@@ -29,7 +29,7 @@ use Rattle.crs_normal.specs.NormalOwn.{Ascend, rank, set_classes}
 use Rattle.crs_normal.specs.SpelledConversions.{item_geoid_model, norm_geoid_model, set_geoid_models}
 use Rattle.crs_normal.specs.SpelledCrs.{item_vertical, norm_vertical}
 use Rattle.crs_normal.specs.SpelledFrames.{item_frame, norm_frame}
-use Rattle.crs_normal.specs.SpelledItems.{each, opt, text_item}
+use Rattle.crs_normal.specs.SpelledItems.{each, text_item}
 use Rattle.crs_normal.specs.SpelledSystems.{item_head, norm_system, system_items}
 use Rattle.crs_normal.specs.SpelledUnits.{item_unit}
 use Rattle.crs_normal.specs.SpelledUsages.{norm_tail, tail_items}
@@ -114,9 +114,16 @@ vertical-allowed l level g few =
     optional class.AxisUnit ∷ []) (vertical_tail ∷ [])
     (alone class.Text (text_item g.name) ∷ alone (vertical_class g.frame) (item_frame (codes "VDATUM") (norm_frame level g.frame)) ∷
     alone class.CoordinateSystem (item_head (norm_system level g.system)) ∷ axes_run level g.system ∷ no_unit_run ∷ [])
-    (models_run level g ∷ tail_runs level g.tail)
-    (fills-one refl, (fills-one (vertical-taken g.frame), (fills-one refl,
-    (fills-some refl (axes-some l level g.system few), (fills-optional item_unit None refl, tt)))))
+    (models_run level g ∷ tail_runs level g.tail) (
+      fills-one refl,
+      (
+        fills-one (vertical-taken g.frame),
+        (
+          fills-one refl,
+          (fills-some refl (axes-some l level g.system few), (fills-optional item_unit None refl, tt)),
+        ),
+      ),
+    )
     (last-fits model_classes (classes (models_run level g ∷ tail_runs level g.tail))
     (taken-more (any_of model_classes) class.GeoidModel (map item_geoid_model (set_geoid_models level g.geoid_models)) (classes (tail_runs level g.tail)) refl
     (tail-fits model_classes level g.tail refl refl refl)))
@@ -127,13 +134,26 @@ unfolding class_named is_keyword
 vertical-runs-made l level g few h =
     let names : NamesSystem class.VerticalCrs = record { head = refl; axis = refl } in (
       (text-made level 5 class.VerticalCrs g.name h.name, tt),
-      ((as-argument level 5 5 class.VerticalCrs (vertical_class g.frame) (item_frame (codes "VDATUM") (norm_frame level g.frame)) (omega arith)
-      (vertical-named level g.frame) (vertical-frame-made l level g.frame h.frame), tt),
-      ((head-argument l level 5 class.VerticalCrs g.system (omega arith) names few.system, tt),
-      (axes-argument l level 5 class.VerticalCrs g.system (omega arith) names few,
-      (tt,
-      (models-made l level g.geoid_models h.geoid_models,
-      tail-runs-made l level 5 class.VerticalCrs g.tail (omega arith) (record { usage = refl; ident = refl; remark = refl }) h.tail))))),
+      (
+        (
+          as-argument level 5 5 class.VerticalCrs (vertical_class g.frame) (item_frame (codes "VDATUM") (norm_frame level g.frame)) (omega arith)
+              (vertical-named level g.frame) (vertical-frame-made l level g.frame h.frame),
+          tt,
+        ),
+        (
+          (head-argument l level 5 class.VerticalCrs g.system (omega arith) names few.system, tt),
+          (
+            axes-argument l level 5 class.VerticalCrs g.system (omega arith) names few,
+            (
+              tt,
+              (
+                models-made l level g.geoid_models h.geoid_models,
+                tail-runs-made l level 5 class.VerticalCrs g.tail (omega arith) (record { usage = refl; ident = refl; remark = refl }) h.tail,
+              ),
+            ),
+          ),
+        ),
+      ),
     )
 
 vertical-rise : (level : Level) (g : VerticalParts) → RunsRise 0 (vertical_runs level g)
@@ -172,7 +192,7 @@ vertical-kept l level g few h = record {
       let v = vertical-shown level g item s in (
         has-axes class.VerticalCrs item g.system.system_type g.system.dimension (system-seen l level class.VerticalCrs item g.system g.tail few v),
         has-tail level 5 class.VerticalCrs (vertical_runs level g) item s (vertical-runs-made l level g few h) (vertical-rise level g)
-        (tail-seen level class.VerticalCrs item g.tail v.1.1.1),
+            (tail-seen level class.VerticalCrs item g.tail v.1.1.1),
       );
   unbroken = λ item fault s b.
       let v = vertical-shown level g item s in

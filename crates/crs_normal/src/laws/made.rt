@@ -31,7 +31,10 @@ ghost use Rattle.crs_normal.specs.SpelledSystems.{item_head, norm_system};
 ghost use Rattle.crs_normal.specs.SpelledUnits.{item_ident, item_unit, norm_unit};
 ghost use Rattle.crs_normal.specs.SpelledUsages.{item_box, item_extent, item_usage, norm_extent, norm_usage};
 
-use crs_decimal::laws::{denotes_one, digits_alone, normal_is_one, plain_is_the_one, same_number_is_equivalence, spelled_as_a_run};
+use crs_decimal::laws::{
+    denotes_one, digits_alone, normal_is_one, plain_is_the_one, same_number_is_equivalence,
+    spelled_as_a_run,
+};
 use crs_same::laws::one_axis_each;
 use crs_text::laws::written_items;
 
