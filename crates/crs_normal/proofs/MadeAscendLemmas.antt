@@ -16,7 +16,8 @@ Below a b = slice_cmp nat_cmp a b ≡ Less
 above : (a b : List ℕ) → slice_cmp nat_cmp a b ≡ Greater → Below b a
 above a b e = nat_list_cmp_total.antisymm b a ∙ ap ordering_reverse e
 
-by-order : {X : Type 0} (P : X → Type 0) (a b c : X) (o : Ordering) → (o ≡ Less → P a) → (o ≡ Equal → P b) → (o ≡ Greater → P c) →
+by-order : {X : Type 0} (P : X → Type 0) (a b c : X) (o : Ordering) → (o ≡ Less → P a) → (o ≡ Equal → P b) →
+    (o ≡ Greater → P c) →
     P (match_ordering o a b c)
 by-order P a b c Less f g h = f refl
 by-order P a b c Equal f g h = g refl
@@ -35,7 +36,8 @@ module _ {A : Type 0} (bytes : A → List ℕ) where
   each-put : (P : A → Type 0) (x : A) (ys : List A) → P x → Each P ys → Each P (put bytes x ys)
   each-put P x [] p h = (p, h)
   each-put P x (y ∷ ys) p h =
-      by-order (Each P) (x ∷ y ∷ ys) (y ∷ ys) (y ∷ put bytes x ys) (slice_cmp nat_cmp (bytes x) (bytes y)) (λ e. (p, h)) (λ e. h)
+      by-order (Each P) (x ∷ y ∷ ys) (y ∷ ys) (y ∷ put bytes x ys) (slice_cmp nat_cmp (bytes x) (bytes y))
+      (λ e. (p, h)) (λ e. h)
       (λ e. (h.0, each-put P x ys p h.1))
 
   put-ascends : (x : A) (ys : List A) → Ascends ys → Ascends (put bytes x ys)
@@ -79,7 +81,8 @@ module _ {A : Type 0} (spell : A → Item) where
   items-ascend (x ∷ xs) h = (each-map (spell x) xs h.0, items-ascend xs h.1)
 
 -- each member of a set of normal values is so, as an item
-pub set-each : {V A : Type 0} (norm : V → A) (spell : A → Item) (P : V → Type 0) (Q : Item → Type 0) (xs : List V) → Each P xs →
+pub set-each : {V A : Type 0} (norm : V → A) (spell : A → Item) (P : V → Type 0) (Q : Item → Type 0) (xs : List V) →
+    Each P xs →
     ((x : V) → P x → Q (spell (norm x))) → Each Q (map spell (in_order (λ a. item_text (spell a)) (map norm xs)))
 set-each {V} {A} norm spell P Q xs h f =
     spelled (in_order (λ a. item_text (spell a)) (map norm xs))
@@ -94,7 +97,8 @@ set-each {V} {A} norm spell P Q xs h f =
     spelled (b ∷ bs) g = (g.0, spelled bs g.1)
 
 -- behind which none of them stands
-pub set-ascends : {A : Type 0} (spell : A → Item) (xs : List A) → Ascend (map spell (in_order (λ a. item_text (spell a)) xs) ++ [])
+pub set-ascends : {A : Type 0} (spell : A → Item) (xs : List A) →
+    Ascend (map spell (in_order (λ a. item_text (spell a)) xs) ++ [])
 set-ascends spell xs =
     subst Ascend (sym (append-nil (map spell (in_order (λ a. item_text (spell a)) xs))))
     (items-ascend spell (in_order (λ a. item_text (spell a)) xs) (in_order-ascends (λ a. item_text (spell a)) xs))
@@ -104,7 +108,8 @@ set-ascends spell xs =
 put-some : {A : Type 0} (bytes : A → List ℕ) (x : A) (ys : List A) → put bytes x ys ≢ []
 put-some bytes x [] = λ e. cc
 put-some bytes x (y ∷ ys) =
-    by-order (λ l. l ≢ []) (x ∷ y ∷ ys) (y ∷ ys) (y ∷ put bytes x ys) (slice_cmp nat_cmp (bytes x) (bytes y)) (λ e q. cc) (λ e q. cc) (λ e q. cc)
+    by-order (λ l. l ≢ []) (x ∷ y ∷ ys) (y ∷ ys) (y ∷ put bytes x ys) (slice_cmp nat_cmp (bytes x) (bytes y))
+    (λ e q. cc) (λ e q. cc) (λ e q. cc)
 
 all-some : {A : Type 0} (bytes : A → List ℕ) (sorted xs : List A) → sorted ≢ [] → put_all bytes sorted xs ≢ []
 all-some bytes sorted [] h = h

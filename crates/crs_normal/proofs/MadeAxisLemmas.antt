@@ -47,29 +47,40 @@ whole-normal (suc (suc zero)) h m = refl
 whole-normal (suc (suc (suc zero))) h m = refl
 whole-normal (suc (suc (suc (suc k)))) h m = absurd (omega arith)
 
-order-made : DecimalLaws → (level : Level) (v : Value) → IsNormal v → (p : ℕ) → IsMade level class.Order 1 (at_place p (number_node (codes "ORDER") v))
+order-made : DecimalLaws → (level : Level) (v : Value) → IsNormal v → (p : ℕ) →
+    IsMade level class.Order 1 (at_place p (number_node (codes "ORDER") v))
 unfolding is_keyword BreaksOwn
 order-made l level v h =
     number-node-made l level class.Order (codes "ORDER") v (refl, refl) refl refl
-    (runs-fit (slots_of class.Order) (alone class.Number (number_item v) ∷ []) (fills-one refl, tt)) (λ item. tt) (λ item fault b. b) h
+    (runs-fit (slots_of class.Order) (alone class.Number (number_item v) ∷ []) (fills-one refl, tt)) (λ item. tt)
+    (λ item fault b. b) h
 
 -- ---- the meridian of an axis
 
 abbrev axis_meridian_runs : Level → AxisMeridianParts → List Run
-axis_meridian_runs level m = alone class.Number (number_item m.longitude) ∷ alone class.AngleUnit (item_unit (norm_unit level kinds.Angle m.unit)) ∷ []
+axis_meridian_runs level m = alone class.Number (number_item m.longitude) ∷ alone class.AngleUnit
+    (item_unit (norm_unit level kinds.Angle m.unit)) ∷ []
 
 axis-meridian-made : DecimalLaws → (level : Level) (m : AxisMeridianParts) → IsAxisMeridian m → (p : ℕ) →
     IsMade level class.Meridian 4 (at_place p (item_axis_meridian (norm_axis_meridian level m)))
 unfolding BreaksOwn class_named is_keyword
 axis-meridian-made l level m h =
-    node-made level 3 class.Meridian (codes "MERIDIAN") (number_item m.longitude) (More (item_unit (norm_unit level kinds.Angle m.unit)) End)
+    node-made level 3 class.Meridian (codes "MERIDIAN") (number_item m.longitude)
+    (More (item_unit (norm_unit level kinds.Angle m.unit)) End)
     (axis_meridian_runs level m) refl (record {
       letters = (refl, refl);
       known = refl;
       written = refl;
       made = (
         (number-made l level 3 class.Meridian m.longitude h.longitude, tt),
-        ((unit-argument l level 3 class.Meridian class.AngleUnit kinds.Angle m.unit (omega arith) refl refl (suits-kind kinds.Angle m.unit.kind h.unit.1) h.unit.0, tt), tt),
+        (
+          (
+            unit-argument l level 3 class.Meridian class.AngleUnit kinds.Angle m.unit (omega arith) refl refl
+                (suits-kind kinds.Angle m.unit.kind h.unit.1) h.unit.0,
+            tt,
+          ),
+          tt,
+        ),
       );
       allowed = runs-fit (slots_of class.Meridian) (axis_meridian_runs level m) (fills-one refl, (fills-one refl, tt));
       sets = (tt, (tt, (tt, (tt, (tt, tt)))));
@@ -81,8 +92,11 @@ axis-meridians-made : DecimalLaws → (level : Level) (x : Option AxisMeridianPa
     Each (Made level 4 class.Axis class.Meridian) (given item_axis_meridian (norm_axis_meridians level x))
 unfolding class_named is_keyword
 axis-meridians-made l level None h = tt
-axis-meridians-made l level (Some m) h =
-    (as-argument level 4 4 class.Axis class.Meridian (item_axis_meridian (norm_axis_meridian level m)) (omega arith) refl (axis-meridian-made l level m h), tt)
+axis-meridians-made l level (Some m) h = (
+  as-argument level 4 4 class.Axis class.Meridian (item_axis_meridian (norm_axis_meridian level m)) (omega arith)
+      refl (axis-meridian-made l level m h),
+  tt,
+)
 
 -- ---- the unit of an axis
 
@@ -97,7 +111,8 @@ asked-in types.Ellipsoidal d = vertical-in d
 asked-in types.Spherical d = vertical-in d
 asked-in types.Vertical d = inl refl
 
-axis-names : (kind : UnitKind) → IsKindIn class.AxisUnit kind → class_named class.Axis (unit_word kind) ≡ Some class.AxisUnit
+axis-names : (kind : UnitKind) → IsKindIn class.AxisUnit kind →
+    class_named class.Axis (unit_word kind) ≡ Some class.AxisUnit
 unfolding class_named is_keyword
 axis-names kind (inl e) = subst (λ k. class_named class.Axis (unit_word k) ≡ Some class.AxisUnit) (sym e) refl
 axis-names kind (inr e) = subst (λ k. class_named class.Axis (unit_word k) ≡ Some class.AxisUnit) (sym e) refl
@@ -115,25 +130,31 @@ abbrev axis_runs : Level → UnitKind → ℕ → AxisParts → UnitParts → Li
 axis_runs level asked k x u =
     alone class.Text (text_item x.name) ∷ alone class.Word (word_item (direction_word x.direction)) ∷
     record { of = class.Meridian; items = given item_axis_meridian (norm_axis_meridians level x.meridian) } ∷
-    alone class.Order (number_node (codes "ORDER") (whole_value k)) ∷ alone class.AxisUnit (item_unit (norm_unit level asked u)) ∷ ids_run level x.ids ∷ []
+    alone class.Order (number_node (codes "ORDER") (whole_value k)) ∷ alone class.AxisUnit
+    (item_unit (norm_unit level asked u)) ∷ ids_run level x.ids ∷ []
 
 abbrev axis_others : Level → UnitKind → ℕ → AxisParts → Option UnitParts → Items
 axis_others level asked k x w =
     More (word_item (direction_word x.direction)) (opt item_axis_meridian (norm_axis_meridians level x.meridian)
-    (opt (number_node (codes "ORDER")) (Some (whole_value k)) (opt item_unit (norm_units level asked w) (each item_ident (set_idents level x.ids) End))))
+    (opt (number_node (codes "ORDER")) (Some (whole_value k)) (opt item_unit (norm_units level asked w)
+    (each item_ident (set_idents level x.ids) End))))
 
-axis-lines : (level : Level) (asked : UnitKind) (k : ℕ) (x : AxisParts) (w : Option UnitParts) (u : UnitParts) → w ≡ Some u →
+axis-lines : (level : Level) (asked : UnitKind) (k : ℕ) (x : AxisParts) (w : Option UnitParts) (u : UnitParts) →
+    w ≡ Some u →
     More (text_item x.name) (axis_others level asked k x w) ≡ lines (axis_runs level asked k x u)
-axis-lines level asked k x w u e = ap (λ w. More (text_item x.name) (axis_others level asked k x w)) e ∙ simp (opt-line, each-line)
+axis-lines level asked k x w u e = ap (λ w. More (text_item x.name) (axis_others level asked k x w)) e
+    ∙ simp (opt-line, each-line)
 
-known-direction : (d : Direction) (words : List Item) (fault : Refused) → ArePlaced words (word_item (direction_word d) ∷ []) →
+known-direction : (d : Direction) (words : List Item) (fault : Refused) →
+    ArePlaced words (word_item (direction_word d) ∷ []) →
     ¬ (AnyOf UnknownDirection words fault)
 known-direction d [] fault h b = h
 known-direction d (x ∷ []) fault h (inl b) = b.1 d (subst (λ i. ReadsDirection i d) (sym h.0.1) refl)
 known-direction d (x ∷ []) fault h (inr b) = b
 known-direction d (x ∷ y ∷ words) fault h b = h.1
 
-axis-runs-made : DecimalLaws → (level : Level) (t : SystemType) (shared : Option UnitParts) (k : ℕ) (x : AxisParts) (f : Fits t shared x) → 1 ≤ k → k ≤ 3 →
+axis-runs-made : DecimalLaws → (level : Level) (t : SystemType) (shared : Option UnitParts) (k : ℕ) (x : AxisParts)
+    (f : Fits t shared x) → 1 ≤ k → k ≤ 3 →
     RunsMade level 4 class.Axis (axis_runs level (asked_kind t x.direction) k x f.unit)
 unfolding class_named is_keyword
 axis-runs-made l level t shared k x f low high =
@@ -141,18 +162,24 @@ axis-runs-made l level t shared k x f low high =
     let inside : IsKindIn class.AxisUnit asked = asked-in t x.direction in (
       (text-made level 4 class.Axis x.name f.axis.name, tt),
       (
-        (word-made level 4 class.Axis (direction_word x.direction) (direction-letters x.direction) (x.direction, refl), tt),
+        (
+          word-made level 4 class.Axis (direction_word x.direction) (direction-letters x.direction)
+              (x.direction, refl),
+          tt,
+        ),
         (
           axis-meridians-made l level x.meridian f.axis.meridian,
           (
             (
-              as-argument level 1 4 class.Axis class.Order (number_node (codes "ORDER") (whole_value k)) (omega arith) refl
+              as-argument level 1 4 class.Axis class.Order (number_node (codes "ORDER") (whole_value k)) (omega arith)
+                  refl
                   (order-made l level (whole_value k) (whole-normal k low high)),
               tt,
             ),
             (
               (
-                unit-argument l level 4 class.Axis class.AxisUnit asked f.unit (omega arith) (axis-names asked inside) inside
+                unit-argument l level 4 class.Axis class.AxisUnit asked f.unit (omega arith) (axis-names asked inside)
+                    inside
                     (suits-kind asked f.unit.kind f.suits.1) f.suits.0,
                 tt,
               ),
@@ -163,7 +190,8 @@ axis-runs-made l level t shared k x f low high =
       ),
     )
 
-pub axis-made : DecimalLaws → (level : Level) (s : SystemParts) (k : ℕ) (x : AxisParts) → Fits s.system_type s.unit x → 1 ≤ k → k ≤ 3 → (p : ℕ) →
+pub axis-made : DecimalLaws → (level : Level) (s : SystemParts) (k : ℕ) (x : AxisParts) →
+    Fits s.system_type s.unit x → 1 ≤ k → k ≤ 3 → (p : ℕ) →
     IsMade level class.Axis 5 (at_place p (item_axis (norm_axis level s k x)))
 unfolding BreaksOwn is_keyword norm_axis
 axis-made l level s k x f low high =
@@ -189,7 +217,8 @@ axis-made l level s k x f low high =
       );
       sets = (ids-ascend level x.ids, (tt, (tt, (tt, (tt, tt)))));
       own = λ item v. tt;
-      unbroken = λ item fault v b. known-direction x.direction (those class.Axis class.Word (arguments item)) fault (v.view class.Word) b;
+      unbroken = λ item fault v b. known-direction x.direction (those class.Axis class.Word (arguments item)) fault
+          (v.view class.Word) b;
     })
 
 -- what stands in an axis at a position, as the checks of a system see it
@@ -201,12 +230,14 @@ pub record IsAxisItem (t : SystemType) (k : ℕ) (item : Item) : Type 0 where
   pub units : ArePlaced (units_in item) (item_unit unit_in ∷ [])
   pub kind : unit_in.kind ≡ asked_kind t direction_in
 
-pub axis-seen : DecimalLaws → (level : Level) (s : SystemParts) (k : ℕ) (x : AxisParts) → Fits s.system_type s.unit x → 1 ≤ k → k ≤ 3 → (p : ℕ) →
+pub axis-seen : DecimalLaws → (level : Level) (s : SystemParts) (k : ℕ) (x : AxisParts) →
+    Fits s.system_type s.unit x → 1 ≤ k → k ≤ 3 → (p : ℕ) →
     IsAxisItem s.system_type k (at_place p (item_axis (norm_axis level s k x)))
 unfolding norm_axis
 axis-seen l level s k x f low high p =
     let asked : UnitKind = asked_kind s.system_type x.direction in
-    let look = sees level 4 class.Axis (codes "AXIS") (text_item x.name) (axis_others level asked k x (own_or x.unit s.unit))
+    let look = sees level 4 class.Axis (codes "AXIS") (text_item x.name) (axis_others level asked k x
+    (own_or x.unit s.unit))
     (axis_runs level asked k x f.unit) p (axis-lines level asked k x (own_or x.unit s.unit) f.unit f.given_unit)
     (axis-runs-made l level s.system_type s.unit k x f low high) in
     record {

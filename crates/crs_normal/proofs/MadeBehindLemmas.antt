@@ -34,7 +34,8 @@ pub record IsFew (s : SystemParts) : Type 0 where
   pub each_at : HasEach s
   pub few : length s.axes ≤ 3
 
-pub few-system : DecimalLaws → AxisEach → (dimensions : SystemType → List ℕ) → ((t : SystemType) → Each (λ m. m ≤ 3) (dimensions t)) →
+pub few-system : DecimalLaws → AxisEach → (dimensions : SystemType → List ℕ) →
+    ((t : SystemType) → Each (λ m. m ≤ 3) (dimensions t)) →
     (s : SystemParts) → IsSystem s → IsOneOf s.dimension (dimensions s.system_type) → IsFew s
 few-system l each_at dimensions small s h one = record {
   system = h;
@@ -54,24 +55,30 @@ no_unit_run = record { of = class.AxisUnit; items = [] }
 
 -- the system of a CRS and its end
 abbrev pub behind : Level → SystemParts → TailParts → List Run
-behind level s t = alone class.CoordinateSystem (item_head (norm_system level s)) ∷ axes_run level s ∷ no_unit_run ∷ tail_runs level t
+behind level s t = alone class.CoordinateSystem (item_head (norm_system level s)) ∷ axes_run level s ∷ no_unit_run ∷
+    tail_runs level t
 
 -- a class of CRS names the nodes of its system
 pub record NamesSystem (c : Class) : Type 0 where
   pub head : class_named c (codes "CS") ≡ Some class.CoordinateSystem
   pub axis : class_named c (codes "AXIS") ≡ Some class.Axis
 
-pub head-argument : DecimalLaws → (level : Level) (most : ℕ) (c : Class) (s : SystemParts) → 3 ≤ most → NamesSystem c → IsSystem s →
+pub head-argument : DecimalLaws → (level : Level) (most : ℕ) (c : Class) (s : SystemParts) → 3 ≤ most →
+    NamesSystem c → IsSystem s →
     Made level most c class.CoordinateSystem (item_head (norm_system level s))
 head-argument l level most c s deep n h =
-    as-argument level 3 most c class.CoordinateSystem (item_head (norm_system level s)) deep n.head (head-made l level s h)
+    as-argument level 3 most c class.CoordinateSystem (item_head (norm_system level s)) deep n.head
+    (head-made l level s h)
 
-pub axes-argument : DecimalLaws → (level : Level) (most : ℕ) (c : Class) (s : SystemParts) → 5 ≤ most → NamesSystem c → IsFew s →
+pub axes-argument : DecimalLaws → (level : Level) (most : ℕ) (c : Class) (s : SystemParts) → 5 ≤ most →
+    NamesSystem c → IsFew s →
     Each (Made level most c class.Axis) (axis_items level s)
 axes-argument l level most c s deep n h =
-    let e : length (axes_from level s 1 (length s.axes)) ≡ length s.axes = all-count l level s h.system h.each_at h.few in
+    let e : length (axes_from level s 1 (length s.axes)) ≡ length s.axes = all-count l level s h.system h.each_at
+    h.few in
     let f : length s.axes ≤ 3 = h.few in
-    axes-made l level s most c 1 (axes_from level s 1 (length s.axes)) deep n.axis (all-axes l level s h.system h.each_at h.few) (omega arith) (omega arith)
+    axes-made l level s most c 1 (axes_from level s 1 (length s.axes)) deep n.axis
+    (all-axes l level s h.system h.each_at h.few) (omega arith) (omega arith)
 
 map-some : {A B : Type 0} (f : A → B) (xs : List A) (n : ℕ) → length xs ≡ suc n → map f xs ≢ []
 map-some f [] n e q = absurd (omega arith)
@@ -83,9 +90,11 @@ some-axes f xs (y ∷ ys) e h = map-some f xs (length ys) e
 
 pub axes-some : DecimalLaws → (level : Level) (s : SystemParts) → IsFew s → axis_items level s ≢ []
 axes-some l level s h =
-    some-axes item_axis (axes_from level s 1 (length s.axes)) s.axes (all-count l level s h.system h.each_at h.few) h.system.some
+    some-axes item_axis (axes_from level s 1 (length s.axes)) s.axes (all-count l level s h.system h.each_at h.few)
+    h.system.some
 
-pub behind-made : DecimalLaws → (level : Level) (most : ℕ) (c : Class) (s : SystemParts) (t : TailParts) → 5 ≤ most → NamesSystem c → NamesTail c →
+pub behind-made : DecimalLaws → (level : Level) (most : ℕ) (c : Class) (s : SystemParts) (t : TailParts) → 5 ≤ most →
+    NamesSystem c → NamesTail c →
     IsFew s → IsTail t → RunsMade level most c (behind level s t)
 behind-made l level most c s t deep n m h g =
     let three : 3 ≤ most = omega arith in (
@@ -106,7 +115,8 @@ crs_classes = class.CoordinateSystem ∷ class.Axis ∷ class.AxisUnit ∷ tail_
 abbrev pub Shows : Class → Item → List Run → Class → Type 0
 Shows c item runs e = ArePlaced (those c e (arguments item)) (items_in e runs)
 
-pub tail-seen : (level : Level) (c : Class) (item : Item) (t : TailParts) → Each (Shows c item (tail_runs level t)) tail_classes → IsTailSeen c item
+pub tail-seen : (level : Level) (c : Class) (item : Item) (t : TailParts) →
+    Each (Shows c item (tail_runs level t)) tail_classes → IsTailSeen c item
 tail-seen level c item t v = record {
   scope = placed-none (those c class.Scope (arguments item)) v.0;
   area = placed-none (those c class.Area (arguments item)) v.1.0;
@@ -132,7 +142,8 @@ system-of : DecimalLaws → (level : Level) (s : SystemParts) (systems axes unit
 system-of l level s [] axes units h p q none = absurd p
 system-of l level s (x ∷ y ∷ systems) axes units h p q none = absurd p.1
 system-of l level s (x ∷ []) axes units h p q none =
-    let e : length (axes_from level s 1 (length s.axes)) ≡ length s.axes = all-count l level s h.system h.each_at h.few in
+    let e : length (axes_from level s 1 (length s.axes)) ≡ length s.axes = all-count l level s h.system h.each_at
+    h.few in
     let n : length axes ≡ length s.axes =
     placed-length axes (axis_items level s) q ∙ mapped-length item_axis (axes_from level s 1 (length s.axes)) ∙ e in
     let f : length s.axes ≤ 3 = h.few in
@@ -140,7 +151,8 @@ system-of l level s (x ∷ []) axes units h p q none =
       head = x;
       is_head = subst (IsHeadItem s.system_type s.dimension) (sym p.0.1) (head-seen l level s h.system p.0.0);
       systems_are = refl;
-      axes_are = axes-seen l level s 1 axes (axes_from level s 1 (length s.axes)) q (all-axes l level s h.system h.each_at h.few) (omega arith) (omega arith);
+      axes_are = axes-seen l level s 1 axes (axes_from level s 1 (length s.axes)) q
+          (all-axes l level s h.system h.each_at h.few) (omega arith) (omega arith);
       few = omega arith;
       count = subst (λ m. SameNumber (exact s.dimension) (whole_number m)) (sym n) h.system.count;
       none_shared = none;
@@ -148,9 +160,11 @@ system-of l level s (x ∷ []) axes units h p q none =
 
 pub system-seen : DecimalLaws → (level : Level) (c : Class) (item : Item) (s : SystemParts) (t : TailParts) → IsFew s →
     Each (Shows c item (behind level s t)) crs_classes →
-    IsSystemSeen s.system_type s.dimension (those c class.CoordinateSystem (arguments item)) (those c class.Axis (arguments item))
+    IsSystemSeen s.system_type s.dimension (those c class.CoordinateSystem (arguments item))
+    (those c class.Axis (arguments item))
     (those c class.AxisUnit (arguments item))
 system-seen l level c item s t h v =
-    system-of l level s (those c class.CoordinateSystem (arguments item)) (those c class.Axis (arguments item)) (those c class.AxisUnit (arguments item)) h v.0
+    system-of l level s (those c class.CoordinateSystem (arguments item)) (those c class.Axis (arguments item))
+    (those c class.AxisUnit (arguments item)) h v.0
     (subst (ArePlaced (those c class.Axis (arguments item))) (append-nil (axis_items level s)) v.1.0)
     (placed-none (those c class.AxisUnit (arguments item)) v.1.1.0)

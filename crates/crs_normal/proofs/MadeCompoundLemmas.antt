@@ -56,25 +56,32 @@ record IsSide (level : Level) (geographic : Bool) (j : Item) : Type 0 where
   fine : (p : ℕ) → ¬ (FirstIs (IsNotHorizontal (side_class geographic))
       (those (side_class geographic) class.CoordinateSystem (arguments (at_place p j))))
 
-is-plane : DecimalLaws → (t : SystemType) (d : Value) (cs : Item) → IsHeadItem t d cs → IsNormal d → SameNumber (exact d) (whole_number 2) → ¬ (IsNotPlane cs)
+is-plane : DecimalLaws → (t : SystemType) (d : Value) (cs : Item) → IsHeadItem t d cs → IsNormal d →
+    SameNumber (exact d) (whole_number 2) → ¬ (IsNotPlane cs)
 is-plane l t d cs h n same b =
-    let f : b.0 ≡ d = first-number l d b.0 (those class.CoordinateSystem class.Number (arguments cs)) n h.numbers b.1.0 in
+    let f : b.0 ≡ d = first-number l d b.0 (those class.CoordinateSystem class.Number (arguments cs)) n h.numbers
+    b.1.0 in
     b.1.1 (subst (λ v. SameNumber (exact v) (whole_number 2)) (sym f) same)
 
-is-ellipsoidal : (t : SystemType) (d : Value) (cs : Item) → IsHeadItem t d cs → t ≡ types.Ellipsoidal → ¬ (IsNotEllipsoidal cs)
+is-ellipsoidal : (t : SystemType) (d : Value) (cs : Item) → IsHeadItem t d cs → t ≡ types.Ellipsoidal →
+    ¬ (IsNotEllipsoidal cs)
 is-ellipsoidal t d cs h e b =
     b.1.1 (sym (word-type t b.0 (those class.CoordinateSystem class.Word (arguments cs)) h.words b.1.0) ∙ e)
 
-geodetic-side : DecimalLaws → AxisEach → (level : Level) (g : GeodeticParts) → IsGeodetic g → g.system.system_type ≡ types.Ellipsoidal → IsPlane g.system →
+geodetic-side : DecimalLaws → AxisEach → (level : Level) (g : GeodeticParts) → IsGeodetic g →
+    g.system.system_type ≡ types.Ellipsoidal → IsPlane g.system →
     IsSide level true (item_geodetic (norm_geodetic level g))
 unfolding class_named is_keyword
 geodetic-side l each_at level g h e plane = record {
-  made = as-argument level 6 7 class.CompoundCrs class.GeographicCrs (item_geodetic (norm_geodetic level g)) (omega arith)
+  made = as-argument level 6 7 class.CompoundCrs class.GeographicCrs (item_geodetic (norm_geodetic level g))
+      (omega arith)
       (subst (λ t. class_named class.CompoundCrs (geodetic_keyword t) ≡ Some class.GeographicCrs) (sym e) refl)
-      (λ p. subst (λ t. IsMade level (root_class t) 6 (at_place p (item_geodetic (norm_geodetic level g)))) e (geodetic-made l each_at level g h p));
+      (λ p. subst (λ t. IsMade level (root_class t) 6 (at_place p (item_geodetic (norm_geodetic level g)))) e
+      (geodetic-made l each_at level g h p));
   fine = λ p b.
       let s = geodetic-seen l each_at level g h p in
-      let are = subst (λ t. those (root_class t) class.CoordinateSystem (arguments (at_place p (item_geodetic (norm_geodetic level g)))) ≡ s.head ∷ []) e s.systems_are in
+      let are = subst (λ t. those (root_class t) class.CoordinateSystem
+      (arguments (at_place p (item_geodetic (norm_geodetic level g)))) ≡ s.head ∷ []) e s.systems_are in
       by s.head s.is_head (subst (λ cs. FirstIs (IsNotHorizontal class.GeographicCrs) cs) are b);
 }
   where
@@ -86,7 +93,8 @@ projected-side : DecimalLaws → AxisEach → (level : Level) (g : ProjectedPart
     IsSide level false (item_projected (norm_projected level g))
 unfolding class_named is_keyword
 projected-side l each_at level g h plane = record {
-  made = as-argument level 7 7 class.CompoundCrs class.ProjectedCrs (item_projected (norm_projected level g)) (omega arith) refl
+  made = as-argument level 7 7 class.CompoundCrs class.ProjectedCrs (item_projected (norm_projected level g))
+      (omega arith) refl
       (projected-made l each_at level g h);
   fine = λ p b.
       let s = projected-seen l each_at level g h p in
@@ -98,7 +106,8 @@ projected-side l each_at level g h plane = record {
 
 abbrev compound_runs : Level → Bool → Item → List ℕ → VerticalParts → TailParts → List Run
 compound_runs level b j name v t =
-    alone class.Text (text_item name) ∷ alone (side_class b) j ∷ alone class.VerticalCrs (item_vertical (norm_vertical level v)) ∷ tail_runs level t
+    alone class.Text (text_item name) ∷ alone (side_class b) j ∷ alone class.VerticalCrs
+    (item_vertical (norm_vertical level v)) ∷ tail_runs level t
 
 side-taken : (b : Bool) → takes (one_of horizontal_classes) (side_class b) ≡ true
 side-taken true = refl
@@ -109,17 +118,22 @@ side-sets : (level : Level) (b : Bool) (j : Item) (name : List ℕ) (v : Vertica
 side-sets level true j name v t = (ids-ascend level t.ids, (usages-ascend level (usages_of t), (tt, (tt, (tt, tt)))))
 side-sets level false j name v t = (ids-ascend level t.ids, (usages-ascend level (usages_of t), (tt, (tt, (tt, tt)))))
 
-side-rise : (level : Level) (b : Bool) (j : Item) (name : List ℕ) (v : VerticalParts) (t : TailParts) → RunsRise 0 (compound_runs level b j name v t)
-side-rise level true j name v t = (omega arith, (omega arith, (omega arith, (omega arith, (omega arith, (omega arith, tt))))))
-side-rise level false j name v t = (omega arith, (omega arith, (omega arith, (omega arith, (omega arith, (omega arith, tt))))))
+side-rise : (level : Level) (b : Bool) (j : Item) (name : List ℕ) (v : VerticalParts) (t : TailParts) →
+    RunsRise 0 (compound_runs level b j name v t)
+side-rise level true j name v t =
+    (omega arith, (omega arith, (omega arith, (omega arith, (omega arith, (omega arith, tt))))))
+side-rise level false j name v t =
+    (omega arith, (omega arith, (omega arith, (omega arith, (omega arith, (omega arith, tt))))))
 
 side-shows : (level : Level) (b : Bool) (j : Item) (name : List ℕ) (v : VerticalParts) (t : TailParts) (item : Item) →
-    Each (Shows class.CompoundCrs item (compound_runs level b j name v t)) tail_classes → Each (Shows class.CompoundCrs item (tail_runs level t)) tail_classes
+    Each (Shows class.CompoundCrs item (compound_runs level b j name v t)) tail_classes →
+    Each (Shows class.CompoundCrs item (tail_runs level t)) tail_classes
 side-shows level true j name v t item h = h
 side-shows level false j name v t item h = h
 
 not-bad-part : (c : Class) (j : Item) (items : List Item) (fault : Refused) → ArePlaced items (j ∷ []) →
-    ((p : ℕ) → ¬ (FirstIs (IsNotHorizontal c) (those c class.CoordinateSystem (arguments (at_place p j))))) → ¬ (AnyOf (BadPart c) items fault)
+    ((p : ℕ) → ¬ (FirstIs (IsNotHorizontal c) (those c class.CoordinateSystem (arguments (at_place p j))))) →
+    ¬ (AnyOf (BadPart c) items fault)
 not-bad-part c j [] fault h f b = b
 not-bad-part c j (x ∷ y ∷ items) fault h f b = h.1
 not-bad-part c j (x ∷ []) fault h f (inl b) =
@@ -130,14 +144,17 @@ no-part : (c : Class) (items : List Item) (fault : Refused) → ArePlaced items 
 no-part c [] fault h b = b
 no-part c (x ∷ items) fault h b = h
 
-compound-breaks : (level : Level) (b : Bool) (j : Item) (name : List ℕ) (v : VerticalParts) (t : TailParts) (item : Item) (fault : Refused) → IsSide level b j →
-    Each (Shows class.CompoundCrs item (compound_runs level b j name v t)) horizontal_classes → IsTailSeen class.CompoundCrs item →
+compound-breaks : (level : Level) (b : Bool) (j : Item) (name : List ℕ) (v : VerticalParts) (t : TailParts)
+    (item : Item) (fault : Refused) → IsSide level b j →
+    Each (Shows class.CompoundCrs item (compound_runs level b j name v t)) horizontal_classes →
+    IsTailSeen class.CompoundCrs item →
     ¬ (OfCompound (arguments item) fault)
 compound-breaks level b j name v t item fault s h q (inl k) = no-repeats class.CompoundCrs item fault q k
 compound-breaks level true j name v t item fault s h q (inr (inl k)) =
     no-part class.GeodeticCrs (those class.CompoundCrs class.GeodeticCrs (arguments item)) fault h.0 k
 compound-breaks level true j name v t item fault s h q (inr (inr (inl k))) =
-    not-bad-part class.GeographicCrs j (those class.CompoundCrs class.GeographicCrs (arguments item)) fault h.1.0 s.fine k
+    not-bad-part class.GeographicCrs j (those class.CompoundCrs class.GeographicCrs (arguments item)) fault h.1.0
+    s.fine k
 compound-breaks level true j name v t item fault s h q (inr (inr (inr (inl k)))) =
     no-part class.ProjectedCrs (those class.CompoundCrs class.ProjectedCrs (arguments item)) fault h.1.1.0 k
 compound-breaks level true j name v t item fault s h q (inr (inr (inr (inr k)))) = k
@@ -146,10 +163,12 @@ compound-breaks level false j name v t item fault s h q (inr (inl k)) =
 compound-breaks level false j name v t item fault s h q (inr (inr (inl k))) =
     no-part class.GeographicCrs (those class.CompoundCrs class.GeographicCrs (arguments item)) fault h.1.0 k
 compound-breaks level false j name v t item fault s h q (inr (inr (inr (inl k)))) =
-    not-bad-part class.ProjectedCrs j (those class.CompoundCrs class.ProjectedCrs (arguments item)) fault h.1.1.0 s.fine k
+    not-bad-part class.ProjectedCrs j (those class.CompoundCrs class.ProjectedCrs (arguments item)) fault h.1.1.0
+    s.fine k
 compound-breaks level false j name v t item fault s h q (inr (inr (inr (inr k)))) = k
 
-compound-runs-made : DecimalLaws → AxisEach → (level : Level) (b : Bool) (j : Item) (name : List ℕ) (v : VerticalParts) (t : TailParts) → IsSide level b j →
+compound-runs-made : DecimalLaws → AxisEach →
+    (level : Level) (b : Bool) (j : Item) (name : List ℕ) (v : VerticalParts) (t : TailParts) → IsSide level b j →
     IsText name → IsVertical v → IsTail t → RunsMade level 7 class.CompoundCrs (compound_runs level b j name v t)
 unfolding class_named is_keyword
 compound-runs-made l each_at level b j name v t s n h g = (
@@ -157,18 +176,30 @@ compound-runs-made l each_at level b j name v t s n h g = (
   (
     (s.made, tt),
     (
-      (as-argument level 6 7 class.CompoundCrs class.VerticalCrs (item_vertical (norm_vertical level v)) (omega arith) refl (vertical-made l each_at level v h), tt),
-      tail-runs-made l level 7 class.CompoundCrs t (omega arith) (record { usage = refl; ident = refl; remark = refl }) g,
+      (
+        as-argument level 6 7 class.CompoundCrs class.VerticalCrs (item_vertical (norm_vertical level v)) (omega arith)
+            refl (vertical-made l each_at level v h),
+        tt,
+      ),
+      tail-runs-made l level 7 class.CompoundCrs t (omega arith) (record {
+        usage = refl;
+        ident = refl;
+        remark =
+            refl;
+      }) g,
     ),
   ),
 )
 
-side-made : DecimalLaws → AxisEach → (level : Level) (b : Bool) (j : Item) (name : List ℕ) (v : VerticalParts) (t : TailParts) → IsSide level b j →
-    IsText name → IsVertical v → IsTail t → (p : ℕ) → IsMade level class.CompoundCrs 8 (at_place p (node_of (codes "COMPOUNDCRS") (text_item name)
+side-made : DecimalLaws → AxisEach →
+    (level : Level) (b : Bool) (j : Item) (name : List ℕ) (v : VerticalParts) (t : TailParts) → IsSide level b j →
+    IsText name → IsVertical v → IsTail t → (p : ℕ) →
+    IsMade level class.CompoundCrs 8 (at_place p (node_of (codes "COMPOUNDCRS") (text_item name)
     (More j (More (item_vertical (norm_vertical level v)) (tail_items (norm_tail level t))))))
 unfolding BreaksOwn is_keyword
 side-made l each_at level b j name v t s n h g =
-    let made : RunsMade level 7 class.CompoundCrs (compound_runs level b j name v t) = compound-runs-made l each_at level b j name v t s n h g in
+    let made : RunsMade level 7 class.CompoundCrs (compound_runs level b j name v t) =
+    compound-runs-made l each_at level b j name v t s n h g in
     node-made level 7 class.CompoundCrs (codes "COMPOUNDCRS") (text_item name)
     (More j (More (item_vertical (norm_vertical level v)) (tail_items (norm_tail level t))))
     (compound_runs level b j name v t) (simp (opt-line, each-line)) (record {
@@ -177,16 +208,21 @@ side-made l each_at level b j name v t s n h g =
       written = refl;
       made = made;
       allowed = fit-before (one class.Text ∷ one_of horizontal_classes ∷ one class.VerticalCrs ∷ []) (tail ∷ [])
-          (alone class.Text (text_item name) ∷ alone (side_class b) j ∷ alone class.VerticalCrs (item_vertical (norm_vertical level v)) ∷ [])
+          (alone class.Text (text_item name) ∷ alone (side_class b) j ∷ alone class.VerticalCrs
+          (item_vertical (norm_vertical level v)) ∷ [])
           (tail_runs level t) (fills-one refl, (fills-one (side-taken b), (fills-one refl, tt)))
           (last-fits end_classes (classes (tail_runs level t)) (tail-fits end_classes level t refl refl refl));
       sets = side-sets level b j name v t;
       own = λ item q.
-          has-tail level 7 class.CompoundCrs (compound_runs level b j name v t) item q made (side-rise level b j name v t)
-          (tail-seen level class.CompoundCrs item t (side-shows level b j name v t item (views class.CompoundCrs (compound_runs level b j name v t) item tail_classes q)));
+          has-tail level 7 class.CompoundCrs (compound_runs level b j name v t) item q made
+          (side-rise level b j name v t)
+          (tail-seen level class.CompoundCrs item t (side-shows level b j name v t item
+          (views class.CompoundCrs (compound_runs level b j name v t) item tail_classes q)));
       unbroken = λ item fault q k.
-          compound-breaks level b j name v t item fault s (views class.CompoundCrs (compound_runs level b j name v t) item horizontal_classes q)
-          (tail-seen level class.CompoundCrs item t (side-shows level b j name v t item (views class.CompoundCrs (compound_runs level b j name v t) item tail_classes q))) k;
+          compound-breaks level b j name v t item fault s (views class.CompoundCrs (compound_runs level b j name v t)
+          item horizontal_classes q)
+          (tail-seen level class.CompoundCrs item t (side-shows level b j name v t item
+          (views class.CompoundCrs (compound_runs level b j name v t) item tail_classes q))) k;
     })
 
 pub compound-made : DecimalLaws → AxisEach → (level : Level) (c : CompoundParts) → IsCompound c → (p : ℕ) →
@@ -194,10 +230,13 @@ pub compound-made : DecimalLaws → AxisEach → (level : Level) (c : CompoundPa
 compound-made l each_at level c h p = by c.horizontal h.horizontal
   where
     by : (part : Horizontal) → IsHorizontal part →
-        IsMade level class.CompoundCrs 8 (at_place p (item_compound (norm_compound level (record c { horizontal = part }))))
+        IsMade level class.CompoundCrs 8
+        (at_place p (item_compound (norm_compound level (record c { horizontal = part }))))
     by (horizontal.Geodetic g) q =
-        side-made l each_at level true (item_geodetic (norm_geodetic level g)) c.name c.vertical c.tail (geodetic-side l each_at level g q.0 q.1 q.2)
+        side-made l each_at level true (item_geodetic (norm_geodetic level g)) c.name c.vertical c.tail
+        (geodetic-side l each_at level g q.0 q.1 q.2)
         h.name h.vertical h.tail p
     by (horizontal.Projected g) q =
-        side-made l each_at level false (item_projected (norm_projected level g)) c.name c.vertical c.tail (projected-side l each_at level g q.0 q.1)
+        side-made l each_at level false (item_projected (norm_projected level g)) c.name c.vertical c.tail
+        (projected-side l each_at level g q.0 q.1)
         h.name h.vertical h.tail p

@@ -60,7 +60,8 @@ parameter-unit : DecimalLaws → (level : Level) (x : Option UnitParts) → IfSo
 parameter-unit l level None h = tt
 parameter-unit l level (Some u) h =
     let k : UnitKind = kind_as kinds.Plain u.kind in (
-      as-argument level 3 3 class.Parameter (kind_class k) (item_unit (norm_unit level kinds.Plain u)) (omega arith) (kind-named k)
+      as-argument level 3 3 class.Parameter (kind_class k) (item_unit (norm_unit level kinds.Plain u)) (omega arith)
+          (kind-named k)
           (unit-made l level (kind_class k) k u (kind-in k) h),
       tt,
     )
@@ -70,13 +71,15 @@ parameter_runs level c p =
     alone class.Text (text_item p.name) ∷ alone class.Number (number_item p.value) ∷
     record { of = c; items = given item_unit (norm_units level kinds.Plain p.unit) } ∷ ids_run level p.ids ∷ []
 
-kind-sets : (level : Level) (k : UnitKind) (p : ParameterParts) → Each (λ d. Ascend (items_in d (parameter_runs level (kind_class k) p))) set_classes
+kind-sets : (level : Level) (k : UnitKind) (p : ParameterParts) →
+    Each (λ d. Ascend (items_in d (parameter_runs level (kind_class k) p))) set_classes
 kind-sets level kinds.Length p = (ids-ascend level p.ids, (tt, (tt, (tt, (tt, tt)))))
 kind-sets level kinds.Angle p = (ids-ascend level p.ids, (tt, (tt, (tt, (tt, tt)))))
 kind-sets level kinds.Scale p = (ids-ascend level p.ids, (tt, (tt, (tt, (tt, tt)))))
 kind-sets level kinds.Plain p = (ids-ascend level p.ids, (tt, (tt, (tt, (tt, tt)))))
 
-parameter-sets : (level : Level) (x : Option UnitParts) (p : ParameterParts) → Each (λ d. Ascend (items_in d (parameter_runs level (given_class x) p))) set_classes
+parameter-sets : (level : Level) (x : Option UnitParts) (p : ParameterParts) →
+    Each (λ d. Ascend (items_in d (parameter_runs level (given_class x) p))) set_classes
 parameter-sets level None p = kind-sets level kinds.Plain p
 parameter-sets level (Some u) p = kind-sets level (kind_as kinds.Plain u.kind) p
 
@@ -98,7 +101,8 @@ pub parameter-made : DecimalLaws → (level : Level) (m : ParameterParts) → Is
 unfolding BreaksOwn class_named is_keyword
 parameter-made l level m h =
     node-made level 3 class.Parameter (codes "PARAMETER") (text_item m.name)
-    (More (number_item m.value) (opt item_unit (norm_units level kinds.Plain m.unit) (each item_ident (set_idents level m.ids) End)))
+    (More (number_item m.value) (opt item_unit (norm_units level kinds.Plain m.unit)
+    (each item_ident (set_idents level m.ids) End)))
     (parameter_runs level (given_class m.unit) m) (simp (opt-line, each-line)) (record {
       letters = (refl, refl);
       known = refl;
@@ -107,7 +111,13 @@ parameter-made l level m h =
         (text-made level 3 class.Parameter m.name h.name, tt),
         (
           (number-made l level 3 class.Parameter m.value h.value, tt),
-          (parameter-unit l level m.unit h.unit, (ids-made l level 3 class.Parameter m.ids (omega arith) refl h.ids, tt)),
+          (
+            parameter-unit l level m.unit h.unit,
+            (
+              ids-made l level 3 class.Parameter m.ids (omega arith) refl h.ids,
+              tt,
+            ),
+          ),
         ),
       );
       allowed = runs-fit (slots_of class.Parameter) (parameter_runs level (given_class m.unit) m) (
@@ -127,16 +137,19 @@ parameter-made l level m h =
 abbrev conversion_runs : Level → ConversionParts → List Run
 conversion_runs level m =
     alone class.Text (text_item m.name) ∷ alone class.Method (item_method (norm_method level m.method)) ∷
-    record { of = class.Parameter; items = map item_parameter (set_parameters level m.parameters) } ∷ ids_run level m.ids ∷ []
+    record { of = class.Parameter; items = map item_parameter (set_parameters level m.parameters) } ∷
+    ids_run level m.ids ∷ []
 
 parameters-made : DecimalLaws → (level : Level) (ps : List ParameterParts) → Each IsParameter ps →
     Each (Made level 4 class.Conversion class.Parameter) (map item_parameter (set_parameters level ps))
 unfolding set_parameters class_named is_keyword
 parameters-made l level ps h =
     set-each (norm_parameter level) item_parameter IsParameter (Made level 4 class.Conversion class.Parameter) ps h
-    (λ m q. as-argument level 4 4 class.Conversion class.Parameter (item_parameter (norm_parameter level m)) (omega arith) refl (parameter-made l level m q))
+    (λ m q. as-argument level 4 4 class.Conversion class.Parameter (item_parameter (norm_parameter level m))
+    (omega arith) refl (parameter-made l level m q))
 
-parameters-ascend : (level : Level) (ps : List ParameterParts) → Ascend (map item_parameter (set_parameters level ps) ++ [])
+parameters-ascend : (level : Level) (ps : List ParameterParts) →
+    Ascend (map item_parameter (set_parameters level ps) ++ [])
 unfolding set_parameters
 parameters-ascend level ps = set-ascends item_parameter (map (norm_parameter level) ps)
 
@@ -154,11 +167,25 @@ conversion-made l level m h =
       made = (
         (text-made level 4 class.Conversion m.name h.name, tt),
         (
-          (as-argument level 3 4 class.Conversion class.Method (item_method (norm_method level m.method)) (omega arith) refl (method-made l level m.method h.method), tt),
-          (parameters-made l level m.parameters h.parameters, (ids-made l level 4 class.Conversion m.ids (omega arith) refl h.ids, tt)),
+          (
+            as-argument level 3 4 class.Conversion class.Method (item_method (norm_method level m.method))
+                (omega arith) refl (method-made l level m.method h.method),
+            tt,
+          ),
+          (
+            parameters-made l level m.parameters h.parameters,
+            (
+              ids-made l level 4 class.Conversion m.ids (omega arith)
+                  refl h.ids,
+              tt,
+            ),
+          ),
         ),
       );
-      allowed = runs-fit (slots_of class.Conversion) (conversion_runs level m) (fills-one refl, (fills-one refl, (fills-any refl, (fills-any refl, tt))));
+      allowed = runs-fit (slots_of class.Conversion) (conversion_runs level m) (
+        fills-one refl,
+        (fills-one refl, (fills-any refl, (fills-any refl, tt))),
+      );
       sets = (ids-ascend level m.ids, (tt, (tt, (parameters-ascend level m.parameters, (tt, tt)))));
       own = λ item s. tt;
       unbroken = λ item fault s b. b;

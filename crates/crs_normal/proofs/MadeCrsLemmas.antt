@@ -26,15 +26,26 @@ use Rattle.crs_normal.proofs.MadeVerticalLemmas.{vertical-made}
 deeper : (level : Level) (c : Class) (n : ℕ) (item : Item) → n ≤ 8 → IsMade level c n item → IsMade level c 8 item
 deeper level c n item h m =
     let w : depth item ≤ n = m.within in
-    record { is_node = m.is_node; formed = m.formed; within = omega arith; shaped = m.shaped; unbroken = m.unbroken; normal = m.normal }
+    record {
+      is_node = m.is_node;
+      formed = m.formed;
+      within = omega arith;
+      shaped = m.shaped;
+      unbroken = m.unbroken;
+      normal = m.normal;
+    }
 
-pub crs-made : DecimalLaws → AxisEach → (level : Level) (c : Crs) → IsCrs c → (p : ℕ) → IsMade level (crs_class c) 8 (at_place p (item_crs (norm_crs level c)))
+pub crs-made : DecimalLaws → AxisEach → (level : Level) (c : Crs) → IsCrs c → (p : ℕ) →
+    IsMade level (crs_class c) 8 (at_place p (item_crs (norm_crs level c)))
 crs-made l each_at level (crs.Geodetic g) h p =
-    deeper level (root_class g.system.system_type) 6 (at_place p (item_crs (norm_crs level (crs.Geodetic g)))) (omega arith) (geodetic-made l each_at level g h p)
+    deeper level (root_class g.system.system_type) 6 (at_place p (item_crs (norm_crs level (crs.Geodetic g))))
+    (omega arith) (geodetic-made l each_at level g h p)
 crs-made l each_at level (crs.Projected g) h p =
-    deeper level (crs_class (crs.Projected g)) 7 (at_place p (item_crs (norm_crs level (crs.Projected g)))) (omega arith) (projected-made l each_at level g h p)
+    deeper level (crs_class (crs.Projected g)) 7 (at_place p (item_crs (norm_crs level (crs.Projected g))))
+    (omega arith) (projected-made l each_at level g h p)
 crs-made l each_at level (crs.Vertical g) h p =
-    deeper level (crs_class (crs.Vertical g)) 6 (at_place p (item_crs (norm_crs level (crs.Vertical g)))) (omega arith) (vertical-made l each_at level g h p)
+    deeper level (crs_class (crs.Vertical g)) 6 (at_place p (item_crs (norm_crs level (crs.Vertical g))))
+    (omega arith) (vertical-made l each_at level g h p)
 crs-made l each_at level (crs.Compound g) h p = compound-made l each_at level g h p
 
 -- ---- a whole text
@@ -46,7 +57,8 @@ geodetic-root types.Ellipsoidal = refl
 geodetic-root types.Spherical = refl
 geodetic-root types.Vertical = refl
 
-pub crs-root : (level : Level) (c : Crs) (p : ℕ) → class_of_root (at_place p (item_crs (norm_crs level c))) ≡ Some (crs_class c)
+pub crs-root : (level : Level) (c : Crs) (p : ℕ) →
+    class_of_root (at_place p (item_crs (norm_crs level c))) ≡ Some (crs_class c)
 unfolding root_named is_keyword
 crs-root level (crs.Geodetic g) p = geodetic-root g.system.system_type
 crs-root level (crs.Projected g) p = refl
@@ -64,13 +76,16 @@ mutual
       let a = text-at s first in
       let o = placed-all (p + length keyword + 1 + length (item_text first)) t others in
       let b = texts-at t others in
-      ap (λ x. node p keyword true x (at_places (p + length keyword + 1 + length (item_text (at_place s first))) (at_places t others))
+      ap (λ x. node p keyword true x (at_places (p + length keyword + 1 + length (item_text (at_place s first)))
+      (at_places t others))
       (p + length keyword + 1 + length (item_text (at_place s first)) + length (others_text (at_places t others)))) f
-      ∙ ap (λ w. node p keyword true (at_place (p + length keyword + 1) first) (at_places (p + length keyword + 1 + length w) (at_places t others))
+      ∙ ap (λ w. node p keyword true (at_place (p + length keyword + 1) first)
+      (at_places (p + length keyword + 1 + length w) (at_places t others))
       (p + length keyword + 1 + length w + length (others_text (at_places t others)))) a
       ∙ ap (λ x. node p keyword true (at_place (p + length keyword + 1) first) x
       (p + length keyword + 1 + length (item_text first) + length (others_text (at_places t others)))) o
-      ∙ ap (λ w. node p keyword true (at_place (p + length keyword + 1) first) (at_places (p + length keyword + 1 + length (item_text first)) others)
+      ∙ ap (λ w. node p keyword true (at_place (p + length keyword + 1) first)
+      (at_places (p + length keyword + 1 + length (item_text first)) others)
       (p + length keyword + 1 + length (item_text first) + length w)) b
 
   placed-all : (p q : ℕ) (js : Items) → at_places p (at_places q js) ≡ at_places p js
@@ -79,17 +94,21 @@ mutual
       let f = placed-twice (p + 1) (q + 1) j in
       let a = text-at (q + 1) j in
       let o = placed-all (p + 1 + length (item_text j)) (q + 1 + length (item_text j)) js in
-      ap (λ x. More x (at_places (p + 1 + length (item_text (at_place (q + 1) j))) (at_places (q + 1 + length (item_text j)) js))) f
-      ∙ ap (λ w. More (at_place (p + 1) j) (at_places (p + 1 + length w) (at_places (q + 1 + length (item_text j)) js))) a
+      ap (λ x. More x (at_places (p + 1 + length (item_text (at_place (q + 1) j)))
+      (at_places (q + 1 + length (item_text j)) js))) f
+      ∙ ap (λ w. More (at_place (p + 1) j) (at_places (p + 1 + length w) (at_places (q + 1 + length (item_text j))
+      js))) a
       ∙ ap (λ x. More (at_place (p + 1) j) x) o
 
-pub crs-text-normal : DecimalLaws → AxisEach → WrittenSpells → (level : Level) (c : Crs) → IsCrs c → IsNormalText level (item_text (item_crs (norm_crs level c)))
+pub crs-text-normal : DecimalLaws → AxisEach → WrittenSpells → (level : Level) (c : Crs) → IsCrs c →
+    IsNormalText level (item_text (item_crs (norm_crs level c)))
 crs-text-normal l each_at written level c h =
     let i : Item = item_crs (norm_crs level c) in
     let m : IsMade level (crs_class c) 8 (at_place 0 i) = crs-made l each_at level c h 0 in
     let w : depth (at_place 0 i) ≤ 8 = m.within in
     let few : depth (at_place 0 i) ≤ 12 = omega arith in
-    let spelled : SpellsNode (item_text (at_place 0 i)) (at_place 0 (at_place 0 i)) = written (at_place 0 i) m.formed m.is_node few in
+    let spelled : SpellsNode (item_text (at_place 0 i)) (at_place 0 (at_place 0 i)) = written (at_place 0 i)
+    m.formed m.is_node few in
     record {
       item = at_place 0 i;
       class_read = crs_class c;

@@ -45,14 +45,16 @@ suits-kind asked kind (inl e) = ap (kind_as asked) e ∙ itself asked
     itself kinds.Plain = refl
 
 -- a unit of the asked kind as an argument
-pub unit-argument : DecimalLaws → (level : Level) (most : ℕ) (parent c : Class) (asked : UnitKind) (u : UnitParts) → 3 ≤ most →
+pub unit-argument : DecimalLaws → (level : Level) (most : ℕ) (parent c : Class) (asked : UnitKind) (u : UnitParts) →
+    3 ≤ most →
     class_named parent (unit_word asked) ≡ Some c → IsKindIn c asked → kind_as asked u.kind ≡ asked → IsUnit u →
     Made level most parent c (item_unit (norm_unit level asked u))
 unit-argument l level most parent c asked u deep named k same h =
     subst (λ kind. Made level most parent c (item_unit (unit_as level kind u))) (sym same)
     (as-argument level 3 most parent c (item_unit (unit_as level asked u)) deep named (unit-made l level c asked u k h))
 
-pub given-unit : DecimalLaws → (level : Level) (most : ℕ) (parent c : Class) (asked : UnitKind) (x : Option UnitParts) → 3 ≤ most →
+pub given-unit : DecimalLaws → (level : Level) (most : ℕ) (parent c : Class) (asked : UnitKind) (x : Option UnitParts)
+    → 3 ≤ most →
     class_named parent (unit_word asked) ≡ Some c → IsKindIn c asked → IfSome x (IsUnitOf asked) →
     Each (Made level most parent c) (given item_unit (norm_units level asked x))
 given-unit l level most parent c asked None deep named k h = tt
@@ -79,7 +81,8 @@ unfolding set_idents
 length-argument l levels.Full most parent None deep named h =
     unit-argument l levels.Full most parent class.LengthUnit kinds.Length metre deep named refl refl metre-unit
 length-argument l level most parent (Some u) deep named h =
-    unit-argument l level most parent class.LengthUnit kinds.Length u deep named refl (suits-kind kinds.Length u.kind h.1) h.0
+    unit-argument l level most parent class.LengthUnit kinds.Length u deep named refl
+    (suits-kind kinds.Length u.kind h.1) h.0
 
 pub placed-some : (items js : List Item) (j : Item) → ArePlaced items (j ∷ js) → items ≢ []
 placed-some [] js j h e = h
@@ -91,7 +94,8 @@ placed-none (item ∷ items) h = absurd h
 
 -- ---- ellipsoids
 
-ellipsoid-numbers : DecimalLaws → (a f : Value) (numbers : List Item) (fault : Refused) → ArePlaced numbers (number_item a ∷ number_item f ∷ []) →
+ellipsoid-numbers : DecimalLaws → (a f : Value) (numbers : List Item) (fault : Refused) →
+    ArePlaced numbers (number_item a ∷ number_item f ∷ []) →
     IsNormal a → IsAboveZero a → IsNormal f → f.negative ≡ false → ¬ (OfEllipsoid numbers fault)
 ellipsoid-numbers l a f [] fault h n z m s b = h
 ellipsoid-numbers l a f (x ∷ []) fault h n z m s b = h.1
@@ -105,7 +109,8 @@ ellipsoid-numbers l a f (x ∷ y ∷ w ∷ others) fault h n z m s b = h.1.1
 abbrev ellipsoid_runs : Level → EllipsoidParts → List Run
 ellipsoid_runs level e =
     alone class.Text (text_item e.name) ∷ alone class.Number (number_item e.semi_major_axis) ∷
-    alone class.Number (number_item e.inverse_flattening) ∷ alone class.LengthUnit (item_unit (norm_length level e.unit)) ∷ ids_run level e.ids ∷ []
+    alone class.Number (number_item e.inverse_flattening) ∷ alone class.LengthUnit
+    (item_unit (norm_length level e.unit)) ∷ ids_run level e.ids ∷ []
 
 ellipsoid-kept : DecimalLaws → (level : Level) (e : EllipsoidParts) → IsEllipsoid e →
     IsKept level 3 class.Ellipsoid (codes "ELLIPSOID") (ellipsoid_runs level e)
@@ -127,12 +132,26 @@ ellipsoid-kept l level e h = record {
       ),
     ),
   );
-  allowed = runs-fit (slots_of class.Ellipsoid) (ellipsoid_runs level e)
-      (fills-one refl, (fills-one refl, (fills-one refl, (fills-optional item_unit (Some (norm_length level e.unit)) refl, (fills-any refl, tt)))));
+  allowed = runs-fit (slots_of class.Ellipsoid) (ellipsoid_runs level e) (
+    fills-one refl,
+    (
+      fills-one refl,
+      (
+        fills-one refl,
+        (
+          fills-optional item_unit (Some (norm_length level e.unit))
+              refl,
+          (fills-any refl, tt),
+        ),
+      ),
+    ),
+  );
   sets = (ids-ascend level e.ids, (tt, (tt, (tt, (tt, tt)))));
-  own = λ item s. placed-some (those class.Ellipsoid class.LengthUnit (arguments item)) [] (item_unit (norm_length level e.unit)) (s.view class.LengthUnit);
+  own = λ item s. placed-some (those class.Ellipsoid class.LengthUnit (arguments item)) []
+      (item_unit (norm_length level e.unit)) (s.view class.LengthUnit);
   unbroken = λ item fault s b.
-      ellipsoid-numbers l e.semi_major_axis e.inverse_flattening (those class.Ellipsoid class.Number (arguments item)) fault (s.view class.Number)
+      ellipsoid-numbers l e.semi_major_axis e.inverse_flattening (those class.Ellipsoid class.Number (arguments item))
+      fault (s.view class.Number)
       h.semi_major_axis h.above_zero h.inverse_flattening h.not_negative b;
 }
 

@@ -23,7 +23,8 @@ FitRuns (slot ∷ slots) (run ∷ runs) = FillsRun slot run × FitRuns slots run
 pub fills-one : {cs : List Class} {d : Class} {j : Item} → takes (one_of cs) d ≡ true → FillsRun (one_of cs) (alone d j)
 fills-one t = record { taken = t; enough = λ h e. cc; not_more = λ h. omega arith }
 
-pub fills-any : {cs : List Class} {d : Class} {js : List Item} → takes (any_of cs) d ≡ true → FillsRun (any_of cs) (record { of = d; items = js })
+pub fills-any : {cs : List Class} {d : Class} {js : List Item} → takes (any_of cs) d ≡ true →
+    FillsRun (any_of cs) (record { of = d; items = js })
 fills-any t = record { taken = t; enough = λ h. cc; not_more = λ h. cc }
 
 pub fills-some : {cs : List Class} {d : Class} {js : List Item} → takes (some_of cs) d ≡ true → js ≢ [] →
@@ -34,7 +35,8 @@ given-few : {A : Type 0} (spell : A → Item) (x : Option A) → length (given s
 given-few spell None = omega arith
 given-few spell (Some a) = omega arith
 
-pub fills-optional : {cs : List Class} {d : Class} {A : Type 0} (spell : A → Item) (x : Option A) → takes (optional_of cs) d ≡ true →
+pub fills-optional : {cs : List Class} {d : Class} {A : Type 0} (spell : A → Item) (x : Option A) →
+    takes (optional_of cs) d ≡ true →
     FillsRun (optional_of cs) (record { of = d; items = given spell x })
 fills-optional spell x t = record { taken = t; enough = λ h. cc; not_more = λ h. given-few spell x }
 
@@ -42,7 +44,8 @@ repeated-append : (d : Class) (js : List Item) (rest : List Class) → repeated 
 repeated-append d [] rest = refl
 repeated-append d (j ∷ js) rest = ap (λ r. d ∷ r) (repeated-append d js rest)
 
-pub taken-more : (slot : SlotParts) (d : Class) (js : List Item) (rest : List Class) → takes slot d ≡ true → AllTaken slot rest →
+pub taken-more : (slot : SlotParts) (d : Class) (js : List Item) (rest : List Class) → takes slot d ≡ true →
+    AllTaken slot rest →
     AllTaken slot (repeated d js rest)
 taken-more slot d [] rest t h = h
 taken-more slot d (j ∷ js) rest t h = (t, taken-more slot d js rest t h)
@@ -63,11 +66,16 @@ run-fills slot run f = record {
   not_more = λ h. repeated-few run.of run.items (f.not_more h);
 }
 
-pub slot-fits : (slot : SlotParts) (slots : List SlotParts) (run : Run) (rest : List Class) → FillsRun slot run → Allowed slots rest →
+pub slot-fits : (slot : SlotParts) (slots : List SlotParts) (run : Run) (rest : List Class) → FillsRun slot run →
+    Allowed slots rest →
     Allowed (slot ∷ slots) (repeated run.of run.items rest)
 slot-fits slot slots run rest f a = (
   repeated run.of run.items [] ∷ a.0,
-  ((run-fills slot run f, a.1.0), repeated-append run.of run.items rest ∙ ap (λ r. repeated run.of run.items [] ++ r) a.1.1),
+  (
+    (run-fills slot run f, a.1.0),
+    repeated-append run.of run.items rest ∙ ap (λ r. repeated run.of run.items [] ++ r)
+        a.1.1,
+  ),
 )
 
 pub runs-fit : (slots : List SlotParts) (runs : List Run) → FitRuns slots runs → Allowed slots (classes runs)
@@ -78,10 +86,17 @@ runs-fit (slot ∷ slots) (run ∷ runs) h = slot-fits slot slots run (classes r
 
 -- the last slot takes all that is left
 pub last-fits : (cs : List Class) (run : List Class) → AllTaken (any_of cs) run → Allowed (any_of cs ∷ []) run
-last-fits cs run t = (run ∷ [], ((record { taken = t; enough = λ h. cc; not_more = λ h. cc }, tt), sym (append-nil run)))
+last-fits cs run t = (
+  run ∷ [],
+  (
+    (record { taken = t; enough = λ h. cc; not_more = λ h. cc }, tt),
+    sym (append-nil run),
+  ),
+)
 
 -- runs for the first slots, and for the others
-pub fit-before : (slots more : List SlotParts) (runs rest : List Run) → FitRuns slots runs → Allowed more (classes rest) →
+pub fit-before : (slots more : List SlotParts) (runs rest : List Run) → FitRuns slots runs →
+    Allowed more (classes rest) →
     Allowed (slots ++ more) (classes (runs ++ rest))
 fit-before [] more [] rest h a = a
 fit-before [] more (run ∷ runs) rest h a = absurd h

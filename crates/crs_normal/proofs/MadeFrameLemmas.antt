@@ -39,9 +39,11 @@ use Rattle.crs_normal.proofs.MadeNamedLemmas.{member-made}
 
 -- ---- nodes of one number
 
-pub number-node-made : DecimalLaws → (level : Level) (c : Class) (keyword : List ℕ) (v : Value) → IsWord keyword → IsTrue (is_keyword c keyword) →
+pub number-node-made : DecimalLaws → (level : Level) (c : Class) (keyword : List ℕ) (v : Value) → IsWord keyword →
+    IsTrue (is_keyword c keyword) →
     IsWritten c keyword → Allowed (slots_of c) (class.Number ∷ []) → ((item : Item) → Own c item) →
-    ((item : Item) (fault : Refused) → ¬ (BreaksOwn c item fault)) → IsNormal v → (p : ℕ) → IsMade level c 1 (at_place p (number_node keyword v))
+    ((item : Item) (fault : Refused) → ¬ (BreaksOwn c item fault)) → IsNormal v → (p : ℕ) →
+    IsMade level c 1 (at_place p (number_node keyword v))
 number-node-made l level c keyword v letters known written allowed own unbroken h =
     node-made level 0 c keyword (number_item v) End (alone class.Number (number_item v) ∷ []) refl (record {
       letters = letters;
@@ -59,18 +61,22 @@ accuracy-made : DecimalLaws → (level : Level) (v : Value) → IsNormal v → (
 unfolding is_keyword BreaksOwn
 accuracy-made l level v h =
     number-node-made l level class.EnsembleAccuracy (codes "ENSEMBLEACCURACY") v (refl, refl) refl refl
-    (runs-fit (slots_of class.EnsembleAccuracy) (alone class.Number (number_item v) ∷ []) (fills-one refl, tt)) (λ item. tt) (λ item fault b. b) h
+    (runs-fit (slots_of class.EnsembleAccuracy) (alone class.Number (number_item v) ∷ []) (fills-one refl, tt))
+    (λ item. tt) (λ item fault b. b) h
 
-anchor-made : (level : Level) (raw : List ℕ) → IsText raw → (p : ℕ) → IsMade level class.Anchor 1 (at_place p (text_node (codes "ANCHOR") raw))
+anchor-made : (level : Level) (raw : List ℕ) → IsText raw → (p : ℕ) →
+    IsMade level class.Anchor 1 (at_place p (text_node (codes "ANCHOR") raw))
 unfolding is_keyword BreaksOwn
 anchor-made level raw h =
     text-node-made level class.Anchor (codes "ANCHOR") raw (refl, refl) refl refl
-    (runs-fit (slots_of class.Anchor) (alone class.Text (text_item raw) ∷ []) (fills-one refl, tt)) (λ item. tt) (λ item fault b. b) h
+    (runs-fit (slots_of class.Anchor) (alone class.Text (text_item raw) ∷ []) (fills-one refl, tt)) (λ item. tt)
+    (λ item fault b. b) h
 
 -- ---- datums
 
 -- one part at most isn't repeated
-pub not-repeated : {A : Type 0} (spell : A → Item) (x : Option A) (items : List Item) (fault : Refused) → ArePlaced items (given spell x ++ []) →
+pub not-repeated : {A : Type 0} (spell : A → Item) (x : Option A) (items : List Item) (fault : Refused) →
+    ArePlaced items (given spell x ++ []) →
     ¬ (AnyOf IsRepeated (drop 1 items) fault)
 not-repeated spell None [] fault h b = b
 not-repeated spell None (item ∷ items) fault h b = h
@@ -81,24 +87,30 @@ not-repeated spell (Some x) (item ∷ other ∷ items) fault h b = h.1
 abbrev anchor_run : Option (List ℕ) → Run
 anchor_run anchor = record { of = class.Anchor; items = given (text_node (codes "ANCHOR")) anchor }
 
-anchors-made : (level : Level) (parent : Class) (anchor : Option (List ℕ)) → class_named parent (codes "ANCHOR") ≡ Some class.Anchor → IfSome anchor IsText →
+anchors-made : (level : Level) (parent : Class) (anchor : Option (List ℕ)) →
+    class_named parent (codes "ANCHOR") ≡ Some class.Anchor → IfSome anchor IsText →
     Each (Made level 4 parent class.Anchor) (given (text_node (codes "ANCHOR")) anchor)
 anchors-made level parent anchor named h =
     given-made level 4 parent class.Anchor IsText (text_node (codes "ANCHOR")) anchor h
-    (λ raw q. as-argument level 1 4 parent class.Anchor (text_node (codes "ANCHOR") raw) (omega arith) named (anchor-made level raw q))
+    (λ raw q. as-argument level 1 4 parent class.Anchor (text_node (codes "ANCHOR") raw) (omega arith) named
+    (anchor-made level raw q))
 
 abbrev geodetic_datum_runs : Level → EllipsoidParts → DatumParts → List Run
 geodetic_datum_runs level e d =
-    alone class.Text (text_item d.name) ∷ alone class.Ellipsoid (item_ellipsoid (norm_ellipsoid level e)) ∷ anchor_run d.anchor ∷ ids_run level d.ids ∷ []
+    alone class.Text (text_item d.name) ∷ alone class.Ellipsoid (item_ellipsoid (norm_ellipsoid level e)) ∷
+    anchor_run d.anchor ∷ ids_run level d.ids ∷ []
 
-geodetic-datum-made : DecimalLaws → (level : Level) (x : Option EllipsoidParts) (d : DatumParts) → IsSome x → IfSome x IsEllipsoid → IsDatum d → (p : ℕ) →
+geodetic-datum-made : DecimalLaws → (level : Level) (x : Option EllipsoidParts) (d : DatumParts) → IsSome x →
+    IfSome x IsEllipsoid → IsDatum d → (p : ℕ) →
     IsMade level class.GeodeticFrame 5 (at_place p (node_of (codes "DATUM") (text_item d.name)
-    (opt item_ellipsoid (option_map (norm_ellipsoid level) x) (opt (text_node (codes "ANCHOR")) d.anchor (each item_ident (set_idents level d.ids) End)))))
+    (opt item_ellipsoid (option_map (norm_ellipsoid level) x) (opt (text_node (codes "ANCHOR")) d.anchor
+    (each item_ident (set_idents level d.ids) End)))))
 unfolding BreaksOwn class_named is_keyword
 geodetic-datum-made l level None d some e h = absurd (cc some)
 geodetic-datum-made l level (Some x) d some e h =
     node-made level 4 class.GeodeticFrame (codes "DATUM") (text_item d.name)
-    (opt item_ellipsoid (Some (norm_ellipsoid level x)) (opt (text_node (codes "ANCHOR")) d.anchor (each item_ident (set_idents level d.ids) End)))
+    (opt item_ellipsoid (Some (norm_ellipsoid level x)) (opt (text_node (codes "ANCHOR")) d.anchor
+    (each item_ident (set_idents level d.ids) End)))
     (geodetic_datum_runs level x d) (simp (opt-line, each-line)) (record {
       letters = (refl, refl);
       known = refl;
@@ -106,8 +118,15 @@ geodetic-datum-made l level (Some x) d some e h =
       made = (
         (text-made level 4 class.GeodeticFrame d.name h.name, tt),
         (
-          (as-argument level 4 4 class.GeodeticFrame class.Ellipsoid (item_ellipsoid (norm_ellipsoid level x)) (omega arith) refl (ellipsoid-made l level x e), tt),
-          (anchors-made level class.GeodeticFrame d.anchor refl h.anchor, (ids-made l level 4 class.GeodeticFrame d.ids (omega arith) refl h.ids, tt)),
+          (
+            as-argument level 4 4 class.GeodeticFrame class.Ellipsoid (item_ellipsoid (norm_ellipsoid level x))
+                (omega arith) refl (ellipsoid-made l level x e),
+            tt,
+          ),
+          (
+            anchors-made level class.GeodeticFrame d.anchor refl h.anchor,
+            (ids-made l level 4 class.GeodeticFrame d.ids (omega arith) refl h.ids, tt),
+          ),
         ),
       );
       allowed = runs-fit (slots_of class.GeodeticFrame) (geodetic_datum_runs level x d)
@@ -115,15 +134,18 @@ geodetic-datum-made l level (Some x) d some e h =
       sets = (ids-ascend level d.ids, (tt, (tt, (tt, (tt, tt)))));
       own = λ item s. tt;
       unbroken = λ item fault s b.
-          not-repeated (text_node (codes "ANCHOR")) d.anchor (those class.GeodeticFrame class.Anchor (arguments item)) fault (s.view class.Anchor) b;
+          not-repeated (text_node (codes "ANCHOR")) d.anchor (those class.GeodeticFrame class.Anchor (arguments item))
+          fault (s.view class.Anchor) b;
     })
 
 abbrev vertical_datum_runs : Level → DatumParts → List Run
 vertical_datum_runs level d = alone class.Text (text_item d.name) ∷ anchor_run d.anchor ∷ ids_run level d.ids ∷ []
 
-vertical-datum-made : DecimalLaws → (level : Level) (x : Option EllipsoidParts) (d : DatumParts) → IsNone x → IsDatum d → (p : ℕ) →
+vertical-datum-made : DecimalLaws → (level : Level) (x : Option EllipsoidParts) (d : DatumParts) → IsNone x →
+    IsDatum d → (p : ℕ) →
     IsMade level class.VerticalFrame 5 (at_place p (node_of (codes "VDATUM") (text_item d.name)
-    (opt item_ellipsoid (option_map (norm_ellipsoid level) x) (opt (text_node (codes "ANCHOR")) d.anchor (each item_ident (set_idents level d.ids) End)))))
+    (opt item_ellipsoid (option_map (norm_ellipsoid level) x) (opt (text_node (codes "ANCHOR")) d.anchor
+    (each item_ident (set_idents level d.ids) End)))))
 unfolding BreaksOwn class_named is_keyword
 vertical-datum-made l level (Some x) d none h = absurd (cc none)
 vertical-datum-made l level None d none h =
@@ -135,13 +157,24 @@ vertical-datum-made l level None d none h =
       written = refl;
       made = (
         (text-made level 4 class.VerticalFrame d.name h.name, tt),
-        (anchors-made level class.VerticalFrame d.anchor refl h.anchor, (ids-made l level 4 class.VerticalFrame d.ids (omega arith) refl h.ids, tt)),
+        (
+          anchors-made level class.VerticalFrame d.anchor refl h.anchor,
+          (
+            ids-made l level 4 class.VerticalFrame d.ids
+                (omega arith) refl h.ids,
+            tt,
+          ),
+        ),
       );
-      allowed = runs-fit (slots_of class.VerticalFrame) (vertical_datum_runs level d) (fills-one refl, (fills-any refl, (fills-any refl, tt)));
+      allowed = runs-fit (slots_of class.VerticalFrame) (vertical_datum_runs level d) (
+        fills-one refl,
+        (fills-any refl, (fills-any refl, tt)),
+      );
       sets = (ids-ascend level d.ids, (tt, (tt, (tt, (tt, tt)))));
       own = λ item s. tt;
       unbroken = λ item fault s b.
-          not-repeated (text_node (codes "ANCHOR")) d.anchor (those class.VerticalFrame class.Anchor (arguments item)) fault (s.view class.Anchor) b;
+          not-repeated (text_node (codes "ANCHOR")) d.anchor (those class.VerticalFrame class.Anchor (arguments item))
+          fault (s.view class.Anchor) b;
     })
 
 -- ---- ensembles
@@ -149,12 +182,14 @@ vertical-datum-made l level None d none h =
 abbrev members_run : Level → List MemberParts → Run
 members_run level ms = record { of = class.Member; items = map item_member (set_members level ms) }
 
-members-made : DecimalLaws → (level : Level) (parent : Class) (ms : List MemberParts) → class_named parent (codes "MEMBER") ≡ Some class.Member →
+members-made : DecimalLaws → (level : Level) (parent : Class) (ms : List MemberParts) →
+    class_named parent (codes "MEMBER") ≡ Some class.Member →
     Each IsMember ms → Each (Made level 4 parent class.Member) (map item_member (set_members level ms))
 unfolding set_members
 members-made l level parent ms named h =
     set-each (norm_member level) item_member IsMember (Made level 4 parent class.Member) ms h
-    (λ m q. as-argument level 3 4 parent class.Member (item_member (norm_member level m)) (omega arith) named (member-made l level m q))
+    (λ m q. as-argument level 3 4 parent class.Member (item_member (norm_member level m)) (omega arith) named
+    (member-made l level m q))
 
 members-ascend : (level : Level) (ms : List MemberParts) → Ascend (map item_member (set_members level ms) ++ [])
 unfolding set_members
@@ -164,14 +199,17 @@ members-some : (level : Level) (ms : List MemberParts) → ms ≢ [] → map ite
 unfolding set_members
 members-some level ms h = set-some (norm_member level) item_member ms h
 
-accuracy-argument : DecimalLaws → (level : Level) (parent : Class) (v : Value) → class_named parent (codes "ENSEMBLEACCURACY") ≡ Some class.EnsembleAccuracy →
+accuracy-argument : DecimalLaws → (level : Level) (parent : Class) (v : Value) →
+    class_named parent (codes "ENSEMBLEACCURACY") ≡ Some class.EnsembleAccuracy →
     IsNormal v → Made level 4 parent class.EnsembleAccuracy (number_node (codes "ENSEMBLEACCURACY") v)
 accuracy-argument l level parent v named h =
-    as-argument level 1 4 parent class.EnsembleAccuracy (number_node (codes "ENSEMBLEACCURACY") v) (omega arith) named (accuracy-made l level v h)
+    as-argument level 1 4 parent class.EnsembleAccuracy (number_node (codes "ENSEMBLEACCURACY") v) (omega arith) named
+    (accuracy-made l level v h)
 
 abbrev geodetic_ensemble_runs : Level → EllipsoidParts → EnsembleParts → List Run
 geodetic_ensemble_runs level x e =
-    alone class.Text (text_item e.name) ∷ members_run level e.members ∷ alone class.Ellipsoid (item_ellipsoid (norm_ellipsoid level x)) ∷
+    alone class.Text (text_item e.name) ∷ members_run level e.members ∷ alone class.Ellipsoid
+    (item_ellipsoid (norm_ellipsoid level x)) ∷
     alone class.EnsembleAccuracy (number_node (codes "ENSEMBLEACCURACY") e.accuracy) ∷ ids_run level e.ids ∷ []
 
 -- the arguments behind an ensemble's name
@@ -180,8 +218,10 @@ ensemble_others level x e =
     each item_member (set_members level e.members) (opt item_ellipsoid (option_map (norm_ellipsoid level) x)
     (More (number_node (codes "ENSEMBLEACCURACY") e.accuracy) (each item_ident (set_idents level e.ids) End)))
 
-geodetic-ensemble-made : DecimalLaws → (level : Level) (x : Option EllipsoidParts) (e : EnsembleParts) → IsSome x → IfSome x IsEllipsoid → IsEnsemble e →
-    (p : ℕ) → IsMade level class.GeodeticEnsemble 5 (at_place p (node_of (codes "ENSEMBLE") (text_item e.name) (ensemble_others level x e)))
+geodetic-ensemble-made : DecimalLaws → (level : Level) (x : Option EllipsoidParts) (e : EnsembleParts) → IsSome x →
+    IfSome x IsEllipsoid → IsEnsemble e →
+    (p : ℕ) → IsMade level class.GeodeticEnsemble 5 (at_place p (node_of (codes "ENSEMBLE") (text_item e.name)
+    (ensemble_others level x e)))
 unfolding BreaksOwn class_named is_keyword
 geodetic-ensemble-made l level None e some f h = absurd (cc some)
 geodetic-ensemble-made l level (Some x) e some f h =
@@ -195,7 +235,11 @@ geodetic-ensemble-made l level (Some x) e some f h =
         (
           members-made l level class.GeodeticEnsemble e.members refl h.members,
           (
-            (as-argument level 4 4 class.GeodeticEnsemble class.Ellipsoid (item_ellipsoid (norm_ellipsoid level x)) (omega arith) refl (ellipsoid-made l level x f), tt),
+            (
+              as-argument level 4 4 class.GeodeticEnsemble class.Ellipsoid (item_ellipsoid (norm_ellipsoid level x))
+                  (omega arith) refl (ellipsoid-made l level x f),
+              tt,
+            ),
             (
               (accuracy-argument l level class.GeodeticEnsemble e.accuracy refl h.accuracy, tt),
               (ids-made l level 4 class.GeodeticEnsemble e.ids (omega arith) refl h.ids, tt),
@@ -203,8 +247,13 @@ geodetic-ensemble-made l level (Some x) e some f h =
           ),
         ),
       );
-      allowed = runs-fit (slots_of class.GeodeticEnsemble) (geodetic_ensemble_runs level x e)
-          (fills-one refl, (fills-some refl (members-some level e.members h.some), (fills-one refl, (fills-one refl, (fills-any refl, tt)))));
+      allowed = runs-fit (slots_of class.GeodeticEnsemble) (geodetic_ensemble_runs level x e) (
+        fills-one refl,
+        (
+          fills-some refl (members-some level e.members h.some),
+          (fills-one refl, (fills-one refl, (fills-any refl, tt))),
+        ),
+      );
       sets = (ids-ascend level e.ids, (tt, (members-ascend level e.members, (tt, (tt, tt)))));
       own = λ item s. tt;
       unbroken = λ item fault s b. b;
@@ -215,8 +264,10 @@ vertical_ensemble_runs level e =
     alone class.Text (text_item e.name) ∷ members_run level e.members ∷
     alone class.EnsembleAccuracy (number_node (codes "ENSEMBLEACCURACY") e.accuracy) ∷ ids_run level e.ids ∷ []
 
-vertical-ensemble-made : DecimalLaws → (level : Level) (x : Option EllipsoidParts) (e : EnsembleParts) → IsNone x → IsEnsemble e →
-    (p : ℕ) → IsMade level class.VerticalEnsemble 5 (at_place p (node_of (codes "ENSEMBLE") (text_item e.name) (ensemble_others level x e)))
+vertical-ensemble-made : DecimalLaws → (level : Level) (x : Option EllipsoidParts) (e : EnsembleParts) → IsNone x →
+    IsEnsemble e →
+    (p : ℕ) → IsMade level class.VerticalEnsemble 5 (at_place p (node_of (codes "ENSEMBLE") (text_item e.name)
+    (ensemble_others level x e)))
 unfolding BreaksOwn class_named is_keyword
 vertical-ensemble-made l level (Some x) e none h = absurd (cc none)
 vertical-ensemble-made l level None e none h =
@@ -235,8 +286,13 @@ vertical-ensemble-made l level None e none h =
           ),
         ),
       );
-      allowed = runs-fit (slots_of class.VerticalEnsemble) (vertical_ensemble_runs level e)
-          (fills-one refl, (fills-some refl (members-some level e.members h.some), (fills-one refl, (fills-any refl, tt))));
+      allowed = runs-fit (slots_of class.VerticalEnsemble) (vertical_ensemble_runs level e) (
+        fills-one refl,
+        (
+          fills-some refl (members-some level e.members h.some),
+          (fills-one refl, (fills-any refl, tt)),
+        ),
+      );
       sets = (ids-ascend level e.ids, (tt, (members-ascend level e.members, (tt, (tt, tt)))));
       own = λ item s. tt;
       unbroken = λ item fault s b. b;

@@ -52,16 +52,20 @@ pub record NamesFrame (c : Class) : Type 0 where
   pub datum : class_named c (codes "DATUM") ≡ Some class.GeodeticFrame
   pub ensemble : class_named c (codes "ENSEMBLE") ≡ Some class.GeodeticEnsemble
 
-frame-named : (level : Level) (c : Class) (f : Frame) → NamesFrame c → class_in c (item_frame (codes "DATUM") (norm_frame level f)) ≡ Some (geodetic_class f)
+frame-named : (level : Level) (c : Class) (f : Frame) → NamesFrame c →
+    class_in c (item_frame (codes "DATUM") (norm_frame level f)) ≡ Some (geodetic_class f)
 frame-named level c (frame.Datum d) n = n.datum
 frame-named level c (frame.Ensemble e) n = n.ensemble
 
-pub frame-argument : DecimalLaws → (level : Level) (most : ℕ) (c : Class) (f : Frame) → 5 ≤ most → NamesFrame c → IsGeodeticFrame f →
+pub frame-argument : DecimalLaws → (level : Level) (most : ℕ) (c : Class) (f : Frame) → 5 ≤ most → NamesFrame c →
+    IsGeodeticFrame f →
     Made level most c (geodetic_class f) (item_frame (codes "DATUM") (norm_frame level f))
 frame-argument l level most c f deep n h =
-    as-argument level 5 most c (geodetic_class f) (item_frame (codes "DATUM") (norm_frame level f)) deep (frame-named level c f n) (geodetic-frame-made l level f h)
+    as-argument level 5 most c (geodetic_class f) (item_frame (codes "DATUM") (norm_frame level f)) deep
+    (frame-named level c f n) (geodetic-frame-made l level f h)
 
-pub frame-taken : (f : Frame) → takes (one_of (class.GeodeticFrame ∷ class.GeodeticEnsemble ∷ [])) (geodetic_class f) ≡ true
+pub frame-taken : (f : Frame) →
+    takes (one_of (class.GeodeticFrame ∷ class.GeodeticEnsemble ∷ [])) (geodetic_class f) ≡ true
 frame-taken (frame.Datum d) = refl
 frame-taken (frame.Ensemble e) = refl
 
@@ -79,11 +83,13 @@ abbrev pub geodetic_classes : List Class
 geodetic_classes = class.PrimeMeridian ∷ crs_classes
 
 pub frame-shows : (c : Class) (item n j : Item) (f : Frame) (rest : List Run) →
-    Each (Shows c item (alone class.Text n ∷ alone (geodetic_class f) j ∷ rest)) geodetic_classes → Each (Shows c item rest) geodetic_classes
+    Each (Shows c item (alone class.Text n ∷ alone (geodetic_class f) j ∷ rest)) geodetic_classes →
+    Each (Shows c item rest) geodetic_classes
 frame-shows c item n j (frame.Datum d) rest h = h
 frame-shows c item n j (frame.Ensemble e) rest h = h
 
-pub meridian-there : (level : Level) (m : Option MeridianParts) (items : List Item) → ArePlaced items (given item_meridian (norm_meridian level m) ++ []) → items ≢ []
+pub meridian-there : (level : Level) (m : Option MeridianParts) (items : List Item) →
+    ArePlaced items (given item_meridian (norm_meridian level m) ++ []) → items ≢ []
 meridian-there level None [] h e = h
 meridian-there level None (x ∷ items) h e = cc
 meridian-there level (Some m) [] h e = h
@@ -104,16 +110,21 @@ record IsRootClass (t : SystemType) (c : Class) (keyword : List ℕ) : Type 0 wh
   dimensions : SystemType → List ℕ
   allows : (d : Value) → IsOneOf d (geodetic_dimensions t) → IsOneOf d (dimensions t)
   breaks : (item : Item) (fault : Refused) → BreaksOwn c item fault → OfCrs dimensions c item fault
-  own : (item : Item) → Each (λ cs. words_in class.CoordinateSystem cs ≡ system_word t ∷ []) (those c class.CoordinateSystem (arguments item)) →
+  own : (item : Item) → Each (λ cs. words_in class.CoordinateSystem cs ≡ system_word t ∷ [])
+      (those c class.CoordinateSystem (arguments item)) →
       Has c class.PrimeMeridian item → HasAxes c item → HasTail c item → Own c item
 
-other-words : (w : List ℕ) (items : List Item) → w ≢ codes "ellipsoidal" → Each (λ cs. words_in class.CoordinateSystem cs ≡ w ∷ []) items →
+other-words : (w : List ℕ) (items : List Item) → w ≢ codes "ellipsoidal" →
+    Each (λ cs. words_in class.CoordinateSystem cs ≡ w ∷ []) items →
     Each (λ cs. words_in class.CoordinateSystem cs ≢ codes "ellipsoidal" ∷ []) items
 other-words w [] n h = tt
-other-words w (x ∷ items) n h =
-    (λ e. let k : w ∷ [] ≡ codes "ellipsoidal" ∷ [] = sym h.0 ∙ e in let q : w ≡ codes "ellipsoidal" = cc in n q, other-words w items n h.1)
+other-words w (x ∷ items) n h = (
+  λ e. let k : w ∷ [] ≡ codes "ellipsoidal" ∷ [] = sym h.0 ∙ e in let q : w ≡ codes "ellipsoidal" = cc in n q,
+  other-words w items n h.1,
+)
 
-geodetic-root : (t : SystemType) → system_word t ≢ codes "ellipsoidal" → IsRootClass t class.GeodeticCrs (codes "GEODCRS")
+geodetic-root : (t : SystemType) → system_word t ≢ codes "ellipsoidal" →
+    IsRootClass t class.GeodeticCrs (codes "GEODCRS")
 unfolding BreaksOwn class_named is_keyword
 geodetic-root t n = record {
   letters = (refl, refl);
@@ -127,8 +138,12 @@ geodetic-root t n = record {
   dimensions = geodetic_dimensions;
   allows = λ d h. h;
   breaks = λ item fault b. b;
-  own = λ item words meridian axes end.
-      (other-words (system_word t) (those class.GeodeticCrs class.CoordinateSystem (arguments item)) n words, meridian, axes, end);
+  own = λ item words meridian axes end. (
+    other-words (system_word t) (those class.GeodeticCrs class.CoordinateSystem (arguments item)) n words,
+    meridian,
+    axes,
+    end,
+  );
 }
 
 geographic-root : IsRootClass types.Ellipsoidal class.GeographicCrs (codes "GEOGCRS")
@@ -161,12 +176,14 @@ meridian_run level g = record { of = class.PrimeMeridian; items = given item_mer
 
 abbrev geodetic_runs : Level → GeodeticParts → List Run
 geodetic_runs level g =
-    alone class.Text (text_item g.name) ∷ alone (geodetic_class g.frame) (item_frame (codes "DATUM") (norm_frame level g.frame)) ∷
+    alone class.Text (text_item g.name) ∷ alone (geodetic_class g.frame) (item_frame (codes "DATUM")
+    (norm_frame level g.frame)) ∷
     meridian_run level g ∷ behind level g.system g.tail
 
 abbrev pub end_classes : List Class
 end_classes =
-    class.Usage ∷ class.Scope ∷ class.Area ∷ class.BoundingBox ∷ class.VerticalExtent ∷ class.Identifier ∷ class.Remark ∷ []
+    class.Usage ∷ class.Scope ∷ class.Area ∷ class.BoundingBox ∷ class.VerticalExtent ∷ class.Identifier ∷
+    class.Remark ∷ []
 
 geodetic-small : (t : SystemType) → Each (λ m. m ≤ 3) (geodetic_dimensions t)
 geodetic-small types.Cartesian = (omega arith, tt)
@@ -174,12 +191,16 @@ geodetic-small types.Ellipsoidal = (omega arith, (omega arith, tt))
 geodetic-small types.Spherical = (omega arith, (omega arith, tt))
 geodetic-small types.Vertical = tt
 
-geodetic-allowed : DecimalLaws → (level : Level) (g : GeodeticParts) → IsFew g.system → Allowed geodetic_slots (classes (geodetic_runs level g))
+geodetic-allowed : DecimalLaws → (level : Level) (g : GeodeticParts) → IsFew g.system →
+    Allowed geodetic_slots (classes (geodetic_runs level g))
 geodetic-allowed l level g few =
-    fit-before (one class.Text ∷ one_of (class.GeodeticFrame ∷ class.GeodeticEnsemble ∷ []) ∷ optional class.PrimeMeridian ∷
+    fit-before (one class.Text ∷ one_of (class.GeodeticFrame ∷ class.GeodeticEnsemble ∷ []) ∷
+    optional class.PrimeMeridian ∷
     one class.CoordinateSystem ∷ some class.Axis ∷ optional class.AxisUnit ∷ []) (tail ∷ [])
-    (alone class.Text (text_item g.name) ∷ alone (geodetic_class g.frame) (item_frame (codes "DATUM") (norm_frame level g.frame)) ∷
-    meridian_run level g ∷ alone class.CoordinateSystem (item_head (norm_system level g.system)) ∷ axes_run level g.system ∷ no_unit_run ∷ [])
+    (alone class.Text (text_item g.name) ∷ alone (geodetic_class g.frame) (item_frame (codes "DATUM")
+    (norm_frame level g.frame)) ∷
+    meridian_run level g ∷ alone class.CoordinateSystem (item_head (norm_system level g.system)) ∷
+    axes_run level g.system ∷ no_unit_run ∷ [])
     (tail_runs level g.tail) (
       fills-one refl,
       (
@@ -195,10 +216,12 @@ geodetic-allowed l level g few =
     )
     (last-fits end_classes (classes (tail_runs level g.tail)) (tail-fits end_classes level g.tail refl refl refl))
 
-pub end-sets : (level : Level) (g : GeodeticParts) → Each (λ d. Ascend (items_in d (meridian_run level g ∷ behind level g.system g.tail))) set_classes
+pub end-sets : (level : Level) (g : GeodeticParts) →
+    Each (λ d. Ascend (items_in d (meridian_run level g ∷ behind level g.system g.tail))) set_classes
 end-sets level g = (ids-ascend level g.tail.ids, (usages-ascend level (usages_of g.tail), (tt, (tt, (tt, tt)))))
 
-geodetic-runs-made : DecimalLaws → (level : Level) (c : Class) (keyword : List ℕ) (g : GeodeticParts) → IsRootClass g.system.system_type c keyword →
+geodetic-runs-made : DecimalLaws → (level : Level) (c : Class) (keyword : List ℕ) (g : GeodeticParts) →
+    IsRootClass g.system.system_type c keyword →
     IsFew g.system → IsGeodetic g → RunsMade level 5 c (geodetic_runs level g)
 geodetic-runs-made l level c keyword g r few h = (
   (text-made level 5 c g.name h.name, tt),
@@ -213,8 +236,16 @@ geodetic-runs-made l level c keyword g r few h = (
 
 geodetic-rise : (level : Level) (g : GeodeticParts) → RunsRise 0 (geodetic_runs level g)
 geodetic-rise level g =
-    let e : rank (geodetic_class g.frame) ≡ 0 = frame-rank g.frame in
-    (omega arith, (omega arith, (omega arith, (omega arith, (omega arith, (omega arith, (omega arith, (omega arith, (omega arith, tt)))))))))
+    let e : rank (geodetic_class g.frame) ≡ 0 = frame-rank g.frame in (
+      omega arith,
+      (
+        omega arith,
+        (
+          omega arith,
+          (omega arith, (omega arith, (omega arith, (omega arith, (omega arith, (omega arith, tt)))))),
+        ),
+      ),
+    )
 
 -- the word of each node `CS`
 system-words : (t : SystemType) (d : Value) (systems axes units : List Item) → IsSystemSeen t d systems axes units →
@@ -223,65 +254,81 @@ system-words t d systems axes units s =
     subst (λ cs. Each (λ i. words_in class.CoordinateSystem i ≡ system_word t ∷ []) cs) (sym s.systems_are)
     (word (those class.CoordinateSystem class.Word (arguments s.head)) s.is_head.words, tt)
   where
-    word : (words : List Item) → ArePlaced words (word_item (system_word t) ∷ []) → map raw_of words ≡ system_word t ∷ []
+    word : (words : List Item) → ArePlaced words (word_item (system_word t) ∷ []) →
+        map raw_of words ≡ system_word t ∷ []
     word [] p = absurd p
     word (x ∷ []) p = ap (λ i. raw_of i ∷ []) p.0.1
     word (x ∷ y ∷ words) p = absurd p.1
 
-geodetic-kept : DecimalLaws → (level : Level) (c : Class) (keyword : List ℕ) (g : GeodeticParts) → IsRootClass g.system.system_type c keyword →
+geodetic-kept : DecimalLaws → (level : Level) (c : Class) (keyword : List ℕ) (g : GeodeticParts) →
+    IsRootClass g.system.system_type c keyword →
     IsFew g.system → IsGeodetic g → IsKept level 5 c keyword (geodetic_runs level g)
 geodetic-kept l level c keyword g r few h = record {
   letters = r.letters;
   known = r.known;
   written = r.written;
   made = geodetic-runs-made l level c keyword g r few h;
-  allowed = subst (λ slots. Allowed slots (classes (geodetic_runs level g))) (sym r.slots) (geodetic-allowed l level g few);
+  allowed = subst (λ slots. Allowed slots (classes (geodetic_runs level g))) (sym r.slots)
+      (geodetic-allowed l level g few);
   sets = frame-sets g.frame (text_item g.name) (item_frame (codes "DATUM") (norm_frame level g.frame))
       (meridian_run level g ∷ behind level g.system g.tail) (end-sets level g);
   own = λ item s.
       let v = shown item s in
       let seen = system-seen l level c item g.system g.tail few v.1 in
       r.own item
-      (system-words g.system.system_type g.system.dimension (those c class.CoordinateSystem (arguments item)) (those c class.Axis (arguments item))
+      (system-words g.system.system_type g.system.dimension (those c class.CoordinateSystem (arguments item))
+      (those c class.Axis (arguments item))
       (those c class.AxisUnit (arguments item)) seen)
       (meridian-there level g.meridian (those c class.PrimeMeridian (arguments item)) v.0)
       (has-axes c item g.system.system_type g.system.dimension seen)
-      (has-tail level 5 c (geodetic_runs level g) item s (geodetic-runs-made l level c keyword g r few h) (geodetic-rise level g)
+      (has-tail level 5 c (geodetic_runs level g) item s (geodetic-runs-made l level c keyword g r few h)
+      (geodetic-rise level g)
       (tail-seen level c item g.tail v.1.1.1.1));
   unbroken = λ item fault s b.
       let v = shown item s in
-      no-break item fault (tail-seen level c item g.tail v.1.1.1.1) (system-seen l level c item g.system g.tail few v.1) (r.breaks item fault b);
+      no-break item fault (tail-seen level c item g.tail v.1.1.1.1) (system-seen l level c item g.system g.tail few
+      v.1) (r.breaks item fault b);
 }
   where
-    shown : (item : Item) → Sees c (geodetic_runs level g) item → Each (Shows c item (meridian_run level g ∷ behind level g.system g.tail)) geodetic_classes
+    shown : (item : Item) → Sees c (geodetic_runs level g) item →
+        Each (Shows c item (meridian_run level g ∷ behind level g.system g.tail)) geodetic_classes
     shown item s =
         frame-shows c item (text_item g.name) (item_frame (codes "DATUM") (norm_frame level g.frame)) g.frame
         (meridian_run level g ∷ behind level g.system g.tail) (views c (geodetic_runs level g) item geodetic_classes s)
 
-    no-break : (item : Item) (fault : Refused) → IsTailSeen c item → IsSystemSeen g.system.system_type g.system.dimension
-        (those c class.CoordinateSystem (arguments item)) (those c class.Axis (arguments item)) (those c class.AxisUnit (arguments item)) →
+    no-break : (item : Item) (fault : Refused) → IsTailSeen c item →
+        IsSystemSeen g.system.system_type g.system.dimension
+        (those c class.CoordinateSystem (arguments item)) (those c class.Axis (arguments item))
+        (those c class.AxisUnit (arguments item)) →
         ¬ (OfCrs r.dimensions c item fault)
     no-break item fault t q (inl b) = no-repeats c item fault t b
     no-break item fault t q (inr b) =
-        no-bad-systems l r.dimensions g.system.system_type g.system.dimension (those c class.CoordinateSystem (arguments item))
-        (those c class.Axis (arguments item)) (those c class.AxisUnit (arguments item)) fault h.system.dimension (r.allows g.system.dimension h.dimension) q b
+        no-bad-systems l r.dimensions g.system.system_type g.system.dimension (those c class.CoordinateSystem
+        (arguments item))
+        (those c class.Axis (arguments item)) (those c class.AxisUnit (arguments item)) fault h.system.dimension
+        (r.allows g.system.dimension h.dimension) q b
 
 pub geodetic-made : DecimalLaws → AxisEach → (level : Level) (g : GeodeticParts) → IsGeodetic g → (p : ℕ) →
     IsMade level (root_class g.system.system_type) 6 (at_place p (item_geodetic (norm_geodetic level g)))
 geodetic-made l each_at level g h =
     node-made level 5 (root_class g.system.system_type) (geodetic_keyword g.system.system_type) (text_item g.name)
     (More (item_frame (codes "DATUM") (norm_frame level g.frame))
-    (opt item_meridian (norm_meridian level g.meridian) (system_items (norm_system level g.system) (tail_items (norm_tail level g.tail)))))
+    (opt item_meridian (norm_meridian level g.meridian) (system_items (norm_system level g.system)
+    (tail_items (norm_tail level g.tail)))))
     (geodetic_runs level g) (simp (opt-line, each-line))
-    (geodetic-kept l level (root_class g.system.system_type) (geodetic_keyword g.system.system_type) g (is-root g.system.system_type)
+    (geodetic-kept l level (root_class g.system.system_type) (geodetic_keyword g.system.system_type) g
+    (is-root g.system.system_type)
     (few-system l each_at geodetic_dimensions geodetic-small g.system h.system h.dimension) h)
 
 -- the system of a CRS, as the checks of a compound see it
 pub geodetic-seen : DecimalLaws → AxisEach → (level : Level) (g : GeodeticParts) → IsGeodetic g → (p : ℕ) →
     IsSystemSeen g.system.system_type g.system.dimension
-    (those (root_class g.system.system_type) class.CoordinateSystem (arguments (at_place p (item_geodetic (norm_geodetic level g)))))
-    (those (root_class g.system.system_type) class.Axis (arguments (at_place p (item_geodetic (norm_geodetic level g)))))
-    (those (root_class g.system.system_type) class.AxisUnit (arguments (at_place p (item_geodetic (norm_geodetic level g)))))
+    (those (root_class g.system.system_type) class.CoordinateSystem
+    (arguments (at_place p (item_geodetic (norm_geodetic level g)))))
+    (those (root_class g.system.system_type) class.Axis
+    (arguments (at_place p (item_geodetic (norm_geodetic level g)))))
+    (those (root_class g.system.system_type) class.AxisUnit
+    (arguments (at_place p (item_geodetic (norm_geodetic level g)))))
 geodetic-seen l each_at level g h p =
     let c : Class = root_class g.system.system_type in
     let item : Item = at_place p (item_geodetic (norm_geodetic level g)) in
@@ -289,7 +336,8 @@ geodetic-seen l each_at level g h p =
     let s : Sees c (geodetic_runs level g) item =
     sees level 5 c (geodetic_keyword g.system.system_type) (text_item g.name)
     (More (item_frame (codes "DATUM") (norm_frame level g.frame))
-    (opt item_meridian (norm_meridian level g.meridian) (system_items (norm_system level g.system) (tail_items (norm_tail level g.tail)))))
+    (opt item_meridian (norm_meridian level g.meridian) (system_items (norm_system level g.system)
+    (tail_items (norm_tail level g.tail)))))
     (geodetic_runs level g) p (simp (opt-line, each-line))
     (geodetic-runs-made l level c (geodetic_keyword g.system.system_type) g (is-root g.system.system_type) few h) in
     system-seen l level c item g.system g.tail few

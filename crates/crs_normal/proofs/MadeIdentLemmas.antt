@@ -29,8 +29,10 @@ use Rattle.crs_normal.proofs.MadeLemmas.{IsKept, Made, Run, alone, as-argument, 
 
 -- ---- nodes of one text
 
-pub text-node-made : (level : Level) (c : Class) (keyword raw : List ℕ) → IsWord keyword → IsTrue (is_keyword c keyword) → IsWritten c keyword →
-    Allowed (slots_of c) (class.Text ∷ []) → ((item : Item) → Own c item) → ((item : Item) (fault : Refused) → ¬ (BreaksOwn c item fault)) → IsText raw →
+pub text-node-made : (level : Level) (c : Class) (keyword raw : List ℕ) → IsWord keyword →
+    IsTrue (is_keyword c keyword) → IsWritten c keyword →
+    Allowed (slots_of c) (class.Text ∷ []) → ((item : Item) → Own c item) →
+    ((item : Item) (fault : Refused) → ¬ (BreaksOwn c item fault)) → IsText raw →
     (p : ℕ) → IsMade level c 1 (at_place p (text_node keyword raw))
 text-node-made level c keyword raw letters known written allowed own unbroken h =
     node-made level 0 c keyword (text_item raw) End (alone class.Text (text_item raw) ∷ []) refl (record {
@@ -47,16 +49,21 @@ text-node-made level c keyword raw letters known written allowed own unbroken h 
 one-text : Allowed (slots_of class.Citation) (class.Text ∷ [])
 one-text = runs-fit (slots_of class.Citation) (alone class.Text (text_item []) ∷ []) (fills-one refl, tt)
 
-citation-made : (level : Level) (raw : List ℕ) → IsText raw → (p : ℕ) → IsMade level class.Citation 1 (at_place p (text_node (codes "CITATION") raw))
+citation-made : (level : Level) (raw : List ℕ) → IsText raw → (p : ℕ) →
+    IsMade level class.Citation 1 (at_place p (text_node (codes "CITATION") raw))
 unfolding is_keyword BreaksOwn
-citation-made level raw h = text-node-made level class.Citation (codes "CITATION") raw (refl, refl) refl refl one-text (λ item. tt) (λ item fault b. b) h
+citation-made level raw h = text-node-made level class.Citation (codes "CITATION") raw (refl, refl) refl refl one-text
+    (λ item. tt) (λ item fault b. b) h
 
-uri-made : (level : Level) (raw : List ℕ) → IsText raw → (p : ℕ) → IsMade level class.Uri 1 (at_place p (text_node (codes "URI") raw))
+uri-made : (level : Level) (raw : List ℕ) → IsText raw → (p : ℕ) →
+    IsMade level class.Uri 1 (at_place p (text_node (codes "URI") raw))
 unfolding is_keyword BreaksOwn
-uri-made level raw h = text-node-made level class.Uri (codes "URI") raw (refl, refl) refl refl one-text (λ item. tt) (λ item fault b. b) h
+uri-made level raw h = text-node-made level class.Uri (codes "URI") raw (refl, refl) refl refl one-text (λ item. tt)
+    (λ item fault b. b) h
 
 -- an optional part as a run
-pub given-made : {A : Type 0} (level : Level) (most : ℕ) (parent c : Class) (P : A → Type 0) (spell : A → Item) (x : Option A) → IfSome x P →
+pub given-made : {A : Type 0} (level : Level) (most : ℕ) (parent c : Class) (P : A → Type 0) (spell : A →
+    Item) (x : Option A) → IfSome x P →
     ((a : A) → P a → Made level most parent c (spell a)) → Each (Made level most parent c) (given spell x)
 given-made level most parent c P spell None h f = tt
 given-made level most parent c P spell (Some a) h f = (f a h, tt)
@@ -94,7 +101,8 @@ code-taken number raw h = refl
 code-taken text raw h = refl
 code-taken word raw h = absurd h
 
-version-taken : (v : Kind) (version : Option (List ℕ)) → IsVersionKind v version → takes (optional_of code_classes) (class_of_kind v) ≡ true
+version-taken : (v : Kind) (version : Option (List ℕ)) → IsVersionKind v version →
+    takes (optional_of code_classes) (class_of_kind v) ≡ true
 version-taken number version h = refl
 version-taken text version h = refl
 version-taken word version h = absurd h
@@ -112,7 +120,8 @@ code-is word raw p h = absurd h
 -- the version, if there is one, and the nodes behind it
 abbrev behind : Kind → Option (List ℕ) → Option (List ℕ) → Option (List ℕ) → Items
 behind v version citation uri =
-    line (given (λ raw. leaf v 0 raw) version) (line (given (text_node (codes "CITATION")) citation) (line (given (text_node (codes "URI")) uri) End))
+    line (given (λ raw. leaf v 0 raw) version) (line (given (text_node (codes "CITATION")) citation)
+    (line (given (text_node (codes "URI")) uri) End))
 
 version-is : (v : Kind) (version citation uri : Option (List ℕ)) (s : ℕ) → IsVersionKind v version →
     Each IsCode (single_of (at_places s (behind v version citation uri)))
@@ -127,12 +136,14 @@ version-is text (Some raw) citation uri s h = (code-is text raw (s + 1) h, tt)
 version-is word version citation uri s h = absurd h
 
 codes-are : (i : IdentParts) (k v : Kind) (s : ℕ) → IsCodeKind k i.code → IsVersionKind v i.version →
-    Each IsCode (single_of (skip 1 (at_places s (lines (ident_runs i k v)))) ++ single_of (skip 2 (at_places s (lines (ident_runs i k v)))))
+    Each IsCode (single_of (skip 1 (at_places s (lines (ident_runs i k v)))) ++ single_of
+    (skip 2 (at_places s (lines (ident_runs i k v)))))
 codes-are i number v s h w = (inl (h, refl), version-is v i.version i.citation i.uri _ w)
 codes-are i text v s h w = (inr (h.0, refl), version-is v i.version i.citation i.uri _ w)
 codes-are i word v s h w = absurd h
 
-ident-kept : DecimalLaws → (level : Level) (i : IdentParts) (k v : Kind) → IsIdent i → IsCodeKind k i.code → IsVersionKind v i.version →
+ident-kept : DecimalLaws → (level : Level) (i : IdentParts) (k v : Kind) → IsIdent i → IsCodeKind k i.code →
+    IsVersionKind v i.version →
     IsKept level 1 class.Identifier (codes "ID") (ident_runs i k v)
 unfolding is_keyword BreaksOwn class_named
 ident-kept l level i k v h a b = record {
@@ -144,14 +155,17 @@ ident-kept l level i k v h a b = record {
     (
       (code-made l level 1 k i.code a, tt),
       (
-        given-made level 1 class.Identifier (class_of_kind v) (IsCodeKind v) (λ raw. leaf v 0 raw) i.version (version-given v i.version b)
+        given-made level 1 class.Identifier (class_of_kind v) (IsCodeKind v) (λ raw. leaf v 0 raw) i.version
+            (version-given v i.version b)
             (λ raw q. code-made l level 1 v raw q),
         (
           given-made level 1 class.Identifier class.Citation IsText (text_node (codes "CITATION")) i.citation h.citation
-              (λ raw q. as-argument level 1 1 class.Identifier class.Citation (text_node (codes "CITATION") raw) (omega arith) refl (citation-made level raw q)),
+              (λ raw q. as-argument level 1 1 class.Identifier class.Citation (text_node (codes "CITATION") raw)
+              (omega arith) refl (citation-made level raw q)),
           (
             given-made level 1 class.Identifier class.Uri IsText (text_node (codes "URI")) i.uri h.uri
-                (λ raw q. as-argument level 1 1 class.Identifier class.Uri (text_node (codes "URI") raw) (omega arith) refl (uri-made level raw q)),
+                (λ raw q. as-argument level 1 1 class.Identifier class.Uri (text_node (codes "URI") raw) (omega arith)
+                refl (uri-made level raw q)),
             tt,
           ),
         ),
@@ -164,12 +178,16 @@ ident-kept l level i k v h a b = record {
       fills-one (code-taken k i.code a),
       (
         fills-optional (λ raw. leaf v 0 raw) i.version (version-taken v i.version b),
-        (fills-optional (text_node (codes "CITATION")) i.citation refl, (fills-optional (text_node (codes "URI")) i.uri refl, tt)),
+        (
+          fills-optional (text_node (codes "CITATION")) i.citation refl,
+          (fills-optional (text_node (codes "URI")) i.uri refl, tt),
+        ),
       ),
     ),
   );
   sets = no-sets i k v;
-  own = λ item s. subst (λ js. Each IsCode (single_of (skip 1 js) ++ single_of (skip 2 js))) (sym s.are) (codes-are i k v s.start a b);
+  own = λ item s. subst (λ js. Each IsCode (single_of (skip 1 js) ++ single_of (skip 2 js))) (sym s.are)
+      (codes-are i k v s.start a b);
   unbroken = λ item fault s b. b;
 }
 
@@ -199,16 +217,20 @@ ident-lines i =
     (version-line i.version (opt (text_node (codes "CITATION")) i.citation (opt (text_node (codes "URI")) i.uri End))
     ∙ ap (line (given (λ raw. leaf (version_kind i.version) 0 raw) i.version)) (simp opt-line))
 
-pub ident-made : DecimalLaws → (level : Level) (i : IdentParts) → IsIdent i → (p : ℕ) → IsMade level class.Identifier 2 (at_place p (item_ident i))
+pub ident-made : DecimalLaws → (level : Level) (i : IdentParts) → IsIdent i → (p : ℕ) →
+    IsMade level class.Identifier 2 (at_place p (item_ident i))
 ident-made l level i h =
     node-made level 1 class.Identifier (codes "ID") (text_item i.authority)
-    (More (code_item i.code) (opt code_item i.version (opt (text_node (codes "CITATION")) i.citation (opt (text_node (codes "URI")) i.uri End))))
+    (More (code_item i.code) (opt code_item i.version (opt (text_node (codes "CITATION")) i.citation
+    (opt (text_node (codes "URI")) i.uri End))))
     (ident_runs i (code_kind i.code) (version_kind i.version)) (ident-lines i)
-    (ident-kept l level i (code_kind i.code) (version_kind i.version) h (code-kind i.code h.code) (version-kind i.version h.version))
+    (ident-kept l level i (code_kind i.code) (version_kind i.version) h (code-kind i.code h.code)
+    (version-kind i.version h.version))
 
 -- ---- lists of identifiers, in order
 
-each-item : {A : Type 0} (P : A → Type 0) (Q : Item → Type 0) (spell : A → Item) (xs : List A) → Each P xs → ((x : A) → P x → Q (spell x)) →
+each-item : {A : Type 0} (P : A → Type 0) (Q : Item → Type 0) (spell : A → Item) (xs : List A) → Each P xs →
+    ((x : A) → P x → Q (spell x)) →
     Each Q (map spell xs)
 each-item P Q spell [] h f = tt
 each-item P Q spell (x ∷ xs) h f = (f x h.0, each-item P Q spell xs h.1 f)
@@ -221,10 +243,12 @@ idents-sound levels.Full ids h = in_order-each (λ i. item_text (item_ident i)) 
 abbrev pub ids_run : Level → List IdentParts → Run
 ids_run level ids = record { of = class.Identifier; items = map item_ident (set_idents level ids) }
 
-pub ids-made : DecimalLaws → (level : Level) (most : ℕ) (parent : Class) (ids : List IdentParts) → 2 ≤ most → class_named parent (codes "ID") ≡ Some class.Identifier →
+pub ids-made : DecimalLaws → (level : Level) (most : ℕ) (parent : Class) (ids : List IdentParts) → 2 ≤ most →
+    class_named parent (codes "ID") ≡ Some class.Identifier →
     Each IsIdent ids → Each (Made level most parent class.Identifier) (map item_ident (set_idents level ids))
 ids-made l level most parent ids deep named h =
-    each-item IsIdent (Made level most parent class.Identifier) item_ident (set_idents level ids) (idents-sound level ids h)
+    each-item IsIdent (Made level most parent class.Identifier) item_ident (set_idents level ids)
+    (idents-sound level ids h)
     (λ i q. as-argument level 2 most parent class.Identifier (item_ident i) deep named (ident-made l level i q))
 
 -- nothing stands behind them that is one

@@ -22,14 +22,17 @@ use Rattle.crs_normal.specs.NormalOwn.{IsShort}
 use Rattle.crs_normal.specs.SpelledItems.{is_short, number_item, text_item, word_item}
 use Rattle.crs_normal.proofs.MadeLemmas.{Made}
 
-leaf-made : (level : Level) (most : ℕ) (parent : Class) (kind : Kind) (raw : List ℕ) → IsSingle kind raw → IsSingleIn parent kind raw →
-    IsTrue (sameb the_type (class_of_kind kind) (class_of_kind kind)) → Made level most parent (class_of_kind kind) (leaf kind 0 raw)
+leaf-made : (level : Level) (most : ℕ) (parent : Class) (kind : Kind) (raw : List ℕ) → IsSingle kind raw →
+    IsSingleIn parent kind raw →
+    IsTrue (sameb the_type (class_of_kind kind) (class_of_kind kind)) → Made level most parent (class_of_kind kind)
+    (leaf kind 0 raw)
 leaf-made level most parent kind raw formed normal same = record {
   named = refl;
   fine = λ p. record { formed = formed; within = omega arith; shaped = same; unbroken = λ fault b. b; normal = normal };
 }
 
-pub text-made : (level : Level) (most : ℕ) (parent : Class) (raw : List ℕ) → IsText raw → Made level most parent class.Text (text_item raw)
+pub text-made : (level : Level) (most : ℕ) (parent : Class) (raw : List ℕ) → IsText raw →
+    Made level most parent class.Text (text_item raw)
 text-made level most parent raw h = leaf-made level most parent text raw h tt refl
 
 number-in : (c : Class) (raw : List ℕ) → IsPlain raw → IsNumberIn c raw
@@ -40,7 +43,8 @@ run-single : (raw : List ℕ) → IsRun raw → IsInBounds raw → IsSingle numb
 run-single [] h b = absurd h
 run-single (d ∷ ds) h b = (h.0, h.1, b)
 
-pub number-made : DecimalLaws → (level : Level) (most : ℕ) (parent : Class) (v : Value) → IsNormal v → Made level most parent class.Number (number_item v)
+pub number-made : DecimalLaws → (level : Level) (most : ℕ) (parent : Class) (v : Value) → IsNormal v →
+    Made level most parent class.Number (number_item v)
 number-made l level most parent v n =
     let d : Denotes (plain v) (exact v) = l.denotes v n in
     leaf-made level most parent number (plain v) (run-single (plain v) (l.as_run (plain v) (d.0, d.1)) (d.0, d.1, d.2))
@@ -73,7 +77,8 @@ right false b h = cc
 short-true : (raw : List ℕ) → IsShort raw → is_short raw ≡ true
 short-true raw h =
     both (list_all is_digit raw && nat_le 1 (length raw)) (nat_le (length raw) 18)
-    (both (list_all is_digit raw) (nat_le 1 (length raw)) h.digits (le-leb 1 (length raw) h.some)) (le-leb (length raw) 18 h.few)
+    (both (list_all is_digit raw) (nat_le 1 (length raw)) h.digits (le-leb 1 (length raw) h.some))
+    (le-leb (length raw) 18 h.few)
 
 true-short : (raw : List ℕ) → is_short raw ≡ true → IsShort raw
 true-short raw h =
@@ -81,7 +86,8 @@ true-short raw h =
     record {
       digits = left (list_all is_digit raw) (nat_le 1 (length raw)) l;
       some = leb-true 1 (length raw) (right (list_all is_digit raw) (nat_le 1 (length raw)) l);
-      few = leb-true (length raw) 18 (right (list_all is_digit raw && nat_le 1 (length raw)) (nat_le (length raw) 18) h);
+      few = leb-true (length raw) 18 (right (list_all is_digit raw && nat_le 1 (length raw)) (nat_le (length raw) 18)
+          h);
     }
 
 -- the kind that a code or version is written as
@@ -105,6 +111,7 @@ code-single l word raw h = absurd h
 
 pub code-made : DecimalLaws → (level : Level) (most : ℕ) (kind : Kind) (raw : List ℕ) → IsCodeKind kind raw →
     Made level most class.Identifier (class_of_kind kind) (leaf kind 0 raw)
-code-made l level most number raw h = leaf-made level most class.Identifier number raw (code-single l number raw h) tt refl
+code-made l level most number raw h = leaf-made level most class.Identifier number raw (code-single l number raw h)
+    tt refl
 code-made l level most text raw h = leaf-made level most class.Identifier text raw (code-single l text raw h) tt refl
 code-made l level most word raw h = absurd h

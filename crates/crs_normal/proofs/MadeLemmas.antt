@@ -67,7 +67,8 @@ those-placed c e s (More (node place keyword square first others close) js) =
     (those c e (at_places (s + 1 + length (item_text j)) js)) (those c e js)
     (those-placed c e (s + 1 + length (item_text j)) js)
 
-placed-below : (p : ℕ) (j : Item) (xs js : List Item) → ArePlaced xs js → Each (IsBelow j) js → Each (IsBelow (at_place p j)) xs
+placed-below : (p : ℕ) (j : Item) (xs js : List Item) → ArePlaced xs js → Each (IsBelow j) js →
+    Each (IsBelow (at_place p j)) xs
 placed-below p j [] [] h b = tt
 placed-below p j [] (k ∷ ks) h b = tt
 placed-below p j (x ∷ xs) [] h b = absurd h
@@ -79,7 +80,10 @@ placed-ascend [] [] h a = tt
 placed-ascend [] (j ∷ js) h a = tt
 placed-ascend (x ∷ xs) [] h a = absurd h
 placed-ascend (x ∷ xs) (j ∷ js) h a =
-    subst (λ y. Each (IsBelow y) xs × Ascend xs) (sym h.0.1) (placed-below h.0.0 j xs js h.1 a.0, placed-ascend xs js h.1 a.1)
+    subst (λ y. Each (IsBelow y) xs × Ascend xs) (sym h.0.1) (
+      placed-below h.0.0 j xs js h.1 a.0,
+      placed-ascend xs js h.1 a.1,
+    )
 
 -- ---- runs: arguments of one class, in order
 
@@ -116,11 +120,13 @@ abbrev pub items_in : Class → List Run → List Item
 items_in e [] = []
 items_in e (run ∷ runs) = if is_same e run.of then run.items ++ items_in e runs else items_in e runs
 
-pub each-line : {A : Type 0} (spell : A → Item) (xs : List A) (rest : Items) → each spell xs rest ≡ line (map spell xs) rest
+pub each-line : {A : Type 0} (spell : A → Item) (xs : List A) (rest : Items) →
+    each spell xs rest ≡ line (map spell xs) rest
 each-line spell [] rest = refl
 each-line spell (x ∷ xs) rest = ap (λ r. More (spell x) r) (each-line spell xs rest)
 
-pub opt-line : {A : Type 0} (spell : A → Item) (x : Option A) (rest : Items) → opt spell x rest ≡ line (given spell x) rest
+pub opt-line : {A : Type 0} (spell : A → Item) (x : Option A) (rest : Items) →
+    opt spell x rest ≡ line (given spell x) rest
 opt-line spell None rest = refl
 opt-line spell (Some x) rest = refl
 
@@ -153,7 +159,8 @@ named-if : (c d e : Class) (j : Item) (js : Items) → class_in c j ≡ Some d �
     those c e (More j js) ≡ (if is_same e d then j ∷ those c e js else those c e js)
 named-if c d e j js h = ap (λ o. if is_class e o then j ∷ those c e js else those c e js) h
 
-named-run : (level : Level) (most : ℕ) (c e d : Class) (b : Bool) → is_same e d ≡ b → (js : List Item) (rest : Items) → Each (Made level most c d) js →
+named-run : (level : Level) (most : ℕ) (c e d : Class) (b : Bool) → is_same e d ≡ b →
+    (js : List Item) (rest : Items) → Each (Made level most c d) js →
     those c e (line js rest) ≡ (if b then js ++ those c e rest else those c e rest)
 named-run level most c e d true q [] rest h = refl
 named-run level most c e d true q (j ∷ js) rest h =
@@ -166,18 +173,21 @@ named-run level most c e d false q (j ∷ js) rest h =
     ∙ ap (λ b. if b then j ∷ those c e (line js rest) else those c e (line js rest)) q
     ∙ named-run level most c e d false q js rest h.1
 
-those-lines : (level : Level) (most : ℕ) (c e : Class) (runs : List Run) → RunsMade level most c runs → those c e (lines runs) ≡ items_in e runs
+those-lines : (level : Level) (most : ℕ) (c e : Class) (runs : List Run) → RunsMade level most c runs →
+    those c e (lines runs) ≡ items_in e runs
 those-lines level most c e [] h = refl
 those-lines level most c e (run ∷ runs) h =
     named-run level most c e run.of (is_same e run.of) refl run.items (lines runs) h.0
     ∙ ap (λ t. if is_same e run.of then run.items ++ t else t) (those-lines level most c e runs h.1)
 
-made-line : (level : Level) (most : ℕ) (c d : Class) (js : List Item) (ds : List Class) (rest : Items) → Each (Made level most c d) js →
+made-line : (level : Level) (most : ℕ) (c d : Class) (js : List Item) (ds : List Class) (rest : Items) →
+    Each (Made level most c d) js →
     AreMade level most c ds rest → AreMade level most c (repeated d js ds) (line js rest)
 made-line level most c d [] ds rest h more = more
 made-line level most c d (j ∷ js) ds rest h more = (h.0, made-line level most c d js ds rest h.1 more)
 
-made-lines : (level : Level) (most : ℕ) (c : Class) (runs : List Run) → RunsMade level most c runs → AreMade level most c (classes runs) (lines runs)
+made-lines : (level : Level) (most : ℕ) (c : Class) (runs : List Run) → RunsMade level most c runs →
+    AreMade level most c (classes runs) (lines runs)
 made-lines level most c [] h = tt
 made-lines level most c (run ∷ runs) h =
     made-line level most c run.of run.items (classes runs) (lines runs) h.0 (made-lines level most c runs h.1)
@@ -203,31 +213,42 @@ module _ (level : Level) (most : ℕ) (c : Class) where
   all-within s (d ∷ ds) End h = omega arith
   all-within s (d ∷ ds) (More j js) h =
       let a : depth (at_place (s + 1) j) ≤ most = (h.0.fine (s + 1)).within in
-      let b : depths (at_places (s + 1 + length (item_text j)) js) ≤ most = all-within (s + 1 + length (item_text j)) ds js h.1 in
+      let b : depths (at_places (s + 1 + length (item_text j)) js) ≤ most = all-within (s + 1 + length (item_text j))
+      ds js h.1 in
       omega arith
 
   all-shaped : (s : ℕ) (ds : List Class) (js : Items) → AreMade level most c ds js → AreShaped c ds (at_places s js)
   all-shaped s [] End h = tt
   all-shaped s [] (More j js) h = h
   all-shaped s (d ∷ ds) End h = h
-  all-shaped s (d ∷ ds) (More j js) h =
-      (class-at c (s + 1) j ∙ h.0.named, ((h.0.fine (s + 1)).shaped, all-shaped (s + 1 + length (item_text j)) ds js h.1))
+  all-shaped s (d ∷ ds) (More j js) h = (
+    class-at c (s + 1) j ∙ h.0.named,
+    (
+      (h.0.fine (s + 1)).shaped,
+      all-shaped (s + 1 + length (item_text j))
+          ds js h.1,
+    ),
+  )
 
-  all-unbroken : (fault : Refused) (s : ℕ) (ds : List Class) (js : Items) → AreMade level most c ds js → ¬ (BreaksAmong c (at_places s js) fault)
+  all-unbroken : (fault : Refused) (s : ℕ) (ds : List Class) (js : Items) → AreMade level most c ds js →
+      ¬ (BreaksAmong c (at_places s js) fault)
   all-unbroken fault s [] End h b = b
   all-unbroken fault s [] (More j js) h b = absurd h
   all-unbroken fault s (d ∷ ds) End h b = b
   all-unbroken fault s (d ∷ ds) (More j js) h (inl b) =
-      not-at-class (λ e. Breaks e (at_place (s + 1) j) fault) (class_in c (at_place (s + 1) j)) d (class-at c (s + 1) j ∙ h.0.named)
+      not-at-class (λ e. Breaks e (at_place (s + 1) j) fault) (class_in c (at_place (s + 1) j)) d
+      (class-at c (s + 1) j ∙ h.0.named)
       ((h.0.fine (s + 1)).unbroken fault) b
   all-unbroken fault s (d ∷ ds) (More j js) h (inr b) = all-unbroken fault (s + 1 + length (item_text j)) ds js h.1 b
 
-  all-normal : (s : ℕ) (ds : List Class) (js : Items) → AreMade level most c ds js → AreNormalIn level c (at_places s js)
+  all-normal : (s : ℕ) (ds : List Class) (js : Items) → AreMade level most c ds js →
+      AreNormalIn level c (at_places s js)
   all-normal s [] End h = tt
   all-normal s [] (More j js) h = absurd h
   all-normal s (d ∷ ds) End h = tt
   all-normal s (d ∷ ds) (More j js) h = (
-    at-class (λ e. IsNormalIn level c e (at_place (s + 1) j)) (class_in c (at_place (s + 1) j)) d (class-at c (s + 1) j ∙ h.0.named)
+    at-class (λ e. IsNormalIn level c e (at_place (s + 1) j)) (class_in c (at_place (s + 1) j)) d
+        (class-at c (s + 1) j ∙ h.0.named)
         (h.0.fine (s + 1)).normal,
     all-normal (s + 1 + length (item_text j)) ds js h.1,
   )
@@ -254,23 +275,29 @@ pub record IsKept (level : Level) (most : ℕ) (c : Class) (keyword : List ℕ) 
 at-level : (level : Level) (c : Class) (item : Item) → AtLevel level c item
 at-level levels.Full c item = tt
 
-pub sees : (level : Level) (most : ℕ) (c : Class) (keyword : List ℕ) (first : Item) (others : Items) (runs : List Run) (p : ℕ) →
-    More first others ≡ lines runs → RunsMade level most c runs → Sees c runs (at_place p (node_of keyword first others))
+pub sees : (level : Level) (most : ℕ) (c : Class) (keyword : List ℕ) (first : Item) (others : Items) (runs : List Run)
+    (p : ℕ) →
+    More first others ≡ lines runs → RunsMade level most c runs →
+    Sees c runs (at_place p (node_of keyword first others))
 sees level most c keyword first others runs p same made = record {
   start = p + length keyword;
   are = ap (at_places (p + length keyword)) same;
   view = λ e. subst (ArePlaced (those c e (at_places (p + length keyword) (More first others))))
-      (ap (those c e) same ∙ those-lines level most c e runs made) (those-placed c e (p + length keyword) (More first others));
+      (ap (those c e) same ∙ those-lines level most c e runs made) (those-placed c e (p + length keyword)
+      (More first others));
 }
 
-each-set : (c : Class) (runs : List Run) (item : Item) (es : List Class) → Sees c runs item → Each (λ d. Ascend (items_in d runs)) es →
+each-set : (c : Class) (runs : List Run) (item : Item) (es : List Class) → Sees c runs item →
+    Each (λ d. Ascend (items_in d runs)) es →
     Each (λ d. Ascend (those c d (arguments item))) es
 each-set c runs item [] s h = tt
 each-set c runs item (e ∷ es) s h =
     (placed-ascend (those c e (arguments item)) (items_in e runs) (s.view e) h.0, each-set c runs item es s h.1)
 
-node-at : (level : Level) (most : ℕ) (c : Class) (keyword : List ℕ) (first : Item) (others : Items) (runs : List Run) (ds : List Class) (p : ℕ) →
-    More first others ≡ lines runs → ds ≡ classes runs → AreMade level most c ds (More first others) → IsKept level most c keyword runs →
+node-at : (level : Level) (most : ℕ) (c : Class) (keyword : List ℕ) (first : Item) (others : Items) (runs : List Run)
+    (ds : List Class) (p : ℕ) →
+    More first others ≡ lines runs → ds ≡ classes runs → AreMade level most c ds (More first others) →
+    IsKept level most c keyword runs →
     IsMade level c (suc most) (at_place p (node_of keyword first others))
 node-at level most c keyword first others runs [] p same ds h k = absurd h
 node-at level most c keyword first others runs (d ∷ ds) p same q h k =
@@ -278,7 +305,8 @@ node-at level most c keyword first others runs (d ∷ ds) p same q h k =
     let s : ℕ = p + length keyword + 1 + length (item_text first) in
     let i : Item = at_place p (node_of keyword first others) in
     let look : Sees c runs i = sees level most c keyword first others runs p same k.made in
-    let n : class_in c (at_place (p + length keyword + 1) first) ≡ Some d = class-at c (p + length keyword + 1) first ∙ h.0.named in
+    let n : class_in c (at_place (p + length keyword + 1) first) ≡ Some d = class-at c (p + length keyword + 1) first
+    ∙ h.0.named in
     let deep : depths (at_places s others) ≤ most = all-within level most c s ds others h.1 in
     let high : depth (at_place (p + length keyword + 1) first) ≤ most = f.within in
     record {
@@ -304,26 +332,31 @@ node-at level most c keyword first others runs (d ∷ ds) p same q h k =
           ),
         ),
       );
-      unbroken = λ fault b. unbroken-node fault d (at_place (p + length keyword + 1) first) f.unbroken n (all-unbroken level most c fault s ds others h.1) (k.unbroken i fault look) b;
+      unbroken = λ fault b. unbroken-node fault d (at_place (p + length keyword + 1) first) f.unbroken n
+          (all-unbroken level most c fault s ds others h.1) (k.unbroken i fault look) b;
       normal = λ parent. (
         k.written,
         at-level level c i,
         k.own i look,
         each-set c runs i set_classes look k.sets,
-        at-class (λ e. IsNormalIn level c e (at_place (p + length keyword + 1) first)) (class_in c (at_place (p + length keyword + 1) first)) d n f.normal,
+        at-class (λ e. IsNormalIn level c e (at_place (p + length keyword + 1) first))
+            (class_in c (at_place (p + length keyword + 1) first)) d n f.normal,
         all-normal level most c s ds others h.1,
       );
     }
   where
-    unbroken-node : (fault : Refused) (d : Class) (j : Item) {O M : Type 0} → ((fault : Refused) → ¬ (Breaks d j fault)) → class_in c j ≡ Some d → ¬ M → ¬ O →
+    unbroken-node : (fault : Refused) (d : Class) (j : Item) {O M : Type 0} →
+        ((fault : Refused) → ¬ (Breaks d j fault)) → class_in c j ≡ Some d → ¬ M → ¬ O →
         ¬ (O ⊎ (AtClass (class_in c j) (λ e. Breaks e j fault) ⊎ M))
     unbroken-node fault d j u n m o (inl b) = o b
     unbroken-node fault d j u n m o (inr (inl b)) = not-at-class (λ e. Breaks e j fault) (class_in c j) d n (u fault) b
     unbroken-node fault d j u n m o (inr (inr b)) = m b
 
 -- a node whose arguments are these runs is made
-pub node-made : (level : Level) (most : ℕ) (c : Class) (keyword : List ℕ) (first : Item) (others : Items) (runs : List Run) →
-    More first others ≡ lines runs → IsKept level most c keyword runs → (p : ℕ) → IsMade level c (suc most) (at_place p (node_of keyword first others))
+pub node-made : (level : Level) (most : ℕ) (c : Class) (keyword : List ℕ) (first : Item) (others : Items)
+    (runs : List Run) →
+    More first others ≡ lines runs → IsKept level most c keyword runs → (p : ℕ) →
+    IsMade level c (suc most) (at_place p (node_of keyword first others))
 node-made level most c keyword first others runs same k p =
     node-at level most c keyword first others runs (classes runs) p same refl
     (subst (AreMade level most c (classes runs)) (sym same) (made-lines level most c runs k.made)) k
@@ -335,7 +368,14 @@ as-argument level n most parent c j h named made = record {
   named = named;
   fine = λ p. let m = made p in
       let w : depth (at_place p j) ≤ n = m.within in
-      record { formed = m.formed; within = omega arith; shaped = m.shaped; unbroken = m.unbroken; normal = m.normal parent };
+      record {
+        formed = m.formed;
+        within = omega arith;
+        shaped = m.shaped;
+        unbroken = m.unbroken;
+        normal =
+            m.normal parent;
+      };
 }
 
 -- what stands in a node of these classes

@@ -33,7 +33,8 @@ use Rattle.crs_normal.proofs.MadeLemmas.{ArePlaced, Made, Run, Sees, alone, as-a
 
 -- ---- the longitude 0
 
-pub placed-raw : (v : Value) (items : List Item) → ArePlaced items (number_item v ∷ []) → map raw_of items ≡ plain v ∷ []
+pub placed-raw : (v : Value) (items : List Item) → ArePlaced items (number_item v ∷ []) →
+    map raw_of items ≡ plain v ∷ []
 placed-raw v [] h = absurd h
 placed-raw v (x ∷ []) h = ap (λ y. raw_of y ∷ []) h.0.1
 placed-raw v (x ∷ y ∷ items) h = absurd h.1
@@ -53,17 +54,23 @@ meridian_runs level name longitude unit ids =
     alone class.Text (text_item name) ∷ alone class.Number (number_item longitude) ∷
     record { of = class.AngleUnit; items = given item_unit unit } ∷ ids_run level ids ∷ []
 
-unit-if-any : DecimalLaws → (level : Level) (name : List ℕ) (v : Value) (unit : Option UnitParts) (ids : List IdentParts) (item : Item) → IsNormal v →
-    (is_zero v ≡ true → unit ≡ None) → Sees class.PrimeMeridian (meridian_runs level name v unit ids) item → HasUnitIfAny item
+unit-if-any : DecimalLaws → (level : Level) (name : List ℕ) (v : Value) (unit : Option UnitParts)
+    (ids : List IdentParts) (item : Item) → IsNormal v →
+    (is_zero v ≡ true → unit ≡ None) → Sees class.PrimeMeridian (meridian_runs level name v unit ids) item →
+    HasUnitIfAny item
 unit-if-any l level name v unit ids item n none s e =
-    let p : plain v ∷ [] ≡ codes "0" ∷ [] = sym (placed-raw v (those class.PrimeMeridian class.Number (arguments item)) (s.view class.Number)) ∙ e in
+    let p : plain v ∷ [] ≡ codes "0" ∷ [] =
+    sym (placed-raw v (those class.PrimeMeridian class.Number (arguments item)) (s.view class.Number)) ∙ e in
     let q : plain v ≡ codes "0" = cc in
     let u : unit ≡ None = none (ap is_zero (plain-zero l v n q)) in
     placed-none (those class.PrimeMeridian class.AngleUnit (arguments item))
-    (subst (λ x. ArePlaced (those class.PrimeMeridian class.AngleUnit (arguments item)) (given item_unit x ++ [])) u (s.view class.AngleUnit))
+    (subst (λ x. ArePlaced (those class.PrimeMeridian class.AngleUnit (arguments item)) (given item_unit x ++ [])) u
+    (s.view class.AngleUnit))
 
-meridian-parts-made : DecimalLaws → (level : Level) (name : List ℕ) (v : Value) (unit : Option UnitParts) (ids : List IdentParts) →
-    IsText name → IsNormal v → (is_zero v ≡ true → unit ≡ None) → Each (Made level 3 class.PrimeMeridian class.AngleUnit) (given item_unit unit) →
+meridian-parts-made : DecimalLaws →
+    (level : Level) (name : List ℕ) (v : Value) (unit : Option UnitParts) (ids : List IdentParts) →
+    IsText name → IsNormal v → (is_zero v ≡ true → unit ≡ None) →
+    Each (Made level 3 class.PrimeMeridian class.AngleUnit) (given item_unit unit) →
     Each IsIdent ids → (p : ℕ) →
     IsMade level class.PrimeMeridian 4 (at_place p (node_of (codes "PRIMEM") (text_item name)
     (More (number_item v) (opt item_unit unit (each item_ident (set_idents level ids) End)))))
@@ -77,7 +84,10 @@ meridian-parts-made l level name v unit ids t n none u h =
       written = refl;
       made = (
         (text-made level 3 class.PrimeMeridian name t, tt),
-        ((number-made l level 3 class.PrimeMeridian v n, tt), (u, (ids-made l level 3 class.PrimeMeridian ids (omega arith) refl h, tt))),
+        (
+          (number-made l level 3 class.PrimeMeridian v n, tt),
+          (u, (ids-made l level 3 class.PrimeMeridian ids (omega arith) refl h, tt)),
+        ),
       );
       allowed = runs-fit (slots_of class.PrimeMeridian) (meridian_runs level name v unit ids)
           (fills-one refl, (fills-one refl, (fills-optional item_unit unit refl, (fills-any refl, tt))));
@@ -90,7 +100,8 @@ unit-at : (b : Bool) (x : Option UnitParts) → b ≡ true → (if b then None e
 unit-at true x e = refl
 unit-at false x e = cc
 
-given-at : (level : Level) (b : Bool) (x : Option UnitParts) → Each (Made level 3 class.PrimeMeridian class.AngleUnit) (given item_unit x) →
+given-at : (level : Level) (b : Bool) (x : Option UnitParts) →
+    Each (Made level 3 class.PrimeMeridian class.AngleUnit) (given item_unit x) →
     Each (Made level 3 class.PrimeMeridian class.AngleUnit) (given item_unit (if b then None else x))
 given-at level true x h = tt
 given-at level false x h = h
@@ -99,7 +110,8 @@ pub meridian-made : DecimalLaws → (level : Level) (m : MeridianParts) → IsMe
     IsMade level class.PrimeMeridian 4 (at_place p (item_meridian (norm_given level m)))
 unfolding class_named is_keyword
 meridian-made l level m h =
-    meridian-parts-made l level m.name m.longitude (if is_zero m.longitude then None else norm_units level kinds.Angle m.unit) m.ids h.name h.longitude
+    meridian-parts-made l level m.name m.longitude (if is_zero m.longitude then None else norm_units level kinds.Angle
+    m.unit) m.ids h.name h.longitude
     (unit-at (is_zero m.longitude) (norm_units level kinds.Angle m.unit))
     (given-at level (is_zero m.longitude) (norm_units level kinds.Angle m.unit)
     (given-unit l level 3 class.PrimeMeridian class.AngleUnit kinds.Angle m.unit (omega arith) refl refl h.unit))
@@ -109,16 +121,27 @@ greenwich-name : IsUtf8 (codes "Greenwich")
 unfolding lib.Utf8.encode
 greenwich-name = (codes "Greenwich", (refl, refl))
 
-pub greenwich-made : DecimalLaws → (level : Level) (p : ℕ) → IsMade level class.PrimeMeridian 4 (at_place p (item_meridian greenwich))
+pub greenwich-made : DecimalLaws → (level : Level) (p : ℕ) →
+    IsMade level class.PrimeMeridian 4 (at_place p (item_meridian greenwich))
 unfolding set_idents
 greenwich-made l levels.Full p =
-    meridian-parts-made l levels.Full (codes "Greenwich") (whole_value 0) None [] ((codes "Greenwich", refl), greenwich-name) refl (λ e. refl) tt tt p
+    meridian-parts-made l levels.Full (codes "Greenwich") (whole_value 0) None [] (
+      (codes "Greenwich", refl),
+      greenwich-name,
+    ) refl (λ e. refl) tt tt p
 
 -- a prime meridian as an argument, which is Greenwich where none is written
-pub meridian-argument : DecimalLaws → (level : Level) (most : ℕ) (parent : Class) (m : Option MeridianParts) → 4 ≤ most →
+pub meridian-argument : DecimalLaws → (level : Level) (most : ℕ) (parent : Class) (m : Option MeridianParts) →
+    4 ≤ most →
     class_named parent (codes "PRIMEM") ≡ Some class.PrimeMeridian → IfSome m IsMeridian →
     Each (Made level most parent class.PrimeMeridian) (given item_meridian (norm_meridian level m))
-meridian-argument l level most parent None deep named h =
-    (as-argument level 4 most parent class.PrimeMeridian (item_meridian greenwich) deep named (greenwich-made l level), tt)
-meridian-argument l level most parent (Some m) deep named h =
-    (as-argument level 4 most parent class.PrimeMeridian (item_meridian (norm_given level m)) deep named (meridian-made l level m h), tt)
+meridian-argument l level most parent None deep named h = (
+  as-argument level 4 most parent class.PrimeMeridian (item_meridian greenwich) deep named
+      (greenwich-made l level),
+  tt,
+)
+meridian-argument l level most parent (Some m) deep named h = (
+  as-argument level 4 most parent class.PrimeMeridian (item_meridian (norm_given level m)) deep named
+      (meridian-made l level m h),
+  tt,
+)

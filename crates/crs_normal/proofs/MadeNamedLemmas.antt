@@ -42,10 +42,13 @@ record IsNamed (c : Class) (keyword : List ℕ) : Type 0 where
 abbrev named_runs : Level → List ℕ → List IdentParts → List Run
 named_runs level name ids = alone class.Text (text_item name) ∷ ids_run level ids ∷ []
 
-named-made : DecimalLaws → (level : Level) (c : Class) (keyword name : List ℕ) (ids : List IdentParts) → IsNamed c keyword → IsText name → Each IsIdent ids →
-    (p : ℕ) → IsMade level c 3 (at_place p (node_of keyword (text_item name) (each item_ident (set_idents level ids) End)))
+named-made : DecimalLaws → (level : Level) (c : Class) (keyword name : List ℕ) (ids : List IdentParts) →
+    IsNamed c keyword → IsText name → Each IsIdent ids →
+    (p : ℕ) → IsMade level c 3 (at_place p (node_of keyword (text_item name) (each item_ident (set_idents level ids)
+    End)))
 named-made l level c keyword name ids n t h =
-    node-made level 2 c keyword (text_item name) (each item_ident (set_idents level ids) End) (named_runs level name ids) (simp each-line) (record {
+    node-made level 2 c keyword (text_item name) (each item_ident (set_idents level ids) End)
+    (named_runs level name ids) (simp each-line) (record {
       letters = n.letters;
       known = n.known;
       written = n.written;
@@ -103,4 +106,5 @@ method-made l level m h = named-made l level class.Method (codes "METHOD") m.nam
 
 pub geoid-model-made : DecimalLaws → (level : Level) (g : GeoidModelParts) → IsGeoidModel g → (p : ℕ) →
     IsMade level class.GeoidModel 3 (at_place p (item_geoid_model (norm_geoid_model level g)))
-geoid-model-made l level g h = named-made l level class.GeoidModel (codes "GEOIDMODEL") g.name g.ids is-geoid-model h.name h.ids
+geoid-model-made l level g h = named-made l level class.GeoidModel (codes "GEOIDMODEL") g.name g.ids is-geoid-model
+    h.name h.ids

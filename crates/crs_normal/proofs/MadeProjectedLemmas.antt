@@ -45,13 +45,16 @@ use Rattle.crs_normal.proofs.MadeTailLemmas.{IsTailSeen, RunsRise, has-tail, no-
 abbrev base_rest : Level → BaseParts → List Run
 base_rest level b =
     record { of = class.PrimeMeridian; items = given item_meridian (norm_meridian level b.meridian) } ∷
-    record { of = class.AngleUnit; items = given item_unit (norm_units level kinds.Angle b.unit) } ∷ ids_run level b.ids ∷ []
+    record { of = class.AngleUnit; items = given item_unit (norm_units level kinds.Angle b.unit) } ∷
+    ids_run level b.ids ∷ []
 
 abbrev base_runs : Level → BaseParts → List Run
 base_runs level b =
-    alone class.Text (text_item b.name) ∷ alone (geodetic_class b.frame) (item_frame (codes "DATUM") (norm_frame level b.frame)) ∷ base_rest level b
+    alone class.Text (text_item b.name) ∷ alone (geodetic_class b.frame) (item_frame (codes "DATUM")
+    (norm_frame level b.frame)) ∷ base_rest level b
 
-pub base-made : DecimalLaws → (level : Level) (b : BaseParts) → IsBase b → (p : ℕ) → IsMade level class.BaseCrs 6 (at_place p (item_base (norm_base level b)))
+pub base-made : DecimalLaws → (level : Level) (b : BaseParts) → IsBase b → (p : ℕ) →
+    IsMade level class.BaseCrs 6 (at_place p (item_base (norm_base level b)))
 unfolding BreaksOwn class_named is_keyword
 base-made l level b h =
     node-made level 5 class.BaseCrs (codes "BASEGEOGCRS") (text_item b.name)
@@ -64,7 +67,11 @@ base-made l level b h =
       made = (
         (text-made level 5 class.BaseCrs b.name h.name, tt),
         (
-          (frame-argument l level 5 class.BaseCrs b.frame (omega arith) (record { datum = refl; ensemble = refl }) h.frame, tt),
+          (
+            frame-argument l level 5 class.BaseCrs b.frame (omega arith) (record { datum = refl; ensemble = refl })
+                h.frame,
+            tt,
+          ),
           (
             meridian-argument l level 5 class.BaseCrs b.meridian (omega arith) refl h.meridian,
             (
@@ -84,11 +91,13 @@ base-made l level b h =
           ),
         ),
       );
-      sets = frame-sets b.frame (text_item b.name) (item_frame (codes "DATUM") (norm_frame level b.frame)) (base_rest level b)
+      sets = frame-sets b.frame (text_item b.name) (item_frame (codes "DATUM") (norm_frame level b.frame))
+          (base_rest level b)
           (ids-ascend level b.ids, (tt, (tt, (tt, (tt, tt)))));
       own = λ item s.
           meridian-there level b.meridian (those class.BaseCrs class.PrimeMeridian (arguments item))
-          (frame-shows class.BaseCrs item (text_item b.name) (item_frame (codes "DATUM") (norm_frame level b.frame)) b.frame (base_rest level b)
+          (frame-shows class.BaseCrs item (text_item b.name) (item_frame (codes "DATUM") (norm_frame level b.frame))
+          b.frame (base_rest level b)
           (views class.BaseCrs (base_runs level b) item geodetic_classes s)).0;
       unbroken = λ item fault s q. q;
     })
@@ -109,9 +118,11 @@ projected-small types.Vertical = tt
 projected-few : DecimalLaws → AxisEach → (g : ProjectedParts) → IsProjected g → IsFew g.system
 projected-few l each_at g h = few-system l each_at projected_dimensions projected-small g.system h.system h.dimension
 
-projected-allowed : DecimalLaws → (level : Level) (g : ProjectedParts) → IsFew g.system → Allowed (slots_of class.ProjectedCrs) (classes (projected_runs level g))
+projected-allowed : DecimalLaws → (level : Level) (g : ProjectedParts) → IsFew g.system →
+    Allowed (slots_of class.ProjectedCrs) (classes (projected_runs level g))
 projected-allowed l level g few =
-    fit-before (one class.Text ∷ one class.BaseCrs ∷ one class.Conversion ∷ one class.CoordinateSystem ∷ some class.Axis ∷
+    fit-before (one class.Text ∷ one class.BaseCrs ∷ one class.Conversion ∷ one class.CoordinateSystem ∷
+    some class.Axis ∷
     optional class.AxisUnit ∷ []) (tail ∷ [])
     (alone class.Text (text_item g.name) ∷ alone class.BaseCrs (item_base (norm_base level g.base)) ∷
     alone class.Conversion (item_conversion (norm_conversion level g.conversion)) ∷
@@ -137,10 +148,15 @@ unfolding class_named is_keyword
 projected-runs-made l level g few h = (
   (text-made level 6 class.ProjectedCrs g.name h.name, tt),
   (
-    (as-argument level 6 6 class.ProjectedCrs class.BaseCrs (item_base (norm_base level g.base)) (omega arith) refl (base-made l level g.base h.base), tt),
+    (
+      as-argument level 6 6 class.ProjectedCrs class.BaseCrs (item_base (norm_base level g.base)) (omega arith) refl
+          (base-made l level g.base h.base),
+      tt,
+    ),
     (
       (
-        as-argument level 5 6 class.ProjectedCrs class.Conversion (item_conversion (norm_conversion level g.conversion)) (omega arith) refl
+        as-argument level 5 6 class.ProjectedCrs class.Conversion
+            (item_conversion (norm_conversion level g.conversion)) (omega arith) refl
             (conversion-made l level g.conversion h.conversion),
         tt,
       ),
@@ -151,17 +167,29 @@ projected-runs-made l level g few h = (
 )
 
 projected-rise : (level : Level) (g : ProjectedParts) → RunsRise 0 (projected_runs level g)
-projected-rise level g =
-    (omega arith, (omega arith, (omega arith, (omega arith, (omega arith, (omega arith, (omega arith, (omega arith, (omega arith, tt)))))))))
+projected-rise level g = (
+  omega arith,
+  (
+    omega arith,
+    (
+      omega arith,
+      (omega arith, (omega arith, (omega arith, (omega arith, (omega arith, (omega arith, tt)))))),
+    ),
+  ),
+)
 
-projected-breaks : DecimalLaws → (g : ProjectedParts) (item : Item) (fault : Refused) → IsProjected g → IsTailSeen class.ProjectedCrs item →
-    IsSystemSeen g.system.system_type g.system.dimension (those class.ProjectedCrs class.CoordinateSystem (arguments item))
+projected-breaks : DecimalLaws → (g : ProjectedParts) (item : Item) (fault : Refused) → IsProjected g →
+    IsTailSeen class.ProjectedCrs item →
+    IsSystemSeen g.system.system_type g.system.dimension (those class.ProjectedCrs class.CoordinateSystem
+    (arguments item))
     (those class.ProjectedCrs class.Axis (arguments item)) (those class.ProjectedCrs class.AxisUnit (arguments item)) →
     ¬ (OfCrs projected_dimensions class.ProjectedCrs item fault)
 projected-breaks l g item fault h t q (inl b) = no-repeats class.ProjectedCrs item fault t b
 projected-breaks l g item fault h t q (inr b) =
-    no-bad-systems l projected_dimensions g.system.system_type g.system.dimension (those class.ProjectedCrs class.CoordinateSystem (arguments item))
-    (those class.ProjectedCrs class.Axis (arguments item)) (those class.ProjectedCrs class.AxisUnit (arguments item)) fault
+    no-bad-systems l projected_dimensions g.system.system_type g.system.dimension
+    (those class.ProjectedCrs class.CoordinateSystem (arguments item))
+    (those class.ProjectedCrs class.Axis (arguments item)) (those class.ProjectedCrs class.AxisUnit (arguments item))
+    fault
     h.system.dimension h.dimension q b
 
 projected-kept : DecimalLaws → (level : Level) (g : ProjectedParts) → IsFew g.system → IsProjected g →
@@ -176,8 +204,10 @@ projected-kept l level g few h = record {
   sets = (ids-ascend level g.tail.ids, (usages-ascend level (usages_of g.tail), (tt, (tt, (tt, tt)))));
   own = λ item s.
       let v = views class.ProjectedCrs (projected_runs level g) item crs_classes s in (
-        has-axes class.ProjectedCrs item g.system.system_type g.system.dimension (system-seen l level class.ProjectedCrs item g.system g.tail few v),
-        has-tail level 6 class.ProjectedCrs (projected_runs level g) item s (projected-runs-made l level g few h) (projected-rise level g)
+        has-axes class.ProjectedCrs item g.system.system_type g.system.dimension
+            (system-seen l level class.ProjectedCrs item g.system g.tail few v),
+        has-tail level 6 class.ProjectedCrs (projected_runs level g) item s (projected-runs-made l level g few h)
+            (projected-rise level g)
             (tail-seen level class.ProjectedCrs item g.tail v.1.1.1),
       );
   unbroken = λ item fault s b.
@@ -208,5 +238,6 @@ projected-seen l each_at level g h p =
     let item : Item = at_place p (item_projected (norm_projected level g)) in
     system-seen l level class.ProjectedCrs item g.system g.tail few
     (views class.ProjectedCrs (projected_runs level g) item crs_classes
-    (sees level 6 class.ProjectedCrs (codes "PROJCRS") (text_item g.name) (projected_others level g) (projected_runs level g) p (simp (opt-line, each-line))
+    (sees level 6 class.ProjectedCrs (codes "PROJCRS") (text_item g.name) (projected_others level g)
+    (projected_runs level g) p (simp (opt-line, each-line))
     (projected-runs-made l level g few h)))

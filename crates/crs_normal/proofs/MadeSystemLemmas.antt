@@ -50,11 +50,13 @@ own-fit t x a s = by x.unit refl s a.unit
     by None e s h = absurd s
     by (Some u) e s h = record { axis = a; unit = u; given_unit = ap (λ w. own_or w None) e; suits = (h.0, s) }
 
-own-fits : (t : SystemType) (xs : List AxisParts) → Each IsAxis xs → Each (λ x. IsSomeAnd x.unit (SuitsAxis t x)) xs → Each (Fits t None) xs
+own-fits : (t : SystemType) (xs : List AxisParts) → Each IsAxis xs → Each (λ x. IsSomeAnd x.unit (SuitsAxis t x)) xs →
+    Each (Fits t None) xs
 own-fits t [] a s = tt
 own-fits t (x ∷ xs) a s = (own-fit t x a.0 s.0, own-fits t xs a.1 s.1)
 
-shared-fits : (t : SystemType) (u : UnitParts) (kind : UnitKind) (xs : List AxisParts) → IsAxisUnit u → Suits kind u.kind → Each IsAxis xs →
+shared-fits : (t : SystemType) (u : UnitParts) (kind : UnitKind) (xs : List AxisParts) → IsAxisUnit u →
+    Suits kind u.kind → Each IsAxis xs →
     Each (λ x. x.unit ≡ None) xs → Each (λ x. asked_kind t x.direction ≡ kind) xs → Each (Fits t (Some u)) xs
 shared-fits t u kind [] h s a n k = tt
 shared-fits t u kind (x ∷ xs) h s a n k = (
@@ -67,21 +69,24 @@ shared-fits t u kind (x ∷ xs) h s a n k = (
   shared-fits t u kind xs h s a.1 n.1 k.1,
 )
 
-fits : (t : SystemType) (xs : List AxisParts) (shared : Option UnitParts) → Each IsAxis xs → IfSome shared IsAxisUnit → HasUnits t xs shared →
+fits : (t : SystemType) (xs : List AxisParts) (shared : Option UnitParts) → Each IsAxis xs →
+    IfSome shared IsAxisUnit → HasUnits t xs shared →
     Each (Fits t shared) xs
 fits t xs None a h u = own-fits t xs a u
 fits t xs (Some shared) a h u = shared-fits t shared u.1.0 xs h u.1.1.1 a u.0 u.1.1.0
 
 -- ---- the axis at a position
 
-at-true : DecimalLaws → (k place : ℕ) (order : Option Value) → IsNormal (whole_value k) → IfSome order IsNormal → IsAt k place order →
+at-true : DecimalLaws → (k place : ℕ) (order : Option Value) → IsNormal (whole_value k) → IfSome order IsNormal →
+    IsAt k place order →
     is_at k place order ≡ true
 at-true l k place None n h e = (Decides-eqb place k).1 e
 at-true l k place (Some v) n h e =
     let same : v ≡ whole_value k = (l.normal_one v (whole_value k) h n).0 e in
     (bytes_eq-Decides (plain v) (decimal k)).1 (ap plain same ∙ append-nil (decimal k))
 
-found : DecimalLaws → (k place : ℕ) (xs : List AxisParts) → IsNormal (whole_value k) → Each IsAxis xs → HasAt k (λ axis. ⊤) place xs →
+found : DecimalLaws → (k place : ℕ) (xs : List AxisParts) → IsNormal (whole_value k) → Each IsAxis xs →
+    HasAt k (λ axis. ⊤) place xs →
     (x : AxisParts) × (axis_at k place xs ≡ Some x)
 found l k place [] n a h = absurd h
 found l k place (x ∷ xs) n a (inl h) =
@@ -93,28 +98,39 @@ found l k place (x ∷ xs) n a (inr h) = by (is_at k place x.order) (found l k (
     by true later = (x, refl)
     by false later = later
 
-found-of : (P : AxisParts → Type 0) (k place : ℕ) (xs : List AxisParts) (x : AxisParts) → Each P xs → axis_at k place xs ≡ Some x → P x
+found-of : (P : AxisParts → Type 0) (k place : ℕ) (xs : List AxisParts) (x : AxisParts) → Each P xs →
+    axis_at k place xs ≡ Some x → P x
 found-of P k place [] x h e = cc
 found-of P k place (y ∷ ys) x h e = by (is_at k place y.order) e (λ q. found-of P k (place + 1) ys x h.1 q)
   where
-    by : (b : Bool) → (if b then Some y else axis_at k (place + 1) ys) ≡ Some x → (axis_at k (place + 1) ys ≡ Some x → P x) → P x
+    by : (b : Bool) → (if b then Some y else axis_at k (place + 1) ys) ≡ Some x →
+        (axis_at k (place + 1) ys ≡ Some x → P x) → P x
     by true q later = let same : y ≡ x = cc in subst P same h.0
     by false q later = later q
 
 -- these are axes of the system at the positions from k on
 abbrev pub AreAxes : Level → SystemParts → ℕ → List AxisParts → Type 0
 AreAxes level s k [] = Unit {0}
-AreAxes level s k (a ∷ rest) = ((x : AxisParts) × (Fits s.system_type s.unit x × (a ≡ norm_axis level s k x))) × AreAxes level s (k + 1) rest
+AreAxes level s k (a ∷ rest) = ((x : AxisParts) × (Fits s.system_type s.unit x × (a ≡ norm_axis level s k x)))
+    × AreAxes level s (k + 1) rest
 
 -- each position of the system has an axis
 abbrev pub HasEach : SystemParts → Type 0
 HasEach s = (k : ℕ) → 1 ≤ k → k ≤ length s.axes → HasAt k (λ axis. ⊤) 1 s.axes
 
-module _ (l : DecimalLaws) (level : Level) (s : SystemParts) (h : IsSystem s) (each_at : HasEach s) (few : length s.axes ≤ 3) where
-  axis-found : (k : ℕ) → 1 ≤ k → k ≤ length s.axes → (x : AxisParts) × (Fits s.system_type s.unit x × (axis_at k 1 s.axes ≡ Some x))
+module _ (l : DecimalLaws) (level : Level) (s : SystemParts) (h : IsSystem s) (each_at : HasEach s)
+    (few : length s.axes ≤ 3) where
+  axis-found : (k : ℕ) → 1 ≤ k → k ≤ length s.axes →
+      (x : AxisParts) × (Fits s.system_type s.unit x × (axis_at k 1 s.axes ≡ Some x))
   axis-found k low high =
-      let f = found l k 1 s.axes (whole-normal k low (omega arith)) h.axes (each_at k low high) in
-      (f.0, (found-of (Fits s.system_type s.unit) k 1 s.axes f.0 (fits s.system_type s.axes s.unit h.axes h.unit h.units) f.1, f.1))
+      let f = found l k 1 s.axes (whole-normal k low (omega arith)) h.axes (each_at k low high) in (
+        f.0,
+        (
+          found-of (Fits s.system_type s.unit) k 1 s.axes f.0 (fits s.system_type s.axes s.unit h.axes h.unit
+              h.units) f.1,
+          f.1,
+        ),
+      )
 
   axes-are : (m k : ℕ) → 1 ≤ k → k + m ≤ length s.axes + 1 → AreAxes level s k (axes_from level s k m)
   axes-are zero k low high = tt
@@ -141,7 +157,8 @@ module _ (l : DecimalLaws) (level : Level) (s : SystemParts) (h : IsSystem s) (e
   pub all-count : length (axes_from level s 1 (length s.axes)) ≡ length s.axes
   all-count = axes-count (length s.axes) 1 (omega arith) (omega arith)
 
-pub axes-made : DecimalLaws → (level : Level) (s : SystemParts) (most : ℕ) (parent : Class) (k : ℕ) (rest : List AxisParts) → 5 ≤ most →
+pub axes-made : DecimalLaws → (level : Level) (s : SystemParts) (most : ℕ) (parent : Class) (k : ℕ)
+    (rest : List AxisParts) → 5 ≤ most →
     class_named parent (codes "AXIS") ≡ Some class.Axis → AreAxes level s k rest → 1 ≤ k → k + length rest ≤ 4 →
     Each (Made level most parent class.Axis) (map item_axis rest)
 unfolding norm_axis
@@ -161,7 +178,8 @@ abbrev pub AreAxisItems : SystemType → ℕ → List Item → Type 0
 AreAxisItems t k [] = Unit {0}
 AreAxisItems t k (item ∷ items) = IsAxisItem t k item × AreAxisItems t (k + 1) items
 
-pub axes-seen : DecimalLaws → (level : Level) (s : SystemParts) (k : ℕ) (items : List Item) (rest : List AxisParts) → ArePlaced items (map item_axis rest) →
+pub axes-seen : DecimalLaws → (level : Level) (s : SystemParts) (k : ℕ) (items : List Item) (rest : List AxisParts) →
+    ArePlaced items (map item_axis rest) →
     AreAxes level s k rest → 1 ≤ k → k + length rest ≤ 4 → AreAxisItems s.system_type k items
 axes-seen l level s k [] [] p h low high = tt
 axes-seen l level s k [] (a ∷ rest) p h low high = tt
@@ -178,16 +196,28 @@ axes-seen l level s k (item ∷ items) (a ∷ rest) p h low high =
 -- ---- the node `CS`
 
 abbrev head_runs : Level → SystemParts → List Run
-head_runs level s = alone class.Word (word_item (system_word s.system_type)) ∷ alone class.Number (number_item s.dimension) ∷ ids_run level s.ids ∷ []
+head_runs level s = alone class.Word (word_item (system_word s.system_type)) ∷ alone class.Number
+    (number_item s.dimension) ∷ ids_run level s.ids ∷ []
 
-head-runs-made : DecimalLaws → (level : Level) (s : SystemParts) → IsSystem s → RunsMade level 2 class.CoordinateSystem (head_runs level s)
+head-runs-made : DecimalLaws → (level : Level) (s : SystemParts) → IsSystem s →
+    RunsMade level 2 class.CoordinateSystem (head_runs level s)
 unfolding class_named is_keyword
 head-runs-made l level s h = (
-  (word-made level 2 class.CoordinateSystem (system_word s.system_type) (system-letters s.system_type) (s.system_type, refl), tt),
-  ((number-made l level 2 class.CoordinateSystem s.dimension h.dimension, tt), (ids-made l level 2 class.CoordinateSystem s.ids (omega arith) refl h.ids, tt)),
+  (
+    word-made level 2 class.CoordinateSystem (system_word s.system_type) (system-letters s.system_type) (
+      s.system_type,
+      refl,
+    ),
+    tt,
+  ),
+  (
+    (number-made l level 2 class.CoordinateSystem s.dimension h.dimension, tt),
+    (ids-made l level 2 class.CoordinateSystem s.ids (omega arith) refl h.ids, tt),
+  ),
 )
 
-known-type : (t : SystemType) (words : List Item) (fault : Refused) → ArePlaced words (word_item (system_word t) ∷ []) → ¬ (AnyOf UnknownType words fault)
+known-type : (t : SystemType) (words : List Item) (fault : Refused) →
+    ArePlaced words (word_item (system_word t) ∷ []) → ¬ (AnyOf UnknownType words fault)
 known-type t [] fault h b = h
 known-type t (x ∷ []) fault h (inl b) = b.1 t (subst (λ i. ReadsType i t) (sym h.0.1) refl)
 known-type t (x ∷ []) fault h (inr b) = b
@@ -198,15 +228,20 @@ pub head-made : DecimalLaws → (level : Level) (s : SystemParts) → IsSystem s
 unfolding BreaksOwn is_keyword
 head-made l level s h =
     node-made level 2 class.CoordinateSystem (codes "CS") (word_item (system_word s.system_type))
-    (More (number_item s.dimension) (each item_ident (set_idents level s.ids) End)) (head_runs level s) (simp each-line) (record {
+    (More (number_item s.dimension) (each item_ident (set_idents level s.ids) End)) (head_runs level s)
+    (simp each-line) (record {
       letters = (refl, refl);
       known = refl;
       written = refl;
       made = head-runs-made l level s h;
-      allowed = runs-fit (slots_of class.CoordinateSystem) (head_runs level s) (fills-one refl, (fills-one refl, (fills-any refl, tt)));
+      allowed = runs-fit (slots_of class.CoordinateSystem) (head_runs level s) (
+        fills-one refl,
+        (fills-one refl, (fills-any refl, tt)),
+      );
       sets = (ids-ascend level s.ids, (tt, (tt, (tt, (tt, tt)))));
       own = λ item v. tt;
-      unbroken = λ item fault v b. known-type s.system_type (those class.CoordinateSystem class.Word (arguments item)) fault (v.view class.Word) b;
+      unbroken = λ item fault v b. known-type s.system_type (those class.CoordinateSystem class.Word (arguments item))
+          fault (v.view class.Word) b;
     })
 
 -- what stands in a node `CS`, as the checks of a system see it
@@ -218,13 +253,15 @@ pub head-seen : DecimalLaws → (level : Level) (s : SystemParts) → IsSystem s
     IsHeadItem s.system_type s.dimension (at_place p (item_head (norm_system level s)))
 head-seen l level s h p =
     let look = sees level 2 class.CoordinateSystem (codes "CS") (word_item (system_word s.system_type))
-    (More (number_item s.dimension) (each item_ident (set_idents level s.ids) End)) (head_runs level s) p (simp each-line) (head-runs-made l level s h) in
+    (More (number_item s.dimension) (each item_ident (set_idents level s.ids) End)) (head_runs level s) p
+    (simp each-line) (head-runs-made l level s h) in
     record { words = look.view class.Word; numbers = look.view class.Number }
 
 -- ---- the number of axes
 
 -- a number that is one of a few small ones and is this whole number too is small
-pub few-axes : DecimalLaws → (v : Value) (n : ℕ) (ns : List ℕ) → Each (λ m. m ≤ 3) ns → IsOneOf v ns → SameNumber (exact v) (whole_number n) → n ≤ 3
+pub few-axes : DecimalLaws → (v : Value) (n : ℕ) (ns : List ℕ) → Each (λ m. m ≤ 3) ns → IsOneOf v ns →
+    SameNumber (exact v) (whole_number n) → n ≤ 3
 few-axes l v n [] few h s = absurd h
 few-axes l v n (m ∷ ns) few (inl h) s =
     let t : SameNumber (whole_number n) (whole_number m) =
@@ -233,3 +270,26 @@ few-axes l v n (m ∷ ns) few (inl h) s =
     let k : m ≤ 3 = few.0 in
     omega arith
 few-axes l v n (m ∷ ns) few (inr h) s = few-axes l v n ns few.1 h s
+
+-- ---- axes by themselves
+
+axes-each : DecimalLaws → (level : Level) (s : SystemParts) (p k : ℕ) (xs : List AxisParts) → AreAxes level s k xs →
+    1 ≤ k → k + length xs ≤ 4 →
+    Each (λ axis. IsMade level class.Axis 5 (at_place p (item_axis axis))) xs
+axes-each l level s p k [] h low high = tt
+axes-each l level s p k (a ∷ xs) h low high =
+    let low_next : 1 ≤ k + 1 = omega arith in
+    let high_next : (k + 1) + length xs ≤ 4 = omega arith in
+    let small : k ≤ 3 = omega arith in (
+      subst (λ b. IsMade level class.Axis 5 (at_place p (item_axis b))) (sym h.0.1.1)
+          (axis-made l level s k h.0.0 h.0.1.0 low small p),
+      axes-each l level s p (k + 1) xs h.1 low_next high_next,
+    )
+
+pub system-axes-made : DecimalLaws → (level : Level) (s : SystemParts) → IsSystem s → HasEach s → length s.axes ≤ 3 →
+    (p : ℕ) →
+    Each (λ axis. IsMade level class.Axis 5 (at_place p (item_axis axis))) (axes_from level s 1 (length s.axes))
+system-axes-made l level s h each_at few p =
+    let e : length (axes_from level s 1 (length s.axes)) ≡ length s.axes = all-count l level s h each_at few in
+    axes-each l level s p 1 (axes_from level s 1 (length s.axes)) (all-axes l level s h each_at few) (omega arith)
+    (omega arith)

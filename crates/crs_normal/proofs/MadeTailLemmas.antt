@@ -34,7 +34,8 @@ use Rattle.crs_normal.proofs.MadeUsageLemmas.{usage-made, usage-named}
 -- ---- the usages, the bare parts being one more
 
 some-there : (s a : Option (List ℕ)) (b : Option BoxParts) (e : Option ExtentParts) →
-    says_some (record { scope = s; area = a; bbox = b; extent = e }) ≡ true → IsSome s ⊎ (IsSome a ⊎ (IsSome b ⊎ IsSome e))
+    says_some (record { scope = s; area = a; bbox = b; extent = e }) ≡ true →
+    IsSome s ⊎ (IsSome a ⊎ (IsSome b ⊎ IsSome e))
 some-there (Some s) a b e h = inl refl
 some-there None (Some a) b e h = inr (inl refl)
 some-there None None (Some b) e h = inr (inr (inl refl))
@@ -52,15 +53,20 @@ usages-said : (t : TailParts) → IsTail t → Each IsSaid (usages_of t)
 usages-said t h = by (says_some t.bare) refl
   where
     by : (b : Bool) → says_some t.bare ≡ b → Each IsSaid (if b then t.bare ∷ t.usages else t.usages)
-    by true e = ((h.bare, some-there t.bare.scope t.bare.area t.bare.bbox t.bare.extent e), said t.usages h.usages h.each_some)
+    by true e = (
+      (h.bare, some-there t.bare.scope t.bare.area t.bare.bbox t.bare.extent e),
+      said t.usages h.usages h.each_some,
+    )
     by false e = said t.usages h.usages h.each_some
 
 usages-made : DecimalLaws → (level : Level) (most : ℕ) (parent : Class) (us : List UsageParts) → 5 ≤ most →
-    class_named parent (codes "USAGE") ≡ Some class.Usage → Each IsSaid us → Each (Made level most parent class.Usage) (map item_usage (set_usages level us))
+    class_named parent (codes "USAGE") ≡ Some class.Usage → Each IsSaid us → Each (Made level most parent class.Usage)
+    (map item_usage (set_usages level us))
 unfolding set_usages
 usages-made l levels.Full most parent us deep named h =
     set-each norm_usage item_usage IsSaid (Made levels.Full most parent class.Usage) us h
-    (λ u q. as-argument levels.Full 5 most parent class.Usage (item_usage (norm_usage u)) deep (usage-named parent u q.1 named) (usage-made l levels.Full u q.0 q.1))
+    (λ u q. as-argument levels.Full 5 most parent class.Usage (item_usage (norm_usage u)) deep
+    (usage-named parent u q.1 named) (usage-made l levels.Full u q.0 q.1))
 
 pub usages-ascend : (level : Level) (us : List UsageParts) → Ascend (map item_usage (set_usages level us) ++ [])
 unfolding set_usages
@@ -68,13 +74,16 @@ usages-ascend levels.Full us = set-ascends item_usage (map norm_usage us)
 
 -- ---- the remark
 
-remark-made : (level : Level) (raw : List ℕ) → IsText raw → (p : ℕ) → IsMade level class.Remark 1 (at_place p (text_node (codes "REMARK") raw))
+remark-made : (level : Level) (raw : List ℕ) → IsText raw → (p : ℕ) →
+    IsMade level class.Remark 1 (at_place p (text_node (codes "REMARK") raw))
 unfolding is_keyword BreaksOwn
 remark-made level raw h =
     text-node-made level class.Remark (codes "REMARK") raw (refl, refl) refl refl
-    (runs-fit (slots_of class.Remark) (alone class.Text (text_item raw) ∷ []) (fills-one refl, tt)) (λ item. tt) (λ item fault b. b) h
+    (runs-fit (slots_of class.Remark) (alone class.Text (text_item raw) ∷ []) (fills-one refl, tt)) (λ item. tt)
+    (λ item fault b. b) h
 
-remark-text : (level : Level) (remark : Option (List ℕ)) → IfSome remark IsText → IfSome (norm_remark level remark) IsText
+remark-text : (level : Level) (remark : Option (List ℕ)) → IfSome remark IsText →
+    IfSome (norm_remark level remark) IsText
 remark-text levels.Full remark h = h
 
 -- ---- the end of a CRS
@@ -96,7 +105,8 @@ pub record NamesTail (c : Class) : Type 0 where
   pub ident : class_named c (codes "ID") ≡ Some class.Identifier
   pub remark : class_named c (codes "REMARK") ≡ Some class.Remark
 
-pub tail-runs-made : DecimalLaws → (level : Level) (most : ℕ) (c : Class) (t : TailParts) → 5 ≤ most → NamesTail c → IsTail t →
+pub tail-runs-made : DecimalLaws → (level : Level) (most : ℕ) (c : Class) (t : TailParts) → 5 ≤ most → NamesTail c →
+    IsTail t →
     RunsMade level most c (tail_runs level t)
 tail-runs-made l level most c t deep n h =
     let two : 2 ≤ most = omega arith in
@@ -105,18 +115,23 @@ tail-runs-made l level most c t deep n h =
       (
         ids-made l level most c t.ids two n.ident h.ids,
         (
-          given-made level most c class.Remark IsText (text_node (codes "REMARK")) (norm_remark level t.remark) (remark-text level t.remark h.remark)
-              (λ raw q. as-argument level 1 most c class.Remark (text_node (codes "REMARK") raw) one n.remark (remark-made level raw q)),
+          given-made level most c class.Remark IsText (text_node (codes "REMARK")) (norm_remark level t.remark)
+              (remark-text level t.remark h.remark)
+              (λ raw q. as-argument level 1 most c class.Remark (text_node (codes "REMARK") raw) one n.remark
+              (remark-made level raw q)),
           tt,
         ),
       ),
     )
 
-pub tail-fits : (cs : List Class) (level : Level) (t : TailParts) → takes (any_of cs) class.Usage ≡ true → takes (any_of cs) class.Identifier ≡ true →
+pub tail-fits : (cs : List Class) (level : Level) (t : TailParts) → takes (any_of cs) class.Usage ≡ true →
+    takes (any_of cs) class.Identifier ≡ true →
     takes (any_of cs) class.Remark ≡ true → AllTaken (any_of cs) (classes (tail_runs level t))
 tail-fits cs level t u i r =
-    taken-more (any_of cs) class.Usage (map item_usage (set_usages level (usages_of t))) (classes (ids_run level t.ids ∷ record { of = class.Remark; items = remark_items level t } ∷ [])) u
-    (taken-more (any_of cs) class.Identifier ((ids_run level t.ids).items) (classes (record { of = class.Remark; items = remark_items level t } ∷ [])) i
+    taken-more (any_of cs) class.Usage (map item_usage (set_usages level (usages_of t)))
+    (classes (ids_run level t.ids ∷ record { of = class.Remark; items = remark_items level t } ∷ [])) u
+    (taken-more (any_of cs) class.Identifier ((ids_run level t.ids).items)
+    (classes (record { of = class.Remark; items = remark_items level t } ∷ [])) i
     (taken-more (any_of cs) class.Remark (remark_items level t) [] r tt))
 
 -- ---- ranks never fall
@@ -130,22 +145,31 @@ rise-lower : (c : Class) (m n : ℕ) (items : Items) → m ≤ n → Rise c n it
 rise-lower c m n End h r = tt
 rise-lower c m n (More item items) h r = by (class_in c item) r
   where
-    by : (o : Option Class) → AtClass o (λ d. (n ≤ rank d) × Rise c (rank d) items) → AtClass o (λ d. (m ≤ rank d) × Rise c (rank d) items)
+    by : (o : Option Class) → AtClass o (λ d. (n ≤ rank d) × Rise c (rank d) items) →
+        AtClass o (λ d. (m ≤ rank d) × Rise c (rank d) items)
     by None q = q
     by (Some d) q = let k : n ≤ rank d = q.0 in (omega arith, q.1)
 
-rise-line : (level : Level) (most : ℕ) (c d : Class) (js : List Item) (rest : Items) (least s : ℕ) → Each (Made level most c d) js → least ≤ rank d →
+rise-line : (level : Level) (most : ℕ) (c d : Class) (js : List Item) (rest : Items) (least s : ℕ) →
+    Each (Made level most c d) js → least ≤ rank d →
     ((s : ℕ) → Rise c (rank d) (at_places s rest)) → Rise c least (at_places s (line js rest))
 rise-line level most c d [] rest least s h low more = rise-lower c least (rank d) (at_places s rest) low (more s)
 rise-line level most c d (j ∷ js) rest least s h low more =
-    at-class (λ e. (least ≤ rank e) × Rise c (rank e) (at_places (s + 1 + length (item_text j)) (line js rest))) (class_in c (at_place (s + 1) j)) d
-    (class-at c (s + 1) j ∙ h.0.named) (low, rise-line level most c d js rest (rank d) (s + 1 + length (item_text j)) h.1 (omega arith) more)
+    at-class (λ e. (least ≤ rank e) × Rise c (rank e) (at_places (s + 1 + length (item_text j)) (line js rest)))
+    (class_in c (at_place (s + 1) j)) d
+    (class-at c (s + 1) j ∙ h.0.named) (
+      low,
+      rise-line level most c d js rest (rank d) (s + 1 + length (item_text j))
+          h.1 (omega arith) more,
+    )
 
-rise-lines : (level : Level) (most : ℕ) (c : Class) (runs : List Run) (least s : ℕ) → RunsMade level most c runs → RunsRise least runs →
+rise-lines : (level : Level) (most : ℕ) (c : Class) (runs : List Run) (least s : ℕ) → RunsMade level most c runs →
+    RunsRise least runs →
     Rise c least (at_places s (lines runs))
 rise-lines level most c [] least s h r = tt
 rise-lines level most c (run ∷ runs) least s h r =
-    rise-line level most c run.of run.items (lines runs) least s h.0 r.0 (λ q. rise-lines level most c runs (rank run.of) q h.1 r.1)
+    rise-line level most c run.of run.items (lines runs) least s h.0 r.0 (λ q. rise-lines level most c runs
+    (rank run.of) q h.1 r.1)
 
 -- ---- what the checks see of the end
 
@@ -161,16 +185,20 @@ pub record IsTailSeen (c : Class) (item : Item) : Type 0 where
 none-repeated : (items : List Item) (fault : Refused) → items ≡ [] → ¬ (AnyOf IsRepeated (drop 1 items) fault)
 none-repeated items fault e b = subst (λ is. AnyOf IsRepeated (drop 1 is) fault) e b
 
-pub no-repeats : (c : Class) (item : Item) (fault : Refused) → IsTailSeen c item → ¬ (RepeatsAny c (arguments item) once fault)
+pub no-repeats : (c : Class) (item : Item) (fault : Refused) → IsTailSeen c item →
+    ¬ (RepeatsAny c (arguments item) once fault)
 no-repeats c item fault s (inl b) = none-repeated (those c class.Scope (arguments item)) fault s.scope b
 no-repeats c item fault s (inr (inl b)) = none-repeated (those c class.Area (arguments item)) fault s.area b
-no-repeats c item fault s (inr (inr (inl b))) = none-repeated (those c class.BoundingBox (arguments item)) fault s.bbox b
-no-repeats c item fault s (inr (inr (inr (inl b)))) = none-repeated (those c class.VerticalExtent (arguments item)) fault s.extent b
+no-repeats c item fault s (inr (inr (inl b))) = none-repeated (those c class.BoundingBox (arguments item))
+    fault s.bbox b
+no-repeats c item fault s (inr (inr (inr (inl b)))) = none-repeated (those c class.VerticalExtent (arguments item))
+    fault s.extent b
 no-repeats c item fault s (inr (inr (inr (inr (inl b))))) =
     not-repeated (text_node (codes "REMARK")) s.remarks (those c class.Remark (arguments item)) fault s.remark b
 no-repeats c item fault s (inr (inr (inr (inr (inr b))))) = b
 
-pub has-tail : (level : Level) (most : ℕ) (c : Class) (runs : List Run) (item : Item) → Sees c runs item → RunsMade level most c runs → RunsRise 0 runs →
+pub has-tail : (level : Level) (most : ℕ) (c : Class) (runs : List Run) (item : Item) → Sees c runs item →
+    RunsMade level most c runs → RunsRise 0 runs →
     IsTailSeen c item → HasTail c item
 has-tail level most c runs item s m r t = record {
   in_order = subst (Rise c 0) (sym s.are) (rise-lines level most c runs 0 s.start m r);

@@ -36,12 +36,14 @@ use Rattle.crs_normal.proofs.MadeLemmas.{ArePlaced, IsKept, Run, alone, classes,
 -- ---- numbers
 
 -- a number that is written plainly reads as its value alone
-pub reads-one : DecimalLaws → (v value : Value) (item : Item) (p : ℕ) → IsNormal v → item ≡ at_place p (number_item v) → ReadsNumber item value → value ≡ v
+pub reads-one : DecimalLaws → (v value : Value) (item : Item) (p : ℕ) → IsNormal v →
+    item ≡ at_place p (number_item v) → ReadsNumber item value → value ≡ v
 reads-one l v value item p n e r =
     let d : ReadsNumber (at_place p (number_item v)) value = subst (λ i. ReadsNumber i value) e r in
     l.denotes_one (plain v) value v d.0 n d.1 (l.denotes v n)
 
-pub not-below : DecimalLaws → (v : Value) (items : List Item) (fault : Refused) → IsNormal v → IsAboveZero v → ArePlaced items (number_item v ∷ []) →
+pub not-below : DecimalLaws → (v : Value) (items : List Item) (fault : Refused) → IsNormal v → IsAboveZero v →
+    ArePlaced items (number_item v ∷ []) →
     ¬ (AnyOf NotAbove items fault)
 not-below l v [] fault n a h b = b
 not-below l v (item ∷ items) fault n a h (inl b) =
@@ -92,7 +94,8 @@ unit-own class.PlainUnit kind item h = tt
 unit-own class.AxisUnit kind item h = tt
 unit-own other kind item h = absurd h
 
-unit-breaks : (c : Class) (kind : UnitKind) (item : Item) (fault : Refused) → IsKindIn c kind → BreaksOwn c item fault → OfUnit c item fault
+unit-breaks : (c : Class) (kind : UnitKind) (item : Item) (fault : Refused) → IsKindIn c kind →
+    BreaksOwn c item fault → OfUnit c item fault
 unfolding BreaksOwn
 unit-breaks class.LengthUnit kind item fault h b = b
 unit-breaks class.AngleUnit kind item fault h b = b
@@ -111,7 +114,8 @@ unit-names-id class.AxisUnit kind h = refl
 unit-names-id other kind h = absurd h
 
 abbrev unit_runs : Level → UnitParts → List Run
-unit_runs level u = alone class.Text (text_item u.name) ∷ alone class.Number (number_item u.factor) ∷ ids_run level u.ids ∷ []
+unit_runs level u = alone class.Text (text_item u.name) ∷ alone class.Number (number_item u.factor) ∷
+    ids_run level u.ids ∷ []
 
 -- a unit in its one form, of this kind
 abbrev pub unit_as : Level → UnitKind → UnitParts → UnitParts
@@ -139,8 +143,10 @@ unit-kept l level c kind u k h = record {
       (unit-breaks c kind item fault k b);
 }
 
-pub unit-made : DecimalLaws → (level : Level) (c : Class) (kind : UnitKind) (u : UnitParts) → IsKindIn c kind → IsUnit u → (p : ℕ) →
+pub unit-made : DecimalLaws → (level : Level) (c : Class) (kind : UnitKind) (u : UnitParts) → IsKindIn c kind →
+    IsUnit u → (p : ℕ) →
     IsMade level c 3 (at_place p (item_unit (unit_as level kind u)))
 unit-made l level c kind u k h =
-    node-made level 2 c (unit_word kind) (text_item u.name) (More (number_item u.factor) (each item_ident (set_idents level u.ids) End))
+    node-made level 2 c (unit_word kind) (text_item u.name) (More (number_item u.factor)
+    (each item_ident (set_idents level u.ids) End))
     (unit_runs level u) (simp each-line) (unit-kept l level c kind u k h)

@@ -26,17 +26,21 @@ use Rattle.crs_normal.proofs.MadeIdentLemmas.{given-made, text-node-made}
 use Rattle.crs_normal.proofs.MadeLeafLemmas.{number-made}
 use Rattle.crs_normal.proofs.MadeLemmas.{IsKept, Made, Run, alone, as-argument, given, lines, node-made, opt-line}
 
-scope-made : (level : Level) (raw : List ℕ) → IsText raw → (p : ℕ) → IsMade level class.Scope 1 (at_place p (text_node (codes "SCOPE") raw))
+scope-made : (level : Level) (raw : List ℕ) → IsText raw → (p : ℕ) →
+    IsMade level class.Scope 1 (at_place p (text_node (codes "SCOPE") raw))
 unfolding is_keyword BreaksOwn
 scope-made level raw h =
     text-node-made level class.Scope (codes "SCOPE") raw (refl, refl) refl refl
-    (runs-fit (slots_of class.Scope) (alone class.Text (text_item raw) ∷ []) (fills-one refl, tt)) (λ item. tt) (λ item fault b. b) h
+    (runs-fit (slots_of class.Scope) (alone class.Text (text_item raw) ∷ []) (fills-one refl, tt)) (λ item. tt)
+    (λ item fault b. b) h
 
-area-made : (level : Level) (raw : List ℕ) → IsText raw → (p : ℕ) → IsMade level class.Area 1 (at_place p (text_node (codes "AREA") raw))
+area-made : (level : Level) (raw : List ℕ) → IsText raw → (p : ℕ) →
+    IsMade level class.Area 1 (at_place p (text_node (codes "AREA") raw))
 unfolding is_keyword BreaksOwn
 area-made level raw h =
     text-node-made level class.Area (codes "AREA") raw (refl, refl) refl refl
-    (runs-fit (slots_of class.Area) (alone class.Text (text_item raw) ∷ []) (fills-one refl, tt)) (λ item. tt) (λ item fault b. b) h
+    (runs-fit (slots_of class.Area) (alone class.Text (text_item raw) ∷ []) (fills-one refl, tt)) (λ item. tt)
+    (λ item fault b. b) h
 
 -- ---- boxes
 
@@ -45,7 +49,8 @@ box_runs b =
     alone class.Number (number_item b.south) ∷ alone class.Number (number_item b.west) ∷
     alone class.Number (number_item b.north) ∷ alone class.Number (number_item b.east) ∷ []
 
-pub box-made : DecimalLaws → (level : Level) (b : BoxParts) → IsBox b → (p : ℕ) → IsMade level class.BoundingBox 1 (at_place p (item_box b))
+pub box-made : DecimalLaws → (level : Level) (b : BoxParts) → IsBox b → (p : ℕ) →
+    IsMade level class.BoundingBox 1 (at_place p (item_box b))
 unfolding BreaksOwn class_named is_keyword
 box-made l level b h =
     node-made level 0 class.BoundingBox (codes "BBOX") (number_item b.south)
@@ -64,7 +69,10 @@ box-made l level b h =
           ),
         ),
       );
-      allowed = runs-fit (slots_of class.BoundingBox) (box_runs b) (fills-one refl, (fills-one refl, (fills-one refl, (fills-one refl, tt))));
+      allowed = runs-fit (slots_of class.BoundingBox) (box_runs b) (
+        fills-one refl,
+        (fills-one refl, (fills-one refl, (fills-one refl, tt))),
+      );
       sets = (tt, (tt, (tt, (tt, (tt, tt)))));
       own = λ item s. tt;
       unbroken = λ item fault s k. k;
@@ -98,21 +106,25 @@ extent-made l level e h =
           (fills-one refl, (fills-one refl, (fills-optional item_unit (Some (norm_length level e.unit)) refl, tt)));
       sets = (tt, (tt, (tt, (tt, (tt, tt)))));
       own = λ item s.
-          placed-some (those class.VerticalExtent class.LengthUnit (arguments item)) [] (item_unit (norm_length level e.unit)) (s.view class.LengthUnit);
+          placed-some (those class.VerticalExtent class.LengthUnit (arguments item)) []
+          (item_unit (norm_length level e.unit)) (s.view class.LengthUnit);
       unbroken = λ item fault s k. k;
     })
 
 -- ---- usages
 
 -- a node that has an argument, whichever is its first
-from-made : (level : Level) (most : ℕ) (c : Class) (keyword : List ℕ) (js : Items) (runs : List Run) → js ≢ End → js ≡ lines runs →
+from-made : (level : Level) (most : ℕ) (c : Class) (keyword : List ℕ) (js : Items) (runs : List Run) → js ≢ End →
+    js ≡ lines runs →
     IsKept level most c keyword runs → (p : ℕ) → IsMade level c (suc most) (at_place p (node_from keyword js))
 from-made level most c keyword End runs some same k p = absurd (some refl)
-from-made level most c keyword (More first others) runs some same k p = node-made level most c keyword first others runs same k p
+from-made level most c keyword (More first others) runs some same k p = node-made level most c keyword first others
+    runs same k p
 
 abbrev usage_items : UsageParts → Items
 usage_items u =
-    opt (text_node (codes "SCOPE")) u.scope (opt (text_node (codes "AREA")) u.area (opt item_box u.bbox (opt item_extent u.extent End)))
+    opt (text_node (codes "SCOPE")) u.scope (opt (text_node (codes "AREA")) u.area
+    (opt item_box u.bbox (opt item_extent u.extent End)))
 
 abbrev usage_runs : UsageParts → List Run
 usage_runs u =
@@ -121,8 +133,10 @@ usage_runs u =
     record { of = class.BoundingBox; items = given item_box u.bbox } ∷
     record { of = class.VerticalExtent; items = given item_extent u.extent } ∷ []
 
-some-item : (s a : Option (List ℕ)) (b : Option BoxParts) (e : Option ExtentParts) → IsSome s ⊎ (IsSome a ⊎ (IsSome b ⊎ IsSome e)) →
-    opt (text_node (codes "SCOPE")) s (opt (text_node (codes "AREA")) a (opt item_box b (opt item_extent (option_map (norm_extent levels.Full) e) End))) ≢ End
+some-item : (s a : Option (List ℕ)) (b : Option BoxParts) (e : Option ExtentParts) →
+    IsSome s ⊎ (IsSome a ⊎ (IsSome b ⊎ IsSome e)) →
+    opt (text_node (codes "SCOPE")) s (opt (text_node (codes "AREA")) a
+    (opt item_box b (opt item_extent (option_map (norm_extent levels.Full) e) End))) ≢ End
 some-item (Some s) a b e h q = cc
 some-item None (Some a) b e h q = cc
 some-item None None (Some b) e h q = cc
@@ -136,8 +150,11 @@ extents-made : DecimalLaws → (level : Level) (x : Option ExtentParts) → IfSo
     Each (Made level 4 class.Usage class.VerticalExtent) (given item_extent (option_map (norm_extent level) x))
 unfolding class_named is_keyword
 extents-made l level None h = tt
-extents-made l level (Some e) h =
-    (as-argument level 4 4 class.Usage class.VerticalExtent (item_extent (norm_extent level e)) (omega arith) refl (extent-made l level e h), tt)
+extents-made l level (Some e) h = (
+  as-argument level 4 4 class.Usage class.VerticalExtent (item_extent (norm_extent level e)) (omega arith) refl
+      (extent-made l level e h),
+  tt,
+)
 
 pub usage-made : DecimalLaws → (level : Level) (u : UsageParts) → IsUsage u → SaysSome u → (p : ℕ) →
     IsMade level class.Usage 5 (at_place p (item_usage (norm_usage u)))
@@ -150,13 +167,16 @@ usage-made l levels.Full u h some =
       written = refl;
       made = (
         given-made levels.Full 4 class.Usage class.Scope IsText (text_node (codes "SCOPE")) u.scope h.scope
-            (λ raw q. as-argument levels.Full 1 4 class.Usage class.Scope (text_node (codes "SCOPE") raw) (omega arith) refl (scope-made levels.Full raw q)),
+            (λ raw q. as-argument levels.Full 1 4 class.Usage class.Scope (text_node (codes "SCOPE") raw)
+            (omega arith) refl (scope-made levels.Full raw q)),
         (
           given-made levels.Full 4 class.Usage class.Area IsText (text_node (codes "AREA")) u.area h.area
-              (λ raw q. as-argument levels.Full 1 4 class.Usage class.Area (text_node (codes "AREA") raw) (omega arith) refl (area-made levels.Full raw q)),
+              (λ raw q. as-argument levels.Full 1 4 class.Usage class.Area (text_node (codes "AREA") raw)
+              (omega arith) refl (area-made levels.Full raw q)),
           (
             given-made levels.Full 4 class.Usage class.BoundingBox IsBox item_box u.bbox h.bbox
-                (λ b q. as-argument levels.Full 1 4 class.Usage class.BoundingBox (item_box b) (omega arith) refl (box-made l levels.Full b q)),
+                (λ b q. as-argument levels.Full 1 4 class.Usage class.BoundingBox (item_box b) (omega arith) refl
+                (box-made l levels.Full b q)),
             (extents-made l levels.Full u.extent h.extent, tt),
           ),
         ),
@@ -165,7 +185,10 @@ usage-made l levels.Full u h some =
         fills-optional (text_node (codes "SCOPE")) u.scope refl,
         (
           fills-optional (text_node (codes "AREA")) u.area refl,
-          (fills-optional item_box u.bbox refl, (fills-optional item_extent (option_map (norm_extent levels.Full) u.extent) refl, tt)),
+          (
+            fills-optional item_box u.bbox refl,
+            (fills-optional item_extent (option_map (norm_extent levels.Full) u.extent) refl, tt),
+          ),
         ),
       );
       sets = (tt, (tt, (tt, (tt, (tt, tt)))));
@@ -173,7 +196,8 @@ usage-made l levels.Full u h some =
       unbroken = λ item fault s k. k;
     })
 
-from-named : (c d : Class) (keyword : List ℕ) (js : Items) → js ≢ End → class_named c keyword ≡ Some d → class_in c (node_from keyword js) ≡ Some d
+from-named : (c d : Class) (keyword : List ℕ) (js : Items) → js ≢ End → class_named c keyword ≡ Some d →
+    class_in c (node_from keyword js) ≡ Some d
 from-named c d keyword End some named = absurd (some refl)
 from-named c d keyword (More first others) some named = named
 
@@ -181,4 +205,5 @@ from-named c d keyword (More first others) some named = named
 pub usage-named : (c : Class) (u : UsageParts) → SaysSome u → class_named c (codes "USAGE") ≡ Some class.Usage →
     class_in c (item_usage (norm_usage u)) ≡ Some class.Usage
 usage-named c u some named =
-    from-named c class.Usage (codes "USAGE") (usage_items (norm_usage u)) (some-item u.scope u.area u.bbox u.extent some) named
+    from-named c class.Usage (codes "USAGE") (usage_items (norm_usage u))
+    (some-item u.scope u.area u.bbox u.extent some) named

@@ -47,12 +47,14 @@ use Rattle.crs_normal.proofs.MadeTailLemmas.{IsTailSeen, RunsRise, has-tail, no-
 
 -- ---- the frame, of one class or the other
 
-vertical-named : (level : Level) (f : Frame) → class_in class.VerticalCrs (item_frame (codes "VDATUM") (norm_frame level f)) ≡ Some (vertical_class f)
+vertical-named : (level : Level) (f : Frame) →
+    class_in class.VerticalCrs (item_frame (codes "VDATUM") (norm_frame level f)) ≡ Some (vertical_class f)
 unfolding class_named is_keyword
 vertical-named level (frame.Datum d) = refl
 vertical-named level (frame.Ensemble e) = refl
 
-vertical-taken : (f : Frame) → takes (one_of (class.VerticalFrame ∷ class.VerticalEnsemble ∷ [])) (vertical_class f) ≡ true
+vertical-taken : (f : Frame) → takes (one_of (class.VerticalFrame ∷ class.VerticalEnsemble ∷ [])) (vertical_class f)
+    ≡ true
 vertical-taken (frame.Datum d) = refl
 vertical-taken (frame.Ensemble e) = refl
 
@@ -77,17 +79,24 @@ models-made : DecimalLaws → (level : Level) (gs : List GeoidModelParts) → Ea
     Each (Made level 5 class.VerticalCrs class.GeoidModel) (map item_geoid_model (set_geoid_models level gs))
 unfolding set_geoid_models class_named is_keyword
 models-made l level gs h =
-    set-each (norm_geoid_model level) item_geoid_model IsGeoidModel (Made level 5 class.VerticalCrs class.GeoidModel) gs h
-    (λ g q. as-argument level 3 5 class.VerticalCrs class.GeoidModel (item_geoid_model (norm_geoid_model level g)) (omega arith) refl (geoid-model-made l level g q))
+    set-each (norm_geoid_model level) item_geoid_model IsGeoidModel (Made level 5 class.VerticalCrs class.GeoidModel)
+    gs h
+    (λ g q. as-argument level 3 5 class.VerticalCrs class.GeoidModel (item_geoid_model (norm_geoid_model level g))
+    (omega arith) refl (geoid-model-made l level g q))
 
-models-ascend : (level : Level) (gs : List GeoidModelParts) → Ascend (map item_geoid_model (set_geoid_models level gs) ++ [])
+models-ascend : (level : Level) (gs : List GeoidModelParts) →
+    Ascend (map item_geoid_model (set_geoid_models level gs) ++ [])
 unfolding set_geoid_models
 models-ascend level gs = set-ascends item_geoid_model (map (norm_geoid_model level) gs)
 
 -- ---- vertical CRSs
 
 abbrev models_run : Level → VerticalParts → Run
-models_run level g = record { of = class.GeoidModel; items = map item_geoid_model (set_geoid_models level g.geoid_models) }
+models_run level g = record {
+  of = class.GeoidModel;
+  items = map item_geoid_model
+      (set_geoid_models level g.geoid_models);
+}
 
 -- what a vertical CRS has behind its frame
 abbrev vertical_rest : Level → VerticalParts → List Run
@@ -97,7 +106,8 @@ vertical_rest level g =
 
 abbrev vertical_runs : Level → VerticalParts → List Run
 vertical_runs level g =
-    alone class.Text (text_item g.name) ∷ alone (vertical_class g.frame) (item_frame (codes "VDATUM") (norm_frame level g.frame)) ∷ vertical_rest level g
+    alone class.Text (text_item g.name) ∷ alone (vertical_class g.frame) (item_frame (codes "VDATUM")
+    (norm_frame level g.frame)) ∷ vertical_rest level g
 
 vertical-small : (t : SystemType) → Each (λ m. m ≤ 3) (vertical_dimensions t)
 vertical-small types.Cartesian = tt
@@ -108,11 +118,14 @@ vertical-small types.Vertical = (omega arith, tt)
 abbrev model_classes : List Class
 model_classes = class.GeoidModel ∷ end_classes
 
-vertical-allowed : DecimalLaws → (level : Level) (g : VerticalParts) → IsFew g.system → Allowed (slots_of class.VerticalCrs) (classes (vertical_runs level g))
+vertical-allowed : DecimalLaws → (level : Level) (g : VerticalParts) → IsFew g.system →
+    Allowed (slots_of class.VerticalCrs) (classes (vertical_runs level g))
 vertical-allowed l level g few =
-    fit-before (one class.Text ∷ one_of (class.VerticalFrame ∷ class.VerticalEnsemble ∷ []) ∷ one class.CoordinateSystem ∷ some class.Axis ∷
+    fit-before (one class.Text ∷ one_of (class.VerticalFrame ∷ class.VerticalEnsemble ∷ []) ∷
+    one class.CoordinateSystem ∷ some class.Axis ∷
     optional class.AxisUnit ∷ []) (vertical_tail ∷ [])
-    (alone class.Text (text_item g.name) ∷ alone (vertical_class g.frame) (item_frame (codes "VDATUM") (norm_frame level g.frame)) ∷
+    (alone class.Text (text_item g.name) ∷ alone (vertical_class g.frame) (item_frame (codes "VDATUM")
+    (norm_frame level g.frame)) ∷
     alone class.CoordinateSystem (item_head (norm_system level g.system)) ∷ axes_run level g.system ∷ no_unit_run ∷ [])
     (models_run level g ∷ tail_runs level g.tail) (
       fills-one refl,
@@ -125,7 +138,8 @@ vertical-allowed l level g few =
       ),
     )
     (last-fits model_classes (classes (models_run level g ∷ tail_runs level g.tail))
-    (taken-more (any_of model_classes) class.GeoidModel (map item_geoid_model (set_geoid_models level g.geoid_models)) (classes (tail_runs level g.tail)) refl
+    (taken-more (any_of model_classes) class.GeoidModel (map item_geoid_model (set_geoid_models level g.geoid_models))
+    (classes (tail_runs level g.tail)) refl
     (tail-fits model_classes level g.tail refl refl refl)))
 
 vertical-runs-made : DecimalLaws → (level : Level) (g : VerticalParts) → IsFew g.system → IsVertical g →
@@ -136,7 +150,8 @@ vertical-runs-made l level g few h =
       (text-made level 5 class.VerticalCrs g.name h.name, tt),
       (
         (
-          as-argument level 5 5 class.VerticalCrs (vertical_class g.frame) (item_frame (codes "VDATUM") (norm_frame level g.frame)) (omega arith)
+          as-argument level 5 5 class.VerticalCrs (vertical_class g.frame) (item_frame (codes "VDATUM")
+              (norm_frame level g.frame)) (omega arith)
               (vertical-named level g.frame) (vertical-frame-made l level g.frame h.frame),
           tt,
         ),
@@ -148,7 +163,8 @@ vertical-runs-made l level g few h =
               tt,
               (
                 models-made l level g.geoid_models h.geoid_models,
-                tail-runs-made l level 5 class.VerticalCrs g.tail (omega arith) (record { usage = refl; ident = refl; remark = refl }) h.tail,
+                tail-runs-made l level 5 class.VerticalCrs g.tail (omega arith)
+                    (record { usage = refl; ident = refl; remark = refl }) h.tail,
               ),
             ),
           ),
@@ -158,23 +174,37 @@ vertical-runs-made l level g few h =
 
 vertical-rise : (level : Level) (g : VerticalParts) → RunsRise 0 (vertical_runs level g)
 vertical-rise level g =
-    let e : rank (vertical_class g.frame) ≡ 0 = vertical-rank g.frame in
-    (omega arith, (omega arith, (omega arith, (omega arith, (omega arith, (omega arith, (omega arith, (omega arith, (omega arith, tt)))))))))
+    let e : rank (vertical_class g.frame) ≡ 0 = vertical-rank g.frame in (
+      omega arith,
+      (
+        omega arith,
+        (
+          omega arith,
+          (omega arith, (omega arith, (omega arith, (omega arith, (omega arith, (omega arith, tt)))))),
+        ),
+      ),
+    )
 
-vertical-breaks : DecimalLaws → (g : VerticalParts) (item : Item) (fault : Refused) → IsVertical g → IsTailSeen class.VerticalCrs item →
-    IsSystemSeen g.system.system_type g.system.dimension (those class.VerticalCrs class.CoordinateSystem (arguments item))
+vertical-breaks : DecimalLaws → (g : VerticalParts) (item : Item) (fault : Refused) → IsVertical g →
+    IsTailSeen class.VerticalCrs item →
+    IsSystemSeen g.system.system_type g.system.dimension (those class.VerticalCrs class.CoordinateSystem
+    (arguments item))
     (those class.VerticalCrs class.Axis (arguments item)) (those class.VerticalCrs class.AxisUnit (arguments item)) →
     ¬ (OfCrs vertical_dimensions class.VerticalCrs item fault)
 vertical-breaks l g item fault h t q (inl b) = no-repeats class.VerticalCrs item fault t b
 vertical-breaks l g item fault h t q (inr b) =
-    no-bad-systems l vertical_dimensions g.system.system_type g.system.dimension (those class.VerticalCrs class.CoordinateSystem (arguments item))
-    (those class.VerticalCrs class.Axis (arguments item)) (those class.VerticalCrs class.AxisUnit (arguments item)) fault
+    no-bad-systems l vertical_dimensions g.system.system_type g.system.dimension
+    (those class.VerticalCrs class.CoordinateSystem (arguments item))
+    (those class.VerticalCrs class.Axis (arguments item)) (those class.VerticalCrs class.AxisUnit (arguments item))
+    fault
     h.system.dimension h.dimension q b
 
-vertical-shown : (level : Level) (g : VerticalParts) (item : Item) → Sees class.VerticalCrs (vertical_runs level g) item →
+vertical-shown : (level : Level) (g : VerticalParts) (item : Item) →
+    Sees class.VerticalCrs (vertical_runs level g) item →
     Each (Shows class.VerticalCrs item (behind level g.system g.tail)) crs_classes
 vertical-shown level g item s =
-    vertical-shows item (text_item g.name) (item_frame (codes "VDATUM") (norm_frame level g.frame)) g.frame (vertical_rest level g)
+    vertical-shows item (text_item g.name) (item_frame (codes "VDATUM") (norm_frame level g.frame)) g.frame
+    (vertical_rest level g)
     (views class.VerticalCrs (vertical_runs level g) item crs_classes s)
 
 vertical-kept : DecimalLaws → (level : Level) (g : VerticalParts) → IsFew g.system → IsVertical g →
@@ -186,12 +216,20 @@ vertical-kept l level g few h = record {
   written = refl;
   made = vertical-runs-made l level g few h;
   allowed = vertical-allowed l level g few;
-  sets = vertical-sets g.frame (text_item g.name) (item_frame (codes "VDATUM") (norm_frame level g.frame)) (vertical_rest level g)
-      (ids-ascend level g.tail.ids, (usages-ascend level (usages_of g.tail), (tt, (tt, (models-ascend level g.geoid_models, tt)))));
+  sets = vertical-sets g.frame (text_item g.name) (item_frame (codes "VDATUM") (norm_frame level g.frame))
+      (vertical_rest level g) (
+        ids-ascend level g.tail.ids,
+        (
+          usages-ascend level (usages_of g.tail),
+          (tt, (tt, (models-ascend level g.geoid_models, tt))),
+        ),
+      );
   own = λ item s.
       let v = vertical-shown level g item s in (
-        has-axes class.VerticalCrs item g.system.system_type g.system.dimension (system-seen l level class.VerticalCrs item g.system g.tail few v),
-        has-tail level 5 class.VerticalCrs (vertical_runs level g) item s (vertical-runs-made l level g few h) (vertical-rise level g)
+        has-axes class.VerticalCrs item g.system.system_type g.system.dimension
+            (system-seen l level class.VerticalCrs item g.system g.tail few v),
+        has-tail level 5 class.VerticalCrs (vertical_runs level g) item s (vertical-runs-made l level g few h)
+            (vertical-rise level g)
             (tail-seen level class.VerticalCrs item g.tail v.1.1.1),
       );
   unbroken = λ item fault s b.
@@ -205,6 +243,7 @@ pub vertical-made : DecimalLaws → AxisEach → (level : Level) (g : VerticalPa
 vertical-made l each_at level g h =
     node-made level 5 class.VerticalCrs (codes "VERTCRS") (text_item g.name)
     (More (item_frame (codes "VDATUM") (norm_frame level g.frame))
-    (system_items (norm_system level g.system) (each item_geoid_model (set_geoid_models level g.geoid_models) (tail_items (norm_tail level g.tail)))))
+    (system_items (norm_system level g.system) (each item_geoid_model (set_geoid_models level g.geoid_models)
+    (tail_items (norm_tail level g.tail)))))
     (vertical_runs level g) (simp (opt-line, each-line))
     (vertical-kept l level g (few-system l each_at vertical_dimensions vertical-small g.system h.system h.dimension) h)

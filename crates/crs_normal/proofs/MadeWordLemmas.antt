@@ -39,7 +39,9 @@ system-letters Spherical = (refl, refl)
 system-letters Vertical = (refl, refl)
 
 abbrev directions : List Direction
-directions = North ∷ NorthNorthEast ∷ NorthEast ∷ EastNorthEast ∷ East ∷ EastSouthEast ∷ SouthEast ∷ SouthSouthEast ∷ South ∷ SouthSouthWest ∷ SouthWest ∷ WestSouthWest ∷ West ∷ WestNorthWest ∷ NorthWest ∷ NorthNorthWest ∷ GeocentricX ∷ GeocentricY ∷ GeocentricZ ∷ Up ∷ Down ∷ Unspecified ∷ []
+directions = North ∷ NorthNorthEast ∷ NorthEast ∷ EastNorthEast ∷ East ∷ EastSouthEast ∷ SouthEast ∷ SouthSouthEast ∷
+    South ∷ SouthSouthWest ∷ SouthWest ∷ WestSouthWest ∷ West ∷ WestNorthWest ∷ NorthWest ∷ NorthNorthWest ∷
+    GeocentricX ∷ GeocentricY ∷ GeocentricZ ∷ Up ∷ Down ∷ Unspecified ∷ []
 
 abbrev types : List SystemType
 types = Cartesian ∷ Ellipsoidal ∷ Spherical ∷ Vertical ∷ []

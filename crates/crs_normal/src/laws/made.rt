@@ -1,8 +1,7 @@
 //! The item of a value's one form is accepted and normal, wherever it stands in a text.
-ghost use Rattle.std.specs.Prelude.{◌≡◌, ◌≤◌, ℕ, Some, List, length, codes};
+ghost use Rattle.std.specs.Prelude.{◌≤◌, ℕ, length, codes};
 ghost use Rattle.crs_shape.specs.declared.class.Class.{Class};
 ghost use Rattle.crs_shape.specs.declared.class.Class.TheVariants as class;
-ghost use Rattle.crs_shape.specs.ShapeFault.{class_of_root};
 ghost use Rattle.crs_text.specs.Written.{at_place, item_text};
 ghost use Rattle.crs_value.specs.ConversionValues.{ConversionParts, GeoidModelParts, MethodParts, ParameterParts};
 ghost use Rattle.crs_value.specs.CrsValues.{BaseParts, GeodeticParts, ProjectedParts, VerticalParts};
@@ -11,7 +10,7 @@ ghost use Rattle.crs_value.specs.declared.crs.Crs.{Crs};
 ghost use Rattle.crs_value.specs.declared.frame.Frame.{Frame};
 ghost use Rattle.crs_value.specs.declared.level.Level.{Level};
 ghost use Rattle.crs_value.specs.declared.unit_kind.UnitKind.{UnitKind};
-ghost use Rattle.crs_value.specs.Sound.{IsIdent, IsUnit};
+ghost use Rattle.crs_value.specs.Sound.{Each, IsIdent, IsUnit};
 ghost use Rattle.crs_value.specs.SoundConversion.{IsConversion, IsGeoidModel, IsMethod, IsParameter};
 ghost use Rattle.crs_value.specs.SoundCompound.{IsCompound};
 ghost use Rattle.crs_value.specs.SoundCrs.{IsCrs};
@@ -27,7 +26,7 @@ ghost use Rattle.crs_normal.specs.Normal.{IsNormalText};
 ghost use Rattle.crs_normal.specs.SpelledConversions.{item_conversion, item_geoid_model, item_method, item_parameter, norm_conversion, norm_geoid_model, norm_method, norm_parameter};
 ghost use Rattle.crs_normal.specs.SpelledCrs.{item_base, item_compound, item_crs, item_geodetic, item_projected, item_vertical, norm_base, norm_compound, norm_crs, norm_geodetic, norm_projected, norm_vertical};
 ghost use Rattle.crs_normal.specs.SpelledFrames.{greenwich, item_ellipsoid, item_frame, item_member, item_meridian, norm_ellipsoid, norm_frame, norm_given, norm_member};
-ghost use Rattle.crs_normal.specs.SpelledSystems.{item_head, norm_system};
+ghost use Rattle.crs_normal.specs.SpelledSystems.{item_axis, item_head, norm_system};
 ghost use Rattle.crs_normal.specs.SpelledUnits.{item_ident, item_unit, norm_unit};
 ghost use Rattle.crs_normal.specs.SpelledUsages.{item_box, item_extent, item_usage, norm_extent, norm_usage};
 
@@ -85,7 +84,8 @@ pub fn made_meridian_is_normal()
 
 /// The item of the prime meridian that a missing one stands for.
 pub fn made_greenwich_is_normal()
-    ensures { (level : Level) (place : ℕ) → IsMade level class.PrimeMeridian 4 (at_place place (item_meridian greenwich)) }
+    ensures { (level : Level) (place : ℕ) →
+        IsMade level class.PrimeMeridian 4 (at_place place (item_meridian greenwich)) }
 {
     decimal_laws();
 }
@@ -178,6 +178,15 @@ pub fn made_head_is_normal()
     decimal_laws();
 }
 
+/// The items of a system's axes, of which there are three at most.
+pub fn made_axes_are_normal()
+    ensures { (level : Level) (system : SystemParts) (place : ℕ) → IsSystem system → length system.axes ≤ 3 →
+        Each (λ axis. IsMade level class.Axis 5 (at_place place (item_axis axis))) ((norm_system level system).axes) }
+{
+    decimal_laws();
+    one_axis_each();
+}
+
 /// The item of a base CRS.
 pub fn made_base_is_normal()
     ensures { (level : Level) (base : BaseParts) (place : ℕ) → IsBase base →
@@ -189,7 +198,8 @@ pub fn made_base_is_normal()
 /// The item of a geodetic or geographic CRS.
 pub fn made_geodetic_is_normal()
     ensures { (level : Level) (geodetic : GeodeticParts) (place : ℕ) → IsGeodetic geodetic →
-        IsMade level (root_class geodetic.system.system_type) 6 (at_place place (item_geodetic (norm_geodetic level geodetic))) }
+        IsMade level (root_class geodetic.system.system_type) 6
+        (at_place place (item_geodetic (norm_geodetic level geodetic))) }
 {
     decimal_laws();
     one_axis_each();
