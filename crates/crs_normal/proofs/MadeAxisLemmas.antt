@@ -35,7 +35,8 @@ use Rattle.crs_normal.proofs.MadeFitLemmas.{fills-any, fills-one, fills-optional
 use Rattle.crs_normal.proofs.MadeFrameLemmas.{number-node-made}
 use Rattle.crs_normal.proofs.MadeIdentLemmas.{ids-ascend, ids-made, ids_run}
 use Rattle.crs_normal.proofs.MadeLeafLemmas.{number-made, text-made, word-made}
-use Rattle.crs_normal.proofs.MadeLemmas.{ArePlaced, Made, Run, RunsMade, alone, as-argument, each-line, given, lines, node-made, opt-line, sees}
+use Rattle.crs_normal.proofs.MadeLemmas.{Made, Run, RunsMade, alone, as-argument, each-line, given, lines, node-made, opt-line, sees}
+use Rattle.crs_normal.proofs.MadePlaceLemmas.{ArePlaced}
 use Rattle.crs_normal.proofs.MadeWordLemmas.{direction-letters}
 
 -- ---- positions

@@ -20,7 +20,8 @@ use Rattle.crs_normal.specs.SpelledSystems.{axes_from, item_axis, item_head, nor
 use Rattle.crs_normal.specs.SpelledUsages.{norm_remark}
 use Rattle.crs_normal.proofs.MadeCheckLemmas.{IsSystemSeen}
 use Rattle.crs_normal.proofs.MadeEllipsoidLemmas.{placed-none}
-use Rattle.crs_normal.proofs.MadeLemmas.{ArePlaced, Made, Run, RunsMade, alone, as-argument, items_in}
+use Rattle.crs_normal.proofs.MadeLemmas.{Made, Run, RunsMade, alone, as-argument, items_in}
+use Rattle.crs_normal.proofs.MadePlaceLemmas.{ArePlaced}
 use Rattle.crs_normal.proofs.MadeSystemLemmas.{HasEach, IsHeadItem, all-axes, all-count, axes-made, axes-seen, few-axes, head-made, head-seen}
 use Rattle.crs_normal.proofs.MadeTailLemmas.{IsTailSeen, NamesTail, tail-runs-made, tail_runs}
 

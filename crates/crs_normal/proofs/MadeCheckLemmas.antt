@@ -25,7 +25,7 @@ use Rattle.crs_normal.specs.SpelledItems.{number_item, number_node, word_item}
 use Rattle.crs_normal.specs.SpelledUnits.{item_unit, whole_value}
 use Rattle.crs_normal.proofs.MadeAxisLemmas.{IsAxisItem, whole-normal}
 use Rattle.crs_normal.proofs.MadeEllipsoidLemmas.{placed-some}
-use Rattle.crs_normal.proofs.MadeLemmas.{ArePlaced}
+use Rattle.crs_normal.proofs.MadePlaceLemmas.{ArePlaced}
 use Rattle.crs_normal.proofs.MadeSystemLemmas.{AreAxisItems, IsHeadItem}
 use Rattle.crs_normal.proofs.MadeUnitLemmas.{reads-one}
 use Rattle.crs_normal.proofs.MadeWordLemmas.{one-direction, one-type}

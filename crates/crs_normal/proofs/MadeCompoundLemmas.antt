@@ -38,7 +38,8 @@ use Rattle.crs_normal.proofs.MadeFitLemmas.{fills-one, fit-before, last-fits}
 use Rattle.crs_normal.proofs.MadeGeodeticLemmas.{end_classes, geodetic-made, geodetic-seen}
 use Rattle.crs_normal.proofs.MadeIdentLemmas.{ids-ascend}
 use Rattle.crs_normal.proofs.MadeLeafLemmas.{text-made}
-use Rattle.crs_normal.proofs.MadeLemmas.{ArePlaced, Made, Run, RunsMade, alone, as-argument, classes, each-line, items_in, node-made, opt-line, views}
+use Rattle.crs_normal.proofs.MadeLemmas.{Made, Run, RunsMade, alone, as-argument, classes, each-line, items_in, node-made, opt-line, views}
+use Rattle.crs_normal.proofs.MadePlaceLemmas.{ArePlaced}
 use Rattle.crs_normal.proofs.MadeProjectedLemmas.{projected-made, projected-seen}
 use Rattle.crs_normal.proofs.MadeSystemLemmas.{IsHeadItem}
 use Rattle.crs_normal.proofs.MadeTailLemmas.{IsTailSeen, RunsRise, has-tail, no-repeats, tail-fits, tail-runs-made, tail_runs, usages-ascend}

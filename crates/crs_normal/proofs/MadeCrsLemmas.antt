@@ -19,7 +19,7 @@ use Rattle.crs_normal.specs.SpelledCrs.{geodetic_keyword, item_crs, norm_crs}
 use Rattle.crs_normal.proofs.MadeBehindLemmas.{AxisEach}
 use Rattle.crs_normal.proofs.MadeCompoundLemmas.{compound-made}
 use Rattle.crs_normal.proofs.MadeGeodeticLemmas.{geodetic-made}
-use Rattle.crs_normal.proofs.MadeLemmas.{text-at, texts-at}
+use Rattle.crs_normal.proofs.MadePlaceLemmas.{text-at, texts-at}
 use Rattle.crs_normal.proofs.MadeProjectedLemmas.{projected-made}
 use Rattle.crs_normal.proofs.MadeVerticalLemmas.{vertical-made}
 

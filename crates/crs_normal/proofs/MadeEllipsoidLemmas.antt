@@ -29,7 +29,8 @@ use Rattle.crs_normal.specs.SpelledUnits.{item_ident, item_unit, metre, norm_len
 use Rattle.crs_normal.proofs.MadeFitLemmas.{fills-any, fills-one, fills-optional, runs-fit}
 use Rattle.crs_normal.proofs.MadeIdentLemmas.{ids-ascend, ids-made, ids_run}
 use Rattle.crs_normal.proofs.MadeLeafLemmas.{number-made, text-made}
-use Rattle.crs_normal.proofs.MadeLemmas.{ArePlaced, IsKept, Made, Run, alone, as-argument, each-line, given, node-made}
+use Rattle.crs_normal.proofs.MadeLemmas.{IsKept, Made, Run, alone, as-argument, each-line, given, node-made}
+use Rattle.crs_normal.proofs.MadePlaceLemmas.{ArePlaced}
 use Rattle.crs_normal.proofs.MadeUnitLemmas.{not-below, reads-one, unit-made, unit_as}
 
 -- ---- units

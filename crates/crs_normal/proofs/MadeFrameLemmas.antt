@@ -34,7 +34,8 @@ use Rattle.crs_normal.proofs.MadeEllipsoidLemmas.{ellipsoid-made}
 use Rattle.crs_normal.proofs.MadeFitLemmas.{fills-any, fills-one, fills-some, runs-fit}
 use Rattle.crs_normal.proofs.MadeIdentLemmas.{given-made, ids-ascend, ids-made, ids_run, text-node-made}
 use Rattle.crs_normal.proofs.MadeLeafLemmas.{number-made, text-made}
-use Rattle.crs_normal.proofs.MadeLemmas.{ArePlaced, Made, Run, alone, as-argument, each-line, given, node-made, opt-line}
+use Rattle.crs_normal.proofs.MadeLemmas.{Made, Run, alone, as-argument, each-line, given, node-made, opt-line}
+use Rattle.crs_normal.proofs.MadePlaceLemmas.{ArePlaced}
 use Rattle.crs_normal.proofs.MadeNamedLemmas.{member-made}
 
 -- ---- nodes of one number

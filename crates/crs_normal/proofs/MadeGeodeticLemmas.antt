@@ -41,7 +41,8 @@ use Rattle.crs_normal.proofs.MadeFitLemmas.{fills-one, fills-optional, fills-som
 use Rattle.crs_normal.proofs.MadeFrameLemmas.{geodetic-frame-made}
 use Rattle.crs_normal.proofs.MadeIdentLemmas.{ids-ascend}
 use Rattle.crs_normal.proofs.MadeLeafLemmas.{text-made}
-use Rattle.crs_normal.proofs.MadeLemmas.{ArePlaced, IsKept, Made, Run, RunsMade, Sees, alone, as-argument, classes, each-line, given, items_in, node-made, opt-line, sees, views}
+use Rattle.crs_normal.proofs.MadeLemmas.{IsKept, Made, Run, RunsMade, Sees, alone, as-argument, classes, each-line, given, items_in, node-made, opt-line, sees, views}
+use Rattle.crs_normal.proofs.MadePlaceLemmas.{ArePlaced}
 use Rattle.crs_normal.proofs.MadeMeridianLemmas.{meridian-argument}
 use Rattle.crs_normal.proofs.MadeTailLemmas.{IsTailSeen, NamesTail, RunsRise, has-tail, no-repeats, tail-fits, tail_runs, usages-ascend}
 

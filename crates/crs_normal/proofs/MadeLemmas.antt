@@ -1,12 +1,10 @@
 -- A node of arguments that are accepted and normal is so itself: what it asks of its arguments is said of them as runs
 -- of one class each, with all places left out.
-use Rattle.std.proofs.Common.{◌≡◌, ℕ, suc, ◌+◌, ◌≤◌, ◌⊎◌, Bool, true, false, IsTrue, Option, Some, None, List, [], ◌∷◌, ◌++◌, map, length, if◌then◌else◌, inl, inr, refl, sym, ap, ap₂, subst, ◌∙◌, arith}
-use Rattle.std.specs.Cmp.Lexicographic.{slice_cmp}
-use Rattle.std.specs.Ordering.{nat_cmp}
-use Rattle.crs_text.specs.Items.{Item, leaf, node, Items, End, More, arguments, depth, depths}
+use Rattle.std.proofs.Common.{◌≡◌, ℕ, suc, ◌+◌, ◌≤◌, ◌⊎◌, Bool, true, false, IsTrue, Option, Some, None, List, [], ◌∷◌, ◌++◌, map, length, if◌then◌else◌, inl, inr, refl, sym, ap, subst, ◌∙◌, arith}
+use Rattle.crs_text.specs.Items.{Item, Items, End, More, arguments, depth, depths}
 use Rattle.crs_text.specs.Refusal.{Refused}
 use Rattle.crs_text.specs.Tokens.{IsWord}
-use Rattle.crs_text.specs.Written.{AreFormed, AreAllFormed, at_place, at_places, item_text, others_text}
+use Rattle.crs_text.specs.Written.{AreFormed, AreAllFormed, at_place, at_places, item_text}
 use Rattle.crs_shape.specs.declared.class.Class.{Class}
 use Rattle.crs_shape.specs.Keywords.{is_keyword}
 use Rattle.crs_shape.specs.Shape.{Allowed}
@@ -19,71 +17,9 @@ use Rattle.crs_value.specs.declared.level.Level.TheVariants as levels
 use Rattle.crs_value.specs.Reading.{is_same, those}
 use Rattle.crs_normal.specs.Made.{IsMade}
 use Rattle.crs_normal.specs.Normal.{AreNormalIn, AtLevel, IsNormalIn, IsWritten}
-use Rattle.crs_normal.specs.NormalOwn.{Ascend, Each, IsBelow, Own, set_classes}
+use Rattle.crs_normal.specs.NormalOwn.{Ascend, Each, Own, set_classes}
 use Rattle.crs_normal.specs.SpelledItems.{each, node_of, opt}
-
--- ---- places
-
-pub class-at : (c : Class) (p : ℕ) (j : Item) → class_in c (at_place p j) ≡ class_in c j
-class-at c p (leaf kind place raw) = refl
-class-at c p (node place keyword square first others close) = refl
-
-mutual
-  pub text-at : (p : ℕ) (j : Item) → item_text (at_place p j) ≡ item_text j
-  text-at p (leaf kind place raw) = refl
-  text-at p (node place keyword square first others close) =
-      let f = text-at (p + length keyword + 1) first in
-      let o = texts-at (p + length keyword + 1 + length (item_text first)) others in
-      λ i. keyword ++ 91 ∷ (f i ++ (o i ++ 93 ∷ []))
-
-  pub texts-at : (p : ℕ) (js : Items) → others_text (at_places p js) ≡ others_text js
-  texts-at p End = refl
-  texts-at p (More j js) =
-      let f = text-at (p + 1) j in
-      let o = texts-at (p + 1 + length (item_text j)) js in
-      λ i. 44 ∷ (f i ++ o i)
-
--- these items are those, each at some place
-abbrev pub ArePlaced : List Item → List Item → Type 0
-ArePlaced [] [] = Unit {0}
-ArePlaced [] (j ∷ js) = ⊥
-ArePlaced (x ∷ xs) [] = ⊥
-ArePlaced (x ∷ xs) (j ∷ js) = ((p : ℕ) × (x ≡ at_place p j)) × ArePlaced xs js
-
-if-placed : (b : Bool) (p : ℕ) (j : Item) (xs js : List Item) → ArePlaced xs js →
-    ArePlaced (if b then at_place p j ∷ xs else xs) (if b then j ∷ js else js)
-if-placed true p j xs js h = ((p, refl), h)
-if-placed false p j xs js h = h
-
-those-placed : (c e : Class) (s : ℕ) (js : Items) → ArePlaced (those c e (at_places s js)) (those c e js)
-those-placed c e s End = tt
-those-placed c e s (More (leaf kind place raw) js) =
-    if-placed (is_class e (class_in c (leaf kind place raw))) (s + 1) (leaf kind place raw)
-    (those c e (at_places (s + 1 + length (item_text (leaf kind place raw))) js)) (those c e js)
-    (those-placed c e (s + 1 + length (item_text (leaf kind place raw))) js)
-those-placed c e s (More (node place keyword square first others close) js) =
-    let j : Item = node place keyword square first others close in
-    if-placed (is_class e (class_in c j)) (s + 1) j
-    (those c e (at_places (s + 1 + length (item_text j)) js)) (those c e js)
-    (those-placed c e (s + 1 + length (item_text j)) js)
-
-placed-below : (p : ℕ) (j : Item) (xs js : List Item) → ArePlaced xs js → Each (IsBelow j) js →
-    Each (IsBelow (at_place p j)) xs
-placed-below p j [] [] h b = tt
-placed-below p j [] (k ∷ ks) h b = tt
-placed-below p j (x ∷ xs) [] h b = absurd h
-placed-below p j (x ∷ xs) (k ∷ ks) h b =
-    (ap₂ (slice_cmp nat_cmp) (text-at p j) (ap item_text h.0.1 ∙ text-at h.0.0 k) ∙ b.0, placed-below p j xs ks h.1 b.1)
-
-pub placed-ascend : (xs js : List Item) → ArePlaced xs js → Ascend js → Ascend xs
-placed-ascend [] [] h a = tt
-placed-ascend [] (j ∷ js) h a = tt
-placed-ascend (x ∷ xs) [] h a = absurd h
-placed-ascend (x ∷ xs) (j ∷ js) h a =
-    subst (λ y. Each (IsBelow y) xs × Ascend xs) (sym h.0.1) (
-      placed-below h.0.0 j xs js h.1 a.0,
-      placed-ascend xs js h.1 a.1,
-    )
+use Rattle.crs_normal.proofs.MadePlaceLemmas.{ArePlaced, class-at, placed-ascend, those-placed}
 
 -- ---- runs: arguments of one class, in order
 

@@ -29,7 +29,8 @@ use Rattle.crs_normal.proofs.MadeEllipsoidLemmas.{given-unit, placed-none}
 use Rattle.crs_normal.proofs.MadeFitLemmas.{fills-any, fills-one, fills-optional, runs-fit}
 use Rattle.crs_normal.proofs.MadeIdentLemmas.{ids-ascend, ids-made, ids_run}
 use Rattle.crs_normal.proofs.MadeLeafLemmas.{number-made, text-made}
-use Rattle.crs_normal.proofs.MadeLemmas.{ArePlaced, Made, Run, Sees, alone, as-argument, each-line, given, node-made, opt-line}
+use Rattle.crs_normal.proofs.MadeLemmas.{Made, Run, Sees, alone, as-argument, each-line, given, node-made, opt-line}
+use Rattle.crs_normal.proofs.MadePlaceLemmas.{ArePlaced}
 
 -- ---- the longitude 0
 

@@ -38,7 +38,8 @@ use Rattle.crs_normal.proofs.MadeAxisLemmas.{Fits, IsAxisItem, axis-made, axis-s
 use Rattle.crs_normal.proofs.MadeFitLemmas.{fills-any, fills-one, runs-fit}
 use Rattle.crs_normal.proofs.MadeIdentLemmas.{ids-ascend, ids-made, ids_run}
 use Rattle.crs_normal.proofs.MadeLeafLemmas.{number-made, word-made}
-use Rattle.crs_normal.proofs.MadeLemmas.{ArePlaced, Made, Run, RunsMade, alone, as-argument, each-line, node-made, sees}
+use Rattle.crs_normal.proofs.MadeLemmas.{Made, Run, RunsMade, alone, as-argument, each-line, node-made, sees}
+use Rattle.crs_normal.proofs.MadePlaceLemmas.{ArePlaced}
 use Rattle.crs_normal.proofs.MadeWordLemmas.{system-letters}
 
 -- ---- each axis has a unit that fits

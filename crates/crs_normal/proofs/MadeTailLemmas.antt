@@ -28,7 +28,8 @@ use Rattle.crs_normal.proofs.MadeAscendLemmas.{set-ascends, set-each}
 use Rattle.crs_normal.proofs.MadeFitLemmas.{fills-one, runs-fit, taken-more}
 use Rattle.crs_normal.proofs.MadeFrameLemmas.{not-repeated}
 use Rattle.crs_normal.proofs.MadeIdentLemmas.{given-made, ids-made, ids_run, text-node-made}
-use Rattle.crs_normal.proofs.MadeLemmas.{ArePlaced, Made, Run, RunsMade, Sees, alone, as-argument, at-class, class-at, classes, each-line, given, line, lines, opt-line}
+use Rattle.crs_normal.proofs.MadeLemmas.{Made, Run, RunsMade, Sees, alone, as-argument, at-class, classes, each-line, given, line, lines, opt-line}
+use Rattle.crs_normal.proofs.MadePlaceLemmas.{ArePlaced, class-at}
 use Rattle.crs_normal.proofs.MadeUsageLemmas.{usage-made, usage-named}
 
 -- ---- the usages, the bare parts being one more

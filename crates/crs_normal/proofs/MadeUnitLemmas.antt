@@ -31,7 +31,8 @@ use Rattle.crs_normal.specs.SpelledUnits.{item_ident, item_unit, set_idents}
 use Rattle.crs_normal.proofs.MadeFitLemmas.{fills-any, fills-one, runs-fit}
 use Rattle.crs_normal.proofs.MadeIdentLemmas.{ids-ascend, ids-made, ids_run}
 use Rattle.crs_normal.proofs.MadeLeafLemmas.{number-made, text-made}
-use Rattle.crs_normal.proofs.MadeLemmas.{ArePlaced, IsKept, Run, alone, classes, each-line, node-made}
+use Rattle.crs_normal.proofs.MadeLemmas.{IsKept, Run, alone, classes, each-line, node-made}
+use Rattle.crs_normal.proofs.MadePlaceLemmas.{ArePlaced}
 
 -- ---- numbers
 
