@@ -33,6 +33,7 @@ pub mod MadeLeafLemmas
 pub mod MadeLemmas
 pub mod MadeMeridianLemmas
 pub mod MadeNamedLemmas
+pub mod MadePlaceLemmas
 pub mod MadeProjectedLemmas
 pub mod MadeSystemLemmas
 pub mod MadeTailLemmas
