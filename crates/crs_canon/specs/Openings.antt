@@ -1,0 +1,11 @@
+-- Pieces of written nodes, as writers append them.
+use Rattle.std.specs.Prelude.{ℕ, List, [], ◌∷◌, ◌++◌, Option, Some, None}
+
+-- an opening that ends with a quote, a text, and its closing quote
+abbrev pub opened : List ℕ → List ℕ → List ℕ
+opened opening text = opening ++ (text ++ 34 ∷ [])
+
+-- a node of one text behind its opening, if there is one
+abbrev pub text_behind : List ℕ → Option (List ℕ) → List ℕ
+text_behind opening None = []
+text_behind opening (Some text) = opened opening text ++ 93 ∷ []

@@ -1,0 +1,5 @@
+//! Writers: each appends the text of the one form of a value to `out`. Where memory runs out, nothing is promised of
+//! `out`; whoever calls from outside cuts it back.
+
+pub(crate) mod ident;
+pub(crate) mod texts;
