@@ -1,2 +1,3 @@
+pub mod IdentLemmas
 pub mod SetLemmas
 pub mod TextLemmas
