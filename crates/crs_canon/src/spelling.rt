@@ -1,5 +1,8 @@
 //! Writers: each appends the text of the one form of a value to `out`. Where memory runs out, nothing is promised of
 //! `out`; whoever calls from outside cuts it back.
 
+pub(crate) mod ellipsoid;
 pub(crate) mod ident;
+pub(crate) mod meridian;
 pub(crate) mod texts;
+pub(crate) mod unit;
