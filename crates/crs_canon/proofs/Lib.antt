@@ -1,3 +1,4 @@
-pub mod IdentLemmas
+pub mod PieceLemmas
 pub mod SetLemmas
 pub mod TextLemmas
+pub mod WrittenLemmas

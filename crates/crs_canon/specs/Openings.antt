@@ -1,5 +1,7 @@
 -- Pieces of written nodes, as writers append them.
 use Rattle.std.specs.Prelude.{ℕ, List, [], ◌∷◌, ◌++◌, Option, Some, None}
+use Rattle.crs_text.specs.Items.{Items}
+use Rattle.crs_text.specs.Written.{others_text}
 
 -- an opening that ends with a quote, a text, and its closing quote
 abbrev pub opened : List ℕ → List ℕ → List ℕ
@@ -9,3 +11,7 @@ opened opening text = opening ++ (text ++ 34 ∷ [])
 abbrev pub text_behind : List ℕ → Option (List ℕ) → List ℕ
 text_behind opening None = []
 text_behind opening (Some text) = opened opening text ++ 93 ∷ []
+
+-- a node of a name and of arguments behind it
+abbrev pub named : List ℕ → List ℕ → Items → List ℕ
+named opening name others = opened opening name ++ (others_text others ++ 93 ∷ [])

@@ -1,7 +1,9 @@
 //! Writers: each appends the text of the one form of a value to `out`. Where memory runs out, nothing is promised of
 //! `out`; whoever calls from outside cuts it back.
 
+pub(crate) mod conversion;
 pub(crate) mod ellipsoid;
+pub(crate) mod frame;
 pub(crate) mod ident;
 pub(crate) mod meridian;
 pub(crate) mod texts;

@@ -6,6 +6,7 @@ ghost use Rattle.crs_text.specs.Written.{item_text, others_text};
 ghost use Rattle.crs_normal.specs.SpelledItems.{code_item, each, opt, text_node};
 ghost use Rattle.crs_normal.specs.SpelledUnits.{item_ident, set_idents};
 ghost use Rattle.crs_canon.specs.Members.{set_text};
+ghost use Rattle.crs_canon.specs.Openings.{named};
 
 use crate::set::{Spell, write_set};
 use crate::spelling::texts::{append, open_text, write_code, write_optional_text};
@@ -84,7 +85,7 @@ fn write_ident_set(out: &mut Vec<u8>, ids: &[Ident<'_>]) -> Result<(), AllocErro
 }
 
 // The identifiers of a part.
-#[tactic(auto, using(crate::proofs::IdentLemmas::ident_rules))]
+#[tactic(auto, using(crate::proofs::WrittenLemmas::written_rules))]
 pub(crate) fn write_idents(
     out: &mut Vec<u8>,
     ids: &List<Ident<'_>>,
@@ -96,4 +97,20 @@ pub(crate) fn write_idents(
     match level {
         Level::Full => write_ident_set(out, ids.as_slice()),
     }
+}
+
+// A node of a name and identifiers.
+pub(crate) fn write_named(
+    out: &mut Vec<u8>,
+    opening: &[u8],
+    name: &[u8],
+    ids: &List<Ident<'_>>,
+    level: Level,
+) -> Result<(), AllocError>
+    ensures { OnOk result (out.new.items
+        ≡ out.old.items ++ named opening.now name.now (each item_ident (set_idents level ids.now) End)) }
+{
+    open_text(out, opening, name)?;
+    write_idents(out, ids, level)?;
+    append(out, b"]")
 }
