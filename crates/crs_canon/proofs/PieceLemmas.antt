@@ -1,14 +1,9 @@
 -- Texts that are appended piece by piece.
-use Rattle.std.proofs.Common.{◌≡◌, ℕ, List, [], ◌∷◌, ◌++◌, Option, Result, Ok, Err, OnOk, refl, sym, ap, ◌∙◌, append_assoc}
+use Rattle.std.proofs.Common.{◌≡◌, ℕ, List, [], ◌∷◌, ◌++◌, Option, sym, ap, ◌∙◌, append_assoc}
 use Rattle.crs_text.specs.Items.{Item, Items, End, More}
 use Rattle.crs_text.specs.Written.{item_text, others_text}
 use Rattle.crs_normal.specs.SpelledItems.{each, opt}
 use Rattle.crs_canon.proofs.TextLemmas.{each-text, opt-text}
-
--- what a last call ensures, taken further
-pub on-ok : {T E P Q : Type 0} (r : Result T E) → (P → Q) → OnOk r P → OnOk r Q
-on-ok (Ok value) f p = f p
-on-ok (Err error) f p = tt
 
 pub two : (old a b s1 s2 : List ℕ) → s1 ≡ old ++ a → s2 ≡ s1 ++ b → s2 ≡ old ++ (a ++ b)
 two old a b s1 s2 e f = f ∙ ap (λ (x : List ℕ). x ++ b) e ∙ append_assoc old a b

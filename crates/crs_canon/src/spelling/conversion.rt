@@ -1,10 +1,10 @@
 //! Conversions and geoid models.
 ghost use Rattle.std.specs.Prelude.{◌≡◌, ◌∷◌, ◌++◌, OnOk};
-ghost use Rattle.crs_text.specs.Items.{End};
+ghost use Rattle.crs_text.specs.Items.{End, More};
 ghost use Rattle.crs_text.specs.Written.{item_text, others_text};
 ghost use Rattle.crs_value.specs.declared.unit_kind.UnitKind.TheVariants as kinds;
 ghost use Rattle.crs_normal.specs.SpelledConversions.{item_conversion, item_geoid_model, item_method, item_parameter, norm_conversion, norm_method, norm_parameter, set_geoid_models, set_parameters};
-ghost use Rattle.crs_normal.specs.SpelledItems.{each, opt};
+ghost use Rattle.crs_normal.specs.SpelledItems.{each, number_item, opt};
 ghost use Rattle.crs_normal.specs.SpelledUnits.{item_ident, item_unit, norm_units, set_idents};
 
 use crate::set::{Spell, write_set};
@@ -26,8 +26,8 @@ fn write_method(
     write_named(out, b",METHOD[\"", method.name, &method.ids, level)
 }
 
-#[tactic(auto, using(crate::proofs::TextLemmas::text_rules))]
-fn write_behind_value(
+#[tactic(auto, using(crate::proofs::PieceLemmas::then_rules))]
+fn write_from_unit(
     out: &mut Vec<u8>,
     parameter: &Parameter<'_>,
     level: Level,
@@ -39,6 +39,20 @@ fn write_behind_value(
     write_idents(out, &parameter.ids, level)
 }
 
+#[tactic(auto, using(crate::proofs::PieceLemmas::then_rules))]
+fn write_from_value(
+    out: &mut Vec<u8>,
+    parameter: &Parameter<'_>,
+    level: Level,
+) -> Result<(), AllocError>
+    ensures { OnOk result (out.new.items ≡ out.old.items ++ others_text
+        (More (number_item parameter.now.value) (opt item_unit (norm_units level kinds.Plain parameter.now.unit)
+        (each item_ident (set_idents level parameter.now.ids) End)))) }
+{
+    write_number(out, &parameter.value)?;
+    write_from_unit(out, parameter, level)
+}
+
 fn write_parameter(
     out: &mut Vec<u8>,
     parameter: &Parameter<'_>,
@@ -48,8 +62,7 @@ fn write_parameter(
         ≡ out.old.items ++ item_text (item_parameter (norm_parameter level parameter.now))) }
 {
     open_text(out, b"PARAMETER[\"", parameter.name)?;
-    write_number(out, &parameter.value)?;
-    write_behind_value(out, parameter, level)?;
+    write_from_value(out, parameter, level)?;
     append(out, b"]")
 }
 
@@ -77,7 +90,7 @@ fn write_parameters(
 }
 
 #[tactic(auto, using(crate::proofs::PieceLemmas::then_rules))]
-fn write_behind_method(
+fn write_from_parameters(
     out: &mut Vec<u8>,
     conversion: &Conversion<'_>,
     level: Level,
@@ -90,6 +103,21 @@ fn write_behind_method(
     write_idents(out, &conversion.ids, level)
 }
 
+#[tactic(auto, using(crate::proofs::PieceLemmas::then_rules))]
+fn write_from_method(
+    out: &mut Vec<u8>,
+    conversion: &Conversion<'_>,
+    level: Level,
+) -> Result<(), AllocError>
+    ensures { OnOk result (out.new.items ≡ out.old.items ++ others_text
+        (More (item_method (norm_method level conversion.now.method))
+        (each item_parameter (set_parameters level conversion.now.parameters)
+        (each item_ident (set_idents level conversion.now.ids) End)))) }
+{
+    write_method(out, &conversion.method, level)?;
+    write_from_parameters(out, conversion, level)
+}
+
 // Behind a comma.
 pub(crate) fn write_conversion(
     out: &mut Vec<u8>,
@@ -100,8 +128,7 @@ pub(crate) fn write_conversion(
         ≡ out.old.items ++ 44 ∷ item_text (item_conversion (norm_conversion level conversion.now))) }
 {
     open_text(out, b",CONVERSION[\"", conversion.name)?;
-    write_method(out, &conversion.method, level)?;
-    write_behind_method(out, conversion, level)?;
+    write_from_method(out, conversion, level)?;
     append(out, b"]")
 }
 

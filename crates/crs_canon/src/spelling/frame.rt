@@ -12,7 +12,7 @@ ghost use Rattle.crs_canon.specs.Openings.{named};
 use crate::set::{Spell, write_set};
 use crate::spelling::ellipsoid::write_optional_ellipsoid;
 use crate::spelling::ident::{write_idents, write_named};
-use crate::spelling::texts::{append, open_text, write_optional_text};
+use crate::spelling::texts::{append, open_number, open_text, write_optional_text};
 use crs_decimal::Decimal;
 use crs_value::{Datum, Ensemble, Frame, Level, List, Member};
 use std::alloc::AllocError;
@@ -48,7 +48,20 @@ fn write_anchor(out: &mut Vec<u8>, anchor: Option<&[u8]>) -> Result<(), AllocErr
     write_optional_text(out, b",ANCHOR[\"", anchor)
 }
 
-#[tactic(auto, using(crate::proofs::TextLemmas::text_rules))]
+#[tactic(auto, using(crate::proofs::PieceLemmas::then_rules))]
+fn write_from_anchor(
+    out: &mut Vec<u8>,
+    datum: &Datum<'_>,
+    level: Level,
+) -> Result<(), AllocError>
+    ensures { OnOk result (out.new.items ≡ out.old.items ++ others_text
+        (opt (text_node (codes "ANCHOR")) datum.now.anchor (each item_ident (set_idents level datum.now.ids) End))) }
+{
+    write_anchor(out, datum.anchor)?;
+    write_idents(out, &datum.ids, level)
+}
+
+#[tactic(auto, using(crate::proofs::PieceLemmas::then_rules))]
 fn write_behind_name(
     out: &mut Vec<u8>,
     datum: &Datum<'_>,
@@ -59,8 +72,7 @@ fn write_behind_name(
         (opt (text_node (codes "ANCHOR")) datum.now.anchor (each item_ident (set_idents level datum.now.ids) End)))) }
 {
     write_optional_ellipsoid(out, &datum.ellipsoid, level)?;
-    write_anchor(out, datum.anchor)?;
-    write_idents(out, &datum.ids, level)
+    write_from_anchor(out, datum, level)
 }
 
 fn write_datum(
@@ -82,8 +94,7 @@ fn write_accuracy(out: &mut Vec<u8>, accuracy: &Decimal) -> Result<(), AllocErro
     ensures { OnOk result (out.new.items
         ≡ out.old.items ++ 44 ∷ item_text (number_node (codes "ENSEMBLEACCURACY") accuracy.now)) }
 {
-    append(out, b",ENSEMBLEACCURACY[")?;
-    accuracy.write(out)?;
+    open_number(out, b",ENSEMBLEACCURACY[", accuracy)?;
     append(out, b"]")
 }
 

@@ -2,9 +2,10 @@
 ghost use Rattle.std.specs.Prelude.{◌≡◌, ◌∷◌, ◌++◌, [], OnOk};
 ghost use Rattle.std.specs.List.{list_all};
 ghost use Rattle.std.specs.Option.{option_copied};
+ghost use Rattle.crs_decimal.specs.Plain.{plain};
 ghost use Rattle.crs_decimal.specs.Spelling.{is_digit};
 ghost use Rattle.crs_text.specs.Items.{End, More};
-ghost use Rattle.crs_text.specs.Written.{others_text};
+ghost use Rattle.crs_text.specs.Written.{item_text, others_text};
 ghost use Rattle.crs_normal.specs.SpelledItems.{code_item, is_short, number_item, opt};
 ghost use Rattle.crs_canon.specs.Openings.{opened, text_behind};
 
@@ -48,9 +49,22 @@ pub(crate) fn write_optional_text(
     }
 }
 
+// A keyword, the opening delimiter and a number; the opening ends with the delimiter.
+pub(crate) fn open_number(
+    out: &mut Vec<u8>,
+    opening: &[u8],
+    value: &Decimal,
+) -> Result<(), AllocError>
+    ensures { OnOk result (out.new.items ≡ out.old.items ++ (opening.now ++ plain value.now)) }
+{
+    append(out, opening)?;
+    value.write(out)?;
+    Ok(())
+}
+
 // A number behind a comma.
 pub(crate) fn write_number(out: &mut Vec<u8>, value: &Decimal) -> Result<(), AllocError>
-    ensures { OnOk result (out.new.items ≡ out.old.items ++ others_text (More (number_item value.now) End)) }
+    ensures { OnOk result (out.new.items ≡ out.old.items ++ 44 ∷ item_text (number_item value.now)) }
 {
     append(out, b",")?;
     value.write(out)?;

@@ -5,8 +5,8 @@ ghost use Rattle.crs_text.specs.Items.{End, More};
 ghost use Rattle.crs_text.specs.Written.{item_text, others_text};
 ghost use Rattle.crs_value.specs.Words.{unit_word};
 ghost use Rattle.crs_same.specs.SameUnits.{kind_as};
-ghost use Rattle.crs_normal.specs.SpelledItems.{opt};
-ghost use Rattle.crs_normal.specs.SpelledUnits.{item_unit, metre, norm_length, norm_unit, norm_units};
+ghost use Rattle.crs_normal.specs.SpelledItems.{each, number_item, opt};
+ghost use Rattle.crs_normal.specs.SpelledUnits.{item_ident, item_unit, metre, norm_length, norm_unit, norm_units, set_idents};
 
 use crate::spelling::ident::write_idents;
 use crate::spelling::texts::{append, open_text, write_number};
@@ -33,6 +33,15 @@ fn unit_opening(kind: UnitKind) -> &'static str
     }
 }
 
+#[tactic(auto, using(crate::proofs::PieceLemmas::then_rules))]
+fn write_from_factor(out: &mut Vec<u8>, unit: &Unit<'_>, level: Level) -> Result<(), AllocError>
+    ensures { OnOk result (out.new.items ≡ out.old.items ++ others_text
+        (More (number_item unit.now.factor) (each item_ident (set_idents level unit.now.ids) End))) }
+{
+    write_number(out, &unit.factor)?;
+    write_idents(out, &unit.ids, level)
+}
+
 // Behind a comma; where this kind is asked, which `UNIT` is of.
 pub(crate) fn write_unit(
     out: &mut Vec<u8>,
@@ -44,8 +53,7 @@ pub(crate) fn write_unit(
         ≡ out.old.items ++ 44 ∷ item_text (item_unit (norm_unit level asked unit.now))) }
 {
     open_text(out, unit_opening(kind_as(asked, unit.kind)).as_bytes(), unit.name)?;
-    write_number(out, &unit.factor)?;
-    write_idents(out, &unit.ids, level)?;
+    write_from_factor(out, unit, level)?;
     append(out, b"]")
 }
 
