@@ -1,3 +1,4 @@
+pub mod EncloseLemmas
 pub mod PieceLemmas
 pub mod SetLemmas
 pub mod TextLemmas

@@ -3,13 +3,14 @@ use Rattle.std.proofs.Common.{◌≡◌, ℕ, List, map}
 use Rattle.crs_text.specs.Items.{End}
 use Rattle.crs_text.specs.Written.{item_text, others_text}
 use Rattle.crs_value.specs.ConversionValues.{GeoidModelParts, ParameterParts}
-use Rattle.crs_value.specs.Values.{IdentParts, MemberParts}
+use Rattle.crs_value.specs.Values.{IdentParts, MemberParts, UsageParts}
 use Rattle.crs_value.specs.declared.level.Level.{Level}
 use Rattle.crs_value.specs.declared.level.Level.TheVariants as levels
 use Rattle.crs_normal.specs.SpelledConversions.{item_geoid_model, item_parameter, norm_geoid_model, norm_parameter, set_geoid_models, set_parameters}
 use Rattle.crs_normal.specs.SpelledFrames.{item_member, norm_member, set_members}
 use Rattle.crs_normal.specs.SpelledItems.{each}
 use Rattle.crs_normal.specs.SpelledUnits.{item_ident, set_idents}
+use Rattle.crs_normal.specs.SpelledUsages.{item_usage, norm_usage, set_usages}
 use Rattle.crs_canon.specs.Members.{set_text}
 use Rattle.crs_canon.proofs.TextLemmas.{normal_set-written, set-written}
 
@@ -36,4 +37,10 @@ pub geoid_models-written : (level : Level) (models : List GeoidModelParts) →
 unfolding set_geoid_models
 geoid_models-written level models = normal_set-written item_geoid_model (norm_geoid_model level) models
 
-pub ruleset written_rules = (idents-written, members-written, parameters-written, geoid_models-written)
+pub usages-written : (usages : List UsageParts) →
+    others_text (each item_usage (set_usages levels.Full usages) End)
+    ≡ set_text (map (λ u. item_text (item_usage (norm_usage u))) usages)
+unfolding set_usages
+usages-written usages = normal_set-written item_usage norm_usage usages
+
+pub ruleset written_rules = (idents-written, members-written, parameters-written, geoid_models-written, usages-written)

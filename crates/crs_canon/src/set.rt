@@ -92,3 +92,38 @@ pub(crate) fn write_set<T: Spell>(
         _ => write_many(out, members, level),
     }
 }
+
+// Two members or more.
+#[tactic(auto, unfolding(crate::specs::Members::set_text))]
+fn write_many_with<T: Spell>(
+    out: &mut Vec<u8>,
+    first: &T,
+    others: &[T],
+    level: Level,
+) -> Result<(), AllocError>
+    ensures { OnOk result (out.new.items
+        ≡ out.old.items ++ set_text (map (T.spelling level) (first.now ∷ others.now))) }
+{
+    let alloc = *out.allocator();
+    let mut sorted = BTreeSet::new(alloc);
+    gather(alloc, &mut sorted, first, level)?;
+    gather_all(alloc, &mut sorted, others, level)?;
+    write_sorted(out, &sorted)
+}
+
+// A set of a member and others.
+#[tactic(auto, unfolding(crate::specs::Members::set_text))]
+pub(crate) fn write_set_with<T: Spell>(
+    out: &mut Vec<u8>,
+    first: &T,
+    others: &[T],
+    level: Level,
+) -> Result<(), AllocError>
+    ensures { OnOk result (out.new.items
+        ≡ out.old.items ++ set_text (map (T.spelling level) (first.now ∷ others.now))) }
+{
+    match others {
+        [] => write_member(out, first, level),
+        _ => write_many_with(out, first, others, level),
+    }
+}

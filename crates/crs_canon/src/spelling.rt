@@ -6,5 +6,7 @@ pub(crate) mod ellipsoid;
 pub(crate) mod frame;
 pub(crate) mod ident;
 pub(crate) mod meridian;
+pub(crate) mod tail;
 pub(crate) mod texts;
 pub(crate) mod unit;
+pub(crate) mod usage;
