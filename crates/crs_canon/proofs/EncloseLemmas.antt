@@ -16,7 +16,7 @@ enclosing front End at old opened closed e l within f g =
 enclosing front (More first others) at old opened closed e l within f g =
     let rest = item_text first ++ others_text others in
     let set_there : opened ≡ front ++ 91 ∷ rest =
-        f ∙ ap (λ (x : List ℕ). slice_set x at 91) e ∙ ap (λ n. slice_set (front ++ 44 ∷ rest) n 91) (sym l) ∙ set-append_seam front 44 rest 91 in
+    f ∙ ap (λ (x : List ℕ). slice_set x at 91) e ∙ ap (λ n. slice_set (front ++ 44 ∷ rest) n 91) (sym l) ∙ set-append_seam front 44 rest 91 in
     g ∙ ap (λ (x : List ℕ). x ++ 93 ∷ []) set_there ∙ append_assoc front (91 ∷ rest) (93 ∷ [])
     ∙ ap (λ (x : List ℕ). front ++ (91 ∷ x)) (append_assoc (item_text first) (others_text others) (93 ∷ []))
 

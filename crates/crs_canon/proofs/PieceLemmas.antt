@@ -1,5 +1,5 @@
 -- Texts that are appended piece by piece.
-use Rattle.std.proofs.Common.{◌≡◌, ℕ, List, [], ◌∷◌, ◌++◌, Option, sym, ap, ◌∙◌, append_assoc}
+use Rattle.std.proofs.Common.{◌≡◌, ℕ, List, ◌∷◌, ◌++◌, Option, sym, ap, ◌∙◌, append_assoc}
 use Rattle.crs_text.specs.Items.{Item, Items, End, More}
 use Rattle.crs_text.specs.Written.{item_text, others_text}
 use Rattle.crs_normal.specs.SpelledItems.{each, opt}

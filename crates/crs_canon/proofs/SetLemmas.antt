@@ -1,5 +1,5 @@
 -- Keys put into a set are spellings put into a list that is in order.
-use Rattle.std.proofs.Common.{◌≡◌, ℕ, List, [], ◌∷◌, Vec, refl, ap, ◌∙◌}
+use Rattle.std.proofs.Common.{◌≡◌, ℕ, List, [], ◌∷◌, ◌++◌, Vec, refl, ap, ◌∙◌}
 use Rattle.std.specs.BTreeSet.{insert_key}
 use Rattle.std.specs.Cmp.Lexicographic.{slice_cmp}
 use Rattle.std.specs.Ordering.{nat_cmp, match_ordering}
@@ -24,10 +24,12 @@ spellings-insert [] key = refl
 spellings-insert (x ∷ keys) key =
     spellings-match (compared key x) (key ∷ x ∷ keys) (x ∷ keys) (x ∷ insert_key compared keys key)
     ∙ ap (λ rest. match_ordering (compared key x) (key.items ∷ x.items ∷ spellings keys) (x.items ∷ spellings keys) (x.items ∷ rest))
-        (spellings-insert keys key)
+    (spellings-insert keys key)
 
--- a key of this spelling is put in
-pub gathered : (old new : List (Vec ℕ Global)) (key : Vec ℕ Global) (bytes : List ℕ) →
-    new ≡ insert_key compared old key → key.items ≡ bytes → spellings new ≡ put (λ x. x) bytes (spellings old)
-gathered old new key bytes e f =
-    ap (λ keys. spellings keys) e ∙ spellings-insert old key ∙ ap (λ x. put (λ y. y) x (spellings old)) f
+-- a key of this spelling, written to what was empty, is put in
+pub gathered : (old new : List (Vec ℕ Global)) (key : Vec ℕ Global) (start bytes : List ℕ) →
+    new ≡ insert_key compared old key → start ≡ [] → key.items ≡ start ++ bytes →
+    spellings new ≡ put (λ x. x) bytes (spellings old)
+gathered old new key start bytes e f g =
+    ap (λ keys. spellings keys) e ∙ spellings-insert old key
+    ∙ ap (λ x. put (λ y. y) x (spellings old)) (g ∙ ap (λ (x : List ℕ). x ++ bytes) f)

@@ -1,6 +1,6 @@
 -- Axes as they are looked up and written.
-use Rattle.std.proofs.Common.{◌≡◌, ℕ, suc, ◌+◌, ◌-◌, ◌<◌, List, [], ◌∷◌, ◌++◌, Option, Some, None, length, refl, sym, ap, ◌∙◌, subst, append_assoc}
-use Rattle.crs_text.specs.Items.{Items, End, More}
+use Rattle.std.proofs.Common.{◌≡◌, ℕ, suc, ◌+◌, List, [], ◌∷◌, ◌++◌, Option, Some, None, refl, sym, ap, ◌∙◌, subst, append_assoc}
+use Rattle.crs_text.specs.Items.{Items, End}
 use Rattle.crs_text.specs.Written.{item_text, others_text}
 use Rattle.crs_value.specs.Values.{AxisParts, SystemParts}
 use Rattle.crs_value.specs.declared.level.Level.{Level}
@@ -8,7 +8,6 @@ use Rattle.crs_normal.specs.SpelledItems.{each}
 use Rattle.crs_normal.specs.SpelledSystems.{axes_from, axis_at, item_axis, item_head, norm_axis, norm_system, system_items, with_axis}
 use Rattle.crs_canon.proofs.PieceLemmas.{two}
 use Rattle.crs_canon.proofs.TextLemmas.{each-text}
-
 
 with-text : (level : Level) (system : SystemParts) (k : ℕ) (axis : Option AxisParts) (rest : List AxisParts) →
     others_text (each item_axis (with_axis level system k axis rest) End)
@@ -46,6 +45,6 @@ then-system level system rest old s1 s2 e f =
     let axes = others_text (each item_axis s.axes End) in
     two old (44 ∷ (head ++ axes)) (others_text rest) s1 s2 e f
     ∙ ap (λ (x : List ℕ). old ++ (44 ∷ x))
-        (append_assoc head axes (others_text rest) ∙ ap (λ (x : List ℕ). head ++ x) (sym (each-text item_axis s.axes rest)))
+    (append_assoc head axes (others_text rest) ∙ ap (λ (x : List ℕ). head ++ x) (sym (each-text item_axis s.axes rest)))
 
 pub ruleset system_rules = (then-system)

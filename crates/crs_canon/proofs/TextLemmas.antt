@@ -4,8 +4,7 @@ use Rattle.std.proofs.lemmas.List.{append-nil}
 use Rattle.crs_text.specs.Items.{Item, Items, End, More}
 use Rattle.crs_text.specs.Written.{item_text, others_text}
 use Rattle.crs_normal.specs.Ordered.{in_order, put, put_all}
-use Rattle.crs_normal.specs.SpelledItems.{each, node_of, opt, text_item, text_node}
-use Rattle.crs_value.specs.declared.level.Level.{Level}
+use Rattle.crs_normal.specs.SpelledItems.{each, opt, text_node}
 use Rattle.std.specs.Cmp.Lexicographic.{slice_cmp}
 use Rattle.std.specs.Ordering.{nat_cmp, match_ordering}
 use Rattle.std.specs.declared.cmp.Ordering.{Ordering}

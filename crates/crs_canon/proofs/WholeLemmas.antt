@@ -1,5 +1,5 @@
 -- The test that a number is this whole one.
-use Rattle.std.proofs.Common.{◌≡◌, ◌≢◌, ◌↔◌, ◌⊎◌, ◌∙◌, ℕ, suc, zero, ◌<◌, ◌≤◌, ◌*◌, ◌^◌, ◌+◌, ◌-◌, ◌%◌, ◌++◌, ◌&&◌, ◌||◌, ◌==◌, not, Bool, true, false, nat_eq, nat_lt, nat_le, fold, inl, inr, List, [], ◌∷◌, Option, None, length, decimal, get_or, refl, sym, ap, subst, arith, rules, pos, negsuc, ℤ}
+use Rattle.std.proofs.Common.{◌≡◌, ◌≢◌, ◌↔◌, ◌⊎◌, ◌∙◌, ℕ, suc, zero, ◌<◌, ◌≤◌, ◌*◌, ◌^◌, ◌+◌, ◌-◌, ◌%◌, ◌++◌, ◌&&◌, ◌||◌, ◌==◌, not, Bool, true, false, nat_eq, nat_lt, nat_le, fold, inl, inr, List, [], ◌∷◌, None, length, decimal, get_or, refl, sym, ap, subst, arith, rules, pos, negsuc, ℤ}
 use Rattle.std.proofs.lemmas.Bool.Decides.{nat_tests}
 use Rattle.std.proofs.lemmas.Fmt.{decimal_digit, decimal_nonempty, digits_decimal, digits_value-decimal, first_decimal, length-decimal-le}
 use Rattle.std.proofs.Math.Nat.{pow-suc, mul-le-mul_left, mul_assoc, one-le-pow}
@@ -181,4 +181,4 @@ module _ (laws : Laws) where
   is-whole v m n in-v l s = as-true (nat_eq m n) (is_number v n)
       (λ e. (number-tested v n in-v l).1 (subst (λ k. SameNumber (exact v) (whole_number k)) (eq-of m n e) s))
       (λ e. let both = laws.transitive (whole_number m) (exact v) (whole_number n) (laws.symmetric (exact v) (whole_number m) s)
-          ((number-tested v n in-v l).0 e) in eq-eqb m n (let y : m * 1 ≡ n * 1 = both.0 in omega (arith, y)))
+      ((number-tested v n in-v l).0 e) in eq-eqb m n (let y : m * 1 ≡ n * 1 = both.0 in omega (arith, y)))

@@ -1,5 +1,5 @@
 -- The sets of a part as they are written.
-use Rattle.std.proofs.Common.{◌≡◌, ℕ, List, map}
+use Rattle.std.proofs.Common.{◌≡◌, List, map}
 use Rattle.crs_text.specs.Items.{End}
 use Rattle.crs_text.specs.Written.{item_text, others_text}
 use Rattle.crs_value.specs.ConversionValues.{GeoidModelParts, ParameterParts}

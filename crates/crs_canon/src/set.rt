@@ -68,34 +68,7 @@ fn write_sorted(out: &mut Vec<u8>, sorted: &BTreeSet<Vec<u8>>) -> Result<(), All
 
 // Two members or more.
 #[tactic(auto, unfolding(crate::specs::Members::set_text))]
-fn write_many<T: Spell>(out: &mut Vec<u8>, members: &[T], level: Level) -> Result<(), AllocError>
-    ensures { OnOk result (out.new.items ≡ out.old.items ++ set_text (map (T.spelling level) members.now)) }
-{
-    let alloc = *out.allocator();
-    let mut sorted = BTreeSet::new(alloc);
-    gather_all(alloc, &mut sorted, members, level)?;
-    write_sorted(out, &sorted)
-}
-
-// A set, a comma before each member. Most sets have one member or none, which need no order.
-#[tactic(auto, unfolding(crate::specs::Members::set_text))]
-pub(crate) fn write_set<T: Spell>(
-    out: &mut Vec<u8>,
-    members: &[T],
-    level: Level,
-) -> Result<(), AllocError>
-    ensures { OnOk result (out.new.items ≡ out.old.items ++ set_text (map (T.spelling level) members.now)) }
-{
-    match members {
-        [] => Ok(()),
-        [member] => write_member(out, member, level),
-        _ => write_many(out, members, level),
-    }
-}
-
-// Two members or more.
-#[tactic(auto, unfolding(crate::specs::Members::set_text))]
-fn write_many_with<T: Spell>(
+fn write_many<T: Spell>(
     out: &mut Vec<u8>,
     first: &T,
     others: &[T],
@@ -111,7 +84,7 @@ fn write_many_with<T: Spell>(
     write_sorted(out, &sorted)
 }
 
-// A set of a member and others.
+// A set of a member and others. Most have no others, and need no order.
 #[tactic(auto, unfolding(crate::specs::Members::set_text))]
 pub(crate) fn write_set_with<T: Spell>(
     out: &mut Vec<u8>,
@@ -124,6 +97,21 @@ pub(crate) fn write_set_with<T: Spell>(
 {
     match others {
         [] => write_member(out, first, level),
-        _ => write_many_with(out, first, others, level),
+        _ => write_many(out, first, others, level),
+    }
+}
+
+// A set, a comma before each member.
+#[tactic(auto, unfolding(crate::specs::Members::set_text))]
+pub(crate) fn write_set<T: Spell>(
+    out: &mut Vec<u8>,
+    members: &[T],
+    level: Level,
+) -> Result<(), AllocError>
+    ensures { OnOk result (out.new.items ≡ out.old.items ++ set_text (map (T.spelling level) members.now)) }
+{
+    match members.split_first() {
+        None => Ok(()),
+        Some((first, others)) => write_set_with(out, first, others, level),
     }
 }

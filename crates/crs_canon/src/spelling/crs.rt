@@ -19,7 +19,10 @@ use crate::spelling::system::write_system;
 use crate::spelling::tail::write_tail;
 use crate::spelling::texts::{append, open_text};
 use crate::spelling::unit::write_optional_unit;
-use crs_value::{Base, Compound, Crs, Geodetic, Horizontal, Level, Projected, System, SystemType, Tail, UnitKind, Vertical};
+use crs_value::{
+    Base, Compound, Crs, Geodetic, Horizontal, Level, Projected, System, SystemType, Tail,
+    UnitKind, Vertical,
+};
 use std::alloc::AllocError;
 
 #[tactic(auto, using(crate::proofs::SystemLemmas::system_rules))]
@@ -93,11 +96,7 @@ fn write_geodetic(
 // ---- projected CRSs
 
 #[tactic(auto, using(crate::proofs::PieceLemmas::then_rules))]
-fn write_base_from_unit(
-    out: &mut Vec<u8>,
-    base: &Base<'_>,
-    level: Level,
-) -> Result<(), AllocError>
+fn write_base_from_unit(out: &mut Vec<u8>, base: &Base<'_>, level: Level) -> Result<(), AllocError>
     ensures { OnOk result (out.new.items ≡ out.old.items ++ others_text
         (opt item_unit (norm_units level kinds.Angle base.now.unit)
         (each item_ident (set_idents level base.now.ids) End))) }
@@ -122,11 +121,7 @@ fn write_base_from_meridian(
 }
 
 #[tactic(auto, using(crate::proofs::PieceLemmas::then_rules))]
-fn write_base_from_frame(
-    out: &mut Vec<u8>,
-    base: &Base<'_>,
-    level: Level,
-) -> Result<(), AllocError>
+fn write_base_from_frame(out: &mut Vec<u8>, base: &Base<'_>, level: Level) -> Result<(), AllocError>
     ensures { OnOk result (out.new.items ≡ out.old.items ++ others_text
         (More (item_frame (codes "DATUM") (norm_frame level base.now.frame))
         (opt item_meridian (norm_meridian level base.now.meridian)

@@ -49,11 +49,7 @@ fn write_anchor(out: &mut Vec<u8>, anchor: Option<&[u8]>) -> Result<(), AllocErr
 }
 
 #[tactic(auto, using(crate::proofs::PieceLemmas::then_rules))]
-fn write_from_anchor(
-    out: &mut Vec<u8>,
-    datum: &Datum<'_>,
-    level: Level,
-) -> Result<(), AllocError>
+fn write_from_anchor(out: &mut Vec<u8>, datum: &Datum<'_>, level: Level) -> Result<(), AllocError>
     ensures { OnOk result (out.new.items ≡ out.old.items ++ others_text
         (opt (text_node (codes "ANCHOR")) datum.now.anchor (each item_ident (set_idents level datum.now.ids) End))) }
 {
@@ -62,11 +58,7 @@ fn write_from_anchor(
 }
 
 #[tactic(auto, using(crate::proofs::PieceLemmas::then_rules))]
-fn write_behind_name(
-    out: &mut Vec<u8>,
-    datum: &Datum<'_>,
-    level: Level,
-) -> Result<(), AllocError>
+fn write_behind_name(out: &mut Vec<u8>, datum: &Datum<'_>, level: Level) -> Result<(), AllocError>
     ensures { OnOk result (out.new.items ≡ out.old.items ++ others_text
         (opt item_ellipsoid (option_map (norm_ellipsoid level) datum.now.ellipsoid)
         (opt (text_node (codes "ANCHOR")) datum.now.anchor (each item_ident (set_idents level datum.now.ids) End)))) }

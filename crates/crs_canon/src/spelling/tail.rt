@@ -44,11 +44,7 @@ fn write_usages(out: &mut Vec<u8>, tail: &Tail<'_>, level: Level) -> Result<(), 
 }
 
 #[tactic(auto, using(crate::proofs::TextLemmas::text_node_rules))]
-fn write_remark(
-    out: &mut Vec<u8>,
-    remark: Option<&[u8]>,
-    level: Level,
-) -> Result<(), AllocError>
+fn write_remark(out: &mut Vec<u8>, remark: Option<&[u8]>, level: Level) -> Result<(), AllocError>
     ensures { OnOk result (out.new.items ≡ out.old.items
         ++ others_text (opt (text_node (codes "REMARK")) (norm_remark level (option_copied remark.entry)) End)) }
 {
@@ -68,11 +64,7 @@ fn write_from_ids(out: &mut Vec<u8>, tail: &Tail<'_>, level: Level) -> Result<()
 }
 
 #[tactic(auto, using(crate::proofs::PieceLemmas::then_rules))]
-pub(crate) fn write_tail(
-    out: &mut Vec<u8>,
-    tail: &Tail<'_>,
-    level: Level,
-) -> Result<(), AllocError>
+pub(crate) fn write_tail(out: &mut Vec<u8>, tail: &Tail<'_>, level: Level) -> Result<(), AllocError>
     ensures { OnOk result (out.new.items
         ≡ out.old.items ++ others_text (tail_items (norm_tail level tail.now))) }
 {

@@ -20,11 +20,7 @@ pub(crate) fn append(out: &mut Vec<u8>, bytes: &[u8]) -> Result<(), AllocError>
 }
 
 // A keyword, the opening delimiter and a quoted text; the opening ends with the quote.
-pub(crate) fn open_text(
-    out: &mut Vec<u8>,
-    opening: &[u8],
-    text: &[u8],
-) -> Result<(), AllocError>
+pub(crate) fn open_text(out: &mut Vec<u8>, opening: &[u8], text: &[u8]) -> Result<(), AllocError>
     ensures { OnOk result (out.new.items ≡ out.old.items ++ opened opening.now text.now) }
 {
     append(out, opening)?;

@@ -52,7 +52,11 @@ pub(crate) fn write_unit(
     ensures { OnOk result (out.new.items
         ≡ out.old.items ++ 44 ∷ item_text (item_unit (norm_unit level asked unit.now))) }
 {
-    open_text(out, unit_opening(kind_as(asked, unit.kind)).as_bytes(), unit.name)?;
+    open_text(
+        out,
+        unit_opening(kind_as(asked, unit.kind)).as_bytes(),
+        unit.name,
+    )?;
     write_from_factor(out, unit, level)?;
     append(out, b"]")
 }

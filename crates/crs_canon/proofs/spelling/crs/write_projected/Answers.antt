@@ -1,14 +1,13 @@
-use Rattle.std.proofs.Common.{◌≡◌, [], ◌∷◌, ◌++◌, OnOk, codes, ap, ◌∙◌, subst}
+use Rattle.std.proofs.Common.{[], ◌∷◌, ◌++◌, codes, ap, ◌∙◌}
 use Rattle.std.proofs.lemmas.Result.{on_ok_weaker}
 use Rattle.crs_text.specs.Items.{More}
-use Rattle.crs_text.specs.Written.{item_text, others_text}
-use Rattle.crs_value.specs.CompoundValues.{CompoundParts}
+use Rattle.crs_text.specs.Written.{others_text}
 use Rattle.crs_value.specs.CrsValues.{ProjectedParts}
 use Rattle.crs_normal.specs.SpelledConversions.{item_conversion, norm_conversion}
-use Rattle.crs_normal.specs.SpelledCrs.{item_base, item_horizontal, item_vertical, norm_base, norm_horizontal, norm_vertical}
+use Rattle.crs_normal.specs.SpelledCrs.{item_base, norm_base}
 use Rattle.crs_normal.specs.SpelledSystems.{norm_system, system_items}
 use Rattle.crs_normal.specs.SpelledUsages.{norm_tail, tail_items}
-use Rattle.crs_canon.proofs.PieceLemmas.{then-more, three}
+use Rattle.crs_canon.proofs.PieceLemmas.{three}
 use Rattle.crs_canon.proofs.spelling.crs.write_projected.Goals as goal
 
 pub returns : goal.returns
