@@ -1,0 +1,7 @@
+pub mod EncloseLemmas
+pub mod PieceLemmas
+pub mod SetLemmas
+pub mod SystemLemmas
+pub mod TextLemmas
+pub mod WholeLemmas
+pub mod WrittenLemmas

@@ -1,0 +1,3 @@
+pub mod Canonical
+pub mod Members
+pub mod Openings

@@ -1,0 +1,15 @@
+-- Sets as they are written: each spelling once, in ascending order, a comma before each.
+use Rattle.std.specs.Prelude.{ℕ, List, [], ◌∷◌, ◌++◌, map, Vec}
+use Rattle.std.specs.declared.alloc.Global.{Global}
+use Rattle.crs_normal.specs.Ordered.{in_order}
+
+abbrev pub commas : List (List ℕ) → List ℕ
+commas [] = []
+commas (bytes ∷ others) = 44 ∷ (bytes ++ commas others)
+
+unfoldable pub set_text : List (List ℕ) → List ℕ
+set_text spellings = commas (in_order (λ bytes. bytes) spellings)
+
+-- the bytes of vectors
+abbrev pub spellings : List (Vec ℕ Global) → List (List ℕ)
+spellings vectors = map (λ v. v.items) vectors

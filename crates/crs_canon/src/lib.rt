@@ -1,0 +1,10 @@
+//! Canonical texts: the one spelling of a CRS, written.
+#![tactic(auto)]
+
+mod answer;
+mod canon_text;
+mod set;
+mod spelling;
+
+pub use answer::canon_of;
+pub use canon_text::Canon;

@@ -1,0 +1,15 @@
+//! Writers: each appends the text of the one form of a value to `out`. Where memory runs out, nothing is promised of
+//! `out`; whoever calls from outside cuts it back.
+
+pub(crate) mod axis;
+pub(crate) mod conversion;
+pub(crate) mod crs;
+pub(crate) mod ellipsoid;
+pub(crate) mod frame;
+pub(crate) mod ident;
+pub(crate) mod meridian;
+pub(crate) mod system;
+pub(crate) mod tail;
+pub(crate) mod texts;
+pub(crate) mod unit;
+pub(crate) mod usage;

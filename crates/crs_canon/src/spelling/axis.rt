@@ -1,0 +1,192 @@
+//! Axes.
+ghost use Rattle.std.specs.Prelude.{◌≡◌, ◌∷◌, ◌++◌, ◌<◌, ◌^◌, OnOk, Some, codes};
+ghost use Rattle.std.specs.Option.{option_copied};
+ghost use Rattle.crs_text.specs.Items.{End, More};
+ghost use Rattle.crs_text.specs.Written.{item_text, others_text};
+ghost use Rattle.crs_value.specs.BadUnit.{asked_kind};
+ghost use Rattle.crs_value.specs.Words.{direction_word};
+ghost use Rattle.crs_same.specs.SameSystems.{own_or};
+ghost use Rattle.crs_decimal.specs.Plain.{plain};
+ghost use Rattle.crs_normal.specs.SpelledItems.{each, number_node, opt, word_item};
+ghost use Rattle.crs_normal.specs.SpelledSystems.{item_axis, item_axis_meridian, norm_axis, norm_axis_meridian, norm_axis_meridians};
+ghost use Rattle.crs_normal.specs.SpelledUnits.{item_ident, item_unit, norm_units, set_idents, whole_value};
+
+use crate::spelling::ident::write_idents;
+use crate::spelling::texts::{append, open_number, open_text};
+use crate::spelling::unit::{write_optional_unit, write_unit};
+use crs_value::{Axis, AxisMeridian, Direction, Level, System, SystemType, Unit, UnitKind};
+use itoa::Buffer;
+use std::alloc::AllocError;
+
+fn asked_kind(system_type: SystemType, direction: Direction) -> UnitKind
+    ensures { result ≡ asked_kind system_type direction }
+{
+    match (system_type, direction) {
+        (SystemType::Cartesian | SystemType::Vertical, _) => UnitKind::Length,
+        (_, Direction::Up | Direction::Down) => UnitKind::Length,
+        _ => UnitKind::Angle,
+    }
+}
+
+fn own_or<'b, 'a>(own: &'b Option<Unit<'a>>, shared: &'b Option<Unit<'a>>) -> Option<&'b Unit<'a>>
+    ensures { option_copied result ≡ own_or own.now shared.now }
+{
+    match own {
+        Some(unit) => Some(unit),
+        None => shared.as_ref(),
+    }
+}
+
+fn write_whole(out: &mut Vec<u8>, number: u64) -> Result<(), AllocError>
+    ensures { OnOk result (out.new.items ≡ out.old.items ++ plain (whole_value number)) }
+{
+    let mut digits = Buffer::new();
+    append(out, digits.format(number).as_bytes())
+}
+
+// Behind a comma.
+fn write_order(out: &mut Vec<u8>, order: u64) -> Result<(), AllocError>
+    ensures { OnOk result (out.new.items
+        ≡ out.old.items ++ 44 ∷ item_text (number_node (codes "ORDER") (whole_value order))) }
+{
+    append(out, b",ORDER[")?;
+    write_whole(out, order)?;
+    append(out, b"]")
+}
+
+// Behind a comma.
+fn write_direction(out: &mut Vec<u8>, direction: Direction) -> Result<(), AllocError>
+    ensures { OnOk result (out.new.items
+        ≡ out.old.items ++ 44 ∷ item_text (word_item (direction_word direction))) }
+{
+    append(out, b",")?;
+    append(out, direction.word().as_bytes())
+}
+
+// Behind a comma.
+fn write_meridian(
+    out: &mut Vec<u8>,
+    meridian: &AxisMeridian<'_>,
+    level: Level,
+) -> Result<(), AllocError>
+    ensures { OnOk result (out.new.items
+        ≡ out.old.items ++ 44 ∷ item_text (item_axis_meridian (norm_axis_meridian level meridian.now))) }
+{
+    open_number(out, b",MERIDIAN[", &meridian.longitude)?;
+    write_unit(out, UnitKind::Angle, &meridian.unit, level)?;
+    append(out, b"]")
+}
+
+fn write_optional_meridian(
+    out: &mut Vec<u8>,
+    meridian: &Option<AxisMeridian<'_>>,
+    level: Level,
+) -> Result<(), AllocError>
+    ensures { OnOk result (out.new.items ≡ out.old.items
+        ++ others_text (opt item_axis_meridian (norm_axis_meridians level meridian.now) End)) }
+{
+    match meridian {
+        None => Ok(()),
+        Some(meridian) => write_meridian(out, meridian, level),
+    }
+}
+
+// The unit that the axis has by itself or shares.
+fn write_axis_unit(
+    out: &mut Vec<u8>,
+    system: &System<'_>,
+    axis: &Axis<'_>,
+    level: Level,
+) -> Result<(), AllocError>
+    ensures { OnOk result (out.new.items ≡ out.old.items ++ others_text (opt item_unit (norm_units level
+        (asked_kind system.now.system_type axis.now.direction) (own_or axis.now.unit system.now.unit)) End)) }
+{
+    let asked = asked_kind(system.system_type, axis.direction);
+    write_optional_unit(out, asked, own_or(&axis.unit, &system.unit), level)
+}
+
+#[tactic(auto, using(crate::proofs::PieceLemmas::then_rules))]
+fn write_from_unit(
+    out: &mut Vec<u8>,
+    system: &System<'_>,
+    axis: &Axis<'_>,
+    level: Level,
+) -> Result<(), AllocError>
+    ensures { OnOk result (out.new.items ≡ out.old.items ++ others_text (opt item_unit (norm_units level
+        (asked_kind system.now.system_type axis.now.direction) (own_or axis.now.unit system.now.unit))
+        (each item_ident (set_idents level axis.now.ids) End))) }
+{
+    write_axis_unit(out, system, axis, level)?;
+    write_idents(out, &axis.ids, level)
+}
+
+#[tactic(auto, using(crate::proofs::PieceLemmas::then_rules))]
+fn write_from_order(
+    out: &mut Vec<u8>,
+    system: &System<'_>,
+    axis: &Axis<'_>,
+    position: u64,
+    level: Level,
+) -> Result<(), AllocError>
+    ensures { OnOk result (out.new.items ≡ out.old.items ++ others_text
+        (More (number_node (codes "ORDER") (whole_value position)) (opt item_unit (norm_units level
+        (asked_kind system.now.system_type axis.now.direction) (own_or axis.now.unit system.now.unit))
+        (each item_ident (set_idents level axis.now.ids) End)))) }
+{
+    write_order(out, position)?;
+    write_from_unit(out, system, axis, level)
+}
+
+#[tactic(auto, using(crate::proofs::PieceLemmas::then_rules))]
+fn write_from_meridian(
+    out: &mut Vec<u8>,
+    system: &System<'_>,
+    axis: &Axis<'_>,
+    position: u64,
+    level: Level,
+) -> Result<(), AllocError>
+    ensures { OnOk result (out.new.items ≡ out.old.items ++ others_text
+        (opt item_axis_meridian (norm_axis_meridians level axis.now.meridian)
+        (More (number_node (codes "ORDER") (whole_value position)) (opt item_unit (norm_units level
+        (asked_kind system.now.system_type axis.now.direction) (own_or axis.now.unit system.now.unit))
+        (each item_ident (set_idents level axis.now.ids) End))))) }
+{
+    write_optional_meridian(out, &axis.meridian, level)?;
+    write_from_order(out, system, axis, position, level)
+}
+
+#[tactic(auto, using(crate::proofs::PieceLemmas::then_rules))]
+fn write_from_direction(
+    out: &mut Vec<u8>,
+    system: &System<'_>,
+    axis: &Axis<'_>,
+    position: u64,
+    level: Level,
+) -> Result<(), AllocError>
+    ensures { OnOk result (out.new.items ≡ out.old.items ++ others_text
+        (More (word_item (direction_word axis.now.direction))
+        (opt item_axis_meridian (norm_axis_meridians level axis.now.meridian)
+        (More (number_node (codes "ORDER") (whole_value position)) (opt item_unit (norm_units level
+        (asked_kind system.now.system_type axis.now.direction) (own_or axis.now.unit system.now.unit))
+        (each item_ident (set_idents level axis.now.ids) End)))))) }
+{
+    write_direction(out, axis.direction)?;
+    write_from_meridian(out, system, axis, position, level)
+}
+
+// Behind a comma; the axis of a system at this position.
+#[tactic(auto, unfolding(crs_normal::specs::SpelledSystems::norm_axis))]
+pub(crate) fn write_axis(
+    out: &mut Vec<u8>,
+    system: &System<'_>,
+    axis: &Axis<'_>,
+    position: u64,
+    level: Level,
+) -> Result<(), AllocError>
+    ensures { OnOk result (out.new.items
+        ≡ out.old.items ++ 44 ∷ item_text (item_axis (norm_axis level system.now position axis.now))) }
+{
+    open_text(out, b",AXIS[\"", axis.name)?;
+    write_from_direction(out, system, axis, position, level)?;
+    append(out, b"]")
+}

@@ -1,0 +1,84 @@
+//! Ellipsoids.
+ghost use Rattle.std.specs.Prelude.{◌≡◌, ◌∷◌, ◌++◌, OnOk, Some};
+ghost use Rattle.std.specs.Option.{option_map};
+ghost use Rattle.crs_text.specs.Items.{End, More};
+ghost use Rattle.crs_text.specs.Written.{item_text, others_text};
+ghost use Rattle.crs_normal.specs.SpelledFrames.{item_ellipsoid, norm_ellipsoid};
+ghost use Rattle.crs_normal.specs.SpelledItems.{each, number_item, opt};
+ghost use Rattle.crs_normal.specs.SpelledUnits.{item_ident, item_unit, norm_length, set_idents};
+
+use crate::spelling::ident::write_idents;
+use crate::spelling::texts::{append, open_text, write_number};
+use crate::spelling::unit::write_length;
+use crs_value::{Ellipsoid, Level};
+use std::alloc::AllocError;
+
+#[tactic(auto, using(crate::proofs::PieceLemmas::then_rules))]
+fn write_from_unit(
+    out: &mut Vec<u8>,
+    ellipsoid: &Ellipsoid<'_>,
+    level: Level,
+) -> Result<(), AllocError>
+    ensures { OnOk result (out.new.items ≡ out.old.items ++ others_text (opt item_unit
+        (Some (norm_length level ellipsoid.now.unit)) (each item_ident (set_idents level ellipsoid.now.ids) End))) }
+{
+    write_length(out, ellipsoid.unit.as_ref(), level)?;
+    write_idents(out, &ellipsoid.ids, level)
+}
+
+#[tactic(auto, using(crate::proofs::PieceLemmas::then_rules))]
+fn write_from_flattening(
+    out: &mut Vec<u8>,
+    ellipsoid: &Ellipsoid<'_>,
+    level: Level,
+) -> Result<(), AllocError>
+    ensures { OnOk result (out.new.items ≡ out.old.items ++ others_text
+        (More (number_item ellipsoid.now.inverse_flattening) (opt item_unit
+        (Some (norm_length level ellipsoid.now.unit)) (each item_ident (set_idents level ellipsoid.now.ids) End)))) }
+{
+    write_number(out, &ellipsoid.inverse_flattening)?;
+    write_from_unit(out, ellipsoid, level)
+}
+
+#[tactic(auto, using(crate::proofs::PieceLemmas::then_rules))]
+fn write_from_axis(
+    out: &mut Vec<u8>,
+    ellipsoid: &Ellipsoid<'_>,
+    level: Level,
+) -> Result<(), AllocError>
+    ensures { OnOk result (out.new.items ≡ out.old.items ++ others_text
+        (More (number_item ellipsoid.now.semi_major_axis)
+        (More (number_item ellipsoid.now.inverse_flattening) (opt item_unit
+        (Some (norm_length level ellipsoid.now.unit)) (each item_ident (set_idents level ellipsoid.now.ids) End))))) }
+{
+    write_number(out, &ellipsoid.semi_major_axis)?;
+    write_from_flattening(out, ellipsoid, level)
+}
+
+// Behind a comma.
+fn write_ellipsoid(
+    out: &mut Vec<u8>,
+    ellipsoid: &Ellipsoid<'_>,
+    level: Level,
+) -> Result<(), AllocError>
+    ensures { OnOk result (out.new.items
+        ≡ out.old.items ++ 44 ∷ item_text (item_ellipsoid (norm_ellipsoid level ellipsoid.now))) }
+{
+    open_text(out, b",ELLIPSOID[\"", ellipsoid.name)?;
+    write_from_axis(out, ellipsoid, level)?;
+    append(out, b"]")
+}
+
+pub(crate) fn write_optional_ellipsoid(
+    out: &mut Vec<u8>,
+    ellipsoid: &Option<Ellipsoid<'_>>,
+    level: Level,
+) -> Result<(), AllocError>
+    ensures { OnOk result (out.new.items ≡ out.old.items
+        ++ others_text (opt item_ellipsoid (option_map (norm_ellipsoid level) ellipsoid.now) End)) }
+{
+    match ellipsoid {
+        None => Ok(()),
+        Some(ellipsoid) => write_ellipsoid(out, ellipsoid, level),
+    }
+}

@@ -1,0 +1,116 @@
+//! Identifiers.
+ghost use Rattle.std.specs.Prelude.{◌≡◌, ◌++◌, OnOk, codes, map};
+ghost use Rattle.std.specs.Option.{option_copied};
+ghost use Rattle.crs_text.specs.Items.{End};
+ghost use Rattle.crs_text.specs.Written.{item_text, others_text};
+ghost use Rattle.crs_normal.specs.SpelledItems.{code_item, each, opt, text_node};
+ghost use Rattle.crs_normal.specs.SpelledUnits.{item_ident, set_idents};
+ghost use Rattle.crs_canon.specs.Members.{set_text};
+ghost use Rattle.crs_canon.specs.Openings.{named};
+
+use crate::set::{Spell, write_set};
+use crate::spelling::texts::{append, open_text, write_code, write_optional_text};
+use crs_value::{Ident, Level, List};
+use std::alloc::AllocError;
+
+fn write_version(out: &mut Vec<u8>, version: Option<&[u8]>) -> Result<(), AllocError>
+    ensures { OnOk result (out.new.items
+        ≡ out.old.items ++ others_text (opt code_item (option_copied version.entry) End)) }
+{
+    match version {
+        None => Ok(()),
+        Some(version) => write_code(out, version),
+    }
+}
+
+#[tactic(auto, using(crate::proofs::TextLemmas::text_node_rules))]
+fn write_citation(out: &mut Vec<u8>, citation: Option<&[u8]>) -> Result<(), AllocError>
+    ensures { OnOk result (out.new.items
+        ≡ out.old.items ++ others_text (opt (text_node (codes "CITATION")) (option_copied citation.entry) End)) }
+{
+    write_optional_text(out, b",CITATION[\"", citation)
+}
+
+#[tactic(auto, using(crate::proofs::TextLemmas::text_node_rules))]
+fn write_uri(out: &mut Vec<u8>, uri: Option<&[u8]>) -> Result<(), AllocError>
+    ensures { OnOk result (out.new.items
+        ≡ out.old.items ++ others_text (opt (text_node (codes "URI")) (option_copied uri.entry) End)) }
+{
+    write_optional_text(out, b",URI[\"", uri)
+}
+
+// Citation and URI.
+#[tactic(auto, using(crate::proofs::TextLemmas::text_rules))]
+fn write_sources(out: &mut Vec<u8>, ident: &Ident<'_>) -> Result<(), AllocError>
+    ensures { OnOk result (out.new.items ≡ out.old.items ++ others_text
+        (opt (text_node (codes "CITATION")) ident.now.citation (opt (text_node (codes "URI")) ident.now.uri End))) }
+{
+    write_citation(out, ident.citation)?;
+    write_uri(out, ident.uri)
+}
+
+#[tactic(auto, using(crate::proofs::TextLemmas::text_rules))]
+fn write_behind_code(out: &mut Vec<u8>, ident: &Ident<'_>) -> Result<(), AllocError>
+    ensures { OnOk result (out.new.items ≡ out.old.items ++ others_text (opt code_item ident.now.version
+        (opt (text_node (codes "CITATION")) ident.now.citation (opt (text_node (codes "URI")) ident.now.uri End)))) }
+{
+    write_version(out, ident.version)?;
+    write_sources(out, ident)
+}
+
+fn write_ident(out: &mut Vec<u8>, ident: &Ident<'_>) -> Result<(), AllocError>
+    ensures { OnOk result (out.new.items ≡ out.old.items ++ item_text (item_ident ident.now)) }
+{
+    open_text(out, b"ID[\"", ident.authority)?;
+    write_code(out, ident.code)?;
+    write_behind_code(out, ident)?;
+    append(out, b"]")
+}
+
+impl Spell for Ident<'_> {
+    ghost use Rattle.crs_text.specs.Written.{item_text};
+    ghost use Rattle.crs_normal.specs.SpelledUnits.{item_ident};
+
+    ghost spelling = { λ level i. item_text (item_ident i) };
+
+    fn write(&self, out: &mut Vec<u8>, _level: Level) -> Result<(), AllocError> {
+        write_ident(out, self)
+    }
+}
+
+fn write_ident_set(out: &mut Vec<u8>, ids: &[Ident<'_>]) -> Result<(), AllocError>
+    ensures { OnOk result (out.new.items ≡ out.old.items ++ set_text (map (λ i. item_text (item_ident i)) ids.now)) }
+{
+    write_set(out, ids, Level::Full)
+}
+
+// The identifiers of a part.
+#[tactic(auto, using(crate::proofs::WrittenLemmas::written_rules))]
+pub(crate) fn write_idents(
+    out: &mut Vec<u8>,
+    ids: &List<Ident<'_>>,
+    level: Level,
+) -> Result<(), AllocError>
+    ensures { OnOk result (out.new.items
+        ≡ out.old.items ++ others_text (each item_ident (set_idents level ids.now) End)) }
+{
+    match level {
+        Level::Full => write_ident_set(out, ids.as_slice()),
+    }
+}
+
+// A node of a name and identifiers.
+pub(crate) fn write_named(
+    out: &mut Vec<u8>,
+    opening: &[u8],
+    name: &[u8],
+    ids: &List<Ident<'_>>,
+    level: Level,
+) -> Result<(), AllocError>
+    ensures { OnOk result (out.new.items
+        ≡ out.old.items ++ named opening.now name.now (each item_ident (set_idents level ids.now) End)) }
+{
+    open_text(out, opening, name)?;
+    write_idents(out, ids, level)?;
+    append(out, b"]")
+}

@@ -1,0 +1,73 @@
+//! The ends of CRSs: usages, identifiers and remark.
+ghost use Rattle.std.specs.Prelude.{◌≡◌, ◌++◌, OnOk, codes, map};
+ghost use Rattle.std.specs.Option.{option_copied};
+ghost use Rattle.crs_text.specs.Items.{End};
+ghost use Rattle.crs_text.specs.Written.{item_text, others_text};
+ghost use Rattle.crs_same.specs.SameUsages.{says_some, usages_of};
+ghost use Rattle.crs_normal.specs.SpelledItems.{each, opt, text_node};
+ghost use Rattle.crs_normal.specs.SpelledUnits.{item_ident, set_idents};
+ghost use Rattle.crs_normal.specs.SpelledUsages.{item_usage, norm_remark, norm_tail, norm_usage, set_usages, tail_items};
+ghost use Rattle.crs_canon.specs.Members.{set_text};
+
+use crate::set::{write_set, write_set_with};
+use crate::spelling::ident::write_idents;
+use crate::spelling::texts::write_optional_text;
+use crs_value::{Level, Tail, Usage};
+use std::alloc::AllocError;
+
+fn says_some(usage: &Usage<'_>) -> bool
+    ensures { result ≡ says_some usage.now }
+{
+    usage.scope.is_some() || usage.area.is_some() || usage.bbox.is_some() || usage.extent.is_some()
+}
+
+// The bare parts are together one usage more, if there are any.
+fn write_usage_set(out: &mut Vec<u8>, tail: &Tail<'_>) -> Result<(), AllocError>
+    ensures { OnOk result (out.new.items
+        ≡ out.old.items ++ set_text (map (λ u. item_text (item_usage (norm_usage u))) (usages_of tail.now))) }
+{
+    if says_some(&tail.bare) {
+        write_set_with(out, &tail.bare, tail.usages.as_slice(), Level::Full)
+    } else {
+        write_set(out, tail.usages.as_slice(), Level::Full)
+    }
+}
+
+#[tactic(auto, using(crate::proofs::WrittenLemmas::written_rules))]
+fn write_usages(out: &mut Vec<u8>, tail: &Tail<'_>, level: Level) -> Result<(), AllocError>
+    ensures { OnOk result (out.new.items
+        ≡ out.old.items ++ others_text (each item_usage (set_usages level (usages_of tail.now)) End)) }
+{
+    match level {
+        Level::Full => write_usage_set(out, tail),
+    }
+}
+
+#[tactic(auto, using(crate::proofs::TextLemmas::text_node_rules))]
+fn write_remark(out: &mut Vec<u8>, remark: Option<&[u8]>, level: Level) -> Result<(), AllocError>
+    ensures { OnOk result (out.new.items ≡ out.old.items
+        ++ others_text (opt (text_node (codes "REMARK")) (norm_remark level (option_copied remark.entry)) End)) }
+{
+    match level {
+        Level::Full => write_optional_text(out, b",REMARK[\"", remark),
+    }
+}
+
+#[tactic(auto, using(crate::proofs::PieceLemmas::then_rules))]
+fn write_from_ids(out: &mut Vec<u8>, tail: &Tail<'_>, level: Level) -> Result<(), AllocError>
+    ensures { OnOk result (out.new.items ≡ out.old.items ++ others_text
+        (each item_ident (set_idents level tail.now.ids)
+        (opt (text_node (codes "REMARK")) (norm_remark level tail.now.remark) End))) }
+{
+    write_idents(out, &tail.ids, level)?;
+    write_remark(out, tail.remark, level)
+}
+
+#[tactic(auto, using(crate::proofs::PieceLemmas::then_rules))]
+pub(crate) fn write_tail(out: &mut Vec<u8>, tail: &Tail<'_>, level: Level) -> Result<(), AllocError>
+    ensures { OnOk result (out.new.items
+        ≡ out.old.items ++ others_text (tail_items (norm_tail level tail.now))) }
+{
+    write_usages(out, tail, level)?;
+    write_from_ids(out, tail, level)
+}

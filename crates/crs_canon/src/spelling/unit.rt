@@ -1,0 +1,98 @@
+//! Units.
+ghost use Rattle.std.specs.Prelude.{◌≡◌, ◌∷◌, ◌++◌, [], OnOk, Some};
+ghost use Rattle.std.specs.Option.{option_copied};
+ghost use Rattle.crs_text.specs.Items.{End, More};
+ghost use Rattle.crs_text.specs.Written.{item_text, others_text};
+ghost use Rattle.crs_value.specs.Words.{unit_word};
+ghost use Rattle.crs_same.specs.SameUnits.{kind_as};
+ghost use Rattle.crs_normal.specs.SpelledItems.{each, number_item, opt};
+ghost use Rattle.crs_normal.specs.SpelledUnits.{item_ident, item_unit, metre, norm_length, norm_unit, norm_units, set_idents};
+
+use crate::spelling::ident::write_idents;
+use crate::spelling::texts::{append, open_text, write_number};
+use crs_value::{Level, Unit, UnitKind};
+use std::alloc::AllocError;
+
+fn kind_as(asked: UnitKind, kind: UnitKind) -> UnitKind
+    ensures { result ≡ kind_as asked kind }
+{
+    match kind {
+        UnitKind::Plain => asked,
+        UnitKind::Length | UnitKind::Angle | UnitKind::Scale => kind,
+    }
+}
+
+fn unit_opening(kind: UnitKind) -> &'static str
+    ensures { result.now ≡ 44 ∷ (unit_word kind ++ 91 ∷ 34 ∷ []) }
+{
+    match kind {
+        UnitKind::Length => ",LENGTHUNIT[\"",
+        UnitKind::Angle => ",ANGLEUNIT[\"",
+        UnitKind::Scale => ",SCALEUNIT[\"",
+        UnitKind::Plain => ",UNIT[\"",
+    }
+}
+
+#[tactic(auto, using(crate::proofs::PieceLemmas::then_rules))]
+fn write_from_factor(out: &mut Vec<u8>, unit: &Unit<'_>, level: Level) -> Result<(), AllocError>
+    ensures { OnOk result (out.new.items ≡ out.old.items ++ others_text
+        (More (number_item unit.now.factor) (each item_ident (set_idents level unit.now.ids) End))) }
+{
+    write_number(out, &unit.factor)?;
+    write_idents(out, &unit.ids, level)
+}
+
+// Behind a comma; where this kind is asked, which `UNIT` is of.
+pub(crate) fn write_unit(
+    out: &mut Vec<u8>,
+    asked: UnitKind,
+    unit: &Unit<'_>,
+    level: Level,
+) -> Result<(), AllocError>
+    ensures { OnOk result (out.new.items
+        ≡ out.old.items ++ 44 ∷ item_text (item_unit (norm_unit level asked unit.now))) }
+{
+    open_text(
+        out,
+        unit_opening(kind_as(asked, unit.kind)).as_bytes(),
+        unit.name,
+    )?;
+    write_from_factor(out, unit, level)?;
+    append(out, b"]")
+}
+
+pub(crate) fn write_optional_unit(
+    out: &mut Vec<u8>,
+    asked: UnitKind,
+    unit: Option<&Unit<'_>>,
+    level: Level,
+) -> Result<(), AllocError>
+    ensures { OnOk result (out.new.items
+        ≡ out.old.items ++ others_text (opt item_unit (norm_units level asked (option_copied unit.entry)) End)) }
+{
+    match unit {
+        None => Ok(()),
+        Some(unit) => write_unit(out, asked, unit, level),
+    }
+}
+
+fn write_metre(out: &mut Vec<u8>) -> Result<(), AllocError>
+    ensures { OnOk result (out.new.items ≡ out.old.items ++ 44 ∷ item_text (item_unit metre)) }
+{
+    append(out, b",LENGTHUNIT[\"metre\",1]")
+}
+
+// A length: where none is written, the metre.
+pub(crate) fn write_length(
+    out: &mut Vec<u8>,
+    unit: Option<&Unit<'_>>,
+    level: Level,
+) -> Result<(), AllocError>
+    ensures { OnOk result (out.new.items
+        ≡ out.old.items ++ others_text (opt item_unit (Some (norm_length level (option_copied unit.entry))) End)) }
+{
+    match unit {
+        None => write_metre(out),
+        Some(unit) => write_unit(out, UnitKind::Length, unit, level),
+    }
+}
