@@ -25,6 +25,9 @@ pub mod ParameterLemmas
 mod PartSameLemmas
 pub mod ProjectedNormalLemmas
 pub mod RankLemmas
+pub mod ReadFrameLemmas
+pub mod ReadNameLemmas
+pub mod ReadWalkLemmas
 pub mod SameItemLemmas
 pub mod SetLemmas
 pub mod SystemNormalLemmas
