@@ -25,6 +25,8 @@ pub mod ParameterLemmas
 mod PartSameLemmas
 pub mod ProjectedNormalLemmas
 pub mod RankLemmas
+pub mod ReadCrsLemmas
+pub mod ReadDatumLemmas
 pub mod ReadEndLemmas
 pub mod ReadFrameLemmas
 pub mod ReadNameLemmas
