@@ -25,6 +25,7 @@ pub mod ParameterLemmas
 mod PartSameLemmas
 pub mod ProjectedNormalLemmas
 pub mod RankLemmas
+pub mod ReadCompoundLemmas
 pub mod ReadCrsLemmas
 pub mod ReadDatumLemmas
 pub mod ReadEndLemmas

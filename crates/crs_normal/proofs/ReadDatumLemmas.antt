@@ -58,7 +58,7 @@ vertical-back laws level (frame.Ensemble e) s =
     ReadNameLemmas.vertical-ensemble-member ReadNameLemmas.vertical-ensemble-ensembleaccuracy level e s.0
     (none-in class.VerticalEnsemble level e.ellipsoid s.1)
 
-neither : (x y : Bool) → (if x then true else y) ≡ false → (x ≡ false) × (y ≡ false)
+pub neither : (x y : Bool) → (if x then true else y) ≡ false → (x ≡ false) × (y ≡ false)
 neither true y e = absurd (true≢false e)
 neither false y e = (refl, e)
 
