@@ -1,5 +1,5 @@
 -- Compound CRSs, and with them all CRSs, in their one form are read back from their items.
-use Rattle.std.proofs.Common.{◌≡◌, ℕ, ◌+◌, Bool, true, false, codes, Some, List, [], ◌∷◌, refl, sym, ◌∙◌, ap, subst, if◌then◌else◌}
+use Rattle.std.proofs.Common.{◌≡◌, ℕ, ◌+◌, Bool, true, false, Some, List, [], ◌∷◌, refl, sym, ◌∙◌, ap, subst, if◌then◌else◌}
 use Rattle.crs_text.specs.Items.{Item, Items, More, End}
 use Rattle.crs_text.specs.Written.{at_place, at_places}
 use Rattle.crs_shape.specs.declared.class.Class.{Class}
@@ -17,10 +17,9 @@ use Rattle.crs_value.specs.declared.level.Level.{Level}
 use Rattle.crs_value.specs.declared.system_type.SystemType.{SystemType}
 use Rattle.crs_value.specs.declared.system_type.SystemType.TheVariants as types
 use Rattle.crs_value.specs.Reading.{those, ReadsElse, ReadsFirst}
-use Rattle.crs_value.specs.ReadsCrs.{IsGeodeticClass, ReadsAsHorizontal, ReadsCompound, ReadsCrs, ReadsGeodetic, ReadsHorizontal, ReadsVertical}
+use Rattle.crs_value.specs.ReadsCrs.{IsGeodeticClass, ReadsAsHorizontal, ReadsCompound, ReadsCrs, ReadsVertical}
 use Rattle.crs_value.specs.SoundCompound.{IsCompound, IsHorizontal}
 use Rattle.crs_value.specs.SoundCrs.{IsCrs}
-use Rattle.crs_value.specs.SoundSingle.{IsGeodetic}
 use Rattle.crs_normal.specs.LowerLaws.{LowerLaws}
 use Rattle.crs_normal.specs.ReadBack.{crs_class, geodetic_class}
 use Rattle.crs_normal.specs.SpelledCrs.{geodetic_keyword, item_compound, item_crs, item_geodetic, item_horizontal, item_projected, item_vertical, norm_compound, norm_crs, norm_geodetic, norm_horizontal, norm_projected, norm_vertical}

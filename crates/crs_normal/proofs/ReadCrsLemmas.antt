@@ -1,8 +1,7 @@
 -- CRSs of one kind in their one form are read back from their items.
-use Rattle.std.proofs.Common.{◌≡◌, ◌≤◌, ℕ, suc, zero, ◌+◌, ◌*◌, codes, IfSome, Option, Some, None, List, [], ◌∷◌, length, refl, sym, ◌∙◌, ap, subst, inl, inr, arith}
-use Rattle.crs_decimal.specs.Number.{Number, SameNumber, whole_number}
+use Rattle.std.proofs.Common.{◌≡◌, ◌≤◌, ℕ, suc, zero, ◌+◌, ◌*◌, codes, IfSome, Option, Some, List, [], ◌∷◌, length, refl, subst, inl, inr, arith}
+use Rattle.crs_decimal.specs.Number.{SameNumber, whole_number}
 use Rattle.crs_decimal.specs.Value.{exact}
-use Rattle.crs_text.specs.Items.{Item}
 use Rattle.crs_text.specs.Written.{at_place}
 use Rattle.crs_shape.specs.declared.class.Class.{Class}
 use Rattle.crs_shape.specs.declared.class.Class.TheVariants as class
@@ -20,7 +19,7 @@ use Rattle.crs_value.specs.ReadsCrs.{ReadsBase, ReadsGeodetic, ReadsProjected, R
 use Rattle.crs_value.specs.Sound.{Each}
 use Rattle.crs_value.specs.SoundSingle.{IsBase, IsGeodetic, IsProjected, IsVertical}
 use Rattle.crs_value.specs.SoundSystem.{IsSystem}
-use Rattle.crs_value.specs.Values.{MeridianParts, SystemParts, UnitParts}
+use Rattle.crs_value.specs.Values.{MeridianParts, SystemParts}
 use Rattle.crs_normal.specs.LowerLaws.{LowerLaws}
 use Rattle.crs_normal.specs.SpelledConversions.{item_conversion, item_geoid_model, norm_conversion, set_geoid_models}
 use Rattle.crs_normal.specs.SpelledCrs.{geodetic_keyword, item_base, item_geodetic, item_projected, item_vertical, norm_base, norm_geodetic, norm_projected, norm_vertical}

@@ -1,7 +1,7 @@
 -- Frames are read back from the arguments of a CRS: a reference frame, or where there is none an ensemble.
-use Rattle.std.proofs.Common.{◌≡◌, ℕ, Bool, true, false, true≢false, codes, IfSome, IsNone, Option, Some, None, List, [], ◌∷◌, refl, sym, subst, if◌then◌else◌}
+use Rattle.std.proofs.Common.{◌≡◌, ℕ, Bool, true, false, true≢false, codes, IsNone, Option, Some, None, List, [], refl, sym, subst, if◌then◌else◌}
 use Rattle.std.specs.Option.{option_map}
-use Rattle.crs_text.specs.Items.{Item, Items, End, More, arguments}
+use Rattle.crs_text.specs.Items.{Item, End, More, arguments}
 use Rattle.crs_text.specs.Written.{at_places}
 use Rattle.crs_shape.specs.declared.class.Class.{Class}
 use Rattle.crs_shape.specs.declared.class.Class.TheVariants as class

@@ -1,34 +1,29 @@
 -- Frames, systems and ends of CRSs are read back from the arguments of a CRS, and conversions from their items.
-use Rattle.std.proofs.Common.{◌≡◌, ◌≤◌, ℕ, suc, zero, ◌+◌, codes, IfSome, Option, Some, None, List, [], ◌∷◌, length, refl, sym, ◌∙◌, ap, subst, inl, inr, if◌then◌else◌, Bool, true, false, arith}
+use Rattle.std.proofs.Common.{◌≡◌, ℕ, ◌+◌, codes, Some, None, List, [], ◌∷◌, length, refl, sym, subst}
 use Rattle.crs_text.specs.Items.{Item, Items, End, More, IsNode, arguments}
-use Rattle.crs_text.specs.Written.{at_place, at_places, item_text}
+use Rattle.crs_text.specs.Written.{at_places, item_text}
 use Rattle.crs_shape.specs.declared.class.Class.{Class}
 use Rattle.crs_shape.specs.declared.class.Class.TheVariants as class
-use Rattle.crs_shape.specs.Slots.{class_named, is_class}
+use Rattle.crs_shape.specs.Slots.{class_named}
 use Rattle.crs_value.specs.ConversionValues.{ConversionParts, GeoidModelParts, MethodParts, ParameterParts}
-use Rattle.crs_value.specs.declared.frame.Frame.{Frame}
-use Rattle.crs_value.specs.declared.frame.Frame.TheVariants as frame
 use Rattle.crs_value.specs.declared.level.Level.{Level}
 use Rattle.crs_value.specs.declared.level.Level.TheVariants as levels
-use Rattle.crs_value.specs.Reading.{those, ReadsElse, ReadsFirst, ReadsOptional, ReadsEach}
-use Rattle.crs_value.specs.Reads.{ReadsAxis, ReadsDatum, ReadsEnsemble, ReadsHead, ReadsIdent, ReadsSystem, ReadsTail, ReadsTextOf, ReadsUnit, ReadsUsage}
+use Rattle.crs_value.specs.Reading.{those, ReadsFirst, ReadsOptional, ReadsEach}
+use Rattle.crs_value.specs.Reads.{ReadsAxis, ReadsHead, ReadsIdent, ReadsSystem, ReadsTail, ReadsTextOf, ReadsUnit, ReadsUsage}
 use Rattle.crs_value.specs.ReadsConversion.{ReadsConversion, ReadsGeoidModel, ReadsMethod, ReadsParameter}
-use Rattle.crs_value.specs.ReadsCrs.{ReadsAsDatum, ReadsAsEnsemble, ReadsFrame}
-use Rattle.crs_value.specs.Sound.{Each, IsIdent}
+use Rattle.crs_value.specs.Sound.{Each}
 use Rattle.crs_value.specs.SoundConversion.{IsConversion, IsGeoidModel, IsMethod, IsParameter}
 use Rattle.crs_value.specs.SoundSystem.{IsSystem}
 use Rattle.crs_value.specs.SoundUsages.{IsTail}
-use Rattle.crs_value.specs.Values.{AxisParts, DatumParts, EnsembleParts, IdentParts, SystemParts, TailParts, UnitParts, UsageParts}
+use Rattle.crs_value.specs.Values.{AxisParts, SystemParts, TailParts, UsageParts}
 use Rattle.crs_same.specs.SameUsages.{usages_of}
 use Rattle.crs_normal.specs.Decides.{IsSomeUsage}
 use Rattle.crs_normal.specs.SpelledConversions.{item_conversion, item_geoid_model, item_method, item_parameter, norm_conversion, norm_geoid_model, norm_method, norm_parameter, set_geoid_models, set_parameters}
-use Rattle.crs_normal.specs.SpelledFrames.{item_datum, item_ensemble, item_frame}
-use Rattle.crs_normal.specs.SpelledItems.{each, node_from, opt, text_item, text_node}
+use Rattle.crs_normal.specs.SpelledItems.{node_from, text_node}
 use Rattle.crs_normal.specs.SpelledSystems.{axes_from, item_axis, item_head, norm_system, system_items}
-use Rattle.crs_normal.specs.SpelledUnits.{item_ident, item_unit, set_idents}
+use Rattle.crs_normal.specs.SpelledUnits.{item_ident, set_idents}
 use Rattle.crs_normal.specs.SpelledUsages.{item_usage, norm_remark, norm_tail, norm_usage, set_usages, tail_items}
 use Rattle.crs_normal.specs.TextLaws.{TextLaws}
-use Rattle.crs_normal.proofs.ItemLemmas.{Gives}
 use Rattle.crs_normal.proofs.MemberLemmas.{geoid-kept, geoid-read}
 use Rattle.crs_normal.proofs.MemberUnitLemmas.{NamesId}
 use Rattle.crs_normal.proofs.ParameterLemmas.{parameter-kept, parameter-read}

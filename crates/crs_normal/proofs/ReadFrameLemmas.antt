@@ -1,9 +1,9 @@
 -- Ellipsoids, prime meridians, reference frames and ensembles in their one form are read back from their items.
 use Rattle.std.proofs.Common.{◌≡◌, ℕ, ◌+◌, codes, IfSome, Option, Some, None, List, [], ◌∷◌, length, refl, ◌∙◌, ap, inl, inr, if◌then◌else◌, Bool, true, false}
 use Rattle.std.specs.Option.{option_map}
-use Rattle.crs_decimal.specs.Value.{Value, IsNormal}
-use Rattle.crs_text.specs.Items.{Item, Items, End, More}
-use Rattle.crs_text.specs.Written.{at_place, item_text}
+use Rattle.crs_decimal.specs.Value.{Value}
+use Rattle.crs_text.specs.Items.{Item, End}
+use Rattle.crs_text.specs.Written.{item_text}
 use Rattle.crs_shape.specs.declared.class.Class.{Class}
 use Rattle.crs_shape.specs.declared.class.Class.TheVariants as class
 use Rattle.crs_shape.specs.Slots.{class_named}
@@ -12,7 +12,7 @@ use Rattle.crs_value.specs.declared.unit_kind.UnitKind.{UnitKind}
 use Rattle.crs_value.specs.declared.unit_kind.UnitKind.TheVariants as kinds
 use Rattle.crs_value.specs.Reading.{ReadsEach, ReadsFirst}
 use Rattle.crs_value.specs.Reads.{ReadsDatum, ReadsEllipsoid, ReadsEnsemble, ReadsIdent, ReadsMember, ReadsMeridian, ReadsNumberOf, ReadsTextOf, ReadsUnit}
-use Rattle.crs_value.specs.Sound.{Each, IsIdent, IsText, IsUnit, IsUnitOf, Suits}
+use Rattle.crs_value.specs.Sound.{Each, IsIdent, IsUnit, IsUnitOf, Suits}
 use Rattle.crs_value.specs.SoundFrames.{IsDatum, IsEllipsoid, IsEnsemble, IsMember, IsMeridian}
 use Rattle.crs_value.specs.Values.{DatumParts, EllipsoidParts, EnsembleParts, IdentParts, MemberParts, MeridianParts, UnitParts}
 use Rattle.crs_value.specs.Words.{unit_word}
@@ -21,7 +21,7 @@ use Rattle.crs_normal.specs.SpelledFrames.{greenwich, is_zero, item_datum, item_
 use Rattle.crs_normal.specs.SpelledItems.{each, number_item, number_node, text_item, text_node}
 use Rattle.crs_normal.specs.SpelledUnits.{item_ident, item_unit, norm_length, norm_unit, norm_units, set_idents, whole_value}
 use Rattle.crs_normal.specs.TextLaws.{TextLaws}
-use Rattle.crs_normal.proofs.ExtentLemmas.{IsLength, length-kept}
+use Rattle.crs_normal.proofs.ExtentLemmas.{length-kept}
 use Rattle.crs_normal.proofs.IdentLemmas.{ident-read, idents-kept}
 use Rattle.crs_normal.proofs.ItemLemmas.{Gives}
 use Rattle.crs_normal.proofs.MemberLemmas.{member-kept, member-read}

@@ -1,9 +1,7 @@
 -- Axes in their one form are read back from their items, and so are the nodes of coordinate systems.
-use Rattle.std.proofs.Common.{◌≡◌, ◌≢◌, ◌≤◌, ℕ, suc, zero, ◌+◌, codes, IfSome, Option, Some, None, List, [], ◌∷◌, length, refl, sym, ◌∙◌, ap, inl, inr, if◌then◌else◌, Bool, true, false, arith}
-use Rattle.crs_decimal.specs.Value.{Value, IsNormal}
-use Rattle.crs_text.specs.Items.{Item, Items, End, More}
-use Rattle.crs_text.specs.Written.{at_place, item_text}
-use Rattle.crs_shape.specs.declared.class.Class.{Class}
+use Rattle.std.proofs.Common.{◌≡◌, ◌≢◌, ℕ, suc, zero, ◌+◌, codes, IfSome, Option, Some, None, List, [], ◌∷◌, refl, if◌then◌else◌, Bool, true, false}
+use Rattle.crs_decimal.specs.Value.{IsNormal}
+use Rattle.crs_text.specs.Written.{at_place}
 use Rattle.crs_shape.specs.declared.class.Class.TheVariants as class
 use Rattle.crs_value.specs.BadUnit.{asked_kind, vertical_kind}
 use Rattle.crs_value.specs.declared.direction.Direction.{Direction}
@@ -15,13 +13,13 @@ use Rattle.crs_value.specs.declared.unit_kind.UnitKind.{UnitKind}
 use Rattle.crs_value.specs.declared.unit_kind.UnitKind.TheVariants as kinds
 use Rattle.crs_value.specs.Reading.{ReadsFirst}
 use Rattle.crs_value.specs.Reads.{ReadsAxis, ReadsAxisMeridian, ReadsHead, ReadsNumberOf, ReadsUnit}
-use Rattle.crs_value.specs.Sound.{Each, IsAxis, IsAxisMeridian, IsAxisUnit, IsUnit}
+use Rattle.crs_value.specs.Sound.{Each, IsAxis, IsAxisMeridian, IsAxisUnit}
 use Rattle.crs_value.specs.SoundSystem.{IsSystem}
-use Rattle.crs_value.specs.Values.{AxisMeridianParts, AxisParts, IdentParts, SystemParts, UnitParts}
+use Rattle.crs_value.specs.Values.{AxisMeridianParts, AxisParts, SystemParts, UnitParts}
 use Rattle.crs_value.specs.Words.{direction_word, system_word}
 use Rattle.crs_same.specs.SameSystems.{own_or}
 use Rattle.crs_same.specs.SameUnits.{kind_as}
-use Rattle.crs_normal.specs.SpelledItems.{number_item, number_node, text_item, word_item}
+use Rattle.crs_normal.specs.SpelledItems.{number_node, word_item}
 use Rattle.crs_normal.specs.SpelledSystems.{axes_from, axis_at, is_at, item_axis, item_axis_meridian, item_head, norm_axis, norm_axis_meridian, norm_axis_meridians, norm_system, with_axis}
 use Rattle.crs_normal.specs.SpelledUnits.{item_unit, norm_unit, norm_units, set_idents, whole_value}
 use Rattle.crs_normal.specs.TextLaws.{TextLaws}

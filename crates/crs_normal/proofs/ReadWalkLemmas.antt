@@ -6,11 +6,11 @@ use Rattle.crs_text.specs.Written.{at_place, at_places, item_text}
 use Rattle.crs_shape.specs.declared.class.Class.{Class}
 use Rattle.crs_shape.specs.ShapeFault.{class_in}
 use Rattle.crs_shape.specs.Slots.{is_class}
-use Rattle.crs_value.specs.Reading.{those, is_a, ReadsEach, ReadsElse, ReadsFirst, ReadsOptional}
+use Rattle.crs_value.specs.Reading.{those, ReadsEach, ReadsOptional}
 use Rattle.crs_value.specs.Sound.{Each}
 use Rattle.crs_normal.specs.Ordered.{in_order}
 use Rattle.crs_normal.specs.SpelledItems.{each, opt}
-use Rattle.crs_normal.proofs.ItemLemmas.{Gives, Lacks, gives-first, gives-over}
+use Rattle.crs_normal.proofs.ItemLemmas.{Gives, Lacks, gives-first}
 use Rattle.crs_normal.proofs.SetLemmas.{each-in_order}
 
 -- the value is read from its item, wherever that stands

@@ -2,6 +2,7 @@
 
 pub mod examples;
 pub mod normal;
+pub mod read;
 pub mod sets;
 pub mod texts;
 pub mod values;
