@@ -49,12 +49,20 @@ pub mod ParameterLemmas
 mod PartSameLemmas
 pub mod ProjectedNormalLemmas
 pub mod RankLemmas
+pub mod ReadCompoundLemmas
+pub mod ReadCrsLemmas
+pub mod ReadDatumLemmas
+pub mod ReadEndLemmas
+pub mod ReadFrameLemmas
+pub mod ReadNameLemmas
+pub mod ReadSystemLemmas
+pub mod ReadWalkLemmas
 pub mod SameItemLemmas
 pub mod SetLemmas
 pub mod SystemNormalLemmas
 mod SystemSameLemmas
 pub mod TailNormalLemmas
-mod TailSameLemmas
+pub mod TailSameLemmas
 pub mod TextNormalLemmas
 pub mod UnitNormalLemmas
 mod UnitSameLemmas

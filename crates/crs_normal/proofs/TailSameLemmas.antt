@@ -92,7 +92,7 @@ each-some : (us : List UsageParts) → Each IsUsage us → Each SaysSome us → 
 each-some [] sound some = tt
 each-some (u ∷ us) sound some = ((sound.0, some.0), each-some us sound.1 some.1)
 
-usages-sound : (t : TailParts) → IsTail t → Each IsSomeUsage (usages_of t)
+pub usages-sound : (t : TailParts) → IsTail t → Each IsSomeUsage (usages_of t)
 usages-sound t sound = by (says_some t.bare) refl
   where
     by : (q : Bool) → says_some t.bare ≡ q → Each IsSomeUsage (if q then t.bare ∷ t.usages else t.usages)

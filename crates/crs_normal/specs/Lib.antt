@@ -9,6 +9,7 @@ pub mod Normal
 pub mod NormalOwn
 pub mod OneForm
 pub mod Ordered
+pub mod ReadBack
 pub mod SpelledConversions
 pub mod SpelledCrs
 pub mod SpelledFrames

@@ -34,7 +34,7 @@ use crs_text::laws::{one_answer, written_items};
 use crs_value::laws::members_read_once;
 
 // The laws of decimals and texts, as one fact.
-fn text_laws()
+pub(super) fn text_laws()
     ensures { TextLaws }
 {
     written_items();

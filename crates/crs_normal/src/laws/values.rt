@@ -50,7 +50,7 @@ pub fn normal_is_node()
 {}
 
 // What is taken from the lower crates.
-fn lower_laws()
+pub(super) fn lower_laws()
     ensures { LowerLaws }
 {
     digits_alone();

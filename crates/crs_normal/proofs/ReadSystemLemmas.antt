@@ -1,0 +1,214 @@
+-- Axes in their one form are read back from their items, and so are the nodes of coordinate systems.
+use Rattle.std.proofs.Common.{◌≡◌, ◌≢◌, ℕ, suc, zero, ◌+◌, codes, IfSome, Option, Some, None, List, [], ◌∷◌, refl, if◌then◌else◌, Bool, true, false}
+use Rattle.crs_decimal.specs.Value.{IsNormal}
+use Rattle.crs_text.specs.Written.{at_place}
+use Rattle.crs_shape.specs.declared.class.Class.TheVariants as class
+use Rattle.crs_value.specs.BadUnit.{asked_kind, vertical_kind}
+use Rattle.crs_value.specs.declared.direction.Direction.{Direction}
+use Rattle.crs_value.specs.declared.direction.Direction.TheVariants as direction
+use Rattle.crs_value.specs.declared.level.Level.{Level}
+use Rattle.crs_value.specs.declared.system_type.SystemType.{SystemType}
+use Rattle.crs_value.specs.declared.system_type.SystemType.TheVariants as types
+use Rattle.crs_value.specs.declared.unit_kind.UnitKind.{UnitKind}
+use Rattle.crs_value.specs.declared.unit_kind.UnitKind.TheVariants as kinds
+use Rattle.crs_value.specs.Reading.{ReadsFirst}
+use Rattle.crs_value.specs.Reads.{ReadsAxis, ReadsAxisMeridian, ReadsHead, ReadsNumberOf, ReadsUnit}
+use Rattle.crs_value.specs.Sound.{Each, IsAxis, IsAxisMeridian, IsAxisUnit}
+use Rattle.crs_value.specs.SoundSystem.{IsSystem}
+use Rattle.crs_value.specs.Values.{AxisMeridianParts, AxisParts, SystemParts, UnitParts}
+use Rattle.crs_value.specs.Words.{direction_word, system_word}
+use Rattle.crs_same.specs.SameSystems.{own_or}
+use Rattle.crs_same.specs.SameUnits.{kind_as}
+use Rattle.crs_normal.specs.SpelledItems.{number_node, word_item}
+use Rattle.crs_normal.specs.SpelledSystems.{axes_from, axis_at, is_at, item_axis, item_axis_meridian, item_head, norm_axis, norm_axis_meridian, norm_axis_meridians, norm_system, with_axis}
+use Rattle.crs_normal.specs.SpelledUnits.{item_unit, norm_unit, norm_units, set_idents, whole_value}
+use Rattle.crs_normal.specs.TextLaws.{TextLaws}
+use Rattle.crs_normal.proofs.MemberUnitLemmas.{number-read, unit-kept, unit-read}
+use Rattle.crs_normal.proofs.ReadFrameLemmas.{angle-kept, ids-field, ids-segment, name-segment, number-segment, unit-in}
+use Rattle.crs_normal.proofs.ReadNameLemmas
+use Rattle.crs_normal.proofs.ReadWalkLemmas.{IsIn, MayIn, ReadsBack, Segment, first-field, one-segment, opt-field, opt-segment, some-all, some-imp}
+
+-- ---- the meridian of an axis
+
+pub axis-meridian-read : TextLaws → (level : Level) (m : AxisMeridianParts) → IsAxisMeridian m →
+    ReadsBack item_axis_meridian (ReadsAxisMeridian class.Meridian) (norm_axis_meridian level m)
+axis-meridian-read laws level m s place =
+    let unit = norm_unit level kinds.Angle m.unit in
+    let kept = angle-kept level m.unit s.unit in record {
+      longitude = number-read laws m.longitude s.longitude 0;
+      unit =
+          first-field class.Meridian class.AngleUnit (number-segment class.Meridian m.longitude ∷ []) [] refl
+          (λ l. ReadsFirst (ReadsUnit class.AngleUnit) l unit) (item_unit unit)
+          (unit-in class.Meridian class.AngleUnit kinds.Angle ReadNameLemmas.meridian-angleunit unit kept.1) refl
+          (λ p others. unit-read laws class.AngleUnit ReadNameLemmas.angle-unit-id unit kept.0 p) (place + 8);
+    }
+
+axis-meridians-read : TextLaws → (level : Level) (o : Option AxisMeridianParts) → IfSome o IsAxisMeridian →
+    IfSome (norm_axis_meridians level o) (ReadsBack item_axis_meridian (ReadsAxisMeridian class.Meridian))
+axis-meridians-read laws level None s = tt
+axis-meridians-read laws level (Some m) s = axis-meridian-read laws level m s
+
+-- ---- the unit of an axis
+
+vertical-no-scale : (d : Direction) → vertical_kind d ≢ kinds.Scale
+vertical-no-scale direction.North e = cc
+vertical-no-scale direction.NorthNorthEast e = cc
+vertical-no-scale direction.NorthEast e = cc
+vertical-no-scale direction.EastNorthEast e = cc
+vertical-no-scale direction.East e = cc
+vertical-no-scale direction.EastSouthEast e = cc
+vertical-no-scale direction.SouthEast e = cc
+vertical-no-scale direction.SouthSouthEast e = cc
+vertical-no-scale direction.South e = cc
+vertical-no-scale direction.SouthSouthWest e = cc
+vertical-no-scale direction.SouthWest e = cc
+vertical-no-scale direction.WestSouthWest e = cc
+vertical-no-scale direction.West e = cc
+vertical-no-scale direction.WestNorthWest e = cc
+vertical-no-scale direction.NorthWest e = cc
+vertical-no-scale direction.NorthNorthWest e = cc
+vertical-no-scale direction.GeocentricX e = cc
+vertical-no-scale direction.GeocentricY e = cc
+vertical-no-scale direction.GeocentricZ e = cc
+vertical-no-scale direction.Up e = cc
+vertical-no-scale direction.Down e = cc
+vertical-no-scale direction.Unspecified e = cc
+
+asked-no-scale : (t : SystemType) (d : Direction) → asked_kind t d ≢ kinds.Scale
+asked-no-scale types.Cartesian d e = cc
+asked-no-scale types.Vertical d e = cc
+asked-no-scale types.Ellipsoidal d e = vertical-no-scale d e
+asked-no-scale types.Spherical d e = vertical-no-scale d e
+
+as-no-scale : (asked k : UnitKind) → asked ≢ kinds.Scale → k ≢ kinds.Scale → kind_as asked k ≢ kinds.Scale
+as-no-scale asked kinds.Length a n e = n e
+as-no-scale asked kinds.Angle a n e = n e
+as-no-scale asked kinds.Scale a n e = n e
+as-no-scale asked kinds.Plain a n e = a e
+
+axis-units-kept : (level : Level) (asked : UnitKind) → asked ≢ kinds.Scale → (own shared : Option UnitParts) →
+    IfSome own IsAxisUnit → IfSome shared IsAxisUnit →
+    IfSome (norm_units level asked (own_or own shared)) IsAxisUnit
+axis-units-kept level asked a None None s t = tt
+axis-units-kept level asked a None (Some u) s t = (unit-kept level asked u t.0, as-no-scale asked u.kind a t.1)
+axis-units-kept level asked a (Some u) shared s t = (unit-kept level asked u s.0, as-no-scale asked u.kind a s.1)
+
+axis-unit-in : (u : UnitParts) → IsAxisUnit u → IsIn class.Axis class.AxisUnit (item_unit u)
+axis-unit-in u s = by u.kind refl
+  where
+    by : (k : UnitKind) → u.kind ≡ k → IsIn class.Axis class.AxisUnit (item_unit u)
+    by kinds.Length e = unit-in class.Axis class.AxisUnit kinds.Length ReadNameLemmas.axis-lengthunit u e
+    by kinds.Angle e = unit-in class.Axis class.AxisUnit kinds.Angle ReadNameLemmas.axis-angleunit u e
+    by kinds.Plain e = unit-in class.Axis class.AxisUnit kinds.Plain ReadNameLemmas.axis-unit u e
+    by kinds.Scale e = absurd (s.1 e)
+
+-- ---- axes
+
+module _ (laws : TextLaws) (level : Level) (system : SystemParts) (shared : IfSome system.unit IsAxisUnit) (k : ℕ) (whole : IsNormal (whole_value k)) (x : AxisParts) (s : IsAxis x) where
+  abbrev axis-name : Segment class.Axis
+  axis-name = name-segment class.Axis x.name
+
+  abbrev axis-word : Segment class.Axis
+  axis-word = one-segment class.Axis class.Word (word_item (direction_word x.direction)) (λ place. refl)
+
+  meridian-in : MayIn class.Axis class.Meridian item_axis_meridian (norm_axis_meridians level x.meridian)
+  meridian-in =
+      some-all (λ m. IsIn class.Axis class.Meridian (item_axis_meridian m)) (λ m place. ReadNameLemmas.axis-meridian)
+      (norm_axis_meridians level x.meridian)
+
+  abbrev axis-along : Segment class.Axis
+  axis-along =
+      opt-segment class.Axis class.Meridian item_axis_meridian (norm_axis_meridians level x.meridian) meridian-in
+
+  order-in : MayIn class.Axis class.Order (number_node (codes "ORDER")) (Some (whole_value k))
+  order-in place = ReadNameLemmas.axis-order
+
+  abbrev axis-order : Segment class.Axis
+  axis-order = opt-segment class.Axis class.Order (number_node (codes "ORDER")) (Some (whole_value k)) order-in
+
+  abbrev unit-of-axis : Option UnitParts
+  unit-of-axis = norm_units level (asked_kind system.system_type x.direction) (own_or x.unit system.unit)
+
+  unit-sound : IfSome unit-of-axis IsAxisUnit
+  unit-sound =
+      axis-units-kept level (asked_kind system.system_type x.direction)
+      (asked-no-scale system.system_type x.direction) x.unit system.unit s.unit shared
+
+  unit-within : MayIn class.Axis class.AxisUnit item_unit unit-of-axis
+  unit-within =
+      some-imp IsAxisUnit (λ u. IsIn class.Axis class.AxisUnit (item_unit u)) axis-unit-in unit-of-axis unit-sound
+
+  abbrev axis-unit-segment : Segment class.Axis
+  axis-unit-segment = opt-segment class.Axis class.AxisUnit item_unit unit-of-axis unit-within
+
+  abbrev axis-ids : Segment class.Axis
+  axis-ids = ids-segment class.Axis ReadNameLemmas.axis-id (set_idents level x.ids)
+
+  pub axis-read : ReadsBack item_axis (ReadsAxis class.Axis) (norm_axis level system k x)
+  unfolding norm_axis
+  axis-read place = record {
+    name = refl;
+    direction = refl;
+    meridian =
+        opt-field class.Axis class.Meridian (axis-name ∷ axis-word ∷ [])
+        (axis-order ∷ axis-unit-segment ∷ axis-ids ∷ []) refl item_axis_meridian (ReadsAxisMeridian class.Meridian)
+        refl refl (norm_axis_meridians level x.meridian) meridian-in
+        (axis-meridians-read laws level x.meridian s.meridian) (place + 4);
+    order =
+        opt-field class.Axis class.Order (axis-name ∷ axis-word ∷ axis-along ∷ []) (axis-unit-segment ∷ axis-ids ∷ [])
+        refl (number_node (codes "ORDER")) (ReadsNumberOf class.Order) refl refl (Some (whole_value k)) order-in
+        (λ p. number-read laws (whole_value k) whole 0) (place + 4);
+    unit =
+        opt-field class.Axis class.AxisUnit (axis-name ∷ axis-word ∷ axis-along ∷ axis-order ∷ []) (axis-ids ∷ []) refl
+        item_unit (ReadsUnit class.AxisUnit) refl refl unit-of-axis unit-within
+        (some-imp IsAxisUnit (ReadsBack item_unit (ReadsUnit class.AxisUnit))
+        (λ u q. unit-read laws class.AxisUnit ReadNameLemmas.axis-unit-id u q.0) unit-of-axis unit-sound) (place + 4);
+    ids =
+        ids-field class.Axis ReadNameLemmas.axis-id
+        (axis-name ∷ axis-word ∷ axis-along ∷ axis-order ∷ axis-unit-segment ∷ []) refl level x.ids s.ids (place + 4);
+  }
+
+-- ---- the axes of a system
+
+-- these positions are written as numbers in their normal form
+abbrev pub AreWhole : ℕ → ℕ → Type 0
+AreWhole k zero = Unit {0}
+AreWhole k (suc n) = IsNormal (whole_value k) × AreWhole (k + 1) n
+
+either-sound : (b : Bool) (x : AxisParts) (o : Option AxisParts) → IsAxis x → IfSome o IsAxis →
+    IfSome (if b then Some x else o) IsAxis
+either-sound true x o s t = s
+either-sound false x o s t = t
+
+at-sound : (position place : ℕ) (axes : List AxisParts) → Each IsAxis axes → IfSome (axis_at position place axes) IsAxis
+at-sound position place [] s = tt
+at-sound position place (x ∷ axes) s =
+    either-sound (is_at position place x.order) x (axis_at position (place + 1) axes) s.0
+    (at-sound position (place + 1) axes s.1)
+
+with-read : TextLaws → (level : Level) (system : SystemParts) → IfSome system.unit IsAxisUnit → (k : ℕ) →
+    IsNormal (whole_value k) → (o : Option AxisParts) → IfSome o IsAxis → (rest : List AxisParts) →
+    Each (ReadsBack item_axis (ReadsAxis class.Axis)) rest →
+    Each (ReadsBack item_axis (ReadsAxis class.Axis)) (with_axis level system k o rest)
+with-read laws level system shared k whole None s rest r = r
+with-read laws level system shared k whole (Some x) s rest r = (axis-read laws level system shared k whole x s, r)
+
+pub axes-read : TextLaws → (level : Level) (system : SystemParts) → IsSystem system → (k n : ℕ) → AreWhole k n →
+    Each (ReadsBack item_axis (ReadsAxis class.Axis)) (axes_from level system k n)
+axes-read laws level system s k zero w = tt
+axes-read laws level system s k (suc n) w =
+    with-read laws level system s.unit k w.0 (axis_at k 1 system.axes) (at-sound k 1 system.axes s.axes)
+    (axes_from level system (k + 1) n) (axes-read laws level system s (k + 1) n w.1)
+
+-- ---- the node of a system
+
+pub head-read : TextLaws → (level : Level) (system : SystemParts) → IsSystem system → (place : ℕ) →
+    ReadsHead (at_place place (item_head (norm_system level system))) (norm_system level system)
+head-read laws level system s place = record {
+  system_type = refl;
+  dimension = number-read laws system.dimension s.dimension 0;
+  ids =
+      ids-field class.CoordinateSystem ReadNameLemmas.coordinate-system-id
+      (one-segment class.CoordinateSystem class.Word (word_item (system_word system.system_type)) (λ p. refl)
+      ∷ number-segment class.CoordinateSystem system.dimension ∷ []) refl level system.ids s.ids (place + 2);
+}

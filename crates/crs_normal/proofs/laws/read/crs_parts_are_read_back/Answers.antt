@@ -1,0 +1,19 @@
+use Rattle.crs_normal.proofs.ReadCrsLemmas.{base-read}
+use Rattle.crs_normal.proofs.ReadEndLemmas.{conversion-read, method-read}
+use Rattle.crs_normal.proofs.ReadSystemLemmas.{axis-meridian-read, head-read}
+use Rattle.crs_normal.proofs.laws.read.crs_parts_are_read_back.Goals as goal
+
+pub returns-clause-along : goal.returns-clause-along
+returns-clause-along c level x place s = axis-meridian-read c.text_laws.ensures level x s place
+
+pub returns-clause-head : goal.returns-clause-head
+returns-clause-head c level x place s = head-read c.text_laws.ensures level x s place
+
+pub returns-clause-method : goal.returns-clause-method
+returns-clause-method c level x place s = method-read level x s place
+
+pub returns-clause-conversion : goal.returns-clause-conversion
+returns-clause-conversion c level x place s = conversion-read c.text_laws.ensures level x s place
+
+pub returns-clause-base : goal.returns-clause-base
+returns-clause-base c level x place s = base-read c.text_laws.ensures level x s place
