@@ -1,3 +1,4 @@
+pub mod AcceptedLemmas
 pub mod AscendLemmas
 pub mod AxisNormalLemmas
 mod AxisSameLemmas

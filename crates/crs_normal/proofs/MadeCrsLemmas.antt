@@ -67,7 +67,7 @@ crs-root level (crs.Compound g) p = refl
 
 -- a text's item stands at the text's places
 mutual
-  placed-twice : (p q : ℕ) (j : Item) → at_place p (at_place q j) ≡ at_place p j
+  pub placed-twice : (p q : ℕ) (j : Item) → at_place p (at_place q j) ≡ at_place p j
   placed-twice p q (leaf kind place raw) = refl
   placed-twice p q (node place keyword square first others close) =
       let s : ℕ = q + length keyword + 1 in

@@ -186,9 +186,10 @@ module _ (laws : TextLaws) (lower : LowerLaws) (level : Level) (k : CompoundPart
 
 pub crs-read : TextLaws → LowerLaws → (level : Level) (x : Crs) → IsCrs x → (place : ℕ) →
     ReadsCrs (crs_class x) (at_place place (item_crs (norm_crs level x))) (norm_crs level x)
-crs-read laws lower level (crs.Geodetic g) s place =
-    (is-geodetic g.system.system_type,
-    geodetic-read laws lower (geodetic_class g.system.system_type) (names-of g.system.system_type) level g s place)
+crs-read laws lower level (crs.Geodetic g) s place = (
+  is-geodetic g.system.system_type,
+  geodetic-read laws lower (geodetic_class g.system.system_type) (names-of g.system.system_type) level g s place,
+)
 crs-read laws lower level (crs.Projected p) s place = (refl, projected-read laws lower level p s place)
 crs-read laws lower level (crs.Vertical v) s place = (refl, vertical-read laws lower level v s place)
 crs-read laws lower level (crs.Compound k) s place = (refl, compound-read laws lower level k s place)

@@ -76,11 +76,11 @@ module _ (c : Class) where
   pass-item d k item e n rest start = (
     start + 1 + length (item_text item),
     ap
-    (λ b.
-    if b then
-    at_place (start + 1) item ∷ those c d (at_places (start + 1 + length (item_text item)) rest)
-    else those c d (at_places (start + 1 + length (item_text item)) rest))
-    (ap (is_class d) (e (start + 1)) ∙ n),
+        (λ b.
+        if b then
+        at_place (start + 1) item ∷ those c d (at_places (start + 1 + length (item_text item)) rest)
+        else those c d (at_places (start + 1 + length (item_text item)) rest))
+        (ap (is_class d) (e (start + 1)) ∙ n),
   )
 
   pub pass-each : {V : Type 0} (d k : Class) (spell : V → Item) (xs : List V) → AreIn c k spell xs →

@@ -5,11 +5,16 @@ ghost use Rattle.crs_value.specs.SpellsText.{Spells};
 ghost use Rattle.crs_value.specs.declared.crs.Crs.{Crs};
 ghost use Rattle.crs_value.specs.declared.level.Level.{Level};
 ghost use Rattle.crs_same.specs.SameCrs.{SameCrs};
+ghost use Rattle.crs_text.specs.Written.{item_text};
 ghost use Rattle.crs_normal.specs.Normal.{IsNormalText};
+ghost use Rattle.crs_normal.specs.SpelledCrs.{item_crs, norm_crs};
 
+use crate::laws::made::{made_crs_is_normal, made_text_is_normal};
 use crate::laws::normal::normal_text_is_its_form;
+use crate::laws::read::crs_is_read_back;
 use crate::laws::values::same_crss_have_one_form;
 use crs_same::laws::same_crs_is_equivalence;
+use crs_shape::laws::no_fault_is_shape;
 use crs_text::laws::written_items;
 use crs_value::laws::{one_answer, spelled_is_sound};
 
@@ -31,5 +36,38 @@ pub fn normal_texts_are_equal_where_same()
     normal_text_is_its_form();
     same_crss_have_one_form();
     same_crs_is_equivalence();
+    one_answer();
+}
+
+/// The written form of a CRS is an accepted text, which spells the CRS's one form. Profile.
+pub fn written_form_is_accepted()
+    ensures { (level : Level) (crs : Crs) → IsCrs crs →
+        Spells (item_text (item_crs (norm_crs level crs))) (norm_crs level crs) }
+{
+    made_crs_is_normal();
+    crs_is_read_back();
+    no_fault_is_shape();
+    written_items();
+}
+
+/// The one form of a CRS is the same CRS. Profile.
+pub fn one_form_is_the_same()
+    ensures { (level : Level) (crs : Crs) → IsCrs crs → SameCrs level crs (norm_crs level crs) }
+{
+    written_form_is_accepted();
+    spelled_crs_is_sound();
+    made_text_is_normal();
+    normal_text_is_its_form();
+    same_crss_have_one_form();
+    one_answer();
+}
+
+/// The written forms of two CRSs are equal exactly where the CRSs are the same. Profile.
+pub fn written_forms_are_equal_where_same()
+    ensures { (level : Level) (a b : Crs) → IsCrs a → IsCrs b →
+        (item_text (item_crs (norm_crs level a)) ≡ item_text (item_crs (norm_crs level b))) ↔ SameCrs level a b }
+{
+    written_form_is_accepted();
+    same_crss_have_one_form();
     one_answer();
 }
