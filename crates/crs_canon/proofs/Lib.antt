@@ -1,4 +1,5 @@
 pub mod EncloseLemmas
+pub mod MainLemmas
 pub mod PieceLemmas
 pub mod SetLemmas
 pub mod SystemLemmas

@@ -1,8 +1,23 @@
--- Canonical texts as callers see them.
+-- Canonical texts.
 use Rattle.std.specs.Prelude.{ℕ, List}
+use Rattle.crs_value.specs.SpellsText.{Spells}
+use Rattle.crs_value.specs.declared.crs.Crs.{Crs}
 use Rattle.crs_value.specs.declared.level.Level.{Level}
+use Rattle.crs_same.specs.SameCrs.{SameCrs}
+use Rattle.crs_normal.specs.Normal.{IsNormalText}
 
--- a text and the level at which it was written
+-- a text and the level at which it was written, as callers see them
 pub record CanonicalText : Type 0 where
   pub bytes : List ℕ
   pub level : Level
+
+-- the canonical text of a CRS at a level: it is normal, and spells a CRS that is the same
+pub record IsCanonicalText (level : Level) (crs : Crs) (bytes : List ℕ) : Type 0 where
+  pub normal : IsNormalText level bytes
+  pub value : Crs
+  pub spells : Spells bytes value
+  pub same : SameCrs level crs value
+
+-- the canonical text of a text: that of the CRS that it spells
+abbrev pub IsCanonicalOf : Level → List ℕ → List ℕ → Type 0
+IsCanonicalOf level text bytes = (crs : Crs) × Spells text crs × IsCanonicalText level crs bytes

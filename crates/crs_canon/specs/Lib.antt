@@ -1,3 +1,4 @@
 pub mod Canonical
+pub mod MainTheorem
 pub mod Members
 pub mod Openings

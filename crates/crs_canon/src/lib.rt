@@ -3,8 +3,9 @@
 
 mod answer;
 mod canon_text;
+pub mod laws;
 mod set;
 mod spelling;
 
-pub use answer::canon_of;
+pub use answer::{canon, canon_of};
 pub use canon_text::Canon;

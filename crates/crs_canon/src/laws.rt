@@ -1,0 +1,43 @@
+//! Laws of canonical texts: calls that do nothing, and whose contracts are the laws.
+ghost use Rattle.std.specs.Prelude.{◌≡◌, ◌↔◌, List, ℕ};
+ghost use Rattle.crs_value.specs.SoundCrs.{IsCrs};
+ghost use Rattle.crs_value.specs.declared.crs.Crs.{Crs};
+ghost use Rattle.crs_value.specs.declared.level.Level.{Level};
+ghost use Rattle.crs_same.specs.SameCrs.{SameCrs};
+ghost use Rattle.crs_canon.specs.Canonical.{IsCanonicalText};
+ghost use Rattle.crs_canon.specs.MainTheorem.{MainTheorem};
+
+use crs_normal::laws::made::made_text_is_normal;
+use crs_normal::laws::texts::{
+    normal_texts_are_equal_where_same, one_form_is_the_same, spelled_crs_is_sound,
+    written_form_is_accepted,
+};
+use crs_same::laws::same_crs_is_equivalence;
+use crs_value::laws::one_answer;
+
+/// Each CRS has a canonical text, and those of two CRSs are equal, byte for byte, exactly where the CRSs are the same.
+/// Profile.
+pub fn canonical_texts_are_equal_where_same()
+    ensures there { (level : Level) (crs : Crs) → IsCrs crs → (bytes : List ℕ) × IsCanonicalText level crs bytes }
+    ensures equal { (level : Level) (a b : Crs) (first second : List ℕ) → IsCrs a → IsCrs b →
+        IsCanonicalText level a first → IsCanonicalText level b second → (first ≡ second) ↔ SameCrs level a b }
+{
+    made_text_is_normal();
+    written_form_is_accepted();
+    one_form_is_the_same();
+    normal_texts_are_equal_where_same();
+    same_crs_is_equivalence();
+    spelled_crs_is_sound();
+}
+
+/// The main theorem: two accepted texts have equal canonical bytes exactly when the CRSs that they spell are the same; a
+/// canonical text is itself accepted, spells the same CRS as its source and is its own canonical text; and a text that
+/// spells no CRS is refused with one number and at one place. Profile.
+pub fn main_theorem()
+    ensures { (level : Level) → MainTheorem level }
+{
+    canonical_texts_are_equal_where_same();
+    same_crs_is_equivalence();
+    spelled_crs_is_sound();
+    one_answer();
+}
