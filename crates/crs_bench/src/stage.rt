@@ -1,6 +1,7 @@
 //! The stages from a text to its canonical spelling, as they are called from outside.
 
 use crate::tally::Outcome;
+use crs_canon::canon;
 use crs_same::same;
 use crs_shape::fit_root;
 use crs_text::{Fault, Items, read_items};
@@ -19,10 +20,18 @@ pub enum Stage {
     Value,
     /// The value compared with itself and with that of the next text, which is read for it.
     Same,
+    /// The canonical text of the value.
+    Canon,
 }
 
 /// All stages, in the order in which they are run.
-pub const STAGES: [Stage; 4] = [Stage::Items, Stage::Shape, Stage::Value, Stage::Same];
+pub const STAGES: [Stage; 5] = [
+    Stage::Items,
+    Stage::Shape,
+    Stage::Value,
+    Stage::Same,
+    Stage::Canon,
+];
 
 impl Stage {
     /// The name under which it is reported.
@@ -32,6 +41,7 @@ impl Stage {
             Stage::Shape => "shape",
             Stage::Value => "value",
             Stage::Same => "same",
+            Stage::Canon => "canon",
         }
     }
 
@@ -40,6 +50,7 @@ impl Stage {
         match self {
             Stage::Items | Stage::Shape | Stage::Value => "items",
             Stage::Same => "same",
+            Stage::Canon => "bytes",
         }
     }
 
@@ -55,6 +66,7 @@ impl Stage {
             Stage::Shape => shape(alloc, text),
             Stage::Value => value(alloc, text),
             Stage::Same => compared(alloc, text, next),
+            Stage::Canon => canonical(alloc, text),
         }
     }
 }
@@ -119,5 +131,13 @@ fn is_same_as<'a>(alloc: Global, crs: &Crs<'a>, next: &'a [u8]) -> Result<bool, 
     match read(alloc, next) {
         Ok(other) => Ok(same(crs, &other, Level::Full)),
         Err(fault) => Err(fault),
+    }
+}
+
+fn canonical(alloc: Global, text: &[u8]) -> Result<Outcome, AllocError> {
+    match canon(alloc, text, Level::Full) {
+        Ok(canon) => Ok(Outcome::Accepted(canon.bytes().len())),
+        Err(Fault::Refused(_)) => Ok(Outcome::Refused),
+        Err(Fault::Memory(error)) => Err(error),
     }
 }

@@ -1,12 +1,3 @@
-pub mod ArgumentLemmas
 mod JudgedLemmas
 mod KnownText
-pub mod OneLemmas
 pub mod SameOutputLemmas
-pub mod ThinAnswerLemmas
-pub mod ThinCanonicalLemmas
-pub mod ThinNoneLemmas
-pub mod ThinReadLemmas
-pub mod ThinSpellingLemmas
-pub mod WordLemmas
-pub mod WriteLemmas

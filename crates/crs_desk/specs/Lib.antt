@@ -1,13 +1,5 @@
-pub mod Canonical
 pub mod Ending
 pub mod Output
 pub mod SameOutput
 pub mod Streams
-pub mod ThinCanonical
-pub mod ThinReading
-pub mod ThinReads
-pub mod ThinSame
-pub mod ThinSpelling
-pub mod ThinValues
-pub mod ThinWords
 pub mod Whole

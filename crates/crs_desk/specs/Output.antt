@@ -6,8 +6,8 @@ use Rattle.crs_value.specs.declared.crs.Kind.{Kind}
 use Rattle.crs_value.specs.declared.crs.Kind.TheVariants as kind
 use Rattle.crs_value.specs.ReadsCrs.{kind_of}
 use Rattle.crs_value.specs.SpellsText.{Spells, Refuses}
-use Rattle.crs_desk.specs.ThinReads.{IsThin}
-use Rattle.crs_desk.specs.ThinCanonical.{IsCanonical}
+use Rattle.crs_value.specs.declared.level.Level.{Level}
+use Rattle.crs_canon.specs.Canonical.{IsCanonicalOf}
 
 -- `refused N NAME at P`
 abbrev pub refused_text : ℕ → ℕ → List ℕ
@@ -29,9 +29,9 @@ pub record IsLine (bytes : List ℕ) (end : ℕ) (written : List ℕ) (status : 
 abbrev pub IsKindOf : List ℕ → Kind → Type 0
 IsKindOf text found = (value : Crs) × Spells text value × (found ≡ kind_of value)
 
--- a thin text's canonical text, with status 0
-abbrev pub WritesCanonical : List ℕ → List ℕ → ℕ → Type 0
-WritesCanonical text written status = (canonical : List ℕ) × IsCanonical text canonical × IsLine canonical 0 written status
+-- the text's canonical text at this level, with status 0
+abbrev pub WritesCanonical : Level → List ℕ → List ℕ → ℕ → Type 0
+WritesCanonical level text written status = (canonical : List ℕ) × IsCanonicalOf level text canonical × IsLine canonical 0 written status
 
 -- `accepted` and the kind of the CRS that the text spells, with status 0
 abbrev pub WritesAccepted : List ℕ → List ℕ → ℕ → Type 0
@@ -41,14 +41,9 @@ WritesAccepted text written status = (found : Kind) × IsKindOf text found × Is
 abbrev pub WritesRefusal : List ℕ → List ℕ → ℕ → Type 0
 WritesRefusal text written status = (refusal : Refused) × Refuses text refusal × IsLine (refused_text refusal.number refusal.place) 1 written status
 
--- `not yet` for a text that spells a CRS and isn't thin, with status 1
-abbrev pub WritesNotYet : List ℕ → List ℕ → ℕ → Type 0
-WritesNotYet text written status = ((value : Crs) × Spells text value) × ¬ (IsThin text) × IsLine (codes "not yet") 1 written status
-
 -- what `canon` writes for a text, and its status
-unfoldable pub IsCanonOutput : List ℕ → List ℕ → ℕ → Type 0
-IsCanonOutput text written status =
-    WritesCanonical text written status ⊎ (WritesRefusal text written status ⊎ WritesNotYet text written status)
+unfoldable pub IsCanonOutput : Level → List ℕ → List ℕ → ℕ → Type 0
+IsCanonOutput level text written status = WritesCanonical level text written status ⊎ WritesRefusal text written status
 
 -- what `check` writes for a text, and its status
 unfoldable pub IsCheckOutput : List ℕ → List ℕ → ℕ → Type 0

@@ -1,7 +1,6 @@
 //! The program's commands, over any reader and any writer.
 #![tactic(auto)]
 
-pub use canon::Canon;
 pub use canon_run::run_canon;
 pub use check_run::run_check;
 pub use crs_line::{LineWord, Request, RequestFault, request};
@@ -10,18 +9,14 @@ pub use fault::RunFault;
 pub use same_run::run_same;
 pub use sink::Sink;
 pub use source::Source;
-pub use thin::{Direction, SystemType, thin_canon};
 
 mod answer;
-mod canon;
 mod canon_run;
 mod check_run;
 mod fault;
 mod judging;
-pub mod laws;
 mod print;
 mod same_run;
 mod sink;
 mod source;
 mod text;
-mod thin;

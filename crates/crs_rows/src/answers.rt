@@ -1,7 +1,7 @@
 //! From the name of a call to its answer.
 use crate::runs::Command;
 use crate::texts::Column;
-use crate::{lines, numbers, runs, sameness, shapes, texts, values};
+use crate::{canonical, lines, numbers, runs, sameness, shapes, texts, values};
 use std::alloc::{AllocError, Global};
 
 /// Appends the answer of a call to an input, as a row writes it; behind a blank the call may have words.
@@ -73,8 +73,8 @@ fn put_value_answer(
         "first_axis" => values::put_axis(out, alloc, input),
         "same" => sameness::put_same(out, alloc, input),
         "same_axis" => sameness::put_same_axis(out, alloc, input),
-        "thin_canon" => runs::put_thin(out, alloc, input),
-        "Canon::same" => runs::put_same_canon(out, alloc, input),
+        "canon" => canonical::put_canon(out, alloc, input),
+        "Canon::same" => canonical::put_same(out, alloc, input),
         "run_canon" => runs::put_canon(out, alloc, input),
         "run_check" => runs::put_check(out, alloc, input),
         "run_same" => runs::put_same(out, alloc, input),

@@ -3,6 +3,7 @@
 #![tactic(auto)]
 
 mod answers;
+mod canonical;
 mod escapes;
 mod lines;
 mod numbers;
@@ -27,7 +28,7 @@ const FILES: [&str; 17] = [
     "tables",
     "values",
     "before_dynamic",
-    "thin",
+    "canon",
     "runs",
     "streams",
     "checks",

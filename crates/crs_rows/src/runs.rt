@@ -1,37 +1,9 @@
-//! The runs of commands, and the canonical text of a thin text.
+//! The runs of commands.
 use crate::escapes::put_text;
 use crate::sameness::split_line;
 use crate::streams::{Manner, Page, Pieces};
-use crs_desk::{Canon, Level, RunFault, Sink, Source, run_canon, run_check, run_same, thin_canon};
+use crs_desk::{Level, RunFault, Sink, Source, run_canon, run_check, run_same};
 use std::alloc::{AllocError, Global};
-
-/// `text` and the canonical text; `none` where the text isn't thin.
-pub fn put_thin(out: &mut String, alloc: Global, input: &[u8]) -> Result<(), AllocError> {
-    match thin_canon(alloc, input)? {
-        Some(canon) => {
-            out.push_str("text ")?;
-            put_text(out, canon.bytes())
-        }
-        None => out.push_str("none"),
-    }
-}
-
-/// Whether the canonical texts of two texts, one a line, are the same, and whether one is the same as itself.
-pub fn put_same_canon(out: &mut String, alloc: Global, input: &[u8]) -> Result<(), AllocError> {
-    let (first, second) = split_line(input);
-    match (thin_canon(alloc, first)?, thin_canon(alloc, second)?) {
-        (Some(a), Some(b)) => out.push_str(sameness(&a, &b)),
-        _ => out.push_str("none"),
-    }
-}
-
-fn sameness(a: &Canon, b: &Canon) -> &'static str {
-    match (a.same(a) && a.level() == Level::Full, a.same(b), b.same(a)) {
-        (true, true, true) => "same",
-        (true, false, false) => "different",
-        _ => "one way",
-    }
-}
 
 /// The status of `canon` over a reader and a writer in memory, or its fault, and what it has written.
 pub fn put_canon(out: &mut String, alloc: Global, input: &[u8]) -> Result<(), AllocError> {
