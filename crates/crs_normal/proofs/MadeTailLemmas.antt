@@ -1,5 +1,5 @@
 -- The ends of CRSs are made.
-use Rattle.std.proofs.Common.{◌≡◌, ◌⊎◌, ℕ, ◌+◌, ◌≤◌, ◌++◌, Bool, true, false, Option, Some, None, List, [], ◌∷◌, length, map, drop, codes, IfSome, IsSome, if◌then◌else◌, inl, inr, refl, sym, subst, ◌∙◌, arith}
+use Rattle.std.proofs.Common.{◌≡◌, ℕ, ◌+◌, ◌≤◌, ◌++◌, true, Option, Some, None, List, [], ◌∷◌, length, map, drop, codes, IfSome, inl, inr, refl, sym, subst, ◌∙◌, arith}
 use Rattle.crs_text.specs.Items.{Item, Items, End, More, arguments}
 use Rattle.crs_text.specs.Refusal.{Refused}
 use Rattle.crs_text.specs.Written.{at_place, at_places, item_text}
@@ -16,9 +16,9 @@ use Rattle.crs_value.specs.declared.level.Level.TheVariants as levels
 use Rattle.crs_value.specs.Reading.{those}
 use Rattle.crs_value.specs.Repeated.{IsRepeated, RepeatsAny}
 use Rattle.crs_value.specs.Sound.{Each, IsText}
-use Rattle.crs_value.specs.SoundUsages.{IsTail, IsUsage, SaysSome}
-use Rattle.crs_value.specs.Values.{BoxParts, ExtentParts, TailParts, UsageParts}
-use Rattle.crs_same.specs.SameUsages.{says_some, usages_of}
+use Rattle.crs_value.specs.SoundUsages.{IsTail, IsUsage}
+use Rattle.crs_value.specs.Values.{TailParts, UsageParts}
+use Rattle.crs_same.specs.SameUsages.{usages_of, with_bare}
 use Rattle.crs_normal.specs.DecimalLaws.{DecimalLaws}
 use Rattle.crs_normal.specs.Made.{IsMade}
 use Rattle.crs_normal.specs.NormalOwn.{Ascend, HasTail, Rise, rank}
@@ -34,40 +34,21 @@ use Rattle.crs_normal.proofs.MadeUsageLemmas.{usage-made, usage-named}
 
 -- ---- the usages, the bare parts being one more
 
-some-there : (s a : Option (List ℕ)) (b : Option BoxParts) (e : Option ExtentParts) →
-    says_some (record { scope = s; area = a; bbox = b; extent = e }) ≡ true →
-    IsSome s ⊎ (IsSome a ⊎ (IsSome b ⊎ IsSome e))
-some-there (Some s) a b e h = inl refl
-some-there None (Some a) b e h = inr (inl refl)
-some-there None None (Some b) e h = inr (inr (inl refl))
-some-there None None None (Some e) h = inr (inr (inr refl))
-some-there None None None None h = cc
-
-abbrev IsSaid : UsageParts → Type 0
-IsSaid u = IsUsage u × SaysSome u
-
-said : (us : List UsageParts) → Each IsUsage us → Each SaysSome us → Each IsSaid us
-said [] h s = tt
-said (u ∷ us) h s = ((h.0, s.0), said us h.1 s.1)
-
-usages-said : (t : TailParts) → IsTail t → Each IsSaid (usages_of t)
-usages-said t h = by (says_some t.bare) refl
+pub usages-sound : (t : TailParts) → IsTail t → Each IsUsage (usages_of t)
+usages-sound t h = by t.bare h.bare
   where
-    by : (b : Bool) → says_some t.bare ≡ b → Each IsSaid (if b then t.bare ∷ t.usages else t.usages)
-    by true e = (
-      (h.bare, some-there t.bare.scope t.bare.area t.bare.bbox t.bare.extent e),
-      said t.usages h.usages h.each_some,
-    )
-    by false e = said t.usages h.usages h.each_some
+    by : (bare : Option UsageParts) → IfSome bare IsUsage → Each IsUsage (with_bare bare t.usages)
+    by None u = h.usages
+    by (Some bare) u = (u, h.usages)
 
 usages-made : DecimalLaws → (level : Level) (most : ℕ) (parent : Class) (us : List UsageParts) → 5 ≤ most →
-    class_named parent (codes "USAGE") ≡ Some class.Usage → Each IsSaid us → Each (Made level most parent class.Usage)
+    class_named parent (codes "USAGE") ≡ Some class.Usage → Each IsUsage us → Each (Made level most parent class.Usage)
     (map item_usage (set_usages level us))
 unfolding set_usages
 usages-made l levels.Full most parent us deep named h =
-    set-each norm_usage item_usage IsSaid (Made levels.Full most parent class.Usage) us h
+    set-each norm_usage item_usage IsUsage (Made levels.Full most parent class.Usage) us h
     (λ u q. as-argument levels.Full 5 most parent class.Usage (item_usage (norm_usage u)) deep
-    (usage-named parent u q.1 named) (usage-made l levels.Full u q.0 q.1))
+    (usage-named parent u q.some named) (usage-made l levels.Full u q))
 
 pub usages-ascend : (level : Level) (us : List UsageParts) → Ascend (map item_usage (set_usages level us) ++ [])
 unfolding set_usages
@@ -112,7 +93,7 @@ pub tail-runs-made : DecimalLaws → (level : Level) (most : ℕ) (c : Class) (t
 tail-runs-made l level most c t deep n h =
     let two : 2 ≤ most = omega arith in
     let one : 1 ≤ most = omega arith in (
-      usages-made l level most c (usages_of t) deep n.usage (usages-said t h),
+      usages-made l level most c (usages_of t) deep n.usage (usages-sound t h),
       (
         ids-made l level most c t.ids two n.ident h.ids,
         (

@@ -13,8 +13,8 @@ use Rattle.crs_value.specs.declared.level.Level.{Level}
 use Rattle.crs_value.specs.declared.level.Level.TheVariants as levels
 use Rattle.crs_value.specs.Reading.{those}
 use Rattle.crs_value.specs.Sound.{Each, IsText}
-use Rattle.crs_value.specs.SoundUsages.{IsBox, IsExtent, IsUsage, SaysSome}
-use Rattle.crs_value.specs.Values.{BoxParts, ExtentParts, UsageParts}
+use Rattle.crs_value.specs.SoundUsages.{IsBox, IsExtent, IsUsage}
+use Rattle.crs_value.specs.Values.{BoxParts, ExtentParts, SaysSome, UsageParts}
 use Rattle.crs_normal.specs.DecimalLaws.{DecimalLaws}
 use Rattle.crs_normal.specs.Made.{IsMade}
 use Rattle.crs_normal.specs.SpelledItems.{node_from, number_item, opt, text_item, text_node}
@@ -156,12 +156,12 @@ extents-made l level (Some e) h = (
   tt,
 )
 
-pub usage-made : DecimalLaws → (level : Level) (u : UsageParts) → IsUsage u → SaysSome u → (p : ℕ) →
+pub usage-made : DecimalLaws → (level : Level) (u : UsageParts) → IsUsage u → (p : ℕ) →
     IsMade level class.Usage 5 (at_place p (item_usage (norm_usage u)))
 unfolding BreaksOwn class_named is_keyword
-usage-made l levels.Full u h some =
+usage-made l levels.Full u h =
     from-made levels.Full 4 class.Usage (codes "USAGE") (usage_items (norm_usage u)) (usage_runs (norm_usage u))
-    (some-item u.scope u.area u.bbox u.extent some) (simp opt-line) (record {
+    (some-item u.scope u.area u.bbox u.extent h.some) (simp opt-line) (record {
       letters = (refl, refl);
       known = refl;
       written = refl;

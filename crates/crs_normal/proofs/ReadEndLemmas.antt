@@ -14,16 +14,16 @@ use Rattle.crs_value.specs.ReadsConversion.{ReadsConversion, ReadsGeoidModel, Re
 use Rattle.crs_value.specs.Sound.{Each}
 use Rattle.crs_value.specs.SoundConversion.{IsConversion, IsGeoidModel, IsMethod, IsParameter}
 use Rattle.crs_value.specs.SoundSystem.{IsSystem}
-use Rattle.crs_value.specs.SoundUsages.{IsTail}
+use Rattle.crs_value.specs.SoundUsages.{IsTail, IsUsage}
 use Rattle.crs_value.specs.Values.{AxisParts, SystemParts, TailParts, UsageParts}
 use Rattle.crs_same.specs.SameUsages.{usages_of}
-use Rattle.crs_normal.specs.Decides.{IsSomeUsage}
 use Rattle.crs_normal.specs.SpelledConversions.{item_conversion, item_geoid_model, item_method, item_parameter, norm_conversion, norm_geoid_model, norm_method, norm_parameter, set_geoid_models, set_parameters}
 use Rattle.crs_normal.specs.SpelledItems.{node_from, text_node}
 use Rattle.crs_normal.specs.SpelledSystems.{axes_from, item_axis, item_head, norm_system, system_items}
 use Rattle.crs_normal.specs.SpelledUnits.{item_ident, set_idents}
 use Rattle.crs_normal.specs.SpelledUsages.{item_usage, norm_remark, norm_tail, norm_usage, set_usages, tail_items}
 use Rattle.crs_normal.specs.TextLaws.{TextLaws}
+use Rattle.crs_normal.proofs.MadeTailLemmas.{usages-sound}
 use Rattle.crs_normal.proofs.MemberLemmas.{geoid-kept, geoid-read}
 use Rattle.crs_normal.proofs.MemberUnitLemmas.{NamesId}
 use Rattle.crs_normal.proofs.ParameterLemmas.{parameter-kept, parameter-read}
@@ -31,7 +31,6 @@ use Rattle.crs_normal.proofs.ReadFrameLemmas.{idents-back, idents-in, ids-field,
 use Rattle.crs_normal.proofs.ReadNameLemmas
 use Rattle.crs_normal.proofs.ReadSystemLemmas.{AreWhole, axes-read, head-read}
 use Rattle.crs_normal.proofs.ReadWalkLemmas.{AllPass, AreIn, IsIn, MayIn, ReadsBack, Segment, each-all, each-field, each-imp, each-segment, first-field, lacking, lay, one-segment, opt-field, opt-segment, past, set-kept, some-all}
-use Rattle.crs_normal.proofs.TailSameLemmas.{usages-sound}
 use Rattle.crs_normal.proofs.UsageLemmas.{IsWrittenUsage, usage-is-node, usage-kept, usage-read}
 
 -- ---- conversions
@@ -109,11 +108,11 @@ from-in : (c k : Class) (keyword : List ℕ) → class_named c keyword ≡ Some 
 from-in c k keyword e End n = absurd n
 from-in c k keyword e (More first others) n = λ place. e
 
-written-usages : (level : Level) (us : List UsageParts) → Each IsSomeUsage us →
+written-usages : (level : Level) (us : List UsageParts) → Each IsUsage us →
     Each IsWrittenUsage (set_usages level us)
 unfolding set_usages
 written-usages levels.Full us s =
-    set-kept norm_usage (λ u. item_text (item_usage u)) IsSomeUsage IsWrittenUsage usage-kept us s
+    set-kept norm_usage (λ u. item_text (item_usage u)) IsUsage IsWrittenUsage usage-kept us s
 
 module _ (laws : TextLaws) (c : Class) (usages : class_named c (codes "USAGE") ≡ Some class.Usage) (names : NamesId c) (remarks : class_named c (codes "REMARK") ≡ Some class.Remark) (level : Level) (t : TailParts) (s : IsTail t) where
   abbrev tail-usages : List UsageParts
@@ -145,12 +144,11 @@ module _ (laws : TextLaws) (c : Class) (usages : class_named c (codes "USAGE") �
   tail-segments = usages-segment ∷ tail-ids ∷ remark-segment ∷ []
 
   module _ (before : List (Segment c)) (item : Item) (start : ℕ) (same : arguments item ≡ at_places start (lay c before (tail_items (norm_tail level t)))) where
-    none-read : {V : Type 0} (d : Class) (R : Item → V → Type 0) → AllPass c d before → AllPass c d tail-segments →
-        ReadsOptional R (those c d (arguments item)) None
-    none-read d R p q =
-        subst (λ items. ReadsOptional R (those c d items) None) (sym same)
-        (past c d (λ l. ReadsOptional R l None) before (tail_items (norm_tail level t)) p
-        (λ place. subst (λ l. ReadsOptional R l None) (sym (lacking c d tail-segments q place)) tt) start)
+    lacks : (d : Class) → AllPass c d before → AllPass c d tail-segments → those c d (arguments item) ≡ []
+    lacks d p q =
+        subst (λ items. those c d items ≡ []) (sym same)
+        (past c d (λ l. l ≡ []) before (tail_items (norm_tail level t)) p
+        (λ place. lacking c d tail-segments q place) start)
 
     pub tail-read : AllPass c class.Usage before → AllPass c class.Scope before → AllPass c class.Area before →
         AllPass c class.BoundingBox before → AllPass c class.VerticalExtent before →
@@ -164,10 +162,10 @@ module _ (laws : TextLaws) (c : Class) (usages : class_named c (codes "USAGE") �
           (each-imp IsWrittenUsage (ReadsBack item_usage (ReadsUsage class.Usage)) (usage-read laws) tail-usages
           written) start);
       bare = record {
-        scope = none-read class.Scope (ReadsTextOf class.Scope) p-scope refl;
-        area = none-read class.Area (ReadsTextOf class.Area) p-area refl;
-        bbox = none-read class.BoundingBox _ p-box refl;
-        extent = none-read class.VerticalExtent _ p-extent refl;
+        scope = lacks class.Scope p-scope refl;
+        area = lacks class.Area p-area refl;
+        bbox = lacks class.BoundingBox p-box refl;
+        extent = lacks class.VerticalExtent p-extent refl;
       };
       ids =
           subst

@@ -1,18 +1,18 @@
 -- The end of a normal CRS is the one form of its value.
-use Rattle.std.proofs.Common.{◌≡◌, ℕ, ◌≤◌, ◌||◌, length, Bool, true, false, Some, None, List, [], ◌∷◌, ◌++◌, if◌then◌else◌, codes, refl, sym, ◌∙◌, ap}
+use Rattle.std.proofs.Common.{◌≡◌, ℕ, ◌≤◌, length, Bool, true, false, inl, inr, IsSome, Option, Some, None, List, [], ◌∷◌, ◌++◌, if◌then◌else◌, codes, refl, sym, ◌∙◌, ap}
 use Rattle.crs_text.specs.Items.{Item, Items, End, More, arguments}
 use Rattle.crs_shape.specs.declared.class.Class.{Class}
 use Rattle.crs_shape.specs.declared.class.Class.TheVariants as class
 use Rattle.crs_shape.specs.ShapeFault.{class_in}
 use Rattle.crs_shape.specs.Slots.{is_class}
 use Rattle.crs_value.specs.ConversionValues.{GeoidModelParts}
-use Rattle.crs_value.specs.Reading.{is_a, those, ReadsEach}
-use Rattle.crs_value.specs.Reads.{ReadsTail, ReadsTextOf, ReadsUsage}
+use Rattle.crs_value.specs.Reading.{is_a, those, ReadsEach, ReadsOptional}
+use Rattle.crs_value.specs.Reads.{ReadsBare, ReadsTail, ReadsTextOf, ReadsUsage}
 use Rattle.crs_value.specs.ReadsConversion.{ReadsGeoidModel}
-use Rattle.crs_value.specs.Values.{TailParts, UsageParts}
+use Rattle.crs_value.specs.Values.{SaysSome, TailParts, UsageParts}
 use Rattle.crs_value.specs.declared.level.Level.{Level}
 use Rattle.crs_value.specs.declared.level.Level.TheVariants as levels
-use Rattle.crs_same.specs.SameUsages.{is_there, says_some, usages_of}
+use Rattle.crs_same.specs.SameUsages.{usages_of, with_bare}
 use Rattle.crs_normal.specs.Flat.{flat}
 use Rattle.crs_normal.specs.NormalOwn.{Each, HasSets, HasTail, Rise}
 use Rattle.crs_normal.specs.SpelledConversions.{item_geoid_model, norm_geoid_model, set_geoid_models}
@@ -118,26 +118,27 @@ sorted-of c k front s =
         (onto (s.models ++ (s.usages ++ (s.ids ++ s.remarks))) End)
     at d = ap (λ xs. those c d (onto xs End)) s.are
 
--- ---- the bare parts say nothing
+-- ---- no part of a usage stands bare
 
-says-nothing : (u : UsageParts) → u.scope ≡ None → u.area ≡ None → u.bbox ≡ None → u.extent ≡ None → says_some u ≡ false
-says-nothing u a b d e =
-    four (is_there u.scope) (is_there u.area) (is_there u.bbox) (is_there u.extent) (ap is_there a) (ap is_there b)
-    (ap is_there d) (ap is_there e)
-  where
-    four : (p q r s : Bool) → p ≡ false → q ≡ false → r ≡ false → s ≡ false → (p || q || r || s) ≡ false
-    four p q r s e f g h =
-        ap (λ x. x || q || r || s) e ∙ ap (λ x. false || x || r || s) f ∙ ap (λ x. false || false || x || s) g
-        ∙ ap (λ x. false || false || false || x) h
+some-other : {V : Type 0} {value : Option V} → value ≡ None → ¬ (IsSome value)
+some-other e some = cc
 
 usages-bare : (c : Class) (item : Item) → HasTail c item → (t : TailParts) → ReadsTail c item t → usages_of t ≡ t.usages
-usages-bare c item has t reads =
-    ap (λ b. if b then t.bare ∷ t.usages else t.usages)
-    (says-nothing t.bare
-    (none-read _ _ has.none_bare.0 t.bare.scope reads.bare.scope)
-    (none-read _ _ has.none_bare.1.0 t.bare.area reads.bare.area)
-    (none-read _ _ has.none_bare.1.1.0 t.bare.bbox reads.bare.bbox)
-    (none-read _ _ has.none_bare.1.1.1.0 t.bare.extent reads.bare.extent))
+usages-bare c item has t reads = by t.bare reads.bare
+  where
+    lacks : {V : Type 0} (R : Item → V → Type 0) (found : List Item) → found ≡ [] → (value : Option V) →
+        ReadsOptional R found value → ¬ (IsSome value)
+    lacks R found e value read some = some-other (none-read R found e value read) some
+
+    none : (u : UsageParts) → ReadsUsage c item u → ¬ (SaysSome u)
+    none u read (inl h) = lacks _ _ has.none_bare.0 u.scope read.scope h
+    none u read (inr (inl h)) = lacks _ _ has.none_bare.1.0 u.area read.area h
+    none u read (inr (inr (inl h))) = lacks _ _ has.none_bare.1.1.0 u.bbox read.bbox h
+    none u read (inr (inr (inr h))) = lacks _ _ has.none_bare.1.1.1.0 u.extent read.extent h
+
+    by : (bare : Option UsageParts) → ReadsBare c item bare → with_bare bare t.usages ≡ t.usages
+    by None read = refl
+    by (Some u) read = absurd (none u read.0 read.1)
 
 -- ---- tails
 

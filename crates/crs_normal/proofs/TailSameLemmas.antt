@@ -1,19 +1,17 @@
 -- Boxes, extents, usages and the ends of CRSs have one form exactly where they are the same.
-use Rattle.std.proofs.Common.{◌≡◌, ◌↔◌, ℕ, inl, inr, Bool, true, false, List, [], ◌∷◌, Option, Some, None, refl, ap}
-use Rattle.std.proofs.Common.{if◌then◌else◌}
+use Rattle.std.proofs.Common.{◌≡◌, ◌↔◌, Some, None, refl, ap}
 use Rattle.std.specs.Option.{option_map}
-use Rattle.std.proofs.lemmas.Bool.{false≢true}
-use Rattle.crs_value.specs.Sound.{Each}
-use Rattle.crs_value.specs.SoundUsages.{IsBox, IsExtent, IsTail, IsUsage, SaysSome}
+use Rattle.crs_value.specs.SoundUsages.{IsBox, IsExtent, IsTail, IsUsage}
 use Rattle.crs_value.specs.Values.{BoxParts, ExtentParts, TailParts, UsageParts}
 use Rattle.crs_value.specs.declared.level.Level.{Level}
 use Rattle.crs_value.specs.declared.level.Level.TheVariants as levels
-use Rattle.crs_same.specs.SameUsages.{SameBox, SameExtent, SameRemark, SameTail, SameUsage, SameUsages, says_some}
+use Rattle.crs_same.specs.SameUsages.{SameBox, SameExtent, SameRemark, SameTail, SameUsage, SameUsages}
 use Rattle.crs_same.specs.SameUsages.{usages_of}
-use Rattle.crs_normal.specs.Decides.{FormDecides, IsSomeUsage, SetsDecide}
+use Rattle.crs_normal.specs.Decides.{FormDecides, SetsDecide}
 use Rattle.crs_normal.specs.LowerLaws.{LowerLaws}
 use Rattle.crs_normal.specs.SpelledUnits.{norm_length}
-use Rattle.crs_normal.specs.SpelledUsages.{norm_extent, norm_remark, norm_tail, norm_usage, nothing, set_usages}
+use Rattle.crs_normal.specs.SpelledUsages.{norm_extent, norm_remark, norm_tail, norm_usage, set_usages}
+use Rattle.crs_normal.proofs.MadeTailLemmas.{usages-sound}
 use Rattle.crs_normal.proofs.PartSameLemmas.{options-agree, values-agree}
 use Rattle.crs_normal.proofs.UnitSameLemmas.{length-agrees, some-one}
 
@@ -76,29 +74,6 @@ module _ (laws : LowerLaws) (sets : SetsDecide) where
 
 -- ---- the usages at a CRS's end
 
-some-said : (u : UsageParts) → says_some u ≡ true → SaysSome u
-some-said u e = said u.scope u.area u.bbox u.extent e
-  where
-    said : (s a : Option (List ℕ)) (b : Option BoxParts) (x : Option ExtentParts) →
-        says_some (record { scope = s; area = a; bbox = b; extent = x }) ≡ true →
-        SaysSome (record { scope = s; area = a; bbox = b; extent = x })
-    said (Some v) a b x e = inl refl
-    said None (Some v) b x e = inr (inl refl)
-    said None None (Some v) x e = inr (inr (inl refl))
-    said None None None (Some v) e = inr (inr (inr refl))
-    said None None None None e = absurd (false≢true e)
-
-each-some : (us : List UsageParts) → Each IsUsage us → Each SaysSome us → Each IsSomeUsage us
-each-some [] sound some = tt
-each-some (u ∷ us) sound some = ((sound.0, some.0), each-some us sound.1 some.1)
-
-pub usages-sound : (t : TailParts) → IsTail t → Each IsSomeUsage (usages_of t)
-usages-sound t sound = by (says_some t.bare) refl
-  where
-    by : (q : Bool) → says_some t.bare ≡ q → Each IsSomeUsage (if q then t.bare ∷ t.usages else t.usages)
-    by true e = ((sound.bare, some-said t.bare e), each-some t.usages sound.usages sound.each_some)
-    by false e = each-some t.usages sound.usages sound.each_some
-
 module _ (sets : SetsDecide) where
   usages-agree : (level : Level) (a b : TailParts) → IsTail a → IsTail b →
       (set_usages level (usages_of a) ≡ set_usages level (usages_of b)) ↔ SameUsages level a b
@@ -121,7 +96,7 @@ module _ (sets : SetsDecide) where
         },
         λ s. λ i. record {
           usages = usages.1 s.usages i;
-          bare = nothing;
+          bare = None;
           ids = ids.1 s.ids i;
           remark = remark.1 s.remark i;
         },

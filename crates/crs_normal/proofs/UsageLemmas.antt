@@ -1,4 +1,4 @@
--- Usages: the item of one that says something reads as it wherever it stands, and as sets they have one form.
+-- Usages: the item of one reads as it wherever it stands, and as sets they have one form.
 use Rattle.std.proofs.Common.{◌≡◌, ◌↔◌, ◌⊎◌, ℕ, suc, ◌+◌, Bool, true, false, true≢false, codes, IfSome, IsSome, Option, Some, None, option_map, List, [], inl, inr, length, refl, sym, ◌∙◌, ap, subst, arith}
 use Rattle.crs_text.specs.Items.{Item, Items, End, More, IsNode, arguments}
 use Rattle.crs_text.specs.Tokens.{IsWord}
@@ -11,8 +11,8 @@ use Rattle.crs_value.specs.declared.level.Level.TheVariants as levels
 use Rattle.crs_value.specs.Reading.{those, ReadsOptional}
 use Rattle.crs_value.specs.Reads.{ReadsBox, ReadsExtent, ReadsTextOf, ReadsUsage}
 use Rattle.crs_value.specs.Sound.{Each, IsText}
-use Rattle.crs_value.specs.SoundUsages.{IsBox, IsExtent, IsUsage, SaysSome}
-use Rattle.crs_value.specs.Values.{BoxParts, ExtentParts, UsageParts}
+use Rattle.crs_value.specs.SoundUsages.{IsBox, IsExtent, IsUsage}
+use Rattle.crs_value.specs.Values.{BoxParts, ExtentParts, SaysSome, UsageParts}
 use Rattle.crs_same.specs.SameUsages.{SameBox, SameExtent, SameUsage}
 use Rattle.crs_same.specs.Sets.{SameSet}
 use Rattle.crs_normal.specs.Fit.{IsFit}
@@ -185,10 +185,6 @@ usage-is-node u = by u.scope u.area u.bbox u.extent
 
 -- ---- the one form
 
--- a usage that says something
-abbrev pub IsSomeUsage : UsageParts → Type 0
-IsSomeUsage u = IsUsage u × SaysSome u
-
 extents-kept : (o : Option ExtentParts) → IfSome o IsExtent →
     IfSome (option_map (norm_extent levels.Full) o) IsWrittenExtent
 extents-kept None s = s
@@ -204,13 +200,13 @@ says-kept u (inr (inl h)) = inr (inl h)
 says-kept u (inr (inr (inl h))) = inr (inr (inl h))
 says-kept u (inr (inr (inr h))) = inr (inr (inr (still-some u.extent h)))
 
-pub usage-kept : (u : UsageParts) → IsSomeUsage u → IsWrittenUsage (norm_usage u)
+pub usage-kept : (u : UsageParts) → IsUsage u → IsWrittenUsage (norm_usage u)
 usage-kept u s = record {
-  scope = s.0.scope;
-  area = s.0.area;
-  bbox = s.0.bbox;
-  extent = extents-kept u.extent s.0.extent;
-  some = says-kept u s.1;
+  scope = s.scope;
+  area = s.area;
+  bbox = s.bbox;
+  extent = extents-kept u.extent s.extent;
+  some = says-kept u s.some;
 }
 
 abbrev pub ReadsUsageOnce : Type 0
@@ -225,14 +221,14 @@ usage-told laws once =
 abbrev usage-made : Option (List ℕ) → Option (List ℕ) → Option BoxParts → Option ExtentParts → UsageParts
 usage-made x0 x1 x2 x3 = record { scope = x0; area = x1; bbox = x2; extent = x3 }
 
-usage-agrees : TextLaws → ReadsIdentOnce → (a b : UsageParts) → IsSomeUsage a → IsSomeUsage b →
+usage-agrees : TextLaws → ReadsIdentOnce → (a b : UsageParts) → IsUsage a → IsUsage b →
     (norm_usage a ≡ norm_usage b) ↔ SameUsage a b
 usage-agrees laws once a b p q =
     let bboxes = option-agrees (λ x. x) IsBox SameBox (box-agrees laws) (λ o. o) refl (λ x. refl) a.bbox b.bbox
-    p.0.bbox q.0.bbox in
+    p.bbox q.bbox in
     let extents =
     option-agrees (norm_extent levels.Full) IsExtent (SameExtent levels.Full) (extent-agrees laws once levels.Full)
-    (option_map (norm_extent levels.Full)) refl (λ x. refl) a.extent b.extent p.0.extent q.0.extent in (
+    (option_map (norm_extent levels.Full)) refl (λ x. refl) a.extent b.extent p.extent q.extent in (
       λ e. record {
         scope = ap (λ x. x.scope) e;
         area = ap (λ x. x.area) e;
@@ -242,10 +238,10 @@ usage-agrees laws once a b p q =
       λ s. λ i. usage-made (s.scope i) (s.area i) (bboxes.1 s.bbox i) (extents.1 s.extent i),
     )
 
-pub usages-agree : TextLaws → ReadsIdentOnce → ReadsUsageOnce → (xs ys : List UsageParts) → Each IsSomeUsage xs →
-    Each IsSomeUsage ys →
+pub usages-agree : TextLaws → ReadsIdentOnce → ReadsUsageOnce → (xs ys : List UsageParts) → Each IsUsage xs →
+    Each IsUsage ys →
     (set_usages levels.Full xs ≡ set_usages levels.Full ys) ↔ SameSet SameUsage xs ys
 unfolding set_usages
 usages-agree laws idents once xs ys p q =
-    set-agrees norm_usage (λ u. item_text (item_usage u)) IsSomeUsage SameUsage (usage-agrees laws idents)
+    set-agrees norm_usage (λ u. item_text (item_usage u)) IsUsage SameUsage (usage-agrees laws idents)
     (λ a b s t. usage-told laws once (norm_usage a) (norm_usage b) (usage-kept a s) (usage-kept b t)) xs ys p q

@@ -5,8 +5,8 @@ use Rattle.crs_value.specs.SoundConversion.{IsGeoidModel, IsParameter}
 use Rattle.crs_value.specs.SoundCrs.{IsCrs}
 use Rattle.crs_value.specs.SoundFrames.{IsMember}
 use Rattle.crs_value.specs.SoundSystem.{IsSystem}
-use Rattle.crs_value.specs.SoundUsages.{SaysSome, IsUsage}
-use Rattle.crs_value.specs.Values.{SystemParts, UsageParts}
+use Rattle.crs_value.specs.SoundUsages.{IsUsage}
+use Rattle.crs_value.specs.Values.{SystemParts}
 use Rattle.crs_value.specs.declared.level.Level.{Level}
 use Rattle.crs_value.specs.declared.level.Level.TheVariants as levels
 use Rattle.crs_same.specs.SameConversions.{SameGeoidModel, SameParameter}
@@ -25,10 +25,6 @@ use Rattle.crs_normal.specs.SpelledUsages.{set_usages}
 abbrev pub FormDecides : {A B : Type 0} → (A → Type 0) → (A → B) → (A → A → Type 0) → Type 0
 FormDecides Is form Same = (a b : _) → Is a → Is b → (form a ≡ form b) ↔ Same a b
 
--- a usage that says something
-abbrev pub IsSomeUsage : UsageParts → Type 0
-IsSomeUsage usage = IsUsage usage × SaysSome usage
-
 -- the forms of the sets decide which sets are the same
 pub record SetsDecide : Type 0 where
   pub idents : (level : Level) → FormDecides (Each IsIdent) (set_idents level) (SameIdents level)
@@ -37,7 +33,7 @@ pub record SetsDecide : Type 0 where
       FormDecides (Each IsParameter) (set_parameters level) (SameSet (SameParameter level))
   pub geoid_models : (level : Level) →
       FormDecides (Each IsGeoidModel) (set_geoid_models level) (SameSet (SameGeoidModel level))
-  pub usages : FormDecides (Each IsSomeUsage) (set_usages levels.Full) (SameSet SameUsage)
+  pub usages : FormDecides (Each IsUsage) (set_usages levels.Full) (SameSet SameUsage)
 
 -- a part that may be missing, with what is asked of it where it is there
 abbrev pub Maybe : {A : Type 0} → (A → Type 0) → Option A → Type 0

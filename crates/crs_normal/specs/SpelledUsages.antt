@@ -36,17 +36,14 @@ item_usage u =
 unfoldable pub set_usages : Level → List UsageParts → List UsageParts
 set_usages levels.Full usages = in_order (λ u. item_text (item_usage u)) (map norm_usage usages)
 
-abbrev pub nothing : UsageParts
-nothing = record { scope = None; area = None; bbox = None; extent = None }
-
 abbrev pub norm_remark : Level → Option (List ℕ) → Option (List ℕ)
 norm_remark levels.Full remark = remark
 
--- the bare parts are a usage
+-- the bare parts are a usage like the others
 abbrev pub norm_tail : Level → TailParts → TailParts
 norm_tail level t = record {
   usages = set_usages level (usages_of t);
-  bare = nothing;
+  bare = None;
   ids = set_idents level t.ids;
   remark = norm_remark level t.remark;
 }

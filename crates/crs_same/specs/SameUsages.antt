@@ -1,5 +1,5 @@
 -- When usages and the ends of CRSs are the same.
-use Rattle.std.specs.Prelude.{◌≡◌, Bool, true, false, ◌||◌, if◌then◌else◌, List, ◌∷◌, Option, Some, None}
+use Rattle.std.specs.Prelude.{◌≡◌, List, ◌∷◌, Option, Some, None}
 use Rattle.crs_value.specs.declared.level.Level.{Level}
 use Rattle.crs_value.specs.declared.level.Level.TheVariants as levels
 use Rattle.crs_value.specs.Values.{BoxParts, ExtentParts, UsageParts, TailParts}
@@ -28,16 +28,14 @@ pub record SameUsage (a b : UsageParts) : Type 0 where
 
 -- ---- the end of a CRS
 
-abbrev pub is_there : {V : Type 0} → Option V → Bool
-is_there None = false
-is_there (Some value) = true
+-- these usages, and the one whose parts stand bare, if there is one
+abbrev pub with_bare : Option UsageParts → List UsageParts → List UsageParts
+with_bare None usages = usages
+with_bare (Some bare) usages = bare ∷ usages
 
-abbrev pub says_some : UsageParts → Bool
-says_some usage = is_there usage.scope || is_there usage.area || is_there usage.bbox || is_there usage.extent
-
--- the usages at a CRS's end: the bare parts are together one more, if there are any
+-- the usages at a CRS's end: the bare parts are together one more
 abbrev pub usages_of : TailParts → List UsageParts
-usages_of tail = if says_some tail.bare then tail.bare ∷ tail.usages else tail.usages
+usages_of tail = with_bare tail.bare tail.usages
 
 abbrev pub SameUsages : Level → TailParts → TailParts → Type 0
 SameUsages levels.Full a b = SameSet SameUsage (usages_of a) (usages_of b)

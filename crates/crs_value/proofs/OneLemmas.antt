@@ -1,5 +1,6 @@
 -- Uniqueness: an item reads as at most one value, and of faults one is the first.
 use Rattle.std.proofs.Common.{◌≡◌, ℕ, drop, inl, inr, Option, Some, None, List, [], ◌∷◌, refl, sym, ◌∙◌, ap, arith}
+use Rattle.std.specs.Prelude.{IsSome}
 use Rattle.crs_decimal.specs.Value.{Value}
 use Rattle.crs_text.specs.Items.{Item, arguments, raw_of, skip}
 use Rattle.crs_text.specs.Refusal.{Refused}
@@ -10,8 +11,8 @@ use Rattle.crs_value.specs.declared.system_type.SystemType.{SystemType}
 use Rattle.crs_value.specs.declared.unit_kind.UnitKind.{UnitKind}
 use Rattle.crs_value.specs.Break.{IsBefore, IsLeast}
 use Rattle.crs_value.specs.Reading.{those, ReadsFirst, ReadsOptional, ReadsEach}
-use Rattle.crs_value.specs.Reads.{ReadsText, ReadsNumber, ReadsType, ReadsDirection, ReadsKind, ReadsTextOf, ReadsNumberOf, ReadsNumberAt, single_of, ReadsIdent, ReadsUnit, ReadsAxisMeridian, ReadsAxis, ReadsHead, ReadsSystem, ReadsEllipsoid, ReadsMeridian, ReadsMember, ReadsDatum, ReadsEnsemble, ReadsBox, ReadsExtent, ReadsUsage, ReadsTail}
-use Rattle.crs_value.specs.Values.{IdentParts, UnitParts, AxisMeridianParts, AxisParts, SystemParts, EllipsoidParts, MeridianParts, MemberParts, DatumParts, EnsembleParts, BoxParts, ExtentParts, UsageParts, TailParts}
+use Rattle.crs_value.specs.Reads.{ReadsText, ReadsNumber, ReadsType, ReadsDirection, ReadsKind, ReadsTextOf, ReadsNumberOf, ReadsNumberAt, single_of, ReadsIdent, ReadsUnit, ReadsAxisMeridian, ReadsAxis, ReadsHead, ReadsSystem, ReadsEllipsoid, ReadsMeridian, ReadsMember, ReadsDatum, ReadsEnsemble, ReadsBox, ReadsExtent, ReadsUsage, LacksUsage, ReadsBare, ReadsTail}
+use Rattle.crs_value.specs.Values.{IdentParts, UnitParts, AxisMeridianParts, AxisParts, SystemParts, EllipsoidParts, MeridianParts, MemberParts, DatumParts, EnsembleParts, BoxParts, ExtentParts, UsageParts, SaysSome, TailParts}
 use Rattle.crs_value.proofs.CheckLemmas.{DenotesOne, number-one}
 use Rattle.crs_value.proofs.WordLemmas.{direction_one, type_one, kind_one}
 
@@ -231,6 +232,12 @@ extent-one law c item a b p q =
     (number-at-one law 1 c item a.maximum b.maximum p.maximum q.maximum)
     (one-optional (ReadsUnit class.LengthUnit) (unit-one law class.LengthUnit) (those c class.LengthUnit (arguments item)) a.unit b.unit p.unit q.unit)
 
+none-some : {V : Type 0} (R : Item → V → Type 0) (items : List Item) (o : Option V) → items ≡ [] →
+    ReadsOptional R items o → ¬ (IsSome o)
+none-some R [] None e reads h = cc
+none-some R [] (Some value) e reads h = reads
+none-some R (item ∷ items) o e reads h = cc
+
 abbrev usage-made : Option (List ℕ) → Option (List ℕ) → Option BoxParts → Option ExtentParts → UsageParts
 usage-made x0 x1 x2 x3 = record { scope = x0; area = x1; bbox = x2; extent = x3 }
 
@@ -246,10 +253,28 @@ usage-one law c item a b p q =
     (one-optional (ReadsBox class.BoundingBox) (box-one law class.BoundingBox) (those c class.BoundingBox (arguments item)) a.bbox b.bbox p.bbox q.bbox)
     (one-optional (ReadsExtent class.VerticalExtent) (extent-one law class.VerticalExtent) (those c class.VerticalExtent (arguments item)) a.extent b.extent p.extent q.extent)
 
-abbrev tail-made : List UsageParts → UsageParts → List IdentParts → Option (List ℕ) → TailParts
+-- a usage says nothing where none of its parts is there
+lacks-says : (c : Class) (item : Item) (u : UsageParts) → LacksUsage c item → ReadsUsage c item u → ¬ (SaysSome u)
+lacks-says c item u lacks reads (inl h) =
+    none-some (ReadsTextOf class.Scope) (those c class.Scope (arguments item)) u.scope lacks.scope reads.scope h
+lacks-says c item u lacks reads (inr (inl h)) =
+    none-some (ReadsTextOf class.Area) (those c class.Area (arguments item)) u.area lacks.area reads.area h
+lacks-says c item u lacks reads (inr (inr (inl h))) =
+    none-some (ReadsBox class.BoundingBox) (those c class.BoundingBox (arguments item)) u.bbox lacks.bbox reads.bbox h
+lacks-says c item u lacks reads (inr (inr (inr h))) =
+    none-some (ReadsExtent class.VerticalExtent) (those c class.VerticalExtent (arguments item)) u.extent lacks.extent
+    reads.extent h
+
+bare-one : DenotesOne → (c : Class) → IsOne (ReadsBare c)
+bare-one law c item None None p q = refl
+bare-one law c item None (Some u) p q = absurd (lacks-says c item u p q.0 q.1)
+bare-one law c item (Some u) None p q = absurd (lacks-says c item u q p.0 p.1)
+bare-one law c item (Some u) (Some v) p q = ap (λ x. Some x) (usage-one law c item u v p.0 q.0)
+
+abbrev tail-made : List UsageParts → Option UsageParts → List IdentParts → Option (List ℕ) → TailParts
 tail-made x0 x1 x2 x3 = record { usages = x0; bare = x1; ids = x2; remark = x3 }
 
-tail-equal : (x0 y0 : List UsageParts) (x1 y1 : UsageParts) (x2 y2 : List IdentParts) (x3 y3 : Option (List ℕ)) → x0 ≡ y0 → x1 ≡ y1 → x2 ≡ y2 → x3 ≡ y3 →
+tail-equal : (x0 y0 : List UsageParts) (x1 y1 : Option UsageParts) (x2 y2 : List IdentParts) (x3 y3 : Option (List ℕ)) → x0 ≡ y0 → x1 ≡ y1 → x2 ≡ y2 → x3 ≡ y3 →
     tail-made x0 x1 x2 x3 ≡ tail-made y0 y1 y2 y3
 tail-equal x0 y0 x1 y1 x2 y2 x3 y3 e0 e1 e2 e3 = cc
 
@@ -257,7 +282,7 @@ pub tail-one : DenotesOne → (c : Class) → IsOne (ReadsTail c)
 tail-one law c item a b p q =
     tail-equal a.usages b.usages a.bare b.bare a.ids b.ids a.remark b.remark
     (one-each (ReadsUsage class.Usage) (usage-one law class.Usage) (those c class.Usage (arguments item)) a.usages b.usages p.usages q.usages)
-    (usage-one law c item a.bare b.bare p.bare q.bare)
+    (bare-one law c item a.bare b.bare p.bare q.bare)
     (one-each (ReadsIdent class.Identifier) (ident-one class.Identifier) (those c class.Identifier (arguments item)) a.ids b.ids p.ids q.ids)
     (one-optional (ReadsTextOf class.Remark) (text-of-one class.Remark) (those c class.Remark (arguments item)) a.remark b.remark p.remark q.remark)
 

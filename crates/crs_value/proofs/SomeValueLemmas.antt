@@ -8,14 +8,15 @@ use Rattle.crs_value.specs.declared.system_type.SystemType.{SystemType}
 use Rattle.crs_value.specs.declared.unit_kind.UnitKind.{UnitKind}
 use Rattle.crs_value.specs.Checks.{IsSound}
 use Rattle.crs_value.specs.Reading.{those, Requires, ReadsFirst, ReadsOptional, ReadsEach, ReadsElse}
-use Rattle.crs_value.specs.Reads.{ReadsText, ReadsNumber, ReadsType, ReadsDirection, ReadsKind, ReadsTextOf, ReadsNumberOf, ReadsNumberAt, single_of, IsUnitClass, ReadsIdent, ReadsIds, ReadsUnit, ReadsAxisMeridian, ReadsAxis, ReadsHead, ReadsSystem, ReadsEllipsoid, ReadsMeridian, ReadsMember, ReadsDatum, ReadsEnsemble, ReadsBox, ReadsExtent, ReadsUsage, ReadsTail}
-use Rattle.crs_value.specs.Values.{IdentParts, AxisParts, UnitParts, SystemParts}
+use Rattle.crs_value.specs.Reads.{ReadsText, ReadsNumber, ReadsType, ReadsDirection, ReadsKind, ReadsTextOf, ReadsNumberOf, ReadsNumberAt, single_of, IsUnitClass, ReadsIdent, ReadsIds, ReadsUnit, ReadsAxisMeridian, ReadsAxis, ReadsHead, ReadsSystem, ReadsEllipsoid, ReadsMeridian, ReadsMember, ReadsDatum, ReadsEnsemble, ReadsBox, ReadsExtent, ReadsUsage, ReadsBare, ReadsTail}
+use Rattle.crs_value.specs.Values.{IdentParts, AxisParts, UnitParts, SystemParts, BoxParts, ExtentParts}
 use Rattle.crs_value.specs.Words.{SpellsWord, unit_word}
 use Rattle.crs_value.proofs.ArgumentLemmas.{AllSound, SlotsCount, arguments-sound, not-none}
 use Rattle.crs_value.proofs.WhetherLemmas.{Decided, Known, decided-word, decided-kinds, type-known, direction-known}
 use Rattle.crs_value.proofs.IdentLemmas.{code-there}
 use Rattle.crs_value.proofs.KnownLemmas.{known-direction, known-type, known-kind}
 use Rattle.crs_value.proofs.NodeLemmas.{number-there}
+use Rattle.crs_value.proofs.SoundUsageLemmas.{bare-none}
 use Rattle.crs_value.proofs.ReadyLemmas.{Numbers, number-some}
 
 -- some value reads so
@@ -57,6 +58,19 @@ text-first (item ∷ items) some = (raw_of item, refl)
 text-optional : (items : List Item) → Exists (ReadsOptional ReadsText items)
 text-optional [] = (None, tt)
 text-optional (item ∷ items) = (Some (raw_of item), refl)
+
+-- what is read of the parts of a usage is a usage, or there are none
+bare-of : (c : Class) (item : Item) (s a : Option (List ℕ)) (b : Option BoxParts) (e : Option ExtentParts) →
+    ReadsUsage c item (record { scope = s; area = a; bbox = b; extent = e }) → Exists (ReadsBare c item)
+bare-of c item (Some s) a b e reads =
+    (Some (record { scope = Some s; area = a; bbox = b; extent = e }), (reads, inl refl))
+bare-of c item None (Some a) b e reads =
+    (Some (record { scope = None; area = Some a; bbox = b; extent = e }), (reads, inr (inl refl)))
+bare-of c item None None (Some b) e reads =
+    (Some (record { scope = None; area = None; bbox = Some b; extent = e }), (reads, inr (inr (inl refl))))
+bare-of c item None None None (Some e) reads =
+    (Some (record { scope = None; area = None; bbox = None; extent = Some e }), (reads, inr (inr (inr refl))))
+bare-of c item None None None None reads = (None, bare-none c item reads)
 
 module _ (numbers : Numbers) (slots : SlotsCount) where
   pub first-some : {V : Type 0} (R : Item → V → Type 0) (parent c : Class) (item : Item) → IsSound parent item → Requires parent c 0 → ((i : Item) → IsSound c i → Exists (R i)) →
@@ -251,10 +265,13 @@ module _ (numbers : Numbers) (slots : SlotsCount) where
       let extent = optional-some (ReadsExtent class.VerticalExtent) c class.VerticalExtent item g (extent-some) in
       (record { scope = scope.0; area = area.0; bbox = bbox.0; extent = extent.0 }, record { scope = scope.1; area = area.1; bbox = bbox.1; extent = extent.1 })
 
+  bare-some : (c : Class) (item : Item) → IsSound c item → Exists (ReadsBare c item)
+  bare-some c item g = let u = usage-some c item g in bare-of c item u.0.scope u.0.area u.0.bbox u.0.extent u.1
+
   pub tail-some : (c : Class) (item : Item) → IsSound c item → Exists (ReadsTail c item)
   tail-some c item g =
       let usages = each-some (ReadsUsage class.Usage) c class.Usage item g (usage-some class.Usage) in
-      let bare = usage-some c item g in
+      let bare = bare-some c item g in
       let ids = ids-some c item g in
       let remark = optional-some (ReadsTextOf class.Remark) c class.Remark item g (λ i h. text-some class.Remark i h (omega arith)) in
       (record { usages = usages.0; bare = bare.0; ids = ids.0; remark = remark.0 }, record { usages = usages.1; bare = bare.1; ids = ids.1; remark = remark.1 })

@@ -1,6 +1,6 @@
 -- What sound usages and ends of CRSs say is sound.
 use Rattle.std.proofs.Common.{◌≡◌, ℕ, ◌+◌, ◌≤◌, length, Bool, true, false, ◌||◌, not, IsTrue, inl, inr, drop, Option, Some, None, List, [], ◌∷◌, refl, ◌∙◌, ap, arith}
-use Rattle.std.specs.Prelude.{IsSome}
+use Rattle.std.specs.Prelude.{IfSome, IsSome}
 use Rattle.std.proofs.lemmas.Bool.{or_cases}
 use Rattle.crs_text.specs.Items.{Item, leaf, node, More, arguments}
 use Rattle.crs_text.specs.Tokens.{number, text, word}
@@ -13,11 +13,13 @@ use Rattle.crs_shape.specs.Slots.{SlotParts, slots_of}
 use Rattle.crs_value.specs.declared.unit_kind.UnitKind.TheVariants as kinds
 use Rattle.crs_value.specs.Reading.{is_same, those, ReadsOptional}
 use Rattle.crs_shape.specs.Slots.{is_class}
-use Rattle.crs_value.specs.Reads.{ReadsTextOf, ReadsUnit, ReadsBox, ReadsExtent, ReadsUsage, ReadsTail}
+use Rattle.crs_value.specs.Reads.{ReadsTextOf, ReadsUnit, LacksUsage, ReadsBare, ReadsBox, ReadsExtent, ReadsUsage, ReadsTail}
 use Rattle.crs_value.specs.Sound.{IsUnitOf}
-use Rattle.crs_value.specs.SoundUsages.{IsBox, IsExtent, IsUsage, SaysSome, IsTail}
+use Rattle.crs_value.specs.Checks.{IsSound}
+use Rattle.crs_value.specs.SoundUsages.{IsBox, IsExtent, IsUsage, IsTail}
+use Rattle.crs_value.specs.Values.{UsageParts, SaysSome}
 use Rattle.crs_value.proofs.ArgumentLemmas.{arguments-sound, those-first, those-many}
-use Rattle.crs_value.proofs.SoundLemmas.{Tells, optional-tells, each-tells, optional-text-tells, number-first, ids-tell, length-tells}
+use Rattle.crs_value.proofs.SoundLemmas.{Tells, tells-as, optional-tells, each-tells, optional-text-tells, number-first, ids-tell, length-tells}
 
 pub box-tells : (c : Class) → Tells c (ReadsBox c) IsBox
 box-tells c item value sound reads =
@@ -38,8 +40,9 @@ extent-tells c item value sound reads = record {
       (arguments-sound c class.LengthUnit item sound) reads.unit;
 }
 
-pub usage-tells : (c : Class) → Tells c (ReadsUsage c) IsUsage
-usage-tells c item value sound reads = record {
+pub usage-tells : (c : Class) (item : Item) (value : UsageParts) → IsSound c item → ReadsUsage c item value →
+    SaysSome value → IsUsage value
+usage-tells c item value sound reads some = record {
   scope = optional-text-tells c class.Scope item value.scope sound reads.scope;
   area = optional-text-tells c class.Area item value.area sound reads.area;
   bbox =
@@ -48,6 +51,7 @@ usage-tells c item value sound reads = record {
   extent =
       optional-tells (ReadsExtent class.VerticalExtent) IsExtent class.VerticalExtent (extent-tells class.VerticalExtent) (those c class.VerticalExtent (arguments item)) value.extent
       (arguments-sound c class.VerticalExtent item sound) reads.extent;
+  some = some;
 }
 
 -- ---- a node `USAGE` has an argument, which is one of its four parts
@@ -112,14 +116,38 @@ says-some law (node place keyword square first others close) value sound reads =
     stands : (c : Class) → is_same c sound.shaped.1.0 ≡ true → those class.Usage c (More first others) ≡ first ∷ those class.Usage c others
     stands c e = those-first class.Usage c (More first others) (λ n. cc) (ap (is_class c) sound.shaped.1.1.1.0 ∙ e)
 
+pub node-tells : SlotsBound → (c : Class) → c ≡ class.Usage → Tells c (ReadsUsage c) IsUsage
+node-tells law c same =
+    tells-as ReadsUsage IsUsage c class.Usage same
+    (λ item value sound reads. usage-tells class.Usage item value sound reads (says-some law item value sound reads))
+
+-- ---- what stands bare
+
+unread : {V : Type 0} (R : Item → V → Type 0) (items : List Item) → ReadsOptional R items None → items ≡ []
+unread R [] reads = refl
+unread R (item ∷ items) reads = absurd reads
+
+pub bare-none : (c : Class) (item : Item) →
+    ReadsUsage c item (record { scope = None; area = None; bbox = None; extent = None }) → LacksUsage c item
+bare-none c item reads = record {
+  scope = unread (ReadsTextOf class.Scope) (those c class.Scope (arguments item)) reads.scope;
+  area = unread (ReadsTextOf class.Area) (those c class.Area (arguments item)) reads.area;
+  bbox = unread (ReadsBox class.BoundingBox) (those c class.BoundingBox (arguments item)) reads.bbox;
+  extent = unread (ReadsExtent class.VerticalExtent) (those c class.VerticalExtent (arguments item)) reads.extent;
+}
+
+bare-tells : (c : Class) (item : Item) (bare : Option UsageParts) → IsSound c item → ReadsBare c item bare →
+    IfSome bare IsUsage
+bare-tells c item None sound reads = tt
+bare-tells c item (Some value) sound reads = usage-tells c item value sound reads.0 reads.1
+
 pub tail-tells : SlotsBound → (c : Class) → Tells c (ReadsTail c) IsTail
 tail-tells law c item value sound reads =
     let usages = those c class.Usage (arguments item) in
     let all = arguments-sound c class.Usage item sound in
     record {
-      usages = each-tells (ReadsUsage class.Usage) IsUsage class.Usage (usage-tells class.Usage) usages value.usages all reads.usages;
-      each_some = each-tells (ReadsUsage class.Usage) SaysSome class.Usage (says-some law) usages value.usages all reads.usages;
-      bare = usage-tells c item value.bare sound reads.bare;
+      usages = each-tells (ReadsUsage class.Usage) IsUsage class.Usage (node-tells law class.Usage refl) usages value.usages all reads.usages;
+      bare = bare-tells c item value.bare sound reads.bare;
       ids = ids-tell c item value.ids sound reads.ids;
       remark = optional-text-tells c class.Remark item value.remark sound reads.remark;
     }

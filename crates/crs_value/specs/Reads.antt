@@ -1,5 +1,5 @@
 -- What the nodes say, field by field. Each field is read from the arguments of its class.
-use Rattle.std.specs.Prelude.{◌≡◌, ℕ, List, [], ◌∷◌, drop}
+use Rattle.std.specs.Prelude.{◌≡◌, ℕ, List, [], ◌∷◌, Option, Some, None, drop}
 use Rattle.crs_decimal.specs.Bounds.{Denotes}
 use Rattle.crs_decimal.specs.Value.{Value, IsNormal, exact}
 use Rattle.crs_text.specs.Items.{Item, Items, End, More, arguments, raw_of, kind_of, skip}
@@ -11,7 +11,7 @@ use Rattle.crs_value.specs.declared.direction.Direction.{Direction}
 use Rattle.crs_value.specs.declared.system_type.SystemType.{SystemType}
 use Rattle.crs_value.specs.declared.unit_kind.UnitKind.{UnitKind}
 use Rattle.crs_value.specs.Reading.{those, ReadsFirst, ReadsOptional, ReadsEach}
-use Rattle.crs_value.specs.Values.{IdentParts, UnitParts, AxisMeridianParts, AxisParts, SystemParts, EllipsoidParts, MeridianParts, MemberParts, DatumParts, EnsembleParts, BoxParts, ExtentParts, UsageParts, TailParts}
+use Rattle.crs_value.specs.Values.{IdentParts, UnitParts, AxisMeridianParts, AxisParts, SystemParts, EllipsoidParts, MeridianParts, MemberParts, DatumParts, EnsembleParts, BoxParts, ExtentParts, UsageParts, SaysSome, TailParts}
 use Rattle.crs_value.specs.Words.{SpellsWord, direction_word, system_word, unit_word}
 
 -- ---- single items
@@ -161,9 +161,21 @@ pub record ReadsUsage (c : Class) (item : Item) (parts : UsageParts) : Type 0 wh
   pub bbox : ReadsOptional (ReadsBox class.BoundingBox) (those c class.BoundingBox (arguments item)) parts.bbox
   pub extent : ReadsOptional (ReadsExtent class.VerticalExtent) (those c class.VerticalExtent (arguments item)) parts.extent
 
+-- no part of a usage is among the arguments
+pub record LacksUsage (c : Class) (item : Item) : Type 0 where
+  pub scope : those c class.Scope (arguments item) ≡ []
+  pub area : those c class.Area (arguments item) ≡ []
+  pub bbox : those c class.BoundingBox (arguments item) ≡ []
+  pub extent : those c class.VerticalExtent (arguments item) ≡ []
+
+-- the usage whose parts stand bare at a CRS's end, if any part does
+abbrev pub ReadsBare : Class → Item → Option UsageParts → Type 0
+ReadsBare c item None = LacksUsage c item
+ReadsBare c item (Some parts) = ReadsUsage c item parts × SaysSome parts
+
 -- the end of a CRS
 pub record ReadsTail (c : Class) (item : Item) (parts : TailParts) : Type 0 where
   pub usages : ReadsEach (ReadsUsage class.Usage) (those c class.Usage (arguments item)) parts.usages
-  pub bare : ReadsUsage c item parts.bare
+  pub bare : ReadsBare c item parts.bare
   pub ids : ReadsIds c item parts.ids
   pub remark : ReadsOptional (ReadsTextOf class.Remark) (those c class.Remark (arguments item)) parts.remark

@@ -1,9 +1,9 @@
 -- What is asked of usages and of a CRS's end by themselves.
-use Rattle.std.specs.Prelude.{◌⊎◌, IfSome, IsSome}
+use Rattle.std.specs.Prelude.{IfSome}
 use Rattle.crs_decimal.specs.Value.{IsNormal}
 use Rattle.crs_value.specs.declared.unit_kind.UnitKind.TheVariants as kinds
 use Rattle.crs_value.specs.Sound.{Each, IsText, IsIdent, IsUnitOf}
-use Rattle.crs_value.specs.Values.{BoxParts, ExtentParts, UsageParts, TailParts}
+use Rattle.crs_value.specs.Values.{BoxParts, ExtentParts, UsageParts, SaysSome, TailParts}
 
 pub record IsBox (box : BoxParts) : Type 0 where
   pub south : IsNormal box.south
@@ -21,15 +21,10 @@ pub record IsUsage (usage : UsageParts) : Type 0 where
   pub area : IfSome usage.area IsText
   pub bbox : IfSome usage.bbox IsBox
   pub extent : IfSome usage.extent IsExtent
+  pub some : SaysSome usage
 
--- a usage says something
-abbrev pub SaysSome : UsageParts → Type 0
-SaysSome usage = IsSome usage.scope ⊎ (IsSome usage.area ⊎ (IsSome usage.bbox ⊎ IsSome usage.extent))
-
--- a node `USAGE` says something; what stands bare may be nothing
 pub record IsTail (tail : TailParts) : Type 0 where
   pub usages : Each IsUsage tail.usages
-  pub each_some : Each SaysSome tail.usages
-  pub bare : IsUsage tail.bare
+  pub bare : IfSome tail.bare IsUsage
   pub ids : Each IsIdent tail.ids
   pub remark : IfSome tail.remark IsText

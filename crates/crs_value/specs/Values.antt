@@ -1,6 +1,6 @@
 -- Values as they are written: nothing filled in, converted or sorted. A text is the bytes between its quotes, each quote
 -- among them doubled; two texts are equal where their characters are. A code or version is its characters, quoted or not.
-use Rattle.std.specs.Prelude.{ℕ, List, Option}
+use Rattle.std.specs.Prelude.{◌⊎◌, ℕ, List, Option, IsSome}
 use Rattle.crs_decimal.specs.Value.{Value}
 use Rattle.crs_value.specs.declared.direction.Direction.{Direction}
 use Rattle.crs_value.specs.declared.system_type.SystemType.{SystemType}
@@ -98,9 +98,13 @@ pub record UsageParts : Type 0 where
   pub bbox : Option BoxParts
   pub extent : Option ExtentParts
 
--- a CRS's end: its usages, the parts of a usage that stand bare, its identifiers and its remark
+-- a usage has one of its parts at least
+abbrev pub SaysSome : UsageParts → Type 0
+SaysSome usage = IsSome usage.scope ⊎ (IsSome usage.area ⊎ (IsSome usage.bbox ⊎ IsSome usage.extent))
+
+-- a CRS's end: its usages, the one whose parts stand bare, if any does, its identifiers and its remark
 pub record TailParts : Type 0 where
   pub usages : List UsageParts
-  pub bare : UsageParts
+  pub bare : Option UsageParts
   pub ids : List IdentParts
   pub remark : Option (List ℕ)

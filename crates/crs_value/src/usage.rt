@@ -1,4 +1,11 @@
 //! Usages, and the ends of CRSs.
+ghost use Rattle.std.specs.Prelude.{◌↔◌, IsTrue, IfOk};
+ghost use Rattle.std.specs.Option.{option_copied};
+ghost use Rattle.crs_text.specs.Items.{HasId};
+ghost use Rattle.crs_value.specs.Checks.{IsSound};
+ghost use Rattle.crs_value.specs.Reading.{item_at};
+ghost use Rattle.crs_value.specs.Reads.{ReadsBare};
+ghost use Rattle.crs_value.specs.Values.{SaysSome};
 
 use crate::ident::Ident;
 use crate::list::List;
@@ -11,8 +18,8 @@ use crs_text::{ItemId, Items};
 use std::alloc::{AllocError, Global};
 use std::marker::Model;
 
-/// A usage, `USAGE[(scope), (area), (box), (extent)]`; or the parts of one that stand bare at a CRS's
-/// end, as in the 2015 edition. ISO 19162:2019, "Scope and extent".
+/// A usage, `USAGE[(scope), (area), (box), (extent)]`, with one part at least; or the parts of one that
+/// stand bare at a CRS's end, as in the 2015 edition. ISO 19162:2019, "Scope and extent".
 pub struct Usage<'a> {
     /// What the CRS is for.
     pub scope: Option<&'a [u8]>,
@@ -115,13 +122,13 @@ impl Drop for Extent<'_> {
     }
 }
 
-/// A CRS's end: usages, bare parts of one, identifiers and a remark, in any order.
+/// A CRS's end: usages, the bare parts of one, identifiers and a remark, in any order.
 /// ISO 19162:2019, "Scope, extent, identifier and remark"; the order is the profile's.
 pub struct Tail<'a> {
     /// The usages, as written.
     pub usages: List<Usage<'a>>,
-    /// The parts of a usage that stand bare; all None where none does.
-    pub bare: Usage<'a>,
+    /// The usage whose parts stand bare, None where no part does.
+    pub bare: Option<Usage<'a>>,
     /// The identifiers, as written.
     pub ids: List<Ident<'a>>,
     /// The remark.
@@ -206,14 +213,13 @@ impl<'a> Node<'a> for Extent<'a> {
     }
 }
 
-// The parts of a usage, in a node `USAGE` or bare at a CRS's end.
 impl<'a> Node<'a> for Usage<'a> {
     ghost use Rattle.std.specs.Prelude.{◌≡◌};
     ghost use Rattle.crs_shape.specs.declared.class.Class.TheVariants as classes;
     ghost use Rattle.crs_value.specs.Reading.{Requires};
     ghost use Rattle.crs_value.specs.Reads.{ReadsUsage};
 
-    ghost Suits = { λ c. Unit {0} };
+    ghost Suits = { λ c. c ≡ classes.Usage };
 
     ghost Reads = { λ c item parts. ReadsUsage c item parts };
 
@@ -223,6 +229,7 @@ impl<'a> Node<'a> for Usage<'a> {
         id: ItemId,
         class: Class,
     ) -> Result<Self, AllocError> {
+        slots_count();
         Ok(Usage {
             scope: optional_text(items, id, class, Class::Scope),
             area: optional_text(items, id, class, Class::Area),
@@ -230,6 +237,49 @@ impl<'a> Node<'a> for Usage<'a> {
             extent: optional(alloc, items, id, class, Class::VerticalExtent)?,
         })
     }
+}
+
+// Whether a usage of these parts has one at least.
+fn says_some(
+    scope: Option<&[u8]>,
+    area: Option<&[u8]>,
+    bbox: &Option<BoundingBox>,
+    extent: &Option<Extent<'_>>,
+) -> bool
+    ensures { IsTrue result ↔ SaysSome (record {
+      scope = option_copied scope.entry;
+      area = option_copied area.entry;
+      bbox = bbox.now;
+      extent = extent.now;
+    }) }
+{
+    scope.is_some() || area.is_some() || bbox.is_some() || extent.is_some()
+}
+
+// The usage whose parts stand bare at a CRS's end, None where no part does.
+fn bare_usage<'a>(
+    alloc: Global,
+    items: &Items<'a>,
+    id: ItemId,
+    class: Class,
+) -> Result<Option<Usage<'a>>, AllocError>
+    requires has { HasId items.now id }
+    requires sound { IsSound class (item_at items.now id) }
+    ensures { IfOk result (ReadsBare class (item_at items.now id)) }
+{
+    let scope = optional_text(items, id, class, Class::Scope);
+    let area = optional_text(items, id, class, Class::Area);
+    let bbox = optional(alloc, items, id, class, Class::BoundingBox)?;
+    let extent = optional(alloc, items, id, class, Class::VerticalExtent)?;
+    if !says_some(scope, area, &bbox, &extent) {
+        return Ok(None);
+    }
+    Ok(Some(Usage {
+        scope,
+        area,
+        bbox,
+        extent,
+    }))
 }
 
 // The end of a CRS of this class.
@@ -252,7 +302,7 @@ impl<'a> Node<'a> for Tail<'a> {
         slots_count();
         Ok(Tail {
             usages: many(alloc, items, id, class, Class::Usage)?,
-            bare: Usage::read(alloc, items, id, class)?,
+            bare: bare_usage(alloc, items, id, class)?,
             ids: many(alloc, items, id, class, Class::Identifier)?,
             remark: optional_text(items, id, class, Class::Remark),
         })

@@ -17,7 +17,7 @@ ghost use Rattle.crs_value.specs.SoundCrs.{IsCrs};
 ghost use Rattle.crs_value.specs.SoundFrames.{IsEllipsoid, IsMember, IsMeridian};
 ghost use Rattle.crs_value.specs.SoundSingle.{IsBase, IsGeodetic, IsGeodeticFrame, IsProjected, IsVertical, IsVerticalFrame};
 ghost use Rattle.crs_value.specs.SoundSystem.{IsSystem};
-ghost use Rattle.crs_value.specs.SoundUsages.{IsBox, IsExtent, IsUsage, SaysSome};
+ghost use Rattle.crs_value.specs.SoundUsages.{IsBox, IsExtent, IsUsage};
 ghost use Rattle.crs_value.specs.Values.{BoxParts, EllipsoidParts, ExtentParts, IdentParts, MemberParts, MeridianParts, SystemParts, UnitParts, UsageParts};
 ghost use Rattle.crs_same.specs.SameUnits.{kind_as};
 ghost use Rattle.crs_normal.specs.DecimalLaws.{DecimalLaws};
@@ -146,9 +146,9 @@ pub fn made_extent_is_normal()
     decimal_laws();
 }
 
-/// The item of a usage that says something.
+/// The item of a usage.
 pub fn made_usage_is_normal()
-    ensures { (level : Level) (usage : UsageParts) (place : ℕ) → IsUsage usage → SaysSome usage →
+    ensures { (level : Level) (usage : UsageParts) (place : ℕ) → IsUsage usage →
         IsMade level class.Usage 5 (at_place place (item_usage (norm_usage usage))) }
 {
     decimal_laws();

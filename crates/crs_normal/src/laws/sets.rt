@@ -14,7 +14,7 @@ ghost use Rattle.crs_value.specs.ReadsConversion.{ReadsGeoidModel, ReadsParamete
 ghost use Rattle.crs_value.specs.Sound.{Each, IsIdent, IsUnit};
 ghost use Rattle.crs_value.specs.SoundConversion.{IsGeoidModel, IsParameter};
 ghost use Rattle.crs_value.specs.SoundFrames.{IsMember};
-ghost use Rattle.crs_value.specs.SoundUsages.{IsExtent, IsUsage, SaysSome};
+ghost use Rattle.crs_value.specs.SoundUsages.{IsExtent, IsUsage};
 ghost use Rattle.crs_value.specs.Values.{ExtentParts, IdentParts, MemberParts, UnitParts, UsageParts};
 ghost use Rattle.crs_same.specs.SameConversions.{SameGeoidModel, SameParameter};
 ghost use Rattle.crs_same.specs.SameFrames.{SameMember};
@@ -81,10 +81,9 @@ pub fn same_geoid_models_have_one_form()
     members_read_once();
 }
 
-/// Likewise usages, each of which says something. Profile.
+/// Likewise usages. Profile.
 pub fn same_usages_have_one_form()
-    ensures { (xs ys : List UsageParts) → Each (λ usage. IsUsage usage × SaysSome usage) xs →
-        Each (λ usage. IsUsage usage × SaysSome usage) ys →
+    ensures { (xs ys : List UsageParts) → Each IsUsage xs → Each IsUsage ys →
         (set_usages levels.Full xs ≡ set_usages levels.Full ys) ↔ SameSet SameUsage xs ys }
 {
     text_laws();
@@ -119,7 +118,7 @@ pub fn members_are_read_back()
     ensures extent { (level : Level) (extent : ExtentParts) (place : ℕ) → IsExtent extent →
         ReadsExtent class.VerticalExtent (at_place place (item_extent (norm_extent level extent)))
         (norm_extent level extent) }
-    ensures usage { (usage : UsageParts) (place : ℕ) → IsUsage usage → SaysSome usage →
+    ensures usage { (usage : UsageParts) (place : ℕ) → IsUsage usage →
         ReadsUsage class.Usage (at_place place (item_usage (norm_usage usage))) (norm_usage usage) }
 {
     text_laws();
@@ -138,7 +137,7 @@ pub fn members_can_be_written()
         IsFit 3 (item_geoid_model (norm_geoid_model level model)) }
     ensures extent { (level : Level) (extent : ExtentParts) → IsExtent extent →
         IsFit 4 (item_extent (norm_extent level extent)) }
-    ensures usage { (usage : UsageParts) → IsUsage usage → SaysSome usage →
+    ensures usage { (usage : UsageParts) → IsUsage usage →
         IsFit 5 (item_usage (norm_usage usage)) × IsNode (item_usage (norm_usage usage)) }
 {
     text_laws();
@@ -161,7 +160,7 @@ pub fn member_texts_tell_members()
         item_text (item_geoid_model (norm_geoid_model level a))
         ≡ item_text (item_geoid_model (norm_geoid_model level b)) →
         norm_geoid_model level a ≡ norm_geoid_model level b }
-    ensures usage { (a b : UsageParts) → IsUsage a → SaysSome a → IsUsage b → SaysSome b →
+    ensures usage { (a b : UsageParts) → IsUsage a → IsUsage b →
         item_text (item_usage (norm_usage a)) ≡ item_text (item_usage (norm_usage b)) → norm_usage a ≡ norm_usage b }
 {
     text_laws();

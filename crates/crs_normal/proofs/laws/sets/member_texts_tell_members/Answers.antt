@@ -33,6 +33,6 @@ returns-clause-geoid_model c level a b p q =
     (norm_geoid_model level b) (geoid-kept level a p) (geoid-kept level b q)
 
 pub returns-clause-usage : goal.returns-clause-usage
-returns-clause-usage c a b p some q other =
+returns-clause-usage c a b p q =
     usage-told c.text_laws.ensures c.members_read_once.ensures.usage (norm_usage a) (norm_usage b)
-    (usage-kept a (p, some)) (usage-kept b (q, other))
+    (usage-kept a p) (usage-kept b q)

@@ -32,4 +32,4 @@ returns-clause-extent c level x place s =
     extent-read c.text_laws.ensures (norm_extent level x) (extent-kept level x s) place
 
 pub returns-clause-usage : goal.returns-clause-usage
-returns-clause-usage c x place s some = usage-read c.text_laws.ensures (norm_usage x) (usage-kept x (s, some)) place
+returns-clause-usage c x place s = usage-read c.text_laws.ensures (norm_usage x) (usage-kept x s) place

@@ -31,6 +31,6 @@ pub returns-clause-extent : goal.returns-clause-extent
 returns-clause-extent c level x s = extent-fit c.text_laws.ensures (norm_extent level x) (extent-kept level x s)
 
 pub returns-clause-usage : goal.returns-clause-usage
-returns-clause-usage c x s some =
-    let kept = usage-kept x (s, some) in
+returns-clause-usage c x s =
+    let kept = usage-kept x s in
     (usage-fit c.text_laws.ensures (norm_usage x) kept, usage-is-node (norm_usage x) kept.some)

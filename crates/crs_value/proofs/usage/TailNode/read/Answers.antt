@@ -7,7 +7,7 @@ invariant_of-result c =
     tail-tells c.slots_count.ensures.most c.args.class (item_at c.args.items.now c.args.id) _ c.requires.sound
     (record {
       usages = c.in_ok-many.ensures;
-      bare = c.in_ok-read.ensures;
+      bare = c.in_ok-bare_usage.ensures;
       ids = c.in_ok-many-2.ensures;
       remark = c.optional_text.ensures;
     })
