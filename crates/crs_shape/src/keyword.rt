@@ -15,58 +15,43 @@ pub fn keywords(class: Class) -> &'static [&'static [u8]]
     ensures { map (λ k. k.now) result.now ≡ keywords_of class }
 {
     match class {
-        Class::Number | Class::Text | Class::Word => &[],
-        // Geodetic and geographic CRS
         Class::GeodeticCrs => &[b"GEODCRS", b"GEODETICCRS"],
         Class::GeographicCrs => &[b"GEOGCRS", b"GEOGRAPHICCRS"],
-        // Projected CRS
         Class::ProjectedCrs => &[b"PROJCRS", b"PROJECTEDCRS"],
         Class::BaseCrs => &[b"BASEGEOGCRS", b"BASEGEODCRS"],
-        // Vertical CRS
         Class::VerticalCrs => &[b"VERTCRS", b"VERTICALCRS"],
-        Class::GeoidModel => &[b"GEOIDMODEL"],
-        // Compound CRS
         Class::CompoundCrs => &[b"COMPOUNDCRS"],
-        // Datum
         Class::GeodeticFrame => &[b"DATUM", b"TRF", b"GEODETICDATUM"],
         Class::VerticalFrame => &[b"VDATUM", b"VRF", b"VERTICALDATUM"],
-        Class::Anchor => &[b"ANCHOR"],
-        // Datum ensemble
-        Class::GeodeticEnsemble => &[b"ENSEMBLE"],
-        Class::VerticalEnsemble => &[b"ENSEMBLE"],
+        Class::GeodeticEnsemble | Class::VerticalEnsemble => &[b"ENSEMBLE"],
         Class::Member => &[b"MEMBER"],
         Class::EnsembleAccuracy => &[b"ENSEMBLEACCURACY"],
-        // Ellipsoid
+        Class::Anchor => &[b"ANCHOR"],
         Class::Ellipsoid => &[b"ELLIPSOID", b"SPHEROID"],
-        // Prime meridian
         Class::PrimeMeridian => &[b"PRIMEM", b"PRIMEMERIDIAN"],
-        // Units
         Class::LengthUnit => &[b"LENGTHUNIT", b"UNIT"],
         Class::AngleUnit => &[b"ANGLEUNIT", b"UNIT"],
         Class::ScaleUnit => &[b"SCALEUNIT"],
         Class::PlainUnit => &[b"UNIT"],
         Class::AxisUnit => &[b"LENGTHUNIT", b"ANGLEUNIT", b"UNIT"],
-        // Coordinate system
         Class::CoordinateSystem => &[b"CS"],
         Class::Axis => &[b"AXIS"],
         Class::Meridian => &[b"MERIDIAN"],
         Class::Order => &[b"ORDER"],
-        // Map projection
         Class::Conversion => &[b"CONVERSION"],
         Class::Method => &[b"METHOD", b"PROJECTION"],
         Class::Parameter => &[b"PARAMETER"],
-        // Usage
+        Class::GeoidModel => &[b"GEOIDMODEL"],
         Class::Usage => &[b"USAGE"],
         Class::Scope => &[b"SCOPE"],
         Class::Area => &[b"AREA"],
         Class::BoundingBox => &[b"BBOX"],
         Class::VerticalExtent => &[b"VERTICALEXTENT"],
-        // Identifier
         Class::Identifier => &[b"ID"],
         Class::Citation => &[b"CITATION"],
         Class::Uri => &[b"URI"],
-        // Remark
         Class::Remark => &[b"REMARK"],
+        Class::Number | Class::Text | Class::Word => &[],
     }
 }
 

@@ -2,160 +2,115 @@
 //! here spares a walk over them for each keyword.
 ghost use Rattle.std.specs.Prelude.{◌≡◌};
 ghost use Rattle.crs_shape.specs.KeywordTable.{is_part};
+ghost use Rattle.crs_shape.specs.Slots.{tail, takes};
 
 use crate::class::Class;
+
+// whether a class is one of these
+macro_rules! is_one {
+    ($class:expr, $($one:ident),+) => { matches!($class, $(Class::$one)|+) };
+}
 
 // Whether arguments of this class may stand in a parent of that class.
 pub(crate) fn is_part(parent: Class, class: Class) -> bool
     ensures { result ≡ is_part parent class }
 {
     match parent {
-        Class::GeodeticCrs | Class::GeographicCrs => matches!(
-            class,
-            Class::Text
-                | Class::GeodeticFrame
-                | Class::GeodeticEnsemble
-                | Class::PrimeMeridian
-                | Class::CoordinateSystem
-                | Class::Axis
-                | Class::AxisUnit
-                | Class::Usage
-                | Class::Scope
-                | Class::Area
-                | Class::BoundingBox
-                | Class::VerticalExtent
-                | Class::Identifier
-                | Class::Remark
-        ),
-        Class::ProjectedCrs => matches!(
-            class,
-            Class::Text
-                | Class::BaseCrs
-                | Class::Conversion
-                | Class::CoordinateSystem
-                | Class::Axis
-                | Class::AxisUnit
-                | Class::Usage
-                | Class::Scope
-                | Class::Area
-                | Class::BoundingBox
-                | Class::VerticalExtent
-                | Class::Identifier
-                | Class::Remark
-        ),
-        Class::BaseCrs => matches!(
-            class,
-            Class::Text
-                | Class::GeodeticFrame
-                | Class::GeodeticEnsemble
-                | Class::PrimeMeridian
-                | Class::AngleUnit
-                | Class::Identifier
-        ),
-        Class::VerticalCrs => matches!(
-            class,
-            Class::Text
-                | Class::VerticalFrame
-                | Class::VerticalEnsemble
-                | Class::CoordinateSystem
-                | Class::Axis
-                | Class::AxisUnit
-                | Class::GeoidModel
-                | Class::Usage
-                | Class::Scope
-                | Class::Area
-                | Class::BoundingBox
-                | Class::VerticalExtent
-                | Class::Identifier
-                | Class::Remark
-        ),
-        Class::CompoundCrs => matches!(
-            class,
-            Class::Text
-                | Class::GeodeticCrs
-                | Class::GeographicCrs
-                | Class::ProjectedCrs
-                | Class::VerticalCrs
-                | Class::Usage
-                | Class::Scope
-                | Class::Area
-                | Class::BoundingBox
-                | Class::VerticalExtent
-                | Class::Identifier
-                | Class::Remark
-        ),
-        Class::GeodeticFrame => matches!(
-            class,
-            Class::Text | Class::Ellipsoid | Class::Anchor | Class::Identifier
-        ),
-        Class::VerticalFrame => matches!(class, Class::Text | Class::Anchor | Class::Identifier),
-        Class::GeodeticEnsemble => matches!(
-            class,
-            Class::Text
-                | Class::Member
-                | Class::Ellipsoid
-                | Class::EnsembleAccuracy
-                | Class::Identifier
-        ),
-        Class::VerticalEnsemble => matches!(
-            class,
-            Class::Text | Class::Member | Class::EnsembleAccuracy | Class::Identifier
-        ),
-        Class::Ellipsoid => matches!(
-            class,
-            Class::Text | Class::Number | Class::LengthUnit | Class::Identifier
-        ),
-        Class::PrimeMeridian => matches!(
-            class,
-            Class::Text | Class::Number | Class::AngleUnit | Class::Identifier
-        ),
-        Class::LengthUnit
-        | Class::AngleUnit
-        | Class::ScaleUnit
-        | Class::PlainUnit
-        | Class::AxisUnit => matches!(class, Class::Text | Class::Number | Class::Identifier),
-        Class::CoordinateSystem => matches!(class, Class::Word | Class::Number | Class::Identifier),
-        Class::Axis => matches!(
-            class,
-            Class::Text
-                | Class::Word
-                | Class::Meridian
-                | Class::Order
-                | Class::AxisUnit
-                | Class::Identifier
-        ),
-        Class::Meridian => matches!(class, Class::Number | Class::AngleUnit),
-        Class::Conversion => matches!(
-            class,
-            Class::Text | Class::Method | Class::Parameter | Class::Identifier
-        ),
-        Class::Parameter => matches!(
-            class,
-            Class::Text
-                | Class::Number
-                | Class::PlainUnit
-                | Class::LengthUnit
-                | Class::AngleUnit
-                | Class::ScaleUnit
-                | Class::Identifier
-        ),
-        Class::Method | Class::Member | Class::GeoidModel => {
-            matches!(class, Class::Text | Class::Identifier)
-        }
-        Class::Usage => matches!(
-            class,
-            Class::Scope | Class::Area | Class::BoundingBox | Class::VerticalExtent
-        ),
-        Class::VerticalExtent => matches!(class, Class::Number | Class::LengthUnit),
-        Class::Identifier => matches!(
-            class,
-            Class::Text | Class::Number | Class::Citation | Class::Uri
-        ),
-        Class::Order | Class::EnsembleAccuracy | Class::BoundingBox => {
-            matches!(class, Class::Number)
-        }
-        Class::Anchor | Class::Scope | Class::Area | Class::Remark | Class::Citation | Class::Uri =>
-            { matches!(class, Class::Text) }
+        Class::GeodeticCrs | Class::GeographicCrs => is_part_of_geodetic(class),
+        Class::ProjectedCrs => is_part_of_projected(class),
+        Class::VerticalCrs => is_part_of_vertical(class),
+        Class::CompoundCrs => is_part_of_compound(class),
+        Class::BaseCrs => is_part_of_base(class),
+        Class::GeodeticFrame => is_one!(class, Text, Ellipsoid, Anchor, Identifier),
+        Class::VerticalFrame => is_one!(class, Text, Anchor, Identifier),
+        Class::GeodeticEnsemble => is_part_of_ensemble(class) || class == Class::Ellipsoid,
+        Class::VerticalEnsemble => is_part_of_ensemble(class),
+        Class::Ellipsoid => is_one!(class, Text, Number, LengthUnit, Identifier),
+        Class::PrimeMeridian => is_one!(class, Text, Number, AngleUnit, Identifier),
+        Class::LengthUnit | Class::AngleUnit | Class::ScaleUnit => is_part_of_unit(class),
+        Class::PlainUnit | Class::AxisUnit => is_part_of_unit(class),
+        Class::CoordinateSystem => is_one!(class, Word, Number, Identifier),
+        Class::Axis => is_one!(class, Text, Word, Meridian, Order, AxisUnit, Identifier),
+        Class::Meridian => is_one!(class, Number, AngleUnit),
+        Class::Conversion => is_one!(class, Text, Method, Parameter, Identifier),
+        Class::Parameter => is_part_of_parameter(class),
+        Class::Method | Class::Member | Class::GeoidModel => is_one!(class, Text, Identifier),
+        Class::Usage => is_one!(class, Scope, Area, BoundingBox, VerticalExtent),
+        Class::VerticalExtent => is_one!(class, Number, LengthUnit),
+        Class::Identifier => is_one!(class, Text, Number, Citation, Uri),
+        Class::Order | Class::EnsembleAccuracy | Class::BoundingBox => class == Class::Number,
+        Class::Anchor | Class::Scope | Class::Area | Class::Remark => class == Class::Text,
+        Class::Citation | Class::Uri => class == Class::Text,
         Class::Number | Class::Text | Class::Word => false,
     }
+}
+
+// Geodetic and geographic CRS
+fn is_part_of_geodetic(class: Class) -> bool
+    ensures { result ≡ is_part Class.GeodeticCrs class }
+{
+    is_one!(class, Text, GeodeticFrame, GeodeticEnsemble, PrimeMeridian)
+        || is_one!(class, CoordinateSystem, Axis, AxisUnit)
+        || is_of_tail(class)
+}
+
+// Projected CRS
+fn is_part_of_projected(class: Class) -> bool
+    ensures { result ≡ is_part Class.ProjectedCrs class }
+{
+    is_one!(class, Text, BaseCrs, Conversion)
+        || is_one!(class, CoordinateSystem, Axis, AxisUnit)
+        || is_of_tail(class)
+}
+
+fn is_part_of_base(class: Class) -> bool
+    ensures { result ≡ is_part Class.BaseCrs class }
+{
+    is_one!(class, Text, GeodeticFrame, GeodeticEnsemble, PrimeMeridian)
+        || is_one!(class, AngleUnit, Identifier)
+}
+
+// Vertical CRS
+fn is_part_of_vertical(class: Class) -> bool
+    ensures { result ≡ is_part Class.VerticalCrs class }
+{
+    is_one!(class, Text, VerticalFrame, VerticalEnsemble, GeoidModel)
+        || is_one!(class, CoordinateSystem, Axis, AxisUnit)
+        || is_of_tail(class)
+}
+
+// Compound CRS
+fn is_part_of_compound(class: Class) -> bool
+    ensures { result ≡ is_part Class.CompoundCrs class }
+{
+    is_one!(class, Text, VerticalCrs)
+        || is_one!(class, GeodeticCrs, GeographicCrs, ProjectedCrs)
+        || is_of_tail(class)
+}
+
+// A CRS's end
+fn is_of_tail(class: Class) -> bool
+    ensures { result ≡ takes tail class }
+{
+    is_one!(class, Usage, Scope, Area, BoundingBox, VerticalExtent)
+        || is_one!(class, Identifier, Remark)
+}
+
+fn is_part_of_ensemble(class: Class) -> bool
+    ensures { result ≡ is_part Class.VerticalEnsemble class }
+{
+    is_one!(class, Text, Member, EnsembleAccuracy, Identifier)
+}
+
+fn is_part_of_unit(class: Class) -> bool
+    ensures { result ≡ is_part Class.LengthUnit class }
+{
+    is_one!(class, Text, Number, Identifier)
+}
+
+fn is_part_of_parameter(class: Class) -> bool
+    ensures { result ≡ is_part Class.Parameter class }
+{
+    is_one!(class, Text, Number, Identifier)
+        || is_one!(class, PlainUnit, LengthUnit, AngleUnit, ScaleUnit)
 }

@@ -23,77 +23,105 @@ macro_rules! word {
     ($word:literal, $($class:ident),+) => { Keyword { word: $word, classes: &[$(Class::$class),+] } };
 }
 
-// The keywords of a length; the frequent ones go first.
+// The keywords of two bytes, of three and so on; the frequent ones go first.
+const TWO: &[Keyword] = &[word!(b"ID", Identifier), word!(b"CS", CoordinateSystem)];
+
+const THREE: &[Keyword] = &[
+    word!(b"TRF", GeodeticFrame),
+    word!(b"VRF", VerticalFrame),
+    word!(b"URI", Uri),
+];
+
+const FOUR: &[Keyword] = &[
+    word!(b"AXIS", Axis),
+    word!(b"BBOX", BoundingBox),
+    word!(b"AREA", Area),
+    word!(b"UNIT", PlainUnit, LengthUnit, AngleUnit, AxisUnit),
+];
+
+const FIVE: &[Keyword] = &[
+    word!(b"ORDER", Order),
+    word!(b"SCOPE", Scope),
+    word!(b"USAGE", Usage),
+    word!(b"DATUM", GeodeticFrame),
+];
+
+const SIX: &[Keyword] = &[
+    word!(b"MEMBER", Member),
+    word!(b"PRIMEM", PrimeMeridian),
+    word!(b"METHOD", Method),
+    word!(b"VDATUM", VerticalFrame),
+    word!(b"REMARK", Remark),
+    word!(b"ANCHOR", Anchor),
+];
+
+const SEVEN: &[Keyword] = &[
+    word!(b"GEOGCRS", GeographicCrs),
+    word!(b"PROJCRS", ProjectedCrs),
+    word!(b"GEODCRS", GeodeticCrs),
+    word!(b"VERTCRS", VerticalCrs),
+];
+
+const EIGHT: &[Keyword] = &[
+    word!(b"ENSEMBLE", GeodeticEnsemble, VerticalEnsemble),
+    word!(b"MERIDIAN", Meridian),
+    word!(b"SPHEROID", Ellipsoid),
+    word!(b"CITATION", Citation),
+];
+
+const NINE: &[Keyword] = &[
+    word!(b"ANGLEUNIT", AngleUnit, AxisUnit),
+    word!(b"PARAMETER", Parameter),
+    word!(b"ELLIPSOID", Ellipsoid),
+    word!(b"SCALEUNIT", ScaleUnit),
+];
+
+const TEN: &[Keyword] = &[
+    word!(b"LENGTHUNIT", LengthUnit, AxisUnit),
+    word!(b"CONVERSION", Conversion),
+    word!(b"PROJECTION", Method),
+    word!(b"GEOIDMODEL", GeoidModel),
+];
+
+const ELEVEN: &[Keyword] = &[
+    word!(b"BASEGEOGCRS", BaseCrs),
+    word!(b"BASEGEODCRS", BaseCrs),
+    word!(b"COMPOUNDCRS", CompoundCrs),
+    word!(b"GEODETICCRS", GeodeticCrs),
+    word!(b"VERTICALCRS", VerticalCrs),
+];
+
+const TWELVE: &[Keyword] = &[word!(b"PROJECTEDCRS", ProjectedCrs)];
+
+const THIRTEEN: &[Keyword] = &[
+    word!(b"PRIMEMERIDIAN", PrimeMeridian),
+    word!(b"GEODETICDATUM", GeodeticFrame),
+    word!(b"VERTICALDATUM", VerticalFrame),
+    word!(b"GEOGRAPHICCRS", GeographicCrs),
+];
+
+const FOURTEEN: &[Keyword] = &[word!(b"VERTICALEXTENT", VerticalExtent)];
+
+const SIXTEEN: &[Keyword] = &[word!(b"ENSEMBLEACCURACY", EnsembleAccuracy)];
+
 fn of_length(length: usize) -> &'static [Keyword]
     ensures { map shown result.now ≡ of_length length }
 {
     match length {
-        2 => &[word!(b"ID", Identifier), word!(b"CS", CoordinateSystem)],
-        3 => &[
-            word!(b"TRF", GeodeticFrame),
-            word!(b"VRF", VerticalFrame),
-            word!(b"URI", Uri),
-        ],
-        4 => &[
-            word!(b"AXIS", Axis),
-            word!(b"BBOX", BoundingBox),
-            word!(b"AREA", Area),
-            word!(b"UNIT", PlainUnit, LengthUnit, AngleUnit, AxisUnit),
-        ],
-        5 => &[
-            word!(b"ORDER", Order),
-            word!(b"SCOPE", Scope),
-            word!(b"USAGE", Usage),
-            word!(b"DATUM", GeodeticFrame),
-        ],
-        6 => &[
-            word!(b"MEMBER", Member),
-            word!(b"PRIMEM", PrimeMeridian),
-            word!(b"METHOD", Method),
-            word!(b"VDATUM", VerticalFrame),
-            word!(b"REMARK", Remark),
-            word!(b"ANCHOR", Anchor),
-        ],
-        7 => &[
-            word!(b"GEOGCRS", GeographicCrs),
-            word!(b"PROJCRS", ProjectedCrs),
-            word!(b"GEODCRS", GeodeticCrs),
-            word!(b"VERTCRS", VerticalCrs),
-        ],
-        8 => &[
-            word!(b"ENSEMBLE", GeodeticEnsemble, VerticalEnsemble),
-            word!(b"MERIDIAN", Meridian),
-            word!(b"SPHEROID", Ellipsoid),
-            word!(b"CITATION", Citation),
-        ],
-        9 => &[
-            word!(b"ANGLEUNIT", AngleUnit, AxisUnit),
-            word!(b"PARAMETER", Parameter),
-            word!(b"ELLIPSOID", Ellipsoid),
-            word!(b"SCALEUNIT", ScaleUnit),
-        ],
-        10 => &[
-            word!(b"LENGTHUNIT", LengthUnit, AxisUnit),
-            word!(b"CONVERSION", Conversion),
-            word!(b"PROJECTION", Method),
-            word!(b"GEOIDMODEL", GeoidModel),
-        ],
-        11 => &[
-            word!(b"BASEGEOGCRS", BaseCrs),
-            word!(b"BASEGEODCRS", BaseCrs),
-            word!(b"COMPOUNDCRS", CompoundCrs),
-            word!(b"GEODETICCRS", GeodeticCrs),
-            word!(b"VERTICALCRS", VerticalCrs),
-        ],
-        12 => &[word!(b"PROJECTEDCRS", ProjectedCrs)],
-        13 => &[
-            word!(b"PRIMEMERIDIAN", PrimeMeridian),
-            word!(b"GEODETICDATUM", GeodeticFrame),
-            word!(b"VERTICALDATUM", VerticalFrame),
-            word!(b"GEOGRAPHICCRS", GeographicCrs),
-        ],
-        14 => &[word!(b"VERTICALEXTENT", VerticalExtent)],
-        16 => &[word!(b"ENSEMBLEACCURACY", EnsembleAccuracy)],
+        2 => TWO,
+        3 => THREE,
+        4 => FOUR,
+        5 => FIVE,
+        6 => SIX,
+        7 => SEVEN,
+        8 => EIGHT,
+        9 => NINE,
+        10 => TEN,
+        11 => ELEVEN,
+        12 => TWELVE,
+        13 => THIRTEEN,
+        14 => FOURTEEN,
+        16 => SIXTEEN,
         _ => &[],
     }
 }

@@ -52,6 +52,148 @@ const VERTICAL_TAIL: Slot = any!(
     Remark
 );
 
+// Geodetic and geographic CRS
+const GEODETIC_CRS: &[Slot] = &[
+    one!(Text),
+    one!(GeodeticFrame, GeodeticEnsemble),
+    optional!(PrimeMeridian),
+    one!(CoordinateSystem),
+    some!(Axis),
+    optional!(AxisUnit),
+    TAIL,
+];
+
+// Projected CRS
+const PROJECTED_CRS: &[Slot] = &[
+    one!(Text),
+    one!(BaseCrs),
+    one!(Conversion),
+    one!(CoordinateSystem),
+    some!(Axis),
+    optional!(AxisUnit),
+    TAIL,
+];
+
+const BASE_CRS: &[Slot] = &[
+    one!(Text),
+    one!(GeodeticFrame, GeodeticEnsemble),
+    optional!(PrimeMeridian),
+    optional!(AngleUnit),
+    any!(Identifier),
+];
+
+// Vertical CRS
+const VERTICAL_CRS: &[Slot] = &[
+    one!(Text),
+    one!(VerticalFrame, VerticalEnsemble),
+    one!(CoordinateSystem),
+    some!(Axis),
+    optional!(AxisUnit),
+    VERTICAL_TAIL,
+];
+
+// Compound CRS
+const COMPOUND_CRS: &[Slot] = &[
+    one!(Text),
+    one!(GeodeticCrs, GeographicCrs, ProjectedCrs),
+    one!(VerticalCrs),
+    TAIL,
+];
+
+// Datum
+const GEODETIC_FRAME: &[Slot] = &[one!(Text), one!(Ellipsoid), any!(Anchor), any!(Identifier)];
+
+const VERTICAL_FRAME: &[Slot] = &[one!(Text), any!(Anchor), any!(Identifier)];
+
+// Datum ensemble
+const GEODETIC_ENSEMBLE: &[Slot] = &[
+    one!(Text),
+    some!(Member),
+    one!(Ellipsoid),
+    one!(EnsembleAccuracy),
+    any!(Identifier),
+];
+
+const VERTICAL_ENSEMBLE: &[Slot] = &[
+    one!(Text),
+    some!(Member),
+    one!(EnsembleAccuracy),
+    any!(Identifier),
+];
+
+// Ellipsoid: name, semi-major axis, inverse flattening
+const ELLIPSOID: &[Slot] = &[
+    one!(Text),
+    one!(Number),
+    one!(Number),
+    optional!(LengthUnit),
+    any!(Identifier),
+];
+
+// Prime meridian: name, longitude
+const PRIME_MERIDIAN: &[Slot] = &[
+    one!(Text),
+    one!(Number),
+    optional!(AngleUnit),
+    any!(Identifier),
+];
+
+// Units: name, factor
+const UNIT: &[Slot] = &[one!(Text), one!(Number), any!(Identifier)];
+
+// Coordinate system: type, dimension
+const COORDINATE_SYSTEM: &[Slot] = &[one!(Word), one!(Number), any!(Identifier)];
+
+// Axis: name, direction
+const AXIS: &[Slot] = &[
+    one!(Text),
+    one!(Word),
+    optional!(Meridian),
+    optional!(Order),
+    optional!(AxisUnit),
+    any!(Identifier),
+];
+
+const MERIDIAN: &[Slot] = &[one!(Number), one!(AngleUnit)];
+
+// Map projection
+const CONVERSION: &[Slot] = &[one!(Text), one!(Method), any!(Parameter), any!(Identifier)];
+
+const PARAMETER: &[Slot] = &[
+    one!(Text),
+    one!(Number),
+    optional!(PlainUnit, LengthUnit, AngleUnit, ScaleUnit),
+    any!(Identifier),
+];
+
+// Usage; a node has at least one argument
+const USAGE: &[Slot] = &[
+    optional!(Scope),
+    optional!(Area),
+    optional!(BoundingBox),
+    optional!(VerticalExtent),
+];
+
+const BOUNDING_BOX: &[Slot] = &[one!(Number), one!(Number), one!(Number), one!(Number)];
+
+const VERTICAL_EXTENT: &[Slot] = &[one!(Number), one!(Number), optional!(LengthUnit)];
+
+// Identifier: authority, code, version
+const IDENTIFIER: &[Slot] = &[
+    one!(Text),
+    one!(Number, Text),
+    optional!(Number, Text),
+    optional!(Citation),
+    optional!(Uri),
+];
+
+// a name and identifiers; one number; one text
+const NAMED: &[Slot] = &[one!(Text), any!(Identifier)];
+
+const ONE_NUMBER: &[Slot] = &[one!(Number)];
+
+const ONE_TEXT: &[Slot] = &[one!(Text)];
+
 /// The slots of a class, in order; none for an item that isn't a node.
 /// ISO 19162:2019, the part of the standard that stands above each row; tails and anchors in any
 /// order are the profile's.
@@ -59,130 +201,32 @@ pub fn slots(class: Class) -> &'static [Slot]
     ensures { map shown result.now ≡ slots_of class }
 {
     match class {
-        // Geodetic and geographic CRS
-        Class::GeodeticCrs | Class::GeographicCrs => &[
-            one!(Text),
-            one!(GeodeticFrame, GeodeticEnsemble),
-            optional!(PrimeMeridian),
-            one!(CoordinateSystem),
-            some!(Axis),
-            optional!(AxisUnit),
-            TAIL,
-        ],
-        // Projected CRS
-        Class::ProjectedCrs => &[
-            one!(Text),
-            one!(BaseCrs),
-            one!(Conversion),
-            one!(CoordinateSystem),
-            some!(Axis),
-            optional!(AxisUnit),
-            TAIL,
-        ],
-        Class::BaseCrs => &[
-            one!(Text),
-            one!(GeodeticFrame, GeodeticEnsemble),
-            optional!(PrimeMeridian),
-            optional!(AngleUnit),
-            any!(Identifier),
-        ],
-        // Vertical CRS
-        Class::VerticalCrs => &[
-            one!(Text),
-            one!(VerticalFrame, VerticalEnsemble),
-            one!(CoordinateSystem),
-            some!(Axis),
-            optional!(AxisUnit),
-            VERTICAL_TAIL,
-        ],
-        // Compound CRS
-        Class::CompoundCrs => &[
-            one!(Text),
-            one!(GeodeticCrs, GeographicCrs, ProjectedCrs),
-            one!(VerticalCrs),
-            TAIL,
-        ],
-        // Datum
-        Class::GeodeticFrame => &[one!(Text), one!(Ellipsoid), any!(Anchor), any!(Identifier)],
-        Class::VerticalFrame => &[one!(Text), any!(Anchor), any!(Identifier)],
-        // Datum ensemble
-        Class::GeodeticEnsemble => &[
-            one!(Text),
-            some!(Member),
-            one!(Ellipsoid),
-            one!(EnsembleAccuracy),
-            any!(Identifier),
-        ],
-        Class::VerticalEnsemble => &[
-            one!(Text),
-            some!(Member),
-            one!(EnsembleAccuracy),
-            any!(Identifier),
-        ],
-        // Ellipsoid: name, semi-major axis, inverse flattening
-        Class::Ellipsoid => &[
-            one!(Text),
-            one!(Number),
-            one!(Number),
-            optional!(LengthUnit),
-            any!(Identifier),
-        ],
-        // Prime meridian: name, longitude
-        Class::PrimeMeridian => &[
-            one!(Text),
-            one!(Number),
-            optional!(AngleUnit),
-            any!(Identifier),
-        ],
-        // Units: name, factor
-        Class::LengthUnit
-        | Class::AngleUnit
-        | Class::ScaleUnit
-        | Class::PlainUnit
-        | Class::AxisUnit => &[one!(Text), one!(Number), any!(Identifier)],
-        // Coordinate system: type, dimension
-        Class::CoordinateSystem => &[one!(Word), one!(Number), any!(Identifier)],
-        // Axis: name, direction
-        Class::Axis => &[
-            one!(Text),
-            one!(Word),
-            optional!(Meridian),
-            optional!(Order),
-            optional!(AxisUnit),
-            any!(Identifier),
-        ],
-        Class::Meridian => &[one!(Number), one!(AngleUnit)],
-        // Map projection
-        Class::Conversion => &[one!(Text), one!(Method), any!(Parameter), any!(Identifier)],
-        Class::Parameter => &[
-            one!(Text),
-            one!(Number),
-            optional!(PlainUnit, LengthUnit, AngleUnit, ScaleUnit),
-            any!(Identifier),
-        ],
-        // a name and identifiers
-        Class::Method | Class::Member | Class::GeoidModel => &[one!(Text), any!(Identifier)],
-        // Usage; a node has at least one argument
-        Class::Usage => &[
-            optional!(Scope),
-            optional!(Area),
-            optional!(BoundingBox),
-            optional!(VerticalExtent),
-        ],
-        Class::BoundingBox => &[one!(Number), one!(Number), one!(Number), one!(Number)],
-        Class::VerticalExtent => &[one!(Number), one!(Number), optional!(LengthUnit)],
-        // Identifier: authority, code, version
-        Class::Identifier => &[
-            one!(Text),
-            one!(Number, Text),
-            optional!(Number, Text),
-            optional!(Citation),
-            optional!(Uri),
-        ],
-        // one number or one text
-        Class::Order | Class::EnsembleAccuracy => &[one!(Number)],
-        Class::Anchor | Class::Scope | Class::Area | Class::Remark | Class::Citation | Class::Uri =>
-            &[one!(Text)],
+        Class::GeodeticCrs | Class::GeographicCrs => GEODETIC_CRS,
+        Class::ProjectedCrs => PROJECTED_CRS,
+        Class::BaseCrs => BASE_CRS,
+        Class::VerticalCrs => VERTICAL_CRS,
+        Class::CompoundCrs => COMPOUND_CRS,
+        Class::GeodeticFrame => GEODETIC_FRAME,
+        Class::VerticalFrame => VERTICAL_FRAME,
+        Class::GeodeticEnsemble => GEODETIC_ENSEMBLE,
+        Class::VerticalEnsemble => VERTICAL_ENSEMBLE,
+        Class::Ellipsoid => ELLIPSOID,
+        Class::PrimeMeridian => PRIME_MERIDIAN,
+        Class::LengthUnit | Class::AngleUnit | Class::ScaleUnit => UNIT,
+        Class::PlainUnit | Class::AxisUnit => UNIT,
+        Class::CoordinateSystem => COORDINATE_SYSTEM,
+        Class::Axis => AXIS,
+        Class::Meridian => MERIDIAN,
+        Class::Conversion => CONVERSION,
+        Class::Parameter => PARAMETER,
+        Class::Method | Class::Member | Class::GeoidModel => NAMED,
+        Class::Usage => USAGE,
+        Class::BoundingBox => BOUNDING_BOX,
+        Class::VerticalExtent => VERTICAL_EXTENT,
+        Class::Identifier => IDENTIFIER,
+        Class::Order | Class::EnsembleAccuracy => ONE_NUMBER,
+        Class::Anchor | Class::Scope | Class::Area | Class::Remark => ONE_TEXT,
+        Class::Citation | Class::Uri => ONE_TEXT,
         // items that aren't nodes
         Class::Number | Class::Text | Class::Word => &[],
     }
