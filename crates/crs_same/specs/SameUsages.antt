@@ -1,7 +1,8 @@
 -- When usages and the ends of CRSs are the same.
-use Rattle.std.specs.Prelude.{◌≡◌, Bool, true, false, ◌||◌, if◌then◌else◌, List, ◌∷◌, Option, Some, None}
+use Rattle.std.specs.Prelude.{◌≡◌, if◌then◌else◌, List, ◌∷◌}
 use Rattle.crs_value.specs.declared.level.Level.{Level}
 use Rattle.crs_value.specs.declared.level.Level.TheVariants as levels
+pub use Rattle.crs_value.specs.SoundUsages.{is_there, says_some}
 use Rattle.crs_value.specs.Values.{BoxParts, ExtentParts, UsageParts, TailParts}
 use Rattle.crs_same.specs.Sets.{SameSet, BothOrNeither}
 use Rattle.crs_same.specs.SameIdents.{SameIdents}
@@ -27,13 +28,6 @@ pub record SameUsage (a b : UsageParts) : Type 0 where
   pub extent : BothOrNeither (SameExtent levels.Full) a.extent b.extent
 
 -- ---- the end of a CRS
-
-abbrev pub is_there : {V : Type 0} → Option V → Bool
-is_there None = false
-is_there (Some value) = true
-
-abbrev pub says_some : UsageParts → Bool
-says_some usage = is_there usage.scope || is_there usage.area || is_there usage.bbox || is_there usage.extent
 
 -- the usages at a CRS's end: the bare parts are together one more, if there are any
 abbrev pub usages_of : TailParts → List UsageParts

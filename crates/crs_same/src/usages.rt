@@ -3,7 +3,7 @@ ghost use Rattle.std.specs.Prelude.{◌≡◌, ◌≤◌, ◌↔◌, IsTrue, Non
 ghost use Rattle.crs_value.specs.declared.level.Level.{Level};
 ghost use Rattle.crs_same.specs.FirstInCrs.{FirstInTail};
 ghost use Rattle.crs_same.specs.Sets.{BothOrNeither, HasSame, AllHaveSame};
-ghost use Rattle.crs_same.specs.SameUsages.{SameBox, SameExtent, SameUsage, says_some, usages_of, SameUsages, SameRemark, SameTail};
+ghost use Rattle.crs_same.specs.SameUsages.{SameBox, SameExtent, SameUsage, usages_of, SameUsages, SameRemark, SameTail};
 
 use crate::idents::same_idents;
 use crate::numbers::same_value;
@@ -65,12 +65,6 @@ pub fn same_usage<'a>(a: &Usage<'a>, b: &Usage<'a>, _level: Level) -> bool
         && same_extents(&a.extent, &b.extent, Level::Full)
 }
 
-fn says_some(usage: &Usage<'_>) -> bool
-    ensures { result ≡ says_some usage.now }
-{
-    usage.scope.is_some() || usage.area.is_some() || usage.bbox.is_some() || usage.extent.is_some()
-}
-
 fn has_same<'a>(usage: &Usage<'a>, others: &[Usage<'a>]) -> bool
     ensures { IsTrue result ↔ HasSame SameUsage usage.now others.now }
 {
@@ -86,7 +80,7 @@ fn has_same<'a>(usage: &Usage<'a>, others: &[Usage<'a>]) -> bool
 fn has_same_in<'a>(usage: &Usage<'a>, tail: &Tail<'a>) -> bool
     ensures { IsTrue result ↔ HasSame SameUsage usage.now (usages_of tail.now) }
 {
-    if says_some(&tail.bare) && same_usage(usage, &tail.bare, Level::Full) {
+    if tail.bare.says_some() && same_usage(usage, &tail.bare, Level::Full) {
         return true;
     }
     has_same(usage, tail.usages.as_slice())
@@ -106,7 +100,7 @@ fn all_have_same<'a>(usages: &[Usage<'a>], tail: &Tail<'a>) -> bool
 fn all_have_same_in<'a>(a: &Tail<'a>, b: &Tail<'a>) -> bool
     ensures { IsTrue result ↔ AllHaveSame SameUsage (usages_of a.now) (usages_of b.now) }
 {
-    if says_some(&a.bare) && !has_same_in(&a.bare, b) {
+    if a.bare.says_some() && !has_same_in(&a.bare, b) {
         return false;
     }
     all_have_same(a.usages.as_slice(), b)

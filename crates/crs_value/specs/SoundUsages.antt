@@ -1,5 +1,5 @@
 -- What is asked of usages and of a CRS's end by themselves.
-use Rattle.std.specs.Prelude.{◌⊎◌, IfSome, IsSome}
+use Rattle.std.specs.Prelude.{◌⊎◌, ◌||◌, Bool, true, false, Option, Some, None, IfSome, IsSome}
 use Rattle.crs_decimal.specs.Value.{IsNormal}
 use Rattle.crs_value.specs.declared.unit_kind.UnitKind.TheVariants as kinds
 use Rattle.crs_value.specs.Sound.{Each, IsText, IsIdent, IsUnitOf}
@@ -25,6 +25,14 @@ pub record IsUsage (usage : UsageParts) : Type 0 where
 -- a usage says something
 abbrev pub SaysSome : UsageParts → Type 0
 SaysSome usage = IsSome usage.scope ⊎ (IsSome usage.area ⊎ (IsSome usage.bbox ⊎ IsSome usage.extent))
+
+abbrev pub is_there : {V : Type 0} → Option V → Bool
+is_there None = false
+is_there (Some value) = true
+
+-- whether it does
+abbrev pub says_some : UsageParts → Bool
+says_some usage = is_there usage.scope || is_there usage.area || is_there usage.bbox || is_there usage.extent
 
 -- a node `USAGE` says something; what stands bare may be nothing
 pub record IsTail (tail : TailParts) : Type 0 where

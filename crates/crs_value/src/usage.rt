@@ -1,4 +1,6 @@
 //! Usages, and the ends of CRSs.
+ghost use Rattle.std.specs.Prelude.{◌≡◌};
+ghost use Rattle.crs_value.specs.SoundUsages.{says_some};
 
 use crate::ident::Ident;
 use crate::list::List;
@@ -50,6 +52,15 @@ impl Drop for Usage<'_> {
             bbox: _,
             extent: _,
         } = self;
+    }
+}
+
+impl Usage<'_> {
+    /// Whether any part is there. ISO 19162:2019, "Scope and extent".
+    pub fn says_some(&self) -> bool
+        ensures { result ≡ says_some self.now }
+    {
+        self.scope.is_some() || self.area.is_some() || self.bbox.is_some() || self.extent.is_some()
     }
 }
 
