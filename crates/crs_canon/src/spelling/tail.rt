@@ -3,7 +3,7 @@ ghost use Rattle.std.specs.Prelude.{◌≡◌, ◌++◌, OnOk, codes, map};
 ghost use Rattle.std.specs.Option.{option_copied};
 ghost use Rattle.crs_text.specs.Items.{End};
 ghost use Rattle.crs_text.specs.Written.{item_text, others_text};
-ghost use Rattle.crs_same.specs.SameUsages.{says_some, usages_of};
+ghost use Rattle.crs_same.specs.SameUsages.{usages_of};
 ghost use Rattle.crs_normal.specs.SpelledItems.{each, opt, text_node};
 ghost use Rattle.crs_normal.specs.SpelledUnits.{item_ident, set_idents};
 ghost use Rattle.crs_normal.specs.SpelledUsages.{item_usage, norm_remark, norm_tail, norm_usage, set_usages, tail_items};
@@ -12,21 +12,15 @@ ghost use Rattle.crs_canon.specs.Members.{set_text};
 use crate::set::{write_set, write_set_with};
 use crate::spelling::ident::write_idents;
 use crate::spelling::texts::write_optional_text;
-use crs_value::{Level, Tail, Usage};
+use crs_value::{Level, Tail};
 use std::alloc::AllocError;
-
-fn says_some(usage: &Usage<'_>) -> bool
-    ensures { result ≡ says_some usage.now }
-{
-    usage.scope.is_some() || usage.area.is_some() || usage.bbox.is_some() || usage.extent.is_some()
-}
 
 // The bare parts are together one usage more, if there are any.
 fn write_usage_set(out: &mut Vec<u8>, tail: &Tail<'_>) -> Result<(), AllocError>
     ensures { OnOk result (out.new.items
         ≡ out.old.items ++ set_text (map (λ u. item_text (item_usage (norm_usage u))) (usages_of tail.now))) }
 {
-    if says_some(&tail.bare) {
+    if tail.bare.says_some() {
         write_set_with(out, &tail.bare, tail.usages.as_slice(), Level::Full)
     } else {
         write_set(out, tail.usages.as_slice(), Level::Full)
