@@ -1,9 +1,9 @@
 -- The test that a number is this whole one.
-use Rattle.std.proofs.Common.{◌≡◌, ◌≢◌, ◌↔◌, ◌⊎◌, ◌∙◌, ℕ, suc, zero, ◌<◌, ◌≤◌, ◌*◌, ◌^◌, ◌+◌, ◌-◌, ◌%◌, ◌++◌, ◌&&◌, ◌||◌, ◌==◌, not, Bool, true, false, nat_eq, nat_lt, nat_le, fold, inl, inr, List, [], ◌∷◌, None, length, decimal, get_or, refl, sym, ap, subst, arith, rules, pos, negsuc, ℤ}
+use Rattle.std.proofs.Common.{◌≡◌, ◌≢◌, ◌↔◌, ◌⊎◌, ◌∙◌, ℕ, suc, zero, ◌<◌, ◌≤◌, ◌*◌, ◌^◌, ◌+◌, ◌-◌, ◌%◌, ◌++◌, ◌&&◌, ◌||◌, ◌==◌, not, Bool, true, false, IsTrue, nat_lt, nat_le, fold, inl, inr, List, [], ◌∷◌, None, length, decimal, get_or, refl, sym, ap, subst, arith, rules, pos, negsuc, ℤ}
 use Rattle.std.proofs.lemmas.Bool.Decides.{nat_tests}
 use Rattle.std.proofs.lemmas.Fmt.{decimal_digit, decimal_nonempty, digits_decimal, digits_value-decimal, first_decimal, length-decimal-le}
 use Rattle.std.proofs.Math.Nat.{pow-suc, mul-le-mul_left, mul_assoc, one-le-pow}
-use Rattle.std.proofs.lemmas.Bool.{cases_lt, eq-eqb}
+use Rattle.std.proofs.lemmas.Bool.{cases_lt}
 use Rattle.std.proofs.lemmas.List.{append-nil}
 use Rattle.std.proofs.lemmas.Slice.Eq.{bytes_eq-Decides}
 use Rattle.std.proofs.lemmas.Str.Parse.{IsNumeralModel, numerals_by_fold}
@@ -135,10 +135,6 @@ whole-measured v n normal same =
 
 -- ---- the test
 
-false-of : (b : Bool) → (b ≡ true → ⊥) → false ≡ b
-false-of true f = absurd (f refl)
-false-of false f = refl
-
 as-true : (a b : Bool) → (a ≡ true → b ≡ true) → (b ≡ true → a ≡ true) → a ≡ b
 as-true true b f g = sym (f refl)
 as-true false true f g = g refl
@@ -171,14 +167,9 @@ module _ (laws : Laws) where
     λ s. (bytes_eq-Decides (plain v) (decimal n)).1 (sym (laws.only v (decimal n) in-v (decimal-plain n l) (decimal-denotes v n in-v l s))),
   )
 
-  -- no number of 64 bits is the value's
-  pub not-whole : (v : Value) (n : ℕ) → IsNormal v → n < 2 ^ 64 →
-      ((m : ℕ) → m < 2 ^ 64 → ¬ (SameNumber (exact v) (whole_number m))) → false ≡ is_number v n
-  not-whole v n in-v l none = false-of (is_number v n) (λ e. none n l ((number-tested v n in-v l).0 e))
-
-  -- this one is
-  pub is-whole : (v : Value) (m n : ℕ) → IsNormal v → n < 2 ^ 64 → SameNumber (exact v) (whole_number m) → nat_eq m n ≡ is_number v n
-  is-whole v m n in-v l s = as-true (nat_eq m n) (is_number v n)
-      (λ e. (number-tested v n in-v l).1 (subst (λ k. SameNumber (exact v) (whole_number k)) (eq-of m n e) s))
-      (λ e. let both = laws.transitive (whole_number m) (exact v) (whole_number n) (laws.symmetric (exact v) (whole_number m) s)
-      ((number-tested v n in-v l).0 e) in eq-eqb m n (let y : m * 1 ≡ n * 1 = both.0 in omega (arith, y)))
+  -- the test of a number is that of its bytes
+  pub whole-tested : (v : Value) (n : ℕ) (b : Bool) → IsNormal v → n < 2 ^ 64 →
+      (IsTrue b ↔ SameNumber (exact v) (whole_number n)) → b ≡ is_number v n
+  whole-tested v n b in-v l told = as-true b (is_number v n)
+      (λ e. (number-tested v n in-v l).1 (told.0 e))
+      (λ e. told.1 ((number-tested v n in-v l).0 e))

@@ -9,4 +9,5 @@ pub mod PowerLemmas
 pub mod RunLemmas
 pub mod SplitLemmas
 pub mod ValueLemmas
+pub mod WholeLemmas
 pub mod WrittenLemmas

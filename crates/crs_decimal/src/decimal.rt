@@ -2,6 +2,7 @@ ghost use Rattle.std.specs.Prelude.{◌≡◌, ℕ, MatchOption, ◌≢◌, ◌=
 ghost use Rattle.crs_decimal.specs.Number.{SameNumber, whole_number};
 ghost use Rattle.crs_decimal.specs.Value.{IsNormal, exact, is_power, zero};
 
+use crate::laws::same_number_is_equivalence;
 use crate::mantissa::scaled;
 use std::marker::Model;
 
@@ -107,6 +108,17 @@ impl Decimal {
         match scaled(self.digits(), self.power() as usize) {
             None => None,
             Some(number) => u64::try_from(number).ok(),
+        }
+    }
+
+    /// Whether this is that whole number.
+    pub fn is_whole(&self, number: u64) -> bool
+        ensures { IsTrue result ↔ SameNumber (exact self.now) (whole_number number) }
+    {
+        same_number_is_equivalence();
+        match self.whole() {
+            None => false,
+            Some(whole) => whole == number,
         }
     }
 }

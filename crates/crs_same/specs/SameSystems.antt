@@ -6,6 +6,7 @@ use Rattle.crs_value.specs.declared.level.Level.{Level}
 use Rattle.crs_value.specs.declared.unit_kind.UnitKind.{UnitKind}
 use Rattle.crs_value.specs.declared.unit_kind.UnitKind.TheVariants as kinds
 use Rattle.crs_value.specs.BadUnit.{asked_kind}
+pub use Rattle.crs_value.specs.SoundSystem.{own_or}
 use Rattle.crs_value.specs.Values.{UnitParts, AxisMeridianParts, AxisParts, SystemParts}
 use Rattle.crs_same.specs.Sets.{BothOrNeither}
 use Rattle.crs_same.specs.SameIdents.{SameIdents}
@@ -16,11 +17,6 @@ use Rattle.crs_same.specs.SameUnits.{SameValue, SameUnit}
 pub record SameAxisMeridian (level : Level) (a b : AxisMeridianParts) : Type 0 where
   pub longitude : SameValue a.longitude b.longitude
   pub unit : SameUnit kinds.Angle level a.unit b.unit
-
--- the unit of an axis: its own, or else the one that the axes share
-abbrev pub own_or : Option UnitParts → Option UnitParts → Option UnitParts
-own_or (Some own) shared = Some own
-own_or None shared = shared
 
 -- two axes with these units, where a unit of this kind is asked
 pub record SameAxisIn (asked : UnitKind) (level : Level) (a b : AxisParts) (first second : Option UnitParts) : Type 0 where

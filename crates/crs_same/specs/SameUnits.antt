@@ -6,19 +6,13 @@ use Rattle.crs_value.specs.declared.level.Level.{Level}
 use Rattle.crs_value.specs.declared.level.Level.TheVariants as levels
 use Rattle.crs_value.specs.declared.unit_kind.UnitKind.{UnitKind}
 use Rattle.crs_value.specs.declared.unit_kind.UnitKind.TheVariants as kinds
+pub use Rattle.crs_value.specs.Sound.{kind_as}
 use Rattle.crs_value.specs.Values.{IdentParts, UnitParts}
 use Rattle.crs_same.specs.SameIdents.{SameIdents}
 
 -- two decimals are the same number
 unfoldable pub SameValue : Value → Value → Type 0
 SameValue a b = SameNumber (exact a) (exact b)
-
--- the kind of a unit where this kind is asked: `UNIT` is of that
-abbrev pub kind_as : UnitKind → UnitKind → UnitKind
-kind_as asked kinds.Plain = asked
-kind_as asked kinds.Length = kinds.Length
-kind_as asked kinds.Angle = kinds.Angle
-kind_as asked kinds.Scale = kinds.Scale
 
 -- the same unit, where this kind is asked
 pub record SameUnit (asked : UnitKind) (level : Level) (a b : UnitParts) : Type 0 where

@@ -7,7 +7,7 @@ ghost use Rattle.crs_same.specs.SameUnits.{SameUnit};
 ghost use Rattle.crs_same.specs.SameFrames.{SameEllipsoid, SameMeridian, IsZero, IsGreenwich, SameGiven, SameMember, SameDatum, SameEnsemble, SameFrame};
 
 use crate::idents::same_idents;
-use crate::numbers::{is_whole, same_value};
+use crate::numbers::same_value;
 use crate::path::Path;
 use crate::sets::{Member as SetMember, same_set};
 use crate::step::Step;
@@ -74,7 +74,7 @@ fn same_meridian_units<'a>(a: &Meridian<'a>, b: &Meridian<'a>, level: Level) -> 
     ensures { IsTrue result ↔
         (IsZero a.now.longitude ⊎ BothOrNeither (SameUnit kinds.Angle level) a.now.unit b.now.unit) }
 {
-    is_whole(&a.longitude, 0)
+    a.longitude.is_whole(0)
         || same_units_as(UnitKind::Angle, a.unit.as_ref(), b.unit.as_ref(), level)
 }
 
@@ -107,7 +107,7 @@ fn first_beside_greenwich(at: Path, meridian: &Meridian<'_>, level: Level) -> Op
     if !same_text(meridian.name, b"Greenwich") {
         return Some(at.then(Step::Name));
     }
-    if !is_whole(&meridian.longitude, 0) {
+    if !meridian.longitude.is_whole(0) {
         return Some(at.then(Step::Longitude));
     }
     if !has_no_idents(&meridian.ids, level) {

@@ -1,21 +1,20 @@
 //! Axes and coordinate systems.
 ghost use Rattle.std.specs.Prelude.{◌≡◌, ◌↔◌, ◌≤◌, None, length, ⊤, IsTrue, IfSome, IfNone};
 ghost use Rattle.std.specs.Option.{option_copied};
-ghost use Rattle.crs_value.specs.BadUnit.{asked_kind};
 ghost use Rattle.crs_same.specs.Sets.{BothOrNeither};
 ghost use Rattle.crs_same.specs.FirstInSystems.{FirstInAxis, FirstAt, FirstInAxes, FirstInSystem};
-ghost use Rattle.crs_same.specs.SameSystems.{SameAxisMeridian, own_or, SameAxis, SameAxisAlone, IsAt, HasAt, SameAt, SameAxes, SameSystem};
+ghost use Rattle.crs_same.specs.SameSystems.{SameAxisMeridian, SameAxis, SameAxisAlone, IsAt, HasAt, SameAt, SameAxes, SameSystem};
 ghost use Rattle.crs_same.specs.SameUnits.{SameValue};
 
 use crate::idents::same_idents;
 use crate::laws::{as_many_axes, one_axis_each};
-use crate::numbers::{is_whole, same_value};
+use crate::numbers::same_value;
 use crate::path::Path;
 use crate::step::Step;
 use crate::texts::same_text;
 use crate::units::{same_unit_as, same_units_as};
 use crs_decimal::Decimal;
-use crs_value::{Axis, AxisMeridian, Direction, Level, System, SystemType, Unit, UnitKind};
+use crs_value::{Axis, AxisMeridian, Direction, Level, System, SystemType, UnitKind};
 
 /// Whether the meridians of two axes are the same: longitude and unit. ISO 19162:2019, "Axis direction".
 pub fn same_axis_meridian<'a>(a: &AxisMeridian<'a>, b: &AxisMeridian<'a>, level: Level) -> bool
@@ -35,25 +34,6 @@ fn same_axis_meridians<'a>(
         (None, None) => true,
         (Some(x), Some(y)) => same_axis_meridian(x, y, level),
         (None, Some(_)) | (Some(_), None) => false,
-    }
-}
-
-fn asked_kind(system_type: SystemType, direction: Direction) -> UnitKind
-    ensures { result ≡ asked_kind system_type direction }
-{
-    match (system_type, direction) {
-        (SystemType::Cartesian | SystemType::Vertical, _) => UnitKind::Length,
-        (_, Direction::Up | Direction::Down) => UnitKind::Length,
-        _ => UnitKind::Angle,
-    }
-}
-
-fn own_or<'b, 'a>(own: &'b Option<Unit<'a>>, shared: &'b Option<Unit<'a>>) -> Option<&'b Unit<'a>>
-    ensures { option_copied result ≡ own_or own.now shared.now }
-{
-    match own {
-        Some(unit) => Some(unit),
-        None => shared.as_ref(),
     }
 }
 
@@ -92,13 +72,8 @@ fn first_in_axis<'a>(
     if !same_axis_meridians(&x.meridian, &y.meridian, level) {
         return Some(at.then(Step::Meridian));
     }
-    let asked = asked_kind(a.system_type, x.direction);
-    if !same_units_as(
-        asked,
-        own_or(&x.unit, &a.unit),
-        own_or(&y.unit, &b.unit),
-        level,
-    ) {
+    let asked = a.system_type.asked_kind(x.direction);
+    if !same_units_as(asked, a.unit_of(x), b.unit_of(y), level) {
         return Some(at.then(Step::Unit));
     }
     if !same_idents(&x.ids, &y.ids, level) {
@@ -113,7 +88,7 @@ fn is_at(position: u64, place: u64, order: Option<Decimal>) -> bool
 {
     match order {
         None => place == position,
-        Some(order) => is_whole(&order, position),
+        Some(order) => order.is_whole(position),
     }
 }
 

@@ -3,21 +3,12 @@ ghost use Rattle.std.specs.Prelude.{◌≡◌, ◌↔◌, IsTrue};
 ghost use Rattle.std.specs.Option.{option_copied};
 ghost use Rattle.crs_value.specs.declared.unit_kind.UnitKind.TheVariants as kinds;
 ghost use Rattle.crs_same.specs.Sets.{BothOrNeither};
-ghost use Rattle.crs_same.specs.SameUnits.{SameUnit, SameLength, IsMetre, HasNoIdents, kind_as};
+ghost use Rattle.crs_same.specs.SameUnits.{SameUnit, SameLength, IsMetre, HasNoIdents};
 
 use crate::idents::same_idents;
-use crate::numbers::{is_whole, same_value};
+use crate::numbers::same_value;
 use crate::texts::same_text;
 use crs_value::{Ident, Level, List, Unit, UnitKind};
-
-fn kind_as(asked: UnitKind, kind: UnitKind) -> UnitKind
-    ensures { result ≡ kind_as asked kind }
-{
-    match kind {
-        UnitKind::Plain => asked,
-        UnitKind::Length | UnitKind::Angle | UnitKind::Scale => kind,
-    }
-}
 
 fn same_kind(a: UnitKind, b: UnitKind) -> bool
     ensures { IsTrue result ↔ (a ≡ b) }
@@ -29,7 +20,7 @@ fn same_kind(a: UnitKind, b: UnitKind) -> bool
 pub(crate) fn same_unit_as<'a>(asked: UnitKind, a: &Unit<'a>, b: &Unit<'a>, level: Level) -> bool
     ensures { IsTrue result ↔ SameUnit asked level a.now b.now }
 {
-    same_kind(kind_as(asked, a.kind), kind_as(asked, b.kind))
+    same_kind(a.kind.as_asked(asked), b.kind.as_asked(asked))
         && same_text(a.name, b.name)
         && same_value(&a.factor, &b.factor)
         && same_idents(&a.ids, &b.ids, level)
@@ -69,9 +60,9 @@ pub(crate) fn has_no_idents(ids: &List<Ident<'_>>, level: Level) -> bool
 fn is_metre(unit: &Unit<'_>, level: Level) -> bool
     ensures { IsTrue result ↔ IsMetre level unit.now }
 {
-    same_kind(kind_as(UnitKind::Length, unit.kind), UnitKind::Length)
+    same_kind(unit.kind.as_asked(UnitKind::Length), UnitKind::Length)
         && same_text(unit.name, b"metre")
-        && is_whole(&unit.factor, 1)
+        && unit.factor.is_whole(1)
         && has_no_idents(&unit.ids, level)
 }
 

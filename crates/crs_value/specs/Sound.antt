@@ -34,6 +34,13 @@ pub record IsUnit (unit : UnitParts) : Type 0 where
   pub above_zero : IsAboveZero unit.factor
   pub ids : Each IsIdent unit.ids
 
+-- the kind of a unit where this kind is asked: `UNIT` is of that
+abbrev pub kind_as : UnitKind → UnitKind → UnitKind
+kind_as asked kinds.Plain = asked
+kind_as asked kinds.Length = kinds.Length
+kind_as asked kinds.Angle = kinds.Angle
+kind_as asked kinds.Scale = kinds.Scale
+
 -- a kind of unit that stands for the asked one: that kind itself, or the plain one
 abbrev pub Suits : UnitKind → UnitKind → Type 0
 Suits asked kind = (kind ≡ asked) ⊎ (kind ≡ kinds.Plain)

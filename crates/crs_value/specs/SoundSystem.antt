@@ -29,6 +29,11 @@ HasOrders axes =
 
 -- ---- units
 
+-- the unit of an axis: its own, or else the one that the axes share
+abbrev pub own_or : Option UnitParts → Option UnitParts → Option UnitParts
+own_or (Some own) shared = Some own
+own_or None shared = shared
+
 -- the unit of an axis stands for the kind that the axis asks for
 abbrev pub SuitsAxis : SystemType → AxisParts → UnitParts → Type 0
 SuitsAxis system_type axis unit = Suits (asked_kind system_type axis.direction) unit.kind

@@ -10,7 +10,7 @@ ghost use Rattle.crs_value.specs.Reading.{item_at, those, Requires};
 use crate::checks::{Check, any_of, lesser, refusal_at};
 use crate::node::{number, required};
 use crate::repeats::repeats_once;
-use crate::system_checks::{is_number, type_of};
+use crate::system_checks::type_of;
 use crate::system_type::SystemType;
 use crs_decimal::laws::denotes_one;
 use crs_shape::Class;
@@ -34,7 +34,7 @@ fn is_not_plane(items: &Items<'_>, cs: ItemId) -> bool
     ensures { IsTrue result ↔ IsNotPlane (item_at items.now cs) }
 {
     denotes_one();
-    !is_number(&number(items, cs, Class::CoordinateSystem), 2)
+    !number(items, cs, Class::CoordinateSystem).is_whole(2)
 }
 
 // Whether a horizontal part of this class may not have a node `CS`.

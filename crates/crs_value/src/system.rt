@@ -1,9 +1,11 @@
 //! Coordinate systems.
-ghost use Rattle.std.specs.Prelude.{IfOk};
+ghost use Rattle.std.specs.Prelude.{◌≡◌, IfOk};
+ghost use Rattle.std.specs.Option.{option_copied};
 ghost use Rattle.crs_text.specs.Items.{HasId, arguments};
 ghost use Rattle.crs_value.specs.Checks.{IsSound, HasSystem};
 ghost use Rattle.crs_value.specs.Reading.{item_at, those, Requires, ReadsFirst};
 ghost use Rattle.crs_value.specs.Reads.{ReadsType, ReadsSystem};
+ghost use Rattle.crs_value.specs.SoundSystem.{own_or};
 
 use crate::axis::Axis;
 use crate::ident::Ident;
@@ -66,6 +68,18 @@ impl Drop for System<'_> {
             axes: _,
             unit: _,
         } = self;
+    }
+}
+
+impl<'a> System<'a> {
+    /// The unit of an axis of this system: its own, or else the one that the axes share. ISO 19162:2019, "Axis unit".
+    pub fn unit_of<'b>(&'b self, axis: &'b Axis<'a>) -> Option<&'b Unit<'a>>
+        ensures { option_copied result ≡ own_or axis.now.unit self.now.unit }
+    {
+        match &axis.unit {
+            Some(unit) => Some(unit),
+            None => self.unit.as_ref(),
+        }
     }
 }
 

@@ -14,7 +14,7 @@ use crate::checks::refusal_at;
 use crate::node::{number, required};
 use crate::system_type::SystemType;
 use crs_decimal::Decimal;
-use crs_decimal::laws::{denotes_one, same_number_is_equivalence};
+use crs_decimal::laws::denotes_one;
 use crs_shape::Class;
 use crs_text::{ItemId, Items, Refusal};
 
@@ -28,20 +28,10 @@ pub(crate) fn type_of(items: &Items<'_>, cs: ItemId) -> Option<SystemType>
     SystemType::read(items.raw(word))
 }
 
-pub(crate) fn is_number(value: &Decimal, n: u64) -> bool
-    ensures { IsTrue result ↔ SameNumber (exact value.now) (whole_number n) }
-{
-    same_number_is_equivalence();
-    match value.whole() {
-        None => false,
-        Some(whole) => whole == n,
-    }
-}
-
 fn is_two_or_three(value: &Decimal) -> bool
     ensures { IsTrue result ↔ IsOneOf value.now (2 ∷ 3 ∷ []) }
 {
-    is_number(value, 2) || is_number(value, 3)
+    value.is_whole(2) || value.is_whole(3)
 }
 
 // Whether a CRS of this class may have a system of this type and dimension.
@@ -49,12 +39,12 @@ fn is_allowed(class: Class, system_type: SystemType, dimension: &Decimal) -> boo
     ensures { IsTrue result ↔ IsOneOf dimension.now (dimensions_of class system_type) }
 {
     match (class, system_type) {
-        (Class::GeodeticCrs, SystemType::Cartesian) => is_number(dimension, 3),
+        (Class::GeodeticCrs, SystemType::Cartesian) => dimension.is_whole(3),
         (Class::GeodeticCrs, SystemType::Ellipsoidal) => is_two_or_three(dimension),
         (Class::GeodeticCrs, SystemType::Spherical) => is_two_or_three(dimension),
         (Class::GeographicCrs, SystemType::Ellipsoidal) => is_two_or_three(dimension),
         (Class::ProjectedCrs, SystemType::Cartesian) => is_two_or_three(dimension),
-        (Class::VerticalCrs, SystemType::Vertical) => is_number(dimension, 1),
+        (Class::VerticalCrs, SystemType::Vertical) => dimension.is_whole(1),
         _ => false,
     }
 }
@@ -101,7 +91,7 @@ pub(crate) fn bad_count(items: &Items<'_>, crs: ItemId, class: Class, cs: ItemId
     denotes_one();
     let dimension = number(items, cs, Class::CoordinateSystem);
     let axes = count_of(items, crs, class, Class::Axis);
-    if is_number(&dimension, axes as u64) {
+    if dimension.is_whole(axes as u64) {
         None
     } else {
         Some(refusal_at(items, cs, 25))

@@ -1,6 +1,10 @@
 ghost use Rattle.std.specs.Prelude.{◌≡◌};
+ghost use Rattle.crs_value.specs.BadUnit.{asked_kind};
 ghost use Rattle.crs_value.specs.Reading.{IsReading};
 ghost use Rattle.crs_value.specs.Words.{system_word, SpellsWord};
+
+use crate::direction::Direction;
+use crate::unit_kind::UnitKind;
 
 /// The type of a coordinate system. ISO 19162:2019, "Coordinate system".
 #[derive(Clone, Copy, Debug, PartialEq, Eq)]
@@ -32,6 +36,19 @@ impl SystemType {
             SystemType::Ellipsoidal => "ellipsoidal",
             SystemType::Spherical => "spherical",
             SystemType::Vertical => "vertical",
+        }
+    }
+
+    /// The kind of unit that an axis of this direction asks for in a system of this type. Profile.
+    pub fn asked_kind(self, direction: Direction) -> UnitKind
+        ensures { result ≡ asked_kind self direction }
+    {
+        match self {
+            SystemType::Cartesian | SystemType::Vertical => UnitKind::Length,
+            SystemType::Ellipsoidal | SystemType::Spherical => match direction {
+                Direction::Up | Direction::Down => UnitKind::Length,
+                _ => UnitKind::Angle,
+            },
         }
     }
 

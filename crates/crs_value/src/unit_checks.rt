@@ -2,7 +2,7 @@
 ghost use Rattle.std.specs.Prelude.{◌≡◌, ◌↔◌, IsTrue};
 ghost use Rattle.crs_text.specs.Items.{HasId, arguments};
 ghost use Rattle.crs_shape.specs.Shaped.{Shaped};
-ghost use Rattle.crs_value.specs.BadUnit.{asked_kind, Asks, Fits, AllAsk, SharedFits, BadShared, BadUnit};
+ghost use Rattle.crs_value.specs.BadUnit.{Asks, Fits, AllAsk, SharedFits, BadShared, BadUnit};
 ghost use Rattle.crs_value.specs.Break.{IsLeast};
 ghost use Rattle.crs_value.specs.Reading.{item_at, those, IsReading, ReadsFirst};
 ghost use Rattle.crs_value.specs.Reads.{ReadsDirection};
@@ -28,18 +28,6 @@ fn direction_of(items: &Items<'_>, axis: ItemId) -> Option<Direction>
     Direction::read(items.raw(word))
 }
 
-fn asked_kind(system_type: SystemType, direction: Direction) -> UnitKind
-    ensures { result ≡ asked_kind system_type direction }
-{
-    match system_type {
-        SystemType::Cartesian | SystemType::Vertical => UnitKind::Length,
-        SystemType::Ellipsoidal | SystemType::Spherical => match direction {
-            Direction::Up | Direction::Down => UnitKind::Length,
-            _ => UnitKind::Angle,
-        },
-    }
-}
-
 // The kind of unit that an axis asks for; None where a word isn't known.
 fn asked(items: &Items<'_>, cs: ItemId, axis: ItemId) -> Option<UnitKind>
     requires cs { HasId items.now cs }
@@ -50,7 +38,7 @@ fn asked(items: &Items<'_>, cs: ItemId, axis: ItemId) -> Option<UnitKind>
 {
     let system_type = type_of(items, cs)?;
     let direction = direction_of(items, axis)?;
-    Some(asked_kind(system_type, direction))
+    Some(system_type.asked_kind(direction))
 }
 
 // Whether a unit fits where this kind is asked.

@@ -1,6 +1,7 @@
 //! The kinds of unit.
 ghost use Rattle.std.specs.Prelude.{◌≡◌};
 ghost use Rattle.crs_value.specs.Reading.{IsReading};
+ghost use Rattle.crs_value.specs.Sound.{kind_as};
 ghost use Rattle.crs_value.specs.Words.{SpellsWord, unit_word};
 
 /// The kind of a unit, as its keyword says it. ISO 19162:2019, "Units".
@@ -24,6 +25,16 @@ const UNIT_KINDS: [UnitKind; 4] = [
 ];
 
 impl UnitKind {
+    /// The kind of a unit of this kind where that one is asked: `UNIT` is of the asked kind. ISO 19162:2019, "Units".
+    pub fn as_asked(self, asked: UnitKind) -> UnitKind
+        ensures { result ≡ kind_as asked self }
+    {
+        match self {
+            UnitKind::Plain => asked,
+            UnitKind::Length | UnitKind::Angle | UnitKind::Scale => self,
+        }
+    }
+
     // The first keyword of a unit of this kind.
     pub(crate) fn keyword(&self) -> &'static str
         ensures { result.now ≡ unit_word self.now }

@@ -1,6 +1,5 @@
 //! Axes.
 ghost use Rattle.std.specs.Prelude.{◌≡◌, ◌∷◌, ◌++◌, ◌<◌, ◌^◌, OnOk, Some, codes};
-ghost use Rattle.std.specs.Option.{option_copied};
 ghost use Rattle.crs_text.specs.Items.{End, More};
 ghost use Rattle.crs_text.specs.Written.{item_text, others_text};
 ghost use Rattle.crs_value.specs.BadUnit.{asked_kind};
@@ -14,28 +13,9 @@ ghost use Rattle.crs_normal.specs.SpelledUnits.{item_ident, item_unit, norm_unit
 use crate::spelling::ident::write_idents;
 use crate::spelling::texts::{append, open_number, open_text};
 use crate::spelling::unit::{write_optional_unit, write_unit};
-use crs_value::{Axis, AxisMeridian, Direction, Level, System, SystemType, Unit, UnitKind};
+use crs_value::{Axis, AxisMeridian, Direction, Level, System, UnitKind};
 use itoa::Buffer;
 use std::alloc::AllocError;
-
-fn asked_kind(system_type: SystemType, direction: Direction) -> UnitKind
-    ensures { result ≡ asked_kind system_type direction }
-{
-    match (system_type, direction) {
-        (SystemType::Cartesian | SystemType::Vertical, _) => UnitKind::Length,
-        (_, Direction::Up | Direction::Down) => UnitKind::Length,
-        _ => UnitKind::Angle,
-    }
-}
-
-fn own_or<'b, 'a>(own: &'b Option<Unit<'a>>, shared: &'b Option<Unit<'a>>) -> Option<&'b Unit<'a>>
-    ensures { option_copied result ≡ own_or own.now shared.now }
-{
-    match own {
-        Some(unit) => Some(unit),
-        None => shared.as_ref(),
-    }
-}
 
 fn write_whole(out: &mut Vec<u8>, number: u64) -> Result<(), AllocError>
     ensures { OnOk result (out.new.items ≡ out.old.items ++ plain (whole_value number)) }
@@ -101,8 +81,8 @@ fn write_axis_unit(
     ensures { OnOk result (out.new.items ≡ out.old.items ++ others_text (opt item_unit (norm_units level
         (asked_kind system.now.system_type axis.now.direction) (own_or axis.now.unit system.now.unit)) End)) }
 {
-    let asked = asked_kind(system.system_type, axis.direction);
-    write_optional_unit(out, asked, own_or(&axis.unit, &system.unit), level)
+    let asked = system.system_type.asked_kind(axis.direction);
+    write_optional_unit(out, asked, system.unit_of(axis), level)
 }
 
 #[tactic(auto, using(crate::proofs::PieceLemmas::then_rules))]

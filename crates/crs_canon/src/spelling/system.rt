@@ -23,10 +23,7 @@ fn is_number(value: &Decimal, number: u64) -> bool
     plain_is_the_one();
     same_number_is_equivalence();
     let _normal = value.is_negative();
-    match value.whole() {
-        None => false,
-        Some(whole) => whole == number,
-    }
+    value.is_whole(number)
 }
 
 // Whether an axis that is written at this place, from 1 on, has this position.

@@ -4,7 +4,6 @@ ghost use Rattle.std.specs.Option.{option_copied};
 ghost use Rattle.crs_text.specs.Items.{End, More};
 ghost use Rattle.crs_text.specs.Written.{item_text, others_text};
 ghost use Rattle.crs_value.specs.Words.{unit_word};
-ghost use Rattle.crs_same.specs.SameUnits.{kind_as};
 ghost use Rattle.crs_normal.specs.SpelledItems.{each, number_item, opt};
 ghost use Rattle.crs_normal.specs.SpelledUnits.{item_ident, item_unit, metre, norm_length, norm_unit, norm_units, set_idents};
 
@@ -12,15 +11,6 @@ use crate::spelling::ident::write_idents;
 use crate::spelling::texts::{append, open_text, write_number};
 use crs_value::{Level, Unit, UnitKind};
 use std::alloc::AllocError;
-
-fn kind_as(asked: UnitKind, kind: UnitKind) -> UnitKind
-    ensures { result ≡ kind_as asked kind }
-{
-    match kind {
-        UnitKind::Plain => asked,
-        UnitKind::Length | UnitKind::Angle | UnitKind::Scale => kind,
-    }
-}
 
 fn unit_opening(kind: UnitKind) -> &'static str
     ensures { result.now ≡ 44 ∷ (unit_word kind ++ 91 ∷ 34 ∷ []) }
@@ -54,7 +44,7 @@ pub(crate) fn write_unit(
 {
     open_text(
         out,
-        unit_opening(kind_as(asked, unit.kind)).as_bytes(),
+        unit_opening(unit.kind.as_asked(asked)).as_bytes(),
         unit.name,
     )?;
     write_from_factor(out, unit, level)?;
