@@ -2,6 +2,7 @@ pub mod ArgumentLemmas
 mod JudgedLemmas
 mod KnownText
 pub mod OneLemmas
+pub mod PlainLemmas
 pub mod SameOutputLemmas
 pub mod ThinAnswerLemmas
 pub mod ThinCanonicalLemmas

@@ -1,8 +1,11 @@
 ghost use Rattle.std.specs.Prelude.{◌≡◌, ◌∷◌, ◌++◌, [], IfOk};
+ghost use Rattle.crs_decimal.specs.Plain.{plain};
 ghost use Rattle.crs_text.specs.Written.{item_text};
 ghost use Rattle.crs_desk.specs.ThinSpelling.{text_item, unit_item, axis_item, system_item, frame_item, head_text, spelling};
 
 use crate::thin::values::{Axis, LengthUnit, System, VerticalCrs};
+use crs_decimal::Decimal;
+use crs_decimal::laws::plain_is_the_one;
 use std::alloc::{AllocError, Global};
 
 fn append(out: &mut Vec<u8>, bytes: &[u8]) -> Result<(), AllocError>
@@ -15,6 +18,13 @@ fn append_word(out: &mut Vec<u8>, word: &str) -> Result<(), AllocError>
     ensures { IfOk result (λ _. out.new.items ≡ out.old.items ++ word.now) }
 {
     append(out, word.as_bytes())
+}
+
+fn write_number(out: &mut Vec<u8>, number: &Decimal) -> Result<(), AllocError>
+    ensures { IfOk result (λ _. out.new.items ≡ out.old.items ++ plain number.now) }
+{
+    plain_is_the_one();
+    number.write(out)
 }
 
 // an opening and a quoted text, and a comma behind it
@@ -31,7 +41,7 @@ fn write_unit(out: &mut Vec<u8>, unit: &LengthUnit<'_>) -> Result<(), AllocError
     ensures { IfOk result (λ _. out.new.items ≡ out.old.items ++ item_text (unit_item unit.now)) }
 {
     write_head(out, b"LENGTHUNIT[", unit.name)?;
-    unit.factor.write(out)?;
+    write_number(out, &unit.factor)?;
     append(out, b"]")?;
     Ok(())
 }
@@ -53,7 +63,7 @@ fn write_system(out: &mut Vec<u8>, system: &System<'_>) -> Result<(), AllocError
     append(out, b"CS[")?;
     append_word(out, system.system_type.word())?;
     append(out, b",")?;
-    system.dimension.write(out)?;
+    write_number(out, &system.dimension)?;
     append(out, b"]")
 }
 

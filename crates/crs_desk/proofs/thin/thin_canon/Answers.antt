@@ -1,6 +1,5 @@
 use Rattle.std.proofs.Common.{◌∙◌, refl, sym, subst}
-use Rattle.crs_text.specs.Scan.{IsFaultOf}
-use Rattle.crs_text.specs.TextFault.{RefusesText}
+use Rattle.crs_text.specs.TextFault.{IsTextFault, RefusesText}
 use Rattle.crs_desk.specs.ThinReads.{Spells}
 use Rattle.crs_desk.specs.ThinCanonical.{IsCanonical, IsThinAnswer}
 use Rattle.crs_desk.proofs.ThinAnswerLemmas.{refused_not_thin, unread_not_thin, unfit_not_thin}
@@ -11,7 +10,7 @@ unfolding IsThinAnswer
 returns-in-Err-Refused-clause-answer c =
     let text = c.args.text.now in
     let refusal = c.in-Err-Refused.field-0-0 in
-    let refused : RefusesText text refusal.number refusal.place = subst (IsFaultOf text) c.in-Err-Refused.field-0-is c.in-Err-Refused.ensures in
+    let refused : RefusesText text refusal.number refusal.place = subst (IsTextFault text) c.in-Err-Refused.field-0-is c.in-Err-Refused.ensures in
     refused_not_thin text (λ item spelled. c.one_answer.ensures.apart text item refusal.number refusal.place spelled refused)
 
 pub returns-in_default-clause-answer : goal.returns-in_default-clause-answer

@@ -1,6 +1,4 @@
-use Rattle.std.proofs.Common.{refl, sym, ◌∙◌}
-use Rattle.crs_shape.specs.Keywords.{is_keyword}
-use Rattle.crs_shape.specs.Slots.{class_named}
+use Rattle.std.proofs.Common.{sym, ◌∙◌}
 use Rattle.crs_shape.proofs.FitLemmas.{not-named}
 use Rattle.crs_shape.proofs.table.names.Goals as goal
 
