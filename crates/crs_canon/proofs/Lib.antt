@@ -1,6 +1,7 @@
 pub mod EncloseLemmas
 pub mod MainLemmas
 pub mod PieceLemmas
+pub mod PlainLemmas
 pub mod SetLemmas
 pub mod SystemLemmas
 pub mod TextLemmas

@@ -6,7 +6,7 @@ use Rattle.std.proofs.lemmas.List.{append-nil, take-append-drop, length-replicat
 use Rattle.std.proofs.Math.Nat.{mul-one}
 use Rattle.crs_decimal.specs.Bounds.{digits_value, is_minus, number_of, IsMeasured, IsBounded, Denotes}
 use Rattle.crs_decimal.specs.Number.{SameNumber}
-use Rattle.crs_decimal.specs.Plain.{IsTrim, IsSignNeeded, IsFractionNeeded, IsPlain, padded, with_period, scaled, plain}
+use Rattle.crs_decimal.specs.Plain.{IsTrim, IsSignNeeded, IsFractionNeeded, IsPlain, AppendsPlain, padded, with_period, scaled, plain}
 use Rattle.crs_decimal.specs.Spelling.{Sign, unsigned, minus, sign_text, Parts, AreDigits, mantissa, IsForm, Spells}
 use Rattle.crs_decimal.specs.Value.{Value, zero as zero_value, IsNormal, exact, is_power, up_of, down_of}
 use Rattle.crs_decimal.proofs.BoundLemmas.{same_scaled}
@@ -172,3 +172,9 @@ written_at v (negsuc n) e l small (inr z) = absurd (omega (arith, ap down_of (sy
 
 pub written : (v : Value) → IsNormal v → IsWritten v (plain v)
 written v h = let p = normal_parts v h in written_at v v.power refl p.1 p.0 p.2
+
+pub appends-plain : (v : Value) → IsNormal v → (before after : List ℕ) → after ≡ before ++ plain v →
+    AppendsPlain v before after
+appends-plain v h before after e =
+    let w = written v h in
+    record { spelling = plain v; appended = e; is_plain = w.is_plain; denotes = w.denotes }

@@ -1,7 +1,8 @@
 -- The plain spelling: no exponent, no plus sign, no needless zero, no closing period, a zero before a leading period.
 use Rattle.std.specs.Prelude.{◌≡◌, ◌≢◌, ℕ, suc, ◌-◌, ◌⊎◌, ◌==◌, ◌||◌, Bool, if◌then◌else◌, List, [], ◌∷◌, ◌++◌, length, take, drop, replicate, decimal, ℤ, pos, negsuc, Option, Some, None}
 use Rattle.crs_decimal.specs.Spelling.{unsigned, minus, Parts, Spells, is_digit}
-use Rattle.crs_decimal.specs.Value.{Value}
+use Rattle.crs_decimal.specs.Bounds.{Denotes}
+use Rattle.crs_decimal.specs.Value.{Value, exact}
 
 -- digits that begin with no zero, or one zero alone
 abbrev pub IsTrim : List ℕ → Type 0
@@ -30,6 +31,13 @@ pub record IsPlain (bytes : List ℕ) : Type 0 where
   pub whole : IsTrim parts.whole
   pub fraction : IsFractionNeeded parts.fraction
   pub exponent : parts.exponent ≡ None
+
+-- what stands behind the bytes from before is a plain spelling of the value
+pub record AppendsPlain (value : Value) (before after : List ℕ) : Type 0 where
+  pub spelling : List ℕ
+  pub appended : after ≡ before ++ spelling
+  pub is_plain : IsPlain spelling
+  pub denotes : Denotes spelling (exact value)
 
 -- the bytes that plain spellings consist of: 0-9 . -
 abbrev pub is_plain_byte : ℕ → Bool

@@ -9,7 +9,7 @@ use Rattle.crs_shape.specs.Slots.{is_class}
 use Rattle.crs_value.specs.Break.{AnyOf}
 use Rattle.crs_value.specs.Checks.{AtClass, Breaks, BreaksAmong}
 use Rattle.crs_value.specs.Reading.{is_a, those, ReadsFirst}
-use Rattle.crs_value.specs.Repeated.{IsRepeated}
+use Rattle.crs_value.specs.RepeatedPart.{IsRepeated}
 use Rattle.crs_normal.specs.NormalOwn.{Each}
 use Rattle.crs_normal.proofs.ViewLemmas.{same_class}
 

@@ -9,7 +9,7 @@ use Rattle.crs_shape.specs.Keywords.{is_keyword}
 use Rattle.crs_shape.specs.Slots.{class_named, slots_of}
 use Rattle.crs_value.specs.BadOrder.{orders_in}
 use Rattle.crs_value.specs.BadUnit.{asked_kind, units_in, vertical_kind}
-use Rattle.crs_value.specs.BadWords.{UnknownDirection}
+use Rattle.crs_value.specs.UnknownWord.{UnknownDirection}
 use Rattle.crs_value.specs.Break.{AnyOf}
 use Rattle.crs_value.specs.Checks.{Own as BreaksOwn}
 use Rattle.crs_value.specs.declared.direction.Direction.{Direction}

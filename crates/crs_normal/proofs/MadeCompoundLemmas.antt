@@ -9,7 +9,7 @@ use Rattle.crs_shape.specs.declared.class.Class.{Class}
 use Rattle.crs_shape.specs.declared.class.Class.TheVariants as class
 use Rattle.crs_shape.specs.Keywords.{is_keyword}
 use Rattle.crs_shape.specs.Slots.{class_named, one, one_of, tail, takes}
-use Rattle.crs_value.specs.BadPart.{BadPart, IsNotEllipsoidal, IsNotHorizontal, IsNotPlane}
+use Rattle.crs_value.specs.BadComponent.{BadComponent, IsNotEllipsoidal, IsNotHorizontal, IsNotPlane}
 use Rattle.crs_value.specs.Break.{AnyOf, FirstIs}
 use Rattle.crs_value.specs.Checks.{OfCompound, Own as BreaksOwn, horizontal_classes}
 use Rattle.crs_value.specs.CompoundValues.{CompoundParts}
@@ -134,14 +134,14 @@ side-shows level false j name v t item h = h
 
 not-bad-part : (c : Class) (j : Item) (items : List Item) (fault : Refused) → ArePlaced items (j ∷ []) →
     ((p : ℕ) → ¬ (FirstIs (IsNotHorizontal c) (those c class.CoordinateSystem (arguments (at_place p j))))) →
-    ¬ (AnyOf (BadPart c) items fault)
+    ¬ (AnyOf (BadComponent c) items fault)
 not-bad-part c j [] fault h f b = b
 not-bad-part c j (x ∷ y ∷ items) fault h f b = h.1
 not-bad-part c j (x ∷ []) fault h f (inl b) =
     f h.0.0 (subst (λ i. FirstIs (IsNotHorizontal c) (those c class.CoordinateSystem (arguments i))) h.0.1 b.1)
 not-bad-part c j (x ∷ []) fault h f (inr b) = b
 
-no-part : (c : Class) (items : List Item) (fault : Refused) → ArePlaced items [] → ¬ (AnyOf (BadPart c) items fault)
+no-part : (c : Class) (items : List Item) (fault : Refused) → ArePlaced items [] → ¬ (AnyOf (BadComponent c) items fault)
 no-part c [] fault h b = b
 no-part c (x ∷ items) fault h b = h
 

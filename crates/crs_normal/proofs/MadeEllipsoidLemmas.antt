@@ -9,7 +9,7 @@ use Rattle.crs_shape.specs.declared.class.Class.{Class}
 use Rattle.crs_shape.specs.declared.class.Class.TheVariants as class
 use Rattle.crs_shape.specs.Keywords.{is_keyword}
 use Rattle.crs_shape.specs.Slots.{class_named, slots_of}
-use Rattle.crs_value.specs.BadNumber.{IsAboveZero}
+use Rattle.crs_value.specs.BadValue.{IsAboveZero}
 use Rattle.crs_value.specs.Checks.{OfEllipsoid, Own as BreaksOwn}
 use Rattle.crs_value.specs.declared.level.Level.{Level}
 use Rattle.crs_value.specs.declared.level.Level.TheVariants as levels

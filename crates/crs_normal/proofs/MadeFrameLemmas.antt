@@ -17,7 +17,7 @@ use Rattle.crs_value.specs.declared.frame.Frame.{Frame}
 use Rattle.crs_value.specs.declared.frame.Frame.TheVariants as frame
 use Rattle.crs_value.specs.declared.level.Level.{Level}
 use Rattle.crs_value.specs.Reading.{those}
-use Rattle.crs_value.specs.Repeated.{IsRepeated}
+use Rattle.crs_value.specs.RepeatedPart.{IsRepeated}
 use Rattle.crs_value.specs.Sound.{Each, IsText}
 use Rattle.crs_value.specs.SoundFrames.{IsDatum, IsEllipsoid, IsEnsemble, IsMember}
 use Rattle.crs_value.specs.SoundSingle.{IsGeodeticFrame, IsVerticalFrame}

@@ -16,7 +16,7 @@ use Rattle.crs_shape.specs.Keywords.{is_keyword}
 use Rattle.crs_shape.specs.Slots.{class_named, slots_of}
 use Rattle.crs_value.specs.BadSystem.{IsOneOf}
 use Rattle.crs_value.specs.BadUnit.{asked_kind}
-use Rattle.crs_value.specs.BadWords.{UnknownType}
+use Rattle.crs_value.specs.UnknownWord.{UnknownType}
 use Rattle.crs_value.specs.Break.{AnyOf}
 use Rattle.crs_value.specs.Checks.{Own as BreaksOwn}
 use Rattle.crs_value.specs.declared.level.Level.{Level}

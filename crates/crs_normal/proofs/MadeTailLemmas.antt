@@ -14,7 +14,7 @@ use Rattle.crs_value.specs.Checks.{AtClass, Own as BreaksOwn, once}
 use Rattle.crs_value.specs.declared.level.Level.{Level}
 use Rattle.crs_value.specs.declared.level.Level.TheVariants as levels
 use Rattle.crs_value.specs.Reading.{those}
-use Rattle.crs_value.specs.Repeated.{IsRepeated, RepeatsAny}
+use Rattle.crs_value.specs.RepeatedPart.{IsRepeated, RepeatsAny}
 use Rattle.crs_value.specs.Sound.{Each, IsText}
 use Rattle.crs_value.specs.SoundUsages.{IsTail, IsUsage}
 use Rattle.crs_value.specs.Values.{TailParts, UsageParts}

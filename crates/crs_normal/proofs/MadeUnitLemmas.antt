@@ -11,7 +11,7 @@ use Rattle.crs_shape.specs.declared.class.Class.TheVariants as class
 use Rattle.crs_shape.specs.Keywords.{is_keyword}
 use Rattle.crs_shape.specs.Shape.{Allowed}
 use Rattle.crs_shape.specs.Slots.{class_named, slots_of, unit_slots}
-use Rattle.crs_value.specs.BadNumber.{IsAboveZero, NotAbove}
+use Rattle.crs_value.specs.BadValue.{IsAboveZero, NotAbove}
 use Rattle.crs_value.specs.Break.{AnyOf}
 use Rattle.crs_value.specs.Checks.{OfUnit, Own as BreaksOwn}
 use Rattle.crs_value.specs.declared.level.Level.{Level}

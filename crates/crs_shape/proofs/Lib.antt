@@ -2,6 +2,7 @@ pub mod BoolLemmas
 pub mod CountLemmas
 pub mod FaultLemmas
 pub mod FitLemmas
+pub mod PlaceLemmas
 pub mod KeywordTableLemmas
 pub mod KeywordLemmas
 pub mod ListLemmas

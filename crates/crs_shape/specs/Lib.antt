@@ -1,4 +1,5 @@
 pub mod Counts
+pub mod FaultPlace
 pub mod FirstFault
 pub mod KeywordTable
 pub mod Keywords

@@ -1,9 +1,11 @@
 //! The laws of shapes.
-ghost use Rattle.std.specs.Prelude.{◌≡◌, ◌≤◌, ◌↔◌, ◌⊎◌, Bool, IsTrue, List};
-ghost use Rattle.crs_text.specs.Items.{Item};
+ghost use Rattle.std.specs.Prelude.{◌≡◌, ◌<◌, ◌≤◌, ◌↔◌, ◌⊎◌, ℕ, Bool, IsTrue, List, length};
+ghost use Rattle.crs_text.specs.Items.{Item, HasId, first_of, here};
 ghost use Rattle.crs_text.specs.Refusal.{Refused};
+ghost use Rattle.crs_text.specs.TextFault.{SpellsNode};
 ghost use Rattle.crs_shape.specs.declared.class.Class.{Class};
 ghost use Rattle.crs_shape.specs.Counts.{how_many, least, most, is_bounded};
+ghost use Rattle.crs_shape.specs.FaultPlace.{IsPlaceIn, IsShapeNumber};
 ghost use Rattle.crs_shape.specs.Shape.{Allowed, Fit, joined, is_apart};
 ghost use Rattle.crs_shape.specs.ShapeFault.{IsFree, Inside, AtRoot};
 ghost use Rattle.crs_shape.specs.Shaped.{Shaped};
@@ -31,6 +33,21 @@ pub fn no_fault_is_shape()
 pub fn fault_at_root_is_one()
     ensures one { (item : Item) (a b : Refused) → AtRoot item a → AtRoot item b → a ≡ b }
     ensures either { (item : Item) → IsFree (AtRoot item) ⊎ ((fault : Refused) × AtRoot item fault) }
+{}
+
+/// A fault of shape has the number 11, 12 or 13, and lies at the first byte of an item or at the closing delimiter of a
+/// node: of the item that is judged, or of one that stands in it. Profile.
+pub fn fault_is_within()
+    ensures inside { (class : Class) (item : Item) (fault : Refused) → Inside class item fault →
+        IsShapeNumber fault.number × IsPlaceIn item fault.place }
+    ensures root { (item : Item) (fault : Refused) → AtRoot item fault →
+        IsShapeNumber fault.number × IsPlaceIn item fault.place }
+
+    // A place of an item of a tree is one of the tree, and one of a text's node is a byte of the text.
+    ensures held { (tree : Item) (id place : ℕ) → HasId tree id →
+        IsPlaceIn (first_of (here tree id)) place → IsPlaceIn tree place }
+    ensures text { (text : List ℕ) (item : Item) (place : ℕ) → SpellsNode text item →
+        IsPlaceIn item place → place < length text }
 {}
 
 /// An allowed list has at least as many arguments of some classes as there are slots that are required

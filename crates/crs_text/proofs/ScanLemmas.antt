@@ -6,13 +6,13 @@ use Rattle.std.proofs.lemmas.List.Sums.{prefix_len-le-length}
 use Rattle.crs_text.specs.Tokens as tokens
 use Rattle.crs_text.specs.Tokens.{Kind, Token, single, comma, opening, closing, opening_byte, closing_byte, is_white, Forms, Fronts, IsAfterWhite}
 use Rattle.crs_text.specs.Items.{Item}
-use Rattle.crs_text.specs.TextFault.{number_of, IsFlaw, IsStop, RefusesText, SpellsNode}
+use Rattle.crs_text.specs.TextFault.{number_of, IsFlaw, IsStop, IsTextFault, RefusesText, SpellsNode}
 use Rattle.crs_text.specs.Table.{Flat, flat_step, IsStep, IsOpened, is_whole}
 use Rattle.crs_text.specs.Rows.{Shows, flat}
 use Rattle.crs_text.specs.State.{start, after}
 use Rattle.crs_text.specs.Lexing.{IsLexed, Stands}
 use Rattle.crs_text.specs.Refusal.{Refused}
-use Rattle.crs_text.specs.Scan.{IsReached, IsTaken, IsStopped, IsStoppedBy, IsFaultOf, IsSingleAt}
+use Rattle.crs_text.specs.Scan.{IsReached, IsTaken, IsStopped, IsStoppedBy, IsSingleAt}
 use Rattle.crs_text.specs.declared.fault.Fault.{Fault}
 use Rattle.crs_text.specs.declared.fault.Fault.TheVariants as faults
 use Rattle.crs_text.specs.declared.refusal.Reason.{Reason}
@@ -252,7 +252,7 @@ taken_some text at n before behind t =
 pub white_fits : (text : List ℕ) (end w : ℕ) → end ≤ length text → w ≡ prefix_len is_white (drop end text) → end + w ≤ length text
 white_fits text end w le e = omega (arith, prefix_len-le-length is_white (drop end text), length-drop end text, e)
 
-pub fault_of_stop : (bytes : List ℕ) (at : ℕ) (table : Flat) (fault : Fault) → IsReached bytes table at → IsStoppedBy bytes at table fault → IsFaultOf bytes fault
+pub fault_of_stop : (bytes : List ℕ) (at : ℕ) (table : Flat) (fault : Fault) → IsReached bytes table at → IsStoppedBy bytes at table fault → IsTextFault bytes fault
 fault_of_stop bytes at table (faults.Refused r) reached s = refused_at bytes at table r reached s
 fault_of_stop bytes at table (faults.Memory e) reached s = tt
 

@@ -1,7 +1,7 @@
--- How far the scan has come.
+-- A bridge: how far the scan has come.
 use Rattle.std.specs.Prelude.{◌≡◌, ℕ, ◌+◌, ◌≤◌, List, [], length, drop, Some}
 use Rattle.crs_text.specs.Tokens.{Kind, Token, single, Forms, Fronts}
-use Rattle.crs_text.specs.TextFault.{number_of, IsStop, RefusesText, SpellsNode}
+use Rattle.crs_text.specs.TextFault.{number_of, IsStop, SpellsNode}
 use Rattle.crs_text.specs.Table.{Flat, flat_step, item_kind}
 use Rattle.crs_text.specs.Rows.{Shows, flat}
 use Rattle.crs_text.specs.State.{after}
@@ -37,11 +37,6 @@ pub record IsStopped (text : List ℕ) (at : ℕ) (table : Flat) (refusal : Refu
 abbrev pub IsStoppedBy : List ℕ → ℕ → Flat → Fault → Type 0
 IsStoppedBy text at table (faults.Refused refusal) = IsStopped text at table refusal
 IsStoppedBy text at table (faults.Memory e) = Unit {0}
-
--- the refusal is that of the text
-abbrev pub IsFaultOf : List ℕ → Fault → Type 0
-IsFaultOf text (faults.Refused refusal) = RefusesText text refusal.number refusal.place
-IsFaultOf text (faults.Memory e) = Unit {0}
 
 -- a single token of this kind stands here: the length of its raw bytes, and of all its bytes
 pub record IsSingleAt (text : List ℕ) (at : ℕ) (kind : ItemKind) (len size : ℕ) : Type 0 where

@@ -9,6 +9,8 @@ use Rattle.crs_text.specs.Utf8.{IsUtf8Front, IsLongestUtf8}
 use Rattle.crs_text.specs.Tokens.{Token, single, comma, opening, closing, is_letter, Forms, Fronts, AreTokens}
 use Rattle.crs_text.specs.Items.{Item, AreNode}
 use Rattle.crs_text.specs.Viable.{IsViable, IsViableAtAnyDepth}
+use Rattle.crs_text.specs.declared.fault.Fault.{Fault}
+use Rattle.crs_text.specs.declared.fault.Fault.TheVariants as faults
 use Rattle.crs_text.specs.declared.refusal.Reason.{Reason}
 use Rattle.crs_text.specs.declared.refusal.Reason.TheVariants.{BadCharacter, BadNumber, NumberRange, NotUtf8, OpenText, Unexpected, UnexpectedEnd, TooDeep}
 
@@ -87,3 +89,8 @@ pub record RefusesText (bytes : List ℕ) (number place : ℕ) : Type 0 where
   pub stop : IsStop reason (length bytes) before left skip
   pub is_number : number ≡ number_of reason
   pub is_place : place + length left ≡ length bytes + skip
+
+-- a fault that is a refusal is that of the text
+abbrev pub IsTextFault : List ℕ → Fault → Type 0
+IsTextFault text (faults.Refused refusal) = RefusesText text refusal.number refusal.place
+IsTextFault text (faults.Memory e) = Unit {0}

@@ -1,7 +1,6 @@
 //! From a text to its items.
 ghost use Rattle.std.specs.Prelude.{MatchResult};
-ghost use Rattle.crs_text.specs.TextFault.{SpellsNode};
-ghost use Rattle.crs_text.specs.Scan.{IsFaultOf};
+ghost use Rattle.crs_text.specs.TextFault.{IsTextFault, SpellsNode};
 
 use crate::fault::Fault;
 use crate::items::Items;
@@ -15,7 +14,7 @@ use std::alloc::Global;
 /// `Memory`: a row of the table was refused. Time and memory are linear in the text.
 /// ISO 19162:2019, "Backus-Naur Form (BNF) syntax"; the limits are the profile's.
 pub fn read_items<'a>(alloc: Global, text: &'a [u8]) -> Result<Items<'a>, Fault>
-    ensures { MatchResult result (SpellsNode text.now) (IsFaultOf text.now) }
+    ensures { MatchResult result (SpellsNode text.now) (IsTextFault text.now) }
 {
     let mut table = Table::new(alloc);
     match scan(&mut table, text) {

@@ -2,8 +2,8 @@
 ghost use Rattle.std.specs.Prelude.{◌≡◌, ◌+◌, ◌≤◌, ◌<◌, length, drop, IfOk, IfErr, MatchResult};
 ghost use Rattle.crs_text.specs.Tokens.{Forms, comma, opening, closing, is_white};
 ghost use Rattle.std.specs.List.{prefix_len};
-ghost use Rattle.crs_text.specs.TextFault.{number_of, IsFlaw};
-ghost use Rattle.crs_text.specs.Scan.{IsReached, IsTaken, IsStoppedBy, IsFaultOf, IsSingleAt, IsScanned};
+ghost use Rattle.crs_text.specs.TextFault.{number_of, IsFlaw, IsTextFault};
+ghost use Rattle.crs_text.specs.Scan.{IsReached, IsTaken, IsStoppedBy, IsSingleAt, IsScanned};
 ghost use Rattle.crs_text.specs.Table.{Flat, is_whole};
 ghost use Rattle.crs_text.specs.Rows.{flat};
 ghost use Rattle.crs_text.specs.State.{start};
@@ -113,7 +113,7 @@ fn advance(table: &mut Table, text: &[u8], at: usize) -> Result<usize, Fault>
     requires reached { IsReached text.now table.old at }
     ensures { MatchResult result
         (λ next. IsReached text.now table.new next × (at < next))
-        (IsFaultOf text.now) }
+        (IsTextFault text.now) }
 {
     match take_token(table, text, at) {
         Ok(size) => Ok(after_white(text, at + size)),
@@ -126,7 +126,7 @@ pub(crate) fn scan(table: &mut Table, text: &[u8]) -> Result<(), Fault>
     requires { table.old ≡ flat start }
     ensures { MatchResult result
         (λ _. IsScanned text.now table.new)
-        (IsFaultOf text.now) }
+        (IsTextFault text.now) }
 {
     let mut at = white_length(text);
     while at < text.len() {

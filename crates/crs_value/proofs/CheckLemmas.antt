@@ -6,7 +6,7 @@ use Rattle.crs_text.specs.Items.{Item, arguments, rest_of, raw_of, here}
 use Rattle.crs_text.specs.Refusal.{Refused}
 use Rattle.crs_shape.specs.declared.class.Class.{Class}
 use Rattle.crs_shape.specs.Shaped.{Shaped}
-use Rattle.crs_value.specs.BadNumber.{IsAboveZero, NotAbove, IsNegative}
+use Rattle.crs_value.specs.BadValue.{IsAboveZero, NotAbove, IsNegative}
 use Rattle.crs_value.specs.Break.{AnyOf, IsLeast}
 use Rattle.crs_value.specs.Found.{from_found, AllShaped}
 use Rattle.crs_value.specs.Least.{lesser}

@@ -9,7 +9,7 @@ use Rattle.crs_value.specs.BadSystem.{dimensions_of}
 use Rattle.crs_value.specs.BadUnit.{BadOwnUnit, Misfits, HasOwnUnit, IsSuperfluous, BadUnit, units_in}
 use Rattle.crs_value.specs.Break.{at, AnyOf, IsLeast}
 use Rattle.crs_value.specs.Checks.{OfAxes, OfHead, once, OfCrs, BreaksAmong}
-use Rattle.crs_value.specs.Repeated.{RepeatsAny}
+use Rattle.crs_value.specs.RepeatedPart.{RepeatsAny}
 use Rattle.crs_value.specs.Least.{lesser}
 use Rattle.crs_value.specs.Reading.{those}
 use Rattle.crs_value.proofs.LeastLemmas.{least-same, least-below, either-is}

@@ -12,7 +12,7 @@ use Rattle.crs_value.specs.declared.direction.Direction.{Direction}
 use Rattle.crs_value.specs.declared.system_type.SystemType.{SystemType}
 use Rattle.crs_value.specs.declared.unit_kind.UnitKind.{UnitKind}
 use Rattle.crs_value.specs.declared.unit_kind.UnitKind.TheVariants as kinds
-use Rattle.crs_value.specs.BadWords.{UnknownType, UnknownDirection}
+use Rattle.crs_value.specs.UnknownWord.{UnknownType, UnknownDirection}
 use Rattle.crs_value.specs.Break.{at, AnyOf}
 use Rattle.crs_value.specs.Checks.{Own, IsSound}
 use Rattle.crs_value.specs.Reading.{those}

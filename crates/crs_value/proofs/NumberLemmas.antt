@@ -1,24 +1,25 @@
 -- The faults of checks: their numbers, and their places within the text.
-use Rattle.std.proofs.Common.{◌≡◌, ℕ, zero, suc, ◌≤◌, take, drop, length, Bool, true, false, if◌then◌else◌, inl, inr, Option, Some, None, List, [], ◌∷◌, ◌++◌, arith}
+use Rattle.std.proofs.Common.{◌≡◌, ℕ, zero, suc, ◌<◌, ◌≤◌, take, drop, length, Bool, true, false, if◌then◌else◌, inl, inr, Option, Some, None, List, [], ◌∷◌, ◌++◌, arith}
 use Rattle.crs_text.specs.Items.{Item, leaf, node, Items, End, More, arguments}
 use Rattle.crs_text.specs.Refusal.{Refused}
-use Rattle.crs_text.specs.TextFault.{RefusesText}
+use Rattle.crs_text.specs.TextFault.{RefusesText, SpellsNode}
 use Rattle.crs_shape.specs.declared.class.Class.{Class}
 use Rattle.crs_shape.specs.declared.class.Class.TheVariants as class
-use Rattle.crs_shape.specs.ShapeFault.{class_in}
+use Rattle.crs_shape.specs.FaultPlace.{IsPlaceIn, IsShapeNumber}
+use Rattle.crs_shape.specs.ShapeFault.{AtRoot, class_in}
 use Rattle.crs_value.specs.declared.system_type.SystemType.{SystemType}
-use Rattle.crs_value.specs.BadNumber.{NotAbove, IsNegative}
+use Rattle.crs_value.specs.BadValue.{NotAbove, IsNegative}
 use Rattle.crs_value.specs.BadOrder.{LacksOrder, IsBadOrder, BadOrders, BadOrder, orders_in}
-use Rattle.crs_value.specs.BadPart.{BadPart, BadParts}
+use Rattle.crs_value.specs.BadComponent.{BadComponent, BadComponents}
 use Rattle.crs_value.specs.BadSystem.{dimensions_of}
 use Rattle.crs_value.specs.BadUnit.{units_in, Misfits, BadOwnUnit, IsSuperfluous, HasOwnUnit, BadUnit}
-use Rattle.crs_value.specs.BadWords.{UnknownType, UnknownDirection}
+use Rattle.crs_value.specs.UnknownWord.{UnknownType, UnknownDirection}
 use Rattle.crs_value.specs.Break.{at, AnyOf}
 use Rattle.crs_value.specs.Checks.{once, OfHead, OfAxes, OfCrs, OfCompound, OfUnit, OfEllipsoid, Own, AtClass, Breaks, BreaksAmong, horizontal_classes}
-use Rattle.crs_value.specs.Repeated.{IsRepeated, Repeats, RepeatsAny}
+use Rattle.crs_value.specs.RepeatedPart.{IsRepeated, Repeats, RepeatsAny}
 use Rattle.crs_value.specs.Reading.{is_a, those}
 use Rattle.crs_value.specs.SpellsText.{IsFrom, IsRefusal, Refuses}
-use Rattle.crs_value.proofs.PlaceLemmas.{Within, AreWithin, Fine, fine-as, node-within, place-within, arguments-within, root-fine}
+use Rattle.crs_value.proofs.PlaceLemmas.{Within, AreWithin, Fine, fine-as, node-within, place-within, arguments-within}
 
 module _ (total : ℕ) where
   abbrev Good : Refused → Type 0
@@ -68,10 +69,10 @@ module _ (total : ℕ) where
   repeats-any-good parent items (c ∷ cs) fault h (inl x) = repeats-good parent items c fault h x
   repeats-any-good parent items (c ∷ cs) fault h (inr x) = repeats-any-good parent items cs fault h x
 
-  parts-good : (cs : List Class) (items : Items) (fault : Refused) → AreWithin total items → BadParts cs items fault → Good fault
+  parts-good : (cs : List Class) (items : Items) (fault : Refused) → AreWithin total items → BadComponents cs items fault → Good fault
   parts-good [] items fault h x = absurd x
   parts-good (c ∷ cs) items fault h (inl x) =
-      any-good (BadPart c) fault (λ i w y. at-good 24 i fault (omega arith, omega arith) w y.0) (those class.CompoundCrs c items) (those-all class.CompoundCrs c items h) x
+      any-good (BadComponent c) fault (λ i w y. at-good 24 i fault (omega arith, omega arith) w y.0) (those class.CompoundCrs c items) (those-all class.CompoundCrs c items h) x
   parts-good (c ∷ cs) items fault h (inr x) = parts-good cs items fault h x
 
   orders-good : (n : ℕ) (before axes : List Item) (fault : Refused) → All axes → BadOrders n before axes fault → Good fault
@@ -172,9 +173,27 @@ module _ (total : ℕ) where
 abbrev pub TextWithin : Type 0
 TextWithin = (bytes : List ℕ) (n place : ℕ) → RefusesText bytes n place → (1 ≤ n) × (n ≤ 8) × (place ≤ length bytes)
 
-pub refused-within : TextWithin → (text : List ℕ) (fault : Refused) → Refuses text fault → IsRefusal fault.number × (fault.place ≤ length text)
-refused-within law text fault (inl x) = let h = law text fault.number fault.place x in (inl (h.0, h.1), h.2)
-refused-within law text fault (inr (item, (spells, inl x))) =
-    let h = root-fine (length text) item fault (node-within text item spells) x in (inr (inl h.0), h.1)
-refused-within law text fault (inr (item, (spells, inr x))) =
-    let h = breaks-good (length text) x.class_read item fault (node-within text item spells) x.first.0 in (inr (inr h.0), h.1)
+abbrev pub ShapeWithin : Type 0
+ShapeWithin = (item : Item) (fault : Refused) → AtRoot item fault →
+    IsShapeNumber fault.number × IsPlaceIn item fault.place
+
+abbrev pub PlacesBelow : Type 0
+PlacesBelow = (bytes : List ℕ) (item : Item) (place : ℕ) → SpellsNode bytes item → IsPlaceIn item place →
+    place < length bytes
+
+shape-number : (n : ℕ) → IsShapeNumber n → IsFrom 11 13 n
+shape-number n (inl e) = (omega (arith, e), omega (arith, e))
+shape-number n (inr (inl e)) = (omega (arith, e), omega (arith, e))
+shape-number n (inr (inr e)) = (omega (arith, e), omega (arith, e))
+
+pub refused-within : TextWithin → ShapeWithin → PlacesBelow → (bytes : List ℕ) (fault : Refused) →
+    Refuses bytes fault → IsRefusal fault.number × (fault.place ≤ length bytes)
+refused-within law shape below bytes fault (inl x) =
+    let h = law bytes fault.number fault.place x in (inl (h.0, h.1), h.2)
+refused-within law shape below bytes fault (inr (item, (spells, inl x))) =
+    let h = shape item fault x in
+    let under = below bytes item fault.place spells h.1 in
+    (inr (inl (shape-number fault.number h.0)), omega (arith, under))
+refused-within law shape below bytes fault (inr (item, (spells, inr x))) =
+    let h = breaks-good (length bytes) x.class_read item fault (node-within bytes item spells) x.first.0 in
+    (inr (inr h.0), h.1)

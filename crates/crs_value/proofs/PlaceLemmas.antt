@@ -1,12 +1,9 @@
--- Places: what a text's items hold lies within the text, and so do the faults of its shape.
-use Rattle.std.proofs.Common.{◌≡◌, ℕ, ◌+◌, ◌≤◌, length, Bool, true, false, if◌then◌else◌, inl, inr, List, [], ◌∷◌, ◌++◌, sym, subst, arith}
+-- Places: what a text's items hold lies within the text.
+use Rattle.std.proofs.Common.{◌≡◌, ℕ, ◌+◌, ◌≤◌, length, List, [], ◌∷◌, ◌++◌, sym, subst, arith}
 use Rattle.crs_text.specs.Tokens.{Token, single, comma, opening, closing, Forms, Fronts}
 use Rattle.crs_text.specs.Items.{Item, leaf, node, Items, End, More, arguments, place_of, tokens, others_tokens}
 use Rattle.crs_text.specs.Refusal.{Refused}
 use Rattle.crs_text.specs.TextFault.{SpellsNode}
-use Rattle.crs_shape.specs.declared.class.Class.{Class}
-use Rattle.crs_shape.specs.Keywords.{is_known}
-use Rattle.crs_shape.specs.ShapeFault.{misplaced, missing, ArgumentFault, Inside, Among, AtRoot}
 use Rattle.crs_value.specs.SpellsText.{IsFrom}
 
 abbrev TokenWithin : ℕ → Token → Type 0
@@ -72,7 +69,7 @@ pub arguments-within : (total : ℕ) (item : Item) → Within total item → Are
 arguments-within total (leaf kind place raw) h = tt
 arguments-within total (node place keyword square first others close) h = h.1.1
 
--- ---- faults of shape
+-- ---- faults
 
 -- a fault with a number of these and a place within a text of this length
 abbrev pub Fine : ℕ → ℕ → ℕ → Refused → Type 0
@@ -80,38 +77,3 @@ Fine low high total fault = IsFrom low high fault.number × (fault.place ≤ tot
 
 pub fine-as : (low high total : ℕ) (fault other : Refused) → fault ≡ other → Fine low high total other → Fine low high total fault
 fine-as low high total fault other e h = subst (Fine low high total) (sym e) h
-
-misplaced-fine : (total : ℕ) (item : Item) → Within total item → Fine 11 13 total (misplaced item)
-misplaced-fine total (leaf kind place raw) h = ((omega arith, omega arith), h)
-misplaced-fine total (node place keyword square first others close) h = (by (is_known keyword), h.0)
-  where
-    by : (known : Bool) → IsFrom 11 13 (if known then 12 else 11)
-    by true = (omega arith, omega arith)
-    by false = (omega arith, omega arith)
-
-argument-fine : (total : ℕ) (parent : Class) (before : List Class) (item : Item) (W : Class → Refused → Type 0) (L : List Class → Refused → Type 0) (fault : Refused) → Within total item →
-    ((d : Class) → W d fault → Fine 11 13 total fault) → ((classes : List Class) → L classes fault → Fine 11 13 total fault) → ArgumentFault parent before item W L fault →
-    Fine 11 13 total fault
-argument-fine total parent before item W L fault h inner after (inl x) = fine-as 11 13 total fault (misplaced item) x.1 (misplaced-fine total item h)
-argument-fine total parent before item W L fault h inner after (inr (c, (stands, inl x))) = inner c x
-argument-fine total parent before item W L fault h inner after (inr (c, (stands, inr x))) = after (before ++ c ∷ []) x.1
-
-mutual
-  inside-fine : (total : ℕ) (c : Class) (item : Item) (fault : Refused) → Within total item → Inside c item fault → Fine 11 13 total fault
-  inside-fine total c (leaf kind place raw) fault h x = fine-as 11 13 total fault (misplaced (leaf kind place raw)) x.1 (misplaced-fine total (leaf kind place raw) h)
-  inside-fine total c (node place keyword square first others close) fault h (inl x) =
-      fine-as 11 13 total fault (misplaced (node place keyword square first others close)) x.1 (misplaced-fine total (node place keyword square first others close) h)
-  inside-fine total c (node place keyword square first others close) fault h (inr x) =
-      argument-fine total c [] first (λ d f. Inside d first f) (λ before f. Among c close before others f) fault h.1.1.0
-      (λ d y. inside-fine total d first fault h.1.1.0 y) (λ before y. among-fine total c close before others fault h.1.0 h.1.1.1 y) x.1
-
-  among-fine : (total : ℕ) (c : Class) (close : ℕ) (before : List Class) (items : Items) (fault : Refused) → close ≤ total → AreWithin total items → Among c close before items fault →
-      Fine 11 13 total fault
-  among-fine total c close before End fault shut h x = fine-as 11 13 total fault (missing close) x.1 ((omega arith, omega arith), shut)
-  among-fine total c close before (More item items) fault shut h x =
-      argument-fine total c before item (λ d f. Inside d item f) (λ b f. Among c close b items f) fault h.0
-      (λ d y. inside-fine total d item fault h.0 y) (λ b y. among-fine total c close b items fault shut h.1 y) x
-
-pub root-fine : (total : ℕ) (item : Item) (fault : Refused) → Within total item → AtRoot item fault → Fine 11 13 total fault
-root-fine total item fault h (inl x) = fine-as 11 13 total fault (misplaced item) x.1 (misplaced-fine total item h)
-root-fine total item fault h (inr x) = inside-fine total x.0 item fault h x.1.1

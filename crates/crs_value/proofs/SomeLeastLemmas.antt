@@ -13,15 +13,16 @@ use Rattle.crs_value.specs.declared.system_type.SystemType.{SystemType}
 use Rattle.crs_value.specs.declared.system_type.SystemType.TheVariants as types
 use Rattle.crs_value.specs.declared.unit_kind.UnitKind.{UnitKind}
 use Rattle.crs_value.specs.declared.unit_kind.UnitKind.TheVariants as kinds
-use Rattle.crs_value.specs.BadNumber.{IsAboveZero, NotAbove, IsNegative}
-use Rattle.crs_value.specs.BadOrder.{BadCount, orders_in, SomeHasOrder, AllHaveOrder, LacksOrder, ReadsOrder, IsPosition, HasThis, OneHas, IsWrongOrder, IsBadOrder, BadOrders, BadOrder}
-use Rattle.crs_value.specs.BadPart.{IsNotEllipsoidal, IsNotPlane, IsNotHorizontal, BadPart, BadParts}
+use Rattle.crs_value.specs.BadValue.{IsAboveZero, NotAbove, IsNegative}
+use Rattle.crs_value.specs.AxisCount.{AxisCount}
+use Rattle.crs_value.specs.BadOrder.{orders_in, SomeHasOrder, AllHaveOrder, LacksOrder, ReadsOrder, IsPosition, HasThis, OneHas, IsWrongOrder, IsBadOrder, BadOrders, BadOrder}
+use Rattle.crs_value.specs.BadComponent.{IsNotEllipsoidal, IsNotPlane, IsNotHorizontal, BadComponent, BadComponents}
 use Rattle.crs_value.specs.BadSystem.{HasType, HasDimension, IsOneOf, BadSystem, dimensions_of}
 use Rattle.crs_value.specs.BadUnit.{asked_kind, Asks, Fits, units_in, LacksUnit, Misfits, BadOwnUnit, IsSuperfluous, HasOwnUnit, AllAsk, SharedFits, BadShared, BadUnit}
-use Rattle.crs_value.specs.BadWords.{UnknownType, UnknownDirection}
+use Rattle.crs_value.specs.UnknownWord.{UnknownType, UnknownDirection}
 use Rattle.crs_value.specs.Break.{at, AnyOf, FirstIs, IsLeast}
 use Rattle.crs_value.specs.Checks.{once, OfHead, OfAxes, OfCrs, OfCompound, OfUnit, OfEllipsoid, Own, AtClass, Breaks, BreaksAmong, horizontal_classes}
-use Rattle.crs_value.specs.Repeated.{IsRepeated, Repeats, RepeatsAny}
+use Rattle.crs_value.specs.RepeatedPart.{IsRepeated, Repeats, RepeatsAny}
 use Rattle.crs_value.specs.Least.{lesser}
 use Rattle.crs_value.specs.Reading.{those, ReadsFirst}
 use Rattle.crs_value.specs.Reads.{ReadsNumber, ReadsType, ReadsDirection}
@@ -112,7 +113,7 @@ module _ (numbers : Numbers) (one : DenotesOne) where
       (decided-some (HasType cs) (λ t. (v : Value) × (HasDimension cs v × ¬ (IsOneOf v (dims t)))) (type-is-one cs) (system-type cs h)
       (λ t r. decided-some (HasDimension cs) (λ v. ¬ (IsOneOf v (dims t))) (dimension-is-one one cs) (dimension cs h) (λ v x. decided-not (decided-one-of v (dims t))))))
 
-  count-least : (axes : List Item) (cs : Item) → Ready class.CoordinateSystem cs → HasLeast (BadCount axes cs)
+  count-least : (axes : List Item) (cs : Item) → Ready class.CoordinateSystem cs → HasLeast (AxisCount axes cs)
   count-least axes cs h =
       at-least (at 25 cs) ((v : Value) × (HasDimension cs v × ¬ (SameNumber (exact v) (whole_number (length axes)))))
       (decided-some (HasDimension cs) (λ v. ¬ (SameNumber (exact v) (whole_number (length axes)))) (dimension-is-one one cs) (dimension cs h)
@@ -132,16 +133,16 @@ module _ (numbers : Numbers) (one : DenotesOne) where
   decided-horizontal class.GeographicCrs cs h = decided-either (decided-ellipsoidal cs h) (decided-plane cs h)
   decided-horizontal other cs h = decided-plane cs h
 
-  part-least : (c : Class) (part : Item) → Ready c part → HasLeast (BadPart c part)
+  part-least : (c : Class) (part : Item) → Ready c part → HasLeast (BadComponent c part)
   part-least c part h =
       at-least (at 24 part) (FirstIs (IsNotHorizontal c) (those c class.CoordinateSystem (arguments part)))
       (decided-first (IsNotHorizontal c) class.CoordinateSystem (decided-horizontal c) (those c class.CoordinateSystem (arguments part)) (those-ready c class.CoordinateSystem part h))
 
-  parts-least : (cs : List Class) (item : Item) → Ready class.CompoundCrs item → HasLeast (BadParts cs (arguments item))
-  parts-least [] item h = nothing (BadParts [] (arguments item)) (λ f x. x)
+  parts-least : (cs : List Class) (item : Item) → Ready class.CompoundCrs item → HasLeast (BadComponents cs (arguments item))
+  parts-least [] item h = nothing (BadComponents [] (arguments item)) (λ f x. x)
   parts-least (c ∷ cs) item h =
-      either-least (AnyOf (BadPart c) (those class.CompoundCrs c (arguments item))) (BadParts cs (arguments item))
-      (any-least (BadPart c) c (part-least c) (those class.CompoundCrs c (arguments item)) (those-ready class.CompoundCrs c item h)) (parts-least cs item h)
+      either-least (AnyOf (BadComponent c) (those class.CompoundCrs c (arguments item))) (BadComponents cs (arguments item))
+      (any-least (BadComponent c) c (part-least c) (those class.CompoundCrs c (arguments item)) (those-ready class.CompoundCrs c item h)) (parts-least cs item h)
 
   -- ---- orders
 
@@ -246,7 +247,7 @@ module _ (numbers : Numbers) (one : DenotesOne) where
   -- ---- all of them
 
   head-least : (dims : SystemType → List ℕ) (axes : List Item) (cs : Item) → Ready class.CoordinateSystem cs → HasLeast (OfHead dims axes cs)
-  head-least dims axes cs h = either-least (BadSystem dims cs) (BadCount axes cs) (system-least dims cs h) (count-least axes cs h)
+  head-least dims axes cs h = either-least (BadSystem dims cs) (AxisCount axes cs) (system-least dims cs h) (count-least axes cs h)
 
   crs-least : (dims : SystemType → List ℕ) (c : Class) (item : Item) → Ready c item → HasLeast (OfCrs dims c item)
   crs-least dims c item h =
@@ -270,7 +271,7 @@ module _ (numbers : Numbers) (one : DenotesOne) where
 
   compound-least : (item : Item) → Ready class.CompoundCrs item → HasLeast (OfCompound (arguments item))
   compound-least item h =
-      either-least (RepeatsAny class.CompoundCrs (arguments item) once) (BadParts horizontal_classes (arguments item)) (repeats-any-least class.CompoundCrs (arguments item) once)
+      either-least (RepeatsAny class.CompoundCrs (arguments item) once) (BadComponents horizontal_classes (arguments item)) (repeats-any-least class.CompoundCrs (arguments item) once)
       (parts-least horizontal_classes item h)
 
   take-ready : (items : List Item) → AllReady class.Number items → AllReady class.Number (take 1 items)

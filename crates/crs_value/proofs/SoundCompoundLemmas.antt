@@ -10,7 +10,7 @@ use Rattle.crs_value.specs.declared.compound.Horizontal.TheVariants as horizonta
 use Rattle.crs_value.specs.declared.crs.Crs.{Crs}
 use Rattle.crs_value.specs.declared.crs.Crs.TheVariants as crs
 use Rattle.crs_value.specs.declared.system_type.SystemType.TheVariants as types
-use Rattle.crs_value.specs.BadPart.{IsNotEllipsoidal, IsNotPlane, IsNotHorizontal, BadPart, BadParts}
+use Rattle.crs_value.specs.BadComponent.{IsNotEllipsoidal, IsNotPlane, IsNotHorizontal, BadComponent, BadComponents}
 use Rattle.crs_value.specs.Break.{at, AnyOf, FirstIs}
 use Rattle.crs_value.specs.Checks.{horizontal_classes, OfCompound, Own, IsSound}
 use Rattle.crs_value.specs.Reading.{those, ReadsFirst, ReadsElse}
@@ -44,7 +44,7 @@ ellipsoidal d bad (cs ∷ more) system free reads =
 
 -- no part of this class breaks its check
 abbrev Free : Class → List Item → Type 0
-Free d parts = (fault : Refused) → AnyOf (BadPart d) parts fault → ⊥
+Free d parts = (fault : Refused) → AnyOf (BadComponent d) parts fault → ⊥
 
 free-first : (d : Class) (part : Item) (parts : List Item) → Free d (part ∷ parts) → FirstIs (IsNotHorizontal d) (those d class.CoordinateSystem (arguments part)) → ⊥
 free-first d part parts free bad = free (at 24 part) (inl (refl, bad))
@@ -86,7 +86,7 @@ module _ (law : SlotsCount) (bound : SlotsBound) where
   unfolding Own
   own-of-compound item fault h = h
 
-  parts-free : (item : Item) → IsSound class.CompoundCrs item → (fault : Refused) → BadParts horizontal_classes (arguments item) fault → ⊥
+  parts-free : (item : Item) → IsSound class.CompoundCrs item → (fault : Refused) → BadComponents horizontal_classes (arguments item) fault → ⊥
   parts-free (leaf kind place raw) sound fault (inl bad) = absurd bad
   parts-free (leaf kind place raw) sound fault (inr (inl bad)) = absurd bad
   parts-free (leaf kind place raw) sound fault (inr (inr (inl bad))) = absurd bad

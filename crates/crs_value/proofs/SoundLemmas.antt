@@ -18,7 +18,7 @@ use Rattle.crs_shape.specs.Keywords.{is_keyword, keywords_of}
 use Rattle.crs_shape.specs.Shaped.{Shaped}
 use Rattle.crs_value.specs.declared.unit_kind.UnitKind.{UnitKind}
 use Rattle.crs_value.specs.declared.unit_kind.UnitKind.TheVariants as kinds
-use Rattle.crs_value.specs.BadNumber.{IsAboveZero, NotAbove}
+use Rattle.crs_value.specs.BadValue.{IsAboveZero, NotAbove}
 use Rattle.crs_value.specs.Break.{at, AnyOf}
 use Rattle.crs_value.specs.Checks.{OfUnit, Own, IsSound}
 use Rattle.crs_value.specs.Reading.{those, ReadsFirst, ReadsOptional, ReadsEach}

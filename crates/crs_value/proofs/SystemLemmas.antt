@@ -7,7 +7,7 @@ use Rattle.crs_text.specs.Refusal.{Refused}
 use Rattle.crs_shape.specs.declared.class.Class.{Class}
 use Rattle.crs_shape.specs.declared.class.Class.TheVariants as class
 use Rattle.crs_value.specs.declared.system_type.SystemType.{SystemType}
-use Rattle.crs_value.specs.BadOrder.{BadCount}
+use Rattle.crs_value.specs.AxisCount.{AxisCount}
 use Rattle.crs_value.specs.BadSystem.{HasType, HasDimension, IsOneOf, BadSystem}
 use Rattle.crs_value.specs.Break.{at, IsLeast}
 use Rattle.crs_value.specs.Reading.{is_a, those, IsReading, ReadsFirst}
@@ -42,14 +42,14 @@ system-some dims cs t v r ht hv wrong e = least-at (at 23 cs) r _ e (t, (v, (ht,
 pub system-unknown : (dims : SystemType → List ℕ) (cs : Item) → ((t : SystemType) → ¬ (HasType cs t)) → IsLeast (BadSystem dims cs) None
 system-unknown dims cs none = λ f h. none h.1.0 h.1.1.1.0
 
-pub count-none : DenotesOne → (axes : List Item) (cs : Item) (v : Value) → HasDimension cs v → SameNumber (exact v) (whole_number (length axes)) → IsLeast (BadCount axes cs) None
+pub count-none : DenotesOne → (axes : List Item) (cs : Item) (v : Value) → HasDimension cs v → SameNumber (exact v) (whole_number (length axes)) → IsLeast (AxisCount axes cs) None
 count-none law axes cs v hv same = λ f h.
     let d = dimension-is-one law cs v h.1.0 hv h.1.1.0 in
     let Q : Value → Type 0 = λ x. SameNumber (exact x) (whole_number (length axes)) in
     h.1.1.1 (subst Q d same)
 
 pub count-some : (axes : List Item) (cs : Item) (v : Value) (r : Refused) → HasDimension cs v → ¬ (SameNumber (exact v) (whole_number (length axes))) → r ≡ at 25 cs →
-    IsLeast (BadCount axes cs) (Some r)
+    IsLeast (AxisCount axes cs) (Some r)
 count-some axes cs v r hv wrong e = least-at (at 25 cs) r _ e (v, (hv, wrong))
 
 pub type-read : (cs word : Item) (more : List Item) (raw : List ℕ) (o : Option SystemType) → those class.CoordinateSystem class.Word (arguments cs) ≡ word ∷ more → raw ≡ raw_of word →

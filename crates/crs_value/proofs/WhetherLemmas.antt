@@ -10,7 +10,7 @@ use Rattle.crs_value.specs.declared.system_type.SystemType.{SystemType}
 use Rattle.crs_value.specs.declared.system_type.SystemType.TheVariants as types
 use Rattle.crs_value.specs.declared.unit_kind.UnitKind.{UnitKind}
 use Rattle.crs_value.specs.declared.unit_kind.UnitKind.TheVariants as kinds
-use Rattle.crs_value.specs.BadNumber.{IsAboveZero}
+use Rattle.crs_value.specs.BadValue.{IsAboveZero}
 use Rattle.crs_value.specs.BadOrder.{IsPosition}
 use Rattle.crs_value.specs.BadSystem.{IsOneOf}
 use Rattle.crs_value.specs.Words.{SpellsWord, direction_word, system_word}

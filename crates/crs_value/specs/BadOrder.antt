@@ -1,5 +1,4 @@
--- 25: the number of axes isn't the dimension. 26: an order on some axes and not on all, or orders that aren't the
--- whole numbers from 1 on, each once.
+-- 26: an order on some axes and not on all, or orders that aren't the whole numbers from 1 on, each once.
 use Rattle.std.specs.Prelude.{◌≡◌, ◌≢◌, ℕ, ◌≤◌, length, List, [], ◌∷◌, ◌++◌, ◌⊎◌}
 use Rattle.crs_decimal.specs.Number.{SameNumber, whole_number}
 use Rattle.crs_decimal.specs.Value.{Value, exact}
@@ -9,15 +8,6 @@ use Rattle.crs_shape.specs.declared.class.Class.TheVariants as class
 use Rattle.crs_value.specs.Reading.{those, ReadsFirst}
 use Rattle.crs_value.specs.Reads.{ReadsNumberOf}
 use Rattle.crs_value.specs.Break.{at, AnyOf}
-use Rattle.crs_value.specs.BadSystem.{HasDimension}
-
--- ---- the number of axes
-
-abbrev pub BadCount : List Item → Item → Refused → Type 0
-BadCount axes cs fault =
-    (fault ≡ at 25 cs) × ((dimension : Value) × (HasDimension cs dimension × ¬ (SameNumber (exact dimension) (whole_number (length axes)))))
-
--- ---- orders
 
 abbrev pub orders_in : Item → List Item
 orders_in axis = those class.Axis class.Order (arguments axis)

@@ -10,13 +10,14 @@ use Rattle.crs_shape.specs.Shaped.{Shaped}
 use Rattle.crs_value.specs.declared.system_type.SystemType.{SystemType}
 use Rattle.crs_value.specs.Reading.{those}
 use Rattle.crs_value.specs.Break.{AnyOf}
-use Rattle.crs_value.specs.BadWords.{UnknownType, UnknownDirection}
-use Rattle.crs_value.specs.Repeated.{Repeats, RepeatsAny}
+use Rattle.crs_value.specs.UnknownWord.{UnknownType, UnknownDirection}
+use Rattle.crs_value.specs.RepeatedPart.{Repeats, RepeatsAny}
 use Rattle.crs_value.specs.BadSystem.{geodetic_dimensions, geographic_dimensions, projected_dimensions, vertical_dimensions, BadSystem}
-use Rattle.crs_value.specs.BadPart.{BadParts}
-use Rattle.crs_value.specs.BadOrder.{BadCount, BadOrder}
+use Rattle.crs_value.specs.BadComponent.{BadComponents}
+use Rattle.crs_value.specs.AxisCount.{AxisCount}
+use Rattle.crs_value.specs.BadOrder.{BadOrder}
 use Rattle.crs_value.specs.BadUnit.{BadUnit}
-use Rattle.crs_value.specs.BadNumber.{NotAbove, IsNegative}
+use Rattle.crs_value.specs.BadValue.{NotAbove, IsNegative}
 
 -- what may stand once alone at a CRS's end
 abbrev pub once : List Class
@@ -24,7 +25,7 @@ once = class.Scope ∷ class.Area ∷ class.BoundingBox ∷ class.VerticalExtent
 
 -- the checks of a node `CS` with the axes beside it
 abbrev pub OfHead : (SystemType → List ℕ) → List Item → Item → Refused → Type 0
-OfHead dimensions axes cs fault = BadSystem dimensions cs fault ⊎ BadCount axes cs fault
+OfHead dimensions axes cs fault = BadSystem dimensions cs fault ⊎ AxisCount axes cs fault
 
 -- the checks of axes and their units, as the nodes `CS` ask for them
 abbrev pub OfAxes : List Item → List Item → List Item → Refused → Type 0
@@ -55,7 +56,7 @@ abbrev pub horizontal_classes : List Class
 horizontal_classes = class.GeodeticCrs ∷ class.GeographicCrs ∷ class.ProjectedCrs ∷ []
 
 abbrev pub OfCompound : Items → Refused → Type 0
-OfCompound items fault = RepeatsAny class.CompoundCrs items once fault ⊎ BadParts horizontal_classes items fault
+OfCompound items fault = RepeatsAny class.CompoundCrs items once fault ⊎ BadComponents horizontal_classes items fault
 
 abbrev pub OfUnit : Class → Item → Refused → Type 0
 OfUnit c item fault = AnyOf NotAbove (those c class.Number (arguments item)) fault

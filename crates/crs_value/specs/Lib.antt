@@ -1,9 +1,9 @@
-pub mod BadNumber
+pub mod AxisCount
+pub mod BadComponent
 pub mod BadOrder
-pub mod BadPart
 pub mod BadSystem
 pub mod BadUnit
-pub mod BadWords
+pub mod BadValue
 pub mod Break
 pub mod Checks
 pub mod CompoundValues
@@ -15,7 +15,7 @@ pub mod Reading
 pub mod Reads
 pub mod ReadsConversion
 pub mod ReadsCrs
-pub mod Repeated
+pub mod RepeatedPart
 pub mod Sound
 pub mod SoundCompound
 pub mod SoundConversion
@@ -26,5 +26,6 @@ pub mod SoundSystem
 pub mod SoundUsages
 pub mod Spells
 pub mod SpellsText
+pub mod UnknownWord
 pub mod Values
 pub mod Words

@@ -5,7 +5,7 @@ use Rattle.crs_decimal.specs.Value.{IsNormal}
 use Rattle.crs_text.specs.Quoted.{IsInside}
 use Rattle.crs_value.specs.declared.unit_kind.UnitKind.{UnitKind}
 use Rattle.crs_value.specs.declared.unit_kind.UnitKind.TheVariants as kinds
-use Rattle.crs_value.specs.BadNumber.{IsAboveZero}
+use Rattle.crs_value.specs.BadValue.{IsAboveZero}
 use Rattle.crs_value.specs.Values.{IdentParts, UnitParts, AxisMeridianParts, AxisParts}
 
 -- each of these is so

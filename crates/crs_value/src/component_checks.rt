@@ -2,7 +2,7 @@
 ghost use Rattle.std.specs.Prelude.{◌↔◌, IsTrue};
 ghost use Rattle.crs_text.specs.Items.{HasId, arguments};
 ghost use Rattle.crs_shape.specs.Shaped.{Shaped};
-ghost use Rattle.crs_value.specs.BadPart.{IsNotEllipsoidal, IsNotPlane, IsNotHorizontal, BadPart};
+ghost use Rattle.crs_value.specs.BadComponent.{IsNotEllipsoidal, IsNotPlane, IsNotHorizontal, BadComponent};
 ghost use Rattle.crs_value.specs.Break.{AnyOf, IsLeast, FirstIs};
 ghost use Rattle.crs_value.specs.Checks.{OfCompound};
 ghost use Rattle.crs_value.specs.Reading.{item_at, those, Requires};
@@ -71,12 +71,12 @@ struct Component {
 impl Check for Component {
     ghost use Rattle.std.specs.Prelude.{◌≡◌};
     ghost use Rattle.crs_shape.specs.declared.class.Class.TheVariants as classes;
-    ghost use Rattle.crs_value.specs.BadPart.{BadPart};
+    ghost use Rattle.crs_value.specs.BadComponent.{BadComponent};
     ghost use Rattle.crs_value.specs.Reading.{Requires};
 
     ghost Fits = { λ s tree class. (class ≡ s.class) × Requires class classes.CoordinateSystem 0 };
 
-    ghost Broken = { λ s tree item f. BadPart s.class item f };
+    ghost Broken = { λ s tree item f. BadComponent s.class item f };
 
     fn check(&self, items: &Items<'_>, id: ItemId, _class: Class) -> Option<Refusal> {
         if is_bad(items, id, self.class) {
@@ -92,7 +92,7 @@ fn bad_part(items: &Items<'_>, id: ItemId, class: Class) -> Option<Refusal>
     requires has { HasId items.now id }
     requires shaped { Shaped Class.CompoundCrs (item_at items.now id) }
     requires there { Requires class Class.CoordinateSystem 0 }
-    ensures { IsLeast (AnyOf (BadPart class) (those Class.CompoundCrs class (arguments
+    ensures { IsLeast (AnyOf (BadComponent class) (those Class.CompoundCrs class (arguments
         (item_at items.now id)))) result }
 {
     any_of(&Component { class }, items, id, Class::CompoundCrs, class)

@@ -5,7 +5,7 @@ ghost use Rattle.crs_shape.specs.Shaped.{Shaped};
 ghost use Rattle.crs_value.specs.BadSystem.{dimensions_of};
 ghost use Rattle.crs_value.specs.Break.{AnyOf, IsLeast};
 ghost use Rattle.crs_value.specs.Checks.{BreaksAmong, once, OfHead, OfAxes, OfCrs};
-ghost use Rattle.crs_value.specs.Repeated.{RepeatsAny};
+ghost use Rattle.crs_value.specs.RepeatedPart.{RepeatsAny};
 ghost use Rattle.crs_value.specs.Reading.{item_at, those};
 
 use crate::checks::{Check, any_of, lesser};

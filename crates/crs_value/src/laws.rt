@@ -15,7 +15,7 @@ ghost use Rattle.crs_value.specs.Values.{IdentParts, UnitParts, MemberParts, Ext
 
 use crate::crs::Crs;
 use crs_decimal::laws::{denotes_one, denotes_some};
-use crs_shape::laws::{fault_at_root_is_one, no_fault_is_shape, slots_count};
+use crs_shape::laws::{fault_at_root_is_one, fault_is_within, no_fault_is_shape, slots_count};
 
 /// An item spells one value at most. Profile.
 pub fn spells_one()
@@ -79,6 +79,7 @@ pub fn one_answer()
     denotes_one();
     denotes_some();
     fault_at_root_is_one();
+    fault_is_within();
     no_fault_is_shape();
     slots_count();
 }

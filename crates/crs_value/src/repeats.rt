@@ -3,7 +3,7 @@ ghost use Rattle.crs_text.specs.Items.{HasId, arguments};
 ghost use Rattle.crs_shape.specs.Shaped.{Shaped};
 ghost use Rattle.crs_value.specs.Break.{IsLeast};
 ghost use Rattle.crs_value.specs.Checks.{once};
-ghost use Rattle.crs_value.specs.Repeated.{Repeats, RepeatsAny};
+ghost use Rattle.crs_value.specs.RepeatedPart.{Repeats, RepeatsAny};
 ghost use Rattle.crs_value.specs.Reading.{item_at};
 
 use crate::arguments::{first, later};

@@ -1,6 +1,6 @@
 //! The checks of words, of numbers, and of parts that may stand once.
 ghost use Rattle.std.specs.Prelude.{IsTrue, ◌↔◌};
-ghost use Rattle.crs_value.specs.BadNumber.{IsAboveZero};
+ghost use Rattle.crs_value.specs.BadValue.{IsAboveZero};
 
 use crate::checks::{Check, refusal_at};
 use crate::direction::Direction;
@@ -21,7 +21,7 @@ fn is_above_zero(value: Decimal) -> bool
 pub(crate) struct UnknownType;
 
 impl Check for UnknownType {
-    ghost use Rattle.crs_value.specs.BadWords.{UnknownType};
+    ghost use Rattle.crs_value.specs.UnknownWord.{UnknownType};
 
     ghost Fits = { λ s tree class. Unit {0} };
 
@@ -39,7 +39,7 @@ impl Check for UnknownType {
 pub(crate) struct UnknownDirection;
 
 impl Check for UnknownDirection {
-    ghost use Rattle.crs_value.specs.BadWords.{UnknownDirection};
+    ghost use Rattle.crs_value.specs.UnknownWord.{UnknownDirection};
 
     ghost Fits = { λ s tree class. Unit {0} };
 
@@ -57,7 +57,7 @@ impl Check for UnknownDirection {
 pub(crate) struct Repeated;
 
 impl Check for Repeated {
-    ghost use Rattle.crs_value.specs.Repeated.{IsRepeated};
+    ghost use Rattle.crs_value.specs.RepeatedPart.{IsRepeated};
 
     ghost Fits = { λ s tree class. Unit {0} };
 
@@ -74,7 +74,7 @@ pub(crate) struct AboveZero;
 impl Check for AboveZero {
     ghost use Rattle.std.specs.Prelude.{◌≡◌};
     ghost use Rattle.crs_shape.specs.declared.class.Class.TheVariants as classes;
-    ghost use Rattle.crs_value.specs.BadNumber.{NotAbove};
+    ghost use Rattle.crs_value.specs.BadValue.{NotAbove};
 
     ghost Fits = { λ s tree class. class ≡ classes.Number };
 
@@ -97,7 +97,7 @@ pub(crate) struct NotNegative;
 impl Check for NotNegative {
     ghost use Rattle.std.specs.Prelude.{◌≡◌};
     ghost use Rattle.crs_shape.specs.declared.class.Class.TheVariants as classes;
-    ghost use Rattle.crs_value.specs.BadNumber.{IsNegative};
+    ghost use Rattle.crs_value.specs.BadValue.{IsNegative};
 
     ghost Fits = { λ s tree class. class ≡ classes.Number };
 

@@ -4,7 +4,7 @@ ghost use Rattle.crs_decimal.specs.Number.{SameNumber, whole_number};
 ghost use Rattle.crs_decimal.specs.Value.{exact};
 ghost use Rattle.crs_text.specs.Items.{HasId, arguments};
 ghost use Rattle.crs_shape.specs.Shaped.{Shaped};
-ghost use Rattle.crs_value.specs.BadOrder.{BadCount};
+ghost use Rattle.crs_value.specs.AxisCount.{AxisCount};
 ghost use Rattle.crs_value.specs.BadSystem.{HasType, IsOneOf, dimensions_of, BadSystem};
 ghost use Rattle.crs_value.specs.Break.{IsLeast};
 ghost use Rattle.crs_value.specs.Reading.{item_at, those, IsReading};
@@ -85,7 +85,7 @@ pub(crate) fn bad_count(items: &Items<'_>, crs: ItemId, class: Class, cs: ItemId
     requires has { HasId items.now cs }
     requires crs { HasId items.now crs }
     requires shaped { Shaped Class.CoordinateSystem (item_at items.now cs) }
-    ensures { IsLeast (BadCount (those class Class.Axis (arguments (item_at items.now crs)))
+    ensures { IsLeast (AxisCount (those class Class.Axis (arguments (item_at items.now crs)))
         (item_at items.now cs)) result }
 {
     denotes_one();

@@ -10,6 +10,7 @@ ghost use Rattle.crs_normal.specs.SpelledItems.{code_item, is_short, number_item
 ghost use Rattle.crs_canon.specs.Openings.{opened, text_behind};
 
 use crs_decimal::Decimal;
+use crs_decimal::laws::plain_is_the_one;
 use itoa::Buffer;
 use std::alloc::AllocError;
 
@@ -45,6 +46,13 @@ pub(crate) fn write_optional_text(
     }
 }
 
+fn write_decimal(out: &mut Vec<u8>, value: &Decimal) -> Result<(), AllocError>
+    ensures { OnOk result (out.new.items ≡ out.old.items ++ plain value.now) }
+{
+    plain_is_the_one();
+    value.write(out)
+}
+
 // A keyword, the opening delimiter and a number; the opening ends with the delimiter.
 pub(crate) fn open_number(
     out: &mut Vec<u8>,
@@ -54,8 +62,7 @@ pub(crate) fn open_number(
     ensures { OnOk result (out.new.items ≡ out.old.items ++ (opening.now ++ plain value.now)) }
 {
     append(out, opening)?;
-    value.write(out)?;
-    Ok(())
+    write_decimal(out, value)
 }
 
 // A number behind a comma.
@@ -63,8 +70,7 @@ pub(crate) fn write_number(out: &mut Vec<u8>, value: &Decimal) -> Result<(), All
     ensures { OnOk result (out.new.items ≡ out.old.items ++ 44 ∷ item_text (number_item value.now)) }
 {
     append(out, b",")?;
-    value.write(out)?;
-    Ok(())
+    write_decimal(out, value)
 }
 
 fn are_digits(raw: &[u8]) -> bool

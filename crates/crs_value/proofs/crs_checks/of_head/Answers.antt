@@ -4,7 +4,7 @@ use Rattle.crs_shape.specs.declared.class.Class.TheVariants as class
 use Rattle.crs_value.specs.BadSystem.{dimensions_of}
 use Rattle.crs_value.specs.Break.{AnyOf}
 use Rattle.crs_value.specs.Checks.{OfHead, once}
-use Rattle.crs_value.specs.Repeated.{RepeatsAny}
+use Rattle.crs_value.specs.RepeatedPart.{RepeatsAny}
 use Rattle.crs_value.specs.Reading.{item_at, those}
 use Rattle.crs_value.proofs.LeastLemmas.{either-is}
 use Rattle.crs_value.proofs.crs_checks.of_head.Goals as goal

@@ -14,7 +14,8 @@ pub returns-clause-apart : goal.returns-clause-apart
 returns-clause-apart c = text-apart c.one_answer.ensures.node c.one_answer.ensures.apart
 
 pub returns-clause-within : goal.returns-clause-within
-returns-clause-within c = refused-within c.one_answer.ensures.within
+returns-clause-within c =
+    refused-within c.one_answer.ensures.within c.fault_is_within.ensures.root c.fault_is_within.ensures.text
 
 pub returns-clause-either : goal.returns-clause-either
 returns-clause-either c =

@@ -1,5 +1,5 @@
 use Rattle.crs_text.specs.Items.{arguments}
-use Rattle.crs_value.specs.Repeated.{IsRepeated}
+use Rattle.crs_value.specs.RepeatedPart.{IsRepeated}
 use Rattle.crs_value.specs.Reading.{item_at, those}
 use Rattle.crs_value.proofs.CheckLemmas.{later-shaped, any-later}
 use Rattle.crs_value.proofs.repeats.repeats.Goals as goal

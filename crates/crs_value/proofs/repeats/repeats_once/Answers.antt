@@ -4,7 +4,7 @@ use Rattle.crs_text.specs.Refusal.{Refused}
 use Rattle.crs_shape.specs.declared.class.Class.{Class}
 use Rattle.crs_shape.specs.declared.class.Class.TheVariants as class
 use Rattle.crs_value.specs.Break.{IsLeast}
-use Rattle.crs_value.specs.Repeated.{Repeats, RepeatsAny}
+use Rattle.crs_value.specs.RepeatedPart.{Repeats, RepeatsAny}
 use Rattle.crs_value.specs.Reading.{item_at}
 use Rattle.crs_value.proofs.LeastLemmas.{either-is}
 use Rattle.crs_value.proofs.repeats.repeats_once.Goals as goal

@@ -1,11 +1,8 @@
-use Rattle.std.proofs.Common.{◌≡◌, ◌≤◌, length, decimal, List, ℕ, arith, ◌∙◌, ap, subst, sym}
-use Rattle.std.proofs.lemmas.Fmt.{length-decimal-le_wide}
-use Rattle.crs_decimal.proofs.NumberLemmas.{normal_parts}
+use Rattle.std.proofs.lemmas.Result.{MatchResult-weaker}
+use Rattle.crs_decimal.proofs.WrittenLemmas.{appends-plain}
 use Rattle.crs_decimal.proofs.decimal.Decimal.write.Goals as goal
 
-pub push_scaled-requires-clause-digits : goal.push_scaled-requires-clause-digits
-push_scaled-requires-clause-digits c =
-    let v = c.args.self.now in
-    let limit = (normal_parts v c.digits.ensures.normal).0 in
-    let text : c.as_bytes-digits.result.now ≡ decimal v.digits = c.as_bytes-digits.ensures.value ∙ c.format.ensures.text ∙ ap decimal c.digits.ensures.value in
-    subst (λ (ds : List ℕ). length ds ≤ 38) (sym text) (length-decimal-le_wide 38 v.digits (omega arith) limit (omega arith))
+pub returns-clause-spelled : goal.returns-clause-spelled
+returns-clause-spelled c =
+    MatchResult-weaker c.write_plain.result c.write_plain.ensures
+    (λ x e. appends-plain c.args.self.now c.is_negative-normal.ensures.normal _ _ e) (λ y e. e)

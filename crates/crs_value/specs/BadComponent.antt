@@ -27,10 +27,10 @@ IsNotHorizontal class.GeographicCrs cs = IsNotEllipsoidal cs ⊎ IsNotPlane cs
 IsNotHorizontal other cs = IsNotPlane cs
 
 -- a part of this class, by its node `CS`
-abbrev pub BadPart : Class → Item → Refused → Type 0
-BadPart c part fault = (fault ≡ at 24 part) × FirstIs (IsNotHorizontal c) (those c class.CoordinateSystem (arguments part))
+abbrev pub BadComponent : Class → Item → Refused → Type 0
+BadComponent c part fault = (fault ≡ at 24 part) × FirstIs (IsNotHorizontal c) (those c class.CoordinateSystem (arguments part))
 
 -- the horizontal parts among a compound's arguments
-abbrev pub BadParts : List Class → Items → Refused → Type 0
-BadParts [] items fault = ⊥
-BadParts (c ∷ cs) items fault = AnyOf (BadPart c) (those class.CompoundCrs c items) fault ⊎ BadParts cs items fault
+abbrev pub BadComponents : List Class → Items → Refused → Type 0
+BadComponents [] items fault = ⊥
+BadComponents (c ∷ cs) items fault = AnyOf (BadComponent c) (those class.CompoundCrs c items) fault ⊎ BadComponents cs items fault
