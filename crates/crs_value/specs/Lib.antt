@@ -26,5 +26,6 @@ pub mod SoundSystem
 pub mod SoundUsages
 pub mod Spells
 pub mod SpellsText
+pub mod Told
 pub mod Values
 pub mod Words
