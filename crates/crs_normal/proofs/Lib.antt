@@ -3,6 +3,7 @@ pub mod AscendLemmas
 pub mod AxisNormalLemmas
 mod AxisSameLemmas
 pub mod CheckedLemmas
+pub mod ClosedLemmas
 pub mod CompoundNormalLemmas
 mod ConversionSameLemmas
 mod CrsSameLemmas
@@ -47,6 +48,8 @@ pub mod MemberUnitLemmas
 pub mod NamedNormalLemmas
 pub mod PairLemmas
 pub mod ParameterLemmas
+pub mod PartLemmas
+pub mod PartUnitLemmas
 mod PartSameLemmas
 pub mod ProjectedNormalLemmas
 pub mod RankLemmas

@@ -1,0 +1,145 @@
+-- Values of one kind: from what stands of their one form and its item, what their spellings keep.
+use Rattle.std.proofs.Common.{◌≡◌, ◌↔◌, ◌≤◌, ◌∙◌, ℕ, List, sym, ap, subst, arith}
+use Rattle.crs_text.specs.Items.{Item, IsNode, depth}
+use Rattle.crs_text.specs.Refusal.{Refused}
+use Rattle.crs_text.specs.TextFault.{SpellsNode}
+use Rattle.crs_text.specs.Written.{AreFormed, WrittenSpells, at_place, item_text}
+use Rattle.crs_shape.specs.declared.class.Class.{Class}
+use Rattle.crs_value.specs.Checks.{IsSound}
+use Rattle.crs_value.specs.declared.level.Level.{Level}
+use Rattle.crs_value.specs.Told.{IsReadAs, IsReadOnce}
+use Rattle.crs_normal.specs.CanonicalForm.{IsCanonicalForm}
+use Rattle.crs_normal.specs.Closed.{IsClosed}
+use Rattle.crs_normal.specs.Decides.{FormDecides}
+use Rattle.crs_normal.specs.Flat.{flat}
+use Rattle.crs_normal.specs.Made.{IsMade}
+use Rattle.crs_normal.specs.OneForm.{IsItsForm, IsItsFormUnbroken}
+use Rattle.crs_normal.specs.SpelledAs.{IsSpelledAs}
+use Rattle.crs_normal.specs.TextLaws.{TextLaws}
+use Rattle.crs_normal.proofs.ClosedLemmas.{node-closed}
+use Rattle.crs_normal.proofs.FormLemmas.{flat-text}
+use Rattle.crs_normal.proofs.ItemLemmas.{IsWritable, one-by-text}
+use Rattle.crs_normal.proofs.MadeCrsLemmas.{placed-twice}
+use Rattle.crs_normal.proofs.MadePlaceLemmas.{text-at}
+
+-- items are formed where a text spells them
+abbrev pub SpelledFormed : Type 0
+SpelledFormed = (bytes : List ℕ) (item : Item) → SpellsNode bytes item → AreFormed item
+
+pub made-deeper : (level : Level) (c : Class) (n m : ℕ) (item : Item) → n ≤ m → IsMade level c n item →
+    IsMade level c m item
+made-deeper level c n m item l made =
+    let w : depth item ≤ n = made.within in
+    record {
+      is_node = made.is_node;
+      formed = made.formed;
+      within = omega arith;
+      shaped = made.shaped;
+      unbroken = made.unbroken;
+      normal = made.normal;
+    }
+
+pub unbroken-form : {V : Type 0} (level : Level) (c : Class) (Reads : Class → Item → V → Type 0) (form : V → Item) →
+    IsItsForm level c Reads form → IsItsFormUnbroken level c Reads form
+unbroken-form level c Reads form own parent item value shaped normal free reads =
+    own parent item value shaped normal reads
+
+-- what stands of the values of one kind
+pub record IsKnown {V : Type 0} (level : Level) (c : V → Class) (Reads : Class → Item → V → Type 0) (Is : V → Type 0) (Same : V → V → Type 0) (form : V → V) (item : V → Item) : Type 0 where
+  pub decides : FormDecides Is form Same
+  pub made : (x : V) → Is x → IsMade level (c x) 8 (at_place 0 (item (form x)))
+  pub reads : (x : V) → Is x → Reads (c x) (at_place 0 (item (form x))) (form x)
+  pub told : (a b : V) → Is a → Is b → item_text (item (form a)) ≡ item_text (item (form b)) → form a ≡ form b
+  pub sound : (x : V) → Is x → IsReadAs Reads Is (c x)
+  pub own : (x : V) → Is x → IsItsFormUnbroken level (c x) Reads (λ v. item (form v))
+
+-- the text of an item, of which the place doesn't count
+writable-at : (level : Level) (c : Class) (i : Item) → IsMade level c 8 (at_place 0 i) → IsWritable (at_place 0 i)
+writable-at level c i m =
+    let w : depth (at_place 0 i) ≤ 8 = m.within in
+    record { formed = m.formed; is_node = m.is_node; within = omega arith }
+
+-- equal texts are of equal values, where all are read as items of one class
+pub told-by : {V : Type 0} → TextLaws → (level : Level) (c : V → Class) (d : Class) (Reads : Class → Item → V → Type 0) (Is : V → Type 0) (form : V → V) (item : V → Item) →
+    ((a b : V) (i : Item) → Reads d i a → Reads d i b → a ≡ b) →
+    ((x : V) → Is x → IsMade level (c x) 8 (at_place 0 (item (form x)))) →
+    ((x : V) → Is x → Reads d (at_place 0 (item (form x))) (form x)) →
+    (a b : V) → Is a → Is b → item_text (item (form a)) ≡ item_text (item (form b)) → form a ≡ form b
+told-by laws level c d Reads Is form item once made reads a b p q e =
+    let i = item (form a) in
+    let j = item (form b) in
+    let same : at_place 0 i ≡ at_place 0 j =
+    sym (placed-twice 0 0 i)
+    ∙ one-by-text laws (at_place 0 i) (at_place 0 j) (writable-at level (c a) i (made a p))
+    (writable-at level (c b) j (made b q)) (text-at 0 i ∙ e ∙ sym (text-at 0 j))
+    ∙ placed-twice 0 0 j in
+    once (form a) (form b) (at_place 0 j) (subst (λ k. Reads d k (form a)) same (reads a p)) (reads b q)
+
+module _ {V : Type 0} (laws : TextLaws) (formed : SpelledFormed) (level : Level) (c : V → Class) (Reads : Class → Item → V → Type 0) (Is : V → Type 0) (Same : V → V → Type 0) (form : V → V) (item : V → Item) (known : IsKnown level c Reads Is Same form item) where
+  abbrev at-start : V → Item
+  at-start x = at_place 0 (item (form x))
+
+  form-kept : (x : V) → Is x → Is (form x)
+  form-kept x s =
+      let m = known.made x s in
+      known.sound x s (at-start x) (form x)
+      (record { formed = m.formed; shaped = m.shaped; unbroken = m.unbroken }) (known.reads x s)
+
+  -- the form of a value is its own
+  form-twice : (x : V) → Is x → form x ≡ form (form x)
+  form-twice x s =
+      let m = known.made x s in
+      let f : flat (at-start x) ≡ item (form (form x)) =
+      known.own x s (c x) (at-start x) (form x) m.shaped (m.normal (c x)) m.unbroken (known.reads x s) in
+      known.told x (form x) s (form-kept x s)
+      (sym (text-at 0 (item (form x))) ∙ sym (flat-text (at-start x)) ∙ ap item_text f)
+
+  form-same : (x : V) → Is x → Same x (form x)
+  form-same x s = (known.decides x (form x) s (form-kept x s)).0 (form-twice x s)
+
+  stands : (x : V) → Is x → SpellsNode (item_text (item (form x))) (at-start x)
+  stands x s =
+      let w = writable-at level (c x) (item (form x)) (known.made x s) in
+      subst (λ b. SpellsNode b (at-start x)) (text-at 0 (item (form x)))
+      (subst (SpellsNode (item_text (at-start x))) (placed-twice 0 0 (item (form x)))
+      (laws.spells (at-start x) w.formed w.is_node w.within))
+
+  form-spelled : (x : V) → Is x → IsSpelledAs level (c x) Reads Same x (item_text (item (form x)))
+  form-spelled x s =
+      let m = known.made x s in
+      record {
+        item = at-start x;
+        spells = stands x s;
+        written = sym (text-at 0 (item (form x)));
+        shaped = m.shaped;
+        unbroken = m.unbroken;
+        normal = m.normal (c x);
+        read = form x;
+        reads = known.reads x s;
+        same = form-same x s;
+      }
+
+  form-one : (x : V) (bytes : List ℕ) → Is x → IsSpelledAs level (c x) Reads Same x bytes →
+      bytes ≡ item_text (item (form x))
+  form-one x bytes s h =
+      let v = h.read in
+      let k : Is v =
+      known.sound x s h.item v
+      (record { formed = formed bytes h.item h.spells; shaped = h.shaped; unbroken = h.unbroken }) h.reads in
+      let f : flat h.item ≡ item (form v) =
+      known.own x s (c x) h.item v h.shaped h.normal h.unbroken h.reads in
+      h.written ∙ sym (flat-text h.item) ∙ ap item_text f
+      ∙ ap (λ y. item_text (item y)) (sym ((known.decides x v s k).1 h.same))
+
+  pub canonical-form : IsCanonicalForm Is Same (λ x. IsSpelledAs level (c x) Reads Same x) (λ x. item_text (item (form x)))
+  canonical-form = record {
+    spelled = form-spelled;
+    one = form-one;
+    equal_bytes = λ a b p q. (
+      λ e. (known.decides a b p q).0 (known.told a b p q e),
+      λ same. ap (λ y. item_text (item y)) ((known.decides a b p q).1 same),
+    );
+    closed = λ x s.
+        let m = known.made x s in
+        subst IsClosed (text-at 0 (item (form x))) (node-closed (at-start x) m.formed m.is_node);
+  }
