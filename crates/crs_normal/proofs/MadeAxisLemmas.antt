@@ -62,7 +62,7 @@ abbrev axis_meridian_runs : Level → AxisMeridianParts → List Run
 axis_meridian_runs level m = alone class.Number (number_item m.longitude) ∷ alone class.AngleUnit
     (item_unit (norm_unit level kinds.Angle m.unit)) ∷ []
 
-axis-meridian-made : DecimalLaws → (level : Level) (m : AxisMeridianParts) → IsAxisMeridian m → (p : ℕ) →
+pub axis-meridian-made : DecimalLaws → (level : Level) (m : AxisMeridianParts) → IsAxisMeridian m → (p : ℕ) →
     IsMade level class.Meridian 4 (at_place p (item_axis_meridian (norm_axis_meridian level m)))
 unfolding BreaksOwn class_named is_keyword
 axis-meridian-made l level m h =

@@ -1,5 +1,5 @@
 -- Values of one kind: from what stands of their one form and its item, what their spellings keep.
-use Rattle.std.proofs.Common.{◌≡◌, ◌↔◌, ◌≤◌, ◌∙◌, ℕ, List, sym, ap, subst, arith}
+use Rattle.std.proofs.Common.{◌≡◌, ◌↔◌, ◌≤◌, ◌∙◌, ℕ, Some, List, sym, ap, subst, arith}
 use Rattle.crs_text.specs.Items.{Item, IsNode, depth}
 use Rattle.crs_text.specs.Refusal.{Refused}
 use Rattle.crs_text.specs.TextFault.{SpellsNode}
@@ -143,3 +143,40 @@ module _ {V : Type 0} (laws : TextLaws) (formed : SpelledFormed) (level : Level)
         let m = known.made x s in
         subst IsClosed (text-at 0 (item (form x))) (node-closed (at-start x) m.formed m.is_node);
   }
+
+-- ---- values of which all items are of one class
+
+pub record IsKnownOf {V : Type 0} (level : Level) (c : Class) (most : ℕ) (Reads : Class → Item → V → Type 0) (Is : V → Type 0) (Same : V → V → Type 0) (form : V → V) (item : V → Item) : Type 0 where
+  pub few : most ≤ 8
+  pub decides : FormDecides Is form Same
+  pub made : (x : V) (place : ℕ) → Is x → IsMade level c most (at_place place (item (form x)))
+  pub reads : (x : V) (place : ℕ) → Is x → Reads c (at_place place (item (form x))) (form x)
+  pub once : IsReadOnce Reads
+  pub sound : IsReadAs Reads Is c
+  pub own : IsItsFormUnbroken level c Reads (λ v. item (form v))
+
+pub canonical-of : {V : Type 0} → TextLaws → SpelledFormed → (level : Level) (c : Class) (most : ℕ) (Reads : Class → Item → V → Type 0) (Is : V → Type 0) (Same : V → V → Type 0) (form : V → V) (item : V → Item) →
+    IsKnownOf level c most Reads Is Same form item →
+    IsCanonicalForm Is Same (λ x. IsSpelledAs level c Reads Same x) (λ x. item_text (item (form x)))
+canonical-of laws formed level c most Reads Is Same form item k =
+    canonical-form laws formed level (λ x. c) Reads Is Same form item (record {
+      decides = k.decides;
+      made = λ x s. made-deeper level c most 8 (at_place 0 (item (form x))) k.few (k.made x 0 s);
+      reads = λ x s. k.reads x 0 s;
+      told = told-by laws level (λ x. c) c Reads Is form item (λ a b i. k.once c i a b)
+          (λ x s. made-deeper level c most 8 (at_place 0 (item (form x))) k.few (k.made x 0 s))
+          (λ x s. k.reads x 0 s);
+      sound = λ x s. k.sound;
+      own = λ x s. k.own;
+    })
+
+-- a form that is decided within a part that may be missing
+some-same : {A : Type 0} (a b : A) → Some a ≡ Some b → a ≡ b
+some-same a b e = cc
+
+pub some-decides : {V : Type 0} (Is : V → Type 0) (form : V → V) (Same : V → V → Type 0) →
+    ((a b : V) → Is a → Is b → (Some (form a) ≡ Some (form b)) ↔ Same a b) → FormDecides Is form Same
+some-decides Is form Same h a b p q = (
+  λ e. (h a b p q).0 (ap (λ x. Some x) e),
+  λ same. some-same (form a) (form b) ((h a b p q).1 same),
+)

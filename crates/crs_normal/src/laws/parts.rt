@@ -1,27 +1,50 @@
 //! Nodes that stand by themselves: each has one spelling, and spellings are equal exactly where the nodes are the same.
 ghost use Rattle.std.specs.Prelude.{◌≡◌, ◌++◌, [], ℕ, List};
+ghost use Rattle.crs_text.specs.Items.{Item, IsNode};
+ghost use Rattle.crs_text.specs.Written.{AreFormed, item_text};
 ghost use Rattle.crs_value.specs.Sound.{IsAxisMeridian, IsIdent, IsUnit};
+ghost use Rattle.crs_value.specs.SoundConversion.{IsConversion, IsGeoidModel, IsMethod, IsParameter};
+ghost use Rattle.crs_value.specs.SoundFrames.{IsEllipsoid, IsMember, IsMeridian};
+ghost use Rattle.crs_value.specs.SoundUsages.{IsBox, IsExtent};
 ghost use Rattle.crs_value.specs.declared.level.Level.{Level};
 ghost use Rattle.crs_value.specs.declared.unit_kind.UnitKind.TheVariants as kinds;
+ghost use Rattle.crs_same.specs.SameConversions.{SameConversion, SameGeoidModel, SameMethod, SameParameter};
+ghost use Rattle.crs_same.specs.SameFrames.{SameEllipsoid, SameGiven, SameMember};
 ghost use Rattle.crs_same.specs.SameIdents.{SameIdent};
 ghost use Rattle.crs_same.specs.SameSystems.{SameAxisMeridian};
 ghost use Rattle.crs_same.specs.SameUnits.{SameUnit};
+ghost use Rattle.crs_same.specs.SameUsages.{SameBox, SameExtent};
 ghost use Rattle.crs_normal.specs.CanonicalForm.{IsCanonicalForm};
 ghost use Rattle.crs_normal.specs.Closed.{IsClosed};
-ghost use Rattle.crs_normal.specs.PartSpellings.{IsSpelledAxisMeridian, IsSpelledIdent, IsSpelledUnit};
-ghost use Rattle.crs_normal.specs.PartTexts.{axis_meridian_text, ident_text, unit_text};
+ghost use Rattle.crs_normal.specs.PartSpellings.{IsSpelledAxisMeridian, IsSpelledBox, IsSpelledConversion, IsSpelledEllipsoid, IsSpelledExtent, IsSpelledGeoidModel, IsSpelledIdent, IsSpelledMember, IsSpelledMeridian, IsSpelledMethod, IsSpelledParameter, IsSpelledUnit};
+ghost use Rattle.crs_normal.specs.PartTexts.{axis_meridian_text, box_text, conversion_text, ellipsoid_text, extent_text, geoid_model_text, ident_text, member_text, meridian_text, method_text, parameter_text, unit_text};
 
-use crate::laws::made::{made_identifier_is_normal, made_unit_is_normal};
-use crate::laws::normal::{normal_identifier_is_its_form, normal_unit_is_its_form};
+use crate::laws::made::{
+    made_axis_meridian_is_normal, made_box_is_normal, made_conversion_is_normal,
+    made_ellipsoid_is_normal, made_extent_is_normal, made_geoid_model_is_normal,
+    made_identifier_is_normal, made_member_is_normal, made_meridian_is_normal,
+    made_method_is_normal, made_parameter_is_normal, made_unit_is_normal,
+};
+use crate::laws::normal::{
+    normal_axis_is_its_form, normal_conversion_is_its_form, normal_ellipsoid_is_its_form,
+    normal_geoid_model_is_its_form, normal_identifier_is_its_form, normal_member_is_its_form,
+    normal_meridian_is_its_form, normal_method_is_its_form, normal_parameter_is_its_form,
+    normal_unit_is_its_form, normal_usage_is_its_form,
+};
+use crate::laws::read::{crs_parts_are_read_back, frame_parts_are_read_back};
 use crate::laws::sets::{member_texts_tell_members, members_are_read_back, text_laws};
-use crate::laws::values::same_units_have_one_form;
+use crate::laws::values::{
+    same_conversions_have_one_form, same_frames_have_one_form, same_systems_have_one_form,
+    same_tails_have_one_form, same_units_have_one_form,
+};
 use crs_text::laws::written_items;
 use crs_value::laws::members_read_once;
 use crs_value::laws::parts::{parts_are_sound, parts_read_once};
 
-/// No closed text is the front of another. Profile.
-pub fn closed_text_is_no_front()
-    ensures { (bytes more : List ℕ) → IsClosed bytes → IsClosed (bytes ++ more) → more ≡ [] }
+/// The written text of a well-formed node is closed, and no closed text is the front of another. Profile.
+pub fn closed_texts()
+    ensures node { (item : Item) → AreFormed item → IsNode item → IsClosed (item_text item) }
+    ensures front { (bytes more : List ℕ) → IsClosed bytes → IsClosed (bytes ++ more) → more ≡ [] }
 {}
 
 /// The spelling of an identifier that stands by itself is normal, one, and closed, and tells which are the same. Profile.
@@ -49,4 +72,83 @@ pub fn units_are_canonical()
     text_laws();
     written_items();
     parts_are_sound();
+}
+
+/// So are those of ellipsoids, prime meridians, members of ensembles and the meridians of axes. Profile.
+pub fn frame_parts_are_canonical()
+    ensures ellipsoid { (level : Level) →
+        IsCanonicalForm IsEllipsoid (SameEllipsoid level) (IsSpelledEllipsoid level) (ellipsoid_text level) }
+    ensures meridian { (level : Level) →
+        IsCanonicalForm IsMeridian (SameGiven level) (IsSpelledMeridian level) (meridian_text level) }
+    ensures member { (level : Level) →
+        IsCanonicalForm IsMember (SameMember level) (IsSpelledMember level) (member_text level) }
+    ensures along { (level : Level) →
+        IsCanonicalForm IsAxisMeridian (SameAxisMeridian level) (IsSpelledAxisMeridian level) (axis_meridian_text level) }
+{
+    made_ellipsoid_is_normal();
+    made_meridian_is_normal();
+    made_member_is_normal();
+    made_axis_meridian_is_normal();
+    frame_parts_are_read_back();
+    crs_parts_are_read_back();
+    members_are_read_back();
+    normal_ellipsoid_is_its_form();
+    normal_meridian_is_its_form();
+    normal_member_is_its_form();
+    normal_axis_is_its_form();
+    same_frames_have_one_form();
+    same_systems_have_one_form();
+    members_read_once();
+    parts_read_once();
+    parts_are_sound();
+    text_laws();
+    written_items();
+}
+
+/// So are those of conversions, their methods and parameters, and geoid models. Profile.
+pub fn conversions_are_canonical()
+    ensures method { (level : Level) →
+        IsCanonicalForm IsMethod (SameMethod level) (IsSpelledMethod level) (method_text level) }
+    ensures parameter { (level : Level) →
+        IsCanonicalForm IsParameter (SameParameter level) (IsSpelledParameter level) (parameter_text level) }
+    ensures conversion { (level : Level) →
+        IsCanonicalForm IsConversion (SameConversion level) (IsSpelledConversion level) (conversion_text level) }
+    ensures geoid_model { (level : Level) →
+        IsCanonicalForm IsGeoidModel (SameGeoidModel level) (IsSpelledGeoidModel level) (geoid_model_text level) }
+{
+    made_method_is_normal();
+    made_parameter_is_normal();
+    made_conversion_is_normal();
+    made_geoid_model_is_normal();
+    crs_parts_are_read_back();
+    members_are_read_back();
+    normal_method_is_its_form();
+    normal_parameter_is_its_form();
+    normal_conversion_is_its_form();
+    normal_geoid_model_is_its_form();
+    same_conversions_have_one_form();
+    members_read_once();
+    parts_read_once();
+    parts_are_sound();
+    text_laws();
+    written_items();
+}
+
+/// So are those of boxes and extents. Profile.
+pub fn extents_are_canonical()
+    ensures bounding_box { (level : Level) →
+        IsCanonicalForm IsBox SameBox (IsSpelledBox level) (box_text level) }
+    ensures extent { (level : Level) →
+        IsCanonicalForm IsExtent (SameExtent level) (IsSpelledExtent level) (extent_text level) }
+{
+    made_box_is_normal();
+    made_extent_is_normal();
+    members_are_read_back();
+    normal_usage_is_its_form();
+    same_tails_have_one_form();
+    members_read_once();
+    parts_read_once();
+    parts_are_sound();
+    text_laws();
+    written_items();
 }
