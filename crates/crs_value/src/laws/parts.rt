@@ -8,9 +8,10 @@ ghost use Rattle.crs_value.specs.ReadsCrs.{IsGeodeticClass, ReadsBase, ReadsComp
 ghost use Rattle.crs_value.specs.Sound.{IsAxis, IsAxisMeridian, IsIdent, IsUnit};
 ghost use Rattle.crs_value.specs.SoundCompound.{IsCompound};
 ghost use Rattle.crs_value.specs.SoundConversion.{IsConversion, IsGeoidModel, IsMethod, IsParameter};
-ghost use Rattle.crs_value.specs.SoundFrames.{IsDatum, IsEllipsoid, IsEnsemble, IsMember, IsMeridian};
-ghost use Rattle.crs_value.specs.SoundSingle.{IsBase, IsGeodetic, IsProjected, IsVertical};
+ghost use Rattle.crs_value.specs.SoundFrames.{IsEllipsoid, IsMember, IsMeridian};
+ghost use Rattle.crs_value.specs.SoundSingle.{IsBase, IsGeodetic, IsGeodeticFrame, IsProjected, IsVertical, IsVerticalFrame};
 ghost use Rattle.crs_value.specs.SoundUsages.{IsBox, IsExtent};
+ghost use Rattle.crs_value.specs.declared.frame.Frame.TheVariants as frame;
 ghost use Rattle.crs_value.specs.Told.{IsReadAs, IsReadOnce};
 
 use crs_decimal::laws::denotes_one;
@@ -29,6 +30,10 @@ pub fn parts_read_once()
     ensures method { IsReadOnce ReadsMethod }
     ensures conversion { IsReadOnce ReadsConversion }
     ensures base { IsReadOnce ReadsBase }
+    ensures geodetic { IsReadOnce ReadsGeodetic }
+    ensures projected { IsReadOnce ReadsProjected }
+    ensures vertical { IsReadOnce ReadsVertical }
+    ensures compound { IsReadOnce ReadsCompound }
 {
     denotes_one();
 }
@@ -43,9 +48,10 @@ pub fn parts_are_sound()
     ensures ellipsoid { IsReadAs ReadsEllipsoid IsEllipsoid class.Ellipsoid }
     ensures meridian { (c : Class) → IsReadAs ReadsMeridian IsMeridian c }
     ensures member { (c : Class) → IsReadAs ReadsMember IsMember c }
-    ensures datum { (c : Class) → IsReadAs ReadsDatum IsDatum c }
-    ensures ensemble { IsReadAs ReadsEnsemble IsEnsemble class.GeodeticEnsemble }
-    ensures vertical_ensemble { IsReadAs ReadsEnsemble IsEnsemble class.VerticalEnsemble }
+    ensures datum { IsReadAs ReadsDatum (λ d. IsGeodeticFrame (frame.Datum d)) class.GeodeticFrame }
+    ensures vertical_datum { IsReadAs ReadsDatum (λ d. IsVerticalFrame (frame.Datum d)) class.VerticalFrame }
+    ensures ensemble { IsReadAs ReadsEnsemble (λ e. IsGeodeticFrame (frame.Ensemble e)) class.GeodeticEnsemble }
+    ensures vertical_ensemble { IsReadAs ReadsEnsemble (λ e. IsVerticalFrame (frame.Ensemble e)) class.VerticalEnsemble }
     ensures bounding_box { (c : Class) → IsReadAs ReadsBox IsBox c }
     ensures extent { (c : Class) → IsReadAs ReadsExtent IsExtent c }
     ensures method { (c : Class) → IsReadAs ReadsMethod IsMethod c }

@@ -2,7 +2,7 @@ use Rattle.std.proofs.Common.{refl, arith}
 use Rattle.crs_shape.specs.declared.class.Class.TheVariants as class
 use Rattle.crs_value.proofs.SoundAxisLemmas.{axis-meridian-tells, axis-tells}
 use Rattle.crs_value.proofs.SoundConversionLemmas.{conversion-tells, geoid-model-tells, method-tells, parameter-tells}
-use Rattle.crs_value.proofs.SoundCrsLemmas.{base-tells}
+use Rattle.crs_value.proofs.SoundCrsLemmas.{base-tells, has-ellipsoid, no-ellipsoid}
 use Rattle.crs_value.proofs.SoundFrameLemmas.{datum-tells, ellipsoid-tells, ensemble-tells, member-tells, meridian-tells}
 use Rattle.crs_value.proofs.SoundLemmas.{ident-tells, unit-tells}
 use Rattle.crs_value.proofs.SoundUsageLemmas.{box-tells, extent-tells}
@@ -30,13 +30,28 @@ pub returns-clause-member : goal.returns-clause-member
 returns-clause-member c = member-tells
 
 pub returns-clause-datum : goal.returns-clause-datum
-returns-clause-datum c = datum-tells
+returns-clause-datum c item value s r = (
+  datum-tells class.GeodeticFrame item value s r,
+  has-ellipsoid c.slots_count.ensures.least class.GeodeticFrame item value.ellipsoid (omega arith) s r.ellipsoid,
+)
+
+pub returns-clause-vertical_datum : goal.returns-clause-vertical_datum
+returns-clause-vertical_datum c item value s r = (
+  datum-tells class.VerticalFrame item value s r,
+  no-ellipsoid c.slots_count.ensures.most class.VerticalFrame item value.ellipsoid refl refl s r.ellipsoid,
+)
 
 pub returns-clause-ensemble : goal.returns-clause-ensemble
-returns-clause-ensemble c = ensemble-tells c.slots_count.ensures.least class.GeodeticEnsemble (omega arith)
+returns-clause-ensemble c item value s r = (
+  ensemble-tells c.slots_count.ensures.least class.GeodeticEnsemble (omega arith) item value s r,
+  has-ellipsoid c.slots_count.ensures.least class.GeodeticEnsemble item value.ellipsoid (omega arith) s r.ellipsoid,
+)
 
 pub returns-clause-vertical_ensemble : goal.returns-clause-vertical_ensemble
-returns-clause-vertical_ensemble c = ensemble-tells c.slots_count.ensures.least class.VerticalEnsemble (omega arith)
+returns-clause-vertical_ensemble c item value s r = (
+  ensemble-tells c.slots_count.ensures.least class.VerticalEnsemble (omega arith) item value s r,
+  no-ellipsoid c.slots_count.ensures.most class.VerticalEnsemble item value.ellipsoid refl refl s r.ellipsoid,
+)
 
 pub returns-clause-bounding_box : goal.returns-clause-bounding_box
 returns-clause-bounding_box c = box-tells

@@ -1,5 +1,5 @@
 use Rattle.crs_value.proofs.OneLemmas.{axis-one, axis_meridian-one, box-one, datum-one, ellipsoid-one, ensemble-one, meridian-one}
-use Rattle.crs_value.proofs.OneCrsLemmas.{base-one, conversion-one, method-one}
+use Rattle.crs_value.proofs.OneCrsLemmas.{base-one, compound-one, conversion-one, geodetic-one, method-one, projected-one, vertical-one}
 use Rattle.crs_value.proofs.laws.parts.parts_read_once.Goals as goal
 
 pub returns-clause-along : goal.returns-clause-along
@@ -31,3 +31,15 @@ returns-clause-conversion c = conversion-one c.denotes_one.ensures
 
 pub returns-clause-base : goal.returns-clause-base
 returns-clause-base c = base-one c.denotes_one.ensures
+
+pub returns-clause-geodetic : goal.returns-clause-geodetic
+returns-clause-geodetic c = geodetic-one c.denotes_one.ensures
+
+pub returns-clause-projected : goal.returns-clause-projected
+returns-clause-projected c = projected-one c.denotes_one.ensures
+
+pub returns-clause-vertical : goal.returns-clause-vertical
+returns-clause-vertical c = vertical-one c.denotes_one.ensures
+
+pub returns-clause-compound : goal.returns-clause-compound
+returns-clause-compound c = compound-one c.denotes_one.ensures
