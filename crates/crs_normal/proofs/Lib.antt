@@ -48,9 +48,11 @@ pub mod MemberUnitLemmas
 pub mod NamedNormalLemmas
 pub mod PairLemmas
 pub mod ParameterLemmas
+pub mod PartFrameLemmas
+pub mod PartKindLemmas
 pub mod PartLemmas
-pub mod PartUnitLemmas
 mod PartSameLemmas
+pub mod PartUnitLemmas
 pub mod ProjectedNormalLemmas
 pub mod RankLemmas
 pub mod ReadCompoundLemmas

@@ -13,6 +13,7 @@ use Rattle.crs_normal.specs.Closed.{IsClosed}
 use Rattle.crs_normal.specs.Decides.{FormDecides}
 use Rattle.crs_normal.specs.Flat.{flat}
 use Rattle.crs_normal.specs.Made.{IsMade}
+use Rattle.crs_normal.specs.Normal.{IsNormalIn}
 use Rattle.crs_normal.specs.OneForm.{IsItsForm, IsItsFormUnbroken}
 use Rattle.crs_normal.specs.SpelledAs.{IsSpelledAs}
 use Rattle.crs_normal.specs.TextLaws.{TextLaws}
@@ -44,6 +45,16 @@ pub unbroken-form : {V : Type 0} (level : Level) (c : Class) (Reads : Class → 
 unbroken-form level c Reads form own parent item value shaped normal free reads =
     own parent item value shaped normal reads
 
+-- a normal item that is sound is what is written for the value that it says
+abbrev pub IsItsFormSound : {V : Type 0} → Level → Class → (Class → Item → V → Type 0) → (V → Item) → Type 0
+IsItsFormSound {V = V} level c Reads form =
+    (item : Item) (value : V) → IsSound c item → IsNormalIn level c c item → Reads c item value → flat item ≡ form value
+
+pub sound-form : {V : Type 0} (level : Level) (c : Class) (Reads : Class → Item → V → Type 0) (form : V → Item) →
+    IsItsFormUnbroken level c Reads form → IsItsFormSound level c Reads form
+sound-form level c Reads form own item value sound normal reads =
+    own c item value sound.shaped normal sound.unbroken reads
+
 -- what stands of the values of one kind
 pub record IsKnown {V : Type 0} (level : Level) (c : V → Class) (Reads : Class → Item → V → Type 0) (Is : V → Type 0) (Same : V → V → Type 0) (form : V → V) (item : V → Item) : Type 0 where
   pub decides : FormDecides Is form Same
@@ -51,7 +62,7 @@ pub record IsKnown {V : Type 0} (level : Level) (c : V → Class) (Reads : Class
   pub reads : (x : V) → Is x → Reads (c x) (at_place 0 (item (form x))) (form x)
   pub told : (a b : V) → Is a → Is b → item_text (item (form a)) ≡ item_text (item (form b)) → form a ≡ form b
   pub sound : (x : V) → Is x → IsReadAs Reads Is (c x)
-  pub own : (x : V) → Is x → IsItsFormUnbroken level (c x) Reads (λ v. item (form v))
+  pub own : (x : V) → Is x → IsItsFormSound level (c x) Reads (λ v. item (form v))
 
 -- the text of an item, of which the place doesn't count
 writable-at : (level : Level) (c : Class) (i : Item) → IsMade level c 8 (at_place 0 i) → IsWritable (at_place 0 i)
@@ -90,7 +101,8 @@ module _ {V : Type 0} (laws : TextLaws) (formed : SpelledFormed) (level : Level)
   form-twice x s =
       let m = known.made x s in
       let f : flat (at-start x) ≡ item (form (form x)) =
-      known.own x s (c x) (at-start x) (form x) m.shaped (m.normal (c x)) m.unbroken (known.reads x s) in
+      known.own x s (at-start x) (form x)
+      (record { formed = m.formed; shaped = m.shaped; unbroken = m.unbroken }) (m.normal (c x)) (known.reads x s) in
       known.told x (form x) s (form-kept x s)
       (sym (text-at 0 (item (form x))) ∙ sym (flat-text (at-start x)) ∙ ap item_text f)
 
@@ -123,11 +135,10 @@ module _ {V : Type 0} (laws : TextLaws) (formed : SpelledFormed) (level : Level)
       bytes ≡ item_text (item (form x))
   form-one x bytes s h =
       let v = h.read in
-      let k : Is v =
-      known.sound x s h.item v
-      (record { formed = formed bytes h.item h.spells; shaped = h.shaped; unbroken = h.unbroken }) h.reads in
-      let f : flat h.item ≡ item (form v) =
-      known.own x s (c x) h.item v h.shaped h.normal h.unbroken h.reads in
+      let all : IsSound (c x) h.item =
+      record { formed = formed bytes h.item h.spells; shaped = h.shaped; unbroken = h.unbroken } in
+      let k : Is v = known.sound x s h.item v all h.reads in
+      let f : flat h.item ≡ item (form v) = known.own x s h.item v all h.normal h.reads in
       h.written ∙ sym (flat-text h.item) ∙ ap item_text f
       ∙ ap (λ y. item_text (item y)) (sym ((known.decides x v s k).1 h.same))
 
@@ -167,7 +178,7 @@ canonical-of laws formed level c most Reads Is Same form item k =
           (λ x s. made-deeper level c most 8 (at_place 0 (item (form x))) k.few (k.made x 0 s))
           (λ x s. k.reads x 0 s);
       sound = λ x s. k.sound;
-      own = λ x s. k.own;
+      own = λ x s. sound-form level c Reads (λ v. item (form v)) k.own;
     })
 
 -- a form that is decided within a part that may be missing

@@ -5,7 +5,7 @@ use Rattle.crs_value.specs.Sound.{IsIdent}
 use Rattle.crs_same.specs.SameIdents.{SameIdent}
 use Rattle.crs_normal.specs.SpelledUnits.{item_ident}
 use Rattle.crs_normal.proofs.IdentLemmas.{ident-agrees}
-use Rattle.crs_normal.proofs.PartLemmas.{canonical-form, made-deeper, unbroken-form}
+use Rattle.crs_normal.proofs.PartLemmas.{canonical-form, made-deeper, sound-form, unbroken-form}
 use Rattle.crs_normal.proofs.laws.parts.identifiers_are_canonical.Goals as goal
 
 pub returns : goal.returns
@@ -17,5 +17,6 @@ returns c level =
       reads = λ x s. c.members_are_read_back.ensures.identifier x 0 s;
       told = c.member_texts_tell_members.ensures.identifier;
       sound = λ x s. c.parts_are_sound.ensures.ident class.Identifier;
-      own = λ x s. unbroken-form level class.Identifier ReadsIdent item_ident (c.normal_identifier_is_its_form.ensures level);
+      own = λ x s. sound-form level class.Identifier ReadsIdent item_ident
+          (unbroken-form level class.Identifier ReadsIdent item_ident (c.normal_identifier_is_its_form.ensures level));
     })
