@@ -3,7 +3,12 @@ ghost use Rattle.std.specs.Prelude.{◌≡◌, ◌↔◌, ◌++◌, ◌∷◌, �
 ghost use Rattle.crs_value.specs.declared.level.Level.{Level};
 ghost use Rattle.crs_normal.specs.CanonicalForm.{IsCanonicalForm};
 
+mod conversions;
+mod crs;
+mod frames;
+mod kinds;
 mod units;
+mod usages;
 
 use crs_value::Level;
 use std::alloc::{AllocError, Global};
@@ -36,11 +41,10 @@ pub trait Canonical: Sized {
             (λ _. out.new.items ≡ out.old.items ++ spelling level self.now)
             (λ _. out.new.items ≡ out.old.items) };
 
-    /// What stands of every value of the type, this one among them: its spelling is normal and one, spellings are equal,
-    /// byte for byte, exactly where the values are the same, and each is closed. The call does nothing.
+    /// The law of the type: its spellings are normal and one, they are equal, byte for byte, exactly where the values are
+    /// the same, and each is closed. The call does nothing.
     fn laws(&self)
-        ensures value { IsValue self.now }
-        ensures canonical { (level : Level) → IsCanonicalForm IsValue (Same level) (IsSpelling level) (spelling level) };
+        ensures { (level : Level) → IsCanonicalForm IsValue (Same level) (IsSpelling level) (spelling level) };
 }
 
 // Appends a text that was written behind a comma, without the comma.

@@ -5,7 +5,6 @@ use Rattle.crs_shape.specs.declared.class.Class.TheVariants as class
 use Rattle.crs_text.specs.Written.{item_text}
 use Rattle.crs_value.specs.CrsValues.{GeodeticParts, ProjectedParts}
 use Rattle.crs_value.specs.ReadsCrs.{IsGeodeticClass, ReadsGeodetic}
-use Rattle.crs_value.specs.SoundCompound.{IsHorizontal}
 use Rattle.crs_value.specs.SoundCrs.{IsCrs}
 use Rattle.crs_value.specs.SoundSingle.{IsGeodetic, IsProjected}
 use Rattle.crs_value.specs.declared.compound.Horizontal.{Horizontal}
@@ -20,7 +19,7 @@ use Rattle.crs_normal.specs.CanonicalForm.{IsCanonicalForm}
 use Rattle.crs_normal.specs.Decides.{FormDecides}
 use Rattle.crs_normal.specs.Made.{root_class}
 use Rattle.crs_normal.specs.OneForm.{IsItsFormUnbroken}
-use Rattle.crs_normal.specs.PartSpellings.{IsSpelledGeodetic, IsSpelledHorizontal, IsSpelledProjected}
+use Rattle.crs_normal.specs.PartSpellings.{IsHorizontalPart, IsSpelledGeodetic, IsSpelledHorizontal, IsSpelledProjected}
 use Rattle.crs_normal.specs.PartTexts.{geodetic_text, horizontal_text, projected_text}
 use Rattle.crs_normal.specs.SpelledCrs.{item_crs, item_geodetic, norm_crs, norm_geodetic}
 
@@ -53,19 +52,19 @@ geodetic-told level decide forms a b p q e =
     (forms a b p q).1 (((decide (crs.Geodetic a) (crs.Geodetic b) p q).0 e).parts)
 
 module _ (level : Level) (decide : TextsDecide level) (geodetics : IsCanonicalForm IsGeodetic (SameGeodetic level) (IsSpelledGeodetic level) (geodetic_text level)) (projecteds : IsCanonicalForm IsProjected (SameProjected level) (IsSpelledProjected level) (projected_text level)) where
-  horizontals-equal : (a b : Horizontal) → IsHorizontal a → IsHorizontal b →
+  horizontals-equal : (a b : Horizontal) → IsHorizontalPart a → IsHorizontalPart b →
       (horizontal_text level a ≡ horizontal_text level b) ↔ SameHorizontal level a b
-  horizontals-equal (horizontal.Geodetic a) (horizontal.Geodetic b) p q = geodetics.equal_bytes a b p.0 q.0
+  horizontals-equal (horizontal.Geodetic a) (horizontal.Geodetic b) p q = geodetics.equal_bytes a b p q
   horizontals-equal (horizontal.Geodetic a) (horizontal.Projected b) p q =
-      (λ e. ((decide (crs.Geodetic a) (crs.Projected b) p.0 q.0).0 e).parts, λ none. absurd none)
+      (λ e. ((decide (crs.Geodetic a) (crs.Projected b) p q).0 e).parts, λ none. absurd none)
   horizontals-equal (horizontal.Projected a) (horizontal.Geodetic b) p q =
-      (λ e. ((decide (crs.Projected a) (crs.Geodetic b) p.0 q.0).0 e).parts, λ none. absurd none)
-  horizontals-equal (horizontal.Projected a) (horizontal.Projected b) p q = projecteds.equal_bytes a b p.0 q.0
+      (λ e. ((decide (crs.Projected a) (crs.Geodetic b) p q).0 e).parts, λ none. absurd none)
+  horizontals-equal (horizontal.Projected a) (horizontal.Projected b) p q = projecteds.equal_bytes a b p q
 
-  pub horizontals-canonical : IsCanonicalForm IsHorizontal (SameHorizontal level) (IsSpelledHorizontal level) (horizontal_text level)
+  pub horizontals-canonical : IsCanonicalForm IsHorizontalPart (SameHorizontal level) (IsSpelledHorizontal level) (horizontal_text level)
   horizontals-canonical = record {
-    spelled = elim [ horizontal.Geodetic g ↦ λ s. geodetics.spelled g s.0 | horizontal.Projected p ↦ λ s. projecteds.spelled p s.0 ];
-    one = elim [ horizontal.Geodetic g ↦ λ bytes s h. geodetics.one g bytes s.0 h | horizontal.Projected p ↦ λ bytes s h. projecteds.one p bytes s.0 h ];
+    spelled = elim [ horizontal.Geodetic g ↦ λ s. geodetics.spelled g s | horizontal.Projected p ↦ λ s. projecteds.spelled p s ];
+    one = elim [ horizontal.Geodetic g ↦ λ bytes s h. geodetics.one g bytes s h | horizontal.Projected p ↦ λ bytes s h. projecteds.one p bytes s h ];
     equal_bytes = horizontals-equal;
-    closed = elim [ horizontal.Geodetic g ↦ λ s. geodetics.closed g s.0 | horizontal.Projected p ↦ λ s. projecteds.closed p s.0 ];
+    closed = elim [ horizontal.Geodetic g ↦ λ s. geodetics.closed g s | horizontal.Projected p ↦ λ s. projecteds.closed p s ];
   }

@@ -9,6 +9,7 @@ use Rattle.crs_value.specs.Reads.{ReadsAxisMeridian, ReadsBox, ReadsDatum, Reads
 use Rattle.crs_value.specs.ReadsConversion.{ReadsConversion, ReadsGeoidModel, ReadsMethod, ReadsParameter}
 use Rattle.crs_value.specs.ReadsCrs.{ReadsBase, ReadsCompound, ReadsGeodetic, ReadsProjected, ReadsVertical}
 use Rattle.crs_value.specs.SoundFrames.{IsDatum, IsEnsemble}
+use Rattle.crs_value.specs.SoundSingle.{IsGeodetic, IsProjected}
 use Rattle.crs_value.specs.Values.{AxisMeridianParts, BoxParts, DatumParts, EllipsoidParts, EnsembleParts, ExtentParts, IdentParts, MemberParts, MeridianParts, UnitParts, UsageParts}
 use Rattle.crs_value.specs.declared.compound.Horizontal.{Horizontal}
 use Rattle.crs_value.specs.declared.compound.Horizontal.TheVariants as horizontal
@@ -119,6 +120,10 @@ IsSpelledProjected level projected = IsSpelledAs level class.ProjectedCrs ReadsP
 
 abbrev pub IsSpelledVertical : Level → VerticalParts → List ℕ → Type 0
 IsSpelledVertical level vertical = IsSpelledAs level class.VerticalCrs ReadsVertical (SameVertical level) vertical
+
+abbrev pub IsHorizontalPart : Horizontal → Type 0
+IsHorizontalPart (horizontal.Geodetic geodetic) = IsGeodetic geodetic
+IsHorizontalPart (horizontal.Projected projected) = IsProjected projected
 
 abbrev pub IsSpelledHorizontal : Level → Horizontal → List ℕ → Type 0
 IsSpelledHorizontal level (horizontal.Geodetic geodetic) bytes = IsSpelledGeodetic level geodetic bytes

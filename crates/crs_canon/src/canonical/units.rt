@@ -32,7 +32,6 @@ impl Canonical for Ident<'_> {
     }
 
     fn laws(&self) {
-        let _authority = self.authority;
         identifiers_are_canonical();
     }
 }
@@ -63,7 +62,6 @@ impl Canonical for Unit<'_> {
     }
 
     fn laws(&self) {
-        let _name = self.name;
         units_are_canonical();
     }
 }

@@ -3,7 +3,7 @@ ghost use Rattle.std.specs.Prelude.{◌≡◌, ◌++◌, [], ℕ, List};
 ghost use Rattle.crs_text.specs.Items.{Item, IsNode};
 ghost use Rattle.crs_text.specs.Written.{AreFormed, item_text};
 ghost use Rattle.crs_value.specs.Sound.{IsAxisMeridian, IsIdent, IsUnit};
-ghost use Rattle.crs_value.specs.SoundCompound.{IsCompound, IsHorizontal};
+ghost use Rattle.crs_value.specs.SoundCompound.{IsCompound};
 ghost use Rattle.crs_value.specs.SoundConversion.{IsConversion, IsGeoidModel, IsMethod, IsParameter};
 ghost use Rattle.crs_value.specs.SoundFrames.{IsDatum, IsEllipsoid, IsEnsemble, IsMember, IsMeridian};
 ghost use Rattle.crs_value.specs.SoundSingle.{IsBase, IsGeodetic, IsProjected, IsVertical};
@@ -16,18 +16,19 @@ ghost use Rattle.crs_same.specs.SameFrames.{SameDatum, SameEllipsoid, SameEnsemb
 ghost use Rattle.crs_same.specs.SameIdents.{SameIdent};
 ghost use Rattle.crs_same.specs.SameSystems.{SameAxisMeridian};
 ghost use Rattle.crs_same.specs.SameUnits.{SameUnit};
-ghost use Rattle.crs_same.specs.SameUsages.{SameBox, SameExtent};
+ghost use Rattle.crs_same.specs.SameUsages.{SameBox, SameExtent, SameUsage};
 ghost use Rattle.crs_normal.specs.CanonicalForm.{IsCanonicalForm};
 ghost use Rattle.crs_normal.specs.Closed.{IsClosed};
-ghost use Rattle.crs_normal.specs.PartSpellings.{IsFrame, IsSpelledAxisMeridian, IsSpelledBase, IsSpelledBox, IsSpelledCompound, IsSpelledConversion, IsSpelledDatum, IsSpelledEllipsoid, IsSpelledEnsemble, IsSpelledExtent, IsSpelledFrame, IsSpelledGeodetic, IsSpelledGeoidModel, IsSpelledHorizontal, IsSpelledIdent, IsSpelledMember, IsSpelledMeridian, IsSpelledMethod, IsSpelledParameter, IsSpelledProjected, IsSpelledUnit, IsSpelledVertical};
-ghost use Rattle.crs_normal.specs.PartTexts.{axis_meridian_text, base_text, box_text, compound_text, conversion_text, datum_text, ellipsoid_text, ensemble_text, extent_text, frame_text, geodetic_text, geoid_model_text, horizontal_text, ident_text, member_text, meridian_text, method_text, parameter_text, projected_text, unit_text, vertical_text};
+ghost use Rattle.crs_normal.specs.Decides.{IsSomeUsage};
+ghost use Rattle.crs_normal.specs.PartSpellings.{IsFrame, IsHorizontalPart, IsSpelledAxisMeridian, IsSpelledBase, IsSpelledBox, IsSpelledCompound, IsSpelledConversion, IsSpelledDatum, IsSpelledEllipsoid, IsSpelledEnsemble, IsSpelledExtent, IsSpelledFrame, IsSpelledGeodetic, IsSpelledGeoidModel, IsSpelledHorizontal, IsSpelledIdent, IsSpelledMember, IsSpelledMeridian, IsSpelledMethod, IsSpelledParameter, IsSpelledProjected, IsSpelledUnit, IsSpelledUsage, IsSpelledVertical};
+ghost use Rattle.crs_normal.specs.PartTexts.{axis_meridian_text, base_text, box_text, compound_text, conversion_text, datum_text, ellipsoid_text, ensemble_text, extent_text, frame_text, geodetic_text, geoid_model_text, horizontal_text, ident_text, member_text, meridian_text, method_text, parameter_text, projected_text, unit_text, usage_text, vertical_text};
 
 use crate::laws::made::{
     made_axis_meridian_is_normal, made_base_is_normal, made_box_is_normal, made_compound_is_normal,
     made_conversion_is_normal, made_ellipsoid_is_normal, made_extent_is_normal,
     made_geodetic_frame_is_normal, made_geodetic_is_normal, made_geoid_model_is_normal,
     made_identifier_is_normal, made_member_is_normal, made_meridian_is_normal,
-    made_method_is_normal, made_parameter_is_normal, made_projected_is_normal, made_unit_is_normal,
+    made_method_is_normal, made_parameter_is_normal, made_projected_is_normal, made_unit_is_normal, made_usage_is_normal,
     made_vertical_frame_is_normal, made_vertical_is_normal,
 };
 use crate::laws::normal::{
@@ -160,6 +161,21 @@ pub fn extents_are_canonical()
     written_items();
 }
 
+/// So are those of usages, each of which says something; a usage is written alike at every level. Profile.
+pub fn usages_are_canonical()
+    ensures { (level : Level) →
+        IsCanonicalForm IsSomeUsage SameUsage (IsSpelledUsage level) (usage_text level) }
+{
+    made_usage_is_normal();
+    members_are_read_back();
+    normal_usage_is_its_form();
+    same_tails_have_one_form();
+    members_read_once();
+    parts_are_sound();
+    text_laws();
+    written_items();
+}
+
 /// So are those of reference frames and ensembles: geodetic ones where they have an ellipsoid, else vertical ones. Profile.
 pub fn datums_are_canonical()
     ensures datum { (level : Level) →
@@ -219,7 +235,7 @@ pub fn kinds_are_canonical()
 /// So are those of the horizontal parts of compound CRSs. Profile.
 pub fn horizontals_are_canonical()
     ensures { (level : Level) →
-        IsCanonicalForm IsHorizontal (SameHorizontal level) (IsSpelledHorizontal level) (horizontal_text level) }
+        IsCanonicalForm IsHorizontalPart (SameHorizontal level) (IsSpelledHorizontal level) (horizontal_text level) }
 {
     kinds_are_canonical();
     written_forms_are_equal_where_same();

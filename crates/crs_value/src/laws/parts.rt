@@ -2,7 +2,7 @@
 //! asked of its kind.
 ghost use Rattle.crs_shape.specs.declared.class.Class.{Class};
 ghost use Rattle.crs_shape.specs.declared.class.Class.TheVariants as class;
-ghost use Rattle.crs_value.specs.Reads.{IsUnitClass, ReadsAxis, ReadsAxisMeridian, ReadsBox, ReadsDatum, ReadsEllipsoid, ReadsEnsemble, ReadsExtent, ReadsIdent, ReadsMember, ReadsMeridian, ReadsUnit};
+ghost use Rattle.crs_value.specs.Reads.{IsUnitClass, ReadsAxis, ReadsAxisMeridian, ReadsBox, ReadsDatum, ReadsEllipsoid, ReadsEnsemble, ReadsExtent, ReadsIdent, ReadsMember, ReadsMeridian, ReadsUnit, ReadsUsage};
 ghost use Rattle.crs_value.specs.ReadsConversion.{ReadsConversion, ReadsGeoidModel, ReadsMethod, ReadsParameter};
 ghost use Rattle.crs_value.specs.ReadsCrs.{IsGeodeticClass, ReadsBase, ReadsCompound, ReadsGeodetic, ReadsProjected, ReadsVertical};
 ghost use Rattle.crs_value.specs.Sound.{IsAxis, IsAxisMeridian, IsIdent, IsUnit};
@@ -10,7 +10,7 @@ ghost use Rattle.crs_value.specs.SoundCompound.{IsCompound};
 ghost use Rattle.crs_value.specs.SoundConversion.{IsConversion, IsGeoidModel, IsMethod, IsParameter};
 ghost use Rattle.crs_value.specs.SoundFrames.{IsEllipsoid, IsMember, IsMeridian};
 ghost use Rattle.crs_value.specs.SoundSingle.{IsBase, IsGeodetic, IsGeodeticFrame, IsProjected, IsVertical, IsVerticalFrame};
-ghost use Rattle.crs_value.specs.SoundUsages.{IsBox, IsExtent};
+ghost use Rattle.crs_value.specs.SoundUsages.{IsBox, IsExtent, IsUsage, SaysSome};
 ghost use Rattle.crs_value.specs.declared.frame.Frame.TheVariants as frame;
 ghost use Rattle.crs_value.specs.Told.{IsReadAs, IsReadOnce};
 
@@ -54,6 +54,7 @@ pub fn parts_are_sound()
     ensures vertical_ensemble { IsReadAs ReadsEnsemble (λ e. IsVerticalFrame (frame.Ensemble e)) class.VerticalEnsemble }
     ensures bounding_box { (c : Class) → IsReadAs ReadsBox IsBox c }
     ensures extent { (c : Class) → IsReadAs ReadsExtent IsExtent c }
+    ensures usage { IsReadAs ReadsUsage (λ u. IsUsage u × SaysSome u) class.Usage }
     ensures method { (c : Class) → IsReadAs ReadsMethod IsMethod c }
     ensures parameter { (c : Class) → IsReadAs ReadsParameter IsParameter c }
     ensures conversion { (c : Class) → IsReadAs ReadsConversion IsConversion c }

@@ -5,7 +5,7 @@ use Rattle.crs_value.proofs.SoundConversionLemmas.{conversion-tells, geoid-model
 use Rattle.crs_value.proofs.SoundCrsLemmas.{base-tells, has-ellipsoid, no-ellipsoid}
 use Rattle.crs_value.proofs.SoundFrameLemmas.{datum-tells, ellipsoid-tells, ensemble-tells, member-tells, meridian-tells}
 use Rattle.crs_value.proofs.SoundLemmas.{ident-tells, unit-tells}
-use Rattle.crs_value.proofs.SoundUsageLemmas.{box-tells, extent-tells}
+use Rattle.crs_value.proofs.SoundUsageLemmas.{box-tells, extent-tells, says-some, usage-tells}
 use Rattle.crs_value.proofs.laws.parts.parts_are_sound.Goals as goal
 
 pub returns-clause-ident : goal.returns-clause-ident
@@ -73,3 +73,7 @@ returns-clause-geoid_model c = geoid-model-tells
 
 pub returns-clause-base : goal.returns-clause-base
 returns-clause-base c = base-tells c.slots_count.ensures.least
+
+pub returns-clause-usage : goal.returns-clause-usage
+returns-clause-usage c item value s r =
+    (usage-tells class.Usage item value s r, says-some c.slots_count.ensures.most item value s r)
