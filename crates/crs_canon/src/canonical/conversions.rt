@@ -2,7 +2,7 @@
 use crate::canonical::{Canonical, append_argument};
 use crate::spelling::conversion::{write_conversion, write_method, write_parameter};
 use crate::spelling::ident::write_named;
-use crs_normal::laws::parts::{conversions_are_canonical};
+use crs_normal::laws::parts::conversions_are_canonical;
 use crs_same::parts::{same_conversion, same_geoid_model, same_method, same_parameter};
 use crs_value::{Conversion, GeoidModel, Level, Method, Parameter};
 use std::alloc::{AllocError, Global};

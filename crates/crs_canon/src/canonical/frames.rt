@@ -4,8 +4,12 @@ use crate::spelling::ellipsoid::write_ellipsoid;
 use crate::spelling::frame::{write_ensemble, write_own_datum};
 use crate::spelling::ident::write_named;
 use crate::spelling::meridian::write_given;
-use crs_normal::laws::parts::{datums_are_canonical, frame_parts_are_canonical, frames_are_canonical};
-use crs_same::parts::{same_datum, same_ellipsoid, same_ensemble, same_frame, same_member, same_meridian};
+use crs_normal::laws::parts::{
+    datums_are_canonical, frame_parts_are_canonical, frames_are_canonical,
+};
+use crs_same::parts::{
+    same_datum, same_ellipsoid, same_ensemble, same_frame, same_member, same_meridian,
+};
 use crs_value::{Datum, Ellipsoid, Ensemble, Frame, Level, Member, Meridian};
 use std::alloc::{AllocError, Global};
 

@@ -4,7 +4,9 @@ use crate::spelling::crs::{
     write_base, write_compound, write_geodetic, write_projected, write_vertical,
 };
 use crs_normal::laws::parts::{horizontals_are_canonical, kinds_are_canonical};
-use crs_same::parts::{same_base, same_compound, same_geodetic, same_horizontal, same_projected, same_vertical};
+use crs_same::parts::{
+    same_base, same_compound, same_geodetic, same_horizontal, same_projected, same_vertical,
+};
 use crs_value::{Base, Compound, Geodetic, Horizontal, Level, Projected, Vertical};
 use std::alloc::{AllocError, Global};
 

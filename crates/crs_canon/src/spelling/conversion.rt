@@ -15,7 +15,11 @@ use crs_value::{Conversion, GeoidModel, Level, List, Method, Parameter, UnitKind
 use std::alloc::AllocError;
 
 // Behind a comma.
-pub(crate) fn write_method(out: &mut Vec<u8>, method: &Method<'_>, level: Level) -> Result<(), AllocError>
+pub(crate) fn write_method(
+    out: &mut Vec<u8>,
+    method: &Method<'_>,
+    level: Level,
+) -> Result<(), AllocError>
     ensures { OnOk result (out.new.items
         ≡ out.old.items ++ 44 ∷ item_text (item_method (norm_method level method.now))) }
 {

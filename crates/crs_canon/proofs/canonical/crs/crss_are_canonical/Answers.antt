@@ -7,11 +7,11 @@ use Rattle.crs_canon.proofs.canonical.crs.crss_are_canonical.Goals as goal
 pub returns : goal.returns
 returns c level = record {
   spelled = λ x s. record {
-        normal = c.made_text_is_normal.ensures level x s;
-        value = norm_crs level x;
-        spells = c.written_form_is_accepted.ensures level x s;
-        same = c.one_form_is_the_same.ensures level x s;
-      };
+    normal = c.made_text_is_normal.ensures level x s;
+    value = norm_crs level x;
+    spells = c.written_form_is_accepted.ensures level x s;
+    same = c.one_form_is_the_same.ensures level x s;
+  };
   one = λ x bytes s h.
       c.normal_text_is_its_form.ensures level bytes h.value h.normal h.spells
       ∙ ap (λ y. item_text (item_crs y))
