@@ -11,14 +11,18 @@ use Rattle.crs_value.specs.declared.level.Level.{Level}
 use Rattle.crs_normal.specs.Normal.{IsNormalIn}
 
 -- the bytes are a node of this class, written without white space and in square delimiters; it has the shape of its
--- class, breaks no check and is normal, and says a value that is the same
-pub record IsSpelledAs {V : Type 0} (level : Level) (c : Class) (Reads : Class → Item → V → Type 0) (Same : V → V → Type 0) (value : V) (bytes : List ℕ) : Type 0 where
+-- class, breaks no check and is normal in this sense, and says a value that is the same
+pub record IsSpelledBy {V : Type 0} (c : Class) (IsNormal : Item → Type 0) (Reads : Class → Item → V → Type 0) (Same : V → V → Type 0) (value : V) (bytes : List ℕ) : Type 0 where
   pub item : Item
   pub spells : SpellsNode bytes item
   pub written : bytes ≡ item_text item
   pub shaped : Shaped c item
   pub unbroken : (fault : Refused) → ¬ (Breaks c item fault)
-  pub normal : IsNormalIn level c c item
+  pub normal : IsNormal item
   pub read : V
   pub reads : Reads c item read
   pub same : Same value read
+
+-- normal as one of its class at the level
+abbrev pub IsSpelledAs : {V : Type 0} → Level → Class → (Class → Item → V → Type 0) → (V → V → Type 0) → V → List ℕ → Type 0
+IsSpelledAs level c Reads Same value bytes = IsSpelledBy c (IsNormalIn level c c) Reads Same value bytes

@@ -9,7 +9,7 @@ use Rattle.crs_same.specs.SameCrs.{SameBase, SameCompound, SameGeodetic, SamePro
 use Rattle.crs_normal.specs.Made.{root_class}
 use Rattle.crs_normal.specs.SpelledCrs.{item_base, item_compound, item_geodetic, item_projected, item_vertical, norm_base, norm_compound, norm_geodetic, norm_projected, norm_vertical}
 use Rattle.crs_normal.proofs.PartKindLemmas.{geodetic-told, is-geodetic, own-geodetic}
-use Rattle.crs_normal.proofs.PartLemmas.{canonical-form, canonical-of, made-deeper, sound-form}
+use Rattle.crs_normal.proofs.PartLemmas.{canonical-form, canonical-of, made-stands, sound-form}
 use Rattle.crs_normal.proofs.laws.parts.kinds_are_canonical.Goals as goal
 
 pub returns-clause-base : goal.returns-clause-base
@@ -33,7 +33,7 @@ returns-clause-geodetic c level =
     ReadsGeodetic IsGeodetic (SameGeodetic level) (norm_geodetic level) item_geodetic
     (record {
       decides = c.same_kinds_have_one_form.ensures.geodetic level;
-      made = λ x s. made-deeper level (root_class x.system.system_type) 6 8
+      made = λ x s. made-stands level (root_class x.system.system_type) 6
           (at_place 0 (item_geodetic (norm_geodetic level x))) (omega arith)
           (c.made_geodetic_is_normal.ensures level x 0 s);
       reads = λ x s. (c.crs_is_read_back.ensures.reads level (crs.Geodetic x) 0 s).1;
