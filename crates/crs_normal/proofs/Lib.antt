@@ -1,5 +1,6 @@
 pub mod AcceptedLemmas
 pub mod AscendLemmas
+pub mod AxisAloneLemmas
 pub mod AxisNormalLemmas
 mod AxisSameLemmas
 pub mod CheckedLemmas
@@ -19,6 +20,7 @@ pub mod IdentLemmas
 pub mod IdentNormalLemmas
 pub mod ItemLemmas
 pub mod LeafLemmas
+pub mod MadeAloneLemmas
 pub mod MadeAscendLemmas
 pub mod MadeAxisLemmas
 pub mod MadeBehindLemmas

@@ -38,7 +38,7 @@ use crs_same::laws::one_axis_each;
 use crs_text::laws::written_items;
 
 // The laws of decimals, as one fact.
-fn decimal_laws()
+pub(super) fn decimal_laws()
     ensures { DecimalLaws }
 {
     denotes_one();

@@ -2,7 +2,7 @@
 ghost use Rattle.std.specs.Prelude.{◌≡◌, ◌++◌, [], ℕ, List};
 ghost use Rattle.crs_text.specs.Items.{Item, IsNode};
 ghost use Rattle.crs_text.specs.Written.{AreFormed, item_text};
-ghost use Rattle.crs_value.specs.Sound.{IsAxisMeridian, IsIdent, IsUnit};
+ghost use Rattle.crs_value.specs.Sound.{IsAxis, IsAxisMeridian, IsIdent, IsUnit};
 ghost use Rattle.crs_value.specs.SoundCompound.{IsCompound};
 ghost use Rattle.crs_value.specs.SoundConversion.{IsConversion, IsGeoidModel, IsMethod, IsParameter};
 ghost use Rattle.crs_value.specs.SoundFrames.{IsDatum, IsEllipsoid, IsEnsemble, IsMember, IsMeridian};
@@ -14,21 +14,23 @@ ghost use Rattle.crs_same.specs.SameConversions.{SameConversion, SameGeoidModel,
 ghost use Rattle.crs_same.specs.SameCrs.{SameBase, SameCompound, SameGeodetic, SameHorizontal, SameProjected, SameVertical};
 ghost use Rattle.crs_same.specs.SameFrames.{SameDatum, SameEllipsoid, SameEnsemble, SameFrame, SameGiven, SameMember};
 ghost use Rattle.crs_same.specs.SameIdents.{SameIdent};
-ghost use Rattle.crs_same.specs.SameSystems.{SameAxisMeridian};
+ghost use Rattle.crs_same.specs.SameSystems.{SameAxisAlone, SameAxisMeridian};
 ghost use Rattle.crs_same.specs.SameUnits.{SameUnit};
 ghost use Rattle.crs_same.specs.SameUsages.{SameBox, SameExtent, SameUsage};
+ghost use Rattle.crs_normal.specs.AxisAlone.{IsSpelledAxis};
 ghost use Rattle.crs_normal.specs.CanonicalForm.{IsCanonicalForm};
 ghost use Rattle.crs_normal.specs.Closed.{IsClosed};
 ghost use Rattle.crs_normal.specs.Decides.{IsSomeUsage};
 ghost use Rattle.crs_normal.specs.PartSpellings.{IsFrame, IsHorizontalPart, IsSpelledAxisMeridian, IsSpelledBase, IsSpelledBox, IsSpelledCompound, IsSpelledConversion, IsSpelledDatum, IsSpelledEllipsoid, IsSpelledEnsemble, IsSpelledExtent, IsSpelledFrame, IsSpelledGeodetic, IsSpelledGeoidModel, IsSpelledHorizontal, IsSpelledIdent, IsSpelledMember, IsSpelledMeridian, IsSpelledMethod, IsSpelledParameter, IsSpelledProjected, IsSpelledUnit, IsSpelledUsage, IsSpelledVertical};
-ghost use Rattle.crs_normal.specs.PartTexts.{axis_meridian_text, base_text, box_text, compound_text, conversion_text, datum_text, ellipsoid_text, ensemble_text, extent_text, frame_text, geodetic_text, geoid_model_text, horizontal_text, ident_text, member_text, meridian_text, method_text, parameter_text, projected_text, unit_text, usage_text, vertical_text};
+ghost use Rattle.crs_normal.specs.PartTexts.{axis_meridian_text, axis_text, base_text, box_text, compound_text, conversion_text, datum_text, ellipsoid_text, ensemble_text, extent_text, frame_text, geodetic_text, geoid_model_text, horizontal_text, ident_text, member_text, meridian_text, method_text, parameter_text, projected_text, unit_text, usage_text, vertical_text};
 
 use crate::laws::made::{
-    made_axis_meridian_is_normal, made_base_is_normal, made_box_is_normal, made_compound_is_normal,
-    made_conversion_is_normal, made_ellipsoid_is_normal, made_extent_is_normal,
-    made_geodetic_frame_is_normal, made_geodetic_is_normal, made_geoid_model_is_normal,
-    made_identifier_is_normal, made_member_is_normal, made_meridian_is_normal,
-    made_method_is_normal, made_parameter_is_normal, made_projected_is_normal, made_unit_is_normal, made_usage_is_normal,
+    decimal_laws, made_axis_meridian_is_normal, made_base_is_normal, made_box_is_normal,
+    made_compound_is_normal, made_conversion_is_normal, made_ellipsoid_is_normal,
+    made_extent_is_normal, made_geodetic_frame_is_normal, made_geodetic_is_normal,
+    made_geoid_model_is_normal, made_identifier_is_normal, made_member_is_normal,
+    made_meridian_is_normal, made_method_is_normal, made_parameter_is_normal,
+    made_projected_is_normal, made_unit_is_normal, made_usage_is_normal,
     made_vertical_frame_is_normal, made_vertical_is_normal,
 };
 use crate::laws::normal::{
@@ -107,6 +109,21 @@ pub fn frame_parts_are_canonical()
     same_frames_have_one_form();
     same_systems_have_one_form();
     members_read_once();
+    parts_read_once();
+    parts_are_sound();
+    text_laws();
+    written_items();
+}
+
+/// So are those of axes with their own orders and units, of which `UNIT` is a kind of its own. Profile.
+pub fn axes_are_canonical()
+    ensures { (level : Level) →
+        IsCanonicalForm IsAxis (SameAxisAlone level) (IsSpelledAxis level) (axis_text level) }
+{
+    decimal_laws();
+    crs_parts_are_read_back();
+    normal_axis_is_its_form();
+    same_systems_have_one_form();
     parts_read_once();
     parts_are_sound();
     text_laws();
