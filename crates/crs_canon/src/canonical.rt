@@ -3,6 +3,7 @@ ghost use Rattle.std.specs.Prelude.{◌≡◌, ◌↔◌, ◌++◌, ◌∷◌, �
 ghost use Rattle.crs_value.specs.declared.level.Level.{Level};
 ghost use Rattle.crs_normal.specs.CanonicalForm.{IsCanonicalForm};
 
+mod axes;
 mod conversions;
 mod crs;
 mod frames;
