@@ -1,5 +1,5 @@
 -- An axis by itself, normal but for a unit that is `UNIT`, is the one form of its value.
-use Rattle.std.proofs.Common.{◌≡◌, ◌≢◌, ℕ, ◌≤◌, length, true, false, IsTrue, Option, Some, None, List, [], ◌∷◌, codes, if◌then◌else◌, inl, inr, refl, sym, ◌∙◌, ap, subst, arith}
+use Rattle.std.proofs.Common.{◌≡◌, ◌≢◌, ◌≤◌, length, true, false, IsTrue, Option, Some, None, List, [], ◌∷◌, codes, if◌then◌else◌, inl, inr, refl, sym, ◌∙◌, ap, subst, arith}
 use Rattle.crs_text.specs.Items.{Item, leaf, node, Items, End, More, arguments}
 use Rattle.crs_shape.specs.declared.class.Class.{Class}
 use Rattle.crs_shape.specs.declared.class.Class.TheVariants as class

@@ -1,8 +1,7 @@
 -- The text of a well-formed node is closed, and no closed text is the front of another.
-use Rattle.std.proofs.Common.{◌≡◌, ℕ, zero, suc, ◌==◌, ◌&&◌, ◌||◌, not, Bool, true, false, Option, Some, None, List, [], ◌∷◌, ◌++◌, if◌then◌else◌, refl, sym, ap, ◌∙◌, subst, append_assoc, inl, inr}
-use Rattle.std.specs.Prelude.{IsTrue, nat_le}
+use Rattle.std.proofs.Common.{◌≡◌, ℕ, zero, suc, ◌==◌, ◌&&◌, ◌||◌, not, Bool, true, false, Option, Some, None, List, [], ◌∷◌, ◌++◌, if◌then◌else◌, refl, sym, ap, ◌∙◌, subst, append_assoc}
 use Rattle.std.specs.List.{list_all}
-use Rattle.std.proofs.lemmas.Bool.{and_parts, eqb-true, or_left}
+use Rattle.std.proofs.lemmas.Bool.{and_parts, eqb-true}
 use Rattle.crs_decimal.specs.Spelling.{is_digit, is_run_byte}
 use Rattle.crs_text.specs.Items.{Item, leaf, node, Items, End, More, IsNode}
 use Rattle.crs_text.specs.Quoted.{doubled}

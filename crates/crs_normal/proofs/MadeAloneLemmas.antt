@@ -1,5 +1,5 @@
 -- An axis by itself is accepted, and normal but for a unit that is `UNIT`.
-use Rattle.std.proofs.Common.{◌≡◌, ◌≢◌, ℕ, suc, ◌+◌, ◌≤◌, IsTrue, Option, Some, None, List, [], ◌∷◌, codes, IfSome, length, inl, inr, refl, sym, ap, subst, ◌∙◌, arith}
+use Rattle.std.proofs.Common.{◌≡◌, ◌≢◌, ℕ, suc, ◌+◌, ◌≤◌, IsTrue, Option, Some, None, List, [], ◌∷◌, codes, IfSome, length, inl, inr, refl, sym, subst, ◌∙◌, arith}
 use Rattle.crs_decimal.specs.Value.{Value, IsNormal}
 use Rattle.crs_text.specs.Items.{Item, Items, End, More, IsNode, arguments, depth, depths}
 use Rattle.crs_text.specs.Refusal.{Refused}
@@ -19,7 +19,7 @@ use Rattle.crs_value.specs.declared.unit_kind.UnitKind.TheVariants as kinds
 use Rattle.crs_value.specs.Reading.{those}
 use Rattle.crs_value.specs.Sound.{Each, IsAxis, IsAxisUnit, IsUnit}
 use Rattle.crs_value.specs.Values.{AxisParts, UnitParts}
-use Rattle.crs_value.specs.Words.{direction_word, unit_word}
+use Rattle.crs_value.specs.Words.{direction_word}
 use Rattle.crs_same.specs.SameUnits.{kind_as}
 use Rattle.crs_normal.specs.AxisAlone.{AreNormalArguments, IsNormalArgument, IsNormalAxis}
 use Rattle.crs_normal.specs.DecimalLaws.{DecimalLaws}

@@ -2,9 +2,7 @@
 use Rattle.std.proofs.Common.{◌≡◌, ◌↔◌, ◌∙◌, ℕ, true≢false, codes, Option, Some, None, List, [], ◌∷◌, ◌++◌, refl, sym, ap, subst, arith}
 use Rattle.std.specs.Option.{option_map}
 use Rattle.std.specs.Prelude.{IsNone, IsSome}
-use Rattle.crs_text.specs.Items.{Item}
 use Rattle.crs_text.specs.Written.{at_place}
-use Rattle.crs_shape.specs.declared.class.Class.{Class}
 use Rattle.crs_shape.specs.declared.class.Class.TheVariants as class
 use Rattle.crs_value.specs.Reads.{ReadsDatum, ReadsEnsemble}
 use Rattle.crs_value.specs.SoundFrames.{IsDatum, IsEnsemble}
@@ -16,7 +14,6 @@ use Rattle.crs_value.specs.declared.frame.Frame.TheVariants as frame
 use Rattle.crs_value.specs.declared.level.Level.{Level}
 use Rattle.crs_same.specs.SameFrames.{SameDatum, SameEnsemble, SameFrame}
 use Rattle.crs_normal.specs.CanonicalForm.{IsCanonicalForm}
-use Rattle.crs_normal.specs.Flat.{flat}
 use Rattle.crs_normal.specs.Made.{IsMade, geodetic_class, vertical_class}
 use Rattle.crs_normal.specs.OneForm.{IsItsForm, IsItsFormUnbroken}
 use Rattle.crs_normal.specs.PartSpellings.{IsFrame, IsSpelledDatum, IsSpelledEnsemble, IsSpelledFrame, datum_class, ensemble_class}

@@ -1,9 +1,9 @@
 -- CRSs of each kind by themselves, and the horizontal parts of compound CRSs.
-use Rattle.std.proofs.Common.{◌≡◌, ◌↔◌, ℕ, sym}
+use Rattle.std.proofs.Common.{◌≡◌, ◌↔◌}
 use Rattle.crs_shape.specs.declared.class.Class.{Class}
 use Rattle.crs_shape.specs.declared.class.Class.TheVariants as class
 use Rattle.crs_text.specs.Written.{item_text}
-use Rattle.crs_value.specs.CrsValues.{GeodeticParts, ProjectedParts}
+use Rattle.crs_value.specs.CrsValues.{GeodeticParts}
 use Rattle.crs_value.specs.ReadsCrs.{IsGeodeticClass, ReadsGeodetic}
 use Rattle.crs_value.specs.SoundCrs.{IsCrs}
 use Rattle.crs_value.specs.SoundSingle.{IsGeodetic, IsProjected}

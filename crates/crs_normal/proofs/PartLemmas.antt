@@ -3,7 +3,7 @@ use Rattle.std.proofs.Common.{◌≡◌, ◌↔◌, ◌≤◌, ◌∙◌, ℕ, S
 use Rattle.crs_text.specs.Items.{Item, IsNode, depth}
 use Rattle.crs_text.specs.Refusal.{Refused}
 use Rattle.crs_text.specs.TextFault.{SpellsNode}
-use Rattle.crs_text.specs.Written.{AreFormed, WrittenSpells, at_place, item_text}
+use Rattle.crs_text.specs.Written.{AreFormed, at_place, item_text}
 use Rattle.crs_shape.specs.declared.class.Class.{Class}
 use Rattle.crs_shape.specs.Shaped.{Shaped}
 use Rattle.crs_value.specs.Checks.{Breaks, IsSound}

@@ -1,12 +1,10 @@
 -- Units by themselves: their classes, and the names within these.
-use Rattle.std.proofs.Common.{◌≡◌, refl, codes, Some, inl, inr}
-use Rattle.crs_text.specs.Items.{Item}
+use Rattle.std.proofs.Common.{◌≡◌, refl, codes, Some}
 use Rattle.crs_shape.specs.declared.class.Class.{Class}
 use Rattle.crs_shape.specs.declared.class.Class.TheVariants as class
 use Rattle.crs_shape.specs.Keywords.{is_keyword}
 use Rattle.crs_shape.specs.Slots.{class_named}
 use Rattle.crs_value.specs.Reads.{IsUnitClass, ReadsUnit}
-use Rattle.crs_value.specs.Values.{UnitParts}
 use Rattle.crs_value.specs.declared.level.Level.{Level}
 use Rattle.crs_value.specs.declared.unit_kind.UnitKind.{UnitKind}
 use Rattle.crs_value.specs.declared.unit_kind.UnitKind.TheVariants as kinds
