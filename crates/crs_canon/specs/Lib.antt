@@ -1,4 +1,5 @@
 pub mod Canonical
+pub mod CrsText
 pub mod MainTheorem
 pub mod Members
 pub mod Openings

@@ -7,6 +7,15 @@ abbrev pub commas : List (List ℕ) → List ℕ
 commas [] = []
 commas (bytes ∷ others) = 44 ∷ (bytes ++ commas others)
 
+-- these texts, a comma between two
+abbrev pub joined : List (List ℕ) → List ℕ
+joined [] = []
+joined (bytes ∷ others) = bytes ++ commas others
+
+-- a set by itself
+unfoldable pub set_spelling : List (List ℕ) → List ℕ
+set_spelling spellings = joined (in_order (λ bytes. bytes) spellings)
+
 unfoldable pub set_text : List (List ℕ) → List ℕ
 set_text spellings = commas (in_order (λ bytes. bytes) spellings)
 

@@ -3,9 +3,13 @@
 
 mod answer;
 mod canon_text;
+mod canonical;
 pub mod laws;
 mod set;
+mod set_view;
 mod spelling;
 
 pub use answer::{canon, canon_of};
 pub use canon_text::Canon;
+pub use canonical::Canonical;
+pub use set_view::Set;

@@ -56,7 +56,7 @@ fn gather_all<T: Spell>(
     Ok(())
 }
 
-fn write_sorted(out: &mut Vec<u8>, sorted: &BTreeSet<Vec<u8>>) -> Result<(), AllocError>
+pub(crate) fn write_sorted(out: &mut Vec<u8>, sorted: &BTreeSet<Vec<u8>>) -> Result<(), AllocError>
     ensures { OnOk result (out.new.items ≡ out.old.items ++ commas (spellings sorted.now.keys)) }
 {
     for bytes in sorted {

@@ -84,7 +84,7 @@ axis_meridian-form law level c (node place keyword square first others close) x 
     (those-looked d class.AngleUnit (slots_of d) items v)
     (v1.1.1.0.not_more refl) x.unit reads.unit End End refl))
 
-opt-meridians : (level : Level) (m : Option AxisMeridianParts) (rest : Items) →
+pub opt-meridians : (level : Level) (m : Option AxisMeridianParts) (rest : Items) →
     opt (λ x. item_axis_meridian (norm_axis_meridian level x)) m rest ≡ opt item_axis_meridian
     (norm_axis_meridians level m) rest
 opt-meridians level None rest = refl

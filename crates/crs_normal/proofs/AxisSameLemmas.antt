@@ -10,11 +10,13 @@ use Rattle.crs_value.specs.Values.{AxisMeridianParts, AxisParts, SystemParts, Un
 use Rattle.crs_value.specs.declared.level.Level.{Level}
 use Rattle.crs_value.specs.declared.unit_kind.UnitKind.{UnitKind}
 use Rattle.crs_value.specs.declared.unit_kind.UnitKind.TheVariants as kinds
-use Rattle.crs_same.specs.SameSystems.{HasAt, IsAt, SameAxis, SameAxisMeridian, own_or}
-use Rattle.crs_same.specs.SameUnits.{SameUnit}
+use Rattle.crs_value.specs.declared.unit_kind.UnitKind.TheVariants as kinds
+use Rattle.crs_same.specs.SameSystems.{HasAt, IsAt, SameAxis, SameAxisAlone, SameAxisMeridian, own_or}
+use Rattle.crs_same.specs.SameUnits.{SameUnit, SameValue}
 use Rattle.crs_same.specs.Sets.{BothOrNeither}
 use Rattle.crs_normal.specs.Decides.{FormDecides, Maybe, SetsDecide}
 use Rattle.crs_normal.specs.LowerLaws.{LowerLaws}
+use Rattle.crs_normal.specs.PartTexts.{norm_axis_alone}
 use Rattle.crs_normal.specs.SpelledSystems.{axis_at, is_at, norm_axis, norm_axis_meridian, norm_axis_meridians}
 use Rattle.crs_normal.specs.SpelledUnits.{norm_units, whole_value}
 use Rattle.crs_normal.proofs.PartSameLemmas.{options-agree, values-agree}
@@ -28,6 +30,10 @@ own-sound : (own shared : Option UnitParts) → Maybe IsAxisUnit own → Maybe I
 own-sound (Some own) shared in-own in-shared = in-own.0
 own-sound None (Some shared) in-own in-shared = in-shared.0
 own-sound None None in-own in-shared = tt
+
+plain-unit : (own : Option UnitParts) → Maybe IsAxisUnit own → Maybe IsUnit own
+plain-unit None s = tt
+plain-unit (Some u) s = s.0
 
 module _ (laws : LowerLaws) (sets : SetsDecide) (level : Level) where
   pub axis-meridian-agrees : FormDecides IsAxisMeridian (norm_axis_meridian level) (SameAxisMeridian level)
@@ -46,6 +52,34 @@ module _ (laws : LowerLaws) (sets : SetsDecide) (level : Level) where
   axis-meridians-agree =
       options-agree IsAxisMeridian (norm_axis_meridian level) (SameAxisMeridian level) axis-meridian-agrees
       (norm_axis_meridians level) refl (λ m. refl)
+
+  -- two axes by themselves
+  pub axis-alone-agrees : FormDecides IsAxis (norm_axis_alone level) (SameAxisAlone level)
+  axis-alone-agrees x y in-x in-y =
+      let meridian = axis-meridians-agree x.meridian y.meridian in-x.meridian in-y.meridian in
+      let order =
+      options-agree IsNormal (λ v. v) SameValue (values-agree laws) (λ o. o) refl (λ v. refl) x.order y.order in-x.order
+      in-y.order in
+      let unit = units-agree laws sets level kinds.Plain x.unit y.unit (plain-unit x.unit in-x.unit)
+      (plain-unit y.unit in-y.unit) in
+      let ids = sets.idents level x.ids y.ids in-x.ids in-y.ids in (
+        λ e. record {
+          name = ap (λ (z : AxisParts). z.name) e;
+          direction = ap (λ (z : AxisParts). z.direction) e;
+          meridian = meridian.0 (ap (λ (z : AxisParts). z.meridian) e);
+          order = order.0 (ap (λ (z : AxisParts). z.order) e);
+          unit = unit.0 (ap (λ (z : AxisParts). z.unit) e);
+          ids = ids.0 (ap (λ (z : AxisParts). z.ids) e);
+        },
+        λ s. λ i. record {
+          name = s.name i;
+          direction = s.direction i;
+          meridian = meridian.1 s.meridian i;
+          order = order.1 s.order i;
+          unit = unit.1 s.unit i;
+          ids = ids.1 s.ids i;
+        },
+      )
 
   -- the units of two axes that ask for one kind
   axis-units-agree : (a b : SystemParts) (x y : AxisParts) (asked : UnitKind) → Maybe IsAxisUnit a.unit →

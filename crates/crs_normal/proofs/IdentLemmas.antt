@@ -203,7 +203,7 @@ ident-told laws once =
 abbrev ident-made : List ℕ → List ℕ → Option (List ℕ) → Option (List ℕ) → Option (List ℕ) → IdentParts
 ident-made x0 x1 x2 x3 x4 = record { authority = x0; code = x1; version = x2; citation = x3; uri = x4 }
 
-ident-agrees : (a b : IdentParts) → (a ≡ b) ↔ SameIdent a b
+pub ident-agrees : (a b : IdentParts) → (a ≡ b) ↔ SameIdent a b
 ident-agrees a b = (
   λ e. record {
     authority = ap (λ x. x.authority) e;

@@ -1,8 +1,10 @@
 pub mod AcceptedLemmas
 pub mod AscendLemmas
+pub mod AxisAloneLemmas
 pub mod AxisNormalLemmas
 mod AxisSameLemmas
 pub mod CheckedLemmas
+pub mod ClosedLemmas
 pub mod CompoundNormalLemmas
 mod ConversionSameLemmas
 mod CrsSameLemmas
@@ -18,6 +20,7 @@ pub mod IdentLemmas
 pub mod IdentNormalLemmas
 pub mod ItemLemmas
 pub mod LeafLemmas
+pub mod MadeAloneLemmas
 pub mod MadeAscendLemmas
 pub mod MadeAxisLemmas
 pub mod MadeBehindLemmas
@@ -47,7 +50,11 @@ pub mod MemberUnitLemmas
 pub mod NamedNormalLemmas
 pub mod PairLemmas
 pub mod ParameterLemmas
+pub mod PartFrameLemmas
+pub mod PartKindLemmas
+pub mod PartLemmas
 mod PartSameLemmas
+pub mod PartUnitLemmas
 pub mod ProjectedNormalLemmas
 pub mod RankLemmas
 pub mod ReadCompoundLemmas

@@ -48,7 +48,7 @@ whole-normal (suc (suc zero)) h m = refl
 whole-normal (suc (suc (suc zero))) h m = refl
 whole-normal (suc (suc (suc (suc k)))) h m = absurd (omega arith)
 
-order-made : DecimalLaws → (level : Level) (v : Value) → IsNormal v → (p : ℕ) →
+pub order-made : DecimalLaws → (level : Level) (v : Value) → IsNormal v → (p : ℕ) →
     IsMade level class.Order 1 (at_place p (number_node (codes "ORDER") v))
 unfolding is_keyword BreaksOwn
 order-made l level v h =
@@ -62,7 +62,7 @@ abbrev axis_meridian_runs : Level → AxisMeridianParts → List Run
 axis_meridian_runs level m = alone class.Number (number_item m.longitude) ∷ alone class.AngleUnit
     (item_unit (norm_unit level kinds.Angle m.unit)) ∷ []
 
-axis-meridian-made : DecimalLaws → (level : Level) (m : AxisMeridianParts) → IsAxisMeridian m → (p : ℕ) →
+pub axis-meridian-made : DecimalLaws → (level : Level) (m : AxisMeridianParts) → IsAxisMeridian m → (p : ℕ) →
     IsMade level class.Meridian 4 (at_place p (item_axis_meridian (norm_axis_meridian level m)))
 unfolding BreaksOwn class_named is_keyword
 axis-meridian-made l level m h =
@@ -89,7 +89,7 @@ axis-meridian-made l level m h =
       unbroken = λ item fault s b. b;
     })
 
-axis-meridians-made : DecimalLaws → (level : Level) (x : Option AxisMeridianParts) → IfSome x IsAxisMeridian →
+pub axis-meridians-made : DecimalLaws → (level : Level) (x : Option AxisMeridianParts) → IfSome x IsAxisMeridian →
     Each (Made level 4 class.Axis class.Meridian) (given item_axis_meridian (norm_axis_meridians level x))
 unfolding class_named is_keyword
 axis-meridians-made l level None h = tt
@@ -146,7 +146,7 @@ axis-lines : (level : Level) (asked : UnitKind) (k : ℕ) (x : AxisParts) (w : O
 axis-lines level asked k x w u e = ap (λ w. More (text_item x.name) (axis_others level asked k x w)) e
     ∙ simp (opt-line, each-line)
 
-known-direction : (d : Direction) (words : List Item) (fault : Refused) →
+pub known-direction : (d : Direction) (words : List Item) (fault : Refused) →
     ArePlaced words (word_item (direction_word d) ∷ []) →
     ¬ (AnyOf UnknownDirection words fault)
 known-direction d [] fault h b = h

@@ -68,65 +68,71 @@ opt-line spell (Some x) rest = refl
 
 -- ---- arguments
 
--- an argument at a place
-pub record IsFine (level : Level) (most : ℕ) (parent c : Class) (item : Item) : Type 0 where
+-- an argument at a place, normal in this sense within its parent
+pub record IsFineBy (N : Class → Class → Item → Type 0) (most : ℕ) (parent c : Class) (item : Item) : Type 0 where
   pub formed : AreFormed item
   pub within : depth item ≤ most
   pub shaped : Shaped c item
   pub unbroken : (fault : Refused) → ¬ (Breaks c item fault)
-  pub normal : IsNormalIn level parent c item
+  pub normal : N parent c item
 
 -- an argument at any place
-pub record Made (level : Level) (most : ℕ) (parent c : Class) (item : Item) : Type 0 where
+pub record MadeBy (N : Class → Class → Item → Type 0) (most : ℕ) (parent c : Class) (item : Item) : Type 0 where
   pub named : class_in parent item ≡ Some c
-  pub fine : (p : ℕ) → IsFine level most parent c (at_place p item)
+  pub fine : (p : ℕ) → IsFineBy N most parent c (at_place p item)
+
+abbrev pub Made : Level → ℕ → Class → Class → Item → Type 0
+Made level = MadeBy (IsNormalIn level)
+
+abbrev pub RunsMadeBy : (Class → Class → Item → Type 0) → ℕ → Class → List Run → Type 0
+RunsMadeBy N most c [] = Unit {0}
+RunsMadeBy N most c (run ∷ runs) = Each (MadeBy N most c run.of) run.items × RunsMadeBy N most c runs
 
 abbrev pub RunsMade : Level → ℕ → Class → List Run → Type 0
-RunsMade level most c [] = Unit {0}
-RunsMade level most c (run ∷ runs) = Each (Made level most c run.of) run.items × RunsMade level most c runs
+RunsMade level = RunsMadeBy (IsNormalIn level)
 
-abbrev AreMade : Level → ℕ → Class → List Class → Items → Type 0
-AreMade level most c [] End = Unit {0}
-AreMade level most c [] (More j js) = ⊥
-AreMade level most c (d ∷ ds) End = ⊥
-AreMade level most c (d ∷ ds) (More j js) = Made level most c d j × AreMade level most c ds js
+abbrev pub AreMade : (Class → Class → Item → Type 0) → ℕ → Class → List Class → Items → Type 0
+AreMade N most c [] End = Unit {0}
+AreMade N most c [] (More j js) = ⊥
+AreMade N most c (d ∷ ds) End = ⊥
+AreMade N most c (d ∷ ds) (More j js) = MadeBy N most c d j × AreMade N most c ds js
 
 named-if : (c d e : Class) (j : Item) (js : Items) → class_in c j ≡ Some d →
     those c e (More j js) ≡ (if is_same e d then j ∷ those c e js else those c e js)
 named-if c d e j js h = ap (λ o. if is_class e o then j ∷ those c e js else those c e js) h
 
-named-run : (level : Level) (most : ℕ) (c e d : Class) (b : Bool) → is_same e d ≡ b →
-    (js : List Item) (rest : Items) → Each (Made level most c d) js →
+named-run : (N : Class → Class → Item → Type 0) (most : ℕ) (c e d : Class) (b : Bool) → is_same e d ≡ b →
+    (js : List Item) (rest : Items) → Each (MadeBy N most c d) js →
     those c e (line js rest) ≡ (if b then js ++ those c e rest else those c e rest)
-named-run level most c e d true q [] rest h = refl
-named-run level most c e d true q (j ∷ js) rest h =
+named-run N most c e d true q [] rest h = refl
+named-run N most c e d true q (j ∷ js) rest h =
     named-if c d e j (line js rest) h.0.named
     ∙ ap (λ b. if b then j ∷ those c e (line js rest) else those c e (line js rest)) q
-    ∙ ap (λ t. j ∷ t) (named-run level most c e d true q js rest h.1)
-named-run level most c e d false q [] rest h = refl
-named-run level most c e d false q (j ∷ js) rest h =
+    ∙ ap (λ t. j ∷ t) (named-run N most c e d true q js rest h.1)
+named-run N most c e d false q [] rest h = refl
+named-run N most c e d false q (j ∷ js) rest h =
     named-if c d e j (line js rest) h.0.named
     ∙ ap (λ b. if b then j ∷ those c e (line js rest) else those c e (line js rest)) q
-    ∙ named-run level most c e d false q js rest h.1
+    ∙ named-run N most c e d false q js rest h.1
 
-those-lines : (level : Level) (most : ℕ) (c e : Class) (runs : List Run) → RunsMade level most c runs →
+pub those-lines : (N : Class → Class → Item → Type 0) (most : ℕ) (c e : Class) (runs : List Run) → RunsMadeBy N most c runs →
     those c e (lines runs) ≡ items_in e runs
-those-lines level most c e [] h = refl
-those-lines level most c e (run ∷ runs) h =
-    named-run level most c e run.of (is_same e run.of) refl run.items (lines runs) h.0
-    ∙ ap (λ t. if is_same e run.of then run.items ++ t else t) (those-lines level most c e runs h.1)
+those-lines N most c e [] h = refl
+those-lines N most c e (run ∷ runs) h =
+    named-run N most c e run.of (is_same e run.of) refl run.items (lines runs) h.0
+    ∙ ap (λ t. if is_same e run.of then run.items ++ t else t) (those-lines N most c e runs h.1)
 
-made-line : (level : Level) (most : ℕ) (c d : Class) (js : List Item) (ds : List Class) (rest : Items) →
-    Each (Made level most c d) js →
-    AreMade level most c ds rest → AreMade level most c (repeated d js ds) (line js rest)
-made-line level most c d [] ds rest h more = more
-made-line level most c d (j ∷ js) ds rest h more = (h.0, made-line level most c d js ds rest h.1 more)
+made-line : (N : Class → Class → Item → Type 0) (most : ℕ) (c d : Class) (js : List Item) (ds : List Class) (rest : Items) →
+    Each (MadeBy N most c d) js →
+    AreMade N most c ds rest → AreMade N most c (repeated d js ds) (line js rest)
+made-line N most c d [] ds rest h more = more
+made-line N most c d (j ∷ js) ds rest h more = (h.0, made-line N most c d js ds rest h.1 more)
 
-made-lines : (level : Level) (most : ℕ) (c : Class) (runs : List Run) → RunsMade level most c runs →
-    AreMade level most c (classes runs) (lines runs)
-made-lines level most c [] h = tt
-made-lines level most c (run ∷ runs) h =
-    made-line level most c run.of run.items (classes runs) (lines runs) h.0 (made-lines level most c runs h.1)
+pub made-lines : (N : Class → Class → Item → Type 0) (most : ℕ) (c : Class) (runs : List Run) → RunsMadeBy N most c runs →
+    AreMade N most c (classes runs) (lines runs)
+made-lines N most c [] h = tt
+made-lines N most c (run ∷ runs) h =
+    made-line N most c run.of run.items (classes runs) (lines runs) h.0 (made-lines N most c runs h.1)
 
 -- ---- what holds of the arguments of a node
 
@@ -136,14 +142,14 @@ at-class P o d e h = subst (λ o. AtClass o P) (sym e) h
 not-at-class : (P : Class → Type 0) (o : Option Class) (d : Class) → o ≡ Some d → ¬ (P d) → ¬ (AtClass o P)
 not-at-class P o d e h a = h (subst (λ o. AtClass o P) e a)
 
-module _ (level : Level) (most : ℕ) (c : Class) where
-  all-formed : (s : ℕ) (ds : List Class) (js : Items) → AreMade level most c ds js → AreAllFormed (at_places s js)
+module _ (N : Class → Class → Item → Type 0) (most : ℕ) (c : Class) where
+  pub all-formed : (s : ℕ) (ds : List Class) (js : Items) → AreMade N most c ds js → AreAllFormed (at_places s js)
   all-formed s [] End h = tt
   all-formed s [] (More j js) h = absurd h
   all-formed s (d ∷ ds) End h = tt
   all-formed s (d ∷ ds) (More j js) h = ((h.0.fine (s + 1)).formed, all-formed (s + 1 + length (item_text j)) ds js h.1)
 
-  all-within : (s : ℕ) (ds : List Class) (js : Items) → AreMade level most c ds js → depths (at_places s js) ≤ most
+  pub all-within : (s : ℕ) (ds : List Class) (js : Items) → AreMade N most c ds js → depths (at_places s js) ≤ most
   all-within s [] End h = omega arith
   all-within s [] (More j js) h = absurd h
   all-within s (d ∷ ds) End h = omega arith
@@ -153,7 +159,7 @@ module _ (level : Level) (most : ℕ) (c : Class) where
       ds js h.1 in
       omega arith
 
-  all-shaped : (s : ℕ) (ds : List Class) (js : Items) → AreMade level most c ds js → AreShaped c ds (at_places s js)
+  pub all-shaped : (s : ℕ) (ds : List Class) (js : Items) → AreMade N most c ds js → AreShaped c ds (at_places s js)
   all-shaped s [] End h = tt
   all-shaped s [] (More j js) h = h
   all-shaped s (d ∷ ds) End h = h
@@ -166,7 +172,7 @@ module _ (level : Level) (most : ℕ) (c : Class) where
     ),
   )
 
-  all-unbroken : (fault : Refused) (s : ℕ) (ds : List Class) (js : Items) → AreMade level most c ds js →
+  pub all-unbroken : (fault : Refused) (s : ℕ) (ds : List Class) (js : Items) → AreMade N most c ds js →
       ¬ (BreaksAmong c (at_places s js) fault)
   all-unbroken fault s [] End h b = b
   all-unbroken fault s [] (More j js) h b = absurd h
@@ -177,7 +183,8 @@ module _ (level : Level) (most : ℕ) (c : Class) where
       ((h.0.fine (s + 1)).unbroken fault) b
   all-unbroken fault s (d ∷ ds) (More j js) h (inr b) = all-unbroken fault (s + 1 + length (item_text j)) ds js h.1 b
 
-  all-normal : (s : ℕ) (ds : List Class) (js : Items) → AreMade level most c ds js →
+module _ (level : Level) (most : ℕ) (c : Class) where
+  all-normal : (s : ℕ) (ds : List Class) (js : Items) → AreMade (IsNormalIn level) most c ds js →
       AreNormalIn level c (at_places s js)
   all-normal s [] End h = tt
   all-normal s [] (More j js) h = absurd h
@@ -208,31 +215,44 @@ pub record IsKept (level : Level) (most : ℕ) (c : Class) (keyword : List ℕ) 
   pub own : (item : Item) → Sees c runs item → Own c item
   pub unbroken : (item : Item) (fault : Refused) → Sees c runs item → ¬ (BreaksOwn c item fault)
 
-at-level : (level : Level) (c : Class) (item : Item) → AtLevel level c item
+pub at-level : (level : Level) (c : Class) (item : Item) → AtLevel level c item
 at-level levels.Full c item = tt
+
+pub sees-by : (N : Class → Class → Item → Type 0) (most : ℕ) (c : Class) (keyword : List ℕ) (first : Item) (others : Items) (runs : List Run)
+    (p : ℕ) →
+    More first others ≡ lines runs → RunsMadeBy N most c runs →
+    Sees c runs (at_place p (node_of keyword first others))
+sees-by N most c keyword first others runs p same made = record {
+  start = p + length keyword;
+  are = ap (at_places (p + length keyword)) same;
+  view = λ e. subst (ArePlaced (those c e (at_places (p + length keyword) (More first others))))
+      (ap (those c e) same ∙ those-lines N most c e runs made) (those-placed c e (p + length keyword)
+      (More first others));
+}
 
 pub sees : (level : Level) (most : ℕ) (c : Class) (keyword : List ℕ) (first : Item) (others : Items) (runs : List Run)
     (p : ℕ) →
     More first others ≡ lines runs → RunsMade level most c runs →
     Sees c runs (at_place p (node_of keyword first others))
-sees level most c keyword first others runs p same made = record {
-  start = p + length keyword;
-  are = ap (at_places (p + length keyword)) same;
-  view = λ e. subst (ArePlaced (those c e (at_places (p + length keyword) (More first others))))
-      (ap (those c e) same ∙ those-lines level most c e runs made) (those-placed c e (p + length keyword)
-      (More first others));
-}
+sees level = sees-by (IsNormalIn level)
 
-each-set : (c : Class) (runs : List Run) (item : Item) (es : List Class) → Sees c runs item →
+pub each-set : (c : Class) (runs : List Run) (item : Item) (es : List Class) → Sees c runs item →
     Each (λ d. Ascend (items_in d runs)) es →
     Each (λ d. Ascend (those c d (arguments item))) es
 each-set c runs item [] s h = tt
 each-set c runs item (e ∷ es) s h =
     (placed-ascend (those c e (arguments item)) (items_in e runs) (s.view e) h.0, each-set c runs item es s h.1)
 
+pub unbroken-node : (c : Class) (fault : Refused) (d : Class) (j : Item) {O M : Type 0} →
+    ((fault : Refused) → ¬ (Breaks d j fault)) → class_in c j ≡ Some d → ¬ M → ¬ O →
+    ¬ (O ⊎ (AtClass (class_in c j) (λ e. Breaks e j fault) ⊎ M))
+unbroken-node c fault d j u n m o (inl b) = o b
+unbroken-node c fault d j u n m o (inr (inl b)) = not-at-class (λ e. Breaks e j fault) (class_in c j) d n (u fault) b
+unbroken-node c fault d j u n m o (inr (inr b)) = m b
+
 node-at : (level : Level) (most : ℕ) (c : Class) (keyword : List ℕ) (first : Item) (others : Items) (runs : List Run)
     (ds : List Class) (p : ℕ) →
-    More first others ≡ lines runs → ds ≡ classes runs → AreMade level most c ds (More first others) →
+    More first others ≡ lines runs → ds ≡ classes runs → AreMade (IsNormalIn level) most c ds (More first others) →
     IsKept level most c keyword runs →
     IsMade level c (suc most) (at_place p (node_of keyword first others))
 node-at level most c keyword first others runs [] p same ds h k = absurd h
@@ -243,11 +263,11 @@ node-at level most c keyword first others runs (d ∷ ds) p same q h k =
     let look : Sees c runs i = sees level most c keyword first others runs p same k.made in
     let n : class_in c (at_place (p + length keyword + 1) first) ≡ Some d = class-at c (p + length keyword + 1) first
     ∙ h.0.named in
-    let deep : depths (at_places s others) ≤ most = all-within level most c s ds others h.1 in
+    let deep : depths (at_places s others) ≤ most = all-within (IsNormalIn level) most c s ds others h.1 in
     let high : depth (at_place (p + length keyword + 1) first) ≤ most = f.within in
     record {
       is_node = tt;
-      formed = (k.letters, f.formed, all-formed level most c s ds others h.1);
+      formed = (k.letters, f.formed, all-formed (IsNormalIn level) most c s ds others h.1);
       within = omega arith;
       shaped = (
         k.known,
@@ -260,7 +280,7 @@ node-at level most c keyword first others runs (d ∷ ds) p same q h k =
               (
                 f.shaped,
                 (
-                  all-shaped level most c s ds others h.1,
+                  all-shaped (IsNormalIn level) most c s ds others h.1,
                   subst (Allowed (slots_of c)) (sym q) k.allowed,
                 ),
               ),
@@ -268,8 +288,8 @@ node-at level most c keyword first others runs (d ∷ ds) p same q h k =
           ),
         ),
       );
-      unbroken = λ fault b. unbroken-node fault d (at_place (p + length keyword + 1) first) f.unbroken n
-          (all-unbroken level most c fault s ds others h.1) (k.unbroken i fault look) b;
+      unbroken = λ fault b. unbroken-node c fault d (at_place (p + length keyword + 1) first) f.unbroken n
+          (all-unbroken (IsNormalIn level) most c fault s ds others h.1) (k.unbroken i fault look) b;
       normal = λ parent. (
         k.written,
         at-level level c i,
@@ -280,13 +300,6 @@ node-at level most c keyword first others runs (d ∷ ds) p same q h k =
         all-normal level most c s ds others h.1,
       );
     }
-  where
-    unbroken-node : (fault : Refused) (d : Class) (j : Item) {O M : Type 0} →
-        ((fault : Refused) → ¬ (Breaks d j fault)) → class_in c j ≡ Some d → ¬ M → ¬ O →
-        ¬ (O ⊎ (AtClass (class_in c j) (λ e. Breaks e j fault) ⊎ M))
-    unbroken-node fault d j u n m o (inl b) = o b
-    unbroken-node fault d j u n m o (inr (inl b)) = not-at-class (λ e. Breaks e j fault) (class_in c j) d n (u fault) b
-    unbroken-node fault d j u n m o (inr (inr b)) = m b
 
 -- a node whose arguments are these runs is made
 pub node-made : (level : Level) (most : ℕ) (c : Class) (keyword : List ℕ) (first : Item) (others : Items)
@@ -295,7 +308,7 @@ pub node-made : (level : Level) (most : ℕ) (c : Class) (keyword : List ℕ) (f
     IsMade level c (suc most) (at_place p (node_of keyword first others))
 node-made level most c keyword first others runs same k p =
     node-at level most c keyword first others runs (classes runs) p same refl
-    (subst (AreMade level most c (classes runs)) (sym same) (made-lines level most c runs k.made)) k
+    (subst (AreMade (IsNormalIn level) most c (classes runs)) (sym same) (made-lines (IsNormalIn level) most c runs k.made)) k
 
 -- a made node as an argument of another
 pub as-argument : (level : Level) (n most : ℕ) (parent c : Class) (j : Item) → n ≤ most → class_in parent j ≡ Some c →

@@ -114,7 +114,7 @@ unit-names-id class.PlainUnit kind h = refl
 unit-names-id class.AxisUnit kind h = refl
 unit-names-id other kind h = absurd h
 
-abbrev unit_runs : Level → UnitParts → List Run
+abbrev pub unit_runs : Level → UnitParts → List Run
 unit_runs level u = alone class.Text (text_item u.name) ∷ alone class.Number (number_item u.factor) ∷
     ids_run level u.ids ∷ []
 
@@ -122,7 +122,7 @@ unit_runs level u = alone class.Text (text_item u.name) ∷ alone class.Number (
 abbrev pub unit_as : Level → UnitKind → UnitParts → UnitParts
 unit_as level kind u = record { kind = kind; name = u.name; factor = u.factor; ids = set_idents level u.ids }
 
-unit-kept : DecimalLaws → (level : Level) (c : Class) (kind : UnitKind) (u : UnitParts) → IsKindIn c kind → IsUnit u →
+pub unit-kept : DecimalLaws → (level : Level) (c : Class) (kind : UnitKind) (u : UnitParts) → IsKindIn c kind → IsUnit u →
     IsKept level 2 c (unit_word kind) (unit_runs level u)
 unit-kept l level c kind u k h = record {
   letters = unit-letters kind;

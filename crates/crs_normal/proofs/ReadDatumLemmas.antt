@@ -25,7 +25,7 @@ abbrev pub FrameBack : Class → Class → List ℕ → Frame → Type 0
 FrameBack d e keyword (frame.Datum x) = ReadsBack (item_datum keyword) (ReadsDatum d) x
 FrameBack d e keyword (frame.Ensemble x) = ReadsBack item_ensemble (ReadsEnsemble e) x
 
-ellipsoid-in : (c : Class) → class_named c (codes "ELLIPSOID") ≡ Some class.Ellipsoid → (o : Option EllipsoidParts) →
+pub ellipsoid-in : (c : Class) → class_named c (codes "ELLIPSOID") ≡ Some class.Ellipsoid → (o : Option EllipsoidParts) →
     MayIn c class.Ellipsoid item_ellipsoid o
 ellipsoid-in c e o = some-all (λ x. IsIn c class.Ellipsoid (item_ellipsoid x)) (λ x place. e) o
 

@@ -19,6 +19,7 @@ use Rattle.crs_value.specs.Values.{AxisMeridianParts, AxisParts, SystemParts, Un
 use Rattle.crs_value.specs.Words.{direction_word, system_word}
 use Rattle.crs_same.specs.SameSystems.{own_or}
 use Rattle.crs_same.specs.SameUnits.{kind_as}
+use Rattle.crs_normal.specs.PartTexts.{norm_axis_alone}
 use Rattle.crs_normal.specs.SpelledItems.{number_node, word_item}
 use Rattle.crs_normal.specs.SpelledSystems.{axes_from, axis_at, is_at, item_axis, item_axis_meridian, item_head, norm_axis, norm_axis_meridian, norm_axis_meridians, norm_system, with_axis}
 use Rattle.crs_normal.specs.SpelledUnits.{item_unit, norm_unit, norm_units, set_idents, whole_value}
@@ -166,6 +167,77 @@ module _ (laws : TextLaws) (level : Level) (system : SystemParts) (shared : IfSo
     ids =
         ids-field class.Axis ReadNameLemmas.axis-id
         (axis-name ∷ axis-word ∷ axis-along ∷ axis-order ∷ axis-unit-segment ∷ []) refl level x.ids s.ids (place + 4);
+  }
+
+-- ---- an axis by itself
+
+plain-units-kept : (level : Level) (o : Option UnitParts) → IfSome o IsAxisUnit →
+    IfSome (norm_units level kinds.Plain o) IsAxisUnit
+plain-units-kept level None s = tt
+plain-units-kept level (Some u) s =
+    (unit-kept level kinds.Plain u s.0, as-no-scale kinds.Plain u.kind (λ e. cc) s.1)
+
+module _ (laws : TextLaws) (level : Level) (x : AxisParts) (s : IsAxis x) where
+  abbrev own-name : Segment class.Axis
+  own-name = name-segment class.Axis x.name
+
+  abbrev own-word : Segment class.Axis
+  own-word = one-segment class.Axis class.Word (word_item (direction_word x.direction)) (λ place. refl)
+
+  own-meridian-in : MayIn class.Axis class.Meridian item_axis_meridian (norm_axis_meridians level x.meridian)
+  own-meridian-in =
+      some-all (λ m. IsIn class.Axis class.Meridian (item_axis_meridian m)) (λ m place. ReadNameLemmas.axis-meridian)
+      (norm_axis_meridians level x.meridian)
+
+  abbrev own-along : Segment class.Axis
+  own-along =
+      opt-segment class.Axis class.Meridian item_axis_meridian (norm_axis_meridians level x.meridian) own-meridian-in
+
+  own-order-in : MayIn class.Axis class.Order (number_node (codes "ORDER")) x.order
+  own-order-in =
+      some-all (λ v. IsIn class.Axis class.Order (number_node (codes "ORDER") v))
+      (λ v place. ReadNameLemmas.axis-order) x.order
+
+  abbrev own-order : Segment class.Axis
+  own-order = opt-segment class.Axis class.Order (number_node (codes "ORDER")) x.order own-order-in
+
+  abbrev own-unit : Option UnitParts
+  own-unit = norm_units level kinds.Plain x.unit
+
+  own-unit-sound : IfSome own-unit IsAxisUnit
+  own-unit-sound = plain-units-kept level x.unit s.unit
+
+  own-unit-in : MayIn class.Axis class.AxisUnit item_unit own-unit
+  own-unit-in =
+      some-imp IsAxisUnit (λ u. IsIn class.Axis class.AxisUnit (item_unit u)) axis-unit-in own-unit own-unit-sound
+
+  abbrev own-unit-segment : Segment class.Axis
+  own-unit-segment = opt-segment class.Axis class.AxisUnit item_unit own-unit own-unit-in
+
+  abbrev own-ids : Segment class.Axis
+  own-ids = ids-segment class.Axis ReadNameLemmas.axis-id (set_idents level x.ids)
+
+  pub axis-alone-read : ReadsBack item_axis (ReadsAxis class.Axis) (norm_axis_alone level x)
+  axis-alone-read place = record {
+    name = refl;
+    direction = refl;
+    meridian =
+        opt-field class.Axis class.Meridian (own-name ∷ own-word ∷ []) (own-order ∷ own-unit-segment ∷ own-ids ∷ [])
+        refl item_axis_meridian (ReadsAxisMeridian class.Meridian) refl refl (norm_axis_meridians level x.meridian)
+        own-meridian-in (axis-meridians-read laws level x.meridian s.meridian) (place + 4);
+    order =
+        opt-field class.Axis class.Order (own-name ∷ own-word ∷ own-along ∷ []) (own-unit-segment ∷ own-ids ∷ []) refl
+        (number_node (codes "ORDER")) (ReadsNumberOf class.Order) refl refl x.order own-order-in
+        (some-imp IsNormal (ReadsBack (number_node (codes "ORDER")) (ReadsNumberOf class.Order))
+        (λ v n p. number-read laws v n 0) x.order s.order) (place + 4);
+    unit =
+        opt-field class.Axis class.AxisUnit (own-name ∷ own-word ∷ own-along ∷ own-order ∷ []) (own-ids ∷ []) refl
+        item_unit (ReadsUnit class.AxisUnit) refl refl own-unit own-unit-in
+        (some-imp IsAxisUnit (ReadsBack item_unit (ReadsUnit class.AxisUnit))
+        (λ u q. unit-read laws class.AxisUnit ReadNameLemmas.axis-unit-id u q.0) own-unit own-unit-sound) (place + 4);
+    ids =
+        ids-field class.Axis ReadNameLemmas.axis-id
+        (own-name ∷ own-word ∷ own-along ∷ own-order ∷ own-unit-segment ∷ []) refl level x.ids s.ids (place + 4);
   }
 
 -- ---- the axes of a system

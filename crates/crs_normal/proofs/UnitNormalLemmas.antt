@@ -16,11 +16,11 @@ use Rattle.crs_value.specs.declared.unit_kind.UnitKind.{UnitKind}
 use Rattle.crs_value.specs.declared.unit_kind.UnitKind.TheVariants as kinds
 use Rattle.crs_same.specs.SameUnits.{kind_as}
 use Rattle.crs_normal.specs.Normal.{IsNormalIn, IsWritten}
-use Rattle.crs_normal.specs.NormalOwn.{Ascend}
+use Rattle.crs_normal.specs.NormalOwn.{Each, Ascend}
 use Rattle.crs_normal.specs.Ordered.{in_order}
 use Rattle.crs_normal.specs.SpelledItems.{each, number_item, text_item}
 use Rattle.crs_normal.specs.SpelledUnits.{item_ident, item_unit, norm_unit, set_idents}
-use Rattle.crs_normal.proofs.FormLemmas.{Form, Kept, kept-good, node-spelled, one-spelled, opened, set-ordered, set-spelled}
+use Rattle.crs_normal.proofs.FormLemmas.{IsGood, Form, Kept, kept-good, node-spelled, one-spelled, opened, set-ordered, set-spelled}
 use Rattle.crs_normal.proofs.IdentNormalLemmas.{ident-form}
 use Rattle.crs_normal.proofs.LeafLemmas.{ArePlain, PlainIsOne, number-form, text-form}
 use Rattle.crs_normal.proofs.ViewLemmas.{View, flats_onto, flats-spread, those-looked}
@@ -31,18 +31,24 @@ map-same [] = refl
 map-same (x ∷ xs) = ap (λ ys. x ∷ ys) (map-same xs)
 
 -- the identifiers in a slot
-pub idents-spelled : (level : Level) (c : Class) (items : Items) (front : List Item) → Kept level c items →
+pub idents-found-spelled : (level : Level) (c : Class) (items : Items) (front : List Item) →
+    Each (IsGood level c class.Identifier) (those c class.Identifier items) →
     those c class.Identifier items ≡ front →
     Ascend (those c class.Identifier items) → (ids : List IdentParts) →
     ReadsEach (ReadsIdent class.Identifier) (those c class.Identifier items) ids →
     (rest after : Items) → rest ≡ after → flats_onto front rest ≡ each item_ident (set_idents level ids) after
 unfolding set_idents
-idents-spelled levels.Full c items front k e up ids reads rest after f =
+idents-found-spelled levels.Full c items front good e up ids reads rest after f =
     set-spelled levels.Full c class.Identifier (ReadsIdent class.Identifier) item_ident (λ x. x)
-    (ident-form levels.Full c)
-    (those c class.Identifier items) front (kept-good levels.Full c class.Identifier items k) e up ids reads rest after
-    f
+    (ident-form levels.Full c) (those c class.Identifier items) front good e up ids reads rest after f
     ∙ ap (λ xs. each item_ident (in_order (λ i. item_text (item_ident i)) xs) after) (map-same ids)
+
+pub idents-spelled : (level : Level) (c : Class) (items : Items) (front : List Item) → Kept level c items →
+    those c class.Identifier items ≡ front →
+    Ascend (those c class.Identifier items) → (ids : List IdentParts) →
+    ReadsEach (ReadsIdent class.Identifier) (those c class.Identifier items) ids →
+    (rest after : Items) → rest ≡ after → flats_onto front rest ≡ each item_ident (set_idents level ids) after
+idents-spelled level c items front k = idents-found-spelled level c items front (kept-good level c class.Identifier items k)
 
 -- the identifiers of a normal node are in order
 pub idents-ordered : (level : Level) (parent c : Class) (item : Item) (ids : List IdentParts) → Shaped c item →

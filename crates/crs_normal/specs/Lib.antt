@@ -1,3 +1,6 @@
+pub mod AxisAlone
+pub mod CanonicalForm
+pub mod Closed
 pub mod Decides
 pub mod DecimalLaws
 pub mod Examples
@@ -9,7 +12,10 @@ pub mod Normal
 pub mod NormalOwn
 pub mod OneForm
 pub mod Ordered
+pub mod PartSpellings
+pub mod PartTexts
 pub mod ReadBack
+pub mod SpelledAs
 pub mod SpelledConversions
 pub mod SpelledCrs
 pub mod SpelledFrames

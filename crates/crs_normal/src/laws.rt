@@ -3,6 +3,7 @@
 pub mod examples;
 pub mod made;
 pub mod normal;
+pub mod parts;
 pub mod read;
 pub mod sets;
 pub mod texts;

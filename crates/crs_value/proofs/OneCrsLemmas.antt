@@ -32,7 +32,7 @@ method-equal : (x0 y0 : List ℕ) (x1 y1 : List IdentParts) → x0 ≡ y0 → x1
     method-made x0 x1 ≡ method-made y0 y1
 method-equal x0 y0 x1 y1 e0 e1 = cc
 
-method-one : (c : Class) → IsOne (ReadsMethod c)
+pub method-one : (c : Class) → IsOne (ReadsMethod c)
 method-one c item a b p q =
     method-equal a.name b.name a.ids b.ids
     (text-of-one c item a.name b.name p.name q.name)
@@ -72,7 +72,7 @@ conversion-equal : (x0 y0 : List ℕ) (x1 y1 : MethodParts) (x2 y2 : List Parame
     conversion-made x0 x1 x2 x3 ≡ conversion-made y0 y1 y2 y3
 conversion-equal x0 y0 x1 y1 x2 y2 x3 y3 e0 e1 e2 e3 = cc
 
-conversion-one : DenotesOne → (c : Class) → IsOne (ReadsConversion c)
+pub conversion-one : DenotesOne → (c : Class) → IsOne (ReadsConversion c)
 conversion-one law c item a b p q =
     conversion-equal a.name b.name a.method b.method a.parameters b.parameters a.ids b.ids
     (text-of-one c item a.name b.name p.name q.name)
@@ -115,7 +115,7 @@ geodetic-equal : (x0 y0 : List ℕ) (x1 y1 : Frame) (x2 y2 : Option MeridianPart
     geodetic-made x0 x1 x2 x3 x4 ≡ geodetic-made y0 y1 y2 y3 y4
 geodetic-equal x0 y0 x1 y1 x2 y2 x3 y3 x4 y4 e0 e1 e2 e3 e4 = cc
 
-geodetic-one : DenotesOne → (c : Class) → IsOne (ReadsGeodetic c)
+pub geodetic-one : DenotesOne → (c : Class) → IsOne (ReadsGeodetic c)
 geodetic-one law c item a b p q =
     geodetic-equal a.name b.name a.frame b.frame a.meridian b.meridian a.system b.system a.tail b.tail
     (text-of-one c item a.name b.name p.name q.name)
@@ -131,7 +131,7 @@ base-equal : (x0 y0 : List ℕ) (x1 y1 : Frame) (x2 y2 : Option MeridianParts) (
     base-made x0 x1 x2 x3 x4 ≡ base-made y0 y1 y2 y3 y4
 base-equal x0 y0 x1 y1 x2 y2 x3 y3 x4 y4 e0 e1 e2 e3 e4 = cc
 
-base-one : DenotesOne → (c : Class) → IsOne (ReadsBase c)
+pub base-one : DenotesOne → (c : Class) → IsOne (ReadsBase c)
 base-one law c item a b p q =
     base-equal a.name b.name a.frame b.frame a.meridian b.meridian a.unit b.unit a.ids b.ids
     (text-of-one c item a.name b.name p.name q.name)
@@ -147,7 +147,7 @@ projected-equal : (x0 y0 : List ℕ) (x1 y1 : BaseParts) (x2 y2 : ConversionPart
     projected-made x0 x1 x2 x3 x4 ≡ projected-made y0 y1 y2 y3 y4
 projected-equal x0 y0 x1 y1 x2 y2 x3 y3 x4 y4 e0 e1 e2 e3 e4 = cc
 
-projected-one : DenotesOne → (c : Class) → IsOne (ReadsProjected c)
+pub projected-one : DenotesOne → (c : Class) → IsOne (ReadsProjected c)
 projected-one law c item a b p q =
     projected-equal a.name b.name a.base b.base a.conversion b.conversion a.system b.system a.tail b.tail
     (text-of-one c item a.name b.name p.name q.name)
@@ -163,7 +163,7 @@ vertical-equal : (x0 y0 : List ℕ) (x1 y1 : Frame) (x2 y2 : SystemParts) (x3 y3
     vertical-made x0 x1 x2 x3 x4 ≡ vertical-made y0 y1 y2 y3 y4
 vertical-equal x0 y0 x1 y1 x2 y2 x3 y3 x4 y4 e0 e1 e2 e3 e4 = cc
 
-vertical-one : DenotesOne → (c : Class) → IsOne (ReadsVertical c)
+pub vertical-one : DenotesOne → (c : Class) → IsOne (ReadsVertical c)
 vertical-one law c item a b p q =
     vertical-equal a.name b.name a.frame b.frame a.system b.system a.geoid_models b.geoid_models a.tail b.tail
     (text-of-one c item a.name b.name p.name q.name)
@@ -205,7 +205,7 @@ compound-equal : (x0 y0 : List ℕ) (x1 y1 : Horizontal) (x2 y2 : VerticalParts)
     compound-made x0 x1 x2 x3 ≡ compound-made y0 y1 y2 y3
 compound-equal x0 y0 x1 y1 x2 y2 x3 y3 e0 e1 e2 e3 = cc
 
-compound-one : DenotesOne → (c : Class) → IsOne (ReadsCompound c)
+pub compound-one : DenotesOne → (c : Class) → IsOne (ReadsCompound c)
 compound-one law c item a b p q =
     compound-equal a.name b.name a.horizontal b.horizontal a.vertical b.vertical a.tail b.tail
     (text-of-one c item a.name b.name p.name q.name)

@@ -105,7 +105,7 @@ axis_meridian-equal : (x0 y0 : Value) (x1 y1 : UnitParts) → x0 ≡ y0 → x1 �
     axis_meridian-made x0 x1 ≡ axis_meridian-made y0 y1
 axis_meridian-equal x0 y0 x1 y1 e0 e1 = cc
 
-axis_meridian-one : DenotesOne → (c : Class) → IsOne (ReadsAxisMeridian c)
+pub axis_meridian-one : DenotesOne → (c : Class) → IsOne (ReadsAxisMeridian c)
 axis_meridian-one law c item a b p q =
     axis_meridian-equal a.longitude b.longitude a.unit b.unit
     (number-of-one law c item a.longitude b.longitude p.longitude q.longitude)
@@ -118,7 +118,7 @@ axis-equal : (x0 y0 : List ℕ) (x1 y1 : Direction) (x2 y2 : Option AxisMeridian
     axis-made x0 x1 x2 x3 x4 x5 ≡ axis-made y0 y1 y2 y3 y4 y5
 axis-equal x0 y0 x1 y1 x2 y2 x3 y3 x4 y4 x5 y5 e0 e1 e2 e3 e4 e5 = cc
 
-axis-one : DenotesOne → (c : Class) → IsOne (ReadsAxis c)
+pub axis-one : DenotesOne → (c : Class) → IsOne (ReadsAxis c)
 axis-one law c item a b p q =
     axis-equal a.name b.name a.direction b.direction a.meridian b.meridian a.order b.order a.unit b.unit a.ids b.ids
     (text-of-one c item a.name b.name p.name q.name)
@@ -135,7 +135,7 @@ ellipsoid-equal : (x0 y0 : List ℕ) (x1 y1 : Value) (x2 y2 : Value) (x3 y3 : Op
     ellipsoid-made x0 x1 x2 x3 x4 ≡ ellipsoid-made y0 y1 y2 y3 y4
 ellipsoid-equal x0 y0 x1 y1 x2 y2 x3 y3 x4 y4 e0 e1 e2 e3 e4 = cc
 
-ellipsoid-one : DenotesOne → (c : Class) → IsOne (ReadsEllipsoid c)
+pub ellipsoid-one : DenotesOne → (c : Class) → IsOne (ReadsEllipsoid c)
 ellipsoid-one law c item a b p q =
     ellipsoid-equal a.name b.name a.semi_major_axis b.semi_major_axis a.inverse_flattening b.inverse_flattening a.unit b.unit a.ids b.ids
     (text-of-one c item a.name b.name p.name q.name)
@@ -210,7 +210,7 @@ box-equal : (x0 y0 : Value) (x1 y1 : Value) (x2 y2 : Value) (x3 y3 : Value) → 
     box-made x0 x1 x2 x3 ≡ box-made y0 y1 y2 y3
 box-equal x0 y0 x1 y1 x2 y2 x3 y3 e0 e1 e2 e3 = cc
 
-box-one : DenotesOne → (c : Class) → IsOne (ReadsBox c)
+pub box-one : DenotesOne → (c : Class) → IsOne (ReadsBox c)
 box-one law c item a b p q =
     box-equal a.south b.south a.west b.west a.north b.north a.east b.east
     (number-at-one law 0 c item a.south b.south p.south q.south)

@@ -35,13 +35,13 @@ use Rattle.crs_value.proofs.SoundUsageLemmas.{SlotsBound, arguments-none, tail-t
 some-there : {V : Type 0} (o : Option V) → ((value : V) × (o ≡ Some value)) → IsSome o
 some-there {V = V} o h = let P : Option V → Type 0 = λ x. IsSome x in subst P (sym h.1) refl
 
-has-ellipsoid : SlotsCount → (c : Class) (item : Item) (value : Option EllipsoidParts) → Requires c class.Ellipsoid 0 → IsSound c item →
+pub has-ellipsoid : SlotsCount → (c : Class) (item : Item) (value : Option EllipsoidParts) → Requires c class.Ellipsoid 0 → IsSound c item →
     ReadsOptional (ReadsEllipsoid class.Ellipsoid) (those c class.Ellipsoid (arguments item)) value → IsSome value
 has-ellipsoid law c item value enough sound reads =
     some-there value (read-there (ReadsEllipsoid class.Ellipsoid) (those c class.Ellipsoid (arguments item)) value reads
     (λ none. not-none law c class.Ellipsoid item sound.shaped enough none))
 
-no-ellipsoid : SlotsBound → (c : Class) (item : Item) (value : Option EllipsoidParts) → IsTrue (is_bounded (is_same class.Ellipsoid) (slots_of c)) →
+pub no-ellipsoid : SlotsBound → (c : Class) (item : Item) (value : Option EllipsoidParts) → IsTrue (is_bounded (is_same class.Ellipsoid) (slots_of c)) →
     most (is_same class.Ellipsoid) (slots_of c) ≡ 0 → IsSound c item → ReadsOptional (ReadsEllipsoid class.Ellipsoid) (those c class.Ellipsoid (arguments item)) value → IsNone value
 no-ellipsoid bound c item value bounded none sound reads =
     let P : Option EllipsoidParts → Type 0 = λ x. IsNone x in

@@ -91,7 +91,7 @@ some-read R item items more (Some value) e reads = refl
 some-read R item [] more None e reads = cc
 some-read R item (other ∷ items) more None e reads = absurd reads
 
-says-some : SlotsBound → Tells class.Usage (ReadsUsage class.Usage) SaysSome
+pub says-some : SlotsBound → Tells class.Usage (ReadsUsage class.Usage) SaysSome
 says-some law (leaf number place raw) value sound reads = let h = sound.shaped in cc
 says-some law (leaf text place raw) value sound reads = let h = sound.shaped in cc
 says-some law (leaf word place raw) value sound reads = let h = sound.shaped in cc

@@ -26,6 +26,7 @@ pub mod SoundSystem
 pub mod SoundUsages
 pub mod Spells
 pub mod SpellsText
+pub mod Told
 pub mod UnknownWord
 pub mod Values
 pub mod Words

@@ -13,6 +13,8 @@ ghost use Rattle.crs_value.specs.Spells.{SpellsCrs, RefusesCrs};
 ghost use Rattle.crs_value.specs.SpellsText.{Spells, Refuses, IsRefusal};
 ghost use Rattle.crs_value.specs.Values.{IdentParts, UnitParts, MemberParts, ExtentParts, UsageParts};
 
+pub mod parts;
+
 use crate::crs::Crs;
 use crs_decimal::laws::{denotes_one, denotes_some};
 use crs_shape::laws::{fault_at_root_is_one, fault_is_within, no_fault_is_shape, slots_count};

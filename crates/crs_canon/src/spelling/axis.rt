@@ -4,8 +4,10 @@ ghost use Rattle.crs_text.specs.Items.{End, More};
 ghost use Rattle.crs_text.specs.Written.{item_text, others_text};
 ghost use Rattle.crs_value.specs.BadUnit.{asked_kind};
 ghost use Rattle.crs_value.specs.Words.{direction_word};
+ghost use Rattle.crs_value.specs.declared.unit_kind.UnitKind.TheVariants as kinds;
 ghost use Rattle.crs_same.specs.SameSystems.{own_or};
 ghost use Rattle.crs_decimal.specs.Plain.{plain};
+ghost use Rattle.crs_normal.specs.PartTexts.{axis_text};
 ghost use Rattle.crs_normal.specs.SpelledItems.{each, number_node, opt, word_item};
 ghost use Rattle.crs_normal.specs.SpelledSystems.{item_axis, item_axis_meridian, norm_axis, norm_axis_meridian, norm_axis_meridians};
 ghost use Rattle.crs_normal.specs.SpelledUnits.{item_ident, item_unit, norm_units, set_idents, whole_value};
@@ -13,6 +15,7 @@ ghost use Rattle.crs_normal.specs.SpelledUnits.{item_ident, item_unit, norm_unit
 use crate::spelling::ident::write_idents;
 use crate::spelling::texts::{append, open_number, open_text};
 use crate::spelling::unit::{write_optional_unit, write_unit};
+use crs_decimal::Decimal;
 use crs_value::{Axis, AxisMeridian, Direction, Level, System, UnitKind};
 use itoa::Buffer;
 use std::alloc::AllocError;
@@ -44,7 +47,7 @@ fn write_direction(out: &mut Vec<u8>, direction: Direction) -> Result<(), AllocE
 }
 
 // Behind a comma.
-fn write_meridian(
+pub(crate) fn write_axis_meridian(
     out: &mut Vec<u8>,
     meridian: &AxisMeridian<'_>,
     level: Level,
@@ -67,7 +70,7 @@ fn write_optional_meridian(
 {
     match meridian {
         None => Ok(()),
-        Some(meridian) => write_meridian(out, meridian, level),
+        Some(meridian) => write_axis_meridian(out, meridian, level),
     }
 }
 
@@ -168,5 +171,93 @@ pub(crate) fn write_axis(
 {
     open_text(out, b",AXIS[\"", axis.name)?;
     write_from_direction(out, system, axis, position, level)?;
+    append(out, b"]")
+}
+
+// ---- an axis by itself
+
+// Behind a comma.
+fn write_own_order(out: &mut Vec<u8>, order: &Decimal) -> Result<(), AllocError>
+    ensures { OnOk result (out.new.items
+        ≡ out.old.items ++ 44 ∷ item_text (number_node (codes "ORDER") order.now)) }
+{
+    open_number(out, b",ORDER[", order)?;
+    append(out, b"]")
+}
+
+fn write_optional_order(out: &mut Vec<u8>, order: &Option<Decimal>) -> Result<(), AllocError>
+    ensures { OnOk result (out.new.items
+        ≡ out.old.items ++ others_text (opt (number_node (codes "ORDER")) order.now End)) }
+{
+    match order {
+        None => Ok(()),
+        Some(order) => write_own_order(out, order),
+    }
+}
+
+#[tactic(auto, using(crate::proofs::PieceLemmas::then_rules))]
+fn write_from_own_unit(out: &mut Vec<u8>, axis: &Axis<'_>, level: Level) -> Result<(), AllocError>
+    ensures { OnOk result (out.new.items ≡ out.old.items ++ others_text
+        (opt item_unit (norm_units level kinds.Plain axis.now.unit)
+        (each item_ident (set_idents level axis.now.ids) End))) }
+{
+    write_optional_unit(out, UnitKind::Plain, axis.unit.as_ref(), level)?;
+    write_idents(out, &axis.ids, level)
+}
+
+#[tactic(auto, using(crate::proofs::PieceLemmas::then_rules))]
+fn write_from_own_order(out: &mut Vec<u8>, axis: &Axis<'_>, level: Level) -> Result<(), AllocError>
+    ensures { OnOk result (out.new.items ≡ out.old.items ++ others_text
+        (opt (number_node (codes "ORDER")) axis.now.order
+        (opt item_unit (norm_units level kinds.Plain axis.now.unit)
+        (each item_ident (set_idents level axis.now.ids) End)))) }
+{
+    write_optional_order(out, &axis.order)?;
+    write_from_own_unit(out, axis, level)
+}
+
+#[tactic(auto, using(crate::proofs::PieceLemmas::then_rules))]
+fn write_from_own_meridian(
+    out: &mut Vec<u8>,
+    axis: &Axis<'_>,
+    level: Level,
+) -> Result<(), AllocError>
+    ensures { OnOk result (out.new.items ≡ out.old.items ++ others_text
+        (opt item_axis_meridian (norm_axis_meridians level axis.now.meridian)
+        (opt (number_node (codes "ORDER")) axis.now.order
+        (opt item_unit (norm_units level kinds.Plain axis.now.unit)
+        (each item_ident (set_idents level axis.now.ids) End))))) }
+{
+    write_optional_meridian(out, &axis.meridian, level)?;
+    write_from_own_order(out, axis, level)
+}
+
+#[tactic(auto, using(crate::proofs::PieceLemmas::then_rules))]
+fn write_from_own_direction(
+    out: &mut Vec<u8>,
+    axis: &Axis<'_>,
+    level: Level,
+) -> Result<(), AllocError>
+    ensures { OnOk result (out.new.items ≡ out.old.items ++ others_text
+        (More (word_item (direction_word axis.now.direction))
+        (opt item_axis_meridian (norm_axis_meridians level axis.now.meridian)
+        (opt (number_node (codes "ORDER")) axis.now.order
+        (opt item_unit (norm_units level kinds.Plain axis.now.unit)
+        (each item_ident (set_idents level axis.now.ids) End)))))) }
+{
+    write_direction(out, axis.direction)?;
+    write_from_own_meridian(out, axis, level)
+}
+
+// With its own order and unit, of which `UNIT` is a kind of its own.
+pub(crate) fn write_own_axis(
+    out: &mut Vec<u8>,
+    axis: &Axis<'_>,
+    level: Level,
+) -> Result<(), AllocError>
+    ensures { OnOk result (out.new.items ≡ out.old.items ++ axis_text level axis.now) }
+{
+    open_text(out, b"AXIS[\"", axis.name)?;
+    write_from_own_direction(out, axis, level)?;
     append(out, b"]")
 }

@@ -15,7 +15,11 @@ use crs_value::{Conversion, GeoidModel, Level, List, Method, Parameter, UnitKind
 use std::alloc::AllocError;
 
 // Behind a comma.
-fn write_method(out: &mut Vec<u8>, method: &Method<'_>, level: Level) -> Result<(), AllocError>
+pub(crate) fn write_method(
+    out: &mut Vec<u8>,
+    method: &Method<'_>,
+    level: Level,
+) -> Result<(), AllocError>
     ensures { OnOk result (out.new.items
         ≡ out.old.items ++ 44 ∷ item_text (item_method (norm_method level method.now))) }
 {
@@ -49,7 +53,7 @@ fn write_from_value(
     write_from_unit(out, parameter, level)
 }
 
-fn write_parameter(
+pub(crate) fn write_parameter(
     out: &mut Vec<u8>,
     parameter: &Parameter<'_>,
     level: Level,

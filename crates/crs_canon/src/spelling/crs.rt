@@ -79,7 +79,7 @@ fn geodetic_opening(system_type: SystemType) -> &'static str
     }
 }
 
-fn write_geodetic(
+pub(crate) fn write_geodetic(
     out: &mut Vec<u8>,
     geodetic: &Geodetic<'_>,
     level: Level,
@@ -133,7 +133,7 @@ fn write_base_from_frame(out: &mut Vec<u8>, base: &Base<'_>, level: Level) -> Re
 }
 
 // Behind a comma.
-fn write_base(out: &mut Vec<u8>, base: &Base<'_>, level: Level) -> Result<(), AllocError>
+pub(crate) fn write_base(out: &mut Vec<u8>, base: &Base<'_>, level: Level) -> Result<(), AllocError>
     ensures { OnOk result (out.new.items ≡ out.old.items ++ 44 ∷ item_text (item_base (norm_base level base.now))) }
 {
     open_text(out, b",BASEGEOGCRS[\"", base.name)?;
@@ -170,7 +170,7 @@ fn write_from_base(
     write_from_conversion(out, projected, level)
 }
 
-fn write_projected(
+pub(crate) fn write_projected(
     out: &mut Vec<u8>,
     projected: &Projected<'_>,
     level: Level,
@@ -230,7 +230,7 @@ fn write_from_vertical_frame(
     write_from_vertical_system(out, vertical, level)
 }
 
-fn write_vertical(
+pub(crate) fn write_vertical(
     out: &mut Vec<u8>,
     vertical: &Vertical<'_>,
     level: Level,
@@ -310,7 +310,7 @@ fn write_from_horizontal(
     write_from_vertical(out, compound, level)
 }
 
-fn write_compound(
+pub(crate) fn write_compound(
     out: &mut Vec<u8>,
     compound: &Compound<'_>,
     level: Level,

@@ -56,7 +56,7 @@ fn write_from_axis(
 }
 
 // Behind a comma.
-fn write_ellipsoid(
+pub(crate) fn write_ellipsoid(
     out: &mut Vec<u8>,
     ellipsoid: &Ellipsoid<'_>,
     level: Level,

@@ -4,6 +4,7 @@ ghost use Rattle.std.specs.Option.{option_copied, option_map};
 ghost use Rattle.crs_text.specs.Items.{End, More};
 ghost use Rattle.crs_text.specs.Written.{item_text, others_text};
 ghost use Rattle.crs_value.specs.Values.{EnsembleParts};
+ghost use Rattle.crs_normal.specs.PartTexts.{datum_text};
 ghost use Rattle.crs_normal.specs.SpelledFrames.{item_ellipsoid, item_ensemble, item_frame, item_member, norm_ellipsoid, norm_ensemble, norm_frame, set_members};
 ghost use Rattle.crs_normal.specs.SpelledItems.{each, number_node, opt, text_node};
 ghost use Rattle.crs_normal.specs.SpelledUnits.{item_ident, set_idents};
@@ -82,6 +83,20 @@ fn write_datum(
     append(out, b"]")
 }
 
+// By itself: with an ellipsoid it is geodetic, else vertical.
+pub(crate) fn write_own_datum(
+    out: &mut Vec<u8>,
+    datum: &Datum<'_>,
+    level: Level,
+) -> Result<(), AllocError>
+    ensures { OnOk result (out.new.items ≡ out.old.items ++ datum_text level datum.now) }
+{
+    match &datum.ellipsoid {
+        Some(_) => write_datum(out, b"DATUM[\"", datum, level),
+        None => write_datum(out, b"VDATUM[\"", datum, level),
+    }
+}
+
 fn write_accuracy(out: &mut Vec<u8>, accuracy: &Decimal) -> Result<(), AllocError>
     ensures { OnOk result (out.new.items
         ≡ out.old.items ++ 44 ∷ item_text (number_node (codes "ENSEMBLEACCURACY") accuracy.now)) }
@@ -135,7 +150,7 @@ fn write_from_members(
     write_from_ellipsoid(out, ensemble, level)
 }
 
-fn write_ensemble(
+pub(crate) fn write_ensemble(
     out: &mut Vec<u8>,
     ensemble: &Ensemble<'_>,
     level: Level,

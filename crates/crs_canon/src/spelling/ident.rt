@@ -58,7 +58,7 @@ fn write_behind_code(out: &mut Vec<u8>, ident: &Ident<'_>) -> Result<(), AllocEr
     write_sources(out, ident)
 }
 
-fn write_ident(out: &mut Vec<u8>, ident: &Ident<'_>) -> Result<(), AllocError>
+pub(crate) fn write_ident(out: &mut Vec<u8>, ident: &Ident<'_>) -> Result<(), AllocError>
     ensures { OnOk result (out.new.items ≡ out.old.items ++ item_text (item_ident ident.now)) }
 {
     open_text(out, b"ID[\"", ident.authority)?;

@@ -60,7 +60,11 @@ fn write_from_longitude(
     write_from_unit(out, meridian, level)
 }
 
-fn write_given(out: &mut Vec<u8>, meridian: &Meridian<'_>, level: Level) -> Result<(), AllocError>
+pub(crate) fn write_given(
+    out: &mut Vec<u8>,
+    meridian: &Meridian<'_>,
+    level: Level,
+) -> Result<(), AllocError>
     ensures { OnOk result (out.new.items
         ≡ out.old.items ++ 44 ∷ item_text (item_meridian (norm_given level meridian.now))) }
 {

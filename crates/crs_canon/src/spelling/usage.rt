@@ -50,7 +50,7 @@ fn write_from_west(out: &mut Vec<u8>, bbox: &BoundingBox) -> Result<(), AllocErr
 }
 
 // Behind a comma.
-fn write_box(out: &mut Vec<u8>, bbox: &BoundingBox) -> Result<(), AllocError>
+pub(crate) fn write_box(out: &mut Vec<u8>, bbox: &BoundingBox) -> Result<(), AllocError>
     ensures { OnOk result (out.new.items ≡ out.old.items ++ 44 ∷ item_text (item_box bbox.now)) }
 {
     open_number(out, b",BBOX[", &bbox.south)?;
@@ -77,7 +77,7 @@ fn write_from_maximum(out: &mut Vec<u8>, extent: &Extent<'_>) -> Result<(), Allo
 }
 
 // Behind a comma.
-fn write_extent(out: &mut Vec<u8>, extent: &Extent<'_>) -> Result<(), AllocError>
+pub(crate) fn write_extent(out: &mut Vec<u8>, extent: &Extent<'_>) -> Result<(), AllocError>
     ensures { OnOk result (out.new.items
         ≡ out.old.items ++ 44 ∷ item_text (item_extent (norm_extent levels.Full extent.now))) }
 {
@@ -146,7 +146,7 @@ fn enclose(out: &mut Vec<u8>, at: usize) -> Result<(), AllocError>
 }
 
 // Any part may be the first.
-fn write_usage(out: &mut Vec<u8>, usage: &Usage<'_>) -> Result<(), AllocError>
+pub(crate) fn write_usage(out: &mut Vec<u8>, usage: &Usage<'_>) -> Result<(), AllocError>
     ensures { OnOk result (out.new.items ≡ out.old.items ++ item_text (item_usage (norm_usage usage.now))) }
 {
     append(out, b"USAGE")?;

@@ -10,7 +10,7 @@ ghost use Rattle.crs_value.specs.declared.crs.Crs.{Crs};
 ghost use Rattle.crs_value.specs.declared.frame.Frame.{Frame};
 ghost use Rattle.crs_value.specs.declared.level.Level.{Level};
 ghost use Rattle.crs_value.specs.declared.unit_kind.UnitKind.{UnitKind};
-ghost use Rattle.crs_value.specs.Sound.{Each, IsIdent, IsUnit};
+ghost use Rattle.crs_value.specs.Sound.{Each, IsAxisMeridian, IsIdent, IsUnit};
 ghost use Rattle.crs_value.specs.SoundConversion.{IsConversion, IsGeoidModel, IsMethod, IsParameter};
 ghost use Rattle.crs_value.specs.SoundCompound.{IsCompound};
 ghost use Rattle.crs_value.specs.SoundCrs.{IsCrs};
@@ -18,7 +18,7 @@ ghost use Rattle.crs_value.specs.SoundFrames.{IsEllipsoid, IsMember, IsMeridian}
 ghost use Rattle.crs_value.specs.SoundSingle.{IsBase, IsGeodetic, IsGeodeticFrame, IsProjected, IsVertical, IsVerticalFrame};
 ghost use Rattle.crs_value.specs.SoundSystem.{IsSystem};
 ghost use Rattle.crs_value.specs.SoundUsages.{IsBox, IsExtent, IsUsage};
-ghost use Rattle.crs_value.specs.Values.{BoxParts, EllipsoidParts, ExtentParts, IdentParts, MemberParts, MeridianParts, SystemParts, UnitParts, UsageParts};
+ghost use Rattle.crs_value.specs.Values.{AxisMeridianParts, BoxParts, EllipsoidParts, ExtentParts, IdentParts, MemberParts, MeridianParts, SystemParts, UnitParts, UsageParts};
 ghost use Rattle.crs_same.specs.SameUnits.{kind_as};
 ghost use Rattle.crs_normal.specs.DecimalLaws.{DecimalLaws};
 ghost use Rattle.crs_normal.specs.Made.{IsKindIn, IsMade, crs_class, geodetic_class, root_class, vertical_class};
@@ -26,7 +26,7 @@ ghost use Rattle.crs_normal.specs.Normal.{IsNormalText};
 ghost use Rattle.crs_normal.specs.SpelledConversions.{item_conversion, item_geoid_model, item_method, item_parameter, norm_conversion, norm_geoid_model, norm_method, norm_parameter};
 ghost use Rattle.crs_normal.specs.SpelledCrs.{item_base, item_compound, item_crs, item_geodetic, item_projected, item_vertical, norm_base, norm_compound, norm_crs, norm_geodetic, norm_projected, norm_vertical};
 ghost use Rattle.crs_normal.specs.SpelledFrames.{greenwich, item_ellipsoid, item_frame, item_member, item_meridian, norm_ellipsoid, norm_frame, norm_given, norm_member};
-ghost use Rattle.crs_normal.specs.SpelledSystems.{item_axis, item_head, norm_system};
+ghost use Rattle.crs_normal.specs.SpelledSystems.{item_axis, item_axis_meridian, item_head, norm_axis_meridian, norm_system};
 ghost use Rattle.crs_normal.specs.SpelledUnits.{item_ident, item_unit, norm_unit};
 ghost use Rattle.crs_normal.specs.SpelledUsages.{item_box, item_extent, item_usage, norm_extent, norm_usage};
 
@@ -38,7 +38,7 @@ use crs_same::laws::one_axis_each;
 use crs_text::laws::written_items;
 
 // The laws of decimals, as one fact.
-fn decimal_laws()
+pub(super) fn decimal_laws()
     ensures { DecimalLaws }
 {
     denotes_one();
@@ -174,6 +174,14 @@ pub fn made_vertical_frame_is_normal()
 pub fn made_head_is_normal()
     ensures { (level : Level) (system : SystemParts) (place : ℕ) → IsSystem system →
         IsMade level class.CoordinateSystem 3 (at_place place (item_head (norm_system level system))) }
+{
+    decimal_laws();
+}
+
+/// The item of the meridian of an axis.
+pub fn made_axis_meridian_is_normal()
+    ensures { (level : Level) (meridian : AxisMeridianParts) (place : ℕ) → IsAxisMeridian meridian →
+        IsMade level class.Meridian 4 (at_place place (item_axis_meridian (norm_axis_meridian level meridian))) }
 {
     decimal_laws();
 }

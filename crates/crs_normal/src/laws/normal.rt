@@ -13,10 +13,12 @@ ghost use Rattle.crs_value.specs.declared.crs.Crs.{Crs};
 ghost use Rattle.crs_value.specs.declared.level.Level.{Level};
 ghost use Rattle.crs_value.specs.declared.unit_kind.UnitKind.{UnitKind};
 ghost use Rattle.crs_value.specs.declared.unit_kind.UnitKind.TheVariants as kinds;
+ghost use Rattle.crs_normal.specs.AxisAlone.{IsNormalAxis};
 ghost use Rattle.crs_normal.specs.Flat.{flat};
 ghost use Rattle.crs_normal.specs.Normal.{IsNormalIn, IsNormalText};
 ghost use Rattle.crs_normal.specs.NormalOwn.{Has, HasOrder};
 ghost use Rattle.crs_normal.specs.OneForm.{IsItsForm, IsItsFormUnbroken};
+ghost use Rattle.crs_normal.specs.PartTexts.{norm_axis_alone};
 ghost use Rattle.crs_normal.specs.SpelledCrs.{item_base, norm_base, item_geodetic, norm_geodetic, item_projected, norm_projected, item_vertical, norm_vertical, item_compound, norm_compound, item_crs, norm_crs};
 ghost use Rattle.crs_normal.specs.SpelledSystems.{item_axis_meridian, norm_axis_meridian, item_axis, norm_axis};
 ghost use Rattle.crs_shape.specs.Shaped.{Shaped};
@@ -146,6 +148,11 @@ pub fn normal_axis_is_its_form()
         (value : AxisParts) → Shaped class.Axis item → IsNormalIn level parent class.Axis item →
         HasOrder position item → Has class.Axis class.AxisUnit item → ReadsAxis class.Axis item value →
         flat item ≡ item_axis (norm_axis level system position value) }
+
+    // By itself an axis may have a unit that is `UNIT`.
+    ensures alone { (level : Level) (item : Item) (value : AxisParts) → Shaped class.Axis item →
+        IsNormalAxis level item → ReadsAxis class.Axis item value →
+        flat item ≡ item_axis (norm_axis_alone level value) }
 {
     plain_is_the_one();
 }

@@ -7,21 +7,22 @@ ghost use Rattle.crs_value.specs.ConversionValues.{ConversionParts, MethodParts}
 ghost use Rattle.crs_value.specs.CrsValues.{BaseParts};
 ghost use Rattle.crs_value.specs.declared.crs.Crs.{Crs};
 ghost use Rattle.crs_value.specs.declared.level.Level.{Level};
-ghost use Rattle.crs_value.specs.Reads.{ReadsAxisMeridian, ReadsEllipsoid, ReadsHead, ReadsMeridian};
+ghost use Rattle.crs_value.specs.Reads.{ReadsAxis, ReadsAxisMeridian, ReadsEllipsoid, ReadsHead, ReadsMeridian};
 ghost use Rattle.crs_value.specs.ReadsConversion.{ReadsConversion, ReadsMethod};
 ghost use Rattle.crs_value.specs.ReadsCrs.{ReadsBase, ReadsCrs};
-ghost use Rattle.crs_value.specs.Sound.{IsAxisMeridian};
+ghost use Rattle.crs_value.specs.Sound.{IsAxis, IsAxisMeridian};
 ghost use Rattle.crs_value.specs.SoundConversion.{IsConversion, IsMethod};
 ghost use Rattle.crs_value.specs.SoundCrs.{IsCrs};
 ghost use Rattle.crs_value.specs.SoundFrames.{IsEllipsoid, IsMeridian};
 ghost use Rattle.crs_value.specs.SoundSingle.{IsBase};
 ghost use Rattle.crs_value.specs.SoundSystem.{IsSystem};
-ghost use Rattle.crs_value.specs.Values.{AxisMeridianParts, EllipsoidParts, MeridianParts, SystemParts};
+ghost use Rattle.crs_value.specs.Values.{AxisMeridianParts, AxisParts, EllipsoidParts, MeridianParts, SystemParts};
+ghost use Rattle.crs_normal.specs.PartTexts.{norm_axis_alone};
 ghost use Rattle.crs_normal.specs.ReadBack.{crs_class};
 ghost use Rattle.crs_normal.specs.SpelledConversions.{item_conversion, item_method, norm_conversion, norm_method};
 ghost use Rattle.crs_normal.specs.SpelledCrs.{item_base, item_crs, norm_base, norm_crs};
 ghost use Rattle.crs_normal.specs.SpelledFrames.{greenwich, item_ellipsoid, item_meridian, norm_ellipsoid, norm_given};
-ghost use Rattle.crs_normal.specs.SpelledSystems.{item_axis_meridian, item_head, norm_axis_meridian, norm_system};
+ghost use Rattle.crs_normal.specs.SpelledSystems.{item_axis, item_axis_meridian, item_head, norm_axis_meridian, norm_system};
 
 use crate::laws::sets::text_laws;
 use crate::laws::values::lower_laws;
@@ -46,6 +47,8 @@ pub fn crs_parts_are_read_back()
     ensures along { (level : Level) (meridian : AxisMeridianParts) (place : ℕ) → IsAxisMeridian meridian →
         ReadsAxisMeridian class.Meridian (at_place place (item_axis_meridian (norm_axis_meridian level meridian)))
         (norm_axis_meridian level meridian) }
+    ensures axis { (level : Level) (axis : AxisParts) (place : ℕ) → IsAxis axis →
+        ReadsAxis class.Axis (at_place place (item_axis (norm_axis_alone level axis))) (norm_axis_alone level axis) }
     ensures head { (level : Level) (system : SystemParts) (place : ℕ) → IsSystem system →
         ReadsHead (at_place place (item_head (norm_system level system))) (norm_system level system) }
     ensures method { (level : Level) (method : MethodParts) (place : ℕ) → IsMethod method →

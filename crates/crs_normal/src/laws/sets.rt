@@ -9,13 +9,13 @@ ghost use Rattle.crs_value.specs.ConversionValues.{GeoidModelParts, ParameterPar
 ghost use Rattle.crs_value.specs.declared.level.Level.{Level};
 ghost use Rattle.crs_value.specs.declared.level.Level.TheVariants as levels;
 ghost use Rattle.crs_value.specs.declared.unit_kind.UnitKind.{UnitKind};
-ghost use Rattle.crs_value.specs.Reads.{ReadsExtent, ReadsIdent, ReadsMember, ReadsUnit, ReadsUsage};
+ghost use Rattle.crs_value.specs.Reads.{ReadsBox, ReadsExtent, ReadsIdent, ReadsMember, ReadsUnit, ReadsUsage};
 ghost use Rattle.crs_value.specs.ReadsConversion.{ReadsGeoidModel, ReadsParameter};
 ghost use Rattle.crs_value.specs.Sound.{Each, IsIdent, IsUnit};
 ghost use Rattle.crs_value.specs.SoundConversion.{IsGeoidModel, IsParameter};
 ghost use Rattle.crs_value.specs.SoundFrames.{IsMember};
-ghost use Rattle.crs_value.specs.SoundUsages.{IsExtent, IsUsage};
-ghost use Rattle.crs_value.specs.Values.{ExtentParts, IdentParts, MemberParts, UnitParts, UsageParts};
+ghost use Rattle.crs_value.specs.SoundUsages.{IsBox, IsExtent, IsUsage};
+ghost use Rattle.crs_value.specs.Values.{BoxParts, ExtentParts, IdentParts, MemberParts, UnitParts, UsageParts};
 ghost use Rattle.crs_same.specs.SameConversions.{SameGeoidModel, SameParameter};
 ghost use Rattle.crs_same.specs.SameFrames.{SameMember};
 ghost use Rattle.crs_same.specs.SameIdents.{SameIdents};
@@ -26,7 +26,7 @@ ghost use Rattle.crs_normal.specs.Flat.{flat};
 ghost use Rattle.crs_normal.specs.SpelledConversions.{item_geoid_model, item_parameter, norm_geoid_model, norm_parameter, set_geoid_models, set_parameters};
 ghost use Rattle.crs_normal.specs.SpelledFrames.{item_member, norm_member, set_members};
 ghost use Rattle.crs_normal.specs.SpelledUnits.{item_ident, item_unit, norm_unit, set_idents};
-ghost use Rattle.crs_normal.specs.SpelledUsages.{item_extent, item_usage, norm_extent, norm_usage, set_usages};
+ghost use Rattle.crs_normal.specs.SpelledUsages.{item_box, item_extent, item_usage, norm_extent, norm_usage, set_usages};
 ghost use Rattle.crs_normal.specs.TextLaws.{TextLaws};
 
 use crs_decimal::laws::{digits_alone, normal_is_one, plain_is_the_one, spelled_as_a_run};
@@ -118,6 +118,8 @@ pub fn members_are_read_back()
     ensures extent { (level : Level) (extent : ExtentParts) (place : ℕ) → IsExtent extent →
         ReadsExtent class.VerticalExtent (at_place place (item_extent (norm_extent level extent)))
         (norm_extent level extent) }
+    ensures bounding_box { (bounds : BoxParts) (place : ℕ) → IsBox bounds →
+        ReadsBox class.BoundingBox (at_place place (item_box bounds)) bounds }
     ensures usage { (usage : UsageParts) (place : ℕ) → IsUsage usage →
         ReadsUsage class.Usage (at_place place (item_usage (norm_usage usage))) (norm_usage usage) }
 {

@@ -18,13 +18,14 @@ ghost use Rattle.crs_same.specs.SameCrs.{SameBase, SameCompound, SameGeodetic, S
 ghost use Rattle.crs_same.specs.SameCrs.{SameProjected, SameVertical};
 ghost use Rattle.crs_same.specs.SameFrames.{SameDatum, SameEllipsoid, SameEnsemble, SameFrame};
 ghost use Rattle.crs_same.specs.SameFrames.{SameMember, SameMeridian};
-ghost use Rattle.crs_same.specs.SameSystems.{SameAxis, SameAxisMeridian, SameSystem};
+ghost use Rattle.crs_same.specs.SameSystems.{SameAxis, SameAxisAlone, SameAxisMeridian, SameSystem};
 ghost use Rattle.crs_same.specs.SameUnits.{SameLength, SameUnit};
 ghost use Rattle.crs_same.specs.SameUsages.{SameBox, SameExtent, SameTail, SameUsage};
 ghost use Rattle.crs_same.specs.Sets.{BothOrNeither};
 ghost use Rattle.crs_normal.specs.Decides.{DecidesSameness, FormDecides, IsNumbered, Maybe, SetsDecide};
 ghost use Rattle.crs_normal.specs.LowerLaws.{LowerLaws};
 ghost use Rattle.crs_normal.specs.Normal.{IsNormalText};
+ghost use Rattle.crs_normal.specs.PartTexts.{norm_axis_alone};
 ghost use Rattle.crs_normal.specs.SpelledConversions.{norm_conversion, norm_geoid_model};
 ghost use Rattle.crs_normal.specs.SpelledConversions.{norm_method, norm_parameter};
 ghost use Rattle.crs_normal.specs.SpelledCrs.{norm_base, norm_compound, norm_geodetic, norm_horizontal};
@@ -119,6 +120,10 @@ pub fn same_systems_have_one_form()
         a.system_type ≡ b.system_type → Maybe IsAxisUnit a.unit → Maybe IsAxisUnit b.unit →
         IsAxis x → IsAxis y →
         (norm_axis level a position x ≡ norm_axis level b position y) ↔ SameAxis level a b x y }
+
+    // By themselves axes have their own orders and units.
+    ensures alone { (level : Level) →
+        FormDecides IsAxis (norm_axis_alone level) (SameAxisAlone level) }
     ensures system { (level : Level) →
         FormDecides IsNumbered (norm_system level) (SameSystem level) }
 {

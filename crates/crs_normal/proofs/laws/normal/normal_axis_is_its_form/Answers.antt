@@ -1,3 +1,4 @@
+use Rattle.crs_normal.proofs.AxisAloneLemmas.{axis-alone-form}
 use Rattle.crs_normal.proofs.AxisNormalLemmas.{axis-form, axis_meridian-form}
 use Rattle.crs_normal.proofs.laws.normal.normal_axis_is_its_form.Goals as goal
 
@@ -10,3 +11,6 @@ pub returns-clause-axis : goal.returns-clause-axis
 returns-clause-axis c = λ level system parent position item value shaped normal ordered own reads.
     (axis-form c.plain_is_the_one.ensures.only level parent system position item value
     (record { shaped = shaped; normal = normal }) ordered own reads).0
+
+pub returns-clause-alone : goal.returns-clause-alone
+returns-clause-alone c = axis-alone-form c.plain_is_the_one.ensures.only

@@ -1,6 +1,6 @@
 use Rattle.crs_normal.proofs.ReadCrsLemmas.{base-read}
 use Rattle.crs_normal.proofs.ReadEndLemmas.{conversion-read, method-read}
-use Rattle.crs_normal.proofs.ReadSystemLemmas.{axis-meridian-read, head-read}
+use Rattle.crs_normal.proofs.ReadSystemLemmas.{axis-alone-read, axis-meridian-read, head-read}
 use Rattle.crs_normal.proofs.laws.read.crs_parts_are_read_back.Goals as goal
 
 pub returns-clause-along : goal.returns-clause-along
@@ -17,3 +17,6 @@ returns-clause-conversion c level x place s = conversion-read c.text_laws.ensure
 
 pub returns-clause-base : goal.returns-clause-base
 returns-clause-base c level x place s = base-read c.text_laws.ensures level x s place
+
+pub returns-clause-axis : goal.returns-clause-axis
+returns-clause-axis c level x place s = axis-alone-read c.text_laws.ensures level x s place

@@ -1,4 +1,4 @@
-use Rattle.crs_normal.proofs.ExtentLemmas.{extent-kept, extent-read}
+use Rattle.crs_normal.proofs.ExtentLemmas.{box-read, extent-kept, extent-read}
 use Rattle.crs_normal.proofs.IdentLemmas.{ident-read}
 use Rattle.crs_normal.proofs.MemberLemmas.{geoid-kept, geoid-read, member-kept, member-read}
 use Rattle.crs_normal.proofs.MemberUnitLemmas.{unit-kept, unit-read}
@@ -33,3 +33,6 @@ returns-clause-extent c level x place s =
 
 pub returns-clause-usage : goal.returns-clause-usage
 returns-clause-usage c x place s = usage-read c.text_laws.ensures (norm_usage x) (usage-kept x s) place
+
+pub returns-clause-bounding_box : goal.returns-clause-bounding_box
+returns-clause-bounding_box c x place s = box-read c.text_laws.ensures x s place

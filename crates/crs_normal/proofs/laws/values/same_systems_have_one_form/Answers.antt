@@ -1,4 +1,4 @@
-use Rattle.crs_normal.proofs.AxisSameLemmas.{axis-agrees, axis-meridians-agree}
+use Rattle.crs_normal.proofs.AxisSameLemmas.{axis-agrees, axis-alone-agrees, axis-meridians-agree}
 use Rattle.crs_normal.proofs.SystemSameLemmas.{system-agrees}
 use Rattle.crs_normal.proofs.laws.values.same_systems_have_one_form.Goals as goal
 
@@ -10,3 +10,6 @@ returns-clause-axis c = axis-agrees c.lower_laws.ensures c.sets_decide.ensures
 
 pub returns-clause-system : goal.returns-clause-system
 returns-clause-system c = system-agrees c.lower_laws.ensures c.sets_decide.ensures
+
+pub returns-clause-alone : goal.returns-clause-alone
+returns-clause-alone c = axis-alone-agrees c.lower_laws.ensures c.sets_decide.ensures

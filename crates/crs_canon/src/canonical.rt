@@ -1,0 +1,61 @@
+//! Nodes that are compared and written by themselves.
+ghost use Rattle.std.specs.Prelude.{◌≡◌, ◌↔◌, ◌++◌, ◌∷◌, ℕ, IsTrue, List, MatchResult};
+ghost use Rattle.crs_value.specs.declared.level.Level.{Level};
+ghost use Rattle.crs_normal.specs.CanonicalForm.{IsCanonicalForm};
+
+mod axes;
+mod conversions;
+mod crs;
+mod frames;
+mod kinds;
+mod units;
+mod usages;
+
+use crs_value::Level;
+use std::alloc::{AllocError, Global};
+
+/// A node of a CRS, or a CRS, that is compared and written by itself, at a level: an identifier or a usage alike at every
+/// level, a unit or an axis with `UNIT` as a kind of its own, and an axis with the order and unit that it holds. Profile.
+pub trait Canonical: Sized {
+    /// What is asked of every value of the type.
+    ghost IsValue: { Self → Type 0 };
+
+    /// When two values are the same.
+    ghost Same: { Level → Self → Self → Type 0 };
+
+    /// That bytes are the one spelling of a value: a text of its kind, accepted and normal, that says a value which is
+    /// the same.
+    ghost IsSpelling: { Level → Self → List ℕ → Type 0 };
+
+    /// The spelling of a value.
+    ghost spelling: { Level → Self → List ℕ };
+
+    /// Whether two values are the same.
+    fn same(&self, other: &Self, level: Level) -> bool
+        ensures { IsTrue result ↔ Same level self.now other.now };
+
+    /// Appends the one spelling of the value.
+    ///
+    /// `AllocError`: there is no memory for it, and `out` is as before.
+    fn write(&self, alloc: Global, level: Level, out: &mut Vec<u8>) -> Result<(), AllocError>
+        ensures { MatchResult result
+            (λ _. out.new.items ≡ out.old.items ++ spelling level self.now)
+            (λ _. out.new.items ≡ out.old.items) };
+
+    /// The law of the type: its spellings are normal and one, they are equal, byte for byte, exactly where the values are
+    /// the same, and each is closed. The call does nothing.
+    fn laws(&self)
+        ensures { (level : Level) → IsCanonicalForm IsValue (Same level) (IsSpelling level) (spelling level) };
+}
+
+// Appends a text that was written behind a comma, without the comma.
+fn append_argument(out: &mut Vec<u8>, text: &[u8]) -> Result<(), AllocError>
+    ensures { (bytes : List ℕ) → text.now ≡ 44 ∷ bytes → MatchResult result
+        (λ _. out.new.items ≡ out.old.items ++ bytes)
+        (λ _. out.new.items ≡ out.old.items) }
+{
+    match text {
+        [] => Ok(()),
+        [_, bytes @ ..] => out.extend_from_slice(bytes),
+    }
+}

@@ -1,0 +1,188 @@
+//! Ellipsoids, prime meridians, reference frames and ensembles by themselves.
+use crate::canonical::{Canonical, append_argument};
+use crate::spelling::ellipsoid::write_ellipsoid;
+use crate::spelling::frame::{write_ensemble, write_own_datum};
+use crate::spelling::ident::write_named;
+use crate::spelling::meridian::write_given;
+use crs_normal::laws::parts::{
+    datums_are_canonical, frame_parts_are_canonical, frames_are_canonical,
+};
+use crs_same::parts::{
+    same_datum, same_ellipsoid, same_ensemble, same_frame, same_member, same_meridian,
+};
+use crs_value::{Datum, Ellipsoid, Ensemble, Frame, Level, Member, Meridian};
+use std::alloc::{AllocError, Global};
+
+impl Canonical for Ellipsoid<'_> {
+    ghost use Rattle.crs_value.specs.SoundFrames.{IsEllipsoid};
+    ghost use Rattle.crs_same.specs.SameFrames.{SameEllipsoid};
+    ghost use Rattle.crs_normal.specs.PartSpellings.{IsSpelledEllipsoid};
+    ghost use Rattle.crs_normal.specs.PartTexts.{ellipsoid_text};
+
+    ghost IsValue = { IsEllipsoid };
+
+    ghost Same = { SameEllipsoid };
+
+    ghost IsSpelling = { IsSpelledEllipsoid };
+
+    ghost spelling = { ellipsoid_text };
+
+    fn same(&self, other: &Self, level: Level) -> bool {
+        same_ellipsoid(self, other, level)
+    }
+
+    fn write(&self, alloc: Global, level: Level, out: &mut Vec<u8>) -> Result<(), AllocError> {
+        let mut text = Vec::new(alloc);
+        write_ellipsoid(&mut text, self, level)?;
+        append_argument(out, text.as_slice())
+    }
+
+    fn laws(&self) {
+        frame_parts_are_canonical();
+    }
+}
+
+impl Canonical for Meridian<'_> {
+    ghost use Rattle.crs_value.specs.SoundFrames.{IsMeridian};
+    ghost use Rattle.crs_same.specs.SameFrames.{SameGiven};
+    ghost use Rattle.crs_normal.specs.PartSpellings.{IsSpelledMeridian};
+    ghost use Rattle.crs_normal.specs.PartTexts.{meridian_text};
+
+    ghost IsValue = { IsMeridian };
+
+    ghost Same = { SameGiven };
+
+    ghost IsSpelling = { IsSpelledMeridian };
+
+    ghost spelling = { meridian_text };
+
+    fn same(&self, other: &Self, level: Level) -> bool {
+        same_meridian(self, other, level)
+    }
+
+    fn write(&self, alloc: Global, level: Level, out: &mut Vec<u8>) -> Result<(), AllocError> {
+        let mut text = Vec::new(alloc);
+        write_given(&mut text, self, level)?;
+        append_argument(out, text.as_slice())
+    }
+
+    fn laws(&self) {
+        frame_parts_are_canonical();
+    }
+}
+
+impl Canonical for Member<'_> {
+    ghost use Rattle.crs_value.specs.SoundFrames.{IsMember};
+    ghost use Rattle.crs_same.specs.SameFrames.{SameMember};
+    ghost use Rattle.crs_normal.specs.PartSpellings.{IsSpelledMember};
+    ghost use Rattle.crs_normal.specs.PartTexts.{member_text};
+
+    ghost IsValue = { IsMember };
+
+    ghost Same = { SameMember };
+
+    ghost IsSpelling = { IsSpelledMember };
+
+    ghost spelling = { member_text };
+
+    fn same(&self, other: &Self, level: Level) -> bool {
+        same_member(self, other, level)
+    }
+
+    fn write(&self, alloc: Global, level: Level, out: &mut Vec<u8>) -> Result<(), AllocError> {
+        let mut text = Vec::new(alloc);
+        write_named(&mut text, b"MEMBER[\"", self.name, &self.ids, level)?;
+        out.extend_from_slice(text.as_slice())
+    }
+
+    fn laws(&self) {
+        frame_parts_are_canonical();
+    }
+}
+
+impl Canonical for Datum<'_> {
+    ghost use Rattle.crs_value.specs.SoundFrames.{IsDatum};
+    ghost use Rattle.crs_same.specs.SameFrames.{SameDatum};
+    ghost use Rattle.crs_normal.specs.PartSpellings.{IsSpelledDatum};
+    ghost use Rattle.crs_normal.specs.PartTexts.{datum_text};
+
+    ghost IsValue = { IsDatum };
+
+    ghost Same = { SameDatum };
+
+    ghost IsSpelling = { IsSpelledDatum };
+
+    ghost spelling = { datum_text };
+
+    fn same(&self, other: &Self, level: Level) -> bool {
+        same_datum(self, other, level)
+    }
+
+    fn write(&self, alloc: Global, level: Level, out: &mut Vec<u8>) -> Result<(), AllocError> {
+        let mut text = Vec::new(alloc);
+        write_own_datum(&mut text, self, level)?;
+        out.extend_from_slice(text.as_slice())
+    }
+
+    fn laws(&self) {
+        datums_are_canonical();
+    }
+}
+
+impl Canonical for Ensemble<'_> {
+    ghost use Rattle.crs_value.specs.SoundFrames.{IsEnsemble};
+    ghost use Rattle.crs_same.specs.SameFrames.{SameEnsemble};
+    ghost use Rattle.crs_normal.specs.PartSpellings.{IsSpelledEnsemble};
+    ghost use Rattle.crs_normal.specs.PartTexts.{ensemble_text};
+
+    ghost IsValue = { IsEnsemble };
+
+    ghost Same = { SameEnsemble };
+
+    ghost IsSpelling = { IsSpelledEnsemble };
+
+    ghost spelling = { ensemble_text };
+
+    fn same(&self, other: &Self, level: Level) -> bool {
+        same_ensemble(self, other, level)
+    }
+
+    fn write(&self, alloc: Global, level: Level, out: &mut Vec<u8>) -> Result<(), AllocError> {
+        let mut text = Vec::new(alloc);
+        write_ensemble(&mut text, self, level)?;
+        append_argument(out, text.as_slice())
+    }
+
+    fn laws(&self) {
+        datums_are_canonical();
+    }
+}
+
+impl Canonical for Frame<'_> {
+    ghost use Rattle.crs_same.specs.SameFrames.{SameFrame};
+    ghost use Rattle.crs_normal.specs.PartSpellings.{IsFrame, IsSpelledFrame};
+    ghost use Rattle.crs_normal.specs.PartTexts.{frame_text};
+
+    ghost IsValue = { IsFrame };
+
+    ghost Same = { SameFrame };
+
+    ghost IsSpelling = { IsSpelledFrame };
+
+    ghost spelling = { frame_text };
+
+    fn same(&self, other: &Self, level: Level) -> bool {
+        same_frame(self, other, level)
+    }
+
+    fn write(&self, alloc: Global, level: Level, out: &mut Vec<u8>) -> Result<(), AllocError> {
+        match self {
+            Frame::Datum(datum) => datum.write(alloc, level, out),
+            Frame::Ensemble(ensemble) => ensemble.write(alloc, level, out),
+        }
+    }
+
+    fn laws(&self) {
+        frames_are_canonical();
+    }
+}

@@ -1,0 +1,185 @@
+//! CRSs of each kind, base CRSs and the horizontal parts of compound CRSs by themselves.
+use crate::canonical::{Canonical, append_argument};
+use crate::spelling::crs::{
+    write_base, write_compound, write_geodetic, write_projected, write_vertical,
+};
+use crs_normal::laws::parts::{horizontals_are_canonical, kinds_are_canonical};
+use crs_same::parts::{
+    same_base, same_compound, same_geodetic, same_horizontal, same_projected, same_vertical,
+};
+use crs_value::{Base, Compound, Geodetic, Horizontal, Level, Projected, Vertical};
+use std::alloc::{AllocError, Global};
+
+impl Canonical for Base<'_> {
+    ghost use Rattle.crs_value.specs.SoundSingle.{IsBase};
+    ghost use Rattle.crs_same.specs.SameCrs.{SameBase};
+    ghost use Rattle.crs_normal.specs.PartSpellings.{IsSpelledBase};
+    ghost use Rattle.crs_normal.specs.PartTexts.{base_text};
+
+    ghost IsValue = { IsBase };
+
+    ghost Same = { SameBase };
+
+    ghost IsSpelling = { IsSpelledBase };
+
+    ghost spelling = { base_text };
+
+    fn same(&self, other: &Self, level: Level) -> bool {
+        same_base(self, other, level)
+    }
+
+    fn write(&self, alloc: Global, level: Level, out: &mut Vec<u8>) -> Result<(), AllocError> {
+        let mut text = Vec::new(alloc);
+        write_base(&mut text, self, level)?;
+        append_argument(out, text.as_slice())
+    }
+
+    fn laws(&self) {
+        kinds_are_canonical();
+    }
+}
+
+impl Canonical for Geodetic<'_> {
+    ghost use Rattle.crs_value.specs.SoundSingle.{IsGeodetic};
+    ghost use Rattle.crs_same.specs.SameCrs.{SameGeodetic};
+    ghost use Rattle.crs_normal.specs.PartSpellings.{IsSpelledGeodetic};
+    ghost use Rattle.crs_normal.specs.PartTexts.{geodetic_text};
+
+    ghost IsValue = { IsGeodetic };
+
+    ghost Same = { SameGeodetic };
+
+    ghost IsSpelling = { IsSpelledGeodetic };
+
+    ghost spelling = { geodetic_text };
+
+    fn same(&self, other: &Self, level: Level) -> bool {
+        same_geodetic(self, other, level)
+    }
+
+    fn write(&self, alloc: Global, level: Level, out: &mut Vec<u8>) -> Result<(), AllocError> {
+        let mut text = Vec::new(alloc);
+        write_geodetic(&mut text, self, level)?;
+        out.extend_from_slice(text.as_slice())
+    }
+
+    fn laws(&self) {
+        kinds_are_canonical();
+    }
+}
+
+impl Canonical for Projected<'_> {
+    ghost use Rattle.crs_value.specs.SoundSingle.{IsProjected};
+    ghost use Rattle.crs_same.specs.SameCrs.{SameProjected};
+    ghost use Rattle.crs_normal.specs.PartSpellings.{IsSpelledProjected};
+    ghost use Rattle.crs_normal.specs.PartTexts.{projected_text};
+
+    ghost IsValue = { IsProjected };
+
+    ghost Same = { SameProjected };
+
+    ghost IsSpelling = { IsSpelledProjected };
+
+    ghost spelling = { projected_text };
+
+    fn same(&self, other: &Self, level: Level) -> bool {
+        same_projected(self, other, level)
+    }
+
+    fn write(&self, alloc: Global, level: Level, out: &mut Vec<u8>) -> Result<(), AllocError> {
+        let mut text = Vec::new(alloc);
+        write_projected(&mut text, self, level)?;
+        out.extend_from_slice(text.as_slice())
+    }
+
+    fn laws(&self) {
+        kinds_are_canonical();
+    }
+}
+
+impl Canonical for Vertical<'_> {
+    ghost use Rattle.crs_value.specs.SoundSingle.{IsVertical};
+    ghost use Rattle.crs_same.specs.SameCrs.{SameVertical};
+    ghost use Rattle.crs_normal.specs.PartSpellings.{IsSpelledVertical};
+    ghost use Rattle.crs_normal.specs.PartTexts.{vertical_text};
+
+    ghost IsValue = { IsVertical };
+
+    ghost Same = { SameVertical };
+
+    ghost IsSpelling = { IsSpelledVertical };
+
+    ghost spelling = { vertical_text };
+
+    fn same(&self, other: &Self, level: Level) -> bool {
+        same_vertical(self, other, level)
+    }
+
+    fn write(&self, alloc: Global, level: Level, out: &mut Vec<u8>) -> Result<(), AllocError> {
+        let mut text = Vec::new(alloc);
+        write_vertical(&mut text, self, level)?;
+        out.extend_from_slice(text.as_slice())
+    }
+
+    fn laws(&self) {
+        kinds_are_canonical();
+    }
+}
+
+impl Canonical for Compound<'_> {
+    ghost use Rattle.crs_value.specs.SoundCompound.{IsCompound};
+    ghost use Rattle.crs_same.specs.SameCrs.{SameCompound};
+    ghost use Rattle.crs_normal.specs.PartSpellings.{IsSpelledCompound};
+    ghost use Rattle.crs_normal.specs.PartTexts.{compound_text};
+
+    ghost IsValue = { IsCompound };
+
+    ghost Same = { SameCompound };
+
+    ghost IsSpelling = { IsSpelledCompound };
+
+    ghost spelling = { compound_text };
+
+    fn same(&self, other: &Self, level: Level) -> bool {
+        same_compound(self, other, level)
+    }
+
+    fn write(&self, alloc: Global, level: Level, out: &mut Vec<u8>) -> Result<(), AllocError> {
+        let mut text = Vec::new(alloc);
+        write_compound(&mut text, self, level)?;
+        out.extend_from_slice(text.as_slice())
+    }
+
+    fn laws(&self) {
+        kinds_are_canonical();
+    }
+}
+
+impl Canonical for Horizontal<'_> {
+    ghost use Rattle.crs_same.specs.SameCrs.{SameHorizontal};
+    ghost use Rattle.crs_normal.specs.PartSpellings.{IsHorizontalPart, IsSpelledHorizontal};
+    ghost use Rattle.crs_normal.specs.PartTexts.{horizontal_text};
+
+    ghost IsValue = { IsHorizontalPart };
+
+    ghost Same = { SameHorizontal };
+
+    ghost IsSpelling = { IsSpelledHorizontal };
+
+    ghost spelling = { horizontal_text };
+
+    fn same(&self, other: &Self, level: Level) -> bool {
+        same_horizontal(self, other, level)
+    }
+
+    fn write(&self, alloc: Global, level: Level, out: &mut Vec<u8>) -> Result<(), AllocError> {
+        match self {
+            Horizontal::Geodetic(geodetic) => geodetic.write(alloc, level, out),
+            Horizontal::Projected(projected) => projected.write(alloc, level, out),
+        }
+    }
+
+    fn laws(&self) {
+        horizontals_are_canonical();
+    }
+}

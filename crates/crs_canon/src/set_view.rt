@@ -1,0 +1,138 @@
+//! Sets of nodes, which are views of slices.
+ghost use Rattle.std.specs.Prelude.{◌≡◌, ◌↔◌, ◌++◌, ℕ, IsTrue, List, map, MatchResult, OnOk};
+ghost use Rattle.crs_value.specs.declared.level.Level.{Level};
+ghost use Rattle.crs_same.specs.Sets.{AllHaveSame, HasSame, SameSet};
+ghost use Rattle.crs_normal.specs.Ordered.{in_order, put, put_all};
+ghost use Rattle.crs_canon.specs.Members.{commas, joined, set_spelling, spellings};
+
+use crate::canonical::Canonical;
+use crate::set::write_sorted;
+use crs_value::Level;
+use std::alloc::{AllocError, Global};
+use std::collections::BTreeSet;
+use std::marker::Model;
+
+/// Nodes as a set: their order doesn't count, nor how often one is there. Profile.
+pub struct Set<'s, T: Canonical> {
+    members: &'s [T],
+}
+
+impl<'s, T: Canonical> Model for Set<'s, T> {
+    ghost use Rattle.std.specs.Prelude as std;
+
+    ghost Value = { std.List T };
+
+    ghost view = { λ set. set.members.now };
+}
+
+impl<'s, T: Canonical> Set<'s, T> {
+    /// The set of these nodes.
+    pub fn of(members: &'s [T]) -> Set<'s, T>
+        ensures { result ≡ members.now }
+    {
+        Set { members }
+    }
+
+    /// Whether each member of either set has a same member in the other.
+    pub fn same(&self, other: &Set<'s, T>, level: Level) -> bool
+        ensures { IsTrue result ↔ SameSet (T.Same level) self.now other.now }
+    {
+        all_have_same(self.members, other.members, level)
+            && all_have_same(other.members, self.members, level)
+    }
+
+    /// Appends the spellings of the members, each once, in ascending order of their bytes, a comma between two; nothing
+    /// for an empty set.
+    ///
+    /// `AllocError`: there is no memory for it, and `out` is as before.
+    #[tactic(auto, unfolding(crate::specs::Members::set_spelling))]
+    pub fn write(&self, alloc: Global, level: Level, out: &mut Vec<u8>) -> Result<(), AllocError>
+        ensures { MatchResult result
+            (λ _. out.new.items ≡ out.old.items ++ set_spelling (map (T.spelling level) self.now))
+            (λ _. out.new.items ≡ out.old.items) }
+    {
+        let mut text = Vec::new(alloc);
+        write_members(alloc, &mut text, self.members, level)?;
+        append_members(out, text.as_slice())
+    }
+}
+
+fn has_same<T: Canonical>(member: &T, others: &[T], level: Level) -> bool
+    ensures { IsTrue result ↔ HasSame (T.Same level) member.now others.now }
+{
+    for other in others {
+        if member.same(other, level) {
+            return true;
+        }
+    }
+    false
+}
+
+fn all_have_same<T: Canonical>(members: &[T], others: &[T], level: Level) -> bool
+    ensures { IsTrue result ↔ AllHaveSame (T.Same level) members.now others.now }
+{
+    for member in members {
+        if !has_same(member, others, level) {
+            return false;
+        }
+    }
+    true
+}
+
+// Puts a member's spelling among the others.
+fn gather<T: Canonical>(
+    alloc: Global,
+    sorted: &mut BTreeSet<Vec<u8>>,
+    member: &T,
+    level: Level,
+) -> Result<(), AllocError>
+    ensures { OnOk result (spellings sorted.new.keys
+        ≡ put (λ b. b) (T.spelling level member.now) (spellings sorted.old.keys)) }
+{
+    let mut bytes = Vec::new(alloc);
+    member.write(alloc, level, &mut bytes)?;
+    sorted.insert(bytes)?;
+    Ok(())
+}
+
+fn gather_all<T: Canonical>(
+    alloc: Global,
+    sorted: &mut BTreeSet<Vec<u8>>,
+    members: &[T],
+    level: Level,
+) -> Result<(), AllocError>
+    ensures { OnOk result (spellings sorted.new.keys
+        ≡ put_all (λ b. b) (spellings sorted.old.keys) (map (T.spelling level) members.now)) }
+{
+    for member in members {
+        gather(alloc, sorted, member, level)?;
+    }
+    Ok(())
+}
+
+// A comma before each member.
+fn write_members<T: Canonical>(
+    alloc: Global,
+    out: &mut Vec<u8>,
+    members: &[T],
+    level: Level,
+) -> Result<(), AllocError>
+    ensures { OnOk result (out.new.items
+        ≡ out.old.items ++ commas (in_order (λ b. b) (map (T.spelling level) members.now))) }
+{
+    let mut sorted = BTreeSet::new(alloc);
+    gather_all(alloc, &mut sorted, members, level)?;
+    write_sorted(out, &sorted)
+}
+
+// Members with a comma before each, without the first comma.
+fn append_members(out: &mut Vec<u8>, text: &[u8]) -> Result<(), AllocError>
+    ensures { (members : List (List ℕ)) → text.now ≡ commas members → MatchResult result
+        (λ _. out.new.items ≡ out.old.items ++ joined members)
+        (λ _. out.new.items ≡ out.old.items) }
+{
+    match text {
+        [] => Ok(()),
+        [_, members @ ..] => out.extend_from_slice(members),
+    }
+}

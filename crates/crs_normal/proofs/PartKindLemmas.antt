@@ -1,0 +1,70 @@
+-- CRSs of each kind by themselves, and the horizontal parts of compound CRSs.
+use Rattle.std.proofs.Common.{◌≡◌, ◌↔◌}
+use Rattle.crs_shape.specs.declared.class.Class.{Class}
+use Rattle.crs_shape.specs.declared.class.Class.TheVariants as class
+use Rattle.crs_text.specs.Written.{item_text}
+use Rattle.crs_value.specs.CrsValues.{GeodeticParts}
+use Rattle.crs_value.specs.ReadsCrs.{IsGeodeticClass, ReadsGeodetic}
+use Rattle.crs_value.specs.SoundCrs.{IsCrs}
+use Rattle.crs_value.specs.SoundSingle.{IsGeodetic, IsProjected}
+use Rattle.crs_value.specs.declared.compound.Horizontal.{Horizontal}
+use Rattle.crs_value.specs.declared.compound.Horizontal.TheVariants as horizontal
+use Rattle.crs_value.specs.declared.crs.Crs.{Crs}
+use Rattle.crs_value.specs.declared.crs.Crs.TheVariants as crs
+use Rattle.crs_value.specs.declared.level.Level.{Level}
+use Rattle.crs_value.specs.declared.system_type.SystemType.{SystemType}
+use Rattle.crs_value.specs.declared.system_type.SystemType.TheVariants as types
+use Rattle.crs_same.specs.SameCrs.{SameCrs, SameGeodetic, SameHorizontal, SameProjected}
+use Rattle.crs_normal.specs.CanonicalForm.{IsCanonicalForm}
+use Rattle.crs_normal.specs.Decides.{FormDecides}
+use Rattle.crs_normal.specs.Made.{root_class}
+use Rattle.crs_normal.specs.OneForm.{IsItsFormUnbroken}
+use Rattle.crs_normal.specs.PartSpellings.{IsHorizontalPart, IsSpelledGeodetic, IsSpelledHorizontal, IsSpelledProjected}
+use Rattle.crs_normal.specs.PartTexts.{geodetic_text, horizontal_text, projected_text}
+use Rattle.crs_normal.specs.SpelledCrs.{item_crs, item_geodetic, norm_crs, norm_geodetic}
+
+pub is-geodetic : (t : SystemType) → IsGeodeticClass (root_class t)
+is-geodetic types.Cartesian = tt
+is-geodetic types.Ellipsoidal = tt
+is-geodetic types.Spherical = tt
+is-geodetic types.Vertical = tt
+
+abbrev IsOwnGeodetic : Level → Class → Type 0
+IsOwnGeodetic level c = IsItsFormUnbroken level c ReadsGeodetic (λ g. item_geodetic (norm_geodetic level g))
+
+pub own-geodetic : (level : Level) → IsOwnGeodetic level class.GeodeticCrs → IsOwnGeodetic level class.GeographicCrs →
+    (t : SystemType) → IsOwnGeodetic level (root_class t)
+own-geodetic level geodetic geographic types.Cartesian = geodetic
+own-geodetic level geodetic geographic types.Ellipsoidal = geographic
+own-geodetic level geodetic geographic types.Spherical = geodetic
+own-geodetic level geodetic geographic types.Vertical = geodetic
+
+-- texts of CRSs are equal exactly where the CRSs are the same
+abbrev pub TextsDecide : Level → Type 0
+TextsDecide level = (a b : Crs) → IsCrs a → IsCrs b →
+    (item_text (item_crs (norm_crs level a)) ≡ item_text (item_crs (norm_crs level b))) ↔ SameCrs level a b
+
+pub geodetic-told : (level : Level) → TextsDecide level →
+    FormDecides IsGeodetic (norm_geodetic level) (SameGeodetic level) →
+    (a b : GeodeticParts) → IsGeodetic a → IsGeodetic b → geodetic_text level a ≡ geodetic_text level b →
+    norm_geodetic level a ≡ norm_geodetic level b
+geodetic-told level decide forms a b p q e =
+    (forms a b p q).1 (((decide (crs.Geodetic a) (crs.Geodetic b) p q).0 e).parts)
+
+module _ (level : Level) (decide : TextsDecide level) (geodetics : IsCanonicalForm IsGeodetic (SameGeodetic level) (IsSpelledGeodetic level) (geodetic_text level)) (projecteds : IsCanonicalForm IsProjected (SameProjected level) (IsSpelledProjected level) (projected_text level)) where
+  horizontals-equal : (a b : Horizontal) → IsHorizontalPart a → IsHorizontalPart b →
+      (horizontal_text level a ≡ horizontal_text level b) ↔ SameHorizontal level a b
+  horizontals-equal (horizontal.Geodetic a) (horizontal.Geodetic b) p q = geodetics.equal_bytes a b p q
+  horizontals-equal (horizontal.Geodetic a) (horizontal.Projected b) p q =
+      (λ e. ((decide (crs.Geodetic a) (crs.Projected b) p q).0 e).parts, λ none. absurd none)
+  horizontals-equal (horizontal.Projected a) (horizontal.Geodetic b) p q =
+      (λ e. ((decide (crs.Projected a) (crs.Geodetic b) p q).0 e).parts, λ none. absurd none)
+  horizontals-equal (horizontal.Projected a) (horizontal.Projected b) p q = projecteds.equal_bytes a b p q
+
+  pub horizontals-canonical : IsCanonicalForm IsHorizontalPart (SameHorizontal level) (IsSpelledHorizontal level) (horizontal_text level)
+  horizontals-canonical = record {
+    spelled = elim [ horizontal.Geodetic g ↦ λ s. geodetics.spelled g s | horizontal.Projected p ↦ λ s. projecteds.spelled p s ];
+    one = elim [ horizontal.Geodetic g ↦ λ bytes s h. geodetics.one g bytes s h | horizontal.Projected p ↦ λ bytes s h. projecteds.one p bytes s h ];
+    equal_bytes = horizontals-equal;
+    closed = elim [ horizontal.Geodetic g ↦ λ s. geodetics.closed g s | horizontal.Projected p ↦ λ s. projecteds.closed p s ];
+  }

@@ -1,0 +1,45 @@
+-- Units by themselves: their classes, and the names within these.
+use Rattle.std.proofs.Common.{◌≡◌, refl, codes, Some}
+use Rattle.crs_shape.specs.declared.class.Class.{Class}
+use Rattle.crs_shape.specs.declared.class.Class.TheVariants as class
+use Rattle.crs_shape.specs.Keywords.{is_keyword}
+use Rattle.crs_shape.specs.Slots.{class_named}
+use Rattle.crs_value.specs.Reads.{IsUnitClass, ReadsUnit}
+use Rattle.crs_value.specs.declared.level.Level.{Level}
+use Rattle.crs_value.specs.declared.unit_kind.UnitKind.{UnitKind}
+use Rattle.crs_value.specs.declared.unit_kind.UnitKind.TheVariants as kinds
+use Rattle.crs_same.specs.SameUnits.{kind_as}
+use Rattle.crs_normal.specs.Made.{IsKindIn}
+use Rattle.crs_normal.specs.OneForm.{IsItsForm}
+use Rattle.crs_normal.specs.PartSpellings.{unit_class}
+use Rattle.crs_normal.specs.SpelledUnits.{item_unit, norm_unit}
+
+pub kind-in : (kind : UnitKind) → IsKindIn (unit_class kind) (kind_as kinds.Plain kind)
+kind-in kinds.Length = refl
+kind-in kinds.Angle = refl
+kind-in kinds.Scale = refl
+kind-in kinds.Plain = refl
+
+pub names-id : (kind : UnitKind) → class_named (unit_class kind) (codes "ID") ≡ Some class.Identifier
+unfolding class_named is_keyword
+names-id kinds.Length = refl
+names-id kinds.Angle = refl
+names-id kinds.Scale = refl
+names-id kinds.Plain = refl
+
+pub is-unit_class : (kind : UnitKind) → IsUnitClass (unit_class kind)
+is-unit_class kinds.Length = tt
+is-unit_class kinds.Angle = tt
+is-unit_class kinds.Scale = tt
+is-unit_class kinds.Plain = tt
+
+abbrev IsOwnUnit : Level → Class → Type 0
+IsOwnUnit level c = IsItsForm level c ReadsUnit (λ u. item_unit (norm_unit level kinds.Plain u))
+
+pub own-unit : (level : Level) → IsOwnUnit level class.LengthUnit → IsOwnUnit level class.AngleUnit →
+    IsOwnUnit level class.ScaleUnit → IsOwnUnit level class.PlainUnit → (kind : UnitKind) →
+    IsOwnUnit level (unit_class kind)
+own-unit level l a s p kinds.Length = l
+own-unit level l a s p kinds.Angle = a
+own-unit level l a s p kinds.Scale = s
+own-unit level l a s p kinds.Plain = p

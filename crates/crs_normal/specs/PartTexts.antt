@@ -1,0 +1,118 @@
+-- A bridge: the texts of nodes that stand by themselves.
+use Rattle.std.specs.Prelude.{ℕ, List, Option, Some, None, codes}
+use Rattle.crs_text.specs.Items.{Item}
+use Rattle.crs_text.specs.Written.{item_text}
+use Rattle.crs_value.specs.CompoundValues.{CompoundParts}
+use Rattle.crs_value.specs.ConversionValues.{ConversionParts, GeoidModelParts, MethodParts, ParameterParts}
+use Rattle.crs_value.specs.CrsValues.{BaseParts, GeodeticParts, ProjectedParts, VerticalParts}
+use Rattle.crs_value.specs.Values.{AxisMeridianParts, AxisParts, BoxParts, DatumParts, EllipsoidParts, EnsembleParts, ExtentParts, IdentParts, MemberParts, MeridianParts, UnitParts, UsageParts}
+use Rattle.crs_value.specs.declared.compound.Horizontal.{Horizontal}
+use Rattle.crs_value.specs.declared.frame.Frame.{Frame}
+use Rattle.crs_value.specs.declared.frame.Frame.TheVariants as frame
+use Rattle.crs_value.specs.declared.level.Level.{Level}
+use Rattle.crs_value.specs.declared.unit_kind.UnitKind.TheVariants as kinds
+use Rattle.crs_normal.specs.SpelledConversions.{item_conversion, item_geoid_model, item_method, item_parameter, norm_conversion, norm_geoid_model, norm_method, norm_parameter}
+use Rattle.crs_normal.specs.SpelledCrs.{item_base, item_compound, item_geodetic, item_horizontal, item_projected, item_vertical, norm_base, norm_compound, norm_geodetic, norm_horizontal, norm_projected, norm_vertical}
+use Rattle.crs_normal.specs.SpelledFrames.{item_datum, item_ellipsoid, item_ensemble, item_member, item_meridian, norm_datum, norm_ellipsoid, norm_ensemble, norm_given, norm_member}
+use Rattle.crs_normal.specs.SpelledSystems.{item_axis, item_axis_meridian, norm_axis_meridian, norm_axis_meridians}
+use Rattle.crs_normal.specs.SpelledUnits.{item_ident, item_unit, norm_unit, norm_units, set_idents}
+use Rattle.crs_normal.specs.SpelledUsages.{item_box, item_extent, item_usage, norm_extent, norm_usage}
+
+-- an identifier by itself is written alike at every level
+abbrev pub ident_text : Level → IdentParts → List ℕ
+ident_text level x = item_text (item_ident x)
+
+-- `UNIT` is a kind of its own
+abbrev pub unit_text : Level → UnitParts → List ℕ
+unit_text level x = item_text (item_unit (norm_unit level kinds.Plain x))
+
+abbrev pub axis_meridian_text : Level → AxisMeridianParts → List ℕ
+axis_meridian_text level x = item_text (item_axis_meridian (norm_axis_meridian level x))
+
+-- with its own order and unit
+abbrev pub norm_axis_alone : Level → AxisParts → AxisParts
+norm_axis_alone level x = record {
+  name = x.name;
+  direction = x.direction;
+  meridian = norm_axis_meridians level x.meridian;
+  order = x.order;
+  unit = norm_units level kinds.Plain x.unit;
+  ids = set_idents level x.ids;
+}
+
+abbrev pub axis_text : Level → AxisParts → List ℕ
+axis_text level x = item_text (item_axis (norm_axis_alone level x))
+
+-- ---- frames
+
+abbrev pub ellipsoid_text : Level → EllipsoidParts → List ℕ
+ellipsoid_text level x = item_text (item_ellipsoid (norm_ellipsoid level x))
+
+abbrev pub meridian_text : Level → MeridianParts → List ℕ
+meridian_text level x = item_text (item_meridian (norm_given level x))
+
+abbrev pub member_text : Level → MemberParts → List ℕ
+member_text level x = item_text (item_member (norm_member level x))
+
+-- a reference frame with an ellipsoid is geodetic, one without vertical
+abbrev pub datum_keyword : Option EllipsoidParts → List ℕ
+datum_keyword None = codes "VDATUM"
+datum_keyword (Some ellipsoid) = codes "DATUM"
+
+abbrev pub item_own_datum : DatumParts → Item
+item_own_datum x = item_datum (datum_keyword x.ellipsoid) x
+
+abbrev pub datum_text : Level → DatumParts → List ℕ
+datum_text level x = item_text (item_own_datum (norm_datum level x))
+
+abbrev pub ensemble_text : Level → EnsembleParts → List ℕ
+ensemble_text level x = item_text (item_ensemble (norm_ensemble level x))
+
+abbrev pub frame_text : Level → Frame → List ℕ
+frame_text level (frame.Datum x) = datum_text level x
+frame_text level (frame.Ensemble x) = ensemble_text level x
+
+-- ---- conversions and geoid models
+
+abbrev pub method_text : Level → MethodParts → List ℕ
+method_text level x = item_text (item_method (norm_method level x))
+
+abbrev pub parameter_text : Level → ParameterParts → List ℕ
+parameter_text level x = item_text (item_parameter (norm_parameter level x))
+
+abbrev pub conversion_text : Level → ConversionParts → List ℕ
+conversion_text level x = item_text (item_conversion (norm_conversion level x))
+
+abbrev pub geoid_model_text : Level → GeoidModelParts → List ℕ
+geoid_model_text level x = item_text (item_geoid_model (norm_geoid_model level x))
+
+-- ---- usages: alike at every level
+
+abbrev pub box_text : Level → BoxParts → List ℕ
+box_text level x = item_text (item_box x)
+
+abbrev pub extent_text : Level → ExtentParts → List ℕ
+extent_text level x = item_text (item_extent (norm_extent level x))
+
+abbrev pub usage_text : Level → UsageParts → List ℕ
+usage_text level x = item_text (item_usage (norm_usage x))
+
+-- ---- CRSs of each kind, and base CRSs
+
+abbrev pub base_text : Level → BaseParts → List ℕ
+base_text level x = item_text (item_base (norm_base level x))
+
+abbrev pub geodetic_text : Level → GeodeticParts → List ℕ
+geodetic_text level x = item_text (item_geodetic (norm_geodetic level x))
+
+abbrev pub projected_text : Level → ProjectedParts → List ℕ
+projected_text level x = item_text (item_projected (norm_projected level x))
+
+abbrev pub vertical_text : Level → VerticalParts → List ℕ
+vertical_text level x = item_text (item_vertical (norm_vertical level x))
+
+abbrev pub horizontal_text : Level → Horizontal → List ℕ
+horizontal_text level x = item_text (item_horizontal (norm_horizontal level x))
+
+abbrev pub compound_text : Level → CompoundParts → List ℕ
+compound_text level x = item_text (item_compound (norm_compound level x))

@@ -1,0 +1,258 @@
+//! Nodes that stand by themselves: each has one spelling, and spellings are equal exactly where the nodes are the same.
+ghost use Rattle.std.specs.Prelude.{◌≡◌, ◌++◌, [], ℕ, List};
+ghost use Rattle.crs_text.specs.Items.{Item, IsNode};
+ghost use Rattle.crs_text.specs.Written.{AreFormed, item_text};
+ghost use Rattle.crs_value.specs.Sound.{IsAxis, IsAxisMeridian, IsIdent, IsUnit};
+ghost use Rattle.crs_value.specs.SoundCompound.{IsCompound};
+ghost use Rattle.crs_value.specs.SoundConversion.{IsConversion, IsGeoidModel, IsMethod, IsParameter};
+ghost use Rattle.crs_value.specs.SoundFrames.{IsDatum, IsEllipsoid, IsEnsemble, IsMember, IsMeridian};
+ghost use Rattle.crs_value.specs.SoundSingle.{IsBase, IsGeodetic, IsProjected, IsVertical};
+ghost use Rattle.crs_value.specs.SoundUsages.{IsBox, IsExtent, IsUsage};
+ghost use Rattle.crs_value.specs.declared.level.Level.{Level};
+ghost use Rattle.crs_value.specs.declared.unit_kind.UnitKind.TheVariants as kinds;
+ghost use Rattle.crs_same.specs.SameConversions.{SameConversion, SameGeoidModel, SameMethod, SameParameter};
+ghost use Rattle.crs_same.specs.SameCrs.{SameBase, SameCompound, SameGeodetic, SameHorizontal, SameProjected, SameVertical};
+ghost use Rattle.crs_same.specs.SameFrames.{SameDatum, SameEllipsoid, SameEnsemble, SameFrame, SameGiven, SameMember};
+ghost use Rattle.crs_same.specs.SameIdents.{SameIdent};
+ghost use Rattle.crs_same.specs.SameSystems.{SameAxisAlone, SameAxisMeridian};
+ghost use Rattle.crs_same.specs.SameUnits.{SameUnit};
+ghost use Rattle.crs_same.specs.SameUsages.{SameBox, SameExtent, SameUsage};
+ghost use Rattle.crs_normal.specs.AxisAlone.{IsSpelledAxis};
+ghost use Rattle.crs_normal.specs.CanonicalForm.{IsCanonicalForm};
+ghost use Rattle.crs_normal.specs.Closed.{IsClosed};
+ghost use Rattle.crs_normal.specs.PartSpellings.{IsFrame, IsHorizontalPart, IsSpelledAxisMeridian, IsSpelledBase, IsSpelledBox, IsSpelledCompound, IsSpelledConversion, IsSpelledDatum, IsSpelledEllipsoid, IsSpelledEnsemble, IsSpelledExtent, IsSpelledFrame, IsSpelledGeodetic, IsSpelledGeoidModel, IsSpelledHorizontal, IsSpelledIdent, IsSpelledMember, IsSpelledMeridian, IsSpelledMethod, IsSpelledParameter, IsSpelledProjected, IsSpelledUnit, IsSpelledUsage, IsSpelledVertical};
+ghost use Rattle.crs_normal.specs.PartTexts.{axis_meridian_text, axis_text, base_text, box_text, compound_text, conversion_text, datum_text, ellipsoid_text, ensemble_text, extent_text, frame_text, geodetic_text, geoid_model_text, horizontal_text, ident_text, member_text, meridian_text, method_text, parameter_text, projected_text, unit_text, usage_text, vertical_text};
+
+use crate::laws::made::{
+    decimal_laws, made_axis_meridian_is_normal, made_base_is_normal, made_box_is_normal,
+    made_compound_is_normal, made_conversion_is_normal, made_ellipsoid_is_normal,
+    made_extent_is_normal, made_geodetic_frame_is_normal, made_geodetic_is_normal,
+    made_geoid_model_is_normal, made_identifier_is_normal, made_member_is_normal,
+    made_meridian_is_normal, made_method_is_normal, made_parameter_is_normal,
+    made_projected_is_normal, made_unit_is_normal, made_usage_is_normal,
+    made_vertical_frame_is_normal, made_vertical_is_normal,
+};
+use crate::laws::normal::{
+    normal_axis_is_its_form, normal_base_is_its_form, normal_conversion_is_its_form,
+    normal_crs_is_its_form, normal_ellipsoid_is_its_form, normal_frame_is_its_form,
+    normal_geoid_model_is_its_form, normal_identifier_is_its_form, normal_member_is_its_form,
+    normal_meridian_is_its_form, normal_method_is_its_form, normal_parameter_is_its_form,
+    normal_unit_is_its_form, normal_usage_is_its_form,
+};
+use crate::laws::read::{crs_is_read_back, crs_parts_are_read_back, frame_parts_are_read_back};
+use crate::laws::sets::{member_texts_tell_members, members_are_read_back, text_laws};
+use crate::laws::texts::written_forms_are_equal_where_same;
+use crate::laws::values::{
+    same_conversions_have_one_form, same_frames_have_one_form, same_kinds_have_one_form,
+    same_systems_have_one_form, same_tails_have_one_form, same_units_have_one_form,
+};
+use crs_text::laws::written_items;
+use crs_value::laws::members_read_once;
+use crs_value::laws::parts::{kinds_are_sound, parts_are_sound, parts_read_once};
+
+/// The written text of a well-formed node is closed, and no closed text is the front of another. Profile.
+pub fn closed_texts()
+    ensures node { (item : Item) → AreFormed item → IsNode item → IsClosed (item_text item) }
+    ensures front { (bytes more : List ℕ) → IsClosed bytes → IsClosed (bytes ++ more) → more ≡ [] }
+{}
+
+/// The spelling of an identifier that stands by itself is normal, one, and closed, and tells which are the same. Profile.
+pub fn identifiers_are_canonical()
+    ensures { (level : Level) → IsCanonicalForm IsIdent SameIdent (IsSpelledIdent level) (ident_text level) }
+{
+    made_identifier_is_normal();
+    normal_identifier_is_its_form();
+    members_are_read_back();
+    member_texts_tell_members();
+    text_laws();
+    written_items();
+    parts_are_sound();
+}
+
+/// So is that of a unit, of which `UNIT` is a kind of its own. Profile.
+pub fn units_are_canonical()
+    ensures { (level : Level) → IsCanonicalForm IsUnit (SameUnit kinds.Plain level) (IsSpelledUnit level) (unit_text level) }
+{
+    made_unit_is_normal();
+    normal_unit_is_its_form();
+    members_are_read_back();
+    member_texts_tell_members();
+    same_units_have_one_form();
+    text_laws();
+    written_items();
+    parts_are_sound();
+}
+
+/// So are those of ellipsoids, prime meridians, members of ensembles and the meridians of axes. Profile.
+pub fn frame_parts_are_canonical()
+    ensures ellipsoid { (level : Level) →
+        IsCanonicalForm IsEllipsoid (SameEllipsoid level) (IsSpelledEllipsoid level) (ellipsoid_text level) }
+    ensures meridian { (level : Level) →
+        IsCanonicalForm IsMeridian (SameGiven level) (IsSpelledMeridian level) (meridian_text level) }
+    ensures member { (level : Level) →
+        IsCanonicalForm IsMember (SameMember level) (IsSpelledMember level) (member_text level) }
+    ensures along { (level : Level) →
+        IsCanonicalForm IsAxisMeridian (SameAxisMeridian level) (IsSpelledAxisMeridian level) (axis_meridian_text level) }
+{
+    made_ellipsoid_is_normal();
+    made_meridian_is_normal();
+    made_member_is_normal();
+    made_axis_meridian_is_normal();
+    frame_parts_are_read_back();
+    crs_parts_are_read_back();
+    members_are_read_back();
+    normal_ellipsoid_is_its_form();
+    normal_meridian_is_its_form();
+    normal_member_is_its_form();
+    normal_axis_is_its_form();
+    same_frames_have_one_form();
+    same_systems_have_one_form();
+    members_read_once();
+    parts_read_once();
+    parts_are_sound();
+    text_laws();
+    written_items();
+}
+
+/// So are those of axes with their own orders and units, of which `UNIT` is a kind of its own. Profile.
+pub fn axes_are_canonical()
+    ensures { (level : Level) →
+        IsCanonicalForm IsAxis (SameAxisAlone level) (IsSpelledAxis level) (axis_text level) }
+{
+    decimal_laws();
+    crs_parts_are_read_back();
+    normal_axis_is_its_form();
+    same_systems_have_one_form();
+    parts_read_once();
+    parts_are_sound();
+    text_laws();
+    written_items();
+}
+
+/// So are those of conversions, their methods and parameters, and geoid models. Profile.
+pub fn conversions_are_canonical()
+    ensures method { (level : Level) →
+        IsCanonicalForm IsMethod (SameMethod level) (IsSpelledMethod level) (method_text level) }
+    ensures parameter { (level : Level) →
+        IsCanonicalForm IsParameter (SameParameter level) (IsSpelledParameter level) (parameter_text level) }
+    ensures conversion { (level : Level) →
+        IsCanonicalForm IsConversion (SameConversion level) (IsSpelledConversion level) (conversion_text level) }
+    ensures geoid_model { (level : Level) →
+        IsCanonicalForm IsGeoidModel (SameGeoidModel level) (IsSpelledGeoidModel level) (geoid_model_text level) }
+{
+    made_method_is_normal();
+    made_parameter_is_normal();
+    made_conversion_is_normal();
+    made_geoid_model_is_normal();
+    crs_parts_are_read_back();
+    members_are_read_back();
+    normal_method_is_its_form();
+    normal_parameter_is_its_form();
+    normal_conversion_is_its_form();
+    normal_geoid_model_is_its_form();
+    same_conversions_have_one_form();
+    members_read_once();
+    parts_read_once();
+    parts_are_sound();
+    text_laws();
+    written_items();
+}
+
+/// So are those of boxes and extents. Profile.
+pub fn extents_are_canonical()
+    ensures bounding_box { (level : Level) →
+        IsCanonicalForm IsBox SameBox (IsSpelledBox level) (box_text level) }
+    ensures extent { (level : Level) →
+        IsCanonicalForm IsExtent (SameExtent level) (IsSpelledExtent level) (extent_text level) }
+{
+    made_box_is_normal();
+    made_extent_is_normal();
+    members_are_read_back();
+    normal_usage_is_its_form();
+    same_tails_have_one_form();
+    members_read_once();
+    parts_read_once();
+    parts_are_sound();
+    text_laws();
+    written_items();
+}
+
+/// So are those of usages; a usage is written alike at every level. Profile.
+pub fn usages_are_canonical()
+    ensures { (level : Level) →
+        IsCanonicalForm IsUsage SameUsage (IsSpelledUsage level) (usage_text level) }
+{
+    made_usage_is_normal();
+    members_are_read_back();
+    normal_usage_is_its_form();
+    same_tails_have_one_form();
+    members_read_once();
+    parts_are_sound();
+    text_laws();
+    written_items();
+}
+
+/// So are those of reference frames and ensembles: geodetic ones where they have an ellipsoid, else vertical ones. Profile.
+pub fn datums_are_canonical()
+    ensures datum { (level : Level) →
+        IsCanonicalForm IsDatum (SameDatum level) (IsSpelledDatum level) (datum_text level) }
+    ensures ensemble { (level : Level) →
+        IsCanonicalForm IsEnsemble (SameEnsemble level) (IsSpelledEnsemble level) (ensemble_text level) }
+{
+    made_geodetic_frame_is_normal();
+    made_vertical_frame_is_normal();
+    normal_frame_is_its_form();
+    same_frames_have_one_form();
+    parts_read_once();
+    parts_are_sound();
+    text_laws();
+    written_items();
+}
+
+/// So are those of frames of either kind. Profile.
+pub fn frames_are_canonical()
+    ensures { (level : Level) →
+        IsCanonicalForm IsFrame (SameFrame level) (IsSpelledFrame level) (frame_text level) }
+{
+    datums_are_canonical();
+}
+
+/// So are those of geodetic, projected, vertical and compound CRSs, and of base CRSs. Profile.
+pub fn kinds_are_canonical()
+    ensures base { (level : Level) →
+        IsCanonicalForm IsBase (SameBase level) (IsSpelledBase level) (base_text level) }
+    ensures geodetic { (level : Level) →
+        IsCanonicalForm IsGeodetic (SameGeodetic level) (IsSpelledGeodetic level) (geodetic_text level) }
+    ensures projected { (level : Level) →
+        IsCanonicalForm IsProjected (SameProjected level) (IsSpelledProjected level) (projected_text level) }
+    ensures vertical { (level : Level) →
+        IsCanonicalForm IsVertical (SameVertical level) (IsSpelledVertical level) (vertical_text level) }
+    ensures compound { (level : Level) →
+        IsCanonicalForm IsCompound (SameCompound level) (IsSpelledCompound level) (compound_text level) }
+{
+    made_base_is_normal();
+    made_geodetic_is_normal();
+    made_projected_is_normal();
+    made_vertical_is_normal();
+    made_compound_is_normal();
+    crs_parts_are_read_back();
+    crs_is_read_back();
+    normal_base_is_its_form();
+    normal_crs_is_its_form();
+    same_kinds_have_one_form();
+    written_forms_are_equal_where_same();
+    parts_read_once();
+    parts_are_sound();
+    kinds_are_sound();
+    text_laws();
+    written_items();
+}
+
+/// So are those of the horizontal parts of compound CRSs. Profile.
+pub fn horizontals_are_canonical()
+    ensures { (level : Level) →
+        IsCanonicalForm IsHorizontalPart (SameHorizontal level) (IsSpelledHorizontal level) (horizontal_text level) }
+{
+    kinds_are_canonical();
+    written_forms_are_equal_where_same();
+}

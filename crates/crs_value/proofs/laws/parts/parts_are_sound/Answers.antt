@@ -1,0 +1,79 @@
+use Rattle.std.proofs.Common.{refl, arith}
+use Rattle.crs_shape.specs.declared.class.Class.TheVariants as class
+use Rattle.crs_value.proofs.SoundAxisLemmas.{axis-meridian-tells, axis-tells}
+use Rattle.crs_value.proofs.SoundConversionLemmas.{conversion-tells, geoid-model-tells, method-tells, parameter-tells}
+use Rattle.crs_value.proofs.SoundCrsLemmas.{base-tells, has-ellipsoid, no-ellipsoid}
+use Rattle.crs_value.proofs.SoundFrameLemmas.{datum-tells, ellipsoid-tells, ensemble-tells, member-tells, meridian-tells}
+use Rattle.crs_value.proofs.SoundLemmas.{ident-tells, unit-tells}
+use Rattle.crs_value.proofs.SoundUsageLemmas.{box-tells, extent-tells, says-some, usage-tells}
+use Rattle.crs_value.proofs.laws.parts.parts_are_sound.Goals as goal
+
+pub returns-clause-ident : goal.returns-clause-ident
+returns-clause-ident c = ident-tells
+
+pub returns-clause-unit : goal.returns-clause-unit
+returns-clause-unit c = unit-tells
+
+pub returns-clause-along : goal.returns-clause-along
+returns-clause-along c = axis-meridian-tells
+
+pub returns-clause-axis : goal.returns-clause-axis
+returns-clause-axis c = axis-tells
+
+pub returns-clause-ellipsoid : goal.returns-clause-ellipsoid
+returns-clause-ellipsoid c = ellipsoid-tells class.Ellipsoid refl
+
+pub returns-clause-meridian : goal.returns-clause-meridian
+returns-clause-meridian c = meridian-tells
+
+pub returns-clause-member : goal.returns-clause-member
+returns-clause-member c = member-tells
+
+pub returns-clause-datum : goal.returns-clause-datum
+returns-clause-datum c item value s r = (
+  datum-tells class.GeodeticFrame item value s r,
+  has-ellipsoid c.slots_count.ensures.least class.GeodeticFrame item value.ellipsoid (omega arith) s r.ellipsoid,
+)
+
+pub returns-clause-vertical_datum : goal.returns-clause-vertical_datum
+returns-clause-vertical_datum c item value s r = (
+  datum-tells class.VerticalFrame item value s r,
+  no-ellipsoid c.slots_count.ensures.most class.VerticalFrame item value.ellipsoid refl refl s r.ellipsoid,
+)
+
+pub returns-clause-ensemble : goal.returns-clause-ensemble
+returns-clause-ensemble c item value s r = (
+  ensemble-tells c.slots_count.ensures.least class.GeodeticEnsemble (omega arith) item value s r,
+  has-ellipsoid c.slots_count.ensures.least class.GeodeticEnsemble item value.ellipsoid (omega arith) s r.ellipsoid,
+)
+
+pub returns-clause-vertical_ensemble : goal.returns-clause-vertical_ensemble
+returns-clause-vertical_ensemble c item value s r = (
+  ensemble-tells c.slots_count.ensures.least class.VerticalEnsemble (omega arith) item value s r,
+  no-ellipsoid c.slots_count.ensures.most class.VerticalEnsemble item value.ellipsoid refl refl s r.ellipsoid,
+)
+
+pub returns-clause-bounding_box : goal.returns-clause-bounding_box
+returns-clause-bounding_box c = box-tells
+
+pub returns-clause-extent : goal.returns-clause-extent
+returns-clause-extent c = extent-tells
+
+pub returns-clause-method : goal.returns-clause-method
+returns-clause-method c = method-tells
+
+pub returns-clause-parameter : goal.returns-clause-parameter
+returns-clause-parameter c = parameter-tells
+
+pub returns-clause-conversion : goal.returns-clause-conversion
+returns-clause-conversion c = conversion-tells
+
+pub returns-clause-geoid_model : goal.returns-clause-geoid_model
+returns-clause-geoid_model c = geoid-model-tells
+
+pub returns-clause-base : goal.returns-clause-base
+returns-clause-base c = base-tells c.slots_count.ensures.least
+
+pub returns-clause-usage : goal.returns-clause-usage
+returns-clause-usage c item value s r =
+    usage-tells class.Usage item value s r (says-some c.slots_count.ensures.most item value s r)

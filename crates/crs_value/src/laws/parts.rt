@@ -1,0 +1,75 @@
+//! Laws of the nodes within a CRS: an item is read as one value at most, and a sound one as a value that is all that is
+//! asked of its kind.
+ghost use Rattle.crs_shape.specs.declared.class.Class.{Class};
+ghost use Rattle.crs_shape.specs.declared.class.Class.TheVariants as class;
+ghost use Rattle.crs_value.specs.Reads.{IsUnitClass, ReadsAxis, ReadsAxisMeridian, ReadsBox, ReadsDatum, ReadsEllipsoid, ReadsEnsemble, ReadsExtent, ReadsIdent, ReadsMember, ReadsMeridian, ReadsUnit, ReadsUsage};
+ghost use Rattle.crs_value.specs.ReadsConversion.{ReadsConversion, ReadsGeoidModel, ReadsMethod, ReadsParameter};
+ghost use Rattle.crs_value.specs.ReadsCrs.{IsGeodeticClass, ReadsBase, ReadsCompound, ReadsGeodetic, ReadsProjected, ReadsVertical};
+ghost use Rattle.crs_value.specs.Sound.{IsAxis, IsAxisMeridian, IsIdent, IsUnit};
+ghost use Rattle.crs_value.specs.SoundCompound.{IsCompound};
+ghost use Rattle.crs_value.specs.SoundConversion.{IsConversion, IsGeoidModel, IsMethod, IsParameter};
+ghost use Rattle.crs_value.specs.SoundFrames.{IsEllipsoid, IsMember, IsMeridian};
+ghost use Rattle.crs_value.specs.SoundSingle.{IsBase, IsGeodetic, IsGeodeticFrame, IsProjected, IsVertical, IsVerticalFrame};
+ghost use Rattle.crs_value.specs.SoundUsages.{IsBox, IsExtent, IsUsage};
+ghost use Rattle.crs_value.specs.declared.frame.Frame.TheVariants as frame;
+ghost use Rattle.crs_value.specs.Told.{IsReadAs, IsReadOnce};
+
+use crs_decimal::laws::denotes_one;
+use crs_shape::laws::slots_count;
+
+/// An item is read as one axis at most, of whatever class it is; likewise the other nodes that aren't members of sets.
+/// Profile.
+pub fn parts_read_once()
+    ensures along { IsReadOnce ReadsAxisMeridian }
+    ensures axis { IsReadOnce ReadsAxis }
+    ensures ellipsoid { IsReadOnce ReadsEllipsoid }
+    ensures meridian { IsReadOnce ReadsMeridian }
+    ensures datum { IsReadOnce ReadsDatum }
+    ensures ensemble { IsReadOnce ReadsEnsemble }
+    ensures bounding_box { IsReadOnce ReadsBox }
+    ensures method { IsReadOnce ReadsMethod }
+    ensures conversion { IsReadOnce ReadsConversion }
+    ensures base { IsReadOnce ReadsBase }
+    ensures geodetic { IsReadOnce ReadsGeodetic }
+    ensures projected { IsReadOnce ReadsProjected }
+    ensures vertical { IsReadOnce ReadsVertical }
+    ensures compound { IsReadOnce ReadsCompound }
+{
+    denotes_one();
+}
+
+/// What is read from a well-formed identifier of the right shape that breaks no check is all that is asked of an
+/// identifier; likewise the other nodes within a CRS. Profile.
+pub fn parts_are_sound()
+    ensures ident { (c : Class) → IsReadAs ReadsIdent IsIdent c }
+    ensures unit { (c : Class) → IsUnitClass c → IsReadAs ReadsUnit IsUnit c }
+    ensures along { (c : Class) → IsReadAs ReadsAxisMeridian IsAxisMeridian c }
+    ensures axis { (c : Class) → IsReadAs ReadsAxis IsAxis c }
+    ensures ellipsoid { IsReadAs ReadsEllipsoid IsEllipsoid class.Ellipsoid }
+    ensures meridian { (c : Class) → IsReadAs ReadsMeridian IsMeridian c }
+    ensures member { (c : Class) → IsReadAs ReadsMember IsMember c }
+    ensures datum { IsReadAs ReadsDatum (λ d. IsGeodeticFrame (frame.Datum d)) class.GeodeticFrame }
+    ensures vertical_datum { IsReadAs ReadsDatum (λ d. IsVerticalFrame (frame.Datum d)) class.VerticalFrame }
+    ensures ensemble { IsReadAs ReadsEnsemble (λ e. IsGeodeticFrame (frame.Ensemble e)) class.GeodeticEnsemble }
+    ensures vertical_ensemble { IsReadAs ReadsEnsemble (λ e. IsVerticalFrame (frame.Ensemble e)) class.VerticalEnsemble }
+    ensures bounding_box { (c : Class) → IsReadAs ReadsBox IsBox c }
+    ensures extent { (c : Class) → IsReadAs ReadsExtent IsExtent c }
+    ensures usage { IsReadAs ReadsUsage IsUsage class.Usage }
+    ensures method { (c : Class) → IsReadAs ReadsMethod IsMethod c }
+    ensures parameter { (c : Class) → IsReadAs ReadsParameter IsParameter c }
+    ensures conversion { (c : Class) → IsReadAs ReadsConversion IsConversion c }
+    ensures geoid_model { (c : Class) → IsReadAs ReadsGeoidModel IsGeoidModel c }
+    ensures base { (c : Class) → IsReadAs ReadsBase IsBase c }
+{
+    slots_count();
+}
+
+/// Likewise a geodetic, projected, vertical or compound CRS. Profile.
+pub fn kinds_are_sound()
+    ensures geodetic { (c : Class) → IsGeodeticClass c → IsReadAs ReadsGeodetic IsGeodetic c }
+    ensures projected { IsReadAs ReadsProjected IsProjected class.ProjectedCrs }
+    ensures vertical { IsReadAs ReadsVertical IsVertical class.VerticalCrs }
+    ensures compound { IsReadAs ReadsCompound IsCompound class.CompoundCrs }
+{
+    slots_count();
+}
