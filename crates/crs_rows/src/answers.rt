@@ -75,6 +75,8 @@ fn put_value_answer(
         "same_axis" => sameness::put_same_axis(out, alloc, input),
         "canon" => canonical::put_canon(out, alloc, input),
         "Canon::same" => canonical::put_same(out, alloc, input),
+        "Axis::write" => canonical::put_axis(out, alloc, input),
+        "Set::write" => canonical::put_set(out, alloc, input),
         "run_canon" => runs::put_canon(out, alloc, input),
         "run_check" => runs::put_check(out, alloc, input),
         "run_same" => runs::put_same(out, alloc, input),

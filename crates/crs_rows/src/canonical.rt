@@ -1,10 +1,10 @@
 //! The calls that write canonical texts.
 use crate::escapes::put_text;
-use crate::sameness::split_line;
+use crate::sameness::{first_axis, split_line};
 use crate::texts::put_fault;
-use crs_canon::{Canon, canon, canon_of};
+use crs_canon::{Canon, Canonical, Set, canon, canon_of};
 use crs_text::Fault;
-use crs_value::{Crs, Level, read};
+use crs_value::{Crs, Ident, Level, read};
 use std::alloc::{AllocError, Global};
 
 /// `text` and the canonical text of a text, or its refusal; `another text` where the text's value has another one, or
@@ -40,7 +40,17 @@ fn is_of_value(alloc: Global, input: &[u8], text: &Canon) -> Result<bool, AllocE
 
 fn is_of_crs(alloc: Global, crs: &Crs<'_>, text: &Canon) -> Result<bool, AllocError> {
     let own = canon_of(alloc, crs, Level::Full)?;
-    Ok(own.level() == Level::Full && own.same(text))
+    Ok(own.level() == Level::Full && own.same(text) && appends(alloc, crs, text.bytes())?)
+}
+
+// Whether a node by itself appends this text, and no other.
+fn appends<T: Canonical>(alloc: Global, node: &T, text: &[u8]) -> Result<bool, AllocError> {
+    let mut out = Vec::from_slice(alloc, b"x")?;
+    node.write(alloc, Level::Full, &mut out)?;
+    match out.as_slice() {
+        [b'x', written @ ..] => Ok(written == text),
+        _ => Ok(false),
+    }
 }
 
 // Whether this is the canonical text of a text.
@@ -80,4 +90,61 @@ fn sameness(a: &Canon, b: &Canon) -> &'static str {
         (true, false, false) => "different",
         _ => "one way",
     }
+}
+
+/// `text` and what the first axis of a vertical CRS appends by itself, or the refusal of the text; `no axis` for another
+/// CRS.
+pub fn put_axis(out: &mut String, alloc: Global, input: &[u8]) -> Result<(), AllocError> {
+    match read(alloc, input) {
+        Ok(crs) => put_axis_of(out, alloc, &crs),
+        Err(fault) => put_fault(out, fault),
+    }
+}
+
+fn put_axis_of(out: &mut String, alloc: Global, crs: &Crs<'_>) -> Result<(), AllocError> {
+    match first_axis(crs) {
+        Some(axis) => put_node(out, alloc, axis),
+        None => out.push_str("no axis"),
+    }
+}
+
+// `text` and what a node appends by itself; `one way` where it isn't the same as itself.
+fn put_node<T: Canonical>(out: &mut String, alloc: Global, node: &T) -> Result<(), AllocError> {
+    if !node.same(node, Level::Full) {
+        return out.push_str("one way");
+    }
+    let mut text = Vec::new(alloc);
+    node.write(alloc, Level::Full, &mut text)?;
+    out.push_str("text ")?;
+    put_text(out, &text)
+}
+
+/// `text` and what the identifiers of a vertical CRS append as a set, `nothing` where that is nothing, or the refusal of
+/// the text; `no set` for another CRS, and `one way` where a set isn't the same as itself.
+pub fn put_set(out: &mut String, alloc: Global, input: &[u8]) -> Result<(), AllocError> {
+    match read(alloc, input) {
+        Ok(crs) => put_set_of(out, alloc, &crs),
+        Err(fault) => put_fault(out, fault),
+    }
+}
+
+fn put_set_of(out: &mut String, alloc: Global, crs: &Crs<'_>) -> Result<(), AllocError> {
+    match crs {
+        Crs::Vertical(vertical) => put_members(out, alloc, vertical.tail.ids.as_slice()),
+        Crs::Geodetic(_) | Crs::Projected(_) | Crs::Compound(_) => out.push_str("no set"),
+    }
+}
+
+fn put_members(out: &mut String, alloc: Global, ids: &[Ident<'_>]) -> Result<(), AllocError> {
+    let set = Set::of(ids);
+    if !set.same(&set, Level::Full) {
+        return out.push_str("one way");
+    }
+    let mut text = Vec::new(alloc);
+    set.write(alloc, Level::Full, &mut text)?;
+    if text.is_empty() {
+        return out.push_str("nothing");
+    }
+    out.push_str("text ")?;
+    put_text(out, &text)
 }
