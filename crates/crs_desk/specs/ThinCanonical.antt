@@ -13,7 +13,9 @@ use Rattle.crs_desk.specs.declared.thin.system_type.SystemType.{SystemType}
 
 -- the word stands as it is written for a direction or for a type
 abbrev pub IsTableWord : List ℕ → Type 0
-IsTableWord raw = ((direction : Direction) × (raw ≡ direction_word direction)) ⊎ ((system_type : SystemType) × (raw ≡ system_word system_type))
+IsTableWord raw =
+    ((direction : Direction) × (raw ≡ direction_word direction))
+    ⊎ ((system_type : SystemType) × (raw ≡ system_word system_type))
 
 abbrev pub IsNormalSingle : Kind → List ℕ → Type 0
 IsNormalSingle number raw = IsPlain raw
@@ -24,7 +26,8 @@ abbrev mutual
   -- every number in the item is plain, every word stands as it is written, and every keyword is in capitals
   pub IsNormalItem : Item → Type 0
   IsNormalItem (leaf kind place raw) = IsNormalSingle kind raw
-  IsNormalItem (node place keyword square first others close) = IsCapital keyword × IsNormalItem first × AreNormalItems others
+  IsNormalItem (node place keyword square first others close) =
+      IsCapital keyword × IsNormalItem first × AreNormalItems others
 
   pub AreNormalItems : Items → Type 0
   AreNormalItems End = Unit {0}
@@ -54,7 +57,9 @@ NormalIsOne = (first second : List ℕ) → IsNormal first → IsNormal second �
 
 -- two canonical texts are equal exactly where the texts that they are of say the same
 abbrev pub CanonicalTells : Type 0
-CanonicalTells = (first second one other : List ℕ) → IsCanonical first one → IsCanonical second other → (one ≡ other) ↔ SaySame first second
+CanonicalTells =
+    (first second one other : List ℕ) → IsCanonical first one → IsCanonical second other → (one ≡ other)
+    ↔ SaySame first second
 
 -- a normal text, and so each canonical text, is its own canonical text and has no other
 abbrev pub CanonicalStays : Type 0

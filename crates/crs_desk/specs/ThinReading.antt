@@ -1,4 +1,4 @@
--- Readings: what is read from an item, or none where it can't be read so.
+-- A bridge: what is read from an item, or none where it can't be read so.
 use Rattle.std.specs.Prelude.{◌≡◌, ℕ, Option, Some, None}
 use Rattle.crs_text.specs.Items.{Item, End, More, arguments, first_of, here, HasId}
 
@@ -16,11 +16,13 @@ abbrev pub AreOne : Item → Item → ℕ → Type 0
 AreOne tree item a = (arguments item ≡ More (item_at tree a) End) × HasId tree a
 
 abbrev pub AreTwo : Item → Item → ℕ → ℕ → Type 0
-AreTwo tree item a b = (arguments item ≡ More (item_at tree a) (More (item_at tree b) End)) × HasId tree a × HasId tree b
+AreTwo tree item a b =
+    (arguments item ≡ More (item_at tree a) (More (item_at tree b) End)) × HasId tree a × HasId tree b
 
 abbrev pub AreThree : Item → Item → ℕ → ℕ → ℕ → Type 0
 AreThree tree item a b c =
-    (arguments item ≡ More (item_at tree a) (More (item_at tree b) (More (item_at tree c) End))) × HasId tree a × HasId tree b × HasId tree c
+    (arguments item ≡ More (item_at tree a) (More (item_at tree b) (More (item_at tree c) End))) × HasId tree a
+    × HasId tree b × HasId tree c
 
 abbrev pub AreFour : Item → Item → ℕ → ℕ → ℕ → ℕ → Type 0
 AreFour tree item a b c d =

@@ -1,4 +1,4 @@
--- The item of a vertical system in its normal text, and the text.
+-- A bridge: the item of a vertical system in its normal text, and the text.
 use Rattle.std.specs.Prelude.{ℕ, false, true, List, [], ◌∷◌, ◌++◌, codes, Some, pos}
 use Rattle.crs_decimal.specs.Value.{Value}
 use Rattle.crs_decimal.specs.Plain.{plain}
@@ -35,7 +35,8 @@ axis_item parts =
     (More (word_item (direction_word parts.direction)) (More order_item (More (unit_item parts.length_unit) End)))
 
 abbrev pub system_item : SystemParts → Item
-system_item parts = node_item (codes "CS") (word_item (system_word parts.system_type)) (More (number_item parts.dimension) End)
+system_item parts =
+    node_item (codes "CS") (word_item (system_word parts.system_type)) (More (number_item parts.dimension) End)
 
 abbrev pub frame_item : List ℕ → Item
 frame_item frame = node_item (codes "VDATUM") (text_item frame) End
@@ -55,4 +56,5 @@ spelling parts = item_text (vertical_item parts)
 
 -- the system with the order that its axis has in its normal text
 abbrev pub ordered : VerticalParts → VerticalParts
-ordered parts = record parts { system = record (parts.system) { axis = record (parts.system.axis) { order = Some one } } }
+ordered parts =
+    record parts { system = record (parts.system) { axis = record (parts.system.axis) { order = Some one } } }

@@ -2,7 +2,13 @@
 use Rattle.std.specs.Prelude.{◌≡◌, ℕ, List, codes}
 use Rattle.std.specs.Str.{str_to_ascii_lowercase, str_to_ascii_uppercase}
 use Rattle.crs_desk.specs.declared.thin.direction.Direction.{Direction}
-use Rattle.crs_desk.specs.declared.thin.direction.Direction.TheVariants.{North, NorthNorthEast, NorthEast, EastNorthEast, East, EastSouthEast, SouthEast, SouthSouthEast, South, SouthSouthWest, SouthWest, WestSouthWest, West, WestNorthWest, NorthWest, NorthNorthWest, GeocentricX, GeocentricY, GeocentricZ, Up, Down, Unspecified}
+use Rattle.crs_desk.specs.declared.thin.direction.Direction.TheVariants.{North, NorthNorthEast, NorthEast}
+use Rattle.crs_desk.specs.declared.thin.direction.Direction.TheVariants.{EastNorthEast, East, EastSouthEast, SouthEast}
+use Rattle.crs_desk.specs.declared.thin.direction.Direction.TheVariants.{SouthSouthEast, South, SouthSouthWest}
+use Rattle.crs_desk.specs.declared.thin.direction.Direction.TheVariants.{SouthWest, WestSouthWest, West, WestNorthWest}
+use Rattle.crs_desk.specs.declared.thin.direction.Direction.TheVariants.{NorthWest, NorthNorthWest, GeocentricX}
+use Rattle.crs_desk.specs.declared.thin.direction.Direction.TheVariants.{GeocentricY, GeocentricZ, Up, Down}
+use Rattle.crs_desk.specs.declared.thin.direction.Direction.TheVariants.{Unspecified}
 use Rattle.crs_desk.specs.declared.thin.system_type.SystemType.{SystemType}
 use Rattle.crs_desk.specs.declared.thin.system_type.SystemType.TheVariants.{Cartesian, Ellipsoidal, Spherical, Vertical}
 

@@ -1,7 +1,8 @@
 //! Laws on canonical texts, as contracts of functions that do nothing.
 
 ghost use Rattle.std.specs.Prelude.{◌≡◌, ℕ, List};
-ghost use Rattle.crs_desk.specs.ThinCanonical.{IsCanonical, CanonicalIsThere, NormalIsOne, CanonicalTells, CanonicalStays};
+ghost use Rattle.crs_desk.specs.ThinCanonical.{IsCanonical, CanonicalIsThere, NormalIsOne, CanonicalTells};
+ghost use Rattle.crs_desk.specs.ThinCanonical.{CanonicalStays};
 ghost use Rattle.crs_desk.specs.ThinReads.{Spells};
 ghost use Rattle.crs_desk.specs.ThinSame.{SameVertical};
 ghost use Rattle.crs_desk.specs.ThinSpelling.{spelling};

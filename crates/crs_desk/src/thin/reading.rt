@@ -1,7 +1,8 @@
 ghost use Rattle.std.specs.Prelude.{◌≡◌, ℕ, List, MatchOption, codes};
 ghost use Rattle.crs_text.specs.Items.{HasId, arguments, count};
 ghost use Rattle.crs_desk.specs.ThinReading.{item_at, IsReading};
-ghost use Rattle.crs_desk.specs.ThinReads.{HasKeyword, ReadsUnit, ReadsOrder, ReadsAxis, ReadsSystem, ReadsFrame, ReadsVertical};
+ghost use Rattle.crs_desk.specs.ThinReads.{HasKeyword, ReadsUnit, ReadsOrder, ReadsAxis, ReadsSystem, ReadsFrame};
+ghost use Rattle.crs_desk.specs.ThinReads.{ReadsVertical};
 
 use crate::thin::items::{
     direction_at, four_arguments, has_keyword, number_at, one_argument, system_type_at, text_at,

@@ -1,7 +1,8 @@
 ghost use Rattle.std.specs.Prelude.{◌≡◌, ◌∷◌, ◌++◌, [], IfOk};
 ghost use Rattle.crs_decimal.specs.Plain.{plain};
 ghost use Rattle.crs_text.specs.Written.{item_text};
-ghost use Rattle.crs_desk.specs.ThinSpelling.{text_item, unit_item, axis_item, system_item, frame_item, head_text, spelling};
+ghost use Rattle.crs_desk.specs.ThinSpelling.{text_item, unit_item, axis_item, system_item, frame_item, head_text};
+ghost use Rattle.crs_desk.specs.ThinSpelling.{spelling};
 
 use crate::thin::values::{Axis, LengthUnit, System, VerticalCrs};
 use crs_decimal::Decimal;
