@@ -1,4 +1,4 @@
--- Sets as they are written: each spelling once, in ascending order, a comma before each.
+-- A bridge: sets as they are written: each spelling once, in ascending order, a comma before each.
 use Rattle.std.specs.Prelude.{ℕ, List, [], ◌∷◌, ◌++◌, map, Vec}
 use Rattle.std.specs.declared.alloc.Global.{Global}
 use Rattle.crs_normal.specs.Ordered.{in_order}

@@ -1,4 +1,4 @@
--- Pieces of written nodes, as writers append them.
+-- A bridge: pieces of written nodes, as writers append them.
 use Rattle.std.specs.Prelude.{ℕ, List, [], ◌∷◌, ◌++◌, Option, Some, None}
 use Rattle.crs_text.specs.Items.{Items, End, More}
 use Rattle.crs_text.specs.Written.{item_text, others_text}

@@ -30,9 +30,9 @@ pub fn canonical_texts_are_equal_where_same()
     spelled_crs_is_sound();
 }
 
-/// The main theorem: two accepted texts have equal canonical bytes exactly when the CRSs that they spell are the same; a
-/// canonical text is itself accepted, spells the same CRS as its source and is its own canonical text; and a text that
-/// spells no CRS is refused with one number and at one place. Profile.
+/// The main theorem: two accepted texts have equal canonical bytes exactly when the CRSs that they spell are the same;
+/// a canonical text is itself accepted, spells the same CRS as its source and is its own canonical text; and a text
+/// that spells no CRS is refused with one number and at one place. Profile.
 pub fn main_theorem()
     ensures { (level : Level) → MainTheorem level }
 {

@@ -1,5 +1,6 @@
 -- The number that the parts of a spelling mean, and which spellings are within the bounds.
-use Rattle.std.specs.Prelude.{◌≡◌, ◌≢◌, ℕ, ◌+◌, ◌-◌, ◌*◌, ◌%◌, ◌^◌, ◌<◌, ◌≤◌, ◌⊎◌, true, false, Bool, if◌then◌else◌, List, [], length, fold, Option, Some, None}
+use Rattle.std.specs.Prelude.{◌≡◌, ◌≢◌, ℕ, ◌+◌, ◌-◌, ◌*◌, ◌%◌, ◌^◌, ◌<◌, ◌≤◌, ◌⊎◌, true, false, Bool, if◌then◌else◌}
+use Rattle.std.specs.Prelude.{List, [], length, fold, Option, Some, None}
 use Rattle.crs_decimal.specs.Number.{Number, SameNumber}
 use Rattle.crs_decimal.specs.Spelling.{Sign, unsigned, plus, minus, Exponent, Parts, fraction_digits, mantissa, Spells}
 

@@ -1,4 +1,4 @@
--- What the reader keeps of a number's parts.
+-- A bridge: what the reader keeps of a number's parts.
 use Rattle.std.specs.Prelude.{◌≡◌, ℕ, ◌+◌, ◌<◌, ◌⊎◌, List, length, ℤ, IsTrue}
 use Rattle.crs_decimal.specs.declared.cutting.Spelled.{Spelled}
 use Rattle.crs_decimal.specs.declared.cutting.Exponent.{Exponent as CutExponent}

@@ -16,7 +16,8 @@ SpellingsDenote =
 
 -- out of bounds, and not of the number form
 abbrev pub SpellingsFail : Type 0
-SpellingsFail = (HasForm (codes "1E41") × ¬ (IsInBounds (codes "1E41"))) × ¬ (HasForm (codes "1.5.2")) × ¬ (HasForm (codes "."))
+SpellingsFail =
+    (HasForm (codes "1E41") × ¬ (IsInBounds (codes "1E41"))) × ¬ (HasForm (codes "1.5.2")) × ¬ (HasForm (codes "."))
 
 abbrev pub ValuesArePlain : Type 0
 ValuesArePlain =

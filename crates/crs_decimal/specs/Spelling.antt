@@ -1,5 +1,6 @@
 -- How a number is spelled: [sign] (digits [. [digits]] | . digits) [E [sign] digits].
-use Rattle.std.specs.Prelude.{◌≡◌, ℕ, ◌<◌, ◌==◌, ◌&&◌, ◌||◌, nat_le, Bool, IsTrue, List, [], ◌∷◌, ◌++◌, length, Option, Some, None}
+use Rattle.std.specs.Prelude.{◌≡◌, ℕ, ◌<◌, ◌==◌, ◌&&◌, ◌||◌, nat_le, Bool, IsTrue, List, [], ◌∷◌, ◌++◌, length, Option}
+use Rattle.std.specs.Prelude.{Some, None}
 use Rattle.std.specs.List.{list_all}
 
 pub data Sign : Type 0 where
@@ -68,7 +69,9 @@ HasForm bytes = (p : Parts) × Spells bytes p
 
 -- the bytes of which numbers and words consist: 0-9 A-Z a-z _ . + -
 abbrev pub is_run_byte : ℕ → Bool
-is_run_byte b = is_digit b || (nat_le 65 b && nat_le b 90) || (nat_le 97 b && nat_le b 122) || b == 95 || b == 46 || b == 43 || b == 45
+is_run_byte b =
+    is_digit b || (nat_le 65 b && nat_le b 90) || (nat_le 97 b && nat_le b 122) || b == 95 || b == 46 || b == 43
+    || b == 45
 
 -- the bytes that a number starts with: 0-9 . + -
 abbrev pub is_run_start : ℕ → Bool

@@ -1,5 +1,6 @@
--- Bytes cut into the parts of a number as far as they go, and what is left behind them.
-use Rattle.std.specs.Prelude.{◌≡◌, ℕ, ◌<◌, ◌==◌, ◌||◌, Bool, if◌then◌else◌, List, [], ◌∷◌, length, take, drop, Option, Some, None}
+-- A bridge: bytes cut into the parts of a number as far as they go, and what is left behind them.
+use Rattle.std.specs.Prelude.{◌≡◌, ℕ, ◌<◌, ◌==◌, ◌||◌, Bool, if◌then◌else◌, List, [], ◌∷◌, length, take, drop, Option}
+use Rattle.std.specs.Prelude.{Some, None}
 use Rattle.std.specs.List.{prefix_len}
 use Rattle.crs_decimal.specs.Spelling.{Sign, unsigned, plus, minus, Exponent, Parts, is_digit, mantissa}
 
@@ -34,7 +35,8 @@ is_letter b = b == 69 || b == 101
 -- the exponent in front, perhaps without digits, and what stands behind it
 abbrev pub exponent_of : List ℕ → Option Exponent
 exponent_of [] = None
-exponent_of (b ∷ bytes) = if is_letter b then Some (record { letter = b; sign = sign_of bytes; digits = front (behind_sign bytes) }) else None
+exponent_of (b ∷ bytes) =
+    if is_letter b then Some (record { letter = b; sign = sign_of bytes; digits = front (behind_sign bytes) }) else None
 
 abbrev pub behind_exponent : List ℕ → List ℕ
 behind_exponent [] = []

@@ -1,5 +1,6 @@
 -- A decimal as callers see it, always in its normal form.
-use Rattle.std.specs.Prelude.{ℕ, suc, ◌%◌, ◌^◌, ◌==◌, ◌&&◌, ◌||◌, not, nat_lt, nat_le, Bool, false, IsTrue, ℤ, pos, negsuc}
+use Rattle.std.specs.Prelude.{ℕ, suc, ◌%◌, ◌^◌, ◌==◌, ◌&&◌, ◌||◌, not, nat_lt, nat_le, Bool, false, IsTrue, ℤ, pos}
+use Rattle.std.specs.Prelude.{negsuc}
 use Rattle.crs_decimal.specs.Number.{Number}
 
 -- digits * 10^power, below zero where `negative`
@@ -22,7 +23,9 @@ is_zero_power (negsuc n) = false
 
 -- zero is neither negative nor has a power; any other number has at most 38 digits, the last not a zero
 abbrev pub is_normal : Value → Bool
-is_normal v = nat_lt v.digits (10 ^ 38) && is_power v.power && (not (v.digits % 10 == 0) || (v.digits == 0 && not v.negative && is_zero_power v.power))
+is_normal v =
+    nat_lt v.digits (10 ^ 38) && is_power v.power && (not (v.digits % 10 == 0)
+    || (v.digits == 0 && not v.negative && is_zero_power v.power))
 
 abbrev pub IsNormal : Value → Type 0
 IsNormal v = IsTrue (is_normal v)

@@ -11,7 +11,8 @@ use Rattle.crs_canon.specs.Canonical.{IsCanonicalOf}
 
 -- `refused N NAME at P`
 abbrev pub refused_text : ℕ → ℕ → List ℕ
-refused_text number place = codes "refused " ++ decimal number ++ codes " " ++ name_of number ++ codes " at " ++ decimal place
+refused_text number place =
+    codes "refused " ++ decimal number ++ codes " " ++ name_of number ++ codes " at " ++ decimal place
 
 abbrev pub kind_word : Kind → List ℕ
 kind_word kind.Geodetic = codes "geodetic"
@@ -31,15 +32,18 @@ IsKindOf text found = (value : Crs) × Spells text value × (found ≡ kind_of v
 
 -- the text's canonical text at this level, with status 0
 abbrev pub WritesCanonical : Level → List ℕ → List ℕ → ℕ → Type 0
-WritesCanonical level text written status = (canonical : List ℕ) × IsCanonicalOf level text canonical × IsLine canonical 0 written status
+WritesCanonical level text written status =
+    (canonical : List ℕ) × IsCanonicalOf level text canonical × IsLine canonical 0 written status
 
 -- `accepted` and the kind of the CRS that the text spells, with status 0
 abbrev pub WritesAccepted : List ℕ → List ℕ → ℕ → Type 0
-WritesAccepted text written status = (found : Kind) × IsKindOf text found × IsLine (codes "accepted " ++ kind_word found) 0 written status
+WritesAccepted text written status =
+    (found : Kind) × IsKindOf text found × IsLine (codes "accepted " ++ kind_word found) 0 written status
 
 -- the refusal of a text, with status 1
 abbrev pub WritesRefusal : List ℕ → List ℕ → ℕ → Type 0
-WritesRefusal text written status = (refusal : Refused) × Refuses text refusal × IsLine (refused_text refusal.number refusal.place) 1 written status
+WritesRefusal text written status =
+    (refusal : Refused) × Refuses text refusal × IsLine (refused_text refusal.number refusal.place) 1 written status
 
 -- what `canon` writes for a text, and its status
 unfoldable pub IsCanonOutput : Level → List ℕ → List ℕ → ℕ → Type 0

@@ -12,14 +12,18 @@ use Rattle.crs_desk.specs.Output.{IsLine, refused_text}
 
 -- the refusal of a text behind the word that says which text it is, with status 1
 abbrev pub WritesRefusalOf : List ℕ → List ℕ → List ℕ → ℕ → Type 0
-WritesRefusalOf which text written status = (refusal : Refused) × Refuses text refusal × IsLine (which ++ refused_text refusal.number refusal.place) 1 written status
+WritesRefusalOf which text written status =
+    (refusal : Refused) × Refuses text refusal × IsLine (which
+    ++ refused_text refusal.number refusal.place) 1 written status
 
 -- what two CRSs have in common: `same` with status 0, or `different` and the first part that differs, with status 1
 abbrev pub WritesSame : Level → Crs → Crs → List ℕ → ℕ → Type 0
 WritesSame level a b written status = SameCrs level a b × IsLine (codes "same") 0 written status
 
 abbrev pub WritesDifferent : Level → Crs → Crs → List ℕ → ℕ → Type 0
-WritesDifferent level a b written status = (path : List Step) × FirstInCrs level a b (Some path) × IsLine (codes "different " ++ path_text path) 1 written status
+WritesDifferent level a b written status =
+    (path : List Step) × FirstInCrs level a b (Some path)
+    × IsLine (codes "different " ++ path_text path) 1 written status
 
 -- the first text is refused; or it spells a CRS and the second is refused; or both do, the same or different ones
 unfoldable pub IsSameOutput : Level → List ℕ → List ℕ → List ℕ → ℕ → Type 0

@@ -1,7 +1,9 @@
 -- The command line: what `clap`'s definition of the commands gives for the words.
-use Rattle.std.specs.Prelude.{◌≡◌, ◌≢◌, ◌==◌, [], ◌∷◌, Bool, true, false, not, List, Option, Some, None, codes, option_and_then, if◌then◌else◌}
+use Rattle.std.specs.Prelude.{◌≡◌, ◌≢◌, ◌==◌, [], ◌∷◌, Bool, true, false, not, List, Option, Some, None, codes}
+use Rattle.std.specs.Prelude.{option_and_then, if◌then◌else◌}
 use Rattle.std.specs.Str.{bytes_eq}
-use Rattle.clap.specs.Words.{App, IsAmong, Row, Rule, Shape, Text, fault_of, first_of, kind_of, new_app, new_rule, subcommand_of, takes, with_subcommand}
+use Rattle.clap.specs.Words.{App, IsAmong, Row, Rule, Shape, Text, fault_of, first_of, kind_of, new_app, new_rule}
+use Rattle.clap.specs.Words.{subcommand_of, takes, with_subcommand}
 use Rattle.clap.specs.Simple.{new_shape, on_top}
 use Rattle.crs_line.specs.declared.asked.Request.{Request}
 use Rattle.crs_line.specs.declared.asked.Request.TheVariants.{Canon, Check, Same}
@@ -42,7 +44,8 @@ same_of rows = same_texts (first_of (codes "first") rows) (first_of (codes "seco
 -- the request of a command's name and of its matches
 abbrev pub request_of : Text × List Row → Option Request
 request_of (name, rows) = if bytes_eq name (codes "canon") then Some Canon
-    else (if bytes_eq name (codes "check") then Some Check else (if bytes_eq name (codes "same") then same_of rows else None))
+    else (if bytes_eq name (codes "check") then Some Check
+    else (if bytes_eq name (codes "same") then same_of rows else None))
 
 -- what the words ask for, where the command takes them; the first of them is the program's name
 abbrev pub asked : List Text → Option Request
@@ -57,7 +60,8 @@ is_plain_word (byte ∷ next ∷ rest) = not (byte == 45)
 -- a line is refused only where the command doesn't take it, by an error that it gives for the words;
 -- want of memory is told apart from that
 abbrev pub IsRefusal : List Text → RequestFault → Type 0
-IsRefusal words (Line error) = (kind_of error ≢ kind.OutOfMemory) × (takes desk words ≡ false) × IsAmong (kind_of error) (fault_of desk words)
+IsRefusal words (Line error) =
+    (kind_of error ≢ kind.OutOfMemory) × (takes desk words ≡ false) × IsAmong (kind_of error) (fault_of desk words)
 IsRefusal words (Memory error) = Unit {0}
 
 -- `clap`'s error is handed on, but for want of memory

@@ -1,7 +1,8 @@
 ghost use Rattle.std.specs.Prelude.{◌≡◌, [], map, IfOk, IfErr, IsSome, Some, false, option_and_then};
 ghost use Rattle.clap.specs.Words.{app_of, fault_of, found_of, rows_of, rule_of, shape_of, subcommand_rows_of};
 ghost use Rattle.clap.specs.declared.builder.command.Command.TheViews.{out-Command as fields_of};
-ghost use Rattle.crs_line.specs.CommandLine.{HandsOn, IsRefusal, asked, desk, input_desk, lone_desk, operand, request_of, same_of, same_shape};
+ghost use Rattle.crs_line.specs.CommandLine.{HandsOn, IsRefusal, asked, desk, input_desk, lone_desk, operand};
+ghost use Rattle.crs_line.specs.CommandLine.{request_of, same_of, same_shape};
 
 use crate::{LineWord, Request, RequestFault};
 use clap::error::ErrorKind;

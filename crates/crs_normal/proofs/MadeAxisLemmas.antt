@@ -8,7 +8,7 @@ use Rattle.crs_shape.specs.declared.class.Class.TheVariants as class
 use Rattle.crs_shape.specs.Keywords.{is_keyword}
 use Rattle.crs_shape.specs.Slots.{class_named, slots_of}
 use Rattle.crs_value.specs.BadOrder.{orders_in}
-use Rattle.crs_value.specs.BadUnit.{asked_kind, units_in, vertical_kind}
+use Rattle.crs_value.specs.BadUnit.{asked_kind, units_in, kind_by_direction}
 use Rattle.crs_value.specs.UnknownWord.{UnknownDirection}
 use Rattle.crs_value.specs.Break.{AnyOf}
 use Rattle.crs_value.specs.Checks.{Own as BreaksOwn}
@@ -101,7 +101,7 @@ axis-meridians-made l level (Some m) h = (
 
 -- ---- the unit of an axis
 
-vertical-in : (d : Direction) → IsKindIn class.AxisUnit (vertical_kind d)
+vertical-in : (d : Direction) → IsKindIn class.AxisUnit (kind_by_direction d)
 vertical-in direction.Up = inl refl
 vertical-in direction.Down = inl refl
 vertical-in other = inr refl

@@ -3,7 +3,7 @@ use Rattle.std.proofs.Common.{◌≡◌, ◌≢◌, ℕ, suc, zero, ◌+◌, cod
 use Rattle.crs_decimal.specs.Value.{IsNormal}
 use Rattle.crs_text.specs.Written.{at_place}
 use Rattle.crs_shape.specs.declared.class.Class.TheVariants as class
-use Rattle.crs_value.specs.BadUnit.{asked_kind, vertical_kind}
+use Rattle.crs_value.specs.BadUnit.{asked_kind, kind_by_direction}
 use Rattle.crs_value.specs.declared.direction.Direction.{Direction}
 use Rattle.crs_value.specs.declared.direction.Direction.TheVariants as direction
 use Rattle.crs_value.specs.declared.level.Level.{Level}
@@ -51,7 +51,7 @@ axis-meridians-read laws level (Some m) s = axis-meridian-read laws level m s
 
 -- ---- the unit of an axis
 
-vertical-no-scale : (d : Direction) → vertical_kind d ≢ kinds.Scale
+vertical-no-scale : (d : Direction) → kind_by_direction d ≢ kinds.Scale
 vertical-no-scale direction.North e = cc
 vertical-no-scale direction.NorthNorthEast e = cc
 vertical-no-scale direction.NorthEast e = cc

@@ -1,5 +1,5 @@
--- Items without their places and kinds of delimiters: all places 0 and all delimiters square, as canonical items have
--- them.
+-- A bridge: items without their places and kinds of delimiters: all places 0 and all delimiters square, as canonical
+-- items have them.
 use Rattle.std.specs.Prelude.{true}
 use Rattle.crs_text.specs.Items.{Item, leaf, node, Items, End, More}
 

@@ -1,4 +1,4 @@
--- What is shown of a made item: it is accepted and normal as one of its class.
+-- A bridge: what is shown of a made item: it is accepted and normal as one of its class.
 use Rattle.std.specs.Prelude.{◌≡◌, ◌⊎◌, ℕ, ◌≤◌}
 use Rattle.crs_text.specs.Items.{Item, depth, IsNode}
 use Rattle.crs_text.specs.Written.{AreFormed}

@@ -62,7 +62,8 @@ abbrev mutual
 
   pub AreNormalIn : Level → Class → Items → Type 0
   AreNormalIn level c End = Unit {0}
-  AreNormalIn level c (More item items) = AtClass (class_in c item) (λ d. IsNormalIn level c d item) × AreNormalIn level c items
+  AreNormalIn level c (More item items) =
+      AtClass (class_in c item) (λ d. IsNormalIn level c d item) × AreNormalIn level c items
 
 -- a text that is its item written without white space and in square delimiters, and normal within
 pub record IsNormalText (level : Level) (bytes : List ℕ) : Type 0 where

@@ -107,12 +107,14 @@ HasCodes item = Each IsCode (single_of (skip 1 (arguments item)) ++ single_of (s
 
 -- at longitude 0 a prime meridian has no unit
 abbrev pub HasUnitIfAny : Item → Type 0
-HasUnitIfAny item = numbers_in class.PrimeMeridian item ≡ codes "0" ∷ [] → Lacks class.PrimeMeridian class.AngleUnit item
+HasUnitIfAny item =
+    numbers_in class.PrimeMeridian item ≡ codes "0" ∷ [] → Lacks class.PrimeMeridian class.AngleUnit item
 
 -- a geographic CRS is written as one
 abbrev pub IsNotEllipsoidal : Class → Item → Type 0
 IsNotEllipsoidal c item =
-    Each (λ cs. words_in class.CoordinateSystem cs ≢ codes "ellipsoidal" ∷ []) (those c class.CoordinateSystem (arguments item))
+    Each (λ cs. words_in class.CoordinateSystem cs ≢ codes "ellipsoidal" ∷ [])
+    (those c class.CoordinateSystem (arguments item))
 
 -- what a node of this class has: the defaults are written
 abbrev pub Own : Class → Item → Type 0
@@ -120,7 +122,8 @@ Own class.GeodeticCrs item =
     IsNotEllipsoidal class.GeodeticCrs item × Has class.GeodeticCrs class.PrimeMeridian item
     × HasAxes class.GeodeticCrs item × HasTail class.GeodeticCrs item
 Own class.GeographicCrs item =
-    Has class.GeographicCrs class.PrimeMeridian item × HasAxes class.GeographicCrs item × HasTail class.GeographicCrs item
+    Has class.GeographicCrs class.PrimeMeridian item × HasAxes class.GeographicCrs item
+    × HasTail class.GeographicCrs item
 Own class.ProjectedCrs item = HasAxes class.ProjectedCrs item × HasTail class.ProjectedCrs item
 Own class.VerticalCrs item = HasAxes class.VerticalCrs item × HasTail class.VerticalCrs item
 Own class.CompoundCrs item = HasTail class.CompoundCrs item

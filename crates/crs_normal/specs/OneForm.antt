@@ -1,5 +1,5 @@
--- Normal items and their values: a normal item, without its places and kinds of delimiters, is the item of its value's
--- one form.
+-- A bridge: normal items and their values: a normal item, without its places and kinds of delimiters, is the item of
+-- its value's one form.
 use Rattle.std.specs.Prelude.{◌≡◌}
 use Rattle.crs_text.specs.Items.{Item}
 use Rattle.crs_text.specs.Refusal.{Refused}

@@ -1,4 +1,4 @@
--- The class of a CRS's item.
+-- A bridge: the class of a CRS's item.
 use Rattle.crs_shape.specs.declared.class.Class.{Class}
 use Rattle.crs_shape.specs.declared.class.Class.TheVariants as class
 use Rattle.crs_value.specs.declared.crs.Crs.{Crs}

@@ -27,7 +27,8 @@ norm_parameter level p = record {
 
 abbrev pub item_parameter : ParameterParts → Item
 item_parameter p =
-    node_of (codes "PARAMETER") (text_item p.name) (More (number_item p.value) (opt item_unit p.unit (each item_ident p.ids End)))
+    node_of (codes "PARAMETER") (text_item p.name)
+    (More (number_item p.value) (opt item_unit p.unit (each item_ident p.ids End)))
 
 unfoldable pub set_parameters : Level → List ParameterParts → List ParameterParts
 set_parameters level parameters = in_order (λ p. item_text (item_parameter p)) (map (norm_parameter level) parameters)
@@ -42,7 +43,8 @@ norm_conversion level c = record {
 
 abbrev pub item_conversion : ConversionParts → Item
 item_conversion c =
-    node_of (codes "CONVERSION") (text_item c.name) (More (item_method c.method) (each item_parameter c.parameters (each item_ident c.ids End)))
+    node_of (codes "CONVERSION") (text_item c.name)
+    (More (item_method c.method) (each item_parameter c.parameters (each item_ident c.ids End)))
 
 -- ---- geoid models: a set
 

@@ -51,7 +51,8 @@ norm_meridian level (Some m) = Some (norm_given level m)
 
 abbrev pub item_meridian : MeridianParts → Item
 item_meridian m =
-    node_of (codes "PRIMEM") (text_item m.name) (More (number_item m.longitude) (opt item_unit m.unit (each item_ident m.ids End)))
+    node_of (codes "PRIMEM") (text_item m.name) (More (number_item m.longitude)
+    (opt item_unit m.unit (each item_ident m.ids End)))
 
 -- ---- members: a set
 

@@ -1,5 +1,6 @@
 -- A bridge: coordinate systems in their one form, their axes by position, and as items.
-use Rattle.std.specs.Prelude.{ℕ, zero, suc, ◌+◌, ◌==◌, Bool, List, [], ◌∷◌, Option, Some, None, length, decimal, codes, if◌then◌else◌}
+use Rattle.std.specs.Prelude.{ℕ, zero, suc, ◌+◌, ◌==◌, Bool, List, [], ◌∷◌, Option, Some, None, length, decimal, codes}
+use Rattle.std.specs.Prelude.{if◌then◌else◌}
 use Rattle.std.specs.Str.{bytes_eq}
 use Rattle.crs_decimal.specs.Plain.{plain}
 use Rattle.crs_decimal.specs.Value.{Value}
@@ -43,7 +44,8 @@ is_at position place (Some order) = is_number order position
 -- the axis at a position, the first of these being written at this place
 abbrev pub axis_at : ℕ → ℕ → List AxisParts → Option AxisParts
 axis_at position place [] = None
-axis_at position place (axis ∷ axes) = if is_at position place axis.order then Some axis else axis_at position (place + 1) axes
+axis_at position place (axis ∷ axes) =
+    if is_at position place axis.order then Some axis else axis_at position (place + 1) axes
 
 abbrev pub with_axis : Level → SystemParts → ℕ → Option AxisParts → List AxisParts → List AxisParts
 with_axis level system k None rest = rest
@@ -75,7 +77,8 @@ item_axis axis =
 -- the node `CS`, and the axes behind it
 abbrev pub item_head : SystemParts → Item
 item_head s =
-    node_of (codes "CS") (word_item (system_word s.system_type)) (More (number_item s.dimension) (each item_ident s.ids End))
+    node_of (codes "CS") (word_item (system_word s.system_type))
+    (More (number_item s.dimension) (each item_ident s.ids End))
 
 abbrev pub system_items : SystemParts → Items → Items
 system_items s rest = More (item_head s) (each item_axis s.axes rest)

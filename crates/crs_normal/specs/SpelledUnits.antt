@@ -28,7 +28,8 @@ whole_value k = record { negative = false; digits = k; power = pos 0 }
 
 -- a unit where this kind is asked
 abbrev pub norm_unit : Level → UnitKind → UnitParts → UnitParts
-norm_unit level asked u = record { kind = kind_as asked u.kind; name = u.name; factor = u.factor; ids = set_idents level u.ids }
+norm_unit level asked u =
+    record { kind = kind_as asked u.kind; name = u.name; factor = u.factor; ids = set_idents level u.ids }
 
 abbrev pub norm_units : Level → UnitKind → Option UnitParts → Option UnitParts
 norm_units level asked None = None

@@ -16,7 +16,8 @@ abbrev pub norm_extent : Level → ExtentParts → ExtentParts
 norm_extent level e = record { minimum = e.minimum; maximum = e.maximum; unit = Some (norm_length level e.unit) }
 
 abbrev pub norm_usage : UsageParts → UsageParts
-norm_usage u = record { scope = u.scope; area = u.area; bbox = u.bbox; extent = option_map (norm_extent levels.Full) u.extent }
+norm_usage u =
+    record { scope = u.scope; area = u.area; bbox = u.bbox; extent = option_map (norm_extent levels.Full) u.extent }
 
 abbrev pub item_box : BoxParts → Item
 item_box b =

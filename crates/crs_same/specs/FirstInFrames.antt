@@ -22,7 +22,8 @@ FirstInEllipsoid at level a b =
     ⨾ Part (at ▸ step.Id) (SameIdents level a.ids b.ids)
 
 -- where only one side has an ellipsoid, its name is the first part that is on one side alone
-abbrev pub FirstInEllipsoids : List Step → Level → Option EllipsoidParts → Option EllipsoidParts → Option (List Step) → Type 0
+abbrev pub FirstInEllipsoids : List Step → Level → Option EllipsoidParts → Option EllipsoidParts → Option (List Step) →
+    Type 0
 FirstInEllipsoids at level None None = Nothing
 FirstInEllipsoids at level None (Some b) = Part (at ▸ step.Name) ⊥
 FirstInEllipsoids at level (Some a) None = Part (at ▸ step.Name) ⊥
@@ -45,7 +46,8 @@ FirstBesideGreenwich at level meridian =
     ⨾ Part (at ▸ step.Longitude) (IsZero meridian.longitude)
     ⨾ Part (at ▸ step.Id) (HasNoIdents level meridian.ids)
 
-unfoldable pub FirstInMeridian : List Step → Level → Option MeridianParts → Option MeridianParts → Option (List Step) → Type 0
+unfoldable pub FirstInMeridian : List Step → Level → Option MeridianParts → Option MeridianParts → Option (List Step) →
+    Type 0
 FirstInMeridian at level None None = Nothing
 FirstInMeridian at level None (Some b) = FirstBesideGreenwich at level b
 FirstInMeridian at level (Some a) None = FirstBesideGreenwich at level a

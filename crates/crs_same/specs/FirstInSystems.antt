@@ -12,18 +12,21 @@ use Rattle.crs_same.specs.SameUnits.{SameValue, SameUnit}
 use Rattle.crs_same.specs.Sets.{BothOrNeither}
 
 -- two axes of two systems
-unfoldable pub FirstInAxis : List Step → Level → SystemParts → SystemParts → AxisParts → AxisParts → Option (List Step) → Type 0
+unfoldable pub FirstInAxis : List Step → Level → SystemParts → SystemParts → AxisParts → AxisParts →
+    Option (List Step) → Type 0
 FirstInAxis at level a b x y =
     Part (at ▸ step.Name) (x.name ≡ y.name)
     ⨾ Part (at ▸ step.Direction) (x.direction ≡ y.direction)
     ⨾ Part (at ▸ step.Meridian) (BothOrNeither (SameAxisMeridian level) x.meridian y.meridian)
-    ⨾ Part (at ▸ step.Unit) (BothOrNeither (SameUnit (asked_kind a.system_type x.direction) level) (own_or x.unit a.unit) (own_or y.unit b.unit))
+    ⨾ Part (at ▸ step.Unit) (BothOrNeither (SameUnit (asked_kind a.system_type x.direction) level)
+    (own_or x.unit a.unit) (own_or y.unit b.unit))
     ⨾ Part (at ▸ step.Id) (SameIdents level x.ids y.ids)
 
 -- the axes at this position
 abbrev pub FirstAt : List Step → Level → SystemParts → SystemParts → ℕ → Option (List Step) → Type 0
 FirstAt at level a b position found =
-    HasAt position (λ x. HasAt position (λ y. FirstInAxis (at ▸ step.Axis position) level a b x y found) 1 b.axes) 1 a.axes
+    HasAt position (λ x. HasAt position
+    (λ y. FirstInAxis (at ▸ step.Axis position) level a b x y found) 1 b.axes) 1 a.axes
 
 -- nothing differs at the positions below this one
 abbrev pub NoneBelow : List Step → Level → SystemParts → SystemParts → ℕ → Type 0
@@ -33,7 +36,8 @@ NoneBelow at level a b end = (position : ℕ) → 1 ≤ position → position < 
 abbrev pub FirstInAxes : List Step → Level → SystemParts → SystemParts → Option (List Step) → Type 0
 FirstInAxes at level a b None = NoneBelow at level a b (suc (length a.axes))
 FirstInAxes at level a b (Some found) =
-    (position : ℕ) × (1 ≤ position) × (position ≤ length a.axes) × NoneBelow at level a b position × FirstAt at level a b position (Some found)
+    (position : ℕ) × (1 ≤ position) × (position ≤ length a.axes) × NoneBelow at level a b position
+    × FirstAt at level a b position (Some found)
 
 unfoldable pub FirstInSystem : List Step → Level → SystemParts → SystemParts → Option (List Step) → Type 0
 FirstInSystem at level a b =

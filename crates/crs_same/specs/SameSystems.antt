@@ -28,7 +28,8 @@ pub record SameAxisIn (asked : UnitKind) (level : Level) (a b : AxisParts) (firs
 
 -- two axes of two systems
 unfoldable pub SameAxis : Level → SystemParts → SystemParts → AxisParts → AxisParts → Type 0
-SameAxis level a b x y = SameAxisIn (asked_kind a.system_type x.direction) level x y (own_or x.unit a.unit) (own_or y.unit b.unit)
+SameAxis level a b x y =
+    SameAxisIn (asked_kind a.system_type x.direction) level x y (own_or x.unit a.unit) (own_or y.unit b.unit)
 
 -- two axes by themselves: with their own orders and units, `UNIT` being a kind of its own
 pub record SameAxisAlone (level : Level) (a b : AxisParts) : Type 0 where

@@ -44,8 +44,8 @@ impl Member for Parameter<'_> {
     }
 }
 
-/// Whether two parameters are the same: name, number, identifiers, and the units in both or in neither; `UNIT` is a kind
-/// of its own. ISO 19162:2019, "Map projection parameter"; units: profile.
+/// Whether two parameters are the same: name, number, identifiers, and the units in both or in neither; `UNIT` is a
+/// kind of its own. ISO 19162:2019, "Map projection parameter"; units: profile.
 pub fn same_parameter<'a>(a: &Parameter<'a>, b: &Parameter<'a>, level: Level) -> bool
     ensures { IsTrue result ↔ SameParameter level a.now b.now }
 {

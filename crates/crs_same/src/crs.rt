@@ -1,8 +1,10 @@
 //! Coordinate reference systems.
 ghost use Rattle.std.specs.Prelude.{◌≡◌, ◌≤◌, ◌↔◌, IsTrue, None, [], length};
 ghost use Rattle.crs_value.specs.ReadsCrs.{kind_by};
-ghost use Rattle.crs_same.specs.FirstInCrs.{FirstInGeodetic, FirstInBase, FirstInProjected, FirstInVertical, FirstInHorizontal, FirstInCompound, FirstInCrs};
-ghost use Rattle.crs_same.specs.SameCrs.{SameGeodetic, SameBase, SameProjected, SameVertical, SameHorizontal, SameCompound, SameCrs};
+ghost use Rattle.crs_same.specs.FirstInCrs.{FirstInGeodetic, FirstInBase, FirstInProjected, FirstInVertical};
+ghost use Rattle.crs_same.specs.FirstInCrs.{FirstInHorizontal, FirstInCompound, FirstInCrs};
+ghost use Rattle.crs_same.specs.SameCrs.{SameGeodetic, SameBase, SameProjected, SameVertical, SameHorizontal};
+ghost use Rattle.crs_same.specs.SameCrs.{SameCompound, SameCrs};
 
 use crate::conversions::{first_in_conversion, same_geoid_models};
 use crate::frames::{first_in_frame, first_in_meridian};
@@ -200,15 +202,16 @@ fn first_in_compound<'a>(at: Path, a: &Compound<'a>, b: &Compound<'a>, level: Le
     first_in_tail(at, &a.tail, &b.tail, level)
 }
 
-/// Whether two compound CRSs are the same: name, horizontal part, vertical part and end. ISO 19162:2019, "Compound CRS".
+/// Whether two compound CRSs are the same: name, horizontal part, vertical part and end. ISO 19162:2019, "Compound
+/// CRS".
 pub fn same_compound<'a>(a: &Compound<'a>, b: &Compound<'a>, level: Level) -> bool
     ensures { IsTrue result ↔ SameCompound level a.now b.now }
 {
     first_in_compound(Path::start(), a, b, level).is_none()
 }
 
-/// The first part in which two CRSs differ, in the order of the canonical text, `kind` before all; None exactly where they
-/// are the same. Profile.
+/// The first part in which two CRSs differ, in the order of the canonical text, `kind` before all; None exactly where
+/// they are the same. Profile.
 pub fn first_part<'a>(a: &Crs<'a>, b: &Crs<'a>, level: Level) -> Option<Path>
     ensures first { FirstInCrs level a.now b.now result }
     ensures same { (result ≡ None) ↔ SameCrs level a.now b.now }

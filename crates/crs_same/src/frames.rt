@@ -1,10 +1,12 @@
 //! Ellipsoids, prime meridians, reference frames and ensembles.
 ghost use Rattle.std.specs.Prelude.{◌≡◌, ◌≤◌, ◌↔◌, ◌⊎◌, IsTrue, None, length};
 ghost use Rattle.crs_value.specs.declared.unit_kind.UnitKind.TheVariants as kinds;
-ghost use Rattle.crs_same.specs.FirstInFrames.{FirstInEllipsoid, FirstInEllipsoids, FirstInGiven, FirstBesideGreenwich, FirstInMeridian, FirstInDatum, FirstInEnsemble, FirstInFrame};
+ghost use Rattle.crs_same.specs.FirstInFrames.{FirstInEllipsoid, FirstInEllipsoids, FirstInGiven, FirstBesideGreenwich};
+ghost use Rattle.crs_same.specs.FirstInFrames.{FirstInMeridian, FirstInDatum, FirstInEnsemble, FirstInFrame};
 ghost use Rattle.crs_same.specs.Sets.{BothOrNeither, SameSet};
 ghost use Rattle.crs_same.specs.SameUnits.{SameUnit};
-ghost use Rattle.crs_same.specs.SameFrames.{SameEllipsoid, SameMeridian, IsZero, IsGreenwich, SameGiven, SameMember, SameDatum, SameEnsemble, SameFrame};
+ghost use Rattle.crs_same.specs.SameFrames.{SameEllipsoid, SameMeridian, IsZero, IsGreenwich, SameGiven, SameMember};
+ghost use Rattle.crs_same.specs.SameFrames.{SameDatum, SameEnsemble, SameFrame};
 
 use crate::idents::same_idents;
 use crate::numbers::same_value;

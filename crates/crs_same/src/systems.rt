@@ -3,7 +3,8 @@ ghost use Rattle.std.specs.Prelude.{◌≡◌, ◌↔◌, ◌≤◌, None, lengt
 ghost use Rattle.std.specs.Option.{option_copied};
 ghost use Rattle.crs_same.specs.Sets.{BothOrNeither};
 ghost use Rattle.crs_same.specs.FirstInSystems.{FirstInAxis, FirstAt, FirstInAxes, FirstInSystem};
-ghost use Rattle.crs_same.specs.SameSystems.{SameAxisMeridian, SameAxis, SameAxisAlone, IsAt, HasAt, SameAt, SameAxes, SameSystem};
+ghost use Rattle.crs_same.specs.SameSystems.{SameAxisMeridian, SameAxis, SameAxisAlone, IsAt, HasAt, SameAt};
+ghost use Rattle.crs_same.specs.SameSystems.{SameAxes, SameSystem};
 ghost use Rattle.crs_same.specs.SameUnits.{SameValue};
 
 use crate::idents::same_idents;
@@ -170,8 +171,8 @@ pub(crate) fn first_in_system<'a>(
     first_in_axes(at, a, b, level)
 }
 
-/// Whether two axes by themselves are the same: name, direction, identifiers, and meridian, order and unit, each in both or
-/// in neither; `UNIT` is a kind of its own. ISO 19162:2019, "Axis"; order and unit: profile.
+/// Whether two axes by themselves are the same: name, direction, identifiers, and meridian, order and unit, each in
+/// both or in neither; `UNIT` is a kind of its own. ISO 19162:2019, "Axis"; order and unit: profile.
 pub fn same_axis<'a>(a: &Axis<'a>, b: &Axis<'a>, level: Level) -> bool
     ensures { IsTrue result ↔ SameAxisAlone level a.now b.now }
 {

@@ -3,7 +3,8 @@ ghost use Rattle.std.specs.Prelude.{◌≡◌, ◌≤◌, ◌↔◌, IsTrue, Non
 ghost use Rattle.crs_value.specs.declared.level.Level.{Level};
 ghost use Rattle.crs_same.specs.FirstInCrs.{FirstInTail};
 ghost use Rattle.crs_same.specs.Sets.{BothOrNeither, HasSame, AllHaveSame};
-ghost use Rattle.crs_same.specs.SameUsages.{SameBox, SameExtent, SameUsage, usages_of, SameUsages, SameRemark, SameTail};
+ghost use Rattle.crs_same.specs.SameUsages.{SameBox, SameExtent, SameUsage, usages_of, SameUsages, SameRemark};
+ghost use Rattle.crs_same.specs.SameUsages.{SameTail};
 
 use crate::idents::same_idents;
 use crate::numbers::same_value;
@@ -54,8 +55,8 @@ fn same_extents<'a>(a: &Option<Extent<'a>>, b: &Option<Extent<'a>>, level: Level
     }
 }
 
-/// Whether two usages are the same: scope, area, bounding box and vertical extent, each in both or in neither. A usage by
-/// itself is compared alike at every level. ISO 19162:2019, "Scope and extent".
+/// Whether two usages are the same: scope, area, bounding box and vertical extent, each in both or in neither. A usage
+/// by itself is compared alike at every level. ISO 19162:2019, "Scope and extent".
 pub fn same_usage<'a>(a: &Usage<'a>, b: &Usage<'a>, _level: Level) -> bool
     ensures { IsTrue result ↔ SameUsage a.now b.now }
 {

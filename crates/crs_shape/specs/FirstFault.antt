@@ -1,4 +1,4 @@
--- The fault of shape that a walk over slots finds first.
+-- A bridge: the fault of shape that a walk over slots finds first.
 use Rattle.std.specs.Prelude.{ℕ, Option, Some, None, List, if◌then◌else◌}
 use Rattle.crs_text.specs.Items.{Item, leaf, node, Items, End, More}
 use Rattle.crs_text.specs.Refusal.{Refused}
@@ -26,16 +26,19 @@ abbrev pub step_of : Class → List SlotParts → Item → Option (Class × List
 step_of parent slots item = step_as slots (class_in parent item)
 
 -- the fault of an argument or of those after it, by this step
-abbrev pub fault_by : Item → (Class → Option Refused) → (List SlotParts → Option Refused) → Option (Class × List SlotParts) → Option Refused
+abbrev pub fault_by : Item → (Class → Option Refused) → (List SlotParts → Option Refused) →
+    Option (Class × List SlotParts) → Option Refused
 fault_by item within later None = Some (misplaced item)
 fault_by item within later (Some step) = or_later (within step.0) (later step.1)
 
-abbrev pub fault_from : Class → List SlotParts → Item → (Class → Option Refused) → (List SlotParts → Option Refused) → Option Refused
+abbrev pub fault_from : Class → List SlotParts → Item → (Class → Option Refused) → (List SlotParts → Option Refused) →
+    Option Refused
 fault_from parent slots item within later = fault_by item within later (step_of parent slots item)
 
 unfoldable mutual
   pub first_inside : Class → Item → Option Refused
-  first_inside c (leaf kind place raw) = if is_of c (leaf kind place raw) then None else Some (misplaced (leaf kind place raw))
+  first_inside c (leaf kind place raw) =
+      if is_of c (leaf kind place raw) then None else Some (misplaced (leaf kind place raw))
   first_inside c (node place keyword square first others close) =
       if is_keyword c keyword
       then fault_from c (slots_of c) first (λ d. first_inside d first) (λ next. first_among c close next others)

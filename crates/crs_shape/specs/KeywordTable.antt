@@ -1,4 +1,4 @@
--- The table of keywords: each keyword once, under its length, with the classes that have it.
+-- A bridge: the table of keywords: each keyword once, under its length, with the classes that have it.
 use Rattle.std.specs.Prelude.{◌≡◌, ◌≤◌, ◌<◌, ◌==◌, slice_index, ℕ, Bool, List, [], ◌∷◌, codes, length, if◌then◌else◌}
 use Prim.Native.String.{String}
 use Rattle.std.specs.List.{list_any}

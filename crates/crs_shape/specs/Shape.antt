@@ -1,5 +1,6 @@
 -- Shapes: the lists of arguments that a class allows are the product of its slots.
-use Rattle.std.specs.Prelude.{◌≡◌, ◌≤◌, ◌||◌, ◌&&◌, not, Bool, true, false, IsTrue, IsFalse, List, [], ◌∷◌, ◌++◌, length}
+use Rattle.std.specs.Prelude.{◌≡◌, ◌≤◌, ◌||◌, ◌&&◌, not, Bool, true, false, IsTrue, IsFalse, List, [], ◌∷◌, ◌++◌}
+use Rattle.std.specs.Prelude.{length}
 use Rattle.std.specs.List.{list_any}
 use Rattle.crs_shape.specs.declared.class.Class.{Class}
 use Rattle.crs_shape.specs.Slots.{SlotParts, takes}
@@ -49,4 +50,5 @@ has_class (c ∷ cs) = true
 abbrev pub is_apart : List SlotParts → Bool
 is_apart [] = true
 is_apart (slot ∷ slots) =
-    has_class slot.classes && ((slot.required && not slot.many) || not (list_any (λ c. reaches slots c) slot.classes)) && is_apart slots
+    has_class slot.classes && ((slot.required && not slot.many) || not (list_any (λ c. reaches slots c) slot.classes))
+    && is_apart slots

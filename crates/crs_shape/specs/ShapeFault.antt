@@ -1,5 +1,6 @@
 -- Faults of shape: where an item isn't what it is asked to be, with the number and place of the refusal.
-use Rattle.std.specs.Prelude.{◌≡◌, ℕ, ◌⊎◌, Bool, IsTrue, IsFalse, Option, Some, None, List, [], ◌∷◌, ◌++◌, if◌then◌else◌}
+use Rattle.std.specs.Prelude.{◌≡◌, ℕ, ◌⊎◌, Bool, IsTrue, IsFalse, Option, Some, None, List, [], ◌∷◌, ◌++◌}
+use Rattle.std.specs.Prelude.{if◌then◌else◌}
 use denote.Enum.Bare.{sameb}
 use Rattle.crs_text.specs.Tokens.{Kind, number, text, word}
 use Rattle.crs_text.specs.Items.{Item, leaf, node, Items, End, More}
@@ -30,7 +31,8 @@ is_of c (node place keyword square first others close) = is_keyword c keyword
 -- class has, else 12
 abbrev pub misplaced : Item → Refused
 misplaced (leaf kind place raw) = record { number = 12; place = place }
-misplaced (node place keyword square first others close) = record { number = if is_known keyword then 12 else 11; place = place }
+misplaced (node place keyword square first others close) =
+    record { number = if is_known keyword then 12 else 11; place = place }
 
 -- a list of arguments that isn't complete is refused at the closing delimiter
 abbrev pub missing : ℕ → Refused
@@ -52,15 +54,18 @@ pub record Stands (parent : Class) (before : List Class) (item : Item) (c : Clas
 
 -- The fault of an argument and of those after it: its own, if it may not stand there; else the fault inside it;
 -- else, if there is none, the fault of those after it.
-abbrev pub ArgumentFault : Class → List Class → Item → (Class → Refused → Type 0) → (List Class → Refused → Type 0) → Refused → Type 0
+abbrev pub ArgumentFault : Class → List Class → Item → (Class → Refused → Type 0) → (List Class → Refused → Type 0) →
+    Refused → Type 0
 ArgumentFault parent before item Within Later fault =
     (((c : Class) → Stands parent before item c → ⊥) × (fault ≡ misplaced item))
-    ⊎ ((c : Class) × (Stands parent before item c × (Within c fault ⊎ (IsFree (Within c) × Later (before ++ c ∷ []) fault))))
+    ⊎ ((c : Class) × (Stands parent before item c
+    × (Within c fault ⊎ (IsFree (Within c) × Later (before ++ c ∷ []) fault))))
 
 abbrev mutual
   -- the fault of an item that is asked to be of this class
   pub Inside : Class → Item → Refused → Type 0
-  Inside c (leaf kind place raw) fault = IsFalse (is_of c (leaf kind place raw)) × (fault ≡ misplaced (leaf kind place raw))
+  Inside c (leaf kind place raw) fault =
+      IsFalse (is_of c (leaf kind place raw)) × (fault ≡ misplaced (leaf kind place raw))
   Inside c (node place keyword square first others close) fault =
       (IsFalse (is_keyword c keyword) × (fault ≡ misplaced (node place keyword square first others close)))
       ⊎ (IsTrue (is_keyword c keyword)

@@ -48,10 +48,14 @@ some c = some_of (c ∷ [])
 
 -- what may stand at a CRS's end
 abbrev pub tail : SlotParts
-tail = any_of (class.Usage ∷ class.Scope ∷ class.Area ∷ class.BoundingBox ∷ class.VerticalExtent ∷ class.Identifier ∷ class.Remark ∷ [])
+tail =
+    any_of (class.Usage ∷ class.Scope ∷ class.Area ∷ class.BoundingBox ∷ class.VerticalExtent ∷ class.Identifier
+    ∷ class.Remark ∷ [])
 
 abbrev pub vertical_tail : SlotParts
-vertical_tail = any_of (class.GeoidModel ∷ class.Usage ∷ class.Scope ∷ class.Area ∷ class.BoundingBox ∷ class.VerticalExtent ∷ class.Identifier ∷ class.Remark ∷ [])
+vertical_tail =
+    any_of (class.GeoidModel ∷ class.Usage ∷ class.Scope ∷ class.Area ∷ class.BoundingBox ∷ class.VerticalExtent
+    ∷ class.Identifier ∷ class.Remark ∷ [])
 
 abbrev pub geodetic_slots : List SlotParts
 geodetic_slots =
@@ -78,7 +82,8 @@ slots_of class.VerticalCrs =
     one class.Text ∷ one_of (class.VerticalFrame ∷ class.VerticalEnsemble ∷ []) ∷ one class.CoordinateSystem ∷
     some class.Axis ∷ optional class.AxisUnit ∷ vertical_tail ∷ []
 slots_of class.CompoundCrs =
-    one class.Text ∷ one_of (class.GeodeticCrs ∷ class.GeographicCrs ∷ class.ProjectedCrs ∷ []) ∷ one class.VerticalCrs ∷ tail ∷ []
+    one class.Text ∷ one_of (class.GeodeticCrs ∷ class.GeographicCrs ∷ class.ProjectedCrs ∷ []) ∷ one class.VerticalCrs
+    ∷ tail ∷ []
 slots_of class.BaseCrs =
     one class.Text ∷ one_of (class.GeodeticFrame ∷ class.GeodeticEnsemble ∷ []) ∷ optional class.PrimeMeridian ∷
     optional class.AngleUnit ∷ any class.Identifier ∷ []
@@ -86,11 +91,13 @@ slots_of class.GeodeticFrame = one class.Text ∷ one class.Ellipsoid ∷ any cl
 slots_of class.VerticalFrame = one class.Text ∷ any class.Anchor ∷ any class.Identifier ∷ []
 slots_of class.GeodeticEnsemble =
     one class.Text ∷ some class.Member ∷ one class.Ellipsoid ∷ one class.EnsembleAccuracy ∷ any class.Identifier ∷ []
-slots_of class.VerticalEnsemble = one class.Text ∷ some class.Member ∷ one class.EnsembleAccuracy ∷ any class.Identifier ∷ []
+slots_of class.VerticalEnsemble =
+    one class.Text ∷ some class.Member ∷ one class.EnsembleAccuracy ∷ any class.Identifier ∷ []
 slots_of class.Member = named_slots
 slots_of class.EnsembleAccuracy = one class.Number ∷ []
 slots_of class.Anchor = one class.Text ∷ []
-slots_of class.Ellipsoid = one class.Text ∷ one class.Number ∷ one class.Number ∷ optional class.LengthUnit ∷ any class.Identifier ∷ []
+slots_of class.Ellipsoid =
+    one class.Text ∷ one class.Number ∷ one class.Number ∷ optional class.LengthUnit ∷ any class.Identifier ∷ []
 slots_of class.PrimeMeridian = one class.Text ∷ one class.Number ∷ optional class.AngleUnit ∷ any class.Identifier ∷ []
 slots_of class.LengthUnit = unit_slots
 slots_of class.AngleUnit = unit_slots
@@ -99,16 +106,19 @@ slots_of class.PlainUnit = unit_slots
 slots_of class.AxisUnit = unit_slots
 slots_of class.CoordinateSystem = one class.Word ∷ one class.Number ∷ any class.Identifier ∷ []
 slots_of class.Axis =
-    one class.Text ∷ one class.Word ∷ optional class.Meridian ∷ optional class.Order ∷ optional class.AxisUnit ∷ any class.Identifier ∷ []
+    one class.Text ∷ one class.Word ∷ optional class.Meridian ∷ optional class.Order ∷ optional class.AxisUnit
+    ∷ any class.Identifier ∷ []
 slots_of class.Meridian = one class.Number ∷ one class.AngleUnit ∷ []
 slots_of class.Order = one class.Number ∷ []
 slots_of class.Conversion = one class.Text ∷ one class.Method ∷ any class.Parameter ∷ any class.Identifier ∷ []
 slots_of class.Method = named_slots
 slots_of class.Parameter =
     one class.Text ∷ one class.Number ∷
-    optional_of (class.PlainUnit ∷ class.LengthUnit ∷ class.AngleUnit ∷ class.ScaleUnit ∷ []) ∷ any class.Identifier ∷ []
+    optional_of (class.PlainUnit ∷ class.LengthUnit ∷ class.AngleUnit ∷ class.ScaleUnit ∷ []) ∷ any class.Identifier
+    ∷ []
 slots_of class.GeoidModel = named_slots
-slots_of class.Usage = optional class.Scope ∷ optional class.Area ∷ optional class.BoundingBox ∷ optional class.VerticalExtent ∷ []
+slots_of class.Usage =
+    optional class.Scope ∷ optional class.Area ∷ optional class.BoundingBox ∷ optional class.VerticalExtent ∷ []
 slots_of class.Scope = one class.Text ∷ []
 slots_of class.Area = one class.Text ∷ []
 slots_of class.BoundingBox = one class.Number ∷ one class.Number ∷ one class.Number ∷ one class.Number ∷ []

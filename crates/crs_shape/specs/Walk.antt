@@ -1,4 +1,5 @@
--- A walk over slots: the slots that are left after the arguments so far, the first of them perhaps filled already.
+-- A bridge: a walk over slots: the slots that are left after the arguments so far, the first of them perhaps filled
+-- already.
 use Rattle.std.specs.Prelude.{◌&&◌, not, Bool, true, false, Option, Some, None, List, [], ◌∷◌, drop, map, if◌then◌else◌}
 use Rattle.crs_shape.specs.declared.class.Class.{Class}
 use Rattle.crs_shape.specs.declared.fitting.Walk.{Walk}
@@ -19,7 +20,8 @@ left true (slot ∷ slots) = again slot ∷ slots
 abbrev pub after : List SlotParts → Class → Option (List SlotParts)
 after [] c = None
 after (slot ∷ slots) c =
-    if takes slot c then Some (if slot.many then again slot ∷ slots else slots) else (if slot.required then None else after slots c)
+    if takes slot c then Some (if slot.many then again slot ∷ slots else slots)
+    else (if slot.required then None else after slots c)
 
 -- whether the arguments may end here
 abbrev pub may_end : List SlotParts → Bool

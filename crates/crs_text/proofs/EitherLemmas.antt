@@ -13,7 +13,7 @@ use Rattle.crs_text.specs.declared.refusal.Reason.{Reason}
 use Rattle.crs_text.specs.declared.refusal.Reason.TheVariants.{Unexpected, UnexpectedEnd, TooDeep}
 use Rattle.crs_text.specs.declared.table.Position.{Position}
 use Rattle.crs_text.specs.declared.table.Position.TheVariants.{AfterWord}
-use Rattle.crs_text.specs.TextFault.{SpellsNode, number_of, IsStop, RefusesText}
+use Rattle.crs_text.specs.TextFault.{SpellsNode, reason_number, IsStop, RefusesText}
 use Rattle.crs_text.proofs.AllowedLemmas.{deep_from_word}
 use Rattle.crs_text.proofs.FrontsLemmas.{fronts_more, forms_shorter}
 use Rattle.crs_text.proofs.ShowsLemmas.{shows_start, viable_from_shows, shows_more, not_viable_from_shows, refused_from_shows, whole_from_shows, not_whole_from_shows}
@@ -65,7 +65,7 @@ module _ (bytes : List ℕ) where
   refused : (reason : Reason) (ts : List Token) (left : List ℕ) (skip : ℕ) (table : Flat) → length left ≤ length bytes → Fronts (length bytes) bytes ts left → Shows ts table
       → IsStop reason (length bytes) ts left skip → IsEither bytes
   refused reason ts left skip table within fronts shows stop = inr (
-    number_of reason,
+    reason_number reason,
     length bytes + skip - length left,
     record {
       reason = reason;

@@ -11,7 +11,7 @@ use Rattle.crs_text.specs.Utf8.{IsUtf8Front, IsLongestUtf8}
 use Rattle.crs_text.specs.Tokens.{number, text, Token, single, is_letter, Forms}
 use Rattle.crs_text.specs.declared.refusal.Reason.{Reason}
 use Rattle.crs_text.specs.declared.refusal.Reason.TheVariants.{BadCharacter, BadNumber, NumberRange, NotUtf8, OpenText, Unexpected, UnexpectedEnd, TooDeep}
-use Rattle.crs_text.specs.TextFault.{begins_token, is_delimiter, BeginsNoToken, IsRun, IsFlaw}
+use Rattle.crs_text.specs.TextFault.{begins_token, is_delimiter, BeginsNoToken, IsFirstRun, IsFlaw}
 use Rattle.crs_text.proofs.QuotedLemmas.{same_tail, run_split, shut_one, shut_not_open}
 use Rattle.crs_text.proofs.TokenLemmas.{Shape, a_single, shape_of, shape_at, shape_by, shape_at_start, Forms-shape, Forms-shut}
 
@@ -45,7 +45,7 @@ no_shape_at : (left : List ℕ) → BeginsNoToken left → shape_at left ≡ Non
 no_shape_at [] h = absurd h
 no_shape_at (b ∷ bs) h = no_shape b h
 
-run_shape : (left run rest : List ℕ) → IsRun left run rest → shape_at left ≡ Some (a_single number)
+run_shape : (left run rest : List ℕ) → IsFirstRun left run rest → shape_at left ≡ Some (a_single number)
 run_shape left run rest r = shape_at_start run rest left r.starts r.parts
 
 -- what a flaw begins with
@@ -74,7 +74,7 @@ flaw_shape TooDeep left skip f = absurd f
 IsInBounds-form : (b : List ℕ) → IsInBounds b → HasForm b
 IsInBounds-form b h = (h.0, h.1)
 
-one_run : (left run rest raw tail : List ℕ) → IsRun left run rest → left ≡ raw ++ tail → IsTrue (list_all is_run_byte raw) → StopsAt is_run_byte tail → raw ≡ run
+one_run : (left run rest raw tail : List ℕ) → IsFirstRun left run rest → left ≡ raw ++ tail → IsTrue (list_all is_run_byte raw) → StopsAt is_run_byte tail → raw ≡ run
 one_run left run rest raw tail r e taken ends = (run_split is_run_byte raw run tail rest taken ends r.taken r.ends (sym e ∙ r.parts)).0
 
 quote_utf8 : IsUtf8 (34 ∷ [])

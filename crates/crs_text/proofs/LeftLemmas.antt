@@ -10,7 +10,7 @@ use Rattle.crs_decimal.specs.Bounds.{IsInBounds}
 use Rattle.crs_text.specs.Quoted.{IsInside, IsShut, BeginsWith, is_quote}
 use Rattle.crs_text.specs.Utf8.{IsLongestUtf8}
 use Rattle.crs_text.specs.Tokens.{number, text, word, Token, single, comma, opening, closing, is_letter, is_word_byte, Forms}
-use Rattle.crs_text.specs.Lexing.{Stands}
+use Rattle.crs_text.specs.Lexing.{StandsBefore}
 use Rattle.crs_text.specs.declared.refusal.Reason.{Reason}
 use Rattle.crs_text.specs.declared.refusal.Reason.TheVariants.{BadCharacter, BadNumber, NumberRange, NotUtf8, OpenText}
 use Rattle.crs_text.specs.TextFault.{IsFlaw}
@@ -159,7 +159,7 @@ module _ (total : ℕ) where
   single_word : (left : List ℕ) → length left ≤ total → BeginsWith is_letter left → IsTokenOrFlaw total left
   single_word left le begins =
       let n = prefix_len is_word_byte left in
-      let w : Stands word (take n left) left (drop n left) = (lexed_word left n refl begins).0 in
+      let w : StandsBefore word (take n left) left (drop n left) = (lexed_word left n refl begins).0 in
       inl (single word (total - length left) (take n left), drop n left, record { spelled = w.spelled; formed = w.formed; ends = w.ends; placed = placed left le })
 
   -- a comma, a delimiter, or a byte that begins no token

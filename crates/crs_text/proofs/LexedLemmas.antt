@@ -12,7 +12,7 @@ use Rattle.crs_text.specs.Utf8.{IsUtf8Front, IsLongestUtf8}
 use Rattle.crs_text.specs.Tokens.{is_letter, is_word_byte, IsWord}
 use Rattle.crs_decimal.specs.Spelling.{is_run_byte, is_run_start, HasForm}
 use Rattle.crs_decimal.specs.Bounds.{IsInBounds}
-use Rattle.crs_text.specs.TextFault.{IsRun, IsFlaw}
+use Rattle.crs_text.specs.TextFault.{IsFirstRun, IsFlaw}
 use Rattle.crs_text.proofs.TokenLemmas.{and_from, letter_in_word}
 use Rattle.crs_text.specs.Lexing.{IsLexed}
 use Rattle.crs_text.specs.declared.refusal.Reason.TheVariants.{BadNumber, NumberRange, NotUtf8, OpenText}
@@ -92,7 +92,7 @@ run_begins start test (x ∷ xs) h b = rw (h x b, one-add) b
 start_in_run : (b : ℕ) → is_run_start b ≡ true → is_run_byte b ≡ true
 start_in_run b e = grind (arith, nat_tests)
 
-pub is_run : (left : List ℕ) → BeginsWith is_run_start left → IsRun left (take (prefix_len is_run_byte left) left) (drop (prefix_len is_run_byte left) left)
+pub is_run : (left : List ℕ) → BeginsWith is_run_start left → IsFirstRun left (take (prefix_len is_run_byte left) left) (drop (prefix_len is_run_byte left) left)
 is_run left b = record {
   parts = sym (take-append-drop (prefix_len is_run_byte left) left);
   starts = run_begins is_run_start is_run_byte left start_in_run b;
@@ -101,8 +101,8 @@ is_run left b = record {
 }
 
 module _ (left : List ℕ) (n : ℕ) (is_length : n ≡ prefix_len is_run_byte left) (begins : BeginsWith is_run_start left) where
-  this_run : IsRun left (take n left) (drop n left)
-  this_run = subst (λ z. IsRun left (take z left) (drop z left)) (sym is_length) (is_run left begins)
+  this_run : IsFirstRun left (take n left) (drop n left)
+  this_run = subst (λ z. IsFirstRun left (take z left) (drop z left)) (sym is_length) (is_run left begins)
 
   pub lexed_number : IsInBounds (take n left) → IsLexed left (Number n)
   lexed_number bounds =

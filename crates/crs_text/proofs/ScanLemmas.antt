@@ -6,11 +6,11 @@ use Rattle.std.proofs.lemmas.List.Sums.{prefix_len-le-length}
 use Rattle.crs_text.specs.Tokens as tokens
 use Rattle.crs_text.specs.Tokens.{Kind, Token, single, comma, opening, closing, opening_byte, closing_byte, is_white, Forms, Fronts, IsAfterWhite}
 use Rattle.crs_text.specs.Items.{Item}
-use Rattle.crs_text.specs.TextFault.{number_of, IsFlaw, IsStop, IsTextFault, RefusesText, SpellsNode}
+use Rattle.crs_text.specs.TextFault.{reason_number, IsFlaw, IsStop, IsTextFault, RefusesText, SpellsNode}
 use Rattle.crs_text.specs.Table.{Flat, flat_step, IsStep, IsOpened, is_whole}
 use Rattle.crs_text.specs.Rows.{Shows, flat}
 use Rattle.crs_text.specs.State.{start, after}
-use Rattle.crs_text.specs.Lexing.{IsLexed, Stands}
+use Rattle.crs_text.specs.Lexing.{IsLexed, StandsBefore}
 use Rattle.crs_text.specs.Refusal.{Refused}
 use Rattle.crs_text.specs.Scan.{IsReached, IsTaken, IsStopped, IsStoppedBy, IsSingleAt}
 use Rattle.crs_text.specs.declared.fault.Fault.{Fault}
@@ -36,7 +36,7 @@ stop_flaw Unexpected total ts left skip f = absurd f
 stop_flaw UnexpectedEnd total ts left skip f = absurd f
 stop_flaw TooDeep total ts left skip f = absurd f
 
-pub stopped_flaw : (text : List ℕ) (at : ℕ) (table : Flat) (reason : Reason) (skip : ℕ) (r : Refused) → r.number ≡ number_of reason → r.place ≡ at + skip → IsFlaw reason (drop at text) skip → IsStopped text at table r
+pub stopped_flaw : (text : List ℕ) (at : ℕ) (table : Flat) (reason : Reason) (skip : ℕ) (r : Refused) → r.number ≡ reason_number reason → r.place ≡ at + skip → IsFlaw reason (drop at text) skip → IsStopped text at table r
 stopped_flaw text at table reason skip r n p f =
     record { reason = reason; skip = skip; is_number = n; is_place = p; stop = λ ts shows. stop_flaw reason (length text) ts (drop at text) skip f }
 
@@ -44,7 +44,7 @@ no_skip : (at place : ℕ) → place ≡ at → place ≡ at + 0
 no_skip at place e = omega arith
 
 module _ (text : List ℕ) (at : ℕ) (table : Flat) (r : Refused) (is_place : r.place ≡ at) where
-  pub stopped_single : (kind : Kind) (place : ℕ) (raw rest : List ℕ) → r.number ≡ number_of Unexpected → Forms (length text) (single kind place raw) (drop at text) rest → flat_step table (single kind place raw) ≡ None → IsStopped text at table r
+  pub stopped_single : (kind : Kind) (place : ℕ) (raw rest : List ℕ) → r.number ≡ reason_number Unexpected → Forms (length text) (single kind place raw) (drop at text) rest → flat_step table (single kind place raw) ≡ None → IsStopped text at table r
   stopped_single kind place raw rest n f none =
       record {
         reason = Unexpected;
@@ -54,7 +54,7 @@ module _ (text : List ℕ) (at : ℕ) (table : Flat) (r : Refused) (is_place : r
         stop = λ ts shows. (single kind place raw, rest, f, not_viable_from_shows ts table (single kind place raw) shows none, λ h. h, refl);
       }
 
-  pub stopped_comma : (rest : List ℕ) → r.number ≡ number_of Unexpected → Forms (length text) comma (drop at text) rest → flat_step table comma ≡ None → IsStopped text at table r
+  pub stopped_comma : (rest : List ℕ) → r.number ≡ reason_number Unexpected → Forms (length text) comma (drop at text) rest → flat_step table comma ≡ None → IsStopped text at table r
   stopped_comma rest n f none =
       record {
         reason = Unexpected;
@@ -64,7 +64,7 @@ module _ (text : List ℕ) (at : ℕ) (table : Flat) (r : Refused) (is_place : r
         stop = λ ts shows. (comma, rest, f, not_viable_from_shows ts table comma shows none, λ h. h, refl);
       }
 
-  pub stopped_closing : (place : ℕ) (square : Bool) (rest : List ℕ) → r.number ≡ number_of Unexpected → Forms (length text) (closing place square) (drop at text) rest → flat_step table (closing place square) ≡ None → IsStopped text at table r
+  pub stopped_closing : (place : ℕ) (square : Bool) (rest : List ℕ) → r.number ≡ reason_number Unexpected → Forms (length text) (closing place square) (drop at text) rest → flat_step table (closing place square) ≡ None → IsStopped text at table r
   stopped_closing place square rest n f none =
       record {
         reason = Unexpected;
@@ -74,7 +74,7 @@ module _ (text : List ℕ) (at : ℕ) (table : Flat) (r : Refused) (is_place : r
         stop = λ ts shows. (closing place square, rest, f, not_viable_from_shows ts table (closing place square) shows none, λ h. h, refl);
       }
 
-  pub stopped_opening : (square : Bool) (behind : Flat) (rest : List ℕ) → r.number ≡ number_of Unexpected → Forms (length text) (opening square) (drop at text) rest → IsOpened table square opened.Refused behind → IsStopped text at table r
+  pub stopped_opening : (square : Bool) (behind : Flat) (rest : List ℕ) → r.number ≡ reason_number Unexpected → Forms (length text) (opening square) (drop at text) rest → IsOpened table square opened.Refused behind → IsStopped text at table r
   stopped_opening square behind rest n f refused =
       record {
         reason = Unexpected;
@@ -91,7 +91,7 @@ module _ (text : List ℕ) (at : ℕ) (table : Flat) (r : Refused) (is_place : r
         );
       }
 
-  pub stopped_too_deep : (square : Bool) (behind : Flat) (rest : List ℕ) → r.number ≡ number_of TooDeep → Forms (length text) (opening square) (drop at text) rest → IsOpened table square opened.TooDeep behind → IsStopped text at table r
+  pub stopped_too_deep : (square : Bool) (behind : Flat) (rest : List ℕ) → r.number ≡ reason_number TooDeep → Forms (length text) (opening square) (drop at text) rest → IsOpened table square opened.TooDeep behind → IsStopped text at table r
   stopped_too_deep square behind rest n f deep =
       record {
         reason = TooDeep;
@@ -122,7 +122,7 @@ module _ (text : List ℕ) (at : ℕ) (lt : at < length text) where
   fits : (n : ℕ) → n ≤ length (drop at text) → at + n ≤ length text
   fits n le = omega (arith, length-drop at text)
 
-  single_at : (kind : Kind) (raw : List ℕ) (n : ℕ) → Stands kind raw (drop at text) (drop n (drop at text)) → Forms (length text) (single kind at raw) (drop at text) (drop (at + n) text)
+  single_at : (kind : Kind) (raw : List ℕ) (n : ℕ) → StandsBefore kind raw (drop at text) (drop n (drop at text)) → Forms (length text) (single kind at raw) (drop at text) (drop (at + n) text)
   single_at kind raw n s =
       subst (λ z. Forms (length text) (single kind at raw) (drop at text) z) (further n)
       (record { spelled = s.spelled; formed = s.formed; ends = s.ends; placed = placed text at private_le })
@@ -209,7 +209,7 @@ refused_at text at table r reached s = record {
 nothing_left : (text : List ℕ) (at : ℕ) → length text ≤ at → drop at text ≡ []
 nothing_left text at le = drop_all at text le
 
-pub refused_end : (text : List ℕ) (at : ℕ) (table : Flat) (r : Refused) → IsReached text table at → length text ≤ at → is_whole table ≡ false → r.number ≡ number_of UnexpectedEnd → r.place ≡ length text → RefusesText text r.number r.place
+pub refused_end : (text : List ℕ) (at : ℕ) (table : Flat) (r : Refused) → IsReached text table at → length text ≤ at → is_whole table ≡ false → r.number ≡ reason_number UnexpectedEnd → r.place ≡ length text → RefusesText text r.number r.place
 refused_end text at table r reached le whole n p = record {
   reason = UnexpectedEnd;
   before = reached.tokens;
@@ -268,7 +268,7 @@ stop_within UnexpectedEnd total ts left skip s = omega (arith, s.2)
 stop_within TooDeep total ts left skip s = omega (arith, s.4)
 stop_within r total ts left skip s = flaw_within r left skip s
 
-number_range : (r : Reason) → (1 ≤ number_of r) × (number_of r ≤ 8)
+number_range : (r : Reason) → (1 ≤ reason_number r) × (reason_number r ≤ 8)
 number_range BadCharacter = (omega arith, omega arith)
 number_range BadNumber = (omega arith, omega arith)
 number_range NumberRange = (omega arith, omega arith)

@@ -6,7 +6,7 @@ use Rattle.crs_text.specs.Tokens as tokens
 use Rattle.crs_text.specs.Tokens.{Token, single, comma, opening, closing, spelling, IsFormed, Forms, IsAfterWhite, Fronts, AreTokens}
 use Rattle.crs_text.specs.Items.{Item}
 use Rattle.crs_text.specs.Rows.{rows}
-use Rattle.crs_text.specs.Tree.{StandsAt, Stands, AllStand, Each, IsTable}
+use Rattle.crs_text.specs.Tree.{StandsAt, TokenStands, AllStand, Each, IsTable}
 use Rattle.crs_text.specs.TextFault.{SpellsNode}
 use Rattle.crs_text.specs.declared.table.Row.{Row}
 use Rattle.crs_text.proofs.WrittenLemmas.{fronts_formed}
@@ -24,7 +24,7 @@ stands_at source front raw rest place e p = record {
   bytes = sym (ap (λ z. take (length raw) z) (ap (drop place) e ∙ drop_at front (raw ++ rest) place (sym p)) ∙ take-append_seam raw rest);
 }
 
-stands : (source : List ℕ) (t : Token) (left rest : List ℕ) → EndsIn source left → Forms (length source) t left rest → Stands source t
+stands : (source : List ℕ) (t : Token) (left rest : List ℕ) → EndsIn source left → Forms (length source) t left rest → TokenStands source t
 stands source (single tokens.number place raw) left rest (front, e) f =
     stands_at source front raw rest place (e ∙ ap (λ z. front ++ z) f.spelled) (omega (arith, ap length e, length-append front left, f.placed))
 stands source (single tokens.text place raw) left rest (front, e) f =

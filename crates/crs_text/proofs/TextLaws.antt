@@ -6,7 +6,7 @@ use Rattle.crs_text.specs.Items.{Item, AreNode}
 use Rattle.crs_text.specs.Viable.{IsViable}
 use Rattle.crs_text.specs.declared.refusal.Reason.{Reason}
 use Rattle.crs_text.specs.declared.refusal.Reason.TheVariants.{Unexpected, UnexpectedEnd, TooDeep}
-use Rattle.crs_text.specs.TextFault.{SpellsNode, number_of, IsTooDeep, IsStop, RefusesText}
+use Rattle.crs_text.specs.TextFault.{SpellsNode, reason_number, IsTooDeep, IsStop, RefusesText}
 use Rattle.crs_text.proofs.TokenLemmas.{Forms-one}
 use Rattle.crs_text.proofs.FlawLemmas.{flaw_no_token, flaw_one, flaw_some}
 use Rattle.crs_text.proofs.FrontsLemmas.{fronts_dark, GoesOn, fronts_compare, front_token, front_none, forms_some}
@@ -92,17 +92,17 @@ spelled_not_refused bytes item n place p r =
 -- two fronts of viable tokens that stop: neither goes past the other
 module _ (bytes : List ℕ) where
   same_stop : (r s : Reason) (ts us : List Token) (a b : List ℕ) (k m p q : ℕ) → ts ≡ us → a ≡ b → IsStop r (length bytes) ts a k → IsStop s (length bytes) us b m
-      → p + length a ≡ length bytes + k → q + length b ≡ length bytes + m → (number_of r ≡ number_of s) × (p ≡ q)
+      → p + length a ≡ length bytes + k → q + length b ≡ length bytes + m → (reason_number r ≡ reason_number s) × (p ≡ q)
   same_stop r s ts us a b k m p q e f x y u v =
       let y2 : IsStop s (length bytes) ts a m = subst (λ z. IsStop s (length bytes) z a m) (sym e) (subst (λ z. IsStop s (length bytes) us z m) (sym f) y) in
       let o = stop_one r s (length bytes) ts a k m x y2 in
       let l : length a ≡ length b = ap length f in
       let w : k ≡ m = o.1 in
-      (ap number_of o.0, omega arith)
+      (ap reason_number o.0, omega arith)
 
   stops_alike : (r s : Reason) (ts us : List Token) (a b : List ℕ) (k m p q : ℕ) → Fronts (length bytes) bytes ts a → Fronts (length bytes) bytes us b → IsViable us
       → IsStop r (length bytes) ts a k → IsStop s (length bytes) us b m → p + length a ≡ length bytes + k → q + length b ≡ length bytes + m
-      → GoesOn (length bytes) ts a us b → (number_of r ≡ number_of s) × (p ≡ q)
+      → GoesOn (length bytes) ts a us b → (reason_number r ≡ reason_number s) × (p ≡ q)
   stops_alike r s ts us a b k m p q fa fb viable x y u v ([], e, f) =
       same_stop r s ts us a b k m p q (sym (append-nil ts) ∙ sym e) (front_none (length bytes) a b (fronts_dark (length bytes) ts bytes a fa) f) x y u v
   stops_alike r s ts us a b k m p q fa fb viable x y u v (t ∷ more, e, f) = absurd (no_further r (length bytes) ts us bytes a b k t more fa x e f viable)

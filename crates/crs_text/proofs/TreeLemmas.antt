@@ -9,7 +9,7 @@ use Rattle.crs_text.specs.Tokens.{Kind, number, text, word, Token, single, closi
 use Rattle.crs_text.specs.Items.{Item, leaf, node, Items, End, More, tokens, others_tokens, first_of, kind_of, raw_of, place_of, here, HasId}
 use Rattle.crs_text.specs.Table.{item_kind, leaf_row}
 use Rattle.crs_text.specs.Rows.{rows, rows_of_items, row_of}
-use Rattle.crs_text.specs.Tree.{part_of, parts, parts_of_items, tree, tree-parts, raw_place, part, tree_of, StandsAt, Stands, Each, AllStand, IsTable}
+use Rattle.crs_text.specs.Tree.{part_of, parts, parts_of_items, tree, tree-parts, raw_place, part, tree_of, StandsAt, TokenStands, Each, AllStand, IsTable}
 use Rattle.crs_text.specs.declared.items.ItemKind.TheVariants.{Number}
 use Rattle.crs_text.specs.declared.table.Row.{Row}
 use Rattle.crs_text.proofs.HereLemmas.{Here, items_at, heres, heres_in, heres_of}
@@ -29,7 +29,7 @@ pub each_both : (P : Token → Type 0) (a b : List Token) → Each P a → Each 
 each_both P [] b h k = k
 each_both P (t ∷ a) b h k = (h.0, each_both P a b h.1 k)
 
-part-leaf : (source : List ℕ) (kind : Kind) (place : ℕ) (raw : List ℕ) (depth : ℕ) → Stands source (single kind place raw) →
+part-leaf : (source : List ℕ) (kind : Kind) (place : ℕ) (raw : List ℕ) (depth : ℕ) → TokenStands source (single kind place raw) →
     part source (leaf_row (item_kind kind) place (length raw) depth) ≡ part_of (leaf kind place raw)
 part-leaf source number place raw depth h = rw (← h.bytes) refl
 part-leaf source text place raw depth h = rw (← h.bytes) refl
@@ -39,9 +39,9 @@ mutual
   parts-rows : (item : Item) (source : List ℕ) (depth : ℕ) → AllStand source (tokens item) → map (part source) (rows depth item) ≡ parts item
   parts-rows (leaf kind place raw) source depth h = ap (λ p. p ∷ []) (part-leaf source kind place raw depth h.0)
   parts-rows (node place keyword square first others close) source depth h =
-      let left = each_left (Stands source) (tokens first ++ others_tokens others) (closing close square ∷ []) h.1.1 in
-      let a = parts-rows first source (suc depth) (each_left (Stands source) (tokens first) (others_tokens others) left) in
-      let b = parts-rows_of_items others source (suc depth) (each_right (Stands source) (tokens first) (others_tokens others) left) in
+      let left = each_left (TokenStands source) (tokens first ++ others_tokens others) (closing close square ∷ []) h.1.1 in
+      let a = parts-rows first source (suc depth) (each_left (TokenStands source) (tokens first) (others_tokens others) left) in
+      let b = parts-rows_of_items others source (suc depth) (each_right (TokenStands source) (tokens first) (others_tokens others) left) in
       let c = map-append (part source) (rows (suc depth) first) (rows_of_items (suc depth) others) in
       let raw = h.0.bytes in
       rw (← raw) (let body : map (part source) (rows (suc depth) first ++ rows_of_items (suc depth) others) ≡ parts first ++ parts_of_items others = cc in
@@ -50,8 +50,8 @@ mutual
   parts-rows_of_items : (items : Items) (source : List ℕ) (depth : ℕ) → AllStand source (others_tokens items) → map (part source) (rows_of_items depth items) ≡ parts_of_items items
   parts-rows_of_items End source depth h = refl
   parts-rows_of_items (More item items) source depth h =
-      let a = parts-rows item source depth (each_left (Stands source) (tokens item) (others_tokens items) h.1) in
-      let b = parts-rows_of_items items source depth (each_right (Stands source) (tokens item) (others_tokens items) h.1) in
+      let a = parts-rows item source depth (each_left (TokenStands source) (tokens item) (others_tokens items) h.1) in
+      let b = parts-rows_of_items items source depth (each_right (TokenStands source) (tokens item) (others_tokens items) h.1) in
       let c = map-append (part source) (rows depth item) (rows_of_items depth items) in
       cc
 
@@ -120,7 +120,7 @@ stands_here source (node place keyword square first others close) h = h.0
 
 -- the raw bytes of each item stand in the source
 pub stands : (source : List ℕ) (tree : Item) (id : ℕ) → AllStand source (tokens tree) → id < length (rows 0 tree) → StandsHere source (first_of (here tree id))
-stands source tree id = each_item (Stands source) (StandsHere source) (stands_here source) tree id
+stands source tree id = each_item (TokenStands source) (StandsHere source) (stands_here source) tree id
 
 -- the raw bytes of the item whose row this is
 module _ (source : List ℕ) (tree : Item) (id : ℕ) (row : Row) (stand : AllStand source (tokens tree)) (has : HasId tree id)

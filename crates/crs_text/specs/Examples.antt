@@ -1,4 +1,5 @@
--- The definitions on VERTCRS["H",VDATUM["D"],CS[vertical,1],AXIS["h",up,LENGTHUNIT["metre",1]]] and on words nested deeply.
+-- The definitions on VERTCRS["H",VDATUM["D"],CS[vertical,1],AXIS["h",up,LENGTHUNIT["metre",1]]] and on words nested
+-- deeply.
 use Rattle.std.specs.Prelude.{◌≡◌, ℕ, zero, suc, codes, true, List, [], ◌∷◌, ◌++◌}
 use Rattle.crs_text.specs.Tokens.{number, text, word, Token, single, opening}
 use Rattle.crs_text.specs.Items.{Item, leaf, node, End, More, arguments, rest_of, skip, size_of, here}
@@ -40,4 +41,5 @@ nested (suc n) = single word 0 (codes "a") ∷ opening true ∷ nested n
 
 -- behind 12 open delimiters a word has no room for one more, behind 11 it has
 abbrev pub AreLimited : Type 0
-AreLimited = IsFull (nested 12 ++ single word 24 (codes "a") ∷ []) × ¬ (IsFull (nested 11 ++ single word 22 (codes "a") ∷ []))
+AreLimited =
+    IsFull (nested 12 ++ single word 24 (codes "a") ∷ []) × ¬ (IsFull (nested 11 ++ single word 22 (codes "a") ∷ []))

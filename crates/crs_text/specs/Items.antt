@@ -1,6 +1,7 @@
 -- Items: a single token, or a node, which is a word, an opening delimiter, one or more items separated by
 -- commas, and the closing delimiter of the same kind.
-use Rattle.std.specs.Prelude.{◌≡◌, ◌≢◌, ℕ, zero, suc, ◌+◌, ◌≤◌, max, Bool, Option, Some, None, List, [], ◌∷◌, ◌++◌, slice_index_or}
+use Rattle.std.specs.Prelude.{◌≡◌, ◌≢◌, ℕ, zero, suc, ◌+◌, ◌≤◌, max, Bool, Option, Some, None, List, [], ◌∷◌, ◌++◌}
+use Rattle.std.specs.Prelude.{slice_index_or}
 use Rattle.crs_decimal.specs.Bounds.{Denotes}
 use Rattle.crs_decimal.specs.Value.{Value, IsNormal, exact}
 use Rattle.crs_text.specs.declared.items.ItemKind.{ItemKind}
@@ -121,7 +122,8 @@ abbrev mutual
   inside_items End = []
   inside_items (More item items) = More item items ∷ (inside item ++ inside_items items)
 
--- item number `id` of a tree, in the order in which the items begin, and the later arguments of its node; none if there are fewer
+-- item number `id` of a tree, in the order in which the items begin, and the later arguments of its node; none if
+-- there are fewer
 unfoldable pub here : Item → ℕ → Items
 here tree id = slice_index_or (More tree End ∷ inside tree) id End
 

@@ -12,7 +12,8 @@ is_refusal n = (nat_le 1 n && nat_le n 8) || (nat_le 11 n && nat_le n 13) || (na
 
 -- the refusals of the text itself
 abbrev pub text_name : ℕ → List ℕ
-text_name n = if n == 1 then codes "BadCharacter" else (if n == 2 then codes "BadNumber" else (if n == 3 then codes "NumberRange"
+text_name n =
+    if n == 1 then codes "BadCharacter" else (if n == 2 then codes "BadNumber" else (if n == 3 then codes "NumberRange"
     else (if n == 4 then codes "NotUtf8" else (if n == 5 then codes "OpenText" else (if n == 6 then codes "Unexpected"
     else (if n == 7 then codes "UnexpectedEnd" else codes "TooDeep"))))))
 
@@ -22,8 +23,11 @@ shape_name n = if n == 11 then codes "UnknownKeyword" else (if n == 12 then code
 
 -- those of a value
 abbrev pub value_name : ℕ → List ℕ
-value_name n = if n == 21 then codes "UnknownWord" else (if n == 22 then codes "RepeatedPart" else (if n == 23 then codes "BadSystem"
-    else (if n == 24 then codes "BadComponent" else (if n == 25 then codes "AxisCount" else (if n == 26 then codes "BadOrder"
+value_name n =
+    if n == 21 then codes "UnknownWord" else (if n == 22 then codes "RepeatedPart"
+    else (if n == 23 then codes "BadSystem"
+    else (if n == 24 then codes "BadComponent" else (if n == 25 then codes "AxisCount"
+    else (if n == 26 then codes "BadOrder"
     else (if n == 27 then codes "BadUnit" else (if n == 28 then codes "BadValue" else codes "BadDynamic")))))))
 
 -- the name of a refusal's number

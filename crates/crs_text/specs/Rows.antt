@@ -1,7 +1,8 @@
--- The rows of items, in the order in which the items begin, and the table of a state.
+-- A bridge: the rows of items, in the order in which the items begin, and the table of a state.
 use Rattle.std.specs.Prelude.{◌≡◌, ℕ, suc, Bool, false, Some, List, [], ◌∷◌, ◌++◌, length}
 use Rattle.crs_text.specs.Tokens.{Token}
-use Rattle.crs_text.specs.Items.{Item, leaf, node, Items, End, More, arguments, count, kind_of, raw_of, place_of, size_of}
+use Rattle.crs_text.specs.Items.{Item, leaf, node, Items, End, More, arguments, count, kind_of, raw_of, place_of}
+use Rattle.crs_text.specs.Items.{size_of}
 use Rattle.crs_text.specs.State.{Frame, State, wants, worded, after, start, run}
 use Rattle.crs_text.specs.Table.{Flat, item_kind, leaf_row}
 use Rattle.crs_text.specs.declared.items.ItemKind.TheVariants.{Word, Node}
@@ -12,13 +13,23 @@ use Rattle.crs_text.specs.declared.table.Open.{Open}
 -- a node's row and the rows of its arguments
 abbrev pub node_rows : ℕ → ℕ → Bool → ℕ → ℕ → ℕ → List Row → List Row
 node_rows place len square close n depth body =
-    record { kind = Node; square = square; depth = depth; place = place; length = len; close = close; count = n; size = suc (length body) } ∷ body
+    record {
+      kind = Node;
+      square = square;
+      depth = depth;
+      place = place;
+      length = len;
+      close = close;
+      count = n;
+      size = suc (length body);
+    } ∷ body
 
 abbrev mutual
   pub rows : ℕ → Item → List Row
   rows depth (leaf kind place raw) = leaf_row (item_kind kind) place (length raw) depth ∷ []
   rows depth (node place keyword square first others close) =
-      node_rows place (length keyword) square close (suc (count others)) depth (rows (suc depth) first ++ rows_of_items (suc depth) others)
+      node_rows place (length keyword) square close (suc (count others)) depth
+      (rows (suc depth) first ++ rows_of_items (suc depth) others)
 
   pub rows_of_items : ℕ → Items → List Row
   rows_of_items depth End = []
@@ -30,7 +41,17 @@ rows_before depth [] = []
 rows_before depth (item ∷ before) = rows_before depth before ++ rows depth item
 
 abbrev pub open_row : Frame → ℕ → Row
-open_row f depth = record { kind = Node; square = f.square; depth = depth; place = f.place; length = length f.keyword; close = 0; count = 0; size = 1 }
+open_row f depth =
+    record {
+      kind = Node;
+      square = f.square;
+      depth = depth;
+      place = f.place;
+      length = length f.keyword;
+      close = 0;
+      count = 0;
+      size = 1;
+    }
 
 abbrev pub rows_of_frames : List Frame → List Row
 rows_of_frames [] = []
@@ -47,9 +68,20 @@ opens_of (f ∷ fs) = open_of f fs (suc (length f.before)) ∷ opens_of fs
 -- the table of a state
 abbrev pub flat : State → Flat
 flat (wants []) = record { rows = []; opens = []; position = BeforeItem }
-flat (wants (f ∷ fs)) = record { rows = rows_of_frames (f ∷ fs); opens = open_of f fs (length f.before) ∷ opens_of fs; position = BeforeItem }
-flat (worded place raw fs) = record { rows = rows_of_frames fs ++ leaf_row Word place (length raw) (length fs) ∷ []; opens = opens_of fs; position = AfterWord }
-flat (after item fs) = record { rows = rows_of_frames fs ++ rows (length fs) item; opens = opens_of fs; position = AfterItem }
+flat (wants (f ∷ fs)) =
+    record {
+      rows = rows_of_frames (f ∷ fs);
+      opens = open_of f fs (length f.before) ∷ opens_of fs;
+      position = BeforeItem;
+    }
+flat (worded place raw fs) =
+    record {
+      rows = rows_of_frames fs ++ leaf_row Word place (length raw) (length fs) ∷ [];
+      opens = opens_of fs;
+      position = AfterWord;
+    }
+flat (after item fs) =
+    record { rows = rows_of_frames fs ++ rows (length fs) item; opens = opens_of fs; position = AfterItem }
 
 -- these tokens are viable, and this is their table
 abbrev pub Shows : List Token → Flat → Type 0

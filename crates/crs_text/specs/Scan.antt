@@ -1,7 +1,7 @@
 -- A bridge: how far the scan has come.
 use Rattle.std.specs.Prelude.{◌≡◌, ℕ, ◌+◌, ◌≤◌, List, [], length, drop, Some}
 use Rattle.crs_text.specs.Tokens.{Kind, Token, single, Forms, Fronts}
-use Rattle.crs_text.specs.TextFault.{number_of, IsStop, SpellsNode}
+use Rattle.crs_text.specs.TextFault.{reason_number, IsStop, SpellsNode}
 use Rattle.crs_text.specs.Table.{Flat, flat_step, item_kind}
 use Rattle.crs_text.specs.Rows.{Shows, flat}
 use Rattle.crs_text.specs.State.{after}
@@ -30,7 +30,7 @@ pub record IsTaken (text : List ℕ) (at : ℕ) (before behind : Flat) (n : ℕ)
 pub record IsStopped (text : List ℕ) (at : ℕ) (table : Flat) (refusal : Refused) : Type 0 where
   pub reason : Reason
   pub skip : ℕ
-  pub is_number : refusal.number ≡ number_of reason
+  pub is_number : refusal.number ≡ reason_number reason
   pub is_place : refusal.place ≡ at + skip
   pub stop : (ts : List Token) → Shows ts table → IsStop reason (length text) ts (drop at text) skip
 

@@ -1,4 +1,5 @@
--- How far a list of tokens has come towards a node: the nodes that are open, each with what came before in it.
+-- A bridge: how far a list of tokens has come towards a node: the nodes that are open, each with what came before in
+-- it.
 use Rattle.std.specs.Prelude.{ℕ, nat_lt, Bool, true, false, Option, Some, None, List, [], ◌∷◌, ◌++◌, length}
 use Rattle.std.specs.Option.{option_and_then}
 use Rattle.std.specs.List.{fold}
@@ -59,7 +60,8 @@ step limit (wants []) (single word place raw) = Some (worded place raw [])
 step limit (wants (f ∷ fs)) (single kind place raw) = Some (behind_leaf kind place raw (f ∷ fs))
 step limit (wants fs) t = None
 step limit (worded place raw fs) (opening square) =
-    only_if (nat_lt (length fs) limit) (wants (record { place = place; keyword = raw; square = square; before = [] } ∷ fs))
+    only_if (nat_lt (length fs) limit) (wants
+    (record { place = place; keyword = raw; square = square; before = [] } ∷ fs))
 step limit (worded place raw fs) t = behind (leaf word place raw) fs t
 step limit (after item fs) t = behind item fs t
 

@@ -1,5 +1,6 @@
--- The table of items under construction: a row for each item that has begun, and the nodes that are open.
-use Rattle.std.specs.Prelude.{◌≡◌, ℕ, zero, suc, ◌+◌, ◌-◌, ◌<◌, nat_lt, ◌&&◌, Bool, true, false, if◌then◌else◌, Option, Some, None, List, [], ◌∷◌, ◌++◌, length, slice_index_or, slice_set}
+-- A bridge: the table of items under construction: a row for each item that has begun, and the nodes that are open.
+use Rattle.std.specs.Prelude.{◌≡◌, ℕ, zero, suc, ◌+◌, ◌-◌, ◌<◌, nat_lt, ◌&&◌, Bool, true, false, if◌then◌else◌, Option}
+use Rattle.std.specs.Prelude.{Some, None, List, [], ◌∷◌, ◌++◌, length, slice_index_or, slice_set}
 use Rattle.crs_text.specs.Tokens.{Kind, number, text, word, Token, single, comma, opening, closing}
 use Rattle.crs_text.specs.State.{same_square}
 use Rattle.crs_text.specs.declared.items.ItemKind.{ItemKind}
@@ -85,7 +86,9 @@ may_go_on AfterItem [] = false
 may_go_on AfterItem (o ∷ os) = true
 
 abbrev pub flat_comma : Flat → Option Flat
-flat_comma f = if may_go_on f.position f.opens then Some (record { rows = f.rows; opens = f.opens; position = BeforeItem }) else None
+flat_comma f =
+    if may_go_on f.position f.opens then Some (record { rows = f.rows; opens = f.opens; position = BeforeItem })
+    else None
 
 abbrev pub is_after_word : Position → Bool
 is_after_word BeforeItem = false
@@ -95,7 +98,9 @@ is_after_word AfterItem = false
 -- the last word becomes a node
 abbrev pub with_open : Flat → Bool → Flat
 with_open f square = record {
-  rows = slice_set f.rows (length f.rows - 1) (record (slice_index_or f.rows (length f.rows - 1) no_row) { kind = Node; square = square });
+  rows =
+      slice_set f.rows (length f.rows - 1)
+      (record (slice_index_or f.rows (length f.rows - 1) no_row) { kind = Node; square = square });
   opens = record { row = length f.rows - 1; square = square; count = 0 } ∷ f.opens;
   position = BeforeItem;
 }
@@ -114,13 +119,20 @@ with_close f place = closed f.opens
     closed : List Open → Flat
     closed [] = f
     closed (o ∷ os) = record {
-      rows = slice_set f.rows o.row (record (slice_index_or f.rows o.row no_row) { close = place; count = o.count; size = length f.rows - o.row });
+      rows =
+          slice_set f.rows o.row
+          (record (slice_index_or f.rows o.row no_row) {
+            close = place;
+            count = o.count;
+            size = length f.rows - o.row;
+          });
       opens = os;
       position = AfterItem;
     }
 
 abbrev pub flat_close : Flat → ℕ → Bool → Option Flat
-flat_close f place square = if may_go_on f.position f.opens && has_square f.opens square then Some (with_close f place) else None
+flat_close f place square =
+    if may_go_on f.position f.opens && has_square f.opens square then Some (with_close f place) else None
 
 -- one token more
 abbrev pub flat_step : Flat → Token → Option Flat

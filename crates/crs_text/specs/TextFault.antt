@@ -12,21 +12,22 @@ use Rattle.crs_text.specs.Viable.{IsViable, IsViableAtAnyDepth}
 use Rattle.crs_text.specs.declared.fault.Fault.{Fault}
 use Rattle.crs_text.specs.declared.fault.Fault.TheVariants as faults
 use Rattle.crs_text.specs.declared.refusal.Reason.{Reason}
-use Rattle.crs_text.specs.declared.refusal.Reason.TheVariants.{BadCharacter, BadNumber, NumberRange, NotUtf8, OpenText, Unexpected, UnexpectedEnd, TooDeep}
+use Rattle.crs_text.specs.declared.refusal.Reason.TheVariants.{BadCharacter, BadNumber, NumberRange, NotUtf8, OpenText}
+use Rattle.crs_text.specs.declared.refusal.Reason.TheVariants.{Unexpected, UnexpectedEnd, TooDeep}
 
 -- the text is this node
 abbrev pub SpellsNode : List ℕ → Item → Type 0
 SpellsNode bytes item = (ts : List Token) × AreTokens bytes ts × AreNode item ts
 
-abbrev pub number_of : Reason → ℕ
-number_of BadCharacter = 1
-number_of BadNumber = 2
-number_of NumberRange = 3
-number_of NotUtf8 = 4
-number_of OpenText = 5
-number_of Unexpected = 6
-number_of UnexpectedEnd = 7
-number_of TooDeep = 8
+abbrev pub reason_number : Reason → ℕ
+reason_number BadCharacter = 1
+reason_number BadNumber = 2
+reason_number NumberRange = 3
+reason_number NotUtf8 = 4
+reason_number OpenText = 5
+reason_number Unexpected = 6
+reason_number UnexpectedEnd = 7
+reason_number TooDeep = 8
 
 abbrev pub is_delimiter : ℕ → Bool
 is_delimiter b = b == 44 || b == 91 || b == 40 || b == 93 || b == 41
@@ -40,7 +41,7 @@ BeginsNoToken [] = ⊥
 BeginsNoToken (b ∷ bs) = IsFalse (begins_token b)
 
 -- the bytes begin with a run: a digit, a sign or a period, and all bytes after it that a number could take
-pub record IsRun (left run rest : List ℕ) : Type 0 where
+pub record IsFirstRun (left run rest : List ℕ) : Type 0 where
   pub parts : left ≡ run ++ rest
   pub starts : BeginsWith is_run_start run
   pub taken : IsTrue (list_all is_run_byte run)
@@ -49,9 +50,12 @@ pub record IsRun (left run rest : List ℕ) : Type 0 where
 -- no token can be formed in front of what is left; the fault lies `skip` bytes further on
 abbrev pub IsFlaw : Reason → List ℕ → ℕ → Type 0
 IsFlaw BadCharacter left skip = BeginsNoToken left × (skip ≡ 0)
-IsFlaw BadNumber left skip = (run rest : List ℕ) × IsRun left run rest × ¬ (HasForm run) × (skip ≡ 0)
-IsFlaw NumberRange left skip = (run rest : List ℕ) × IsRun left run rest × HasForm run × ¬ (IsInBounds run) × (skip ≡ 0)
-IsFlaw NotUtf8 left skip = (after inside : List ℕ) × (left ≡ 34 ∷ after) × Through after inside × ¬ (IsUtf8Front inside) × (n : ℕ) × IsLongestUtf8 after n × (skip ≡ 1 + n)
+IsFlaw BadNumber left skip = (run rest : List ℕ) × IsFirstRun left run rest × ¬ (HasForm run) × (skip ≡ 0)
+IsFlaw NumberRange left skip =
+    (run rest : List ℕ) × IsFirstRun left run rest × HasForm run × ¬ (IsInBounds run) × (skip ≡ 0)
+IsFlaw NotUtf8 left skip =
+    (after inside : List ℕ) × (left ≡ 34 ∷ after) × Through after inside × ¬ (IsUtf8Front inside) × (n : ℕ)
+    × IsLongestUtf8 after n × (skip ≡ 1 + n)
 IsFlaw OpenText left skip = (after : List ℕ) × (left ≡ 34 ∷ after) × IsInside after × IsUtf8Front after × (skip ≡ 0)
 IsFlaw Unexpected left skip = ⊥
 IsFlaw UnexpectedEnd left skip = ⊥
@@ -61,7 +65,8 @@ IsFlaw TooDeep left skip = ⊥
 abbrev pub IsTooDeep : List Token → Token → Type 0
 IsTooDeep ts (single kind place raw) = ⊥
 IsTooDeep ts comma = ⊥
-IsTooDeep ts (opening square) = IsViableAtAnyDepth (ts ++ opening square ∷ []) × ¬ (IsViable (ts ++ opening square ∷ []))
+IsTooDeep ts (opening square) =
+    IsViableAtAnyDepth (ts ++ opening square ∷ []) × ¬ (IsViable (ts ++ opening square ∷ []))
 IsTooDeep ts (closing place square) = ⊥
 
 abbrev pub IsNoNode : List Token → Type 0
@@ -74,9 +79,12 @@ IsStop BadNumber total ts left skip = IsFlaw BadNumber left skip
 IsStop NumberRange total ts left skip = IsFlaw NumberRange left skip
 IsStop NotUtf8 total ts left skip = IsFlaw NotUtf8 left skip
 IsStop OpenText total ts left skip = IsFlaw OpenText left skip
-IsStop Unexpected total ts left skip = (t : Token) × (rest : List ℕ) × Forms total t left rest × ¬ (IsViable (ts ++ t ∷ [])) × ¬ (IsTooDeep ts t) × (skip ≡ 0)
+IsStop Unexpected total ts left skip =
+    (t : Token) × (rest : List ℕ) × Forms total t left rest × ¬ (IsViable (ts ++ t ∷ [])) × ¬ (IsTooDeep ts t)
+    × (skip ≡ 0)
 IsStop UnexpectedEnd total ts left skip = (left ≡ []) × IsNoNode ts × (skip ≡ 0)
-IsStop TooDeep total ts left skip = (t : Token) × (rest : List ℕ) × Forms total t left rest × IsTooDeep ts t × (skip ≡ 0)
+IsStop TooDeep total ts left skip =
+    (t : Token) × (rest : List ℕ) × Forms total t left rest × IsTooDeep ts t × (skip ≡ 0)
 
 -- the text is refused with this number at this place: the tokens before are viable, and there it stops
 pub record RefusesText (bytes : List ℕ) (number place : ℕ) : Type 0 where
@@ -87,7 +95,7 @@ pub record RefusesText (bytes : List ℕ) (number place : ℕ) : Type 0 where
   pub fronts : Fronts (length bytes) bytes before left
   pub viable : IsViable before
   pub stop : IsStop reason (length bytes) before left skip
-  pub is_number : number ≡ number_of reason
+  pub is_number : number ≡ reason_number reason
   pub is_place : place + length left ≡ length bytes + skip
 
 -- a fault that is a refusal is that of the text

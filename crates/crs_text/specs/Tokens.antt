@@ -1,6 +1,7 @@
 -- Tokens: single ones (numbers, quoted texts and words), commas and the two kinds of delimiters; and the
 -- tokens of a text, with white space before, between and after them.
-use Rattle.std.specs.Prelude.{◌≡◌, ℕ, ◌+◌, ◌&&◌, ◌||◌, ◌==◌, nat_le, Bool, true, false, IsTrue, List, [], ◌∷◌, ◌++◌, length, IsUtf8}
+use Rattle.std.specs.Prelude.{◌≡◌, ℕ, ◌+◌, ◌&&◌, ◌||◌, ◌==◌, nat_le, Bool, true, false, IsTrue, List, [], ◌∷◌, ◌++◌}
+use Rattle.std.specs.Prelude.{length, IsUtf8}
 use Rattle.std.specs.List.{list_all}
 use Rattle.crs_decimal.specs.Spelling.{is_digit, is_run_byte, is_run_start}
 use Rattle.crs_decimal.specs.Bounds.{IsInBounds}
@@ -103,7 +104,8 @@ pub record IsAfterWhite (bytes left : List ℕ) : Type 0 where
 -- the bytes are the tokens with white space before, between and after them, and then what is left
 abbrev pub Fronts : ℕ → List ℕ → List Token → List ℕ → Type 0
 Fronts total bytes [] left = IsAfterWhite bytes left
-Fronts total bytes (t ∷ ts) left = (at rest : List ℕ) × IsAfterWhite bytes at × Forms total t at rest × Fronts total rest ts left
+Fronts total bytes (t ∷ ts) left =
+    (at rest : List ℕ) × IsAfterWhite bytes at × Forms total t at rest × Fronts total rest ts left
 
 -- the text is the tokens with white space before, between and after them
 abbrev pub AreTokens : List ℕ → List Token → Type 0

@@ -1,9 +1,10 @@
--- The tree that rows give: how a table of rows over its source is seen as an item.
+-- A bridge: the tree that rows give: how a table of rows over its source is seen as an item.
 use Rattle.std.specs.Prelude.{◌≡◌, ℕ, zero, suc, ◌+◌, ◌≤◌, Bool, List, [], ◌∷◌, ◌++◌, length, take, drop, map, refl}
 use Rattle.std.specs.Coded.{Coded, coded_ℕ, coded_bool, coded_list, coded×, code_by}
 use Rattle.std.proofs.Common.{◌∙◌, ap, sym, append_assoc}
 use Rattle.crs_text.specs.Tokens.{number, text, word, Token, single, comma, opening, closing, IsFormed}
-use Rattle.crs_text.specs.Items.{Item, leaf, node, Items, End, More, tokens, arguments, count, first_of, skip, only, kind_of, raw_of, place_of, IsNode}
+use Rattle.crs_text.specs.Items.{Item, leaf, node, Items, End, More, tokens, arguments, count, first_of, skip, only}
+use Rattle.crs_text.specs.Items.{kind_of, raw_of, place_of, IsNode}
 use Rattle.crs_text.specs.Rows.{rows, square_of, close_place}
 use Rattle.crs_text.specs.declared.items.ItemKind.{ItemKind}
 use Rattle.crs_text.specs.declared.items.ItemKind.TheVariants.{Number, Text, Word, Node}
@@ -32,7 +33,8 @@ abbrev mutual
   -- an item's parts in the order in which the items begin
   pub parts : Item → List Part
   parts (leaf kind place raw) = part_of (leaf kind place raw) ∷ []
-  parts (node place keyword square first others close) = part_of (node place keyword square first others close) ∷ (parts first ++ parts_of_items others)
+  parts (node place keyword square first others close) =
+      part_of (node place keyword square first others close) ∷ (parts first ++ parts_of_items others)
 
   pub parts_of_items : Items → List Part
   parts_of_items End = []
@@ -85,7 +87,8 @@ mutual
       ∙ ap (λ is. More (made p (More first is)) (skip (count others) (join others (forest ps)))) (only-join others (forest ps))
       ∙ ap (λ is. More (node place keyword square first others close) is) (skip-join others (forest ps))
 
-  forest-parts_of_items : (items : Items) (ps : List Part) → forest (parts_of_items items ++ ps) ≡ join items (forest ps)
+  forest-parts_of_items : (items : Items) (ps : List Part) → forest (parts_of_items items ++ ps)
+      ≡ join items (forest ps)
   forest-parts_of_items End ps = refl
   forest-parts_of_items (More item items) ps =
       ap forest (append_assoc (parts item) (parts_of_items items) ps) ∙ forest-parts item (parts_of_items items ++ ps) ∙ ap (λ is. More item is) (forest-parts_of_items items ps)
@@ -159,13 +162,13 @@ pub record StandsAt (source : List ℕ) (place : ℕ) (raw : List ℕ) : Type 0 
   pub bytes : raw ≡ take (length raw) (drop place source)
 
 -- the raw bytes of a token stand in the source at its place, those of a quoted text behind its quote
-abbrev pub Stands : List ℕ → Token → Type 0
-Stands source (single number place raw) = StandsAt source place raw
-Stands source (single text place raw) = StandsAt source (suc place) raw
-Stands source (single word place raw) = StandsAt source place raw
-Stands source comma = Unit {0}
-Stands source (opening square) = Unit {0}
-Stands source (closing place square) = Unit {0}
+abbrev pub TokenStands : List ℕ → Token → Type 0
+TokenStands source (single number place raw) = StandsAt source place raw
+TokenStands source (single text place raw) = StandsAt source (suc place) raw
+TokenStands source (single word place raw) = StandsAt source place raw
+TokenStands source comma = Unit {0}
+TokenStands source (opening square) = Unit {0}
+TokenStands source (closing place square) = Unit {0}
 
 abbrev pub Each : (Token → Type 0) → List Token → Type 0
 Each P [] = Unit {0}
@@ -173,7 +176,7 @@ Each P (t ∷ ts) = P t × Each P ts
 
 -- all these tokens stand in the source
 abbrev pub AllStand : List ℕ → List Token → Type 0
-AllStand source ts = Each (Stands source) ts
+AllStand source ts = Each (TokenStands source) ts
 
 -- the rows are those of a node whose tokens are well formed and stand in the source
 pub record IsTable (source : List ℕ) (table : List Row) (item : Item) : Type 0 where

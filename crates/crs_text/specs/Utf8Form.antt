@@ -1,4 +1,4 @@
--- What bytes are as UTF-8, in each case.
+-- A bridge: what bytes are as UTF-8, in each case.
 use Rattle.std.specs.Prelude.{List, ℕ, IsUtf8}
 use Rattle.crs_text.specs.Utf8.{IsUtf8Front, IsLongestUtf8}
 use Rattle.crs_text.specs.declared.utf8.Utf8Form.{Utf8Form}

@@ -27,20 +27,20 @@ opens ts = fold opened [] ts
 abbrev pub last_of : List Token → Option Token
 last_of ts = last_or None ts
 
-abbrev pub IsWord : Token → Type 0
-IsWord (single number place raw) = ⊥
-IsWord (single text place raw) = ⊥
-IsWord (single word place raw) = Unit {0}
-IsWord comma = ⊥
-IsWord (opening square) = ⊥
-IsWord (closing place square) = ⊥
+abbrev pub IsWordToken : Token → Type 0
+IsWordToken (single number place raw) = ⊥
+IsWordToken (single text place raw) = ⊥
+IsWordToken (single word place raw) = Unit {0}
+IsWordToken comma = ⊥
+IsWordToken (opening square) = ⊥
+IsWordToken (closing place square) = ⊥
 
 -- a number, text or word
-abbrev pub IsSingle : Token → Type 0
-IsSingle (single kind place raw) = Unit {0}
-IsSingle comma = ⊥
-IsSingle (opening square) = ⊥
-IsSingle (closing place square) = ⊥
+abbrev pub IsSingleToken : Token → Type 0
+IsSingleToken (single kind place raw) = Unit {0}
+IsSingleToken comma = ⊥
+IsSingleToken (opening square) = ⊥
+IsSingleToken (closing place square) = ⊥
 
 abbrev pub IsOpening : Token → Type 0
 IsOpening (single kind place raw) = ⊥
@@ -58,13 +58,14 @@ GoesOn square (closing place other) = other ≡ square
 -- which token may stand after a last one, with these delimiters open
 abbrev pub MayFollow : Option Token → List Bool → Token → Type 0
 -- at the start a word
-MayFollow None held t = IsWord t
+MayFollow None held t = IsWordToken t
 -- after an opening delimiter or a comma a number, text or word
-MayFollow (Some (opening _)) held t = IsSingle t
-MayFollow (Some comma) held t = IsSingle t
+MayFollow (Some (opening _)) held t = IsSingleToken t
+MayFollow (Some comma) held t = IsSingleToken t
 -- after the root's word an opening delimiter
 MayFollow (Some (single word _ _)) [] t = IsOpening t
--- after any other word a comma, the closing delimiter of the last open one, or an opening one where fewer than 12 are open
+-- after any other word a comma, the closing delimiter of the last open one, or an opening one where fewer than 12 are
+-- open
 MayFollow (Some (single word _ _)) (square ∷ held) t = GoesOn square t ⊎ (IsOpening t × (length (square ∷ held) < 12))
 -- after the root's end nothing
 MayFollow (Some _) [] t = ⊥

@@ -52,8 +52,10 @@ abbrev mutual
 
   pub at_places : ℕ → Items → Items
   at_places start End = End
-  at_places start (More item items) = More (at_place (start + 1) item) (at_places (start + 1 + length (item_text item)) items)
+  at_places start (More item items) =
+      More (at_place (start + 1) item) (at_places (start + 1 + length (item_text item)) items)
 
 -- the written text of a well-formed node spells just this node
 abbrev pub WrittenSpells : Type 0
-WrittenSpells = (item : Item) → AreFormed item → IsNode item → depth item ≤ 12 → SpellsNode (item_text item) (at_place 0 item)
+WrittenSpells =
+    (item : Item) → AreFormed item → IsNode item → depth item ≤ 12 → SpellsNode (item_text item) (at_place 0 item)

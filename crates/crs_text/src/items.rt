@@ -1,5 +1,7 @@
-ghost use Rattle.std.specs.Prelude.{◌≡◌, ℕ, ◌+◌, ◌^◌, ◌<◌, ◌≤◌, ◌↔◌, IsTrue, Option, length, take, drop, slice_index_or};
-ghost use Rattle.crs_text.specs.Items.{More, End, arguments, count, first_of, rest_of, skip, kind_of, raw_of, place_of, close_of, size_of, here, HasId, IsAt, IsNumberOf};
+ghost use Rattle.std.specs.Prelude.{◌≡◌, ℕ, ◌+◌, ◌^◌, ◌<◌, ◌≤◌, ◌↔◌, IsTrue, Option, length, take, drop};
+ghost use Rattle.std.specs.Prelude.{slice_index_or};
+ghost use Rattle.crs_text.specs.Items.{More, End, arguments, count, first_of, rest_of, skip, kind_of, raw_of, place_of};
+ghost use Rattle.crs_text.specs.Items.{close_of, size_of, here, HasId, IsAt, IsNumberOf};
 ghost use Rattle.crs_text.specs.Table.{no_row};
 ghost use Rattle.crs_text.specs.Rows.{rows, row_of};
 ghost use Rattle.crs_text.specs.Tree.{raw_place};

@@ -47,11 +47,11 @@ pub(crate) enum Reason {
 }
 
 impl Reason {
-    ghost use Rattle.crs_text.specs.TextFault.{number_of};
+    ghost use Rattle.crs_text.specs.TextFault.{reason_number};
 
     /// The refusal for this reason, at this place.
     pub(crate) fn at(self, place: usize) -> Refusal
-        ensures number { result.number ≡ number_of self }
+        ensures number { result.number ≡ reason_number self }
         ensures place { result.place ≡ place }
     {
         let number = match self {

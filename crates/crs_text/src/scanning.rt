@@ -2,7 +2,7 @@
 ghost use Rattle.std.specs.Prelude.{◌≡◌, ◌+◌, ◌≤◌, ◌<◌, length, drop, IfOk, IfErr, MatchResult};
 ghost use Rattle.crs_text.specs.Tokens.{Forms, comma, opening, closing, is_white};
 ghost use Rattle.std.specs.List.{prefix_len};
-ghost use Rattle.crs_text.specs.TextFault.{number_of, IsFlaw, IsTextFault};
+ghost use Rattle.crs_text.specs.TextFault.{reason_number, IsFlaw, IsTextFault};
 ghost use Rattle.crs_text.specs.Scan.{IsReached, IsTaken, IsStoppedBy, IsSingleAt, IsScanned};
 ghost use Rattle.crs_text.specs.Table.{Flat, is_whole};
 ghost use Rattle.crs_text.specs.Rows.{flat};
@@ -15,7 +15,7 @@ use crate::refusal::Reason;
 use crate::table::{Opened, Table};
 
 fn unexpected(at: usize) -> Fault
-    ensures { result ≡ Fault.Refused (record { number = number_of Reason.Unexpected; place = at }) }
+    ensures { result ≡ Fault.Refused (record { number = reason_number Reason.Unexpected; place = at }) }
 {
     Fault::Refused(Reason::Unexpected.at(at))
 }

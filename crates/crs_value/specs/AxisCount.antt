@@ -10,4 +10,5 @@ use Rattle.crs_value.specs.Break.{at}
 -- these axes and the node `CS`
 abbrev pub AxisCount : List Item → Item → Refused → Type 0
 AxisCount axes cs fault =
-    (fault ≡ at 25 cs) × ((dimension : Value) × (HasDimension cs dimension × ¬ (SameNumber (exact dimension) (whole_number (length axes)))))
+    (fault ≡ at 25 cs) × ((dimension : Value)
+    × (HasDimension cs dimension × ¬ (SameNumber (exact dimension) (whole_number (length axes)))))

@@ -28,9 +28,11 @@ IsNotHorizontal other cs = IsNotPlane cs
 
 -- a part of this class, by its node `CS`
 abbrev pub BadComponent : Class → Item → Refused → Type 0
-BadComponent c part fault = (fault ≡ at 24 part) × FirstIs (IsNotHorizontal c) (those c class.CoordinateSystem (arguments part))
+BadComponent c part fault =
+    (fault ≡ at 24 part) × FirstIs (IsNotHorizontal c) (those c class.CoordinateSystem (arguments part))
 
 -- the horizontal parts among a compound's arguments
 abbrev pub BadComponents : List Class → Items → Refused → Type 0
 BadComponents [] items fault = ⊥
-BadComponents (c ∷ cs) items fault = AnyOf (BadComponent c) (those class.CompoundCrs c items) fault ⊎ BadComponents cs items fault
+BadComponents (c ∷ cs) items fault =
+    AnyOf (BadComponent c) (those class.CompoundCrs c items) fault ⊎ BadComponents cs items fault

@@ -41,7 +41,8 @@ OneHas value (axis ∷ axes) = HasThis value axis ⊎ OneHas value axes
 
 -- an order that is no position among n axes, or that one of the axes before has
 abbrev pub IsWrongOrder : ℕ → List Item → Item → Type 0
-IsWrongOrder n before order = (value : Value) × (ReadsOrder order value × (¬ (IsPosition n value) ⊎ OneHas value before))
+IsWrongOrder n before order =
+    (value : Value) × (ReadsOrder order value × (¬ (IsPosition n value) ⊎ OneHas value before))
 
 abbrev pub IsBadOrder : ℕ → List Item → Item → Refused → Type 0
 IsBadOrder n before order fault = (fault ≡ at 26 order) × IsWrongOrder n before order
@@ -49,7 +50,8 @@ IsBadOrder n before order fault = (fault ≡ at 26 order) × IsWrongOrder n befo
 -- the bad orders of these axes, behind those before
 abbrev pub BadOrders : ℕ → List Item → List Item → Refused → Type 0
 BadOrders n before [] fault = ⊥
-BadOrders n before (axis ∷ axes) fault = AnyOf (IsBadOrder n before) (orders_in axis) fault ⊎ BadOrders n (before ++ axis ∷ []) axes fault
+BadOrders n before (axis ∷ axes) fault =
+    AnyOf (IsBadOrder n before) (orders_in axis) fault ⊎ BadOrders n (before ++ axis ∷ []) axes fault
 
 -- some axes have an order, and this one lacks it; or all have one, and this is no position or stands twice
 abbrev pub BadOrder : List Item → Refused → Type 0

@@ -62,4 +62,5 @@ IsOneOf value (n ∷ ns) = SameNumber (exact value) (whole_number n) ⊎ IsOneOf
 abbrev pub BadSystem : (SystemType → List ℕ) → Item → Refused → Type 0
 BadSystem dimensions cs fault =
     (fault ≡ at 23 cs)
-    × ((type_read : SystemType) × ((dimension : Value) × (HasType cs type_read × HasDimension cs dimension × ¬ (IsOneOf dimension (dimensions type_read)))))
+    × ((type_read : SystemType) × ((dimension : Value)
+    × (HasType cs type_read × HasDimension cs dimension × ¬ (IsOneOf dimension (dimensions type_read)))))

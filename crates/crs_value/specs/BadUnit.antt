@@ -15,15 +15,15 @@ use Rattle.crs_value.specs.Break.{at, AnyOf}
 use Rattle.crs_value.specs.BadSystem.{HasType}
 
 -- the kind of unit that an axis asks for, by the type of its system and its own direction
-abbrev pub vertical_kind : Direction → UnitKind
-vertical_kind direction.Up = kinds.Length
-vertical_kind direction.Down = kinds.Length
-vertical_kind other = kinds.Angle
+abbrev pub kind_by_direction : Direction → UnitKind
+kind_by_direction direction.Up = kinds.Length
+kind_by_direction direction.Down = kinds.Length
+kind_by_direction other = kinds.Angle
 
 abbrev pub asked_kind : SystemType → Direction → UnitKind
 asked_kind types.Cartesian d = kinds.Length
-asked_kind types.Ellipsoidal d = vertical_kind d
-asked_kind types.Spherical d = vertical_kind d
+asked_kind types.Ellipsoidal d = kind_by_direction d
+asked_kind types.Spherical d = kind_by_direction d
 asked_kind types.Vertical d = kinds.Length
 
 -- this node `CS` and this axis ask for a unit of this kind

@@ -12,7 +12,8 @@ use Rattle.crs_value.specs.Reading.{those}
 use Rattle.crs_value.specs.Break.{AnyOf}
 use Rattle.crs_value.specs.UnknownWord.{UnknownType, UnknownDirection}
 use Rattle.crs_value.specs.RepeatedPart.{Repeats, RepeatsAny}
-use Rattle.crs_value.specs.BadSystem.{geodetic_dimensions, geographic_dimensions, projected_dimensions, vertical_dimensions, BadSystem}
+use Rattle.crs_value.specs.BadSystem.{geodetic_dimensions, geographic_dimensions, projected_dimensions}
+use Rattle.crs_value.specs.BadSystem.{vertical_dimensions, BadSystem}
 use Rattle.crs_value.specs.BadComponent.{BadComponents}
 use Rattle.crs_value.specs.AxisCount.{AxisCount}
 use Rattle.crs_value.specs.BadOrder.{BadOrder}
@@ -79,7 +80,8 @@ Own class.AngleUnit item fault = OfUnit class.AngleUnit item fault
 Own class.ScaleUnit item fault = OfUnit class.ScaleUnit item fault
 Own class.PlainUnit item fault = OfUnit class.PlainUnit item fault
 Own class.AxisUnit item fault = OfUnit class.AxisUnit item fault
-Own class.CoordinateSystem item fault = AnyOf UnknownType (those class.CoordinateSystem class.Word (arguments item)) fault
+Own class.CoordinateSystem item fault =
+    AnyOf UnknownType (those class.CoordinateSystem class.Word (arguments item)) fault
 Own class.Axis item fault = AnyOf UnknownDirection (those class.Axis class.Word (arguments item)) fault
 Own other item fault = ⊥
 
@@ -98,7 +100,8 @@ abbrev mutual
 
   pub BreaksAmong : Class → Items → Refused → Type 0
   BreaksAmong c End fault = ⊥
-  BreaksAmong c (More item items) fault = AtClass (class_in c item) (λ d. Breaks d item fault) ⊎ BreaksAmong c items fault
+  BreaksAmong c (More item items) fault =
+      AtClass (class_in c item) (λ d. Breaks d item fault) ⊎ BreaksAmong c items fault
 
 -- a well-formed item of the shape of its class that breaks no check
 pub record IsSound (c : Class) (item : Item) : Type 0 where

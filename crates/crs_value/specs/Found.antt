@@ -1,4 +1,4 @@
--- Arguments of one class from one on, as the program goes through them, and classes of which one is read.
+-- A bridge: arguments of one class from one on, as the program goes through them, and classes of which one is read.
 use Rattle.std.specs.Prelude.{◌≡◌, ℕ, List, [], ◌∷◌, Option, Some, None, ◌⊎◌}
 use Rattle.crs_text.specs.Items.{Item, rest_of, here}
 use Rattle.crs_shape.specs.declared.class.Class.{Class}

@@ -1,4 +1,4 @@
--- The first of two faults, as the program finds it.
+-- A bridge: the first of two faults, as the program finds it.
 use Rattle.std.specs.Prelude.{◌||◌, ◌&&◌, ◌==◌, nat_lt, Bool, Option, Some, None, if◌then◌else◌}
 use Rattle.crs_text.specs.Refusal.{Refused}
 

@@ -51,7 +51,8 @@ RequiresOneOf c ds = 0 < least (λ d. list_any (λ e. is_same e d) ds) (slots_of
 -- the number of the first of these arguments, behind which the later ones stand; none where there are none
 abbrev pub IsFound : Item → Class → Class → List Item → Option ℕ → Type 0
 IsFound tree parent c items None = items ≡ []
-IsFound tree parent c items (Some id) = (items ≡ item_at tree id ∷ those parent c (rest_of (here tree id))) × HasId tree id
+IsFound tree parent c items (Some id) =
+    (items ≡ item_at tree id ∷ those parent c (rest_of (here tree id))) × HasId tree id
 
 -- the value is read from the first of these items
 abbrev pub ReadsFirst : {V : Type 0} → (Item → V → Type 0) → List Item → V → Type 0

@@ -11,7 +11,9 @@ use Rattle.crs_value.specs.declared.direction.Direction.{Direction}
 use Rattle.crs_value.specs.declared.system_type.SystemType.{SystemType}
 use Rattle.crs_value.specs.declared.unit_kind.UnitKind.{UnitKind}
 use Rattle.crs_value.specs.Reading.{those, ReadsFirst, ReadsOptional, ReadsEach}
-use Rattle.crs_value.specs.Values.{IdentParts, UnitParts, AxisMeridianParts, AxisParts, SystemParts, EllipsoidParts, MeridianParts, MemberParts, DatumParts, EnsembleParts, BoxParts, ExtentParts, UsageParts, SaysSome, TailParts}
+use Rattle.crs_value.specs.Values.{IdentParts, UnitParts, AxisMeridianParts, AxisParts, SystemParts, EllipsoidParts}
+use Rattle.crs_value.specs.Values.{MeridianParts, MemberParts, DatumParts, EnsembleParts, BoxParts, ExtentParts}
+use Rattle.crs_value.specs.Values.{UsageParts, SaysSome, TailParts}
 use Rattle.crs_value.specs.Words.{SpellsWord, direction_word, system_word, unit_word}
 
 -- ---- single items
@@ -95,7 +97,8 @@ pub record ReadsAxisMeridian (c : Class) (item : Item) (parts : AxisMeridianPart
 pub record ReadsAxis (c : Class) (item : Item) (parts : AxisParts) : Type 0 where
   pub name : ReadsTextOf c item parts.name
   pub direction : ReadsFirst ReadsDirection (those c class.Word (arguments item)) parts.direction
-  pub meridian : ReadsOptional (ReadsAxisMeridian class.Meridian) (those c class.Meridian (arguments item)) parts.meridian
+  pub meridian : ReadsOptional (ReadsAxisMeridian class.Meridian)
+      (those c class.Meridian (arguments item)) parts.meridian
   pub order : ReadsOptional (ReadsNumberOf class.Order) (those c class.Order (arguments item)) parts.order
   pub unit : ReadsOptional (ReadsUnit class.AxisUnit) (those c class.AxisUnit (arguments item)) parts.unit
   pub ids : ReadsIds c item parts.ids
@@ -132,15 +135,18 @@ pub record ReadsMember (c : Class) (item : Item) (parts : MemberParts) : Type 0 
 -- a frame's anchor is its first; a second is a repeated part
 pub record ReadsDatum (c : Class) (item : Item) (parts : DatumParts) : Type 0 where
   pub name : ReadsTextOf c item parts.name
-  pub ellipsoid : ReadsOptional (ReadsEllipsoid class.Ellipsoid) (those c class.Ellipsoid (arguments item)) parts.ellipsoid
+  pub ellipsoid : ReadsOptional (ReadsEllipsoid class.Ellipsoid)
+      (those c class.Ellipsoid (arguments item)) parts.ellipsoid
   pub anchor : ReadsOptional (ReadsTextOf class.Anchor) (those c class.Anchor (arguments item)) parts.anchor
   pub ids : ReadsIds c item parts.ids
 
 pub record ReadsEnsemble (c : Class) (item : Item) (parts : EnsembleParts) : Type 0 where
   pub name : ReadsTextOf c item parts.name
   pub members : ReadsEach (ReadsMember class.Member) (those c class.Member (arguments item)) parts.members
-  pub ellipsoid : ReadsOptional (ReadsEllipsoid class.Ellipsoid) (those c class.Ellipsoid (arguments item)) parts.ellipsoid
-  pub accuracy : ReadsFirst (ReadsNumberOf class.EnsembleAccuracy) (those c class.EnsembleAccuracy (arguments item)) parts.accuracy
+  pub ellipsoid : ReadsOptional (ReadsEllipsoid class.Ellipsoid)
+      (those c class.Ellipsoid (arguments item)) parts.ellipsoid
+  pub accuracy : ReadsFirst (ReadsNumberOf class.EnsembleAccuracy)
+      (those c class.EnsembleAccuracy (arguments item)) parts.accuracy
   pub ids : ReadsIds c item parts.ids
 
 pub record ReadsBox (c : Class) (item : Item) (parts : BoxParts) : Type 0 where
@@ -159,7 +165,8 @@ pub record ReadsUsage (c : Class) (item : Item) (parts : UsageParts) : Type 0 wh
   pub scope : ReadsOptional (ReadsTextOf class.Scope) (those c class.Scope (arguments item)) parts.scope
   pub area : ReadsOptional (ReadsTextOf class.Area) (those c class.Area (arguments item)) parts.area
   pub bbox : ReadsOptional (ReadsBox class.BoundingBox) (those c class.BoundingBox (arguments item)) parts.bbox
-  pub extent : ReadsOptional (ReadsExtent class.VerticalExtent) (those c class.VerticalExtent (arguments item)) parts.extent
+  pub extent : ReadsOptional (ReadsExtent class.VerticalExtent)
+      (those c class.VerticalExtent (arguments item)) parts.extent
 
 -- no part of a usage is among the arguments
 pub record LacksUsage (c : Class) (item : Item) : Type 0 where

@@ -36,7 +36,8 @@ pub record ReadsParameter (c : Class) (item : Item) (parts : ParameterParts) : T
 pub record ReadsConversion (c : Class) (item : Item) (parts : ConversionParts) : Type 0 where
   pub name : ReadsTextOf c item parts.name
   pub method : ReadsFirst (ReadsMethod class.Method) (those c class.Method (arguments item)) parts.method
-  pub parameters : ReadsEach (ReadsParameter class.Parameter) (those c class.Parameter (arguments item)) parts.parameters
+  pub parameters : ReadsEach (ReadsParameter class.Parameter)
+      (those c class.Parameter (arguments item)) parts.parameters
   pub ids : ReadsIds c item parts.ids
 
 pub record ReadsGeoidModel (c : Class) (item : Item) (parts : GeoidModelParts) : Type 0 where

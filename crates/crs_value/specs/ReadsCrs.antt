@@ -16,7 +16,8 @@ use Rattle.crs_value.specs.declared.system_type.SystemType.TheVariants as types
 use Rattle.crs_value.specs.CompoundValues.{CompoundParts}
 use Rattle.crs_value.specs.CrsValues.{GeodeticParts, BaseParts, ProjectedParts, VerticalParts}
 use Rattle.crs_value.specs.Reading.{those, ReadsFirst, ReadsOptional, ReadsEach, ReadsElse}
-use Rattle.crs_value.specs.Reads.{ReadsTextOf, ReadsIds, ReadsUnit, ReadsDatum, ReadsEnsemble, ReadsMeridian, ReadsSystem, ReadsTail}
+use Rattle.crs_value.specs.Reads.{ReadsTextOf, ReadsIds, ReadsUnit, ReadsDatum, ReadsEnsemble, ReadsMeridian}
+use Rattle.crs_value.specs.Reads.{ReadsSystem, ReadsTail}
 use Rattle.crs_value.specs.ReadsConversion.{ReadsConversion, ReadsGeoidModel}
 
 -- the item is a reference frame of this class, and this is its value
@@ -32,7 +33,8 @@ ReadsAsEnsemble e item (frame.Ensemble ensemble) = ReadsEnsemble e item ensemble
 -- the frame of a CRS: its reference frame, of the one class, or where there is none its ensemble, of the other
 abbrev pub ReadsFrame : Class → Class → Class → Item → Frame → Type 0
 ReadsFrame d e c item value =
-    ReadsElse (ReadsAsDatum d) (those c d (arguments item)) (ReadsFirst (ReadsAsEnsemble e) (those c e (arguments item))) value
+    ReadsElse (ReadsAsDatum d) (those c d (arguments item))
+    (ReadsFirst (ReadsAsEnsemble e) (those c e (arguments item))) value
 
 abbrev pub ReadsGeodeticFrame : Class → Item → Frame → Type 0
 ReadsGeodeticFrame = ReadsFrame class.GeodeticFrame class.GeodeticEnsemble
@@ -49,21 +51,24 @@ IsGeodeticClass other = ⊥
 pub record ReadsGeodetic (c : Class) (item : Item) (parts : GeodeticParts) : Type 0 where
   pub name : ReadsTextOf c item parts.name
   pub frame : ReadsGeodeticFrame c item parts.frame
-  pub meridian : ReadsOptional (ReadsMeridian class.PrimeMeridian) (those c class.PrimeMeridian (arguments item)) parts.meridian
+  pub meridian : ReadsOptional (ReadsMeridian class.PrimeMeridian)
+      (those c class.PrimeMeridian (arguments item)) parts.meridian
   pub system : ReadsSystem c item parts.system
   pub tail : ReadsTail c item parts.tail
 
 pub record ReadsBase (c : Class) (item : Item) (parts : BaseParts) : Type 0 where
   pub name : ReadsTextOf c item parts.name
   pub frame : ReadsGeodeticFrame c item parts.frame
-  pub meridian : ReadsOptional (ReadsMeridian class.PrimeMeridian) (those c class.PrimeMeridian (arguments item)) parts.meridian
+  pub meridian : ReadsOptional (ReadsMeridian class.PrimeMeridian)
+      (those c class.PrimeMeridian (arguments item)) parts.meridian
   pub unit : ReadsOptional (ReadsUnit class.AngleUnit) (those c class.AngleUnit (arguments item)) parts.unit
   pub ids : ReadsIds c item parts.ids
 
 pub record ReadsProjected (c : Class) (item : Item) (parts : ProjectedParts) : Type 0 where
   pub name : ReadsTextOf c item parts.name
   pub base : ReadsFirst (ReadsBase class.BaseCrs) (those c class.BaseCrs (arguments item)) parts.base
-  pub conversion : ReadsFirst (ReadsConversion class.Conversion) (those c class.Conversion (arguments item)) parts.conversion
+  pub conversion : ReadsFirst (ReadsConversion class.Conversion)
+      (those c class.Conversion (arguments item)) parts.conversion
   pub system : ReadsSystem c item parts.system
   pub tail : ReadsTail c item parts.tail
 
@@ -71,7 +76,8 @@ pub record ReadsVertical (c : Class) (item : Item) (parts : VerticalParts) : Typ
   pub name : ReadsTextOf c item parts.name
   pub frame : ReadsVerticalFrame c item parts.frame
   pub system : ReadsSystem c item parts.system
-  pub geoid_models : ReadsEach (ReadsGeoidModel class.GeoidModel) (those c class.GeoidModel (arguments item)) parts.geoid_models
+  pub geoid_models : ReadsEach (ReadsGeoidModel class.GeoidModel)
+      (those c class.GeoidModel (arguments item)) parts.geoid_models
   pub tail : ReadsTail c item parts.tail
 
 -- the item is a horizontal CRS of this class, and this is its value
@@ -89,7 +95,8 @@ ReadsHorizontal c item value =
 pub record ReadsCompound (c : Class) (item : Item) (parts : CompoundParts) : Type 0 where
   pub name : ReadsTextOf c item parts.name
   pub horizontal : ReadsHorizontal c item parts.horizontal
-  pub vertical : ReadsFirst (ReadsVertical class.VerticalCrs) (those c class.VerticalCrs (arguments item)) parts.vertical
+  pub vertical : ReadsFirst (ReadsVertical class.VerticalCrs)
+      (those c class.VerticalCrs (arguments item)) parts.vertical
   pub tail : ReadsTail c item parts.tail
 
 -- the value of a whole text of this class

@@ -14,7 +14,8 @@ Spells text value = (item : Item) × (SpellsNode text item × SpellsCrs item val
 
 -- the fault of the text; or else of its node: the fault of its shape, or else the check that it breaks first
 abbrev pub Refuses : List ℕ → Refused → Type 0
-Refuses text fault = RefusesText text fault.number fault.place ⊎ ((item : Item) × (SpellsNode text item × RefusesCrs item fault))
+Refuses text fault =
+    RefusesText text fault.number fault.place ⊎ ((item : Item) × (SpellsNode text item × RefusesCrs item fault))
 
 -- a fault that is a refusal is that of the text
 abbrev pub IsFaultOfText : List ℕ → Fault → Type 0

@@ -1,5 +1,6 @@
--- Values as they are written: nothing filled in, converted or sorted. A text is the bytes between its quotes, each quote
--- among them doubled; two texts are equal where their characters are. A code or version is its characters, quoted or not.
+-- Values as they are written: nothing filled in, converted or sorted. A text is the bytes between its quotes, each
+-- quote among them doubled; two texts are equal where their characters are. A code or version is its characters,
+-- quoted or not.
 use Rattle.std.specs.Prelude.{◌⊎◌, ℕ, List, Option, IsSome}
 use Rattle.crs_decimal.specs.Value.{Value}
 use Rattle.crs_value.specs.declared.direction.Direction.{Direction}

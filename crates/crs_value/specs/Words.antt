@@ -2,7 +2,12 @@
 use Rattle.std.specs.Prelude.{◌≡◌, ℕ, List, codes}
 use Rattle.std.specs.Str.{str_to_ascii_lowercase}
 use Rattle.crs_value.specs.declared.direction.Direction.{Direction}
-use Rattle.crs_value.specs.declared.direction.Direction.TheVariants.{North, NorthNorthEast, NorthEast, EastNorthEast, East, EastSouthEast, SouthEast, SouthSouthEast, South, SouthSouthWest, SouthWest, WestSouthWest, West, WestNorthWest, NorthWest, NorthNorthWest, GeocentricX, GeocentricY, GeocentricZ, Up, Down, Unspecified}
+use Rattle.crs_value.specs.declared.direction.Direction.TheVariants.{North, NorthNorthEast, NorthEast, EastNorthEast}
+use Rattle.crs_value.specs.declared.direction.Direction.TheVariants.{East, EastSouthEast, SouthEast, SouthSouthEast}
+use Rattle.crs_value.specs.declared.direction.Direction.TheVariants.{South, SouthSouthWest, SouthWest, WestSouthWest}
+use Rattle.crs_value.specs.declared.direction.Direction.TheVariants.{West, WestNorthWest, NorthWest, NorthNorthWest}
+use Rattle.crs_value.specs.declared.direction.Direction.TheVariants.{GeocentricX, GeocentricY, GeocentricZ, Up, Down}
+use Rattle.crs_value.specs.declared.direction.Direction.TheVariants.{Unspecified}
 use Rattle.crs_value.specs.declared.system_type.SystemType.{SystemType}
 use Rattle.crs_value.specs.declared.system_type.SystemType.TheVariants.{Cartesian, Ellipsoidal, Spherical, Vertical}
 use Rattle.crs_value.specs.declared.unit_kind.UnitKind.{UnitKind}

@@ -9,7 +9,8 @@ ghost use Rattle.crs_same.specs.SameSystems.{own_or};
 ghost use Rattle.crs_decimal.specs.Plain.{plain};
 ghost use Rattle.crs_normal.specs.PartTexts.{axis_text};
 ghost use Rattle.crs_normal.specs.SpelledItems.{each, number_node, opt, word_item};
-ghost use Rattle.crs_normal.specs.SpelledSystems.{item_axis, item_axis_meridian, norm_axis, norm_axis_meridian, norm_axis_meridians};
+ghost use Rattle.crs_normal.specs.SpelledSystems.{item_axis, item_axis_meridian, norm_axis, norm_axis_meridian};
+ghost use Rattle.crs_normal.specs.SpelledSystems.{norm_axis_meridians};
 ghost use Rattle.crs_normal.specs.SpelledUnits.{item_ident, item_unit, norm_units, set_idents, whole_value};
 
 use crate::spelling::ident::write_idents;

@@ -3,8 +3,11 @@ ghost use Rattle.std.specs.Prelude.{◌≡◌, ◌∷◌, ◌++◌, [], OnOk, co
 ghost use Rattle.crs_text.specs.Items.{End, More};
 ghost use Rattle.crs_text.specs.Written.{item_text, others_text};
 ghost use Rattle.crs_value.specs.declared.unit_kind.UnitKind.TheVariants as kinds;
-ghost use Rattle.crs_normal.specs.SpelledConversions.{item_conversion, item_geoid_model, norm_conversion, set_geoid_models};
-ghost use Rattle.crs_normal.specs.SpelledCrs.{geodetic_keyword, item_base, item_compound, item_crs, item_geodetic, item_horizontal, item_projected, item_vertical, norm_base, norm_compound, norm_crs, norm_geodetic, norm_horizontal, norm_projected, norm_vertical};
+ghost use Rattle.crs_normal.specs.SpelledConversions.{item_conversion, item_geoid_model, norm_conversion};
+ghost use Rattle.crs_normal.specs.SpelledConversions.{set_geoid_models};
+ghost use Rattle.crs_normal.specs.SpelledCrs.{geodetic_keyword, item_base, item_compound, item_crs, item_geodetic};
+ghost use Rattle.crs_normal.specs.SpelledCrs.{item_horizontal, item_projected, item_vertical, norm_base, norm_compound};
+ghost use Rattle.crs_normal.specs.SpelledCrs.{norm_crs, norm_geodetic, norm_horizontal, norm_projected, norm_vertical};
 ghost use Rattle.crs_normal.specs.SpelledFrames.{item_frame, item_meridian, norm_frame, norm_meridian};
 ghost use Rattle.crs_normal.specs.SpelledItems.{each, opt};
 ghost use Rattle.crs_normal.specs.SpelledSystems.{norm_system, system_items};

@@ -6,7 +6,8 @@ ghost use Rattle.crs_text.specs.Written.{item_text, others_text};
 ghost use Rattle.crs_same.specs.SameUsages.{usages_of};
 ghost use Rattle.crs_normal.specs.SpelledItems.{each, opt, text_node};
 ghost use Rattle.crs_normal.specs.SpelledUnits.{item_ident, set_idents};
-ghost use Rattle.crs_normal.specs.SpelledUsages.{item_usage, norm_remark, norm_tail, norm_usage, set_usages, tail_items};
+ghost use Rattle.crs_normal.specs.SpelledUsages.{item_usage, norm_remark, norm_tail, norm_usage, set_usages};
+ghost use Rattle.crs_normal.specs.SpelledUsages.{tail_items};
 ghost use Rattle.crs_canon.specs.Members.{set_text};
 
 use crate::set::{write_set, write_set_with};

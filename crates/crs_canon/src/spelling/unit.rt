@@ -5,7 +5,8 @@ ghost use Rattle.crs_text.specs.Items.{End, More};
 ghost use Rattle.crs_text.specs.Written.{item_text, others_text};
 ghost use Rattle.crs_value.specs.Words.{unit_word};
 ghost use Rattle.crs_normal.specs.SpelledItems.{each, number_item, opt};
-ghost use Rattle.crs_normal.specs.SpelledUnits.{item_ident, item_unit, metre, norm_length, norm_unit, norm_units, set_idents};
+ghost use Rattle.crs_normal.specs.SpelledUnits.{item_ident, item_unit, metre, norm_length, norm_unit, norm_units};
+ghost use Rattle.crs_normal.specs.SpelledUnits.{set_idents};
 
 use crate::spelling::ident::write_idents;
 use crate::spelling::texts::{append, open_text, write_number};
