@@ -2,6 +2,7 @@ pub mod EncloseLemmas
 pub mod MainLemmas
 pub mod PieceLemmas
 pub mod SetLemmas
+pub mod SetTextLemmas
 pub mod SystemLemmas
 pub mod TextLemmas
 pub mod WholeLemmas
