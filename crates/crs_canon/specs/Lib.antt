@@ -3,3 +3,4 @@ pub mod CrsText
 pub mod MainTheorem
 pub mod Members
 pub mod Openings
+pub mod SetText

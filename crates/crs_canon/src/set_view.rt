@@ -4,9 +4,11 @@ ghost use Rattle.crs_value.specs.declared.level.Level.{Level};
 ghost use Rattle.crs_same.specs.Sets.{AllHaveSame, HasSame, SameSet};
 ghost use Rattle.crs_normal.specs.Ordered.{in_order, put, put_all};
 ghost use Rattle.crs_canon.specs.Members.{commas, joined, set_spelling, spellings};
+ghost use Rattle.crs_canon.specs.SetText.{IsSetText};
 
 use crate::canonical::Canonical;
 use crate::set::write_sorted;
+use crs_normal::laws::sets::texts_are_in_order;
 use crs_value::Level;
 use std::alloc::{AllocError, Global};
 use std::collections::BTreeSet;
@@ -45,15 +47,14 @@ impl<'s, T: Canonical> Set<'s, T> {
     /// for an empty set.
     ///
     /// `AllocError`: there is no memory for it, and `out` is as before.
-    #[tactic(auto, unfolding(crate::specs::Members::set_spelling))]
     pub fn write(&self, alloc: Global, level: Level, out: &mut Vec<u8>) -> Result<(), AllocError>
         ensures { MatchResult result
-            (λ _. out.new.items ≡ out.old.items ++ set_spelling (map (T.spelling level) self.now))
+            (λ _. (text : List ℕ) × (out.new.items ≡ out.old.items ++ text)
+            × IsSetText (map (T.spelling level) self.now) text)
             (λ _. out.new.items ≡ out.old.items) }
     {
-        let mut text = Vec::new(alloc);
-        write_members(alloc, &mut text, self.members, level)?;
-        append_members(out, text.as_slice())
+        texts_are_in_order();
+        append_set(alloc, out, self.members, level)
     }
 }
 
@@ -135,4 +136,21 @@ fn append_members(out: &mut Vec<u8>, text: &[u8]) -> Result<(), AllocError>
         [] => Ok(()),
         [_, members @ ..] => out.extend_from_slice(members),
     }
+}
+
+// The members in order, where there is memory for them.
+#[tactic(auto, unfolding(crate::specs::Members::set_spelling))]
+fn append_set<T: Canonical>(
+    alloc: Global,
+    out: &mut Vec<u8>,
+    members: &[T],
+    level: Level,
+) -> Result<(), AllocError>
+    ensures { MatchResult result
+        (λ _. out.new.items ≡ out.old.items ++ set_spelling (map (T.spelling level) members.now))
+        (λ _. out.new.items ≡ out.old.items) }
+{
+    let mut text = Vec::new(alloc);
+    write_members(alloc, &mut text, members, level)?;
+    append_members(out, text.as_slice())
 }

@@ -6,21 +6,8 @@ use Rattle.std.proofs.lemmas.Cmp.{nat_list_cmp_total}
 use Rattle.std.proofs.lemmas.Map.Lookups.{exact_bytes}
 use Rattle.crs_value.specs.Sound.{Each}
 use Rattle.crs_same.specs.Sets.{HasSame, AllHaveSame, SameSet}
+use Rattle.crs_normal.specs.Ascending.{Ascends, Below, Has}
 use Rattle.crs_normal.specs.Ordered.{put, put_all, in_order}
-
--- x is one of these
-abbrev pub Has : {A : Type 0} → A → List A → Type 0
-Has x [] = ⊥
-Has x (y ∷ ys) = (x ≡ y) ⊎ Has x ys
-
--- the one bytes are below the others
-abbrev pub Below : List ℕ → List ℕ → Type 0
-Below a b = slice_cmp nat_cmp a b ≡ Less
-
--- each is below all behind it
-abbrev pub Ascends : {A : Type 0} → (A → List ℕ) → List A → Type 0
-Ascends bytes [] = Unit {0}
-Ascends bytes (x ∷ xs) = Each (λ y. Below (bytes x) (bytes y)) xs × Ascends bytes xs
 
 -- ---- the order of bytes
 

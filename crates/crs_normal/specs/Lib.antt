@@ -1,3 +1,4 @@
+pub mod Ascending
 pub mod AxisAlone
 pub mod CanonicalForm
 pub mod Closed

@@ -21,8 +21,10 @@ ghost use Rattle.crs_same.specs.SameFrames.{SameMember};
 ghost use Rattle.crs_same.specs.SameIdents.{SameIdents};
 ghost use Rattle.crs_same.specs.SameUsages.{SameUsage};
 ghost use Rattle.crs_same.specs.Sets.{SameSet};
+ghost use Rattle.crs_normal.specs.Ascending.{Ascends, Has};
 ghost use Rattle.crs_normal.specs.Fit.{IsFit};
 ghost use Rattle.crs_normal.specs.Flat.{flat};
+ghost use Rattle.crs_normal.specs.Ordered.{in_order};
 ghost use Rattle.crs_normal.specs.SpelledConversions.{item_geoid_model, item_parameter, norm_geoid_model};
 ghost use Rattle.crs_normal.specs.SpelledConversions.{norm_parameter, set_geoid_models, set_parameters};
 ghost use Rattle.crs_normal.specs.SpelledFrames.{item_member, norm_member, set_members};
@@ -169,3 +171,11 @@ pub fn member_texts_tell_members()
     text_laws();
     members_read_once();
 }
+
+/// Texts put in order ascend by their bytes and are the same texts, each once; no other list is so. Profile.
+pub fn texts_are_in_order()
+    ensures ascend { (texts : List (List ℕ)) → Ascends (λ text. text) (in_order (λ text. text) texts) }
+    ensures members { (texts : List (List ℕ)) (text : List ℕ) → Has text (in_order (λ text. text) texts) ↔ Has text texts }
+    ensures one { (xs ys : List (List ℕ)) → Ascends (λ text. text) xs → Ascends (λ text. text) ys →
+        ((text : List ℕ) → Has text xs ↔ Has text ys) → xs ≡ ys }
+{}

@@ -1,0 +1,18 @@
+use Rattle.crs_normal.specs.Ascending.{Has}
+use Rattle.crs_normal.proofs.SetLemmas.{ascending-one, each-of, in_order-ascends, in_order-back, in_order-has}
+use Rattle.crs_normal.proofs.laws.sets.texts_are_in_order.Goals as goal
+
+pub returns-clause-ascend : goal.returns-clause-ascend
+returns-clause-ascend c texts = in_order-ascends (λ text. text) texts
+
+pub returns-clause-members : goal.returns-clause-members
+returns-clause-members c texts text = (
+  λ h. in_order-back (λ text. text) text texts h,
+  λ h.
+      in_order-has (λ text. text) (λ t. Has t texts) (λ a b p q e. e) text texts
+      (each-of (λ t. Has t texts) texts (λ t q. q)) h,
+)
+
+pub returns-clause-one : goal.returns-clause-one
+returns-clause-one c xs ys p q same =
+    ascending-one (λ text. text) xs ys p q (λ t h. (same t).0 h) (λ t h. (same t).1 h)

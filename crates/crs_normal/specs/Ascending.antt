@@ -1,0 +1,20 @@
+-- Lists in ascending order of their bytes, each bytes once.
+use Rattle.std.specs.Prelude.{◌≡◌, ◌⊎◌, ℕ, List, [], ◌∷◌}
+use Rattle.std.specs.Cmp.Lexicographic.{slice_cmp}
+use Rattle.std.specs.Ordering.{nat_cmp}
+use Rattle.std.specs.declared.cmp.Ordering.TheVariants.{Less}
+use Rattle.crs_value.specs.Sound.{Each}
+
+-- x is one of these
+abbrev pub Has : {A : Type 0} → A → List A → Type 0
+Has x [] = ⊥
+Has x (y ∷ ys) = (x ≡ y) ⊎ Has x ys
+
+-- the one bytes are below the others
+abbrev pub Below : List ℕ → List ℕ → Type 0
+Below a b = slice_cmp nat_cmp a b ≡ Less
+
+-- each is below all behind it
+abbrev pub Ascends : {A : Type 0} → (A → List ℕ) → List A → Type 0
+Ascends bytes [] = Unit {0}
+Ascends bytes (x ∷ xs) = Each (λ y. Below (bytes x) (bytes y)) xs × Ascends bytes xs
