@@ -1,5 +1,5 @@
 -- Catalogues of lines, as callers see them.
-use Rattle.std.specs.Prelude.{◌-◌, ◌==◌, ℕ, List, Option, None, if◌then◌else◌, slice_get}
+use Rattle.std.specs.Prelude.{ℕ, zero, suc, List, Option, None, slice_get}
 use Rattle.crs_text.specs.Refusal.{Refused}
 use Rattle.crs_value.specs.declared.level.Level.{Level}
 use Rattle.crs_canon.specs.Canonical.{CanonicalText}
@@ -22,4 +22,5 @@ pub record CatalogueParts : Type 0 where
 
 -- the n-th member of a list, counted from 1
 abbrev pub nth : {A : Type 0} → ℕ → List A → Option A
-nth n members = if n == 0 then None else slice_get members (n - 1)
+nth zero members = None
+nth (suc n) members = slice_get members n

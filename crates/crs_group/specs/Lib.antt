@@ -1,1 +1,4 @@
 pub mod Catalogue
+pub mod GroupTexts
+pub mod Partition
+pub mod Putting
