@@ -1,0 +1,4 @@
+pub mod CatalogueLemmas
+pub mod ListLemmas
+pub mod PartitionLemmas
+pub mod PlaceLemmas

@@ -1,13 +1,18 @@
 //! The catalogue: groups in a vector, searched in order.
-ghost use Rattle.std.specs.Prelude.{◌≡◌, ◌<◌, [], ◌∷◌, ◌++◌, Some, MatchOption, IfOk, OnErr, length, slice_get};
+ghost use Rattle.std.specs.Prelude.{◌≡◌, ◌+◌, ◌^◌, ◌<◌, [], ◌∷◌, ◌++◌, List, Some, MatchOption, IfOk, IfSome, OnErr, length, slice_get};
 ghost use Rattle.std.specs.Option.{option_copied, option_map};
+ghost use Rattle.std.specs.List.{list_all};
+ghost use Rattle.crs_text.specs.Tokens.{is_white};
 ghost use Rattle.crs_group.specs.Catalogue.{nth};
-ghost use Rattle.crs_group.specs.GroupTexts.{IsCatalogue, canons};
+ghost use Rattle.crs_group.specs.GroupTexts.{IsCatalogue, canons, then_line};
+ghost use Rattle.crs_group.specs.Partition.{PlacedLine};
 ghost use Rattle.crs_group.specs.Putting.{IsJoined, IsNew, IsPut, group_of};
 
 use crate::group::Group;
-use crs_canon::Canon;
-use crs_text::Refusal;
+use crate::placed::Placed;
+use crs_canon::laws::main_theorem;
+use crs_canon::{Canon, canon};
+use crs_text::{Fault, Refusal};
 use crs_value::Level;
 use std::alloc::{AllocError, Global};
 use std::marker::Model;
@@ -81,6 +86,32 @@ impl Catalogue {
         &self.refused
     }
 
+    /// Adds a line, and answers where it stands: with the lines whose CRSs are the same, where it spells a CRS.
+    ///
+    /// `AllocError`: there is no memory for the line; the catalogue is as before. Profile.
+    pub fn add(&mut self, line: u64, text: &[u8]) -> Result<Placed, AllocError>
+        ensures catalogue { IfOk result (λ place. (placed : List PlacedLine) → IsCatalogue placed self.old →
+            IsCatalogue (then_line placed line text.now place) self.new) }
+        ensures level { self.new.level ≡ self.old.level }
+        ensures unchanged { OnErr result (self.new ≡ self.old) }
+    {
+        main_theorem();
+        if is_blank(text) {
+            return Ok(Placed::Blank);
+        }
+        match canon(self.alloc, text, self.level) {
+            Ok(canon) => {
+                let number = self.put(line, canon)?;
+                Ok(Placed::Group(number))
+            }
+            Err(Fault::Refused(refusal)) => {
+                self.refuse(line, refusal)?;
+                Ok(Placed::Refused(refusal))
+            }
+            Err(Fault::Memory(error)) => Err(error),
+        }
+    }
+
     fn group(&self, number: usize) -> Option<&Group>
         ensures { option_copied result ≡ nth number self.now.groups }
     {
@@ -92,8 +123,9 @@ impl Catalogue {
 
     // The place, from 0, of the group that has this text.
     fn position(&self, canon: &Canon) -> Option<usize>
-        ensures { MatchOption result (IsNew canon.now self.now.groups)
+        ensures found { MatchOption result (IsNew canon.now self.now.groups)
             (λ at. slice_get (canons self.now.groups) at ≡ Some canon.now) }
+        ensures fits { IfSome result (λ at. at + 1 < 2 ^ 64) }
     {
         self.groups.iter().position(|group| group.has(canon))
     }
@@ -120,4 +152,41 @@ impl Catalogue {
         self.groups.push(group)?;
         Ok(())
     }
+
+    // Puts a line into the group of its text; answers the group's number.
+    fn put(&mut self, line: u64, canon: Canon) -> Result<usize, AllocError>
+        ensures groups { IfOk result (λ n. IsPut canon line self.old.groups self.new.groups n) }
+        ensures refused { self.new.refused ≡ self.old.refused }
+        ensures level { self.new.level ≡ self.old.level }
+        ensures unchanged { OnErr result (self.new ≡ self.old) }
+    {
+        match self.position(&canon) {
+            Some(at) => {
+                self.join(at, line)?;
+                Ok(at + 1)
+            }
+            None => {
+                self.open(line, canon)?;
+                Ok(self.groups.len())
+            }
+        }
+    }
+
+    // Adds a refused line.
+    fn refuse(&mut self, line: u64, refusal: Refusal) -> Result<(), AllocError>
+        ensures groups { self.new.groups ≡ self.old.groups }
+        ensures refused { IfOk result (λ _. self.new.refused ≡ self.old.refused ++ (line, refusal) ∷ []) }
+        ensures level { self.new.level ≡ self.old.level }
+        ensures unchanged { OnErr result (self.new ≡ self.old) }
+    {
+        self.refused.push((line, refusal))?;
+        Ok(())
+    }
+}
+
+// Whether a text is white space alone, or nothing.
+fn is_blank(text: &[u8]) -> bool
+    ensures { result ≡ list_all is_white text.now }
+{
+    text.iter().all(|byte| matches!(byte, b' ' | b'\t' | b'\n' | b'\r'))
 }
