@@ -1,11 +1,16 @@
 -- What becomes of a catalogue where a further line finds its place.
-use Rattle.std.proofs.Common.{◌≡◌, ◌↔◌, ◌⊎◌, ◌+◌, ◌<◌, ◌≤◌, ◌++◌, ◌∷◌, [], ℕ, zero, suc, List, Some, None, length, slice_get, slice_set, map, inl, inr, ap, subst, sym, refl, ◌∙◌, arith, add-one, length-append}
+use Rattle.std.proofs.Common.{◌≡◌, ◌↔◌, ◌⊎◌, ◌+◌, ◌<◌, ◌≤◌, ◌++◌, Bool, true, false, ◌∷◌, [], ℕ, zero, suc, List, Some, None, length, slice_get, slice_set, map, inl, inr, ap, subst, sym, refl, ◌∙◌, arith, add-one, length-append}
 use Rattle.std.proofs.lemmas.Option.{slice_get-map, slice_get_within}
 use Rattle.std.specs.Option.{option_map}
 use Rattle.std.proofs.lemmas.List.{append-nil, length-set, map-append}
 use Rattle.crs_text.specs.Refusal.{Refused as Refusal}
-use Rattle.crs_text.specs.Tokens.{IsWhite}
-use Rattle.crs_value.specs.SpellsText.{Spells, Refuses}
+use Rattle.crs_text.specs.Tokens.{IsWhite, is_white}
+use Rattle.crs_text.specs.declared.fault.Fault.{Fault}
+use Rattle.std.specs.List.{list_all}
+use Rattle.std.specs.Prelude.{IfOk}
+use Rattle.std.proofs.Common.{Result, Ok, Err}
+use Rattle.std.specs.declared.alloc.AllocError.{AllocError}
+use Rattle.crs_value.specs.SpellsText.{Spells, Refuses, IsFaultOfText}
 use Rattle.crs_value.specs.declared.crs.Crs.{Crs}
 use Rattle.crs_value.specs.declared.level.Level.{Level}
 use Rattle.crs_same.specs.SameCrs.{SameCrs}
@@ -14,7 +19,7 @@ use Rattle.crs_canon.specs.MainTheorem.{MainTheorem}
 use Rattle.crs_group.specs.Catalogue.{Line, GroupParts, CatalogueParts, nth}
 use Rattle.crs_group.specs.GroupTexts.{IsCatalogue, HasTexts, IsUnder, canons, then_line}
 use Rattle.crs_group.specs.Partition.{AreNumbered, Counts, Each, IsPartition, IsPlacedAs, PlacedLine, ShareWhereSame, if_refused, in_group, lines_in, refused_in}
-use Rattle.crs_group.specs.Putting.{IsJoined, IsNew, IsPut, group_of, with_line}
+use Rattle.crs_group.specs.Putting.{IsJoined, IsNew, IsPut, IsRefused, group_of, with_line}
 use Rattle.crs_group.specs.declared.placed.Placed.{Placed}
 use Rattle.crs_group.specs.declared.placed.Placed.TheVariants.{Blank, Refused, Group}
 use Rattle.crs_group.proofs.ListLemmas.{each-append, each-by, get-last, if-equal, if-other, map-changed, none-is, nth-changed, nth-either, nth-front, some-is}
@@ -115,6 +120,23 @@ then-catalogue level placed c is main (partition, old) number text place groups 
       record { texts = all; apart = apart },
     )
 
+nth-none : {A : Type 0} (n : ℕ) (x : A) → nth n [] ≡ Some x → ⊥
+nth-none zero x e = none-is x e
+nth-none (suc n) x e = none-is x e
+
+-- the catalogue of no lines
+pub none-added : (level : Level) → IsCatalogue [] (parts_of level [] [])
+none-added level = (
+  record {
+    each = tt;
+    same = tt;
+    numbered = refl;
+    lines = λ n group found. absurd (nth-none n group found);
+    refused = refl;
+  },
+  record { texts = tt; apart = λ m n canon first second. absurd (nth-none m canon first) },
+)
+
 -- a line that stands in no group
 no-line : (n number : ℕ) (place : Placed) (placed : List PlacedLine) (lines : List ℕ) → in_group n number place ≡ []
     → lines ≡ lines_in n placed → lines ≡ lines_in n placed ++ in_group n number place
@@ -202,3 +224,57 @@ opened-added placed c main whole number text canon black canonical level new =
         ap (λ g. g.lines) is
         ∙ (ap (λ l. l ++ number ∷ []) (sym (lines-none n 0 placed (length c.groups) whole.0.numbered (omega arith)))
           ∙ ap (λ l. lines_in n placed ++ l) (sym (if-equal (suc (length c.groups)) n (number ∷ []) [] (sym here))))
+
+-- a catalogue with these parts
+pub by-parts : (placed : List PlacedLine) (level : Level) (groups : List GroupParts) (refused : List (ℕ × Refusal)) (c : CatalogueParts)
+    → c.level ≡ level → c.groups ≡ groups → c.refused ≡ refused → IsCatalogue placed (parts_of level groups refused)
+    → IsCatalogue placed c
+by-parts placed level groups refused c l g r whole =
+    subst (λ x. IsCatalogue placed (parts_of x c.groups c.refused)) (sym l)
+    (subst (λ x. IsCatalogue placed (parts_of level x c.refused)) (sym g)
+      (subst (λ x. IsCatalogue placed (parts_of level groups x)) (sym r) whole))
+
+-- the line is put among the groups
+pub put-added : (placed : List PlacedLine) (c after : CatalogueParts) → MainTheorem c.level → IsCatalogue placed c
+    → (number : ℕ) (text : List ℕ) (canon : CanonicalText) (place : Placed) → ¬ (IsWhite text)
+    → IsCanonicalOf c.level text canon.bytes → canon.level ≡ c.level → IsPut canon number c.groups after.groups place
+    → after.level ≡ c.level → after.refused ≡ c.refused → IsCatalogue (then_line placed number text place) after
+put-added placed c after main whole number text canon place black canonical level (inl (at, is, has, joined)) same kept =
+    subst (λ p. IsCatalogue (then_line placed number text p) after) (sym (is ∙ ap Group (add-one at)))
+    (by-parts (then_line placed number text (Group (suc at))) c.level after.groups c.refused after same refl kept
+      (joined-added placed c main whole number text canon at after.groups black canonical level has joined))
+put-added placed c after main whole number text canon place black canonical level (inr (new, is, longer)) same kept =
+    subst (λ p. IsCatalogue (then_line placed number text p) after) (sym (is ∙ ap Group (add-one (length c.groups))))
+    (by-parts (then_line placed number text (Group (suc (length c.groups)))) c.level (c.groups ++ group_of canon number ∷ []) c.refused after same longer kept
+      (opened-added placed c main whole number text canon black canonical level new))
+
+-- the line is put among the refused ones
+pub refuse-added : (placed : List PlacedLine) (c after : CatalogueParts) → MainTheorem c.level → IsCatalogue placed c
+    → (number : ℕ) (text : List ℕ) (fault : Fault) (place : Placed) → ¬ (IsWhite text) → IsFaultOfText text fault
+    → IsRefused fault number c.refused after.refused place → after.level ≡ c.level → after.groups ≡ c.groups
+    → IsCatalogue (then_line placed number text place) after
+refuse-added placed c after main whole number text fault place black of (refusal, is, here, longer) same kept =
+    subst (λ p. IsCatalogue (then_line placed number text p) after) (sym here)
+    (by-parts (then_line placed number text (Refused refusal)) c.level c.groups (c.refused ++ (number, refusal) ∷ []) after same kept longer
+      (refused-added placed c main whole number text refusal black (subst (IsFaultOfText text) is of)))
+
+pub is-black : (text : List ℕ) (white : Bool) → white ≡ false → white ≡ list_all is_white text → ¬ (IsWhite text)
+is-black text white other is blank = cc
+
+pub put-result : (c after : CatalogueParts) → MainTheorem c.level → (level : Level) → level ≡ c.level → (number : ℕ)
+    (text : List ℕ) (canon : CanonicalText) (r : Result Placed AllocError) → ¬ (IsWhite text)
+    → IsCanonicalOf level text canon.bytes → canon.level ≡ level → IfOk r (IsPut canon number c.groups after.groups)
+    → after.level ≡ c.level → after.refused ≡ c.refused
+    → IfOk r (λ place. (placed : List PlacedLine) → IsCatalogue placed c → IsCatalogue (then_line placed number text place) after)
+put-result c after main level at number text canon (Ok place) black canonical is put same kept =
+    λ placed whole. put-added placed c after main whole number text canon place black
+        (subst (λ l. IsCanonicalOf l text canon.bytes) at canonical) (is ∙ at) put same kept
+put-result c after main level at number text canon (Err error) black canonical is put same kept = tt
+
+pub refuse-result : (c after : CatalogueParts) → MainTheorem c.level → (number : ℕ) (text : List ℕ) (fault : Fault)
+    (r : Result Placed AllocError) → ¬ (IsWhite text) → IsFaultOfText text fault
+    → IfOk r (IsRefused fault number c.refused after.refused) → after.level ≡ c.level → after.groups ≡ c.groups
+    → IfOk r (λ place. (placed : List PlacedLine) → IsCatalogue placed c → IsCatalogue (then_line placed number text place) after)
+refuse-result c after main number text fault (Ok place) black of refused same kept =
+    λ placed whole. refuse-added placed c after main whole number text fault place black of refused same kept
+refuse-result c after main number text fault (Err error) black of refused same kept = tt

@@ -1,8 +1,13 @@
 -- A bridge: what becomes of the groups where a line with a canonical text is put among them.
 use Rattle.std.specs.Prelude.{◌≡◌, ◌⊎◌, ◌+◌, ◌++◌, ◌∷◌, [], ℕ, List, Some, length, slice_get, slice_set}
+use Rattle.crs_text.specs.Refusal.{Refused as Refusal}
+use Rattle.crs_text.specs.declared.fault.Fault.{Fault}
+use Rattle.crs_text.specs.declared.fault.Fault.TheVariants as faults
 use Rattle.crs_canon.specs.Canonical.{CanonicalText}
 use Rattle.crs_group.specs.Catalogue.{GroupParts, CatalogueParts}
 use Rattle.crs_group.specs.GroupTexts.{canons}
+use Rattle.crs_group.specs.declared.placed.Placed.{Placed}
+use Rattle.crs_group.specs.declared.placed.Placed.TheVariants.{Refused, Group}
 
 -- a group with a further line
 abbrev pub with_line : ℕ → GroupParts → GroupParts
@@ -23,7 +28,12 @@ pub record IsJoined (at line : ℕ) (before behind : List GroupParts) : Type 0 w
   pub changed : behind ≡ slice_set before at (with_line line group)
 
 -- the line joins the group of its text, or begins a group of its own
-abbrev pub IsPut : CanonicalText → ℕ → List GroupParts → List GroupParts → ℕ → Type 0
-IsPut canon line before behind n =
-    ((at : ℕ) × (n ≡ at + 1) × (slice_get (canons before) at ≡ Some canon) × IsJoined at line before behind)
-    ⊎ (IsNew canon before × (n ≡ length before + 1) × (behind ≡ before ++ group_of canon line ∷ []))
+abbrev pub IsPut : CanonicalText → ℕ → List GroupParts → List GroupParts → Placed → Type 0
+IsPut canon line before behind place =
+    ((at : ℕ) × (place ≡ Group (at + 1)) × (slice_get (canons before) at ≡ Some canon) × IsJoined at line before behind)
+    ⊎ (IsNew canon before × (place ≡ Group (length before + 1)) × (behind ≡ before ++ group_of canon line ∷ []))
+
+-- the fault is a refusal, with which the line stands among the refused ones
+abbrev pub IsRefused : Fault → ℕ → List (ℕ × Refusal) → List (ℕ × Refusal) → Placed → Type 0
+IsRefused fault line before behind place = (refusal : Refusal) × (fault ≡ faults.Refused refusal) × (place ≡ Refused refusal)
+    × (behind ≡ before ++ (line, refusal) ∷ [])

@@ -6,7 +6,7 @@ ghost use Rattle.crs_text.specs.Tokens.{is_white};
 ghost use Rattle.crs_group.specs.Catalogue.{nth};
 ghost use Rattle.crs_group.specs.GroupTexts.{IsCatalogue, canons, then_line};
 ghost use Rattle.crs_group.specs.Partition.{PlacedLine};
-ghost use Rattle.crs_group.specs.Putting.{IsJoined, IsNew, IsPut, group_of};
+ghost use Rattle.crs_group.specs.Putting.{IsJoined, IsNew, IsPut, IsRefused, group_of};
 
 use crate::group::Group;
 use crate::placed::Placed;
@@ -41,7 +41,8 @@ impl Model for Catalogue {
 impl Catalogue {
     /// A catalogue of no lines. It takes no memory.
     pub fn new(alloc: Global, level: Level) -> Catalogue
-        ensures { result ≡ record { level = level; groups = []; refused = [] } }
+        ensures empty { result ≡ record { level = level; groups = []; refused = [] } }
+        ensures catalogue { IsCatalogue [] result }
     {
         Catalogue {
             alloc,
@@ -100,15 +101,8 @@ impl Catalogue {
             return Ok(Placed::Blank);
         }
         match canon(self.alloc, text, self.level) {
-            Ok(canon) => {
-                let number = self.put(line, canon)?;
-                Ok(Placed::Group(number))
-            }
-            Err(Fault::Refused(refusal)) => {
-                self.refuse(line, refusal)?;
-                Ok(Placed::Refused(refusal))
-            }
-            Err(Fault::Memory(error)) => Err(error),
+            Ok(canon) => self.put(line, canon),
+            Err(fault) => self.refuse(line, fault),
         }
     }
 
@@ -153,9 +147,9 @@ impl Catalogue {
         Ok(())
     }
 
-    // Puts a line into the group of its text; answers the group's number.
-    fn put(&mut self, line: u64, canon: Canon) -> Result<usize, AllocError>
-        ensures groups { IfOk result (λ n. IsPut canon line self.old.groups self.new.groups n) }
+    // Puts a line into the group of its text.
+    fn put(&mut self, line: u64, canon: Canon) -> Result<Placed, AllocError>
+        ensures groups { IfOk result (IsPut canon line self.old.groups self.new.groups) }
         ensures refused { self.new.refused ≡ self.old.refused }
         ensures level { self.new.level ≡ self.old.level }
         ensures unchanged { OnErr result (self.new ≡ self.old) }
@@ -163,24 +157,29 @@ impl Catalogue {
         match self.position(&canon) {
             Some(at) => {
                 self.join(at, line)?;
-                Ok(at + 1)
+                Ok(Placed::Group(at + 1))
             }
             None => {
                 self.open(line, canon)?;
-                Ok(self.groups.len())
+                Ok(Placed::Group(self.groups.len()))
             }
         }
     }
 
     // Adds a refused line.
-    fn refuse(&mut self, line: u64, refusal: Refusal) -> Result<(), AllocError>
+    fn refuse(&mut self, line: u64, fault: Fault) -> Result<Placed, AllocError>
         ensures groups { self.new.groups ≡ self.old.groups }
-        ensures refused { IfOk result (λ _. self.new.refused ≡ self.old.refused ++ (line, refusal) ∷ []) }
+        ensures refused { IfOk result (IsRefused fault line self.old.refused self.new.refused) }
         ensures level { self.new.level ≡ self.old.level }
         ensures unchanged { OnErr result (self.new ≡ self.old) }
     {
-        self.refused.push((line, refusal))?;
-        Ok(())
+        match fault {
+            Fault::Refused(refusal) => {
+                self.refused.push((line, refusal))?;
+                Ok(Placed::Refused(refusal))
+            }
+            Fault::Memory(error) => Err(error),
+        }
     }
 }
 
