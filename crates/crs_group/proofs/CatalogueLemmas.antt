@@ -1,5 +1,5 @@
 -- What becomes of a catalogue where a further line finds its place.
-use Rattle.std.proofs.Common.{◌≡◌, ◌↔◌, ◌⊎◌, ◌+◌, ◌<◌, ◌≤◌, ◌++◌, Bool, true, false, ◌∷◌, [], ℕ, zero, suc, List, Some, None, length, slice_get, slice_set, map, inl, inr, ap, subst, sym, refl, ◌∙◌, arith, add-one, length-append}
+use Rattle.std.proofs.Common.{◌≡◌, ◌⊎◌, ◌<◌, ◌≤◌, ◌++◌, Bool, false, ◌∷◌, [], ℕ, zero, suc, List, Some, length, slice_get, slice_set, inl, inr, ap, subst, sym, refl, ◌∙◌, arith, add-one, length-append}
 use Rattle.std.proofs.lemmas.Option.{slice_get-map, slice_get_within}
 use Rattle.std.specs.Option.{option_map}
 use Rattle.std.proofs.lemmas.List.{append-nil, length-set, map-append}
@@ -7,18 +7,16 @@ use Rattle.crs_text.specs.Refusal.{Refused as Refusal}
 use Rattle.crs_text.specs.Tokens.{IsWhite, is_white}
 use Rattle.crs_text.specs.declared.fault.Fault.{Fault}
 use Rattle.std.specs.List.{list_all}
-use Rattle.std.specs.Prelude.{IfOk}
+use Rattle.std.specs.Prelude.{IfOk, OnOk}
 use Rattle.std.proofs.Common.{Result, Ok, Err}
 use Rattle.std.specs.declared.alloc.AllocError.{AllocError}
-use Rattle.crs_value.specs.SpellsText.{Spells, Refuses, IsFaultOfText}
-use Rattle.crs_value.specs.declared.crs.Crs.{Crs}
+use Rattle.crs_value.specs.SpellsText.{Refuses, IsFaultOfText}
 use Rattle.crs_value.specs.declared.level.Level.{Level}
-use Rattle.crs_same.specs.SameCrs.{SameCrs}
 use Rattle.crs_canon.specs.Canonical.{CanonicalText, IsCanonicalOf}
 use Rattle.crs_canon.specs.MainTheorem.{MainTheorem}
-use Rattle.crs_group.specs.Catalogue.{Line, GroupParts, CatalogueParts, nth}
-use Rattle.crs_group.specs.GroupTexts.{IsCatalogue, HasTexts, IsUnder, canons, then_line}
-use Rattle.crs_group.specs.Partition.{AreNumbered, Counts, Each, IsPartition, IsPlacedAs, PlacedLine, ShareWhereSame, if_refused, in_group, lines_in, refused_in}
+use Rattle.crs_group.specs.Catalogue.{Line, GroupParts, CatalogueParts, line_of, nth}
+use Rattle.crs_group.specs.GroupTexts.{IsCatalogue, IsCatalogueOf, IsUnder, canons, then_line}
+use Rattle.crs_group.specs.Partition.{Counts, Each, IsPlacedAs, PlacedLine, ShareWhereSame, if_refused, in_group, lines_in}
 use Rattle.crs_group.specs.Putting.{IsJoined, IsNew, IsPut, IsRefused, group_of, with_line}
 use Rattle.crs_group.specs.declared.placed.Placed.{Placed}
 use Rattle.crs_group.specs.declared.placed.Placed.TheVariants.{Blank, Refused, Group}
@@ -65,7 +63,7 @@ pub all-share : (level : Level) (texts : List CanonicalText) → MainTheorem lev
 all-share level texts main apart placed under =
     each-by (λ p. IsUnder level texts p.line.text p.place) (λ p. Each (ShareWhereSame level p) placed)
     (λ p hp. each-by (λ q. IsUnder level texts q.line.text q.place) (ShareWhereSame level p)
-      (λ q hq. under-share level texts main apart p q hp hq) placed under) placed under
+    (λ q hq. under-share level texts main apart p q hp hq) placed under) placed under
 
 -- the texts of a longer list are those of the shorter, and one more
 under-more : (level : Level) (texts more : List CanonicalText) (text : List ℕ) (place : Placed)
@@ -91,8 +89,8 @@ apart-more texts canon apart none m n some first second =
     both (inr (last, is)) (inl b) = absurd (next-is-new texts canon none n (b ∙ ap Some is))
     both (inr (last, is)) (inr (end, too)) = last ∙ sym end
 
-abbrev pub line_of : ℕ → List ℕ → Placed → PlacedLine
-line_of number text place = record { line = record { number = number; text = text }; place = place }
+abbrev pub placed_at : ℕ → List ℕ → Placed → PlacedLine
+placed_at number text place = record { line = line_of number text; place = place }
 
 abbrev pub parts_of : Level → List GroupParts → List (ℕ × Refusal) → CatalogueParts
 parts_of level groups refused = record { level = level; groups = groups; refused = refused }
@@ -108,14 +106,14 @@ then-catalogue : (level : Level) (placed : List PlacedLine) (c : CatalogueParts)
     → IsCatalogue (then_line placed number text place) (parts_of level groups refused)
 then-catalogue level placed c is main (partition, old) number text place groups refused here counts lines refusals texts under apart =
     let all : Each (λ p. IsUnder level (canons groups) p.line.text p.place) (then_line placed number text place) =
-        each-append (λ p. IsUnder level (canons groups) p.line.text p.place) placed (line_of number text place) texts under in (
+    each-append (λ p. IsUnder level (canons groups) p.line.text p.place) placed (placed_at number text place) texts under in (
       record {
-        each = each-append (λ p. IsPlacedAs p.line.text p.place) placed (line_of number text place) partition.each here;
+        each = each-append (λ p. IsPlacedAs p.line.text p.place) placed (placed_at number text place) partition.each here;
         same = all-share level (canons groups) main apart (then_line placed number text place) all;
-        numbered = numbered-append 0 placed (length c.groups) (line_of number text place) (length groups) partition.numbered counts;
-        lines = λ n group found. lines n group found ∙ sym (lines-append n placed (line_of number text place));
+        numbered = numbered-append 0 placed (length c.groups) (placed_at number text place) (length groups) partition.numbered counts;
+        lines = λ n group found. lines n group found ∙ sym (lines-append n placed (placed_at number text place));
         refused = refusals ∙ (ap (λ l. l ++ if_refused number place) partition.refused
-            ∙ sym (refused-append placed (line_of number text place)));
+            ∙ sym (refused-append placed (placed_at number text place)));
       },
       record { texts = all; apart = apart },
     )
@@ -168,23 +166,23 @@ pub joined-added : (placed : List PlacedLine) (c : CatalogueParts) → MainTheor
 joined-added placed c main whole number text canon at groups black canonical level has joined =
     let longer : List GroupParts = slice_set c.groups at (with_line number joined.group) in
     let same : canons longer ≡ canons c.groups =
-        map-changed (λ g. g.canon) c.groups at joined.group (with_line number joined.group) joined.found refl in
+    map-changed (λ g. g.canon) c.groups at joined.group (with_line number joined.group) joined.found refl in
     subst (λ gs. IsCatalogue (then_line placed number text (Group (suc at))) (parts_of c.level gs c.refused)) (sym joined.changed)
     (then-catalogue c.level placed c refl main whole number text (Group (suc at)) longer c.refused
-      (black, (canonical.0, canonical.1))
-      (inl (omega arith, get-within c.groups at joined.group joined.found, length-set c.groups at (with_line number joined.group)))
-      (λ n group found. lines n group (nth-changed c.groups at (with_line number joined.group) n group found))
-      (sym (append-nil c.refused))
-      (subst (λ texts. Each (λ p. IsUnder c.level texts p.line.text p.place) placed) (sym same) whole.1.texts)
-      (canon, subst (λ texts. slice_get texts at ≡ Some canon) (sym same) has, level, canonical)
-      (subst AreApart (sym same) whole.1.apart))
+    (black, (canonical.0, canonical.1))
+    (inl (omega arith, get-within c.groups at joined.group joined.found, length-set c.groups at (with_line number joined.group)))
+    (λ n group found. lines n group (nth-changed c.groups at (with_line number joined.group) n group found))
+    (sym (append-nil c.refused))
+    (subst (λ texts. Each (λ p. IsUnder c.level texts p.line.text p.place) placed) (sym same) whole.1.texts)
+    (canon, subst (λ texts. slice_get texts at ≡ Some canon) (sym same) has, level, canonical)
+    (subst AreApart (sym same) whole.1.apart))
   where
     lines : (n : ℕ) (group : GroupParts) → (((n ≡ suc at) × (group ≡ with_line number joined.group)) ⊎ ((¬ (suc at ≡ n)) × (nth n c.groups ≡ Some group)))
         → group.lines ≡ lines_in n placed ++ in_group n number (Group (suc at))
     lines n group (inl (here, is)) =
         ap (λ g. g.lines) is
         ∙ (ap (λ l. l ++ number ∷ []) (whole.0.lines n joined.group (ap (λ k. nth k c.groups) here ∙ joined.found))
-          ∙ ap (λ l. lines_in n placed ++ l) (sym (if-equal (suc at) n (number ∷ []) [] (sym here))))
+        ∙ ap (λ l. lines_in n placed ++ l) (sym (if-equal (suc at) n (number ∷ []) [] (sym here))))
     lines n group (inr (other, found)) =
         no-line n number (Group (suc at)) placed group.lines (if-other (suc at) n (number ∷ []) [] other) (whole.0.lines n group found)
 
@@ -193,21 +191,21 @@ pub opened-added : (placed : List PlacedLine) (c : CatalogueParts) → MainTheor
     → (number : ℕ) (text : List ℕ) (canon : CanonicalText) → ¬ (IsWhite text)
     → IsCanonicalOf c.level text canon.bytes → canon.level ≡ c.level → IsNew canon c.groups
     → IsCatalogue (then_line placed number text (Group (suc (length c.groups))))
-        (parts_of c.level (c.groups ++ group_of canon number ∷ []) c.refused)
+    (parts_of c.level (c.groups ++ group_of canon number ∷ []) c.refused)
 opened-added placed c main whole number text canon black canonical level new =
     let same : canons (c.groups ++ group_of canon number ∷ []) ≡ canons c.groups ++ canon ∷ [] =
-        map-append (λ g. g.canon) c.groups (group_of canon number ∷ []) in
+    map-append (λ g. g.canon) c.groups (group_of canon number ∷ []) in
     let long : length (c.groups ++ group_of canon number ∷ []) ≡ suc (length c.groups) =
-        length-append c.groups (group_of canon number ∷ []) ∙ add-one (length c.groups) in
+    length-append c.groups (group_of canon number ∷ []) ∙ add-one (length c.groups) in
     then-catalogue c.level placed c refl main whole number text (Group (suc (length c.groups))) (c.groups ++ group_of canon number ∷ []) c.refused
     (black, (canonical.0, canonical.1))
     (inr (sym (add-one (length c.groups)), long))
     (λ n group found. lines n group (nth-either c.groups (group_of canon number) n group found))
     (sym (append-nil c.refused))
     (subst (λ texts. Each (λ p. IsUnder c.level texts p.line.text p.place) placed) (sym same)
-      (each-by (λ p. IsUnder c.level (canons c.groups) p.line.text p.place)
-        (λ p. IsUnder c.level (canons c.groups ++ canon ∷ []) p.line.text p.place)
-        (λ p under. under-more c.level (canons c.groups) (canon ∷ []) p.line.text p.place under) placed whole.1.texts))
+    (each-by (λ p. IsUnder c.level (canons c.groups) p.line.text p.place)
+    (λ p. IsUnder c.level (canons c.groups ++ canon ∷ []) p.line.text p.place)
+    (λ p under. under-more c.level (canons c.groups) (canon ∷ []) p.line.text p.place under) placed whole.1.texts))
     (canon, last, level, canonical)
     (subst AreApart (sym same) (apart-more (canons c.groups) canon whole.1.apart new))
   where
@@ -223,7 +221,7 @@ opened-added placed c main whole number text canon black canonical level new =
     lines n group (inr (here, is)) =
         ap (λ g. g.lines) is
         ∙ (ap (λ l. l ++ number ∷ []) (sym (lines-none n 0 placed (length c.groups) whole.0.numbered (omega arith)))
-          ∙ ap (λ l. lines_in n placed ++ l) (sym (if-equal (suc (length c.groups)) n (number ∷ []) [] (sym here))))
+        ∙ ap (λ l. lines_in n placed ++ l) (sym (if-equal (suc (length c.groups)) n (number ∷ []) [] (sym here))))
 
 -- a catalogue with these parts
 pub by-parts : (placed : List PlacedLine) (level : Level) (groups : List GroupParts) (refused : List (ℕ × Refusal)) (c : CatalogueParts)
@@ -232,7 +230,7 @@ pub by-parts : (placed : List PlacedLine) (level : Level) (groups : List GroupPa
 by-parts placed level groups refused c l g r whole =
     subst (λ x. IsCatalogue placed (parts_of x c.groups c.refused)) (sym l)
     (subst (λ x. IsCatalogue placed (parts_of level x c.refused)) (sym g)
-      (subst (λ x. IsCatalogue placed (parts_of level groups x)) (sym r) whole))
+    (subst (λ x. IsCatalogue placed (parts_of level groups x)) (sym r) whole))
 
 -- the line is put among the groups
 pub put-added : (placed : List PlacedLine) (c after : CatalogueParts) → MainTheorem c.level → IsCatalogue placed c
@@ -242,11 +240,11 @@ pub put-added : (placed : List PlacedLine) (c after : CatalogueParts) → MainTh
 put-added placed c after main whole number text canon place black canonical level (inl (at, is, has, joined)) same kept =
     subst (λ p. IsCatalogue (then_line placed number text p) after) (sym (is ∙ ap Group (add-one at)))
     (by-parts (then_line placed number text (Group (suc at))) c.level after.groups c.refused after same refl kept
-      (joined-added placed c main whole number text canon at after.groups black canonical level has joined))
+    (joined-added placed c main whole number text canon at after.groups black canonical level has joined))
 put-added placed c after main whole number text canon place black canonical level (inr (new, is, longer)) same kept =
     subst (λ p. IsCatalogue (then_line placed number text p) after) (sym (is ∙ ap Group (add-one (length c.groups))))
     (by-parts (then_line placed number text (Group (suc (length c.groups)))) c.level (c.groups ++ group_of canon number ∷ []) c.refused after same longer kept
-      (opened-added placed c main whole number text canon black canonical level new))
+    (opened-added placed c main whole number text canon black canonical level new))
 
 -- the line is put among the refused ones
 pub refuse-added : (placed : List PlacedLine) (c after : CatalogueParts) → MainTheorem c.level → IsCatalogue placed c
@@ -256,7 +254,7 @@ pub refuse-added : (placed : List PlacedLine) (c after : CatalogueParts) → Mai
 refuse-added placed c after main whole number text fault place black of (refusal, is, here, longer) same kept =
     subst (λ p. IsCatalogue (then_line placed number text p) after) (sym here)
     (by-parts (then_line placed number text (Refused refusal)) c.level c.groups (c.refused ++ (number, refusal) ∷ []) after same kept longer
-      (refused-added placed c main whole number text refusal black (subst (IsFaultOfText text) is of)))
+    (refused-added placed c main whole number text refusal black (subst (IsFaultOfText text) is of)))
 
 pub is-black : (text : List ℕ) (white : Bool) → white ≡ false → white ≡ list_all is_white text → ¬ (IsWhite text)
 is-black text white other is blank = cc
@@ -268,7 +266,7 @@ pub put-result : (c after : CatalogueParts) → MainTheorem c.level → (level :
     → IfOk r (λ place. (placed : List PlacedLine) → IsCatalogue placed c → IsCatalogue (then_line placed number text place) after)
 put-result c after main level at number text canon (Ok place) black canonical is put same kept =
     λ placed whole. put-added placed c after main whole number text canon place black
-        (subst (λ l. IsCanonicalOf l text canon.bytes) at canonical) (is ∙ at) put same kept
+    (subst (λ l. IsCanonicalOf l text canon.bytes) at canonical) (is ∙ at) put same kept
 put-result c after main level at number text canon (Err error) black canonical is put same kept = tt
 
 pub refuse-result : (c after : CatalogueParts) → MainTheorem c.level → (number : ℕ) (text : List ℕ) (fault : Fault)
@@ -278,3 +276,19 @@ pub refuse-result : (c after : CatalogueParts) → MainTheorem c.level → (numb
 refuse-result c after main number text fault (Ok place) black of refused same kept =
     λ placed whole. refuse-added placed c after main whole number text fault place black of refused same kept
 refuse-result c after main number text fault (Err error) black of refused same kept = tt
+
+-- the catalogue of some lines and one more
+pub lines-added : (c after : CatalogueParts) (number : ℕ) (text : List ℕ) (place : Placed)
+    → ((placed : List PlacedLine) → IsCatalogue placed c → IsCatalogue (then_line placed number text place) after)
+    → (lines : List Line) → IsCatalogueOf lines c → IsCatalogueOf (lines ++ line_of number text ∷ []) after
+lines-added c after number text place step lines old = record {
+  placed = then_line old.placed number text place;
+  are_lines = map-append (λ p. p.line) old.placed (placed_at number text place ∷ []) ∙ ap (λ l. l ++ line_of number text ∷ []) old.are_lines;
+  whole = step old.placed old.whole;
+}
+
+pub lines-result : (c after : CatalogueParts) (number : ℕ) (text : List ℕ) (r : Result Placed AllocError)
+    → IfOk r (λ place. (placed : List PlacedLine) → IsCatalogue placed c → IsCatalogue (then_line placed number text place) after)
+    → OnOk r ((lines : List Line) → IsCatalogueOf lines c → IsCatalogueOf (lines ++ line_of number text ∷ []) after)
+lines-result c after number text (Ok place) step = lines-added c after number text place step
+lines-result c after number text (Err error) step = tt

@@ -1,9 +1,7 @@
 -- Lists of placed lines that are made longer.
-use Rattle.std.proofs.Common.{◌≡◌, ◌⊎◌, ◌+◌, ◌<◌, ◌≤◌, ◌++◌, ◌∷◌, [], ℕ, zero, suc, List, length, inl, inr, ap, subst, sym, refl, ◌∙◌, arith}
-use Rattle.std.specs.List.{flat_map}
+use Rattle.std.proofs.Common.{◌≡◌, ◌<◌, ◌≤◌, ◌++◌, ◌∷◌, [], ℕ, List, inl, inr, ap, subst, refl, ◌∙◌, arith}
 use Rattle.std.proofs.lemmas.Grind.{flat_map-append}
 use Rattle.std.proofs.lemmas.List.{append-nil}
-use Rattle.crs_text.specs.Refusal.{Refused as Refusal}
 use Rattle.crs_group.specs.Partition.{AreNumbered, Counts, PlacedLine, if_refused, in_group, lines_in, refused_in}
 use Rattle.crs_group.specs.declared.placed.Placed.{Placed}
 use Rattle.crs_group.specs.declared.placed.Placed.TheVariants.{Blank, Refused, Group}

@@ -1,5 +1,5 @@
 -- Members of lists by their places.
-use Rattle.std.proofs.Common.{◌≡◌, ◌≢◌, ◌⊎◌, ◌<◌, ◌≤◌, ℕ, List, Option, Some, None, length, slice_get, slice_index_or, map, inl, inr, ap, subst, sym, ◌∙◌, arith, rules}
+use Rattle.std.proofs.Common.{◌≡◌, ◌⊎◌, ◌<◌, ◌≤◌, ℕ, List, Option, Some, None, length, slice_get, slice_index_or, inl, inr, ap, subst, sym, ◌∙◌, arith}
 use Rattle.std.specs.Prelude.{MatchOption, IfSome, ◌+◌, ◌^◌}
 use Rattle.std.specs.List.{AllWithin, HoldsAt}
 use Rattle.std.specs.Option.{option_map}
@@ -49,16 +49,16 @@ found-at canon groups at within holds = by_case (slice_get_cases groups at).1
 -- the first group that has the text
 pub position-of : (canon : CanonicalText) (groups : List GroupParts) (r : Option ℕ)
     → MatchOption r (AllWithin (λ group. ¬ (group.canon ≡ canon)) groups 0 (length groups))
-        (λ at. (at < length groups) × HoldsAt (λ group. group.canon ≡ canon) groups at
-          × AllWithin (λ group. ¬ (group.canon ≡ canon)) groups 0 at)
+    (λ at. (at < length groups) × HoldsAt (λ group. group.canon ≡ canon) groups at
+    × AllWithin (λ group. ¬ (group.canon ≡ canon)) groups 0 at)
     → MatchOption r (IsNew canon groups) (λ at. slice_get (canons groups) at ≡ Some canon)
 position-of canon groups None h = new-at canon groups h
 position-of canon groups (Some at) h = found-at canon groups at h.0 h.1
 
 pub position-fits : (canon : CanonicalText) (groups : List GroupParts) (r : Option ℕ)
     → MatchOption r (AllWithin (λ group. ¬ (group.canon ≡ canon)) groups 0 (length groups))
-        (λ at. (at < length groups) × HoldsAt (λ group. group.canon ≡ canon) groups at
-          × AllWithin (λ group. ¬ (group.canon ≡ canon)) groups 0 at)
+    (λ at. (at < length groups) × HoldsAt (λ group. group.canon ≡ canon) groups at
+    × AllWithin (λ group. ¬ (group.canon ≡ canon)) groups 0 at)
     → length groups < 2 ^ 64 → IfSome r (λ at. at + 1 < 2 ^ 64)
 position-fits canon groups None h small = tt
 position-fits canon groups (Some at) h small = let within : at < length groups = h.0 in omega arith

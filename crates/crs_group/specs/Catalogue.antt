@@ -9,6 +9,9 @@ pub record Line : Type 0 where
   pub number : ℕ
   pub text : List ℕ
 
+abbrev pub line_of : ℕ → List ℕ → Line
+line_of number text = record { number = number; text = text }
+
 -- a group: the canonical text of its lines, and their numbers
 pub record GroupParts : Type 0 where
   pub canon : CanonicalText

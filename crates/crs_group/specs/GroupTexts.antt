@@ -2,7 +2,7 @@
 use Rattle.std.specs.Prelude.{◌≡◌, ◌++◌, ◌∷◌, [], ℕ, List, Some, map}
 use Rattle.crs_value.specs.declared.level.Level.{Level}
 use Rattle.crs_canon.specs.Canonical.{CanonicalText, IsCanonicalOf}
-use Rattle.crs_group.specs.Catalogue.{Line, GroupParts, CatalogueParts, nth}
+use Rattle.crs_group.specs.Catalogue.{Line, GroupParts, CatalogueParts, line_of, nth}
 use Rattle.crs_group.specs.Partition.{Each, IsPartition, PlacedLine}
 use Rattle.crs_group.specs.declared.placed.Placed.{Placed}
 use Rattle.crs_group.specs.declared.placed.Placed.TheVariants.{Blank, Refused, Group}
@@ -30,4 +30,10 @@ IsCatalogue placed catalogue = IsPartition placed catalogue × HasTexts placed c
 
 -- a further line at its place
 abbrev pub then_line : List PlacedLine → ℕ → List ℕ → Placed → List PlacedLine
-then_line placed number text place = placed ++ record { line = record { number = number; text = text }; place = place } ∷ []
+then_line placed number text place = placed ++ record { line = line_of number text; place = place } ∷ []
+
+-- the catalogue is that of these lines
+pub record IsCatalogueOf (lines : List Line) (catalogue : CatalogueParts) : Type 0 where
+  pub placed : List PlacedLine
+  pub are_lines : map (λ p. p.line) placed ≡ lines
+  pub whole : IsCatalogue placed catalogue

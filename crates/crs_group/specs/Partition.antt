@@ -1,5 +1,5 @@
 -- Which catalogue is that of some lines: it speaks of what texts spell, and of no canonical text.
-use Rattle.std.specs.Prelude.{◌≡◌, ◌↔◌, ◌⊎◌, ◌+◌, ◌≤◌, ◌==◌, ◌++◌, ◌∷◌, [], ℕ, List, Some, if◌then◌else◌, length, map}
+use Rattle.std.specs.Prelude.{◌≡◌, ◌↔◌, ◌⊎◌, ◌+◌, ◌≤◌, ◌==◌, ◌∷◌, [], ℕ, List, Some, if◌then◌else◌, length}
 use Rattle.std.specs.List.{flat_map}
 use Rattle.crs_text.specs.Refusal.{Refused as Refusal}
 use Rattle.crs_text.specs.Tokens.{IsWhite}

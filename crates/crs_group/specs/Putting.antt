@@ -4,7 +4,7 @@ use Rattle.crs_text.specs.Refusal.{Refused as Refusal}
 use Rattle.crs_text.specs.declared.fault.Fault.{Fault}
 use Rattle.crs_text.specs.declared.fault.Fault.TheVariants as faults
 use Rattle.crs_canon.specs.Canonical.{CanonicalText}
-use Rattle.crs_group.specs.Catalogue.{GroupParts, CatalogueParts}
+use Rattle.crs_group.specs.Catalogue.{GroupParts}
 use Rattle.crs_group.specs.GroupTexts.{canons}
 use Rattle.crs_group.specs.declared.placed.Placed.{Placed}
 use Rattle.crs_group.specs.declared.placed.Placed.TheVariants.{Refused, Group}

@@ -1,10 +1,10 @@
 //! The catalogue: groups in a vector, searched in order.
-ghost use Rattle.std.specs.Prelude.{◌≡◌, ◌+◌, ◌^◌, ◌<◌, [], ◌∷◌, ◌++◌, List, Some, MatchOption, IfOk, IfSome, OnErr, length, slice_get};
+ghost use Rattle.std.specs.Prelude.{◌≡◌, ◌+◌, ◌^◌, ◌<◌, [], ◌∷◌, ◌++◌, List, Some, MatchOption, IfOk, IfSome, OnErr, OnOk, length, slice_get};
 ghost use Rattle.std.specs.Option.{option_copied, option_map};
 ghost use Rattle.std.specs.List.{list_all};
 ghost use Rattle.crs_text.specs.Tokens.{is_white};
-ghost use Rattle.crs_group.specs.Catalogue.{nth};
-ghost use Rattle.crs_group.specs.GroupTexts.{IsCatalogue, canons, then_line};
+ghost use Rattle.crs_group.specs.Catalogue.{Line, line_of, nth};
+ghost use Rattle.crs_group.specs.GroupTexts.{IsCatalogue, IsCatalogueOf, canons, then_line};
 ghost use Rattle.crs_group.specs.Partition.{PlacedLine};
 ghost use Rattle.crs_group.specs.Putting.{IsJoined, IsNew, IsPut, IsRefused, group_of};
 
@@ -32,9 +32,9 @@ impl Model for Catalogue {
     ghost Value = { CatalogueParts };
 
     ghost view = { λ catalogue. record {
-        level = catalogue.level;
-        groups = catalogue.groups.items;
-        refused = catalogue.refused.items;
+      level = catalogue.level;
+      groups = catalogue.groups.items;
+      refused = catalogue.refused.items;
     } };
 }
 
@@ -43,6 +43,7 @@ impl Catalogue {
     pub fn new(alloc: Global, level: Level) -> Catalogue
         ensures empty { result ≡ record { level = level; groups = []; refused = [] } }
         ensures catalogue { IsCatalogue [] result }
+        ensures lines { IsCatalogueOf [] result }
     {
         Catalogue {
             alloc,
@@ -93,6 +94,8 @@ impl Catalogue {
     pub fn add(&mut self, line: u64, text: &[u8]) -> Result<Placed, AllocError>
         ensures catalogue { IfOk result (λ place. (placed : List PlacedLine) → IsCatalogue placed self.old →
             IsCatalogue (then_line placed line text.now place) self.new) }
+        ensures lines { OnOk result ((lines : List Line) → IsCatalogueOf lines self.old →
+            IsCatalogueOf (lines ++ line_of line text.now ∷ []) self.new) }
         ensures level { self.new.level ≡ self.old.level }
         ensures unchanged { OnErr result (self.new ≡ self.old) }
     {
@@ -187,5 +190,6 @@ impl Catalogue {
 fn is_blank(text: &[u8]) -> bool
     ensures { result ≡ list_all is_white text.now }
 {
-    text.iter().all(|byte| matches!(byte, b' ' | b'\t' | b'\n' | b'\r'))
+    text.iter()
+        .all(|byte| matches!(byte, b' ' | b'\t' | b'\n' | b'\r'))
 }
