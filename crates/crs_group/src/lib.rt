@@ -4,6 +4,7 @@
 
 mod catalogue;
 mod group;
+pub mod laws;
 mod placed;
 
 pub use catalogue::Catalogue;
