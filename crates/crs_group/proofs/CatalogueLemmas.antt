@@ -35,7 +35,8 @@ past-end xs (suc at) x e h = let k : at < length xs = slice_get_within xs at x e
 abbrev pub AreApart : List CanonicalText → Type 0
 AreApart texts = (m n : ℕ) (canon : CanonicalText) → nth m texts ≡ Some canon → nth n texts ≡ Some canon → m ≡ n
 
-one-text : (texts : List CanonicalText) (m n : ℕ) (a b : CanonicalText) → nth m texts ≡ Some a → nth n texts ≡ Some b → m ≡ n
+one-text : (texts : List CanonicalText) (m n : ℕ) (a b : CanonicalText) → nth m texts ≡ Some a
+    → nth n texts ≡ Some b → m ≡ n
     → a ≡ b
 one-text texts m n a b first second e = some-is a b (sym first ∙ (ap (λ k. nth k texts) e ∙ second))
 
@@ -58,8 +59,10 @@ under-share level texts main apart p q hp hq m n a b pm qn sa sb =
     )
 
 -- lines that stand under their canonical texts share a group exactly where their CRSs are the same
-pub all-share : (level : Level) (texts : List CanonicalText) → MainTheorem level → AreApart texts → (placed : List PlacedLine)
-    → Each (λ p. IsUnder level texts p.line.text p.place) placed → Each (λ p. Each (ShareWhereSame level p) placed) placed
+pub all-share : (level : Level) (texts : List CanonicalText) → MainTheorem level → AreApart texts
+    → (placed : List PlacedLine)
+    → Each (λ p. IsUnder level texts p.line.text p.place) placed
+    → Each (λ p. Each (ShareWhereSame level p) placed) placed
 all-share level texts main apart placed under =
     each-by (λ p. IsUnder level texts p.line.text p.place) (λ p. Each (ShareWhereSame level p) placed)
     (λ p hp. each-by (λ q. IsUnder level texts q.line.text q.place) (ShareWhereSame level p)
@@ -97,20 +100,26 @@ parts_of level groups refused = record { level = level; groups = groups; refused
 
 -- a catalogue is that of a further line where its groups and refusals say so
 then-catalogue : (level : Level) (placed : List PlacedLine) (c : CatalogueParts) → c.level ≡ level → MainTheorem level
-    → IsCatalogue placed c → (number : ℕ) (text : List ℕ) (place : Placed) (groups : List GroupParts) (refused : List (ℕ × Refusal))
+    → IsCatalogue placed c → (number : ℕ) (text : List ℕ) (place : Placed) (groups : List GroupParts)
+    (refused : List (ℕ × Refusal))
     → IsPlacedAs text place → Counts (length c.groups) place (length groups)
-    → ((n : ℕ) (group : GroupParts) → nth n groups ≡ Some group → group.lines ≡ lines_in n placed ++ in_group n number place)
+    → ((n : ℕ) (group : GroupParts) → nth n groups ≡ Some group
+    → group.lines ≡ lines_in n placed ++ in_group n number place)
     → refused ≡ c.refused ++ if_refused number place
     → Each (λ p. IsUnder level (canons groups) p.line.text p.place) placed
     → IsUnder level (canons groups) text place → AreApart (canons groups)
     → IsCatalogue (then_line placed number text place) (parts_of level groups refused)
-then-catalogue level placed c is main (partition, old) number text place groups refused here counts lines refusals texts under apart =
+then-catalogue level placed c is main
+    (partition, old) number text place groups refused here counts lines refusals texts under apart =
     let all : Each (λ p. IsUnder level (canons groups) p.line.text p.place) (then_line placed number text place) =
-    each-append (λ p. IsUnder level (canons groups) p.line.text p.place) placed (placed_at number text place) texts under in (
+    each-append (λ p. IsUnder level (canons groups) p.line.text p.place) placed
+    (placed_at number text place) texts under in (
       record {
-        each = each-append (λ p. IsPlacedAs p.line.text p.place) placed (placed_at number text place) partition.each here;
+        each = each-append (λ p. IsPlacedAs p.line.text p.place) placed
+            (placed_at number text place) partition.each here;
         same = all-share level (canons groups) main apart (then_line placed number text place) all;
-        numbered = numbered-append 0 placed (length c.groups) (placed_at number text place) (length groups) partition.numbered counts;
+        numbered = numbered-append 0 placed (length c.groups) (placed_at number text place)
+            (length groups) partition.numbered counts;
         lines = λ n group found. lines n group found ∙ sym (lines-append n placed (placed_at number text place));
         refused = refusals ∙ (ap (λ l. l ++ if_refused number place) partition.refused
             ∙ sym (refused-append placed (placed_at number text place)));
@@ -150,9 +159,11 @@ blank-added placed c main whole number text white =
 
 pub refused-added : (placed : List PlacedLine) (c : CatalogueParts) → MainTheorem c.level → IsCatalogue placed c
     → (number : ℕ) (text : List ℕ) (refusal : Refusal) → ¬ (IsWhite text) → Refuses text refusal
-    → IsCatalogue (then_line placed number text (Refused refusal)) (parts_of c.level c.groups (c.refused ++ (number, refusal) ∷ []))
+    → IsCatalogue (then_line placed number text (Refused refusal))
+    (parts_of c.level c.groups (c.refused ++ (number, refusal) ∷ []))
 refused-added placed c main whole number text refusal black refuses =
-    then-catalogue c.level placed c refl main whole number text (Refused refusal) c.groups (c.refused ++ (number, refusal) ∷ [])
+    then-catalogue c.level placed c refl main whole number text (Refused refusal) c.groups
+    (c.refused ++ (number, refusal) ∷ [])
     (black, refuses) refl
     (λ n group found. no-line n number (Refused refusal) placed group.lines refl (whole.0.lines n group found))
     refl whole.1.texts tt whole.1.apart
@@ -167,24 +178,33 @@ joined-added placed c main whole number text canon at groups black canonical lev
     let longer : List GroupParts = slice_set c.groups at (with_line number joined.group) in
     let same : canons longer ≡ canons c.groups =
     map-changed (λ g. g.canon) c.groups at joined.group (with_line number joined.group) joined.found refl in
-    subst (λ gs. IsCatalogue (then_line placed number text (Group (suc at))) (parts_of c.level gs c.refused)) (sym joined.changed)
+    subst (λ gs. IsCatalogue (then_line placed number text (Group (suc at))) (parts_of c.level gs c.refused))
+    (sym joined.changed)
     (then-catalogue c.level placed c refl main whole number text (Group (suc at)) longer c.refused
     (black, (canonical.0, canonical.1))
-    (inl (omega arith, get-within c.groups at joined.group joined.found, length-set c.groups at (with_line number joined.group)))
+    (inl (
+      omega arith,
+      get-within c.groups at joined.group joined.found,
+      length-set c.groups at
+          (with_line number joined.group),
+    ))
     (λ n group found. lines n group (nth-changed c.groups at (with_line number joined.group) n group found))
     (sym (append-nil c.refused))
     (subst (λ texts. Each (λ p. IsUnder c.level texts p.line.text p.place) placed) (sym same) whole.1.texts)
     (canon, subst (λ texts. slice_get texts at ≡ Some canon) (sym same) has, level, canonical)
     (subst AreApart (sym same) whole.1.apart))
   where
-    lines : (n : ℕ) (group : GroupParts) → (((n ≡ suc at) × (group ≡ with_line number joined.group)) ⊎ ((¬ (suc at ≡ n)) × (nth n c.groups ≡ Some group)))
+    lines : (n : ℕ) (group : GroupParts)
+        → (((n ≡ suc at) × (group ≡ with_line number joined.group))
+        ⊎ ((¬ (suc at ≡ n)) × (nth n c.groups ≡ Some group)))
         → group.lines ≡ lines_in n placed ++ in_group n number (Group (suc at))
     lines n group (inl (here, is)) =
         ap (λ g. g.lines) is
         ∙ (ap (λ l. l ++ number ∷ []) (whole.0.lines n joined.group (ap (λ k. nth k c.groups) here ∙ joined.found))
         ∙ ap (λ l. lines_in n placed ++ l) (sym (if-equal (suc at) n (number ∷ []) [] (sym here))))
     lines n group (inr (other, found)) =
-        no-line n number (Group (suc at)) placed group.lines (if-other (suc at) n (number ∷ []) [] other) (whole.0.lines n group found)
+        no-line n number (Group (suc at)) placed group.lines (if-other (suc at) n (number ∷ []) [] other)
+        (whole.0.lines n group found)
 
 -- a text that no group has begins one
 pub opened-added : (placed : List PlacedLine) (c : CatalogueParts) → MainTheorem c.level → IsCatalogue placed c
@@ -197,7 +217,8 @@ opened-added placed c main whole number text canon black canonical level new =
     map-append (λ g. g.canon) c.groups (group_of canon number ∷ []) in
     let long : length (c.groups ++ group_of canon number ∷ []) ≡ suc (length c.groups) =
     length-append c.groups (group_of canon number ∷ []) ∙ add-one (length c.groups) in
-    then-catalogue c.level placed c refl main whole number text (Group (suc (length c.groups))) (c.groups ++ group_of canon number ∷ []) c.refused
+    then-catalogue c.level placed c refl main whole number text (Group (suc (length c.groups)))
+    (c.groups ++ group_of canon number ∷ []) c.refused
     (black, (canonical.0, canonical.1))
     (inr (sym (add-one (length c.groups)), long))
     (λ n group found. lines n group (nth-either c.groups (group_of canon number) n group found))
@@ -213,18 +234,21 @@ opened-added placed c main whole number text canon black canonical level new =
     last = slice_get-map (λ g. g.canon) (c.groups ++ group_of canon number ∷ []) (length c.groups)
         ∙ ap (option_map (λ g. g.canon)) (get-last c.groups (group_of canon number))
 
-    lines : (n : ℕ) (group : GroupParts) → ((nth n c.groups ≡ Some group) ⊎ ((n ≡ suc (length c.groups)) × (group ≡ group_of canon number)))
+    lines : (n : ℕ) (group : GroupParts)
+        → ((nth n c.groups ≡ Some group) ⊎ ((n ≡ suc (length c.groups)) × (group ≡ group_of canon number)))
         → group.lines ≡ lines_in n placed ++ in_group n number (Group (suc (length c.groups)))
     lines n group (inl found) =
         no-line n number (Group (suc (length c.groups))) placed group.lines
-        (if-other (suc (length c.groups)) n (number ∷ []) [] (past-end c.groups n group found)) (whole.0.lines n group found)
+        (if-other (suc (length c.groups)) n (number ∷ []) [] (past-end c.groups n group found))
+        (whole.0.lines n group found)
     lines n group (inr (here, is)) =
         ap (λ g. g.lines) is
         ∙ (ap (λ l. l ++ number ∷ []) (sym (lines-none n 0 placed (length c.groups) whole.0.numbered (omega arith)))
         ∙ ap (λ l. lines_in n placed ++ l) (sym (if-equal (suc (length c.groups)) n (number ∷ []) [] (sym here))))
 
 -- a catalogue with these parts
-pub by-parts : (placed : List PlacedLine) (level : Level) (groups : List GroupParts) (refused : List (ℕ × Refusal)) (c : CatalogueParts)
+pub by-parts : (placed : List PlacedLine) (level : Level) (groups : List GroupParts)
+    (refused : List (ℕ × Refusal)) (c : CatalogueParts)
     → c.level ≡ level → c.groups ≡ groups → c.refused ≡ refused → IsCatalogue placed (parts_of level groups refused)
     → IsCatalogue placed c
 by-parts placed level groups refused c l g r whole =
@@ -237,13 +261,15 @@ pub put-added : (placed : List PlacedLine) (c after : CatalogueParts) → MainTh
     → (number : ℕ) (text : List ℕ) (canon : CanonicalText) (place : Placed) → ¬ (IsWhite text)
     → IsCanonicalOf c.level text canon.bytes → canon.level ≡ c.level → IsPut canon number c.groups after.groups place
     → after.level ≡ c.level → after.refused ≡ c.refused → IsCatalogue (then_line placed number text place) after
-put-added placed c after main whole number text canon place black canonical level (inl (at, is, has, joined)) same kept =
+put-added placed c after main whole number text canon place black canonical level
+    (inl (at, is, has, joined)) same kept =
     subst (λ p. IsCatalogue (then_line placed number text p) after) (sym (is ∙ ap Group (add-one at)))
     (by-parts (then_line placed number text (Group (suc at))) c.level after.groups c.refused after same refl kept
     (joined-added placed c main whole number text canon at after.groups black canonical level has joined))
 put-added placed c after main whole number text canon place black canonical level (inr (new, is, longer)) same kept =
     subst (λ p. IsCatalogue (then_line placed number text p) after) (sym (is ∙ ap Group (add-one (length c.groups))))
-    (by-parts (then_line placed number text (Group (suc (length c.groups)))) c.level (c.groups ++ group_of canon number ∷ []) c.refused after same longer kept
+    (by-parts (then_line placed number text (Group (suc (length c.groups)))) c.level
+    (c.groups ++ group_of canon number ∷ []) c.refused after same longer kept
     (opened-added placed c main whole number text canon black canonical level new))
 
 -- the line is put among the refused ones
@@ -253,7 +279,8 @@ pub refuse-added : (placed : List PlacedLine) (c after : CatalogueParts) → Mai
     → IsCatalogue (then_line placed number text place) after
 refuse-added placed c after main whole number text fault place black of (refusal, is, here, longer) same kept =
     subst (λ p. IsCatalogue (then_line placed number text p) after) (sym here)
-    (by-parts (then_line placed number text (Refused refusal)) c.level c.groups (c.refused ++ (number, refusal) ∷ []) after same kept longer
+    (by-parts (then_line placed number text (Refused refusal)) c.level c.groups
+    (c.refused ++ (number, refusal) ∷ []) after same kept longer
     (refused-added placed c main whole number text refusal black (subst (IsFaultOfText text) is of)))
 
 pub is-black : (text : List ℕ) (white : Bool) → white ≡ false → white ≡ list_all is_white text → ¬ (IsWhite text)
@@ -263,7 +290,8 @@ pub put-result : (c after : CatalogueParts) → MainTheorem c.level → (level :
     (text : List ℕ) (canon : CanonicalText) (r : Result Placed AllocError) → ¬ (IsWhite text)
     → IsCanonicalOf level text canon.bytes → canon.level ≡ level → IfOk r (IsPut canon number c.groups after.groups)
     → after.level ≡ c.level → after.refused ≡ c.refused
-    → IfOk r (λ place. (placed : List PlacedLine) → IsCatalogue placed c → IsCatalogue (then_line placed number text place) after)
+    → IfOk r (λ place. (placed : List PlacedLine) → IsCatalogue placed c
+    → IsCatalogue (then_line placed number text place) after)
 put-result c after main level at number text canon (Ok place) black canonical is put same kept =
     λ placed whole. put-added placed c after main whole number text canon place black
     (subst (λ l. IsCanonicalOf l text canon.bytes) at canonical) (is ∙ at) put same kept
@@ -272,7 +300,8 @@ put-result c after main level at number text canon (Err error) black canonical i
 pub refuse-result : (c after : CatalogueParts) → MainTheorem c.level → (number : ℕ) (text : List ℕ) (fault : Fault)
     (r : Result Placed AllocError) → ¬ (IsWhite text) → IsFaultOfText text fault
     → IfOk r (IsRefused fault number c.refused after.refused) → after.level ≡ c.level → after.groups ≡ c.groups
-    → IfOk r (λ place. (placed : List PlacedLine) → IsCatalogue placed c → IsCatalogue (then_line placed number text place) after)
+    → IfOk r (λ place. (placed : List PlacedLine) → IsCatalogue placed c
+    → IsCatalogue (then_line placed number text place) after)
 refuse-result c after main number text fault (Ok place) black of refused same kept =
     λ placed whole. refuse-added placed c after main whole number text fault place black of refused same kept
 refuse-result c after main number text fault (Err error) black of refused same kept = tt
@@ -283,12 +312,14 @@ pub lines-added : (c after : CatalogueParts) (number : ℕ) (text : List ℕ) (p
     → (lines : List Line) → IsCatalogueOf lines c → IsCatalogueOf (lines ++ line_of number text ∷ []) after
 lines-added c after number text place step lines old = record {
   placed = then_line old.placed number text place;
-  are_lines = map-append (λ p. p.line) old.placed (placed_at number text place ∷ []) ∙ ap (λ l. l ++ line_of number text ∷ []) old.are_lines;
+  are_lines = map-append (λ p. p.line) old.placed (placed_at number text place ∷ [])
+      ∙ ap (λ l. l ++ line_of number text ∷ []) old.are_lines;
   whole = step old.placed old.whole;
 }
 
 pub lines-result : (c after : CatalogueParts) (number : ℕ) (text : List ℕ) (r : Result Placed AllocError)
-    → IfOk r (λ place. (placed : List PlacedLine) → IsCatalogue placed c → IsCatalogue (then_line placed number text place) after)
+    → IfOk r (λ place. (placed : List PlacedLine) → IsCatalogue placed c
+    → IsCatalogue (then_line placed number text place) after)
     → OnOk r ((lines : List Line) → IsCatalogueOf lines c → IsCatalogueOf (lines ++ line_of number text ∷ []) after)
 lines-result c after number text (Ok place) step = lines-added c after number text place step
 lines-result c after number text (Err error) step = tt

@@ -67,7 +67,8 @@ cut-one [] [] rest left p q e = (refl, tail-is 10 10 rest left e)
 cut-one [] (b ∷ bs) rest left p q e = absurd (not-feed b bs q (sym (head-is 10 b rest (bs ++ 10 ∷ left) e)))
 cut-one (a ∷ more) [] rest left p q e = absurd (not-feed a more p (head-is a 10 (more ++ 10 ∷ rest) left e))
 cut-one (a ∷ more) (b ∷ bs) rest left p q e =
-    let h = cut-one more bs rest left (feed-rest a more p) (feed-rest b bs q) (tail-is a b (more ++ 10 ∷ rest) (bs ++ 10 ∷ left) e) in
+    let h = cut-one more bs rest left (feed-rest a more p) (feed-rest b bs q)
+    (tail-is a b (more ++ 10 ∷ rest) (bs ++ 10 ∷ left) e) in
     (head-tail a b more bs (head-is a b (more ++ 10 ∷ rest) (bs ++ 10 ∷ left) e) h.0, h.1)
 
 front-one : (a b : List ℕ) → a ++ 13 ∷ [] ≡ b ++ 13 ∷ [] → a ≡ b
@@ -90,7 +91,8 @@ lines-one bytes [] (u ∷ us) p (inl (line, rest, e, plain, text, more)) = absur
 lines-one bytes [] (u ∷ us) p (inr (some, plain, is, end)) = absurd (some p)
 lines-one bytes (t ∷ ts) [] (inl (line, rest, e, plain, text, more)) q = absurd (nil-feed line rest (sym q ∙ e))
 lines-one bytes (t ∷ ts) [] (inr (some, plain, is, end)) q = absurd (some q)
-lines-one bytes (t ∷ ts) (u ∷ us) (inl (line, rest, e, plain, text, more)) (inl (other, left, f, bare, word, further)) =
+lines-one bytes (t ∷ ts) (u ∷ us) (inl (line, rest, e, plain, text, more))
+    (inl (other, left, f, bare, word, further)) =
     let h = cut-one line other rest left plain bare (sym e ∙ f) in
     lists-is t u ts us (text-one other t u (subst (λ l. IsTextOf l t) h.0 text) word)
     (lines-one left ts us (subst (λ l. AreLines l ts) h.1 more) further)
@@ -102,7 +104,8 @@ lines-one bytes (t ∷ ts) (u ∷ us) (inr (some, bare, is, end)) (inr (other, p
     lists-is t u ts us (is ∙ sym too) (end ∙ sym last)
 
 -- the bytes have a first feed, or none
-first-feed : (bytes : List ℕ) → ((line : List ℕ) × (rest : List ℕ) × (bytes ≡ line ++ 10 ∷ rest) × HasNoFeed line) ⊎ HasNoFeed bytes
+first-feed : (bytes : List ℕ) →
+    ((line : List ℕ) × (rest : List ℕ) × (bytes ≡ line ++ 10 ∷ rest) × HasNoFeed line) ⊎ HasNoFeed bytes
 first-feed [] = inr refl
 first-feed (b ∷ bs) = by_test (cases_Bool (b == 10)) (first-feed bs)
   where
@@ -135,14 +138,16 @@ drop-line [] rest = refl
 drop-line (b ∷ bs) rest = drop-line bs rest
 
 take-front : (bytes : List ℕ) (b : ℕ) → take (length (bytes ++ b ∷ []) - 1) (bytes ++ b ∷ []) ≡ bytes
-take-front bytes b = let n : length (bytes ++ b ∷ []) - 1 ≡ length bytes = omega (arith, length-append bytes (b ∷ [])) in rw n (fronts bytes)
+take-front bytes b = let n : length (bytes ++ b ∷ []) - 1 ≡ length bytes = omega
+    (arith, length-append bytes (b ∷ [])) in rw n (fronts bytes)
   where
     fronts : (bs : List ℕ) → take (length bs) (bs ++ b ∷ []) ≡ bs
     fronts [] = refl
     fronts (x ∷ xs) = head-tail x x _ _ refl (fronts xs)
 
 last-byte : (bytes : List ℕ) (b : ℕ) → slice_index (bytes ++ b ∷ []) (length (bytes ++ b ∷ []) - 1) ≡ b
-last-byte bytes b = let n : length (bytes ++ b ∷ []) - 1 ≡ length bytes = omega (arith, length-append bytes (b ∷ [])) in
+last-byte bytes b = let n : length (bytes ++ b ∷ []) - 1 ≡ length bytes = omega
+    (arith, length-append bytes (b ∷ [])) in
     rw n (get_or-append_seam bytes b [] 0)
 
 -- the test by which `bstr` looks at the last byte
@@ -165,7 +170,8 @@ last-of : (bytes : List ℕ) → (bytes ≡ []) ⊎ ((front : List ℕ) × (b : 
 last-of [] = inl refl
 last-of (b ∷ bs) = further (last-of bs)
   where
-    further : ((bs ≡ []) ⊎ ((front : List ℕ) × (c : ℕ) × (bs ≡ front ++ c ∷ []))) → (b ∷ bs ≡ []) ⊎ ((front : List ℕ) × (c : ℕ) × (b ∷ bs ≡ front ++ c ∷ []))
+    further : ((bs ≡ []) ⊎ ((front : List ℕ) × (c : ℕ) × (bs ≡ front ++ c ∷ []))) → (b ∷ bs ≡ [])
+        ⊎ ((front : List ℕ) × (c : ℕ) × (b ∷ bs ≡ front ++ c ∷ []))
     further (inl none) = inr ([], b, head-tail b b bs [] refl none)
     further (inr (front, c, e)) = inr (b ∷ front, c, head-tail b b bs (front ++ c ∷ []) refl e)
 
@@ -173,7 +179,8 @@ last-of (b ∷ bs) = further (last-of bs)
 text-of : (line : List ℕ) → IsTextOf line (no_cr line)
 text-of line = by_last (last-of line)
   where
-    by_test : (front : List ℕ) (b : ℕ) → (((b == 13) ≡ true) ⊎ ((b == 13) ≡ false)) → IsTextOf (front ++ b ∷ []) (no_cr (front ++ b ∷ []))
+    by_test : (front : List ℕ) (b : ℕ) → (((b == 13) ≡ true) ⊎ ((b == 13) ≡ false))
+        → IsTextOf (front ++ b ∷ []) (no_cr (front ++ b ∷ []))
     by_test front b (inl is) =
         let e : no_cr (front ++ b ∷ []) ≡ front = cond-true _ _ _ (ends-test front b 13 ∙ is) ∙ take-front front b in
         inl (ap (λ c. front ++ c ∷ []) (eqb-true b 13 is) ∙ ap (λ l. l ++ 13 ∷ []) (sym e))
@@ -196,7 +203,8 @@ last-text bytes plain = by_last (last-of bytes)
     last-plain [] b h = feed-test b [] h
     last-plain (x ∷ xs) b h = last-plain xs b (feed-rest x (xs ++ b ∷ []) h)
 
-    by_last : ((bytes ≡ []) ⊎ ((front : List ℕ) × (b : ℕ) × (bytes ≡ front ++ b ∷ []))) → without_terminator bytes ≡ bytes
+    by_last : ((bytes ≡ []) ⊎ ((front : List ℕ) × (b : ℕ) × (bytes ≡ front ++ b ∷ [])))
+        → without_terminator bytes ≡ bytes
     by_last (inl none) = subst (λ l. without_terminator l ≡ l) (sym none) refl
     by_last (inr (front, b, e)) = subst (λ l. without_terminator l ≡ l) (sym e)
         (cond-false _ _ _ (ends-test front b 10 ∙ last-plain front b (subst HasNoFeed e plain)))
@@ -229,11 +237,14 @@ cut-within n [] fits = subst (AreLines []) (sym (ap (map without_terminator) lin
 cut-within zero (b ∷ bs) fits = absurd (omega arith)
 cut-within (suc n) (b ∷ bs) fits = by_feed (first-feed (b ∷ bs)) (λ rest h. cut-within n rest h)
   where
-    by_feed : (((line : List ℕ) × (rest : List ℕ) × (b ∷ bs ≡ line ++ 10 ∷ rest) × HasNoFeed line) ⊎ HasNoFeed (b ∷ bs))
-        → ((rest : List ℕ) → length rest ≤ n → AreLines rest (cut_lines rest)) → AreLines (b ∷ bs) (cut_lines (b ∷ bs))
+    by_feed : (((line : List ℕ) × (rest : List ℕ) × (b ∷ bs ≡ line ++ 10 ∷ rest) × HasNoFeed line)
+        ⊎ HasNoFeed (b ∷ bs))
+        → ((rest : List ℕ) → length rest ≤ n → AreLines rest (cut_lines rest))
+        → AreLines (b ∷ bs) (cut_lines (b ∷ bs))
     by_feed (inl (line, rest, e, plain)) further =
         let short : length rest ≤ n = omega (arith, ap length e, length-append line (10 ∷ rest)) in
-        let whole : AreLines (b ∷ bs) (no_cr line ∷ cut_lines rest) = inl (line, rest, e, plain, text-of line, further rest short) in
+        let whole : AreLines (b ∷ bs) (no_cr line ∷ cut_lines rest) = inl
+        (line, rest, e, plain, text-of line, further rest short) in
         subst (AreLines (b ∷ bs)) (sym (ap cut_lines e ∙ cut-first line rest plain)) whole
     by_feed (inr plain) further =
         let whole : AreLines (b ∷ bs) ((b ∷ bs) ∷ []) = inr (λ h. nil-cons b bs (sym h), plain, refl, refl) in

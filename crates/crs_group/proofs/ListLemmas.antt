@@ -20,7 +20,8 @@ pub none-is : {A : Type 0} (b : A) → None ≡ Some b → ⊥
 none-is b h = cc
 
 -- a member stays at its place
-pub get-front : {A : Type 0} (xs ys : List A) (k : ℕ) (v : A) → slice_get xs k ≡ Some v → slice_get (xs ++ ys) k ≡ Some v
+pub get-front : {A : Type 0} (xs ys : List A) (k : ℕ) (v : A) → slice_get xs k ≡ Some v
+    → slice_get (xs ++ ys) k ≡ Some v
 get-front [] ys k v e = absurd (none-is v e)
 get-front (x ∷ xs) ys zero v e = e
 get-front (x ∷ xs) ys (suc k) v e = get-front xs ys k v e
@@ -43,7 +44,8 @@ get-either (y ∷ ys) x (suc k) v e = further (get-either ys x k v e)
     further (inr (last, is)) = inr (ap suc last, is)
 
 -- a changed list has the new member at its place, and the old ones elsewhere
-pub get-changed : {A : Type 0} (xs : List A) (at : ℕ) (x : A) (k : ℕ) (v : A) → slice_get (slice_set xs at x) k ≡ Some v
+pub get-changed : {A : Type 0} (xs : List A) (at : ℕ) (x : A) (k : ℕ) (v : A)
+    → slice_get (slice_set xs at x) k ≡ Some v
     → ((k ≡ at) × (v ≡ x)) ⊎ ((¬ (at ≡ k)) × (slice_get xs k ≡ Some v))
 get-changed [] at x k v e = absurd (none-is v e)
 get-changed (y ∷ ys) zero x zero v e = inl (refl, some-is v x (sym e))

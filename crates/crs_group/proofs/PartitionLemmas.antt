@@ -33,7 +33,8 @@ counts-rise before (Refused refusal) behind counts = omega arith
 counts-rise before (Group n) behind (inl (low, high, same)) = omega arith
 counts-rise before (Group n) behind (inr (next, last)) = omega arith
 
-numbered-rise : (before : ℕ) (placed : List PlacedLine) (behind : ℕ) → AreNumbered before placed behind → before ≤ behind
+numbered-rise : (before : ℕ) (placed : List PlacedLine) (behind : ℕ) → AreNumbered before placed behind
+    → before ≤ behind
 numbered-rise before [] behind numbered = omega arith
 numbered-rise before (p ∷ ps) behind numbered =
     let here : before ≤ numbered.0 = counts-rise before p.place numbered.0 numbered.1 in
@@ -47,7 +48,8 @@ in-none n before line (Group m) behind (inl (low, high, same)) over = if-other m
 in-none n before line (Group m) behind (inr (next, last)) over = if-other m n _ _ (λ e. omega arith)
 
 -- no line stands in a group that isn't counted
-pub lines-none : (n before : ℕ) (placed : List PlacedLine) (behind : ℕ) → AreNumbered before placed behind → behind < n
+pub lines-none : (n before : ℕ) (placed : List PlacedLine) (behind : ℕ) → AreNumbered before placed behind
+    → behind < n
     → lines_in n placed ≡ []
 lines-none n before [] behind numbered over = refl
 lines-none n before (p ∷ ps) behind numbered over =

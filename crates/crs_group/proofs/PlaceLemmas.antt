@@ -22,14 +22,19 @@ canon-at groups at group e = slice_get-map (λ g. g.canon) groups at ∙ ap (opt
 
 -- a place with a text has a group
 pub group-at : (groups : List GroupParts) (at : ℕ) (canon : CanonicalText) → slice_get (canons groups) at ≡ Some canon
-    → (group : GroupParts) × (at < length groups) × (slice_get groups at ≡ Some group) × (slice_index_or groups at group ≡ group) × (group.canon ≡ canon)
+    → (group : GroupParts) × (at < length groups) × (slice_get groups at ≡ Some group) ×
+    (slice_index_or groups at group ≡ group) × (group.canon ≡ canon)
 group-at groups at canon e = by_case (slice_get_cases groups at).1
   where
-    by_case : (((x : GroupParts) × (at < length groups) × (slice_get groups at ≡ Some x) × (slice_index_or groups at x ≡ x))
+    by_case : (((x : GroupParts) × (at < length groups) × (slice_get groups at ≡ Some x) ×
+        (slice_index_or groups at x ≡ x))
         ⊎ ((length groups ≤ at) × (slice_get groups at ≡ None)))
-        → (group : GroupParts) × (at < length groups) × (slice_get groups at ≡ Some group) × (slice_index_or groups at group ≡ group) × (group.canon ≡ canon)
-    by_case (inl (x, within, some, is)) = (x, within, some, is, some-one x.canon canon (sym (canon-at groups at x some) ∙ e))
-    by_case (inr (past, none)) = absurd (none-some canon (sym (slice_get-map (λ g. g.canon) groups at ∙ ap (option_map (λ g. g.canon)) none) ∙ e))
+        → (group : GroupParts) × (at < length groups) × (slice_get groups at ≡ Some group) ×
+        (slice_index_or groups at group ≡ group) × (group.canon ≡ canon)
+    by_case (inl (x, within, some, is)) =
+        (x, within, some, is, some-one x.canon canon (sym (canon-at groups at x some) ∙ e))
+    by_case (inr (past, none)) = absurd
+        (none-some canon (sym (slice_get-map (λ g. g.canon) groups at ∙ ap (option_map (λ g. g.canon)) none) ∙ e))
 
 pub new-at : (canon : CanonicalText) (groups : List GroupParts)
     → AllWithin (λ group. ¬ (group.canon ≡ canon)) groups 0 (length groups) → IsNew canon groups
@@ -41,9 +46,11 @@ pub found-at : (canon : CanonicalText) (groups : List GroupParts) (at : ℕ) →
     → HoldsAt (λ group. group.canon ≡ canon) groups at → slice_get (canons groups) at ≡ Some canon
 found-at canon groups at within holds = by_case (slice_get_cases groups at).1
   where
-    by_case : (((x : GroupParts) × (at < length groups) × (slice_get groups at ≡ Some x) × (slice_index_or groups at x ≡ x))
+    by_case : (((x : GroupParts) × (at < length groups) × (slice_get groups at ≡ Some x) ×
+        (slice_index_or groups at x ≡ x))
         ⊎ ((length groups ≤ at) × (slice_get groups at ≡ None))) → slice_get (canons groups) at ≡ Some canon
-    by_case (inl (x, here, some, is)) = canon-at groups at x some ∙ ap Some (subst (λ g. g.canon ≡ canon) is (holds x))
+    by_case (inl (x, here, some, is)) = canon-at groups at x some
+        ∙ ap Some (subst (λ g. g.canon ≡ canon) is (holds x))
     by_case (inr (past, none)) = absurd (omega arith)
 
 -- the first group that has the text

@@ -16,7 +16,8 @@ abbrev pub IsUnder : Level → List CanonicalText → List ℕ → Placed → Ty
 IsUnder level texts text Blank = Unit {0}
 IsUnder level texts text (Refused refusal) = Unit {0}
 IsUnder level texts text (Group n) =
-    (canon : CanonicalText) × (nth n texts ≡ Some canon) × (canon.level ≡ level) × IsCanonicalOf level text canon.bytes
+    (canon : CanonicalText) × (nth n texts ≡ Some canon) ×
+    (canon.level ≡ level) × IsCanonicalOf level text canon.bytes
 
 -- the text of a group is the canonical text of each of its lines, and no two groups have the same
 pub record HasTexts (placed : List PlacedLine) (catalogue : CatalogueParts) : Type 0 where

@@ -18,7 +18,8 @@ IsTextOf bytes text = (bytes ≡ text ++ 13 ∷ []) ⊎ ((bytes ≡ text) × ¬ 
 abbrev pub AreLines : List ℕ → List (List ℕ) → Type 0
 AreLines bytes [] = bytes ≡ []
 AreLines bytes (text ∷ texts) =
-    ((line : List ℕ) × (rest : List ℕ) × (bytes ≡ line ++ 10 ∷ rest) × HasNoFeed line × IsTextOf line text × AreLines rest texts)
+    ((line : List ℕ) × (rest : List ℕ) ×
+    (bytes ≡ line ++ 10 ∷ rest) × HasNoFeed line × IsTextOf line text × AreLines rest texts)
     ⊎ ((¬ (bytes ≡ [])) × HasNoFeed bytes × (text ≡ bytes) × (texts ≡ []))
 
 -- lines are numbered in order, from this number on

@@ -7,10 +7,14 @@ use Rattle.crs_group.specs.Catalogue.{GroupParts, CatalogueParts}
 use Rattle.crs_group.specs.GroupTexts.{IsCatalogueOf}
 use Rattle.crs_group.specs.Lines.{AreLines, numbered}
 
+-- ` L1 L2 ..`
+abbrev pub numbers_text : List ℕ → List ℕ
+numbers_text numbers = flat_map (λ number. codes " " ++ decimal number) numbers
+
 -- `group N: L1 L2 ..`, and a line feed
 abbrev pub group_line : ℕ → GroupParts → List ℕ
 group_line number group =
-    codes "group " ++ decimal number ++ codes ":" ++ flat_map (λ line. codes " " ++ decimal line) group.lines ++ 10 ∷ []
+    codes "group " ++ decimal number ++ codes ":" ++ numbers_text group.lines ++ 10 ∷ []
 
 -- `line L: refused N NAME at P`, and a line feed
 abbrev pub refused_line : ℕ × Refused → List ℕ

@@ -30,10 +30,12 @@ pub record IsJoined (at line : ℕ) (before behind : List GroupParts) : Type 0 w
 -- the line joins the group of its text, or begins a group of its own
 abbrev pub IsPut : CanonicalText → ℕ → List GroupParts → List GroupParts → Placed → Type 0
 IsPut canon line before behind place =
-    ((at : ℕ) × (place ≡ Group (at + 1)) × (slice_get (canons before) at ≡ Some canon) × IsJoined at line before behind)
+    ((at : ℕ) × (place ≡ Group (at + 1)) ×
+    (slice_get (canons before) at ≡ Some canon) × IsJoined at line before behind)
     ⊎ (IsNew canon before × (place ≡ Group (length before + 1)) × (behind ≡ before ++ group_of canon line ∷ []))
 
 -- the fault is a refusal, with which the line stands among the refused ones
 abbrev pub IsRefused : Fault → ℕ → List (ℕ × Refusal) → List (ℕ × Refusal) → Placed → Type 0
-IsRefused fault line before behind place = (refusal : Refusal) × (fault ≡ faults.Refused refusal) × (place ≡ Refused refusal)
+IsRefused fault line before behind place = (refusal : Refusal) × (fault ≡ faults.Refused refusal) ×
+    (place ≡ Refused refusal)
     × (behind ≡ before ++ (line, refusal) ∷ [])
