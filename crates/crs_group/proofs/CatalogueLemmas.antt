@@ -1,0 +1,325 @@
+-- What becomes of a catalogue where a further line finds its place.
+use Rattle.std.proofs.Common.{◌≡◌, ◌⊎◌, ◌<◌, ◌≤◌, ◌++◌, Bool, false, ◌∷◌, [], ℕ, zero, suc, List, Some, length, slice_get, slice_set, inl, inr, ap, subst, sym, refl, ◌∙◌, arith, add-one, length-append}
+use Rattle.std.proofs.lemmas.Option.{slice_get-map, slice_get_within}
+use Rattle.std.specs.Option.{option_map}
+use Rattle.std.proofs.lemmas.List.{append-nil, length-set, map-append}
+use Rattle.crs_text.specs.Refusal.{Refused as Refusal}
+use Rattle.crs_text.specs.Tokens.{IsWhite, is_white}
+use Rattle.crs_text.specs.declared.fault.Fault.{Fault}
+use Rattle.std.specs.List.{list_all}
+use Rattle.std.specs.Prelude.{IfOk, OnOk}
+use Rattle.std.proofs.Common.{Result, Ok, Err}
+use Rattle.std.specs.declared.alloc.AllocError.{AllocError}
+use Rattle.crs_value.specs.SpellsText.{Refuses, IsFaultOfText}
+use Rattle.crs_value.specs.declared.level.Level.{Level}
+use Rattle.crs_canon.specs.Canonical.{CanonicalText, IsCanonicalOf}
+use Rattle.crs_canon.specs.MainTheorem.{MainTheorem}
+use Rattle.crs_group.specs.Catalogue.{Line, GroupParts, CatalogueParts, line_of, nth}
+use Rattle.crs_group.specs.GroupTexts.{IsCatalogue, IsCatalogueOf, IsUnder, canons, then_line}
+use Rattle.crs_group.specs.Partition.{Counts, Each, IsPlacedAs, PlacedLine, ShareWhereSame, if_refused, in_group, lines_in}
+use Rattle.crs_group.specs.Putting.{IsJoined, IsNew, IsPut, IsRefused, group_of, with_line}
+use Rattle.crs_group.specs.declared.placed.Placed.{Placed}
+use Rattle.crs_group.specs.declared.placed.Placed.TheVariants.{Blank, Refused, Group}
+use Rattle.crs_group.proofs.ListLemmas.{each-append, each-by, get-last, if-equal, if-other, map-changed, none-is, nth-changed, nth-either, nth-front, some-is}
+use Rattle.crs_group.proofs.PartitionLemmas.{lines-append, lines-none, numbered-append, refused-append}
+
+-- the place of a member lies in the list
+get-within : {A : Type 0} (xs : List A) (at : ℕ) (x : A) → slice_get xs at ≡ Some x → suc at ≤ length xs
+get-within xs at x e = let h = slice_get_within xs at x e in omega arith
+
+past-end : {A : Type 0} (xs : List A) (n : ℕ) (x : A) → nth n xs ≡ Some x → suc (length xs) ≡ n → ⊥
+past-end xs zero x e h = none-is x e
+past-end xs (suc at) x e h = let k : at < length xs = slice_get_within xs at x e in absurd (omega arith)
+
+-- no canonical text stands twice
+abbrev pub AreApart : List CanonicalText → Type 0
+AreApart texts = (m n : ℕ) (canon : CanonicalText) → nth m texts ≡ Some canon → nth n texts ≡ Some canon → m ≡ n
+
+one-text : (texts : List CanonicalText) (m n : ℕ) (a b : CanonicalText) → nth m texts ≡ Some a
+    → nth n texts ≡ Some b → m ≡ n
+    → a ≡ b
+one-text texts m n a b first second e = some-is a b (sym first ∙ (ap (λ k. nth k texts) e ∙ second))
+
+abbrev text_of : List ℕ → Level → CanonicalText
+text_of bytes level = record { bytes = bytes; level = level }
+
+same-parts : (a b : CanonicalText) → a.bytes ≡ b.bytes → a.level ≡ b.level → a ≡ b
+same-parts a b bytes level = ap (λ t. text_of t a.level) bytes ∙ ap (text_of b.bytes) level
+
+-- of two lines under their canonical texts
+under-share : (level : Level) (texts : List CanonicalText) → MainTheorem level → AreApart texts → (p q : PlacedLine)
+    → IsUnder level texts p.line.text p.place → IsUnder level texts q.line.text q.place → ShareWhereSame level p q
+under-share level texts main apart p q hp hq m n a b pm qn sa sb =
+    let up : IsUnder level texts p.line.text (Group m) = subst (IsUnder level texts p.line.text) pm hp in
+    let uq : IsUnder level texts q.line.text (Group n) = subst (IsUnder level texts q.line.text) qn hq in
+    let equal = main.equal p.line.text q.line.text up.0.bytes uq.0.bytes a b sa sb up.3 uq.3 in (
+      λ e. equal.0 (ap (λ canon. canon.bytes) (one-text texts m n up.0 uq.0 up.1 uq.1 e)),
+      λ same. apart m n up.0 up.1
+          (uq.1 ∙ ap Some (sym (same-parts up.0 uq.0 (equal.1 same) (up.2 ∙ sym uq.2)))),
+    )
+
+-- lines that stand under their canonical texts share a group exactly where their CRSs are the same
+pub all-share : (level : Level) (texts : List CanonicalText) → MainTheorem level → AreApart texts
+    → (placed : List PlacedLine)
+    → Each (λ p. IsUnder level texts p.line.text p.place) placed
+    → Each (λ p. Each (ShareWhereSame level p) placed) placed
+all-share level texts main apart placed under =
+    each-by (λ p. IsUnder level texts p.line.text p.place) (λ p. Each (ShareWhereSame level p) placed)
+    (λ p hp. each-by (λ q. IsUnder level texts q.line.text q.place) (ShareWhereSame level p)
+    (λ q hq. under-share level texts main apart p q hp hq) placed under) placed under
+
+-- the texts of a longer list are those of the shorter, and one more
+under-more : (level : Level) (texts more : List CanonicalText) (text : List ℕ) (place : Placed)
+    → IsUnder level texts text place → IsUnder level (texts ++ more) text place
+under-more level texts more text Blank under = tt
+under-more level texts more text (Refused refusal) under = tt
+under-more level texts more text (Group n) under = (under.0, nth-front texts more n under.0 under.1, under.2, under.3)
+
+next-is-new : (texts : List CanonicalText) (canon : CanonicalText) → ((at : ℕ) → ¬ (slice_get texts at ≡ Some canon))
+    → (n : ℕ) → ¬ (nth n texts ≡ Some canon)
+next-is-new texts canon none zero e = none-is canon e
+next-is-new texts canon none (suc at) e = none at e
+
+apart-more : (texts : List CanonicalText) (canon : CanonicalText) → AreApart texts
+    → ((at : ℕ) → ¬ (slice_get texts at ≡ Some canon)) → AreApart (texts ++ canon ∷ [])
+apart-more texts canon apart none m n some first second =
+    both (nth-either texts canon m some first) (nth-either texts canon n some second)
+  where
+    both : ((nth m texts ≡ Some some) ⊎ ((m ≡ suc (length texts)) × (some ≡ canon)))
+        → ((nth n texts ≡ Some some) ⊎ ((n ≡ suc (length texts)) × (some ≡ canon))) → m ≡ n
+    both (inl a) (inl b) = apart m n some a b
+    both (inl a) (inr (last, is)) = absurd (next-is-new texts canon none m (a ∙ ap Some is))
+    both (inr (last, is)) (inl b) = absurd (next-is-new texts canon none n (b ∙ ap Some is))
+    both (inr (last, is)) (inr (end, too)) = last ∙ sym end
+
+abbrev pub placed_at : ℕ → List ℕ → Placed → PlacedLine
+placed_at number text place = record { line = line_of number text; place = place }
+
+abbrev pub parts_of : Level → List GroupParts → List (ℕ × Refusal) → CatalogueParts
+parts_of level groups refused = record { level = level; groups = groups; refused = refused }
+
+-- a catalogue is that of a further line where its groups and refusals say so
+then-catalogue : (level : Level) (placed : List PlacedLine) (c : CatalogueParts) → c.level ≡ level → MainTheorem level
+    → IsCatalogue placed c → (number : ℕ) (text : List ℕ) (place : Placed) (groups : List GroupParts)
+    (refused : List (ℕ × Refusal))
+    → IsPlacedAs text place → Counts (length c.groups) place (length groups)
+    → ((n : ℕ) (group : GroupParts) → nth n groups ≡ Some group
+    → group.lines ≡ lines_in n placed ++ in_group n number place)
+    → refused ≡ c.refused ++ if_refused number place
+    → Each (λ p. IsUnder level (canons groups) p.line.text p.place) placed
+    → IsUnder level (canons groups) text place → AreApart (canons groups)
+    → IsCatalogue (then_line placed number text place) (parts_of level groups refused)
+then-catalogue level placed c is main
+    (partition, old) number text place groups refused here counts lines refusals texts under apart =
+    let all : Each (λ p. IsUnder level (canons groups) p.line.text p.place) (then_line placed number text place) =
+    each-append (λ p. IsUnder level (canons groups) p.line.text p.place) placed
+    (placed_at number text place) texts under in (
+      record {
+        each = each-append (λ p. IsPlacedAs p.line.text p.place) placed
+            (placed_at number text place) partition.each here;
+        same = all-share level (canons groups) main apart (then_line placed number text place) all;
+        numbered = numbered-append 0 placed (length c.groups) (placed_at number text place)
+            (length groups) partition.numbered counts;
+        lines = λ n group found. lines n group found ∙ sym (lines-append n placed (placed_at number text place));
+        refused = refusals ∙ (ap (λ l. l ++ if_refused number place) partition.refused
+            ∙ sym (refused-append placed (placed_at number text place)));
+      },
+      record { texts = all; apart = apart },
+    )
+
+nth-none : {A : Type 0} (n : ℕ) (x : A) → nth n [] ≡ Some x → ⊥
+nth-none zero x e = none-is x e
+nth-none (suc n) x e = none-is x e
+
+-- the catalogue of no lines
+pub none-added : (level : Level) → IsCatalogue [] (parts_of level [] [])
+none-added level = (
+  record {
+    each = tt;
+    same = tt;
+    numbered = refl;
+    lines = λ n group found. absurd (nth-none n group found);
+    refused = refl;
+  },
+  record { texts = tt; apart = λ m n canon first second. absurd (nth-none m canon first) },
+)
+
+-- a line that stands in no group
+no-line : (n number : ℕ) (place : Placed) (placed : List PlacedLine) (lines : List ℕ) → in_group n number place ≡ []
+    → lines ≡ lines_in n placed → lines ≡ lines_in n placed ++ in_group n number place
+no-line n number place placed lines none is =
+    is ∙ (sym (append-nil (lines_in n placed)) ∙ ap (λ l. lines_in n placed ++ l) (sym none))
+
+pub blank-added : (placed : List PlacedLine) (c : CatalogueParts) → MainTheorem c.level → IsCatalogue placed c
+    → (number : ℕ) (text : List ℕ) → IsWhite text → IsCatalogue (then_line placed number text Blank) c
+blank-added placed c main whole number text white =
+    then-catalogue c.level placed c refl main whole number text Blank c.groups c.refused white refl
+    (λ n group found. no-line n number Blank placed group.lines refl (whole.0.lines n group found))
+    (sym (append-nil c.refused)) whole.1.texts tt whole.1.apart
+
+pub refused-added : (placed : List PlacedLine) (c : CatalogueParts) → MainTheorem c.level → IsCatalogue placed c
+    → (number : ℕ) (text : List ℕ) (refusal : Refusal) → ¬ (IsWhite text) → Refuses text refusal
+    → IsCatalogue (then_line placed number text (Refused refusal))
+    (parts_of c.level c.groups (c.refused ++ (number, refusal) ∷ []))
+refused-added placed c main whole number text refusal black refuses =
+    then-catalogue c.level placed c refl main whole number text (Refused refusal) c.groups
+    (c.refused ++ (number, refusal) ∷ [])
+    (black, refuses) refl
+    (λ n group found. no-line n number (Refused refusal) placed group.lines refl (whole.0.lines n group found))
+    refl whole.1.texts tt whole.1.apart
+
+-- the group of a text has a further line
+pub joined-added : (placed : List PlacedLine) (c : CatalogueParts) → MainTheorem c.level → IsCatalogue placed c
+    → (number : ℕ) (text : List ℕ) (canon : CanonicalText) (at : ℕ) (groups : List GroupParts) → ¬ (IsWhite text)
+    → IsCanonicalOf c.level text canon.bytes → canon.level ≡ c.level → slice_get (canons c.groups) at ≡ Some canon
+    → IsJoined at number c.groups groups
+    → IsCatalogue (then_line placed number text (Group (suc at))) (parts_of c.level groups c.refused)
+joined-added placed c main whole number text canon at groups black canonical level has joined =
+    let longer : List GroupParts = slice_set c.groups at (with_line number joined.group) in
+    let same : canons longer ≡ canons c.groups =
+    map-changed (λ g. g.canon) c.groups at joined.group (with_line number joined.group) joined.found refl in
+    subst (λ gs. IsCatalogue (then_line placed number text (Group (suc at))) (parts_of c.level gs c.refused))
+    (sym joined.changed)
+    (then-catalogue c.level placed c refl main whole number text (Group (suc at)) longer c.refused
+    (black, (canonical.0, canonical.1))
+    (inl (
+      omega arith,
+      get-within c.groups at joined.group joined.found,
+      length-set c.groups at
+          (with_line number joined.group),
+    ))
+    (λ n group found. lines n group (nth-changed c.groups at (with_line number joined.group) n group found))
+    (sym (append-nil c.refused))
+    (subst (λ texts. Each (λ p. IsUnder c.level texts p.line.text p.place) placed) (sym same) whole.1.texts)
+    (canon, subst (λ texts. slice_get texts at ≡ Some canon) (sym same) has, level, canonical)
+    (subst AreApart (sym same) whole.1.apart))
+  where
+    lines : (n : ℕ) (group : GroupParts)
+        → (((n ≡ suc at) × (group ≡ with_line number joined.group))
+        ⊎ ((¬ (suc at ≡ n)) × (nth n c.groups ≡ Some group)))
+        → group.lines ≡ lines_in n placed ++ in_group n number (Group (suc at))
+    lines n group (inl (here, is)) =
+        ap (λ g. g.lines) is
+        ∙ (ap (λ l. l ++ number ∷ []) (whole.0.lines n joined.group (ap (λ k. nth k c.groups) here ∙ joined.found))
+        ∙ ap (λ l. lines_in n placed ++ l) (sym (if-equal (suc at) n (number ∷ []) [] (sym here))))
+    lines n group (inr (other, found)) =
+        no-line n number (Group (suc at)) placed group.lines (if-other (suc at) n (number ∷ []) [] other)
+        (whole.0.lines n group found)
+
+-- a text that no group has begins one
+pub opened-added : (placed : List PlacedLine) (c : CatalogueParts) → MainTheorem c.level → IsCatalogue placed c
+    → (number : ℕ) (text : List ℕ) (canon : CanonicalText) → ¬ (IsWhite text)
+    → IsCanonicalOf c.level text canon.bytes → canon.level ≡ c.level → IsNew canon c.groups
+    → IsCatalogue (then_line placed number text (Group (suc (length c.groups))))
+    (parts_of c.level (c.groups ++ group_of canon number ∷ []) c.refused)
+opened-added placed c main whole number text canon black canonical level new =
+    let same : canons (c.groups ++ group_of canon number ∷ []) ≡ canons c.groups ++ canon ∷ [] =
+    map-append (λ g. g.canon) c.groups (group_of canon number ∷ []) in
+    let long : length (c.groups ++ group_of canon number ∷ []) ≡ suc (length c.groups) =
+    length-append c.groups (group_of canon number ∷ []) ∙ add-one (length c.groups) in
+    then-catalogue c.level placed c refl main whole number text (Group (suc (length c.groups)))
+    (c.groups ++ group_of canon number ∷ []) c.refused
+    (black, (canonical.0, canonical.1))
+    (inr (sym (add-one (length c.groups)), long))
+    (λ n group found. lines n group (nth-either c.groups (group_of canon number) n group found))
+    (sym (append-nil c.refused))
+    (subst (λ texts. Each (λ p. IsUnder c.level texts p.line.text p.place) placed) (sym same)
+    (each-by (λ p. IsUnder c.level (canons c.groups) p.line.text p.place)
+    (λ p. IsUnder c.level (canons c.groups ++ canon ∷ []) p.line.text p.place)
+    (λ p under. under-more c.level (canons c.groups) (canon ∷ []) p.line.text p.place under) placed whole.1.texts))
+    (canon, last, level, canonical)
+    (subst AreApart (sym same) (apart-more (canons c.groups) canon whole.1.apart new))
+  where
+    last : slice_get (canons (c.groups ++ group_of canon number ∷ [])) (length c.groups) ≡ Some canon
+    last = slice_get-map (λ g. g.canon) (c.groups ++ group_of canon number ∷ []) (length c.groups)
+        ∙ ap (option_map (λ g. g.canon)) (get-last c.groups (group_of canon number))
+
+    lines : (n : ℕ) (group : GroupParts)
+        → ((nth n c.groups ≡ Some group) ⊎ ((n ≡ suc (length c.groups)) × (group ≡ group_of canon number)))
+        → group.lines ≡ lines_in n placed ++ in_group n number (Group (suc (length c.groups)))
+    lines n group (inl found) =
+        no-line n number (Group (suc (length c.groups))) placed group.lines
+        (if-other (suc (length c.groups)) n (number ∷ []) [] (past-end c.groups n group found))
+        (whole.0.lines n group found)
+    lines n group (inr (here, is)) =
+        ap (λ g. g.lines) is
+        ∙ (ap (λ l. l ++ number ∷ []) (sym (lines-none n 0 placed (length c.groups) whole.0.numbered (omega arith)))
+        ∙ ap (λ l. lines_in n placed ++ l) (sym (if-equal (suc (length c.groups)) n (number ∷ []) [] (sym here))))
+
+-- a catalogue with these parts
+pub by-parts : (placed : List PlacedLine) (level : Level) (groups : List GroupParts)
+    (refused : List (ℕ × Refusal)) (c : CatalogueParts)
+    → c.level ≡ level → c.groups ≡ groups → c.refused ≡ refused → IsCatalogue placed (parts_of level groups refused)
+    → IsCatalogue placed c
+by-parts placed level groups refused c l g r whole =
+    subst (λ x. IsCatalogue placed (parts_of x c.groups c.refused)) (sym l)
+    (subst (λ x. IsCatalogue placed (parts_of level x c.refused)) (sym g)
+    (subst (λ x. IsCatalogue placed (parts_of level groups x)) (sym r) whole))
+
+-- the line is put among the groups
+pub put-added : (placed : List PlacedLine) (c after : CatalogueParts) → MainTheorem c.level → IsCatalogue placed c
+    → (number : ℕ) (text : List ℕ) (canon : CanonicalText) (place : Placed) → ¬ (IsWhite text)
+    → IsCanonicalOf c.level text canon.bytes → canon.level ≡ c.level → IsPut canon number c.groups after.groups place
+    → after.level ≡ c.level → after.refused ≡ c.refused → IsCatalogue (then_line placed number text place) after
+put-added placed c after main whole number text canon place black canonical level
+    (inl (at, is, has, joined)) same kept =
+    subst (λ p. IsCatalogue (then_line placed number text p) after) (sym (is ∙ ap Group (add-one at)))
+    (by-parts (then_line placed number text (Group (suc at))) c.level after.groups c.refused after same refl kept
+    (joined-added placed c main whole number text canon at after.groups black canonical level has joined))
+put-added placed c after main whole number text canon place black canonical level (inr (new, is, longer)) same kept =
+    subst (λ p. IsCatalogue (then_line placed number text p) after) (sym (is ∙ ap Group (add-one (length c.groups))))
+    (by-parts (then_line placed number text (Group (suc (length c.groups)))) c.level
+    (c.groups ++ group_of canon number ∷ []) c.refused after same longer kept
+    (opened-added placed c main whole number text canon black canonical level new))
+
+-- the line is put among the refused ones
+pub refuse-added : (placed : List PlacedLine) (c after : CatalogueParts) → MainTheorem c.level → IsCatalogue placed c
+    → (number : ℕ) (text : List ℕ) (fault : Fault) (place : Placed) → ¬ (IsWhite text) → IsFaultOfText text fault
+    → IsRefused fault number c.refused after.refused place → after.level ≡ c.level → after.groups ≡ c.groups
+    → IsCatalogue (then_line placed number text place) after
+refuse-added placed c after main whole number text fault place black of (refusal, is, here, longer) same kept =
+    subst (λ p. IsCatalogue (then_line placed number text p) after) (sym here)
+    (by-parts (then_line placed number text (Refused refusal)) c.level c.groups
+    (c.refused ++ (number, refusal) ∷ []) after same kept longer
+    (refused-added placed c main whole number text refusal black (subst (IsFaultOfText text) is of)))
+
+pub is-black : (text : List ℕ) (white : Bool) → white ≡ false → white ≡ list_all is_white text → ¬ (IsWhite text)
+is-black text white other is blank = cc
+
+pub put-result : (c after : CatalogueParts) → MainTheorem c.level → (level : Level) → level ≡ c.level → (number : ℕ)
+    (text : List ℕ) (canon : CanonicalText) (r : Result Placed AllocError) → ¬ (IsWhite text)
+    → IsCanonicalOf level text canon.bytes → canon.level ≡ level → IfOk r (IsPut canon number c.groups after.groups)
+    → after.level ≡ c.level → after.refused ≡ c.refused
+    → IfOk r (λ place. (placed : List PlacedLine) → IsCatalogue placed c
+    → IsCatalogue (then_line placed number text place) after)
+put-result c after main level at number text canon (Ok place) black canonical is put same kept =
+    λ placed whole. put-added placed c after main whole number text canon place black
+    (subst (λ l. IsCanonicalOf l text canon.bytes) at canonical) (is ∙ at) put same kept
+put-result c after main level at number text canon (Err error) black canonical is put same kept = tt
+
+pub refuse-result : (c after : CatalogueParts) → MainTheorem c.level → (number : ℕ) (text : List ℕ) (fault : Fault)
+    (r : Result Placed AllocError) → ¬ (IsWhite text) → IsFaultOfText text fault
+    → IfOk r (IsRefused fault number c.refused after.refused) → after.level ≡ c.level → after.groups ≡ c.groups
+    → IfOk r (λ place. (placed : List PlacedLine) → IsCatalogue placed c
+    → IsCatalogue (then_line placed number text place) after)
+refuse-result c after main number text fault (Ok place) black of refused same kept =
+    λ placed whole. refuse-added placed c after main whole number text fault place black of refused same kept
+refuse-result c after main number text fault (Err error) black of refused same kept = tt
+
+-- the catalogue of some lines and one more
+pub lines-added : (c after : CatalogueParts) (number : ℕ) (text : List ℕ) (place : Placed)
+    → ((placed : List PlacedLine) → IsCatalogue placed c → IsCatalogue (then_line placed number text place) after)
+    → (lines : List Line) → IsCatalogueOf lines c → IsCatalogueOf (lines ++ line_of number text ∷ []) after
+lines-added c after number text place step lines old = record {
+  placed = then_line old.placed number text place;
+  are_lines = map-append (λ p. p.line) old.placed (placed_at number text place ∷ [])
+      ∙ ap (λ l. l ++ line_of number text ∷ []) old.are_lines;
+  whole = step old.placed old.whole;
+}
+
+pub lines-result : (c after : CatalogueParts) (number : ℕ) (text : List ℕ) (r : Result Placed AllocError)
+    → IfOk r (λ place. (placed : List PlacedLine) → IsCatalogue placed c
+    → IsCatalogue (then_line placed number text place) after)
+    → OnOk r ((lines : List Line) → IsCatalogueOf lines c → IsCatalogueOf (lines ++ line_of number text ∷ []) after)
+lines-result c after number text (Ok place) step = lines-added c after number text place step
+lines-result c after number text (Err error) step = tt

@@ -1,0 +1,29 @@
+-- Catalogues of lines, as callers see them.
+use Rattle.std.specs.Prelude.{ℕ, zero, suc, List, Option, None, slice_get}
+use Rattle.crs_text.specs.Refusal.{Refused}
+use Rattle.crs_value.specs.declared.level.Level.{Level}
+use Rattle.crs_canon.specs.Canonical.{CanonicalText}
+
+-- a line as it is added: its number, and its text
+pub record Line : Type 0 where
+  pub number : ℕ
+  pub text : List ℕ
+
+abbrev pub line_of : ℕ → List ℕ → Line
+line_of number text = record { number = number; text = text }
+
+-- a group: the canonical text of its lines, and their numbers
+pub record GroupParts : Type 0 where
+  pub canon : CanonicalText
+  pub lines : List ℕ
+
+-- the level at which texts are compared, the groups in the order of their numbers, and the refused lines
+pub record CatalogueParts : Type 0 where
+  pub level : Level
+  pub groups : List GroupParts
+  pub refused : List (ℕ × Refused)
+
+-- the n-th member of a list, counted from 1
+abbrev pub nth : {A : Type 0} → ℕ → List A → Option A
+nth zero members = None
+nth (suc n) members = slice_get members n

@@ -1,0 +1,28 @@
+-- The lines of some bytes.
+use Rattle.std.specs.Prelude.{◌≡◌, ◌⊎◌, ◌+◌, ◌==◌, ◌++◌, ◌∷◌, [], ℕ, List, IsTrue, not}
+use Rattle.std.specs.List.{list_all}
+use Rattle.crs_group.specs.Catalogue.{Line, line_of}
+
+-- no line feed is among the bytes
+abbrev pub HasNoFeed : List ℕ → Type 0
+HasNoFeed bytes = IsTrue (list_all (λ b. not (b == 10)) bytes)
+
+abbrev pub EndsInReturn : List ℕ → Type 0
+EndsInReturn bytes = (front : List ℕ) × (bytes ≡ front ++ 13 ∷ [])
+
+-- the text of a line that ends at a line feed: its bytes before that, but for one return directly before the feed
+abbrev pub IsTextOf : List ℕ → List ℕ → Type 0
+IsTextOf bytes text = (bytes ≡ text ++ 13 ∷ []) ⊎ ((bytes ≡ text) × ¬ (EndsInReturn bytes))
+
+-- the texts of all lines: a line ends at a line feed, and what stands behind the last feed is one if it has a byte
+abbrev pub AreLines : List ℕ → List (List ℕ) → Type 0
+AreLines bytes [] = bytes ≡ []
+AreLines bytes (text ∷ texts) =
+    ((line : List ℕ) × (rest : List ℕ) ×
+    (bytes ≡ line ++ 10 ∷ rest) × HasNoFeed line × IsTextOf line text × AreLines rest texts)
+    ⊎ ((¬ (bytes ≡ [])) × HasNoFeed bytes × (text ≡ bytes) × (texts ≡ []))
+
+-- lines are numbered in order, from this number on
+abbrev pub numbered : ℕ → List (List ℕ) → List Line
+numbered number [] = []
+numbered number (text ∷ texts) = line_of number text ∷ numbered (number + 1) texts

@@ -1,0 +1,74 @@
+-- Which catalogue is that of some lines: it speaks of what texts spell, and of no canonical text.
+use Rattle.std.specs.Prelude.{◌≡◌, ◌↔◌, ◌⊎◌, ◌+◌, ◌≤◌, ◌==◌, ◌∷◌, [], ℕ, List, Some, if◌then◌else◌, length}
+use Rattle.std.specs.List.{flat_map}
+use Rattle.crs_text.specs.Refusal.{Refused as Refusal}
+use Rattle.crs_text.specs.Tokens.{IsWhite}
+use Rattle.crs_value.specs.SpellsText.{Spells, Refuses}
+use Rattle.crs_value.specs.declared.crs.Crs.{Crs}
+use Rattle.crs_value.specs.declared.level.Level.{Level}
+use Rattle.crs_same.specs.SameCrs.{SameCrs}
+use Rattle.crs_canon.specs.MainTheorem.{IsAccepted}
+use Rattle.crs_group.specs.Catalogue.{Line, GroupParts, CatalogueParts, nth}
+use Rattle.crs_group.specs.declared.placed.Placed.{Placed}
+use Rattle.crs_group.specs.declared.placed.Placed.TheVariants.{Blank, Refused, Group}
+
+-- a line and where it stands
+pub record PlacedLine : Type 0 where
+  pub line : Line
+  pub place : Placed
+
+-- each member of the list has the property
+abbrev pub Each : {A : Type 0} → (A → Type 0) → List A → Type 0
+Each P [] = Unit {0}
+Each P (x ∷ xs) = P x × Each P xs
+
+-- blank is a text of white space alone; any other is refused as what spells no CRS, or spells one and stands in a group
+abbrev pub IsPlacedAs : List ℕ → Placed → Type 0
+IsPlacedAs text Blank = IsWhite text
+IsPlacedAs text (Refused refusal) = (¬ (IsWhite text)) × Refuses text refusal
+IsPlacedAs text (Group n) = (¬ (IsWhite text)) × IsAccepted text
+
+-- two lines stand in one group exactly where the CRSs that they spell are the same
+abbrev pub ShareWhereSame : Level → PlacedLine → PlacedLine → Type 0
+ShareWhereSame level p q = (m n : ℕ) (a b : Crs) → p.place ≡ Group m → q.place ≡ Group n
+    → Spells p.line.text a → Spells q.line.text b → (m ≡ n) ↔ SameCrs level a b
+
+-- with so many groups before a line, there are so many behind it: it stands in one of them, or is the first of the next
+abbrev pub Counts : ℕ → Placed → ℕ → Type 0
+Counts before Blank behind = behind ≡ before
+Counts before (Refused refusal) behind = behind ≡ before
+Counts before (Group n) behind = ((1 ≤ n) × (n ≤ before) × (behind ≡ before)) ⊎ ((n ≡ before + 1) × (behind ≡ n))
+
+-- groups are numbered by their first lines: with so many before these lines, there are so many behind them
+abbrev pub AreNumbered : ℕ → List PlacedLine → ℕ → Type 0
+AreNumbered before [] behind = behind ≡ before
+AreNumbered before (p ∷ ps) behind = (next : ℕ) × Counts before p.place next × AreNumbered next ps behind
+
+-- the line's number, where it stands in the group
+abbrev pub in_group : ℕ → ℕ → Placed → List ℕ
+in_group n number Blank = []
+in_group n number (Refused refusal) = []
+in_group n number (Group m) = if m == n then number ∷ [] else []
+
+-- the line's number and refusal, where it is refused
+abbrev pub if_refused : ℕ → Placed → List (ℕ × Refusal)
+if_refused number Blank = []
+if_refused number (Refused refusal) = (number, refusal) ∷ []
+if_refused number (Group n) = []
+
+-- the numbers of the lines that stand in a group, in order
+abbrev pub lines_in : ℕ → List PlacedLine → List ℕ
+lines_in n placed = flat_map (λ p. in_group n p.line.number p.place) placed
+
+-- the refused lines, in order
+abbrev pub refused_in : List PlacedLine → List (ℕ × Refusal)
+refused_in placed = flat_map (λ p. if_refused p.line.number p.place) placed
+
+-- the catalogue is that of lines which stand at these places
+pub record IsPartition (placed : List PlacedLine) (catalogue : CatalogueParts) : Type 0 where
+  pub each : Each (λ p. IsPlacedAs p.line.text p.place) placed
+  pub same : Each (λ p. Each (ShareWhereSame catalogue.level p) placed) placed
+  pub numbered : AreNumbered 0 placed (length catalogue.groups)
+  -- each group has the numbers of its lines, and the refused lines stand with their refusals
+  pub lines : (n : ℕ) (group : GroupParts) → nth n catalogue.groups ≡ Some group → group.lines ≡ lines_in n placed
+  pub refused : catalogue.refused ≡ refused_in placed
