@@ -18,6 +18,7 @@ use Rattle.crs_value.specs.declared.system_type.SystemType.{SystemType}
 use Rattle.crs_value.specs.Words.{direction_word, system_word}
 use Rattle.crs_normal.specs.NormalOwn.{HasSets, Own}
 
+-- the keyword is the first of these
 abbrev pub IsFirst : List ℕ → List (List ℕ) → Type 0
 IsFirst keyword [] = ⊥
 IsFirst keyword (first ∷ others) = keyword ≡ first

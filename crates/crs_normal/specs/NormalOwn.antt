@@ -21,9 +21,11 @@ Each P (x ∷ xs) = P x × Each P xs
 
 -- ---- what stands in a node, and what doesn't
 
+-- an argument of class `d` stands in the node, which is of class `c`
 abbrev pub Has : Class → Class → Item → Type 0
 Has c d item = those c d (arguments item) ≢ []
 
+-- none does
 abbrev pub Lacks : Class → Class → Item → Type 0
 Lacks c d item = those c d (arguments item) ≡ []
 
@@ -45,14 +47,17 @@ abbrev pub Ascend : List Item → Type 0
 Ascend [] = Unit {0}
 Ascend (item ∷ items) = Each (IsBelow item) items × Ascend items
 
+-- the nodes that are members of sets
 abbrev pub set_classes : List Class
 set_classes = class.Identifier ∷ class.Usage ∷ class.Member ∷ class.Parameter ∷ class.GeoidModel ∷ []
 
+-- the members of each set ascend
 abbrev pub HasSets : Class → Item → Type 0
 HasSets c item = Each (λ d. Ascend (those c d (arguments item))) set_classes
 
 -- ---- axes: by position, each with its order and its own unit; none is shared
 
+-- the axis has this order
 abbrev pub HasOrder : ℕ → Item → Type 0
 HasOrder k axis = map (numbers_in class.Order) (those class.Axis class.Order (arguments axis)) ≡ (decimal k ∷ []) ∷ []
 
@@ -81,6 +86,7 @@ abbrev pub Rise : Class → ℕ → Items → Type 0
 Rise c least End = Unit {0}
 Rise c least (More item items) = AtClass (class_in c item) (λ d. (least ≤ rank d) × Rise c (rank d) items)
 
+-- the parts of a usage
 abbrev pub bare_classes : List Class
 bare_classes = class.Scope ∷ class.Area ∷ class.BoundingBox ∷ class.VerticalExtent ∷ []
 

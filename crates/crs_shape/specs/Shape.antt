@@ -41,6 +41,7 @@ abbrev pub reaches : List SlotParts → Class → Bool
 reaches [] c = false
 reaches (slot ∷ slots) c = takes slot c || (not slot.required && reaches slots c)
 
+-- whether there is a class
 abbrev pub has_class : List Class → Bool
 has_class [] = false
 has_class (c ∷ cs) = true

@@ -52,6 +52,7 @@ tail =
     any_of (class.Usage ∷ class.Scope ∷ class.Area ∷ class.BoundingBox ∷ class.VerticalExtent ∷ class.Identifier
     ∷ class.Remark ∷ [])
 
+-- what may stand at a vertical CRS's end
 abbrev pub vertical_tail : SlotParts
 vertical_tail =
     any_of (class.GeoidModel ∷ class.Usage ∷ class.Scope ∷ class.Area ∷ class.BoundingBox ∷ class.VerticalExtent
@@ -62,9 +63,11 @@ geodetic_slots =
     one class.Text ∷ one_of (class.GeodeticFrame ∷ class.GeodeticEnsemble ∷ []) ∷ optional class.PrimeMeridian ∷
     one class.CoordinateSystem ∷ some class.Axis ∷ optional class.AxisUnit ∷ tail ∷ []
 
+-- a unit of a kind: its name, its factor, and identifiers
 abbrev pub unit_slots : List SlotParts
 unit_slots = one class.Text ∷ one class.Number ∷ any class.Identifier ∷ []
 
+-- a name, and identifiers
 abbrev pub named_slots : List SlotParts
 named_slots = one class.Text ∷ any class.Identifier ∷ []
 

@@ -24,6 +24,7 @@ BeginsWith test (b ∷ bs) = IsTrue (test b)
 abbrev pub is_quote : ℕ → Bool
 is_quote b = b == 34
 
+-- a byte that isn't a quote
 abbrev pub is_plain : ℕ → Bool
 is_plain b = not (is_quote b)
 

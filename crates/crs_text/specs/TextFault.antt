@@ -19,6 +19,7 @@ use Rattle.crs_text.specs.declared.refusal.Reason.TheVariants.{Unexpected, Unexp
 abbrev pub SpellsNode : List ℕ → Item → Type 0
 SpellsNode bytes item = (ts : List Token) × AreTokens bytes ts × AreNode item ts
 
+-- the number of a refusal, by its reason
 abbrev pub reason_number : Reason → ℕ
 reason_number BadCharacter = 1
 reason_number BadNumber = 2
@@ -69,6 +70,7 @@ IsTooDeep ts (opening square) =
     IsViableAtAnyDepth (ts ++ opening square ∷ []) × ¬ (IsViable (ts ++ opening square ∷ []))
 IsTooDeep ts (closing place square) = ⊥
 
+-- the tokens are no node
 abbrev pub IsNoNode : List Token → Type 0
 IsNoNode ts = (item : Item) → ¬ (AreNode item ts)
 

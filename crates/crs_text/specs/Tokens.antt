@@ -42,6 +42,7 @@ IsSingle number raw = BeginsWith is_run_start raw × IsTrue (list_all is_run_byt
 IsSingle text raw = IsInside raw × IsUtf8 raw
 IsSingle word raw = IsWord raw
 
+-- the bytes of a single token
 abbrev pub single_spelling : Kind → List ℕ → List ℕ
 single_spelling number raw = raw
 single_spelling text raw = 34 ∷ raw ++ 34 ∷ []
@@ -62,6 +63,7 @@ spelling comma = 44 ∷ []
 spelling (opening square) = opening_byte square ∷ []
 spelling (closing place square) = closing_byte square ∷ []
 
+-- a single token's raw bytes are what its kind asks for
 abbrev pub IsFormed : Token → Type 0
 IsFormed (single kind place raw) = IsSingle kind raw
 IsFormed comma = Unit {0}
@@ -74,6 +76,7 @@ takes number = is_run_byte
 takes text = is_quote
 takes word = is_word_byte
 
+-- the rest begins with no byte that the token would take
 abbrev pub Ends : Token → List ℕ → Type 0
 Ends (single kind place raw) rest = StopsAt (takes kind) rest
 Ends comma rest = Unit {0}

@@ -9,20 +9,25 @@ use Rattle.crs_value.specs.Reading.{those, ReadsFirst}
 use Rattle.crs_value.specs.Reads.{ReadsNumberOf}
 use Rattle.crs_value.specs.Break.{at, AnyOf}
 
+-- the orders that stand on an axis
 abbrev pub orders_in : Item → List Item
 orders_in axis = those class.Axis class.Order (arguments axis)
 
+-- one of these axes has an order
 abbrev pub SomeHasOrder : List Item → Type 0
 SomeHasOrder [] = ⊥
 SomeHasOrder (axis ∷ axes) = (orders_in axis ≢ []) ⊎ SomeHasOrder axes
 
+-- each of these axes has an order
 abbrev pub AllHaveOrder : List Item → Type 0
 AllHaveOrder [] = Unit {0}
 AllHaveOrder (axis ∷ axes) = (orders_in axis ≢ []) × AllHaveOrder axes
 
+-- an axis without an order
 abbrev pub LacksOrder : Item → Refused → Type 0
 LacksOrder axis fault = (fault ≡ at 26 axis) × (orders_in axis ≡ [])
 
+-- the number in a node `ORDER`
 abbrev pub ReadsOrder : Item → Value → Type 0
 ReadsOrder order value = ReadsNumberOf class.Order order value
 
@@ -44,6 +49,7 @@ abbrev pub IsWrongOrder : ℕ → List Item → Item → Type 0
 IsWrongOrder n before order =
     (value : Value) × (ReadsOrder order value × (¬ (IsPosition n value) ⊎ OneHas value before))
 
+-- such an order is refused at its first byte
 abbrev pub IsBadOrder : ℕ → List Item → Item → Refused → Type 0
 IsBadOrder n before order fault = (fault ≡ at 26 order) × IsWrongOrder n before order
 

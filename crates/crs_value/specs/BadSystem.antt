@@ -12,9 +12,11 @@ use Rattle.crs_value.specs.Reading.{those, ReadsFirst}
 use Rattle.crs_value.specs.Reads.{ReadsNumberOf, ReadsType}
 use Rattle.crs_value.specs.Break.{at}
 
+-- the node `CS` has this type
 abbrev pub HasType : Item → SystemType → Type 0
 HasType cs value = ReadsFirst ReadsType (those class.CoordinateSystem class.Word (arguments cs)) value
 
+-- and this dimension
 abbrev pub HasDimension : Item → Value → Type 0
 HasDimension cs value = ReadsNumberOf class.CoordinateSystem cs value
 
@@ -59,6 +61,7 @@ abbrev pub IsOneOf : Value → List ℕ → Type 0
 IsOneOf value [] = ⊥
 IsOneOf value (n ∷ ns) = SameNumber (exact value) (whole_number n) ⊎ IsOneOf value ns
 
+-- a known type with a dimension that is none of those allowed
 abbrev pub BadSystem : (SystemType → List ℕ) → Item → Refused → Type 0
 BadSystem dimensions cs fault =
     (fault ≡ at 23 cs)

@@ -14,12 +14,13 @@ use Rattle.crs_value.specs.Reads.{ReadsDirection, ReadsKind}
 use Rattle.crs_value.specs.Break.{at, AnyOf}
 use Rattle.crs_value.specs.BadSystem.{HasType}
 
--- the kind of unit that an axis asks for, by the type of its system and its own direction
+-- a length for what goes up or down, else an angle
 abbrev pub kind_by_direction : Direction → UnitKind
 kind_by_direction direction.Up = kinds.Length
 kind_by_direction direction.Down = kinds.Length
 kind_by_direction other = kinds.Angle
 
+-- the kind of unit that an axis asks for, by the type of its system and its own direction
 abbrev pub asked_kind : SystemType → Direction → UnitKind
 asked_kind types.Cartesian d = kinds.Length
 asked_kind types.Ellipsoidal d = kind_by_direction d
@@ -37,12 +38,15 @@ Asks cs axis kind =
 abbrev pub Fits : Item → UnitKind → Type 0
 Fits unit kind = ReadsKind unit kinds.Plain ⊎ ReadsKind unit kind
 
+-- the units that stand on an axis
 abbrev pub units_in : Item → List Item
 units_in axis = those class.Axis class.AxisUnit (arguments axis)
 
+-- an axis without a unit
 abbrev pub LacksUnit : Item → Refused → Type 0
 LacksUnit axis fault = (fault ≡ at 27 axis) × (units_in axis ≡ [])
 
+-- a unit on an axis that isn't of the kind that the axis asks for
 abbrev pub Misfits : Item → Item → Item → Refused → Type 0
 Misfits cs axis unit fault = (fault ≡ at 27 unit) × ((kind : UnitKind) × (Asks cs axis kind × ¬ (Fits unit kind)))
 
@@ -50,6 +54,7 @@ Misfits cs axis unit fault = (fault ≡ at 27 unit) × ((kind : UnitKind) × (As
 abbrev pub BadOwnUnit : Item → Item → Refused → Type 0
 BadOwnUnit cs axis fault = LacksUnit axis fault ⊎ AnyOf (Misfits cs axis) (units_in axis) fault
 
+-- a unit that stands beside a shared one
 abbrev pub IsSuperfluous : Item → Refused → Type 0
 IsSuperfluous unit fault = fault ≡ at 27 unit
 
@@ -57,6 +62,7 @@ IsSuperfluous unit fault = fault ≡ at 27 unit
 abbrev pub HasOwnUnit : Item → Refused → Type 0
 HasOwnUnit axis fault = AnyOf IsSuperfluous (units_in axis) fault
 
+-- all these axes ask for a unit of this kind
 abbrev pub AllAsk : Item → List Item → UnitKind → Type 0
 AllAsk cs [] kind = Unit {0}
 AllAsk cs (axis ∷ axes) kind = Asks cs axis kind × AllAsk cs axes kind
@@ -65,9 +71,11 @@ AllAsk cs (axis ∷ axes) kind = Asks cs axis kind × AllAsk cs axes kind
 abbrev pub SharedFits : Item → List Item → Item → Type 0
 SharedFits cs axes unit = (kind : UnitKind) × (AllAsk cs axes kind × Fits unit kind)
 
+-- a shared unit that doesn't fit
 abbrev pub BadShared : Item → List Item → Item → Refused → Type 0
 BadShared cs axes unit fault = (fault ≡ at 27 unit) × ¬ (SharedFits cs axes unit)
 
+-- where no unit is shared the axes' own are judged, else the shared one and those beside it
 abbrev pub BadUnit : List Item → List Item → Item → Refused → Type 0
 BadUnit axes [] cs fault = AnyOf (BadOwnUnit cs) axes fault
 BadUnit axes (unit ∷ units) cs fault =

@@ -6,11 +6,14 @@ use Rattle.crs_text.specs.Refusal.{Refused}
 use Rattle.crs_value.specs.Reads.{ReadsNumber}
 use Rattle.crs_value.specs.Break.{at}
 
+-- neither zero nor below
 abbrev pub IsAboveZero : Value → Type 0
 IsAboveZero value = (value.negative ≡ false) × (value.digits ≢ 0)
 
+-- a number that isn't above zero
 abbrev pub NotAbove : Item → Refused → Type 0
 NotAbove item fault = (fault ≡ at 28 item) × ((value : Value) × (ReadsNumber item value × ¬ (IsAboveZero value)))
 
+-- a number below zero
 abbrev pub IsNegative : Item → Refused → Type 0
 IsNegative item fault = (fault ≡ at 28 item) × ((value : Value) × (ReadsNumber item value × (value.negative ≡ true)))

@@ -56,12 +56,15 @@ OfCrs dimensions c item fault =
 abbrev pub horizontal_classes : List Class
 horizontal_classes = class.GeodeticCrs ∷ class.GeographicCrs ∷ class.ProjectedCrs ∷ []
 
+-- the checks of a compound CRS
 abbrev pub OfCompound : Items → Refused → Type 0
 OfCompound items fault = RepeatsAny class.CompoundCrs items once fault ⊎ BadComponents horizontal_classes items fault
 
+-- the check of a unit: its factor is above zero
 abbrev pub OfUnit : Class → Item → Refused → Type 0
 OfUnit c item fault = AnyOf NotAbove (those c class.Number (arguments item)) fault
 
+-- the checks of an ellipsoid: its semi-major axis is above zero, and its inverse flattening isn't below
 abbrev pub OfEllipsoid : List Item → Refused → Type 0
 OfEllipsoid numbers fault = AnyOf NotAbove (take 1 numbers) fault ⊎ AnyOf IsNegative (drop 1 numbers) fault
 

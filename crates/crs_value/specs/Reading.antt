@@ -28,6 +28,7 @@ abbrev pub IsReading : {V : Type 0} → (V → Type 0) → Option V → Type 0
 IsReading {V = V} reads None = (value : V) → ¬ (reads value)
 IsReading reads (Some value) = reads value
 
+-- whether two classes are the same
 abbrev pub is_same : Class → Class → Bool
 is_same c d = sameb the_type d c
 

@@ -7,8 +7,10 @@ use Rattle.crs_value.specs.declared.system_type.SystemType.{SystemType}
 use Rattle.crs_value.specs.Reads.{ReadsType, ReadsDirection}
 use Rattle.crs_value.specs.Break.{at}
 
+-- the type of a node `CS`
 abbrev pub UnknownType : Item → Refused → Type 0
 UnknownType item fault = (fault ≡ at 21 item) × ((value : SystemType) → ¬ (ReadsType item value))
 
+-- the direction of an axis
 abbrev pub UnknownDirection : Item → Refused → Type 0
 UnknownDirection item fault = (fault ≡ at 21 item) × ((value : Direction) → ¬ (ReadsDirection item value))
