@@ -36,6 +36,6 @@ IsPut canon line before behind place =
 
 -- the fault is a refusal, with which the line stands among the refused ones
 abbrev pub IsRefused : Fault → ℕ → List (ℕ × Refusal) → List (ℕ × Refusal) → Placed → Type 0
-IsRefused fault line before behind place = (refusal : Refusal) × (fault ≡ faults.Refused refusal) ×
-    (place ≡ Refused refusal)
+IsRefused fault line before behind place =
+    (refusal : Refusal) × (fault ≡ faults.Refused refusal) × (place ≡ Refused refusal)
     × (behind ≡ before ++ (line, refusal) ∷ [])
