@@ -15,6 +15,7 @@ use std::collections::BTreeSet;
 use std::marker::Model;
 
 /// Nodes as a set: their order doesn't count, nor how often one is there. Profile.
+#[derive(Drop)]
 pub struct Set<'s, T: Canonical> {
     members: &'s [T],
 }
