@@ -6,10 +6,14 @@ use Rattle.crs_desk.proofs.canon_run.CanonAnswerAnswer.output.Goals as goal
 pub returns-in_ok-line-in-Ok : goal.returns-in_ok-line-in-Ok
 unfolding IsCanonOutput
 returns-in_ok-line-in-Ok c =
-    inl (c.in-Ok.canon.bytes, c.in-Ok.ensures.answer, record {
-      line = c.in_ok-line-in-Ok.ensures ∙ ap (λ bytes. bytes ++ 10 ∷ []) c.bytes.ensures;
-      is_status = refl;
-    })
+    inl (
+      c.in-Ok.canon.bytes,
+      c.in-Ok.ensures.answer,
+      record {
+        line = c.in_ok-line-in-Ok.ensures ∙ ap (λ bytes. bytes ++ 10 ∷ []) c.bytes.ensures;
+        is_status = refl;
+      },
+    )
 
 pub returns-in_ok-line-in-Err : goal.returns-in_ok-line-in-Err
 unfolding IsCanonOutput
