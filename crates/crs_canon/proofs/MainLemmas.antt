@@ -1,6 +1,6 @@
 -- The main theorem from its parts.
 use Rattle.std.proofs.Common.{◌≡◌, ◌↔◌, ◌⊎◌, ℕ, List, subst, inl, inr}
-use Rattle.crs_text.specs.Refusal.{Refused}
+use Rattle.crs_text.specs.Refusal.{RefusedAt}
 use Rattle.crs_value.specs.SoundCrs.{IsCrs}
 use Rattle.crs_value.specs.SpellsText.{Spells, Refuses}
 use Rattle.crs_value.specs.declared.crs.Crs.{Crs}
@@ -21,8 +21,8 @@ SpellsOne = (text : List ℕ) (a b : Crs) → Spells text a → Spells text b �
 pub main : (level : Level) → ((crs : Crs) → IsCrs crs → (bytes : List ℕ) × IsCanonicalText level crs bytes)
     → EqualWhereSame level → IsSamenessOf IsCrs (SameCrs level)
     → ((text : List ℕ) (crs : Crs) → Spells text crs → IsCrs crs) → SpellsOne
-    → ((text : List ℕ) (a b : Refused) → Refuses text a → Refuses text b → a ≡ b)
-    → ((text : List ℕ) → IsAccepted text ⊎ ((fault : Refused) × Refuses text fault))
+    → ((text : List ℕ) (a b : RefusedAt) → Refuses text a → Refuses text b → a ≡ b)
+    → ((text : List ℕ) → IsAccepted text ⊎ ((fault : RefusedAt) × Refuses text fault))
     → MainTheorem level
 main level there equal laws sound one refusal either = record {
   there = λ text (crs, spells). let found = there crs (sound text crs spells) in (found.0, (crs, spells, found.1));
@@ -49,8 +49,8 @@ main level there equal laws sound one refusal either = record {
   refused = λ text none. answer text none (either text);
 }
   where
-    answer : (text : List ℕ) → ¬ (IsAccepted text) → (IsAccepted text ⊎ ((fault : Refused) × Refuses text fault))
-        → (refusal : Refused) × IsItsRefusal text refusal
+    answer : (text : List ℕ) → ¬ (IsAccepted text) → (IsAccepted text ⊎ ((fault : RefusedAt) × Refuses text fault))
+        → (refusal : RefusedAt) × IsItsRefusal text refusal
     answer text none (inl accepted) = absurd (none accepted)
     answer text none (inr (fault, refuses)) =
         (fault, record { refused = refuses; alone = λ other others. refusal text other fault others refuses })

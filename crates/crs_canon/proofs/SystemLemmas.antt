@@ -1,6 +1,6 @@
 -- Axes as they are looked up and written.
 use Rattle.std.proofs.Common.{◌≡◌, ℕ, suc, ◌+◌, List, [], ◌∷◌, ◌++◌, Option, Some, None, refl, sym, ap, ◌∙◌, subst, append_assoc}
-use Rattle.crs_text.specs.Items.{Items, End}
+use Rattle.crs_text.specs.Items.{Siblings, End}
 use Rattle.crs_text.specs.Written.{item_text, others_text}
 use Rattle.crs_value.specs.Values.{AxisParts, SystemParts}
 use Rattle.crs_value.specs.declared.level.Level.{Level}
@@ -36,7 +36,7 @@ next-axis level system k left rest s1 s2 whole e f g =
     ∙ subst (λ n. s1 ++ others_text (each item_axis (axes_from level system k n) End) ≡ whole) e f
 
 -- a system, and then the rest
-pub then-system : (level : Level) (system : SystemParts) (rest : Items) (old s1 s2 : List ℕ) →
+pub then-system : (level : Level) (system : SystemParts) (rest : Siblings) (old s1 s2 : List ℕ) →
     s1 ≡ old ++ others_text (system_items (norm_system level system) End) → s2 ≡ s1 ++ others_text rest →
     s2 ≡ old ++ others_text (system_items (norm_system level system) rest)
 then-system level system rest old s1 s2 e f =

@@ -1,7 +1,7 @@
 -- The text of arguments is that of the first ones and that of the rest.
 use Rattle.std.proofs.Common.{◌≡◌, ℕ, List, [], ◌∷◌, ◌++◌, Option, Some, None, map, refl, sym, ap, ◌∙◌, append_assoc}
 use Rattle.std.proofs.lemmas.List.{append-nil}
-use Rattle.crs_text.specs.Items.{Item, Items, End, More}
+use Rattle.crs_text.specs.Items.{Item, Siblings, End, More}
 use Rattle.crs_text.specs.Written.{item_text, others_text}
 use Rattle.crs_normal.specs.Ordered.{in_order, put, put_all}
 use Rattle.crs_normal.specs.SpelledItems.{each, opt, text_node}
@@ -12,16 +12,16 @@ use Rattle.std.specs.declared.cmp.Ordering.TheVariants.{Less, Equal, Greater}
 use Rattle.crs_canon.specs.Members.{commas, set_text}
 use Rattle.crs_canon.specs.Openings.{text_behind}
 
-more-text : (item : Item) (rest : Items) → others_text (More item rest) ≡ others_text (More item End) ++ others_text rest
+more-text : (item : Item) (rest : Siblings) → others_text (More item rest) ≡ others_text (More item End) ++ others_text rest
 more-text item rest =
     ap (λ (x : List ℕ). 44 ∷ (x ++ others_text rest)) (sym (append-nil (item_text item)))
 
-pub opt-text : {A : Type 0} (spell : A → Item) (value : Option A) (rest : Items) →
+pub opt-text : {A : Type 0} (spell : A → Item) (value : Option A) (rest : Siblings) →
     others_text (opt spell value rest) ≡ others_text (opt spell value End) ++ others_text rest
 opt-text spell None rest = refl
 opt-text spell (Some value) rest = more-text (spell value) rest
 
-pub each-text : {A : Type 0} (spell : A → Item) (values : List A) (rest : Items) →
+pub each-text : {A : Type 0} (spell : A → Item) (values : List A) (rest : Siblings) →
     others_text (each spell values rest) ≡ others_text (each spell values End) ++ others_text rest
 each-text spell [] rest = refl
 each-text spell (value ∷ values) rest =

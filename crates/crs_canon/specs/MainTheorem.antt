@@ -1,6 +1,6 @@
 -- The main theorem's statement.
 use Rattle.std.specs.Prelude.{◌≡◌, ◌↔◌, ℕ, List}
-use Rattle.crs_text.specs.Refusal.{Refused}
+use Rattle.crs_text.specs.Refusal.{RefusedAt}
 use Rattle.crs_value.specs.SpellsText.{Spells, Refuses}
 use Rattle.crs_value.specs.declared.crs.Crs.{Crs}
 use Rattle.crs_value.specs.declared.level.Level.{Level}
@@ -12,9 +12,9 @@ abbrev pub IsAccepted : List ℕ → Type 0
 IsAccepted text = (crs : Crs) × Spells text crs
 
 -- this refusal, and no other, is that of the text
-pub record IsItsRefusal (text : List ℕ) (refusal : Refused) : Type 0 where
+pub record IsItsRefusal (text : List ℕ) (refusal : RefusedAt) : Type 0 where
   pub refused : Refuses text refusal
-  pub alone : (other : Refused) → Refuses text other → other ≡ refusal
+  pub alone : (other : RefusedAt) → Refuses text other → other ≡ refusal
 
 pub record MainTheorem (level : Level) : Type 0 where
   -- each accepted text has a canonical text, and just one
@@ -29,4 +29,4 @@ pub record MainTheorem (level : Level) : Type 0 where
       SameCrs level x y
   pub own : (text bytes : List ℕ) → IsCanonicalOf level text bytes → IsCanonicalOf level bytes bytes
   -- a text that spells no CRS is refused, with one number and at one place
-  pub refused : (text : List ℕ) → ¬ (IsAccepted text) → (refusal : Refused) × IsItsRefusal text refusal
+  pub refused : (text : List ℕ) → ¬ (IsAccepted text) → (refusal : RefusedAt) × IsItsRefusal text refusal

@@ -1,6 +1,6 @@
 -- A bridge: pieces of written nodes, as writers append them.
 use Rattle.std.specs.Prelude.{ℕ, List, [], ◌∷◌, ◌++◌, Option, Some, None}
-use Rattle.crs_text.specs.Items.{Items, End, More}
+use Rattle.crs_text.specs.Items.{Siblings, End, More}
 use Rattle.crs_text.specs.Written.{item_text, others_text}
 
 -- an opening that ends with a quote, a text, and its closing quote
@@ -13,10 +13,10 @@ text_behind opening None = []
 text_behind opening (Some text) = opened opening text ++ 93 ∷ []
 
 -- a node of a name and of arguments behind it
-abbrev pub named : List ℕ → List ℕ → Items → List ℕ
+abbrev pub named : List ℕ → List ℕ → Siblings → List ℕ
 named opening name others = opened opening name ++ (others_text others ++ 93 ∷ [])
 
 -- arguments in delimiters, where there are any
-abbrev pub enclosed : Items → List ℕ
+abbrev pub enclosed : Siblings → List ℕ
 enclosed End = []
 enclosed (More first others) = 91 ∷ (item_text first ++ (others_text others ++ 93 ∷ []))

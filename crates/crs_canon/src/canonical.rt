@@ -14,8 +14,9 @@ mod usages;
 use crs_value::Level;
 use std::alloc::{AllocError, Global};
 
-/// A node of a CRS, or a CRS, that is compared and written by itself, at a level: an identifier or a usage alike at every
-/// level, a unit or an axis with `UNIT` as a kind of its own, and an axis with the order and unit that it holds. Profile.
+/// A node of a CRS, or a CRS, that is compared and written by itself, at a level: an identifier or a usage alike at
+/// every level, a unit or an axis with `UNIT` as a kind of its own, and an axis with the order and unit that it
+/// holds. Profile.
 pub trait Canonical: Sized {
     /// What is asked of every value of the type.
     ghost IsValue: { Self → Type 0 };
@@ -42,8 +43,8 @@ pub trait Canonical: Sized {
             (λ _. out.new.items ≡ out.old.items ++ spelling level self.now)
             (λ _. out.new.items ≡ out.old.items) };
 
-    /// The law of the type: its spellings are normal and one, they are equal, byte for byte, exactly where the values are
-    /// the same, and each is closed. The call does nothing.
+    /// The law of the type: its spellings are normal and one, they are equal, byte for byte, exactly where the values
+    /// are the same, and each is closed. The call does nothing.
     fn laws(&self)
         ensures { (level : Level) → IsCanonicalForm IsValue (Same level) (IsSpelling level) (spelling level) };
 }

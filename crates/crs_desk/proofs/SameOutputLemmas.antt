@@ -1,7 +1,7 @@
 -- The answers of `same`, put together from what was found out about the two texts.
 use Rattle.std.proofs.Common.{◌≡◌, ◌↔◌, ◌++◌, ◌∷◌, ◌⊎◌, ℕ, List, [], Option, Some, None, codes, refl, inl, inr}
 use Rattle.crs_text.specs.Fault.{refusal_of}
-use Rattle.crs_text.specs.Refusal.{Refused}
+use Rattle.crs_text.specs.Refusal.{RefusedAt}
 use Rattle.crs_text.specs.declared.fault.Fault.{Fault}
 use Rattle.crs_value.specs.declared.crs.Crs.{Crs}
 use Rattle.crs_value.specs.declared.level.Level.{Level}
@@ -14,7 +14,7 @@ use Rattle.crs_desk.specs.SameOutput.{WritesRefusalOf, WritesSame, WritesDiffere
 use Rattle.crs_desk.proofs.JudgedLemmas.{refused-text}
 
 -- the line of a refusal that was found in a text's fault
-pub refusal-line : (which text written : List ℕ) (fault : Fault) (refusal : Refused) → IsFaultOfText text fault
+pub refusal-line : (which text written : List ℕ) (fault : Fault) (refusal : RefusedAt) → IsFaultOfText text fault
     → Some refusal ≡ refusal_of fault
     → written ≡ (which ++ refused_text refusal.number refusal.place) ++ 10 ∷ []
     → WritesRefusalOf which text written 1

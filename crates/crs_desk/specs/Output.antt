@@ -1,6 +1,6 @@
 -- What `canon` and `check` write for a text, and their status.
 use Rattle.std.specs.Prelude.{◌≡◌, ◌++◌, ◌⊎◌, ℕ, List, [], ◌∷◌, codes, decimal}
-use Rattle.crs_text.specs.Refusal.{Refused, name_of}
+use Rattle.crs_text.specs.Refusal.{RefusedAt, name_of}
 use Rattle.crs_value.specs.declared.crs.Crs.{Crs}
 use Rattle.crs_value.specs.declared.crs.Kind.{Kind}
 use Rattle.crs_value.specs.declared.crs.Kind.TheVariants as kind
@@ -43,7 +43,7 @@ WritesAccepted text written status =
 -- the refusal of a text, with status 1
 abbrev pub WritesRefusal : List ℕ → List ℕ → ℕ → Type 0
 WritesRefusal text written status =
-    (refusal : Refused) × Refuses text refusal × IsLine (refused_text refusal.number refusal.place) 1 written status
+    (refusal : RefusedAt) × Refuses text refusal × IsLine (refused_text refusal.number refusal.place) 1 written status
 
 -- what `canon` writes for a text, and its status
 unfoldable pub IsCanonOutput : Level → List ℕ → List ℕ → ℕ → Type 0

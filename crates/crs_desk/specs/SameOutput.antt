@@ -1,6 +1,6 @@
 -- What `same` writes for two texts, and its status.
 use Rattle.std.specs.Prelude.{◌++◌, ◌⊎◌, ℕ, List, Option, Some, None, codes}
-use Rattle.crs_text.specs.Refusal.{Refused}
+use Rattle.crs_text.specs.Refusal.{RefusedAt}
 use Rattle.crs_value.specs.declared.crs.Crs.{Crs}
 use Rattle.crs_value.specs.declared.level.Level.{Level}
 use Rattle.crs_value.specs.SpellsText.{Spells, Refuses}
@@ -13,7 +13,7 @@ use Rattle.crs_desk.specs.Output.{IsLine, refused_text}
 -- the refusal of a text behind the word that says which text it is, with status 1
 abbrev pub WritesRefusalOf : List ℕ → List ℕ → List ℕ → ℕ → Type 0
 WritesRefusalOf which text written status =
-    (refusal : Refused) × Refuses text refusal × IsLine (which
+    (refusal : RefusedAt) × Refuses text refusal × IsLine (which
     ++ refused_text refusal.number refusal.place) 1 written status
 
 -- what two CRSs have in common: `same` with status 0, or `different` and the first part that differs, with status 1

@@ -3,7 +3,7 @@ use Rattle.std.proofs.Common.{◌≡◌, ◌⊎◌, ◌<◌, ◌≤◌, ◌++◌
 use Rattle.std.proofs.lemmas.Option.{slice_get-map, slice_get_within}
 use Rattle.std.specs.Option.{option_map}
 use Rattle.std.proofs.lemmas.List.{append-nil, length-set, map-append}
-use Rattle.crs_text.specs.Refusal.{Refused as Refusal}
+use Rattle.crs_text.specs.Refusal.{RefusedAt}
 use Rattle.crs_text.specs.Tokens.{IsWhite, is_white}
 use Rattle.crs_text.specs.declared.fault.Fault.{Fault}
 use Rattle.std.specs.List.{list_all}
@@ -95,13 +95,13 @@ apart-more texts canon apart none m n some first second =
 abbrev pub placed_at : ℕ → List ℕ → Placed → PlacedLine
 placed_at number text place = record { line = line_of number text; place = place }
 
-abbrev pub parts_of : Level → List GroupParts → List (ℕ × Refusal) → CatalogueParts
+abbrev pub parts_of : Level → List GroupParts → List (ℕ × RefusedAt) → CatalogueParts
 parts_of level groups refused = record { level = level; groups = groups; refused = refused }
 
 -- a catalogue is that of a further line where its groups and refusals say so
 then-catalogue : (level : Level) (placed : List PlacedLine) (c : CatalogueParts) → c.level ≡ level → MainTheorem level
     → IsCatalogue placed c → (number : ℕ) (text : List ℕ) (place : Placed) (groups : List GroupParts)
-    (refused : List (ℕ × Refusal))
+    (refused : List (ℕ × RefusedAt))
     → IsPlacedAs text place → Counts (length c.groups) place (length groups)
     → ((n : ℕ) (group : GroupParts) → nth n groups ≡ Some group
     → group.lines ≡ lines_in n placed ++ in_group n number place)
@@ -158,7 +158,7 @@ blank-added placed c main whole number text white =
     (sym (append-nil c.refused)) whole.1.texts tt whole.1.apart
 
 pub refused-added : (placed : List PlacedLine) (c : CatalogueParts) → MainTheorem c.level → IsCatalogue placed c
-    → (number : ℕ) (text : List ℕ) (refusal : Refusal) → ¬ (IsWhite text) → Refuses text refusal
+    → (number : ℕ) (text : List ℕ) (refusal : RefusedAt) → ¬ (IsWhite text) → Refuses text refusal
     → IsCatalogue (then_line placed number text (Refused refusal))
     (parts_of c.level c.groups (c.refused ++ (number, refusal) ∷ []))
 refused-added placed c main whole number text refusal black refuses =
@@ -248,7 +248,7 @@ opened-added placed c main whole number text canon black canonical level new =
 
 -- a catalogue with these parts
 pub by-parts : (placed : List PlacedLine) (level : Level) (groups : List GroupParts)
-    (refused : List (ℕ × Refusal)) (c : CatalogueParts)
+    (refused : List (ℕ × RefusedAt)) (c : CatalogueParts)
     → c.level ≡ level → c.groups ≡ groups → c.refused ≡ refused → IsCatalogue placed (parts_of level groups refused)
     → IsCatalogue placed c
 by-parts placed level groups refused c l g r whole =

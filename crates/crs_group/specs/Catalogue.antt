@@ -1,6 +1,6 @@
 -- Catalogues of lines, as callers see them.
 use Rattle.std.specs.Prelude.{ℕ, zero, suc, List, Option, None, slice_get}
-use Rattle.crs_text.specs.Refusal.{Refused}
+use Rattle.crs_text.specs.Refusal.{RefusedAt}
 use Rattle.crs_value.specs.declared.level.Level.{Level}
 use Rattle.crs_canon.specs.Canonical.{CanonicalText}
 
@@ -21,7 +21,7 @@ pub record GroupParts : Type 0 where
 pub record CatalogueParts : Type 0 where
   pub level : Level
   pub groups : List GroupParts
-  pub refused : List (ℕ × Refused)
+  pub refused : List (ℕ × RefusedAt)
 
 -- the n-th member of a list, counted from 1
 abbrev pub nth : {A : Type 0} → ℕ → List A → Option A

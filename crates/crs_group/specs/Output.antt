@@ -1,7 +1,7 @@
 -- How the catalogue of some bytes is written.
 use Rattle.std.specs.Prelude.{◌≡◌, ◌+◌, ◌++◌, ◌∷◌, [], ℕ, List, codes, decimal}
 use Rattle.std.specs.List.{flat_map}
-use Rattle.crs_text.specs.Refusal.{Refused, name_of}
+use Rattle.crs_text.specs.Refusal.{RefusedAt, name_of}
 use Rattle.crs_value.specs.declared.level.Level.{Level}
 use Rattle.crs_group.specs.Catalogue.{GroupParts, CatalogueParts}
 use Rattle.crs_group.specs.GroupTexts.{IsCatalogueOf}
@@ -17,8 +17,9 @@ group_line number group =
     codes "group " ++ decimal number ++ codes ":" ++ numbers_text group.lines ++ 10 ∷ []
 
 -- `line L: refused N NAME at P`, and a line feed
-abbrev pub refused_line : ℕ × Refused → List ℕ
-refused_line (line, refusal) = codes "line " ++ decimal line ++ codes ": refused " ++ decimal refusal.number ++ codes " "
+abbrev pub refused_line : ℕ × RefusedAt → List ℕ
+refused_line (line, refusal) =
+    codes "line " ++ decimal line ++ codes ": refused " ++ decimal refusal.number ++ codes " "
     ++ name_of refusal.number ++ codes " at " ++ decimal refusal.place ++ 10 ∷ []
 
 -- the groups, from this number on

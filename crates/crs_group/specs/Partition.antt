@@ -1,7 +1,7 @@
 -- Which catalogue is that of some lines: it speaks of what texts spell, and of no canonical text.
 use Rattle.std.specs.Prelude.{◌≡◌, ◌↔◌, ◌⊎◌, ◌+◌, ◌≤◌, ◌==◌, ◌∷◌, [], ℕ, List, Some, if◌then◌else◌, length}
 use Rattle.std.specs.List.{flat_map}
-use Rattle.crs_text.specs.Refusal.{Refused as Refusal}
+use Rattle.crs_text.specs.Refusal.{RefusedAt}
 use Rattle.crs_text.specs.Tokens.{IsWhite}
 use Rattle.crs_value.specs.SpellsText.{Spells, Refuses}
 use Rattle.crs_value.specs.declared.crs.Crs.{Crs}
@@ -51,7 +51,7 @@ in_group n number (Refused refusal) = []
 in_group n number (Group m) = if m == n then number ∷ [] else []
 
 -- the line's number and refusal, where it is refused
-abbrev pub if_refused : ℕ → Placed → List (ℕ × Refusal)
+abbrev pub if_refused : ℕ → Placed → List (ℕ × RefusedAt)
 if_refused number Blank = []
 if_refused number (Refused refusal) = (number, refusal) ∷ []
 if_refused number (Group n) = []
@@ -61,7 +61,7 @@ abbrev pub lines_in : ℕ → List PlacedLine → List ℕ
 lines_in n placed = flat_map (λ p. in_group n p.line.number p.place) placed
 
 -- the refused lines, in order
-abbrev pub refused_in : List PlacedLine → List (ℕ × Refusal)
+abbrev pub refused_in : List PlacedLine → List (ℕ × RefusedAt)
 refused_in placed = flat_map (λ p. if_refused p.line.number p.place) placed
 
 -- the catalogue is that of lines which stand at these places

@@ -1,6 +1,6 @@
 -- A bridge: what becomes of the groups where a line with a canonical text is put among them.
 use Rattle.std.specs.Prelude.{◌≡◌, ◌⊎◌, ◌+◌, ◌++◌, ◌∷◌, [], ℕ, List, Some, length, slice_get, slice_set}
-use Rattle.crs_text.specs.Refusal.{Refused as Refusal}
+use Rattle.crs_text.specs.Refusal.{RefusedAt}
 use Rattle.crs_text.specs.declared.fault.Fault.{Fault}
 use Rattle.crs_text.specs.declared.fault.Fault.TheVariants as faults
 use Rattle.crs_canon.specs.Canonical.{CanonicalText}
@@ -35,7 +35,7 @@ IsPut canon line before behind place =
     ⊎ (IsNew canon before × (place ≡ Group (length before + 1)) × (behind ≡ before ++ group_of canon line ∷ []))
 
 -- the fault is a refusal, with which the line stands among the refused ones
-abbrev pub IsRefused : Fault → ℕ → List (ℕ × Refusal) → List (ℕ × Refusal) → Placed → Type 0
+abbrev pub IsRefused : Fault → ℕ → List (ℕ × RefusedAt) → List (ℕ × RefusedAt) → Placed → Type 0
 IsRefused fault line before behind place =
-    (refusal : Refusal) × (fault ≡ faults.Refused refusal) × (place ≡ Refused refusal)
+    (refusal : RefusedAt) × (fault ≡ faults.Refused refusal) × (place ≡ Refused refusal)
     × (behind ≡ before ++ (line, refusal) ∷ [])

@@ -1,7 +1,7 @@
 -- The written form of a CRS is an accepted text, which spells the CRS's one form.
 use Rattle.std.proofs.Common.{◌≡◌, ◌↔◌, ◌≤◌, ◌∙◌, ℕ, Some, None, sym, subst, arith, inl, inr}
 use Rattle.crs_text.specs.Items.{Item, depth}
-use Rattle.crs_text.specs.Refusal.{Refused}
+use Rattle.crs_text.specs.Refusal.{RefusedAt}
 use Rattle.crs_text.specs.TextFault.{SpellsNode}
 use Rattle.crs_text.specs.Written.{WrittenSpells, at_place, item_text}
 use Rattle.crs_shape.specs.declared.class.Class.{Class}
@@ -22,7 +22,7 @@ NoFaultIsShape = (c : Class) (item : Item) → IsFree (Inside c item) ↔ Shaped
 
 -- an item of the shape of its root's class has no fault at its root
 free-at-root : NoFaultIsShape → (c : Class) (item : Item) → class_of_root item ≡ Some c → Shaped c item →
-    (fault : Refused) → AtRoot item fault → ⊥
+    (fault : RefusedAt) → AtRoot item fault → ⊥
 free-at-root law c item root shaped fault (inl (none, misplaced)) = let e : None ≡ Some c = sym none ∙ root in cc
 free-at-root law c item root shaped fault (inr (d, (named, inside))) =
     let e : Some c ≡ Some d = sym root ∙ named in

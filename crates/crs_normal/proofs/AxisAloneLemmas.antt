@@ -1,6 +1,6 @@
 -- An axis by itself, normal but for a unit that is `UNIT`, is the one form of its value.
 use Rattle.std.proofs.Common.{◌≡◌, ◌≢◌, ◌≤◌, length, true, false, IsTrue, Option, Some, None, List, [], ◌∷◌, codes, if◌then◌else◌, inl, inr, refl, sym, ◌∙◌, ap, subst, arith}
-use Rattle.crs_text.specs.Items.{Item, leaf, node, Items, End, More, arguments}
+use Rattle.crs_text.specs.Items.{Item, leaf, node, Siblings, End, More, arguments}
 use Rattle.crs_shape.specs.declared.class.Class.{Class}
 use Rattle.crs_shape.specs.declared.class.Class.TheVariants as class
 use Rattle.crs_shape.specs.Keywords.{is_keyword}
@@ -35,13 +35,13 @@ unfolding class_named
 named-alike (leaf kind place raw) = refl
 named-alike (node place keyword square first others close) = refl
 
-those-alike : (e : Class) (items : Items) → those class.AxisUnit e items ≡ those class.PlainUnit e items
+those-alike : (e : Class) (items : Siblings) → those class.AxisUnit e items ≡ those class.PlainUnit e items
 those-alike e End = refl
 those-alike e (More i items) =
     ap (λ o. if is_class e o then i ∷ those class.AxisUnit e items else those class.AxisUnit e items) (named-alike i)
     ∙ ap (λ xs. if is_class e (class_in class.PlainUnit i) then i ∷ xs else xs) (those-alike e items)
 
-shaped-alike : (ds : List Class) (items : Items) → AreShaped class.AxisUnit ds items → AreShaped class.PlainUnit ds items
+shaped-alike : (ds : List Class) (items : Siblings) → AreShaped class.AxisUnit ds items → AreShaped class.PlainUnit ds items
 shaped-alike [] End h = tt
 shaped-alike [] (More i items) h = h
 shaped-alike (d ∷ ds) End h = h
@@ -82,7 +82,7 @@ fair-as level d item e named shaped normal is =
       normal = subst (λ (x : Class). IsNormalArgument level x item) same (subst P named normal);
     }
 
-those-fair : (level : Level) (d : Class) (classes : List Class) (items : Items) → AreShaped class.Axis classes items →
+those-fair : (level : Level) (d : Class) (classes : List Class) (items : Siblings) → AreShaped class.Axis classes items →
     AreNormalArguments level items → Each (IsFair level d) (those class.Axis d items)
 those-fair level d classes End shaped normal = tt
 those-fair level d [] (More item items) shaped normal = absurd shaped
@@ -126,7 +126,7 @@ unit-alone-form law level item u f reads = by f.normal
 
 unit-alone-spelled : PlainIsOne → (level : Level) (found front : List Item) → Each (IsFair level class.AxisUnit) found →
     found ≡ front → length front ≤ 1 → (value : Option UnitParts) → ReadsOptional (ReadsUnit class.AxisUnit) found value →
-    (rest after : Items) → rest ≡ after → flats_onto front rest ≡ opt (plain_item level) value after
+    (rest after : Siblings) → rest ≡ after → flats_onto front rest ≡ opt (plain_item level) value after
 unit-alone-spelled law level found front fair e few value reads rest after f =
     alone front few (subst (Each (IsFair level class.AxisUnit)) e fair) value
     (subst (λ (xs : List Item). ReadsOptional (ReadsUnit class.AxisUnit) xs value) e reads)
@@ -141,7 +141,7 @@ unit-alone-spelled law level found front fair e few value reads rest after f =
     alone (item ∷ []) few fair (Some v) reads = ap (λ i. More i rest) (unit-alone-form law level item v fair.0 reads)
     alone (item ∷ other ∷ others) few fair (Some v) reads = absurd (omega arith)
 
-opt-plain : (level : Level) (o : Option UnitParts) (rest : Items) →
+opt-plain : (level : Level) (o : Option UnitParts) (rest : Siblings) →
     opt (plain_item level) o rest ≡ opt item_unit (norm_units level kinds.Plain o) rest
 opt-plain level None rest = refl
 opt-plain level (Some u) rest = refl

@@ -2,7 +2,7 @@
 use Rattle.std.proofs.Common.{◌≡◌, ◌≢◌, ℕ, map, true, false, Option, Some, None, List, [], ◌∷◌, ◌++◌, codes, decimal, refl, sym, ◌∙◌, ap, subst}
 use Rattle.crs_decimal.specs.Plain.{plain}
 use Rattle.crs_decimal.specs.Value.{Value}
-use Rattle.crs_text.specs.Items.{Item, leaf, node, Items, End, More, raw_of}
+use Rattle.crs_text.specs.Items.{Item, leaf, node, Siblings, End, More, raw_of}
 use Rattle.crs_text.specs.Tokens.{number, text, word}
 use Rattle.crs_shape.specs.declared.class.Class.{Class}
 use Rattle.crs_shape.specs.declared.class.Class.TheVariants as class
@@ -84,7 +84,7 @@ axis_meridian-form law level c (node place keyword square first others close) x 
     (those-looked d class.AngleUnit (slots_of d) items v)
     (v1.1.1.0.not_more refl) x.unit reads.unit End End refl))
 
-pub opt-meridians : (level : Level) (m : Option AxisMeridianParts) (rest : Items) →
+pub opt-meridians : (level : Level) (m : Option AxisMeridianParts) (rest : Siblings) →
     opt (λ x. item_axis_meridian (norm_axis_meridian level x)) m rest ≡ opt item_axis_meridian
     (norm_axis_meridians level m) rest
 opt-meridians level None rest = refl
@@ -138,7 +138,7 @@ order-known law level k (i ∷ is) (Some v) goods are reads =
     head : map (numbers_in class.Order) (i ∷ is) ≡ (decimal k ∷ []) ∷ [] → numbers_in class.Order i ≡ decimal k ∷ []
     head e = let h : numbers_in class.Order i ∷ map (numbers_in class.Order) is ≡ (decimal k ∷ []) ∷ [] = e in cc
 
-opt-order : (k : ℕ) (o : Option Value) (value : Value) → o ≡ Some value → plain value ≡ decimal k → (rest : Items) →
+opt-order : (k : ℕ) (o : Option Value) (value : Value) → o ≡ Some value → plain value ≡ decimal k → (rest : Siblings) →
     opt (number_node (codes "ORDER")) o rest ≡ opt (number_node (codes "ORDER")) (Some (whole_value k)) rest
 opt-order k o value e f rest =
     ap (λ x. opt (number_node (codes "ORDER")) x rest) e
@@ -148,7 +148,7 @@ opt-order k o value e f rest =
 
 opt-own : (level : Level) (system : SystemParts) (asked : UnitKind) (found : List Item) (unit : Option UnitParts) →
     found ≢ [] →
-    ReadsOptional (ReadsUnit class.AxisUnit) found unit → (rest : Items) →
+    ReadsOptional (ReadsUnit class.AxisUnit) found unit → (rest : Siblings) →
     opt (λ u. item_unit (norm_unit level asked u)) unit rest ≡ opt item_unit
     (norm_units level asked (own_or unit system.unit)) rest
 opt-own level system asked [] None some reads rest = absurd (some refl)

@@ -1,7 +1,7 @@
 -- Arguments of a node that breaks no check break none.
 use Rattle.std.proofs.Common.{◌≡◌, ◌≤◌, length, drop, true, false, inl, inr, Option, Some, List, [], ◌∷◌, if◌then◌else◌, refl, sym, ◌∙◌, ap, subst, arith}
-use Rattle.crs_text.specs.Items.{Item, Items, End, More}
-use Rattle.crs_text.specs.Refusal.{Refused}
+use Rattle.crs_text.specs.Items.{Item, Siblings, End, More}
+use Rattle.crs_text.specs.Refusal.{RefusedAt}
 use Rattle.crs_shape.specs.declared.class.Class.{Class}
 use Rattle.crs_shape.specs.Shaped.{AreShaped}
 use Rattle.crs_shape.specs.ShapeFault.{class_in}
@@ -14,21 +14,21 @@ use Rattle.crs_normal.specs.NormalOwn.{Each}
 use Rattle.crs_normal.proofs.ViewLemmas.{same_class}
 
 abbrev pub IsUnbroken : Class → Item → Type 0
-IsUnbroken c item = (fault : Refused) → ¬ (Breaks c item fault)
+IsUnbroken c item = (fault : RefusedAt) → ¬ (Breaks c item fault)
 
 -- the item breaks no check, and this is read from it
 abbrev pub Checked : {V : Type 0} → Class → (Item → V → Type 0) → Item → V → Type 0
 Checked c R item value = IsUnbroken c item × R item value
 
 unbroken-as : (c d : Class) (item : Item) (e : Class) → class_in c item ≡ Some e → is_a c d item ≡ true →
-    ((fault : Refused) → ¬ (AtClass (class_in c item) (λ x. Breaks x item fault))) → IsUnbroken d item
+    ((fault : RefusedAt) → ¬ (AtClass (class_in c item) (λ x. Breaks x item fault))) → IsUnbroken d item
 unbroken-as c d item e named is free fault broken =
     let same : e ≡ d = same_class e d (sym (ap (is_class d) named) ∙ is) in
     let P : Option Class → Type 0 = λ o. AtClass o (λ x. Breaks x item fault) in
     free fault (subst P (sym named) (subst (λ (x : Class). Breaks x item fault) (sym same) broken))
 
-pub those-unbroken : (c d : Class) (classes : List Class) (items : Items) → AreShaped c classes items →
-    ((fault : Refused) → ¬ (BreaksAmong c items fault)) →
+pub those-unbroken : (c d : Class) (classes : List Class) (items : Siblings) → AreShaped c classes items →
+    ((fault : RefusedAt) → ¬ (BreaksAmong c items fault)) →
     Each (IsUnbroken d) (those c d items)
 those-unbroken c d classes End shaped free = tt
 those-unbroken c d [] (More item items) shaped free = absurd shaped
@@ -47,7 +47,7 @@ first-checked d R [] value free reads = absurd reads
 first-checked d R (item ∷ items) value free reads = (free.0, reads)
 
 -- what may stand once alone
-pub once-only : (found : List Item) → ((fault : Refused) → ¬ (AnyOf IsRepeated (drop 1 found) fault)) → length found ≤ 1
+pub once-only : (found : List Item) → ((fault : RefusedAt) → ¬ (AnyOf IsRepeated (drop 1 found) fault)) → length found ≤ 1
 once-only [] free = omega arith
 once-only (item ∷ []) free = omega arith
 once-only (item ∷ other ∷ others) free = absurd (free _ (inl refl))

@@ -3,7 +3,7 @@ use Rattle.std.proofs.Common.{◌≡◌, ℕ, zero, suc, ◌==◌, ◌&&◌, ◌
 use Rattle.std.specs.List.{list_all}
 use Rattle.std.proofs.lemmas.Bool.{and_parts, eqb-true}
 use Rattle.crs_decimal.specs.Spelling.{is_digit, is_run_byte}
-use Rattle.crs_text.specs.Items.{Item, leaf, node, Items, End, More, IsNode}
+use Rattle.crs_text.specs.Items.{Item, leaf, node, Siblings, End, More, IsNode}
 use Rattle.crs_text.specs.Quoted.{doubled}
 use Rattle.crs_text.specs.Tokens.{Kind, number, text, word, IsSingle, IsWord, is_letter, is_word_byte, single_spelling}
 use Rattle.crs_text.specs.Written.{AreFormed, AreAllFormed, item_text, others_text}
@@ -105,7 +105,7 @@ mutual
       (enclosed-passes (item_text first ++ others_text others)
       (passes-both (item_text first) (others_text others) (item-passes first h.1) (items-pass others h.2))))
 
-  items-pass : (items : Items) → AreAllFormed items → Passes (others_text items)
+  items-pass : (items : Siblings) → AreAllFormed items → Passes (others_text items)
   items-pass End h depth rest = refl
   items-pass (More item items) h depth rest =
       passes-both (item_text item) (others_text items) (item-passes item h.0) (items-pass items h.1) depth rest

@@ -4,7 +4,7 @@ use Rattle.std.specs.Prelude.{ℤ, pos, negsuc}
 use Rattle.std.proofs.lemmas.Bool.{and_parts, eqb-true}
 use Rattle.crs_decimal.specs.Plain.{plain}
 use Rattle.crs_decimal.specs.Value.{Value, IsNormal, is_normal, is_power, zero}
-use Rattle.crs_text.specs.Items.{Item, leaf, node, Items, End, More, raw_of}
+use Rattle.crs_text.specs.Items.{Item, leaf, node, Siblings, End, More, raw_of}
 use Rattle.crs_shape.specs.declared.class.Class.{Class}
 use Rattle.crs_shape.specs.declared.class.Class.TheVariants as class
 use Rattle.crs_shape.specs.Slots.{slots_of}
@@ -90,7 +90,7 @@ zero-written law zero_plain level found front good e p v reads is =
 -- a unit that isn't there at longitude 0
 opt-angle : (level : Level) (is_at_zero : Bool) (found : List Item) (unit : Option UnitParts) →
     (is_at_zero ≡ true → found ≡ []) →
-    ReadsOptional (ReadsUnit class.AngleUnit) found unit → (rest : Items) →
+    ReadsOptional (ReadsUnit class.AngleUnit) found unit → (rest : Siblings) →
     opt (λ u. item_unit (norm_unit level kinds.Angle u)) unit rest ≡ opt item_unit
     (if is_at_zero then None else norm_units level kinds.Angle unit) rest
 opt-angle level false found unit none reads rest = opt-units level kinds.Angle unit rest

@@ -1,7 +1,7 @@
 -- Normal ensembles, frames of either sort, and base CRSs are the one form of their values.
 use Rattle.std.proofs.Common.{◌≡◌, ◌≢◌, ℕ, Bool, true, false, inr, Option, Some, None, List, [], ◌∷◌, if◌then◌else◌, codes, refl, sym, ◌∙◌, ap, subst}
 use Rattle.std.specs.Option.{option_map}
-use Rattle.crs_text.specs.Items.{Item, leaf, node, Items, End, More}
+use Rattle.crs_text.specs.Items.{Item, leaf, node, Siblings, End, More}
 use Rattle.crs_shape.specs.declared.class.Class.{Class}
 use Rattle.crs_shape.specs.declared.class.Class.TheVariants as class
 use Rattle.crs_shape.specs.Slots.{slots_of}
@@ -66,7 +66,7 @@ geodetic_ensemble-form law level c (node place keyword square first others close
     reads.ids End End refl))
     ∙ opt-mapped item_ellipsoid (norm_ellipsoid level) x.ellipsoid _)))
 
-without : (level : Level) (e : Option EllipsoidParts) → e ≡ None → (rest : Items) →
+without : (level : Level) (e : Option EllipsoidParts) → e ≡ None → (rest : Siblings) →
     rest ≡ opt item_ellipsoid (option_map (norm_ellipsoid level) e) rest
 without level e none rest = ap (λ o. opt item_ellipsoid (option_map (norm_ellipsoid level) o) rest) (sym none)
 
@@ -110,7 +110,7 @@ abbrev pub FrameForm : Class → Class → List ℕ → Type 0
 FrameForm d e keyword = (level : Level) (c : Class) (found others front : List Item) → Alone front →
     found ≡ those c d (onto front End) → others ≡ those c e (onto front End) →
     Each (IsGood level c d) found → Each (IsGood level c e) others → Each (IsUnbroken d) found → (value : Frame) →
-    ReadsElse (ReadsAsDatum d) found (ReadsFirst (ReadsAsEnsemble e) others) value → (rest after : Items) →
+    ReadsElse (ReadsAsDatum d) found (ReadsFirst (ReadsAsEnsemble e) others) value → (rest after : Siblings) →
     rest ≡ after →
     flats_onto front rest ≡ More (item_frame keyword (norm_frame level value)) after
 
@@ -176,7 +176,7 @@ vertical_frame-spelled law =
 
 -- a prime meridian that is there
 pub opt-meridian : (R : Item → MeridianParts → Type 0) (level : Level) (found : List Item) (m : Option MeridianParts) →
-    found ≢ [] → ReadsOptional R found m → (rest : Items) →
+    found ≢ [] → ReadsOptional R found m → (rest : Siblings) →
     opt (λ x. item_meridian (norm_given level x)) m rest ≡ opt item_meridian (norm_meridian level m) rest
 opt-meridian R level [] None some reads rest = absurd (some refl)
 opt-meridian R level [] (Some m) some reads rest = absurd reads

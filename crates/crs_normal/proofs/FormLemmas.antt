@@ -2,7 +2,7 @@
 use Rattle.std.proofs.Common.{◌≡◌, ℕ, ◌≤◌, length, map, Bool, true, false, Option, Some, None, List, [], ◌∷◌, ◌++◌, if◌then◌else◌, refl, sym, ◌∙◌, ap, subst, arith}
 use Rattle.std.specs.Cmp.Lexicographic.{slice_cmp}
 use Rattle.std.specs.Ordering.{nat_cmp}
-use Rattle.crs_text.specs.Items.{Item, leaf, node, Items, End, More, arguments}
+use Rattle.crs_text.specs.Items.{Item, leaf, node, Siblings, End, More, arguments}
 use Rattle.crs_text.specs.Written.{item_text, others_text}
 use Rattle.crs_shape.specs.declared.class.Class.{Class}
 use Rattle.crs_shape.specs.Shaped.{Shaped, AreShaped}
@@ -35,7 +35,7 @@ mutual
       node-text keyword (item_text (flat first)) (others_text (flats others)) (item_text first) (others_text others)
       (flat-text first) (flats-text others)
 
-  flats-text : (items : Items) → others_text (flats items) ≡ others_text items
+  flats-text : (items : Siblings) → others_text (flats items) ≡ others_text items
   flats-text End = refl
   flats-text (More item items) =
       more-text (item_text (flat item)) (others_text (flats items)) (item_text item) (others_text items)
@@ -47,7 +47,7 @@ pub record IsGood (level : Level) (c d : Class) (item : Item) : Type 0 where
   pub shaped : Shaped d item
   pub normal : IsNormalIn level c d item
 
-pub record Kept (level : Level) (c : Class) (items : Items) : Type 0 where
+pub record Kept (level : Level) (c : Class) (items : Siblings) : Type 0 where
   pub classes : List Class
   pub shaped : AreShaped c classes items
   pub normal : AreNormalIn level c items
@@ -62,7 +62,7 @@ good-as level c d item e named shaped normal is =
       normal = subst (λ (x : Class). IsNormalIn level c x item) same (subst P named normal);
     }
 
-those-good : (level : Level) (c d : Class) (classes : List Class) (items : Items) → AreShaped c classes items →
+those-good : (level : Level) (c d : Class) (classes : List Class) (items : Siblings) → AreShaped c classes items →
     AreNormalIn level c items →
     Each (IsGood level c d) (those c d items)
 those-good level c d classes End shaped normal = tt
@@ -75,7 +75,7 @@ those-good level c d (e ∷ es) (More item items) shaped normal =
       | false ↦ λ is. rest
     ] refl
 
-pub kept-good : (level : Level) (c d : Class) (items : Items) → Kept level c items →
+pub kept-good : (level : Level) (c d : Class) (items : Siblings) → Kept level c items →
     Each (IsGood level c d) (those c d items)
 kept-good level c d items k = those-good level c d k.classes items k.shaped k.normal
 
@@ -89,7 +89,7 @@ pub record Opened (level : Level) (c : Class) (item : Item) (keyword : List ℕ)
   pub slots : View c (slots_of c) (arguments item)
 
 pub opened : (level : Level) (parent c : Class) (place : ℕ) (keyword : List ℕ) (square : Bool) (first : Item)
-    (others : Items) (close : ℕ) →
+    (others : Siblings) (close : ℕ) →
     Shaped c (node place keyword square first others close) →
     IsNormalIn level parent c (node place keyword square first others close) →
     Opened level c (node place keyword square first others close) keyword
@@ -104,8 +104,8 @@ opened level parent c place keyword square first others close shaped normal =
       slots = view c (s.0 ∷ s.1.0) (More first others) s.1.1.1.1.1 are;
     }
 
-pub node-spelled : (place : ℕ) (keyword word : List ℕ) (square : Bool) (first : Item) (others : Items) (close : ℕ)
-    (items : Items) → keyword ≡ word →
+pub node-spelled : (place : ℕ) (keyword word : List ℕ) (square : Bool) (first : Item) (others : Siblings) (close : ℕ)
+    (items : Siblings) → keyword ≡ word →
     flats (More first others) ≡ items → flat (node place keyword square first others close) ≡ node_from word items
 node-spelled place keyword word square first others close items e f =
     ap (λ w. node_from w (flats (More first others))) e ∙ ap (node_from word) f
@@ -121,7 +121,7 @@ pub one-spelled : {V : Type 0} (level : Level) (c d : Class) (R : Item → V →
     Form level c d R spell →
     (found front : List Item) → Each (IsGood level c d) found → found ≡ front → length front ≤ 1 → (value : V) →
     ReadsFirst R found value →
-    (rest after : Items) → rest ≡ after → flats_onto front rest ≡ More (spell value) after
+    (rest after : Siblings) → rest ≡ after → flats_onto front rest ≡ More (spell value) after
 one-spelled {V = V} level c d R spell form found front good e few value reads rest after f =
     alone front few (subst (Each (IsGood level c d)) e good) (subst (λ (xs : List Item). ReadsFirst R xs value) e reads)
     ∙ ap (More (spell value)) f
@@ -136,7 +136,7 @@ pub optional-spelled : {V : Type 0} (level : Level) (c d : Class) (R : Item → 
     Form level c d R spell →
     (found front : List Item) → Each (IsGood level c d) found → found ≡ front → length front ≤ 1 → (value : Option V) →
     ReadsOptional R found value →
-    (rest after : Items) → rest ≡ after → flats_onto front rest ≡ opt spell value after
+    (rest after : Siblings) → rest ≡ after → flats_onto front rest ≡ opt spell value after
 optional-spelled {V = V} level c d R spell form found front good e few value reads rest after f =
     alone front few (subst (Each (IsGood level c d)) e good) value
     (subst (λ (xs : List Item). ReadsOptional R xs value) e reads) ∙ ap (opt spell value) f
@@ -164,7 +164,7 @@ each-written level c d R spell norm form (item ∷ items) good (v ∷ vs) reads 
     (form item v good.0 reads.0, each-written level c d R spell norm form items good.1 vs reads.1)
 
 pub written-onto : {W : Type 0} (spell : W → Item) (items : List Item) (values : List W) →
-    AreWritten spell items values → (rest after : Items) → rest ≡ after →
+    AreWritten spell items values → (rest after : Siblings) → rest ≡ after →
     flats_onto items rest ≡ each spell values after
 written-onto spell [] [] h rest after e = e
 written-onto spell [] (v ∷ vs) h rest after e = absurd h
@@ -215,7 +215,7 @@ pub set-spelled : {V W : Type 0} (level : Level) (c d : Class) (R : Item → V �
     W) → Form level c d R (λ v. spell (norm v)) →
     (found front : List Item) → Each (IsGood level c d) found → found ≡ front → Ascend found → (values : List V) →
     ReadsEach R found values →
-    (rest after : Items) → rest ≡ after →
+    (rest after : Siblings) → rest ≡ after →
     flats_onto front rest ≡ each spell (in_order (λ w. item_text (spell w)) (map norm values)) after
 set-spelled level c d R spell norm form found front good e up values reads rest after f =
     let written = each-written level c d R spell norm form found good values reads in

@@ -1,7 +1,7 @@
 -- Normal reference frames and ensembles are the one form of their values.
 use Rattle.std.proofs.Common.{◌≡◌, ℕ, ◌≤◌, length, Bool, inl, Option, Some, None, List, [], codes, refl, sym, ◌∙◌, ap, subst}
 use Rattle.std.specs.Option.{option_map}
-use Rattle.crs_text.specs.Items.{Item, leaf, node, Items, End, More}
+use Rattle.crs_text.specs.Items.{Item, leaf, node, Siblings, End, More}
 use Rattle.crs_shape.specs.declared.class.Class.{Class}
 use Rattle.crs_shape.specs.declared.class.Class.TheVariants as class
 use Rattle.crs_shape.specs.Slots.{slots_of}
@@ -22,13 +22,13 @@ use Rattle.crs_normal.proofs.ViewLemmas.{flats-spread, those-looked}
 
 -- ---- what a node of this class has by itself, where it breaks no check
 
-single-anchor : (keyword : List ℕ) (place : ℕ) (square : Bool) (first : Item) (others : Items) (close : ℕ) →
+single-anchor : (keyword : List ℕ) (place : ℕ) (square : Bool) (first : Item) (others : Siblings) (close : ℕ) →
     IsUnbroken class.GeodeticFrame (node place keyword square first others close) →
     length (those class.GeodeticFrame class.Anchor (More first others)) ≤ 1
 unfolding Own
 single-anchor keyword place square first others close free = once-only _ (λ fault b. free fault (inl b))
 
-single-vertical_anchor : (keyword : List ℕ) (place : ℕ) (square : Bool) (first : Item) (others : Items) (close : ℕ) →
+single-vertical_anchor : (keyword : List ℕ) (place : ℕ) (square : Bool) (first : Item) (others : Siblings) (close : ℕ) →
     IsUnbroken class.VerticalFrame (node place keyword square first others close) →
     length (those class.VerticalFrame class.Anchor (More first others)) ≤ 1
 unfolding Own
@@ -102,6 +102,6 @@ vertical_datum-form law level c (node place keyword square first others close) x
     reads.ids End End refl)
     ∙ without x.ellipsoid bare _))
   where
-    without : (e : Option EllipsoidParts) → e ≡ None → (rest : Items) →
+    without : (e : Option EllipsoidParts) → e ≡ None → (rest : Siblings) →
         rest ≡ opt item_ellipsoid (option_map (norm_ellipsoid level) e) rest
     without e none rest = ap (λ o. opt item_ellipsoid (option_map (norm_ellipsoid level) o) rest) (sym none)

@@ -1,6 +1,6 @@
 -- Normal geodetic and geographic CRSs are the one form of their values.
 use Rattle.std.proofs.Common.{◌≡◌, ◌≢◌, ℕ, ◌+◌, ◌^◌, ◌≤◌, ◌<◌, length, inl, inr, List, [], codes, refl, sym, ◌∙◌, ap, subst}
-use Rattle.crs_text.specs.Items.{Item, leaf, node, Items, End, More, arguments}
+use Rattle.crs_text.specs.Items.{Item, leaf, node, Siblings, End, More, arguments}
 use Rattle.crs_shape.specs.declared.class.Class.{Class}
 use Rattle.crs_shape.specs.declared.class.Class.TheVariants as class
 use Rattle.crs_shape.specs.Slots.{geodetic_slots, tail}
@@ -45,14 +45,14 @@ found-of c item front g u i r class.Identifier h = i
 found-of c item front g u i r class.Remark h = r
 found-of c item front g u i r other h = absurd h
 
-pub no-models : (level : Level) (rest : Items) → each item_geoid_model (set_geoid_models level []) rest ≡ rest
+pub no-models : (level : Level) (rest : Siblings) → each item_geoid_model (set_geoid_models level []) rest ≡ rest
 unfolding set_geoid_models
 no-models level rest = refl
 
 pub none-read-each : (found : List Item) → found ≡ [] → ReadsEach (ReadsGeoidModel class.GeoidModel) found []
 none-read-each found e = subst (λ (xs : List Item). ReadsEach (ReadsGeoidModel class.GeoidModel) xs []) (sym e) tt
 
-pub rise-six : (c : Class) (k : ℕ) (f g h i j l : List Item) (rest : Items) →
+pub rise-six : (c : Class) (k : ℕ) (f g h i j l : List Item) (rest : Siblings) →
     Rise c k (onto f (onto g (onto h (onto i (onto j (onto l rest)))))) → (m : ℕ) × Rise c m rest
 rise-six c k f g h i j l rest rise =
     let a = rise-behind c k f (onto g (onto h (onto i (onto j (onto l rest))))) rise in
@@ -64,7 +64,7 @@ rise-six c k f g h i j l rest rise =
 
 -- ---- geodetic and geographic CRSs
 
-abbrev geodetic_items : GeodeticParts → Items
+abbrev geodetic_items : GeodeticParts → Siblings
 geodetic_items g =
     More (text_item g.name)
     (More (item_frame (codes "DATUM") g.frame)

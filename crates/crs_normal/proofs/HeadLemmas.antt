@@ -6,7 +6,7 @@ use Rattle.std.proofs.lemmas.Bool.{ltb-true, ltb-false}
 use Rattle.crs_decimal.specs.Number.{Number, SameNumber, whole_number}
 use Rattle.crs_decimal.specs.Value.{Value, exact}
 use Rattle.crs_text.specs.Items.{Item, leaf, node, End, More, arguments, raw_of}
-use Rattle.crs_text.specs.Refusal.{Refused}
+use Rattle.crs_text.specs.Refusal.{RefusedAt}
 use Rattle.crs_shape.specs.declared.class.Class.{Class}
 use Rattle.crs_shape.specs.declared.class.Class.TheVariants as class
 use Rattle.crs_shape.specs.Slots.{slots_of, tail, vertical_tail}
@@ -60,7 +60,7 @@ small-one laws dimension (n ∷ ns) small (inl one) count same =
 small-one laws dimension (n ∷ ns) small (inr one) count same = small-one laws dimension ns small.1 one count same
 
 abbrev pub AreFree : (SystemType → List ℕ) → List Item → List Item → List Item → Type 0
-AreFree dimensions systems axes units = (fault : Refused) → ¬ (BadSystems dimensions systems axes units fault)
+AreFree dimensions systems axes units = (fault : RefusedAt) → ¬ (BadSystems dimensions systems axes units fault)
 
 pub few-axes : Laws → (dimensions : SystemType → List ℕ) → ((t : SystemType) → AreSmall (dimensions t)) →
     (systems axes units : List Item) → AreFree dimensions systems axes units →

@@ -4,7 +4,7 @@ use Rattle.std.proofs.Common.{◌≡◌, ◌≤◌, ◌↔◌, ℕ, suc, ◌+◌
 use Rattle.std.proofs.lemmas.Bool.{and_parts, leb-true}
 use Rattle.std.specs.List.{list_all}
 use Rattle.crs_decimal.specs.Spelling.{is_digit}
-use Rattle.crs_text.specs.Items.{Item, leaf, Items, End, More, IsNode}
+use Rattle.crs_text.specs.Items.{Item, leaf, Siblings, End, More, IsNode}
 use Rattle.crs_text.specs.Tokens.{number, text, IsSingle, IsWord}
 use Rattle.crs_text.specs.Written.{at_place, at_places, item_text}
 use Rattle.crs_shape.specs.declared.class.Class.{Class}
@@ -45,7 +45,7 @@ code-fit laws n raw t =
 pub text-fit : (n : ℕ) (raw : List ℕ) → IsText raw → IsFit n (text_item raw)
 text-fit n raw t = fit-leaf n text 0 raw t
 
-code-read : (raw : List ℕ) (place : ℕ) (rest : Items) →
+code-read : (raw : List ℕ) (place : ℕ) (rest : Siblings) →
     ReadsFirst ReadsText (single_of (More (at_place place (code_item raw)) rest)) raw
 code-read raw place rest = by (is_short raw)
   where
@@ -63,20 +63,20 @@ code-over c d n t raw place = by (is_short raw)
 
 -- ---- what stands behind the code
 
-abbrev behind-version : IdentParts → Items
+abbrev behind-version : IdentParts → Siblings
 behind-version x = opt (text_node (codes "CITATION")) x.citation (opt (text_node (codes "URI")) x.uri End)
 
-abbrev behind-code : IdentParts → Items
+abbrev behind-code : IdentParts → Siblings
 behind-code x = opt code_item x.version (behind-version x)
 
-abbrev ident-items : IdentParts → Items
+abbrev ident-items : IdentParts → Siblings
 ident-items x = More (text_item x.authority) (More (code_item x.code) (behind-code x))
 
 version-read : (x : IdentParts) (start : ℕ) →
     ReadsOptional ReadsText (single_of (at_places start (behind-code x))) x.version
 version-read x start = by x.version x.citation x.uri
   where
-    optional : (v : List ℕ) (place : ℕ) (rest : Items) →
+    optional : (v : List ℕ) (place : ℕ) (rest : Siblings) →
         ReadsOptional ReadsText (single_of (More (at_place place (code_item v)) rest)) (Some v)
     optional v place rest = kinds (is_short v)
       where

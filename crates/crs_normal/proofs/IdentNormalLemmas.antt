@@ -5,7 +5,7 @@ use Rattle.std.specs.List.{list_all}
 use Rattle.std.proofs.lemmas.Bool.{and_parts, and_from, le-leb, leb-true}
 use denote.Enum.Bare.{sameb}
 use Rattle.crs_decimal.specs.Spelling.{is_digit}
-use Rattle.crs_text.specs.Items.{Item, leaf, node, Items, End, More, skip}
+use Rattle.crs_text.specs.Items.{Item, leaf, node, Siblings, End, More, skip}
 use Rattle.crs_text.specs.Tokens.{Kind, number, text, word}
 use Rattle.crs_shape.specs.contracts.class.Class.{the_type}
 use Rattle.crs_shape.specs.declared.class.Class.{Class}
@@ -65,7 +65,7 @@ no-word place bytes (inl h) = let k = h.1 in cc
 no-word place bytes (inr h) = let k = h.1 in cc
 
 -- a single item with the kind of a code is the code's one form
-code-flat : (item : Item) (rest : Items) (raw : List ℕ) (others : List Item) →
+code-flat : (item : Item) (rest : Siblings) (raw : List ℕ) (others : List Item) →
     ReadsFirst ReadsText (single_of (More item rest)) raw →
     Each IsCode (single_of (More item rest) ++ others) → (flat item ≡ code_item raw) × Each IsCode others
 code-flat (leaf number place bytes) rest raw others reads codes = (as-number place bytes raw codes.0 reads, codes.1)
@@ -91,11 +91,11 @@ node-no-code at keyword is taken =
     clash e f = let h : false ≡ true = sym e ∙ f in cc
 
 -- a version, and what stands behind it
-version-flat : (front : List Item) (behind : Items) →
+version-flat : (front : List Item) (behind : Siblings) →
     Each (InSlot class.Identifier (optional_of (class.Number ∷ class.Text ∷ []))) front →
     length front ≤ 1 → single_of behind ≡ [] → (version : Option (List ℕ)) →
     ReadsOptional ReadsText (single_of (onto front behind)) version →
-    Each IsCode (single_of (onto front behind)) → (rest after : Items) → rest ≡ after →
+    Each IsCode (single_of (onto front behind)) → (rest after : Siblings) → rest ≡ after →
     flats_onto front rest ≡ opt code_item version after
 version-flat [] behind inside few none None reads codes rest after e = e
 version-flat [] behind inside few none (Some v) reads codes rest after e =
@@ -115,7 +115,7 @@ version-flat (leaf text place raw ∷ []) behind inside few none (Some v) reads 
 
 -- nodes that stand next give no version
 no-single : (d : Class) → ((kind : Kind) → sameb the_type (class_of_kind kind) d ≡ false) →
-    (item : Item) (rest : Items) → InSlot class.Identifier (optional d) item →
+    (item : Item) (rest : Siblings) → InSlot class.Identifier (optional d) item →
     single_of (More item rest) ≡ []
 no-single d none (node place keyword square first others close) rest s = refl
 no-single d none (leaf kind place raw) rest s = absurd (clash (none kind) shaped)
@@ -149,13 +149,13 @@ behind-version (citation ∷ citations) uris a b =
 
 -- ---- identifiers
 
-first-of : (c d : Class) (item : Item) (rest : Items) (value : List ℕ) → is_a c d item ≡ true →
+first-of : (c d : Class) (item : Item) (rest : Siblings) (value : List ℕ) → is_a c d item ≡ true →
     ReadsFirst ReadsText (those c d (More item rest)) value → ReadsText item value
 first-of c d item rest value is reads =
     subst (λ (b : Bool). ReadsFirst ReadsText (if b then item ∷ those c d rest else those c d rest) value) is reads
 
 -- the arguments, where the authority and the code are these items
-text-flat : (item : Item) (rest : Items) → InSlot class.Identifier (one class.Text) item → (value : List ℕ) →
+text-flat : (item : Item) (rest : Siblings) → InSlot class.Identifier (one class.Text) item → (value : List ℕ) →
     ReadsFirst ReadsText (those class.Identifier class.Text (More item rest)) value → flat item ≡ text_item value
 text-flat item rest s value reads =
     let at-text = same_class class.Text s.at (or-false (sameb the_type class.Text s.at) s.taken) in
@@ -163,7 +163,7 @@ text-flat item rest s value reads =
     ∙ ap text_item (first-of class.Identifier class.Text item rest value
     (of-one class.Identifier class.Text class.Text (one class.Text) refl refl item s) reads)
 
-ident-args : (level : Level) (items : Items) → Kept level class.Identifier items →
+ident-args : (level : Level) (items : Siblings) → Kept level class.Identifier items →
     (v : View class.Identifier (slots_of class.Identifier) items) →
     Each IsCode (single_of (skip 1 items) ++ single_of (skip 2 items)) → (x : IdentParts) →
     ReadsFirst ReadsText (those class.Identifier class.Text items) x.authority →
@@ -182,17 +182,17 @@ ident-args level items k v are_codes x authority code version citation uri =
     let v4 = v3.1.1.1.1 in
     let a = alone v.0 v.1.1.0 refl refl in
     let b = alone v1.0 v1.1.1.0 refl refl in
-    let behind : Items = onto v3.0 (onto v4.0 End) in
-    let rest : Items = onto v2.0 behind in
+    let behind : Siblings = onto v3.0 (onto v4.0 End) in
+    let rest : Siblings = onto v2.0 behind in
     let are : items ≡ More a.0 (More b.0 rest) =
     items-rebuilt class.Identifier (slots_of class.Identifier) items v
     ∙ ap (λ xs. onto xs (onto v1.0 rest)) a.1 ∙ ap (λ xs. More a.0 (onto xs rest)) b.1 in
     let coded = code-flat b.0 rest x.code (single_of rest)
-    (subst (λ (is : Items). ReadsFirst ReadsText (single_of (skip 1 is)) x.code) are code)
-    (subst (λ (is : Items). Each IsCode (single_of (skip 1 is) ++ single_of (skip 2 is))) are are_codes) in
+    (subst (λ (is : Siblings). ReadsFirst ReadsText (single_of (skip 1 is)) x.code) are code)
+    (subst (λ (is : Siblings). Each IsCode (single_of (skip 1 is) ++ single_of (skip 2 is))) are are_codes) in
     let text-first = (subst (Each (InSlot class.Identifier (one class.Text))) a.1 v.1.1.0.inside).0 in
     let named = text-flat a.0 (More b.0 rest) text-first x.authority
-    (subst (λ (is : Items). ReadsFirst ReadsText (those class.Identifier class.Text is) x.authority) are authority)
+    (subst (λ (is : Siblings). ReadsFirst ReadsText (those class.Identifier class.Text is) x.authority) are authority)
     in
     let citations = optional-spelled level class.Identifier class.Citation (ReadsTextOf class.Citation)
     (text_node (codes "CITATION"))
@@ -210,10 +210,10 @@ ident-args level items k v are_codes x authority code version citation uri =
     ∙ three named coded.0
     (version-flat v2.0 behind v2.1.1.0.inside (v2.1.1.0.not_more refl)
     (behind-version v3.0 v4.0 v3.1.1.0.inside v4.1.1.0.inside) x.version
-    (subst (λ (is : Items). ReadsOptional ReadsText (single_of (skip 2 is)) x.version) are version) coded.1
+    (subst (λ (is : Siblings). ReadsOptional ReadsText (single_of (skip 2 is)) x.version) are version) coded.1
     _ _ (citations _ _ (uris End End refl)))
   where
-    three : {i j k l : Item} {m n : Items} → i ≡ j → k ≡ l → m ≡ n → More i (More k m) ≡ More j (More l n)
+    three : {i j k l : Item} {m n : Siblings} → i ≡ j → k ≡ l → m ≡ n → More i (More k m) ≡ More j (More l n)
     three e f g = cc
 
 pub ident-form : (level : Level) (c : Class) → Form level c class.Identifier (ReadsIdent class.Identifier) item_ident

@@ -5,7 +5,7 @@ use Rattle.crs_decimal.specs.Bounds.{IsInBounds}
 use Rattle.crs_decimal.specs.Plain.{plain}
 use Rattle.crs_decimal.specs.Spelling.{IsRun}
 use Rattle.crs_decimal.specs.Value.{Value, IsNormal}
-use Rattle.crs_text.specs.Items.{Item, leaf, Items, End, More, arguments, depth, depths, IsNode}
+use Rattle.crs_text.specs.Items.{Item, leaf, Siblings, End, More, arguments, depth, depths, IsNode}
 use Rattle.crs_text.specs.TextFault.{SpellsNode}
 use Rattle.crs_text.specs.Tokens.{Kind, number, IsSingle, IsWord}
 use Rattle.crs_text.specs.Written.{AreFormed, AreAllFormed, at_place, at_places, item_text}
@@ -18,19 +18,19 @@ use Rattle.crs_normal.specs.TextLaws.{TextLaws}
 
 -- ---- well-formed items of some depth
 
-abbrev pub AreFit : ℕ → Items → Type 0
+abbrev pub AreFit : ℕ → Siblings → Type 0
 AreFit n items = AreAllFormed items × (depths items ≤ n)
 
 pub fit-end : (n : ℕ) → AreFit n End
 fit-end n = (tt, omega arith)
 
-pub fit-more : (n : ℕ) (item : Item) (items : Items) → IsFit n item → AreFit n items → AreFit n (More item items)
+pub fit-more : (n : ℕ) (item : Item) (items : Siblings) → IsFit n item → AreFit n items → AreFit n (More item items)
 fit-more n item items f g = ((f.0, g.0), omega (arith, f.1, g.1))
 
 pub fit-leaf : (n : ℕ) (kind : Kind) (place : ℕ) (raw : List ℕ) → IsSingle kind raw → IsFit n (leaf kind place raw)
 fit-leaf n kind place raw f = (f, omega arith)
 
-pub fit-node : (n : ℕ) (keyword : List ℕ) (first : Item) (others : Items) → IsWord keyword → IsFit n first →
+pub fit-node : (n : ℕ) (keyword : List ℕ) (first : Item) (others : Siblings) → IsWord keyword → IsFit n first →
     AreFit n others →
     IsFit (suc n) (node_of keyword first others)
 fit-node n keyword first others w f g = ((w, f.0, g.0), omega (arith, f.1, g.1))
@@ -39,13 +39,13 @@ pub fit-deeper : (m n : ℕ) (item : Item) → m ≤ n → IsFit m item → IsFi
 fit-deeper m n item l f = (f.0, omega (arith, l, f.1))
 
 pub fit-opt : {A : Type 0} (n : ℕ) (spell : A → Item) (P : A → Type 0) → ((x : A) → P x → IsFit n (spell x)) →
-    (o : Option A) (rest : Items) →
+    (o : Option A) (rest : Siblings) →
     IfSome o P → AreFit n rest → AreFit n (opt spell o rest)
 fit-opt n spell P f None rest p g = g
 fit-opt n spell P f (Some x) rest p g = fit-more n (spell x) rest (f x p) g
 
 pub fit-each : {A : Type 0} (n : ℕ) (spell : A → Item) (P : A → Type 0) → ((x : A) → P x → IsFit n (spell x)) →
-    (xs : List A) (rest : Items) →
+    (xs : List A) (rest : Siblings) →
     Each P xs → AreFit n rest → AreFit n (each spell xs rest)
 fit-each n spell P f [] rest p g = g
 fit-each n spell P f (x ∷ xs) rest p g =
@@ -67,20 +67,20 @@ value-fit laws n v h =
 -- ---- arguments of a class, wherever the items stand
 
 -- the items of class d in a parent of class c are so
-abbrev pub Gives : Class → Class → (List Item → Type 0) → Items → Type 0
+abbrev pub Gives : Class → Class → (List Item → Type 0) → Siblings → Type 0
 Gives c d P items = (start : ℕ) → P (those c d (at_places start items))
 
 abbrev pub IsOf : Bool → Class → Class → Item → Type 0
 IsOf b c d item = (place : ℕ) → is_a c d (at_place place item) ≡ b
 
 module _ (c d : Class) where
-  abbrev pub Lacks : Items → Type 0
+  abbrev pub Lacks : Siblings → Type 0
   Lacks = Gives c d (λ l. l ≡ [])
 
   abbrev chosen : Bool → Item → List Item → List Item
   chosen b item l = if b then item ∷ l else l
 
-  pub gives-over : (P : List Item → Type 0) (item : Item) (items : Items) → IsOf false c d item → Gives c d P items →
+  pub gives-over : (P : List Item → Type 0) (item : Item) (items : Siblings) → IsOf false c d item → Gives c d P items →
       Gives c d P (More item items)
   gives-over P item items e g start =
       subst
@@ -90,7 +90,7 @@ module _ (c d : Class) where
       (g (start + 1 + length (item_text item)))
 
   -- the first one, and what is said of the others
-  pub gives-first : (P : List Item → Type 0) (item : Item) (items : Items) → IsOf true c d item →
+  pub gives-first : (P : List Item → Type 0) (item : Item) (items : Siblings) → IsOf true c d item →
       ((place start : ℕ) → P (at_place place item ∷ those c d (at_places start items))) → Gives c d P (More item items)
   gives-first P item items e g start =
       subst
@@ -100,13 +100,13 @@ module _ (c d : Class) where
       (g (start + 1) (start + 1 + length (item_text item)))
 
   module _ {A : Type 0} (spell : A → Item) where
-    pub opt-over : ((x : A) → IsOf false c d (spell x)) → (P : List Item → Type 0) (o : Option A) (rest : Items) →
+    pub opt-over : ((x : A) → IsOf false c d (spell x)) → (P : List Item → Type 0) (o : Option A) (rest : Siblings) →
         Gives c d P rest →
         Gives c d P (opt spell o rest)
     opt-over e P None rest g = g
     opt-over e P (Some x) rest g = gives-over P (spell x) rest (e x) g
 
-    pub each-over : ((x : A) → IsOf false c d (spell x)) → (P : List Item → Type 0) (xs : List A) (rest : Items) →
+    pub each-over : ((x : A) → IsOf false c d (spell x)) → (P : List Item → Type 0) (xs : List A) (rest : Siblings) →
         Gives c d P rest →
         Gives c d P (each spell xs rest)
     each-over e P [] rest g = g
@@ -114,13 +114,13 @@ module _ (c d : Class) where
 
     module _ (Q : A → Type 0) (R : Item → A → Type 0) (e : (x : A) → Q x → IsOf true c d (spell x)) (r : (x : A) →
         Q x → (place : ℕ) → R (at_place place (spell x)) x) where
-      pub opt-read : (o : Option A) (rest : Items) → IfSome o Q → Lacks rest →
+      pub opt-read : (o : Option A) (rest : Siblings) → IfSome o Q → Lacks rest →
           Gives c d (λ l. ReadsOptional R l o) (opt spell o rest)
       opt-read None rest q g start = subst (λ l. ReadsOptional R l None) (sym (g start)) tt
       opt-read (Some x) rest q g start =
           gives-first (λ l. ReadsOptional R l (Some x)) (spell x) rest (e x q) (λ place s. r x q place) start
 
-      pub each-read : (xs : List A) (rest : Items) → Each Q xs → Lacks rest →
+      pub each-read : (xs : List A) (rest : Siblings) → Each Q xs → Lacks rest →
           Gives c d (λ l. ReadsEach R l xs) (each spell xs rest)
       each-read [] rest q g start = subst (λ l. ReadsEach R l []) (sym (g start)) tt
       each-read (x ∷ xs) rest q g start =
@@ -131,7 +131,7 @@ pub lacks-end : (c d : Class) → Lacks c d End
 lacks-end c d start = refl
 
 -- the arguments of a node that may have none
-pub from-arguments : (keyword : List ℕ) (items : Items) (place : ℕ) →
+pub from-arguments : (keyword : List ℕ) (items : Siblings) (place : ℕ) →
     arguments (at_place place (node_from keyword items)) ≡ at_places (place + length keyword) items
 from-arguments keyword End place = refl
 from-arguments keyword (More first others) place = refl

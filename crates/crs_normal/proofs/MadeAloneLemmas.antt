@@ -1,8 +1,8 @@
 -- An axis by itself is accepted, and normal but for a unit that is `UNIT`.
 use Rattle.std.proofs.Common.{◌≡◌, ◌≢◌, ℕ, suc, ◌+◌, ◌≤◌, IsTrue, Option, Some, None, List, [], ◌∷◌, codes, IfSome, length, inl, inr, refl, sym, subst, ◌∙◌, arith}
 use Rattle.crs_decimal.specs.Value.{Value, IsNormal}
-use Rattle.crs_text.specs.Items.{Item, Items, End, More, IsNode, arguments, depth, depths}
-use Rattle.crs_text.specs.Refusal.{Refused}
+use Rattle.crs_text.specs.Items.{Item, Siblings, End, More, IsNode, arguments, depth, depths}
+use Rattle.crs_text.specs.Refusal.{RefusedAt}
 use Rattle.crs_text.specs.Tokens.{IsWord}
 use Rattle.crs_text.specs.Written.{AreFormed, at_place, at_places, item_text}
 use Rattle.crs_shape.specs.declared.class.Class.{Class}
@@ -48,9 +48,9 @@ record Stands (c : Class) (most : ℕ) (item : Item) : Type 0 where
   formed : AreFormed item
   within : depth item ≤ most
   shaped : Shaped c item
-  unbroken : (fault : Refused) → ¬ (Breaks c item fault)
+  unbroken : (fault : RefusedAt) → ¬ (Breaks c item fault)
 
-module _ (N : Class → Class → Item → Type 0) (most : ℕ) (c : Class) (keyword : List ℕ) (first : Item) (others : Items) (runs : List Run) (same : More first others ≡ lines runs) (letters : IsWord keyword) (known : IsTrue (is_keyword c keyword)) (made : RunsMadeBy N most c runs) (allowed : Allowed (slots_of c) (classes runs)) (unbroken : (item : Item) (fault : Refused) → Sees c runs item → ¬ (BreaksOwn c item fault)) where
+module _ (N : Class → Class → Item → Type 0) (most : ℕ) (c : Class) (keyword : List ℕ) (first : Item) (others : Siblings) (runs : List Run) (same : More first others ≡ lines runs) (letters : IsWord keyword) (known : IsTrue (is_keyword c keyword)) (made : RunsMadeBy N most c runs) (allowed : Allowed (slots_of c) (classes runs)) (unbroken : (item : Item) (fault : RefusedAt) → Sees c runs item → ¬ (BreaksOwn c item fault)) where
   stands-at : (ds : List Class) (p : ℕ) → ds ≡ classes runs → AreMade N most c ds (More first others) →
       Stands c (suc most) (at_place p (node_of keyword first others))
   stands-at [] p q h = absurd h
@@ -102,7 +102,7 @@ each-alone : (level : Level) (most : ℕ) (d : Class) (js : List Item) → Each 
 each-alone level most d [] m = tt
 each-alone level most d (j ∷ js) m = (made-alone level most d j m.0, each-alone level most d js m.1)
 
-all-normal-alone : (level : Level) (most s : ℕ) (ds : List Class) (js : Items) →
+all-normal-alone : (level : Level) (most s : ℕ) (ds : List Class) (js : Siblings) →
     AreMade (AsArgument level) most class.Axis ds js → AreNormalArguments level (at_places s js)
 all-normal-alone level most s [] End h = tt
 all-normal-alone level most s [] (More j js) h = absurd h
@@ -179,7 +179,7 @@ module _ (l : DecimalLaws) (level : Level) (x : AxisParts) (h : IsAxis x) where
       record { of = class.AxisUnit; items = given item_unit (norm_units level kinds.Plain x.unit) } ∷
       ids_run level x.ids ∷ []
 
-  abbrev alone_others : Items
+  abbrev alone_others : Siblings
   alone_others =
       More (word_item (direction_word x.direction)) (opt item_axis_meridian (norm_axis_meridians level x.meridian)
       (opt (number_node (codes "ORDER")) x.order (opt item_unit (norm_units level kinds.Plain x.unit)
@@ -233,7 +233,7 @@ module _ (l : DecimalLaws) (level : Level) (x : AxisParts) (h : IsAxis x) where
     ),
   )
 
-  alone-unbroken : (item : Item) (fault : Refused) → Sees class.Axis alone_runs item → ¬ (BreaksOwn class.Axis item fault)
+  alone-unbroken : (item : Item) (fault : RefusedAt) → Sees class.Axis alone_runs item → ¬ (BreaksOwn class.Axis item fault)
   unfolding BreaksOwn
   alone-unbroken item fault s b =
       known-direction x.direction (those class.Axis class.Word (arguments item)) fault (s.view class.Word) b

@@ -1,8 +1,8 @@
 -- Axes at their positions are made.
 use Rattle.std.proofs.Common.{◌≡◌, ℕ, zero, suc, ◌≤◌, Option, Some, None, List, [], ◌∷◌, codes, IfSome, inl, inr, refl, sym, ap, subst, ◌∙◌, arith}
 use Rattle.crs_decimal.specs.Value.{Value, IsNormal}
-use Rattle.crs_text.specs.Items.{Item, Items, End, More, arguments}
-use Rattle.crs_text.specs.Refusal.{Refused}
+use Rattle.crs_text.specs.Items.{Item, Siblings, End, More, arguments}
+use Rattle.crs_text.specs.Refusal.{RefusedAt}
 use Rattle.crs_text.specs.Written.{at_place}
 use Rattle.crs_shape.specs.declared.class.Class.TheVariants as class
 use Rattle.crs_shape.specs.Keywords.{is_keyword}
@@ -134,7 +134,7 @@ axis_runs level asked k x u =
     alone class.Order (number_node (codes "ORDER") (whole_value k)) ∷ alone class.AxisUnit
     (item_unit (norm_unit level asked u)) ∷ ids_run level x.ids ∷ []
 
-abbrev axis_others : Level → UnitKind → ℕ → AxisParts → Option UnitParts → Items
+abbrev axis_others : Level → UnitKind → ℕ → AxisParts → Option UnitParts → Siblings
 axis_others level asked k x w =
     More (word_item (direction_word x.direction)) (opt item_axis_meridian (norm_axis_meridians level x.meridian)
     (opt (number_node (codes "ORDER")) (Some (whole_value k)) (opt item_unit (norm_units level asked w)
@@ -146,7 +146,7 @@ axis-lines : (level : Level) (asked : UnitKind) (k : ℕ) (x : AxisParts) (w : O
 axis-lines level asked k x w u e = ap (λ w. More (text_item x.name) (axis_others level asked k x w)) e
     ∙ simp (opt-line, each-line)
 
-pub known-direction : (d : Direction) (words : List Item) (fault : Refused) →
+pub known-direction : (d : Direction) (words : List Item) (fault : RefusedAt) →
     ArePlaced words (word_item (direction_word d) ∷ []) →
     ¬ (AnyOf UnknownDirection words fault)
 known-direction d [] fault h b = h

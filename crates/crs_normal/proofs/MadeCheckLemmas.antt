@@ -4,7 +4,7 @@ use Rattle.std.proofs.lemmas.List.{append-nil}
 use Rattle.crs_decimal.specs.Number.{SameNumber, whole_number}
 use Rattle.crs_decimal.specs.Value.{Value, IsNormal, exact}
 use Rattle.crs_text.specs.Items.{Item, arguments}
-use Rattle.crs_text.specs.Refusal.{Refused}
+use Rattle.crs_text.specs.Refusal.{RefusedAt}
 use Rattle.crs_text.specs.Written.{at_place}
 use Rattle.crs_shape.specs.declared.class.Class.{Class}
 use Rattle.crs_shape.specs.declared.class.Class.TheVariants as class
@@ -64,7 +64,7 @@ first-order l v value (o ∷ orders) n p r = order-number l v value o p.0.0 n p.
 -- ---- the node `CS`
 
 no-bad-head : DecimalLaws → (dimensions : SystemType →
-    List ℕ) (t : SystemType) (d : Value) (axes : List Item) (cs : Item) (fault : Refused) →
+    List ℕ) (t : SystemType) (d : Value) (axes : List Item) (cs : Item) (fault : RefusedAt) →
     IsNormal d → IsHeadItem t d cs → IsOneOf d (dimensions t) → SameNumber (exact d) (whole_number (length axes)) →
     ¬ (OfHead dimensions axes cs fault)
 no-bad-head l dimensions t d axes cs fault n h one same (inl b) =
@@ -79,7 +79,7 @@ no-bad-head l dimensions t d axes cs fault n h one same (inr b) =
 
 -- ---- orders
 
-none-lacks : (t : SystemType) (k : ℕ) (axes : List Item) (fault : Refused) → AreAxisItems t k axes →
+none-lacks : (t : SystemType) (k : ℕ) (axes : List Item) (fault : RefusedAt) → AreAxisItems t k axes →
     ¬ (AnyOf LacksOrder axes fault)
 none-lacks t k [] fault h b = b
 none-lacks t k (x ∷ axes) fault h (inl b) = placed-some (orders_in x) [] (number_node (codes "ORDER") (whole_value k))
@@ -117,7 +117,7 @@ none-has l k (x ∷ before) high h (inl b) =
     absurd (omega arith)
 none-has l k (x ∷ before) high h (inr b) = none-has l k before high h.1 b
 
-no-wrong-order : DecimalLaws → (n k : ℕ) (before orders : List Item) (fault : Refused) → 1 ≤ k → k ≤ n → n ≤ 3 →
+no-wrong-order : DecimalLaws → (n k : ℕ) (before orders : List Item) (fault : RefusedAt) → 1 ≤ k → k ≤ n → n ≤ 3 →
     Each (IsBefore k) before →
     ArePlaced orders (number_node (codes "ORDER") (whole_value k) ∷ []) → ¬ (AnyOf (IsBadOrder n before) orders fault)
 no-wrong-order l n k before [] fault low high few h p b = p
@@ -133,7 +133,7 @@ no-wrong-order l n k before (o ∷ []) fault low high few h p (inl b) =
     by small (inl q) = q (k, (low, high, (refl, inl refl)))
     by small (inr q) = none-has l k before small h q
 
-no-bad-orders : DecimalLaws → (t : SystemType) (n k : ℕ) (before axes : List Item) (fault : Refused) →
+no-bad-orders : DecimalLaws → (t : SystemType) (n k : ℕ) (before axes : List Item) (fault : RefusedAt) →
     AreAxisItems t k axes → Each (IsBefore k) before →
     1 ≤ k → k + length axes ≤ n + 1 → n ≤ 3 → ¬ (BadOrders n before axes fault)
 no-bad-orders l t n k before [] fault h g low high few b = b
@@ -153,7 +153,7 @@ no-bad-orders l t n k before (x ∷ axes) fault h g low high few (inr b) =
     }))
     low_next high_next few b
 
-no-bad-order : DecimalLaws → (t : SystemType) (axes : List Item) (fault : Refused) → AreAxisItems t 1 axes →
+no-bad-order : DecimalLaws → (t : SystemType) (axes : List Item) (fault : RefusedAt) → AreAxisItems t 1 axes →
     length axes ≤ 3 → ¬ (BadOrder axes fault)
 no-bad-order l t axes fault h few (inl b) = none-lacks t 1 axes fault h b.1
 no-bad-order l t axes fault h few (inr b) = no-bad-orders l t (length axes) 1 [] axes fault h tt (omega arith)
@@ -161,7 +161,7 @@ no-bad-order l t axes fault h few (inr b) = no-bad-orders l t (length axes) 1 []
 
 -- ---- units
 
-no-misfit : (t : SystemType) (d : Value) (k : ℕ) (cs axis : Item) (units : List Item) (fault : Refused) →
+no-misfit : (t : SystemType) (d : Value) (k : ℕ) (cs axis : Item) (units : List Item) (fault : RefusedAt) →
     IsHeadItem t d cs → (a : IsAxisItem t k axis) →
     ArePlaced units (item_unit a.unit_in ∷ []) → ¬ (AnyOf (Misfits cs axis) units fault)
 no-misfit t d k cs axis [] fault h a p b = b
@@ -178,7 +178,7 @@ no-misfit t d k cs axis (u ∷ []) fault h a p (inl b) =
     b.1.1.1 (inr (subst (λ i. ReadsKind i b.1.0) (sym p.0.1) (subst (ReadsKind (at_place p.0.0 (item_unit a.unit_in)))
     g refl)))
 
-no-own-misfit : (t : SystemType) (d : Value) (k : ℕ) (cs : Item) (axes : List Item) (fault : Refused) →
+no-own-misfit : (t : SystemType) (d : Value) (k : ℕ) (cs : Item) (axes : List Item) (fault : RefusedAt) →
     IsHeadItem t d cs → AreAxisItems t k axes →
     ¬ (AnyOf (BadOwnUnit cs) axes fault)
 no-own-misfit t d k cs [] fault h a b = b
@@ -200,7 +200,7 @@ pub record IsSystemSeen (t : SystemType) (d : Value) (systems axes units : List 
   pub none_shared : units ≡ []
 
 pub no-bad-systems : DecimalLaws →
-    (dimensions : SystemType → List ℕ) (t : SystemType) (d : Value) (systems axes units : List Item) (fault : Refused) →
+    (dimensions : SystemType → List ℕ) (t : SystemType) (d : Value) (systems axes units : List Item) (fault : RefusedAt) →
     IsNormal d → IsOneOf d (dimensions t) → IsSystemSeen t d systems axes units →
     ¬ (BadSystems dimensions systems axes units fault)
 no-bad-systems l dimensions t d systems axes units fault n one s b =

@@ -3,7 +3,7 @@ use Rattle.std.proofs.Common.{◌≡◌, ◌⊎◌, ℕ, Bool, true, false, Some
 use Rattle.crs_decimal.specs.Number.{SameNumber, whole_number}
 use Rattle.crs_decimal.specs.Value.{Value, IsNormal, exact}
 use Rattle.crs_text.specs.Items.{Item, More, arguments}
-use Rattle.crs_text.specs.Refusal.{Refused}
+use Rattle.crs_text.specs.Refusal.{RefusedAt}
 use Rattle.crs_text.specs.Written.{at_place}
 use Rattle.crs_shape.specs.declared.class.Class.{Class}
 use Rattle.crs_shape.specs.declared.class.Class.TheVariants as class
@@ -132,7 +132,7 @@ side-shows : (level : Level) (b : Bool) (j : Item) (name : List ℕ) (v : Vertic
 side-shows level true j name v t item h = h
 side-shows level false j name v t item h = h
 
-not-bad-part : (c : Class) (j : Item) (items : List Item) (fault : Refused) → ArePlaced items (j ∷ []) →
+not-bad-part : (c : Class) (j : Item) (items : List Item) (fault : RefusedAt) → ArePlaced items (j ∷ []) →
     ((p : ℕ) → ¬ (FirstIs (IsNotHorizontal c) (those c class.CoordinateSystem (arguments (at_place p j))))) →
     ¬ (AnyOf (BadComponent c) items fault)
 not-bad-part c j [] fault h f b = b
@@ -141,12 +141,12 @@ not-bad-part c j (x ∷ []) fault h f (inl b) =
     f h.0.0 (subst (λ i. FirstIs (IsNotHorizontal c) (those c class.CoordinateSystem (arguments i))) h.0.1 b.1)
 not-bad-part c j (x ∷ []) fault h f (inr b) = b
 
-no-part : (c : Class) (items : List Item) (fault : Refused) → ArePlaced items [] → ¬ (AnyOf (BadComponent c) items fault)
+no-part : (c : Class) (items : List Item) (fault : RefusedAt) → ArePlaced items [] → ¬ (AnyOf (BadComponent c) items fault)
 no-part c [] fault h b = b
 no-part c (x ∷ items) fault h b = h
 
 compound-breaks : (level : Level) (b : Bool) (j : Item) (name : List ℕ) (v : VerticalParts) (t : TailParts)
-    (item : Item) (fault : Refused) → IsSide level b j →
+    (item : Item) (fault : RefusedAt) → IsSide level b j →
     Each (Shows class.CompoundCrs item (compound_runs level b j name v t)) horizontal_classes →
     IsTailSeen class.CompoundCrs item →
     ¬ (OfCompound (arguments item) fault)

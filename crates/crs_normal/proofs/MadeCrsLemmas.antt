@@ -1,6 +1,6 @@
 -- All CRSs are made, and their texts are normal.
 use Rattle.std.proofs.Common.{◌≡◌, ℕ, ◌+◌, ◌≤◌, true, Some, length, refl, sym, ap, subst, ◌∙◌, arith}
-use Rattle.crs_text.specs.Items.{Item, leaf, node, Items, End, More, depth}
+use Rattle.crs_text.specs.Items.{Item, leaf, node, Siblings, End, More, depth}
 use Rattle.crs_text.specs.Written.{WrittenSpells, at_place, at_places, item_text, others_text}
 use Rattle.crs_text.specs.TextFault.{SpellsNode}
 use Rattle.crs_shape.specs.declared.class.Class.{Class}
@@ -88,7 +88,7 @@ mutual
       (at_places (p + length keyword + 1 + length (item_text first)) others)
       (p + length keyword + 1 + length (item_text first) + length w)) b
 
-  placed-all : (p q : ℕ) (js : Items) → at_places p (at_places q js) ≡ at_places p js
+  placed-all : (p q : ℕ) (js : Siblings) → at_places p (at_places q js) ≡ at_places p js
   placed-all p q End = refl
   placed-all p q (More j js) =
       let f = placed-twice (p + 1) (q + 1) j in

@@ -3,7 +3,7 @@ use Rattle.std.proofs.Common.{◌≡◌, ◌≢◌, ℕ, ◌≤◌, true, false,
 use Rattle.std.specs.Prelude.{IsUtf8}
 use Rattle.crs_decimal.specs.Value.{Value, IsNormal}
 use Rattle.crs_text.specs.Items.{Item, End, More, arguments}
-use Rattle.crs_text.specs.Refusal.{Refused}
+use Rattle.crs_text.specs.Refusal.{RefusedAt}
 use Rattle.crs_text.specs.Written.{at_place}
 use Rattle.crs_shape.specs.declared.class.Class.{Class}
 use Rattle.crs_shape.specs.declared.class.Class.TheVariants as class
@@ -95,7 +95,7 @@ placed-none (item ∷ items) h = absurd h
 
 -- ---- ellipsoids
 
-ellipsoid-numbers : DecimalLaws → (a f : Value) (numbers : List Item) (fault : Refused) →
+ellipsoid-numbers : DecimalLaws → (a f : Value) (numbers : List Item) (fault : RefusedAt) →
     ArePlaced numbers (number_item a ∷ number_item f ∷ []) →
     IsNormal a → IsAboveZero a → IsNormal f → f.negative ≡ false → ¬ (OfEllipsoid numbers fault)
 ellipsoid-numbers l a f [] fault h n z m s b = h

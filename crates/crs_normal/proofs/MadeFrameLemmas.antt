@@ -2,8 +2,8 @@
 use Rattle.std.proofs.Common.{◌≡◌, ◌≢◌, ℕ, ◌++◌, IsTrue, Option, Some, None, List, [], ◌∷◌, map, drop, codes, IfSome, IsNone, IsSome, refl, arith}
 use Rattle.std.specs.Option.{option_map}
 use Rattle.crs_decimal.specs.Value.{Value, IsNormal}
-use Rattle.crs_text.specs.Items.{Item, Items, End, More, arguments}
-use Rattle.crs_text.specs.Refusal.{Refused}
+use Rattle.crs_text.specs.Items.{Item, Siblings, End, More, arguments}
+use Rattle.crs_text.specs.Refusal.{RefusedAt}
 use Rattle.crs_text.specs.Tokens.{IsWord}
 use Rattle.crs_text.specs.Written.{at_place}
 use Rattle.crs_shape.specs.declared.class.Class.{Class}
@@ -43,7 +43,7 @@ use Rattle.crs_normal.proofs.MadeNamedLemmas.{member-made}
 pub number-node-made : DecimalLaws → (level : Level) (c : Class) (keyword : List ℕ) (v : Value) → IsWord keyword →
     IsTrue (is_keyword c keyword) →
     IsWritten c keyword → Allowed (slots_of c) (class.Number ∷ []) → ((item : Item) → Own c item) →
-    ((item : Item) (fault : Refused) → ¬ (BreaksOwn c item fault)) → IsNormal v → (p : ℕ) →
+    ((item : Item) (fault : RefusedAt) → ¬ (BreaksOwn c item fault)) → IsNormal v → (p : ℕ) →
     IsMade level c 1 (at_place p (number_node keyword v))
 number-node-made l level c keyword v letters known written allowed own unbroken h =
     node-made level 0 c keyword (number_item v) End (alone class.Number (number_item v) ∷ []) refl (record {
@@ -76,7 +76,7 @@ anchor-made level raw h =
 -- ---- datums
 
 -- one part at most isn't repeated
-pub not-repeated : {A : Type 0} (spell : A → Item) (x : Option A) (items : List Item) (fault : Refused) →
+pub not-repeated : {A : Type 0} (spell : A → Item) (x : Option A) (items : List Item) (fault : RefusedAt) →
     ArePlaced items (given spell x ++ []) →
     ¬ (AnyOf IsRepeated (drop 1 items) fault)
 not-repeated spell None [] fault h b = b
@@ -214,7 +214,7 @@ geodetic_ensemble_runs level x e =
     alone class.EnsembleAccuracy (number_node (codes "ENSEMBLEACCURACY") e.accuracy) ∷ ids_run level e.ids ∷ []
 
 -- the arguments behind an ensemble's name
-abbrev ensemble_others : Level → Option EllipsoidParts → EnsembleParts → Items
+abbrev ensemble_others : Level → Option EllipsoidParts → EnsembleParts → Siblings
 ensemble_others level x e =
     each item_member (set_members level e.members) (opt item_ellipsoid (option_map (norm_ellipsoid level) x)
     (More (number_node (codes "ENSEMBLEACCURACY") e.accuracy) (each item_ident (set_idents level e.ids) End)))

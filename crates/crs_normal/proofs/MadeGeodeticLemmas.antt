@@ -2,7 +2,7 @@
 use Rattle.std.proofs.Common.{◌≡◌, ◌≢◌, ℕ, ◌≤◌, ◌++◌, true, IsTrue, Option, Some, None, List, [], ◌∷◌, map, codes, inl, inr, refl, sym, ap, subst, ◌∙◌, arith}
 use Rattle.crs_decimal.specs.Value.{Value}
 use Rattle.crs_text.specs.Items.{Item, More, arguments, raw_of}
-use Rattle.crs_text.specs.Refusal.{Refused}
+use Rattle.crs_text.specs.Refusal.{RefusedAt}
 use Rattle.crs_text.specs.Tokens.{IsWord}
 use Rattle.crs_text.specs.Written.{at_place}
 use Rattle.crs_shape.specs.declared.class.Class.{Class}
@@ -110,7 +110,7 @@ record IsRootClass (t : SystemType) (c : Class) (keyword : List ℕ) : Type 0 wh
   meridian : class_named c (codes "PRIMEM") ≡ Some class.PrimeMeridian
   dimensions : SystemType → List ℕ
   allows : (d : Value) → IsOneOf d (geodetic_dimensions t) → IsOneOf d (dimensions t)
-  breaks : (item : Item) (fault : Refused) → BreaksOwn c item fault → OfCrs dimensions c item fault
+  breaks : (item : Item) (fault : RefusedAt) → BreaksOwn c item fault → OfCrs dimensions c item fault
   own : (item : Item) → Each (λ cs. words_in class.CoordinateSystem cs ≡ system_word t ∷ [])
       (those c class.CoordinateSystem (arguments item)) →
       Has c class.PrimeMeridian item → HasAxes c item → HasTail c item → Own c item
@@ -297,7 +297,7 @@ geodetic-kept l level c keyword g r few h = record {
         frame-shows c item (text_item g.name) (item_frame (codes "DATUM") (norm_frame level g.frame)) g.frame
         (meridian_run level g ∷ behind level g.system g.tail) (views c (geodetic_runs level g) item geodetic_classes s)
 
-    no-break : (item : Item) (fault : Refused) → IsTailSeen c item →
+    no-break : (item : Item) (fault : RefusedAt) → IsTailSeen c item →
         IsSystemSeen g.system.system_type g.system.dimension
         (those c class.CoordinateSystem (arguments item)) (those c class.Axis (arguments item))
         (those c class.AxisUnit (arguments item)) →

@@ -1,7 +1,7 @@
 -- Identifiers and lists of them are made.
 use Rattle.std.proofs.Common.{◌≡◌, ℕ, ◌+◌, ◌≤◌, true, IsTrue, Option, Some, None, List, [], ◌∷◌, ◌++◌, map, codes, IfSome, inl, inr, refl, sym, ap, subst, ◌∙◌, arith}
-use Rattle.crs_text.specs.Items.{Item, leaf, Items, End, More, skip}
-use Rattle.crs_text.specs.Refusal.{Refused}
+use Rattle.crs_text.specs.Items.{Item, leaf, Siblings, End, More, skip}
+use Rattle.crs_text.specs.Refusal.{RefusedAt}
 use Rattle.crs_text.specs.Tokens.{IsWord, Kind, number, text, word}
 use Rattle.crs_text.specs.Written.{at_place, at_places, item_text}
 use Rattle.crs_shape.specs.declared.class.Class.{Class}
@@ -32,7 +32,7 @@ use Rattle.crs_normal.proofs.MadeLemmas.{IsKept, Made, Run, alone, as-argument, 
 pub text-node-made : (level : Level) (c : Class) (keyword raw : List ℕ) → IsWord keyword →
     IsTrue (is_keyword c keyword) → IsWritten c keyword →
     Allowed (slots_of c) (class.Text ∷ []) → ((item : Item) → Own c item) →
-    ((item : Item) (fault : Refused) → ¬ (BreaksOwn c item fault)) → IsText raw →
+    ((item : Item) (fault : RefusedAt) → ¬ (BreaksOwn c item fault)) → IsText raw →
     (p : ℕ) → IsMade level c 1 (at_place p (text_node keyword raw))
 text-node-made level c keyword raw letters known written allowed own unbroken h =
     node-made level 0 c keyword (text_item raw) End (alone class.Text (text_item raw) ∷ []) refl (record {
@@ -118,7 +118,7 @@ code-is text raw p h = inr (h.0, refl)
 code-is word raw p h = absurd h
 
 -- the version, if there is one, and the nodes behind it
-abbrev behind : Kind → Option (List ℕ) → Option (List ℕ) → Option (List ℕ) → Items
+abbrev behind : Kind → Option (List ℕ) → Option (List ℕ) → Option (List ℕ) → Siblings
 behind v version citation uri =
     line (given (λ raw. leaf v 0 raw) version) (line (given (text_node (codes "CITATION")) citation)
     (line (given (text_node (codes "URI")) uri) End))
@@ -204,7 +204,7 @@ version-kind (Some raw) h = by (code_kind raw) (code-kind raw h)
     by text a = a
     by word a = a
 
-version-line : (version : Option (List ℕ)) (rest : Items) →
+version-line : (version : Option (List ℕ)) (rest : Siblings) →
     opt code_item version rest ≡ line (given (λ raw. leaf (version_kind version) 0 raw) version) rest
 version-line None rest = refl
 version-line (Some raw) rest = refl

@@ -1,8 +1,8 @@
 -- A node of arguments that are accepted and normal is so itself: what it asks of its arguments is said of them as runs
 -- of one class each, with all places left out.
 use Rattle.std.proofs.Common.{◌≡◌, ℕ, suc, ◌+◌, ◌≤◌, ◌⊎◌, Bool, true, false, IsTrue, Option, Some, None, List, [], ◌∷◌, ◌++◌, map, length, if◌then◌else◌, inl, inr, refl, sym, ap, subst, ◌∙◌, arith}
-use Rattle.crs_text.specs.Items.{Item, Items, End, More, arguments, depth, depths}
-use Rattle.crs_text.specs.Refusal.{Refused}
+use Rattle.crs_text.specs.Items.{Item, Siblings, End, More, arguments, depth, depths}
+use Rattle.crs_text.specs.Refusal.{RefusedAt}
 use Rattle.crs_text.specs.Tokens.{IsWord}
 use Rattle.crs_text.specs.Written.{AreFormed, AreAllFormed, at_place, at_places, item_text}
 use Rattle.crs_shape.specs.declared.class.Class.{Class}
@@ -35,11 +35,11 @@ abbrev pub given : {A : Type 0} → (A → Item) → Option A → List Item
 given spell None = []
 given spell (Some x) = spell x ∷ []
 
-abbrev pub line : List Item → Items → Items
+abbrev pub line : List Item → Siblings → Siblings
 line [] rest = rest
 line (j ∷ js) rest = More j (line js rest)
 
-abbrev pub lines : List Run → Items
+abbrev pub lines : List Run → Siblings
 lines [] = End
 lines (run ∷ runs) = line run.items (lines runs)
 
@@ -56,12 +56,12 @@ abbrev pub items_in : Class → List Run → List Item
 items_in e [] = []
 items_in e (run ∷ runs) = if is_same e run.of then run.items ++ items_in e runs else items_in e runs
 
-pub each-line : {A : Type 0} (spell : A → Item) (xs : List A) (rest : Items) →
+pub each-line : {A : Type 0} (spell : A → Item) (xs : List A) (rest : Siblings) →
     each spell xs rest ≡ line (map spell xs) rest
 each-line spell [] rest = refl
 each-line spell (x ∷ xs) rest = ap (λ r. More (spell x) r) (each-line spell xs rest)
 
-pub opt-line : {A : Type 0} (spell : A → Item) (x : Option A) (rest : Items) →
+pub opt-line : {A : Type 0} (spell : A → Item) (x : Option A) (rest : Siblings) →
     opt spell x rest ≡ line (given spell x) rest
 opt-line spell None rest = refl
 opt-line spell (Some x) rest = refl
@@ -73,7 +73,7 @@ pub record IsFineBy (N : Class → Class → Item → Type 0) (most : ℕ) (pare
   pub formed : AreFormed item
   pub within : depth item ≤ most
   pub shaped : Shaped c item
-  pub unbroken : (fault : Refused) → ¬ (Breaks c item fault)
+  pub unbroken : (fault : RefusedAt) → ¬ (Breaks c item fault)
   pub normal : N parent c item
 
 -- an argument at any place
@@ -91,18 +91,18 @@ RunsMadeBy N most c (run ∷ runs) = Each (MadeBy N most c run.of) run.items × 
 abbrev pub RunsMade : Level → ℕ → Class → List Run → Type 0
 RunsMade level = RunsMadeBy (IsNormalIn level)
 
-abbrev pub AreMade : (Class → Class → Item → Type 0) → ℕ → Class → List Class → Items → Type 0
+abbrev pub AreMade : (Class → Class → Item → Type 0) → ℕ → Class → List Class → Siblings → Type 0
 AreMade N most c [] End = Unit {0}
 AreMade N most c [] (More j js) = ⊥
 AreMade N most c (d ∷ ds) End = ⊥
 AreMade N most c (d ∷ ds) (More j js) = MadeBy N most c d j × AreMade N most c ds js
 
-named-if : (c d e : Class) (j : Item) (js : Items) → class_in c j ≡ Some d →
+named-if : (c d e : Class) (j : Item) (js : Siblings) → class_in c j ≡ Some d →
     those c e (More j js) ≡ (if is_same e d then j ∷ those c e js else those c e js)
 named-if c d e j js h = ap (λ o. if is_class e o then j ∷ those c e js else those c e js) h
 
 named-run : (N : Class → Class → Item → Type 0) (most : ℕ) (c e d : Class) (b : Bool) → is_same e d ≡ b →
-    (js : List Item) (rest : Items) → Each (MadeBy N most c d) js →
+    (js : List Item) (rest : Siblings) → Each (MadeBy N most c d) js →
     those c e (line js rest) ≡ (if b then js ++ those c e rest else those c e rest)
 named-run N most c e d true q [] rest h = refl
 named-run N most c e d true q (j ∷ js) rest h =
@@ -122,7 +122,7 @@ those-lines N most c e (run ∷ runs) h =
     named-run N most c e run.of (is_same e run.of) refl run.items (lines runs) h.0
     ∙ ap (λ t. if is_same e run.of then run.items ++ t else t) (those-lines N most c e runs h.1)
 
-made-line : (N : Class → Class → Item → Type 0) (most : ℕ) (c d : Class) (js : List Item) (ds : List Class) (rest : Items) →
+made-line : (N : Class → Class → Item → Type 0) (most : ℕ) (c d : Class) (js : List Item) (ds : List Class) (rest : Siblings) →
     Each (MadeBy N most c d) js →
     AreMade N most c ds rest → AreMade N most c (repeated d js ds) (line js rest)
 made-line N most c d [] ds rest h more = more
@@ -143,13 +143,13 @@ not-at-class : (P : Class → Type 0) (o : Option Class) (d : Class) → o ≡ S
 not-at-class P o d e h a = h (subst (λ o. AtClass o P) e a)
 
 module _ (N : Class → Class → Item → Type 0) (most : ℕ) (c : Class) where
-  pub all-formed : (s : ℕ) (ds : List Class) (js : Items) → AreMade N most c ds js → AreAllFormed (at_places s js)
+  pub all-formed : (s : ℕ) (ds : List Class) (js : Siblings) → AreMade N most c ds js → AreAllFormed (at_places s js)
   all-formed s [] End h = tt
   all-formed s [] (More j js) h = absurd h
   all-formed s (d ∷ ds) End h = tt
   all-formed s (d ∷ ds) (More j js) h = ((h.0.fine (s + 1)).formed, all-formed (s + 1 + length (item_text j)) ds js h.1)
 
-  pub all-within : (s : ℕ) (ds : List Class) (js : Items) → AreMade N most c ds js → depths (at_places s js) ≤ most
+  pub all-within : (s : ℕ) (ds : List Class) (js : Siblings) → AreMade N most c ds js → depths (at_places s js) ≤ most
   all-within s [] End h = omega arith
   all-within s [] (More j js) h = absurd h
   all-within s (d ∷ ds) End h = omega arith
@@ -159,7 +159,7 @@ module _ (N : Class → Class → Item → Type 0) (most : ℕ) (c : Class) wher
       ds js h.1 in
       omega arith
 
-  pub all-shaped : (s : ℕ) (ds : List Class) (js : Items) → AreMade N most c ds js → AreShaped c ds (at_places s js)
+  pub all-shaped : (s : ℕ) (ds : List Class) (js : Siblings) → AreMade N most c ds js → AreShaped c ds (at_places s js)
   all-shaped s [] End h = tt
   all-shaped s [] (More j js) h = h
   all-shaped s (d ∷ ds) End h = h
@@ -172,7 +172,7 @@ module _ (N : Class → Class → Item → Type 0) (most : ℕ) (c : Class) wher
     ),
   )
 
-  pub all-unbroken : (fault : Refused) (s : ℕ) (ds : List Class) (js : Items) → AreMade N most c ds js →
+  pub all-unbroken : (fault : RefusedAt) (s : ℕ) (ds : List Class) (js : Siblings) → AreMade N most c ds js →
       ¬ (BreaksAmong c (at_places s js) fault)
   all-unbroken fault s [] End h b = b
   all-unbroken fault s [] (More j js) h b = absurd h
@@ -184,7 +184,7 @@ module _ (N : Class → Class → Item → Type 0) (most : ℕ) (c : Class) wher
   all-unbroken fault s (d ∷ ds) (More j js) h (inr b) = all-unbroken fault (s + 1 + length (item_text j)) ds js h.1 b
 
 module _ (level : Level) (most : ℕ) (c : Class) where
-  all-normal : (s : ℕ) (ds : List Class) (js : Items) → AreMade (IsNormalIn level) most c ds js →
+  all-normal : (s : ℕ) (ds : List Class) (js : Siblings) → AreMade (IsNormalIn level) most c ds js →
       AreNormalIn level c (at_places s js)
   all-normal s [] End h = tt
   all-normal s [] (More j js) h = absurd h
@@ -213,12 +213,12 @@ pub record IsKept (level : Level) (most : ℕ) (c : Class) (keyword : List ℕ) 
   pub allowed : Allowed (slots_of c) (classes runs)
   pub sets : Each (λ d. Ascend (items_in d runs)) set_classes
   pub own : (item : Item) → Sees c runs item → Own c item
-  pub unbroken : (item : Item) (fault : Refused) → Sees c runs item → ¬ (BreaksOwn c item fault)
+  pub unbroken : (item : Item) (fault : RefusedAt) → Sees c runs item → ¬ (BreaksOwn c item fault)
 
 pub at-level : (level : Level) (c : Class) (item : Item) → AtLevel level c item
 at-level levels.Full c item = tt
 
-pub sees-by : (N : Class → Class → Item → Type 0) (most : ℕ) (c : Class) (keyword : List ℕ) (first : Item) (others : Items) (runs : List Run)
+pub sees-by : (N : Class → Class → Item → Type 0) (most : ℕ) (c : Class) (keyword : List ℕ) (first : Item) (others : Siblings) (runs : List Run)
     (p : ℕ) →
     More first others ≡ lines runs → RunsMadeBy N most c runs →
     Sees c runs (at_place p (node_of keyword first others))
@@ -230,7 +230,7 @@ sees-by N most c keyword first others runs p same made = record {
       (More first others));
 }
 
-pub sees : (level : Level) (most : ℕ) (c : Class) (keyword : List ℕ) (first : Item) (others : Items) (runs : List Run)
+pub sees : (level : Level) (most : ℕ) (c : Class) (keyword : List ℕ) (first : Item) (others : Siblings) (runs : List Run)
     (p : ℕ) →
     More first others ≡ lines runs → RunsMade level most c runs →
     Sees c runs (at_place p (node_of keyword first others))
@@ -243,14 +243,14 @@ each-set c runs item [] s h = tt
 each-set c runs item (e ∷ es) s h =
     (placed-ascend (those c e (arguments item)) (items_in e runs) (s.view e) h.0, each-set c runs item es s h.1)
 
-pub unbroken-node : (c : Class) (fault : Refused) (d : Class) (j : Item) {O M : Type 0} →
-    ((fault : Refused) → ¬ (Breaks d j fault)) → class_in c j ≡ Some d → ¬ M → ¬ O →
+pub unbroken-node : (c : Class) (fault : RefusedAt) (d : Class) (j : Item) {O M : Type 0} →
+    ((fault : RefusedAt) → ¬ (Breaks d j fault)) → class_in c j ≡ Some d → ¬ M → ¬ O →
     ¬ (O ⊎ (AtClass (class_in c j) (λ e. Breaks e j fault) ⊎ M))
 unbroken-node c fault d j u n m o (inl b) = o b
 unbroken-node c fault d j u n m o (inr (inl b)) = not-at-class (λ e. Breaks e j fault) (class_in c j) d n (u fault) b
 unbroken-node c fault d j u n m o (inr (inr b)) = m b
 
-node-at : (level : Level) (most : ℕ) (c : Class) (keyword : List ℕ) (first : Item) (others : Items) (runs : List Run)
+node-at : (level : Level) (most : ℕ) (c : Class) (keyword : List ℕ) (first : Item) (others : Siblings) (runs : List Run)
     (ds : List Class) (p : ℕ) →
     More first others ≡ lines runs → ds ≡ classes runs → AreMade (IsNormalIn level) most c ds (More first others) →
     IsKept level most c keyword runs →
@@ -302,7 +302,7 @@ node-at level most c keyword first others runs (d ∷ ds) p same q h k =
     }
 
 -- a node whose arguments are these runs is made
-pub node-made : (level : Level) (most : ℕ) (c : Class) (keyword : List ℕ) (first : Item) (others : Items)
+pub node-made : (level : Level) (most : ℕ) (c : Class) (keyword : List ℕ) (first : Item) (others : Siblings)
     (runs : List Run) →
     More first others ≡ lines runs → IsKept level most c keyword runs → (p : ℕ) →
     IsMade level c (suc most) (at_place p (node_of keyword first others))

@@ -1,7 +1,7 @@
 -- Nodes of a name and identifiers are made: members, methods and geoid models.
 use Rattle.std.proofs.Common.{◌≡◌, ℕ, IsTrue, Some, List, [], ◌∷◌, codes, refl, sym, subst, arith}
 use Rattle.crs_text.specs.Items.{Item, End}
-use Rattle.crs_text.specs.Refusal.{Refused}
+use Rattle.crs_text.specs.Refusal.{RefusedAt}
 use Rattle.crs_text.specs.Tokens.{IsWord}
 use Rattle.crs_text.specs.Written.{at_place}
 use Rattle.crs_shape.specs.declared.class.Class.{Class}
@@ -36,7 +36,7 @@ record IsNamed (c : Class) (keyword : List ℕ) : Type 0 where
   written : IsWritten c keyword
   slots : slots_of c ≡ named_slots
   own : (item : Item) → Own c item
-  unbroken : (item : Item) (fault : Refused) → ¬ (BreaksOwn c item fault)
+  unbroken : (item : Item) (fault : RefusedAt) → ¬ (BreaksOwn c item fault)
   names_id : class_named c (codes "ID") ≡ Some class.Identifier
 
 abbrev named_runs : Level → List ℕ → List IdentParts → List Run

@@ -2,7 +2,7 @@
 use Rattle.std.proofs.Common.{◌≡◌, ℕ, ◌+◌, Bool, true, false, List, [], ◌∷◌, ◌++◌, length, if◌then◌else◌, refl, sym, ap, ap₂, subst, ◌∙◌}
 use Rattle.std.specs.Cmp.Lexicographic.{slice_cmp}
 use Rattle.std.specs.Ordering.{nat_cmp}
-use Rattle.crs_text.specs.Items.{Item, leaf, node, Items, End, More}
+use Rattle.crs_text.specs.Items.{Item, leaf, node, Siblings, End, More}
 use Rattle.crs_text.specs.Written.{at_place, at_places, item_text, others_text}
 use Rattle.crs_shape.specs.declared.class.Class.{Class}
 use Rattle.crs_shape.specs.ShapeFault.{class_in}
@@ -22,7 +22,7 @@ mutual
       let o = texts-at (p + length keyword + 1 + length (item_text first)) others in
       λ i. keyword ++ 91 ∷ (f i ++ (o i ++ 93 ∷ []))
 
-  pub texts-at : (p : ℕ) (js : Items) → others_text (at_places p js) ≡ others_text js
+  pub texts-at : (p : ℕ) (js : Siblings) → others_text (at_places p js) ≡ others_text js
   texts-at p End = refl
   texts-at p (More j js) =
       let f = text-at (p + 1) j in
@@ -41,7 +41,7 @@ if-placed : (b : Bool) (p : ℕ) (j : Item) (xs js : List Item) → ArePlaced xs
 if-placed true p j xs js h = ((p, refl), h)
 if-placed false p j xs js h = h
 
-pub those-placed : (c e : Class) (s : ℕ) (js : Items) → ArePlaced (those c e (at_places s js)) (those c e js)
+pub those-placed : (c e : Class) (s : ℕ) (js : Siblings) → ArePlaced (those c e (at_places s js)) (those c e js)
 those-placed c e s End = tt
 those-placed c e s (More (leaf kind place raw) js) =
     if-placed (is_class e (class_in c (leaf kind place raw))) (s + 1) (leaf kind place raw)

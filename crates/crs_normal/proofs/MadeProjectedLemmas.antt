@@ -1,7 +1,7 @@
 -- Base CRSs and projected CRSs are made.
 use Rattle.std.proofs.Common.{ℕ, ◌≤◌, None, List, [], ◌∷◌, codes, inl, inr, refl, arith}
-use Rattle.crs_text.specs.Items.{Item, Items, End, More, arguments}
-use Rattle.crs_text.specs.Refusal.{Refused}
+use Rattle.crs_text.specs.Items.{Item, Siblings, End, More, arguments}
+use Rattle.crs_text.specs.Refusal.{RefusedAt}
 use Rattle.crs_text.specs.Written.{at_place}
 use Rattle.crs_shape.specs.declared.class.Class.TheVariants as class
 use Rattle.crs_shape.specs.Keywords.{is_keyword}
@@ -178,7 +178,7 @@ projected-rise level g = (
   ),
 )
 
-projected-breaks : DecimalLaws → (g : ProjectedParts) (item : Item) (fault : Refused) → IsProjected g →
+projected-breaks : DecimalLaws → (g : ProjectedParts) (item : Item) (fault : RefusedAt) → IsProjected g →
     IsTailSeen class.ProjectedCrs item →
     IsSystemSeen g.system.system_type g.system.dimension (those class.ProjectedCrs class.CoordinateSystem
     (arguments item))
@@ -216,7 +216,7 @@ projected-kept l level g few h = record {
       (system-seen l level class.ProjectedCrs item g.system g.tail few v) b;
 }
 
-abbrev projected_others : Level → ProjectedParts → Items
+abbrev projected_others : Level → ProjectedParts → Siblings
 projected_others level g =
     More (item_base (norm_base level g.base)) (More (item_conversion (norm_conversion level g.conversion))
     (system_items (norm_system level g.system) (tail_items (norm_tail level g.tail))))

@@ -8,7 +8,7 @@ use Rattle.crs_decimal.specs.Number.{SameNumber, whole_number}
 use Rattle.crs_decimal.specs.Plain.{plain}
 use Rattle.crs_decimal.specs.Value.{Value, IsNormal, exact}
 use Rattle.crs_text.specs.Items.{Item, End, More, arguments}
-use Rattle.crs_text.specs.Refusal.{Refused}
+use Rattle.crs_text.specs.Refusal.{RefusedAt}
 use Rattle.crs_text.specs.Written.{at_place}
 use Rattle.crs_shape.specs.declared.class.Class.{Class}
 use Rattle.crs_shape.specs.declared.class.Class.TheVariants as class
@@ -217,7 +217,7 @@ head-runs-made l level s h = (
   ),
 )
 
-known-type : (t : SystemType) (words : List Item) (fault : Refused) →
+known-type : (t : SystemType) (words : List Item) (fault : RefusedAt) →
     ArePlaced words (word_item (system_word t) ∷ []) → ¬ (AnyOf UnknownType words fault)
 known-type t [] fault h b = h
 known-type t (x ∷ []) fault h (inl b) = b.1 t (subst (λ i. ReadsType i t) (sym h.0.1) refl)

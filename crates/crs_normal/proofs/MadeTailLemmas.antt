@@ -1,7 +1,7 @@
 -- The ends of CRSs are made.
 use Rattle.std.proofs.Common.{◌≡◌, ℕ, ◌+◌, ◌≤◌, ◌++◌, true, Option, Some, None, List, [], ◌∷◌, length, map, drop, codes, IfSome, inl, inr, refl, sym, subst, ◌∙◌, arith}
-use Rattle.crs_text.specs.Items.{Item, Items, End, More, arguments}
-use Rattle.crs_text.specs.Refusal.{Refused}
+use Rattle.crs_text.specs.Items.{Item, Siblings, End, More, arguments}
+use Rattle.crs_text.specs.Refusal.{RefusedAt}
 use Rattle.crs_text.specs.Written.{at_place, at_places, item_text}
 use Rattle.crs_shape.specs.declared.class.Class.{Class}
 use Rattle.crs_shape.specs.declared.class.Class.TheVariants as class
@@ -123,7 +123,7 @@ abbrev pub RunsRise : ℕ → List Run → Type 0
 RunsRise least [] = Unit {0}
 RunsRise least (run ∷ runs) = (least ≤ rank run.of) × RunsRise (rank run.of) runs
 
-rise-lower : (c : Class) (m n : ℕ) (items : Items) → m ≤ n → Rise c n items → Rise c m items
+rise-lower : (c : Class) (m n : ℕ) (items : Siblings) → m ≤ n → Rise c n items → Rise c m items
 rise-lower c m n End h r = tt
 rise-lower c m n (More item items) h r = by (class_in c item) r
   where
@@ -132,7 +132,7 @@ rise-lower c m n (More item items) h r = by (class_in c item) r
     by None q = q
     by (Some d) q = let k : n ≤ rank d = q.0 in (omega arith, q.1)
 
-rise-line : (level : Level) (most : ℕ) (c d : Class) (js : List Item) (rest : Items) (least s : ℕ) →
+rise-line : (level : Level) (most : ℕ) (c d : Class) (js : List Item) (rest : Siblings) (least s : ℕ) →
     Each (Made level most c d) js → least ≤ rank d →
     ((s : ℕ) → Rise c (rank d) (at_places s rest)) → Rise c least (at_places s (line js rest))
 rise-line level most c d [] rest least s h low more = rise-lower c least (rank d) (at_places s rest) low (more s)
@@ -164,10 +164,10 @@ pub record IsTailSeen (c : Class) (item : Item) : Type 0 where
   pub remarks : Option (List ℕ)
   pub remark : ArePlaced (those c class.Remark (arguments item)) (given (text_node (codes "REMARK")) remarks ++ [])
 
-none-repeated : (items : List Item) (fault : Refused) → items ≡ [] → ¬ (AnyOf IsRepeated (drop 1 items) fault)
+none-repeated : (items : List Item) (fault : RefusedAt) → items ≡ [] → ¬ (AnyOf IsRepeated (drop 1 items) fault)
 none-repeated items fault e b = subst (λ is. AnyOf IsRepeated (drop 1 is) fault) e b
 
-pub no-repeats : (c : Class) (item : Item) (fault : Refused) → IsTailSeen c item →
+pub no-repeats : (c : Class) (item : Item) (fault : RefusedAt) → IsTailSeen c item →
     ¬ (RepeatsAny c (arguments item) once fault)
 no-repeats c item fault s (inl b) = none-repeated (those c class.Scope (arguments item)) fault s.scope b
 no-repeats c item fault s (inr (inl b)) = none-repeated (those c class.Area (arguments item)) fault s.area b

@@ -3,7 +3,7 @@ use Rattle.std.proofs.Common.{◌≡◌, ℕ, true, Some, List, [], ◌∷◌, c
 use Rattle.crs_decimal.specs.Plain.{plain}
 use Rattle.crs_decimal.specs.Value.{Value, IsNormal}
 use Rattle.crs_text.specs.Items.{Item, End, More, arguments}
-use Rattle.crs_text.specs.Refusal.{Refused}
+use Rattle.crs_text.specs.Refusal.{RefusedAt}
 use Rattle.crs_text.specs.Tokens.{IsWord}
 use Rattle.crs_text.specs.Written.{at_place}
 use Rattle.crs_shape.specs.declared.class.Class.{Class}
@@ -43,7 +43,7 @@ reads-one l v value item p n e r =
     let d : ReadsNumber (at_place p (number_item v)) value = subst (λ i. ReadsNumber i value) e r in
     l.denotes_one (plain v) value v d.0 n d.1 (l.denotes v n)
 
-pub not-below : DecimalLaws → (v : Value) (items : List Item) (fault : Refused) → IsNormal v → IsAboveZero v →
+pub not-below : DecimalLaws → (v : Value) (items : List Item) (fault : RefusedAt) → IsNormal v → IsAboveZero v →
     ArePlaced items (number_item v ∷ []) →
     ¬ (AnyOf NotAbove items fault)
 not-below l v [] fault n a h b = b
@@ -95,7 +95,7 @@ unit-own class.PlainUnit kind item h = tt
 unit-own class.AxisUnit kind item h = tt
 unit-own other kind item h = absurd h
 
-unit-breaks : (c : Class) (kind : UnitKind) (item : Item) (fault : Refused) → IsKindIn c kind →
+unit-breaks : (c : Class) (kind : UnitKind) (item : Item) (fault : RefusedAt) → IsKindIn c kind →
     BreaksOwn c item fault → OfUnit c item fault
 unfolding BreaksOwn
 unit-breaks class.LengthUnit kind item fault h b = b

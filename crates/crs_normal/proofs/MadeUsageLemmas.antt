@@ -1,7 +1,7 @@
 -- Boxes, extents and usages are made.
 use Rattle.std.proofs.Common.{◌≡◌, ◌≢◌, ◌⊎◌, ℕ, suc, Option, Some, None, List, [], ◌∷◌, codes, IfSome, IsSome, inl, inr, refl, arith}
 use Rattle.std.specs.Option.{option_map}
-use Rattle.crs_text.specs.Items.{Items, End, More, arguments}
+use Rattle.crs_text.specs.Items.{Siblings, End, More, arguments}
 use Rattle.crs_text.specs.Written.{at_place}
 use Rattle.crs_shape.specs.declared.class.Class.{Class}
 use Rattle.crs_shape.specs.declared.class.Class.TheVariants as class
@@ -114,14 +114,14 @@ extent-made l level e h =
 -- ---- usages
 
 -- a node that has an argument, whichever is its first
-from-made : (level : Level) (most : ℕ) (c : Class) (keyword : List ℕ) (js : Items) (runs : List Run) → js ≢ End →
+from-made : (level : Level) (most : ℕ) (c : Class) (keyword : List ℕ) (js : Siblings) (runs : List Run) → js ≢ End →
     js ≡ lines runs →
     IsKept level most c keyword runs → (p : ℕ) → IsMade level c (suc most) (at_place p (node_from keyword js))
 from-made level most c keyword End runs some same k p = absurd (some refl)
 from-made level most c keyword (More first others) runs some same k p = node-made level most c keyword first others
     runs same k p
 
-abbrev usage_items : UsageParts → Items
+abbrev usage_items : UsageParts → Siblings
 usage_items u =
     opt (text_node (codes "SCOPE")) u.scope (opt (text_node (codes "AREA")) u.area
     (opt item_box u.bbox (opt item_extent u.extent End)))
@@ -196,7 +196,7 @@ usage-made l levels.Full u h =
       unbroken = λ item fault s k. k;
     })
 
-from-named : (c d : Class) (keyword : List ℕ) (js : Items) → js ≢ End → class_named c keyword ≡ Some d →
+from-named : (c d : Class) (keyword : List ℕ) (js : Siblings) → js ≢ End → class_named c keyword ≡ Some d →
     class_in c (node_from keyword js) ≡ Some d
 from-named c d keyword End some named = absurd (some refl)
 from-named c d keyword (More first others) some named = named

@@ -1,7 +1,7 @@
 -- Vertical CRSs are made.
 use Rattle.std.proofs.Common.{◌≡◌, ℕ, ◌≤◌, ◌++◌, true, Some, None, List, [], ◌∷◌, map, codes, inl, inr, refl, arith}
 use Rattle.crs_text.specs.Items.{Item, More, arguments}
-use Rattle.crs_text.specs.Refusal.{Refused}
+use Rattle.crs_text.specs.Refusal.{RefusedAt}
 use Rattle.crs_text.specs.Written.{at_place}
 use Rattle.crs_shape.specs.declared.class.Class.{Class}
 use Rattle.crs_shape.specs.declared.class.Class.TheVariants as class
@@ -185,7 +185,7 @@ vertical-rise level g =
       ),
     )
 
-vertical-breaks : DecimalLaws → (g : VerticalParts) (item : Item) (fault : Refused) → IsVertical g →
+vertical-breaks : DecimalLaws → (g : VerticalParts) (item : Item) (fault : RefusedAt) → IsVertical g →
     IsTailSeen class.VerticalCrs item →
     IsSystemSeen g.system.system_type g.system.dimension (those class.VerticalCrs class.CoordinateSystem
     (arguments item))

@@ -2,7 +2,7 @@
 use Rattle.std.proofs.Common.{◌≡◌, ℕ, ◌≤◌, ◌||◌, length, Bool, true, false, Option, Some, None, List, [], ◌∷◌, if◌then◌else◌, codes, refl, sym, ◌∙◌, ap, subst, arith}
 use Rattle.std.specs.List.{list_any}
 use denote.Enum.Bare.{sameb}
-use Rattle.crs_text.specs.Items.{Item, leaf, node, Items, End, More, arguments}
+use Rattle.crs_text.specs.Items.{Item, leaf, node, Siblings, End, More, arguments}
 use Rattle.crs_shape.specs.contracts.class.Class.{the_type}
 use Rattle.crs_shape.specs.declared.class.Class.{Class}
 use Rattle.crs_shape.specs.declared.class.Class.TheVariants as class
@@ -98,7 +98,7 @@ unit-of : PlainIsOne → (level : Level) (c : Class) (item : Item) → Kept leve
     length front ≤ 1 → (ds : List Class) → Each IsUnitIn ds →
     Each (λ d. those c d (arguments item) ≡ those c d (onto front End)) ds → Each (IsAmong c ds) front →
     (unit : Option UnitParts) → ReadsUnitOf ds c item unit →
-    (rest : Items) → flats_onto front rest ≡ opt item_unit (norm_units level kinds.Plain unit) rest
+    (rest : Siblings) → flats_onto front rest ≡ opt item_unit (norm_units level kinds.Plain unit) rest
 unit-of law level c item k (i ∷ j ∷ more) few ds units found among unit reads rest = absurd (omega arith)
 unit-of law level c item k [] few [] units found among None reads rest = refl
 unit-of law level c item k [] few [] units found among (Some u) reads rest = absurd reads

@@ -2,7 +2,7 @@
 use Rattle.std.proofs.Common.{◌≡◌, ◌≢◌, drop, Option, Some, None, List, [], ◌∷◌, refl, ◌∙◌, ap, subst}
 use Rattle.std.specs.Option.{option_map}
 use Rattle.crs_decimal.specs.Value.{Value}
-use Rattle.crs_text.specs.Items.{Item, Items, More}
+use Rattle.crs_text.specs.Items.{Item, Siblings, More}
 use Rattle.crs_shape.specs.declared.class.Class.{Class}
 use Rattle.crs_shape.specs.declared.class.Class.TheVariants as class
 use Rattle.crs_value.specs.Reading.{ReadsFirst, ReadsOptional}
@@ -27,7 +27,7 @@ pub two-spelled : PlainIsOne → (level : Level) (c : Class) → ArePlain c → 
     Each (IsGood level c class.Number) found →
     found ≡ and_then f g → Alone f → Alone g → (x y : Value) → ReadsFirst ReadsNumber (drop 0 found) x →
     ReadsFirst ReadsNumber (drop 1 found) y →
-    (rest after : Items) → rest ≡ after →
+    (rest after : Siblings) → rest ≡ after →
     flats_onto f (flats_onto g rest) ≡ More (number_item x) (More (number_item y) after)
 two-spelled law level c plains found f g good e p q x y a b rest after same =
     let are : found ≡ p.0 ∷ q.0 ∷ [] = e ∙ ap (λ xs. and_then xs g) p.1 ∙ ap (and_then (p.0 ∷ [])) q.1 in
@@ -39,7 +39,7 @@ two-spelled law level c plains found f g good e p q x y a b rest after same =
     ap (λ xs. flats_onto xs (flats_onto g rest)) p.1 ∙ ap (λ xs. More (flat p.0) (flats_onto xs rest)) q.1
     ∙ joined first second same
   where
-    joined : {i j k l : Item} {m n : Items} → i ≡ j → k ≡ l → m ≡ n → More i (More k m) ≡ More j (More l n)
+    joined : {i j k l : Item} {m n : Siblings} → i ≡ j → k ≡ l → m ≡ n → More i (More k m) ≡ More j (More l n)
     joined h k l = cc
 
 -- four numbers likewise
@@ -48,7 +48,7 @@ pub four-spelled : PlainIsOne → (level : Level) (c : Class) → ArePlain c →
     found ≡ and_then f (and_then g (and_then h k)) → Alone f → Alone g → Alone h → Alone k → (x y z w : Value) →
     ReadsFirst ReadsNumber (drop 0 found) x → ReadsFirst ReadsNumber (drop 1 found) y →
     ReadsFirst ReadsNumber (drop 2 found) z → ReadsFirst ReadsNumber (drop 3 found) w →
-    (rest after : Items) → rest ≡ after →
+    (rest after : Siblings) → rest ≡ after →
     flats_onto f (flats_onto g (flats_onto h (flats_onto k rest))) ≡ More (number_item x)
     (More (number_item y) (More (number_item z) (More (number_item w) after)))
 four-spelled law level c plains found f g h k good e p q r s x y z w a b d t rest after same =
@@ -72,25 +72,25 @@ four-spelled law level c plains found f g h k good e p q r s x y z w a b d t res
     ∙ ap (λ xs. More (flat p.0) (More (flat q.0) (More (flat r.0) (flats_onto xs rest)))) s.1
     ∙ joined first second third fourth same
   where
-    joined : {i j k l i' j' k' l' : Item} {m n : Items} → i ≡ i' → j ≡ j' → k ≡ k' → l ≡ l' → m ≡ n →
+    joined : {i j k l i' j' k' l' : Item} {m n : Siblings} → i ≡ i' → j ≡ j' → k ≡ k' → l ≡ l' → m ≡ n →
         More i (More j (More k (More l m))) ≡ More i' (More j' (More k' (More l' n)))
     joined a b c d e = cc
 
 -- ---- optional parts in their normal form
 
-pub opt-units : (level : Level) (asked : UnitKind) (unit : Option UnitParts) (rest : Items) →
+pub opt-units : (level : Level) (asked : UnitKind) (unit : Option UnitParts) (rest : Siblings) →
     opt (λ u. item_unit (norm_unit level asked u)) unit rest ≡ opt item_unit (norm_units level asked unit) rest
 opt-units level asked None rest = refl
 opt-units level asked (Some u) rest = refl
 
-pub opt-mapped : {V W : Type 0} (spell : W → Item) (norm : V → W) (value : Option V) (rest : Items) →
+pub opt-mapped : {V W : Type 0} (spell : W → Item) (norm : V → W) (value : Option V) (rest : Siblings) →
     opt (λ v. spell (norm v)) value rest ≡ opt spell (option_map norm value) rest
 opt-mapped spell norm None rest = refl
 opt-mapped spell norm (Some v) rest = refl
 
 -- a unit of length that is there
 pub opt-length : (R : Item → UnitParts → Type 0) (level : Level) (found : List Item) (unit : Option UnitParts) →
-    found ≢ [] → ReadsOptional R found unit → (rest : Items) →
+    found ≢ [] → ReadsOptional R found unit → (rest : Siblings) →
     opt (λ u. item_unit (norm_unit level kinds.Length u)) unit rest ≡ More (item_unit (norm_length level unit)) rest
 opt-length R level [] None some reads rest = absurd (some refl)
 opt-length R level [] (Some u) some reads rest = absurd reads

@@ -3,7 +3,7 @@
 -- sets they have one form.
 use Rattle.std.proofs.Common.{◌≡◌, ◌↔◌, ℕ, ◌+◌, Bool, true, false, codes, IfSome, Option, Some, None, List, [], ◌∷◌, refl, sym, ◌∙◌, ap, subst, arith}
 use Rattle.crs_decimal.specs.Value.{Value}
-use Rattle.crs_text.specs.Items.{Item, Items, End, More}
+use Rattle.crs_text.specs.Items.{Item, Siblings, End, More}
 use Rattle.crs_text.specs.Written.{at_place, at_places, item_text}
 use Rattle.crs_shape.specs.declared.class.Class.{Class}
 use Rattle.crs_shape.specs.declared.class.Class.TheVariants as class
@@ -36,13 +36,13 @@ parameter-names : NamesId class.Parameter
 unfolding class_named is_keyword
 parameter-names = refl
 
-abbrev parameter-items : List ℕ → Value → Items → Items
+abbrev parameter-items : List ℕ → Value → Siblings → Siblings
 parameter-items name value rest = More (text_item name) (More (number_item value) rest)
 
 -- what is said of those behind the number holds of all arguments
 behind-value : (d : Class) → is_class d (Some class.Text) ≡ false → is_class d (Some class.Number) ≡ false →
     (P : List Item → Type 0) →
-    (name : List ℕ) (value : Value) (rest : Items) → Gives class.Parameter d P rest → Gives class.Parameter d P
+    (name : List ℕ) (value : Value) (rest : Siblings) → Gives class.Parameter d P rest → Gives class.Parameter d P
     (parameter-items name value rest)
 behind-value d t n P name value rest g =
     gives-over class.Parameter d P (text_item name) (More (number_item value) rest) (λ place. t)
@@ -88,13 +88,13 @@ parameter-ids p s =
     (λ l. ReadsEach (ReadsIdent class.Identifier) l p.ids) p.unit
     (each item_ident p.ids End) (ids-read class.Parameter parameter-names p.ids s))
 
-else-over : (d : Class) (Other : Option UnitParts → Type 0) (o : Option UnitParts) (items : Items) →
+else-over : (d : Class) (Other : Option UnitParts → Type 0) (o : Option UnitParts) (items : Siblings) →
     Lacks class.Parameter d items → Other o →
     (start : ℕ) → ReadsElse (ReadsAsUnit d) (those class.Parameter d (at_places start items)) Other o
 else-over d Other o items g h start = subst (λ l. ReadsElse (ReadsAsUnit d) l Other o) (sym (g start)) h
 
 module _ (laws : TextLaws) (name : List ℕ) (value : Value) (ids : List IdentParts) where
-  abbrev with-unit : Option UnitParts → Items
+  abbrev with-unit : Option UnitParts → Siblings
   with-unit o = parameter-items name value (opt item_unit o (each item_ident ids End))
 
   no-unit : (d : Class) → is_class d (Some class.Text) ≡ false → is_class d (Some class.Number) ≡ false →

@@ -1,7 +1,7 @@
 -- Values of one kind: from what stands of their one form and its item, what their spellings keep.
 use Rattle.std.proofs.Common.{◌≡◌, ◌↔◌, ◌≤◌, ◌∙◌, ℕ, Some, List, sym, ap, subst, arith}
 use Rattle.crs_text.specs.Items.{Item, IsNode, depth}
-use Rattle.crs_text.specs.Refusal.{Refused}
+use Rattle.crs_text.specs.Refusal.{RefusedAt}
 use Rattle.crs_text.specs.TextFault.{SpellsNode}
 use Rattle.crs_text.specs.Written.{AreFormed, at_place, item_text}
 use Rattle.crs_shape.specs.declared.class.Class.{Class}
@@ -34,7 +34,7 @@ pub record IsStanding (c : Class) (N : Item → Type 0) (item : Item) : Type 0 w
   pub formed : AreFormed item
   pub within : depth item ≤ 8
   pub shaped : Shaped c item
-  pub unbroken : (fault : Refused) → ¬ (Breaks c item fault)
+  pub unbroken : (fault : RefusedAt) → ¬ (Breaks c item fault)
   pub normal : N item
 
 pub made-stands : (level : Level) (c : Class) (n : ℕ) (item : Item) → n ≤ 8 → IsMade level c n item →

@@ -2,7 +2,7 @@
 -- and the remark, one sort after the other.
 use Rattle.std.proofs.Common.{◌≡◌, ℕ, ◌≤◌, ◌||◌, Bool, true, false, inl, inr, ◌⊎◌, Option, Some, None, List, [], ◌∷◌, ◌++◌, if◌then◌else◌, refl, sym, ◌∙◌, ap, subst, arith}
 use denote.Enum.Bare.{sameb}
-use Rattle.crs_text.specs.Items.{Item, Items, End, More}
+use Rattle.crs_text.specs.Items.{Item, Siblings, End, More}
 use Rattle.crs_shape.specs.contracts.class.Class.{the_type}
 use Rattle.crs_shape.specs.declared.class.Class.{Class}
 use Rattle.crs_shape.specs.declared.class.Class.TheVariants as class
@@ -15,7 +15,7 @@ use Rattle.crs_normal.proofs.ViewLemmas.{InSlot, onto, same_class}
 
 -- ---- ranks rise behind the first arguments too
 
-pub rise-behind : (c : Class) (least : ℕ) (front : List Item) (rest : Items) → Rise c least (onto front rest) →
+pub rise-behind : (c : Class) (least : ℕ) (front : List Item) (rest : Siblings) → Rise c least (onto front rest) →
     (m : ℕ) × Rise c m rest
 rise-behind c least [] rest rise = (least, rise)
 rise-behind c least (item ∷ items) rest rise = by (class_in c item) (λ k h. rise-behind c k items rest h) rise
@@ -96,7 +96,7 @@ pub record Split (c : Class) (m : ℕ) (front : List Item) : Type 0 where
   pub no_usage : 3 ≤ m → usages ≡ []
   pub no_id : 4 ≤ m → ids ≡ []
 
-rise-as : (c : Class) (m : ℕ) (item : Item) (rest : Items) (d : Class) → class_in c item ≡ Some d →
+rise-as : (c : Class) (m : ℕ) (item : Item) (rest : Siblings) (d : Class) → class_in c item ≡ Some d →
     Rise c m (More item rest) → (m ≤ rank d) × Rise c (rank d) rest
 rise-as c m item rest d named rise =
     subst (λ (o : Option Class). AtClass o (λ x. (m ≤ rank x) × Rise c (rank x) rest)) named rise

@@ -1,6 +1,6 @@
 -- Compound CRSs, and with them all CRSs, in their one form are read back from their items.
 use Rattle.std.proofs.Common.{◌≡◌, ℕ, ◌+◌, Bool, true, false, Some, List, [], ◌∷◌, refl, sym, ◌∙◌, ap, subst, if◌then◌else◌}
-use Rattle.crs_text.specs.Items.{Item, Items, More, End}
+use Rattle.crs_text.specs.Items.{Item, Siblings, More, End}
 use Rattle.crs_text.specs.Written.{at_place, at_places}
 use Rattle.crs_shape.specs.declared.class.Class.{Class}
 use Rattle.crs_shape.specs.declared.class.Class.TheVariants as class
@@ -118,7 +118,7 @@ module _ (laws : TextLaws) (lower : LowerLaws) (level : Level) (k : CompoundPart
   abbrev behind : List (Segment compound)
   behind = vertical-segment ∷ compound-tail
 
-  abbrev arguments-with : Horizontal → Items
+  abbrev arguments-with : Horizontal → Siblings
   arguments-with h =
       lay compound (name-segment compound k.name ∷ [])
       (More (item_horizontal (norm_horizontal level h)) (lay compound behind End))

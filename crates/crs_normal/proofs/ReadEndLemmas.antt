@@ -1,6 +1,6 @@
 -- Frames, systems and ends of CRSs are read back from the arguments of a CRS, and conversions from their items.
 use Rattle.std.proofs.Common.{◌≡◌, ℕ, ◌+◌, codes, Some, None, List, [], ◌∷◌, length, refl, sym, subst}
-use Rattle.crs_text.specs.Items.{Item, Items, End, More, IsNode, arguments}
+use Rattle.crs_text.specs.Items.{Item, Siblings, End, More, IsNode, arguments}
 use Rattle.crs_text.specs.Written.{at_places, item_text}
 use Rattle.crs_shape.specs.declared.class.Class.{Class}
 use Rattle.crs_shape.specs.declared.class.Class.TheVariants as class
@@ -103,7 +103,7 @@ geoids-back level gs s =
 
 -- ---- ends of CRSs
 
-from-in : (c k : Class) (keyword : List ℕ) → class_named c keyword ≡ Some k → (items : Items) →
+from-in : (c k : Class) (keyword : List ℕ) → class_named c keyword ≡ Some k → (items : Siblings) →
     IsNode (node_from keyword items) → IsIn c k (node_from keyword items)
 from-in c k keyword e End n = absurd n
 from-in c k keyword e (More first others) n = λ place. e
@@ -210,7 +210,7 @@ module _ (laws : TextLaws) (c : Class) (heads : class_named c (codes "CS") ≡ S
   abbrev pub axes-segment : Segment c
   axes-segment = each-segment c class.Axis item_axis all-axes axes-in
 
-  abbrev laid : List (Segment c) → List (Segment c) → Items
+  abbrev laid : List (Segment c) → List (Segment c) → Siblings
   laid before after = lay c before (system_items (norm_system level y) (lay c after End))
 
   pub system-read : (before after : List (Segment c)) (item : Item) (start : ℕ) →

@@ -1,7 +1,7 @@
 -- Arguments as segments, each of which is of a few classes: what is read of one segment is read of all the arguments.
 use Rattle.std.proofs.Common.{◌≡◌, ℕ, ◌+◌, Bool, true, false, if◌then◌else◌, IfSome, Option, Some, None, List, [], ◌∷◌, length, refl, sym, ◌∙◌, ap, subst, map, true≢false}
 use Rattle.std.specs.Option.{option_map}
-use Rattle.crs_text.specs.Items.{Item, Items, End, More}
+use Rattle.crs_text.specs.Items.{Item, Siblings, End, More}
 use Rattle.crs_text.specs.Written.{at_place, at_places, item_text}
 use Rattle.crs_shape.specs.declared.class.Class.{Class}
 use Rattle.crs_shape.specs.ShapeFault.{class_in}
@@ -62,14 +62,14 @@ set-kept norm bytes P Q f xs p = each-in_order bytes Q (map norm xs) (each-mappe
 
 module _ (c : Class) where
   -- the items from `start` on are as those of the rest, from some place on
-  abbrev pub Passes : Class → (Items → Items) → Type 0
+  abbrev pub Passes : Class → (Siblings → Siblings) → Type 0
   Passes d onto =
-      (rest : Items) (start : ℕ) → (next : ℕ) × (those c d (at_places start (onto rest)) ≡ those c d (at_places next rest))
+      (rest : Siblings) (start : ℕ) → (next : ℕ) × (those c d (at_places start (onto rest)) ≡ those c d (at_places next rest))
 
   -- items before others, with the classes among which theirs are
   pub record Segment : Type 0 where
     pub covers : Class → Bool
-    pub onto : Items → Items
+    pub onto : Siblings → Siblings
     pub passes : (d : Class) → covers d ≡ false → Passes d onto
 
   pub pass-item : (d k : Class) (item : Item) → IsIn c k item → is_class d (Some k) ≡ false → Passes d (More item)
@@ -117,7 +117,7 @@ module _ (c : Class) where
   }
 
   -- segments one behind the other
-  abbrev pub lay : List Segment → Items → Items
+  abbrev pub lay : List Segment → Siblings → Siblings
   lay [] rest = rest
   lay (s ∷ ss) rest = s.onto (lay ss rest)
 
@@ -133,7 +133,7 @@ module _ (c : Class) where
   pass-parts true y e = absurd (true≢false (sym e))
   pass-parts false y e = (refl, e)
 
-  pub past : (d : Class) (P : List Item → Type 0) (ss : List Segment) (rest : Items) → AllPass d ss → Gives c d P rest →
+  pub past : (d : Class) (P : List Item → Type 0) (ss : List Segment) (rest : Siblings) → AllPass d ss → Gives c d P rest →
       Gives c d P (lay ss rest)
   past d P [] rest a g = g
   past d P (s ∷ ss) rest a g = λ start.

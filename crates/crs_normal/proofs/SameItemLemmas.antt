@@ -1,6 +1,6 @@
 -- Items that are the same item when they are written are equal but for places and delimiters.
 use Rattle.std.proofs.Common.{◌≡◌, ◌≤◌, ℕ, ◌+◌, Bool, true, false, true≢false, length, refl, ap, sym, ◌∙◌}
-use Rattle.crs_text.specs.Items.{Item, leaf, node, Items, End, More, IsNode, arguments, depth, first_of, raw_of, rest_of}
+use Rattle.crs_text.specs.Items.{Item, leaf, node, Siblings, End, More, IsNode, arguments, depth, first_of, raw_of, rest_of}
 use Rattle.crs_text.specs.Tokens.{Kind, word}
 use Rattle.crs_text.specs.Written.{AreFormed, SameItem, SameItems, at_place, at_places, item_text}
 use Rattle.crs_normal.specs.Flat.{flat, flats}
@@ -16,7 +16,7 @@ abbrev is-leaf : Item → Bool
 is-leaf (leaf kind place raw) = true
 is-leaf (node place keyword square first others close) = false
 
-abbrev is-end : Items → Bool
+abbrev is-end : Siblings → Bool
 is-end End = true
 is-end (More item items) = false
 
@@ -35,7 +35,7 @@ mutual
         (ap (λ x. rest_of (arguments x)) e),
   )
 
-  all-same-placed : (is js : Items) (p q : ℕ) → at_places p is ≡ at_places q js → SameItems is js
+  all-same-placed : (is js : Siblings) (p q : ℕ) → at_places p is ≡ at_places q js → SameItems is js
   all-same-placed End End p q e = tt
   all-same-placed End (More j js) p q e = absurd (true≢false (ap is-end e))
   all-same-placed (More i is) End p q e = absurd (true≢false (ap is-end (sym e)))
@@ -52,7 +52,7 @@ mutual
       let o = flats-placed (p + length keyword + 1 + length (item_text first)) others in λ k. node 0 keyword true (f k)
       (o k) 0
 
-  flats-placed : (p : ℕ) (is : Items) → flats (at_places p is) ≡ flats is
+  flats-placed : (p : ℕ) (is : Siblings) → flats (at_places p is) ≡ flats is
   flats-placed p End = refl
   flats-placed p (More i is) =
       let f = flat-placed (p + 1) i in

@@ -3,7 +3,7 @@ use Rattle.std.proofs.Common.{◌≡◌, ℕ, suc, ◌+◌, ◌^◌, ◌≤◌, 
 use Rattle.std.specs.Str.{bytes_eq}
 use Rattle.std.proofs.lemmas.Fmt.{decimal_injective}
 use Rattle.std.proofs.lemmas.Slice.Eq.{bytes_eq-Decides}
-use Rattle.crs_text.specs.Items.{Item, leaf, node, Items, End, More, arguments}
+use Rattle.crs_text.specs.Items.{Item, leaf, node, Siblings, End, More, arguments}
 use Rattle.crs_shape.specs.declared.class.Class.{Class}
 use Rattle.crs_shape.specs.declared.class.Class.TheVariants as class
 use Rattle.crs_shape.specs.Slots.{slots_of}
@@ -32,7 +32,7 @@ AllNumbered k [] = Unit {0}
 AllNumbered k (axis ∷ axes) = IsNumbered k axis × AllNumbered (k + 1) axes
 
 record AreAxes (level : Level) (system : SystemParts) (k : ℕ) (axes : List AxisParts) (items : List Item)
-    (rest : Items) : Type 0 where
+    (rest : Siblings) : Type 0 where
   spelled : flats_onto items rest ≡ each item_axis (numbered level system k axes) rest
   numbered_so : AllNumbered k axes
 
@@ -40,7 +40,7 @@ axes-read : PlainIsOne →
     (level : Level) (c : Class) (system : SystemParts) (k : ℕ) (items : List Item) (axes : List AxisParts) →
     Each (IsGood level c class.Axis) items →
     AreOrdered k items → Each (Has class.Axis class.AxisUnit) items → ReadsEach (ReadsAxis class.Axis) items axes →
-    (rest : Items) → AreAxes level system k axes items rest
+    (rest : Siblings) → AreAxes level system k axes items rest
 axes-read law level c system k [] [] good ordered own reads rest = record { spelled = refl; numbered_so = tt }
 axes-read law level c system k [] (x ∷ xs) good ordered own reads rest = absurd reads
 axes-read law level c system k (i ∷ is) [] good ordered own reads rest = absurd reads
@@ -167,7 +167,7 @@ pub system-spelled : PlainIsOne → (level : Level) (c : Class) (item : Item) �
     those c class.CoordinateSystem (arguments item) ≡ heads → length heads ≤ 1 →
     those c class.Axis (arguments item) ≡ axes →
     those c class.AxisUnit (arguments item) ≡ units → (x : SystemParts) → ReadsSystem c item x →
-    length x.axes + 1 < 2 ^ 64 → (rest after : Items) → rest ≡ after →
+    length x.axes + 1 < 2 ^ 64 → (rest after : Siblings) → rest ≡ after →
     flats_onto heads (flats_onto axes (flats_onto units rest)) ≡ system_items (norm_system level x) after
 system-spelled law level c item k has heads axes units e few f g x reads within rest after same =
     let items = arguments item in

@@ -1,6 +1,6 @@
 -- The end of a normal CRS is the one form of its value.
 use Rattle.std.proofs.Common.{◌≡◌, ℕ, ◌≤◌, length, Bool, true, false, inl, inr, IsSome, Option, Some, None, List, [], ◌∷◌, ◌++◌, if◌then◌else◌, codes, refl, sym, ◌∙◌, ap}
-use Rattle.crs_text.specs.Items.{Item, Items, End, More, arguments}
+use Rattle.crs_text.specs.Items.{Item, Siblings, End, More, arguments}
 use Rattle.crs_shape.specs.declared.class.Class.{Class}
 use Rattle.crs_shape.specs.declared.class.Class.TheVariants as class
 use Rattle.crs_shape.specs.ShapeFault.{class_in}
@@ -31,7 +31,7 @@ use Rattle.crs_normal.proofs.ViewLemmas.{each-so, flats_onto, onto}
 
 -- ---- a front of several sorts
 
-flats-joined : (a b : List Item) (rest : Items) → flats_onto (a ++ b) rest ≡ flats_onto a (flats_onto b rest)
+flats-joined : (a b : List Item) (rest : Siblings) → flats_onto (a ++ b) rest ≡ flats_onto a (flats_onto b rest)
 flats-joined [] b rest = refl
 flats-joined (x ∷ xs) b rest = ap (More (flat x)) (flats-joined xs b rest)
 

@@ -1,6 +1,6 @@
 -- Normal units and lists of identifiers are the one form of their values.
 use Rattle.std.proofs.Common.{◌≡◌, ℕ, map, inl, inr, List, [], ◌∷◌, refl, sym, ◌∙◌, ap, subst}
-use Rattle.crs_text.specs.Items.{Item, leaf, node, Items, End, More}
+use Rattle.crs_text.specs.Items.{Item, leaf, node, Siblings, End, More}
 use Rattle.crs_text.specs.Written.{item_text}
 use Rattle.crs_shape.specs.declared.class.Class.{Class}
 use Rattle.crs_shape.specs.declared.class.Class.TheVariants as class
@@ -31,23 +31,23 @@ map-same [] = refl
 map-same (x ∷ xs) = ap (λ ys. x ∷ ys) (map-same xs)
 
 -- the identifiers in a slot
-pub idents-found-spelled : (level : Level) (c : Class) (items : Items) (front : List Item) →
+pub idents-found-spelled : (level : Level) (c : Class) (items : Siblings) (front : List Item) →
     Each (IsGood level c class.Identifier) (those c class.Identifier items) →
     those c class.Identifier items ≡ front →
     Ascend (those c class.Identifier items) → (ids : List IdentParts) →
     ReadsEach (ReadsIdent class.Identifier) (those c class.Identifier items) ids →
-    (rest after : Items) → rest ≡ after → flats_onto front rest ≡ each item_ident (set_idents level ids) after
+    (rest after : Siblings) → rest ≡ after → flats_onto front rest ≡ each item_ident (set_idents level ids) after
 unfolding set_idents
 idents-found-spelled levels.Full c items front good e up ids reads rest after f =
     set-spelled levels.Full c class.Identifier (ReadsIdent class.Identifier) item_ident (λ x. x)
     (ident-form levels.Full c) (those c class.Identifier items) front good e up ids reads rest after f
     ∙ ap (λ xs. each item_ident (in_order (λ i. item_text (item_ident i)) xs) after) (map-same ids)
 
-pub idents-spelled : (level : Level) (c : Class) (items : Items) (front : List Item) → Kept level c items →
+pub idents-spelled : (level : Level) (c : Class) (items : Siblings) (front : List Item) → Kept level c items →
     those c class.Identifier items ≡ front →
     Ascend (those c class.Identifier items) → (ids : List IdentParts) →
     ReadsEach (ReadsIdent class.Identifier) (those c class.Identifier items) ids →
-    (rest after : Items) → rest ≡ after → flats_onto front rest ≡ each item_ident (set_idents level ids) after
+    (rest after : Siblings) → rest ≡ after → flats_onto front rest ≡ each item_ident (set_idents level ids) after
 idents-spelled level c items front k = idents-found-spelled level c items front (kept-good level c class.Identifier items k)
 
 -- the identifiers of a normal node are in order

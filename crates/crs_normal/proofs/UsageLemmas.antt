@@ -1,6 +1,6 @@
 -- Usages: the item of one reads as it wherever it stands, and as sets they have one form.
 use Rattle.std.proofs.Common.{◌≡◌, ◌↔◌, ◌⊎◌, ℕ, suc, ◌+◌, Bool, true, false, true≢false, codes, IfSome, IsSome, Option, Some, None, option_map, List, [], inl, inr, length, refl, sym, ◌∙◌, ap, subst, arith}
-use Rattle.crs_text.specs.Items.{Item, Items, End, More, IsNode, arguments}
+use Rattle.crs_text.specs.Items.{Item, Siblings, End, More, IsNode, arguments}
 use Rattle.crs_text.specs.Tokens.{IsWord}
 use Rattle.crs_text.specs.Written.{at_place, item_text}
 use Rattle.crs_shape.specs.declared.class.Class.{Class}
@@ -35,16 +35,16 @@ pub record IsWrittenUsage (u : UsageParts) : Type 0 where
 
 -- ---- the parts, one behind the other
 
-abbrev from-extent : UsageParts → Items
+abbrev from-extent : UsageParts → Siblings
 from-extent u = opt item_extent u.extent End
 
-abbrev from-bbox : UsageParts → Items
+abbrev from-bbox : UsageParts → Siblings
 from-bbox u = opt item_box u.bbox (from-extent u)
 
-abbrev from-area : UsageParts → Items
+abbrev from-area : UsageParts → Siblings
 from-area u = opt (text_node (codes "AREA")) u.area (from-bbox u)
 
-abbrev from-scope : UsageParts → Items
+abbrev from-scope : UsageParts → Siblings
 from-scope u = opt (text_node (codes "SCOPE")) u.scope (from-area u)
 
 scope-named : class_named class.Usage (codes "SCOPE") ≡ Some class.Scope
@@ -151,7 +151,7 @@ module _ (laws : TextLaws) (u : UsageParts) (s : IsWrittenUsage u) where
 
 -- ---- well formed
 
-from-fit : (n : ℕ) (keyword : List ℕ) (items : Items) → IsWord keyword → AreFit n items →
+from-fit : (n : ℕ) (keyword : List ℕ) (items : Siblings) → IsWord keyword → AreFit n items →
     IsFit (suc n) (node_from keyword items)
 from-fit n keyword End w g = (w, omega arith)
 from-fit n keyword (More first others) w g =

@@ -2,7 +2,7 @@
 use Rattle.std.proofs.Common.{◌≡◌, suc, ◌≤◌, ◌||◌, length, Bool, true, false, IsTrue, IsFalse, Some, List, [], ◌∷◌, ◌++◌, if◌then◌else◌, refl, sym, ◌∙◌, ap, subst, arith, rules}
 use Rattle.std.specs.List.{list_any}
 use denote.Enum.Bare.{sameb, same_true}
-use Rattle.crs_text.specs.Items.{Item, Items, End, More}
+use Rattle.crs_text.specs.Items.{Item, Siblings, End, More}
 use Rattle.crs_shape.specs.contracts.class.Class.{the_type}
 use Rattle.crs_shape.specs.declared.class.Class.{Class}
 use Rattle.crs_shape.specs.Shape.{AllTaken, Fills, Fit, joined, Allowed}
@@ -14,15 +14,15 @@ use Rattle.crs_normal.specs.Flat.{flat, flats}
 use Rattle.crs_normal.specs.NormalOwn.{Each}
 
 -- these items, and others behind them
-abbrev pub onto : List Item → Items → Items
+abbrev pub onto : List Item → Siblings → Siblings
 onto [] rest = rest
 onto (item ∷ items) rest = More item (onto items rest)
 
-abbrev pub flats_onto : List Item → Items → Items
+abbrev pub flats_onto : List Item → Siblings → Siblings
 flats_onto [] rest = rest
 flats_onto (item ∷ items) rest = More (flat item) (flats_onto items rest)
 
-pub flats-onto : (front : List Item) (rest : Items) → flats (onto front rest) ≡ flats_onto front (flats rest)
+pub flats-onto : (front : List Item) (rest : Siblings) → flats (onto front rest) ≡ flats_onto front (flats rest)
 flats-onto [] rest = refl
 flats-onto (item ∷ items) rest = ap (More (flat item)) (flats-onto items rest)
 
@@ -40,21 +40,21 @@ pub record Front (c : Class) (slot : SlotParts) (front : List Item) : Type 0 whe
   pub not_more : IsFalse slot.many → length front ≤ 1
 
 -- the items in each slot
-abbrev pub View : Class → List SlotParts → Items → Type 0
+abbrev pub View : Class → List SlotParts → Siblings → Type 0
 View c [] items = items ≡ End
 View c (slot ∷ slots) items =
-    (front : List Item) × ((rest : Items) × (Front c slot front × ((items ≡ onto front rest) × View c slots rest)))
+    (front : List Item) × ((rest : Siblings) × (Front c slot front × ((items ≡ onto front rest) × View c slots rest)))
 
 -- the items of a run of classes, and those behind
-record Run (c : Class) (slot : SlotParts) (run after : List Class) (items : Items) : Type 0 where
+record Run (c : Class) (slot : SlotParts) (run after : List Class) (items : Siblings) : Type 0 where
   front : List Item
-  rest : Items
+  rest : Siblings
   are : items ≡ onto front rest
   inside : Each (InSlot c slot) front
   many : length front ≡ length run
   shaped : AreShaped c after rest
 
-cut : (c : Class) (slot : SlotParts) (run after : List Class) (items : Items) → AllTaken slot run →
+cut : (c : Class) (slot : SlotParts) (run after : List Class) (items : Siblings) → AllTaken slot run →
     AreShaped c (run ++ after) items →
     Run c slot run after items
 cut c slot [] after items taken shaped =
@@ -71,11 +71,11 @@ cut c slot (d ∷ run) after (More item items) taken shaped =
       shaped = r.shaped;
     }
 
-none-left : (c : Class) (items : Items) → AreShaped c [] items → items ≡ End
+none-left : (c : Class) (items : Siblings) → AreShaped c [] items → items ≡ End
 none-left c End shaped = refl
 none-left c (More item items) shaped = absurd shaped
 
-view-of : (c : Class) (slots : List SlotParts) (runs : List (List Class)) (items : Items) → Fit slots runs →
+view-of : (c : Class) (slots : List SlotParts) (runs : List (List Class)) (items : Siblings) → Fit slots runs →
     AreShaped c (joined runs) items → View c slots items
 view-of c [] [] items fit shaped = none-left c items shaped
 view-of c [] (run ∷ runs) items fit shaped = absurd fit
@@ -92,7 +92,7 @@ view-of c (slot ∷ slots) (run ∷ runs) items fit shaped =
       not_more = λ e. let h = fills.not_more e in let m = r.many in omega arith;
     }
 
-pub view : (c : Class) (classes : List Class) (items : Items) → Allowed (slots_of c) classes →
+pub view : (c : Class) (classes : List Class) (items : Siblings) → Allowed (slots_of c) classes →
     AreShaped c classes items →
     View c (slots_of c) items
 view c classes items allowed shaped =
@@ -101,21 +101,21 @@ view c classes items allowed shaped =
 
 -- ---- all slots, written one after another
 
-abbrev pub spread : (c : Class) (slots : List SlotParts) (items : Items) → View c slots items → Items
+abbrev pub spread : (c : Class) (slots : List SlotParts) (items : Siblings) → View c slots items → Siblings
 spread c [] items v = End
 spread c (slot ∷ slots) items v = flats_onto v.0 (spread c slots v.1.0 v.1.1.1.1)
 
-pub flats-spread : (c : Class) (slots : List SlotParts) (items : Items) (v : View c slots items) →
+pub flats-spread : (c : Class) (slots : List SlotParts) (items : Siblings) (v : View c slots items) →
     flats items ≡ spread c slots items v
 flats-spread c [] items v = ap flats v
 flats-spread c (slot ∷ slots) items v =
     ap flats v.1.1.1.0 ∙ flats-onto v.0 v.1.0 ∙ ap (flats_onto v.0) (flats-spread c slots v.1.0 v.1.1.1.1)
 
-abbrev pub rebuilt : (c : Class) (slots : List SlotParts) (items : Items) → View c slots items → Items
+abbrev pub rebuilt : (c : Class) (slots : List SlotParts) (items : Siblings) → View c slots items → Siblings
 rebuilt c [] items v = End
 rebuilt c (slot ∷ slots) items v = onto v.0 (rebuilt c slots v.1.0 v.1.1.1.1)
 
-pub items-rebuilt : (c : Class) (slots : List SlotParts) (items : Items) (v : View c slots items) →
+pub items-rebuilt : (c : Class) (slots : List SlotParts) (items : Siblings) (v : View c slots items) →
     items ≡ rebuilt c slots items v
 items-rebuilt c [] items v = v
 items-rebuilt c (slot ∷ slots) items v = v.1.1.1.0 ∙ ap (onto v.0) (items-rebuilt c slots v.1.0 v.1.1.1.1)
@@ -134,7 +134,7 @@ chosen c d others front = those c d (onto front End)
 abbrev pub picked : Class → Class → SlotParts → List Item → List Item → List Item
 picked c d slot front rest = if takes slot d then and_then (chosen c d slot.classes front) rest else rest
 
-abbrev pub looked : (c d : Class) (slots : List SlotParts) (items : Items) → View c slots items → List Item
+abbrev pub looked : (c d : Class) (slots : List SlotParts) (items : Siblings) → View c slots items → List Item
 looked c d [] items v = []
 looked c d (slot ∷ slots) items v = picked c d slot v.0 (looked c d slots v.1.0 v.1.1.1.1)
 
@@ -146,7 +146,7 @@ and_then-is : (front rest : List Item) → front ++ rest ≡ and_then front rest
 and_then-is front [] = nothing-behind front
 and_then-is front (item ∷ items) = refl
 
-those-split : (c d : Class) (front : List Item) (rest : Items) →
+those-split : (c d : Class) (front : List Item) (rest : Siblings) →
     those c d (onto front rest) ≡ those c d (onto front End) ++ those c d rest
 those-split c d [] rest = refl
 those-split c d (item ∷ items) rest =
@@ -214,7 +214,7 @@ those-chosen c d slot (k ∷ []) front e h f =
 those-chosen c d slot (k ∷ l ∷ ls) front e h f = refl
 
 -- what stands in a slot that doesn't take the class is none of those
-those-picked : (c d : Class) (slot : SlotParts) (front : List Item) (rest : Items) → Front c slot front →
+those-picked : (c d : Class) (slot : SlotParts) (front : List Item) (rest : Siblings) → Front c slot front →
     those c d (onto front rest) ≡ picked c d slot front (those c d rest)
 those-picked c d slot front rest f =
     those-split c d front rest
@@ -226,7 +226,7 @@ those-picked c d slot front rest f =
           (none-those c d front (each-so (InSlot c slot) (λ i. is_a c d i ≡ false) (not-of c d slot e) front f.inside))
     ] refl)
 
-pub those-looked : (c d : Class) (slots : List SlotParts) (items : Items) (v : View c slots items) →
+pub those-looked : (c d : Class) (slots : List SlotParts) (items : Siblings) (v : View c slots items) →
     those c d items ≡ looked c d slots items v
 those-looked c d [] items v = ap (those c d) v
 those-looked c d (slot ∷ slots) items v =

@@ -1,6 +1,6 @@
 -- Axes by themselves: normal, but that a unit may also be a normal `UNIT`, which is a kind of its own there.
 use Rattle.std.specs.Prelude.{◌≡◌, ◌⊎◌, ℕ, List}
-use Rattle.crs_text.specs.Items.{Item, leaf, node, Items, End, More}
+use Rattle.crs_text.specs.Items.{Item, leaf, node, Siblings, End, More}
 use Rattle.crs_shape.specs.declared.class.Class.{Class}
 use Rattle.crs_shape.specs.declared.class.Class.TheVariants as class
 use Rattle.crs_shape.specs.ShapeFault.{class_in}
@@ -18,7 +18,7 @@ abbrev pub IsNormalArgument : Level → Class → Item → Type 0
 IsNormalArgument level d item =
     IsNormalIn level class.Axis d item ⊎ ((d ≡ class.AxisUnit) × IsNormalIn level class.Axis class.PlainUnit item)
 
-abbrev pub AreNormalArguments : Level → Items → Type 0
+abbrev pub AreNormalArguments : Level → Siblings → Type 0
 AreNormalArguments level End = Unit {0}
 AreNormalArguments level (More item items) =
     AtClass (class_in class.Axis item) (λ d. IsNormalArgument level d item) × AreNormalArguments level items

@@ -4,7 +4,8 @@ use Rattle.std.specs.Prelude.{◌≡◌, ℕ, List}
 use Rattle.crs_normal.specs.Closed.{IsClosed}
 use Rattle.crs_normal.specs.Decides.{FormDecides}
 
-pub record IsCanonicalForm {V : Type 0} (IsValue : V → Type 0) (Same : V → V → Type 0) (IsSpelling : V → List ℕ → Type 0) (spelling : V → List ℕ) : Type 0 where
+pub record IsCanonicalForm {V : Type 0} (IsValue : V → Type 0) (Same : V → V → Type 0)
+    (IsSpelling : V → List ℕ → Type 0) (spelling : V → List ℕ) : Type 0 where
   -- it is the one spelling of the value
   pub spelled : (value : V) → IsValue value → IsSpelling value (spelling value)
   pub one : (value : V) (bytes : List ℕ) → IsValue value → IsSpelling value bytes → bytes ≡ spelling value

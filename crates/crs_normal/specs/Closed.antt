@@ -1,5 +1,6 @@
 -- Closed texts: a word, `[`, and all up to the `]` that first closes it, outside quotes.
-use Rattle.std.specs.Prelude.{◌≡◌, ℕ, zero, suc, ◌==◌, not, Bool, true, false, Option, Some, None, List, [], ◌∷◌, ◌++◌, if◌then◌else◌}
+use Rattle.std.specs.Prelude.{◌≡◌, ℕ, zero, suc, ◌==◌, not, Bool, true, false, Option, Some, None, List, [], ◌∷◌}
+use Rattle.std.specs.Prelude.{◌++◌, if◌then◌else◌}
 use Rattle.crs_text.specs.Tokens.{IsWord}
 
 -- behind a `]`: the rest where it closes the outermost `[`, else what is found within so many others

@@ -1,7 +1,7 @@
 -- What is normal, on the height VERTCRS["H",VDATUM["D"],CS[vertical,1],AXIS["h",up,ORDER[1],LENGTHUNIT["metre",1]]]
 -- and on items that differ from it in one point each.
 use Rattle.std.specs.Prelude.{ℕ, List, codes}
-use Rattle.crs_text.specs.Items.{Item, leaf, Items, End, More}
+use Rattle.crs_text.specs.Items.{Item, leaf, Siblings, End, More}
 use Rattle.crs_text.specs.Tokens.{number}
 use Rattle.crs_shape.specs.declared.class.Class.TheVariants as class
 use Rattle.crs_value.specs.declared.level.Level.TheVariants as levels
@@ -15,7 +15,7 @@ abbrev pub unit : List ℕ → List ℕ → Item
 unit keyword factor = node_of keyword (text_item (codes "metre")) (More (number_leaf factor) End)
 
 -- an axis with these further arguments
-abbrev pub axis : Items → Item
+abbrev pub axis : Siblings → Item
 axis others = node_of (codes "AXIS") (text_item (codes "h")) (More (word_item (codes "up")) others)
 
 abbrev pub order : List ℕ → Item
@@ -28,7 +28,7 @@ abbrev pub ident : Item → Item
 ident code = node_of (codes "ID") (text_item (codes "A")) (More code End)
 
 -- a vertical CRS of this keyword, this axis, and what stands behind it
-abbrev pub height : List ℕ → Item → Items → Item
+abbrev pub height : List ℕ → Item → Siblings → Item
 height keyword axis tail =
     node_of keyword (text_item (codes "H")) (More (text_node (codes "VDATUM") (codes "D"))
     (More system (More axis tail)))

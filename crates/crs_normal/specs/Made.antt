@@ -2,7 +2,7 @@
 use Rattle.std.specs.Prelude.{◌≡◌, ◌⊎◌, ℕ, ◌≤◌}
 use Rattle.crs_text.specs.Items.{Item, depth, IsNode}
 use Rattle.crs_text.specs.Written.{AreFormed}
-use Rattle.crs_text.specs.Refusal.{Refused}
+use Rattle.crs_text.specs.Refusal.{RefusedAt}
 use Rattle.crs_shape.specs.declared.class.Class.{Class}
 use Rattle.crs_shape.specs.declared.class.Class.TheVariants as class
 use Rattle.crs_shape.specs.Shaped.{Shaped}
@@ -24,7 +24,7 @@ pub record IsMade (level : Level) (c : Class) (most : ℕ) (item : Item) : Type 
   pub formed : AreFormed item
   pub within : depth item ≤ most
   pub shaped : Shaped c item
-  pub unbroken : (fault : Refused) → ¬ (Breaks c item fault)
+  pub unbroken : (fault : RefusedAt) → ¬ (Breaks c item fault)
   pub normal : (parent : Class) → IsNormalIn level parent c item
 
 -- a unit of this kind stands as one of this class

@@ -2,7 +2,7 @@
 -- arguments a node has and in which order they stand is the shape's.
 use Rattle.std.specs.Prelude.{◌≡◌, ◌⊎◌, ℕ, Some, List, [], ◌∷◌, codes}
 use Rattle.crs_decimal.specs.Plain.{IsPlain}
-use Rattle.crs_text.specs.Items.{Item, leaf, node, Items, End, More}
+use Rattle.crs_text.specs.Items.{Item, leaf, node, Siblings, End, More}
 use Rattle.crs_text.specs.TextFault.{SpellsNode}
 use Rattle.crs_text.specs.Tokens.{Kind, number, text, word}
 use Rattle.crs_text.specs.Written.{item_text}
@@ -61,7 +61,7 @@ abbrev mutual
       × AtClass (class_in c first) (λ d. IsNormalIn level c d first)
       × AreNormalIn level c others
 
-  pub AreNormalIn : Level → Class → Items → Type 0
+  pub AreNormalIn : Level → Class → Siblings → Type 0
   AreNormalIn level c End = Unit {0}
   AreNormalIn level c (More item items) =
       AtClass (class_in c item) (λ d. IsNormalIn level c d item) × AreNormalIn level c items

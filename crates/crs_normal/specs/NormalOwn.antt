@@ -5,7 +5,7 @@ use Rattle.std.specs.Cmp.Lexicographic.{slice_cmp}
 use Rattle.std.specs.Ordering.{nat_cmp}
 use Rattle.std.specs.declared.cmp.Ordering.TheVariants.{Less}
 use Rattle.crs_decimal.specs.Spelling.{is_digit}
-use Rattle.crs_text.specs.Items.{Item, Items, End, More, arguments, kind_of, raw_of, skip}
+use Rattle.crs_text.specs.Items.{Item, Siblings, End, More, arguments, kind_of, raw_of, skip}
 use Rattle.crs_text.specs.Written.{item_text}
 use Rattle.crs_text.specs.declared.items.ItemKind.TheVariants as kinds
 use Rattle.crs_shape.specs.declared.class.Class.{Class}
@@ -82,7 +82,7 @@ rank class.Remark = 4
 rank other = 0
 
 -- the ranks of the arguments never fall, from this one on
-abbrev pub Rise : Class → ℕ → Items → Type 0
+abbrev pub Rise : Class → ℕ → Siblings → Type 0
 Rise c least End = Unit {0}
 Rise c least (More item items) = AtClass (class_in c item) (λ d. (least ≤ rank d) × Rise c (rank d) items)
 

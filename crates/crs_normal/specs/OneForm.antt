@@ -2,7 +2,7 @@
 -- its value's one form.
 use Rattle.std.specs.Prelude.{◌≡◌}
 use Rattle.crs_text.specs.Items.{Item}
-use Rattle.crs_text.specs.Refusal.{Refused}
+use Rattle.crs_text.specs.Refusal.{RefusedAt}
 use Rattle.crs_shape.specs.declared.class.Class.{Class}
 use Rattle.crs_shape.specs.Shaped.{Shaped}
 use Rattle.crs_value.specs.Checks.{Breaks}
@@ -20,5 +20,5 @@ IsItsForm {V = V} level c Reads form =
 abbrev pub IsItsFormUnbroken : {V : Type 0} → Level → Class → (Class → Item → V → Type 0) → (V → Item) → Type 0
 IsItsFormUnbroken {V = V} level c Reads form =
     (parent : Class) (item : Item) (value : V) → Shaped c item → IsNormalIn level parent c item →
-    ((fault : Refused) → ¬ (Breaks c item fault)) →
+    ((fault : RefusedAt) → ¬ (Breaks c item fault)) →
     Reads c item value → flat item ≡ form value

@@ -5,12 +5,14 @@ use Rattle.crs_shape.specs.declared.class.Class.TheVariants as class
 use Rattle.crs_value.specs.CompoundValues.{CompoundParts}
 use Rattle.crs_value.specs.ConversionValues.{ConversionParts, GeoidModelParts, MethodParts, ParameterParts}
 use Rattle.crs_value.specs.CrsValues.{BaseParts, GeodeticParts, ProjectedParts, VerticalParts}
-use Rattle.crs_value.specs.Reads.{ReadsAxisMeridian, ReadsBox, ReadsDatum, ReadsEllipsoid, ReadsEnsemble, ReadsExtent, ReadsIdent, ReadsMember, ReadsMeridian, ReadsUnit, ReadsUsage}
+use Rattle.crs_value.specs.Reads.{ReadsAxisMeridian, ReadsBox, ReadsDatum, ReadsEllipsoid, ReadsEnsemble}
+use Rattle.crs_value.specs.Reads.{ReadsExtent, ReadsIdent, ReadsMember, ReadsMeridian, ReadsUnit, ReadsUsage}
 use Rattle.crs_value.specs.ReadsConversion.{ReadsConversion, ReadsGeoidModel, ReadsMethod, ReadsParameter}
 use Rattle.crs_value.specs.ReadsCrs.{ReadsBase, ReadsCompound, ReadsGeodetic, ReadsProjected, ReadsVertical}
 use Rattle.crs_value.specs.SoundFrames.{IsDatum, IsEnsemble}
 use Rattle.crs_value.specs.SoundSingle.{IsGeodetic, IsProjected}
-use Rattle.crs_value.specs.Values.{AxisMeridianParts, BoxParts, DatumParts, EllipsoidParts, EnsembleParts, ExtentParts, IdentParts, MemberParts, MeridianParts, UnitParts, UsageParts}
+use Rattle.crs_value.specs.Values.{AxisMeridianParts, BoxParts, DatumParts, EllipsoidParts, EnsembleParts}
+use Rattle.crs_value.specs.Values.{ExtentParts, IdentParts, MemberParts, MeridianParts, UnitParts, UsageParts}
 use Rattle.crs_value.specs.declared.compound.Horizontal.{Horizontal}
 use Rattle.crs_value.specs.declared.compound.Horizontal.TheVariants as horizontal
 use Rattle.crs_value.specs.declared.frame.Frame.{Frame}
@@ -43,7 +45,8 @@ IsSpelledUnit level unit = IsSpelledAs level (unit_class unit.kind) ReadsUnit (S
 
 -- its unit is one of angle
 abbrev pub IsSpelledAxisMeridian : Level → AxisMeridianParts → List ℕ → Type 0
-IsSpelledAxisMeridian level meridian = IsSpelledAs level class.Meridian ReadsAxisMeridian (SameAxisMeridian level) meridian
+IsSpelledAxisMeridian level meridian = IsSpelledAs level class.Meridian ReadsAxisMeridian
+    (SameAxisMeridian level) meridian
 
 -- ---- frames
 
@@ -89,7 +92,8 @@ abbrev pub IsSpelledParameter : Level → ParameterParts → List ℕ → Type 0
 IsSpelledParameter level parameter = IsSpelledAs level class.Parameter ReadsParameter (SameParameter level) parameter
 
 abbrev pub IsSpelledConversion : Level → ConversionParts → List ℕ → Type 0
-IsSpelledConversion level conversion = IsSpelledAs level class.Conversion ReadsConversion (SameConversion level) conversion
+IsSpelledConversion level conversion = IsSpelledAs level class.Conversion ReadsConversion
+    (SameConversion level) conversion
 
 abbrev pub IsSpelledGeoidModel : Level → GeoidModelParts → List ℕ → Type 0
 IsSpelledGeoidModel level model = IsSpelledAs level class.GeoidModel ReadsGeoidModel (SameGeoidModel level) model

@@ -4,7 +4,7 @@ use Rattle.std.specs.List.{list_all}
 use Rattle.crs_decimal.specs.Plain.{plain}
 use Rattle.crs_decimal.specs.Spelling.{is_digit}
 use Rattle.crs_decimal.specs.Value.{Value}
-use Rattle.crs_text.specs.Items.{Item, leaf, node, Items, End, More}
+use Rattle.crs_text.specs.Items.{Item, leaf, node, Siblings, End, More}
 use Rattle.crs_text.specs.Tokens.{number, text, word}
 
 abbrev pub text_item : List ℕ → Item
@@ -16,11 +16,11 @@ word_item raw = leaf word 0 raw
 abbrev pub number_item : Value → Item
 number_item value = leaf number 0 (plain value)
 
-abbrev pub node_of : List ℕ → Item → Items → Item
+abbrev pub node_of : List ℕ → Item → Siblings → Item
 node_of keyword first others = node 0 keyword true first others 0
 
 -- a node of these arguments; without any a word, which no text has there
-abbrev pub node_from : List ℕ → Items → Item
+abbrev pub node_from : List ℕ → Siblings → Item
 node_from keyword End = word_item keyword
 node_from keyword (More first others) = node_of keyword first others
 
@@ -32,11 +32,11 @@ abbrev pub number_node : List ℕ → Value → Item
 number_node keyword value = node_of keyword (number_item value) End
 
 -- an item for a part that may be missing, and one for each part of a list, before others
-abbrev pub opt : {A : Type 0} → (A → Item) → Option A → Items → Items
+abbrev pub opt : {A : Type 0} → (A → Item) → Option A → Siblings → Siblings
 opt spell None rest = rest
 opt spell (Some value) rest = More (spell value) rest
 
-abbrev pub each : {A : Type 0} → (A → Item) → List A → Items → Items
+abbrev pub each : {A : Type 0} → (A → Item) → List A → Siblings → Siblings
 each spell [] rest = rest
 each spell (value ∷ values) rest = More (spell value) (each spell values rest)
 

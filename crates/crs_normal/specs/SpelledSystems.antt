@@ -4,7 +4,7 @@ use Rattle.std.specs.Prelude.{if◌then◌else◌}
 use Rattle.std.specs.Str.{bytes_eq}
 use Rattle.crs_decimal.specs.Plain.{plain}
 use Rattle.crs_decimal.specs.Value.{Value}
-use Rattle.crs_text.specs.Items.{Item, Items, End, More}
+use Rattle.crs_text.specs.Items.{Item, Siblings, End, More}
 use Rattle.crs_value.specs.BadUnit.{asked_kind}
 use Rattle.crs_value.specs.Values.{AxisMeridianParts, AxisParts, SystemParts}
 use Rattle.crs_value.specs.Words.{direction_word, system_word}
@@ -80,5 +80,5 @@ item_head s =
     node_of (codes "CS") (word_item (system_word s.system_type))
     (More (number_item s.dimension) (each item_ident s.ids End))
 
-abbrev pub system_items : SystemParts → Items → Items
+abbrev pub system_items : SystemParts → Siblings → Siblings
 system_items s rest = More (item_head s) (each item_axis s.axes rest)

@@ -1,7 +1,7 @@
 -- A bridge: usages and the ends of CRSs in their one form, and as items.
 use Rattle.std.specs.Prelude.{ℕ, List, Option, Some, None, codes, map}
 use Rattle.std.specs.Option.{option_map}
-use Rattle.crs_text.specs.Items.{Item, Items, End, More}
+use Rattle.crs_text.specs.Items.{Item, Siblings, End, More}
 use Rattle.crs_text.specs.Written.{item_text}
 use Rattle.crs_value.specs.Values.{BoxParts, ExtentParts, UsageParts, TailParts}
 use Rattle.crs_value.specs.declared.level.Level.{Level}
@@ -49,5 +49,5 @@ norm_tail level t = record {
   remark = norm_remark level t.remark;
 }
 
-abbrev pub tail_items : TailParts → Items
+abbrev pub tail_items : TailParts → Siblings
 tail_items t = each item_usage t.usages (each item_ident t.ids (opt (text_node (codes "REMARK")) t.remark End))

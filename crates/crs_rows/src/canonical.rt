@@ -92,8 +92,8 @@ fn sameness(a: &Canon, b: &Canon) -> &'static str {
     }
 }
 
-/// `text` and what the first axis of a vertical CRS appends by itself, or the refusal of the text; `no axis` for another
-/// CRS.
+/// `text` and what the first axis of a vertical CRS appends by itself, or the refusal of the text; `no axis` for
+/// another CRS.
 pub fn put_axis(out: &mut String, alloc: Global, input: &[u8]) -> Result<(), AllocError> {
     match read(alloc, input) {
         Ok(crs) => put_axis_of(out, alloc, &crs),
@@ -119,8 +119,8 @@ fn put_node<T: Canonical>(out: &mut String, alloc: Global, node: &T) -> Result<(
     put_text(out, &text)
 }
 
-/// `text` and what the identifiers of a vertical CRS append as a set, `nothing` where that is nothing, or the refusal of
-/// the text; `no set` for another CRS, and `one way` where a set isn't the same as itself.
+/// `text` and what the identifiers of a vertical CRS append as a set, `nothing` where that is nothing, or the refusal
+/// of the text; `no set` for another CRS, and `one way` where a set isn't the same as itself.
 pub fn put_set(out: &mut String, alloc: Global, input: &[u8]) -> Result<(), AllocError> {
     match read(alloc, input) {
         Ok(crs) => put_set_of(out, alloc, &crs),

@@ -19,7 +19,8 @@ pub record SameAxisMeridian (level : Level) (a b : AxisMeridianParts) : Type 0 w
   pub unit : SameUnit kinds.Angle level a.unit b.unit
 
 -- two axes with these units, where a unit of this kind is asked
-pub record SameAxisIn (asked : UnitKind) (level : Level) (a b : AxisParts) (first second : Option UnitParts) : Type 0 where
+pub record SameAxisIn (asked : UnitKind) (level : Level) (a b : AxisParts)
+    (first second : Option UnitParts) : Type 0 where
   pub name : a.name ≡ b.name
   pub direction : a.direction ≡ b.direction
   pub meridian : BothOrNeither (SameAxisMeridian level) a.meridian b.meridian

@@ -22,7 +22,8 @@ use crs_decimal::laws::{normal_is_one, same_number_is_equivalence};
 
 /// Each position of a coordinate system, from 1 to the number of its axes, has one axis.
 pub fn one_axis_each()
-    ensures some { (system : SystemParts) → IsSystem system → (position : ℕ) → 1 ≤ position → position ≤ length system.axes →
+    ensures some { (system : SystemParts) → IsSystem system → (position : ℕ) → 1 ≤ position →
+        position ≤ length system.axes →
         HasAt position (λ axis. ⊤) 1 system.axes }
     ensures one { (system : SystemParts) → IsSystem system → (position : ℕ) (x y : AxisParts) →
         HasAt position (λ axis. axis ≡ x) 1 system.axes → HasAt position (λ axis. axis ≡ y) 1 system.axes → x ≡ y }

@@ -1,7 +1,7 @@
 -- The fault that the walk finds first is the one that the definition names, and there is no other.
 use Rattle.std.proofs.Common.{◌≡◌, ℕ, Bool, true, false, IsTrue, IsFalse, ◌⊎◌, inl, inr, Option, Some, None, List, [], ◌∷◌, ◌++◌, if◌then◌else◌, refl, sym, ◌∙◌, ap, subst, append_assoc}
-use Rattle.crs_text.specs.Items.{Item, leaf, node, Items, End, More}
-use Rattle.crs_text.specs.Refusal.{Refused}
+use Rattle.crs_text.specs.Items.{Item, leaf, node, Siblings, End, More}
+use Rattle.crs_text.specs.Refusal.{RefusedAt}
 use Rattle.crs_shape.specs.declared.class.Class.{Class}
 use Rattle.crs_shape.specs.Keywords.{is_keyword}
 use Rattle.crs_shape.specs.Slots.{SlotParts, slots_of}
@@ -12,7 +12,7 @@ use Rattle.crs_shape.specs.FirstFault.{or_later, step_to, step_as, fault_by, fau
 use Rattle.crs_shape.proofs.SlotLemmas.{Goes, after-apart, goes-along, goes-back, allows-some, end-allowed, allowed-end}
 
 -- the fault, if there is one, is the only one
-abbrev pub IsExact : (Refused → Type 0) → Option Refused → Type 0
+abbrev pub IsExact : (RefusedAt → Type 0) → Option RefusedAt → Type 0
 IsExact Fault None = IsFree Fault
 IsExact Fault (Some fault) = IsOnly Fault fault
 
@@ -66,70 +66,70 @@ reached-not row before slots c r e (more, h) =
 -- the fault of an argument and those after it
 
 -- what is at fault in an argument of this class or after it
-abbrev OrLater : (Class → Refused → Type 0) → (List Class → Refused → Type 0) → List Class → Refused → Class → Type 0
+abbrev OrLater : (Class → RefusedAt → Type 0) → (List Class → RefusedAt → Type 0) → List Class → RefusedAt → Class → Type 0
 OrLater Within Later before fault c = Within c fault ⊎ (IsFree (Within c) × Later (before ++ c ∷ []) fault)
 
 pub same_class : (parent : Class) (before : List Class) (item : Item) (c d : Class) → class_in parent item ≡ Some c → Stands parent before item d → d ≡ c
 same_class parent before item c d e stands = let both : Some d ≡ Some c = sym stands.named ∙ e in cc
 
-exact-none : (parent : Class) (before : List Class) (item : Item) (Within : Class → Refused → Type 0) (Later : List Class → Refused → Type 0) →
+exact-none : (parent : Class) (before : List Class) (item : Item) (Within : Class → RefusedAt → Type 0) (Later : List Class → RefusedAt → Type 0) →
     ((c : Class) → Stands parent before item c → ⊥) → IsOnly (ArgumentFault parent before item Within Later) (misplaced item)
 exact-none parent before item Within Later none = (inl (none, refl), only)
   where
-    only : (other : Refused) → ArgumentFault parent before item Within Later other → other ≡ misplaced item
+    only : (other : RefusedAt) → ArgumentFault parent before item Within Later other → other ≡ misplaced item
     only other (inl (n, e)) = e
     only other (inr (c, (stands, rest))) = absurd (none c stands)
 
-exact-within : (parent : Class) (before : List Class) (item : Item) (Within : Class → Refused → Type 0) (Later : List Class → Refused → Type 0) (c : Class) (g : Refused) →
+exact-within : (parent : Class) (before : List Class) (item : Item) (Within : Class → RefusedAt → Type 0) (Later : List Class → RefusedAt → Type 0) (c : Class) (g : RefusedAt) →
     class_in parent item ≡ Some c → Stands parent before item c → IsOnly (Within c) g → IsOnly (ArgumentFault parent before item Within Later) g
 exact-within parent before item Within Later c g e stands w = (inr (c, (stands, inl w.0)), only)
   where
-    only_rest : (other : Refused) → OrLater Within Later before other c → other ≡ g
+    only_rest : (other : RefusedAt) → OrLater Within Later before other c → other ≡ g
     only_rest other (inl x) = w.1 other x
     only_rest other (inr (free, later)) = absurd (free g w.0)
 
-    only : (other : Refused) → ArgumentFault parent before item Within Later other → other ≡ g
+    only : (other : RefusedAt) → ArgumentFault parent before item Within Later other → other ≡ g
     only other (inl (none, e2)) = absurd (none c stands)
     only other (inr (d, (stands2, rest))) =
         only_rest other (subst (OrLater Within Later before other) (same_class parent before item c d e stands2) rest)
 
-exact-later : (parent : Class) (before : List Class) (item : Item) (Within : Class → Refused → Type 0) (Later : List Class → Refused → Type 0) (c : Class) (g : Refused) →
+exact-later : (parent : Class) (before : List Class) (item : Item) (Within : Class → RefusedAt → Type 0) (Later : List Class → RefusedAt → Type 0) (c : Class) (g : RefusedAt) →
     class_in parent item ≡ Some c → Stands parent before item c → IsFree (Within c) → IsOnly (Later (before ++ c ∷ [])) g →
     IsOnly (ArgumentFault parent before item Within Later) g
 exact-later parent before item Within Later c g e stands free l = (inr (c, (stands, inr (free, l.0))), only)
   where
-    only_rest : (other : Refused) → OrLater Within Later before other c → other ≡ g
+    only_rest : (other : RefusedAt) → OrLater Within Later before other c → other ≡ g
     only_rest other (inl x) = absurd (free other x)
     only_rest other (inr (f, later)) = l.1 other later
 
-    only : (other : Refused) → ArgumentFault parent before item Within Later other → other ≡ g
+    only : (other : RefusedAt) → ArgumentFault parent before item Within Later other → other ≡ g
     only other (inl (none, e2)) = absurd (none c stands)
     only other (inr (d, (stands2, rest))) =
         only_rest other (subst (OrLater Within Later before other) (same_class parent before item c d e stands2) rest)
 
-exact-free : (parent : Class) (before : List Class) (item : Item) (Within : Class → Refused → Type 0) (Later : List Class → Refused → Type 0) (c : Class) →
+exact-free : (parent : Class) (before : List Class) (item : Item) (Within : Class → RefusedAt → Type 0) (Later : List Class → RefusedAt → Type 0) (c : Class) →
     class_in parent item ≡ Some c → Stands parent before item c → IsFree (Within c) → IsFree (Later (before ++ c ∷ [])) →
     IsFree (ArgumentFault parent before item Within Later)
 exact-free parent before item Within Later c e stands free l = only
   where
-    only_rest : (other : Refused) → OrLater Within Later before other c → ⊥
+    only_rest : (other : RefusedAt) → OrLater Within Later before other c → ⊥
     only_rest other (inl x) = free other x
     only_rest other (inr (f, later)) = l other later
 
-    only : (other : Refused) → ArgumentFault parent before item Within Later other → ⊥
+    only : (other : RefusedAt) → ArgumentFault parent before item Within Later other → ⊥
     only other (inl (none, e2)) = none c stands
     only other (inr (d, (stands2, rest))) =
         only_rest other (subst (OrLater Within Later before other) (same_class parent before item c d e stands2) rest)
 
-exact-or_later : (parent : Class) (before : List Class) (item : Item) (Within : Class → Refused → Type 0) (Later : List Class → Refused → Type 0) (c : Class) →
-    class_in parent item ≡ Some c → Stands parent before item c → (w l : Option Refused) → IsExact (Within c) w → IsExact (Later (before ++ c ∷ [])) l →
+exact-or_later : (parent : Class) (before : List Class) (item : Item) (Within : Class → RefusedAt → Type 0) (Later : List Class → RefusedAt → Type 0) (c : Class) →
+    class_in parent item ≡ Some c → Stands parent before item c → (w l : Option RefusedAt) → IsExact (Within c) w → IsExact (Later (before ++ c ∷ [])) l →
     IsExact (ArgumentFault parent before item Within Later) (or_later w l)
 exact-or_later parent before item Within Later c e stands (Some g) l hw hl = exact-within parent before item Within Later c g e stands hw
 exact-or_later parent before item Within Later c e stands None (Some g) hw hl = exact-later parent before item Within Later c g e stands hw hl
 exact-or_later parent before item Within Later c e stands None None hw hl = exact-free parent before item Within Later c e stands hw hl
 
 exact-argument : (parent : Class) (before : List Class) (slots : List SlotParts) (item : Item)
-    (Within : Class → Refused → Type 0) (Later : List Class → Refused → Type 0) (within : Class → Option Refused) (later : List SlotParts → Option Refused) →
+    (Within : Class → RefusedAt → Type 0) (Later : List Class → RefusedAt → Type 0) (within : Class → Option RefusedAt) (later : List SlotParts → Option RefusedAt) →
     Reached (slots_of parent) before slots → ((c : Class) → IsExact (Within c) (within c)) →
     ((b : List Class) (next : List SlotParts) → Reached (slots_of parent) b next → IsExact (Later b) (later next)) →
     IsExact (ArgumentFault parent before item Within Later) (fault_from parent slots item within later)
@@ -188,29 +188,29 @@ exact-leaf c item =
     ]
 
 -- the fault of an item by its keyword, where `Arguments` are the faults of its arguments
-abbrev ByKeyword : Bool → Item → (Refused → Type 0) → Refused → Type 0
+abbrev ByKeyword : Bool → Item → (RefusedAt → Type 0) → RefusedAt → Type 0
 ByKeyword b item Arguments fault = (IsFalse b × (fault ≡ misplaced item)) ⊎ (IsTrue b × Arguments fault)
 
-keyword-missing : (item : Item) (Arguments : Refused → Type 0) → IsOnly (ByKeyword false item Arguments) (misplaced item)
+keyword-missing : (item : Item) (Arguments : RefusedAt → Type 0) → IsOnly (ByKeyword false item Arguments) (misplaced item)
 keyword-missing item Arguments = (inl (refl, refl), only)
   where
-    only : (other : Refused) → ByKeyword false item Arguments other → other ≡ misplaced item
+    only : (other : RefusedAt) → ByKeyword false item Arguments other → other ≡ misplaced item
     only other (inl h) = h.1
     only other (inr h) = let e : false ≡ true = h.0 in cc
 
-keyword-rest : (item : Item) (Arguments : Refused → Type 0) (found : Option Refused) → IsExact Arguments found → IsExact (ByKeyword true item Arguments) found
+keyword-rest : (item : Item) (Arguments : RefusedAt → Type 0) (found : Option RefusedAt) → IsExact Arguments found → IsExact (ByKeyword true item Arguments) found
 keyword-rest item Arguments None h = free
   where
-    free : (fault : Refused) → ByKeyword true item Arguments fault → ⊥
+    free : (fault : RefusedAt) → ByKeyword true item Arguments fault → ⊥
     free fault (inl x) = let e : true ≡ false = x.0 in cc
     free fault (inr x) = h fault x.1
 keyword-rest item Arguments (Some g) h = (inr (refl, h.0), only)
   where
-    only : (other : Refused) → ByKeyword true item Arguments other → other ≡ g
+    only : (other : RefusedAt) → ByKeyword true item Arguments other → other ≡ g
     only other (inl x) = let e : true ≡ false = x.0 in cc
     only other (inr x) = h.1 other x.1
 
-by-keyword : (b : Bool) (item : Item) (Arguments : Refused → Type 0) (found : Option Refused) → IsExact Arguments found →
+by-keyword : (b : Bool) (item : Item) (Arguments : RefusedAt → Type 0) (found : Option RefusedAt) → IsExact Arguments found →
     IsExact (ByKeyword b item Arguments) (if b then found else Some (misplaced item))
 by-keyword true item Arguments found h = keyword-rest item Arguments found h
 by-keyword false item Arguments found h = keyword-missing item Arguments
@@ -228,7 +228,7 @@ mutual
       (λ d. first_inside d first) (λ next. first_among c close next others) (reached-start (slots_of c) (apart c))
       (λ d. exact_inside apart d first) (λ b next r. exact_among apart c close b next others r))
 
-  pub exact_among : ((c : Class) → is_apart (slots_of c) ≡ true) → (c : Class) (close : ℕ) (before : List Class) (slots : List SlotParts) (items : Items) →
+  pub exact_among : ((c : Class) → is_apart (slots_of c) ≡ true) → (c : Class) (close : ℕ) (before : List Class) (slots : List SlotParts) (items : Siblings) →
       Reached (slots_of c) before slots → IsExact (Among c close before items) (first_among c close slots items)
   exact_among apart c close before slots End r = exact-end c close before slots r
   exact_among apart c close before slots (More item items) r =
@@ -239,7 +239,7 @@ mutual
 pub exact-ok : ((c : Class) → is_apart (slots_of c) ≡ true) → (c : Class) (item : Item) → None ≡ first_inside c item → IsFree (Inside c item)
 exact-ok apart c item e = subst (IsExact (Inside c item)) (sym e) (exact_inside apart c item)
 
-pub exact-err : ((c : Class) → is_apart (slots_of c) ≡ true) → (c : Class) (item : Item) (fault : Refused) → Some fault ≡ first_inside c item → IsOnly (Inside c item) fault
+pub exact-err : ((c : Class) → is_apart (slots_of c) ≡ true) → (c : Class) (item : Item) (fault : RefusedAt) → Some fault ≡ first_inside c item → IsOnly (Inside c item) fault
 exact-err apart c item fault e = subst (IsExact (Inside c item)) (sym e) (exact_inside apart c item)
 
 -- at the root
@@ -247,23 +247,23 @@ exact-err apart c item fault e = subst (IsExact (Inside c item)) (sym e) (exact_
 pub root-not : (item : Item) → class_of_root item ≡ None → IsOnly (AtRoot item) (misplaced item)
 root-not item e = (inl (e, refl), only)
   where
-    only : (other : Refused) → AtRoot item other → other ≡ misplaced item
+    only : (other : RefusedAt) → AtRoot item other → other ≡ misplaced item
     only other (inl h) = h.1
     only other (inr (c, h)) = let both : None ≡ Some c = sym e ∙ h.0 in cc
 
 root-same : (item : Item) (c d : Class) → class_of_root item ≡ Some c → class_of_root item ≡ Some d → d ≡ c
 root-same item c d e f = let both : Some d ≡ Some c = sym f ∙ e in cc
 
-pub root-err : (item : Item) (c : Class) (g : Refused) → class_of_root item ≡ Some c → IsOnly (Inside c item) g → IsOnly (AtRoot item) g
+pub root-err : (item : Item) (c : Class) (g : RefusedAt) → class_of_root item ≡ Some c → IsOnly (Inside c item) g → IsOnly (AtRoot item) g
 root-err item c g e h = (inr (c, (e, h.0)), only)
   where
-    only : (other : Refused) → AtRoot item other → other ≡ g
+    only : (other : RefusedAt) → AtRoot item other → other ≡ g
     only other (inl x) = let both : Some c ≡ None = sym e ∙ x.0 in cc
     only other (inr (d, x)) = let P : Class → Type 0 = λ y. Inside y item other in h.1 other (subst P (root-same item c d e x.0) x.1)
 
 pub root-ok : (item : Item) (c : Class) → class_of_root item ≡ Some c → IsFree (Inside c item) → IsFree (AtRoot item)
 root-ok item c e h = free
   where
-    free : (other : Refused) → AtRoot item other → ⊥
+    free : (other : RefusedAt) → AtRoot item other → ⊥
     free other (inl x) = let both : Some c ≡ None = sym e ∙ x.0 in cc
     free other (inr (d, x)) = let P : Class → Type 0 = λ y. Inside y item other in h other (subst P (root-same item c d e x.0) x.1)

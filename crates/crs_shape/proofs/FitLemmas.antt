@@ -1,7 +1,7 @@
 -- The fault of an item, as the loop over its arguments finds it.
 use Rattle.std.proofs.Common.{◌≡◌, ◌≢◌, ℕ, ◌+◌, ◌<◌, Bool, true, false, Option, Some, None, List, [], ◌∷◌, if◌then◌else◌, option_map, refl, sym, ◌∙◌, ap, subst, arith, rules}
-use Rattle.crs_text.specs.Items.{Item, leaf, node, Items, End, More, arguments, first_of, rest_of, close_of, size_of, sizes, here, HasId, IsAt}
-use Rattle.crs_text.specs.Refusal.{Refused}
+use Rattle.crs_text.specs.Items.{Item, leaf, node, Siblings, End, More, arguments, first_of, rest_of, close_of, size_of, sizes, here, HasId, IsAt}
+use Rattle.crs_text.specs.Refusal.{RefusedAt}
 use Rattle.crs_shape.specs.declared.class.Class.{Class}
 use denote.Enum.Bare.{sameb, same_true, true_same}
 use Rattle.crs_shape.specs.contracts.class.Class.{the_type}
@@ -12,7 +12,7 @@ use Rattle.crs_shape.specs.ShapeFault.{class_of_kind, class_in, is_of, misplaced
 use Rattle.crs_shape.specs.FirstFault.{or_later, step_to, step_of, fault_by, fault_from, first_inside, first_among}
 
 -- the items from one on, where there is one
-abbrev pub from : Item → Option ℕ → Items
+abbrev pub from : Item → Option ℕ → Siblings
 from tree None = End
 from tree (Some id) = here tree id
 
@@ -26,11 +26,11 @@ pub record Going (tree : Item) (class : Class) (item : Item) (close : ℕ) (slot
   pub has : HasNext tree next
   pub less : sizes (from tree next) < size_of item
 
-from_at : (tree : Item) (items : Items) (next : Option ℕ) → IsAt tree items next → from tree next ≡ items
+from_at : (tree : Item) (items : Siblings) (next : Option ℕ) → IsAt tree items next → from tree next ≡ items
 from_at tree items None e = sym e
 from_at tree items (Some id) h = h.0
 
-has_at : (tree : Item) (items : Items) (next : Option ℕ) → IsAt tree items next → HasNext tree next
+has_at : (tree : Item) (items : Siblings) (next : Option ℕ) → IsAt tree items next → HasNext tree next
 has_at tree items None e = tt
 has_at tree items (Some id) h = h.1
 
@@ -68,13 +68,13 @@ going_first tree c item close next e f at = record {
   less = let same : sizes (from tree next) ≡ sizes (arguments item) = ap sizes (from_at tree (arguments item) next at) in omega (arith, arguments-less item);
 }
 
-by_items : (c : Class) (close : ℕ) (slots : List SlotParts) (items : Items) → items ≢ End →
+by_items : (c : Class) (close : ℕ) (slots : List SlotParts) (items : Siblings) → items ≢ End →
     first_among c close slots items ≡ fault_from c slots (first_of items) (λ d. first_inside d (first_of items)) (λ next. first_among c close next (rest_of items))
 unfolding first_inside first_among
 by_items c close slots End some = absurd (some refl)
 by_items c close slots (More item items) some = refl
 
-sizes-first : (items : Items) → items ≢ End → sizes items ≡ size_of (first_of items) + sizes (rest_of items)
+sizes-first : (items : Siblings) → items ≢ End → sizes items ≡ size_of (first_of items) + sizes (rest_of items)
 sizes-first End some = absurd (some refl)
 sizes-first (More item items) some = refl
 
@@ -101,7 +101,7 @@ going_by tree c item close slots left named id going e =
     ap (fault_by (first_of (here tree id)) (λ d. first_inside d (first_of (here tree id))) (λ next. first_among c close next (rest_of (here tree id)))) e
     ∙ sym (by_items c close slots (here tree id) going.has) ∙ going.same
 
-pub going_inside : (tree : Item) (c : Class) (item : Item) (close : ℕ) (slots left : List SlotParts) (named : Class) (id : ℕ) (g : Refused) →
+pub going_inside : (tree : Item) (c : Class) (item : Item) (close : ℕ) (slots left : List SlotParts) (named : Class) (id : ℕ) (g : RefusedAt) →
     Going tree c item close slots (Some id) → Some (named, left) ≡ step_of c slots (first_of (here tree id)) →
     Some g ≡ first_inside named (first_of (here tree id)) → Some g ≡ first_inside c item
 going_inside tree c item close slots left named id g going e is =

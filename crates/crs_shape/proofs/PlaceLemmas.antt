@@ -1,8 +1,8 @@
 -- Faults of shape have their numbers, and lie at places of the item; those are bytes of the text.
 use Rattle.std.proofs.Common.{◌≡◌, ◌≢◌, ℕ, zero, suc, ◌+◌, ◌<◌, ◌≤◌, length, slice_index_or, Bool, true, false, if◌then◌else◌, inl, inr, List, [], ◌∷◌, ◌++◌, refl, sym, ap, subst, arith}
 use Rattle.crs_text.specs.Tokens.{Kind, number, text, word, Token, single, comma, opening, closing, IsSingle, single_spelling, Forms, Fronts}
-use Rattle.crs_text.specs.Items.{Item, leaf, node, Items, End, More, HasId, first_of, here, inside, inside_items, tokens, others_tokens}
-use Rattle.crs_text.specs.Refusal.{Refused}
+use Rattle.crs_text.specs.Items.{Item, leaf, node, Siblings, End, More, HasId, first_of, here, inside, inside_items, tokens, others_tokens}
+use Rattle.crs_text.specs.Refusal.{RefusedAt}
 use Rattle.crs_text.specs.TextFault.{SpellsNode}
 use Rattle.crs_shape.specs.declared.class.Class.{Class}
 use Rattle.crs_shape.specs.FaultPlace.{IsShapeNumber, IsPlaceIn, IsPlaceAmong}
@@ -12,18 +12,18 @@ use Rattle.crs_shape.specs.ShapeFault.{misplaced, missing, ArgumentFault, Inside
 -- ---- numbers and places
 
 -- a number of a fault of shape, and a place of these
-abbrev pub IsAmong : (ℕ → Type 0) → Refused → Type 0
+abbrev pub IsAmong : (ℕ → Type 0) → RefusedAt → Type 0
 IsAmong P fault = IsShapeNumber fault.number × P fault.place
 
 module _ (P : ℕ → Type 0) where
-  as-other : (fault other : Refused) → fault ≡ other → IsAmong P other → IsAmong P fault
+  as-other : (fault other : RefusedAt) → fault ≡ other → IsAmong P other → IsAmong P fault
   as-other fault other e h = subst (IsAmong P) (sym e) h
 
   -- the places of an item are among these
   abbrev Covers : Item → Type 0
   Covers item = (p : ℕ) → IsPlaceIn item p → P p
 
-  abbrev CoversAll : Items → Type 0
+  abbrev CoversAll : Siblings → Type 0
   CoversAll items = (p : ℕ) → IsPlaceAmong items p → P p
 
   misplaced-among : (item : Item) → Covers item → IsAmong P (misplaced item)
@@ -34,8 +34,8 @@ module _ (P : ℕ → Type 0) where
       by true = inr (inl refl)
       by false = inl refl
 
-  argument-among : (parent : Class) (before : List Class) (item : Item) (W : Class → Refused → Type 0)
-      (L : List Class → Refused → Type 0) (fault : Refused) → Covers item →
+  argument-among : (parent : Class) (before : List Class) (item : Item) (W : Class → RefusedAt → Type 0)
+      (L : List Class → RefusedAt → Type 0) (fault : RefusedAt) → Covers item →
       ((d : Class) → W d fault → IsAmong P fault) → ((classes : List Class) → L classes fault → IsAmong P fault) →
       ArgumentFault parent before item W L fault → IsAmong P fault
   argument-among parent before item W L fault h inner after (inl x) =
@@ -44,7 +44,7 @@ module _ (P : ℕ → Type 0) where
   argument-among parent before item W L fault h inner after (inr (c, (stands, inr x))) = after (before ++ c ∷ []) x.1
 
   mutual
-    inside-among : (c : Class) (item : Item) (fault : Refused) → Covers item → Inside c item fault → IsAmong P fault
+    inside-among : (c : Class) (item : Item) (fault : RefusedAt) → Covers item → Inside c item fault → IsAmong P fault
     inside-among c (leaf kind place raw) fault h x =
         as-other fault (misplaced (leaf kind place raw)) x.1 (misplaced-among (leaf kind place raw) h)
     inside-among c (node place keyword square first others close) fault h (inl x) =
@@ -57,7 +57,7 @@ module _ (P : ℕ → Type 0) where
         (λ before y. among-among c close before others fault (h close (inr (inl refl)))
         (λ p q. h p (inr (inr (inr q)))) y) x.1
 
-    among-among : (c : Class) (close : ℕ) (before : List Class) (items : Items) (fault : Refused) → P close →
+    among-among : (c : Class) (close : ℕ) (before : List Class) (items : Siblings) (fault : RefusedAt) → P close →
         CoversAll items → Among c close before items fault → IsAmong P fault
     among-among c close before End fault shut h x =
         as-other fault (missing close) x.1 (inr (inr refl), shut)
@@ -66,10 +66,10 @@ module _ (P : ℕ → Type 0) where
         (λ p q. h p (inl q)) (λ d y. inside-among d item fault (λ p q. h p (inl q)) y)
         (λ b y. among-among c close b items fault shut (λ p q. h p (inr q)) y) x
 
-pub inside-placed : (c : Class) (item : Item) (fault : Refused) → Inside c item fault → IsAmong (IsPlaceIn item) fault
+pub inside-placed : (c : Class) (item : Item) (fault : RefusedAt) → Inside c item fault → IsAmong (IsPlaceIn item) fault
 inside-placed c item fault x = inside-among (IsPlaceIn item) c item fault (λ p q. q) x
 
-pub root-placed : (item : Item) (fault : Refused) → AtRoot item fault → IsAmong (IsPlaceIn item) fault
+pub root-placed : (item : Item) (fault : RefusedAt) → AtRoot item fault → IsAmong (IsPlaceIn item) fault
 root-placed item fault (inl x) =
     as-other (IsPlaceIn item) fault (misplaced item) x.1 (misplaced-among (IsPlaceIn item) item (λ p q. q))
 root-placed item fault (inr x) = inside-placed x.0 item fault x.1.1
@@ -77,11 +77,11 @@ root-placed item fault (inr x) = inside-placed x.0 item fault x.1.1
 -- ---- items that stand in a tree
 
 module _ (P : ℕ → Type 0) where
-  abbrev Covered : List Items → Type 0
+  abbrev Covered : List Siblings → Type 0
   Covered [] = Unit {0}
   Covered (items ∷ more) = ((p : ℕ) → IsPlaceAmong items p → P p) × Covered more
 
-  covered-append : (xs ys : List Items) → Covered xs → Covered ys → Covered (xs ++ ys)
+  covered-append : (xs ys : List Siblings) → Covered xs → Covered ys → Covered (xs ++ ys)
   covered-append [] ys h g = g
   covered-append (x ∷ xs) ys h g = (h.0, covered-append xs ys h.1 g)
 
@@ -95,7 +95,7 @@ module _ (P : ℕ → Type 0) where
           (all-covered others (λ p q. h p (inr (inr (inr q))))),
     )
 
-    all-covered : (items : Items) → ((p : ℕ) → IsPlaceAmong items p → P p) → Covered (inside_items items)
+    all-covered : (items : Siblings) → ((p : ℕ) → IsPlaceAmong items p → P p) → Covered (inside_items items)
     all-covered End h = tt
     all-covered (More item items) h = (
       h,
@@ -103,7 +103,7 @@ module _ (P : ℕ → Type 0) where
           (all-covered items (λ p q. h p (inr q))),
     )
 
-  entry-covered : (list : List Items) → Covered list → (id : ℕ) → slice_index_or list id End ≢ End → (p : ℕ) →
+  entry-covered : (list : List Siblings) → Covered list → (id : ℕ) → slice_index_or list id End ≢ End → (p : ℕ) →
       IsPlaceIn (first_of (slice_index_or list id End)) p → P p
   entry-covered [] h id some p q = absurd (some refl)
   entry-covered (End ∷ more) h zero some p q = absurd (some refl)
@@ -180,7 +180,7 @@ mutual
       let s = split-below total (tokens first ++ others_tokens others) (closing close square ∷ []) h.1.1 in
       items-below total others (split-below total (tokens first) (others_tokens others) s.0).1 p q
 
-  items-below : (total : ℕ) (items : Items) → TokensBelow total (others_tokens items) → (p : ℕ) →
+  items-below : (total : ℕ) (items : Siblings) → TokensBelow total (others_tokens items) → (p : ℕ) →
       IsPlaceAmong items p → p < total
   items-below total End h p q = absurd q
   items-below total (More item items) h p (inl q) =

@@ -1,7 +1,7 @@
 -- A whole text has one fault of shape, or none.
 use Rattle.std.proofs.Common.{◌≡◌, ◌⊎◌, inl, inr, Option, Some, None, refl, sym, ◌∙◌}
 use Rattle.crs_text.specs.Items.{Item}
-use Rattle.crs_text.specs.Refusal.{Refused}
+use Rattle.crs_text.specs.Refusal.{RefusedAt}
 use Rattle.crs_shape.specs.declared.class.Class.{Class}
 use Rattle.crs_shape.specs.FirstFault.{first_inside}
 use Rattle.crs_shape.specs.ShapeFault.{misplaced, IsFree, IsOnly, Inside, AtRoot, class_of_root}
@@ -9,13 +9,13 @@ use Rattle.crs_shape.proofs.FaultLemmas.{IsExact, exact_inside, root-not, root-e
 use Rattle.crs_shape.proofs.TableLemmas.{apart_tables}
 
 -- there is none, or one alone
-abbrev pub NoneOrOnly : (Refused → Type 0) → Type 0
-NoneOrOnly Fault = IsFree Fault ⊎ ((fault : Refused) × IsOnly Fault fault)
+abbrev pub NoneOrOnly : (RefusedAt → Type 0) → Type 0
+NoneOrOnly Fault = IsFree Fault ⊎ ((fault : RefusedAt) × IsOnly Fault fault)
 
 root-some : (item : Item) (c : Class) → class_of_root item ≡ Some c → NoneOrOnly (AtRoot item)
 root-some item c e = by (first_inside c item) (exact_inside apart_tables c item)
   where
-    by : (found : Option Refused) → IsExact (Inside c item) found → NoneOrOnly (AtRoot item)
+    by : (found : Option RefusedAt) → IsExact (Inside c item) found → NoneOrOnly (AtRoot item)
     by None h = inl (root-ok item c e h)
     by (Some fault) h = inr (fault, root-err item c fault e h)
 
@@ -26,10 +26,10 @@ root-one item =
       | Some c ↦ λ e. root-some item c e
     ] refl
 
-pub one-of : (Fault : Refused → Type 0) (a b : Refused) → NoneOrOnly Fault → Fault a → Fault b → a ≡ b
+pub one-of : (Fault : RefusedAt → Type 0) (a b : RefusedAt) → NoneOrOnly Fault → Fault a → Fault b → a ≡ b
 one-of Fault a b (inl free) x y = absurd (free a x)
 one-of Fault a b (inr (fault, only)) x y = only.1 a x ∙ sym (only.1 b y)
 
-pub none-or-one : (Fault : Refused → Type 0) → NoneOrOnly Fault → IsFree Fault ⊎ ((fault : Refused) × Fault fault)
+pub none-or-one : (Fault : RefusedAt → Type 0) → NoneOrOnly Fault → IsFree Fault ⊎ ((fault : RefusedAt) × Fault fault)
 none-or-one Fault (inl free) = inl free
 none-or-one Fault (inr (fault, only)) = inr (fault, only.0)

@@ -1,7 +1,7 @@
 -- An item has no fault of shape exactly where it is shaped.
 use Rattle.std.proofs.Common.{◌≡◌, ℕ, Bool, true, false, inl, inr, Option, Some, None, List, [], ◌∷◌, ◌++◌, if◌then◌else◌, refl, sym, ◌∙◌, subst, append_assoc}
-use Rattle.crs_text.specs.Items.{Item, leaf, node, Items, End, More}
-use Rattle.crs_text.specs.Refusal.{Refused}
+use Rattle.crs_text.specs.Items.{Item, leaf, node, Siblings, End, More}
+use Rattle.crs_text.specs.Refusal.{RefusedAt}
 use Rattle.crs_shape.specs.declared.class.Class.{Class}
 use Rattle.crs_shape.specs.Keywords.{is_keyword}
 use Rattle.crs_shape.specs.Slots.{SlotParts, slots_of}
@@ -15,7 +15,7 @@ use Rattle.crs_shape.proofs.SlotLemmas.{end-allowed}
 use Rattle.crs_shape.proofs.FaultLemmas.{IsExact, Reached, reached-start, reached-more, exact_inside, append-none, same_class}
 
 -- what shaped arguments are, as a pair that the walk gives back
-abbrev Left : Class → List Class → Items → Type 0
+abbrev Left : Class → List Class → Siblings → Type 0
 Left c before items = (ds : List Class) × (AreShaped c ds items × Allowed (slots_of c) (before ++ ds))
 
 left-end : (c : Class) (close : ℕ) (before : List Class) (slots : List SlotParts) → Reached (slots_of c) before slots →
@@ -27,7 +27,7 @@ left-end c close before slots r e =
     ] refl e
 
 -- from the fault by a step, if there is none
-by-step : (item : Item) (Goal : Type 0) (within : Class → Option Refused) (later : List SlotParts → Option Refused) (slots : List SlotParts) (o : Option Class) →
+by-step : (item : Item) (Goal : Type 0) (within : Class → Option RefusedAt) (later : List SlotParts → Option RefusedAt) (slots : List SlotParts) (o : Option Class) →
     ((d : Class) (next : List SlotParts) → o ≡ Some d → after slots d ≡ Some next → within d ≡ None → later next ≡ None → Goal) →
     fault_by item within later (step_as slots o) ≡ None → Goal
 by-step item Goal within later slots None go e = cc
@@ -37,14 +37,14 @@ by-step item Goal within later slots (Some d) go e =
       | Some next ↦ λ f h. both (within d) refl next f h
     ] refl e
   where
-    both : (w : Option Refused) → within d ≡ w → (next : List SlotParts) → after slots d ≡ Some next → or_later w (later next) ≡ None → Goal
+    both : (w : Option RefusedAt) → within d ≡ w → (next : List SlotParts) → after slots d ≡ Some next → or_later w (later next) ≡ None → Goal
     both None g next f h = go d next refl f g h
     both (Some fault) g next f h = cc
 
 one-more-class : (c : Class) (before : List Class) (d : Class) (ds : List Class) → Allowed (slots_of c) ((before ++ d ∷ []) ++ ds) → Allowed (slots_of c) (before ++ (d ∷ ds))
 one-more-class c before d ds h = let P : List Class → Type 0 = λ x. Allowed (slots_of c) x in subst P (append_assoc before (d ∷ []) ds) h
 
-by-test : (b : Bool) (item : Item) (found : Option Refused) → (if b then found else Some (misplaced item)) ≡ None → (b ≡ true) × (found ≡ None)
+by-test : (b : Bool) (item : Item) (found : Option RefusedAt) → (if b then found else Some (misplaced item)) ≡ None → (b ≡ true) × (found ≡ None)
 by-test true item found e = (refl, e)
 by-test false item found e = cc
 
@@ -69,7 +69,7 @@ mutual
             h.1,
       )
 
-  left-none : (c : Class) (close : ℕ) (before : List Class) (slots : List SlotParts) (items : Items) → Reached (slots_of c) before slots →
+  left-none : (c : Class) (close : ℕ) (before : List Class) (slots : List SlotParts) (items : Siblings) → Reached (slots_of c) before slots →
       first_among c close slots items ≡ None → Left c before items
   left-none c close before slots End r e = left-end c close before slots r e
   left-none c close before slots (More item items) r e =
@@ -83,7 +83,7 @@ mutual
 shaped-inside : (c : Class) (item : Item) → IsFree (Inside c item) → first_inside c item ≡ None
 shaped-inside c item free = by (first_inside c item) (exact_inside apart_tables c item)
   where
-    by : (o : Option Refused) → IsExact (Inside c item) o → o ≡ None
+    by : (o : Option RefusedAt) → IsExact (Inside c item) o → o ≡ None
     by None h = refl
     by (Some fault) h = absurd (free fault h.0)
 
@@ -92,7 +92,7 @@ free-shaped c item free = shaped-none c item (shaped-inside c item free)
 
 -- and back
 
-argument-free : (parent : Class) (before : List Class) (item : Item) (Within : Class → Refused → Type 0) (Later : List Class → Refused → Type 0) (c : Class) →
+argument-free : (parent : Class) (before : List Class) (item : Item) (Within : Class → RefusedAt → Type 0) (Later : List Class → RefusedAt → Type 0) (c : Class) →
     Stands parent before item c → IsFree (Within c) → IsFree (Later (before ++ c ∷ [])) → IsFree (ArgumentFault parent before item Within Later)
 argument-free parent before item Within Later c stands free later fault (inl (none, e)) = none c stands
 argument-free parent before item Within Later c stands free later fault (inr (d, (other, inl inside))) =
@@ -116,7 +116,7 @@ mutual
       (stands-by c [] first d ds named allowed) (shaped-free d first inner)
       (among-free c close (d ∷ []) ds others rest allowed) fault h.1
 
-  among-free : (c : Class) (close : ℕ) (before ds : List Class) (items : Items) → AreShaped c ds items → Allowed (slots_of c) (before ++ ds) →
+  among-free : (c : Class) (close : ℕ) (before ds : List Class) (items : Siblings) → AreShaped c ds items → Allowed (slots_of c) (before ++ ds) →
       IsFree (Among c close before items)
   among-free c close before [] End shaped allowed fault h =
       let P : List Class → Type 0 = λ x. Allowed (slots_of c) x in h.0 (subst P (append-none before) allowed)

@@ -1,6 +1,6 @@
 -- The numbers of faults of shape, and the places at which they can lie.
 use Rattle.std.specs.Prelude.{◌≡◌, ℕ, ◌⊎◌}
-use Rattle.crs_text.specs.Items.{Item, leaf, node, Items, End, More}
+use Rattle.crs_text.specs.Items.{Item, leaf, node, Siblings, End, More}
 
 -- an item may not stand where it does, its keyword being unknown or known, or arguments aren't complete
 abbrev pub IsShapeNumber : ℕ → Type 0
@@ -14,6 +14,6 @@ abbrev mutual
       (p ≡ place) ⊎ ((p ≡ close) ⊎ (IsPlaceIn first p ⊎ IsPlaceAmong others p))
 
   -- such a place of one of some items
-  pub IsPlaceAmong : Items → ℕ → Type 0
+  pub IsPlaceAmong : Siblings → ℕ → Type 0
   IsPlaceAmong End p = ⊥
   IsPlaceAmong (More item items) p = IsPlaceIn item p ⊎ IsPlaceAmong items p

@@ -1,7 +1,7 @@
 -- A bridge: the fault of shape that a walk over slots finds first.
 use Rattle.std.specs.Prelude.{ℕ, Option, Some, None, List, if◌then◌else◌}
-use Rattle.crs_text.specs.Items.{Item, leaf, node, Items, End, More}
-use Rattle.crs_text.specs.Refusal.{Refused}
+use Rattle.crs_text.specs.Items.{Item, leaf, node, Siblings, End, More}
+use Rattle.crs_text.specs.Refusal.{RefusedAt}
 use Rattle.crs_shape.specs.declared.class.Class.{Class}
 use Rattle.crs_shape.specs.Keywords.{is_keyword}
 use Rattle.crs_shape.specs.Slots.{SlotParts, slots_of}
@@ -9,7 +9,7 @@ use Rattle.crs_shape.specs.ShapeFault.{class_in, is_of, misplaced, missing}
 use Rattle.crs_shape.specs.Walk.{after, may_end}
 
 -- the first of two faults
-abbrev pub or_later : Option Refused → Option Refused → Option Refused
+abbrev pub or_later : Option RefusedAt → Option RefusedAt → Option RefusedAt
 or_later None later = later
 or_later (Some fault) later = Some fault
 
@@ -26,17 +26,17 @@ abbrev pub step_of : Class → List SlotParts → Item → Option (Class × List
 step_of parent slots item = step_as slots (class_in parent item)
 
 -- the fault of an argument or of those after it, by this step
-abbrev pub fault_by : Item → (Class → Option Refused) → (List SlotParts → Option Refused) →
-    Option (Class × List SlotParts) → Option Refused
+abbrev pub fault_by : Item → (Class → Option RefusedAt) → (List SlotParts → Option RefusedAt) →
+    Option (Class × List SlotParts) → Option RefusedAt
 fault_by item within later None = Some (misplaced item)
 fault_by item within later (Some step) = or_later (within step.0) (later step.1)
 
-abbrev pub fault_from : Class → List SlotParts → Item → (Class → Option Refused) → (List SlotParts → Option Refused) →
-    Option Refused
+abbrev pub fault_from : Class → List SlotParts → Item → (Class → Option RefusedAt) →
+    (List SlotParts → Option RefusedAt) → Option RefusedAt
 fault_from parent slots item within later = fault_by item within later (step_of parent slots item)
 
 unfoldable mutual
-  pub first_inside : Class → Item → Option Refused
+  pub first_inside : Class → Item → Option RefusedAt
   first_inside c (leaf kind place raw) =
       if is_of c (leaf kind place raw) then None else Some (misplaced (leaf kind place raw))
   first_inside c (node place keyword square first others close) =
@@ -44,7 +44,7 @@ unfoldable mutual
       then fault_from c (slots_of c) first (λ d. first_inside d first) (λ next. first_among c close next others)
       else Some (misplaced (node place keyword square first others close))
 
-  pub first_among : Class → ℕ → List SlotParts → Items → Option Refused
+  pub first_among : Class → ℕ → List SlotParts → Siblings → Option RefusedAt
   first_among c close slots End = if may_end slots then None else Some (missing close)
   first_among c close slots (More item items) =
       fault_from c slots item (λ d. first_inside d item) (λ next. first_among c close next items)

@@ -3,8 +3,8 @@ use Rattle.std.specs.Prelude.{◌≡◌, ℕ, ◌⊎◌, Bool, IsTrue, IsFalse, 
 use Rattle.std.specs.Prelude.{if◌then◌else◌}
 use denote.Enum.Bare.{sameb}
 use Rattle.crs_text.specs.Tokens.{Kind, number, text, word}
-use Rattle.crs_text.specs.Items.{Item, leaf, node, Items, End, More}
-use Rattle.crs_text.specs.Refusal.{Refused}
+use Rattle.crs_text.specs.Items.{Item, leaf, node, Siblings, End, More}
+use Rattle.crs_text.specs.Refusal.{RefusedAt}
 use Rattle.crs_shape.specs.contracts.class.Class.{the_type}
 use Rattle.crs_shape.specs.declared.class.Class.{Class}
 use Rattle.crs_shape.specs.declared.class.Class.TheVariants as class
@@ -29,22 +29,22 @@ is_of c (node place keyword square first others close) = is_keyword c keyword
 
 -- an item that may not stand where it does is refused at its first byte: 11 if it is a node whose keyword no
 -- class has, else 12
-abbrev pub misplaced : Item → Refused
+abbrev pub misplaced : Item → RefusedAt
 misplaced (leaf kind place raw) = record { number = 12; place = place }
 misplaced (node place keyword square first others close) =
     record { number = if is_known keyword then 12 else 11; place = place }
 
 -- a list of arguments that isn't complete is refused at the closing delimiter
-abbrev pub missing : ℕ → Refused
+abbrev pub missing : ℕ → RefusedAt
 missing close = record { number = 13; place = close }
 
 -- there is no such fault
-abbrev pub IsFree : (Refused → Type 0) → Type 0
-IsFree Fault = (fault : Refused) → Fault fault → ⊥
+abbrev pub IsFree : (RefusedAt → Type 0) → Type 0
+IsFree Fault = (fault : RefusedAt) → Fault fault → ⊥
 
 -- this is such a fault, and there is no other
-abbrev pub IsOnly : (Refused → Type 0) → Refused → Type 0
-IsOnly Fault fault = Fault fault × ((other : Refused) → Fault other → other ≡ fault)
+abbrev pub IsOnly : (RefusedAt → Type 0) → RefusedAt → Type 0
+IsOnly Fault fault = Fault fault × ((other : RefusedAt) → Fault other → other ≡ fault)
 
 -- an argument, after others of the classes `before`, may stand there as this class: it is of the class in its
 -- parent, and an allowed list begins so
@@ -54,8 +54,8 @@ pub record Stands (parent : Class) (before : List Class) (item : Item) (c : Clas
 
 -- The fault of an argument and of those after it: its own, if it may not stand there; else the fault inside it;
 -- else, if there is none, the fault of those after it.
-abbrev pub ArgumentFault : Class → List Class → Item → (Class → Refused → Type 0) → (List Class → Refused → Type 0) →
-    Refused → Type 0
+abbrev pub ArgumentFault : Class → List Class → Item → (Class → RefusedAt → Type 0) →
+    (List Class → RefusedAt → Type 0) → RefusedAt → Type 0
 ArgumentFault parent before item Within Later fault =
     (((c : Class) → Stands parent before item c → ⊥) × (fault ≡ misplaced item))
     ⊎ ((c : Class) × (Stands parent before item c
@@ -63,7 +63,7 @@ ArgumentFault parent before item Within Later fault =
 
 abbrev mutual
   -- the fault of an item that is asked to be of this class
-  pub Inside : Class → Item → Refused → Type 0
+  pub Inside : Class → Item → RefusedAt → Type 0
   Inside c (leaf kind place raw) fault =
       IsFalse (is_of c (leaf kind place raw)) × (fault ≡ misplaced (leaf kind place raw))
   Inside c (node place keyword square first others close) fault =
@@ -72,7 +72,7 @@ abbrev mutual
       × ArgumentFault c [] first (λ d f. Inside d first f) (λ before f. Among c close before others f) fault)
 
   -- the fault of a node's arguments that stand after others of the classes `before`
-  pub Among : Class → ℕ → List Class → Items → Refused → Type 0
+  pub Among : Class → ℕ → List Class → Siblings → RefusedAt → Type 0
   Among c close before End fault = (Allowed (slots_of c) before → ⊥) × (fault ≡ missing close)
   Among c close before (More item items) fault =
       ArgumentFault c before item (λ d f. Inside d item f) (λ b f. Among c close b items f) fault
@@ -83,7 +83,7 @@ class_of_root (leaf kind place raw) = None
 class_of_root (node place keyword square first others close) = root_named keyword
 
 -- the fault of a whole text: its node is asked to be a CRS of one of the five classes
-abbrev pub AtRoot : Item → Refused → Type 0
+abbrev pub AtRoot : Item → RefusedAt → Type 0
 AtRoot item fault =
     ((class_of_root item ≡ None) × (fault ≡ misplaced item))
     ⊎ ((c : Class) × ((class_of_root item ≡ Some c) × Inside c item fault))

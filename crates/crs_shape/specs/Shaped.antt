@@ -1,6 +1,6 @@
 -- Shaped items: those without a fault of shape, said of the whole item at once.
 use Rattle.std.specs.Prelude.{◌≡◌, IsTrue, Some, List, [], ◌∷◌}
-use Rattle.crs_text.specs.Items.{Item, leaf, node, Items, End, More}
+use Rattle.crs_text.specs.Items.{Item, leaf, node, Siblings, End, More}
 use Rattle.crs_shape.specs.declared.class.Class.{Class}
 use Rattle.crs_shape.specs.Keywords.{is_keyword}
 use Rattle.crs_shape.specs.Slots.{slots_of}
@@ -17,7 +17,7 @@ abbrev mutual
       ((class_in c first ≡ Some d) × (Shaped d first × (AreShaped c ds others × Allowed (slots_of c) (d ∷ ds))))))
 
   -- items are of these classes in their parent, one by one, and each has the shape of its class
-  pub AreShaped : Class → List Class → Items → Type 0
+  pub AreShaped : Class → List Class → Siblings → Type 0
   AreShaped c [] End = Unit {0}
   AreShaped c [] (More item items) = ⊥
   AreShaped c (d ∷ ds) End = ⊥

@@ -1,7 +1,7 @@
 //! The laws of shapes.
 ghost use Rattle.std.specs.Prelude.{◌≡◌, ◌<◌, ◌≤◌, ◌↔◌, ◌⊎◌, ℕ, Bool, IsTrue, List, length};
 ghost use Rattle.crs_text.specs.Items.{Item, HasId, first_of, here};
-ghost use Rattle.crs_text.specs.Refusal.{Refused};
+ghost use Rattle.crs_text.specs.Refusal.{RefusedAt};
 ghost use Rattle.crs_text.specs.TextFault.{SpellsNode};
 ghost use Rattle.crs_shape.specs.declared.class.Class.{Class};
 ghost use Rattle.crs_shape.specs.Counts.{how_many, least, most, is_bounded};
@@ -31,16 +31,16 @@ pub fn no_fault_is_shape()
 
 /// A whole text has one fault of shape, or none.
 pub fn fault_at_root_is_one()
-    ensures one { (item : Item) (a b : Refused) → AtRoot item a → AtRoot item b → a ≡ b }
-    ensures either { (item : Item) → IsFree (AtRoot item) ⊎ ((fault : Refused) × AtRoot item fault) }
+    ensures one { (item : Item) (a b : RefusedAt) → AtRoot item a → AtRoot item b → a ≡ b }
+    ensures either { (item : Item) → IsFree (AtRoot item) ⊎ ((fault : RefusedAt) × AtRoot item fault) }
 {}
 
 /// A fault of shape has the number 11, 12 or 13, and lies at the first byte of an item or at the closing delimiter of a
 /// node: of the item that is judged, or of one that stands in it. Profile.
 pub fn fault_is_within()
-    ensures inside { (class : Class) (item : Item) (fault : Refused) → Inside class item fault →
+    ensures inside { (class : Class) (item : Item) (fault : RefusedAt) → Inside class item fault →
         IsShapeNumber fault.number × IsPlaceIn item fault.place }
-    ensures root { (item : Item) (fault : Refused) → AtRoot item fault →
+    ensures root { (item : Item) (fault : RefusedAt) → AtRoot item fault →
         IsShapeNumber fault.number × IsPlaceIn item fault.place }
 
     // A place of an item of a tree is one of the tree, and one of a text's node is a byte of the text.

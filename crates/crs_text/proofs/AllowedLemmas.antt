@@ -5,7 +5,7 @@ use Rattle.std.proofs.lemmas.Bool.{ltb-true, ltb-false}
 use Rattle.std.proofs.lemmas.List.{append-nil}
 use Rattle.std.proofs.lemmas.List.Sums.{fold-append}
 use Rattle.crs_text.specs.Tokens.{number, text, word, Token, single, comma, opening, closing}
-use Rattle.crs_text.specs.Items.{Item, leaf, node, Items, End, More, tokens, others_tokens, depth}
+use Rattle.crs_text.specs.Items.{Item, leaf, node, Siblings, End, More, tokens, others_tokens, depth}
 use Rattle.crs_text.specs.Viable.{IsViable, IsViableAtAnyDepth, opened, opens, last_of, GoesOn, IsOpening, MayFollow, Allows, IsFull}
 use Rattle.crs_text.specs.State.{Frame, State, wants, worded, after, start, gather, only_if, behind_leaf, behind, step, run, before_tokens, frames_tokens, unread}
 use Rattle.crs_text.proofs.StateLemmas.{only_if-some, same_square-true, same_square-refl, unread-run}
@@ -20,7 +20,7 @@ mutual
       ∙ opens-item first (square ∷ held) (others_tokens others ++ closing close square ∷ more)
       ∙ opens-others others (square ∷ held) (closing close square ∷ more)
 
-  opens-others : (items : Items) (held : List Bool) (more : List Token) → fold opened held (others_tokens items ++ more) ≡ fold opened held more
+  opens-others : (items : Siblings) (held : List Bool) (more : List Token) → fold opened held (others_tokens items ++ more) ≡ fold opened held more
   opens-others End held more = refl
   opens-others (More item items) held more =
       ap (λ ts. fold opened held ts) (append_assoc (tokens item) (others_tokens items) more)

@@ -5,7 +5,7 @@ use Rattle.std.proofs.Math.ListN.{set}
 use Rattle.std.proofs.Math.Seq.{get_or-append_seam, set-append_seam}
 use Rattle.std.proofs.lemmas.List.{append-nil}
 use Rattle.crs_text.specs.Tokens.{Kind, number, text, word, Token, single, comma, opening, closing}
-use Rattle.crs_text.specs.Items.{Item, leaf, Items, End, More, count}
+use Rattle.crs_text.specs.Items.{Item, leaf, Siblings, End, More, count}
 use Rattle.crs_text.specs.State.{Frame, State, wants, worded, after, gather, only_if, same_square, behind_leaf, behind, step}
 use Rattle.crs_text.specs.Table.{Flat, item_kind, leaf_row, no_row, flat_step, flat_comma, flat_open, flat_close, with_leaf, with_open, with_close}
 use Rattle.crs_text.specs.Rows.{node_rows, rows, rows_of_items, rows_before, open_row, rows_of_frames, opens_of, flat}
@@ -23,7 +23,7 @@ flat_same : (rows rows' : List Row) (opens opens' : List Open) (position : Posit
     (let f : Flat = record { rows = rows; opens = opens; position = position } in f) ≡ record { rows = rows'; opens = opens'; position = position }
 flat_same rows rows' opens opens' position p q = cc
 
-rows-gather : (place : ℕ) (keyword : List ℕ) (square : Bool) (before : List Item) (item : Item) (later : Items) (close depth : ℕ) →
+rows-gather : (place : ℕ) (keyword : List ℕ) (square : Bool) (before : List Item) (item : Item) (later : Siblings) (close depth : ℕ) →
     rows depth (gather place keyword square before item later close) ≡
     node_rows place (length keyword) square close (length before + suc (count later)) depth (rows_before (suc depth) before ++ (rows (suc depth) item ++ rows_of_items (suc depth) later))
 rows-gather place keyword square [] item later close depth =

@@ -3,7 +3,7 @@ use Rattle.std.proofs.Common.{◌≡◌, ℕ, zero, suc, ◌+◌, ◌≤◌, ◌
 use Rattle.std.proofs.Math.Seq.{drop-append_seam}
 use Rattle.std.proofs.lemmas.List.{append-nil, map-append}
 use Rattle.crs_text.specs.Tokens.{Kind, number, text, word}
-use Rattle.crs_text.specs.Items.{Item, leaf, node, Items, End, More, arguments, size_of, sizes, inside, inside_items}
+use Rattle.crs_text.specs.Items.{Item, leaf, node, Siblings, End, More, arguments, size_of, sizes, inside, inside_items}
 use Rattle.crs_text.specs.Table.{item_kind, leaf_row}
 use Rattle.crs_text.specs.Rows.{rows, rows_of_items, row_of}
 use Rattle.crs_text.specs.declared.table.Row.{Row}
@@ -12,9 +12,9 @@ use Rattle.crs_text.specs.declared.table.Row.{Row}
 pub record Here : Type 0 where
   pub depth : ℕ
   pub item : Item
-  pub later : Items
+  pub later : Siblings
 
-abbrev pub items_at : Here → Items
+abbrev pub items_at : Here → Siblings
 items_at h = More h.item h.later
 
 abbrev pub row_at : Here → Row
@@ -26,7 +26,7 @@ abbrev mutual
   heres_in depth (node place keyword square first others close) =
       record { depth = suc depth; item = first; later = others } ∷ (heres_in (suc depth) first ++ heres_of (suc depth) others)
 
-  pub heres_of : ℕ → Items → List Here
+  pub heres_of : ℕ → Siblings → List Here
   heres_of depth End = []
   heres_of depth (More item items) = record { depth = depth; item = item; later = items } ∷ (heres_in depth item ++ heres_of depth items)
 
@@ -42,7 +42,7 @@ mutual
       let c = items-heres_of others (suc depth) in
       cc
 
-  items-heres_of : (items : Items) (depth : ℕ) → map items_at (heres_of depth items) ≡ inside_items items
+  items-heres_of : (items : Siblings) (depth : ℕ) → map items_at (heres_of depth items) ≡ inside_items items
   items-heres_of End depth = refl
   items-heres_of (More item items) depth =
       let a = map-append items_at (heres_in depth item) (heres_of depth items) in
@@ -56,7 +56,7 @@ mutual
   length-rows (node place keyword square first others close) depth =
       ap (λ n. suc n) (length-append (rows (suc depth) first) (rows_of_items (suc depth) others) ∙ (let a = length-rows first (suc depth) in let b = length-rows_of_items others (suc depth) in omega (arith, a, b)))
 
-  length-rows_of_items : (items : Items) (depth : ℕ) → length (rows_of_items depth items) ≡ sizes items
+  length-rows_of_items : (items : Siblings) (depth : ℕ) → length (rows_of_items depth items) ≡ sizes items
   length-rows_of_items End depth = refl
   length-rows_of_items (More item items) depth =
       length-append (rows depth item) (rows_of_items depth items) ∙ (let a = length-rows item depth in let b = length-rows_of_items items depth in omega (arith, a, b))
@@ -76,7 +76,7 @@ mutual
       let size : suc (length (rows (suc depth) first ++ rows_of_items (suc depth) others)) ≡ suc (size_of first + sizes others) = length-rows (node place keyword square first others close) depth in
       rw size (let body : rows (suc depth) first ++ rows_of_items (suc depth) others ≡ row_of (suc depth) first ∷ map row_at (heres_in (suc depth) first ++ heres_of (suc depth) others) = cc in ap (λ rs. row_of depth (node place keyword square first others close) ∷ rs) body)
 
-  rows-heres_of : (items : Items) (depth : ℕ) → rows_of_items depth items ≡ map row_at (heres_of depth items)
+  rows-heres_of : (items : Siblings) (depth : ℕ) → rows_of_items depth items ≡ map row_at (heres_of depth items)
   rows-heres_of End depth = refl
   rows-heres_of (More item items) depth =
       let a = map-append row_at (heres_in depth item) (heres_of depth items) in
@@ -91,13 +91,13 @@ pub items-heres : (tree : Item) → map items_at (heres tree) ≡ More tree End 
 items-heres tree = ap (λ l. More tree End ∷ l) (items-heres_in tree 0)
 
 -- the first of these items stands first in the list
-abbrev pub Begins : Items → List Here → Type 0
+abbrev pub Begins : Siblings → List Here → Type 0
 Begins End hs = Unit {0}
 Begins (More item items) [] = ⊥
 Begins (More item items) (h ∷ hs) = items_at h ≡ More item items
 
 -- what stands behind an item and all in it: the next argument, as deep, or something less deep
-abbrev pub Continues : ℕ → Items → List Here → Type 0
+abbrev pub Continues : ℕ → Siblings → List Here → Type 0
 Continues depth End [] = Unit {0}
 Continues depth End (h ∷ hs) = h.depth < depth
 Continues depth (More item items) [] = ⊥
@@ -125,7 +125,7 @@ mutual
       let c = length-heres_of others (suc depth) in
       omega (arith, a, b, c)
 
-  pub length-heres_of : (items : Items) (depth : ℕ) → length (heres_of depth items) ≡ sizes items
+  pub length-heres_of : (items : Siblings) (depth : ℕ) → length (heres_of depth items) ≡ sizes items
   length-heres_of End depth = refl
   length-heres_of (More item items) depth =
       let a = length-append (heres_in depth item) (heres_of depth items) in
@@ -133,11 +133,11 @@ mutual
       let c = length-heres_of items depth in
       omega (arith, a, b, c)
 
-begins-heres_of : (items : Items) (depth : ℕ) (hs : List Here) → Begins items (heres_of depth items ++ hs)
+begins-heres_of : (items : Siblings) (depth : ℕ) (hs : List Here) → Begins items (heres_of depth items ++ hs)
 begins-heres_of End depth hs = tt
 begins-heres_of (More item items) depth hs = refl
 
-continues-heres_of : (items : Items) (depth : ℕ) (hs : List Here) → IsLessDeep depth hs → Continues depth items (heres_of depth items ++ hs)
+continues-heres_of : (items : Siblings) (depth : ℕ) (hs : List Here) → IsLessDeep depth hs → Continues depth items (heres_of depth items ++ hs)
 continues-heres_of End depth [] h = tt
 continues-heres_of End depth (x ∷ hs) h = h
 continues-heres_of (More item items) depth hs h = (refl, refl)
@@ -146,7 +146,7 @@ less_deep-suc : (depth : ℕ) (hs : List Here) → IsLessDeep depth hs → IsLes
 less_deep-suc depth [] h = tt
 less_deep-suc depth (x ∷ hs) h = omega arith
 
-less_deep-heres_of : (items : Items) (depth : ℕ) (hs : List Here) → IsLessDeep depth hs → IsLessDeep (suc depth) (heres_of depth items ++ hs)
+less_deep-heres_of : (items : Siblings) (depth : ℕ) (hs : List Here) → IsLessDeep depth hs → IsLessDeep (suc depth) (heres_of depth items ++ hs)
 less_deep-heres_of End depth hs h = less_deep-suc depth hs h
 less_deep-heres_of (More item items) depth hs h = omega arith
 
@@ -155,7 +155,7 @@ begins-heres_in (leaf kind place raw) depth hs = tt
 begins-heres_in (node place keyword square first others close) depth hs = refl
 
 -- an item in front of what is linked
-linked-item : (item : Item) (later : Items) (depth : ℕ) (hs : List Here) → IsLessDeep depth hs →
+linked-item : (item : Item) (later : Siblings) (depth : ℕ) (hs : List Here) → IsLessDeep depth hs →
     AreLinked (heres_in depth item ++ (heres_of depth later ++ hs)) →
     AreLinked (record { depth = depth; item = item; later = later } ∷ (heres_in depth item ++ (heres_of depth later ++ hs)))
 linked-item item later depth hs less linked =
@@ -181,7 +181,7 @@ mutual
       let all = linked-item first others (suc depth) hs less rest in
       subst (λ l. AreLinked (record { depth = suc depth; item = first; later = others } ∷ l)) (sym (append_assoc (heres_in (suc depth) first) (heres_of (suc depth) others) hs)) all
 
-  linked-heres_of : (items : Items) (depth : ℕ) (hs : List Here) → IsLessDeep depth hs → AreLinked hs → AreLinked (heres_of depth items ++ hs)
+  linked-heres_of : (items : Siblings) (depth : ℕ) (hs : List Here) → IsLessDeep depth hs → AreLinked hs → AreLinked (heres_of depth items ++ hs)
   linked-heres_of End depth hs less linked = linked
   linked-heres_of (More item items) depth hs less linked =
       let rest : AreLinked (heres_in depth item ++ (heres_of depth items ++ hs)) =

@@ -5,7 +5,7 @@ use Rattle.std.proofs.Math.Seq.{drop-cons}
 use Rattle.std.proofs.Common.{nat_lt, length-drop}
 use Rattle.std.proofs.lemmas.Bool.{ltb-true, ltb-false}
 use Rattle.std.proofs.lemmas.List.{length-map, get_or-map, get_or_past, drop-drop}
-use Rattle.crs_text.specs.Items.{Item, leaf, node, Items, End, More, arguments, count, first_of, rest_of, skip, size_of, here, HasId, IsAt}
+use Rattle.crs_text.specs.Items.{Item, leaf, node, Siblings, End, More, arguments, count, first_of, rest_of, skip, size_of, here, HasId, IsAt}
 use Rattle.crs_text.specs.Rows.{rows, row_of}
 use Rattle.crs_text.specs.declared.table.Row.{Row}
 use Rattle.crs_text.proofs.HereLemmas.{Here, items_at, row_at, heres, Begins, Continues, IsLinked, AreLinked, linked-heres, linked-drop, rows-heres, items-heres}
@@ -86,7 +86,7 @@ spot_behind tree at h hs e =
     let it : s.it ≡ h = cc in
     (s.items ∙ ap items_at it, λ d. s.row d ∙ ap row_at it)
 
-at_from_begins : (tree : Item) (at : ℕ) (items : Items) (hs : List Here) → drop at (heres tree) ≡ hs → items ≢ End → Begins items hs → IsAt tree items (Some at)
+at_from_begins : (tree : Item) (at : ℕ) (items : Siblings) (hs : List Here) → drop at (heres tree) ≡ hs → items ≢ End → Begins items hs → IsAt tree items (Some at)
 at_from_begins tree at End hs e some h = absurd (some refl)
 at_from_begins tree at (More item items) [] e some h = absurd h
 at_from_begins tree at (More item items) (x ∷ hs) e some h =
@@ -103,7 +103,7 @@ first_at tree id lt some =
     let behind : drop (id + 1) (heres tree) ≡ s.behind = sym (drop-drop 1 id (heres tree)) ∙ ap (λ l. drop 1 l) s.is in
     at_from_begins tree (id + 1) (arguments (first_of (here tree id))) s.behind behind some (subst (λ is. Begins is s.behind) (sym item) l.first)
 
-none_from_continues : (depth : ℕ) (items : Items) → Continues depth items [] → items ≡ End
+none_from_continues : (depth : ℕ) (items : Siblings) → Continues depth items [] → items ≡ End
 none_from_continues depth End h = refl
 none_from_continues depth (More item items) h = absurd h
 
@@ -129,7 +129,7 @@ next_none tree id lt end =
     none_from_continues (get_or (rows 0 tree) id none).depth (rest_of (here tree id)) (subst (λ l. Continues (get_or (rows 0 tree) id none).depth (rest_of (here tree id)) l) nil (continues_at tree id lt none))
 
 -- an item stands behind: as deep it is the next argument, else there is none
-next_by_depth : (tree : Item) (at depth : ℕ) (items : Items) (hs : List Here) (d : Row) → drop at (heres tree) ≡ hs → at < length (rows 0 tree) → Continues depth items hs →
+next_by_depth : (tree : Item) (at depth : ℕ) (items : Siblings) (hs : List Here) (d : Row) → drop at (heres tree) ≡ hs → at < length (rows 0 tree) → Continues depth items hs →
     ((get_or (rows 0 tree) at d).depth ≡ depth → IsAt tree items (Some at)) × ((get_or (rows 0 tree) at d).depth ≢ depth → items ≡ End)
 next_by_depth tree at depth items [] d e lt h =
     let len = length-heres tree in
@@ -168,11 +168,11 @@ size_of-pos : (item : Item) → 1 ≤ size_of item
 size_of-pos (leaf kind place raw) = omega arith
 size_of-pos (node place keyword square first others close) = omega arith
 
-some_from_count : (items : Items) → count items ≢ 0 → items ≢ End
+some_from_count : (items : Siblings) → count items ≢ 0 → items ≢ End
 some_from_count End h = absurd (h refl)
 some_from_count (More item items) h = λ e. cc
 
-none_from_count : (items : Items) → count items ≡ 0 → items ≡ End
+none_from_count : (items : Siblings) → count items ≡ 0 → items ≡ End
 none_from_count End h = refl
 none_from_count (More item items) h = absurd (omega arith)
 
@@ -221,7 +221,7 @@ within_table tree id table row t has e =
     let w = row-within tree id row has is in
     omega arith
 
-pub skip-more : (n : ℕ) (items : Items) → skip (n + 1) items ≡ rest_of (skip n items)
+pub skip-more : (n : ℕ) (items : Siblings) → skip (n + 1) items ≡ rest_of (skip n items)
 skip-more zero items = refl
 skip-more (suc n) items = let e : suc n + 1 ≡ suc (n + 1) = omega arith in rw e (skip-more n (rest_of items))
 
@@ -229,11 +229,11 @@ skip-none : (n : ℕ) → skip n End ≡ End
 skip-none zero = refl
 skip-none (suc n) = skip-none n
 
-pub skip-past : (n m : ℕ) (items : Items) → skip n items ≡ End → n ≤ m → skip m items ≡ End
+pub skip-past : (n m : ℕ) (items : Siblings) → skip n items ≡ End → n ≤ m → skip m items ≡ End
 skip-past zero m items e le = ap (λ is. skip m is) e ∙ skip-none m
 skip-past (suc n) zero items e le = absurd (omega arith)
 skip-past (suc n) (suc m) items e le = skip-past n m (rest_of items) e (omega arith)
 
 -- from one argument to the next
-pub at_next : (tree : Item) (items : Items) (n id : ℕ) (at : Option ℕ) → IsAt tree (skip n items) (Some id) → IsAt tree (rest_of (here tree id)) at → IsAt tree (skip (n + 1) items) at
+pub at_next : (tree : Item) (items : Siblings) (n id : ℕ) (at : Option ℕ) → IsAt tree (skip n items) (Some id) → IsAt tree (rest_of (here tree id)) at → IsAt tree (skip (n + 1) items) at
 at_next tree items n id at h next = rw skip-more (subst (λ is. IsAt tree (rest_of is) at) h.0 next)

@@ -2,10 +2,10 @@
 use Rattle.std.proofs.Common.{◌≡◌, ℕ, Bool, List, [], ◌∷◌, ◌++◌, refl, sym, ◌∙◌, subst, append_assoc}
 use Rattle.std.proofs.lemmas.List.{append-nil}
 use Rattle.crs_text.specs.Tokens.{Token, opening, closing}
-use Rattle.crs_text.specs.Items.{Item, leaf, node, Items, End, More, tokens, others_tokens, AreNode, BeginsNoNode}
+use Rattle.crs_text.specs.Items.{Item, leaf, node, Siblings, End, More, tokens, others_tokens, AreNode, BeginsNoNode}
 use Rattle.crs_text.proofs.ViableLemmas.{node_tokens}
 
-behind-others : (items : Items) (close : ℕ) (square : Bool) (more : List Token) → BeginsNoNode (others_tokens items ++ closing close square ∷ more)
+behind-others : (items : Siblings) (close : ℕ) (square : Bool) (more : List Token) → BeginsNoNode (others_tokens items ++ closing close square ∷ more)
 behind-others End close square more = tt
 behind-others (More item items) close square more = tt
 
@@ -27,7 +27,7 @@ mutual
       let cs = rest.1 in
       (cc, rest.2)
 
-  others-cancel : (is js : Items) (c c' : ℕ) (s s' : Bool) (a b : List Token) →
+  others-cancel : (is js : Siblings) (c c' : ℕ) (s s' : Bool) (a b : List Token) →
       others_tokens is ++ closing c s ∷ a ≡ others_tokens js ++ closing c' s' ∷ b → (is ≡ js) × (c ≡ c') × (a ≡ b)
   others-cancel End End c c' s s' a b e = (refl, cc, cc)
   others-cancel End (More j js) c c' s s' a b e = cc

@@ -11,7 +11,7 @@ use Rattle.crs_text.specs.Table.{Flat, flat_step, IsStep, IsOpened, is_whole}
 use Rattle.crs_text.specs.Rows.{Shows, flat}
 use Rattle.crs_text.specs.State.{start, after}
 use Rattle.crs_text.specs.Lexing.{IsLexed, StandsBefore}
-use Rattle.crs_text.specs.Refusal.{Refused}
+use Rattle.crs_text.specs.Refusal.{RefusedAt}
 use Rattle.crs_text.specs.Scan.{IsReached, IsTaken, IsStopped, IsStoppedBy, IsSingleAt}
 use Rattle.crs_text.specs.declared.fault.Fault.{Fault}
 use Rattle.crs_text.specs.declared.fault.Fault.TheVariants as faults
@@ -36,14 +36,14 @@ stop_flaw Unexpected total ts left skip f = absurd f
 stop_flaw UnexpectedEnd total ts left skip f = absurd f
 stop_flaw TooDeep total ts left skip f = absurd f
 
-pub stopped_flaw : (text : List ℕ) (at : ℕ) (table : Flat) (reason : Reason) (skip : ℕ) (r : Refused) → r.number ≡ reason_number reason → r.place ≡ at + skip → IsFlaw reason (drop at text) skip → IsStopped text at table r
+pub stopped_flaw : (text : List ℕ) (at : ℕ) (table : Flat) (reason : Reason) (skip : ℕ) (r : RefusedAt) → r.number ≡ reason_number reason → r.place ≡ at + skip → IsFlaw reason (drop at text) skip → IsStopped text at table r
 stopped_flaw text at table reason skip r n p f =
     record { reason = reason; skip = skip; is_number = n; is_place = p; stop = λ ts shows. stop_flaw reason (length text) ts (drop at text) skip f }
 
 no_skip : (at place : ℕ) → place ≡ at → place ≡ at + 0
 no_skip at place e = omega arith
 
-module _ (text : List ℕ) (at : ℕ) (table : Flat) (r : Refused) (is_place : r.place ≡ at) where
+module _ (text : List ℕ) (at : ℕ) (table : Flat) (r : RefusedAt) (is_place : r.place ≡ at) where
   pub stopped_single : (kind : Kind) (place : ℕ) (raw rest : List ℕ) → r.number ≡ reason_number Unexpected → Forms (length text) (single kind place raw) (drop at text) rest → flat_step table (single kind place raw) ≡ None → IsStopped text at table r
   stopped_single kind place raw rest n f none =
       record {
@@ -193,7 +193,7 @@ reached_next text at n w before behind r t e = record {
   within = omega (arith, prefix_len-le-length is_white (drop (at + n) text), length-drop (at + n) text, t.within, e);
 }
 
-pub refused_at : (text : List ℕ) (at : ℕ) (table : Flat) (r : Refused) → IsReached text table at → IsStopped text at table r → RefusesText text r.number r.place
+pub refused_at : (text : List ℕ) (at : ℕ) (table : Flat) (r : RefusedAt) → IsReached text table at → IsStopped text at table r → RefusesText text r.number r.place
 refused_at text at table r reached s = record {
   reason = s.reason;
   before = reached.tokens;
@@ -209,7 +209,7 @@ refused_at text at table r reached s = record {
 nothing_left : (text : List ℕ) (at : ℕ) → length text ≤ at → drop at text ≡ []
 nothing_left text at le = drop_all at text le
 
-pub refused_end : (text : List ℕ) (at : ℕ) (table : Flat) (r : Refused) → IsReached text table at → length text ≤ at → is_whole table ≡ false → r.number ≡ reason_number UnexpectedEnd → r.place ≡ length text → RefusesText text r.number r.place
+pub refused_end : (text : List ℕ) (at : ℕ) (table : Flat) (r : RefusedAt) → IsReached text table at → length text ≤ at → is_whole table ≡ false → r.number ≡ reason_number UnexpectedEnd → r.place ≡ length text → RefusesText text r.number r.place
 refused_end text at table r reached le whole n p = record {
   reason = UnexpectedEnd;
   before = reached.tokens;

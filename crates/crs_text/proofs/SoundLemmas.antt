@@ -3,7 +3,7 @@ use Rattle.std.proofs.Common.{◌≡◌, ℕ, suc, ◌+◌, ◌≤◌, Bool, Opt
 use Rattle.std.specs.List.{fold}
 use Rattle.std.proofs.lemmas.Bool.{ltb-true}
 use Rattle.crs_text.specs.Tokens.{Kind, number, text, word, Token, single, comma, opening, closing}
-use Rattle.crs_text.specs.Items.{Item, leaf, node, Items, End, More, depth, depths, IsNode}
+use Rattle.crs_text.specs.Items.{Item, leaf, node, Siblings, End, More, depth, depths, IsNode}
 use Rattle.crs_text.specs.State.{Frame, State, wants, worded, after, gather, behind_leaf, behind, step, move, run}
 use Rattle.crs_text.proofs.StateLemmas.{only_if-some, fold-none}
 
@@ -28,7 +28,7 @@ IsSound limit (wants fs) = AreSound limit fs
 IsSound limit (worded place raw fs) = AreSound limit fs
 IsSound limit (after item fs) = AreSound limit fs × IsEnded fs item × (depth item + length fs ≤ limit)
 
-pub IsNode-gather : (place : ℕ) (keyword : List ℕ) (square : Bool) (before : List Item) (item : Item) (later : Items) (close : ℕ) →
+pub IsNode-gather : (place : ℕ) (keyword : List ℕ) (square : Bool) (before : List Item) (item : Item) (later : Siblings) (close : ℕ) →
     IsNode (gather place keyword square before item later close)
 IsNode-gather place keyword square [] item later close = tt
 IsNode-gather place keyword square (b ∷ before) item later close = IsNode-gather place keyword square before b (More item later) close
@@ -38,7 +38,7 @@ IsEnded-node fs (leaf kind place raw) h = absurd h
 IsEnded-node [] (node place keyword square first others close) h = tt
 IsEnded-node (f ∷ fs) (node place keyword square first others close) h = tt
 
-depth-gather : (place : ℕ) (keyword : List ℕ) (square : Bool) (before : List Item) (item : Item) (later : Items) (close limit n : ℕ) →
+depth-gather : (place : ℕ) (keyword : List ℕ) (square : Bool) (before : List Item) (item : Item) (later : Siblings) (close limit n : ℕ) →
     EachFits limit (suc n) before → depth item + suc n ≤ limit → depths later + suc n ≤ limit → depth (gather place keyword square before item later close) + n ≤ limit
 depth-gather place keyword square [] item later close limit n each here rest = omega arith
 depth-gather place keyword square (b ∷ before) item later close limit n each here rest =

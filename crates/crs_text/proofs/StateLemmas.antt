@@ -3,7 +3,7 @@ use Rattle.std.proofs.Common.{◌≡◌, ℕ, Bool, true, false, Option, Some, N
 use Rattle.std.specs.List.{fold}
 use Rattle.std.proofs.lemmas.List.{append-nil}
 use Rattle.crs_text.specs.Tokens.{Kind, number, text, word, Token, single, comma, opening, closing}
-use Rattle.crs_text.specs.Items.{Item, leaf, Items, More, tokens, others_tokens}
+use Rattle.crs_text.specs.Items.{Item, leaf, Siblings, More, tokens, others_tokens}
 use Rattle.crs_text.specs.State.{Frame, State, wants, worded, after, gather, only_if, same_square, behind_leaf, behind, step, move, run, before_tokens, frames_tokens, unread}
 
 pub only_if-some : (b : Bool) (s n : State) → only_if b s ≡ Some n → (b ≡ true) × (s ≡ n)
@@ -21,7 +21,7 @@ same_square-refl true = refl
 same_square-refl false = refl
 
 -- the tokens of a gathered node
-pub tokens-gather : (place : ℕ) (keyword : List ℕ) (square : Bool) (before : List Item) (item : Item) (later : Items) (close : ℕ) →
+pub tokens-gather : (place : ℕ) (keyword : List ℕ) (square : Bool) (before : List Item) (item : Item) (later : Siblings) (close : ℕ) →
     tokens (gather place keyword square before item later close) ≡
     single word place keyword ∷ opening square ∷ (before_tokens before ++ (tokens item ++ (others_tokens later ++ closing close square ∷ [])))
 tokens-gather place keyword square [] item later close = simp append_assoc

@@ -6,7 +6,7 @@ use Rattle.crs_decimal.specs.Fault.{IsFault}
 use Rattle.crs_decimal.specs.declared.fault.NumberFault.{NumberFault}
 use Rattle.crs_decimal.specs.declared.fault.NumberFault.TheVariants.{Malformed, Range}
 use Rattle.crs_text.specs.Tokens.{Kind, number, text, word, Token, single, closing, IsFormed}
-use Rattle.crs_text.specs.Items.{Item, leaf, node, Items, End, More, tokens, others_tokens, first_of, kind_of, raw_of, place_of, here, HasId}
+use Rattle.crs_text.specs.Items.{Item, leaf, node, Siblings, End, More, tokens, others_tokens, first_of, kind_of, raw_of, place_of, here, HasId}
 use Rattle.crs_text.specs.Table.{item_kind, leaf_row}
 use Rattle.crs_text.specs.Rows.{rows, rows_of_items, row_of}
 use Rattle.crs_text.specs.Tree.{part_of, parts, parts_of_items, tree, tree-parts, raw_place, part, tree_of, StandsAt, TokenStands, Each, AllStand, IsTable}
@@ -47,7 +47,7 @@ mutual
       rw (← raw) (let body : map (part source) (rows (suc depth) first ++ rows_of_items (suc depth) others) ≡ parts first ++ parts_of_items others = cc in
       ap (λ ps. part_of (node place keyword square first others close) ∷ ps) body)
 
-  parts-rows_of_items : (items : Items) (source : List ℕ) (depth : ℕ) → AllStand source (others_tokens items) → map (part source) (rows_of_items depth items) ≡ parts_of_items items
+  parts-rows_of_items : (items : Siblings) (source : List ℕ) (depth : ℕ) → AllStand source (others_tokens items) → map (part source) (rows_of_items depth items) ≡ parts_of_items items
   parts-rows_of_items End source depth h = refl
   parts-rows_of_items (More item items) source depth h =
       let a = parts-rows item source depth (each_left (TokenStands source) (tokens item) (others_tokens items) h.1) in
@@ -84,7 +84,7 @@ module _ (P : Token → Type 0) (Q : Item → Type 0) (own : (item : Item) → E
         let b = all-heres_of others (suc depth) (each_right P (tokens first) (others_tokens others) left) in
         (own first one, all-append Q (heres_in (suc depth) first) (heres_of (suc depth) others) a b)
 
-    all-heres_of : (items : Items) (depth : ℕ) → Each P (others_tokens items) → AllHere Q (heres_of depth items)
+    all-heres_of : (items : Siblings) (depth : ℕ) → Each P (others_tokens items) → AllHere Q (heres_of depth items)
     all-heres_of End depth h = tt
     all-heres_of (More item items) depth h =
         let one = each_left P (tokens item) (others_tokens items) h.1 in

@@ -5,7 +5,7 @@ use Rattle.std.proofs.lemmas.Bool.{lt-ltb}
 use Rattle.std.proofs.lemmas.List.{append-nil}
 use Rattle.std.proofs.lemmas.List.Sums.{fold-append}
 use Rattle.crs_text.specs.Tokens.{number, text, word, Token, single, comma, opening, closing}
-use Rattle.crs_text.specs.Items.{Item, leaf, node, Items, End, More, tokens, others_tokens, depth, depths, IsNode, AreNode}
+use Rattle.crs_text.specs.Items.{Item, leaf, node, Siblings, End, More, tokens, others_tokens, depth, depths, IsNode, AreNode}
 use Rattle.crs_text.specs.Viable.{IsViable}
 use Rattle.crs_text.specs.State.{Frame, State, wants, worded, after, start, gather, behind_leaf, step, move, run}
 use Rattle.crs_text.proofs.StateLemmas.{same_square-refl, fold-none, unread-run}
@@ -59,7 +59,7 @@ mutual
       ∙ run-item first limit (f ∷ fs) (others_tokens others ++ closing close square ∷ more) tt (omega arith)
       ∙ run-others others limit first f fs more close (omega arith)
 
-  run-others : (items : Items) (limit : ℕ) (item : Item) (f : Frame) (fs : List Frame) (more : List Token) (close : ℕ) → depths items + suc (length fs) ≤ limit →
+  run-others : (items : Siblings) (limit : ℕ) (item : Item) (f : Frame) (fs : List Frame) (more : List Token) (close : ℕ) → depths items + suc (length fs) ≤ limit →
       run limit (ended item (f ∷ fs)) (others_tokens items ++ closing close f.square ∷ more) ≡
       run limit (after (gather f.place f.keyword f.square f.before item items close) fs) more
   run-others End limit item f fs more close d = run-cons limit (ended item (f ∷ fs)) (closing close f.square) _ more (step-closing limit item f fs close)

@@ -3,7 +3,7 @@ use Rattle.std.proofs.Common.{◌≡◌, ℕ, suc, ◌+◌, ◌≤◌, max, true
 use Rattle.std.proofs.lemmas.List.{append-nil, length-append}
 use Rattle.crs_text.specs.Quoted.{StopsAt}
 use Rattle.crs_text.specs.Tokens.{Kind, number, text, word, Token, single, comma, opening, closing, is_white, IsWord, IsSingle, single_spelling, takes, IsFormed, Forms, Fronts}
-use Rattle.crs_text.specs.Items.{Item, leaf, node, Items, End, More, tokens, others_tokens, depth, depths, IsNode}
+use Rattle.crs_text.specs.Items.{Item, leaf, node, Siblings, End, More, tokens, others_tokens, depth, depths, IsNode}
 use Rattle.crs_text.specs.TextFault.{SpellsNode}
 use Rattle.crs_text.specs.Tree.{Each}
 use Rattle.crs_text.specs.Written.{item_text, others_text, AreFormed, AreAllFormed, SameItem, SameItems, at_place, at_places, WrittenSpells}
@@ -26,7 +26,7 @@ apart_close rest number = refl
 apart_close rest text = refl
 apart_close rest word = refl
 
-apart_others : (others : Items) (rest : List ℕ) → IsApart rest → IsApart (others_text others ++ rest)
+apart_others : (others : Siblings) (rest : List ℕ) → IsApart rest → IsApart (others_text others ++ rest)
 apart_others End rest apart = apart
 apart_others (More item items) rest apart = apart_comma ((item_text item ++ others_text items) ++ rest)
 
@@ -92,7 +92,7 @@ mutual
       (subst (λ (us : List Token). Fronts total (keyword ++ 91 ∷ (item_text first ++ (others_text others ++ 93 ∷ rest))) (single word place keyword ∷ opening true ∷ us) end)
       (sym (node_tokens (tokens (at_place start first)) (others_tokens (at_places (start + length (item_text first)) others)) ts (closing at true))) whole)
 
-  front_items : (total place : ℕ) (items : Items) (rest end : List ℕ) (ts : List Token) → AreAllFormed items → IsApart rest → place + length (others_text items ++ rest) ≡ total
+  front_items : (total place : ℕ) (items : Siblings) (rest end : List ℕ) (ts : List Token) → AreAllFormed items → IsApart rest → place + length (others_text items ++ rest) ≡ total
       → Fronts total rest ts end → Fronts total (others_text items ++ rest) (others_tokens (at_places place items) ++ ts) end
   front_items total place End rest end ts formed apart placed more = more
   front_items total place (More item items) rest end ts formed apart placed more =
@@ -126,7 +126,7 @@ mutual
       let g = formed_items others (closing close square ∷ rest) f.1 in
       ((all.0, f.0, g.0), g.1.1)
 
-  formed_items : (items : Items) (rest : List Token) → AllFormed (others_tokens items ++ rest) → AreAllFormed items × AllFormed rest
+  formed_items : (items : Siblings) (rest : List Token) → AllFormed (others_tokens items ++ rest) → AreAllFormed items × AllFormed rest
   formed_items End rest all = (tt, all)
   formed_items (More item items) rest all =
       let inside : AllFormed (tokens item ++ (others_tokens items ++ rest)) = subst AllFormed (append_assoc (tokens item) (others_tokens items) rest) all.1 in
@@ -153,7 +153,7 @@ mutual
       ap (λ (n : ℕ). suc (max n (depths (at_places (place + length keyword + 1 + length (item_text first)) others)))) (depth-at_place (place + length keyword + 1) first)
       ∙ ap (λ (n : ℕ). suc (max (depth first) n)) (depths-at_places (place + length keyword + 1 + length (item_text first)) others)
 
-  depths-at_places : (place : ℕ) (items : Items) → depths (at_places place items) ≡ depths items
+  depths-at_places : (place : ℕ) (items : Siblings) → depths (at_places place items) ≡ depths items
   depths-at_places place End = refl
   depths-at_places place (More item items) =
       ap (λ (n : ℕ). max n (depths (at_places (place + 1 + length (item_text item)) items))) (depth-at_place (place + 1) item)
@@ -165,7 +165,7 @@ mutual
   at_place-same place (node here keyword square first others close) =
       (refl, at_place-same (place + length keyword + 1) first, at_places-same (place + length keyword + 1 + length (item_text first)) others)
 
-  at_places-same : (place : ℕ) (items : Items) → SameItems items (at_places place items)
+  at_places-same : (place : ℕ) (items : Siblings) → SameItems items (at_places place items)
   at_places-same place End = tt
   at_places-same place (More item items) = (at_place-same (place + 1) item, at_places-same (place + 1 + length (item_text item)) items)
 
@@ -183,7 +183,7 @@ mutual
   same_text (leaf kind place raw) (node place2 keyword2 square2 first2 others2 close2) same = absurd same
   same_text (node place keyword square first others close) (leaf kind2 place2 raw2) same = absurd same
 
-  same_texts : (a b : Items) → SameItems a b → others_text a ≡ others_text b
+  same_texts : (a b : Siblings) → SameItems a b → others_text a ≡ others_text b
   same_texts End End same = refl
   same_texts (More item items) (More item2 items2) same =
       let f : item_text item ≡ item_text item2 = same_text item item2 same.0 in

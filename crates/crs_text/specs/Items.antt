@@ -11,11 +11,11 @@ use Rattle.crs_text.specs.Tokens.{Kind, number, text, word, Token, single, comma
 mutual
   pub data Item : Type 0 where
     leaf : (kind : Kind) (place : ℕ) (raw : List ℕ) → Item
-    node : (place : ℕ) (keyword : List ℕ) (square : Bool) (first : Item) (others : Items) (close : ℕ) → Item
+    node : (place : ℕ) (keyword : List ℕ) (square : Bool) (first : Item) (others : Siblings) (close : ℕ) → Item
 
-  pub data Items : Type 0 where
-    End : Items
-    More : Item → Items → Items
+  pub data Siblings : Type 0 where
+    End : Siblings
+    More : Item → Siblings → Siblings
 
 abbrev mutual
   -- the tokens of an item, in order
@@ -25,7 +25,7 @@ abbrev mutual
       single word place keyword ∷ opening square ∷ (tokens first ++ others_tokens others ++ closing close square ∷ [])
 
   -- the tokens of the items after a first one
-  pub others_tokens : Items → List Token
+  pub others_tokens : Siblings → List Token
   others_tokens End = []
   others_tokens (More item items) = comma ∷ (tokens item ++ others_tokens items)
 
@@ -35,7 +35,7 @@ abbrev mutual
   depth (leaf kind place raw) = 0
   depth (node place keyword square first others close) = suc (max (depth first) (depths others))
 
-  pub depths : Items → ℕ
+  pub depths : Siblings → ℕ
   depths End = 0
   depths (More item items) = max (depth item) (depths items)
 
@@ -58,25 +58,25 @@ BeginsNoNode (opening square ∷ ts) = ⊥
 BeginsNoNode (closing place square ∷ ts) = Unit {0}
 
 -- the items after an opening delimiter, in order
-abbrev pub arguments : Item → Items
+abbrev pub arguments : Item → Siblings
 arguments (leaf kind place raw) = End
 arguments (node place keyword square first others close) = More first others
 
-abbrev pub count : Items → ℕ
+abbrev pub count : Siblings → ℕ
 count End = 0
 count (More item items) = suc (count items)
 
 -- the first of some items, and those after it; of none a word that no text has
-abbrev pub first_of : Items → Item
+abbrev pub first_of : Siblings → Item
 first_of End = leaf word 0 []
 first_of (More item items) = item
 
-abbrev pub rest_of : Items → Items
+abbrev pub rest_of : Siblings → Siblings
 rest_of End = End
 rest_of (More item items) = items
 
 -- the items after the first ones, as many as `n` says
-abbrev pub skip : ℕ → Items → Items
+abbrev pub skip : ℕ → Siblings → Siblings
 skip zero items = items
 skip (suc n) items = skip n (rest_of items)
 
@@ -107,24 +107,24 @@ abbrev mutual
   size_of (leaf kind place raw) = 1
   size_of (node place keyword square first others close) = suc (size_of first + sizes others)
 
-  pub sizes : Items → ℕ
+  pub sizes : Siblings → ℕ
   sizes End = 0
   sizes (More item items) = size_of item + sizes items
 
 abbrev mutual
   -- the items within an item in the order in which they begin, each with the later arguments of its node
-  pub inside : Item → List Items
+  pub inside : Item → List Siblings
   inside (leaf kind place raw) = []
   inside (node place keyword square first others close) = More first others ∷ (inside first ++ inside_items others)
 
   -- some items and those within them, likewise
-  pub inside_items : Items → List Items
+  pub inside_items : Siblings → List Siblings
   inside_items End = []
   inside_items (More item items) = More item items ∷ (inside item ++ inside_items items)
 
 -- item number `id` of a tree, in the order in which the items begin, and the later arguments of its node; none if
 -- there are fewer
-unfoldable pub here : Item → ℕ → Items
+unfoldable pub here : Item → ℕ → Siblings
 here tree id = slice_index_or (More tree End ∷ inside tree) id End
 
 -- the tree has an item of this number
@@ -132,12 +132,12 @@ abbrev pub HasId : Item → ℕ → Type 0
 HasId tree id = here tree id ≢ End
 
 -- the number of the first of these items, which stand in the tree; none where there are no such items
-abbrev pub IsAt : Item → Items → Option ℕ → Type 0
+abbrev pub IsAt : Item → Siblings → Option ℕ → Type 0
 IsAt tree items None = items ≡ End
 IsAt tree items (Some id) = (here tree id ≡ items) × HasId tree id
 
 -- the first items, as many as `n` says
-abbrev pub only : ℕ → Items → Items
+abbrev pub only : ℕ → Siblings → Siblings
 only zero items = End
 only (suc n) End = End
 only (suc n) (More item items) = More item (only n items)

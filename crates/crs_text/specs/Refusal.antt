@@ -2,7 +2,7 @@
 use Rattle.std.specs.Prelude.{ℕ, ◌&&◌, ◌||◌, ◌==◌, nat_le, Bool, List, codes, if◌then◌else◌}
 
 -- the place counts bytes of the text from 0
-pub record Refused : Type 0 where
+pub record RefusedAt : Type 0 where
   pub number : ℕ
   pub place : ℕ
 

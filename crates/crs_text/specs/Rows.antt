@@ -1,7 +1,7 @@
 -- A bridge: the rows of items, in the order in which the items begin, and the table of a state.
 use Rattle.std.specs.Prelude.{◌≡◌, ℕ, suc, Bool, false, Some, List, [], ◌∷◌, ◌++◌, length}
 use Rattle.crs_text.specs.Tokens.{Token}
-use Rattle.crs_text.specs.Items.{Item, leaf, node, Items, End, More, arguments, count, kind_of, raw_of, place_of}
+use Rattle.crs_text.specs.Items.{Item, leaf, node, Siblings, End, More, arguments, count, kind_of, raw_of, place_of}
 use Rattle.crs_text.specs.Items.{size_of}
 use Rattle.crs_text.specs.State.{Frame, State, wants, worded, after, start, run}
 use Rattle.crs_text.specs.Table.{Flat, item_kind, leaf_row}
@@ -31,7 +31,7 @@ abbrev mutual
       node_rows place (length keyword) square close (suc (count others)) depth
       (rows (suc depth) first ++ rows_of_items (suc depth) others)
 
-  pub rows_of_items : ℕ → Items → List Row
+  pub rows_of_items : ℕ → Siblings → List Row
   rows_of_items depth End = []
   rows_of_items depth (More item items) = rows depth item ++ rows_of_items depth items
 

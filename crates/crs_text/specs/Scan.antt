@@ -6,7 +6,7 @@ use Rattle.crs_text.specs.Table.{Flat, flat_step, item_kind}
 use Rattle.crs_text.specs.Rows.{Shows, flat}
 use Rattle.crs_text.specs.State.{after}
 use Rattle.crs_text.specs.Items.{Item}
-use Rattle.crs_text.specs.Refusal.{Refused}
+use Rattle.crs_text.specs.Refusal.{RefusedAt}
 use Rattle.crs_text.specs.declared.refusal.Reason.{Reason}
 use Rattle.crs_text.specs.declared.items.ItemKind.{ItemKind}
 use Rattle.crs_text.specs.declared.fault.Fault.{Fault}
@@ -27,7 +27,7 @@ pub record IsTaken (text : List ℕ) (at : ℕ) (before behind : Flat) (n : ℕ)
   pub within : at + n ≤ length text
 
 -- at this place nothing goes on, whatever tokens the table shows
-pub record IsStopped (text : List ℕ) (at : ℕ) (table : Flat) (refusal : Refused) : Type 0 where
+pub record IsStopped (text : List ℕ) (at : ℕ) (table : Flat) (refusal : RefusedAt) : Type 0 where
   pub reason : Reason
   pub skip : ℕ
   pub is_number : refusal.number ≡ reason_number reason

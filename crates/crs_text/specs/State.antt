@@ -4,7 +4,7 @@ use Rattle.std.specs.Prelude.{ℕ, nat_lt, Bool, true, false, Option, Some, None
 use Rattle.std.specs.Option.{option_and_then}
 use Rattle.std.specs.List.{fold}
 use Rattle.crs_text.specs.Tokens.{Kind, number, text, word, Token, single, comma, opening, closing}
-use Rattle.crs_text.specs.Items.{Item, leaf, node, Items, End, More, tokens}
+use Rattle.crs_text.specs.Items.{Item, leaf, node, Siblings, End, More, tokens}
 
 -- an open node: its word, its delimiter, and the arguments that are complete, the last first
 pub record Frame : Type 0 where
@@ -23,7 +23,7 @@ abbrev pub start : State
 start = wants []
 
 -- the node of these arguments: those before the item, the last first, the item, and those after it
-abbrev pub gather : ℕ → List ℕ → Bool → List Item → Item → Items → ℕ → Item
+abbrev pub gather : ℕ → List ℕ → Bool → List Item → Item → Siblings → ℕ → Item
 gather place keyword square [] item later close = node place keyword square item later close
 gather place keyword square (b ∷ before) item later close = gather place keyword square before b (More item later) close
 

@@ -3,7 +3,7 @@ use Rattle.std.specs.Prelude.{◌≡◌, ℕ, zero, suc, ◌+◌, ◌≤◌, Boo
 use Rattle.std.specs.Coded.{Coded, coded_ℕ, coded_bool, coded_list, coded×, code_by}
 use Rattle.std.proofs.Common.{◌∙◌, ap, sym, append_assoc}
 use Rattle.crs_text.specs.Tokens.{number, text, word, Token, single, comma, opening, closing, IsFormed}
-use Rattle.crs_text.specs.Items.{Item, leaf, node, Items, End, More, tokens, arguments, count, first_of, skip, only}
+use Rattle.crs_text.specs.Items.{Item, leaf, node, Siblings, End, More, tokens, arguments, count, first_of, skip, only}
 use Rattle.crs_text.specs.Items.{kind_of, raw_of, place_of, IsNode}
 use Rattle.crs_text.specs.Rows.{rows, square_of, close_place}
 use Rattle.crs_text.specs.declared.items.ItemKind.{ItemKind}
@@ -36,15 +36,15 @@ abbrev mutual
   parts (node place keyword square first others close) =
       part_of (node place keyword square first others close) ∷ (parts first ++ parts_of_items others)
 
-  pub parts_of_items : Items → List Part
+  pub parts_of_items : Siblings → List Part
   parts_of_items End = []
   parts_of_items (More item items) = parts item ++ parts_of_items items
 
 -- an item of a part and its arguments
-abbrev pub made : Part → Items → Item
+abbrev pub made : Part → Siblings → Item
 made p items = by_kind p.kind items
   where
-    by_kind : ItemKind → Items → Item
+    by_kind : ItemKind → Siblings → Item
     by_kind Number items = leaf number p.place p.raw
     by_kind Text items = leaf text p.place p.raw
     by_kind Word items = leaf word p.place p.raw
@@ -52,22 +52,22 @@ made p items = by_kind p.kind items
     by_kind Node (More first others) = node p.place p.raw p.square first others p.close
 
 -- the items that parts give, from the last to the first: each takes as many as it has arguments
-abbrev pub forest : List Part → Items
+abbrev pub forest : List Part → Siblings
 forest [] = End
 forest (p ∷ ps) = More (made p (only p.count (forest ps))) (skip p.count (forest ps))
 
 abbrev pub tree : List Part → Item
 tree ps = first_of (forest ps)
 
-abbrev pub join : Items → Items → Items
+abbrev pub join : Siblings → Siblings → Siblings
 join End later = later
 join (More item items) later = More item (join items later)
 
-only-join : (items later : Items) → only (count items) (join items later) ≡ items
+only-join : (items later : Siblings) → only (count items) (join items later) ≡ items
 only-join End later = refl
 only-join (More item items) later = ap (λ is. More item is) (only-join items later)
 
-skip-join : (items later : Items) → skip (count items) (join items later) ≡ later
+skip-join : (items later : Siblings) → skip (count items) (join items later) ≡ later
 skip-join End later = refl
 skip-join (More item items) later = skip-join items later
 
@@ -78,20 +78,26 @@ mutual
   forest-parts (leaf word place raw) ps = refl
   forest-parts (node place keyword square first others close) ps =
       let inner : forest ((parts first ++ parts_of_items others) ++ ps) ≡ More first (join others (forest ps)) =
-      ap forest (append_assoc (parts first) (parts_of_items others) ps) ∙ forest-parts first (parts_of_items others ++ ps) ∙ ap (λ is. More first is) (forest-parts_of_items others ps) in
+      ap forest (append_assoc (parts first) (parts_of_items others) ps)
+      ∙ forest-parts first (parts_of_items others ++ ps)
+      ∙ ap (λ is. More first is) (forest-parts_of_items others ps) in
       let p = part_of (node place keyword square first others close) in
-      let whole : More (made p (only p.count (forest ((parts first ++ parts_of_items others) ++ ps)))) (skip p.count (forest ((parts first ++ parts_of_items others) ++ ps))) ≡
-      More (made p (More first (only (count others) (join others (forest ps))))) (skip (count others) (join others (forest ps))) =
+      let whole : More (made p (only p.count (forest ((parts first ++ parts_of_items others) ++ ps))))
+      (skip p.count (forest ((parts first ++ parts_of_items others) ++ ps))) ≡
+      More (made p (More first (only (count others) (join others (forest ps)))))
+      (skip (count others) (join others (forest ps))) =
       ap (λ is. More (made p (only p.count is)) (skip p.count is)) inner in
       whole
-      ∙ ap (λ is. More (made p (More first is)) (skip (count others) (join others (forest ps)))) (only-join others (forest ps))
+      ∙ ap (λ is. More (made p (More first is)) (skip (count others) (join others (forest ps))))
+      (only-join others (forest ps))
       ∙ ap (λ is. More (node place keyword square first others close) is) (skip-join others (forest ps))
 
-  forest-parts_of_items : (items : Items) (ps : List Part) → forest (parts_of_items items ++ ps)
+  forest-parts_of_items : (items : Siblings) (ps : List Part) → forest (parts_of_items items ++ ps)
       ≡ join items (forest ps)
   forest-parts_of_items End ps = refl
   forest-parts_of_items (More item items) ps =
-      ap forest (append_assoc (parts item) (parts_of_items items) ps) ∙ forest-parts item (parts_of_items items ++ ps) ∙ ap (λ is. More item is) (forest-parts_of_items items ps)
+      ap forest (append_assoc (parts item) (parts_of_items items) ps)
+      ∙ forest-parts item (parts_of_items items ++ ps) ∙ ap (λ is. More item is) (forest-parts_of_items items ps)
 
 append-none : (ps : List Part) → ps ++ [] ≡ ps
 append-none [] = refl
@@ -127,7 +133,14 @@ part_code =
     code_by (ItemKind × (Bool × (ℕ × (List ℕ × (ℕ × ℕ)))))
     (coded× kind_code (coded× coded_bool (coded× coded_ℕ (coded× (coded_list coded_ℕ) (coded× coded_ℕ coded_ℕ)))))
     (λ p. (p.kind, (p.square, (p.place, (p.raw, (p.close, p.count))))))
-    (λ t. record { kind = t.0; square = t.1.0; place = t.1.1.0; raw = t.1.1.1.0; close = t.1.1.1.1.0; count = t.1.1.1.1.1 })
+    (λ t. record {
+      kind = t.0;
+      square = t.1.0;
+      place = t.1.1.0;
+      raw = t.1.1.1.0;
+      close = t.1.1.1.1.0;
+      count = t.1.1.1.1.1;
+    })
     (λ _. refl)
 
 -- an item is stored as its parts

@@ -1,7 +1,7 @@
 -- Written items: the text of an item without white space, and in square delimiters.
 use Rattle.std.specs.Prelude.{◌≡◌, ℕ, ◌+◌, ◌≤◌, true, List, [], ◌∷◌, ◌++◌, length}
 use Rattle.crs_text.specs.Tokens.{IsWord, IsSingle, single_spelling}
-use Rattle.crs_text.specs.Items.{Item, leaf, node, Items, End, More, depth, IsNode}
+use Rattle.crs_text.specs.Items.{Item, leaf, node, Siblings, End, More, depth, IsNode}
 use Rattle.crs_text.specs.TextFault.{SpellsNode}
 
 abbrev mutual
@@ -12,7 +12,7 @@ abbrev mutual
       keyword ++ 91 ∷ (item_text first ++ (others_text others ++ 93 ∷ []))
 
   -- the bytes of the items after a first one, a comma before each
-  pub others_text : Items → List ℕ
+  pub others_text : Siblings → List ℕ
   others_text End = []
   others_text (More item items) = 44 ∷ (item_text item ++ others_text items)
 
@@ -22,7 +22,7 @@ abbrev mutual
   AreFormed (leaf kind place raw) = IsSingle kind raw
   AreFormed (node place keyword square first others close) = IsWord keyword × AreFormed first × AreAllFormed others
 
-  pub AreAllFormed : Items → Type 0
+  pub AreAllFormed : Siblings → Type 0
   AreAllFormed End = Unit {0}
   AreAllFormed (More item items) = AreFormed item × AreAllFormed items
 
@@ -32,10 +32,11 @@ abbrev mutual
   SameItem (leaf kind place raw) (leaf other_kind other_place other_raw) = (kind ≡ other_kind) × (raw ≡ other_raw)
   SameItem (leaf kind place raw) (node other_place other_keyword other_square other_first rest other_close) = ⊥
   SameItem (node place keyword square first others close) (leaf other_kind other_place other_raw) = ⊥
-  SameItem (node place keyword square first others close) (node other_place other_keyword other_square other_first rest other_close) =
+  SameItem (node place keyword square first others close)
+      (node other_place other_keyword other_square other_first rest other_close) =
       (keyword ≡ other_keyword) × SameItem first other_first × SameItems others rest
 
-  pub SameItems : Items → Items → Type 0
+  pub SameItems : Siblings → Siblings → Type 0
   SameItems End End = Unit {0}
   SameItems End (More other rest) = ⊥
   SameItems (More item items) End = ⊥
@@ -50,7 +51,7 @@ abbrev mutual
       (at_places (start + length keyword + 1 + length (item_text first)) others)
       (start + length keyword + 1 + length (item_text first) + length (others_text others))
 
-  pub at_places : ℕ → Items → Items
+  pub at_places : ℕ → Siblings → Siblings
   at_places start End = End
   at_places start (More item items) =
       More (at_place (start + 1) item) (at_places (start + 1 + length (item_text item)) items)

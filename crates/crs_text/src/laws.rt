@@ -33,7 +33,8 @@ pub fn one_answer()
     ensures node { (bytes : List ℕ) (i j : Item) → SpellsNode bytes i → SpellsNode bytes j → i ≡ j }
     ensures refusal { (bytes : List ℕ) (n m place other : ℕ) → RefusesText bytes n place → RefusesText bytes m other →
         (n ≡ m) × (place ≡ other) }
-    ensures apart { (bytes : List ℕ) (item : Item) (n place : ℕ) → SpellsNode bytes item → ¬ (RefusesText bytes n place) }
+    ensures apart { (bytes : List ℕ) (item : Item) (n place : ℕ) → SpellsNode bytes item →
+        ¬ (RefusesText bytes n place) }
 
     // A refusal of the text has a number from 1 to 8, and a place in the text or at its end.
     ensures within { (bytes : List ℕ) (n place : ℕ) → RefusesText bytes n place →

@@ -14,9 +14,9 @@ pub struct Refusal {
 
 impl Model for Refusal {
     ghost use Rattle.std.specs.Prelude.{IsTrue};
-    ghost use Rattle.crs_text.specs.Refusal.{Refused, is_refusal};
+    ghost use Rattle.crs_text.specs.Refusal.{RefusedAt, is_refusal};
 
-    ghost Value = { Refused };
+    ghost Value = { RefusedAt };
 
     ghost view = { λ r. record { number = r.number; place = r.place } };
 

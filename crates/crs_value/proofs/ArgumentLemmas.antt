@@ -1,8 +1,8 @@
 -- Arguments: those of a class, one after another, are sound where their node is, and as many as its slots require.
 use Rattle.std.proofs.Common.{◌≡◌, ◌≢◌, ℕ, suc, ◌+◌, ◌<◌, ◌≤◌, length, Bool, true, false, inl, inr, Option, Some, None, List, [], ◌∷◌, if◌then◌else◌, refl, sym, ◌∙◌, ap, subst, arith, rules}
 use denote.Enum.Bare.{sameb, same_true}
-use Rattle.crs_text.specs.Items.{Item, leaf, node, Items, End, More, arguments, count, first_of, rest_of, kind_of, here, HasId, IsAt}
-use Rattle.crs_text.specs.Refusal.{Refused}
+use Rattle.crs_text.specs.Items.{Item, leaf, node, Siblings, End, More, arguments, count, first_of, rest_of, kind_of, here, HasId, IsAt}
+use Rattle.crs_text.specs.Refusal.{RefusedAt}
 use Rattle.crs_text.specs.Tokens.{Kind, number, text, word}
 use Rattle.crs_text.specs.Written.{AreFormed, AreAllFormed}
 use Rattle.crs_shape.specs.contracts.class.Class.{the_type}
@@ -19,25 +19,25 @@ use Rattle.crs_value.specs.Found.{from_found, AllShaped}
 use Rattle.crs_value.specs.Checks.{AtClass, Breaks, BreaksAmong, IsSound}
 use Rattle.crs_value.specs.Reading.{item_at, is_same, is_a, those, ahead, Holds, IsFound}
 
-pub ahead_at : (tree : Item) (items : Items) (at : Option ℕ) → IsAt tree items at → ahead tree at ≡ items
+pub ahead_at : (tree : Item) (items : Siblings) (at : Option ℕ) → IsAt tree items at → ahead tree at ≡ items
 ahead_at tree items None e = sym e
 ahead_at tree items (Some id) h = h.0
 
-pub holds_at : (tree : Item) (items : Items) (at : Option ℕ) → IsAt tree items at → Holds tree at
+pub holds_at : (tree : Item) (items : Siblings) (at : Option ℕ) → IsAt tree items at → Holds tree at
 holds_at tree items None e = tt
 holds_at tree items (Some id) h = h.1
 
-pub count-first : (items : Items) → items ≢ End → count items ≡ suc (count (rest_of items))
+pub count-first : (items : Siblings) → items ≢ End → count items ≡ suc (count (rest_of items))
 count-first End some = absurd (some refl)
 count-first (More item items) some = refl
 
 -- the first of some items is one of those, or not
-pub those-first : (parent c : Class) (items : Items) → items ≢ End → is_a parent c (first_of items) ≡ true →
+pub those-first : (parent c : Class) (items : Siblings) → items ≢ End → is_a parent c (first_of items) ≡ true →
     those parent c items ≡ first_of items ∷ those parent c (rest_of items)
 those-first parent c End some e = absurd (some refl)
 those-first parent c (More item items) some e = ap (λ b. if b then item ∷ those parent c items else those parent c items) e
 
-pub those-later : (parent c : Class) (items : Items) → items ≢ End → is_a parent c (first_of items) ≡ false →
+pub those-later : (parent c : Class) (items : Siblings) → items ≢ End → is_a parent c (first_of items) ≡ false →
     those parent c items ≡ those parent c (rest_of items)
 those-later parent c End some e = absurd (some refl)
 those-later parent c (More item items) some e = ap (λ b. if b then item ∷ those parent c items else those parent c items) e
@@ -55,7 +55,7 @@ class_by : (c : Class) (o : Option Class) (d : Class) → o ≡ Some d → is_cl
 class_by c o d e = ap (is_class c) e
 
 sound_as : (parent c : Class) (item : Item) (d : Class) → AreFormed item → class_in parent item ≡ Some d → Shaped d item →
-    ((fault : Refused) → ¬ (AtClass (class_in parent item) (λ x. Breaks x item fault))) → is_a parent c item ≡ true → IsSound c item
+    ((fault : RefusedAt) → ¬ (AtClass (class_in parent item) (λ x. Breaks x item fault))) → is_a parent c item ≡ true → IsSound c item
 sound_as parent c item d formed named shaped free e =
     let same : d ≡ c = same_class d c (sym (class_by c (class_in parent item) d named) ∙ e) in
     let P : Class → Type 0 = λ x. Shaped x item in
@@ -68,7 +68,7 @@ sound_as parent c item d formed named shaped free e =
           free fault (subst Q (sym named) (subst R (sym same) broken));
     }
 
-those-sound : (parent c : Class) (ds : List Class) (items : Items) → AreAllFormed items → AreShaped parent ds items → ((fault : Refused) → ¬ (BreaksAmong parent items fault)) →
+those-sound : (parent c : Class) (ds : List Class) (items : Siblings) → AreAllFormed items → AreShaped parent ds items → ((fault : RefusedAt) → ¬ (BreaksAmong parent items fault)) →
     AllSound c (those parent c items)
 those-sound parent c ds End formed shaped free = tt
 those-sound parent c [] (More item items) formed shaped free = absurd shaped
@@ -88,7 +88,7 @@ arguments-sound parent c (node place keyword square first others close) sound =
 
 -- ---- as many as the slots require
 
-pub those-many : (parent c : Class) (ds : List Class) (items : Items) → AreShaped parent ds items → length (those parent c items) ≡ how_many (is_same c) ds
+pub those-many : (parent c : Class) (ds : List Class) (items : Siblings) → AreShaped parent ds items → length (those parent c items) ≡ how_many (is_same c) ds
 those-many parent c [] End shaped = refl
 those-many parent c [] (More item items) shaped = absurd shaped
 those-many parent c (d ∷ ds) End shaped = absurd shaped
@@ -181,7 +181,7 @@ shape_as parent c item d named shaped e =
     let P : Class → Type 0 = λ x. Shaped x item in
     subst P same shaped
 
-those-shaped : (parent c : Class) (ds : List Class) (items : Items) → AreShaped parent ds items → AllShaped c (those parent c items)
+those-shaped : (parent c : Class) (ds : List Class) (items : Siblings) → AreShaped parent ds items → AllShaped c (those parent c items)
 those-shaped parent c ds End shaped = tt
 those-shaped parent c [] (More item items) shaped = absurd shaped
 those-shaped parent c (d ∷ ds) (More item items) shaped =

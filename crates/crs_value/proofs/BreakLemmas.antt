@@ -1,7 +1,7 @@
 -- The first check that an item breaks, as the loop over its arguments finds it.
 use Rattle.std.proofs.Common.{◌≡◌, ◌≢◌, ℕ, ◌+◌, ◌<◌, inl, inr, ◌⊎◌, Option, Some, None, List, [], ◌∷◌, refl, sym, ◌∙◌, ap, subst, arith}
-use Rattle.crs_text.specs.Items.{Item, leaf, node, Items, End, More, arguments, first_of, rest_of, kind_of, size_of, sizes, here, HasId, IsAt}
-use Rattle.crs_text.specs.Refusal.{Refused}
+use Rattle.crs_text.specs.Items.{Item, leaf, node, Siblings, End, More, arguments, first_of, rest_of, kind_of, size_of, sizes, here, HasId, IsAt}
+use Rattle.crs_text.specs.Refusal.{RefusedAt}
 use Rattle.crs_text.specs.Tree.{join}
 use Rattle.crs_text.specs.Tokens.{number, text, word}
 use Rattle.crs_text.specs.declared.items.ItemKind.TheVariants as kinds
@@ -15,16 +15,16 @@ use Rattle.crs_value.specs.Reading.{item_at, ahead, Holds}
 use Rattle.crs_value.proofs.ArgumentLemmas.{ahead_at, holds_at}
 use Rattle.crs_value.proofs.LeastLemmas.{least-same, either-is}
 
-among-left : (c : Class) (a b : Items) (f : Refused) → BreaksAmong c a f → BreaksAmong c (join a b) f
+among-left : (c : Class) (a b : Siblings) (f : RefusedAt) → BreaksAmong c a f → BreaksAmong c (join a b) f
 among-left c End b f h = absurd h
 among-left c (More i a) b f (inl h) = inl h
 among-left c (More i a) b f (inr h) = inr (among-left c a b f h)
 
-among-right : (c : Class) (a b : Items) (f : Refused) → BreaksAmong c b f → BreaksAmong c (join a b) f
+among-right : (c : Class) (a b : Siblings) (f : RefusedAt) → BreaksAmong c b f → BreaksAmong c (join a b) f
 among-right c End b f h = h
 among-right c (More i a) b f h = inr (among-right c a b f h)
 
-among-split : (c : Class) (a b : Items) (f : Refused) → BreaksAmong c (join a b) f → BreaksAmong c a f ⊎ BreaksAmong c b f
+among-split : (c : Class) (a b : Siblings) (f : RefusedAt) → BreaksAmong c (join a b) f → BreaksAmong c a f ⊎ BreaksAmong c b f
 among-split c End b f h = inr h
 among-split c (More i a) b f (inl h) = inl (inl h)
 among-split c (More i a) b f (inr h) = more (among-split c a b f h)
@@ -33,17 +33,17 @@ among-split c (More i a) b f (inr h) = more (among-split c a b f h)
     more (inl k) = inl (inr k)
     more (inr k) = inr k
 
-join-assoc : (a : Items) (i : Item) (b : Items) → join a (More i b) ≡ join (join a (More i End)) b
+join-assoc : (a : Siblings) (i : Item) (b : Siblings) → join a (More i b) ≡ join (join a (More i End)) b
 join-assoc End i b = refl
 join-assoc (More j a) i b = ap (λ x. More j x) (join-assoc a i b)
 
-join-end : (a : Items) → join a End ≡ a
+join-end : (a : Siblings) → join a End ≡ a
 join-end End = refl
 join-end (More j a) = ap (λ x. More j x) (join-end a)
 
 -- the first break of the arguments before
-pub record Breaking (tree : Item) (c : Class) (item : Item) (least : Option Refused) (at : Option ℕ) : Type 0 where
-  pub done : Items
+pub record Breaking (tree : Item) (c : Class) (item : Item) (least : Option RefusedAt) (at : Option ℕ) : Type 0 where
+  pub done : Siblings
   pub parts : arguments item ≡ join done (ahead tree at)
   pub holds : Holds tree at
   pub classes : List Class
@@ -68,7 +68,7 @@ pub breaking-first : (tree : Item) (c : Class) (item : Item) (at : Option ℕ) �
 breaking-first tree c item at shaped is_at =
     let e = ahead_at tree (arguments item) at is_at in
     let ds = shaped-arguments c item shaped in
-    let P : Items → Type 0 = λ is. AreShaped c ds.0 is in
+    let P : Siblings → Type 0 = λ is. AreShaped c ds.0 is in
     record {
       done = End;
       parts = sym e;
@@ -84,13 +84,13 @@ size-above (leaf kind place raw) = omega arith
 size-above (node place keyword square first others close) = omega arith
 
 -- an argument that is there has its class and its shape
-argument-class : (c : Class) (ds : List Class) (items : Items) → items ≢ End → AreShaped c ds items →
+argument-class : (c : Class) (ds : List Class) (items : Siblings) → items ≢ End → AreShaped c ds items →
     (d : Class) × ((rest : List Class) × ((class_in c (first_of items) ≡ Some d) × (Shaped d (first_of items) × AreShaped c rest (rest_of items))))
 argument-class c ds End some shaped = absurd (some refl)
 argument-class c [] (More item items) some shaped = absurd shaped
 argument-class c (d ∷ ds) (More item items) some shaped = (d, (ds, (shaped.0, (shaped.1.0, shaped.1.1))))
 
-pub argument-named : (tree : Item) (c : Class) (item : Item) (least : Option Refused) (id : ℕ) → Breaking tree c item least (Some id) →
+pub argument-named : (tree : Item) (c : Class) (item : Item) (least : Option RefusedAt) (id : ℕ) → Breaking tree c item least (Some id) →
     class_in c (item_at tree id) ≡ None → ⊥
 argument-named tree c item least id so none =
     let h = argument-class c so.classes (here tree id) so.holds so.shaped in
@@ -100,32 +100,32 @@ argument-named tree c item least id so none =
 some-one : (c d : Class) → Some c ≡ Some d → c ≡ d
 some-one c d e = cc
 
-pub argument-shaped : (tree : Item) (c : Class) (item : Item) (least : Option Refused) (id : ℕ) (named : Class) → Breaking tree c item least (Some id) →
+pub argument-shaped : (tree : Item) (c : Class) (item : Item) (least : Option RefusedAt) (id : ℕ) (named : Class) → Breaking tree c item least (Some id) →
     class_in c (item_at tree id) ≡ Some named → Shaped named (item_at tree id)
 argument-shaped tree c item least id named so is =
     let h = argument-class c so.classes (here tree id) so.holds so.shaped in
     let P : Class → Type 0 = λ d. Shaped d (item_at tree id) in
     subst P (some-one h.0 named (sym h.1.1.0 ∙ is)) h.1.1.1.0
 
-sizes-first : (items : Items) → items ≢ End → sizes items ≡ size_of (first_of items) + sizes (rest_of items)
+sizes-first : (items : Siblings) → items ≢ End → sizes items ≡ size_of (first_of items) + sizes (rest_of items)
 sizes-first End some = absurd (some refl)
 sizes-first (More item items) some = refl
 
-more-is : (items : Items) → items ≢ End → items ≡ More (first_of items) (rest_of items)
+more-is : (items : Siblings) → items ≢ End → items ≡ More (first_of items) (rest_of items)
 more-is End some = absurd (some refl)
 more-is (More item items) some = refl
 
-pub argument-less : (tree : Item) (c : Class) (item : Item) (least : Option Refused) (id : ℕ) → Breaking tree c item least (Some id) → size_of (item_at tree id) < size_of item
+pub argument-less : (tree : Item) (c : Class) (item : Item) (least : Option RefusedAt) (id : ℕ) → Breaking tree c item least (Some id) → size_of (item_at tree id) < size_of item
 argument-less tree c item least id so = omega (arith, sizes-first (here tree id) so.holds, so.less)
 
-pub breaking-on : (tree : Item) (c : Class) (item : Item) (least one next : Option Refused) (id : ℕ) (named : Class) (at : Option ℕ) → Breaking tree c item least (Some id) →
+pub breaking-on : (tree : Item) (c : Class) (item : Item) (least one next : Option RefusedAt) (id : ℕ) (named : Class) (at : Option ℕ) → Breaking tree c item least (Some id) →
     class_in c (item_at tree id) ≡ Some named → IsLeast (Breaks named (item_at tree id)) one → next ≡ lesser least one →
     IsAt tree (rest_of (here tree id)) at → Breaking tree c item next at
 breaking-on tree c item least one next id named at so is within e is_at =
     let h = argument-class c so.classes (here tree id) so.holds so.shaped in
     let a = ahead_at tree (rest_of (here tree id)) at is_at in
-    let P : Items → Type 0 = λ is. AreShaped c h.1.0 is in
-    let more : Items = More (item_at tree id) End in
+    let P : Siblings → Type 0 = λ is. AreShaped c h.1.0 is in
+    let more : Siblings = More (item_at tree id) End in
     record {
       done = join so.done more;
       parts = so.parts ∙ ap (join so.done) (more-is (here tree id) so.holds) ∙ join-assoc so.done (item_at tree id) (rest_of (here tree id))
@@ -139,22 +139,22 @@ breaking-on tree c item least one next id named at so is within e is_at =
           (either-is (BreaksAmong c so.done) (Breaks named (item_at tree id)) least one next e so.is_least within);
     }
   where
-    there : (f : Refused) → Breaks named (item_at tree id) f → BreaksAmong c (More (item_at tree id) End) f
+    there : (f : RefusedAt) → Breaks named (item_at tree id) f → BreaksAmong c (More (item_at tree id) End) f
     there f h = let Q : Option Class → Type 0 = λ o. AtClass o (λ d. Breaks d (item_at tree id) f) in inl (subst Q (sym is) h)
 
-    to : (f : Refused) → BreaksAmong c so.done f ⊎ Breaks named (item_at tree id) f → BreaksAmong c (join so.done (More (item_at tree id) End)) f
+    to : (f : RefusedAt) → BreaksAmong c so.done f ⊎ Breaks named (item_at tree id) f → BreaksAmong c (join so.done (More (item_at tree id) End)) f
     to f (inl h) = among-left c so.done (More (item_at tree id) End) f h
     to f (inr h) = among-right c so.done (More (item_at tree id) End) f (there f h)
 
-    last : (f : Refused) → BreaksAmong c (More (item_at tree id) End) f → Breaks named (item_at tree id) f
+    last : (f : RefusedAt) → BreaksAmong c (More (item_at tree id) End) f → Breaks named (item_at tree id) f
     last f (inl h) = let Q : Option Class → Type 0 = λ o. AtClass o (λ d. Breaks d (item_at tree id) f) in subst Q is h
     last f (inr h) = absurd h
 
-    split : (f : Refused) → BreaksAmong c so.done f ⊎ BreaksAmong c (More (item_at tree id) End) f → BreaksAmong c so.done f ⊎ Breaks named (item_at tree id) f
+    split : (f : RefusedAt) → BreaksAmong c so.done f ⊎ BreaksAmong c (More (item_at tree id) End) f → BreaksAmong c so.done f ⊎ Breaks named (item_at tree id) f
     split f (inl h) = inl h
     split f (inr h) = inr (last f h)
 
-    back : (f : Refused) → BreaksAmong c (join so.done (More (item_at tree id) End)) f → BreaksAmong c so.done f ⊎ Breaks named (item_at tree id) f
+    back : (f : RefusedAt) → BreaksAmong c (join so.done (More (item_at tree id) End)) f → BreaksAmong c so.done f ⊎ Breaks named (item_at tree id) f
     back f h = split f (among-split c so.done (More (item_at tree id) End) f h)
 
 pub breaking-less : (tree : Item) (id : ℕ) (at : Option ℕ) → HasId tree id → IsAt tree (rest_of (here tree id)) at → sizes (ahead tree at) < sizes (here tree id)
@@ -162,15 +162,15 @@ breaking-less tree id at has is_at =
     let same : sizes (ahead tree at) ≡ sizes (rest_of (here tree id)) = ap sizes (ahead_at tree (rest_of (here tree id)) at is_at) in
     omega (arith, sizes-first (here tree id) has, size-above (first_of (here tree id)))
 
-pub breaking-end : (tree : Item) (c : Class) (item : Item) (least : Option Refused) (at : Option ℕ) → Breaking tree c item least at → at ≡ None →
+pub breaking-end : (tree : Item) (c : Class) (item : Item) (least : Option RefusedAt) (at : Option ℕ) → Breaking tree c item least at → at ≡ None →
     IsLeast (BreaksAmong c (arguments item)) least
 breaking-end tree c item least at so none =
     let e : arguments item ≡ so.done = so.parts ∙ ap (λ o. join so.done (ahead tree o)) none ∙ join-end so.done in
-    let P : Items → Type 0 = λ is. IsLeast (BreaksAmong c is) least in
+    let P : Siblings → Type 0 = λ is. IsLeast (BreaksAmong c is) least in
     subst P (sym e) so.is_least
 
 -- what stands in a node and its own checks are all
-pub breaks-whole : (c : Class) (item : Item) (least : Option Refused) → kind_of item ≡ kinds.Node → IsLeast (λ f. BreaksAmong c (arguments item) f ⊎ Own c item f) least →
+pub breaks-whole : (c : Class) (item : Item) (least : Option RefusedAt) → kind_of item ≡ kinds.Node → IsLeast (λ f. BreaksAmong c (arguments item) f ⊎ Own c item f) least →
     IsLeast (Breaks c item) least
 breaks-whole c (leaf number place raw) least is h = cc
 breaks-whole c (leaf text place raw) least is h = cc
@@ -179,12 +179,12 @@ breaks-whole c (node place keyword square first others close) least is h =
     least-same (λ f. BreaksAmong c (More first others) f ⊎ Own c (node place keyword square first others close) f)
     (Breaks c (node place keyword square first others close)) least to back h
   where
-    to : (f : Refused) → BreaksAmong c (More first others) f ⊎ Own c (node place keyword square first others close) f →
+    to : (f : RefusedAt) → BreaksAmong c (More first others) f ⊎ Own c (node place keyword square first others close) f →
         Breaks c (node place keyword square first others close) f
     to f (inl x) = inr x
     to f (inr x) = inl x
 
-    back : (f : Refused) → Breaks c (node place keyword square first others close) f →
+    back : (f : RefusedAt) → Breaks c (node place keyword square first others close) f →
         BreaksAmong c (More first others) f ⊎ Own c (node place keyword square first others close) f
     back f (inl x) = inr x
     back f (inr x) = inl x

@@ -3,7 +3,7 @@ use Rattle.std.proofs.Common.{◌≡◌, ℕ, true, false, Option, Some, None, i
 use Rattle.crs_decimal.specs.Bounds.{Denotes}
 use Rattle.crs_decimal.specs.Value.{Value, IsNormal, exact}
 use Rattle.crs_text.specs.Items.{Item, arguments, rest_of, raw_of, here}
-use Rattle.crs_text.specs.Refusal.{Refused}
+use Rattle.crs_text.specs.Refusal.{RefusedAt}
 use Rattle.crs_shape.specs.declared.class.Class.{Class}
 use Rattle.crs_shape.specs.Shaped.{Shaped}
 use Rattle.crs_value.specs.BadValue.{IsAboveZero, NotAbove, IsNegative}
@@ -16,14 +16,14 @@ use Rattle.crs_value.proofs.ArgumentLemmas.{found-is, found-holds, all-shaped, f
 use Rattle.crs_value.proofs.LeastLemmas.{least-more, least-same}
 
 -- the first break among those before
-pub record Checked (B : Item → Refused → Type 0) (tree : Item) (parent c : Class) (whole : List Item) (least : Option Refused) (at : Option ℕ) : Type 0 where
+pub record Checked (B : Item → RefusedAt → Type 0) (tree : Item) (parent c : Class) (whole : List Item) (least : Option RefusedAt) (at : Option ℕ) : Type 0 where
   pub done : List Item
   pub parts : whole ≡ done ++ from_found tree parent c at
   pub holds : Holds tree at
   pub shaped : AllShaped c (from_found tree parent c at)
   pub is_least : IsLeast (AnyOf B done) least
 
-pub checked-first : (B : Item → Refused → Type 0) (tree : Item) (parent c : Class) (at : Option ℕ) → Holds tree at → AllShaped c (from_found tree parent c at) →
+pub checked-first : (B : Item → RefusedAt → Type 0) (tree : Item) (parent c : Class) (at : Option ℕ) → Holds tree at → AllShaped c (from_found tree parent c at) →
     Checked B tree parent c (from_found tree parent c at) None at
 checked-first B tree parent c at holds shaped = record {
   done = [];
@@ -33,7 +33,7 @@ checked-first B tree parent c at holds shaped = record {
   is_least = λ f h. h;
 }
 
-pub checked-on : (B : Item → Refused → Type 0) (tree : Item) (parent c : Class) (whole : List Item) (least next one : Option Refused) (id : ℕ) (at : Option ℕ) →
+pub checked-on : (B : Item → RefusedAt → Type 0) (tree : Item) (parent c : Class) (whole : List Item) (least next one : Option RefusedAt) (id : ℕ) (at : Option ℕ) →
     Checked B tree parent c whole least (Some id) → IsLeast (B (item_at tree id)) one → next ≡ lesser least one →
     IsFound tree parent c (those parent c (rest_of (here tree id))) at → Checked B tree parent c whole next at
 checked-on B tree parent c whole least next one id at so here-least is found =
@@ -45,7 +45,7 @@ checked-on B tree parent c whole least next one id at so here-least is found =
       holds = found-holds tree parent c (those parent c (rest_of (here tree id))) at found;
       shaped = all-shaped c _ _ e so.shaped.1;
       is_least =
-          let P : Option Refused → Type 0 = λ o. IsLeast (AnyOf B (so.done ++ item_at tree id ∷ [])) o in
+          let P : Option RefusedAt → Type 0 = λ o. IsLeast (AnyOf B (so.done ++ item_at tree id ∷ [])) o in
           subst P (sym is) (least-more B so.done (item_at tree id) least one so.is_least here-least);
     }
 
@@ -53,7 +53,7 @@ append-none : (list : List Item) → list ++ [] ≡ list
 append-none [] = refl
 append-none (v ∷ list) = ap (λ vs. v ∷ vs) (append-none list)
 
-pub checked-end : (B : Item → Refused → Type 0) (tree : Item) (parent c : Class) (whole : List Item) (least : Option Refused) (at : Option ℕ) →
+pub checked-end : (B : Item → RefusedAt → Type 0) (tree : Item) (parent c : Class) (whole : List Item) (least : Option RefusedAt) (at : Option ℕ) →
     Checked B tree parent c whole least at → at ≡ None → IsLeast (AnyOf B whole) least
 checked-end B tree parent c whole least at so none =
     let e : whole ≡ so.done = so.parts ∙ ap (λ o. so.done ++ from_found tree parent c o) none ∙ append-none so.done in
@@ -88,7 +88,7 @@ pub later-shaped : (tree : Item) (parent c : Class) (item : Item) (id : ℕ) (at
 later-shaped tree parent c item id at shaped found next =
     all-shaped c _ _ (found-is tree parent c _ at next) (found-shaped tree parent c item (Some id) shaped found).1
 
-pub any-later : (B : Item → Refused → Type 0) (tree : Item) (parent c : Class) (items : List Item) (id : ℕ) (at : Option ℕ) (o : Option Refused) →
+pub any-later : (B : Item → RefusedAt → Type 0) (tree : Item) (parent c : Class) (items : List Item) (id : ℕ) (at : Option ℕ) (o : Option RefusedAt) →
     IsFound tree parent c items (Some id) → IsFound tree parent c (those parent c (rest_of (here tree id))) at → IsLeast (AnyOf B (from_found tree parent c at)) o →
     IsLeast (λ f. AnyOf B (drop 1 items) f) o
 any-later B tree parent c items id at o found next h =
@@ -96,12 +96,12 @@ any-later B tree parent c items id at o found next h =
     let Q : List Item → Type 0 = λ xs. IsLeast (AnyOf B (drop 1 xs)) o in
     subst Q (sym found.0) (subst P (sym (found-is tree parent c _ at next)) h)
 
-pub any-first : (B : Item → Refused → Type 0) (tree : Item) (parent c : Class) (items : List Item) (id : ℕ) (o : Option Refused) →
+pub any-first : (B : Item → RefusedAt → Type 0) (tree : Item) (parent c : Class) (items : List Item) (id : ℕ) (o : Option RefusedAt) →
     IsFound tree parent c items (Some id) → IsLeast (B (item_at tree id)) o → IsLeast (λ f. AnyOf B (take 1 items) f) o
 any-first B tree parent c items id o found h =
     let Q : List Item → Type 0 = λ xs. IsLeast (AnyOf B (take 1 xs)) o in
     subst Q (sym found.0) (least-same (B (item_at tree id)) (λ f. AnyOf B (item_at tree id ∷ []) f) o (λ f k. inl k) back h)
   where
-    back : (f : Refused) → AnyOf B (item_at tree id ∷ []) f → B (item_at tree id) f
+    back : (f : RefusedAt) → AnyOf B (item_at tree id ∷ []) f → B (item_at tree id) f
     back f (inl k) = k
     back f (inr k) = absurd k

@@ -1,7 +1,7 @@
 -- Each text is spelled or refused.
 use Rattle.std.proofs.Common.{◌≡◌, ℕ, ◌⊎◌, inl, inr, Some, None, List, refl}
 use Rattle.crs_text.specs.Items.{Item}
-use Rattle.crs_text.specs.Refusal.{Refused}
+use Rattle.crs_text.specs.Refusal.{RefusedAt}
 use Rattle.crs_text.specs.TextFault.{SpellsNode, RefusesText}
 use Rattle.crs_text.specs.Written.{AreFormed}
 use Rattle.crs_shape.specs.declared.class.Class.{Class}
@@ -22,16 +22,16 @@ abbrev pub NodeOrRefusal : Type 0
 NodeOrRefusal = (bytes : List ℕ) → ((item : Item) × SpellsNode bytes item) ⊎ ((n place : ℕ) × RefusesText bytes n place)
 
 abbrev pub FreeOrFault : Type 0
-FreeOrFault = (item : Item) → IsFree (AtRoot item) ⊎ ((fault : Refused) × AtRoot item fault)
+FreeOrFault = (item : Item) → IsFree (AtRoot item) ⊎ ((fault : RefusedAt) × AtRoot item fault)
 
 abbrev pub NodeIsFormed : Type 0
 NodeIsFormed = (bytes : List ℕ) (item : Item) → SpellsNode bytes item → AreFormed item
 
 abbrev ItemAnswer : Item → Type 0
-ItemAnswer item = ((value : Crs) × SpellsCrs item value) ⊎ ((fault : Refused) × RefusesCrs item fault)
+ItemAnswer item = ((value : Crs) × SpellsCrs item value) ⊎ ((fault : RefusedAt) × RefusesCrs item fault)
 
 abbrev pub TextAnswer : List ℕ → Type 0
-TextAnswer text = ((value : Crs) × Spells text value) ⊎ ((fault : Refused) × Refuses text fault)
+TextAnswer text = ((value : Crs) × Spells text value) ⊎ ((fault : RefusedAt) × Refuses text fault)
 
 module _ (numbers : Numbers) (one : DenotesOne) (slots : SlotsCount) (shape : NoFaultIsShape) where
   checked : (item : Item) (c : Class) → class_of_root item ≡ Some c → IsFree (AtRoot item) → AreFormed item → Shaped c item → HasLeast (Breaks c item) → ItemAnswer item
@@ -50,7 +50,7 @@ module _ (numbers : Numbers) (one : DenotesOne) (slots : SlotsCount) (shape : No
   item-answer : FreeOrFault → (item : Item) → AreFormed item → ItemAnswer item
   item-answer decided item formed = by (decided item)
     where
-      by : IsFree (AtRoot item) ⊎ ((fault : Refused) × AtRoot item fault) → ItemAnswer item
+      by : IsFree (AtRoot item) ⊎ ((fault : RefusedAt) × AtRoot item fault) → ItemAnswer item
       by (inl free) = free-answer item free formed
       by (inr found) = inr (found.0, inl found.1)
 

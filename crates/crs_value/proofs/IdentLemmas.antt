@@ -1,6 +1,6 @@
 -- The second argument of an identifier is no node.
 use Rattle.std.proofs.Common.{◌≡◌, ◌≢◌, ℕ, true, false, List, [], ◌∷◌, ◌++◌, refl, ◌∙◌, ap, subst, arith, IsTrue}
-use Rattle.crs_text.specs.Items.{Item, leaf, node, Items, End, More, arguments, skip}
+use Rattle.crs_text.specs.Items.{Item, leaf, node, Siblings, End, More, arguments, skip}
 use Rattle.crs_text.specs.Tokens.{Kind, number, text, word}
 use Rattle.crs_shape.specs.declared.class.Class.{Class}
 use Rattle.crs_shape.specs.declared.class.Class.TheVariants as class
@@ -34,7 +34,7 @@ single-node keyword class.Number is e = cc
 single-node keyword class.Text is e = cc
 single-node keyword other is e = cc
 
-single-shaped : (d : Class) (item : Item) (items : Items) → IsTrue (takes code_slot d) → Shaped d item → single_of (More item items) ≢ []
+single-shaped : (d : Class) (item : Item) (items : Siblings) → IsTrue (takes code_slot d) → Shaped d item → single_of (More item items) ≢ []
 single-shaped d (leaf number place raw) items is shaped = λ e. cc
 single-shaped d (leaf text place raw) items is shaped = λ e. cc
 single-shaped d (leaf word place raw) items is shaped = λ e. cc
@@ -49,7 +49,7 @@ leaf-no number shaped = cc
 leaf-no text shaped = cc
 leaf-no word shaped = cc
 
-second-there : (d : Class) (ds : List Class) (items : Items) → IsTrue (takes code_slot d) → AreShaped class.Identifier (d ∷ ds) items → single_of items ≢ []
+second-there : (d : Class) (ds : List Class) (items : Siblings) → IsTrue (takes code_slot d) → AreShaped class.Identifier (d ∷ ds) items → single_of items ≢ []
 second-there d ds End is shaped = absurd shaped
 second-there d ds (More item items) is shaped = single-shaped d item items is shaped.1.0
 

@@ -2,11 +2,11 @@
 use Rattle.std.proofs.Common.{◌≡◌, ℕ, ◌<◌, ◌≤◌, nat_lt, ◌==◌, Bool, true, false, inl, inr, ◌⊎◌, ◌||◌, ◌&&◌, Option, Some, None, List, [], ◌∷◌, ◌++◌, if◌then◌else◌, refl, sym, subst, arith}
 use Rattle.std.proofs.lemmas.Bool.Decides.{nat_tests}
 use Rattle.crs_text.specs.Items.{Item}
-use Rattle.crs_text.specs.Refusal.{Refused}
+use Rattle.crs_text.specs.Refusal.{RefusedAt}
 use Rattle.crs_value.specs.Break.{AnyOf, IsBefore, IsLeast}
 use Rattle.crs_value.specs.Least.{is_before, lesser}
 
-before-trans : (a b c : Refused) → IsBefore a b → IsBefore b c → IsBefore a c
+before-trans : (a b c : RefusedAt) → IsBefore a b → IsBefore b c → IsBefore a c
 before-trans a b c (inl p) (inl q) = inl (omega arith)
 before-trans a b c (inl p) (inr q) = inl (omega arith)
 before-trans a b c (inr p) (inl q) = inl (omega arith)
@@ -15,7 +15,7 @@ before-trans a b c (inr p) (inr q) = inr (omega arith, omega arith)
 same-or : (m n : ℕ) (b : Bool) → (m == n && b) ≡ true → (m ≡ n) × (b ≡ true)
 same-or m n b e = (grind (arith, nat_tests), grind (arith, nat_tests))
 
-from-test : (a b : Refused) (less : Bool) → nat_lt a.number b.number ≡ less → (less || (a.number == b.number && nat_lt a.place b.place)) ≡ true → IsBefore a b
+from-test : (a b : RefusedAt) (less : Bool) → nat_lt a.number b.number ≡ less → (less || (a.number == b.number && nat_lt a.place b.place)) ≡ true → IsBefore a b
 from-test a b true e f = inl (grind (arith, nat_tests))
 from-test a b false e f =
     let h = same-or a.number b.number (nat_lt a.place b.place) f in
@@ -35,7 +35,7 @@ not-same : (m n : ℕ) → (m == n) ≡ false → m ≡ n → ⊥
 not-same m n e f = grind (arith, nat_tests)
 
 -- if b isn't strictly before a, then a is before b
-else-before : (a b : Refused) → is_before b a ≡ false → IsBefore a b
+else-before : (a b : RefusedAt) → is_before b a ≡ false → IsBefore a b
 else-before a b e = by (nat_lt b.number a.number) (b.number == a.number) (nat_lt b.place a.place) refl refl refl e
   where
     by : (x y z : Bool) → nat_lt b.number a.number ≡ x → (b.number == a.number) ≡ y → nat_lt b.place a.place ≡ z → (x || (y && z)) ≡ false → IsBefore a b
@@ -49,27 +49,27 @@ else-before a b e = by (nat_lt b.number a.number) (b.number == a.number) (nat_lt
         strict : (m n : ℕ) → m ≤ n → (m ≡ n → ⊥) → m < n
         strict m n le ne = omega arith
 
-then-before : (a b : Refused) → is_before b a ≡ true → IsBefore b a
+then-before : (a b : RefusedAt) → is_before b a ≡ true → IsBefore b a
 then-before a b e = from-test b a (nat_lt b.number a.number) refl e
 
-pub before-self : (a : Refused) → IsBefore a a
+pub before-self : (a : RefusedAt) → IsBefore a a
 before-self a = inr (refl, omega arith)
 
 -- the first of either set is the lesser of their first ones
-pub least-either : (P Q : Refused → Type 0) (a b : Option Refused) → IsLeast P a → IsLeast Q b → IsLeast (λ f. P f ⊎ Q f) (lesser a b)
+pub least-either : (P Q : RefusedAt → Type 0) (a b : Option RefusedAt) → IsLeast P a → IsLeast Q b → IsLeast (λ f. P f ⊎ Q f) (lesser a b)
 least-either P Q None None p q = λ f h. none f h
   where
-    none : (f : Refused) → P f ⊎ Q f → ⊥
+    none : (f : RefusedAt) → P f ⊎ Q f → ⊥
     none f (inl h) = p f h
     none f (inr h) = q f h
 least-either P Q None (Some b) p q = (inr q.0, λ f h. next f h)
   where
-    next : (f : Refused) → P f ⊎ Q f → IsBefore b f
+    next : (f : RefusedAt) → P f ⊎ Q f → IsBefore b f
     next f (inl h) = absurd (p f h)
     next f (inr h) = q.1 f h
 least-either P Q (Some a) None p q = (inl p.0, λ f h. next f h)
   where
-    next : (f : Refused) → P f ⊎ Q f → IsBefore a f
+    next : (f : RefusedAt) → P f ⊎ Q f → IsBefore a f
     next f (inl h) = p.1 f h
     next f (inr h) = absurd (q f h)
 least-either P Q (Some a) (Some b) p q =
@@ -78,39 +78,39 @@ least-either P Q (Some a) (Some b) p q =
       | false ↦ λ e. (inl p.0, λ f h. first (else-before a b e) f h)
     ] refl
   where
-    second : IsBefore b a → (f : Refused) → P f ⊎ Q f → IsBefore b f
+    second : IsBefore b a → (f : RefusedAt) → P f ⊎ Q f → IsBefore b f
     second e f (inl h) = before-trans b a f e (p.1 f h)
     second e f (inr h) = q.1 f h
 
-    first : IsBefore a b → (f : Refused) → P f ⊎ Q f → IsBefore a f
+    first : IsBefore a b → (f : RefusedAt) → P f ⊎ Q f → IsBefore a f
     first e f (inl h) = p.1 f h
     first e f (inr h) = before-trans a b f e (q.1 f h)
 
 -- sets with the same faults have the same first one
-pub least-same : (P Q : Refused → Type 0) (o : Option Refused) → ((f : Refused) → P f → Q f) → ((f : Refused) → Q f → P f) → IsLeast P o → IsLeast Q o
+pub least-same : (P Q : RefusedAt → Type 0) (o : Option RefusedAt) → ((f : RefusedAt) → P f → Q f) → ((f : RefusedAt) → Q f → P f) → IsLeast P o → IsLeast Q o
 least-same P Q None to back h = λ f q. h f (back f q)
 least-same P Q (Some a) to back h = (to a h.0, λ f q. h.1 f (back f q))
 
-pub least-none : (P : Refused → Type 0) → ((f : Refused) → ¬ (P f)) → IsLeast P None
+pub least-none : (P : RefusedAt → Type 0) → ((f : RefusedAt) → ¬ (P f)) → IsLeast P None
 least-none P none = none
 
 -- one fault under a condition
-pub least-one : (g : Refused) (C : Type 0) → C → IsLeast (λ f. (f ≡ g) × C) (Some g)
-least-one g C holds = ((refl, holds), λ f h. let P : Refused → Type 0 = λ x. IsBefore g x in subst P (sym h.0) (before-self g))
+pub least-one : (g : RefusedAt) (C : Type 0) → C → IsLeast (λ f. (f ≡ g) × C) (Some g)
+least-one g C holds = ((refl, holds), λ f h. let P : RefusedAt → Type 0 = λ x. IsBefore g x in subst P (sym h.0) (before-self g))
 
-pub least-not : (g : Refused) (C : Type 0) → ¬ C → IsLeast (λ f. (f ≡ g) × C) None
+pub least-not : (g : RefusedAt) (C : Type 0) → ¬ C → IsLeast (λ f. (f ≡ g) × C) None
 least-not g C fails = λ f h. fails h.1
 
-pub any-left : (B : Item → Refused → Type 0) (xs ys : List Item) (f : Refused) → AnyOf B xs f → AnyOf B (xs ++ ys) f
+pub any-left : (B : Item → RefusedAt → Type 0) (xs ys : List Item) (f : RefusedAt) → AnyOf B xs f → AnyOf B (xs ++ ys) f
 any-left B [] ys f h = absurd h
 any-left B (x ∷ xs) ys f (inl h) = inl h
 any-left B (x ∷ xs) ys f (inr h) = inr (any-left B xs ys f h)
 
-pub any-right : (B : Item → Refused → Type 0) (xs ys : List Item) (f : Refused) → AnyOf B ys f → AnyOf B (xs ++ ys) f
+pub any-right : (B : Item → RefusedAt → Type 0) (xs ys : List Item) (f : RefusedAt) → AnyOf B ys f → AnyOf B (xs ++ ys) f
 any-right B [] ys f h = h
 any-right B (x ∷ xs) ys f h = inr (any-right B xs ys f h)
 
-pub any-split : (B : Item → Refused → Type 0) (xs ys : List Item) (f : Refused) → AnyOf B (xs ++ ys) f → AnyOf B xs f ⊎ AnyOf B ys f
+pub any-split : (B : Item → RefusedAt → Type 0) (xs ys : List Item) (f : RefusedAt) → AnyOf B (xs ++ ys) f → AnyOf B xs f ⊎ AnyOf B ys f
 any-split B [] ys f h = inr h
 any-split B (x ∷ xs) ys f (inl h) = inl (inl h)
 any-split B (x ∷ xs) ys f (inr h) = more (any-split B xs ys f h)
@@ -120,20 +120,20 @@ any-split B (x ∷ xs) ys f (inr h) = more (any-split B xs ys f h)
     more (inr k) = inr k
 
 -- one more item
-pub least-more : (B : Item → Refused → Type 0) (done : List Item) (item : Item) (a b : Option Refused) → IsLeast (AnyOf B done) a → IsLeast (B item) b →
+pub least-more : (B : Item → RefusedAt → Type 0) (done : List Item) (item : Item) (a b : Option RefusedAt) → IsLeast (AnyOf B done) a → IsLeast (B item) b →
     IsLeast (AnyOf B (done ++ item ∷ [])) (lesser a b)
 least-more B done item a b p q =
     least-same (λ f. AnyOf B done f ⊎ B item f) (AnyOf B (done ++ item ∷ [])) (lesser a b) to back (least-either (AnyOf B done) (B item) a b p q)
   where
-    to : (f : Refused) → AnyOf B done f ⊎ B item f → AnyOf B (done ++ item ∷ []) f
+    to : (f : RefusedAt) → AnyOf B done f ⊎ B item f → AnyOf B (done ++ item ∷ []) f
     to f (inl h) = any-left B done (item ∷ []) f h
     to f (inr h) = any-right B done (item ∷ []) f (inl h)
 
-    last : (f : Refused) → AnyOf B (item ∷ []) f → B item f
+    last : (f : RefusedAt) → AnyOf B (item ∷ []) f → B item f
     last f (inl h) = h
     last f (inr h) = absurd h
 
-    back : (f : Refused) → AnyOf B (done ++ item ∷ []) f → AnyOf B done f ⊎ B item f
+    back : (f : RefusedAt) → AnyOf B (done ++ item ∷ []) f → AnyOf B done f ⊎ B item f
     back f h = one (any-split B done (item ∷ []) f h)
       where
         one : AnyOf B done f ⊎ AnyOf B (item ∷ []) f → AnyOf B done f ⊎ B item f
@@ -141,19 +141,19 @@ least-more B done item a b p q =
         one (inr k) = inr (last f k)
 
 -- the refusal at one item, under a condition or none
-pub least-at : (g r : Refused) (C : Type 0) → r ≡ g → C → IsLeast (λ f. (f ≡ g) × C) (Some r)
-least-at g r C e holds = let P : Refused → Type 0 = λ x. IsLeast (λ f. (f ≡ g) × C) (Some x) in subst P (sym e) (least-one g C holds)
+pub least-at : (g r : RefusedAt) (C : Type 0) → r ≡ g → C → IsLeast (λ f. (f ≡ g) × C) (Some r)
+least-at g r C e holds = let P : RefusedAt → Type 0 = λ x. IsLeast (λ f. (f ≡ g) × C) (Some x) in subst P (sym e) (least-one g C holds)
 
-pub least-is : (g r : Refused) → r ≡ g → IsLeast (λ f. f ≡ g) (Some r)
-least-is g r e = (e, λ f h. let P : Refused → Type 0 = λ x. IsBefore x f in let Q : Refused → Type 0 = λ x. IsBefore g x in subst P (sym e) (subst Q (sym h) (before-self g)))
+pub least-is : (g r : RefusedAt) → r ≡ g → IsLeast (λ f. f ≡ g) (Some r)
+least-is g r e = (e, λ f h. let P : RefusedAt → Type 0 = λ x. IsBefore x f in let Q : RefusedAt → Type 0 = λ x. IsBefore g x in subst P (sym e) (subst Q (sym h) (before-self g)))
 
-pub either-is : (P Q : Refused → Type 0) (a b r : Option Refused) → r ≡ lesser a b → IsLeast P a → IsLeast Q b → IsLeast (λ f. P f ⊎ Q f) r
-either-is P Q a b r e p q = let R : Option Refused → Type 0 = λ o. IsLeast (λ f. P f ⊎ Q f) o in subst R (sym e) (least-either P Q a b p q)
+pub either-is : (P Q : RefusedAt → Type 0) (a b r : Option RefusedAt) → r ≡ lesser a b → IsLeast P a → IsLeast Q b → IsLeast (λ f. P f ⊎ Q f) r
+either-is P Q a b r e p q = let R : Option RefusedAt → Type 0 = λ o. IsLeast (λ f. P f ⊎ Q f) o in subst R (sym e) (least-either P Q a b p q)
 
 -- a first fault with a number below all of another set
-pub least-below : (P Q : Refused → Type 0) (n : ℕ) (r : Refused) → r.number < n → ((f : Refused) → Q f → n ≤ f.number) → IsLeast P (Some r) → IsLeast (λ f. P f ⊎ Q f) (Some r)
+pub least-below : (P Q : RefusedAt → Type 0) (n : ℕ) (r : RefusedAt) → r.number < n → ((f : RefusedAt) → Q f → n ≤ f.number) → IsLeast P (Some r) → IsLeast (λ f. P f ⊎ Q f) (Some r)
 least-below P Q n r below high h = (inl h.0, λ f x. next f x)
   where
-    next : (f : Refused) → P f ⊎ Q f → IsBefore r f
+    next : (f : RefusedAt) → P f ⊎ Q f → IsBefore r f
     next f (inl x) = h.1 f x
     next f (inr x) = inl (omega (arith, below, high f x))

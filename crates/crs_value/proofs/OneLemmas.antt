@@ -3,7 +3,7 @@ use Rattle.std.proofs.Common.{◌≡◌, ℕ, drop, inl, inr, Option, Some, None
 use Rattle.std.specs.Prelude.{IsSome}
 use Rattle.crs_decimal.specs.Value.{Value}
 use Rattle.crs_text.specs.Items.{Item, arguments, raw_of, skip}
-use Rattle.crs_text.specs.Refusal.{Refused}
+use Rattle.crs_text.specs.Refusal.{RefusedAt}
 use Rattle.crs_shape.specs.declared.class.Class.{Class}
 use Rattle.crs_shape.specs.declared.class.Class.TheVariants as class
 use Rattle.crs_value.specs.declared.direction.Direction.{Direction}
@@ -313,10 +313,10 @@ system-one law c item a b p q =
     (one-optional (ReadsUnit class.AxisUnit) (unit-one law class.AxisUnit) (those c class.AxisUnit (arguments item)) a.unit b.unit p.unit q.unit)
 
 -- of some faults one is the first
-abbrev refused-made : ℕ → ℕ → Refused
+abbrev refused-made : ℕ → ℕ → RefusedAt
 refused-made number place = record { number = number; place = place }
 
-before-both : (a b : Refused) → IsBefore a b → IsBefore b a → a ≡ b
+before-both : (a b : RefusedAt) → IsBefore a b → IsBefore b a → a ≡ b
 before-both a b (inl p) (inl q) = absurd (omega arith)
 before-both a b (inl p) (inr q) = absurd (omega arith)
 before-both a b (inr p) (inl q) = absurd (omega arith)
@@ -325,5 +325,5 @@ before-both a b (inr p) (inr q) = refused-equal a.number b.number a.place b.plac
     refused-equal : (m n i j : ℕ) → m ≡ n → i ≡ j → refused-made m i ≡ refused-made n j
     refused-equal m n i j e f = cc
 
-pub least-one-only : (Fault : Refused → Type 0) (a b : Refused) → IsLeast Fault (Some a) → IsLeast Fault (Some b) → a ≡ b
+pub least-one-only : (Fault : RefusedAt → Type 0) (a b : RefusedAt) → IsLeast Fault (Some a) → IsLeast Fault (Some b) → a ≡ b
 least-one-only Fault a b p q = before-both a b (p.1 b q.0) (q.1 a p.0)

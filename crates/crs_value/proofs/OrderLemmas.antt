@@ -3,7 +3,7 @@ use Rattle.std.proofs.Common.{◌≡◌, ◌≢◌, ℕ, zero, suc, ◌+◌, ◌
 use Rattle.crs_decimal.specs.Number.{Number, SameNumber, whole_number}
 use Rattle.crs_decimal.specs.Value.{Value, exact}
 use Rattle.crs_text.specs.Items.{Item, arguments, rest_of, here}
-use Rattle.crs_text.specs.Refusal.{Refused}
+use Rattle.crs_text.specs.Refusal.{RefusedAt}
 use Rattle.crs_shape.specs.declared.class.Class.{Class}
 use Rattle.crs_shape.specs.declared.class.Class.TheVariants as class
 use Rattle.crs_shape.specs.Shaped.{Shaped}
@@ -177,17 +177,17 @@ pub wrong-none : DenotesOne → (n : ℕ) (before : List Item) (order : Item) (v
 wrong-none law n before order value reads position one = λ f h.
     not-wrong n before value h.1.0 (order-one law order value h.1.0 reads h.1.1.0) position one h.1.1.1
 
-pub wrong-position : (n : ℕ) (before : List Item) (order : Item) (value : Value) (r : Refused) → r ≡ at 26 order → ReadsOrder order value → (IsPosition n value → ⊥) →
+pub wrong-position : (n : ℕ) (before : List Item) (order : Item) (value : Value) (r : RefusedAt) → r ≡ at 26 order → ReadsOrder order value → (IsPosition n value → ⊥) →
     IsLeast (IsBadOrder n before order) (Some r)
 wrong-position n before order value r e reads position = least-at (at 26 order) r (IsWrongOrder n before order) e (value, (reads, inl position))
 
-pub wrong-again : (n : ℕ) (before : List Item) (order : Item) (value : Value) (r : Refused) → r ≡ at 26 order → ReadsOrder order value → OneHas value before →
+pub wrong-again : (n : ℕ) (before : List Item) (order : Item) (value : Value) (r : RefusedAt) → r ≡ at 26 order → ReadsOrder order value → OneHas value before →
     IsLeast (IsBadOrder n before order) (Some r)
 wrong-again n before order value r e reads one = least-at (at 26 order) r (IsWrongOrder n before order) e (value, (reads, inr one))
 
 -- ---- the orders of all axes
 
-bad-left : (n : ℕ) (b xs ys : List Item) (f : Refused) → BadOrders n b xs f → BadOrders n b (xs ++ ys) f
+bad-left : (n : ℕ) (b xs ys : List Item) (f : RefusedAt) → BadOrders n b xs f → BadOrders n b (xs ++ ys) f
 bad-left n b [] ys f h = absurd h
 bad-left n b (x ∷ xs) ys f (inl h) = inl h
 bad-left n b (x ∷ xs) ys f (inr h) = inr (bad-left n (b ++ x ∷ []) xs ys f h)
@@ -196,13 +196,13 @@ append-none : (list : List Item) → list ++ [] ≡ list
 append-none [] = refl
 append-none (v ∷ list) = ap (λ vs. v ∷ vs) (append-none list)
 
-bad-right : (n : ℕ) (b xs ys : List Item) (f : Refused) → BadOrders n (b ++ xs) ys f → BadOrders n b (xs ++ ys) f
+bad-right : (n : ℕ) (b xs ys : List Item) (f : RefusedAt) → BadOrders n (b ++ xs) ys f → BadOrders n b (xs ++ ys) f
 bad-right n b [] ys f h = let P : List Item → Type 0 = λ c. BadOrders n c ys f in subst P (append-none b) h
 bad-right n b (x ∷ xs) ys f h =
     let P : List Item → Type 0 = λ c. BadOrders n c ys f in
     inr (bad-right n (b ++ x ∷ []) xs ys f (subst P (sym (append_assoc b (x ∷ []) xs)) h))
 
-bad-split : (n : ℕ) (b xs ys : List Item) (f : Refused) → BadOrders n b (xs ++ ys) f → BadOrders n b xs f ⊎ BadOrders n (b ++ xs) ys f
+bad-split : (n : ℕ) (b xs ys : List Item) (f : RefusedAt) → BadOrders n b (xs ++ ys) f → BadOrders n b xs f ⊎ BadOrders n (b ++ xs) ys f
 bad-split n b [] ys f h = let P : List Item → Type 0 = λ c. BadOrders n c ys f in inr (subst P (sym (append-none b)) h)
 bad-split n b (x ∷ xs) ys f (inl h) = inl (inl h)
 bad-split n b (x ∷ xs) ys f (inr h) = more (bad-split n (b ++ x ∷ []) xs ys f h)
@@ -211,26 +211,26 @@ bad-split n b (x ∷ xs) ys f (inr h) = more (bad-split n (b ++ x ∷ []) xs ys 
     more (inl k) = inl (inr k)
     more (inr k) = let P : List Item → Type 0 = λ c. BadOrders n c ys f in inr (subst P (append_assoc b (x ∷ []) xs) k)
 
-bad-more : (n : ℕ) (done : List Item) (axis : Item) (a b r : Option Refused) → r ≡ lesser a b → IsLeast (BadOrders n [] done) a → IsLeast (AnyOf (IsBadOrder n done) (orders_in axis)) b →
+bad-more : (n : ℕ) (done : List Item) (axis : Item) (a b r : Option RefusedAt) → r ≡ lesser a b → IsLeast (BadOrders n [] done) a → IsLeast (AnyOf (IsBadOrder n done) (orders_in axis)) b →
     IsLeast (BadOrders n [] (done ++ axis ∷ [])) r
 bad-more n done axis a b r e p q =
-    let P : Option Refused → Type 0 = λ o. IsLeast (BadOrders n [] (done ++ axis ∷ [])) o in
+    let P : Option RefusedAt → Type 0 = λ o. IsLeast (BadOrders n [] (done ++ axis ∷ [])) o in
     subst P (sym e) (least-same (λ f. BadOrders n [] done f ⊎ AnyOf (IsBadOrder n done) (orders_in axis) f) (BadOrders n [] (done ++ axis ∷ [])) (lesser a b) to back
     (least-either (BadOrders n [] done) (AnyOf (IsBadOrder n done) (orders_in axis)) a b p q))
   where
-    to : (f : Refused) → BadOrders n [] done f ⊎ AnyOf (IsBadOrder n done) (orders_in axis) f → BadOrders n [] (done ++ axis ∷ []) f
+    to : (f : RefusedAt) → BadOrders n [] done f ⊎ AnyOf (IsBadOrder n done) (orders_in axis) f → BadOrders n [] (done ++ axis ∷ []) f
     to f (inl h) = bad-left n [] done (axis ∷ []) f h
     to f (inr h) = bad-right n [] done (axis ∷ []) f (inl h)
 
-    one : (f : Refused) → BadOrders n [] done f ⊎ BadOrders n ([] ++ done) (axis ∷ []) f → BadOrders n [] done f ⊎ AnyOf (IsBadOrder n done) (orders_in axis) f
+    one : (f : RefusedAt) → BadOrders n [] done f ⊎ BadOrders n ([] ++ done) (axis ∷ []) f → BadOrders n [] done f ⊎ AnyOf (IsBadOrder n done) (orders_in axis) f
     one f (inl h) = inl h
     one f (inr (inl h)) = inr h
     one f (inr (inr h)) = absurd h
 
-    back : (f : Refused) → BadOrders n [] (done ++ axis ∷ []) f → BadOrders n [] done f ⊎ AnyOf (IsBadOrder n done) (orders_in axis) f
+    back : (f : RefusedAt) → BadOrders n [] (done ++ axis ∷ []) f → BadOrders n [] done f ⊎ AnyOf (IsBadOrder n done) (orders_in axis) f
     back f h = one f (bad-split n [] done (axis ∷ []) f h)
 
-pub record Ordering (tree : Item) (parent : Class) (whole : List Item) (count before : ℕ) (least : Option Refused) (at : Option ℕ) : Type 0 where
+pub record Ordering (tree : Item) (parent : Class) (whole : List Item) (count before : ℕ) (least : Option RefusedAt) (at : Option ℕ) : Type 0 where
   pub done : List Item
   pub parts : whole ≡ done ++ from_found tree parent class.Axis at
   pub many : before ≡ length done
@@ -260,7 +260,7 @@ take-done [] [] = refl
 take-done [] (y ∷ ys) = refl
 take-done (d ∷ done) ys = ap (λ xs. d ∷ xs) (take-done done ys)
 
-pub ordering-within : (tree : Item) (parent : Class) (whole : List Item) (count before : ℕ) (least : Option Refused) (id : ℕ) → Ordering tree parent whole count before least (Some id) →
+pub ordering-within : (tree : Item) (parent : Class) (whole : List Item) (count before : ℕ) (least : Option RefusedAt) (id : ℕ) → Ordering tree parent whole count before least (Some id) →
     before < length whole
 ordering-within tree parent whole count before least id so =
     let e : length whole ≡ length so.done + suc (length (those parent class.Axis (rest_of (here tree id)))) =
@@ -272,7 +272,7 @@ length-one : (done : List Item) (x : Item) → length (done ++ x ∷ []) ≡ len
 length-one [] x = refl
 length-one (d ∷ done) x = omega (arith, length-one done x)
 
-pub ordering-on : (tree : Item) (parent : Class) (whole : List Item) (count before : ℕ) (least one next : Option Refused) (id : ℕ) (at : Option ℕ) →
+pub ordering-on : (tree : Item) (parent : Class) (whole : List Item) (count before : ℕ) (least one next : Option RefusedAt) (id : ℕ) (at : Option ℕ) →
     Ordering tree parent whole count before least (Some id) → IsLeast (AnyOf (IsBadOrder count (take before whole)) (orders_in (item_at tree id))) one → next ≡ lesser least one →
     IsFound tree parent class.Axis (those parent class.Axis (rest_of (here tree id))) at → Ordering tree parent whole count (before + 1) next at
 ordering-on tree parent whole count before least one next id at so here-least e found =
@@ -290,7 +290,7 @@ ordering-on tree parent whole count before least one next id at so here-least e 
       is_least = bad-more (length whole) so.done (item_at tree id) least one next e so.is_least (subst Q so.all (subst P t here-least));
     }
 
-pub ordering-end : (tree : Item) (parent : Class) (whole : List Item) (count before : ℕ) (least : Option Refused) (at : Option ℕ) → Ordering tree parent whole count before least at → at ≡ None →
+pub ordering-end : (tree : Item) (parent : Class) (whole : List Item) (count before : ℕ) (least : Option RefusedAt) (at : Option ℕ) → Ordering tree parent whole count before least at → at ≡ None →
     IsLeast (BadOrders (length whole) [] whole) least
 ordering-end tree parent whole count before least at so none =
     let e : whole ≡ so.done = so.parts ∙ ap (λ o. so.done ++ from_found tree parent class.Axis o) none ∙ append-none so.done in
@@ -299,32 +299,32 @@ ordering-end tree parent whole count before least at so none =
 
 -- ---- the two cases
 
-all-have : (axes : List Item) → ((f : Refused) → ¬ (AnyOf LacksOrder axes f)) → AllHaveOrder axes
+all-have : (axes : List Item) → ((f : RefusedAt) → ¬ (AnyOf LacksOrder axes f)) → AllHaveOrder axes
 all-have [] none = tt
 all-have (axis ∷ axes) none = (λ e. none (at 26 axis) (inl (refl, e)), all-have axes (λ f h. none f (inr h)))
 
-not-all : (axes : List Item) (f : Refused) → AnyOf LacksOrder axes f → AllHaveOrder axes → ⊥
+not-all : (axes : List Item) (f : RefusedAt) → AnyOf LacksOrder axes f → AllHaveOrder axes → ⊥
 not-all [] f h all = h
 not-all (axis ∷ axes) f (inl h) all = all.0 h.1
 not-all (axis ∷ axes) f (inr h) all = not-all axes f h all.1
 
-pub order-all : (axes : List Item) (o : Option Refused) → IsLeast (AnyOf LacksOrder axes) None → IsLeast (BadOrders (length axes) [] axes) o → IsLeast (BadOrder axes) o
+pub order-all : (axes : List Item) (o : Option RefusedAt) → IsLeast (AnyOf LacksOrder axes) None → IsLeast (BadOrders (length axes) [] axes) o → IsLeast (BadOrder axes) o
 order-all axes o none h = least-same (BadOrders (length axes) [] axes) (BadOrder axes) o (λ f k. inr (all-have axes none, k)) back h
   where
-    back : (f : Refused) → BadOrder axes f → BadOrders (length axes) [] axes f
+    back : (f : RefusedAt) → BadOrder axes f → BadOrders (length axes) [] axes f
     back f (inl k) = absurd (none f k.1)
     back f (inr k) = k.1
 
-pub order-some : (axes : List Item) (g : Refused) → IsLeast (AnyOf LacksOrder axes) (Some g) → SomeHasOrder axes → IsLeast (BadOrder axes) (Some g)
+pub order-some : (axes : List Item) (g : RefusedAt) → IsLeast (AnyOf LacksOrder axes) (Some g) → SomeHasOrder axes → IsLeast (BadOrder axes) (Some g)
 order-some axes g h some = least-same (AnyOf LacksOrder axes) (BadOrder axes) (Some g) (λ f k. inl (some, k)) back h
   where
-    back : (f : Refused) → BadOrder axes f → AnyOf LacksOrder axes f
+    back : (f : RefusedAt) → BadOrder axes f → AnyOf LacksOrder axes f
     back f (inl k) = k.1
     back f (inr k) = absurd (not-all axes g h.0 k.0)
 
-pub order-none : (axes : List Item) (g : Refused) → IsLeast (AnyOf LacksOrder axes) (Some g) → (SomeHasOrder axes → ⊥) → IsLeast (BadOrder axes) None
+pub order-none : (axes : List Item) (g : RefusedAt) → IsLeast (AnyOf LacksOrder axes) (Some g) → (SomeHasOrder axes → ⊥) → IsLeast (BadOrder axes) None
 order-none axes g h other = back
   where
-    back : (f : Refused) → BadOrder axes f → ⊥
+    back : (f : RefusedAt) → BadOrder axes f → ⊥
     back f (inl k) = other k.0
     back f (inr k) = not-all axes g h.0 k.0

@@ -1,7 +1,7 @@
 -- The checks of a node's own, by its class.
 use Rattle.std.proofs.Common.{◌≡◌, inl, inr, ◌⊎◌, Option, sym, subst}
 use Rattle.crs_text.specs.Items.{Item, arguments}
-use Rattle.crs_text.specs.Refusal.{Refused}
+use Rattle.crs_text.specs.Refusal.{RefusedAt}
 use Rattle.crs_shape.specs.declared.class.Class.{Class}
 use Rattle.crs_shape.specs.declared.class.Class.TheVariants as class
 use Rattle.crs_value.specs.BadSystem.{dimensions_of}
@@ -11,7 +11,7 @@ use Rattle.crs_value.specs.Checks.{OfCrs, OfCompound, OfUnit, HasSystem, Own, Br
 use Rattle.crs_value.specs.Reading.{those}
 
 -- a CRS with a coordinate system breaks by itself what such a CRS breaks
-pub own-crs : (c : Class) (item : Item) (o : Option Refused) → HasSystem c → IsLeast (λ f. BreaksAmong c (arguments item) f ⊎ OfCrs (dimensions_of c) c item f) o →
+pub own-crs : (c : Class) (item : Item) (o : Option RefusedAt) → HasSystem c → IsLeast (λ f. BreaksAmong c (arguments item) f ⊎ OfCrs (dimensions_of c) c item f) o →
     IsLeast (λ f. BreaksAmong c (arguments item) f ⊎ Own c item f) o
 unfolding Own
 own-crs class.GeodeticCrs item o is h = h
@@ -20,11 +20,11 @@ own-crs class.ProjectedCrs item o is h = h
 own-crs class.VerticalCrs item o is h = h
 own-crs other item o is h = absurd is
 
-pub own-compound : (c : Class) (item : Item) (o : Option Refused) → c ≡ class.CompoundCrs → IsLeast (OfCompound (arguments item)) o → IsLeast (Own c item) o
+pub own-compound : (c : Class) (item : Item) (o : Option RefusedAt) → c ≡ class.CompoundCrs → IsLeast (OfCompound (arguments item)) o → IsLeast (Own c item) o
 unfolding Own
 own-compound c item o e h = let P : Class → Type 0 = λ x. IsLeast (Own x item) o in subst P (sym e) h
 
-module _ (c : Class) (item : Item) (o : Option Refused) (h : IsLeast (OfUnit c item) o) where
+module _ (c : Class) (item : Item) (o : Option RefusedAt) (h : IsLeast (OfUnit c item) o) where
   at-unit : (d : Class) → c ≡ d → ((k : IsLeast (OfUnit d item) o) → IsLeast (Own d item) o) → IsLeast (Own c item) o
   at-unit d e to =
       let P : Class → Type 0 = λ x. IsLeast (Own x item) o in
@@ -39,14 +39,14 @@ module _ (c : Class) (item : Item) (o : Option Refused) (h : IsLeast (OfUnit c i
   own-unit (inr (inr (inr (inl e)))) = at-unit class.PlainUnit e (λ k. k)
   own-unit (inr (inr (inr (inr e)))) = at-unit class.AxisUnit e (λ k. k)
 
-pub own-system : (c : Class) (item : Item) (o : Option Refused) → c ≡ class.CoordinateSystem → IsLeast (AnyOf UnknownType (those c class.Word (arguments item))) o → IsLeast (Own c item) o
+pub own-system : (c : Class) (item : Item) (o : Option RefusedAt) → c ≡ class.CoordinateSystem → IsLeast (AnyOf UnknownType (those c class.Word (arguments item))) o → IsLeast (Own c item) o
 unfolding Own
 own-system c item o e h =
     let P : Class → Type 0 = λ x. IsLeast (Own x item) o in
     let Q : Class → Type 0 = λ x. IsLeast (AnyOf UnknownType (those x class.Word (arguments item))) o in
     subst P (sym e) (subst Q e h)
 
-pub own-axis : (c : Class) (item : Item) (o : Option Refused) → c ≡ class.Axis → IsLeast (AnyOf UnknownDirection (those c class.Word (arguments item))) o → IsLeast (Own c item) o
+pub own-axis : (c : Class) (item : Item) (o : Option RefusedAt) → c ≡ class.Axis → IsLeast (AnyOf UnknownDirection (those c class.Word (arguments item))) o → IsLeast (Own c item) o
 unfolding Own
 own-axis c item o e h =
     let P : Class → Type 0 = λ x. IsLeast (Own x item) o in

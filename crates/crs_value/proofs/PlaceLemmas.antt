@@ -1,8 +1,8 @@
 -- Places: what a text's items hold lies within the text.
 use Rattle.std.proofs.Common.{◌≡◌, ℕ, ◌+◌, ◌≤◌, length, List, [], ◌∷◌, ◌++◌, sym, subst, arith}
 use Rattle.crs_text.specs.Tokens.{Token, single, comma, opening, closing, Forms, Fronts}
-use Rattle.crs_text.specs.Items.{Item, leaf, node, Items, End, More, arguments, place_of, tokens, others_tokens}
-use Rattle.crs_text.specs.Refusal.{Refused}
+use Rattle.crs_text.specs.Items.{Item, leaf, node, Siblings, End, More, arguments, place_of, tokens, others_tokens}
+use Rattle.crs_text.specs.Refusal.{RefusedAt}
 use Rattle.crs_text.specs.TextFault.{SpellsNode}
 use Rattle.crs_value.specs.SpellsText.{IsFrom}
 
@@ -39,7 +39,7 @@ abbrev mutual
   Within total (leaf kind place raw) = place ≤ total
   Within total (node place keyword square first others close) = (place ≤ total) × ((close ≤ total) × (Within total first × AreWithin total others))
 
-  pub AreWithin : ℕ → Items → Type 0
+  pub AreWithin : ℕ → Siblings → Type 0
   AreWithin total End = Unit {0}
   AreWithin total (More item items) = Within total item × AreWithin total items
 
@@ -51,7 +51,7 @@ mutual
       let t = split-within total (tokens first) (others_tokens others) s.0 in
       (h.0, (s.1.0, (item-within total first t.0, items-within total others t.1)))
 
-  items-within : (total : ℕ) (items : Items) → TokensWithin total (others_tokens items) → AreWithin total items
+  items-within : (total : ℕ) (items : Siblings) → TokensWithin total (others_tokens items) → AreWithin total items
   items-within total End h = tt
   items-within total (More item items) h =
       let s = split-within total (tokens item) (others_tokens items) h.1 in (item-within total item s.0, items-within total items s.1)
@@ -72,8 +72,8 @@ arguments-within total (node place keyword square first others close) h = h.1.1
 -- ---- faults
 
 -- a fault with a number of these and a place within a text of this length
-abbrev pub Fine : ℕ → ℕ → ℕ → Refused → Type 0
+abbrev pub Fine : ℕ → ℕ → ℕ → RefusedAt → Type 0
 Fine low high total fault = IsFrom low high fault.number × (fault.place ≤ total)
 
-pub fine-as : (low high total : ℕ) (fault other : Refused) → fault ≡ other → Fine low high total other → Fine low high total fault
+pub fine-as : (low high total : ℕ) (fault other : RefusedAt) → fault ≡ other → Fine low high total other → Fine low high total fault
 fine-as low high total fault other e h = subst (Fine low high total) (sym e) h

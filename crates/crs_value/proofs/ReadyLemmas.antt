@@ -3,7 +3,7 @@ use Rattle.std.proofs.Common.{◌≡◌, ℕ, zero, suc, drop, Bool, true, false
 use Rattle.crs_decimal.specs.Bounds.{IsInBounds, Denotes}
 use Rattle.crs_decimal.specs.Value.{Value, IsNormal, exact}
 use Rattle.crs_text.specs.Tokens.{number, text, word}
-use Rattle.crs_text.specs.Items.{Item, leaf, node, Items, End, More, arguments}
+use Rattle.crs_text.specs.Items.{Item, leaf, node, Siblings, End, More, arguments}
 use Rattle.crs_text.specs.Written.{AreFormed, AreAllFormed}
 use Rattle.crs_text.specs.declared.items.ItemKind.TheVariants as item_kinds
 use Rattle.crs_shape.specs.declared.class.Class.{Class}
@@ -33,7 +33,7 @@ if-formed : (b : Bool) (item : Item) (items : List Item) → AreFormed item → 
 if-formed true item items h rest = (h, rest)
 if-formed false item items h rest = rest
 
-those-formed : (parent c : Class) (items : Items) → AreAllFormed items → AllFormed (those parent c items)
+those-formed : (parent c : Class) (items : Siblings) → AreAllFormed items → AllFormed (those parent c items)
 those-formed parent c End h = tt
 those-formed parent c (More item items) h = if-formed (is_a parent c item) item (those parent c items) h.0 (those-formed parent c items h.1)
 

@@ -2,8 +2,8 @@
 use Rattle.std.proofs.Common.{◌≡◌, ◌≢◌, ℕ, ◌⊎◌, inl, inr, length, take, drop, true, Option, Some, None, List, [], ◌∷◌, ◌++◌, refl, sym, subst}
 use Rattle.crs_decimal.specs.Number.{SameNumber, whole_number}
 use Rattle.crs_decimal.specs.Value.{Value, exact}
-use Rattle.crs_text.specs.Items.{Item, leaf, node, Items, End, More, arguments, raw_of}
-use Rattle.crs_text.specs.Refusal.{Refused}
+use Rattle.crs_text.specs.Items.{Item, leaf, node, Siblings, End, More, arguments, raw_of}
+use Rattle.crs_text.specs.Refusal.{RefusedAt}
 use Rattle.crs_text.specs.Written.{AreAllFormed}
 use Rattle.crs_shape.specs.declared.class.Class.{Class}
 use Rattle.crs_shape.specs.declared.class.Class.TheVariants as class
@@ -35,27 +35,27 @@ use Rattle.crs_value.proofs.SystemLemmas.{first-one, type-is-one, dimension-is-o
 use Rattle.crs_value.proofs.UnitLemmas.{asks-one}
 
 -- one fault is the first, or there is none
-abbrev pub HasLeast : (Refused → Type 0) → Type 0
-HasLeast P = (o : Option Refused) × IsLeast P o
+abbrev pub HasLeast : (RefusedAt → Type 0) → Type 0
+HasLeast P = (o : Option RefusedAt) × IsLeast P o
 
-nothing : (P : Refused → Type 0) → ((f : Refused) → ¬ (P f)) → HasLeast P
+nothing : (P : RefusedAt → Type 0) → ((f : RefusedAt) → ¬ (P f)) → HasLeast P
 nothing P none = (None, none)
 
-same-least : (P Q : Refused → Type 0) → ((f : Refused) → P f → Q f) → ((f : Refused) → Q f → P f) → HasLeast P → HasLeast Q
+same-least : (P Q : RefusedAt → Type 0) → ((f : RefusedAt) → P f → Q f) → ((f : RefusedAt) → Q f → P f) → HasLeast P → HasLeast Q
 same-least P Q to back h = (h.0, least-same P Q h.0 to back h.1)
 
-either-least : (P Q : Refused → Type 0) → HasLeast P → HasLeast Q → HasLeast (λ f. P f ⊎ Q f)
+either-least : (P Q : RefusedAt → Type 0) → HasLeast P → HasLeast Q → HasLeast (λ f. P f ⊎ Q f)
 either-least P Q p q = (lesser p.0 q.0, least-either P Q p.0 q.0 p.1 q.1)
 
-at-least : (g : Refused) (C : Type 0) → Decided C → HasLeast (λ f. (f ≡ g) × C)
+at-least : (g : RefusedAt) (C : Type 0) → Decided C → HasLeast (λ f. (f ≡ g) × C)
 at-least g C (inl holds) = (Some g, least-one g C holds)
 at-least g C (inr fails) = (None, least-not g C fails)
 
-under-least : (C : Type 0) (P : Refused → Type 0) → Decided C → HasLeast P → HasLeast (λ f. C × P f)
+under-least : (C : Type 0) (P : RefusedAt → Type 0) → Decided C → HasLeast P → HasLeast (λ f. C × P f)
 under-least C P (inl holds) h = same-least P (λ f. C × P f) (λ f x. (holds, x)) (λ f x. x.1) h
 under-least C P (inr fails) h = nothing (λ f. C × P f) (λ f x. fails x.0)
 
-any-least : (B : Item → Refused → Type 0) (c : Class) → ((item : Item) → Ready c item → HasLeast (B item)) → (items : List Item) → AllReady c items → HasLeast (AnyOf B items)
+any-least : (B : Item → RefusedAt → Type 0) (c : Class) → ((item : Item) → Ready c item → HasLeast (B item)) → (items : List Item) → AllReady c items → HasLeast (AnyOf B items)
 any-least B c one [] h = nothing (AnyOf B []) (λ f x. x)
 any-least B c one (item ∷ items) h = either-least (B item) (AnyOf B items) (one item h.0) (any-least B c one items h.1)
 
@@ -69,7 +69,7 @@ decided-none (item ∷ items) = inr (λ e. cc)
 
 -- ---- words
 
-unknown : {V : Type 0} (g : Refused) (R : V → Type 0) → Known R → HasLeast (λ f. (f ≡ g) × ((value : V) → ¬ (R value)))
+unknown : {V : Type 0} (g : RefusedAt) (R : V → Type 0) → Known R → HasLeast (λ f. (f ≡ g) × ((value : V) → ¬ (R value)))
 unknown {V = V} g R (inl found) = at-least g ((value : V) → ¬ (R value)) (inr (λ none. none found.0 found.1))
 unknown {V = V} g R (inr none) = at-least g ((value : V) → ¬ (R value)) (inl none)
 
@@ -85,10 +85,10 @@ repeated : (items : List Item) → HasLeast (AnyOf IsRepeated items)
 repeated [] = nothing (AnyOf IsRepeated []) (λ f x. x)
 repeated (item ∷ items) = either-least (IsRepeated item) (AnyOf IsRepeated items) (Some (at 22 item), least-is (at 22 item) (at 22 item) refl) (repeated items)
 
-repeats-least : (parent : Class) (items : Items) (c : Class) → HasLeast (Repeats parent items c)
+repeats-least : (parent : Class) (items : Siblings) (c : Class) → HasLeast (Repeats parent items c)
 repeats-least parent items c = repeated (drop 1 (those parent c items))
 
-repeats-any-least : (parent : Class) (items : Items) (cs : List Class) → HasLeast (RepeatsAny parent items cs)
+repeats-any-least : (parent : Class) (items : Siblings) (cs : List Class) → HasLeast (RepeatsAny parent items cs)
 repeats-any-least parent items [] = nothing (RepeatsAny parent items []) (λ f x. x)
 repeats-any-least parent items (c ∷ cs) = either-least (Repeats parent items c) (RepeatsAny parent items cs) (repeats-least parent items c) (repeats-any-least parent items cs)
 
@@ -307,7 +307,7 @@ module _ (numbers : Numbers) (one : DenotesOne) where
       any-least UnknownDirection class.Word (λ i r. direction-least i) (those class.Axis class.Word (arguments item)) (those-ready class.Axis class.Word item h)
   own-least other item h = (None, λ f x. x)
 
-  class-least : (o : Option Class) (d : Class) (P : Class → Refused → Type 0) → o ≡ Some d → HasLeast (P d) → HasLeast (λ f. AtClass o (λ x. P x f))
+  class-least : (o : Option Class) (d : Class) (P : Class → RefusedAt → Type 0) → o ≡ Some d → HasLeast (P d) → HasLeast (λ f. AtClass o (λ x. P x f))
   class-least o d P e h = let Q : Option Class → Type 0 = λ x. HasLeast (λ f. AtClass x (λ y. P y f)) in subst Q (sym e) h
 
   mutual
@@ -321,7 +321,7 @@ module _ (numbers : Numbers) (one : DenotesOne) where
         (class-least (class_in c first) shape.0 (λ d f. Breaks d first f) shape.1.1.0 (breaks-least shape.0 first (shape.1.1.1.0, h.1.1)))
         (among-least c shape.1.0 others shape.1.1.1.1.0 h.1.2))
 
-    among-least : (c : Class) (ds : List Class) (items : Items) → AreShaped c ds items → AreAllFormed items → HasLeast (BreaksAmong c items)
+    among-least : (c : Class) (ds : List Class) (items : Siblings) → AreShaped c ds items → AreAllFormed items → HasLeast (BreaksAmong c items)
     among-least c ds End shaped formed = (None, λ f x. x)
     among-least c [] (More item items) shaped formed = absurd shaped
     among-least c (d ∷ ds) (More item items) shaped formed =

@@ -1,7 +1,7 @@
 -- What a sound compound CRS says is sound, and so what any sound text says.
 use Rattle.std.proofs.Common.{◌≡◌, inl, inr, List, [], ◌∷◌, refl}
 use Rattle.crs_text.specs.Items.{Item, leaf, node, arguments}
-use Rattle.crs_text.specs.Refusal.{Refused}
+use Rattle.crs_text.specs.Refusal.{RefusedAt}
 use Rattle.crs_text.specs.Written.{AreFormed}
 use Rattle.crs_shape.specs.declared.class.Class.{Class}
 use Rattle.crs_shape.specs.declared.class.Class.TheVariants as class
@@ -44,7 +44,7 @@ ellipsoidal d bad (cs ∷ more) system free reads =
 
 -- no part of this class breaks its check
 abbrev Free : Class → List Item → Type 0
-Free d parts = (fault : Refused) → AnyOf (BadComponent d) parts fault → ⊥
+Free d parts = (fault : RefusedAt) → AnyOf (BadComponent d) parts fault → ⊥
 
 free-first : (d : Class) (part : Item) (parts : List Item) → Free d (part ∷ parts) → FirstIs (IsNotHorizontal d) (those d class.CoordinateSystem (arguments part)) → ⊥
 free-first d part parts free bad = free (at 24 part) (inl (refl, bad))
@@ -82,11 +82,11 @@ module _ (law : SlotsCount) (bound : SlotsBound) where
 
   -- ---- compound CRSs
 
-  own-of-compound : (item : Item) (fault : Refused) → OfCompound (arguments item) fault → Own class.CompoundCrs item fault
+  own-of-compound : (item : Item) (fault : RefusedAt) → OfCompound (arguments item) fault → Own class.CompoundCrs item fault
   unfolding Own
   own-of-compound item fault h = h
 
-  parts-free : (item : Item) → IsSound class.CompoundCrs item → (fault : Refused) → BadComponents horizontal_classes (arguments item) fault → ⊥
+  parts-free : (item : Item) → IsSound class.CompoundCrs item → (fault : RefusedAt) → BadComponents horizontal_classes (arguments item) fault → ⊥
   parts-free (leaf kind place raw) sound fault (inl bad) = absurd bad
   parts-free (leaf kind place raw) sound fault (inr (inl bad)) = absurd bad
   parts-free (leaf kind place raw) sound fault (inr (inr (inl bad))) = absurd bad

@@ -3,7 +3,7 @@ use Rattle.std.proofs.Common.{◌≡◌, false, inl, inr, take, drop, List, [], 
 use Rattle.std.proofs.lemmas.Bool.{false_from_ne_true}
 use Rattle.crs_decimal.specs.Value.{Value, IsNormal}
 use Rattle.crs_text.specs.Items.{Item, leaf, node, More, arguments}
-use Rattle.crs_text.specs.Refusal.{Refused}
+use Rattle.crs_text.specs.Refusal.{RefusedAt}
 use Rattle.crs_shape.specs.declared.class.Class.{Class}
 use Rattle.crs_shape.specs.declared.class.Class.TheVariants as class
 use Rattle.crs_value.specs.declared.unit_kind.UnitKind.TheVariants as kinds
@@ -19,15 +19,15 @@ use Rattle.crs_value.proofs.SoundLemmas.{Tells, first-tells, optional-tells, eac
 
 -- ---- ellipsoids
 
-own-ellipsoid : (item : Item) (fault : Refused) → OfEllipsoid (those class.Ellipsoid class.Number (arguments item)) fault → Own class.Ellipsoid item fault
+own-ellipsoid : (item : Item) (fault : RefusedAt) → OfEllipsoid (those class.Ellipsoid class.Number (arguments item)) fault → Own class.Ellipsoid item fault
 unfolding Own
 own-ellipsoid item fault h = h
 
-above-take : (items : List Item) (value : Value) → ((fault : Refused) → AnyOf NotAbove (take 1 items) fault → ⊥) → ReadsFirst ReadsNumber (drop 0 items) value → IsAboveZero value
+above-take : (items : List Item) (value : Value) → ((fault : RefusedAt) → AnyOf NotAbove (take 1 items) fault → ⊥) → ReadsFirst ReadsNumber (drop 0 items) value → IsAboveZero value
 above-take [] value free reads = absurd reads
 above-take (item ∷ items) value free reads = above-not-not value (λ no. free (at 28 item) (inl (refl, (value, (reads, no)))))
 
-below-first : (items : List Item) (value : Value) → ((fault : Refused) → AnyOf IsNegative items fault → ⊥) → ReadsFirst ReadsNumber items value → value.negative ≡ false
+below-first : (items : List Item) (value : Value) → ((fault : RefusedAt) → AnyOf IsNegative items fault → ⊥) → ReadsFirst ReadsNumber items value → value.negative ≡ false
 below-first [] value free reads = absurd reads
 below-first (item ∷ items) value free reads = false_from_ne_true value.negative (λ e. free (at 28 item) (inl (refl, (value, (reads, e)))))
 

@@ -7,9 +7,9 @@ use Rattle.std.proofs.lemmas.Str.{IsUtf8-from_ascii}
 use Rattle.std.proofs.lemmas.Str.Ascii.{IsAscii-nil, IsAscii-cons}
 use Rattle.crs_decimal.specs.Spelling.{is_digit, is_run_byte}
 use Rattle.crs_decimal.specs.Value.{Value, IsNormal}
-use Rattle.crs_text.specs.Items.{Item, leaf, node, Items, End, More, arguments, raw_of, skip}
+use Rattle.crs_text.specs.Items.{Item, leaf, node, Siblings, End, More, arguments, raw_of, skip}
 use Rattle.crs_text.specs.Quoted.{doubled}
-use Rattle.crs_text.specs.Refusal.{Refused}
+use Rattle.crs_text.specs.Refusal.{RefusedAt}
 use Rattle.crs_text.specs.Tokens.{Kind, number, text, word, IsSingle, IsWord, is_letter, is_word_byte}
 use Rattle.crs_text.specs.Written.{AreFormed, AreAllFormed}
 use Rattle.crs_shape.specs.declared.class.Class.{Class}
@@ -173,14 +173,14 @@ number-of-tells c item value sound reads = number-first (those c class.Number (a
 
 -- ---- identifiers
 
-single-tells : (items : Items) (value : List ℕ) → AreAllFormed items → ReadsFirst ReadsText (single_of items) value → IsText value
+single-tells : (items : Siblings) (value : List ℕ) → AreAllFormed items → ReadsFirst ReadsText (single_of items) value → IsText value
 single-tells End value formed reads = absurd reads
 single-tells (More (leaf number place raw) items) value formed reads = subst IsText reads (formed-text (leaf number place raw) formed.0)
 single-tells (More (leaf text place raw) items) value formed reads = subst IsText reads (formed-text (leaf text place raw) formed.0)
 single-tells (More (leaf word place raw) items) value formed reads = subst IsText reads (formed-text (leaf word place raw) formed.0)
 single-tells (More (node place keyword square first others close) items) value formed reads = absurd reads
 
-optional-single-tells : (items : Items) (value : Option (List ℕ)) → AreAllFormed items → ReadsOptional ReadsText (single_of items) value → IfSome value IsText
+optional-single-tells : (items : Siblings) (value : Option (List ℕ)) → AreAllFormed items → ReadsOptional ReadsText (single_of items) value → IfSome value IsText
 optional-single-tells items None formed reads = tt
 optional-single-tells End (Some value) formed reads = absurd reads
 optional-single-tells (More (leaf number place raw) items) (Some value) formed reads = subst IsText reads (formed-text (leaf number place raw) formed.0)
@@ -188,7 +188,7 @@ optional-single-tells (More (leaf text place raw) items) (Some value) formed rea
 optional-single-tells (More (leaf word place raw) items) (Some value) formed reads = subst IsText reads (formed-text (leaf word place raw) formed.0)
 optional-single-tells (More (node place keyword square first others close) items) (Some value) formed reads = absurd reads
 
-skip-formed : (n : ℕ) (items : Items) → AreAllFormed items → AreAllFormed (skip n items)
+skip-formed : (n : ℕ) (items : Siblings) → AreAllFormed items → AreAllFormed (skip n items)
 skip-formed zero items formed = formed
 skip-formed (suc n) End formed = skip-formed n End formed
 skip-formed (suc n) (More item items) formed = skip-formed n items formed.1
@@ -221,11 +221,11 @@ above-not-not value twice = elim value.negative as (λ b. value.negative ≡ b �
   | false ↦ λ e. (e, λ zero. twice (λ above. above.1 zero))
 ] refl
 
-pub above-first : (items : List Item) (value : Value) → ((fault : Refused) → AnyOf NotAbove items fault → ⊥) → ReadsFirst ReadsNumber items value → IsAboveZero value
+pub above-first : (items : List Item) (value : Value) → ((fault : RefusedAt) → AnyOf NotAbove items fault → ⊥) → ReadsFirst ReadsNumber items value → IsAboveZero value
 above-first [] value free reads = absurd reads
 above-first (item ∷ items) value free reads = above-not-not value (λ never. free (at 28 item) (inl (refl, (value, (reads, never)))))
 
-own-unit : (c : Class) (item : Item) (fault : Refused) → IsUnitClass c → OfUnit c item fault → Own c item fault
+own-unit : (c : Class) (item : Item) (fault : RefusedAt) → IsUnitClass c → OfUnit c item fault → Own c item fault
 unfolding Own
 own-unit class.LengthUnit item fault is h = h
 own-unit class.AngleUnit item fault is h = h

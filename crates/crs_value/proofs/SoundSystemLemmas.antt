@@ -4,7 +4,7 @@ use Rattle.std.specs.Prelude.{IsSomeAnd}
 use Rattle.crs_decimal.specs.Number.{SameNumber, whole_number}
 use Rattle.crs_decimal.specs.Value.{Value, IsNormal, exact}
 use Rattle.crs_text.specs.Items.{Item, leaf, node, arguments, raw_of}
-use Rattle.crs_text.specs.Refusal.{Refused}
+use Rattle.crs_text.specs.Refusal.{RefusedAt}
 use Rattle.crs_shape.specs.declared.class.Class.{Class}
 use Rattle.crs_shape.specs.declared.class.Class.TheVariants as class
 use Rattle.crs_value.specs.declared.system_type.SystemType.{SystemType}
@@ -58,13 +58,13 @@ ReadAxes axes values = ReadsEach (ReadsAxis class.Axis) axes values
 -- ---- the node `CS`
 
 module _ (dimensions : SystemType → List ℕ) (axes : List Item) (parts : SystemParts) where
-  pub system-count : (systems : List Item) → ((fault : Refused) → AnyOf (OfHead dimensions axes) systems fault → ⊥) → ReadsFirst ReadsHead systems parts →
+  pub system-count : (systems : List Item) → ((fault : RefusedAt) → AnyOf (OfHead dimensions axes) systems fault → ⊥) → ReadsFirst ReadsHead systems parts →
       SameNumber (exact parts.dimension) (whole_number (length axes))
   system-count [] free reads = absurd reads
   system-count (cs ∷ more) free reads =
       stable _ (same-either parts.dimension (length axes)) (λ never. free (at 25 cs) (inl (inr (refl, (parts.dimension, (reads.dimension, never))))))
 
-  pub system-allowed : (systems : List Item) → ((fault : Refused) → AnyOf (OfHead dimensions axes) systems fault → ⊥) → ReadsFirst ReadsHead systems parts →
+  pub system-allowed : (systems : List Item) → ((fault : RefusedAt) → AnyOf (OfHead dimensions axes) systems fault → ⊥) → ReadsFirst ReadsHead systems parts →
       IsOneOf parts.dimension (dimensions parts.system_type)
   system-allowed [] free reads = absurd reads
   system-allowed (cs ∷ more) free reads =
@@ -82,7 +82,7 @@ none-ordered (axis ∷ axes) (value ∷ values) reads none = (
   none-ordered axes values reads.1 (λ some. none (inr some)),
 )
 
-all-or-lacking : (axes : List Item) → AllHaveOrder axes ⊎ ((fault : Refused) × AnyOf LacksOrder axes fault)
+all-or-lacking : (axes : List Item) → AllHaveOrder axes ⊎ ((fault : RefusedAt) × AnyOf LacksOrder axes fault)
 all-or-lacking [] = inl tt
 all-or-lacking (axis ∷ axes) = elim (nil-either (orders_in axis)) [
   | inl e ↦ inr (at 26 axis, inl (refl, e))
@@ -106,7 +106,7 @@ orders-read (axis ∷ axes) (value ∷ values) all reads =
     (here.0 ∷ rest.0, let e = here.1 in let f = rest.1 in cc)
 
 bad-order : (n : ℕ) (before items : List Item) (order : Value) → ReadsFirst ReadsOrder items order → ¬ (IsPosition n order) ⊎ OneHas order before →
-    (fault : Refused) × AnyOf (IsBadOrder n before) items fault
+    (fault : RefusedAt) × AnyOf (IsBadOrder n before) items fault
 bad-order n before [] order reads wrong = absurd reads
 bad-order n before (item ∷ items) order reads wrong = (at 26 item, inl (refl, (order, (reads, wrong))))
 
@@ -121,7 +121,7 @@ one-has-last order (x ∷ xs) y h = inr (one-has-last order xs y h)
 
 module _ (n : ℕ) where
   abbrev Free : List Item → List Item → Type 0
-  Free before axes = (fault : Refused) → BadOrders n before axes fault → ⊥
+  Free before axes = (fault : RefusedAt) → BadOrders n before axes fault → ⊥
 
   order-here : (axis : Item) (value : AxisParts) (values : List AxisParts) (order : Value) (orders : List Value) → ReadsAxis class.Axis axis value →
       AreOrders (value ∷ values) (order ∷ orders) → ReadsFirst ReadsOrder (orders_in axis) order
@@ -162,7 +162,7 @@ module _ (n : ℕ) where
         distinct (before ++ axis ∷ []) axes values orders (λ fault h. free fault (inr h)) reads.1 rest,
       )
 
-pub orders-tell : (axes : List Item) (values : List AxisParts) → ((fault : Refused) → BadOrder axes fault → ⊥) → ReadAxes axes values → HasOrders values
+pub orders-tell : (axes : List Item) (values : List AxisParts) → ((fault : RefusedAt) → BadOrder axes fault → ⊥) → ReadAxes axes values → HasOrders values
 orders-tell axes values free reads = elim (all-or-lacking axes) [
   | inr lacks ↦ inl (none-ordered axes values reads (λ some. free lacks.0 (inl (some, lacks.1))))
   | inl all ↦ inr (numbered all (orders-read axes values all reads))
@@ -171,17 +171,17 @@ orders-tell axes values free reads = elim (all-or-lacking axes) [
     numbered : AllHaveOrder axes → ((orders : List Value) × AreOrders values orders) →
         (orders : List Value) × (AreOrders values orders × (Each (IsPosition (length values)) orders × AreDistinct orders))
     numbered all h =
-        let sound : (fault : Refused) → BadOrders (length axes) [] axes fault → ⊥ = λ fault bad. free fault (inr (all, bad)) in
+        let sound : (fault : RefusedAt) → BadOrders (length axes) [] axes fault → ⊥ = λ fault bad. free fault (inr (all, bad)) in
         let P : ℕ → Type 0 = λ n. Each (IsPosition n) h.0 in
         (h.0, (h.1, (subst P (each-length (ReadsAxis class.Axis) axes values reads) (positions (length axes) [] axes values h.0 sound reads h.1), distinct (length axes) [] axes values h.0 sound reads h.1)))
 
 -- ---- units
 
-some-superfluous : (items : List Item) → items ≢ [] → (fault : Refused) × AnyOf IsSuperfluous items fault
+some-superfluous : (items : List Item) → items ≢ [] → (fault : RefusedAt) × AnyOf IsSuperfluous items fault
 some-superfluous [] some = absurd (some refl)
 some-superfluous (item ∷ items) some = (at 27 item, inl refl)
 
-no-own-units : (axes : List Item) (values : List AxisParts) → ((fault : Refused) → AnyOf HasOwnUnit axes fault → ⊥) → ReadAxes axes values → Each (λ axis. axis.unit ≡ None) values
+no-own-units : (axes : List Item) (values : List AxisParts) → ((fault : RefusedAt) → AnyOf HasOwnUnit axes fault → ⊥) → ReadAxes axes values → Each (λ axis. axis.unit ≡ None) values
 no-own-units [] [] free reads = tt
 no-own-units [] (value ∷ values) free reads = absurd reads
 no-own-units (axis ∷ axes) [] free reads = absurd reads
@@ -197,7 +197,7 @@ suits-fits unit asked kind reads (inl plain) = inr (kind_one (raw_of unit) kind 
 suits-fits unit asked kind reads (inr same) = inl (kind_one (raw_of unit) kind asked reads same)
 
 misfit : (cs axis : Item) (items : List Item) (asked : UnitKind) (unit : UnitParts) → Asks cs axis asked → ReadsFirst (ReadsUnit class.AxisUnit) items unit →
-    ¬ (Suits asked unit.kind) → (fault : Refused) × AnyOf (Misfits cs axis) items fault
+    ¬ (Suits asked unit.kind) → (fault : RefusedAt) × AnyOf (Misfits cs axis) items fault
 misfit cs axis [] asked unit asks reads never = absurd reads
 misfit cs axis (item ∷ items) asked unit asks reads never =
     (at 27 item, inl (refl, (asked, (asks, λ fits. never (suits-fits item asked unit.kind reads.kind fits)))))
@@ -206,7 +206,7 @@ module _ (cs : Item) (system_type : SystemType) (has : HasType cs system_type) w
   axis-asks : (axis : Item) (value : AxisParts) → ReadsAxis class.Axis axis value → Asks cs axis (asked_kind system_type value.direction)
   axis-asks axis value reads = (system_type, (value.direction, (has, reads.direction, refl)))
 
-  own-unit-suits : (axis : Item) (value : AxisParts) → ((fault : Refused) → BadOwnUnit cs axis fault → ⊥) → ReadsAxis class.Axis axis value →
+  own-unit-suits : (axis : Item) (value : AxisParts) → ((fault : RefusedAt) → BadOwnUnit cs axis fault → ⊥) → ReadsAxis class.Axis axis value →
       IsSomeAnd value.unit (SuitsAxis system_type value)
   own-unit-suits axis value free reads = suited (nil-either (units_in axis))
     where
@@ -222,7 +222,7 @@ module _ (cs : Item) (system_type : SystemType) (has : HasType cs system_type) w
           let bad = misfit cs axis (units_in axis) (asked_kind system_type value.direction) there.0 (axis-asks axis value reads) first never in
           free bad.0 (inr bad.1)))
 
-  own-units : (axes : List Item) (values : List AxisParts) → ((fault : Refused) → AnyOf (BadOwnUnit cs) axes fault → ⊥) → ReadAxes axes values →
+  own-units : (axes : List Item) (values : List AxisParts) → ((fault : RefusedAt) → AnyOf (BadOwnUnit cs) axes fault → ⊥) → ReadAxes axes values →
       Each (λ axis. IsSomeAnd axis.unit (SuitsAxis system_type axis)) values
   own-units [] [] free reads = tt
   own-units [] (value ∷ values) free reads = absurd reads
@@ -247,7 +247,7 @@ module _ (cs : Item) (system_type : SystemType) (has : HasType cs system_type) w
       (some-kind P (λ kind. both-either _ _ (each-either (Asked kind) (λ axis. kind-either (asked_kind system_type axis.direction) kind) values) (suits-either kind unit.kind)))
       (λ never. twice (λ fits. never (fits.0, (all-asked axes values fits.0 fits.1.0 reads, suits-fits item fits.0 unit.kind unit_reads.kind fits.1.1))))
 
-  units-suit : (axes units : List Item) (values : List AxisParts) (shared : Option UnitParts) → ((fault : Refused) → BadUnit axes units cs fault → ⊥) → ReadAxes axes values →
+  units-suit : (axes units : List Item) (values : List AxisParts) (shared : Option UnitParts) → ((fault : RefusedAt) → BadUnit axes units cs fault → ⊥) → ReadAxes axes values →
       ReadsOptional (ReadsUnit class.AxisUnit) units shared → HasUnits system_type values shared
   units-suit axes [] values None free reads unit_reads = own-units axes values free reads
   units-suit axes [] values (Some unit) free reads unit_reads = absurd unit_reads
@@ -257,7 +257,7 @@ module _ (cs : Item) (system_type : SystemType) (has : HasType cs system_type) w
     shared-suits axes values item unit (λ never. free (at 27 item) (inr (refl, never))) reads unit_reads,
   )
 
-pub units-tell : (systems axes units : List Item) (parts : SystemParts) → ((fault : Refused) → AnyOf (BadUnit axes units) systems fault → ⊥) → ReadsFirst ReadsHead systems parts →
+pub units-tell : (systems axes units : List Item) (parts : SystemParts) → ((fault : RefusedAt) → AnyOf (BadUnit axes units) systems fault → ⊥) → ReadsFirst ReadsHead systems parts →
     ReadAxes axes parts.axes → ReadsOptional (ReadsUnit class.AxisUnit) units parts.unit → HasUnits parts.system_type parts.axes parts.unit
 units-tell [] axes units parts free head reads unit = absurd head
 units-tell (cs ∷ more) axes units parts free head reads unit =
@@ -265,7 +265,7 @@ units-tell (cs ∷ more) axes units parts free head reads unit =
 
 -- ---- the whole system
 
-own-of-crs : (c : Class) (item : Item) (fault : Refused) → HasSystem c → OfCrs (dimensions_of c) c item fault → Own c item fault
+own-of-crs : (c : Class) (item : Item) (fault : RefusedAt) → HasSystem c → OfCrs (dimensions_of c) c item fault → Own c item fault
 unfolding Own
 own-of-crs class.GeodeticCrs item fault is h = h
 own-of-crs class.GeographicCrs item fault is h = h
@@ -274,7 +274,7 @@ own-of-crs class.VerticalCrs item fault is h = h
 own-of-crs other item fault is h = absurd is
 
 -- the nodes `CS`, the axes and the shared units of a sound CRS break no check
-pub system-free : (c : Class) (item : Item) (parts : SystemParts) → HasSystem c → IsSound c item → ReadsSystem c item parts → (fault : Refused) →
+pub system-free : (c : Class) (item : Item) (parts : SystemParts) → HasSystem c → IsSound c item → ReadsSystem c item parts → (fault : RefusedAt) →
     BadSystems (dimensions_of c) (those c class.CoordinateSystem (arguments item)) (those c class.Axis (arguments item)) (those c class.AxisUnit (arguments item)) fault → ⊥
 system-free c (leaf kind place raw) parts is sound reads fault bad = absurd reads.head
 system-free c (node place keyword square first others close) parts is sound reads fault bad =

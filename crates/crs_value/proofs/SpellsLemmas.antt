@@ -1,7 +1,7 @@
 -- From a root without a fault of shape to its shape.
 use Rattle.std.proofs.Common.{◌≡◌, ◌↔◌, ℕ, true, false, inl, inr, Some, List, [], ◌∷◌, if◌then◌else◌, sym, ◌∙◌, subst}
 use Rattle.crs_text.specs.Items.{Item, leaf, node}
-use Rattle.crs_text.specs.Refusal.{Refused}
+use Rattle.crs_text.specs.Refusal.{RefusedAt}
 use Rattle.crs_shape.specs.declared.class.Class.{Class}
 use Rattle.crs_shape.specs.Keywords.{is_keyword, first_named, root_classes, root_named}
 use Rattle.crs_shape.specs.Shaped.{Shaped}
@@ -50,14 +50,14 @@ spelled-one law item a b p q =
     let P : Class → Type 0 = λ c. ReadsCrs c item b in
     crs-one law p.class_read item a b p.reads (subst P same q.reads)
 
-pub spelled-not-refused : (item : Item) (value : Crs) (fault : Refused) → SpellsCrs item value → RefusesCrs item fault → ⊥
+pub spelled-not-refused : (item : Item) (value : Crs) (fault : RefusedAt) → SpellsCrs item value → RefusesCrs item fault → ⊥
 spelled-not-refused item value fault p (inl h) = p.shaped fault h
 spelled-not-refused item value fault p (inr h) =
     let same : h.class_read ≡ p.class_read = class-one item h.class_read p.class_read h.root p.root in
     let P : Class → Type 0 = λ c. Breaks c item fault in
     p.unbroken fault (subst P same h.first.0)
 
-pub refused-one : (item : Item) (a b : Refused) → BreaksFirst item a → BreaksFirst item b → a ≡ b
+pub refused-one : (item : Item) (a b : RefusedAt) → BreaksFirst item a → BreaksFirst item b → a ≡ b
 refused-one item a b p q =
     let same : q.class_read ≡ p.class_read = class-one item q.class_read p.class_read q.root p.root in
     let P : Class → Type 0 = λ c. IsLeast (Breaks c item) (Some b) in

@@ -2,8 +2,8 @@
 use Rattle.std.proofs.Common.{◌≡◌, ℕ, suc, ◌*◌, ◌≤◌, length, Bool, true, false, if◌then◌else◌, Option, Some, None, List, [], ◌∷◌, sym, subst, arith}
 use Rattle.crs_decimal.specs.Number.{SameNumber, whole_number}
 use Rattle.crs_decimal.specs.Value.{Value, exact}
-use Rattle.crs_text.specs.Items.{Item, Items, End, More, count, arguments}
-use Rattle.crs_text.specs.Refusal.{Refused}
+use Rattle.crs_text.specs.Items.{Item, Siblings, End, More, count, arguments}
+use Rattle.crs_text.specs.Refusal.{RefusedAt}
 use Rattle.crs_shape.specs.declared.class.Class.{Class}
 use Rattle.crs_shape.specs.declared.class.Class.TheVariants as class
 use Rattle.crs_value.specs.declared.system_type.SystemType.{SystemType}
@@ -35,7 +35,7 @@ system-none law dims cs t v ht hv is = λ f h.
     let Q : Value → Type 0 = λ x. IsOneOf x (dims h.1.0) in
     h.1.1.1.2 (subst Q d (subst P e is))
 
-pub system-some : (dims : SystemType → List ℕ) (cs : Item) (t : SystemType) (v : Value) (r : Refused) → HasType cs t → HasDimension cs v → ¬ (IsOneOf v (dims t)) → r ≡ at 23 cs →
+pub system-some : (dims : SystemType → List ℕ) (cs : Item) (t : SystemType) (v : Value) (r : RefusedAt) → HasType cs t → HasDimension cs v → ¬ (IsOneOf v (dims t)) → r ≡ at 23 cs →
     IsLeast (BadSystem dims cs) (Some r)
 system-some dims cs t v r ht hv wrong e = least-at (at 23 cs) r _ e (t, (v, (ht, hv, wrong)))
 
@@ -48,7 +48,7 @@ count-none law axes cs v hv same = λ f h.
     let Q : Value → Type 0 = λ x. SameNumber (exact x) (whole_number (length axes)) in
     h.1.1.1 (subst Q d same)
 
-pub count-some : (axes : List Item) (cs : Item) (v : Value) (r : Refused) → HasDimension cs v → ¬ (SameNumber (exact v) (whole_number (length axes))) → r ≡ at 25 cs →
+pub count-some : (axes : List Item) (cs : Item) (v : Value) (r : RefusedAt) → HasDimension cs v → ¬ (SameNumber (exact v) (whole_number (length axes))) → r ≡ at 25 cs →
     IsLeast (AxisCount axes cs) (Some r)
 count-some axes cs v r hv wrong e = least-at (at 25 cs) r _ e (v, (hv, wrong))
 
@@ -61,7 +61,7 @@ few-by : (b : Bool) (item : Item) (xs : List Item) (n : ℕ) → length xs ≤ n
 few-by true item xs n e = omega (arith, e)
 few-by false item xs n e = omega (arith, e)
 
-pub those-few : (parent c : Class) (items : Items) → length (those parent c items) ≤ count items
+pub those-few : (parent c : Class) (items : Siblings) → length (those parent c items) ≤ count items
 those-few parent c End = omega arith
 those-few parent c (More item items) = few-by (is_a parent c item) item (those parent c items) (count items) (those-few parent c items)
 

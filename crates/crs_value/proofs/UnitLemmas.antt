@@ -1,7 +1,7 @@
 -- The checks of the units of a coordinate system.
 use Rattle.std.proofs.Common.{◌≡◌, ℕ, inl, inr, Option, Some, None, List, [], ◌∷◌, sym, ◌∙◌, ap, subst}
 use Rattle.crs_text.specs.Items.{Item, arguments, raw_of, rest_of, here}
-use Rattle.crs_text.specs.Refusal.{Refused}
+use Rattle.crs_text.specs.Refusal.{RefusedAt}
 use Rattle.crs_shape.specs.declared.class.Class.{Class}
 use Rattle.crs_shape.specs.declared.class.Class.TheVariants as class
 use Rattle.crs_value.specs.declared.unit_kind.UnitKind.{UnitKind}
@@ -34,9 +34,9 @@ misfit-none cs axis unit kind asks fits = λ f h.
     let P : UnitKind → Type 0 = λ k. Fits unit k in
     h.1.1.1 (subst P (asks-one cs axis kind h.1.0 asks h.1.1.0) fits)
 
-pub misfit-unknown : (cs axis unit : Item) (r : Option Refused) → ((k : UnitKind) → ¬ (Asks cs axis k)) → r ≡ None → IsLeast (Misfits cs axis unit) r
+pub misfit-unknown : (cs axis unit : Item) (r : Option RefusedAt) → ((k : UnitKind) → ¬ (Asks cs axis k)) → r ≡ None → IsLeast (Misfits cs axis unit) r
 misfit-unknown cs axis unit r none e =
-    let P : Option Refused → Type 0 = λ o. IsLeast (Misfits cs axis unit) o in subst P (sym e) (λ f h. none h.1.0 h.1.1.0)
+    let P : Option RefusedAt → Type 0 = λ o. IsLeast (Misfits cs axis unit) o in subst P (sym e) (λ f h. none h.1.0 h.1.1.0)
 
 -- what is left of the axes is asked for one kind exactly where all are
 pub record Asking (tree : Item) (parent : Class) (cs : Item) (whole : List Item) (kind : UnitKind) (at : Option ℕ) : Type 0 where
@@ -78,21 +78,21 @@ asking-end tree parent cs whole kind at so none =
     let P : Option ℕ → Type 0 = λ o. AllAsk cs (from_found tree parent class.Axis o) kind in so.forth (subst P (sym none) tt)
 
 -- an axis without a unit, or with one
-pub own-none : (cs axis : Item) (r : Refused) → r ≡ at 27 axis → units_in axis ≡ [] → IsLeast (BadOwnUnit cs axis) (Some r)
+pub own-none : (cs axis : Item) (r : RefusedAt) → r ≡ at 27 axis → units_in axis ≡ [] → IsLeast (BadOwnUnit cs axis) (Some r)
 own-none cs axis r e none =
     least-same (λ f. (f ≡ at 27 axis) × (units_in axis ≡ [])) (BadOwnUnit cs axis) (Some r) (λ f h. inl h) back (least-at (at 27 axis) r (units_in axis ≡ []) e none)
   where
-    back : (f : Refused) → BadOwnUnit cs axis f → (f ≡ at 27 axis) × (units_in axis ≡ [])
+    back : (f : RefusedAt) → BadOwnUnit cs axis f → (f ≡ at 27 axis) × (units_in axis ≡ [])
     back f (inl h) = h
     back f (inr h) = let P : List Item → Type 0 = λ xs. AnyOf (Misfits cs axis) xs f in absurd (subst P none h)
 
-pub own-some : (tree cs axis : Item) (id : ℕ) (o : Option Refused) → IsFound tree class.Axis class.AxisUnit (units_in axis) (Some id) →
+pub own-some : (tree cs axis : Item) (id : ℕ) (o : Option RefusedAt) → IsFound tree class.Axis class.AxisUnit (units_in axis) (Some id) →
     IsLeast (AnyOf (Misfits cs axis) (from_found tree class.Axis class.AxisUnit (Some id))) o → IsLeast (BadOwnUnit cs axis) o
 own-some tree cs axis id o found h =
     let P : List Item → Type 0 = λ xs. IsLeast (AnyOf (Misfits cs axis) xs) o in
     least-same (AnyOf (Misfits cs axis) (units_in axis)) (BadOwnUnit cs axis) o (λ f k. inr k) back (subst P (sym found.0) h)
   where
-    back : (f : Refused) → BadOwnUnit cs axis f → AnyOf (Misfits cs axis) (units_in axis) f
+    back : (f : RefusedAt) → BadOwnUnit cs axis f → AnyOf (Misfits cs axis) (units_in axis) f
     back f (inl k) = let e : [] ≡ item_at tree id ∷ those class.Axis class.AxisUnit (rest_of (here tree id)) = sym k.1 ∙ found.0 in absurd cc
     back f (inr k) = k
 
@@ -103,10 +103,10 @@ last-kind P a b c (kinds.Angle, h) = absurd (b h)
 last-kind P a b c (kinds.Scale, h) = absurd (c h)
 last-kind P a b c (kinds.Plain, h) = h
 
-pub unit-none : (axes units : List Item) (cs : Item) (o : Option Refused) → units ≡ [] → IsLeast (AnyOf (BadOwnUnit cs) axes) o → IsLeast (BadUnit axes units cs) o
+pub unit-none : (axes units : List Item) (cs : Item) (o : Option RefusedAt) → units ≡ [] → IsLeast (AnyOf (BadOwnUnit cs) axes) o → IsLeast (BadUnit axes units cs) o
 unit-none axes units cs o e h = let P : List Item → Type 0 = λ us. IsLeast (BadUnit axes us cs) o in subst P (sym e) h
 
-pub unit-some : (axes units more : List Item) (cs unit : Item) (a b r : Option Refused) → units ≡ unit ∷ more → IsLeast (AnyOf HasOwnUnit axes) a → IsLeast (BadShared cs axes unit) b →
+pub unit-some : (axes units more : List Item) (cs unit : Item) (a b r : Option RefusedAt) → units ≡ unit ∷ more → IsLeast (AnyOf HasOwnUnit axes) a → IsLeast (BadShared cs axes unit) b →
     r ≡ lesser a b → IsLeast (BadUnit axes units cs) r
 unit-some axes units more cs unit a b r e p q is =
     let P : List Item → Type 0 = λ us. IsLeast (BadUnit axes us cs) r in

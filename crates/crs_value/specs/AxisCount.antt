@@ -3,12 +3,12 @@ use Rattle.std.specs.Prelude.{◌≡◌, length, List}
 use Rattle.crs_decimal.specs.Number.{SameNumber, whole_number}
 use Rattle.crs_decimal.specs.Value.{Value, exact}
 use Rattle.crs_text.specs.Items.{Item}
-use Rattle.crs_text.specs.Refusal.{Refused}
+use Rattle.crs_text.specs.Refusal.{RefusedAt}
 use Rattle.crs_value.specs.BadSystem.{HasDimension}
 use Rattle.crs_value.specs.Break.{at}
 
 -- these axes and the node `CS`
-abbrev pub AxisCount : List Item → Item → Refused → Type 0
+abbrev pub AxisCount : List Item → Item → RefusedAt → Type 0
 AxisCount axes cs fault =
     (fault ≡ at 25 cs) × ((dimension : Value)
     × (HasDimension cs dimension × ¬ (SameNumber (exact dimension) (whole_number (length axes)))))

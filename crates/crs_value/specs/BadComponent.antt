@@ -2,8 +2,8 @@
 use Rattle.std.specs.Prelude.{◌≡◌, ◌≢◌, List, [], ◌∷◌, ◌⊎◌}
 use Rattle.crs_decimal.specs.Number.{SameNumber, whole_number}
 use Rattle.crs_decimal.specs.Value.{Value, exact}
-use Rattle.crs_text.specs.Items.{Item, Items, arguments}
-use Rattle.crs_text.specs.Refusal.{Refused}
+use Rattle.crs_text.specs.Items.{Item, Siblings, arguments}
+use Rattle.crs_text.specs.Refusal.{RefusedAt}
 use Rattle.crs_shape.specs.declared.class.Class.{Class}
 use Rattle.crs_shape.specs.declared.class.Class.TheVariants as class
 use Rattle.crs_value.specs.declared.system_type.SystemType.{SystemType}
@@ -27,12 +27,12 @@ IsNotHorizontal class.GeographicCrs cs = IsNotEllipsoidal cs ⊎ IsNotPlane cs
 IsNotHorizontal other cs = IsNotPlane cs
 
 -- a part of this class, by its node `CS`
-abbrev pub BadComponent : Class → Item → Refused → Type 0
+abbrev pub BadComponent : Class → Item → RefusedAt → Type 0
 BadComponent c part fault =
     (fault ≡ at 24 part) × FirstIs (IsNotHorizontal c) (those c class.CoordinateSystem (arguments part))
 
 -- the horizontal parts among a compound's arguments
-abbrev pub BadComponents : List Class → Items → Refused → Type 0
+abbrev pub BadComponents : List Class → Siblings → RefusedAt → Type 0
 BadComponents [] items fault = ⊥
 BadComponents (c ∷ cs) items fault =
     AnyOf (BadComponent c) (those class.CompoundCrs c items) fault ⊎ BadComponents cs items fault

@@ -3,7 +3,7 @@ use Rattle.std.specs.Prelude.{◌≡◌, ◌≢◌, ℕ, ◌≤◌, length, List
 use Rattle.crs_decimal.specs.Number.{SameNumber, whole_number}
 use Rattle.crs_decimal.specs.Value.{Value, exact}
 use Rattle.crs_text.specs.Items.{Item, arguments}
-use Rattle.crs_text.specs.Refusal.{Refused}
+use Rattle.crs_text.specs.Refusal.{RefusedAt}
 use Rattle.crs_shape.specs.declared.class.Class.TheVariants as class
 use Rattle.crs_value.specs.Reading.{those, ReadsFirst}
 use Rattle.crs_value.specs.Reads.{ReadsNumberOf}
@@ -24,7 +24,7 @@ AllHaveOrder [] = Unit {0}
 AllHaveOrder (axis ∷ axes) = (orders_in axis ≢ []) × AllHaveOrder axes
 
 -- an axis without an order
-abbrev pub LacksOrder : Item → Refused → Type 0
+abbrev pub LacksOrder : Item → RefusedAt → Type 0
 LacksOrder axis fault = (fault ≡ at 26 axis) × (orders_in axis ≡ [])
 
 -- the number in a node `ORDER`
@@ -50,16 +50,16 @@ IsWrongOrder n before order =
     (value : Value) × (ReadsOrder order value × (¬ (IsPosition n value) ⊎ OneHas value before))
 
 -- such an order is refused at its first byte
-abbrev pub IsBadOrder : ℕ → List Item → Item → Refused → Type 0
+abbrev pub IsBadOrder : ℕ → List Item → Item → RefusedAt → Type 0
 IsBadOrder n before order fault = (fault ≡ at 26 order) × IsWrongOrder n before order
 
 -- the bad orders of these axes, behind those before
-abbrev pub BadOrders : ℕ → List Item → List Item → Refused → Type 0
+abbrev pub BadOrders : ℕ → List Item → List Item → RefusedAt → Type 0
 BadOrders n before [] fault = ⊥
 BadOrders n before (axis ∷ axes) fault =
     AnyOf (IsBadOrder n before) (orders_in axis) fault ⊎ BadOrders n (before ++ axis ∷ []) axes fault
 
 -- some axes have an order, and this one lacks it; or all have one, and this is no position or stands twice
-abbrev pub BadOrder : List Item → Refused → Type 0
+abbrev pub BadOrder : List Item → RefusedAt → Type 0
 BadOrder axes fault =
     (SomeHasOrder axes × AnyOf LacksOrder axes fault) ⊎ (AllHaveOrder axes × BadOrders (length axes) [] axes fault)

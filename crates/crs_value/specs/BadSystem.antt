@@ -3,7 +3,7 @@ use Rattle.std.specs.Prelude.{◌≡◌, ℕ, List, [], ◌∷◌, ◌⊎◌}
 use Rattle.crs_decimal.specs.Number.{SameNumber, whole_number}
 use Rattle.crs_decimal.specs.Value.{Value, exact}
 use Rattle.crs_text.specs.Items.{Item, arguments}
-use Rattle.crs_text.specs.Refusal.{Refused}
+use Rattle.crs_text.specs.Refusal.{RefusedAt}
 use Rattle.crs_shape.specs.declared.class.Class.{Class}
 use Rattle.crs_shape.specs.declared.class.Class.TheVariants as class
 use Rattle.crs_value.specs.declared.system_type.SystemType.{SystemType}
@@ -62,7 +62,7 @@ IsOneOf value [] = ⊥
 IsOneOf value (n ∷ ns) = SameNumber (exact value) (whole_number n) ⊎ IsOneOf value ns
 
 -- a known type with a dimension that is none of those allowed
-abbrev pub BadSystem : (SystemType → List ℕ) → Item → Refused → Type 0
+abbrev pub BadSystem : (SystemType → List ℕ) → Item → RefusedAt → Type 0
 BadSystem dimensions cs fault =
     (fault ≡ at 23 cs)
     × ((type_read : SystemType) × ((dimension : Value)

@@ -1,14 +1,14 @@
 -- A broken check: its number, and the place of the item that breaks it; and which one is answered.
 use Rattle.std.specs.Prelude.{◌≡◌, ℕ, ◌≤◌, ◌<◌, List, [], ◌∷◌, Option, Some, None, ◌⊎◌}
 use Rattle.crs_text.specs.Items.{Item, place_of}
-use Rattle.crs_text.specs.Refusal.{Refused}
+use Rattle.crs_text.specs.Refusal.{RefusedAt}
 
 -- a check of this number is broken at the item's first byte
-abbrev pub at : ℕ → Item → Refused
+abbrev pub at : ℕ → Item → RefusedAt
 at number item = record { number = number; place = place_of item }
 
 -- one of these items breaks a check
-abbrev pub AnyOf : (Item → Refused → Type 0) → List Item → Refused → Type 0
+abbrev pub AnyOf : (Item → RefusedAt → Type 0) → List Item → RefusedAt → Type 0
 AnyOf Broken [] fault = ⊥
 AnyOf Broken (item ∷ items) fault = Broken item fault ⊎ AnyOf Broken items fault
 
@@ -18,10 +18,10 @@ FirstIs Is [] = ⊥
 FirstIs Is (item ∷ items) = Is item
 
 -- of a lower number, or of the same number and at no later place
-abbrev pub IsBefore : Refused → Refused → Type 0
+abbrev pub IsBefore : RefusedAt → RefusedAt → Type 0
 IsBefore a b = (a.number < b.number) ⊎ ((a.number ≡ b.number) × (a.place ≤ b.place))
 
 -- the first of the faults: the lowest number, and of these the least place; none where there is no fault
-abbrev pub IsLeast : (Refused → Type 0) → Option Refused → Type 0
-IsLeast Fault None = (fault : Refused) → ¬ (Fault fault)
-IsLeast Fault (Some least) = Fault least × ((fault : Refused) → Fault fault → IsBefore least fault)
+abbrev pub IsLeast : (RefusedAt → Type 0) → Option RefusedAt → Type 0
+IsLeast Fault None = (fault : RefusedAt) → ¬ (Fault fault)
+IsLeast Fault (Some least) = Fault least × ((fault : RefusedAt) → Fault fault → IsBefore least fault)

@@ -1,7 +1,7 @@
 -- Checks: what a node of each class may break by itself, and what an item breaks within.
 use Rattle.std.specs.Prelude.{ℕ, take, drop, List, [], ◌∷◌, Option, Some, None, ◌⊎◌}
-use Rattle.crs_text.specs.Items.{Item, leaf, node, Items, End, More, arguments}
-use Rattle.crs_text.specs.Refusal.{Refused}
+use Rattle.crs_text.specs.Items.{Item, leaf, node, Siblings, End, More, arguments}
+use Rattle.crs_text.specs.Refusal.{RefusedAt}
 use Rattle.crs_text.specs.Written.{AreFormed}
 use Rattle.crs_shape.specs.declared.class.Class.{Class}
 use Rattle.crs_shape.specs.declared.class.Class.TheVariants as class
@@ -25,15 +25,15 @@ abbrev pub once : List Class
 once = class.Scope ∷ class.Area ∷ class.BoundingBox ∷ class.VerticalExtent ∷ class.Remark ∷ []
 
 -- the checks of a node `CS` with the axes beside it
-abbrev pub OfHead : (SystemType → List ℕ) → List Item → Item → Refused → Type 0
+abbrev pub OfHead : (SystemType → List ℕ) → List Item → Item → RefusedAt → Type 0
 OfHead dimensions axes cs fault = BadSystem dimensions cs fault ⊎ AxisCount axes cs fault
 
 -- the checks of axes and their units, as the nodes `CS` ask for them
-abbrev pub OfAxes : List Item → List Item → List Item → Refused → Type 0
+abbrev pub OfAxes : List Item → List Item → List Item → RefusedAt → Type 0
 OfAxes systems axes units fault = BadOrder axes fault ⊎ AnyOf (BadUnit axes units) systems fault
 
 -- the checks of a coordinate system: the nodes `CS`, the axes and the shared units
-abbrev pub BadSystems : (SystemType → List ℕ) → List Item → List Item → List Item → Refused → Type 0
+abbrev pub BadSystems : (SystemType → List ℕ) → List Item → List Item → List Item → RefusedAt → Type 0
 BadSystems dimensions systems axes units fault =
     AnyOf (OfHead dimensions axes) systems fault ⊎ OfAxes systems axes units fault
 
@@ -46,7 +46,7 @@ HasSystem class.VerticalCrs = Unit {0}
 HasSystem other = ⊥
 
 -- the checks of a CRS that has a coordinate system
-abbrev pub OfCrs : (SystemType → List ℕ) → Class → Item → Refused → Type 0
+abbrev pub OfCrs : (SystemType → List ℕ) → Class → Item → RefusedAt → Type 0
 OfCrs dimensions c item fault =
     RepeatsAny c (arguments item) once fault
     ⊎ BadSystems dimensions (those c class.CoordinateSystem (arguments item)) (those c class.Axis (arguments item))
@@ -57,19 +57,19 @@ abbrev pub horizontal_classes : List Class
 horizontal_classes = class.GeodeticCrs ∷ class.GeographicCrs ∷ class.ProjectedCrs ∷ []
 
 -- the checks of a compound CRS
-abbrev pub OfCompound : Items → Refused → Type 0
+abbrev pub OfCompound : Siblings → RefusedAt → Type 0
 OfCompound items fault = RepeatsAny class.CompoundCrs items once fault ⊎ BadComponents horizontal_classes items fault
 
 -- the check of a unit: its factor is above zero
-abbrev pub OfUnit : Class → Item → Refused → Type 0
+abbrev pub OfUnit : Class → Item → RefusedAt → Type 0
 OfUnit c item fault = AnyOf NotAbove (those c class.Number (arguments item)) fault
 
 -- the checks of an ellipsoid: its semi-major axis is above zero, and its inverse flattening isn't below
-abbrev pub OfEllipsoid : List Item → Refused → Type 0
+abbrev pub OfEllipsoid : List Item → RefusedAt → Type 0
 OfEllipsoid numbers fault = AnyOf NotAbove (take 1 numbers) fault ⊎ AnyOf IsNegative (drop 1 numbers) fault
 
 -- the checks that a node of this class breaks by itself
-unfoldable pub Own : Class → Item → Refused → Type 0
+unfoldable pub Own : Class → Item → RefusedAt → Type 0
 Own class.GeodeticCrs item fault = OfCrs geodetic_dimensions class.GeodeticCrs item fault
 Own class.GeographicCrs item fault = OfCrs geographic_dimensions class.GeographicCrs item fault
 Own class.ProjectedCrs item fault = OfCrs projected_dimensions class.ProjectedCrs item fault
@@ -95,13 +95,13 @@ AtClass (Some c) P = P c
 
 abbrev mutual
   -- an item of this class breaks a check: by itself, or within its arguments
-  pub Breaks : Class → Item → Refused → Type 0
+  pub Breaks : Class → Item → RefusedAt → Type 0
   Breaks c (leaf kind place raw) fault = ⊥
   Breaks c (node place keyword square first others close) fault =
       Own c (node place keyword square first others close) fault
       ⊎ (AtClass (class_in c first) (λ d. Breaks d first fault) ⊎ BreaksAmong c others fault)
 
-  pub BreaksAmong : Class → Items → Refused → Type 0
+  pub BreaksAmong : Class → Siblings → RefusedAt → Type 0
   BreaksAmong c End fault = ⊥
   BreaksAmong c (More item items) fault =
       AtClass (class_in c item) (λ d. Breaks d item fault) ⊎ BreaksAmong c items fault
@@ -110,4 +110,4 @@ abbrev mutual
 pub record IsSound (c : Class) (item : Item) : Type 0 where
   pub formed : AreFormed item
   pub shaped : Shaped c item
-  pub unbroken : (fault : Refused) → ¬ (Breaks c item fault)
+  pub unbroken : (fault : RefusedAt) → ¬ (Breaks c item fault)

@@ -1,12 +1,12 @@
 -- A bridge: the first of two faults, as the program finds it.
 use Rattle.std.specs.Prelude.{◌||◌, ◌&&◌, ◌==◌, nat_lt, Bool, Option, Some, None, if◌then◌else◌}
-use Rattle.crs_text.specs.Refusal.{Refused}
+use Rattle.crs_text.specs.Refusal.{RefusedAt}
 
 -- of a lower number, or of the same number and at an earlier place
-abbrev pub is_before : Refused → Refused → Bool
+abbrev pub is_before : RefusedAt → RefusedAt → Bool
 is_before a b = nat_lt a.number b.number || (a.number == b.number && nat_lt a.place b.place)
 
-abbrev pub lesser : Option Refused → Option Refused → Option Refused
+abbrev pub lesser : Option RefusedAt → Option RefusedAt → Option RefusedAt
 lesser None b = b
 lesser (Some a) None = Some a
 lesser (Some a) (Some b) = if is_before b a then Some b else Some a

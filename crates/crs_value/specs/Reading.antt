@@ -2,7 +2,7 @@
 use Rattle.std.specs.Prelude.{◌≡◌, ℕ, ◌<◌, Bool, List, [], ◌∷◌, Option, Some, None, if◌then◌else◌}
 use Rattle.std.specs.List.{list_any}
 use denote.Enum.Bare.{sameb}
-use Rattle.crs_text.specs.Items.{Item, Items, End, More, first_of, rest_of, here, HasId}
+use Rattle.crs_text.specs.Items.{Item, Siblings, End, More, first_of, rest_of, here, HasId}
 use Rattle.crs_shape.specs.contracts.class.Class.{the_type}
 use Rattle.crs_shape.specs.declared.class.Class.{Class}
 use Rattle.crs_shape.specs.Counts.{least}
@@ -14,7 +14,7 @@ abbrev pub item_at : Item → ℕ → Item
 item_at tree id = first_of (here tree id)
 
 -- the items of a node from this one on; none where there is no such item
-abbrev pub ahead : Item → Option ℕ → Items
+abbrev pub ahead : Item → Option ℕ → Siblings
 ahead tree None = End
 ahead tree (Some id) = here tree id
 
@@ -37,7 +37,7 @@ abbrev pub is_a : Class → Class → Item → Bool
 is_a parent c item = is_class c (class_in parent item)
 
 -- the arguments that are of this class in their parent, in order
-abbrev pub those : Class → Class → Items → List Item
+abbrev pub those : Class → Class → Siblings → List Item
 those parent c End = []
 those parent c (More item items) = if is_a parent c item then item ∷ those parent c items else those parent c items
 

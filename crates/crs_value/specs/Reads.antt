@@ -2,7 +2,7 @@
 use Rattle.std.specs.Prelude.{◌≡◌, ℕ, List, [], ◌∷◌, Option, Some, None, drop}
 use Rattle.crs_decimal.specs.Bounds.{Denotes}
 use Rattle.crs_decimal.specs.Value.{Value, IsNormal, exact}
-use Rattle.crs_text.specs.Items.{Item, Items, End, More, arguments, raw_of, kind_of, skip}
+use Rattle.crs_text.specs.Items.{Item, Siblings, End, More, arguments, raw_of, kind_of, skip}
 use Rattle.crs_text.specs.declared.items.ItemKind.{ItemKind}
 use Rattle.crs_text.specs.declared.items.ItemKind.TheVariants as kinds
 use Rattle.crs_shape.specs.declared.class.Class.{Class}
@@ -53,7 +53,7 @@ ReadsNumberAt k c item value = ReadsFirst ReadsNumber (drop k (those c class.Num
 -- ---- nodes
 
 -- an item that is no node, as a list of one; any other gives none
-abbrev pub single_of : Items → List Item
+abbrev pub single_of : Siblings → List Item
 single_of End = []
 single_of (More item items) = by (kind_of item)
   where

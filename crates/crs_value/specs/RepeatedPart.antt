@@ -1,20 +1,20 @@
 -- 22: each node of some classes after the first of its class.
 use Rattle.std.specs.Prelude.{◌≡◌, drop, List, [], ◌∷◌, ◌⊎◌}
-use Rattle.crs_text.specs.Items.{Item, Items}
-use Rattle.crs_text.specs.Refusal.{Refused}
+use Rattle.crs_text.specs.Items.{Item, Siblings}
+use Rattle.crs_text.specs.Refusal.{RefusedAt}
 use Rattle.crs_shape.specs.declared.class.Class.{Class}
 use Rattle.crs_value.specs.Reading.{those}
 use Rattle.crs_value.specs.Break.{at, AnyOf}
 
 -- a part that stands behind another of its class
-abbrev pub IsRepeated : Item → Refused → Type 0
+abbrev pub IsRepeated : Item → RefusedAt → Type 0
 IsRepeated item fault = fault ≡ at 22 item
 
 -- those of one class among the arguments of a node
-abbrev pub Repeats : Class → Items → Class → Refused → Type 0
+abbrev pub Repeats : Class → Siblings → Class → RefusedAt → Type 0
 Repeats parent items c fault = AnyOf IsRepeated (drop 1 (those parent c items)) fault
 
 -- those of each of these classes
-abbrev pub RepeatsAny : Class → Items → List Class → Refused → Type 0
+abbrev pub RepeatsAny : Class → Siblings → List Class → RefusedAt → Type 0
 RepeatsAny parent items [] fault = ⊥
 RepeatsAny parent items (c ∷ cs) fault = Repeats parent items c fault ⊎ RepeatsAny parent items cs fault

@@ -1,7 +1,7 @@
 -- Which value an item spells, and with which number and place it is refused.
 use Rattle.std.specs.Prelude.{◌≡◌, Some, ◌⊎◌}
 use Rattle.crs_text.specs.Items.{Item}
-use Rattle.crs_text.specs.Refusal.{Refused}
+use Rattle.crs_text.specs.Refusal.{RefusedAt}
 use Rattle.crs_text.specs.declared.fault.Fault.{Fault}
 use Rattle.crs_text.specs.declared.fault.Fault.TheVariants as faults
 use Rattle.crs_shape.specs.declared.class.Class.{Class}
@@ -16,18 +16,18 @@ pub record SpellsCrs (item : Item) (value : Crs) : Type 0 where
   pub class_read : Class
   pub root : class_of_root item ≡ Some class_read
   pub shaped : IsFree (AtRoot item)
-  pub unbroken : (fault : Refused) → ¬ (Breaks class_read item fault)
+  pub unbroken : (fault : RefusedAt) → ¬ (Breaks class_read item fault)
   pub reads : ReadsCrs class_read item value
 
 -- the item's class, where it has its shape, and the check that it breaks first
-pub record BreaksFirst (item : Item) (fault : Refused) : Type 0 where
+pub record BreaksFirst (item : Item) (fault : RefusedAt) : Type 0 where
   pub class_read : Class
   pub root : class_of_root item ≡ Some class_read
   pub shaped : IsFree (AtRoot item)
   pub first : IsLeast (Breaks class_read item) (Some fault)
 
 -- the fault of its shape, or else the check that it breaks first
-abbrev pub RefusesCrs : Item → Refused → Type 0
+abbrev pub RefusesCrs : Item → RefusedAt → Type 0
 RefusesCrs item fault = AtRoot item fault ⊎ BreaksFirst item fault
 
 -- a fault that is a refusal is that of the item

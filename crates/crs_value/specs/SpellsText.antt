@@ -1,7 +1,7 @@
 -- Which value a text spells, and with which number and place it is refused.
 use Rattle.std.specs.Prelude.{ℕ, ◌≤◌, List, ◌⊎◌}
 use Rattle.crs_text.specs.Items.{Item}
-use Rattle.crs_text.specs.Refusal.{Refused}
+use Rattle.crs_text.specs.Refusal.{RefusedAt}
 use Rattle.crs_text.specs.TextFault.{SpellsNode, RefusesText}
 use Rattle.crs_text.specs.declared.fault.Fault.{Fault}
 use Rattle.crs_text.specs.declared.fault.Fault.TheVariants as faults
@@ -13,7 +13,7 @@ abbrev pub Spells : List ℕ → Crs → Type 0
 Spells text value = (item : Item) × (SpellsNode text item × SpellsCrs item value)
 
 -- the fault of the text; or else of its node: the fault of its shape, or else the check that it breaks first
-abbrev pub Refuses : List ℕ → Refused → Type 0
+abbrev pub Refuses : List ℕ → RefusedAt → Type 0
 Refuses text fault =
     RefusesText text fault.number fault.place ⊎ ((item : Item) × (SpellsNode text item × RefusesCrs item fault))
 

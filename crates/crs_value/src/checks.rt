@@ -1,7 +1,7 @@
 //! Checks of items of the right shape: which is broken first.
 ghost use Rattle.std.specs.Prelude.{◌≡◌, IsTrue};
 ghost use Rattle.crs_text.specs.Items.{Item, HasId, arguments};
-ghost use Rattle.crs_text.specs.Refusal.{Refused, is_refusal};
+ghost use Rattle.crs_text.specs.Refusal.{RefusedAt, is_refusal};
 ghost use Rattle.crs_shape.specs.declared.class.Class.{Class};
 ghost use Rattle.crs_shape.specs.Shaped.{Shaped};
 ghost use Rattle.crs_value.specs.Break.{at, AnyOf, IsLeast};
@@ -41,7 +41,7 @@ pub(crate) fn refusal_at(items: &Items<'_>, id: ItemId, number: u8) -> Refusal
 pub(crate) trait Check {
     ghost Fits: { Self → Item → Class → Type 0 };
 
-    ghost Broken: { Self → Item → Item → Refused → Type 0 };
+    ghost Broken: { Self → Item → Item → RefusedAt → Type 0 };
 
     fn check(&self, items: &Items<'_>, id: ItemId, class: Class) -> Option<Refusal>
         requires has { HasId items.now id }

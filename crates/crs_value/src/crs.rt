@@ -32,7 +32,13 @@ impl<'a> Model for Geodetic<'a> {
 
     ghost Value = { GeodeticParts };
 
-    ghost view = { λ g. record { name = g.name.now; frame = g.frame; meridian = g.meridian; system = g.system; tail = g.tail } };
+    ghost view = { λ g. record {
+      name = g.name.now;
+      frame = g.frame;
+      meridian = g.meridian;
+      system = g.system;
+      tail = g.tail;
+    } };
 
     ghost invariant = { λ g. IsGeodetic (record {
       name = g.name.now;

@@ -36,7 +36,8 @@ impl Check for HeadOf {
 
     ghost Fits = { λ s tree class. HasId tree s.crs × (class ≡ classes.CoordinateSystem) };
 
-    ghost Broken = { λ s tree item f. OfHead (dimensions_of s.class) (those s.class classes.Axis (arguments (item_at tree s.crs))) item f };
+    ghost Broken = { λ s tree item f. OfHead (dimensions_of s.class)
+        (those s.class classes.Axis (arguments (item_at tree s.crs))) item f };
 
     fn check(&self, items: &Items<'_>, id: ItemId, _class: Class) -> Option<Refusal> {
         lesser(
@@ -61,7 +62,8 @@ impl Check for UnitsOf {
     ghost use Rattle.crs_value.specs.BadUnit.{BadUnit};
     ghost use Rattle.crs_value.specs.Reading.{item_at, those};
 
-    ghost Fits = { λ s tree class. HasId tree s.crs × Shaped s.class (item_at tree s.crs) × (class ≡ classes.CoordinateSystem) };
+    ghost Fits = { λ s tree class. HasId tree s.crs × Shaped s.class (item_at tree s.crs)
+        × (class ≡ classes.CoordinateSystem) };
 
     ghost Broken = { λ s tree item f. BadUnit (those s.class classes.Axis (arguments (item_at tree s.crs)))
         (those s.class classes.AxisUnit (arguments (item_at tree s.crs))) item f };

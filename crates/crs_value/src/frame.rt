@@ -49,7 +49,12 @@ impl<'a> Model for Datum<'a> {
 
     ghost Value = { DatumParts };
 
-    ghost view = { λ d. record { name = d.name.now; ellipsoid = d.ellipsoid; anchor = option_copied d.anchor; ids = d.ids } };
+    ghost view = { λ d. record {
+      name = d.name.now;
+      ellipsoid = d.ellipsoid;
+      anchor = option_copied d.anchor;
+      ids = d.ids;
+    } };
 
     ghost invariant = { λ d. IsDatum (record {
       name = d.name.now;

@@ -1,7 +1,7 @@
 //! The laws of values: calls that do nothing, and whose contracts are the laws.
 ghost use Rattle.std.specs.Prelude.{◌≡◌, ◌≤◌, ◌⊎◌, ℕ, List, length};
 ghost use Rattle.crs_text.specs.Items.{Item};
-ghost use Rattle.crs_text.specs.Refusal.{Refused};
+ghost use Rattle.crs_text.specs.Refusal.{RefusedAt};
 ghost use Rattle.crs_text.specs.Written.{AreFormed};
 ghost use Rattle.crs_shape.specs.declared.class.Class.{Class};
 ghost use Rattle.crs_value.specs.ConversionValues.{ParameterParts, GeoidModelParts};
@@ -49,13 +49,13 @@ pub fn members_read_once()
 
 /// An item that spells a value isn't refused. Profile.
 pub fn spelled_or_refused()
-    ensures { (item : Item) (value : Crs) (fault : Refused) → SpellsCrs item value → ¬
+    ensures { (item : Item) (value : Crs) (fault : RefusedAt) → SpellsCrs item value → ¬
         (RefusesCrs item fault) }
 {}
 
 /// An item is refused with one number at one place at most. Profile.
 pub fn refused_once()
-    ensures { (item : Item) (a b : Refused) → RefusesCrs item a → RefusesCrs item b → a ≡ b }
+    ensures { (item : Item) (a b : RefusedAt) → RefusesCrs item a → RefusesCrs item b → a ≡ b }
 {
     fault_at_root_is_one();
 }
@@ -64,17 +64,17 @@ pub fn refused_once()
 /// Profile.
 pub fn one_answer()
     ensures value { (text : List ℕ) (a b : Crs) → Spells text a → Spells text b → a ≡ b }
-    ensures refusal { (text : List ℕ) (a b : Refused) → Refuses text a → Refuses text b → a ≡ b }
-    ensures apart { (text : List ℕ) (value : Crs) (fault : Refused) → Spells text value → ¬
+    ensures refusal { (text : List ℕ) (a b : RefusedAt) → Refuses text a → Refuses text b → a ≡ b }
+    ensures apart { (text : List ℕ) (value : Crs) (fault : RefusedAt) → Spells text value → ¬
         (Refuses text fault) }
 
     // A refusal has a number from 1 to 8, 11 to 13 or 21 to 28, and a place in the text or at its end.
-    ensures within { (text : List ℕ) (fault : Refused) → Refuses text fault → IsRefusal fault.number ×
+    ensures within { (text : List ℕ) (fault : RefusedAt) → Refuses text fault → IsRefusal fault.number ×
         (fault.place ≤ length text) }
 
     // Each list of bytes is one or the other.
     ensures either { (text : List ℕ) → ((value : Crs) × Spells text value)
-        ⊎ ((fault : Refused) × Refuses text fault) }
+        ⊎ ((fault : RefusedAt) × Refuses text fault) }
 {
     crs_text::laws::one_answer();
     crs_text::laws::written_items();

@@ -145,7 +145,7 @@ pub(crate) fn number_at(items: &Items<'_>, id: ItemId, class: Class, k: usize) -
         at = later(items, found, class, Class::Number);
     }
     let Some(found) = at else { unreachable!() };
-    number_of(items, found)
+    decimal_of(items, found)
 }
 
 // The number of a node.
@@ -155,7 +155,7 @@ pub(crate) fn number(items: &Items<'_>, id: ItemId, class: Class) -> Decimal
     requires enough { Requires class Class.Number 0 }
     ensures { ReadsNumberOf class (item_at items.now id) result }
 {
-    number_of(items, required(items, id, class, Class::Number))
+    decimal_of(items, required(items, id, class, Class::Number))
 }
 
 // The number of a node that may stand in another.
@@ -188,7 +188,7 @@ pub(crate) fn one_number(items: &Items<'_>, id: ItemId, parent: Class, class: Cl
 }
 
 // A number by itself.
-pub(crate) fn number_of(items: &Items<'_>, id: ItemId) -> Decimal
+pub(crate) fn decimal_of(items: &Items<'_>, id: ItemId) -> Decimal
     requires has { HasId items.now id }
     requires shaped { Shaped Class.Number (item_at items.now id) }
     ensures { ReadsNumber (item_at items.now id) result }

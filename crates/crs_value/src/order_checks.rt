@@ -90,7 +90,8 @@ impl Check for Position {
     ghost Fits = { λ s tree class. HasId tree s.crs × Shaped s.class (item_at tree s.crs) × (class ≡ classes.Order)
         × (s.before ≤ length (those s.class classes.Axis (arguments (item_at tree s.crs)))) };
 
-    ghost Broken = { λ s tree item f. IsBadOrder s.count (take s.before (those s.class classes.Axis (arguments (item_at tree s.crs)))) item f };
+    ghost Broken = { λ s tree item f. IsBadOrder s.count
+        (take s.before (those s.class classes.Axis (arguments (item_at tree s.crs)))) item f };
 
     fn check(&self, items: &Items<'_>, id: ItemId, _class: Class) -> Option<Refusal> {
         denotes_one();

@@ -37,7 +37,13 @@ impl<'a> Model for Projected<'a> {
 
     ghost Value = { ProjectedParts };
 
-    ghost view = { λ p. record { name = p.name.now; base = p.base; conversion = p.conversion; system = p.system; tail = p.tail } };
+    ghost view = { λ p. record {
+      name = p.name.now;
+      base = p.base;
+      conversion = p.conversion;
+      system = p.system;
+      tail = p.tail;
+    } };
 
     ghost invariant = { λ p. IsProjected (record {
       name = p.name.now;
@@ -82,7 +88,13 @@ impl<'a> Model for Base<'a> {
 
     ghost Value = { BaseParts };
 
-    ghost view = { λ b. record { name = b.name.now; frame = b.frame; meridian = b.meridian; unit = b.unit; ids = b.ids } };
+    ghost view = { λ b. record {
+      name = b.name.now;
+      frame = b.frame;
+      meridian = b.meridian;
+      unit = b.unit;
+      ids = b.ids;
+    } };
 
     ghost invariant = { λ b. IsBase (record {
       name = b.name.now;

@@ -4,7 +4,7 @@ ghost use Rattle.crs_value.specs.BadValue.{IsAboveZero};
 
 use crate::checks::{Check, refusal_at};
 use crate::direction::Direction;
-use crate::node::number_of;
+use crate::node::decimal_of;
 use crate::system_type::SystemType;
 use crs_decimal::Decimal;
 use crs_decimal::laws::denotes_one;
@@ -82,7 +82,7 @@ impl Check for AboveZero {
 
     fn check(&self, items: &Items<'_>, id: ItemId, _class: Class) -> Option<Refusal> {
         denotes_one();
-        let value = number_of(items, id);
+        let value = decimal_of(items, id);
         if is_above_zero(value) {
             None
         } else {
@@ -105,7 +105,7 @@ impl Check for NotNegative {
 
     fn check(&self, items: &Items<'_>, id: ItemId, _class: Class) -> Option<Refusal> {
         denotes_one();
-        let value = number_of(items, id);
+        let value = decimal_of(items, id);
         if value.is_negative() {
             Some(refusal_at(items, id, 28))
         } else {

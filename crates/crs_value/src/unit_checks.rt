@@ -66,7 +66,8 @@ impl Check for Misfit {
     ghost use Rattle.crs_value.specs.BadUnit.{Misfits};
     ghost use Rattle.crs_value.specs.Reading.{item_at};
 
-    ghost Fits = { λ s tree class. HasId tree s.cs × HasId tree s.axis × Shaped classes.CoordinateSystem (item_at tree s.cs)
+    ghost Fits = { λ s tree class. HasId tree s.cs × HasId tree s.axis
+        × Shaped classes.CoordinateSystem (item_at tree s.cs)
         × Shaped classes.Axis (item_at tree s.axis) };
 
     ghost Broken = { λ s tree item f. Misfits (item_at tree s.cs) (item_at tree s.axis) item f };
@@ -95,7 +96,8 @@ impl Check for OwnUnit {
     ghost use Rattle.crs_value.specs.BadUnit.{BadOwnUnit};
     ghost use Rattle.crs_value.specs.Reading.{item_at};
 
-    ghost Fits = { λ s tree class. HasId tree s.cs × Shaped classes.CoordinateSystem (item_at tree s.cs) × (class ≡ classes.Axis) };
+    ghost Fits = { λ s tree class. HasId tree s.cs × Shaped classes.CoordinateSystem (item_at tree s.cs)
+        × (class ≡ classes.Axis) };
 
     ghost Broken = { λ s tree item f. BadOwnUnit (item_at tree s.cs) item f };
 
@@ -197,7 +199,8 @@ fn fits_as(
     requires unit { HasId items.now unit }
     requires system { Shaped Class.CoordinateSystem (item_at items.now cs) }
     requires shaped { Shaped class (item_at items.now crs) }
-    ensures { IsTrue result ↔ (AllAsk (item_at items.now cs) (those class Class.Axis (arguments (item_at items.now crs))) kind
+    ensures { IsTrue result ↔ (AllAsk (item_at items.now cs) (those class Class.Axis (arguments (item_at items.now crs)))
+        kind
         × Fits (item_at items.now unit) kind) }
 {
     all_ask(items, crs, class, cs, kind) && fits(items, unit, kind)

@@ -38,7 +38,12 @@ impl<'a> Model for Usage<'a> {
 
     ghost Value = { UsageParts };
 
-    ghost view = { λ u. record { scope = option_copied u.scope; area = option_copied u.area; bbox = u.bbox; extent = u.extent } };
+    ghost view = { λ u. record {
+      scope = option_copied u.scope;
+      area = option_copied u.area;
+      bbox = u.bbox;
+      extent = u.extent;
+    } };
 
     ghost invariant = { λ u. IsUsage (record {
       scope = option_copied u.scope;

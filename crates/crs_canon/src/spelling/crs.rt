@@ -293,7 +293,8 @@ fn write_from_vertical(
     level: Level,
 ) -> Result<(), AllocError>
     ensures { OnOk result (out.new.items ≡ out.old.items ++ others_text
-        (More (item_vertical (norm_vertical level compound.now.vertical)) (tail_items (norm_tail level compound.now.tail)))) }
+        (More (item_vertical (norm_vertical level compound.now.vertical))
+        (tail_items (norm_tail level compound.now.tail)))) }
 {
     write_vertical_part(out, &compound.vertical, level)?;
     write_tail(out, &compound.tail, level)
@@ -307,7 +308,8 @@ fn write_from_horizontal(
 ) -> Result<(), AllocError>
     ensures { OnOk result (out.new.items ≡ out.old.items ++ others_text
         (More (item_horizontal (norm_horizontal level compound.now.horizontal))
-        (More (item_vertical (norm_vertical level compound.now.vertical)) (tail_items (norm_tail level compound.now.tail))))) }
+        (More (item_vertical (norm_vertical level compound.now.vertical))
+        (tail_items (norm_tail level compound.now.tail))))) }
 {
     write_horizontal_part(out, &compound.horizontal, level)?;
     write_from_vertical(out, compound, level)

@@ -1,7 +1,7 @@
 //! Usages and their extents.
 ghost use Rattle.std.specs.Prelude.{◌≡◌, ◌∷◌, ◌++◌, ℕ, List, OnOk, ◌<◌, codes, length, slice_set, Some};
 ghost use Rattle.std.specs.Option.{option_copied, option_map};
-ghost use Rattle.crs_text.specs.Items.{Items, End, More};
+ghost use Rattle.crs_text.specs.Items.{Siblings, End, More};
 ghost use Rattle.crs_text.specs.Written.{item_text, others_text};
 ghost use Rattle.crs_value.specs.declared.level.Level.TheVariants as levels;
 ghost use Rattle.crs_normal.specs.SpelledItems.{number_item, opt, text_node};
@@ -135,7 +135,7 @@ fn open_at(out: &mut Vec<u8>, at: usize)
 
 // Delimiters around the arguments that stand from this place on, the first in the place of a comma.
 fn enclose(out: &mut Vec<u8>, at: usize) -> Result<(), AllocError>
-    ensures { (front : List ℕ) (items : Items) → out.old.items ≡ front ++ others_text items →
+    ensures { (front : List ℕ) (items : Siblings) → out.old.items ≡ front ++ others_text items →
         length front ≡ at → OnOk result (out.new.items ≡ front ++ enclosed items) }
 {
     if out.len() <= at {

@@ -32,7 +32,8 @@ ghost use Rattle.crs_normal.specs.SpelledCrs.{item_vertical, norm_base, norm_com
 ghost use Rattle.crs_normal.specs.SpelledCrs.{norm_projected, norm_vertical};
 ghost use Rattle.crs_normal.specs.SpelledFrames.{greenwich, item_ellipsoid, item_frame, item_member, item_meridian};
 ghost use Rattle.crs_normal.specs.SpelledFrames.{norm_ellipsoid, norm_frame, norm_given, norm_member};
-ghost use Rattle.crs_normal.specs.SpelledSystems.{item_axis, item_axis_meridian, item_head, norm_axis_meridian, norm_system};
+ghost use Rattle.crs_normal.specs.SpelledSystems.{item_axis, item_axis_meridian, item_head, norm_axis_meridian};
+ghost use Rattle.crs_normal.specs.SpelledSystems.{norm_system};
 ghost use Rattle.crs_normal.specs.SpelledUnits.{item_ident, item_unit, norm_unit};
 ghost use Rattle.crs_normal.specs.SpelledUsages.{item_box, item_extent, item_usage, norm_extent, norm_usage};
 

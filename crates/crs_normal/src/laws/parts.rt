@@ -11,7 +11,8 @@ ghost use Rattle.crs_value.specs.SoundUsages.{IsBox, IsExtent, IsUsage};
 ghost use Rattle.crs_value.specs.declared.level.Level.{Level};
 ghost use Rattle.crs_value.specs.declared.unit_kind.UnitKind.TheVariants as kinds;
 ghost use Rattle.crs_same.specs.SameConversions.{SameConversion, SameGeoidModel, SameMethod, SameParameter};
-ghost use Rattle.crs_same.specs.SameCrs.{SameBase, SameCompound, SameGeodetic, SameHorizontal, SameProjected, SameVertical};
+ghost use Rattle.crs_same.specs.SameCrs.{SameBase, SameCompound, SameGeodetic, SameHorizontal, SameProjected};
+ghost use Rattle.crs_same.specs.SameCrs.{SameVertical};
 ghost use Rattle.crs_same.specs.SameFrames.{SameDatum, SameEllipsoid, SameEnsemble, SameFrame, SameGiven, SameMember};
 ghost use Rattle.crs_same.specs.SameIdents.{SameIdent};
 ghost use Rattle.crs_same.specs.SameSystems.{SameAxisAlone, SameAxisMeridian};
@@ -20,8 +21,19 @@ ghost use Rattle.crs_same.specs.SameUsages.{SameBox, SameExtent, SameUsage};
 ghost use Rattle.crs_normal.specs.AxisAlone.{IsSpelledAxis};
 ghost use Rattle.crs_normal.specs.CanonicalForm.{IsCanonicalForm};
 ghost use Rattle.crs_normal.specs.Closed.{IsClosed};
-ghost use Rattle.crs_normal.specs.PartSpellings.{IsFrame, IsHorizontalPart, IsSpelledAxisMeridian, IsSpelledBase, IsSpelledBox, IsSpelledCompound, IsSpelledConversion, IsSpelledDatum, IsSpelledEllipsoid, IsSpelledEnsemble, IsSpelledExtent, IsSpelledFrame, IsSpelledGeodetic, IsSpelledGeoidModel, IsSpelledHorizontal, IsSpelledIdent, IsSpelledMember, IsSpelledMeridian, IsSpelledMethod, IsSpelledParameter, IsSpelledProjected, IsSpelledUnit, IsSpelledUsage, IsSpelledVertical};
-ghost use Rattle.crs_normal.specs.PartTexts.{axis_meridian_text, axis_text, base_text, box_text, compound_text, conversion_text, datum_text, ellipsoid_text, ensemble_text, extent_text, frame_text, geodetic_text, geoid_model_text, horizontal_text, ident_text, member_text, meridian_text, method_text, parameter_text, projected_text, unit_text, usage_text, vertical_text};
+ghost use Rattle.crs_normal.specs.PartSpellings.{IsFrame, IsHorizontalPart, IsSpelledAxisMeridian, IsSpelledBase};
+ghost use Rattle.crs_normal.specs.PartSpellings.{IsSpelledBox, IsSpelledCompound, IsSpelledConversion};
+ghost use Rattle.crs_normal.specs.PartSpellings.{IsSpelledDatum, IsSpelledEllipsoid, IsSpelledEnsemble};
+ghost use Rattle.crs_normal.specs.PartSpellings.{IsSpelledExtent, IsSpelledFrame, IsSpelledGeodetic};
+ghost use Rattle.crs_normal.specs.PartSpellings.{IsSpelledGeoidModel, IsSpelledHorizontal, IsSpelledIdent};
+ghost use Rattle.crs_normal.specs.PartSpellings.{IsSpelledMember, IsSpelledMeridian, IsSpelledMethod};
+ghost use Rattle.crs_normal.specs.PartSpellings.{IsSpelledParameter, IsSpelledProjected, IsSpelledUnit};
+ghost use Rattle.crs_normal.specs.PartSpellings.{IsSpelledUsage, IsSpelledVertical};
+ghost use Rattle.crs_normal.specs.PartTexts.{axis_meridian_text, axis_text, base_text, box_text, compound_text};
+ghost use Rattle.crs_normal.specs.PartTexts.{conversion_text, datum_text, ellipsoid_text, ensemble_text, extent_text};
+ghost use Rattle.crs_normal.specs.PartTexts.{frame_text, geodetic_text, geoid_model_text, horizontal_text};
+ghost use Rattle.crs_normal.specs.PartTexts.{ident_text, member_text, meridian_text, method_text, parameter_text};
+ghost use Rattle.crs_normal.specs.PartTexts.{projected_text, unit_text, usage_text, vertical_text};
 
 use crate::laws::made::{
     decimal_laws, made_axis_meridian_is_normal, made_base_is_normal, made_box_is_normal,
@@ -56,7 +68,8 @@ pub fn closed_texts()
     ensures front { (bytes more : List ℕ) → IsClosed bytes → IsClosed (bytes ++ more) → more ≡ [] }
 {}
 
-/// The spelling of an identifier that stands by itself is normal, one, and closed, and tells which are the same. Profile.
+/// The spelling of an identifier that stands by itself is normal, one, and closed, and tells which are the same.
+/// Profile.
 pub fn identifiers_are_canonical()
     ensures { (level : Level) → IsCanonicalForm IsIdent SameIdent (IsSpelledIdent level) (ident_text level) }
 {
@@ -71,7 +84,8 @@ pub fn identifiers_are_canonical()
 
 /// So is that of a unit, of which `UNIT` is a kind of its own. Profile.
 pub fn units_are_canonical()
-    ensures { (level : Level) → IsCanonicalForm IsUnit (SameUnit kinds.Plain level) (IsSpelledUnit level) (unit_text level) }
+    ensures { (level : Level) → IsCanonicalForm IsUnit (SameUnit kinds.Plain level) (IsSpelledUnit level)
+        (unit_text level) }
 {
     made_unit_is_normal();
     normal_unit_is_its_form();
@@ -92,7 +106,8 @@ pub fn frame_parts_are_canonical()
     ensures member { (level : Level) →
         IsCanonicalForm IsMember (SameMember level) (IsSpelledMember level) (member_text level) }
     ensures along { (level : Level) →
-        IsCanonicalForm IsAxisMeridian (SameAxisMeridian level) (IsSpelledAxisMeridian level) (axis_meridian_text level) }
+        IsCanonicalForm IsAxisMeridian (SameAxisMeridian level) (IsSpelledAxisMeridian level)
+        (axis_meridian_text level) }
 {
     made_ellipsoid_is_normal();
     made_meridian_is_normal();
@@ -192,7 +207,8 @@ pub fn usages_are_canonical()
     written_items();
 }
 
-/// So are those of reference frames and ensembles: geodetic ones where they have an ellipsoid, else vertical ones. Profile.
+/// So are those of reference frames and ensembles: geodetic ones where they have an ellipsoid, else vertical ones.
+/// Profile.
 pub fn datums_are_canonical()
     ensures datum { (level : Level) →
         IsCanonicalForm IsDatum (SameDatum level) (IsSpelledDatum level) (datum_text level) }

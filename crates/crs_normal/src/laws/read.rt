@@ -22,7 +22,8 @@ ghost use Rattle.crs_normal.specs.ReadBack.{crs_class};
 ghost use Rattle.crs_normal.specs.SpelledConversions.{item_conversion, item_method, norm_conversion, norm_method};
 ghost use Rattle.crs_normal.specs.SpelledCrs.{item_base, item_crs, norm_base, norm_crs};
 ghost use Rattle.crs_normal.specs.SpelledFrames.{greenwich, item_ellipsoid, item_meridian, norm_ellipsoid, norm_given};
-ghost use Rattle.crs_normal.specs.SpelledSystems.{item_axis, item_axis_meridian, item_head, norm_axis_meridian, norm_system};
+ghost use Rattle.crs_normal.specs.SpelledSystems.{item_axis, item_axis_meridian, item_head, norm_axis_meridian};
+ghost use Rattle.crs_normal.specs.SpelledSystems.{norm_system};
 
 use crate::laws::sets::text_laws;
 use crate::laws::values::lower_laws;

@@ -29,7 +29,8 @@ ghost use Rattle.crs_normal.specs.SpelledConversions.{item_geoid_model, item_par
 ghost use Rattle.crs_normal.specs.SpelledConversions.{norm_parameter, set_geoid_models, set_parameters};
 ghost use Rattle.crs_normal.specs.SpelledFrames.{item_member, norm_member, set_members};
 ghost use Rattle.crs_normal.specs.SpelledUnits.{item_ident, item_unit, norm_unit, set_idents};
-ghost use Rattle.crs_normal.specs.SpelledUsages.{item_box, item_extent, item_usage, norm_extent, norm_usage, set_usages};
+ghost use Rattle.crs_normal.specs.SpelledUsages.{item_box, item_extent, item_usage, norm_extent, norm_usage};
+ghost use Rattle.crs_normal.specs.SpelledUsages.{set_usages};
 ghost use Rattle.crs_normal.specs.TextLaws.{TextLaws};
 
 use crs_decimal::laws::{digits_alone, normal_is_one, plain_is_the_one, spelled_as_a_run};
@@ -175,7 +176,8 @@ pub fn member_texts_tell_members()
 /// Texts put in order ascend by their bytes and are the same texts, each once; no other list is so. Profile.
 pub fn texts_are_in_order()
     ensures ascend { (texts : List (List ℕ)) → Ascends (λ text. text) (in_order (λ text. text) texts) }
-    ensures members { (texts : List (List ℕ)) (text : List ℕ) → Has text (in_order (λ text. text) texts) ↔ Has text texts }
+    ensures members { (texts : List (List ℕ)) (text : List ℕ) →
+        Has text (in_order (λ text. text) texts) ↔ Has text texts }
     ensures one { (xs ys : List (List ℕ)) → Ascends (λ text. text) xs → Ascends (λ text. text) ys →
         ((text : List ℕ) → Has text xs ↔ Has text ys) → xs ≡ ys }
 {}

@@ -2,14 +2,18 @@
 //! asked of its kind.
 ghost use Rattle.crs_shape.specs.declared.class.Class.{Class};
 ghost use Rattle.crs_shape.specs.declared.class.Class.TheVariants as class;
-ghost use Rattle.crs_value.specs.Reads.{IsUnitClass, ReadsAxis, ReadsAxisMeridian, ReadsBox, ReadsDatum, ReadsEllipsoid, ReadsEnsemble, ReadsExtent, ReadsIdent, ReadsMember, ReadsMeridian, ReadsUnit, ReadsUsage};
+ghost use Rattle.crs_value.specs.Reads.{IsUnitClass, ReadsAxis, ReadsAxisMeridian, ReadsBox, ReadsDatum};
+ghost use Rattle.crs_value.specs.Reads.{ReadsEllipsoid, ReadsEnsemble, ReadsExtent, ReadsIdent, ReadsMember};
+ghost use Rattle.crs_value.specs.Reads.{ReadsMeridian, ReadsUnit, ReadsUsage};
 ghost use Rattle.crs_value.specs.ReadsConversion.{ReadsConversion, ReadsGeoidModel, ReadsMethod, ReadsParameter};
-ghost use Rattle.crs_value.specs.ReadsCrs.{IsGeodeticClass, ReadsBase, ReadsCompound, ReadsGeodetic, ReadsProjected, ReadsVertical};
+ghost use Rattle.crs_value.specs.ReadsCrs.{IsGeodeticClass, ReadsBase, ReadsCompound, ReadsGeodetic, ReadsProjected};
+ghost use Rattle.crs_value.specs.ReadsCrs.{ReadsVertical};
 ghost use Rattle.crs_value.specs.Sound.{IsAxis, IsAxisMeridian, IsIdent, IsUnit};
 ghost use Rattle.crs_value.specs.SoundCompound.{IsCompound};
 ghost use Rattle.crs_value.specs.SoundConversion.{IsConversion, IsGeoidModel, IsMethod, IsParameter};
 ghost use Rattle.crs_value.specs.SoundFrames.{IsEllipsoid, IsMember, IsMeridian};
-ghost use Rattle.crs_value.specs.SoundSingle.{IsBase, IsGeodetic, IsGeodeticFrame, IsProjected, IsVertical, IsVerticalFrame};
+ghost use Rattle.crs_value.specs.SoundSingle.{IsBase, IsGeodetic, IsGeodeticFrame, IsProjected, IsVertical};
+ghost use Rattle.crs_value.specs.SoundSingle.{IsVerticalFrame};
 ghost use Rattle.crs_value.specs.SoundUsages.{IsBox, IsExtent, IsUsage};
 ghost use Rattle.crs_value.specs.declared.frame.Frame.TheVariants as frame;
 ghost use Rattle.crs_value.specs.Told.{IsReadAs, IsReadOnce};
@@ -51,7 +55,8 @@ pub fn parts_are_sound()
     ensures datum { IsReadAs ReadsDatum (λ d. IsGeodeticFrame (frame.Datum d)) class.GeodeticFrame }
     ensures vertical_datum { IsReadAs ReadsDatum (λ d. IsVerticalFrame (frame.Datum d)) class.VerticalFrame }
     ensures ensemble { IsReadAs ReadsEnsemble (λ e. IsGeodeticFrame (frame.Ensemble e)) class.GeodeticEnsemble }
-    ensures vertical_ensemble { IsReadAs ReadsEnsemble (λ e. IsVerticalFrame (frame.Ensemble e)) class.VerticalEnsemble }
+    ensures vertical_ensemble { IsReadAs ReadsEnsemble (λ e. IsVerticalFrame (frame.Ensemble e))
+        class.VerticalEnsemble }
     ensures bounding_box { (c : Class) → IsReadAs ReadsBox IsBox c }
     ensures extent { (c : Class) → IsReadAs ReadsExtent IsExtent c }
     ensures usage { IsReadAs ReadsUsage IsUsage class.Usage }

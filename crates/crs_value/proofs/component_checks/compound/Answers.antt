@@ -1,6 +1,6 @@
 use Rattle.std.proofs.Common.{List, [], ◌∷◌, None}
 use Rattle.crs_text.specs.Items.{arguments}
-use Rattle.crs_text.specs.Refusal.{Refused}
+use Rattle.crs_text.specs.Refusal.{RefusedAt}
 use Rattle.crs_shape.specs.declared.class.Class.{Class}
 use Rattle.crs_shape.specs.declared.class.Class.TheVariants as class
 use Rattle.crs_value.specs.BadComponent.{BadComponent, BadComponents}
@@ -14,8 +14,8 @@ use Rattle.crs_value.proofs.component_checks.compound.Goals as goal
 pub returns : goal.returns
 returns c =
     let items = arguments (item_at c.args.items.now c.args.id) in
-    let One : Class → Refused → Type 0 = λ d f. AnyOf (BadComponent d) (those class.CompoundCrs d items) f in
-    let All : List Class → Refused → Type 0 = λ ds f. BadComponents ds items f in
+    let One : Class → RefusedAt → Type 0 = λ d f. AnyOf (BadComponent d) (those class.CompoundCrs d items) f in
+    let All : List Class → RefusedAt → Type 0 = λ ds f. BadComponents ds items f in
     let p : IsLeast (All (class.ProjectedCrs ∷ [])) c.lesser-projected.result =
     either-is (One class.ProjectedCrs) (All []) _ None _ c.lesser-projected.ensures c.bad_part.ensures (λ f h. h) in
     let g : IsLeast (All (class.GeographicCrs ∷ class.ProjectedCrs ∷ [])) c.lesser-geographic.result =

@@ -1,5 +1,5 @@
 use Rattle.crs_text.specs.Items.{arguments}
-use Rattle.crs_text.specs.Refusal.{Refused}
+use Rattle.crs_text.specs.Refusal.{RefusedAt}
 use Rattle.crs_shape.specs.declared.class.Class.TheVariants as class
 use Rattle.crs_value.specs.BadSystem.{dimensions_of}
 use Rattle.crs_value.specs.Break.{AnyOf}
@@ -14,6 +14,6 @@ returns c =
     let items = arguments (item_at c.args.items.now c.args.id) in
     let systems = those c.args.class class.CoordinateSystem items in
     let axes = those c.args.class class.Axis items in
-    let Repeated : Refused → Type 0 = λ f. RepeatsAny c.args.class items once f in
+    let Repeated : RefusedAt → Type 0 = λ f. RepeatsAny c.args.class items once f in
     either-is Repeated (AnyOf (OfHead (dimensions_of c.args.class) axes) systems) c.repeats_once.result c.any_of.result c.lesser.result c.lesser.ensures
     c.repeats_once.ensures c.any_of.ensures

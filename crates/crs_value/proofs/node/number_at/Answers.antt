@@ -29,8 +29,8 @@ unreachable-requires-in_default-at c =
     let none = subst P c.in_default-at.is c.loop-step.invariant in
     number-there c.slots_count.ensures.least tree c.args.class class.Number item c.loop-step._step c.args.k c.requires.shaped c.requires.enough (omega arith) none
 
-pub number_of-requires-clause-shaped : goal.number_of-requires-clause-shaped
-number_of-requires-clause-shaped c =
+pub decimal_of-requires-clause-shaped : goal.decimal_of-requires-clause-shaped
+decimal_of-requires-clause-shaped c =
     let tree = c.args.items.now in
     let item = item_at tree c.args.id in
     let P : Option ℕ → Type 0 = λ at. IsFound tree c.args.class class.Number (drop c.loop-step._step (those c.args.class class.Number (arguments item))) at in

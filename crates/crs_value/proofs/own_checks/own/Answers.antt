@@ -1,5 +1,5 @@
 use Rattle.crs_text.specs.Items.{arguments}
-use Rattle.crs_text.specs.Refusal.{Refused}
+use Rattle.crs_text.specs.Refusal.{RefusedAt}
 use Rattle.crs_value.specs.Checks.{BreaksAmong, Own}
 use Rattle.crs_value.specs.Reading.{item_at}
 use Rattle.crs_value.proofs.LeastLemmas.{either-is}
@@ -13,5 +13,5 @@ returns-then-has_system c =
 pub returns : goal.returns
 returns c =
     let item = item_at c.args.items.now c.args.id in
-    let Inside : Refused → Type 0 = λ f. BreaksAmong c.args.class (arguments item) f in
+    let Inside : RefusedAt → Type 0 = λ f. BreaksAmong c.args.class (arguments item) f in
     either-is Inside (Own c.args.class item) c.args.inside c.own_of_part.result c.lesser.result c.lesser.ensures c.requires.inside c.own_of_part.ensures

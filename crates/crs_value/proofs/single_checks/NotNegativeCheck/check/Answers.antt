@@ -5,4 +5,4 @@ use Rattle.crs_value.proofs.single_checks.NotNegativeCheck.check.Goals as goal
 
 pub returns-else-is_negative : goal.returns-else-is_negative
 returns-else-is_negative c =
-    negative-none c.denotes_one.ensures (item_at c.args.items.now c.args.id) c.number_of-value.result c.number_of-value.ensures (sym c.if-is_negative.ensures.value)
+    negative-none c.denotes_one.ensures (item_at c.args.items.now c.args.id) c.decimal_of-value.result c.decimal_of-value.ensures (sym c.if-is_negative.ensures.value)
