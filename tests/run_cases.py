@@ -11,6 +11,7 @@ a line '# REASON' or more, and then, each in its own line and in this order wher
     word TEXT        a word of the command line, without the program's name
     input TEXT       a part of standard input; no line end is added
     times N TEXT     the same, N times over
+    input-file PATH  the same of a file of the repository
     input-unreadable standard input is a folder, from which a read fails
     output TEXT      a line of standard output, with its LF; none: nothing is written
     output-any       standard output isn't compared
@@ -28,6 +29,7 @@ import sys
 from concurrent.futures import ThreadPoolExecutor
 
 HERE = os.path.dirname(os.path.abspath(__file__))
+ROOT = os.path.dirname(HERE)
 SECONDS = 60
 ESCAPE = re.compile(rb"\\(?:x([0-9a-f]{2})|(.))")
 PLAIN = {b"n": b"\n", b"r": b"\r", b"t": b"\t", b"\\": b"\\"}
@@ -62,6 +64,9 @@ def add_line(case, key, rest):
     elif key == b"times":
         count, text = rest.split(b" ", 1)
         case.input += bytes_of(text) * int(count)
+    elif key == b"input-file":
+        with open(os.path.join(os.fsencode(ROOT), rest), "rb") as file:
+            case.input += file.read()
     elif key == b"input-unreadable":
         case.is_unreadable = True
     elif key == b"output":

@@ -2,6 +2,7 @@
 
 use crate::tally::Outcome;
 use crs_canon::canon;
+use crs_group::{Catalogue, Placed};
 use crs_same::same;
 use crs_shape::fit_root;
 use crs_text::{Fault, Items, read_items};
@@ -22,15 +23,18 @@ pub enum Stage {
     Same,
     /// The canonical text of the value.
     Canon,
+    /// The group of the text among those of the texts before it.
+    Group,
 }
 
 /// All stages, in the order in which they are run.
-pub const STAGES: [Stage; 5] = [
+pub const STAGES: [Stage; 6] = [
     Stage::Items,
     Stage::Shape,
     Stage::Value,
     Stage::Same,
     Stage::Canon,
+    Stage::Group,
 ];
 
 impl Stage {
@@ -42,6 +46,7 @@ impl Stage {
             Stage::Value => "value",
             Stage::Same => "same",
             Stage::Canon => "canon",
+            Stage::Group => "group",
         }
     }
 
@@ -51,15 +56,18 @@ impl Stage {
             Stage::Items | Stage::Shape | Stage::Value => "items",
             Stage::Same => "same",
             Stage::Canon => "bytes",
+            Stage::Group => "groups",
         }
     }
 
-    /// What the stage makes of a text that stands before another one.
+    /// What the stage makes of a text that stands before another one, and behind those of a catalogue. `Group` alone
+    /// changes the catalogue.
     pub fn outcome<'t>(
         self,
         alloc: Global,
         text: &'t [u8],
         next: &'t [u8],
+        before: &mut Catalogue,
     ) -> Result<Outcome, AllocError> {
         match self {
             Stage::Items => items(alloc, text),
@@ -67,6 +75,7 @@ impl Stage {
             Stage::Value => value(alloc, text),
             Stage::Same => compared(alloc, text, next),
             Stage::Canon => canonical(alloc, text),
+            Stage::Group => placed(before, text),
         }
     }
 }
@@ -139,5 +148,16 @@ fn canonical(alloc: Global, text: &[u8]) -> Result<Outcome, AllocError> {
         Ok(canon) => Ok(Outcome::Accepted(canon.bytes().len())),
         Err(Fault::Refused(_)) => Ok(Outcome::Refused),
         Err(Fault::Memory(error)) => Err(error),
+    }
+}
+
+// The text is a further line of the catalogue; a group that it begins is counted.
+fn placed(before: &mut Catalogue, text: &[u8]) -> Result<Outcome, AllocError> {
+    let groups = before.groups();
+    match before.add(0, text)? {
+        Placed::Refused(_) => Ok(Outcome::Refused),
+        Placed::Blank | Placed::Group(_) => {
+            Ok(Outcome::Accepted(before.groups().saturating_sub(groups)))
+        }
     }
 }

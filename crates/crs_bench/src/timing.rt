@@ -2,6 +2,8 @@
 
 use crate::stage::Stage;
 use crate::tally::Tally;
+use crs_group::Catalogue;
+use crs_value::Level;
 use std::alloc::{AllocError, Global};
 use std::rt::Clock;
 use std::time::{Duration, Instant};
@@ -37,9 +39,10 @@ pub fn timed(
 
 fn one_round(alloc: Global, stage: Stage, texts: &[&[u8]]) -> Result<Tally, AllocError> {
     let mut tally = Tally::EMPTY;
+    let mut before = Catalogue::new(alloc, Level::Full);
     for (index, text) in texts.iter().enumerate() {
         let next = texts.get(index.saturating_add(1)).unwrap_or(text);
-        tally.add(text, stage.outcome(alloc, text, next)?);
+        tally.add(text, stage.outcome(alloc, text, next, &mut before)?);
     }
     Ok(tally)
 }

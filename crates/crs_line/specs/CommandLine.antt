@@ -6,7 +6,7 @@ use Rattle.clap.specs.Words.{App, IsAmong, Row, Rule, Shape, Text, fault_of, fir
 use Rattle.clap.specs.Words.{subcommand_of, takes, with_subcommand}
 use Rattle.clap.specs.Simple.{new_shape, on_top}
 use Rattle.crs_line.specs.declared.asked.Request.{Request}
-use Rattle.crs_line.specs.declared.asked.Request.TheVariants.{Canon, Check, Same}
+use Rattle.crs_line.specs.declared.asked.Request.TheVariants.{Canon, Check, Same, Group}
 use Rattle.crs_line.specs.declared.asked.RequestFault.{RequestFault}
 use Rattle.crs_line.specs.declared.asked.RequestFault.TheVariants.{Line, Memory}
 use Rattle.clap.specs.declared.error.Error.{Error}
@@ -24,9 +24,10 @@ same_shape = record (new_shape (codes "same")) { rules = operand (codes "first")
 abbrev pub lone_desk : App
 lone_desk = on_top (λ s. record s { has_version = true; subcommand_required = true }) (new_app (codes "crsdesk"))
 
--- `crsdesk` with `canon` and `check`, which read standard input
+-- `crsdesk` with `canon`, `check` and `group`, which read standard input
 abbrev pub input_desk : App
-input_desk = with_subcommand (with_subcommand lone_desk (new_shape (codes "canon"))) (new_shape (codes "check"))
+input_desk = with_subcommand (with_subcommand (with_subcommand lone_desk
+    (new_shape (codes "canon"))) (new_shape (codes "check"))) (new_shape (codes "group"))
 
 -- `crsdesk` with all its commands
 abbrev pub desk : App
@@ -45,7 +46,8 @@ same_of rows = same_texts (first_of (codes "first") rows) (first_of (codes "seco
 abbrev pub request_of : Text × List Row → Option Request
 request_of (name, rows) = if bytes_eq name (codes "canon") then Some Canon
     else (if bytes_eq name (codes "check") then Some Check
-    else (if bytes_eq name (codes "same") then same_of rows else None))
+    else (if bytes_eq name (codes "same") then same_of rows
+    else (if bytes_eq name (codes "group") then Some Group else None)))
 
 -- what the words ask for, where the command takes them; the first of them is the program's name
 abbrev pub asked : List Text → Option Request

@@ -11,6 +11,8 @@ pub enum Request {
     Check,
     /// Whether two texts, the first and the second, spell the same.
     Same(LineWord, LineWord),
+    /// Which lines of standard input, a text each, spell the same.
+    Group,
 }
 
 /// Why a command line gives no request.

@@ -54,7 +54,13 @@ fn with_inputs<'a>(alloc: Global) -> Result<Command<'a>, AllocError>
     let check = Command::new(alloc, "check").about(
         "Tells what standard input spells, or where it is refused",
     );
-    desk_alone(alloc).subcommand(canon)?.subcommand(check)
+    let group = Command::new(alloc, "group").about(
+        "Groups the lines of standard input by what they spell",
+    );
+    desk_alone(alloc)
+        .subcommand(canon)?
+        .subcommand(check)?
+        .subcommand(group)
 }
 
 fn desk_alone<'a>(alloc: Global) -> Command<'a>
@@ -104,6 +110,7 @@ fn named(alloc: Global, matches: &ArgMatches) -> Result<Request, AllocError>
         Some(("canon", _)) => Ok(Request::Canon),
         Some(("check", _)) => Ok(Request::Check),
         Some(("same", operands)) => same_request(alloc, operands),
+        Some(("group", _)) => Ok(Request::Group),
         _ => unreachable!(),
     }
 }

@@ -1,7 +1,7 @@
 //! From the name of a call to its answer.
 use crate::runs::Command;
 use crate::texts::Column;
-use crate::{canonical, lines, numbers, runs, sameness, shapes, texts, values};
+use crate::{canonical, catalogues, lines, numbers, runs, sameness, shapes, texts, values};
 use std::alloc::{AllocError, Global};
 
 /// Appends the answer of a call to an input, as a row writes it; behind a blank the call may have words.
@@ -14,6 +14,7 @@ pub fn put_answer(
     match call.split_once(' ') {
         Some(("run_canon", words)) => runs::put_run(out, alloc, Command::Canon, words, input),
         Some(("run_check", words)) => runs::put_run(out, alloc, Command::Check, words, input),
+        Some(("run_group", words)) => catalogues::put_run(out, alloc, words, input),
         Some(("run_same", "unwritable")) => runs::put_unwritable_same(out, alloc, input),
         Some(_) => out.push_str("no such call"),
         None => put_plain_answer(out, alloc, call, input),
@@ -80,6 +81,8 @@ fn put_value_answer(
         "run_canon" => runs::put_canon(out, alloc, input),
         "run_check" => runs::put_check(out, alloc, input),
         "run_same" => runs::put_same(out, alloc, input),
+        "Catalogue" => catalogues::put_catalogue(out, alloc, input),
+        "run_group" => catalogues::put_run(out, alloc, "", input),
         "request" => lines::put_request(out, alloc, input),
         _ => out.push_str("no such call"),
     }

@@ -14,6 +14,7 @@ pub fn put_request(out: &mut String, alloc: Global, input: &[u8]) -> Result<(), 
         Ok(Request::Canon) => out.push_str("canon"),
         Ok(Request::Check) => out.push_str("check"),
         Ok(Request::Same(first, second)) => put_texts(out, first, second),
+        Ok(Request::Group) => out.push_str("group"),
         Err(RequestFault::Line(_)) => out.push_str("no command"),
         Err(RequestFault::Memory(error)) => Err(*error),
     }

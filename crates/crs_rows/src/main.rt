@@ -4,6 +4,7 @@
 
 mod answers;
 mod canonical;
+mod catalogues;
 mod escapes;
 mod lines;
 mod numbers;
@@ -17,7 +18,7 @@ mod values;
 
 use std::{fs, io};
 
-const FILES: [&str; 17] = [
+const FILES: [&str; 19] = [
     "decimals",
     "refusals",
     "tokens",
@@ -35,6 +36,8 @@ const FILES: [&str; 17] = [
     "same",
     "same_runs",
     "lines",
+    "catalogues",
+    "group_runs",
 ];
 
 fn main(rt: HostRuntime) -> io::Result<()> {

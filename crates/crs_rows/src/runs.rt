@@ -53,7 +53,8 @@ fn same(alloc: Global, first: &[u8], second: &[u8], page: &mut Page) -> Result<u
     run_same(alloc, Level::Full, first, second, &mut Sink::new(page))
 }
 
-fn put_written(out: &mut String, written: &[u8]) -> Result<(), AllocError> {
+/// `, written` and what was written, or that nothing was.
+pub fn put_written(out: &mut String, written: &[u8]) -> Result<(), AllocError> {
     if written.is_empty() {
         return out.push_str(", nothing written");
     }
@@ -127,7 +128,8 @@ fn put_ended(
     put_streams(out, source.reads(), source.failed(), sink.failed())
 }
 
-fn put_streams(
+/// The count of reads, and which of source and sink has failed.
+pub fn put_streams(
     out: &mut String,
     reads: u32,
     source_failed: bool,
@@ -146,10 +148,17 @@ fn put_streams(
 fn put_outcome(out: &mut String, outcome: Result<u8, RunFault>) -> Result<(), AllocError> {
     match outcome {
         Ok(status) => write!(out, "status {status}"),
-        Err(RunFault::ReadFailed) => out.push_str("fault ReadFailed"),
-        Err(RunFault::WriteFailed) => out.push_str("fault WriteFailed"),
-        Err(RunFault::TooLong(line)) => write!(out, "fault TooLong {line}"),
-        Err(RunFault::TooManyReads) => out.push_str("fault TooManyReads"),
-        Err(RunFault::Memory) => Err(AllocError),
+        Err(fault) => put_fault(out, fault),
+    }
+}
+
+/// The fault of a run; want of memory is the error.
+pub fn put_fault(out: &mut String, fault: RunFault) -> Result<(), AllocError> {
+    match fault {
+        RunFault::ReadFailed => out.push_str("fault ReadFailed"),
+        RunFault::WriteFailed => out.push_str("fault WriteFailed"),
+        RunFault::TooLong(line) => write!(out, "fault TooLong {line}"),
+        RunFault::TooManyReads => out.push_str("fault TooManyReads"),
+        RunFault::Memory => Err(AllocError),
     }
 }

@@ -1,9 +1,10 @@
-//! `crsdesk`: reads WKT2 texts of coordinate reference systems, compares them, and spells each in one way.
+//! `crsdesk`: reads WKT2 texts of coordinate reference systems, compares them, spells each in one way, and groups
+//! catalogues.
 #![tactic(auto)]
 
 use crs_desk::{
     Level, LineWord, Request, RequestFault, RunFault, Sink, Source, request, run_canon, run_check,
-    run_same,
+    run_group, run_same,
 };
 use std::alloc::{AllocError, Global};
 use std::process::ExitCode;
@@ -50,6 +51,7 @@ fn answer(rt: &HostRuntime, wanted: &Request) -> u8 {
         Request::Canon => canon(rt),
         Request::Check => check(rt),
         Request::Same(first, second) => same(rt, first, second),
+        Request::Group => group(rt),
     };
     match &outcome {
         Ok(status) => *status,
@@ -73,6 +75,14 @@ fn same(rt: &HostRuntime, first: &LineWord, second: &LineWord) -> Result<u8, Run
     let a = first.as_str().as_bytes();
     let b = second.as_str().as_bytes();
     run_same(rt.alloc(), Level::Full, a, b, &mut Sink::new(rt.stdout()))
+}
+
+// Status 1 where a line was refused.
+fn group(rt: &HostRuntime) -> Result<u8, RunFault> {
+    let mut source = Source::new(rt.stdin());
+    let mut sink = Sink::new(rt.stdout());
+    let summary = run_group(rt.alloc(), Level::Full, &mut source, &mut sink)?;
+    Ok(u8::from(summary.refused > 0))
 }
 
 // A second failure, of standard error itself, can't be told to anyone.
