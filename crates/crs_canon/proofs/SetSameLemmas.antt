@@ -6,7 +6,7 @@ use Rattle.crs_normal.specs.Ascending.{Ascends, Has}
 use Rattle.crs_normal.specs.Closed.{IsClosed}
 use Rattle.crs_normal.specs.Decides.{FormDecides}
 use Rattle.crs_canon.specs.Members.{commas, joined}
-use Rattle.crs_canon.specs.SetText.{IsSetText}
+use Rattle.crs_canon.specs.SetText.{HaveOneTextWhereSame, IsSetText}
 
 -- ---- closed texts behind one another
 
@@ -98,6 +98,11 @@ each-of : {A : Type 0} (P : A → Type 0) (xs : List A) → ((z : A) → Has z x
 each-of P [] f = tt
 each-of P (x ∷ xs) f = (f x (inl refl), each-of P xs (λ z h. f z (inr h)))
 
+-- lists that ascend and have the same members are equal
+abbrev pub IsOneList : Type 0
+IsOneList = (xs ys : List (List ℕ)) → Ascends (λ text. text) xs → Ascends (λ text. text) ys →
+    ((text : List ℕ) → Has text xs ↔ Has text ys) → xs ≡ ys
+
 module _ {V : Type 0} (Q : V → Type 0) (spell : V → List ℕ) (Same : V → V → Type 0) where
   has-to : FormDecides Q spell Same → (x : V) (ys : List V) → Q x → Each Q ys → Has (spell x) (map spell ys) →
       HasSame Same x ys
@@ -131,12 +136,8 @@ module _ {V : Type 0} (Q : V → Type 0) (spell : V → List ℕ) (Same : V → 
   closed-member closed (x ∷ xs) h text (inr p) = closed-member closed xs h.1 text p
 
   -- the bytes of two sets are equal exactly where the sets are the same
-  pub set-decides : NoFront → ((xs ys : List (List ℕ)) → Ascends (λ text. text) xs → Ascends (λ text. text) ys →
-      ((text : List ℕ) → Has text xs ↔ Has text ys) → xs ≡ ys) →
-      FormDecides Q spell Same → ((v : V) → Q v → IsClosed (spell v)) →
-      (a b : List V) (first second : List ℕ) → Each Q a → Each Q b →
-      IsSetText (map spell a) first → IsSetText (map spell b) second → (first ≡ second) ↔ SameSet Same a b
-  set-decides law one decides closed a b first second g h s t = (to, from)
+  pub set-decides : NoFront → IsOneList → FormDecides Q spell Same → ((v : V) → Q v → IsClosed (spell v)) → (a b : List V) → Each Q a → Each Q b → HaveOneTextWhereSame Same spell a b
+  set-decides law one decides closed a b g h first second s t = (to, from)
     where
       closed-in : (c : List V) → Each Q c → (bytes : List ℕ) → (u : IsSetText (map spell c) bytes) →
           Each IsClosed u.members
@@ -161,3 +162,18 @@ module _ {V : Type 0} (Q : V → Type 0) (spell : V → List ℕ) (Same : V → 
             λ p. (t.same text).1 (all-from decides a b g h same.0 text ((s.same text).0 p)),
             λ p. (s.same text).1 (all-from decides b a h g same.1 text ((t.same text).0 p)),
           ))
+
+-- where a member of either set gives the law, they have it; two empty sets have one text
+pub by-members : {V : Type 0} (Same : V → V → Type 0) (spell : V → List ℕ) (a b : List V) → IsOneList →
+    ((v : V) → Has v a → HaveOneTextWhereSame Same spell a b) →
+    ((v : V) → Has v b → HaveOneTextWhereSame Same spell a b) → HaveOneTextWhereSame Same spell a b
+by-members Same spell (x ∷ a) b one f g = f x (inl refl)
+by-members Same spell [] (y ∷ b) one f g = g y (inl refl)
+by-members Same spell [] [] one f g = λ first second s t. (
+  λ e. (tt, tt),
+  λ same.
+      s.written
+      ∙ ap joined (one s.members t.members s.ascend t.ascend
+      (λ text. (λ p. (t.same text).1 ((s.same text).0 p), λ p. (s.same text).1 ((t.same text).0 p))))
+      ∙ sym t.written,
+)

@@ -1,14 +1,13 @@
 //! Laws of canonical texts: calls that do nothing, and whose contracts are the laws.
-ghost use Rattle.std.specs.Prelude.{◌≡◌, ◌↔◌, ◌++◌, [], List, map, ℕ};
+ghost use Rattle.std.specs.Prelude.{◌≡◌, ◌↔◌, ◌++◌, [], List, ℕ};
 ghost use Rattle.crs_value.specs.Sound.{Each};
 ghost use Rattle.crs_value.specs.SoundCrs.{IsCrs};
 ghost use Rattle.crs_value.specs.declared.crs.Crs.{Crs};
 ghost use Rattle.crs_value.specs.declared.level.Level.{Level};
 ghost use Rattle.crs_same.specs.SameCrs.{SameCrs};
-ghost use Rattle.crs_same.specs.Sets.{SameSet};
 ghost use Rattle.crs_canon.specs.Canonical.{IsCanonicalText};
 ghost use Rattle.crs_canon.specs.MainTheorem.{MainTheorem};
-ghost use Rattle.crs_canon.specs.SetText.{IsSetText};
+ghost use Rattle.crs_canon.specs.SetText.{HaveOneTextWhereSame};
 
 use crate::canonical::Canonical;
 use crs_normal::laws::made::made_text_is_normal;
@@ -62,9 +61,8 @@ pub fn spellings_stand_alone<T: Canonical>(node: &T)
 /// The texts of two sets of nodes of one kind are equal, byte for byte, exactly where the sets are the same. The node
 /// stands for the kind. Profile.
 pub fn set_texts_are_equal_where_same<T: Canonical>(node: &T)
-    ensures { (level : Level) (a b : List T) (first second : List ℕ) → Each T.IsValue a → Each T.IsValue b →
-        IsSetText (map (T.spelling level) a) first → IsSetText (map (T.spelling level) b) second →
-        (first ≡ second) ↔ SameSet (T.Same level) a b }
+    ensures { (level : Level) (a b : List T) → Each T.IsValue a → Each T.IsValue b →
+        HaveOneTextWhereSame (T.Same level) (T.spelling level) a b }
 {
     node.laws();
     closed_texts();
