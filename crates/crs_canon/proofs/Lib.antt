@@ -3,6 +3,7 @@ pub mod MainLemmas
 pub mod PieceLemmas
 pub mod PlainLemmas
 pub mod SetLemmas
+pub mod SetSameLemmas
 pub mod SetTextLemmas
 pub mod SystemLemmas
 pub mod TextLemmas

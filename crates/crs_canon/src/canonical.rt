@@ -44,9 +44,10 @@ pub trait Canonical: Sized {
             (λ _. out.new.items ≡ out.old.items) };
 
     /// The law of the type: its spellings are normal and one, they are equal, byte for byte, exactly where the values
-    /// are the same, and each is closed. The call does nothing.
+    /// are the same, and each is closed; and this is such a value. The call does nothing.
     fn laws(&self)
-        ensures { (level : Level) → IsCanonicalForm IsValue (Same level) (IsSpelling level) (spelling level) };
+        ensures value { IsValue self.now }
+        ensures form { (level : Level) → IsCanonicalForm IsValue (Same level) (IsSpelling level) (spelling level) };
 }
 
 // Appends a text that was written behind a comma, without the comma.

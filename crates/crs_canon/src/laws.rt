@@ -1,13 +1,18 @@
 //! Laws of canonical texts: calls that do nothing, and whose contracts are the laws.
-ghost use Rattle.std.specs.Prelude.{◌≡◌, ◌↔◌, List, ℕ};
+ghost use Rattle.std.specs.Prelude.{◌≡◌, ◌↔◌, ◌++◌, [], List, ℕ};
+ghost use Rattle.crs_value.specs.Sound.{Each};
 ghost use Rattle.crs_value.specs.SoundCrs.{IsCrs};
 ghost use Rattle.crs_value.specs.declared.crs.Crs.{Crs};
 ghost use Rattle.crs_value.specs.declared.level.Level.{Level};
 ghost use Rattle.crs_same.specs.SameCrs.{SameCrs};
 ghost use Rattle.crs_canon.specs.Canonical.{IsCanonicalText};
 ghost use Rattle.crs_canon.specs.MainTheorem.{MainTheorem};
+ghost use Rattle.crs_canon.specs.SetText.{HaveOneTextWhereSame};
 
+use crate::canonical::Canonical;
 use crs_normal::laws::made::made_text_is_normal;
+use crs_normal::laws::parts::closed_texts;
+use crs_normal::laws::sets::texts_are_in_order;
 use crs_normal::laws::texts::{
     normal_texts_are_equal_where_same, one_form_is_the_same, spelled_crs_is_sound,
     written_form_is_accepted,
@@ -40,4 +45,26 @@ pub fn main_theorem()
     same_crs_is_equivalence();
     spelled_crs_is_sound();
     one_answer();
+}
+
+/// No spelling of a node is empty, and none is the front of another of its kind. The node stands for its kind.
+/// Profile.
+pub fn spellings_stand_alone<T: Canonical>(node: &T)
+    ensures some { (level : Level) (value : T) → T.IsValue value → ¬ (T.spelling level value ≡ []) }
+    ensures front { (level : Level) (a b : T) (more : List ℕ) → T.IsValue a → T.IsValue b →
+        T.spelling level b ≡ T.spelling level a ++ more → more ≡ [] }
+{
+    node.laws();
+    closed_texts();
+}
+
+/// The texts of two sets of nodes of one kind are equal, byte for byte, exactly where the sets are the same. The node
+/// stands for the kind. Profile.
+pub fn set_texts_are_equal_where_same<T: Canonical>(node: &T)
+    ensures { (level : Level) (a b : List T) → Each T.IsValue a → Each T.IsValue b →
+        HaveOneTextWhereSame (T.Same level) (T.spelling level) a b }
+{
+    node.laws();
+    closed_texts();
+    texts_are_in_order();
 }

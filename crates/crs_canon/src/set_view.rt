@@ -1,12 +1,15 @@
 //! Sets of nodes, which are views of slices.
 ghost use Rattle.std.specs.Prelude.{◌≡◌, ◌↔◌, ◌++◌, ℕ, IsTrue, List, map, MatchResult, OnOk};
+ghost use Rattle.crs_value.specs.Sound.{Each};
 ghost use Rattle.crs_value.specs.declared.level.Level.{Level};
 ghost use Rattle.crs_same.specs.Sets.{AllHaveSame, HasSame, SameSet};
+ghost use Rattle.crs_normal.specs.Ascending.{Has};
 ghost use Rattle.crs_normal.specs.Ordered.{in_order, put, put_all};
 ghost use Rattle.crs_canon.specs.Members.{commas, joined, set_spelling, spellings};
-ghost use Rattle.crs_canon.specs.SetText.{IsSetText};
+ghost use Rattle.crs_canon.specs.SetText.{HaveOneTextWhereSame, IsSetText};
 
 use crate::canonical::Canonical;
+use crate::laws::set_texts_are_equal_where_same;
 use crate::set::write_sorted;
 use crs_normal::laws::sets::texts_are_in_order;
 use crs_value::Level;
@@ -56,6 +59,37 @@ impl<'s, T: Canonical> Set<'s, T> {
     {
         texts_are_in_order();
         append_set(alloc, out, self.members, level)
+    }
+
+    /// The law of sets: each member is a value of its type, and what this set and the other are written as is equal,
+    /// byte for byte, exactly where they are the same. The call does nothing.
+    pub fn laws(&self, other: &Set<'s, T>)
+        ensures values { Each T.IsValue self.now }
+        ensures equal { (level : Level) → HaveOneTextWhereSame (T.Same level) (T.spelling level) self.now other.now }
+    {
+        texts_are_in_order();
+        are_values(self.members);
+        are_values(other.members);
+        kind_has_law(self.members);
+        kind_has_law(other.members);
+    }
+}
+
+fn are_values<T: Canonical>(members: &[T])
+    ensures { Each T.IsValue members.now }
+{
+    for member in members {
+        member.laws();
+    }
+}
+
+// The law of all sets of a kind, where there is a node of it.
+fn kind_has_law<T: Canonical>(members: &[T])
+    ensures { (member : T) → Has member members.now → (level : Level) (a b : List T) →
+        Each T.IsValue a → Each T.IsValue b → HaveOneTextWhereSame (T.Same level) (T.spelling level) a b }
+{
+    if let [member, ..] = members {
+        set_texts_are_equal_where_same(member);
     }
 }
 

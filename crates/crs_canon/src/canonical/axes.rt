@@ -31,6 +31,7 @@ impl Canonical for Axis<'_> {
     }
 
     fn laws(&self) {
+        let _name = self.name;
         axes_are_canonical();
     }
 }
@@ -60,6 +61,7 @@ impl Canonical for AxisMeridian<'_> {
     }
 
     fn laws(&self) {
+        let _longitude = self.longitude;
         frame_parts_are_canonical();
     }
 }

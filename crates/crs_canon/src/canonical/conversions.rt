@@ -32,6 +32,7 @@ impl Canonical for Method<'_> {
     }
 
     fn laws(&self) {
+        let _name = self.name;
         conversions_are_canonical();
     }
 }
@@ -61,6 +62,7 @@ impl Canonical for Parameter<'_> {
     }
 
     fn laws(&self) {
+        let _name = self.name;
         conversions_are_canonical();
     }
 }
@@ -90,6 +92,7 @@ impl Canonical for Conversion<'_> {
     }
 
     fn laws(&self) {
+        let _name = self.name;
         conversions_are_canonical();
     }
 }
@@ -119,6 +122,7 @@ impl Canonical for GeoidModel<'_> {
     }
 
     fn laws(&self) {
+        let _name = self.name;
         conversions_are_canonical();
     }
 }

@@ -17,6 +17,7 @@ use crs_normal::laws::texts::{
 };
 use crs_normal::laws::values::same_crss_have_one_form;
 use crs_text::laws::written_items;
+use crs_value::laws::crs_is_sound;
 use crs_value::{Crs, Level};
 use std::alloc::{AllocError, Global};
 
@@ -61,6 +62,7 @@ impl Canonical for Crs<'_> {
     }
 
     fn laws(&self) {
+        crs_is_sound(self);
         crss_are_canonical();
     }
 }

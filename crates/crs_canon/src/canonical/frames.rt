@@ -38,6 +38,7 @@ impl Canonical for Ellipsoid<'_> {
     }
 
     fn laws(&self) {
+        let _name = self.name;
         frame_parts_are_canonical();
     }
 }
@@ -67,6 +68,7 @@ impl Canonical for Meridian<'_> {
     }
 
     fn laws(&self) {
+        let _name = self.name;
         frame_parts_are_canonical();
     }
 }
@@ -96,6 +98,7 @@ impl Canonical for Member<'_> {
     }
 
     fn laws(&self) {
+        let _name = self.name;
         frame_parts_are_canonical();
     }
 }
@@ -125,6 +128,7 @@ impl Canonical for Datum<'_> {
     }
 
     fn laws(&self) {
+        let _name = self.name;
         datums_are_canonical();
     }
 }
@@ -154,6 +158,7 @@ impl Canonical for Ensemble<'_> {
     }
 
     fn laws(&self) {
+        let _name = self.name;
         datums_are_canonical();
     }
 }
@@ -183,6 +188,10 @@ impl Canonical for Frame<'_> {
     }
 
     fn laws(&self) {
+        match self {
+            Frame::Datum(datum) => datum.laws(),
+            Frame::Ensemble(ensemble) => ensemble.laws(),
+        }
         frames_are_canonical();
     }
 }

@@ -35,6 +35,7 @@ impl Canonical for Base<'_> {
     }
 
     fn laws(&self) {
+        let _name = self.name;
         kinds_are_canonical();
     }
 }
@@ -64,6 +65,7 @@ impl Canonical for Geodetic<'_> {
     }
 
     fn laws(&self) {
+        let _name = self.name;
         kinds_are_canonical();
     }
 }
@@ -93,6 +95,7 @@ impl Canonical for Projected<'_> {
     }
 
     fn laws(&self) {
+        let _name = self.name;
         kinds_are_canonical();
     }
 }
@@ -122,6 +125,7 @@ impl Canonical for Vertical<'_> {
     }
 
     fn laws(&self) {
+        let _name = self.name;
         kinds_are_canonical();
     }
 }
@@ -151,6 +155,7 @@ impl Canonical for Compound<'_> {
     }
 
     fn laws(&self) {
+        let _name = self.name;
         kinds_are_canonical();
     }
 }
@@ -180,6 +185,10 @@ impl Canonical for Horizontal<'_> {
     }
 
     fn laws(&self) {
+        match self {
+            Horizontal::Geodetic(geodetic) => geodetic.laws(),
+            Horizontal::Projected(projected) => projected.laws(),
+        }
         horizontals_are_canonical();
     }
 }

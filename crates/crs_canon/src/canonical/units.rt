@@ -32,6 +32,7 @@ impl Canonical for Ident<'_> {
     }
 
     fn laws(&self) {
+        let _authority = self.authority;
         identifiers_are_canonical();
     }
 }
@@ -62,6 +63,7 @@ impl Canonical for Unit<'_> {
     }
 
     fn laws(&self) {
+        let _name = self.name;
         units_are_canonical();
     }
 }

@@ -31,6 +31,7 @@ impl Canonical for BoundingBox {
     }
 
     fn laws(&self) {
+        let _south = self.south;
         extents_are_canonical();
     }
 }
@@ -62,6 +63,7 @@ impl Canonical for Extent<'_> {
     }
 
     fn laws(&self) {
+        let _minimum = self.minimum;
         extents_are_canonical();
     }
 }
@@ -91,6 +93,7 @@ impl Canonical for Usage<'_> {
     }
 
     fn laws(&self) {
+        let _scope = self.scope;
         usages_are_canonical();
     }
 }

@@ -1,0 +1,179 @@
+-- The text of a set tells its members, so that two sets have one text exactly where they are the same.
+use Rattle.std.proofs.Common.{◌≡◌, ◌↔◌, ◌⊎◌, ℕ, List, [], ◌∷◌, ◌++◌, map, inl, inr, refl, sym, ◌∙◌, ap, subst}
+use Rattle.crs_value.specs.Sound.{Each}
+use Rattle.crs_same.specs.Sets.{AllHaveSame, HasSame, SameSet}
+use Rattle.crs_normal.specs.Ascending.{Ascends, Has}
+use Rattle.crs_normal.specs.Closed.{IsClosed}
+use Rattle.crs_normal.specs.Decides.{FormDecides}
+use Rattle.crs_canon.specs.Members.{commas, joined}
+use Rattle.crs_canon.specs.SetText.{HaveOneTextWhereSame, IsSetText}
+
+-- ---- closed texts behind one another
+
+-- no closed text is the front of another
+abbrev pub NoFront : Type 0
+NoFront = (bytes more : List ℕ) → IsClosed bytes → IsClosed (bytes ++ more) → more ≡ []
+
+same-head : (x y : ℕ) (xs ys : List ℕ) → x ∷ xs ≡ y ∷ ys → x ≡ y
+same-head x y xs ys e = cc
+
+same-tail : (x y : ℕ) (xs ys : List ℕ) → x ∷ xs ≡ y ∷ ys → xs ≡ ys
+same-tail x y xs ys e = cc
+
+none-some : (x : ℕ) (xs : List ℕ) → [] ≡ x ∷ xs → ⊥
+none-some x xs e = cc
+
+-- the one goes on to the other, and what stands behind begins with what is between
+abbrev GoesOn : List ℕ → List ℕ → List ℕ → List ℕ → Type 0
+GoesOn a b r s = (more : List ℕ) × (b ≡ a ++ more) × (r ≡ more ++ s)
+
+-- of two fronts of one list, the one goes on to the other
+fronts : (a b r s : List ℕ) → a ++ r ≡ b ++ s → GoesOn a b r s ⊎ GoesOn b a s r
+fronts [] b r s e = inl (b, refl, e)
+fronts (x ∷ a) [] r s e = inr (x ∷ a, refl, sym e)
+fronts (x ∷ a) (y ∷ b) r s e = further (fronts a b r s (same-tail x y (a ++ r) (b ++ s) e))
+  where
+    head : x ≡ y
+    head = same-head x y (a ++ r) (b ++ s) e
+
+    further : GoesOn a b r s ⊎ GoesOn b a s r → GoesOn (x ∷ a) (y ∷ b) r s ⊎ GoesOn (y ∷ b) (x ∷ a) s r
+    further (inl (more, p, q)) = inl (more, (λ i. sym head i ∷ p i), q)
+    further (inr (more, p, q)) = inr (more, (λ i. head i ∷ p i), q)
+
+append-nil : (xs : List ℕ) → xs ++ [] ≡ xs
+append-nil [] = refl
+append-nil (x ∷ xs) = ap (λ ys. x ∷ ys) (append-nil xs)
+
+alone : NoFront → (a b r s : List ℕ) → IsClosed a → IsClosed b → GoesOn a b r s → (a ≡ b) × (r ≡ s)
+alone law a b r s p q (more, e, f) =
+    let none : more ≡ [] = law a more p (subst IsClosed e q) in
+    (sym (append-nil a) ∙ ap (λ x. a ++ x) (sym none) ∙ sym e, f ∙ ap (λ x. x ++ s) none)
+
+-- of two closed texts at the start of one list, the one is the other
+pub split : NoFront → (a b r s : List ℕ) → IsClosed a → IsClosed b → a ++ r ≡ b ++ s → (a ≡ b) × (r ≡ s)
+split law a b r s p q e = by (fronts a b r s e)
+  where
+    by : GoesOn a b r s ⊎ GoesOn b a s r → (a ≡ b) × (r ≡ s)
+    by (inl h) = alone law a b r s p q h
+    by (inr h) = let t = alone law b a s r q p h in (sym t.0, sym t.1)
+
+word-not-nil : (word inside : List ℕ) → word ++ 91 ∷ inside ≡ [] → ⊥
+word-not-nil [] inside e = none-some 91 inside (sym e)
+word-not-nil (b ∷ word) inside e = none-some b (word ++ 91 ∷ inside) (sym e)
+
+-- a closed text isn't empty
+pub closed-some : (bytes : List ℕ) → IsClosed bytes → bytes ≡ [] → ⊥
+closed-some bytes h e = word-not-nil h.word h.inside (sym h.parts ∙ e)
+
+-- ---- joined texts
+
+commas-tell : NoFront → (xs ys : List (List ℕ)) → Each IsClosed xs → Each IsClosed ys → commas xs ≡ commas ys →
+    xs ≡ ys
+commas-tell law [] [] p q e = refl
+commas-tell law [] (y ∷ ys) p q e = absurd (none-some 44 (y ++ commas ys) e)
+commas-tell law (x ∷ xs) [] p q e = absurd (none-some 44 (x ++ commas xs) (sym e))
+commas-tell law (x ∷ xs) (y ∷ ys) p q e =
+    let both = split law x y (commas xs) (commas ys) p.0 q.0 (same-tail 44 44 (x ++ commas xs) (y ++ commas ys) e) in
+    let rest = commas-tell law xs ys p.1 q.1 both.1 in
+    λ i. both.0 i ∷ rest i
+
+front-nil : (a b : List ℕ) → a ++ b ≡ [] → a ≡ []
+front-nil [] b e = refl
+front-nil (x ∷ a) b e = absurd (none-some x (a ++ b) (sym e))
+
+-- closed texts that are joined are one list
+pub joined-tell : NoFront → (xs ys : List (List ℕ)) → Each IsClosed xs → Each IsClosed ys → joined xs ≡ joined ys →
+    xs ≡ ys
+joined-tell law [] [] p q e = refl
+joined-tell law [] (y ∷ ys) p q e = absurd (closed-some y q.0 (front-nil y (commas ys) (sym e)))
+joined-tell law (x ∷ xs) [] p q e = absurd (closed-some x p.0 (front-nil x (commas xs) e))
+joined-tell law (x ∷ xs) (y ∷ ys) p q e =
+    let both = split law x y (commas xs) (commas ys) p.0 q.0 e in
+    let rest = commas-tell law xs ys p.1 q.1 both.1 in
+    λ i. both.0 i ∷ rest i
+
+-- ---- members and their spellings
+
+each-of : {A : Type 0} (P : A → Type 0) (xs : List A) → ((z : A) → Has z xs → P z) → Each P xs
+each-of P [] f = tt
+each-of P (x ∷ xs) f = (f x (inl refl), each-of P xs (λ z h. f z (inr h)))
+
+-- lists that ascend and have the same members are equal
+abbrev pub IsOneList : Type 0
+IsOneList = (xs ys : List (List ℕ)) → Ascends (λ text. text) xs → Ascends (λ text. text) ys →
+    ((text : List ℕ) → Has text xs ↔ Has text ys) → xs ≡ ys
+
+module _ {V : Type 0} (Q : V → Type 0) (spell : V → List ℕ) (Same : V → V → Type 0) where
+  has-to : FormDecides Q spell Same → (x : V) (ys : List V) → Q x → Each Q ys → Has (spell x) (map spell ys) →
+      HasSame Same x ys
+  has-to decides x [] q h p = absurd p
+  has-to decides x (y ∷ ys) q h (inl e) = inl ((decides x y q h.0).0 e)
+  has-to decides x (y ∷ ys) q h (inr p) = inr (has-to decides x ys q h.1 p)
+
+  has-from : FormDecides Q spell Same → (x : V) (ys : List V) → Q x → Each Q ys → HasSame Same x ys →
+      Has (spell x) (map spell ys)
+  has-from decides x [] q h p = absurd p
+  has-from decides x (y ∷ ys) q h (inl s) = inl ((decides x y q h.0).1 s)
+  has-from decides x (y ∷ ys) q h (inr p) = inr (has-from decides x ys q h.1 p)
+
+  all-to : FormDecides Q spell Same → (xs ys : List V) → Each Q xs → Each Q ys →
+      ((text : List ℕ) → Has text (map spell xs) → Has text (map spell ys)) → AllHaveSame Same xs ys
+  all-to decides [] ys g h f = tt
+  all-to decides (x ∷ xs) ys g h f =
+      (has-to decides x ys g.0 h (f (spell x) (inl refl)), all-to decides xs ys g.1 h (λ text p. f text (inr p)))
+
+  all-from : FormDecides Q spell Same → (xs ys : List V) → Each Q xs → Each Q ys → AllHaveSame Same xs ys →
+      (text : List ℕ) → Has text (map spell xs) → Has text (map spell ys)
+  all-from decides [] ys g h s text p = absurd p
+  all-from decides (x ∷ xs) ys g h s text (inl e) =
+      subst (λ t. Has t (map spell ys)) (sym e) (has-from decides x ys g.0 h s.0)
+  all-from decides (x ∷ xs) ys g h s text (inr p) = all-from decides xs ys g.1 h s.1 text p
+
+  closed-member : ((v : V) → Q v → IsClosed (spell v)) → (xs : List V) → Each Q xs → (text : List ℕ) →
+      Has text (map spell xs) → IsClosed text
+  closed-member closed [] h text p = absurd p
+  closed-member closed (x ∷ xs) h text (inl e) = subst IsClosed (sym e) (closed x h.0)
+  closed-member closed (x ∷ xs) h text (inr p) = closed-member closed xs h.1 text p
+
+  -- the bytes of two sets are equal exactly where the sets are the same
+  pub set-decides : NoFront → IsOneList → FormDecides Q spell Same → ((v : V) → Q v → IsClosed (spell v)) → (a b : List V) → Each Q a → Each Q b → HaveOneTextWhereSame Same spell a b
+  set-decides law one decides closed a b g h first second s t = (to, from)
+    where
+      closed-in : (c : List V) → Each Q c → (bytes : List ℕ) → (u : IsSetText (map spell c) bytes) →
+          Each IsClosed u.members
+      closed-in c k bytes u =
+          each-of IsClosed u.members (λ text p. closed-member closed c k text ((u.same text).0 p))
+
+      to : first ≡ second → SameSet Same a b
+      to e = (
+        all-to decides a b g h (λ text p. (t.same text).0 (subst (λ m. Has text m) members ((s.same text).1 p))),
+        all-to decides b a h g (λ text p. (s.same text).0 (subst (λ m. Has text m) (sym members) ((t.same text).1 p))),
+      )
+        where
+          members : s.members ≡ t.members
+          members = joined-tell law s.members t.members (closed-in a g first s) (closed-in b h second t)
+              (sym s.written ∙ e ∙ t.written)
+
+      from : SameSet Same a b → first ≡ second
+      from same = s.written ∙ ap joined members ∙ sym t.written
+        where
+          members : s.members ≡ t.members
+          members = one s.members t.members s.ascend t.ascend (λ text. (
+            λ p. (t.same text).1 (all-from decides a b g h same.0 text ((s.same text).0 p)),
+            λ p. (s.same text).1 (all-from decides b a h g same.1 text ((t.same text).0 p)),
+          ))
+
+-- where a member of either set gives the law, they have it; two empty sets have one text
+pub by-members : {V : Type 0} (Same : V → V → Type 0) (spell : V → List ℕ) (a b : List V) → IsOneList →
+    ((v : V) → Has v a → HaveOneTextWhereSame Same spell a b) →
+    ((v : V) → Has v b → HaveOneTextWhereSame Same spell a b) → HaveOneTextWhereSame Same spell a b
+by-members Same spell (x ∷ a) b one f g = f x (inl refl)
+by-members Same spell [] (y ∷ b) one f g = g y (inl refl)
+by-members Same spell [] [] one f g = λ first second s t. (
+  λ e. (tt, tt),
+  λ same.
+      s.written
+      ∙ ap joined (one s.members t.members s.ascend t.ascend
+      (λ text. (λ p. (t.same text).1 ((s.same text).0 p), λ p. (s.same text).1 ((t.same text).0 p))))
+      ∙ sym t.written,
+)
