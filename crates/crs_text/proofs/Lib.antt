@@ -10,6 +10,7 @@ pub mod LexedLemmas
 pub mod OneItem
 pub mod QuotedLemmas
 pub mod ScanLemmas
+pub mod SettledLemmas
 pub mod ShowsLemmas
 pub mod SoundLemmas
 pub mod StandLemmas

@@ -6,6 +6,7 @@ pub mod Quoted
 pub mod Refusal
 pub mod Rows
 pub mod Scan
+pub mod Settled
 pub mod State
 pub mod Table
 pub mod TextFault

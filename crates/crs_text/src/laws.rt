@@ -6,6 +6,7 @@ ghost use Rattle.crs_text.specs.TextFault.{SpellsNode, RefusesText};
 ghost use Rattle.crs_text.specs.Written.{WrittenSpells, AreFormed, item_text, at_place};
 ghost use Rattle.crs_text.specs.Examples.{AreSized, AreNumbered, AreLimited};
 ghost use Rattle.crs_text.specs.Viable.{IsViable, IsViableAtAnyDepth, Allows, IsFull};
+ghost use Rattle.crs_text.specs.Settled.{IsSettledRefusal, IsTakenSoFar};
 
 /// Which tokens can be completed to a text, token by token. Profile.
 pub fn viability()
@@ -60,4 +61,17 @@ pub fn worked_examples()
     ensures sizes { AreSized }
     ensures numbers { AreNumbered }
     ensures limit { AreLimited }
+{}
+
+/// A refusal that is settled is that of the text and of every text that begins so; bytes have one at
+/// most. Profile.
+pub fn settled_refusals()
+    ensures refusal { (bytes : List ℕ) (n place : ℕ) → IsSettledRefusal bytes n place → RefusesText bytes n place }
+    ensures one { (bytes : List ℕ) (n m place other : ℕ) →
+        IsSettledRefusal bytes n place → IsSettledRefusal bytes m other → (n ≡ m) × (place ≡ other) }
+
+    // Whatever bytes come.
+    ensures stays { (bytes more : List ℕ) (n place : ℕ) → IsSettledRefusal bytes n place →
+        IsSettledRefusal (bytes ++ more) n place × RefusesText (bytes ++ more) n place }
+    ensures apart { (bytes : List ℕ) (n place : ℕ) → IsSettledRefusal bytes n place → ¬ (IsTakenSoFar bytes) }
 {}
