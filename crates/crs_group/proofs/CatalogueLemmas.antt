@@ -16,7 +16,8 @@ use Rattle.crs_canon.specs.Canonical.{CanonicalText, IsCanonicalOf}
 use Rattle.crs_canon.specs.MainTheorem.{MainTheorem}
 use Rattle.crs_group.specs.Catalogue.{Line, GroupParts, CatalogueParts, line_of, nth}
 use Rattle.crs_group.specs.GroupTexts.{IsCatalogue, IsCatalogueOf, IsUnder, canons, then_line}
-use Rattle.crs_group.specs.Partition.{Counts, Each, IsPlacedAs, PlacedLine, ShareWhereSame, if_refused, in_group, lines_in}
+use Rattle.crs_group.specs.Partition.{Counts, IsPlacedAs, PlacedLine, ShareWhereSame, if_refused, in_group, lines_in}
+use Rattle.crs_value.specs.Sound.{Each}
 use Rattle.crs_group.specs.Putting.{IsJoined, IsNew, IsPut, IsRefused, group_of, with_line}
 use Rattle.crs_group.specs.declared.placed.Placed.{Placed}
 use Rattle.crs_group.specs.declared.placed.Placed.TheVariants.{Blank, Refused, Group}

@@ -3,7 +3,8 @@ use Rattle.std.specs.Prelude.{◌≡◌, ◌++◌, ◌∷◌, [], ℕ, List, Som
 use Rattle.crs_value.specs.declared.level.Level.{Level}
 use Rattle.crs_canon.specs.Canonical.{CanonicalText, IsCanonicalOf}
 use Rattle.crs_group.specs.Catalogue.{Line, GroupParts, CatalogueParts, line_of, nth}
-use Rattle.crs_group.specs.Partition.{Each, IsPartition, PlacedLine}
+use Rattle.crs_group.specs.Partition.{IsPartition, PlacedLine}
+use Rattle.crs_value.specs.Sound.{Each}
 use Rattle.crs_group.specs.declared.placed.Placed.{Placed}
 use Rattle.crs_group.specs.declared.placed.Placed.TheVariants.{Blank, Refused, Group}
 

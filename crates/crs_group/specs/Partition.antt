@@ -3,6 +3,7 @@ use Rattle.std.specs.Prelude.{◌≡◌, ◌↔◌, ◌⊎◌, ◌+◌, ◌≤�
 use Rattle.std.specs.List.{flat_map}
 use Rattle.crs_text.specs.Refusal.{RefusedAt}
 use Rattle.crs_text.specs.Tokens.{IsWhite}
+use Rattle.crs_value.specs.Sound.{Each}
 use Rattle.crs_value.specs.SpellsText.{Spells, Refuses}
 use Rattle.crs_value.specs.declared.crs.Crs.{Crs}
 use Rattle.crs_value.specs.declared.level.Level.{Level}
@@ -16,11 +17,6 @@ use Rattle.crs_group.specs.declared.placed.Placed.TheVariants.{Blank, Refused, G
 pub record PlacedLine : Type 0 where
   pub line : Line
   pub place : Placed
-
--- each member of the list has the property
-abbrev pub Each : {A : Type 0} → (A → Type 0) → List A → Type 0
-Each P [] = Unit {0}
-Each P (x ∷ xs) = P x × Each P xs
 
 -- blank is a text of white space alone; any other is refused as what spells no CRS, or spells one and stands in a group
 abbrev pub IsPlacedAs : List ℕ → Placed → Type 0

@@ -20,7 +20,8 @@ use Rattle.crs_value.specs.declared.unit_kind.UnitKind.TheVariants as kinds
 use Rattle.crs_same.specs.SameSystems.{own_or}
 use Rattle.crs_normal.specs.Flat.{flat}
 use Rattle.crs_normal.specs.Normal.{IsNormalIn, IsWordIn}
-use Rattle.crs_normal.specs.NormalOwn.{Each, Has, HasOrder, numbers_in}
+use Rattle.crs_normal.specs.NormalOwn.{Has, HasOrder, numbers_in}
+use Rattle.crs_value.specs.Sound.{Each}
 use Rattle.crs_normal.specs.SpelledItems.{number_item, number_node, opt, text_item, word_item}
 use Rattle.crs_normal.specs.SpelledSystems.{item_axis, item_axis_meridian, norm_axis, norm_axis_meridian, norm_axis_meridians}
 use Rattle.crs_normal.specs.SpelledUnits.{item_unit, norm_unit, norm_units, whole_value}

@@ -10,7 +10,7 @@ use Rattle.crs_value.specs.Break.{AnyOf}
 use Rattle.crs_value.specs.Checks.{AtClass, Breaks, BreaksAmong}
 use Rattle.crs_value.specs.Reading.{is_a, those, ReadsFirst}
 use Rattle.crs_value.specs.RepeatedPart.{IsRepeated}
-use Rattle.crs_normal.specs.NormalOwn.{Each}
+use Rattle.crs_value.specs.Sound.{Each}
 use Rattle.crs_normal.proofs.ViewLemmas.{same_class}
 
 abbrev pub IsUnbroken : Class → Item → Type 0

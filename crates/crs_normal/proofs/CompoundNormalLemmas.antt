@@ -14,7 +14,8 @@ use Rattle.crs_value.specs.declared.crs.Crs.{Crs}
 use Rattle.crs_value.specs.declared.crs.Crs.TheVariants as crs
 use Rattle.crs_value.specs.declared.level.Level.{Level}
 use Rattle.crs_normal.specs.Flat.{flat}
-use Rattle.crs_normal.specs.NormalOwn.{Each, Rise}
+use Rattle.crs_normal.specs.NormalOwn.{Rise}
+use Rattle.crs_value.specs.Sound.{Each}
 use Rattle.crs_normal.specs.SpelledCrs.{item_compound, item_crs, item_horizontal, item_vertical, norm_compound, norm_crs, norm_horizontal, norm_vertical}
 use Rattle.crs_normal.specs.SpelledItems.{text_item}
 use Rattle.crs_normal.proofs.CheckedLemmas.{Checked, IsUnbroken, first-checked, once-only, those-unbroken}

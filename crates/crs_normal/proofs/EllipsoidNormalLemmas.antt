@@ -13,7 +13,7 @@ use Rattle.crs_value.specs.Reads.{ReadsEllipsoid, ReadsMeridian, ReadsNumber, Re
 use Rattle.crs_value.specs.Values.{UnitParts}
 use Rattle.crs_value.specs.declared.level.Level.{Level}
 use Rattle.crs_value.specs.declared.unit_kind.UnitKind.TheVariants as kinds
-use Rattle.crs_normal.specs.NormalOwn.{Each}
+use Rattle.crs_value.specs.Sound.{Each}
 use Rattle.crs_normal.specs.SpelledFrames.{is_zero, item_ellipsoid, item_meridian, norm_ellipsoid, norm_given}
 use Rattle.crs_normal.specs.SpelledItems.{number_item, opt, text_item}
 use Rattle.crs_normal.specs.SpelledUnits.{item_unit, norm_unit, norm_units}

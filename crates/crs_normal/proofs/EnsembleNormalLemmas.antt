@@ -14,7 +14,7 @@ use Rattle.crs_value.specs.declared.frame.Frame.TheVariants as frame
 use Rattle.crs_value.specs.declared.level.Level.{Level}
 use Rattle.crs_value.specs.declared.unit_kind.UnitKind.TheVariants as kinds
 use Rattle.crs_normal.specs.Flat.{flat}
-use Rattle.crs_normal.specs.NormalOwn.{Each}
+use Rattle.crs_value.specs.Sound.{Each}
 use Rattle.crs_normal.specs.SpelledCrs.{item_base, norm_base}
 use Rattle.crs_normal.specs.SpelledFrames.{item_datum, item_ellipsoid, item_ensemble, item_frame, item_member, item_meridian, norm_datum, norm_ellipsoid, norm_ensemble, norm_frame, norm_given, norm_member, norm_meridian, set_members}
 use Rattle.crs_normal.specs.SpelledItems.{number_node, opt, text_item}

@@ -13,10 +13,12 @@ use Rattle.crs_value.specs.Reading.{is_a, those, ReadsFirst, ReadsOptional, Read
 use Rattle.crs_value.specs.declared.level.Level.{Level}
 use Rattle.crs_normal.specs.Flat.{flat, flats}
 use Rattle.crs_normal.specs.Normal.{IsNormalIn, AreNormalIn, IsWritten}
-use Rattle.crs_normal.specs.NormalOwn.{Each, Ascend, HasSets, IsBelow, Own}
+use Rattle.crs_normal.specs.NormalOwn.{Ascend, HasSets, Own}
+use Rattle.crs_value.specs.Sound.{Each}
+use Rattle.crs_normal.specs.Ascending.{Ascends}
 use Rattle.crs_normal.specs.Ordered.{in_order}
 use Rattle.crs_normal.specs.SpelledItems.{each, node_from, opt}
-use Rattle.crs_normal.proofs.AscendLemmas.{Below, Rising, in_order-ascending}
+use Rattle.crs_normal.proofs.SetLemmas.{IsBelow, in_order-of}
 use Rattle.crs_normal.proofs.ViewLemmas.{View, flats_onto, same_class, view}
 
 -- ---- the text of an item doesn't tell places
@@ -176,8 +178,8 @@ text-as : {W : Type 0} (spell : W → Item) (item : Item) (value : W) → flat i
     item_text item ≡ item_text (spell value)
 text-as spell item value e = sym (flat-text item) ∙ ap item_text e
 
-below-as : {W : Type 0} (spell : W → Item) (i j : Item) (v w : W) → flat i ≡ spell v → flat j ≡ spell w → IsBelow i j →
-    Below (λ x. item_text (spell x)) v w
+below-as : {W : Type 0} (spell : W → Item) (i j : Item) (v w : W) → flat i ≡ spell v → flat j ≡ spell w → IsBelow item_text i j →
+    IsBelow (λ x. item_text (spell x)) v w
 below-as spell i j v w e f below =
     ap (λ (bytes : List ℕ). slice_cmp nat_cmp bytes (item_text (spell w))) (sym (text-as spell i v e))
     ∙ ap (slice_cmp nat_cmp (item_text i)) (sym (text-as spell j w f)) ∙ below
@@ -185,7 +187,7 @@ below-as spell i j v w e f below =
 -- ascending items are written for ascending values
 below-written : {W : Type 0} (spell : W → Item) (item : Item) (value : W) → flat item ≡ spell value →
     (items : List Item) (values : List W) → AreWritten spell items values →
-    Each (IsBelow item) items → Each (Below (λ w. item_text (spell w)) value) values
+    Each (IsBelow item_text item) items → Each (IsBelow (λ w. item_text (spell w)) value) values
 below-written spell item value e [] [] h below = tt
 below-written spell item value e [] (v ∷ vs) h below = absurd h
 below-written spell item value e (i ∷ is) [] h below = tt
@@ -193,7 +195,7 @@ below-written spell item value e (i ∷ is) (v ∷ vs) h below =
     (below-as spell item i value v e h.0 below.0, below-written spell item value e is vs h.1 below.1)
 
 written-ascend : {W : Type 0} (spell : W → Item) (items : List Item) (values : List W) → AreWritten spell items values →
-    Ascend items → Rising (λ w. item_text (spell w)) values
+    Ascend items → Ascends (λ w. item_text (spell w)) values
 written-ascend spell [] [] h up = tt
 written-ascend spell [] (v ∷ vs) h up = absurd h
 written-ascend spell (i ∷ is) [] h up = absurd h
@@ -207,7 +209,7 @@ pub set-ordered : {V W : Type 0} (level : Level) (c d : Class) (R : Item → V �
     (values : List V) → ReadsEach R found values →
     in_order (λ w. item_text (spell w)) (map norm values) ≡ map norm values
 set-ordered level c d R spell norm form found good up values reads =
-    in_order-ascending (λ w. item_text (spell w)) (map norm values)
+    in_order-of (λ w. item_text (spell w)) (map norm values)
     (written-ascend spell found (map norm values) (each-written level c d R spell norm form found good values reads) up)
 
 -- a set, in order
@@ -222,5 +224,5 @@ set-spelled level c d R spell norm form found front good e up values reads rest 
     ap (λ xs. flats_onto xs rest) (sym e)
     ∙ written-onto spell found (map norm values) written rest after f
     ∙ ap (λ ws. each spell ws after)
-    (sym (in_order-ascending (λ w. item_text (spell w)) (map norm values)
+    (sym (in_order-of (λ w. item_text (spell w)) (map norm values)
     (written-ascend spell found (map norm values) written up)))

@@ -15,7 +15,8 @@ use Rattle.crs_value.specs.declared.level.Level.{Level}
 use Rattle.crs_value.specs.declared.system_type.SystemType.{SystemType}
 use Rattle.crs_value.specs.declared.system_type.SystemType.TheVariants as types
 use Rattle.crs_normal.specs.Flat.{flats}
-use Rattle.crs_normal.specs.NormalOwn.{Each, Has, HasAxes, HasSets, HasTail, Rise}
+use Rattle.crs_normal.specs.NormalOwn.{Has, HasAxes, HasSets, HasTail, Rise}
+use Rattle.crs_value.specs.Sound.{Each}
 use Rattle.crs_normal.specs.SpelledConversions.{item_geoid_model, set_geoid_models}
 use Rattle.crs_normal.specs.SpelledCrs.{geodetic_keyword, item_geodetic, norm_geodetic}
 use Rattle.crs_normal.specs.SpelledFrames.{item_frame, item_meridian, norm_given}

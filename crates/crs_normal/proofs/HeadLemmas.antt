@@ -20,7 +20,8 @@ use Rattle.crs_value.specs.Words.{system_word}
 use Rattle.crs_value.specs.declared.level.Level.{Level}
 use Rattle.crs_value.specs.declared.system_type.SystemType.{SystemType}
 use Rattle.crs_value.specs.declared.system_type.SystemType.TheVariants as types
-use Rattle.crs_normal.specs.NormalOwn.{Each, HasTail, words_in}
+use Rattle.crs_normal.specs.NormalOwn.{HasTail, words_in}
+use Rattle.crs_value.specs.Sound.{Each}
 use Rattle.crs_normal.proofs.AxisNormalLemmas.{type-raw}
 use Rattle.crs_normal.proofs.EllipsoidNormalLemmas.{ZeroPlain}
 use Rattle.crs_normal.proofs.FormLemmas.{IsGood, kept-good, opened}

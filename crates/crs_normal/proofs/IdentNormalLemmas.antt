@@ -19,7 +19,8 @@ use Rattle.crs_value.specs.Reads.{ReadsText, ReadsTextOf, ReadsIdent, single_of}
 use Rattle.crs_value.specs.Values.{IdentParts}
 use Rattle.crs_value.specs.declared.level.Level.{Level}
 use Rattle.crs_normal.specs.Flat.{flat, flats}
-use Rattle.crs_normal.specs.NormalOwn.{Each, IsCode, IsShort}
+use Rattle.crs_normal.specs.NormalOwn.{IsCode, IsShort}
+use Rattle.crs_value.specs.Sound.{Each}
 use Rattle.crs_normal.specs.SpelledItems.{code_item, is_short, opt, text_item, text_node}
 use Rattle.crs_normal.specs.SpelledUnits.{item_ident}
 use Rattle.crs_normal.proofs.FormLemmas.{Form, Kept, kept-good, node-spelled, opened, optional-spelled}

@@ -1,5 +1,4 @@
 pub mod AcceptedLemmas
-pub mod AscendLemmas
 pub mod AxisAloneLemmas
 pub mod AxisNormalLemmas
 mod AxisSameLemmas

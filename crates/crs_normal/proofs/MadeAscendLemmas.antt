@@ -1,72 +1,15 @@
 -- Lists in order ascend, and have no other members.
-use Rattle.std.proofs.Common.{◌≡◌, ◌≢◌, ℕ, List, [], ◌∷◌, map, Ordering, Less, Equal, Greater, ◌++◌, refl, sym, ap, subst, ◌∙◌}
+use Rattle.std.proofs.Common.{◌≢◌, ℕ, List, [], ◌∷◌, map, ◌++◌, refl, sym, subst}
 use Rattle.std.proofs.lemmas.List.{append-nil}
 use Rattle.std.specs.Cmp.Lexicographic.{slice_cmp}
-use Rattle.std.specs.Ordering.{nat_cmp, match_ordering, ordering_reverse}
-use Rattle.std.proofs.lemmas.Cmp.{nat_list_cmp_total}
+use Rattle.std.specs.Ordering.{nat_cmp}
 use Rattle.crs_text.specs.Items.{Item}
 use Rattle.crs_text.specs.Written.{item_text}
 use Rattle.crs_value.specs.Sound.{Each}
+use Rattle.crs_normal.specs.Ascending.{Ascends, Below}
 use Rattle.crs_normal.specs.NormalOwn.{Ascend}
 use Rattle.crs_normal.specs.Ordered.{put, put_all, in_order}
-
-abbrev Below : List ℕ → List ℕ → Type 0
-Below a b = slice_cmp nat_cmp a b ≡ Less
-
-above : (a b : List ℕ) → slice_cmp nat_cmp a b ≡ Greater → Below b a
-above a b e = nat_list_cmp_total.antisymm b a ∙ ap ordering_reverse e
-
-by-order : {X : Type 0} (P : X → Type 0) (a b c : X) (o : Ordering) → (o ≡ Less → P a) → (o ≡ Equal → P b) →
-    (o ≡ Greater → P c) →
-    P (match_ordering o a b c)
-by-order P a b c Less f g h = f refl
-by-order P a b c Equal f g h = g refl
-by-order P a b c Greater f g h = h refl
-
-each-as : {A : Type 0} (P Q : A → Type 0) (xs : List A) → ((x : A) → P x → Q x) → Each P xs → Each Q xs
-each-as P Q [] f h = tt
-each-as P Q (x ∷ xs) f h = (f x h.0, each-as P Q xs f h.1)
-
-module _ {A : Type 0} (bytes : A → List ℕ) where
-  -- each is below all behind it
-  abbrev pub Ascends : List A → Type 0
-  Ascends [] = Unit {0}
-  Ascends (x ∷ xs) = Each (λ y. Below (bytes x) (bytes y)) xs × Ascends xs
-
-  each-put : (P : A → Type 0) (x : A) (ys : List A) → P x → Each P ys → Each P (put bytes x ys)
-  each-put P x [] p h = (p, h)
-  each-put P x (y ∷ ys) p h =
-      by-order (Each P) (x ∷ y ∷ ys) (y ∷ ys) (y ∷ put bytes x ys) (slice_cmp nat_cmp (bytes x) (bytes y))
-      (λ e. (p, h)) (λ e. h)
-      (λ e. (h.0, each-put P x ys p h.1))
-
-  put-ascends : (x : A) (ys : List A) → Ascends ys → Ascends (put bytes x ys)
-  put-ascends x [] h = (tt, tt)
-  put-ascends x (y ∷ ys) h =
-      by-order Ascends (x ∷ y ∷ ys) (y ∷ ys) (y ∷ put bytes x ys) (slice_cmp nat_cmp (bytes x) (bytes y))
-      (λ e. (
-        (
-          e,
-          each-as (λ z. Below (bytes y) (bytes z)) (λ z. Below (bytes x) (bytes z)) ys
-              (λ z q. nat_list_cmp_total.trans (bytes x) (bytes y) (bytes z) e q) h.0,
-        ),
-        h,
-      )) (λ e. h)
-      (λ e. (each-put (λ z. Below (bytes y) (bytes z)) x ys (above (bytes x) (bytes y) e) h.0, put-ascends x ys h.1))
-
-  each-all : (P : A → Type 0) (sorted xs : List A) → Each P sorted → Each P xs → Each P (put_all bytes sorted xs)
-  each-all P sorted [] s h = s
-  each-all P sorted (x ∷ xs) s h = each-all P (put bytes x sorted) xs (each-put P x sorted h.0 s) h.1
-
-  all-ascend : (sorted xs : List A) → Ascends sorted → Ascends (put_all bytes sorted xs)
-  all-ascend sorted [] h = h
-  all-ascend sorted (x ∷ xs) h = all-ascend (put bytes x sorted) xs (put-ascends x sorted h)
-
-  pub in_order-ascends : (xs : List A) → Ascends (in_order bytes xs)
-  in_order-ascends xs = all-ascend [] xs tt
-
-  pub in_order-each : (P : A → Type 0) (xs : List A) → Each P xs → Each P (in_order bytes xs)
-  in_order-each P xs h = each-all P [] xs tt h
+use Rattle.crs_normal.proofs.SetLemmas.{by-order, each-in_order, in_order-ascends}
 
 -- ---- as items
 
@@ -86,7 +29,7 @@ pub set-each : {V A : Type 0} (norm : V → A) (spell : A → Item) (P : V → T
     ((x : V) → P x → Q (spell (norm x))) → Each Q (map spell (in_order (λ a. item_text (spell a)) (map norm xs)))
 set-each {V} {A} norm spell P Q xs h f =
     spelled (in_order (λ a. item_text (spell a)) (map norm xs))
-    (in_order-each (λ a. item_text (spell a)) (λ a. Q (spell a)) (map norm xs) (normal xs h))
+    (each-in_order (λ a. item_text (spell a)) (λ a. Q (spell a)) (map norm xs) (normal xs h))
   where
     normal : (vs : List V) → Each P vs → Each (λ a. Q (spell a)) (map norm vs)
     normal [] g = tt

@@ -22,7 +22,8 @@ use Rattle.crs_normal.specs.Normal.{IsWritten}
 use Rattle.crs_normal.specs.NormalOwn.{Ascend, IsCode, Own, set_classes}
 use Rattle.crs_normal.specs.SpelledItems.{code_item, opt, text_item, text_node}
 use Rattle.crs_normal.specs.SpelledUnits.{item_ident, set_idents}
-use Rattle.crs_normal.proofs.MadeAscendLemmas.{in_order-each, set-ascends}
+use Rattle.crs_normal.proofs.MadeAscendLemmas.{set-ascends}
+use Rattle.crs_normal.proofs.SetLemmas.{each-in_order}
 use Rattle.crs_normal.proofs.MadeFitLemmas.{fills-one, fills-optional, runs-fit}
 use Rattle.crs_normal.proofs.MadeLeafLemmas.{IsCodeKind, code-kind, code-made, code_kind, text-made}
 use Rattle.crs_normal.proofs.MadeLemmas.{IsKept, Made, Run, alone, as-argument, given, items_in, line, lines, node-made, opt-line}
@@ -237,7 +238,7 @@ each-item P Q spell (x ∷ xs) h f = (f x h.0, each-item P Q spell xs h.1 f)
 
 pub idents-sound : (level : Level) (ids : List IdentParts) → Each IsIdent ids → Each IsIdent (set_idents level ids)
 unfolding set_idents
-idents-sound levels.Full ids h = in_order-each (λ i. item_text (item_ident i)) IsIdent ids h
+idents-sound levels.Full ids h = each-in_order (λ i. item_text (item_ident i)) IsIdent ids h
 
 -- the run of identifiers in a node where their keyword names them
 abbrev pub ids_run : Level → List IdentParts → Run

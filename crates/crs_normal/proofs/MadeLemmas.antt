@@ -17,7 +17,8 @@ use Rattle.crs_value.specs.declared.level.Level.TheVariants as levels
 use Rattle.crs_value.specs.Reading.{is_same, those}
 use Rattle.crs_normal.specs.Made.{IsMade}
 use Rattle.crs_normal.specs.Normal.{AreNormalIn, AtLevel, IsNormalIn, IsWritten}
-use Rattle.crs_normal.specs.NormalOwn.{Ascend, Each, Own, set_classes}
+use Rattle.crs_normal.specs.NormalOwn.{Ascend, Own, set_classes}
+use Rattle.crs_value.specs.Sound.{Each}
 use Rattle.crs_normal.specs.SpelledItems.{each, node_of, opt}
 use Rattle.crs_normal.proofs.MadePlaceLemmas.{ArePlaced, class-at, placed-ascend, those-placed}
 

@@ -8,7 +8,9 @@ use Rattle.crs_shape.specs.declared.class.Class.{Class}
 use Rattle.crs_shape.specs.ShapeFault.{class_in}
 use Rattle.crs_shape.specs.Slots.{is_class}
 use Rattle.crs_value.specs.Reading.{those}
-use Rattle.crs_normal.specs.NormalOwn.{Ascend, Each, IsBelow}
+use Rattle.crs_normal.specs.NormalOwn.{Ascend}
+use Rattle.crs_value.specs.Sound.{Each}
+use Rattle.crs_normal.proofs.SetLemmas.{IsBelow}
 
 pub class-at : (c : Class) (p : ℕ) (j : Item) → class_in c (at_place p j) ≡ class_in c j
 class-at c p (leaf kind place raw) = refl
@@ -53,8 +55,8 @@ those-placed c e s (More (node place keyword square first others close) js) =
     (those c e (at_places (s + 1 + length (item_text j)) js)) (those c e js)
     (those-placed c e (s + 1 + length (item_text j)) js)
 
-placed-below : (p : ℕ) (j : Item) (xs js : List Item) → ArePlaced xs js → Each (IsBelow j) js →
-    Each (IsBelow (at_place p j)) xs
+placed-below : (p : ℕ) (j : Item) (xs js : List Item) → ArePlaced xs js → Each (IsBelow item_text j) js →
+    Each (IsBelow item_text (at_place p j)) xs
 placed-below p j [] [] h b = tt
 placed-below p j [] (k ∷ ks) h b = tt
 placed-below p j (x ∷ xs) [] h b = absurd h
@@ -66,7 +68,7 @@ placed-ascend [] [] h a = tt
 placed-ascend [] (j ∷ js) h a = tt
 placed-ascend (x ∷ xs) [] h a = absurd h
 placed-ascend (x ∷ xs) (j ∷ js) h a =
-    subst (λ y. Each (IsBelow y) xs × Ascend xs) (sym h.0.1) (
+    subst (λ y. Each (IsBelow item_text y) xs × Ascend xs) (sym h.0.1) (
       placed-below h.0.0 j xs js h.1 a.0,
       placed-ascend xs js h.1 a.1,
     )

@@ -12,7 +12,7 @@ use Rattle.crs_value.specs.declared.level.Level.{Level}
 use Rattle.crs_value.specs.declared.unit_kind.UnitKind.{UnitKind}
 use Rattle.crs_value.specs.declared.unit_kind.UnitKind.TheVariants as kinds
 use Rattle.crs_normal.specs.Flat.{flat}
-use Rattle.crs_normal.specs.NormalOwn.{Each}
+use Rattle.crs_value.specs.Sound.{Each}
 use Rattle.crs_normal.specs.SpelledItems.{number_item, opt}
 use Rattle.crs_normal.specs.SpelledUnits.{item_unit, norm_length, norm_unit, norm_units}
 use Rattle.crs_normal.proofs.FormLemmas.{IsGood}

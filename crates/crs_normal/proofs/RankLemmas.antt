@@ -10,7 +10,8 @@ use Rattle.crs_shape.specs.ShapeFault.{class_in}
 use Rattle.crs_shape.specs.Slots.{is_class, tail, vertical_tail}
 use Rattle.crs_value.specs.Checks.{AtClass}
 use Rattle.crs_value.specs.Reading.{is_a, those}
-use Rattle.crs_normal.specs.NormalOwn.{Each, Rise, rank}
+use Rattle.crs_normal.specs.NormalOwn.{Rise, rank}
+use Rattle.crs_value.specs.Sound.{Each}
 use Rattle.crs_normal.proofs.ViewLemmas.{InSlot, onto, same_class}
 
 -- ---- ranks rise behind the first arguments too

@@ -23,12 +23,16 @@ below-both a b p q = below-self a (nat_list_cmp_total.trans a b a p q)
 above : (a b : List ℕ) → slice_cmp nat_cmp a b ≡ Greater → Below b a
 above a b e = nat_list_cmp_total.antisymm b a ∙ ap ordering_reverse e
 
-by-order : {X : Type 0} (P : X → Type 0) (a b c : X) (o : Ordering) → (o ≡ Less → P a) → (o ≡ Equal → P b) →
+pub by-order : {X : Type 0} (P : X → Type 0) (a b c : X) (o : Ordering) → (o ≡ Less → P a) → (o ≡ Equal → P b) →
     (o ≡ Greater → P c) →
     P (match_ordering o a b c)
 by-order P a b c Less f g h = f refl
 by-order P a b c Equal f g h = g refl
 by-order P a b c Greater f g h = h refl
+
+-- the bytes of the one are below those of the other
+abbrev pub IsBelow : {A : Type 0} → (A → List ℕ) → A → A → Type 0
+IsBelow bytes x y = Below (bytes x) (bytes y)
 
 -- ---- members
 

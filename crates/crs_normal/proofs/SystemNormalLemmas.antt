@@ -12,7 +12,8 @@ use Rattle.crs_value.specs.Reads.{ReadsAxis, ReadsHead, ReadsNumber, ReadsSystem
 use Rattle.crs_value.specs.Values.{AxisParts, SystemParts}
 use Rattle.crs_value.specs.Words.{system_word}
 use Rattle.crs_value.specs.declared.level.Level.{Level}
-use Rattle.crs_normal.specs.NormalOwn.{AreOrdered, Each, Has, HasAxes}
+use Rattle.crs_normal.specs.NormalOwn.{AreOrdered, Has, HasAxes}
+use Rattle.crs_value.specs.Sound.{Each}
 use Rattle.crs_normal.specs.SpelledItems.{each, number_item, word_item}
 use Rattle.crs_normal.specs.SpelledSystems.{axes_from, axis_at, is_at, item_axis, item_head, norm_axis, norm_system, system_items, with_axis}
 use Rattle.crs_normal.proofs.AxisNormalLemmas.{IsNumbered, axis-form, type-form}

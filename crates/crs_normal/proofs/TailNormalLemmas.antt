@@ -14,7 +14,8 @@ use Rattle.crs_value.specs.declared.level.Level.{Level}
 use Rattle.crs_value.specs.declared.level.Level.TheVariants as levels
 use Rattle.crs_same.specs.SameUsages.{usages_of, with_bare}
 use Rattle.crs_normal.specs.Flat.{flat}
-use Rattle.crs_normal.specs.NormalOwn.{Each, HasSets, HasTail, Rise}
+use Rattle.crs_normal.specs.NormalOwn.{HasSets, HasTail, Rise}
+use Rattle.crs_value.specs.Sound.{Each}
 use Rattle.crs_normal.specs.SpelledConversions.{item_geoid_model, norm_geoid_model, set_geoid_models}
 use Rattle.crs_normal.specs.SpelledItems.{each, opt, text_node}
 use Rattle.crs_normal.specs.SpelledUnits.{item_ident, set_idents}

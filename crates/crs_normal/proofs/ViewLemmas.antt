@@ -11,7 +11,7 @@ use Rattle.crs_shape.specs.ShapeFault.{class_in}
 use Rattle.crs_shape.specs.Slots.{SlotParts, slots_of, takes, is_class}
 use Rattle.crs_value.specs.Reading.{is_a, those}
 use Rattle.crs_normal.specs.Flat.{flat, flats}
-use Rattle.crs_normal.specs.NormalOwn.{Each}
+use Rattle.crs_value.specs.Sound.{Each}
 
 -- these items, and others behind them
 abbrev pub onto : List Item → Siblings → Siblings

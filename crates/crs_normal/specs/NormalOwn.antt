@@ -1,9 +1,6 @@
 -- What a canonical text asks of a node by itself, beyond what is asked of every accepted text.
 use Rattle.std.specs.Prelude.{◌≡◌, ◌≢◌, ◌≤◌, ◌⊎◌, ◌+◌, ℕ, true, List, [], ◌∷◌, ◌++◌, map, length, codes, decimal}
 use Rattle.std.specs.List.{list_all}
-use Rattle.std.specs.Cmp.Lexicographic.{slice_cmp}
-use Rattle.std.specs.Ordering.{nat_cmp}
-use Rattle.std.specs.declared.cmp.Ordering.TheVariants.{Less}
 use Rattle.crs_decimal.specs.Spelling.{is_digit}
 use Rattle.crs_text.specs.Items.{Item, Siblings, End, More, arguments, kind_of, raw_of, skip}
 use Rattle.crs_text.specs.Written.{item_text}
@@ -14,10 +11,8 @@ use Rattle.crs_shape.specs.ShapeFault.{class_in}
 use Rattle.crs_value.specs.Checks.{AtClass}
 use Rattle.crs_value.specs.Reading.{those}
 use Rattle.crs_value.specs.Reads.{single_of}
-
-abbrev pub Each : {A : Type 0} → (A → Type 0) → List A → Type 0
-Each P [] = Unit {0}
-Each P (x ∷ xs) = P x × Each P xs
+use Rattle.crs_value.specs.Sound.{Each}
+use Rattle.crs_normal.specs.Ascending.{Ascends}
 
 -- ---- what stands in a node, and what doesn't
 
@@ -38,14 +33,9 @@ words_in c item = map raw_of (those c class.Word (arguments item))
 
 -- ---- sets: identifiers, usages, members of an ensemble, parameters, geoid models
 
--- the one is written before the other, by their bytes
-abbrev pub IsBelow : Item → Item → Type 0
-IsBelow item other = slice_cmp nat_cmp (item_text item) (item_text other) ≡ Less
-
--- each is below all behind it
+-- each is written before all behind it, by their bytes
 abbrev pub Ascend : List Item → Type 0
-Ascend [] = Unit {0}
-Ascend (item ∷ items) = Each (IsBelow item) items × Ascend items
+Ascend items = Ascends item_text items
 
 -- the nodes that are members of sets
 abbrev pub set_classes : List Class
