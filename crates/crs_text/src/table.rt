@@ -88,11 +88,12 @@ impl Model for Table {
 }
 
 impl Table {
-    pub(crate) fn new(alloc: Global) -> Self
-        ensures { result ≡ flat start }
+    /// A table with no row, and room for so many.
+    pub(crate) fn with_room(alloc: Global, rows: usize) -> Result<Self, AllocError>
+        ensures { IfOk result (λ table. table ≡ flat start) }
     {
-        Table {
-            rows: Vec::new(alloc),
+        Ok(Table {
+            rows: Vec::with_capacity(alloc, rows)?,
             opens: [Open {
                 row: 0,
                 square: false,
@@ -100,7 +101,7 @@ impl Table {
             }; 12],
             depth: 0,
             position: Position::BeforeItem,
-        }
+        })
     }
 
     fn may_begin(&self, kind: ItemKind) -> bool
