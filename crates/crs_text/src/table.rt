@@ -39,22 +39,22 @@ pub(crate) enum Opened {
 /// included; and how many delimiters are open around it.
 #[derive(Clone, Copy)]
 pub(crate) struct Row {
-    pub(crate) kind: ItemKind,
-    pub(crate) square: bool,
-    pub(crate) depth: u8,
     pub(crate) place: usize,
     pub(crate) length: usize,
     pub(crate) close: usize,
     pub(crate) count: usize,
     pub(crate) size: usize,
+    pub(crate) kind: ItemKind,
+    pub(crate) square: bool,
+    pub(crate) depth: u8,
 }
 
 /// An open node: its row, its delimiter, and how many of its arguments have begun.
 #[derive(Clone, Copy)]
 pub(crate) struct Open {
     row: usize,
-    square: bool,
     count: usize,
+    square: bool,
 }
 
 /// The items that have begun, and the nodes that are open.
