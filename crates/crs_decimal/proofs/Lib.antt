@@ -7,6 +7,7 @@ pub mod NumberLemmas
 pub mod PlainLemmas
 pub mod PowerLemmas
 pub mod RunLemmas
+pub mod ShortLemmas
 pub mod SplitLemmas
 pub mod ValueLemmas
 pub mod WholeLemmas

@@ -62,7 +62,8 @@ pub(crate) fn read(bytes: &[u8]) -> Option<Spelled>
 }
 
 // whether a minus stands in front, and what follows the sign
-fn split_sign(bytes: &[u8]) -> (bool, &[u8])
+#[inline(always)]
+pub(crate) fn split_sign(bytes: &[u8]) -> (bool, &[u8])
     ensures sign { result.0 ≡ is_minus (sign_of bytes.now) }
     ensures rest { result.1.now ≡ behind_sign bytes.now }
 {
@@ -171,7 +172,8 @@ fn front_of(bytes: &[u8], to: usize) -> &[u8]
     &bytes[..to]
 }
 
-fn rest_of(bytes: &[u8], from: usize) -> &[u8]
+#[inline(always)]
+pub(crate) fn rest_of(bytes: &[u8], from: usize) -> &[u8]
     requires { from ≤ length bytes.now }
     ensures { result.now ≡ drop from bytes.now }
 {

@@ -10,9 +10,9 @@ use std::marker::Model;
 /// zero, and a power from -40 to 40; zero has neither sign nor power. Profile.
 #[derive(Clone, Copy, PartialEq, Eq, Debug)]
 pub struct Decimal {
-    negative: bool,
     digits: u128,
     power: i32,
+    negative: bool,
 }
 
 impl Model for Decimal {

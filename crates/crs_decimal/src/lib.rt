@@ -7,6 +7,7 @@ mod fault;
 pub mod laws;
 mod mantissa;
 mod reading;
+mod short;
 mod writing;
 
 pub use decimal::Decimal;

@@ -10,6 +10,7 @@ ghost use Rattle.crs_decimal.specs.Value.{IsNormal, exact};
 use crate::cutting::{Spelled, read};
 use crate::decimal::Decimal;
 use crate::fault::NumberFault;
+use crate::short::read_short;
 
 impl Decimal {
     /// Reads a number, `[sign] (digits [. [digits]] | . digits) [E [sign] digits]`, with `e` for
@@ -19,18 +20,32 @@ impl Decimal {
     /// mantissa or 3 exponent digits are written, or the number isn't zero and has more than 38
     /// digits from the first to the last that isn't zero, or those times a power of ten that isn't
     /// from -40 to 40.
+    #[inline(always)]
     pub fn parse(bytes: &[u8]) -> Result<Decimal, NumberFault>
         ensures { MatchResult result
             (λ d. IsNormal d × Denotes bytes.now (exact d))
             (IsFault bytes.now) }
     {
-        match read(bytes) {
-            None => Err(NumberFault::Malformed),
-            Some(spelled) => match spelled.decimal() {
-                None => Err(NumberFault::Range),
-                Some(number) => Ok(number),
-            },
+        match read_short(bytes) {
+            Some(number) => Ok(number.decimal()),
+            None => parse_any(bytes),
         }
+    }
+}
+
+// the number that the bytes spell, short or not
+#[inline(never)]
+fn parse_any(bytes: &[u8]) -> Result<Decimal, NumberFault>
+    ensures { MatchResult result
+        (λ d. IsNormal d × Denotes bytes.now (exact d))
+        (IsFault bytes.now) }
+{
+    match read(bytes) {
+        None => Err(NumberFault::Malformed),
+        Some(spelled) => match spelled.decimal() {
+            None => Err(NumberFault::Range),
+            Some(number) => Ok(number),
+        },
     }
 }
 

@@ -19,7 +19,7 @@ use Rattle.crs_text.specs.declared.refusal.Reason.TheVariants.{BadNumber, Number
 use Rattle.crs_text.specs.declared.lexing.Lexed.TheVariants.{Number, Text, Word}
 use Rattle.crs_text.proofs.Utf8Lemmas.{IsUtf8-before_quote, IsUtf8-from_front_at_quote, IsLongestUtf8-longer}
 
-with_quote : (after : List ℕ) (n : ℕ) → IsShutAt after n → take (n + 1) after ≡ take n after ++ 34 ∷ []
+pub with_quote : (after : List ℕ) (n : ℕ) → IsShutAt after n → take (n + 1) after ≡ take n after ++ 34 ∷ []
 with_quote after n s =
     let e : drop n after ≡ 34 ∷ drop (n + 1) after =
     ap (drop n) s.0.parts ∙ drop_at (take n after) (34 ∷ drop (n + 1) after) n (omega (arith, length-take n after, s.1)) in

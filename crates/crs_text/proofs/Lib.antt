@@ -9,6 +9,7 @@ pub mod LeftLemmas
 pub mod LexedLemmas
 pub mod OneItem
 pub mod QuotedLemmas
+pub mod RunLemmas
 pub mod ScanLemmas
 pub mod SettledLemmas
 pub mod ShowsLemmas

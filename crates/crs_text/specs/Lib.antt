@@ -5,6 +5,7 @@ pub mod Lexing
 pub mod Quoted
 pub mod Refusal
 pub mod Rows
+pub mod Runs
 pub mod Scan
 pub mod Settled
 pub mod State

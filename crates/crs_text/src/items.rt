@@ -169,6 +169,7 @@ impl<'a> Items<'a> {
     }
 
     /// The value of a number; `None` for other items.
+    #[inline(never)]
     pub fn number(&self, id: ItemId) -> Option<Decimal>
         requires { HasId self.now id }
         ensures { IsNumberOf (first_of (here self.now id)) result }

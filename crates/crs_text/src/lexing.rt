@@ -1,12 +1,14 @@
 //! The token in front of what is left of a text, or its flaw. Runs are found as a whole, not byte by byte.
-ghost use Rattle.std.specs.Prelude.{◌≡◌, ◌+◌, ◌≤◌, ◌<◌, length, take, drop, MatchOption, MatchBool, [], ◌∷◌};
+ghost use Rattle.std.specs.Prelude.{◌≡◌, ◌+◌, ◌≤◌, ◌<◌, length, take, drop, MatchOption, MatchBool, IsTrue, [], ◌∷◌};
 ghost use Rattle.std.specs.List.{prefix_len};
 ghost use Rattle.crs_text.specs.Quoted.{BeginsWith, IsInside, IsShutAt, StopsAt, is_plain, is_quote};
 ghost use Rattle.crs_text.specs.Tokens as tokens;
 ghost use Rattle.crs_decimal.specs.Spelling as spelling;
 ghost use Rattle.crs_text.specs.Lexing.{IsLexed};
+ghost use Rattle.crs_text.specs.Runs.{IsClosing};
 
 use crate::refusal::Reason;
+use crate::runs::{plain_ascii_length, run_length, word_length};
 use crate::utf8::{Utf8Form, judge};
 use bstr::ByteSlice;
 use crs_decimal::{Decimal, NumberFault};
@@ -47,43 +49,6 @@ fn flaw(reason: Reason, skip: usize) -> Lexed
     Lexed::Flaw { reason, skip }
 }
 
-fn is_white(byte: u8) -> bool
-    ensures { result ≡ tokens.is_white byte }
-{
-    byte == b' ' || byte == b'\t' || byte == b'\n' || byte == b'\r'
-}
-
-fn is_word_byte(byte: u8) -> bool
-    ensures { result ≡ tokens.is_word_byte byte }
-{
-    matches!(byte, b'A'..=b'Z' | b'a'..=b'z' | b'0'..=b'9' | b'_')
-}
-
-fn is_run_byte(byte: u8) -> bool
-    ensures { result ≡ spelling.is_run_byte byte }
-{
-    is_word_byte(byte) || byte == b'.' || byte == b'+' || byte == b'-'
-}
-
-/// How many bytes of white space come first.
-pub(crate) fn white_length(left: &[u8]) -> usize
-    ensures { result ≡ prefix_len tokens.is_white left.now }
-{
-    left.iter().take_while(|b| is_white(**b)).count()
-}
-
-fn word_length(left: &[u8]) -> usize
-    ensures { result ≡ prefix_len tokens.is_word_byte left.now }
-{
-    left.iter().take_while(|b| is_word_byte(**b)).count()
-}
-
-fn run_length(left: &[u8]) -> usize
-    ensures { result ≡ prefix_len spelling.is_run_byte left.now }
-{
-    left.iter().take_while(|b| is_run_byte(**b)).count()
-}
-
 // How many bytes come before the first quote, or all of them.
 fn plain_length(bytes: &[u8]) -> usize
     ensures value { result ≡ prefix_len is_plain bytes.now }
@@ -119,8 +84,35 @@ fn closing_quote(after: &[u8]) -> Option<usize>
     None
 }
 
-// The quoted text that begins what is left.
+// Whether a quote comes first, and no other behind it.
+#[inline(always)]
+fn is_closing(bytes: &[u8]) -> bool
+    ensures { IsTrue result → IsClosing bytes.now }
+{
+    if !begins_with_quote(bytes) {
+        return false;
+    }
+    !begins_with_quote(rest_of(bytes, 1))
+}
+
+// The quoted text that begins what is left. Most are ASCII with no quote inside.
+#[inline(always)]
 fn quoted(left: &[u8]) -> Lexed
+    requires { left.now ≡ 34 ∷ drop 1 left.now }
+    ensures { IsLexed left.now result }
+{
+    let after = rest_of(left, 1);
+    let length = plain_ascii_length(after);
+    if is_closing(rest_of(after, length)) {
+        Lexed::Text { length }
+    } else {
+        any_quoted(left)
+    }
+}
+
+// The quoted text that begins what is left, whatever is in it.
+#[inline(never)]
+fn any_quoted(left: &[u8]) -> Lexed
     requires { left.now ≡ 34 ∷ drop 1 left.now }
     ensures { IsLexed left.now result }
 {

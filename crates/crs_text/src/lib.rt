@@ -8,6 +8,7 @@ pub mod laws;
 mod lexing;
 mod reading;
 mod refusal;
+mod runs;
 mod scanning;
 mod table;
 mod utf8;

@@ -1,5 +1,7 @@
 //! From a text to its items.
-ghost use Rattle.std.specs.Prelude.{MatchResult};
+ghost use Rattle.std.specs.Prelude.{◌≡◌, MatchResult};
+ghost use Rattle.crs_text.specs.Rows.{flat};
+ghost use Rattle.crs_text.specs.State.{start};
 ghost use Rattle.crs_text.specs.TextFault.{IsTextFault, SpellsNode};
 
 use crate::fault::Fault;
@@ -7,6 +9,9 @@ use crate::items::Items;
 use crate::scanning::scan;
 use crate::table::Table;
 use std::alloc::Global;
+
+/// Most texts have fewer items than one in so many bytes; for more the rows grow.
+const BYTES_A_ROW: usize = 8;
 
 /// The items of a text, which borrow it.
 ///
@@ -16,7 +21,18 @@ use std::alloc::Global;
 pub fn read_items<'a>(alloc: Global, text: &'a [u8]) -> Result<Items<'a>, Fault>
     ensures { MatchResult result (SpellsNode text.now) (IsTextFault text.now) }
 {
-    let mut table = Table::new(alloc);
+    match Table::with_room(alloc, text.len() / BYTES_A_ROW) {
+        Ok(table) => items_in(table, text),
+        Err(refused) => Err(Fault::Memory(refused)),
+    }
+}
+
+// The items of a text, by a table with no row.
+#[inline(always)]
+fn items_in<'a>(mut table: Table, text: &'a [u8]) -> Result<Items<'a>, Fault>
+    requires { table ≡ flat start }
+    ensures { MatchResult result (SpellsNode text.now) (IsTextFault text.now) }
+{
     match scan(&mut table, text) {
         Ok(()) => Ok(Items::from_table(text, table)),
         Err(fault) => Err(fault),

@@ -8,8 +8,8 @@ use std::marker::Model;
 /// Profile.
 #[derive(Clone, Copy, Debug, PartialEq, Eq)]
 pub struct Refusal {
-    number: u8,
     place: usize,
+    number: u8,
 }
 
 impl Model for Refusal {

@@ -10,8 +10,9 @@ ghost use Rattle.crs_text.specs.State.{start};
 
 use crate::fault::Fault;
 use crate::items::ItemKind;
-use crate::lexing::{Lexed, rest_of, token_at, white_length};
+use crate::lexing::{Lexed, rest_of, token_at};
 use crate::refusal::Reason;
+use crate::runs::white_length;
 use crate::table::{Opened, Table};
 
 fn unexpected(at: usize) -> Fault

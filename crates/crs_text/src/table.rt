@@ -39,22 +39,22 @@ pub(crate) enum Opened {
 /// included; and how many delimiters are open around it.
 #[derive(Clone, Copy)]
 pub(crate) struct Row {
-    pub(crate) kind: ItemKind,
-    pub(crate) square: bool,
-    pub(crate) depth: u8,
     pub(crate) place: usize,
     pub(crate) length: usize,
     pub(crate) close: usize,
     pub(crate) count: usize,
     pub(crate) size: usize,
+    pub(crate) kind: ItemKind,
+    pub(crate) square: bool,
+    pub(crate) depth: u8,
 }
 
 /// An open node: its row, its delimiter, and how many of its arguments have begun.
 #[derive(Clone, Copy)]
 pub(crate) struct Open {
     row: usize,
-    square: bool,
     count: usize,
+    square: bool,
 }
 
 /// The items that have begun, and the nodes that are open.
@@ -88,11 +88,12 @@ impl Model for Table {
 }
 
 impl Table {
-    pub(crate) fn new(alloc: Global) -> Self
-        ensures { result ≡ flat start }
+    /// A table with no row, and room for so many.
+    pub(crate) fn with_room(alloc: Global, rows: usize) -> Result<Self, AllocError>
+        ensures { IfOk result (λ table. table ≡ flat start) }
     {
-        Table {
-            rows: Vec::new(alloc),
+        Ok(Table {
+            rows: Vec::with_capacity(alloc, rows)?,
             opens: [Open {
                 row: 0,
                 square: false,
@@ -100,7 +101,7 @@ impl Table {
             }; 12],
             depth: 0,
             position: Position::BeforeItem,
-        }
+        })
     }
 
     fn may_begin(&self, kind: ItemKind) -> bool

@@ -1,26 +1,16 @@
-use Rattle.std.proofs.Common.{sym, subst}
-use Rattle.crs_text.specs.Quoted.{IsInside}
-use Rattle.crs_text.specs.declared.utf8.Utf8Form.TheVariants as Utf8Form
-use Rattle.crs_text.specs.Utf8Form.{HasUtf8Form}
-use Rattle.crs_text.specs.Lexing.{IsLexed}
-use Rattle.crs_text.proofs.LexedLemmas.{flawed_open, unclosed}
-use Rattle.crs_text.proofs.Utf8Lemmas.{IsUtf8Front-from}
+use Rattle.std.proofs.Common.{drop, ap, sym, subst, ◌∙◌}
+use Rattle.std.specs.List.{prefix_len}
+use Rattle.std.specs.Prelude.{IsUtf8}
+use Rattle.crs_text.specs.Runs.{is_plain_ascii, IsClosing}
+use Rattle.crs_text.proofs.LexedLemmas.{lexed_text, with_quote}
+use Rattle.crs_text.proofs.RunLemmas.{ascii_shut, ascii_utf8}
 use Rattle.crs_text.proofs.lexing.quoted.Goals as goal
 
-pub returns-in-WellFormed : goal.returns-in-WellFormed
-returns-in-WellFormed c =
-    let i = subst IsInside c.rest_of-after.ensures c.in-None.ensures in
-    let f = subst (λ z. HasUtf8Form z Utf8Form.WellFormed) c.rest_of-after.ensures c.in-WellFormed.ensures in
-    subst (IsLexed c.args.left.now) (sym c.flaw.ensures) (unclosed c.args.left.now c.requires i (IsUtf8Front-from _ f))
-
-pub returns-in-Cut : goal.returns-in-Cut
-returns-in-Cut c =
-    let i = subst IsInside c.rest_of-after.ensures c.in-None.ensures in
-    let f = subst (λ z. HasUtf8Form z Utf8Form.Cut) c.rest_of-after.ensures c.in-Cut.ensures in
-    subst (IsLexed c.args.left.now) (sym c.flaw-in-Cut.ensures) (unclosed c.args.left.now c.requires i f.1)
-
-pub returns-in-IllFormed : goal.returns-in-IllFormed
-returns-in-IllFormed c =
-    let i = subst IsInside c.rest_of-after.ensures c.in-None.ensures in
-    let f = subst (λ z. HasUtf8Form z (Utf8Form.IllFormed c.in-IllFormed.valid)) c.rest_of-after.ensures c.in-IllFormed.ensures in
-    subst (IsLexed c.args.left.now) (sym c.flaw-in-IllFormed.ensures) (flawed_open c.args.left.now c.requires c.in-IllFormed.valid i f.0 f.1)
+pub returns-then-is_closing : goal.returns-then-is_closing
+returns-then-is_closing c =
+    let left = c.args.left.now in
+    let n = c.plain_ascii_length-length.result in
+    let counted = c.plain_ascii_length-length.ensures.value ∙ ap (prefix_len is_plain_ascii) c.rest_of-after.ensures in
+    let closing = subst IsClosing (c.rest_of.ensures ∙ ap (drop n) c.rest_of-after.ensures) (c.is_closing.ensures c.if-is_closing.true) in
+    let shut = ascii_shut (drop 1 left) n counted closing in
+    lexed_text left c.requires n shut (subst IsUtf8 (sym (with_quote (drop 1 left) n shut)) (ascii_utf8 (drop 1 left) n counted closing))

@@ -1,0 +1,111 @@
+-- Short numbers: their parts, and the number that they mean.
+use Rattle.std.proofs.Common.{◌≡◌, ◌≢◌, ℕ, ◌+◌, ◌-◌, ◌*◌, ◌/◌, ◌%◌, ◌^◌, ◌<◌, ◌≤◌, false, List, [], ◌∷◌, ◌++◌, length, Option, None, Some, fold, refl, sym, ap, subst, ◌∙◌, arith, inl, inr}
+use Rattle.std.specs.Prelude.{IfSome}
+use Rattle.std.proofs.lemmas.Bool.{cases_eq, cases_lt}
+use Rattle.std.proofs.lemmas.List.{length-append}
+use Rattle.std.proofs.lemmas.List.Sums.{fold-append}
+use Rattle.std.proofs.Math.Nat.{mul_assoc, mul_comm}
+use Rattle.crs_decimal.specs.declared.short.Short.{Short}
+use Rattle.crs_decimal.specs.declared.mantissa.Mantissa.{Mantissa}
+use Rattle.crs_decimal.specs.Bounds.{digits_value, is_minus, IsBounded, number_of, power_up, power_down, exponent_digits}
+use Rattle.crs_decimal.specs.Cut.{IsPowerBetween}
+use Rattle.crs_decimal.specs.Number.{SameNumber}
+use Rattle.crs_decimal.specs.Short.{IsShort, IsShortCut}
+use Rattle.crs_decimal.specs.Spelling.{Parts, fraction_digits, mantissa}
+use Rattle.crs_decimal.specs.Split.{front, behind, sign_of, behind_sign, fraction_of, behind_fraction, exponent_of, behind_exponent, behind_whole, behind_mantissa, parts_of, HasExponentDigits}
+use Rattle.crs_decimal.specs.Value.{Value, IsNormal, exact}
+use Rattle.crs_decimal.proofs.BoundLemmas.{near_bounded, near_same}
+use Rattle.crs_decimal.proofs.PowerLemmas.{power_grows, power_more, scaled_grows, scaled_more}
+
+-- ---- parts
+
+module _ (bytes : List ℕ) (s : Short) (negative : s.negative ≡ is_minus (sign_of bytes)) (small : s.value < 10 ^ 19) where
+  -- digits, a period, digits
+  pub short_fraction : (rest : List ℕ) → behind_whole bytes ≡ 46 ∷ rest → behind rest ≡ [] → s.value ≡ digits_value (front (behind_sign bytes) ++ front rest) → 0 < length (front (behind_sign bytes)) + length (front rest) → length (front (behind_sign bytes)) + length (front rest) ≤ 19
+      → s.fraction ≡ length (front rest) → IsShort bytes s
+  short_fraction rest period end value some few count =
+      let w = front (behind_sign bytes) in
+      let behind_is : behind_mantissa bytes ≡ [] = ap behind_fraction period ∙ end in
+      let f : fraction_of (behind_whole bytes) ≡ Some (front rest) = ap fraction_of period in
+      let e : exponent_of (behind_mantissa bytes) ≡ None = ap exponent_of behind_is in
+      let m : mantissa (parts_of bytes) ≡ w ++ front rest = ap (λ z. w ++ fraction_digits z) f in
+      let l : length (mantissa (parts_of bytes)) ≡ length w + length (front rest) = ap length m ∙ length-append w (front rest) in (
+        record {
+          all = ap behind_exponent behind_is;
+          some = omega (arith, l, some);
+          exponent = subst HasExponentDigits (sym e) tt;
+        },
+        record {
+          negative = negative;
+          value = value ∙ ap digits_value (sym m);
+          count = omega (arith, l, few);
+          small = small;
+          fraction = count ∙ ap (λ z. length (fraction_digits z)) (sym f);
+          few = omega (arith, count, few);
+          plain = e;
+        },
+      )
+
+pub value_joined : (xs ys : List ℕ) → fold (λ n d. n * 10 + (d - 48)) (digits_value xs) ys ≡ digits_value (xs ++ ys)
+value_joined xs ys = sym (fold-append (λ n d. n * 10 + (d - 48)) 0 xs ys)
+
+pub small_below : (value count : ℕ) → value < 10 ^ count → count ≤ 19 → value < 10 ^ 19
+small_below value count h few = omega (arith, h, power_grows count 19 few)
+
+-- one more digit
+pub small_more : (value count d : ℕ) → value < 10 ^ count → d < 10 → value * 10 + d < 10 ^ (count + 1)
+small_more value count d small digit = omega (arith, small, power_more count)
+
+pub small_room : (value count : ℕ) → value < 10 ^ count → count ≤ 18 → value < 10 ^ 18
+small_room value count h few = omega (arith, h, power_grows count 18 few)
+
+-- ---- the number
+
+-- a closing zero
+pub zero_off : (digits zeros : ℕ) → digits % 10 ≡ 0 → digits * 10 ^ zeros ≡ digits / 10 * 10 ^ (zeros + 1)
+zero_off digits zeros e =
+    let q = digits / 10 in
+    let whole : digits ≡ q * 10 = omega arith in
+    ap (λ x. x * 10 ^ zeros) whole ∙ mul_assoc q 10 (10 ^ zeros) ∙ ap (λ x. q * x) (mul_comm 10 (10 ^ zeros)) ∙ sym (mul_assoc q (10 ^ zeros) 10)
+    ∙ scaled_more q zeros (q * 10 ^ zeros) refl
+
+pub zeros_few : (value digits zeros : ℕ) → value < 10 ^ 19 → value ≡ digits * 10 ^ zeros → digits % 10 ≢ 0 → zeros ≤ 19
+zeros_few value digits zeros small e last =
+    elim (cases_eq digits 0) [
+      | inl z ↦ absurd (last (ap (λ x. x % 10) z))
+      | inr some ↦ elim (cases_lt 19 zeros) [
+        | inl many ↦ let grows : digits * 10 ^ 19 ≤ digits * 10 ^ zeros = scaled_grows digits 19 zeros (omega arith) in absurd (omega (arith, grows, small, e))
+        | inr few ↦ few
+      ]
+    ]
+
+module _ (p : Parts) (s : Short) (cut : IsShortCut p s) where
+  up_none : power_up p.exponent ≡ 0
+  up_none = ap power_up cut.plain
+
+  down_none : power_down p.exponent ≡ 0
+  down_none = ap power_down cut.plain
+
+  few_digits : length (mantissa p) ≤ 100
+  few_digits = omega (arith, cut.count)
+
+  no_exponent : length (exponent_digits p.exponent) ≤ 3
+  no_exponent = omega (arith, ap (λ e. length (exponent_digits e)) cut.plain)
+
+  pub short_number : (v : Value) (digits zeros : ℕ) → IsNormal v → s.value ≡ digits * 10 ^ zeros → digits % 10 ≢ 0 → digits < 10 ^ 38 → v.digits ≡ digits → v.negative ≡ s.negative
+      → IsPowerBetween zeros s.fraction v.power → IsNormal v × IsBounded p × SameNumber (number_of p) (exact v)
+  short_number v digits zeros normal e last limit same sign between =
+      let m : Mantissa = record { digits = digits; zeros = zeros; is_long = false } in
+      let n : digits_value (mantissa p) ≡ digits * 10 ^ zeros = sym cut.value ∙ e in
+      let up : power_up p.exponent + zeros ≡ zeros = omega (arith, up_none) in
+      let down : power_down p.exponent + length (fraction_digits p.fraction) ≡ s.fraction = omega (arith, down_none, cut.fraction) in
+      let near : IsPowerBetween (power_up p.exponent + zeros) (power_down p.exponent + length (fraction_digits p.fraction)) v.power = rw (up, down) between in
+      (normal, near_bounded p m v.power (n, last) limit few_digits no_exponent near, near_same p m v n same (sign ∙ cut.negative) near)
+
+pub some_short : (P Q : Short → Type 0) (r : Option Short) → ((s : Short) → P s → Q s) → IfSome r P → IfSome r Q
+some_short P Q None f h = h
+some_short P Q (Some s) f h = f s h
+
+pub none_left : (xs : List ℕ) → length xs ≡ 0 → xs ≡ []
+none_left [] e = refl
+none_left (x ∷ xs) e = absurd (omega arith)

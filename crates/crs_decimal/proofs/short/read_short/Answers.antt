@@ -1,0 +1,36 @@
+use Rattle.std.proofs.Common.{◌≡◌, ℕ, ◌+◌, ◌-◌, ◌*◌, ◌^◌, ◌<◌, ◌≤◌, [], ◌∷◌, ◌++◌, length, drop, fold, sym, ap, subst, ◌∙◌, arith, rules}
+use Rattle.crs_decimal.specs.Bounds.{digits_value}
+use Rattle.crs_decimal.specs.Split.{front, behind, behind_sign}
+use Rattle.crs_decimal.specs.Short.{IsShort}
+use Rattle.crs_decimal.proofs.ShortLemmas.{short_fraction, value_joined, small_below, some_short, none_left}
+use Rattle.crs_decimal.proofs.short.read_short.Goals as goal
+
+pub returns-else-not-is_empty : goal.returns-else-not-is_empty
+returns-else-not-is_empty c =
+    let bytes = c.args.bytes.now in
+    let sign = c.split_sign-negative.ensures in
+    let whole = c.with_digits.ensures in
+    let all = c.with_digits-in-46.ensures in
+    let left = c.with_digits.result.1.now in
+    let rest = drop 1 left in
+    let step : ℕ → ℕ → ℕ = λ n d. n * 10 + (d - 48) in
+    let period : left ≡ 46 ∷ rest = search rules in
+    let empty : c.with_digits-in-46.result.1.now ≡ [] = none_left _ (search rules) in
+    let room : length c.split_sign-negative.result.1.now ≤ 19 = search rules in
+    let fraction = c.rest_of-fraction.ensures in
+    let begins : front c.split_sign-negative.result.1.now ≡ front (behind_sign bytes) = ap front sign.rest in
+    let lengths : length (front c.split_sign-negative.result.1.now) ≡ length (front (behind_sign bytes)) = ap length begins in
+    let more : length (front c.rest_of-fraction.result.now) ≡ length (front rest) = ap (λ z. length (front z)) fraction in
+    let value : c.with_digits-in-46.result.0.value ≡ digits_value (front (behind_sign bytes) ++ front rest) =
+    all.value ∙ ap (λ z. fold step c.with_digits.result.0.value (front z)) fraction
+    ∙ ap (λ z. fold step z (front rest)) (whole.value ∙ ap digits_value begins) ∙ value_joined (front (behind_sign bytes)) (front rest) in
+    let few : c.with_digits-in-46.result.0.count ≤ 19 = omega (arith, all.len, whole.len, room, ap length fraction, ap length period) in
+    let small : c.with_digits-in-46.result.0.value < 10 ^ 19 = small_below _ _ all.small few in
+    some_short _ (IsShort bytes) c.some_digits-in-46.result (λ s h.
+    short_fraction bytes s (h.2 ∙ sign.sign) (subst (λ v. v < 10 ^ 19) (sym h.0) small) rest
+    (ap behind (sym sign.rest) ∙ sym whole.rest ∙ period)
+    (ap behind (sym fraction) ∙ sym all.rest ∙ empty)
+    (h.0 ∙ value)
+    (omega (arith, h.3, all.count, whole.count, lengths, more))
+    (omega (arith, few, all.count, whole.count, lengths, more))
+    (omega (arith, h.1, all.len, all.count, ap length empty, more, ap length fraction))) c.some_digits-in-46.ensures

@@ -1,0 +1,105 @@
+-- From sixteen lanes to the length of a run, and what quoted ASCII is.
+use Rattle.std.proofs.Common.{◌≡◌, ℕ, ◌+◌, ◌%◌, ◌^◌, ◌<◌, ◌≤◌, Bool, true, false, not, cond, eqb, List, [], ◌∷◌, ◌++◌, map, length, take, drop, replicate, Fits, w8, refl, sym, ap, ap₂, subst, ◌∙◌, arith, IsUtf8}
+use Rattle.std.proofs.lemmas.Bool.{agree_below, agree_below_at, eq-eqb, ne_eqb, and_parts, ltb-true}
+use Rattle.std.proofs.lemmas.Simd.{map-map, mask_l-mod, length-chunk, chunk-drop, first_set_mask_l}
+use Rattle.std.proofs.lemmas.List.{length-map, length-drop, drop-drop}
+use Rattle.std.proofs.lemmas.List.Folds.{prefix_len-append}
+use Rattle.std.proofs.lemmas.List.Sums.{prefix_len-le-length}
+use Rattle.std.proofs.lemmas.Str.{IsUtf8-from_ascii}
+use Rattle.std.proofs.lemmas.Str.Ascii.{IsAscii-nil, IsAscii-cons}
+use Rattle.std.proofs.Math.Numerals.{one-add}
+use Rattle.std.specs.Str.{IsAscii}
+use Rattle.std.specs.Char.{is_ascii}
+use Rattle.std.specs.List.{prefix_len}
+use lib.Lanes.{chunk, zip2, mask_l, top, Each1}
+use Rattle.crs_text.specs.Quoted.{IsShutAt, StopsAt, is_plain, is_quote}
+use Rattle.crs_text.specs.Runs.{first_set, is_plain_ascii, IsClosing}
+use Rattle.crs_text.proofs.QuotedLemmas.{shut_at, within_at}
+use Rattle.crs_text.proofs.Utf8Lemmas.{IsUtf8-at_quote}
+
+-- ---- lanes
+
+zip2-map : (h : ℕ → ℕ → ℕ) (f g : ℕ → ℕ) (xs : List ℕ) → zip2 h (map f xs) (map g xs) ≡ map (λ x. h (f x) (g x)) xs
+zip2-map h f g [] = refl
+zip2-map h f g (x ∷ xs) = ap (λ r. h (f x) (g x) ∷ r) (zip2-map h f g xs)
+
+-- an operation on two vectors that were computed lane by lane from v
+pub joined : (h : ℕ → ℕ → ℕ) (f g : ℕ → ℕ) (v : List ℕ) {a b : List ℕ} → a ≡ map f v → b ≡ map g v → zip2 h a b ≡ map (λ x. h (f x) (g x)) v
+joined h f g v p q = ap₂ (zip2 h) p q ∙ zip2-map h f g v
+
+pub splat_is : (v : List ℕ) (n y : ℕ) → length v ≡ n → replicate n y ≡ map (λ _. y) v
+splat_is [] n y e = ap (λ k. replicate k y) (sym e)
+splat_is (x ∷ xs) n y e = ap (λ k. replicate k y) (sym e) ∙ ap (λ r. y ∷ r) (splat_is xs (length xs) y refl)
+
+pub itself : (v : List ℕ) → v ≡ map (λ x. x) v
+itself [] = refl
+itself (x ∷ xs) = ap (λ r. x ∷ r) (itself xs)
+
+same_run : (p q : ℕ → Bool) (v : List ℕ) → Each1 (Fits w8) v → agree_below p q 256 ≡ true → prefix_len p v ≡ prefix_len q v
+same_run p q [] fits all = refl
+same_run p q (x ∷ xs) fits all =
+    ap₂ (λ b n. cond b (1 + n) 0) (agree_below_at p q 256 x all fits.0.fits) (same_run p q xs fits.1 all)
+
+-- a lane is set just where q fails
+pub counted : (q : ℕ → Bool) (f : ℕ → ℕ) (v : List ℕ) (r : ℕ) {z : List ℕ} → length v ≡ 16 → Each1 (Fits w8) v → z ≡ map f v
+    → r ≡ first_set (mask_l (map (top 7) z) % 2 ^ 64) → agree_below (λ x. not (top 7 (f x))) q 256 ≡ true → r ≡ prefix_len q v
+counted q f v r long fits lanes found all =
+    let set : ℕ → Bool = λ x. top 7 (f x) in
+    let mask = ap (λ l. mask_l l % 2 ^ 64) (ap (map (top 7)) lanes ∙ map-map (top 7) f v) ∙ mask_l-mod (map set v) 64 (omega (arith, length-map v set, long)) in
+    found ∙ ap first_set mask ∙ first_set_mask_l set v 16 long (omega arith) ∙ same_run (λ x. not (set x)) q v fits all
+
+-- ---- blocks
+
+pub run_bound : (q : ℕ → Bool) (d : List ℕ) (at : ℕ) → at ≤ length d → at + prefix_len q (drop at d) ≤ length d
+run_bound q d at h = omega (arith, prefix_len-le-length q (drop at d), length-drop at d)
+
+split : (q : ℕ → Bool) (d : List ℕ) (at n : ℕ)
+    → prefix_len q (drop at d) ≡ cond (eqb (prefix_len q (chunk at n d)) (length (chunk at n d))) (length (chunk at n d) + prefix_len q (drop (at + n) d)) (prefix_len q (chunk at n d))
+split q d at n = ap (prefix_len q) (chunk-drop at n d) ∙ prefix_len-append q (chunk at n d) (drop (at + n) d)
+
+pub run_through : (q : ℕ → Bool) (d : List ℕ) (at n : ℕ) → at + n ≤ length d → n ≤ prefix_len q (chunk at n d) → prefix_len q (drop at d) ≡ n + prefix_len q (drop (at + n) d)
+run_through q d at n room whole =
+    let c = chunk at n d in
+    let long = length-chunk at n d room in
+    let all : prefix_len q c ≡ length c = omega (arith, prefix_len-le-length q c, long) in
+    split q d at n ∙ ap (λ b. cond b (length c + prefix_len q (drop (at + n) d)) (prefix_len q c)) (eq-eqb _ _ all) ∙ ap (λ k. k + prefix_len q (drop (at + n) d)) long
+
+pub run_stops : (q : ℕ → Bool) (d : List ℕ) (at n : ℕ) → at + n ≤ length d → prefix_len q (chunk at n d) < n → prefix_len q (drop at d) ≡ prefix_len q (chunk at n d)
+run_stops q d at n room short =
+    let c = chunk at n d in
+    let some : prefix_len q c ≡ length c → ⊥ = λ e. omega (arith, e, length-chunk at n d room) in
+    split q d at n ∙ ap (λ b. cond b (length c + prefix_len q (drop (at + n) d)) (prefix_len q c)) (ne_eqb _ _ some)
+
+-- ---- quoted ASCII
+
+-- where a quote ends the plain ASCII, it ends all that is plain
+plain_to_quote : (xs tail : List ℕ) → drop (prefix_len is_plain_ascii xs) xs ≡ 34 ∷ tail → prefix_len is_plain_ascii xs ≡ prefix_len is_plain xs
+plain_to_quote [] tail e = refl
+plain_to_quote (x ∷ xs) tail e =
+    elim (is_plain_ascii x) as (λ v. is_plain_ascii x ≡ v → drop (cond v (1 + prefix_len is_plain_ascii xs) 0) (x ∷ xs) ≡ 34 ∷ tail → cond v (1 + prefix_len is_plain_ascii xs) 0 ≡ prefix_len is_plain (x ∷ xs)) [
+      | true ↦ λ t h.
+          let f : drop (prefix_len is_plain_ascii xs) xs ≡ 34 ∷ tail = rw one-add at h in
+          ap₂ (λ b n. cond b (1 + n) 0) (sym (and_parts (is_plain x) (is_ascii x) t).0) (plain_to_quote xs tail f)
+      | false ↦ λ t h.
+          let q : x ≡ 34 = cc in
+          sym (ap (λ b. cond (not b) (1 + prefix_len is_plain xs) 0) (ap (λ z. eqb z 34) q))
+    ] refl e
+
+plain_is_ascii : (xs : List ℕ) → IsAscii (take (prefix_len is_plain_ascii xs) xs)
+plain_is_ascii [] = IsAscii-nil
+plain_is_ascii (x ∷ xs) =
+    elim (is_plain_ascii x) as (λ v. is_plain_ascii x ≡ v → IsAscii (take (cond v (1 + prefix_len is_plain_ascii xs) 0) (x ∷ xs))) [
+      | true ↦ λ t. rw one-add (IsAscii-cons x _ (ltb-true x 128 (and_parts (is_plain x) (is_ascii x) t).1) (plain_is_ascii xs))
+      | false ↦ λ t. IsAscii-nil
+    ] refl
+
+-- the plain ASCII up to a closing quote is the inside of a quoted text
+module _ (after : List ℕ) (n : ℕ) (is_length : n ≡ prefix_len is_plain_ascii after) (closing : IsClosing (drop n after)) where
+  pub ascii_shut : IsShutAt after n
+  ascii_shut =
+      let lt : n < length after = within_at after _ 34 n closing.0 in
+      let plain : n ≡ prefix_len is_plain after = is_length ∙ plain_to_quote after (drop 1 (drop n after)) (subst (λ k. drop k after ≡ 34 ∷ drop 1 (drop n after)) is_length closing.0) in
+      (shut_at after 0 n (omega arith) ([], refl) (omega (arith, plain)) lt (subst (StopsAt is_quote) (drop-drop 1 n after) closing.1), lt)
+
+  pub ascii_utf8 : IsUtf8 (take n after ++ 34 ∷ [])
+  ascii_utf8 = IsUtf8-at_quote (take n after) (IsUtf8-from_ascii (take n after) (subst (λ k. IsAscii (take k after)) (sym is_length) (plain_is_ascii after)))

@@ -1,0 +1,17 @@
+-- A bridge: runs that are passed over sixteen bytes at a time.
+use Rattle.std.specs.Prelude.{◌≡◌, ℕ, ◌==◌, ◌&&◌, Bool, if◌then◌else◌, List, ◌∷◌, drop}
+use Rattle.std.specs.Int.{w64, trailing_zeros}
+use Rattle.std.specs.Char.{is_ascii}
+use Rattle.crs_text.specs.Quoted.{StopsAt, is_plain, is_quote}
+
+-- an ASCII byte that isn't a quote
+abbrev pub is_plain_ascii : ℕ → Bool
+is_plain_ascii b = is_plain b && is_ascii b
+
+-- how many of sixteen lanes come before the first that is set
+abbrev pub first_set : ℕ → ℕ
+first_set lanes = if lanes == 0 then 16 else trailing_zeros w64 lanes
+
+-- a quote comes first, and no other behind it
+abbrev pub IsClosing : List ℕ → Type 0
+IsClosing bytes = (bytes ≡ 34 ∷ drop 1 bytes) × StopsAt is_quote (drop 1 bytes)

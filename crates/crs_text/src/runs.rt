@@ -1,0 +1,156 @@
+//! How far runs of bytes go, sixteen bytes at a time.
+ghost use Rattle.std.specs.Prelude.{◌≡◌, ◌≤◌, length};
+ghost use Rattle.std.specs.List.{prefix_len};
+ghost use Rattle.crs_text.specs.Runs.{first_set, is_plain_ascii};
+ghost use Rattle.crs_text.specs.Tokens as tokens;
+ghost use Rattle.crs_decimal.specs.Spelling as spelling;
+
+use crate::lexing::rest_of;
+use std::simd::prelude::*;
+
+/// How many bytes are loaded at once.
+const LANES: usize = 16;
+
+fn is_white(byte: u8) -> bool
+    ensures { result ≡ tokens.is_white byte }
+{
+    byte == b' ' || byte == b'\t' || byte == b'\n' || byte == b'\r'
+}
+
+fn is_word_byte(byte: u8) -> bool
+    ensures { result ≡ tokens.is_word_byte byte }
+{
+    matches!(byte, b'A'..=b'Z' | b'a'..=b'z' | b'0'..=b'9' | b'_')
+}
+
+fn is_run_byte(byte: u8) -> bool
+    ensures { result ≡ spelling.is_run_byte byte }
+{
+    is_word_byte(byte) || byte == b'.' || byte == b'+' || byte == b'-'
+}
+
+fn is_plain_ascii(byte: u8) -> bool
+    ensures { result ≡ is_plain_ascii byte }
+{
+    byte != b'"' && byte.is_ascii()
+}
+
+// How many lanes come before the first that is set.
+#[inline(always)]
+fn first_set(lanes: u64) -> usize
+    ensures { result ≡ first_set lanes }
+{
+    if lanes == 0 {
+        LANES
+    } else {
+        lanes.trailing_zeros() as usize
+    }
+}
+
+#[inline(always)]
+fn word_lanes(block: u8x16) -> usize
+    ensures { result ≡ prefix_len tokens.is_word_byte block }
+{
+    let letters = (block | u8x16::splat(0x20)) - u8x16::splat(b'a');
+    let digits = block - u8x16::splat(b'0');
+    let others = letters.simd_ge(u8x16::splat(26)) & digits.simd_ge(u8x16::splat(10));
+    first_set((others & block.simd_ne(u8x16::splat(b'_'))).to_bitmask())
+}
+
+#[inline(always)]
+fn run_lanes(block: u8x16) -> usize
+    ensures { result ≡ prefix_len spelling.is_run_byte block }
+{
+    let letters = (block | u8x16::splat(0x20)) - u8x16::splat(b'a');
+    let digits = block - u8x16::splat(b'0');
+    let others = letters.simd_ge(u8x16::splat(26)) & digits.simd_ge(u8x16::splat(10));
+    let signs = block.simd_ne(u8x16::splat(b'+')) & block.simd_ne(u8x16::splat(b'-'));
+    let marks = block.simd_ne(u8x16::splat(b'.')) & block.simd_ne(u8x16::splat(b'_'));
+    first_set((others & signs & marks).to_bitmask())
+}
+
+#[inline(always)]
+fn plain_ascii_lanes(block: u8x16) -> usize
+    ensures { result ≡ prefix_len is_plain_ascii block }
+{
+    let quotes = block.simd_eq(u8x16::splat(b'"'));
+    first_set((quotes | block.simd_ge(u8x16::splat(0x80))).to_bitmask())
+}
+
+/// How many bytes of white space come first.
+#[inline(always)]
+pub(crate) fn white_length(left: &[u8]) -> usize
+    ensures { result ≡ prefix_len tokens.is_white left.now }
+{
+    left.iter().take_while(|b| is_white(**b)).count()
+}
+
+#[inline(never)]
+fn last_word_length(left: &[u8]) -> usize
+    ensures { result ≡ prefix_len tokens.is_word_byte left.now }
+{
+    left.iter().take_while(|b| is_word_byte(**b)).count()
+}
+
+#[inline(never)]
+fn last_run_length(left: &[u8]) -> usize
+    ensures { result ≡ prefix_len spelling.is_run_byte left.now }
+{
+    left.iter().take_while(|b| is_run_byte(**b)).count()
+}
+
+#[inline(never)]
+fn last_plain_ascii_length(left: &[u8]) -> usize
+    ensures { result ≡ prefix_len is_plain_ascii left.now }
+{
+    left.iter().take_while(|b| is_plain_ascii(**b)).count()
+}
+
+/// How many bytes of a word come first.
+#[inline(always)]
+pub(crate) fn word_length(left: &[u8]) -> usize
+    ensures { result ≡ prefix_len tokens.is_word_byte left.now }
+{
+    let mut at = 0;
+    while left.len() - at >= LANES {
+        let count = word_lanes(u8x16::from_slice(&left[at..]));
+        if count < LANES {
+            return at + count;
+        }
+        at += LANES;
+    }
+    at + last_word_length(rest_of(left, at))
+}
+
+/// How many bytes of a number's run come first.
+#[inline(always)]
+pub(crate) fn run_length(left: &[u8]) -> usize
+    ensures { result ≡ prefix_len spelling.is_run_byte left.now }
+{
+    let mut at = 0;
+    while left.len() - at >= LANES {
+        let count = run_lanes(u8x16::from_slice(&left[at..]));
+        if count < LANES {
+            return at + count;
+        }
+        at += LANES;
+    }
+    at + last_run_length(rest_of(left, at))
+}
+
+/// How many bytes come before the first that is a quote or isn't ASCII.
+#[inline(always)]
+pub(crate) fn plain_ascii_length(left: &[u8]) -> usize
+    ensures value { result ≡ prefix_len is_plain_ascii left.now }
+    ensures within { result ≤ length left.now }
+{
+    let mut at = 0;
+    while left.len() - at >= LANES {
+        let count = plain_ascii_lanes(u8x16::from_slice(&left[at..]));
+        if count < LANES {
+            return at + count;
+        }
+        at += LANES;
+    }
+    at + last_plain_ascii_length(rest_of(left, at))
+}
