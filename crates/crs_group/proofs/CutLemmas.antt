@@ -62,9 +62,9 @@ cut-kept bytes more before after cut plain fits ledger partial = record {
 
 -- a line is too long
 pub cut-long : (bytes line rest : List ℕ) (cutter : CutterParts) → IsCutTo bytes cutter → HasNoFeed line
-    → 1048576 < length cutter.partial + length line
+    → 1048576 < length cutter.partial + length line → length line + length rest ≤ 65536
     → IsTooLong (bytes ++ (line ++ rest)) (cutter.ledger.lines + 1)
-cut-long bytes line rest cutter cut plain long = record {
+cut-long bytes line rest cutter cut plain long small = record {
   front = cut.ended;
   long = cutter.partial ++ line;
   rest = rest;
@@ -74,6 +74,7 @@ cut-long bytes line rest cutter cut plain long = record {
   begins = ended-begins cut.ended cut.texts cut.are_ended;
   is_one = plain-append cutter.partial line cut.is_one plain;
   is_long = omega (arith, length-append cutter.partial line);
+  is_soon = omega (arith, length-append cutter.partial line, cut.is_short);
   before = cut.are_short;
   is_number = ap (λ n. n + 1) (cut.of_texts.lines ∙ sym (ended-feeds cut.ended cut.texts cut.are_ended));
 }
@@ -157,19 +158,19 @@ cut-joined line now ledger after partial joined cleared is plain fits whole none
 
 pub cut-over : (line : List ℕ) (now : CutterParts) (ledger : LedgerParts) (partial : List ℕ) (lines : ℕ)
     → cutter_of ledger partial ≡ now → HasNoFeed line → 1048576 < length now.partial + length line
-    → lines ≡ ledger.lines → (bytes rest : List ℕ) → IsCutTo bytes now
+    → lines ≡ ledger.lines → (bytes rest : List ℕ) → length line + length rest ≤ 65536 → IsCutTo bytes now
     → IsTooLong (bytes ++ (line ++ rest)) (lines + 1)
-cut-over line now ledger partial lines is plain over counted bytes rest cut =
+cut-over line now ledger partial lines is plain over counted bytes rest small cut =
     subst (λ n. IsTooLong (bytes ++ (line ++ rest)) (n + 1)) (sym (counted ∙ ap (λ c. c.ledger.lines) is))
-    (cut-long bytes line rest now cut plain over)
+    (cut-long bytes line rest now cut plain over small)
 
 pub cut-over-end : (line : List ℕ) (now : CutterParts) (ledger : LedgerParts) (partial : List ℕ) (lines : ℕ)
     → cutter_of ledger partial ≡ now → HasNoFeed line → 1048576 < length now.partial + length line
-    → lines ≡ ledger.lines → (bytes : List ℕ) → IsCutTo bytes now
+    → lines ≡ ledger.lines → length line ≤ 65536 → (bytes : List ℕ) → IsCutTo bytes now
     → IsTooLong (bytes ++ line) (lines + 1)
-cut-over-end line now ledger partial lines is plain over counted bytes cut =
+cut-over-end line now ledger partial lines is plain over counted small bytes cut =
     subst (λ l. IsTooLong (bytes ++ l) (lines + 1)) (append-nil line)
-    (cut-over line now ledger partial lines is plain over counted bytes [] cut)
+    (cut-over line now ledger partial lines is plain over counted bytes [] (omega arith) cut)
 
 pub cut-longer : (more : List ℕ) (now : CutterParts) (ledger : LedgerParts) (partial longer : List ℕ)
     → cutter_of ledger partial ≡ now → HasNoFeed more → length now.partial + length more ≤ 1048576
@@ -205,11 +206,14 @@ piece-step front line left rest piece old now next is (split, plain) before step
 pub piece-fault : (front line left rest piece : List ℕ) (old now : CutterParts) (fault : RunFault)
     → piece ≡ front ++ rest → IsSplit rest line left
     → ((bytes : List ℕ) → IsCutTo bytes old → IsCutTo (bytes ++ front) now)
-    → ((bytes behind : List ℕ) → IsCutTo bytes now → IsCutFault (bytes ++ (line ++ behind)) fault)
-    → (bytes : List ℕ) → IsCutTo bytes old → IsCutFault (bytes ++ piece) fault
-piece-fault front line left rest piece old now fault is (split, plain) before step bytes cut =
+    → ((bytes behind : List ℕ) → length line + length behind ≤ 65536 → IsCutTo bytes now
+    → IsCutFault (bytes ++ (line ++ behind)) fault)
+    → length piece ≤ 65536 → (bytes : List ℕ) → IsCutTo bytes old → IsCutFault (bytes ++ piece) fault
+piece-fault front line left rest piece old now fault is (split, plain) before step small bytes cut =
+    let within : length line + length (10 ∷ left) ≤ 65536 = omega
+    (arith, ap length is, length-append front rest, ap length split, length-append line (10 ∷ left)) in
     subst (λ b. IsCutFault b fault) (line-in-piece bytes front line left rest piece is split)
-    (step (bytes ++ front) (10 ∷ left) (before bytes cut))
+    (step (bytes ++ front) (10 ∷ left) within (before bytes cut))
 
 pub piece-end-fault : (front rest piece : List ℕ) (old now : CutterParts) (fault : RunFault) → piece ≡ front ++ rest
     → ((bytes : List ℕ) → IsCutTo bytes old → IsCutTo (bytes ++ front) now)

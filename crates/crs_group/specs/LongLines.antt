@@ -14,7 +14,8 @@ EndsInFeed bytes = (front : List ℕ) × (bytes ≡ front ++ 10 ∷ [])
 abbrev pub feeds : List ℕ → ℕ
 feeds bytes = count_by (λ b. b == 10) bytes
 
--- the line of this number, counted from 1, is the first that is too long
+-- the line of this number, counted from 1, is the first that is too long, and at most 65536 bytes
+-- were read beyond its bound
 pub record IsTooLong (bytes : List ℕ) (number : ℕ) : Type 0 where
   pub front : List ℕ
   pub long : List ℕ
@@ -23,5 +24,6 @@ pub record IsTooLong (bytes : List ℕ) (number : ℕ) : Type 0 where
   pub begins : (front ≡ []) ⊎ EndsInFeed front
   pub is_one : HasNoFeed long
   pub is_long : 1048576 < length long
+  pub is_soon : length long + length rest ≤ 1048576 + 65536
   pub before : HasShortLines front
   pub is_number : number ≡ feeds front + 1

@@ -42,7 +42,8 @@ impl Cutter {
 
     // The next piece of the bytes.
     pub(crate) fn take(&mut self, piece: &[u8]) -> Result<(), RunFault>
-        requires { self.old.ledger.lines + length piece.now + 1 < 2 ^ 64 }
+        requires fits { self.old.ledger.lines + length piece.now + 1 < 2 ^ 64 }
+        requires small { length piece.now ≤ 65536 }
         ensures cut { OnOk result ((bytes : List ℕ) → IsCutTo bytes self.old → IsCutTo (bytes ++ piece.now) self.new) }
         ensures fault { IfErr result (λ fault. (bytes : List ℕ) → IsCutTo bytes self.old →
             IsCutFault (bytes ++ piece.now) fault) }
@@ -76,8 +77,8 @@ impl Cutter {
         requires fits { self.old.ledger.lines + 1 < 2 ^ 64 }
         ensures cut { OnOk result ((bytes : List ℕ) → IsCutTo bytes self.old →
             IsCutTo (bytes ++ (line.now ++ 10 ∷ [])) self.new) }
-        ensures fault { IfErr result (λ fault. (bytes rest : List ℕ) → IsCutTo bytes self.old →
-            IsCutFault (bytes ++ (line.now ++ rest)) fault) }
+        ensures fault { IfErr result (λ fault. (bytes rest : List ℕ) → length line.now + length rest ≤ 65536 →
+            IsCutTo bytes self.old → IsCutFault (bytes ++ (line.now ++ rest)) fault) }
         ensures lines { OnOk result (self.new.ledger.lines ≡ self.old.ledger.lines + 1) }
         ensures level { self.new.ledger.catalogue.level ≡ self.old.ledger.catalogue.level }
     {
@@ -96,6 +97,7 @@ impl Cutter {
     // The bytes behind the last line feed of a piece.
     fn keep(&mut self, bytes: &[u8]) -> Result<(), RunFault>
         requires one { HasNoFeed bytes.now }
+        requires small { length bytes.now ≤ 65536 }
         requires fits { self.old.ledger.lines + 1 < 2 ^ 64 }
         ensures cut { OnOk result ((front : List ℕ) → IsCutTo front self.old →
             IsCutTo (front ++ bytes.now) self.new) }

@@ -17,13 +17,17 @@ returns-in_err-count-clause-err g c =
     c.read.result cut.1 cut.2 c.read.ensures.bytes c.read.ensures.counted bad))
     same
 
-pub take-requires : goal.take-requires
-take-requires g c =
+pub take-requires-clause-fits : goal.take-requires-clause-fits
+take-requires-clause-fits g c =
     let cut = c.loop-turn.invariant.cut in
     lines-fit cut.0 c.loop-turn.cutter c.args.source.now c.loop-turn.source
     (length (take c.in_ok-count.count c.read.new.room)) cut.2 cut.1
     (omega (arith, c.loop-turn.invariant.few, c.loop-turn-test.true))
     (omega (arith, length-take c.in_ok-count.count c.read.new.room, c.read.auto.room, c.loop-turn.invariant.room))
+
+pub take-requires-clause-small : goal.take-requires-clause-small
+take-requires-clause-small g c =
+    omega (arith, length-take c.in_ok-count.count c.read.new.room, c.read.auto.room, c.loop-turn.invariant.room)
 
 pub returns-in_err-take-clause-err : goal.returns-in_err-take-clause-err
 returns-in_err-take-clause-err g c =

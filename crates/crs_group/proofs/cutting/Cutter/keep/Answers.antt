@@ -6,6 +6,7 @@ pub returns-then-is_over-clause-fault : goal.returns-then-is_over-clause-fault
 returns-then-is_over-clause-fault c =
     cut-over-end c.args.bytes.now c.args.self.now c.self.inside.ledger c.self.inside.partial.items c.lines.result
     c.self.view_is c.requires.one (c.is_over.ensures.over c.if-is_over.true) c.lines.ensures
+    c.requires.small
 
 pub returns-clause-cut : goal.returns-clause-cut
 returns-clause-cut c =

@@ -1,4 +1,4 @@
-use Rattle.std.proofs.Common.{◌≡◌, ◌++◌, ◌∷◌, ℕ, List, ap, arith, length, length-append, rules, subst, sym}
+use Rattle.std.proofs.Common.{◌≡◌, ◌+◌, ◌≤◌, ◌++◌, ◌∷◌, ℕ, List, ap, arith, length, length-append, rules, subst, sym}
 use Rattle.std.specs.Prelude.{IfErr}
 use Rattle.std.proofs.lemmas.Result.{IfErr-weaker}
 use Rattle.crs_group.specs.Cutting.{IsCutFault, IsCutTo}
@@ -12,8 +12,9 @@ returns-in_err-end_line-clause-fault c =
     IfErr-weaker c.from_residual.result _ _
     (λ fault is. piece-fault done.0 c.in-Some.line.now c.in-Some.left.now c.loop-line.rest.now c.args.piece.now
     c.args.self.now c.loop-line.self fault done.1 c.in-Some.ensures done.2
-    (subst (λ f. (bytes behind : List ℕ) → IsCutTo bytes c.loop-line.self
-    → IsCutFault (bytes ++ (c.in-Some.line.now ++ behind)) f) (sym is) c.in_err-end_line.ensures.fault))
+    (subst (λ f. (bytes behind : List ℕ) → length c.in-Some.line.now + length behind ≤ 65536
+    → IsCutTo bytes c.loop-line.self → IsCutFault (bytes ++ (c.in-Some.line.now ++ behind)) f) (sym is) c.in_err-end_line.ensures.fault)
+    c.requires.small)
     same
 
 pub loop-line-preserved : goal.loop-line-preserved
@@ -28,6 +29,12 @@ loop-line-preserved c =
         length-append c.in-Some.line.now (10 ∷ c.in-Some.left.now),
         c.in_ok-end_line.ensures.lines,
         c.loop-line.invariant.lines,
+      );
+      small = omega (
+        arith,
+        ap length c.in-Some.ensures.0,
+        length-append c.in-Some.line.now (10 ∷ c.in-Some.left.now),
+        c.loop-line.invariant.small,
       );
       level = search rules;
     }

@@ -8,6 +8,7 @@ invariant-loop-line l =
       done : (front : List ℕ) × (l.fn.piece ≡ front ++ l.rest)
           × ((bytes : List ℕ) → IsCutTo bytes l.fn.self → IsCutTo (bytes ++ front) l.self);
       lines : l.self.ledger.lines + length l.rest ≤ l.fn.self.ledger.lines + length l.fn.piece;
+      small : length l.rest ≤ length l.fn.piece;
       level : l.self.ledger.catalogue.level ≡ l.fn.self.ledger.catalogue.level;
     }
 
