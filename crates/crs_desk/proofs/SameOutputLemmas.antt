@@ -9,7 +9,7 @@ use Rattle.crs_value.specs.SpellsText.{Spells, IsFaultOfText}
 use Rattle.crs_same.specs.declared.step.Step.{Step}
 use Rattle.crs_same.specs.FirstInCrs.{FirstInCrs}
 use Rattle.crs_same.specs.SameCrs.{SameCrs}
-use Rattle.crs_desk.specs.Output.{refused_text}
+use Rattle.crs_group.specs.Output.{refused_text}
 use Rattle.crs_desk.specs.SameOutput.{WritesRefusalOf, WritesSame, WritesDifferent, IsSameOutput, IsSecondOutput, WritesPart}
 use Rattle.crs_desk.proofs.JudgedLemmas.{refused-text}
 

@@ -1,5 +1,4 @@
 pub mod Ending
 pub mod Output
 pub mod SameOutput
-pub mod Streams
 pub mod Whole

@@ -1,6 +1,6 @@
 -- What `canon` and `check` write for a text, and their status.
-use Rattle.std.specs.Prelude.{◌≡◌, ◌++◌, ◌⊎◌, ℕ, List, [], ◌∷◌, codes, decimal}
-use Rattle.crs_text.specs.Refusal.{RefusedAt, name_of}
+use Rattle.std.specs.Prelude.{◌≡◌, ◌++◌, ◌⊎◌, ℕ, List, [], ◌∷◌, codes}
+use Rattle.crs_text.specs.Refusal.{RefusedAt}
 use Rattle.crs_value.specs.declared.crs.Crs.{Crs}
 use Rattle.crs_value.specs.declared.crs.Kind.{Kind}
 use Rattle.crs_value.specs.declared.crs.Kind.TheVariants as kind
@@ -8,11 +8,7 @@ use Rattle.crs_value.specs.ReadsCrs.{kind_of}
 use Rattle.crs_value.specs.SpellsText.{Spells, Refuses}
 use Rattle.crs_value.specs.declared.level.Level.{Level}
 use Rattle.crs_canon.specs.Canonical.{IsCanonicalOf}
-
--- `refused N NAME at P`
-abbrev pub refused_text : ℕ → ℕ → List ℕ
-refused_text number place =
-    codes "refused " ++ decimal number ++ codes " " ++ name_of number ++ codes " at " ++ decimal place
+use Rattle.crs_group.specs.Output.{refused_text}
 
 abbrev pub kind_word : Kind → List ℕ
 kind_word kind.Geodetic = codes "geodetic"

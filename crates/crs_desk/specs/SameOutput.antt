@@ -8,7 +8,8 @@ use Rattle.crs_same.specs.declared.step.Step.{Step}
 use Rattle.crs_same.specs.FirstInCrs.{FirstInCrs}
 use Rattle.crs_same.specs.Paths.{path_text}
 use Rattle.crs_same.specs.SameCrs.{SameCrs}
-use Rattle.crs_desk.specs.Output.{IsLine, refused_text}
+use Rattle.crs_group.specs.Output.{refused_text}
+use Rattle.crs_desk.specs.Output.{IsLine}
 
 -- the refusal of a text behind the word that says which text it is, with status 1
 abbrev pub WritesRefusalOf : List ℕ → List ℕ → List ℕ → ℕ → Type 0

@@ -1,8 +1,8 @@
 -- A text read to its end, or the fault that came first.
 use Rattle.std.specs.Prelude.{◌≡◌, ◌≤◌, ◌<◌, ℕ, true, false, List, length, IfSome}
-use Rattle.crs_desk.specs.Streams.{SourceState}
-use Rattle.crs_desk.specs.declared.fault.RunFault.{RunFault}
-use Rattle.crs_desk.specs.declared.fault.RunFault.TheVariants.{ReadFailed, WriteFailed, TooLong, TooManyReads, Memory}
+use Rattle.crs_group.specs.Streams.{SourceState}
+use Rattle.crs_group.specs.declared.fault.RunFault.{RunFault}
+use Rattle.crs_group.specs.declared.fault.RunFault.TheVariants.{ReadFailed, WriteFailed, TooLong, TooManyReads, Memory}
 
 -- the source showed its end, and gave these bytes: all that it had, where it tells them
 pub record IsWhole (old new : SourceState) (text : List ℕ) : Type 0 where

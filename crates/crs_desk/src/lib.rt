@@ -3,20 +3,15 @@
 
 pub use canon_run::run_canon;
 pub use check_run::run_check;
+pub use crs_group::{RunFault, Sink, Source};
 pub use crs_line::{LineWord, Request, RequestFault, request};
 pub use crs_value::Level;
-pub use fault::RunFault;
 pub use same_run::run_same;
-pub use sink::Sink;
-pub use source::Source;
 
 mod answer;
 mod canon_run;
 mod check_run;
-mod fault;
 mod judging;
 mod print;
 mod same_run;
-mod sink;
-mod source;
 mod text;

@@ -1,5 +1,5 @@
 ghost use Rattle.std.specs.Prelude.{◌≡◌, ◌≤◌, [], IfOk, IfErr, vec_len};
-ghost use Rattle.crs_desk.specs.Streams.{fresh_source};
+ghost use Rattle.crs_group.specs.Streams.{fresh_source};
 ghost use Rattle.crs_desk.specs.Whole.{IsWhole, IsReadFault};
 
 use crate::{RunFault, Source};

@@ -9,10 +9,10 @@ use Rattle.bstr.specs.Text.{line_len, lines_of, no_cr, without_terminator}
 use Rattle.bstr.proofs.lemmas.LineLemmas.{lines-nil, lines-step}
 use Rattle.crs_group.specs.Lines.{AreLines, HasNoFeed, IsTextOf}
 
-false-true : false ≡ true → ⊥
+pub false-true : false ≡ true → ⊥
 false-true h = cc
 
-nil-cons : {A : Type 0} (x : A) (xs : List A) → [] ≡ x ∷ xs → ⊥
+pub nil-cons : {A : Type 0} (x : A) (xs : List A) → [] ≡ x ∷ xs → ⊥
 nil-cons x xs h = cc
 
 head-is : (a b : ℕ) (xs ys : List ℕ) → a ∷ xs ≡ b ∷ ys → a ≡ b
@@ -35,21 +35,21 @@ nil-feed : (line rest : List ℕ) → [] ≡ line ++ 10 ∷ rest → ⊥
 nil-feed [] rest e = nil-cons 10 rest e
 nil-feed (b ∷ bs) rest e = nil-cons b (bs ++ 10 ∷ rest) e
 
-feed-test : (b : ℕ) (bs : List ℕ) → HasNoFeed (b ∷ bs) → (b == 10) ≡ false
+pub feed-test : (b : ℕ) (bs : List ℕ) → HasNoFeed (b ∷ bs) → (b == 10) ≡ false
 feed-test b bs plain = by_test (b == 10) plain
   where
     by_test : (t : Bool) → IsTrue (not t && list_all (λ c. not (c == 10)) bs) → t ≡ false
     by_test true h = cc
     by_test false h = refl
 
-feed-rest : (b : ℕ) (bs : List ℕ) → HasNoFeed (b ∷ bs) → HasNoFeed bs
+pub feed-rest : (b : ℕ) (bs : List ℕ) → HasNoFeed (b ∷ bs) → HasNoFeed bs
 feed-rest b bs plain = by_test (b == 10) plain
   where
     by_test : (t : Bool) → IsTrue (not t && list_all (λ c. not (c == 10)) bs) → HasNoFeed bs
     by_test true h = absurd (false-true h)
     by_test false h = h
 
-feed-more : (b : ℕ) (bs : List ℕ) → (b == 10) ≡ false → HasNoFeed bs → HasNoFeed (b ∷ bs)
+pub feed-more : (b : ℕ) (bs : List ℕ) → (b == 10) ≡ false → HasNoFeed bs → HasNoFeed (b ∷ bs)
 feed-more b bs test plain = rw test plain
 
 -- a feed stands there
@@ -176,7 +176,7 @@ last-of (b ∷ bs) = further (last-of bs)
     further (inr (front, c, e)) = inr (b ∷ front, c, head-tail b b bs (front ++ c ∷ []) refl e)
 
 -- a line without a return is as `no_cr` has it
-text-of : (line : List ℕ) → IsTextOf line (no_cr line)
+pub text-of : (line : List ℕ) → IsTextOf line (no_cr line)
 text-of line = by_last (last-of line)
   where
     by_test : (front : List ℕ) (b : ℕ) → (((b == 13) ≡ true) ⊎ ((b == 13) ≡ false))

@@ -1,6 +1,7 @@
 -- The lines of some bytes.
-use Rattle.std.specs.Prelude.{◌≡◌, ◌⊎◌, ◌+◌, ◌==◌, ◌++◌, ◌∷◌, [], ℕ, List, IsTrue, not}
+use Rattle.std.specs.Prelude.{◌≡◌, ◌⊎◌, ◌+◌, ◌==◌, ◌++◌, ◌∷◌, [], ℕ, List, IsTrue, count_by, not}
 use Rattle.std.specs.List.{list_all}
+use Rattle.crs_text.specs.Tokens.{is_white}
 use Rattle.crs_group.specs.Catalogue.{Line, line_of}
 
 -- no line feed is among the bytes
@@ -26,3 +27,7 @@ AreLines bytes (text ∷ texts) =
 abbrev pub numbered : ℕ → List (List ℕ) → List Line
 numbered number [] = []
 numbered number (text ∷ texts) = line_of number text ∷ numbered (number + 1) texts
+
+-- how many of the texts are white space alone, or nothing
+abbrev pub blank_in : List (List ℕ) → ℕ
+blank_in texts = count_by (λ text. list_all is_white text) texts

@@ -1,11 +1,12 @@
 -- How the catalogue of some bytes is written.
-use Rattle.std.specs.Prelude.{◌≡◌, ◌+◌, ◌++◌, ◌∷◌, [], ℕ, List, codes, decimal}
+use Rattle.std.specs.Prelude.{◌≡◌, ◌+◌, ◌++◌, ◌∷◌, [], ℕ, List, codes, decimal, length}
 use Rattle.std.specs.List.{flat_map}
 use Rattle.crs_text.specs.Refusal.{RefusedAt, name_of}
 use Rattle.crs_value.specs.declared.level.Level.{Level}
 use Rattle.crs_group.specs.Catalogue.{GroupParts, CatalogueParts}
 use Rattle.crs_group.specs.GroupTexts.{IsCatalogueOf}
-use Rattle.crs_group.specs.Lines.{AreLines, numbered}
+use Rattle.crs_group.specs.Lines.{AreLines, blank_in, numbered}
+use Rattle.crs_group.specs.declared.summary.Summary.{Summary}
 
 -- ` L1 L2 ..`
 abbrev pub numbers_text : List ℕ → List ℕ
@@ -16,11 +17,15 @@ abbrev pub group_line : ℕ → GroupParts → List ℕ
 group_line number group =
     codes "group " ++ decimal number ++ codes ":" ++ numbers_text group.lines ++ 10 ∷ []
 
+-- `refused N NAME at P`
+abbrev pub refused_text : ℕ → ℕ → List ℕ
+refused_text number place =
+    codes "refused " ++ decimal number ++ codes " " ++ name_of number ++ codes " at " ++ decimal place
+
 -- `line L: refused N NAME at P`, and a line feed
 abbrev pub refused_line : ℕ × RefusedAt → List ℕ
 refused_line (line, refusal) =
-    codes "line " ++ decimal line ++ codes ": refused " ++ decimal refusal.number ++ codes " "
-    ++ name_of refusal.number ++ codes " at " ++ decimal refusal.place ++ 10 ∷ []
+    codes "line " ++ decimal line ++ codes ": " ++ refused_text refusal.number refusal.place ++ 10 ∷ []
 
 -- the groups, from this number on
 abbrev pub group_lines : ℕ → List GroupParts → List ℕ
@@ -31,11 +36,15 @@ group_lines number (group ∷ groups) = group_line number group ++ group_lines (
 abbrev pub catalogue_text : CatalogueParts → List ℕ
 catalogue_text catalogue = group_lines 1 catalogue.groups ++ flat_map refused_line catalogue.refused
 
--- the bytes are written as the catalogue of their lines, which are numbered from 1
-pub record IsGroupOutput (level : Level) (bytes written : List ℕ) : Type 0 where
+-- the bytes are written as the catalogue of their lines, which are numbered from 1, and this is its summary
+pub record IsGroupOutput (level : Level) (bytes written : List ℕ) (summary : Summary) : Type 0 where
   pub texts : List (List ℕ)
   pub are_texts : AreLines bytes texts
   pub catalogue : CatalogueParts
   pub is_level : catalogue.level ≡ level
   pub of_lines : IsCatalogueOf (numbered 1 texts) catalogue
   pub is_written : written ≡ catalogue_text catalogue
+  pub lines : summary.lines ≡ length texts
+  pub blank : summary.blank ≡ blank_in texts
+  pub refused : summary.refused ≡ length catalogue.refused
+  pub groups : summary.groups ≡ length catalogue.groups

@@ -110,6 +110,13 @@ impl Catalogue {
         }
     }
 
+    // The groups in the order of their numbers.
+    pub(crate) fn all_groups(&self) -> &[Group]
+        ensures { result.now ≡ self.now.groups }
+    {
+        &self.groups
+    }
+
     fn group(&self, number: usize) -> Option<&Group>
         ensures { option_copied result ≡ nth number self.now.groups }
     {

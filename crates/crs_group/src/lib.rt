@@ -3,9 +3,22 @@
 #![tactic(auto)]
 
 mod catalogue;
+mod cutting;
+mod fault;
 mod group;
+mod group_text;
 pub mod laws;
+mod ledger;
 mod placed;
+mod run;
+mod sink;
+mod source;
+mod summary;
 
 pub use catalogue::Catalogue;
+pub use fault::RunFault;
 pub use placed::Placed;
+pub use run::run_group;
+pub use sink::Sink;
+pub use source::Source;
+pub use summary::Summary;

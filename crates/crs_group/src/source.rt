@@ -1,7 +1,7 @@
 ghost use Rattle.std.specs.Prelude.{◌≡◌, ◌≤◌, ◌<◌, length, true, IsTrue};
 ghost use Rattle.std.specs.Io.{ReadsAtMost};
 ghost use Rattle.std.specs.Io.KnownBytes.{ReadConsumes};
-ghost use Rattle.crs_desk.specs.Streams.{CountsRead, fresh_source};
+ghost use Rattle.crs_group.specs.Streams.{CountsRead, fresh_source};
 
 use std::io;
 use std::io::Read;
@@ -19,7 +19,7 @@ pub struct Source<R: Read> {
 
 impl<R: Read> Model for Source<R> {
     ghost use Rattle.std.specs.Prelude.{◌≤◌, ◌*◌};
-    ghost use Rattle.crs_desk.specs.Streams.{SourceState};
+    ghost use Rattle.crs_group.specs.Streams.{SourceState};
 
     ghost Value = { SourceState };
 

@@ -1,6 +1,6 @@
 ghost use Rattle.std.specs.Prelude.{◌≡◌, OnOk};
 ghost use Rattle.std.specs.Io.KnownBytes.{Appends};
-ghost use Rattle.crs_desk.specs.Streams.{CountsWrite, fresh_sink};
+ghost use Rattle.crs_group.specs.Streams.{CountsWrite, fresh_sink};
 
 use std::io;
 use std::io::Write;
@@ -15,7 +15,7 @@ pub struct Sink<W: Write> {
 }
 
 impl<W: Write> Model for Sink<W> {
-    ghost use Rattle.crs_desk.specs.Streams.{SinkState};
+    ghost use Rattle.crs_group.specs.Streams.{SinkState};
 
     ghost Value = { SinkState };
 

@@ -1,0 +1,60 @@
+-- How a run over the lines of a source ends.
+use Rattle.std.specs.Prelude.{◌≡◌, ℕ, true, false, List, IfSome, length}
+use Rattle.std.specs.Io.KnownBytes.{Appends, Consumes}
+use Rattle.crs_value.specs.declared.level.Level.{Level}
+use Rattle.crs_group.specs.LongLines.{HasShortLines, IsTooLong}
+use Rattle.crs_group.specs.Output.{IsGroupOutput}
+use Rattle.crs_group.specs.Streams.{SourceState, SinkState}
+use Rattle.crs_group.specs.declared.fault.RunFault.{RunFault}
+use Rattle.crs_group.specs.declared.fault.RunFault.TheVariants.{ReadFailed, WriteFailed, TooLong, TooManyReads, Memory}
+use Rattle.crs_group.specs.declared.summary.Summary.{Summary}
+
+-- the source gave these bytes, the first of all that it had, where it tells them
+pub record HasGiven (old new : SourceState) (bytes : List ℕ) : Type 0 where
+  pub is_counted : length bytes ≡ new.taken
+  pub is_first : Consumes old.remaining new.remaining bytes
+
+-- the source showed its end, and gave these bytes: all that it had, where it tells them
+pub record HasGivenAll (old new : SourceState) (bytes : List ℕ) : Type 0 where
+  pub is_ended : new.ended ≡ true
+  pub is_healthy : new.failed ≡ false
+  pub is_given : HasGiven old new bytes
+  pub is_all : IfSome old.remaining (λ all. bytes ≡ all)
+
+-- the source gave bytes of which no line is too long
+abbrev pub GivesShortLines : SourceState → SourceState → Type 0
+GivesShortLines old new = (bytes : List ℕ) × HasGiven old new bytes × HasShortLines bytes
+
+-- the source gave bytes whose line of this number is the first that is too long
+abbrev pub GivesLongLine : SourceState → SourceState → ℕ → Type 0
+GivesLongLine old new number = (bytes : List ℕ) × HasGiven old new bytes × IsTooLong bytes number
+
+-- the source gave bytes whole, and the sink got what is written for them
+pub record IsGrouped (level : Level) (old_source new_source : SourceState) (old_sink new_sink : SinkState)
+    (summary : Summary) : Type 0 where
+  pub bytes : List ℕ
+  pub is_whole : HasGivenAll old_source new_source bytes
+  pub are_short : HasShortLines bytes
+  pub written : List ℕ
+  pub is_output : IsGroupOutput level bytes written summary
+  pub is_sent : Appends old_sink.contents new_sink.contents written
+  pub is_used : new_sink.used ≡ true
+  pub is_healthy : new_sink.failed ≡ false
+
+-- what a fault says of the reading that it ended
+abbrev pub IsReadingFault : SourceState → SourceState → RunFault → Type 0
+IsReadingFault old new ReadFailed = (new.failed ≡ true) × GivesShortLines old new
+IsReadingFault old new WriteFailed = ⊥
+IsReadingFault old new (TooLong number) = (new.failed ≡ false) × GivesLongLine old new number
+IsReadingFault old new TooManyReads =
+    (new.failed ≡ false) × (new.reads ≡ 1048576) × (new.ended ≡ false) × GivesShortLines old new
+IsReadingFault old new Memory = new.failed ≡ false
+
+-- what a run's fault says of its source and of its sink: before the whole was read nothing is written
+abbrev pub IsGroupFault : SourceState → SourceState → SinkState → SinkState → RunFault → Type 0
+IsGroupFault old new before after ReadFailed = IsReadingFault old new ReadFailed × (after ≡ before)
+IsGroupFault old new before after WriteFailed =
+    (new.failed ≡ false) × (new.ended ≡ true) × GivesShortLines old new × (after.failed ≡ true)
+IsGroupFault old new before after (TooLong number) = IsReadingFault old new (TooLong number) × (after ≡ before)
+IsGroupFault old new before after TooManyReads = IsReadingFault old new TooManyReads × (after ≡ before)
+IsGroupFault old new before after Memory = IsReadingFault old new Memory × (after ≡ before)

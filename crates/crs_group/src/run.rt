@@ -1,0 +1,105 @@
+ghost use Rattle.std.specs.Prelude.{◌≡◌, ◌≤◌, ◌↔◌, [], IfErr, IfOk, IsErrOf, OnOk, length, true, vec_len};
+ghost use Rattle.crs_group.specs.Cutting.{IsCutTo};
+ghost use Rattle.crs_group.specs.GroupRun.{IsGroupFault, IsGrouped, IsReadingFault};
+ghost use Rattle.crs_group.specs.Reading.{IsLedgerWhole, IsReadInto, WritesLedger, IsWritingFault};
+ghost use Rattle.crs_group.specs.Streams.{fresh_sink, fresh_source};
+
+use crate::cutting::Cutter;
+use crate::fault::RunFault;
+use crate::group_text::write_catalogue;
+use crate::ledger::Ledger;
+use crate::sink::Sink;
+use crate::source::Source;
+use crate::summary::Summary;
+use crs_value::Level;
+use std::alloc::{AllocError, Global};
+use std::io::{Read, Write};
+
+const MAX_READS: u32 = 1_048_576;
+
+const ROOM: usize = 65_536;
+
+/// Reads lines of texts to the end, and writes their catalogue at a level: for each group `group N:` and the numbers
+/// of its lines, and then for each refused line `line L:` and the refusal. Lines are numbered from 1, blank ones
+/// included. `ReadFailed` and `WriteFailed` where the source or the sink has failed, `TooLong(n)` where line `n` has
+/// more than 1,048,576 bytes before its line feed, `TooManyReads` where 1,048,576 reads have not shown the end,
+/// `Memory` where memory ran out. Nothing was written then, but for `WriteFailed`. Profile.
+pub fn run_group<R: Read, W: Write>(
+    alloc: Global,
+    level: Level,
+    r: &mut Source<R>,
+    w: &mut Sink<W>,
+) -> Result<Summary, RunFault>
+    requires source { r.old ≡ fresh_source r.old.remaining }
+    requires sink { w.old ≡ fresh_sink w.old.contents }
+    ensures answered { IfOk result (IsGrouped level r.old r.new w.old w.new) }
+    ensures reads { r.new.reads ≤ 1048576 }
+    ensures fault { IfErr result (IsGroupFault r.old r.new w.old w.new) }
+    ensures read_failed { IsErrOf result RunFault.ReadFailed ↔ (r.new.failed ≡ true) }
+    ensures write_failed { IsErrOf result RunFault.WriteFailed ↔ (w.new.failed ≡ true) }
+{
+    let ledger = read_ledger(alloc, level, r)?;
+    write_ledger(alloc, &ledger, w)
+}
+
+// The ledger of all lines of a source.
+fn read_ledger<R: Read>(
+    alloc: Global,
+    level: Level,
+    source: &mut Source<R>,
+) -> Result<Ledger, RunFault>
+    requires { source.old ≡ fresh_source source.old.remaining }
+    ensures ok { IfOk result (IsLedgerWhole level source.old source.new) }
+    ensures reads { source.new.reads ≤ 1048576 }
+    ensures err { IfErr result (IsReadingFault source.old source.new) }
+{
+    let mut room = make_room(alloc).map_err(|_| RunFault::Memory)?;
+    let mut cutter = Cutter::new(alloc, level);
+    read_into(&mut cutter, source, room.as_mut_slice())?;
+    cutter.finish().map_err(|_| RunFault::Memory)
+}
+
+fn read_into<R: Read>(
+    cutter: &mut Cutter,
+    source: &mut Source<R>,
+    room: &mut [u8],
+) -> Result<(), RunFault>
+    requires source { source.old ≡ fresh_source source.old.remaining }
+    requires cutter { IsCutTo [] cutter.old }
+    requires room { length room.old ≡ 65536 }
+    ensures ok { OnOk result (IsReadInto source.old source.new cutter.new) }
+    ensures reads { source.new.reads ≤ 1048576 }
+    ensures err { IfErr result (IsReadingFault source.old source.new) }
+    ensures level { cutter.new.ledger.catalogue.level ≡ cutter.old.ledger.catalogue.level }
+{
+    for turn in 0..MAX_READS {
+        let count = source.read(room).map_err(|_| RunFault::ReadFailed)?;
+        if count == 0 {
+            return Ok(());
+        }
+        cutter.take(&room[..count])?;
+    }
+    Err(RunFault::TooManyReads)
+}
+
+// Writes the catalogue of a ledger, and answers its summary.
+fn write_ledger<W: Write>(
+    alloc: Global,
+    ledger: &Ledger,
+    sink: &mut Sink<W>,
+) -> Result<Summary, RunFault>
+    requires { sink.old ≡ fresh_sink sink.old.contents }
+    ensures ok { IfOk result (WritesLedger ledger.now sink.old sink.new) }
+    ensures err { IfErr result (IsWritingFault sink.old sink.new) }
+{
+    let mut text = Vec::new(alloc);
+    write_catalogue(&mut text, ledger.catalogue()).map_err(|_| RunFault::Memory)?;
+    sink.write_all(&text).map_err(|_| RunFault::WriteFailed)?;
+    Ok(ledger.summary())
+}
+
+fn make_room(alloc: Global) -> Result<Vec<u8>, AllocError>
+    ensures { IfOk result (λ room. vec_len room ≡ 65536) }
+{
+    vec![in alloc; 0u8; ROOM]
+}
