@@ -157,6 +157,21 @@ breaking-on tree c item least one next id named at so is within e is_at =
     back : (f : RefusedAt) → BreaksAmong c (join so.done (More (item_at tree id) End)) f → BreaksAmong c so.done f ⊎ Breaks named (item_at tree id) f
     back f h = split f (among-split c so.done (More (item_at tree id) End) f h)
 
+pub leaf-unbroken : (c : Class) (item : Item) → (kind_of item ≡ kinds.Node → ⊥) → IsLeast (Breaks c item) None
+leaf-unbroken c (leaf kind place raw) other = λ f h. h
+leaf-unbroken c (node place keyword square first others close) other = absurd (other refl)
+
+leaf-least : (least : Option RefusedAt) → least ≡ lesser least None
+leaf-least None = refl
+leaf-least (Some fault) = refl
+
+-- an argument that is no node breaks nothing
+pub breaking-past : (tree : Item) (c : Class) (item : Item) (least : Option RefusedAt) (id : ℕ) (at : Option ℕ) → Breaking tree c item least (Some id) →
+    (kind_of (item_at tree id) ≡ kinds.Node → ⊥) → IsAt tree (rest_of (here tree id)) at → Breaking tree c item least at
+breaking-past tree c item least id at so other is_at =
+    let h = argument-class c so.classes (here tree id) so.holds so.shaped in
+    breaking-on tree c item least None least id h.0 at so h.1.1.0 (leaf-unbroken h.0 (item_at tree id) other) (leaf-least least) is_at
+
 pub breaking-less : (tree : Item) (id : ℕ) (at : Option ℕ) → HasId tree id → IsAt tree (rest_of (here tree id)) at → sizes (ahead tree at) < sizes (here tree id)
 breaking-less tree id at has is_at =
     let same : sizes (ahead tree at) ≡ sizes (rest_of (here tree id)) = ap sizes (ahead_at tree (rest_of (here tree id)) at is_at) in
@@ -188,7 +203,3 @@ breaks-whole c (node place keyword square first others close) least is h =
         BreaksAmong c (More first others) f ⊎ Own c (node place keyword square first others close) f
     back f (inl x) = inr x
     back f (inr x) = inl x
-
-pub leaf-unbroken : (c : Class) (item : Item) → (kind_of item ≡ kinds.Node → ⊥) → IsLeast (Breaks c item) None
-leaf-unbroken c (leaf kind place raw) other = λ f h. h
-leaf-unbroken c (node place keyword square first others close) other = absurd (other refl)

@@ -1,5 +1,5 @@
 -- Each text is spelled or refused.
-use Rattle.std.proofs.Common.{◌≡◌, ℕ, ◌⊎◌, inl, inr, Some, None, List, refl}
+use Rattle.std.proofs.Common.{◌≡◌, ℕ, ◌⊎◌, inl, inr, Some, None, List, refl, subst}
 use Rattle.crs_text.specs.Items.{Item}
 use Rattle.crs_text.specs.Refusal.{RefusedAt}
 use Rattle.crs_text.specs.TextFault.{SpellsNode, RefusesText}
@@ -9,6 +9,7 @@ use Rattle.crs_shape.specs.ShapeFault.{IsFree, AtRoot, class_of_root, misplaced}
 use Rattle.crs_shape.specs.Shaped.{Shaped}
 use Rattle.crs_value.specs.declared.crs.Crs.{Crs}
 use Rattle.crs_value.specs.Checks.{Breaks}
+use Rattle.crs_value.specs.ReadsCrs.{ReadsCrs}
 use Rattle.crs_value.specs.Spells.{SpellsCrs, RefusesCrs}
 use Rattle.crs_value.specs.SpellsText.{Spells, Refuses}
 use Rattle.crs_value.proofs.ArgumentLemmas.{SlotsCount}
@@ -32,6 +33,15 @@ ItemAnswer item = ((value : Crs) × SpellsCrs item value) ⊎ ((fault : RefusedA
 
 abbrev pub TextAnswer : List ℕ → Type 0
 TextAnswer text = ((value : Crs) × Spells text value) ⊎ ((fault : RefusedAt) × Refuses text fault)
+
+-- a root of its shape that breaks nothing spells a value
+pub judged-spells : Numbers → SlotsCount → NoFaultIsShape → (item other : Item) (c : Class) → other ≡ item → class_of_root item ≡ Some c → IsFree (AtRoot item) → AreFormed other → ((fault : RefusedAt) → Breaks c other fault → ⊥)
+    → (value : Crs) × SpellsCrs item value
+judged-spells numbers slots law item other c same e free formed unbroken =
+    let P : Item → Type 0 = λ i. (fault : RefusedAt) → Breaks c i fault → ⊥ in
+    let value = crs-some numbers slots other c (root-among item c e) (record { formed = formed; shaped = root-shaped law item other c same e free; unbroken = unbroken }) in
+    let R : Item → Type 0 = λ i. ReadsCrs c i value.0 in
+    (value.0, record { class_read = c; root = e; shaped = free; unbroken = subst P same unbroken; reads = subst R same value.1 })
 
 module _ (numbers : Numbers) (one : DenotesOne) (slots : SlotsCount) (shape : NoFaultIsShape) where
   checked : (item : Item) (c : Class) → class_of_root item ≡ Some c → IsFree (AtRoot item) → AreFormed item → Shaped c item → HasLeast (Breaks c item) → ItemAnswer item

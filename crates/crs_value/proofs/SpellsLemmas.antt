@@ -2,13 +2,14 @@
 use Rattle.std.proofs.Common.{◌≡◌, ◌↔◌, ℕ, true, false, inl, inr, Some, List, [], ◌∷◌, if◌then◌else◌, sym, ◌∙◌, subst}
 use Rattle.crs_text.specs.Items.{Item, leaf, node}
 use Rattle.crs_text.specs.Refusal.{RefusedAt}
+use Rattle.crs_text.specs.Written.{AreFormed}
 use Rattle.crs_shape.specs.declared.class.Class.{Class}
 use Rattle.crs_shape.specs.Keywords.{is_keyword, first_named, root_classes, root_named}
 use Rattle.crs_shape.specs.Shaped.{Shaped}
 use Rattle.crs_shape.specs.ShapeFault.{IsFree, Inside, AtRoot, class_of_root}
 use Rattle.crs_value.specs.declared.crs.Crs.{Crs}
 use Rattle.crs_value.specs.Break.{IsLeast}
-use Rattle.crs_value.specs.Checks.{Breaks}
+use Rattle.crs_value.specs.Checks.{Breaks, IsSound}
 use Rattle.crs_value.specs.Found.{IsAmong}
 use Rattle.crs_value.specs.ReadsCrs.{ReadsCrs}
 use Rattle.crs_value.specs.Spells.{SpellsCrs, BreaksFirst, RefusesCrs}
@@ -43,6 +44,14 @@ root-among (node place keyword square first others close) c e = first-among root
 
 class-one : (item : Item) (c d : Class) → class_of_root item ≡ Some c → class_of_root item ≡ Some d → c ≡ d
 class-one item c d e f = let h : Some c ≡ Some d = sym e ∙ f in cc
+
+-- the root of items that spell a value breaks nothing
+pub spelled-sound : NoFaultIsShape → (item other : Item) (c : Class) {value : Crs} → other ≡ item → class_of_root item ≡ Some c → AreFormed other → SpellsCrs item value → IsSound c other
+spelled-sound law item other c same e formed spells =
+    let P : Class → Type 0 = λ d. (fault : RefusedAt) → Breaks d item fault → ⊥ in
+    let unbroken = subst P (class-one item spells.class_read c spells.root e) spells.unbroken in
+    let Q : Item → Type 0 = λ i. (fault : RefusedAt) → Breaks c i fault → ⊥ in
+    record { formed = formed; shaped = root-shaped law item other c same e spells.shaped; unbroken = subst Q (sym same) unbroken }
 
 pub spelled-one : DenotesOne → (item : Item) (a b : Crs) → SpellsCrs item a → SpellsCrs item b → a ≡ b
 spelled-one law item a b p q =

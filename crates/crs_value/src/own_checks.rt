@@ -92,10 +92,13 @@ pub(crate) fn first_break(items: &Items<'_>, id: ItemId, class: Class) -> Option
     let mut inside = None;
     let mut next = items.arg(id, 0);
     while let Some(argument) = next {
-        let Some(named) = class_in(items, argument, class) else {
-            unreachable!()
-        };
-        inside = lesser(inside, first_break(items, argument, named));
+        // A number, text or word breaks no check by itself.
+        if items.kind(argument) == ItemKind::Node {
+            let Some(named) = class_in(items, argument, class) else {
+                unreachable!()
+            };
+            inside = lesser(inside, first_break(items, argument, named));
+        }
         next = items.next(argument);
     }
     own(items, id, class, inside)

@@ -1,15 +1,38 @@
 //! From the items of a text to its value.
-ghost use Rattle.std.specs.Prelude.{MatchResult};
-ghost use Rattle.crs_value.specs.Spells.{SpellsCrs, IsFaultOf};
+ghost use Rattle.std.specs.Prelude.{◌≡◌, MatchResult, IfOk, Some};
+ghost use Rattle.crs_shape.specs.ShapeFault.{class_of_root};
+ghost use Rattle.crs_value.specs.declared.crs.Crs.{Crs};
+ghost use Rattle.crs_value.specs.Spells.{SpellsCrs, IsFaultOf, RefusesCrs};
 ghost use Rattle.crs_value.specs.SpellsText.{Spells, IsFaultOfText};
 
 use crate::crs::Crs;
 use crate::own_checks::first_break;
 use crate::whole::read_crs;
-use crs_shape::fit_root;
-use crs_shape::laws::no_fault_is_shape;
-use crs_text::{Fault, Items, read_items};
+use crs_decimal::laws::denotes_some;
+use crs_shape::laws::{no_fault_is_shape, slots_count};
+use crs_shape::{Class, fit_root};
+use crs_text::{Fault, Items, Refusal, read_items};
 use std::alloc::Global;
+
+/// The class of the CRS that the items of a text spell. Its value isn't built, and no memory is taken.
+///
+/// The items are refused where `value_of` refuses them, with the same number and place. Time is linear in the items.
+/// ISO 19162:2019, "Coordinate reference systems"; the checks are the profile's.
+pub fn judge(items: &Items<'_>) -> Result<Class, Refusal>
+    ensures answer { MatchResult result (λ _. (value : Crs) × SpellsCrs items.now value) (RefusesCrs items.now) }
+    ensures class { IfOk result (λ class. class_of_root items.now ≡ Some class) }
+{
+    no_fault_is_shape();
+    slots_count();
+    denotes_some();
+    let root = items.root();
+    items.formed(root);
+    let class = fit_root(items)?;
+    match first_break(items, root, class) {
+        None => Ok(class),
+        Some(refusal) => Err(refusal),
+    }
+}
 
 /// The value that the items of a text spell, with the text's bytes borrowed.
 ///
@@ -23,14 +46,10 @@ pub fn value_of<'a>(alloc: Global, items: &Items<'a>) -> Result<Crs<'a>, Fault>
     no_fault_is_shape();
     let root = items.root();
     items.formed(root);
-    let class = match fit_root(items) {
-        Ok(class) => class,
-        Err(refusal) => return Err(Fault::Refused(refusal)),
-    };
-    if let Some(refusal) = first_break(items, root, class) {
-        return Err(Fault::Refused(refusal));
+    match judge(items) {
+        Ok(class) => read_crs(alloc, items, root, class).map_err(Fault::Memory),
+        Err(refusal) => Err(Fault::Refused(refusal)),
     }
-    read_crs(alloc, items, root, class).map_err(Fault::Memory)
 }
 
 /// The value that a text spells, with its bytes borrowed.
