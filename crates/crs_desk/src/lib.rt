@@ -3,7 +3,7 @@
 
 pub use canon_run::run_canon;
 pub use check_run::run_check;
-pub use crs_group::{RunFault, Sink, Source};
+pub use crs_group::{RunFault, Sink, Source, Summary, run_group};
 pub use crs_line::{LineWord, Request, RequestFault, request};
 pub use crs_value::Level;
 pub use same_run::run_same;
