@@ -8,8 +8,9 @@ use std::marker::Model;
 /// Profile.
 #[derive(Clone, Copy, Debug, PartialEq, Eq)]
 pub struct Refusal {
+    // A word, so that no gap is copied with a refusal.
+    number: u64,
     place: usize,
-    number: u8,
 }
 
 impl Model for Refusal {
@@ -54,7 +55,7 @@ impl Reason {
         ensures number { result.number ≡ reason_number self }
         ensures place { result.place ≡ place }
     {
-        let number = match self {
+        let number: u8 = match self {
             Reason::BadCharacter => 1,
             Reason::BadNumber => 2,
             Reason::NumberRange => 3,
@@ -64,7 +65,10 @@ impl Reason {
             Reason::UnexpectedEnd => 7,
             Reason::TooDeep => 8,
         };
-        Refusal { number, place }
+        Refusal {
+            number: u64::from(number),
+            place,
+        }
     }
 }
 
@@ -75,7 +79,10 @@ impl Refusal {
         ensures value { IfSome result (λ r. (r.number ≡ number) × (r.place ≡ place)) }
     {
         match number {
-            1..=8 | 11..=13 | 21..=29 => Some(Refusal { number, place }),
+            1..=8 | 11..=13 | 21..=29 => Some(Refusal {
+                number: u64::from(number),
+                place,
+            }),
             _ => None,
         }
     }
@@ -85,7 +92,7 @@ impl Refusal {
         ensures value { result ≡ self.now.number }
         ensures known { IsTrue (is_refusal self.now.number) }
     {
-        self.number
+        self.number as u8
     }
 
     /// The place of the fault.
@@ -99,10 +106,10 @@ impl Refusal {
     pub fn name(&self) -> &'static str
         ensures { result.now ≡ name_of self.now.number }
     {
-        match self.number {
-            0..=8 => text_name(self.number),
-            9..=13 => shape_name(self.number),
-            _ => value_name(self.number),
+        match self.number() {
+            0..=8 => text_name(self.number()),
+            9..=13 => shape_name(self.number()),
+            _ => value_name(self.number()),
         }
     }
 }
