@@ -72,13 +72,13 @@ pub(crate) fn white_length(left: &[u8]) -> usize
     left.iter().take_while(|b| is_white(**b)).count()
 }
 
-fn word_length(left: &[u8]) -> usize
+pub(crate) fn word_length(left: &[u8]) -> usize
     ensures { result ≡ prefix_len tokens.is_word_byte left.now }
 {
     left.iter().take_while(|b| is_word_byte(**b)).count()
 }
 
-fn run_length(left: &[u8]) -> usize
+pub(crate) fn run_length(left: &[u8]) -> usize
     ensures { result ≡ prefix_len spelling.is_run_byte left.now }
 {
     left.iter().take_while(|b| is_run_byte(**b)).count()
@@ -101,8 +101,8 @@ fn begins_with_quote(bytes: &[u8]) -> bool
     }
 }
 
-// The place of the closing quote in the bytes after an opening one: the first quote that isn't doubled.
-fn closing_quote(after: &[u8]) -> Option<usize>
+/// The place of the closing quote in the bytes after an opening one: the first quote that isn't doubled.
+pub(crate) fn closing_quote(after: &[u8]) -> Option<usize>
     ensures { MatchOption result (IsInside after.now) (IsShutAt after.now) }
 {
     let mut at = 0;
