@@ -25,7 +25,7 @@ IsEither bytes = ((item : Item) × SpellsNode bytes item) ⊎ ((n place : ℕ) �
 
 -- ---- where it stops
 
-after_white_shorter : (bytes left : List ℕ) → IsAfterWhite bytes left → length left ≤ length bytes
+pub after_white_shorter : (bytes left : List ℕ) → IsAfterWhite bytes left → length left ≤ length bytes
 after_white_shorter bytes left w = omega (arith, ap length w.parts, length-append w.white left)
 
 -- an opening delimiter that isn't taken after a word is one too many
@@ -39,7 +39,7 @@ deep_after_word ts table square h is_word = go h.0 h.1 (sym (ap (λ f. f.positio
     go (after item fs) r e = cc
 
 -- a token that the table doesn't take is one too many, or unexpected
-abbrev IsMisplaced : ℕ → List Token → List ℕ → Type 0
+abbrev pub IsMisplaced : ℕ → List Token → List ℕ → Type 0
 IsMisplaced total ts left = IsStop Unexpected total ts left 0 ⊎ IsStop TooDeep total ts left 0
 
 misplaced_opening : (total : ℕ) (ts : List Token) (left rest : List ℕ) (table : Flat) (square : Bool) (position : Position) → table.position ≡ position → Shows ts table
@@ -49,7 +49,7 @@ misplaced_opening total ts left rest table square AfterWord e shows f not =
 misplaced_opening total ts left rest table square position e shows f not =
     inl (opening square, rest, f, not, λ deep. refused_from_shows ts table table square shows (λ is_word. let h = sym is_word ∙ e in cc, refl) deep.0, refl)
 
-misplaced : (total : ℕ) (ts : List Token) (left rest : List ℕ) (table : Flat) (t : Token) → Shows ts table → Forms total t left rest → flat_step table t ≡ None → IsMisplaced total ts left
+pub misplaced : (total : ℕ) (ts : List Token) (left rest : List ℕ) (table : Flat) (t : Token) → Shows ts table → Forms total t left rest → flat_step table t ≡ None → IsMisplaced total ts left
 misplaced total ts left rest table (opening square) shows f none =
     misplaced_opening total ts left rest table square table.position refl shows f (not_viable_from_shows ts table (opening square) shows none)
 misplaced total ts left rest table (single kind place raw) shows f none =

@@ -1,5 +1,6 @@
 pub mod AllowedLemmas
 pub mod EitherLemmas
+pub mod FeedingLemmas
 pub mod FlatLemmas
 pub mod FlawLemmas
 pub mod FrontsLemmas
@@ -11,6 +12,7 @@ pub mod OneItem
 pub mod QuotedLemmas
 pub mod RunLemmas
 pub mod ScanLemmas
+pub mod SettledEither
 pub mod SettledLemmas
 pub mod ShowsLemmas
 pub mod SoundLemmas

@@ -166,7 +166,7 @@ quote_at after at quote e lt =
     let n : at + (k + 1) ≡ quote + 1 = omega (arith, e) in
     ap (λ z. drop z after) e ∙ sym (drop-drop k at after) ∙ first_quote (drop at after) le ∙ ap (λ (z : List ℕ). 34 ∷ z) (drop-drop (k + 1) at after ∙ ap (λ z. drop z after) n)
 
-same_split : (xs : List ℕ) (n : ℕ) (ys : List ℕ) → drop n xs ≡ ys → xs ≡ take n xs ++ ys
+pub same_split : (xs : List ℕ) (n : ℕ) (ys : List ℕ) → drop n xs ≡ ys → xs ≡ take n xs ++ ys
 same_split xs n ys e = sym (take-append-drop n xs) ∙ ap (λ z. take n xs ++ z) e
 
 -- the closing quote: no other quote stands behind it

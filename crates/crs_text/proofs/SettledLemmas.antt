@@ -14,6 +14,7 @@ use Rattle.crs_text.specs.declared.refusal.Reason.{Reason}
 use Rattle.crs_text.specs.declared.refusal.Reason.TheVariants.{BadCharacter, BadNumber, NumberRange, NotUtf8, OpenText, Unexpected, UnexpectedEnd, TooDeep}
 use Rattle.crs_text.specs.TextFault.{BeginsNoToken, IsFirstRun, IsFlaw, IsStop, RefusesText}
 use Rattle.crs_text.specs.Settled.{IsSettled, FormsSettled, SettledFronts, IsRunSettled, IsSettledStop, IsSettledRefusal, IsTakenSoFar}
+use Rattle.crs_text.specs.Feeding.{IsHeld}
 use Rattle.crs_text.proofs.TokenLemmas.{Forms-one}
 use Rattle.crs_text.proofs.FlawLemmas.{flaw_some}
 use Rattle.crs_text.proofs.QuotedLemmas.{same_head, same_tail, shut_one, shut_not_open}
@@ -58,7 +59,7 @@ settled_one bytes n m p q x y = refusal_one bytes n m p q (refuses_from_settled 
 
 -- ---- under more bytes
 
-stops_more : (test : ℕ → Bool) (left more : List ℕ) → left ≢ [] → StopsAt test left → StopsAt test (left ++ more)
+pub stops_more : (test : ℕ → Bool) (left more : List ℕ) → left ≢ [] → StopsAt test left → StopsAt test (left ++ more)
 stops_more test [] more some s = absurd (some refl)
 stops_more test (b ∷ bs) more some s = s
 
@@ -98,7 +99,7 @@ forms_more total t left rest more f = record {
   settled = settled_more t rest more f.settled;
 }
 
-all_append : (test : ℕ → Bool) (a b : List ℕ) → IsTrue (list_all test a) → IsTrue (list_all test b) → IsTrue (list_all test (a ++ b))
+pub all_append : (test : ℕ → Bool) (a b : List ℕ) → IsTrue (list_all test a) → IsTrue (list_all test b) → IsTrue (list_all test (a ++ b))
 all_append test a b p q = rw (list_all-append test a b, p, q) refl
 
 white_more : (bytes left more : List ℕ) → left ≢ [] → IsAfterWhite bytes left → IsAfterWhite (bytes ++ more) (left ++ more)
@@ -160,7 +161,7 @@ no_token_longer [] more b = absurd b
 no_token_longer (x ∷ xs) more b = b
 
 -- what stands behind an opening quote, through the closing one: its front stays
-through_front : (after inside : List ℕ) → Through after inside → (rest : List ℕ) × (after ≡ inside ++ rest)
+pub through_front : (after inside : List ℕ) → Through after inside → (rest : List ℕ) × (after ≡ inside ++ rest)
 through_front after inside (inl s) =
     (s.1, s.2.parts ∙ sym (append_assoc s.0 (34 ∷ []) s.1) ∙ ap (λ z. z ++ s.1) (sym s.3))
 through_front after inside (inr o) = ([], sym o.1 ∙ sym (append-nil inside))
@@ -225,7 +226,7 @@ stop_longer Unexpected total ts left more k s = (s.0, s.1 ++ more, forms_more to
 stop_longer UnexpectedEnd total ts left more k s = absurd s
 stop_longer TooDeep total ts left more k s = (s.0, s.1 ++ more, forms_more total s.0 left s.1 more s.2, s.3, s.4)
 
-stop_some : (r : Reason) (total : ℕ) (ts : List Token) (left : List ℕ) (k : ℕ) → IsSettledStop r total ts left k → left ≢ []
+pub stop_some : (r : Reason) (total : ℕ) (ts : List Token) (left : List ℕ) (k : ℕ) → IsSettledStop r total ts left k → left ≢ []
 stop_some Unexpected total ts left k s e = forms_some total s.0 left s.1 s.2.forms e
 stop_some TooDeep total ts left k s e = forms_some total s.0 left s.1 s.2.forms e
 stop_some BadCharacter total ts left k s e = flaw_some BadCharacter left k s e
@@ -235,7 +236,7 @@ stop_some NotUtf8 total ts left k s e = flaw_some NotUtf8 left k s e
 stop_some OpenText total ts left k s e = s
 stop_some UnexpectedEnd total ts left k s e = s
 
-fronts_dark : (total : ℕ) (ts : List Token) (bytes left : List ℕ) → SettledFronts total bytes ts left → StopsAt is_white left
+pub fronts_dark : (total : ℕ) (ts : List Token) (bytes left : List ℕ) → SettledFronts total bytes ts left → StopsAt is_white left
 fronts_dark total [] bytes left p = p.ends
 fronts_dark total (t ∷ ts) bytes left p = fronts_dark total ts p.1 left p.4
 
@@ -289,11 +290,6 @@ front_token : (total : ℕ) (t : Token) (ts : List Token) (left b : List ℕ) �
 front_token total t ts left b ends p =
     let h : p.0 ≡ left = after_white_one left p.0 left p.2 (at_once left ends) in
     (p.1, subst (λ z. FormsSettled total t z p.1) h p.3)
-
--- nothing settled stands in front of what is left of a text of this length, behind these tokens
-pub record IsHeld (total : ℕ) (ts : List Token) (left : List ℕ) : Type 0 where
-  pub no_token : (t : Token) (rest : List ℕ) → ¬ (FormsSettled total t left rest)
-  pub no_stop : (r : Reason) (k : ℕ) → ¬ (IsSettledStop r total ts left k)
 
 module _ (bytes : List ℕ) (ts : List Token) (left : List ℕ) (fronts : SettledFronts (length bytes) bytes ts left) (viable : IsViable ts) (held : IsHeld (length bytes) ts left) where
   dark : StopsAt is_white left

@@ -1,5 +1,6 @@
 pub mod Examples
 pub mod Fault
+pub mod Feeding
 pub mod Items
 pub mod Lexing
 pub mod Quoted

@@ -75,3 +75,8 @@ abbrev pub IsPieceFault : List ℕ → List ℕ → List ℕ → Fault → Type 
 IsPieceFault bytes piece held (faults.Refused refusal) =
     IsSettledRefusal held refusal.number refusal.place × ((held ≡ bytes ++ piece) ⊎ (held ≡ bytes))
 IsPieceFault bytes piece held (faults.Memory e) = (held ≡ bytes) × IsTakenSoFar bytes
+
+-- where the fault is want of memory, nothing settled refuses the bytes
+abbrev pub IsWantUnrefused : List ℕ → Fault → Type 0
+IsWantUnrefused bytes (faults.Refused refusal) = Unit {0}
+IsWantUnrefused bytes (faults.Memory e) = IsTakenSoFar bytes

@@ -74,4 +74,9 @@ pub fn settled_refusals()
     ensures stays { (bytes more : List ℕ) (n place : ℕ) → IsSettledRefusal bytes n place →
         IsSettledRefusal (bytes ++ more) n place × RefusesText (bytes ++ more) n place }
     ensures apart { (bytes : List ℕ) (n place : ℕ) → IsSettledRefusal bytes n place → ¬ (IsTakenSoFar bytes) }
-{}
+
+    // Each list of bytes is one or the other.
+    ensures either { (bytes : List ℕ) → ((n place : ℕ) × IsSettledRefusal bytes n place) ⊎ IsTakenSoFar bytes }
+{
+    crs_decimal::laws::decided();
+}

@@ -66,8 +66,8 @@ fn begins_with_quote(bytes: &[u8]) -> bool
     }
 }
 
-// The place of the closing quote in the bytes after an opening one: the first quote that isn't doubled.
-fn closing_quote(after: &[u8]) -> Option<usize>
+/// The place of the closing quote in the bytes after an opening one: the first quote that isn't doubled.
+pub(crate) fn closing_quote(after: &[u8]) -> Option<usize>
     ensures { MatchOption result (IsInside after.now) (IsShutAt after.now) }
 {
     let mut at = 0;

@@ -3,6 +3,8 @@
 #![tactic(auto)]
 
 mod fault;
+mod feeder;
+mod feeding;
 mod items;
 pub mod laws;
 mod lexing;
@@ -14,6 +16,7 @@ mod table;
 mod utf8;
 
 pub use fault::Fault;
+pub use feeder::Feeder;
 pub use items::{ItemId, ItemKind, Items};
 pub use reading::read_items;
 pub use refusal::Refusal;

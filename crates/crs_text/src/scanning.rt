@@ -7,6 +7,7 @@ ghost use Rattle.crs_text.specs.Scan.{IsReached, IsTaken, IsStoppedBy, IsSingleA
 ghost use Rattle.crs_text.specs.Table.{Flat, is_whole};
 ghost use Rattle.crs_text.specs.Rows.{flat};
 ghost use Rattle.crs_text.specs.State.{start};
+ghost use Rattle.crs_text.specs.Lexing.{IsLexed};
 
 use crate::fault::Fault;
 use crate::items::ItemKind;
@@ -84,12 +85,18 @@ fn flawed(text: &[u8], at: usize, reason: Reason, skip: usize) -> Fault
     Fault::Refused(reason.at(at + skip))
 }
 
-// The token at this place: how many bytes it has, if the table takes it.
-fn take_token(table: &mut Table, text: &[u8], at: usize) -> Result<usize, Fault>
-    requires { at < length text.now }
+/// What begins at this place: how many bytes it has, if it is a token that the table takes.
+pub(crate) fn take_lexed(
+    table: &mut Table,
+    text: &[u8],
+    at: usize,
+    lexed: Lexed,
+) -> Result<usize, Fault>
+    requires more { at < length text.now }
+    requires lexed { IsLexed (drop at text.now) lexed }
     ensures { MatchResult result (IsTaken text.now at table.old table.new) (IsStoppedBy text.now at table.old) }
 {
-    match token_at(rest_of(text, at)) {
+    match lexed {
         Lexed::Number { length } => take_single(table, text, at, ItemKind::Number, length, length),
         Lexed::Text { length } => take_single(table, text, at, ItemKind::Text, length, length + 2),
         Lexed::Word { length } => take_single(table, text, at, ItemKind::Word, length, length),
@@ -100,16 +107,24 @@ fn take_token(table: &mut Table, text: &[u8], at: usize) -> Result<usize, Fault>
     }
 }
 
-// Where the white space that begins at `end` has an end.
-fn after_white(text: &[u8], end: usize) -> usize
+// The token at this place: how many bytes it has, if the table takes it.
+fn take_token(table: &mut Table, text: &[u8], at: usize) -> Result<usize, Fault>
+    requires { at < length text.now }
+    ensures { MatchResult result (IsTaken text.now at table.old table.new) (IsStoppedBy text.now at table.old) }
+{
+    take_lexed(table, text, at, token_at(rest_of(text, at)))
+}
+
+/// Where the white space that begins at `end` has an end.
+pub(crate) fn after_white(text: &[u8], end: usize) -> usize
     requires { end ≤ length text.now }
     ensures { result ≡ end + prefix_len is_white (drop end text.now) }
 {
     end + white_length(rest_of(text, end))
 }
 
-// Takes the token at this place and the white space behind it.
-fn advance(table: &mut Table, text: &[u8], at: usize) -> Result<usize, Fault>
+/// Takes the token at this place and the white space behind it.
+pub(crate) fn advance(table: &mut Table, text: &[u8], at: usize) -> Result<usize, Fault>
     requires more { at < length text.now }
     requires reached { IsReached text.now table.old at }
     ensures { MatchResult result
@@ -122,14 +137,14 @@ fn advance(table: &mut Table, text: &[u8], at: usize) -> Result<usize, Fault>
     }
 }
 
-/// Reads the text into the table: Ok where its tokens are one whole node.
-pub(crate) fn scan(table: &mut Table, text: &[u8]) -> Result<(), Fault>
-    requires { table.old ≡ flat start }
+/// Reads the rest of the text, from this place on: Ok where all its tokens are one whole node.
+pub(crate) fn scan_from(table: &mut Table, text: &[u8], from: usize) -> Result<(), Fault>
+    requires { IsReached text.now table.old from }
     ensures { MatchResult result
         (λ _. IsScanned text.now table.new)
         (IsTextFault text.now) }
 {
-    let mut at = white_length(text);
+    let mut at = from;
     while at < text.len() {
         at = advance(table, text, at)?;
     }
@@ -138,4 +153,15 @@ pub(crate) fn scan(table: &mut Table, text: &[u8]) -> Result<(), Fault>
     } else {
         Err(Fault::Refused(Reason::UnexpectedEnd.at(text.len())))
     }
+}
+
+/// Reads the text into the table: Ok where its tokens are one whole node.
+pub(crate) fn scan(table: &mut Table, text: &[u8]) -> Result<(), Fault>
+    requires { table.old ≡ flat start }
+    ensures { MatchResult result
+        (λ _. IsScanned text.now table.new)
+        (IsTextFault text.now) }
+{
+    let from = white_length(text);
+    scan_from(table, text, from)
 }

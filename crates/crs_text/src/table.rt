@@ -267,6 +267,20 @@ impl Table {
         matches!(self.position, Position::AfterItem) && self.depth == 0
     }
 
+    /// The same table again.
+    pub(crate) fn copied(&self, alloc: Global) -> Result<Table, AllocError>
+        ensures { IfOk result (λ table. table ≡ self.now) }
+    {
+        let mut rows = Vec::new(alloc);
+        rows.extend_from_slice(&self.rows)?;
+        Ok(Table {
+            rows,
+            opens: self.opens,
+            depth: self.depth,
+            position: self.position,
+        })
+    }
+
     /// The rows alone.
     pub(crate) fn into_rows(self) -> Vec<Row>
         ensures { result.items ≡ self.rows }

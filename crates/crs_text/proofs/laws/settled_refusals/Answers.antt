@@ -1,5 +1,6 @@
 use Rattle.std.proofs.Common.{◌++◌}
 use Rattle.crs_text.proofs.SettledLemmas.{refuses_from_settled, settled_one, settled_longer}
+use Rattle.crs_text.proofs.SettledEither.{settled_either}
 use Rattle.crs_text.proofs.laws.settled_refusals.Goals as goal
 
 pub returns-clause-refusal : goal.returns-clause-refusal
@@ -13,3 +14,6 @@ returns-clause-stays c = λ bytes more n place r. let s = settled_longer bytes m
 
 pub returns-clause-apart : goal.returns-clause-apart
 returns-clause-apart c = λ bytes n place r t. t.unrefused n place r
+
+pub returns-clause-either : goal.returns-clause-either
+returns-clause-either c = settled_either c.decided.ensures

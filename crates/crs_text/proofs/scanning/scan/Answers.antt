@@ -1,14 +1,5 @@
-use Rattle.std.proofs.Common.{sym, ◌∙◌}
-use Rattle.crs_text.proofs.ScanLemmas.{reached_first, refused_end, spelled_whole}
+use Rattle.crs_text.proofs.ScanLemmas.{reached_first}
 use Rattle.crs_text.proofs.scanning.scan.Goals as goal
 
-pub loop-at-init : goal.loop-at-init
-loop-at-init c = reached_first c.args.text.now c.white_length-at.result c.white_length-at.ensures c.args.table.now c.requires
-
-pub returns-then-is_whole : goal.returns-then-is_whole
-returns-then-is_whole c =
-    spelled_whole c.args.text.now c.loop-at.at c.loop-at.table c.loop-at.invariant c.loop-at-test.false (sym c.is_whole.ensures ∙ c.if-is_whole.true)
-
-pub returns-else-is_whole : goal.returns-else-is_whole
-returns-else-is_whole c =
-    refused_end c.args.text.now c.loop-at.at c.loop-at.table c.at.result c.loop-at.invariant c.loop-at-test.false (sym c.is_whole.ensures ∙ c.if-is_whole.false) c.at.ensures.number c.at.ensures.place
+pub scan_from-requires : goal.scan_from-requires
+scan_from-requires c = reached_first c.args.text.now c.white_length-from.result c.white_length-from.ensures c.args.table.now c.requires

@@ -1,6 +1,6 @@
 use Rattle.std.proofs.Common.{◌-◌, length}
 use Rattle.crs_text.specs.Scan.{IsReached}
-use Rattle.crs_text.proofs.scanning.scan.Given as goal
+use Rattle.crs_text.proofs.scanning.scan_from.Given as goal
 
 abbrev pub invariant-loop-at : goal.invariant-loop-at
 invariant-loop-at l = IsReached l.text l.table l.at

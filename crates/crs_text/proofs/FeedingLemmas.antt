@@ -1,0 +1,446 @@
+-- One settled token more, or the settled reason why nothing goes on, or nothing settled; and what stays pending.
+use Rattle.std.proofs.Common.{◌≡◌, ℕ, suc, ◌+◌, ◌-◌, ◌≤◌, ◌<◌, ◌&&◌, ◌||◌, Bool, true, false, cond, List, [], ◌∷◌, ◌++◌, length, take, drop, Option, Some, None, refl, sym, ap, subst, ◌∙◌, append_assoc, arith, inl, inr}
+use Rattle.std.specs.Prelude.{◌≢◌, IsUtf8}
+use Rattle.std.proofs.lemmas.List.{append-nil, length-append, length-drop, length-take, drop_all, drop-drop, drop_at, take_all, take-append-drop, take-append-le, drop-append-le}
+use Rattle.std.proofs.Math.Seq.{take-add}
+use Rattle.std.proofs.lemmas.Str.{IsUtf8-append}
+use Rattle.std.specs.List.{list_all, prefix_len}
+use Rattle.std.proofs.lemmas.List.Folds.{list_all-append}
+use Rattle.std.proofs.lemmas.List.Sums.{prefix_len-le-length}
+use Rattle.crs_decimal.specs.Spelling.{is_run_byte, is_run_start}
+use Rattle.crs_text.specs.Tokens as tokens
+use Rattle.crs_text.specs.Tokens.{Kind, number, word, Token, single, comma, opening, closing, is_white, is_letter, is_word_byte, IsWord, Forms, IsAfterWhite}
+use Rattle.crs_text.specs.Quoted.{StopsAt, BeginsWith, doubled, is_quote, IsInside, IsShut, IsShutAt}
+use Rattle.crs_text.specs.Utf8.{IsUtf8Front}
+use Rattle.crs_text.specs.TextFault.{begins_token, is_delimiter, BeginsNoToken, IsFlaw, IsStop, IsTextFault}
+use Rattle.crs_text.specs.Settled.{IsSettled, FormsSettled, SettledFronts, IsRunSettled, IsSettledStop, IsSettledRefusal, IsTakenSoFar, IsPieceFault}
+use Rattle.crs_text.specs.Feeding.{IsFlawSettled, IsLexedSettled, IsHeld, IsSettledTo, IsHeldAt, IsSettledFault, IsPendingIn, IsPendingBefore, StaysPending, IsHeldIn, IsInsideTo, IsOpenTo, IsValidTo, IsFedTo, IsFed, IsRefusalOf}
+use Rattle.crs_text.specs.declared.feeding.Held.{Held}
+use Rattle.crs_text.specs.declared.feeding.Pending.{Pending}
+use Rattle.crs_text.specs.declared.feeding.Pending.TheVariants as pending
+use Rattle.crs_text.specs.Rows.{Shows, flat}
+use Rattle.crs_text.specs.State.{start}
+use Rattle.crs_text.specs.Table.{Flat}
+use Rattle.crs_text.specs.Refusal.{RefusedAt}
+use Rattle.crs_text.specs.Lexing.{IsLexed}
+use Rattle.crs_text.specs.Scan.{IsReached, IsTaken, IsStopped, IsStoppedBy}
+use Rattle.crs_text.specs.declared.fault.Fault.{Fault}
+use Rattle.crs_text.specs.declared.fault.Fault.TheVariants as faults
+use Rattle.crs_text.specs.declared.refusal.Reason.{Reason}
+use Rattle.crs_text.specs.declared.refusal.Reason.TheVariants.{BadCharacter, BadNumber, NumberRange, NotUtf8, OpenText, Unexpected, UnexpectedEnd, TooDeep}
+use Rattle.crs_text.specs.declared.lexing.Lexed.{Lexed}
+use Rattle.crs_text.specs.declared.lexing.Lexed.TheVariants as lexed
+use Rattle.crs_text.proofs.TokenLemmas.{Shape, a_single, shape_of, shape_at, shape_at_start, Forms-shape, Forms-shut, Forms-one}
+use Rattle.crs_text.proofs.QuotedLemmas.{doubled-append, and_right, true_not_false, same_tail, same_split, shut_one, shut_not_open}
+use Rattle.crs_text.proofs.Utf8Lemmas.{IsUtf8Front-shorter}
+use Rattle.crs_text.proofs.FlawLemmas.{flaw_no_token, flaw_one}
+use Rattle.crs_text.proofs.FrontsLemmas.{forms_some, at_once, dark_start, dark_word}
+use Rattle.crs_text.proofs.ShowsLemmas.{shows_start, viable_from_shows, shows_more}
+use Rattle.crs_text.proofs.ScanLemmas.{reached_first, number_at, word_at, text_at, comma_at, opening_at, closing_at, after_white}
+use Rattle.crs_text.proofs.SettledLemmas.{refuses_from_settled, fronts_from_settled, stop_some, through_front, all_append, fronts_longer, taken_so_far}
+
+-- ---- runs
+
+all_short : (test : ℕ → Bool) (xs : List ℕ) → prefix_len test xs < length xs → list_all test xs ≡ false
+all_short test [] lt = absurd (omega arith)
+all_short test (x ∷ xs) lt =
+    elim (test x) as (λ v. cond v (1 + prefix_len test xs) 0 < suc (length xs) → (v && list_all test xs) ≡ false)
+    [ true ↦ λ k. all_short test xs (omega arith) | false ↦ λ k. refl ] lt
+
+pub all_full : (test : ℕ → Bool) (xs : List ℕ) → length xs ≤ prefix_len test xs → list_all test xs ≡ true
+all_full test [] le = refl
+all_full test (x ∷ xs) le =
+    elim (test x) as (λ v. suc (length xs) ≤ cond v (1 + prefix_len test xs) 0 → (v && list_all test xs) ≡ true)
+    [ true ↦ λ k. all_full test xs (omega arith) | false ↦ λ k. absurd (omega arith) ] le
+
+abbrev pub RunRules : Type 0
+RunRules =
+    ((left : List ℕ) → prefix_len is_run_byte left < length left → IsRunSettled left)
+    × ((left : List ℕ) → length left ≤ prefix_len is_run_byte left → ¬ (IsRunSettled left))
+
+pub run_rules : RunRules
+run_rules = (all_short is_run_byte, λ left le s. let e = all_full is_run_byte left le in cc)
+
+-- ---- what is settled in front of what is left
+
+-- whatever stands in front of what is left is settled
+pub record AllSettled (total : ℕ) (left : List ℕ) : Type 0 where
+  pub token : (t : Token) (rest : List ℕ) → Forms total t left rest → IsSettled t rest
+  pub flaw : (r : Reason) (k : ℕ) → IsFlaw r left k → IsFlawSettled r left
+
+module _ (total : ℕ) (left : List ℕ) where
+  pub token_all : (t : Token) (rest : List ℕ) → Forms total t left rest → IsSettled t rest → AllSettled total left
+  token_all t rest f s = record {
+    token = λ u tail g. let e = Forms-one total t u left rest tail f g in subst (λ z. IsSettled z tail) e.0 (subst (IsSettled t) e.1 s);
+    flaw = λ r k g. absurd (flaw_no_token r total t left rest k g f);
+  }
+
+  pub flaw_all : (r : Reason) (k : ℕ) → IsFlaw r left k → IsFlawSettled r left → AllSettled total left
+  flaw_all r k f s = record {
+    token = λ u tail g. absurd (flaw_no_token r total u left tail k f g);
+    flaw = λ q m g. subst (λ z. IsFlawSettled z left) (flaw_one r q left k m f g).0 s;
+  }
+
+  -- a stop there is settled
+  pub settled_stop : (r : Reason) (ts : List Token) (k : ℕ) → AllSettled total left → left ≢ [] → IsStop r total ts left k → IsSettledStop r total ts left k
+  settled_stop BadCharacter ts k all some s = s
+  settled_stop BadNumber ts k all some s = (s, all.flaw BadNumber k s)
+  settled_stop NumberRange ts k all some s = (s, all.flaw NumberRange k s)
+  settled_stop NotUtf8 ts k all some s = s
+  settled_stop OpenText ts k all some s = all.flaw OpenText k s
+  settled_stop Unexpected ts k all some s = (s.0, s.1, record { forms = s.2; settled = all.token s.0 s.1 s.2 }, s.3, s.4, s.5)
+  settled_stop UnexpectedEnd ts k all some s = absurd (some s.0)
+  settled_stop TooDeep ts k all some s = (s.0, s.1, record { forms = s.2; settled = all.token s.0 s.1 s.2 }, s.3, s.4)
+
+  -- ---- what isn't
+
+  no_stop_without : (ts : List Token) → ((t : Token) (rest : List ℕ) → ¬ (FormsSettled total t left rest)) → ((r : Reason) (k : ℕ) → IsFlaw r left k → ¬ (IsFlawSettled r left))
+      → (r : Reason) (k : ℕ) → ¬ (IsSettledStop r total ts left k)
+  no_stop_without ts none flaw BadCharacter k s = flaw BadCharacter k s tt
+  no_stop_without ts none flaw BadNumber k s = flaw BadNumber k s.0 s.1
+  no_stop_without ts none flaw NumberRange k s = flaw NumberRange k s.0 s.1
+  no_stop_without ts none flaw NotUtf8 k s = flaw NotUtf8 k s tt
+  no_stop_without ts none flaw OpenText k s = s
+  no_stop_without ts none flaw Unexpected k s = none s.0 s.1 s.2
+  no_stop_without ts none flaw UnexpectedEnd k s = s
+  no_stop_without ts none flaw TooDeep k s = none s.0 s.1 s.2
+
+  pub held_without : (ts : List Token) → ((t : Token) (rest : List ℕ) → ¬ (FormsSettled total t left rest)) → ((r : Reason) (k : ℕ) → IsFlaw r left k → ¬ (IsFlawSettled r left)) → IsHeld total ts left
+  held_without ts none flaw = record { no_token = none; no_stop = no_stop_without ts none flaw }
+
+  pub token_held : (ts : List Token) (t : Token) (rest : List ℕ) → Forms total t left rest → ¬ (IsSettled t rest) → IsHeld total ts left
+  token_held ts t rest f not =
+      held_without ts (λ u tail g. let e = Forms-one total u t left tail rest g.forms f in not (subst (λ z. IsSettled z rest) e.0 (subst (IsSettled u) e.1 g.settled)))
+      (λ r k g. absurd (flaw_no_token r total t left rest k g f))
+
+  pub flaw_held : (ts : List Token) (r : Reason) (k : ℕ) → IsFlaw r left k → ¬ (IsFlawSettled r left) → IsHeld total ts left
+  flaw_held ts r k f not =
+      held_without ts (λ u tail g. flaw_no_token r total u left tail k f g.forms)
+      (λ q m g s. not (subst (λ z. IsFlawSettled z left) (flaw_one q r left m k g f).0 s))
+
+-- ---- at a place of a text
+
+module _ (text : List ℕ) (at : ℕ) (lt : at < length text) where
+  left_some : drop at text ≢ []
+  left_some e = let l : length (drop at text) ≡ 0 = ap length e in absurd (omega (arith, length-drop at text))
+
+  rest_some : (n : ℕ) → n < length (drop at text) → drop (at + n) text ≢ []
+  rest_some n less e = let l : length (drop (at + n) text) ≡ 0 = ap length e in absurd (omega (arith, length-drop (at + n) text, length-drop at text))
+
+  rest_none : (n : ℕ) → ¬ (n < length (drop at text)) → drop (at + n) text ≡ []
+  rest_none n not = drop_all (at + n) text (over n not)
+    where
+      over : (n : ℕ) → ¬ (n < length (drop at text)) → length text ≤ at + n
+      over n not = omega (arith, length-drop at text)
+
+  pub all_from_lexed : (l : Lexed) → IsLexed (drop at text) l → IsLexedSettled (drop at text) l → AllSettled (length text) (drop at text)
+  all_from_lexed (lexed.Number n) l s =
+      let a = number_at text at lt n l in token_all (length text) (drop at text) (single a.of_kind at a.raw) (drop (at + n) text) a.forms (rest_some n s)
+  all_from_lexed (lexed.Text n) l s =
+      let a = text_at text at lt n l in token_all (length text) (drop at text) (single a.of_kind at a.raw) (drop (at + (n + 2)) text) a.forms (rest_some (n + 2) s)
+  all_from_lexed (lexed.Word n) l s =
+      let a = word_at text at lt n l in token_all (length text) (drop at text) (single a.of_kind at a.raw) (drop (at + n) text) a.forms (rest_some n s)
+  all_from_lexed lexed.Comma l s = token_all (length text) (drop at text) comma (drop (at + 1) text) (comma_at text at lt l) tt
+  all_from_lexed (lexed.Opening square) l s = token_all (length text) (drop at text) (opening square) (drop (at + 1) text) (opening_at text at lt square l) tt
+  all_from_lexed (lexed.Closing square) l s = token_all (length text) (drop at text) (closing at square) (drop (at + 1) text) (closing_at text at lt square l) tt
+  all_from_lexed (lexed.Flaw r k) l s = flaw_all (length text) (drop at text) r k l s
+
+  pub held_from_lexed : (l : Lexed) → IsLexed (drop at text) l → ¬ (IsLexedSettled (drop at text) l) → IsHeldAt text at
+  held_from_lexed (lexed.Number n) l s ts =
+      let a = number_at text at lt n l in token_held (length text) (drop at text) ts (single a.of_kind at a.raw) (drop (at + n) text) a.forms (λ some. some (rest_none n s))
+  held_from_lexed (lexed.Text n) l s ts =
+      let a = text_at text at lt n l in token_held (length text) (drop at text) ts (single a.of_kind at a.raw) (drop (at + (n + 2)) text) a.forms (λ some. some (rest_none (n + 2) s))
+  held_from_lexed (lexed.Word n) l s ts =
+      let a = word_at text at lt n l in token_held (length text) (drop at text) ts (single a.of_kind at a.raw) (drop (at + n) text) a.forms (λ some. some (rest_none n s))
+  held_from_lexed lexed.Comma l s ts = absurd (s tt)
+  held_from_lexed (lexed.Opening square) l s ts = absurd (s tt)
+  held_from_lexed (lexed.Closing square) l s ts = absurd (s tt)
+  held_from_lexed (lexed.Flaw r k) l s ts = flaw_held (length text) (drop at text) ts r k l s
+
+  pub settled_refused : (table : Flat) (r : RefusedAt) → AllSettled (length text) (drop at text) → IsSettledTo text table at → IsStopped text at table r → IsSettledRefusal text r.number r.place
+  settled_refused table r all reached s = record {
+    reason = s.reason;
+    before = reached.tokens;
+    left = drop at text;
+    skip = s.skip;
+    fronts = reached.fronts;
+    viable = viable_from_shows reached.tokens table reached.shows;
+    stop = settled_stop (length text) (drop at text) s.reason reached.tokens s.skip all left_some (s.stop reached.tokens reached.shows);
+    is_number = s.is_number;
+    is_place = omega (arith, length-drop at text, reached.within, s.is_place);
+  }
+
+  pub settled_fault : (table : Flat) (fault : Fault) → AllSettled (length text) (drop at text) → IsSettledTo text table at → IsStoppedBy text at table fault → IsSettledFault text fault
+  settled_fault table (faults.Refused r) all reached s = settled_refused table r all reached s
+  settled_fault table (faults.Memory e) all reached s = tt
+
+pub fronts_more : (total : ℕ) (ts : List Token) (bytes at rest left : List ℕ) (t : Token) → SettledFronts total bytes ts at → FormsSettled total t at rest → IsAfterWhite rest left → SettledFronts total bytes (ts ++ t ∷ []) left
+fronts_more total [] bytes at rest left t p f w = (at, rest, p, f, w)
+fronts_more total (u ∷ us) bytes at rest left t p f w = (p.0, p.1, p.2, p.3, fronts_more total us p.1 at rest left t p.4 f w)
+
+pub settled_next : (text : List ℕ) (at n w : ℕ) (before behind : Flat) → AllSettled (length text) (drop at text) → IsSettledTo text before at → IsTaken text at before behind n
+    → w ≡ prefix_len is_white (drop (at + n) text) → IsSettledTo text behind (at + n + w)
+settled_next text at n w before behind all r t e = record {
+  tokens = r.tokens ++ t.token ∷ [];
+  shows = shows_more r.tokens before behind t.token r.shows t.step;
+  fronts = fronts_more (length text) r.tokens text (drop at text) (drop (at + n) text) (drop (at + n + w) text) t.token r.fronts
+      (record { forms = t.forms; settled = all.token t.token (drop (at + n) text) t.forms })
+      (subst (λ z. IsAfterWhite (drop (at + n) text) z) (drop-drop w (at + n) text) (after_white (drop (at + n) text) w e));
+  within = omega (arith, prefix_len-le-length is_white (drop (at + n) text), length-drop (at + n) text, t.within, e);
+}
+
+pub reached_from_settled : (text : List ℕ) (table : Flat) (at : ℕ) → IsSettledTo text table at → IsReached text table at
+reached_from_settled text table at r = record {
+  tokens = r.tokens;
+  shows = r.shows;
+  fronts = fronts_from_settled (length text) r.tokens text (drop at text) r.fronts;
+  within = r.within;
+}
+
+-- at the end of the text nothing is settled
+pub nothing_held : (total : ℕ) (ts : List Token) (left : List ℕ) → left ≡ [] → IsHeld total ts left
+nothing_held total ts left e = record {
+  no_token = λ t rest f. forms_some total t left rest f.forms e;
+  no_stop = λ r k s. stop_some r total ts left k s e;
+}
+
+pub held_at_end : (text : List ℕ) (at : ℕ) → length text ≤ at → IsHeldAt text at
+held_at_end text at le ts = nothing_held (length text) ts (drop at text) (drop_all at text le)
+
+-- ---- what stays pending
+
+stops_all : (test : ℕ → Bool) (rest : List ℕ) → rest ≢ [] → StopsAt test rest → list_all test rest ≡ false
+stops_all test [] some s = absurd (some refl)
+stops_all test (b ∷ bs) some s = rw s refl
+
+all_behind : (test : ℕ → Bool) (raw rest : List ℕ) → rest ≢ [] → StopsAt test rest → list_all test (raw ++ rest) ≡ true → ⊥
+all_behind test raw rest some s e =
+    true_not_false (list_all test rest) (and_right (list_all test raw) (list_all test rest) (sym (list_all-append test raw rest) ∙ e)) (stops_all test rest some s)
+
+word_from_all : (left : List ℕ) → BeginsWith is_letter left → list_all is_word_byte left ≡ true → IsWord left
+word_from_all [] b e = absurd b
+word_from_all (x ∷ xs) b e = (b, and_right (is_word_byte x) (list_all is_word_byte xs) e)
+
+pub word_held : (left : List ℕ) → IsPendingIn left pending.Word → IsHeldIn left
+word_held left p total within ts =
+    token_held total left ts (single word (total - length left) left) []
+    (record { spelled = sym (append-nil left); formed = word_from_all left p.0 p.1; ends = tt; placed = omega arith })
+    (λ some. some refl)
+
+module _ (left : List ℕ) (begins : BeginsWith is_run_start left) (taken : list_all is_run_byte left ≡ true) where
+  run_shape : shape_at left ≡ Some (a_single number)
+  run_shape = shape_at_start left [] left begins (sym (append-nil left))
+
+  run_no_token : (total : ℕ) (t : Token) (rest : List ℕ) → FormsSettled total t left rest → shape_of t ≡ a_single number → ⊥
+  run_no_token total (single number place raw) rest f e = all_behind is_run_byte raw rest f.settled f.forms.ends (ap (list_all is_run_byte) (sym f.forms.spelled) ∙ taken)
+  run_no_token total t rest f e = absurd cc
+
+  some_shape : (s u : Shape) → Some s ≡ Some u → s ≡ u
+  some_shape s u e = cc
+
+  run_no_flaw : (r : Reason) (k : ℕ) → IsFlaw r left k → ¬ (IsFlawSettled r left)
+  run_no_flaw BadNumber k f s = true_not_false (list_all is_run_byte left) taken s
+  run_no_flaw NumberRange k f s = true_not_false (list_all is_run_byte left) taken s
+  run_no_flaw BadCharacter k f s = run_token left begins f.0
+    where
+      run_token : (left : List ℕ) → BeginsWith is_run_start left → BeginsNoToken left → ⊥
+      run_token [] b n = b
+      run_token (x ∷ xs) b n = true_not_false (begins_token x) (rw b (second (is_letter x) (is_quote x) (is_delimiter x))) n
+        where
+          second : (l q d : Bool) → (l || true || q || d) ≡ true
+          second true q d = refl
+          second false q d = refl
+  run_no_flaw NotUtf8 k f s = let e : Some (a_single number) ≡ Some (a_single tokens.text) = sym run_shape ∙ ap shape_at f.2 in absurd cc
+  run_no_flaw r k f s = s
+
+  run_held_in : IsHeldIn left
+  run_held_in total within ts =
+      held_without total left ts
+      (λ t rest f. run_no_token total t rest f (some_shape (shape_of t) (a_single number) (sym (Forms-shape total t left rest f.forms) ∙ run_shape))) run_no_flaw
+
+pub run_held : (left : List ℕ) → IsPendingIn left pending.Run → IsHeldIn left
+run_held left p = run_held_in left p.0 p.1
+
+module _ (left : List ℕ) (quote : left ≡ 34 ∷ drop 1 left) (n : ℕ) (o : IsOpenTo (drop 1 left) n) (front : IsUtf8Front (drop 1 left)) where
+  text_shape : shape_at left ≡ Some (a_single tokens.text)
+  text_shape = ap shape_at quote
+
+  -- at the last byte a quote that closes the text, if no other comes
+  shut_at_end : drop n (drop 1 left) ≡ 34 ∷ [] → IsShut (drop 1 left) (take n (drop 1 left)) []
+  shut_at_end e = record { parts = same_split (drop 1 left) n (34 ∷ []) e; inside = o.0.1; ends = tt }
+
+  all_inside : drop n (drop 1 left) ≡ [] → IsInside (drop 1 left)
+  all_inside e = subst IsInside (sym (same_split (drop 1 left) n [] e ∙ append-nil (take n (drop 1 left)))) o.0.1
+
+  text_no_token : (total : ℕ) (t : Token) (rest : List ℕ) → FormsSettled total t left rest → shape_of t ≡ a_single tokens.text → ⊥
+  text_no_token total (single tokens.text place raw) rest f e =
+      let shut = Forms-shut total place raw left rest f.forms (drop 1 left) quote in
+      elim o.1 [
+        | inl none ↦ shut_not_open (drop 1 left) raw rest shut (all_inside none)
+        | inr last ↦ f.settled (shut_one (drop 1 left) raw rest (take n (drop 1 left)) [] shut (shut_at_end last)).1
+      ]
+  text_no_token total t rest f e = absurd cc
+
+  text_no_flaw : (r : Reason) (k : ℕ) → IsFlaw r left k → ¬ (IsFlawSettled r left)
+  text_no_flaw BadNumber k f s = let e : Some (a_single number) ≡ Some (a_single tokens.text) = sym (shape_at_start f.0 f.1 left f.2.starts f.2.parts) ∙ text_shape in absurd cc
+  text_no_flaw NumberRange k f s = let e : Some (a_single number) ≡ Some (a_single tokens.text) = sym (shape_at_start f.0 f.1 left f.2.starts f.2.parts) ∙ text_shape in absurd cc
+  text_no_flaw BadCharacter k f s = let e : true ≡ false = subst BeginsNoToken quote f.0 in absurd cc
+  text_no_flaw NotUtf8 k f s =
+      let e : f.0 ≡ drop 1 left = same_tail 34 34 f.0 (drop 1 left) (sym f.2 ∙ quote) in
+      let t = through_front f.0 f.1 f.3 in
+      f.4 (IsUtf8Front-shorter f.1 t.0 (subst IsUtf8Front (sym e ∙ t.1) front))
+  text_no_flaw r k f s = s
+
+  pub text_held : IsHeldIn left
+  text_held total within ts =
+      held_without total left ts
+      (λ t rest f. text_no_token total t rest f (same_shape (shape_of t) (sym (Forms-shape total t left rest f.forms) ∙ text_shape))) text_no_flaw
+    where
+      same_shape : (s : Shape) → Some s ≡ Some (a_single tokens.text) → s ≡ a_single tokens.text
+      same_shape s e = cc
+
+-- ---- one piece more
+
+pub word_stays : (left before piece : List ℕ) → left ≡ before ++ piece → IsPendingIn before pending.Word → length piece ≤ prefix_len is_word_byte piece → StaysPending left pending.Word
+word_stays left before piece e p le =
+    subst (λ z. StaysPending z pending.Word) (sym e)
+    (longer, word_held (before ++ piece) longer, dark (before ++ piece) (word_from_all (before ++ piece) longer.0 longer.1))
+  where
+    begins : (before : List ℕ) → BeginsWith is_letter before → BeginsWith is_letter (before ++ piece)
+    begins [] b = absurd b
+    begins (x ∷ xs) b = b
+
+    longer : IsPendingIn (before ++ piece) pending.Word
+    longer = (begins before p.0, all_append is_word_byte before piece p.1 (all_full is_word_byte piece le))
+
+    dark : (left : List ℕ) → IsWord left → StopsAt is_white left
+    dark left w = subst (StopsAt is_white) (append-nil left) (dark_word left [] w)
+
+pub run_stays : (left before piece : List ℕ) → left ≡ before ++ piece → IsPendingIn before pending.Run → length piece ≤ prefix_len is_run_byte piece → StaysPending left pending.Run
+run_stays left before piece e p le =
+    subst (λ z. StaysPending z pending.Run) (sym e)
+    (longer, run_held (before ++ piece) longer, subst (StopsAt is_white) (append-nil (before ++ piece)) (dark_start (before ++ piece) [] longer.0))
+  where
+    begins : (before : List ℕ) → BeginsWith is_run_start before → BeginsWith is_run_start (before ++ piece)
+    begins [] b = absurd b
+    begins (x ∷ xs) b = b
+
+    longer : IsPendingIn (before ++ piece) pending.Run
+    longer = (begins before p.0, all_append is_run_byte before piece p.1 (all_full is_run_byte piece le))
+
+quote_dark : (left : List ℕ) → left ≡ 34 ∷ drop 1 left → StopsAt is_white left
+quote_dark left e = subst (StopsAt is_white) (sym e) refl
+
+pub text_stays : (left : List ℕ) (inside valid : ℕ) → left ≡ 34 ∷ drop 1 left → IsOpenTo (drop 1 left) inside → IsValidTo (drop 1 left) valid × IsUtf8Front (drop 1 left)
+    → StaysPending left (pending.Text inside valid)
+text_stays left inside valid e o v = ((e, o.0, v.0), text_held left e inside o v.1, quote_dark left e)
+
+longer_pending : (before piece : List ℕ) (inside valid : ℕ) → IsPendingIn before (pending.Text inside valid) → IsPendingIn (before ++ piece) (pending.Text inside valid)
+longer_pending [] piece inside valid p = absurd (let e : [] ≡ 34 ∷ [] = p.0 in cc)
+longer_pending (b ∷ bs) piece inside valid (e, i, v) = (
+  ap (λ z. z ++ piece) e,
+  (omega (arith, i.0, length-append bs piece), subst IsInside (sym (take-append-le inside bs piece i.0)) i.1),
+  (omega (arith, v.0, length-append bs piece), subst IsUtf8 (sym (take-append-le valid bs piece v.0)) v.1),
+)
+
+pub pending_longer : (left before piece : List ℕ) (inside valid : ℕ) (p : Pending) → p ≡ pending.Text inside valid → left ≡ before ++ piece → IsPendingIn before p → IsPendingIn left (pending.Text inside valid)
+pending_longer left before piece inside valid p is e i =
+    subst (λ z. IsPendingIn z (pending.Text inside valid)) (sym e) (longer_pending before piece inside valid (subst (IsPendingIn before) is i))
+
+module _ (after : List ℕ) (known : ℕ) where
+  inside_append : (a b : List ℕ) → IsInside a → IsInside b → IsInside (a ++ b)
+  inside_append a b p q = (p.0 ++ q.0, ap (λ z. z ++ b) p.1 ∙ ap (λ z. doubled p.0 ++ z) q.1 ∙ sym (doubled-append p.0 q.0))
+
+  pub open_from : IsInsideTo after known → IsInside (drop known after) → IsOpenTo after (length after)
+  open_from i rest = (
+    (omega arith, subst IsInside (take-append-drop known after ∙ sym (take_all (length after) after (omega arith))) (inside_append (take known after) (drop known after) i.1 rest)),
+    inl (drop_all (length after) after (omega arith)),
+  )
+
+  pub shut_from : (more : ℕ) → IsInsideTo after known → IsShutAt (drop known after) more → IsShutAt after (known + more)
+  shut_from more i s =
+      let rest = drop known after in
+      let q : drop more rest ≡ 34 ∷ drop (more + 1) rest = ap (drop more) s.0.parts ∙ drop_at (take more rest) (34 ∷ drop (more + 1) rest) more (omega (arith, length-take more rest, s.1)) in
+      let n : known + (more + 1) ≡ known + more + 1 = omega arith in
+      let behind : drop (more + 1) rest ≡ drop (known + more + 1) after = drop-drop (more + 1) known after ∙ ap (λ z. drop z after) n in
+      let e : drop (known + more) after ≡ 34 ∷ drop (known + more + 1) after = sym (drop-drop more known after) ∙ q ∙ ap (λ (z : List ℕ). 34 ∷ z) behind in (
+        record {
+          parts = same_split after (known + more) (34 ∷ drop (known + more + 1) after) e;
+          inside = subst IsInside (sym (take-add known more after)) (inside_append (take known after) (take more rest) i.1 s.0.inside);
+          ends = subst (StopsAt is_quote) behind s.0.ends;
+        },
+        omega (arith, s.1, length-drop known after),
+      )
+
+  pub lone : IsShutAt after known → known + 1 ≡ length after → IsOpenTo after known
+  lone s e =
+      let q : drop known after ≡ 34 ∷ drop (known + 1) after = ap (drop known) s.0.parts ∙ drop_at (take known after) (34 ∷ drop (known + 1) after) known (omega (arith, length-take known after, s.1)) in
+      ((omega arith, s.0.inside), inr (q ∙ ap (λ (z : List ℕ). 34 ∷ z) (drop_all (known + 1) after (omega arith))))
+
+  pub valid_from : (more : ℕ) → IsValidTo after known → IsValidTo (drop known after) more × IsUtf8Front (drop known after) → IsValidTo after (known + more) × IsUtf8Front after
+  valid_from more v ((le, u), (tail, w)) =
+      let whole : IsUtf8 (after ++ tail) = subst IsUtf8 (sym (append_assoc (take known after) (drop known after) tail) ∙ ap (λ z. z ++ tail) (take-append-drop known after)) (IsUtf8-append (take known after) (drop known after ++ tail) v.1 w) in (
+        (omega (arith, le, v.0, length-drop known after), subst IsUtf8 (sym (take-add known more after)) (IsUtf8-append (take known after) (take more (drop known after)) v.1 u)),
+        (tail, whole),
+      )
+
+-- ---- behind the piece
+
+longer_to : (before piece : List ℕ) (table : Flat) (at from : ℕ) → IsSettledTo before table at → IsAfterWhite (drop at (before ++ piece)) (drop from (before ++ piece)) → from ≤ length (before ++ piece)
+    → IsSettledTo (before ++ piece) table from
+longer_to before piece table at from s w le =
+    let total : length before + length piece ≡ length (before ++ piece) = omega (arith, length-append before piece) in
+    let further = drop from (before ++ piece) in
+    let white = subst (λ z. IsAfterWhite z further) (drop-append-le at before piece s.within) w in
+    record {
+      tokens = s.tokens;
+      shows = s.shows;
+      fronts = subst (λ z. SettledFronts z (before ++ piece) s.tokens further) total (fronts_longer (length before) s.tokens before (drop at before) piece further s.fronts white);
+      within = le;
+    }
+
+pub settled_behind : (text before piece : List ℕ) (table : Flat) (at from : ℕ) → text ≡ before ++ piece → IsSettledTo before table at → from ≡ at + prefix_len is_white (drop at text) → IsSettledTo text table from
+settled_behind text before piece table at from e s f =
+    let le : at ≤ length text = omega (arith, s.within, ap length e, length-append before piece) in
+    let w : IsAfterWhite (drop at text) (drop from text) = subst (λ z. IsAfterWhite (drop at text) z) (drop-drop (prefix_len is_white (drop at text)) at text ∙ ap (λ z. drop z text) (sym f)) (after_white (drop at text) (prefix_len is_white (drop at text)) refl) in
+    let within : from ≤ length text = omega (arith, prefix_len-le-length is_white (drop at text), length-drop at text) in
+    subst (λ z. IsSettledTo z table from) (sym e)
+    (longer_to before piece table at from s (subst (λ z. IsAfterWhite (drop at z) (drop from z)) e w) (subst (λ z. from ≤ length z) e within))
+
+pub settled_still : (text before piece : List ℕ) (table : Flat) (at : ℕ) → text ≡ before ++ piece → IsSettledTo before table at → StopsAt is_white (drop at text) → IsSettledTo text table at
+settled_still text before piece table at e s dark =
+    let within : at ≤ length text = omega (arith, s.within, ap length e, length-append before piece) in
+    subst (λ z. IsSettledTo z table at) (sym e)
+    (longer_to before piece table at at s (subst (λ z. IsAfterWhite (drop at z) (drop at z)) e (at_once (drop at text) dark)) (subst (λ z. at ≤ length z) e within))
+
+pub pending_before : (text before piece left : List ℕ) (at : ℕ) (p : Pending) → text ≡ before ++ piece → left ≡ drop at text → at ≤ length before → IsPendingIn (drop at before) p → IsPendingBefore left piece p
+pending_before text before piece left at p e f le is = (drop at before, f ∙ ap (drop at) e ∙ drop-append-le at before piece le, is)
+
+pub so_far_from : (text : List ℕ) (table : Flat) (at : ℕ) → IsSettledTo text table at → IsHeldAt text at → IsTakenSoFar text
+so_far_from text table at s held = taken_so_far text s.tokens (drop at text) s.fronts (viable_from_shows s.tokens table s.shows) (held s.tokens)
+
+pub held_at_place : (text left : List ℕ) (at : ℕ) → left ≡ drop at text → IsHeldIn left → IsHeldAt text at
+held_at_place text left at e held ts = subst (IsHeld (length text) ts) e (held (length text) (omega (arith, ap length e, length-drop at text)) ts)
+
+pub settled_start : (text : List ℕ) (table : Flat) (at : ℕ) → table ≡ flat start → at ≡ prefix_len is_white text → IsSettledTo text table at
+settled_start text table at t e =
+    let r = reached_first text at e table t in
+    record { tokens = []; shows = subst (Shows []) (sym t) shows_start; fronts = after_white text at e; within = r.within }
+
+-- ---- what a feeder knows
+
+pub fed_start : (bytes : List ℕ) (table : Flat) → bytes ≡ [] → table ≡ flat start → IsFedTo bytes table (record { at = 0; pending = pending.Unknown })
+fed_start bytes table e t =
+    let s = settled_start bytes table 0 t (sym (ap (prefix_len is_white) e)) in
+    record { settled = s; pending = tt; so_far = so_far_from bytes table 0 s (held_at_end bytes 0 (omega (arith, ap length e))) }
+
+pub known_fault : (bytes : List ℕ) (table : Flat) (held : Held) (known : Option RefusedAt) (fault : Fault) → IsFed bytes table held known → IsRefusalOf known fault → IsTextFault bytes fault
+known_fault bytes table held known (faults.Refused r) fed e = refuses_from_settled bytes r.number r.place (subst (IsFed bytes table held) e fed)
+known_fault bytes table held known (faults.Memory m) fed e = absurd e
+
+pub known_piece_fault : (bytes piece : List ℕ) (table : Flat) (held : Held) (known : Option RefusedAt) (fault : Fault) → IsFed bytes table held known → IsRefusalOf known fault → IsPieceFault bytes piece bytes fault
+known_piece_fault bytes piece table held known (faults.Refused r) fed e = (subst (IsFed bytes table held) e fed, inr refl)
+known_piece_fault bytes piece table held known (faults.Memory m) fed e = absurd e
+
+pub fed_none : (bytes : List ℕ) (table : Flat) (held : Held) (known : Option RefusedAt) → IsFed bytes table held known → known ≡ None → IsFedTo bytes table held
+fed_none bytes table held known fed e = subst (IsFed bytes table held) e fed

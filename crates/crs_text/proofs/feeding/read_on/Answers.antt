@@ -1,0 +1,29 @@
+use Rattle.std.proofs.Common.{subst}
+use Rattle.crs_text.specs.Quoted.{StopsAt}
+use Rattle.crs_text.specs.Tokens.{is_white}
+use Rattle.crs_text.specs.Feeding.{IsPendingIn}
+use Rattle.crs_text.proofs.FeedingLemmas.{pending_before, settled_still, settled_behind, so_far_from, held_at_place}
+use Rattle.crs_text.proofs.feeding.read_on.Goals as goal
+
+pub stays-requires : goal.stays-requires
+stays-requires c =
+    let r = c.requires in
+    pending_before c.args.text.now r.0 c.args.piece.now c.rest_of.result.now c.args.held.at c.args.held.pending r.1 c.rest_of.ensures r.2.settled.within r.2.pending
+
+pub returns-in-Some : goal.returns-in-Some
+returns-in-Some c =
+    let r = c.requires in
+    let text = c.args.text.now in
+    let at = c.args.held.at in
+    let s = c.in-Some.ensures in
+    let settled = settled_still text r.0 c.args.piece.now c.args.table.now at r.1 r.2.settled (subst (StopsAt is_white) c.rest_of.ensures s.2) in
+    record {
+      settled = settled;
+      pending = subst (λ z. IsPendingIn z c.in-Some.pending) c.rest_of.ensures s.0;
+      so_far = so_far_from text c.args.table.now at settled (held_at_place text c.rest_of.result.now at c.rest_of.ensures s.1);
+    }
+
+pub read_tokens-requires : goal.read_tokens-requires
+read_tokens-requires c =
+    let r = c.requires in
+    settled_behind c.args.text.now r.0 c.args.piece.now c.args.table.now c.args.held.at c.after_white-from.result r.1 r.2.settled c.after_white-from.ensures

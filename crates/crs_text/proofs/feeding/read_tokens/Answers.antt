@@ -1,0 +1,14 @@
+use Rattle.std.proofs.Common.{subst}
+use Rattle.crs_text.specs.Feeding.{IsPendingIn}
+use Rattle.crs_text.proofs.FeedingLemmas.{so_far_from}
+use Rattle.crs_text.proofs.feeding.read_tokens.Goals as goal
+
+pub returns-in-Ok : goal.returns-in-Ok
+returns-in-Ok c =
+    let text = c.args.text.now in
+    let at = c.in-Ok.at in
+    record {
+      settled = c.in-Ok.ensures.0;
+      pending = subst (λ z. IsPendingIn z c.pending_of.result) c.rest_of.ensures c.pending_of.ensures;
+      so_far = so_far_from text c.settle_all.new.table at c.in-Ok.ensures.0 c.in-Ok.ensures.1;
+    }

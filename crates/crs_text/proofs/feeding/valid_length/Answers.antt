@@ -1,0 +1,10 @@
+use Rattle.std.proofs.Common.{sym, ◌∙◌, arith}
+use Rattle.crs_text.proofs.Utf8Lemmas.{IsUtf8Front-cut}
+use Rattle.crs_text.proofs.feeding.valid_length.Goals as goal
+
+pub returns-in-None : goal.returns-in-None
+returns-in-None c =
+    let e = c.in-Err.ensures in (
+      (omega (arith, e.cases.1.short, c.valid_up_to.ensures), rw c.valid_up_to.ensures e.cases.1.front),
+      IsUtf8Front-cut c.args.bytes.now _ e.cases.1 (sym e.fault ∙ sym c.in-None.ensures),
+    )

@@ -1,0 +1,274 @@
+//! How far the front of a text is settled while more of it may come. What is pending at its end is scanned
+//! from where the last piece left it.
+ghost use Rattle.std.specs.Prelude.{◌≡◌, ◌+◌, ◌≤◌, ◌<◌, length, drop, take, IsUtf8, IfSome, MatchBool, MatchOption};
+ghost use Rattle.std.specs.Prelude.{MatchResult, IsTrue};
+ghost use Rattle.std.specs.List.{list_all};
+ghost use Rattle.crs_text.specs.Quoted.{BeginsWith, IsShutAt};
+ghost use Rattle.crs_text.specs.Utf8.{IsUtf8Front};
+ghost use Rattle.crs_text.specs.Settled.{IsRunSettled};
+ghost use Rattle.crs_text.specs.Lexing.{IsLexed};
+ghost use Rattle.crs_text.specs.Feeding.{IsFlawSettled, IsLexedSettled, IsSettledTo, IsHeldAt, IsFedTo};
+ghost use Rattle.crs_text.specs.Feeding.{IsFedBefore, IsStepFrom, IsSettledFault, IsPendingIn, IsPendingBefore};
+ghost use Rattle.crs_text.specs.Feeding.{StaysPending, IsInsideTo, IsOpenTo, IsValidTo};
+ghost use Rattle.crs_text.specs.Tokens as tokens;
+ghost use Rattle.crs_decimal.specs.Spelling as spelling;
+
+use crate::fault::Fault;
+use crate::lexing::{Lexed, closing_quote, rest_of, token_at};
+use crate::refusal::Reason;
+use crate::runs::{run_length, word_length};
+use crate::scanning::{after_white, take_lexed};
+use crate::table::Table;
+use bstr::validate;
+
+/// What is known of a token that isn't settled.
+#[derive(Clone, Copy)]
+pub(crate) enum Pending {
+    Unknown,
+    /// A word, to the end.
+    Word,
+    /// Bytes that a number could take, to the end.
+    Run,
+    /// An opening quote: so many bytes behind it are inside the text, so many are well-formed UTF-8.
+    Text { inside: usize, valid: usize },
+}
+
+/// Where the first token begins that isn't settled, and what is known of it.
+#[derive(Clone, Copy)]
+pub(crate) struct Held {
+    pub(crate) at: usize,
+    pub(crate) pending: Pending,
+}
+
+// Whether a byte stands there that a number wouldn't take.
+#[tactic(auto, using(crate::proofs::FeedingLemmas::run_rules))]
+fn is_settled_run(left: &[u8]) -> bool
+    ensures { MatchBool result (IsRunSettled left.now) (¬ (IsRunSettled left.now)) }
+{
+    run_length(left) < left.len()
+}
+
+fn is_settled_flaw(left: &[u8], reason: Reason) -> bool
+    ensures { MatchBool result (IsFlawSettled reason left.now) (¬ (IsFlawSettled reason left.now)) }
+{
+    match reason {
+        Reason::BadCharacter | Reason::NotUtf8 => true,
+        Reason::BadNumber | Reason::NumberRange => is_settled_run(left),
+        Reason::OpenText | Reason::Unexpected | Reason::UnexpectedEnd | Reason::TooDeep => false,
+    }
+}
+
+// Whether no byte to come changes what begins what is left.
+fn is_settled(left: &[u8], lexed: Lexed) -> bool
+    requires { IsLexed left.now lexed }
+    ensures { MatchBool result (IsLexedSettled left.now lexed) (¬ (IsLexedSettled left.now lexed)) }
+{
+    match lexed {
+        Lexed::Number { length } | Lexed::Word { length } => length < left.len(),
+        Lexed::Text { length } => length + 2 < left.len(),
+        Lexed::Comma | Lexed::Opening { .. } | Lexed::Closing { .. } => true,
+        Lexed::Flaw { reason, .. } => is_settled_flaw(left, reason),
+    }
+}
+
+// The settled token at this place, taken with the white space behind it; None where none is settled.
+fn settle(table: &mut Table, text: &[u8], at: usize) -> Result<Option<usize>, Fault>
+    requires more { at < length text.now }
+    requires reached { IsSettledTo text.now table.old at }
+    ensures { MatchResult result (IsStepFrom text.now at table.old table.new) (IsSettledFault text.now) }
+{
+    let left = rest_of(text, at);
+    let lexed = token_at(left);
+    if !is_settled(left, lexed) {
+        return Ok(None);
+    }
+    match take_lexed(table, text, at, lexed) {
+        Ok(size) => Ok(Some(after_white(text, at + size))),
+        Err(fault) => Err(fault),
+    }
+}
+
+// Takes the settled tokens from this place on: where the first one begins that isn't settled.
+fn settle_all(table: &mut Table, text: &[u8], from: usize) -> Result<usize, Fault>
+    requires { IsSettledTo text.now table.old from }
+    ensures { MatchResult result
+        (λ at. IsSettledTo text.now table.new at × IsHeldAt text.now at)
+        (IsSettledFault text.now) }
+{
+    let mut at = from;
+    while at < text.len() {
+        match settle(table, text, at)? {
+            Some(next) => at = next,
+            None => return Ok(at),
+        }
+    }
+    Ok(at)
+}
+
+// How many of the bytes are well-formed UTF-8; None where no more bytes complete the others.
+fn valid_length(bytes: &[u8]) -> Option<usize>
+    ensures { IfSome result (λ n. IsValidTo bytes.now n × IsUtf8Front bytes.now) }
+{
+    match validate(bytes) {
+        Ok(()) => Some(bytes.len()),
+        Err(e) => match e.error_len() {
+            None => Some(e.valid_up_to()),
+            Some(_) => None,
+        },
+    }
+}
+
+// The same, where so many are known to be.
+fn valid_to(after: &[u8], known: usize) -> Option<usize>
+    requires { IsValidTo after.now known }
+    ensures { IfSome result (λ n. IsValidTo after.now n × IsUtf8Front after.now) }
+{
+    match valid_length(rest_of(after, known)) {
+        Some(more) => Some(known + more),
+        None => None,
+    }
+}
+
+// How many of the bytes are inside the text, where so many are known to be; None where it is closed and a
+// byte stands behind the quote.
+fn open_to(after: &[u8], known: usize) -> Option<usize>
+    requires { IsInsideTo after.now known }
+    ensures { IfSome result (IsOpenTo after.now) }
+{
+    match closing_quote(rest_of(after, known)) {
+        Some(more) => lone_quote(after, known + more),
+        None => Some(after.len()),
+    }
+}
+
+// A closing quote at this place, if it is the last byte.
+fn lone_quote(after: &[u8], quote: usize) -> Option<usize>
+    requires { IsShutAt after.now quote }
+    ensures { IfSome result (IsOpenTo after.now) }
+{
+    if quote + 1 == after.len() {
+        Some(quote)
+    } else {
+        None
+    }
+}
+
+// The quoted text, if it is still open and well-formed so far.
+fn stays_open(left: &[u8], inside: usize, valid: usize) -> Option<Pending>
+    requires { IsPendingIn left.now (Pending.Text inside valid) }
+    ensures { IfSome result (StaysPending left.now) }
+{
+    let after = rest_of(left, 1);
+    match open_to(after, inside) {
+        Some(inside) => match valid_to(after, valid) {
+            Some(valid) => Some(Pending::Text { inside, valid }),
+            None => None,
+        },
+        None => None,
+    }
+}
+
+// What was pending before this piece, if it still is.
+fn stays(left: &[u8], piece: &[u8], pending: Pending) -> Option<Pending>
+    requires { IsPendingBefore left.now piece.now pending }
+    ensures { IfSome result (StaysPending left.now) }
+{
+    match pending {
+        Pending::Unknown => None,
+        Pending::Word => stays_word(left, piece),
+        Pending::Run => stays_run(left, piece),
+        Pending::Text { inside, valid } => stays_open(left, inside, valid),
+    }
+}
+
+fn stays_word(left: &[u8], piece: &[u8]) -> Option<Pending>
+    requires { IsPendingBefore left.now piece.now Pending.Word }
+    ensures { IfSome result (StaysPending left.now) }
+{
+    if word_length(piece) == piece.len() {
+        Some(Pending::Word)
+    } else {
+        None
+    }
+}
+
+fn stays_run(left: &[u8], piece: &[u8]) -> Option<Pending>
+    requires { IsPendingBefore left.now piece.now Pending.Run }
+    ensures { IfSome result (StaysPending left.now) }
+{
+    if run_length(piece) == piece.len() {
+        Some(Pending::Run)
+    } else {
+        None
+    }
+}
+
+// What is pending in front of what is left, as far as a look at it shows.
+fn pending_of(left: &[u8]) -> Pending
+    ensures { IsPendingIn left.now result }
+{
+    match left {
+        [b'A'..=b'Z' | b'a'..=b'z', ..] => pending_word(left),
+        [b'0'..=b'9' | b'+' | b'-' | b'.', ..] => pending_run(left),
+        [b'"', ..] => Pending::Text {
+            inside: 0,
+            valid: 0,
+        },
+        _ => Pending::Unknown,
+    }
+}
+
+fn pending_word(left: &[u8]) -> Pending
+    requires { BeginsWith tokens.is_letter left.now }
+    ensures { IsPendingIn left.now result }
+{
+    if word_length(left) == left.len() {
+        Pending::Word
+    } else {
+        Pending::Unknown
+    }
+}
+
+fn pending_run(left: &[u8]) -> Pending
+    requires { BeginsWith spelling.is_run_start left.now }
+    ensures { IsPendingIn left.now result }
+{
+    if run_length(left) == left.len() {
+        Pending::Run
+    } else {
+        Pending::Unknown
+    }
+}
+
+// Takes the settled tokens from this place on.
+fn read_tokens(table: &mut Table, text: &[u8], from: usize) -> Result<Held, Fault>
+    requires { IsSettledTo text.now table.old from }
+    ensures { MatchResult result (IsFedTo text.now table.new) (IsSettledFault text.now) }
+{
+    match settle_all(table, text, from) {
+        Ok(at) => Ok(Held {
+            at,
+            pending: pending_of(rest_of(text, at)),
+        }),
+        Err(fault) => Err(fault),
+    }
+}
+
+/// Takes what the last piece of the text settles.
+pub(crate) fn read_on(
+    table: &mut Table,
+    text: &[u8],
+    piece: &[u8],
+    held: Held,
+) -> Result<Held, Fault>
+    requires { IsFedBefore text.now piece.now table.old held }
+    ensures { MatchResult result (IsFedTo text.now table.new) (IsSettledFault text.now) }
+{
+    match stays(rest_of(text, held.at), piece, held.pending) {
+        Some(pending) => Ok(Held { pending, ..held }),
+        None => {
+            let from = after_white(text, held.at);
+            read_tokens(table, text, from)
+        }
+    }
+}
