@@ -88,12 +88,13 @@ impl Model for Table {
 }
 
 impl Table {
-    /// A table with no row, and room for so many.
-    pub(crate) fn with_room(alloc: Global, rows: usize) -> Result<Self, AllocError>
-        ensures { IfOk result (λ table. table ≡ flat start) }
+    // A table of no row, in this vector.
+    fn over(rows: Vec<Row>) -> Self
+        requires { rows.items ≡ [] }
+        ensures { result ≡ flat start }
     {
-        Ok(Table {
-            rows: Vec::with_capacity(alloc, rows)?,
+        Table {
+            rows,
             opens: [Open {
                 row: 0,
                 square: false,
@@ -101,7 +102,21 @@ impl Table {
             }; 12],
             depth: 0,
             position: Position::BeforeItem,
-        })
+        }
+    }
+
+    /// A table with no row. It takes no memory.
+    pub(crate) fn new(alloc: Global) -> Self
+        ensures { result ≡ flat start }
+    {
+        Table::over(Vec::new(alloc))
+    }
+
+    /// A table with no row, and room for so many.
+    pub(crate) fn with_room(alloc: Global, rows: usize) -> Result<Self, AllocError>
+        ensures { IfOk result (λ table. table ≡ flat start) }
+    {
+        Ok(Table::over(Vec::with_capacity(alloc, rows)?))
     }
 
     fn may_begin(&self, kind: ItemKind) -> bool
