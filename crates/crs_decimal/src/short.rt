@@ -1,5 +1,5 @@
 //! Numbers of at most 19 bytes without an exponent, as nearly all are: their digits fit a `u64`.
-ghost use Rattle.std.specs.Prelude.{◌≡◌, ◌≢◌, ℕ, ◌+◌, ◌-◌, ◌*◌, ◌%◌, ◌^◌, ◌<◌, ◌≤◌, [], length, drop, fold, IfSome};
+ghost use Rattle.std.specs.Prelude.{◌≡◌, ◌≢◌, ◌+◌, ◌-◌, ◌*◌, ◌%◌, ◌^◌, ◌<◌, ◌≤◌, length, fold, IfSome};
 ghost use Rattle.crs_decimal.specs.Bounds.{IsBounded, number_of};
 ghost use Rattle.crs_decimal.specs.Cut.{IsPowerBetween};
 ghost use Rattle.crs_decimal.specs.Number.{SameNumber};
