@@ -13,6 +13,7 @@ pub mod QuotedLemmas
 pub mod ScanLemmas
 pub mod SettledEither
 pub mod SettledLemmas
+pub mod SettledRows
 pub mod ShowsLemmas
 pub mod SoundLemmas
 pub mod StandLemmas

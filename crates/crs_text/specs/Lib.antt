@@ -8,6 +8,7 @@ pub mod Refusal
 pub mod Rows
 pub mod Scan
 pub mod Settled
+pub mod SettledExamples
 pub mod State
 pub mod Table
 pub mod TextFault
