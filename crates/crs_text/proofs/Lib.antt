@@ -14,6 +14,7 @@ pub mod RunLemmas
 pub mod ScanLemmas
 pub mod SettledEither
 pub mod SettledLemmas
+pub mod SettledRows
 pub mod ShowsLemmas
 pub mod SoundLemmas
 pub mod StandLemmas

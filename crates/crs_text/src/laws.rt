@@ -7,6 +7,7 @@ ghost use Rattle.crs_text.specs.Written.{WrittenSpells, AreFormed, item_text, at
 ghost use Rattle.crs_text.specs.Examples.{AreSized, AreNumbered, AreLimited};
 ghost use Rattle.crs_text.specs.Viable.{IsViable, IsViableAtAnyDepth, Allows, IsFull};
 ghost use Rattle.crs_text.specs.Settled.{IsSettledRefusal, IsTakenSoFar};
+ghost use Rattle.crs_text.specs.SettledExamples.{AreSettledRows};
 
 /// Which tokens can be completed to a text, token by token. Profile.
 pub fn viability()
@@ -61,6 +62,7 @@ pub fn worked_examples()
     ensures sizes { AreSized }
     ensures numbers { AreNumbered }
     ensures limit { AreLimited }
+    ensures settled { AreSettledRows }
 {}
 
 /// A refusal that is settled is that of the text and of every text that begins so; bytes have one at

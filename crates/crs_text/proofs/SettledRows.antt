@@ -1,0 +1,133 @@
+-- The worked texts of which a part is settled.
+use Rattle.std.proofs.Common.{◌≡◌, ℕ, true, false, codes, List, [], ◌∷◌, ◌++◌, length, refl, arith}
+use Rattle.std.specs.Prelude.{IsUtf8}
+use Rattle.crs_text.specs.Quoted.{is_quote}
+use Rattle.crs_text.specs.Tokens as tokens
+use Rattle.crs_text.specs.Tokens.{Token, single, comma, opening, closing, is_white, IsSingle, Forms}
+use Rattle.crs_text.specs.declared.refusal.Reason.TheVariants.{BadCharacter, Unexpected}
+use Rattle.crs_text.specs.Settled.{FormsSettled, SettledFronts, IsSettledRefusal, IsTakenSoFar}
+use Rattle.crs_text.specs.SettledExamples.{named}
+use Rattle.crs_text.proofs.FrontsLemmas.{at_once}
+use Rattle.crs_text.proofs.ViableLemmas.{viable_from_run}
+use Rattle.crs_text.proofs.AllowedLemmas.{not_viable_from_none}
+use Rattle.crs_text.proofs.SettledLemmas.{taken_so_far}
+use Rattle.crs_text.proofs.FeedingLemmas.{fronts_more, token_held, run_held}
+
+-- VERTCRS[
+abbrev opened : List Token
+opened = single tokens.word 0 (codes "VERTCRS") ∷ opening true ∷ []
+
+-- and the name "H" behind it
+abbrev with_name : List Token
+with_name = opened ++ single tokens.text 8 (codes "H") ∷ []
+
+name_utf8 : IsUtf8 (codes "H")
+unfolding lib.Utf8.encode
+name_utf8 = (codes "H", (refl, refl))
+
+opened_fronts : (bs : List ℕ) → SettledFronts (length (codes "VERTCRS[" ++ 34 ∷ bs)) (codes "VERTCRS[" ++ 34 ∷ bs) opened (34 ∷ bs)
+opened_fronts bs = (
+  codes "VERTCRS[" ++ 34 ∷ bs,
+  91 ∷ 34 ∷ bs,
+  at_once (codes "VERTCRS[" ++ 34 ∷ bs) refl,
+  record { forms = record { spelled = refl; formed = (refl, refl); ends = refl; placed = omega arith }; settled = λ e. absurd cc },
+  (
+    91 ∷ 34 ∷ bs,
+    34 ∷ bs,
+    at_once (91 ∷ 34 ∷ bs) refl,
+    record { forms = record { spelled = refl; formed = tt; ends = tt; placed = tt }; settled = tt },
+    at_once (34 ∷ bs) refl,
+  ),
+)
+
+name_forms : (b : ℕ) (bs : List ℕ) → is_quote b ≡ false → FormsSettled (length (named ++ b ∷ bs)) (single tokens.text 8 (codes "H")) (34 ∷ 72 ∷ 34 ∷ b ∷ bs) (b ∷ bs)
+name_forms b bs other = record {
+  forms = record { spelled = refl; formed = ((codes "H", refl), name_utf8); ends = other; placed = omega arith };
+  settled = λ e. absurd cc;
+}
+
+named_fronts : (b : ℕ) (bs : List ℕ) → is_white b ≡ false → is_quote b ≡ false → SettledFronts (length (named ++ b ∷ bs)) (named ++ b ∷ bs) with_name (b ∷ bs)
+named_fronts b bs dark other =
+    fronts_more (length (named ++ b ∷ bs)) opened (named ++ b ∷ bs) (34 ∷ 72 ∷ 34 ∷ b ∷ bs) (b ∷ bs) (b ∷ bs) (single tokens.text 8 (codes "H")) (opened_fronts (72 ∷ 34 ∷ b ∷ bs)) (name_forms b bs other) (at_once (b ∷ bs) dark)
+
+-- VERTCRS["H"]
+closed_fronts : (b : ℕ) (bs : List ℕ) → is_white b ≡ false → SettledFronts (length (named ++ 93 ∷ b ∷ bs)) (named ++ 93 ∷ b ∷ bs) (with_name ++ closing 11 true ∷ []) (b ∷ bs)
+closed_fronts b bs dark =
+    fronts_more (length (named ++ 93 ∷ b ∷ bs)) with_name (named ++ 93 ∷ b ∷ bs) (93 ∷ b ∷ bs) (b ∷ bs) (b ∷ bs) (closing 11 true) (named_fronts 93 (b ∷ bs) refl refl)
+    (record { forms = record { spelled = refl; formed = tt; ends = tt; placed = omega arith }; settled = tt }) (at_once (b ∷ bs) dark)
+
+-- VERTCRS["H",
+listed_fronts : (b : ℕ) (bs : List ℕ) → is_white b ≡ false → SettledFronts (length (named ++ 44 ∷ b ∷ bs)) (named ++ 44 ∷ b ∷ bs) (with_name ++ comma ∷ []) (b ∷ bs)
+listed_fronts b bs dark =
+    fronts_more (length (named ++ 44 ∷ b ∷ bs)) with_name (named ++ 44 ∷ b ∷ bs) (44 ∷ b ∷ bs) (b ∷ bs) (b ∷ bs) comma (named_fronts 44 (b ∷ bs) refl refl)
+    (record { forms = record { spelled = refl; formed = tt; ends = tt; placed = tt }; settled = tt }) (at_once (b ∷ bs) dark)
+
+pub name_so_far : IsTakenSoFar named
+name_so_far =
+    taken_so_far named opened (34 ∷ 72 ∷ 34 ∷ []) (opened_fronts (72 ∷ 34 ∷ [])) (viable_from_run opened _ refl)
+    (token_held 11 (34 ∷ 72 ∷ 34 ∷ []) opened (single tokens.text 8 (codes "H")) []
+    (record { spelled = refl; formed = ((codes "H", refl), name_utf8); ends = tt; placed = refl }) (λ some. some refl))
+
+pub word_so_far : IsTakenSoFar (named ++ codes "]x")
+word_so_far =
+    taken_so_far (named ++ codes "]x") (with_name ++ closing 11 true ∷ []) (codes "x") (closed_fronts 120 [] refl) (viable_from_run (with_name ++ closing 11 true ∷ []) _ refl)
+    (token_held 13 (codes "x") (with_name ++ closing 11 true ∷ []) (single tokens.word 12 (codes "x")) []
+    (record { spelled = refl; formed = (refl, refl); ends = tt; placed = refl }) (λ some. some refl))
+
+pub run_so_far : IsTakenSoFar (named ++ codes ",1")
+run_so_far =
+    taken_so_far (named ++ codes ",1") (with_name ++ comma ∷ []) (codes "1") (listed_fronts 49 [] refl) (viable_from_run (with_name ++ comma ∷ []) _ refl)
+    (run_held (codes "1") (refl, refl) 13 (omega arith) (with_name ++ comma ∷ []))
+
+pub word_refused : IsSettledRefusal (named ++ codes "]x ") 6 12
+word_refused = record {
+  reason = Unexpected;
+  before = with_name ++ closing 11 true ∷ [];
+  left = codes "x ";
+  skip = 0;
+  fronts = closed_fronts 120 (32 ∷ []) refl;
+  viable = viable_from_run (with_name ++ closing 11 true ∷ []) _ refl;
+  stop = (
+    single tokens.word 12 (codes "x"),
+    32 ∷ [],
+    record { forms = record { spelled = refl; formed = (refl, refl); ends = refl; placed = refl }; settled = λ e. absurd cc },
+    not_viable_from_none (with_name ++ closing 11 true ∷ []) _ (single tokens.word 12 (codes "x")) refl refl,
+    λ deep. deep,
+    refl,
+  );
+  is_number = refl;
+  is_place = refl;
+}
+
+pub closing_refused : IsSettledRefusal (named ++ codes ",]") 6 12
+closing_refused = record {
+  reason = Unexpected;
+  before = with_name ++ comma ∷ [];
+  left = codes "]";
+  skip = 0;
+  fronts = listed_fronts 93 [] refl;
+  viable = viable_from_run (with_name ++ comma ∷ []) _ refl;
+  stop = (
+    closing 12 true,
+    [],
+    record { forms = record { spelled = refl; formed = tt; ends = tt; placed = refl }; settled = tt },
+    not_viable_from_none (with_name ++ comma ∷ []) _ (closing 12 true) refl refl,
+    λ deep. deep,
+    refl,
+  );
+  is_number = refl;
+  is_place = refl;
+}
+
+pub character_refused : IsSettledRefusal (named ++ codes "#") 1 11
+character_refused = record {
+  reason = BadCharacter;
+  before = with_name;
+  left = codes "#";
+  skip = 0;
+  fronts = named_fronts 35 [] refl refl;
+  viable = viable_from_run with_name _ refl;
+  stop = (refl, refl);
+  is_number = refl;
+  is_place = refl;
+}
