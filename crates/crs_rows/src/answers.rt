@@ -1,15 +1,17 @@
 //! From the name of a call to its answer.
 use crate::runs::Command;
 use crate::texts::Column;
-use crate::{canonical, catalogues, lines, numbers, runs, sameness, shapes, texts, values};
+use crate::{canonical, catalogues, lines, numbers, pieces, runs, sameness, shapes, texts, values};
 use std::alloc::{AllocError, Global};
 
-/// Appends the answer of a call to an input, as a row writes it; behind a blank the call may have words.
+/// Appends the answer of a call to an input, as a row writes it, the lines of the input having these ends; behind a
+/// blank the call may have words.
 pub fn put_answer(
     out: &mut String,
     alloc: Global,
     call: &str,
     input: &[u8],
+    ends: &[usize],
 ) -> Result<(), AllocError> {
     match call.split_once(' ') {
         Some(("run_canon", words)) => runs::put_run(out, alloc, Command::Canon, words, input),
@@ -17,6 +19,7 @@ pub fn put_answer(
         Some(("run_group", words)) => catalogues::put_run(out, alloc, words, input),
         Some(("run_same", "unwritable")) => runs::put_unwritable_same(out, alloc, input),
         Some(_) => out.push_str("no such call"),
+        None if call == "feed" => pieces::put_fed(out, alloc, input, ends),
         None => put_plain_answer(out, alloc, call, input),
     }
 }

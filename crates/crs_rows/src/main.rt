@@ -8,6 +8,7 @@ mod catalogues;
 mod escapes;
 mod lines;
 mod numbers;
+mod pieces;
 mod rows;
 mod runs;
 mod sameness;
@@ -18,13 +19,14 @@ mod values;
 
 use std::{fs, io};
 
-const FILES: [&str; 19] = [
+const FILES: [&str; 20] = [
     "decimals",
     "refusals",
     "tokens",
     "utf8",
     "items",
     "prefixes",
+    "pieces",
     "shapes",
     "tables",
     "values",

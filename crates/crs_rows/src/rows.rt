@@ -25,6 +25,8 @@ impl Tally {
 struct Row<'t> {
     call: &'t str,
     input: Vec<u8>,
+    // where each line of the input ends in it
+    ends: Vec<usize>,
 }
 
 // What a line does.
@@ -62,6 +64,7 @@ impl<'t> Row<'t> {
         Row {
             call: "",
             input: Vec::new(alloc),
+            ends: Vec::new(alloc),
         }
     }
 
@@ -91,6 +94,7 @@ impl<'t> Row<'t> {
             if !put_bytes(&mut self.input, part.as_bytes())? {
                 return Ok(Step::Unknown);
             }
+            self.ends.push(self.input.len())?;
         }
         Ok(Step::Part)
     }
@@ -98,7 +102,7 @@ impl<'t> Row<'t> {
     // The row's answer, where it is another than this one.
     fn differing(&self, alloc: Global, answer: &str) -> Result<Option<String>, AllocError> {
         let mut came = String::new(alloc);
-        put_answer(&mut came, alloc, self.call, &self.input)?;
+        put_answer(&mut came, alloc, self.call, &self.input, &self.ends)?;
         if came.as_str() == answer {
             return Ok(None);
         }

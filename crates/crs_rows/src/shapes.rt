@@ -1,5 +1,6 @@
 //! The calls on the shapes of texts.
 use crate::escapes::put_text;
+use crate::pieces::agree;
 use crate::sameness::split_line;
 use crate::texts::{put_fault, put_refusal};
 use bstr::ByteSlice;
@@ -7,8 +8,12 @@ use crs_shape::{Class, Slot, class_of, fit, fit_root, keywords, known, root_clas
 use crs_text::{Refusal, read_items};
 use std::alloc::{AllocError, Global};
 
-/// `class` and the first keyword of the root's class, or the refusal of the text or of its shape.
+/// `class` and the first keyword of the root's class, or the refusal of the text or of its shape; `another answer in
+/// pieces` where a cut into pieces gives one.
 pub fn put_class(out: &mut String, alloc: Global, input: &[u8]) -> Result<(), AllocError> {
+    if !agree(alloc, input)? {
+        return out.push_str("another answer in pieces");
+    }
     match read_items(alloc, input) {
         Ok(items) => put_fitted(out, fit_root(&items)),
         Err(fault) => put_fault(out, fault),

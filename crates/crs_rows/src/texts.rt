@@ -3,6 +3,7 @@ ghost use Rattle.crs_text.specs.Items.{HasId};
 
 use crate::escapes::put_text;
 use crate::numbers::put_spelling;
+use crate::pieces::agree;
 use crs_decimal::Decimal;
 use crs_text::{Fault, ItemId, ItemKind, Items, Refusal, read_items};
 use std::alloc::{AllocError, Global};
@@ -37,9 +38,17 @@ impl Column {
     }
 }
 
-/// The items of a text, node by node, or its refusal.
+/// The items of a text, node by node, or its refusal; `another answer in pieces` where a cut into pieces gives one.
 pub fn put_tree(out: &mut String, alloc: Global, input: &[u8]) -> Result<(), AllocError> {
-    match read_items(alloc, input) {
+    if !agree(alloc, input)? {
+        return out.push_str("another answer in pieces");
+    }
+    put_read(out, read_items(alloc, input))
+}
+
+/// The items that were read, node by node, or the refusal.
+pub fn put_read(out: &mut String, read: Result<Items<'_>, Fault>) -> Result<(), AllocError> {
+    match read {
         Ok(items) => {
             out.push_str("tree ")?;
             put_item(out, &items, items.root(), DEPTH)

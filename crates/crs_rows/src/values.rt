@@ -1,6 +1,7 @@
 //! The calls on the values of texts.
 use crate::escapes::put_text;
 use crate::numbers::put_spelling;
+use crate::pieces::agree;
 use crate::sameness::first_axis;
 use crate::texts::put_fault;
 use crs_text::{Fault, read_items};
@@ -12,8 +13,11 @@ pub fn put_read(out: &mut String, alloc: Global, input: &[u8]) -> Result<(), All
     put_value(out, read(alloc, input))
 }
 
-/// The same by the text's items.
+/// The same by the text's items; `another answer in pieces` where a cut into pieces gives one.
 pub fn put_value_of(out: &mut String, alloc: Global, input: &[u8]) -> Result<(), AllocError> {
+    if !agree(alloc, input)? {
+        return out.push_str("another answer in pieces");
+    }
     match read_items(alloc, input) {
         Ok(items) => put_value(out, value_of(alloc, &items)),
         Err(fault) => put_fault(out, fault),

@@ -1,0 +1,79 @@
+//! Texts in pieces.
+use crate::texts::{put_fault, put_read};
+use crs_text::{Fault, Feeder, read_items};
+use std::alloc::{AllocError, Global};
+
+// The longest text of which every cut is tried.
+const LONGEST: usize = 2000;
+
+/// The answer of each piece, which ends at the next of these places, and then that of `finish`, with `; ` between two:
+/// `ok`, the items, or the refusal.
+pub fn put_fed(
+    out: &mut String,
+    alloc: Global,
+    input: &[u8],
+    ends: &[usize],
+) -> Result<(), AllocError> {
+    let mut feeder = Feeder::new(alloc);
+    let mut from = 0;
+    for end in ends {
+        let piece = input.get(from..*end).unwrap_or(&[]);
+        match feeder.feed(piece) {
+            Ok(()) => out.push_str("ok")?,
+            Err(fault) => put_fault(out, fault)?,
+        }
+        out.push_str("; ")?;
+        from = *end;
+    }
+    put_read(out, feeder.finish())
+}
+
+/// Whether a text that isn't long gives the same answer as a whole, in any two pieces, and in pieces of 1 to 7 bytes.
+pub fn agree(alloc: Global, text: &[u8]) -> Result<bool, AllocError> {
+    if text.len() > LONGEST {
+        return Ok(true);
+    }
+    let mut whole = String::new(alloc);
+    put_read(&mut whole, read_items(alloc, text))?;
+    Ok(agree_in_two(alloc, text, whole.as_str())? && agree_in_many(alloc, text, whole.as_str())?)
+}
+
+fn agree_in_two(alloc: Global, text: &[u8], whole: &str) -> Result<bool, AllocError> {
+    for cut in 0..text.len() {
+        let (first, second) = text.split_at(cut);
+        let mut feeder = Feeder::new(alloc);
+        feed(&mut feeder, first)?;
+        feed(&mut feeder, second)?;
+        if !answers(alloc, &feeder, whole)? {
+            return Ok(false);
+        }
+    }
+    Ok(true)
+}
+
+fn agree_in_many(alloc: Global, text: &[u8], whole: &str) -> Result<bool, AllocError> {
+    for size in 1..8 {
+        let mut feeder = Feeder::new(alloc);
+        for piece in text.chunks(size) {
+            feed(&mut feeder, piece)?;
+        }
+        if !answers(alloc, &feeder, whole)? {
+            return Ok(false);
+        }
+    }
+    Ok(true)
+}
+
+// A refusal is told by `finish` again.
+fn feed(feeder: &mut Feeder, piece: &[u8]) -> Result<(), AllocError> {
+    match feeder.feed(piece) {
+        Ok(()) | Err(Fault::Refused(_)) => Ok(()),
+        Err(Fault::Memory(error)) => Err(error),
+    }
+}
+
+fn answers(alloc: Global, feeder: &Feeder, whole: &str) -> Result<bool, AllocError> {
+    let mut answer = String::new(alloc);
+    put_read(&mut answer, feeder.finish())?;
+    Ok(answer.as_str() == whole)
+}
