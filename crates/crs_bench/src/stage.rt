@@ -5,7 +5,7 @@ use crs_canon::canon;
 use crs_group::{Catalogue, Placed};
 use crs_same::same;
 use crs_shape::fit_root;
-use crs_text::{Fault, Items, read_items};
+use crs_text::{Fault, Feeder, Items, read_items};
 use crs_value::{Crs, Level, read, value_of};
 use std::alloc::{AllocError, Global};
 
@@ -15,6 +15,8 @@ use std::alloc::{AllocError, Global};
 pub enum Stage {
     /// Tokens and items.
     Items,
+    /// The same of a text that comes in pieces of at most so many bytes.
+    Feed(usize),
     /// The shape of the items.
     Shape,
     /// The value of the items: their shape, the checks, and what they say.
@@ -28,8 +30,11 @@ pub enum Stage {
 }
 
 /// All stages, in the order in which they are run.
-pub const STAGES: [Stage; 6] = [
+pub const STAGES: [Stage; 9] = [
     Stage::Items,
+    Stage::Feed(1),
+    Stage::Feed(16),
+    Stage::Feed(4096),
     Stage::Shape,
     Stage::Value,
     Stage::Same,
@@ -42,6 +47,9 @@ impl Stage {
     pub fn name(self) -> &'static str {
         match self {
             Stage::Items => "items",
+            Stage::Feed(1) => "feed by 1",
+            Stage::Feed(16) => "feed by 16",
+            Stage::Feed(_) => "feed by 4096",
             Stage::Shape => "shape",
             Stage::Value => "value",
             Stage::Same => "same",
@@ -53,7 +61,7 @@ impl Stage {
     /// What the stage counts.
     pub fn counted(self) -> &'static str {
         match self {
-            Stage::Items | Stage::Shape | Stage::Value => "items",
+            Stage::Items | Stage::Feed(_) | Stage::Shape | Stage::Value => "items",
             Stage::Same => "same",
             Stage::Canon => "bytes",
             Stage::Group => "groups",
@@ -71,6 +79,7 @@ impl Stage {
     ) -> Result<Outcome, AllocError> {
         match self {
             Stage::Items => items(alloc, text),
+            Stage::Feed(piece) => fed(alloc, text, piece),
             Stage::Shape => shape(alloc, text),
             Stage::Value => value(alloc, text),
             Stage::Same => compared(alloc, text, next),
@@ -82,6 +91,22 @@ impl Stage {
 
 fn items(alloc: Global, text: &[u8]) -> Result<Outcome, AllocError> {
     match read_items(alloc, text) {
+        Ok(items) => Ok(Outcome::Accepted(items.size(items.root()))),
+        Err(Fault::Refused(_)) => Ok(Outcome::Refused),
+        Err(Fault::Memory(error)) => Err(error),
+    }
+}
+
+fn fed(alloc: Global, text: &[u8], piece: usize) -> Result<Outcome, AllocError> {
+    let mut feeder = Feeder::new(alloc);
+    for part in text.chunks(piece.max(1)) {
+        match feeder.feed(part) {
+            Ok(()) => {}
+            Err(Fault::Refused(_)) => return Ok(Outcome::Refused),
+            Err(Fault::Memory(error)) => return Err(error),
+        }
+    }
+    match feeder.finish() {
         Ok(items) => Ok(Outcome::Accepted(items.size(items.root()))),
         Err(Fault::Refused(_)) => Ok(Outcome::Refused),
         Err(Fault::Memory(error)) => Err(error),
