@@ -1,5 +1,6 @@
 pub mod Canonical
 pub mod CrsText
+pub mod Equality
 pub mod MainTheorem
 pub mod Members
 pub mod Openings

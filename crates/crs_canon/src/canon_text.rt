@@ -1,6 +1,9 @@
 ghost use Rattle.std.specs.Prelude.{◌≡◌, ◌↔◌, IsTrue};
+ghost use Rattle.std.specs.Cmp.{partial_equiv_from_equiv};
+ghost use Rattle.crs_canon.specs.Equality.{canon_writes, canons_equal, canons-equivalence, canons-hash};
 
 use crs_value::Level;
+use std::hash::{Hash, Hasher};
 use std::marker::Model;
 
 /// A canonical text and the level at which it was written. Profile.
@@ -45,5 +48,30 @@ impl Canon {
         ensures { IsTrue result ↔ (self.now ≡ other.now) }
     {
         self.level == other.level && self.bytes.as_slice() == other.bytes.as_slice()
+    }
+}
+
+impl PartialEq for Canon {
+    ghost eq = { canons_equal };
+
+    ghost laws = { partial_equiv_from_equiv canons-equivalence };
+
+    // Answers what `same` answers.
+    fn eq(&self, other: &Canon) -> bool {
+        self.same(other)
+    }
+}
+
+impl Eq for Canon {
+    ghost laws = { canons-equivalence };
+}
+
+impl Hash for Canon {
+    ghost hash_input = { canon_writes };
+
+    ghost respects_eq = { canons-hash };
+
+    fn hash<H: Hasher>(&self, state: &mut H) {
+        self.bytes().hash(state);
     }
 }

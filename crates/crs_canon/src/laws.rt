@@ -1,11 +1,12 @@
 //! Laws of canonical texts: calls that do nothing, and whose contracts are the laws.
-ghost use Rattle.std.specs.Prelude.{◌≡◌, ◌↔◌, ◌++◌, [], List, ℕ};
+ghost use Rattle.std.specs.Prelude.{◌≡◌, ◌↔◌, ◌++◌, [], List, true, ℕ};
 ghost use Rattle.crs_value.specs.Sound.{Each};
 ghost use Rattle.crs_value.specs.SoundCrs.{IsCrs};
 ghost use Rattle.crs_value.specs.declared.crs.Crs.{Crs};
 ghost use Rattle.crs_value.specs.declared.level.Level.{Level};
 ghost use Rattle.crs_same.specs.SameCrs.{SameCrs};
-ghost use Rattle.crs_canon.specs.Canonical.{IsCanonicalText};
+ghost use Rattle.crs_canon.specs.Canonical.{CanonicalText, IsCanonicalText};
+ghost use Rattle.crs_canon.specs.Equality.{canon_writes, canons_equal};
 ghost use Rattle.crs_canon.specs.MainTheorem.{MainTheorem};
 ghost use Rattle.crs_canon.specs.SetText.{HaveOneTextWhereSame};
 
@@ -46,6 +47,13 @@ pub fn main_theorem()
     spelled_crs_is_sound();
     one_answer();
 }
+
+/// `==` holds of two canonical texts exactly where their levels and bytes are equal, as `same` says; and equal ones give
+/// a hash the same bytes. Profile.
+pub fn equal_canons_are_one()
+    ensures equal { (a b : CanonicalText) → (canons_equal a b ≡ true) ↔ (a ≡ b) }
+    ensures hash { (a b : CanonicalText) → canons_equal a b ≡ true → canon_writes a ≡ canon_writes b }
+{}
 
 /// No spelling of a node is empty, and none is the front of another of its kind. The node stands for its kind.
 /// Profile.

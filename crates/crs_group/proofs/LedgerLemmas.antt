@@ -9,7 +9,8 @@ use Rattle.crs_group.specs.Catalogue.{CatalogueParts, Line, line_of}
 use Rattle.crs_group.specs.Cutting.{IsLedgerOf, LedgerParts, blank_count}
 use Rattle.crs_group.specs.GroupTexts.{IsCatalogue, IsCatalogueOf, then_line}
 use Rattle.crs_group.specs.Lines.{blank_in, numbered}
-use Rattle.crs_group.specs.Partition.{Each, IsPlacedAs, PlacedLine}
+use Rattle.crs_value.specs.Sound.{Each}
+use Rattle.crs_group.specs.Partition.{IsPlacedAs, PlacedLine}
 use Rattle.crs_group.specs.declared.placed.Placed.{Placed}
 use Rattle.crs_group.specs.declared.placed.Placed.TheVariants.{Blank, Refused, Group}
 

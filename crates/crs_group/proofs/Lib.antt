@@ -1,5 +1,6 @@
 pub mod CatalogueLemmas
 pub mod CutLemmas
+pub mod EntryLemmas
 pub mod FeedLemmas
 pub mod LedgerLemmas
 pub mod LineLemmas

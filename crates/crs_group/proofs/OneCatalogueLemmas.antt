@@ -11,7 +11,8 @@ use Rattle.crs_canon.specs.Canonical.{IsCanonicalOf}
 use Rattle.crs_canon.specs.MainTheorem.{MainTheorem}
 use Rattle.crs_group.specs.Catalogue.{CatalogueParts, GroupParts, Line}
 use Rattle.crs_group.specs.GroupTexts.{IsCatalogue, IsCatalogueOf, IsUnder, canons}
-use Rattle.crs_group.specs.Partition.{AreNumbered, Counts, Each, IsPlacedAs, PlacedLine, ShareWhereSame}
+use Rattle.crs_value.specs.Sound.{Each}
+use Rattle.crs_group.specs.Partition.{AreNumbered, Counts, IsPlacedAs, PlacedLine, ShareWhereSame}
 use Rattle.crs_group.specs.declared.placed.Placed.{Placed}
 use Rattle.crs_group.specs.declared.placed.Placed.TheVariants.{Blank, Refused, Group}
 use Rattle.crs_group.proofs.ListLemmas.{some-is}

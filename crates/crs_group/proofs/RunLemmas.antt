@@ -1,6 +1,6 @@
 -- What the source of a run has given, and what the halves of the run say of the whole.
-use Rattle.std.proofs.Common.{◌≡◌, ◌+◌, ◌<◌, ◌≤◌, ◌*◌, ◌^◌, ◌++◌, ℕ, List, Option, Some, None, false, length, ap, subst, sym, ◌∙◌, arith, append_assoc, length-append, length-take, take, Result, Ok, Err}
-use Rattle.std.specs.Prelude.{IfOk, IsErr}
+use Rattle.std.proofs.Common.{◌≡◌, ◌+◌, ◌<◌, ◌≤◌, ◌*◌, ◌^◌, ◌++◌, ℕ, List, Option, Some, None, false, length, ap, subst, sym, ◌∙◌, arith, append_assoc, length-append, length-take, take, is_ok, true≢false, Result, Ok, Err}
+use Rattle.std.specs.Prelude.{IfOk, IsErr, MatchResult}
 use Rattle.std.specs.Io.{ReadsAtMost}
 use Rattle.std.specs.Io.KnownBytes.{Consumes, Keeps, ReadConsumes}
 use Rattle.crs_group.specs.Cutting.{CutterParts, IsCutFault, IsCutTo, IsLedgerFor, LedgerParts}
@@ -114,3 +114,10 @@ whole-ledger level old new cutter (Ok ledger) read lines is = record {
   is_level = is;
 }
 whole-ledger level old new cutter (Err error) read lines is = tt
+
+-- what holds of an answer holds of it where its error alone is put otherwise
+pub kept : {A E F : Type 0} (P : A → Type 0) (Q : E → Type 0) (r : Result A E) (s : Result A F)
+    → MatchResult r (λ x. s ≡ Ok x) Q → is_ok s ≡ is_ok r → IfOk r P → IfOk s P
+kept P Q (Ok x) s is same p = subst (λ t. IfOk t P) (sym is) p
+kept P Q (Err e) (Ok x) other same p = absurd (true≢false same)
+kept P Q (Err e) (Err f) other same p = tt

@@ -1,5 +1,6 @@
 pub mod Catalogue
 pub mod Cutting
+pub mod Entries
 pub mod GroupRun
 pub mod GroupTexts
 pub mod Lines

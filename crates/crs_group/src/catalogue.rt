@@ -1,4 +1,4 @@
-//! The catalogue: groups in a vector, searched in order.
+//! The catalogue: groups by their canonical texts, and the refused lines.
 ghost use Rattle.std.specs.Prelude.{◌≡◌, ◌+◌, ◌^◌, ◌<◌, [], ◌∷◌, ◌++◌, List, Some, length, slice_get};
 ghost use Rattle.std.specs.Prelude.{MatchOption, IfOk, IfSome, OnErr, OnOk};
 ghost use Rattle.std.specs.Option.{option_copied, option_map};
@@ -9,7 +9,7 @@ ghost use Rattle.crs_group.specs.GroupTexts.{IsCatalogue, IsCatalogueOf, canons,
 ghost use Rattle.crs_group.specs.Partition.{PlacedLine};
 ghost use Rattle.crs_group.specs.Putting.{IsJoined, IsNew, IsPut, IsRefused, group_of};
 
-use crate::group::Group;
+use crate::groups::Groups;
 use crate::placed::Placed;
 use crs_canon::laws::main_theorem;
 use crs_canon::{Canon, canon};
@@ -23,7 +23,7 @@ use std::marker::Model;
 pub struct Catalogue {
     alloc: Global,
     level: Level,
-    groups: Vec<Group>,
+    groups: Groups,
     refused: Vec<(u64, Refusal)>,
 }
 
@@ -34,7 +34,7 @@ impl Model for Catalogue {
 
     ghost view = { λ catalogue. record {
       level = catalogue.level;
-      groups = catalogue.groups.items;
+      groups = catalogue.groups;
       refused = catalogue.refused.items;
     } };
 }
@@ -49,7 +49,7 @@ impl Catalogue {
         Catalogue {
             alloc,
             level,
-            groups: Vec::new(alloc),
+            groups: Groups::new(alloc),
             refused: Vec::new(alloc),
         }
     }
@@ -66,9 +66,9 @@ impl Catalogue {
     pub fn lines(&self, number: usize) -> Option<&[u64]>
         ensures { option_copied result ≡ option_map (λ group. group.lines) (nth number self.now.groups) }
     {
-        match self.group(number) {
-            Some(group) => Some(group.lines()),
-            None => None,
+        match number {
+            0 => None,
+            _ => self.groups.lines(number - 1),
         }
     }
 
@@ -76,9 +76,9 @@ impl Catalogue {
     pub fn text(&self, number: usize) -> Option<&[u8]>
         ensures { option_copied result ≡ option_map (λ group. group.canon.bytes) (nth number self.now.groups) }
     {
-        match self.group(number) {
-            Some(group) => Some(group.text()),
-            None => None,
+        match number {
+            0 => None,
+            _ => self.groups.text(number - 1),
         }
     }
 
@@ -111,51 +111,10 @@ impl Catalogue {
     }
 
     // The groups in the order of their numbers.
-    pub(crate) fn all_groups(&self) -> &[Group]
+    pub(crate) fn all_groups(&self) -> &Groups
         ensures { result.now ≡ self.now.groups }
     {
         &self.groups
-    }
-
-    fn group(&self, number: usize) -> Option<&Group>
-        ensures { option_copied result ≡ nth number self.now.groups }
-    {
-        match number {
-            0 => None,
-            _ => self.groups.get(number - 1),
-        }
-    }
-
-    // The place, from 0, of the group that has this text.
-    fn position(&self, canon: &Canon) -> Option<usize>
-        ensures found { MatchOption result (IsNew canon.now self.now.groups)
-            (λ at. slice_get (canons self.now.groups) at ≡ Some canon.now) }
-        ensures fits { IfSome result (λ at. at + 1 < 2 ^ 64) }
-    {
-        self.groups.iter().position(|group| group.has(canon))
-    }
-
-    // A further line in the group at this place.
-    fn join(&mut self, at: usize, line: u64) -> Result<(), AllocError>
-        requires { at < length self.old.groups }
-        ensures groups { IfOk result (λ _. IsJoined at line self.old.groups self.new.groups) }
-        ensures refused { self.new.refused ≡ self.old.refused }
-        ensures level { self.new.level ≡ self.old.level }
-        ensures unchanged { OnErr result (self.new ≡ self.old) }
-    {
-        self.groups[at].push(line)
-    }
-
-    // A further group.
-    fn open(&mut self, line: u64, canon: Canon) -> Result<(), AllocError>
-        ensures groups { IfOk result (λ _. self.new.groups ≡ self.old.groups ++ group_of canon line ∷ []) }
-        ensures refused { self.new.refused ≡ self.old.refused }
-        ensures level { self.new.level ≡ self.old.level }
-        ensures unchanged { OnErr result (self.new ≡ self.old) }
-    {
-        let group = Group::new(self.alloc, canon, line)?;
-        self.groups.push(group)?;
-        Ok(())
     }
 
     // Puts a line into the group of its text.
@@ -165,14 +124,15 @@ impl Catalogue {
         ensures level { self.new.level ≡ self.old.level }
         ensures unchanged { OnErr result (self.new ≡ self.old) }
     {
-        match self.position(&canon) {
+        let count = self.groups.len();
+        match self.groups.position(&canon) {
             Some(at) => {
-                self.join(at, line)?;
+                self.groups.join(at, line)?;
                 Ok(Placed::Group(at + 1))
             }
             None => {
-                self.open(line, canon)?;
-                Ok(Placed::Group(self.groups.len()))
+                self.groups.open(self.alloc, line, canon)?;
+                Ok(Placed::Group(count + 1))
             }
         }
     }

@@ -1,11 +1,12 @@
 //! How a catalogue is written.
 ghost use Rattle.std.specs.Prelude.{◌≡◌, ◌++◌, ℕ, OnOk};
 ghost use Rattle.std.specs.List.{flat_map};
+ghost use Rattle.crs_group.specs.Catalogue.{GroupParts};
 ghost use Rattle.crs_group.specs.Output.{catalogue_text, group_line, group_lines, numbers_text};
 ghost use Rattle.crs_group.specs.Output.{refused_line, refused_text};
 
 use crate::catalogue::Catalogue;
-use crate::group::Group;
+use crate::groups::Groups;
 use crs_text::Refusal;
 use itoa::Buffer;
 use std::alloc::AllocError;
@@ -18,24 +19,25 @@ pub(crate) fn write_catalogue(out: &mut Vec<u8>, catalogue: &Catalogue) -> Resul
     write_refused_lines(out, catalogue.refused())
 }
 
-fn write_groups(out: &mut Vec<u8>, groups: &[Group]) -> Result<(), AllocError>
+fn write_groups(out: &mut Vec<u8>, groups: &Groups) -> Result<(), AllocError>
     ensures { OnOk result (out.new.items ≡ out.old.items ++ group_lines 1 groups.now) }
 {
-    for (index, group) in groups.iter().enumerate() {
-        write_group(out, index + 1, group)?;
+    for at in 0..groups.len() {
+        write_group(out, at + 1, groups.lines_at(at))?;
     }
     Ok(())
 }
 
 // `group N: L1 L2 ..` and a line end.
-fn write_group(out: &mut Vec<u8>, number: usize, group: &Group) -> Result<(), AllocError>
-    ensures { OnOk result (out.new.items ≡ out.old.items ++ group_line number group.now) }
+fn write_group(out: &mut Vec<u8>, number: usize, lines: &[u64]) -> Result<(), AllocError>
+    ensures { (group : GroupParts) → group.lines ≡ lines.now →
+        OnOk result (out.new.items ≡ out.old.items ++ group_line number group) }
 {
     let mut digits = Buffer::new();
     out.extend_from_slice(b"group ")?;
     out.extend_from_slice(digits.format(number).as_bytes())?;
     out.push(b':')?;
-    write_numbers(out, group.lines())?;
+    write_numbers(out, lines)?;
     out.push(b'\n').map_err(AllocError::from)
 }
 

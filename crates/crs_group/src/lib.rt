@@ -5,8 +5,8 @@
 mod catalogue;
 mod cutting;
 mod fault;
-mod group;
 mod group_text;
+mod groups;
 pub mod laws;
 mod ledger;
 mod placed;

@@ -5,8 +5,8 @@ use Rattle.crs_group.proofs.catalogue.Catalogue.new.Goals as goal
 
 pub returns-clause-catalogue : goal.returns-clause-catalogue
 returns-clause-catalogue c =
-    let made : CatalogueParts = record { level = c.args.level; groups = c.new.result.items; refused = c.new-2.result.items } in
-    by-parts [] c.args.level [] [] made refl c.new.ensures.items c.new-2.ensures.items (none-added c.args.level)
+    let made : CatalogueParts = record { level = c.args.level; groups = c.new.result; refused = c.new-2.result.items } in
+    by-parts [] c.args.level [] [] made refl c.new.ensures c.new-2.ensures.items (none-added c.args.level)
 
 pub returns-clause-lines : goal.returns-clause-lines
 returns-clause-lines c = record { placed = []; are_lines = refl; whole = returns-clause-catalogue c }

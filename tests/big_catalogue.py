@@ -1,0 +1,54 @@
+#!/usr/bin/env python3
+"""Writes a large catalogue to standard output, of the texts of examples/catalogue.txt that spell a CRS.
+
+    big_catalogue.py CRSS SPELLINGS
+
+It has CRSS CRSs, each with a name of its own, and each of them is spelled SPELLINGS times, one to 16: white space
+and delimiters differ. The spellings of a CRS stand CRSS lines apart. So `crsdesk group` finds CRSS groups of SPELLINGS
+lines.
+"""
+import os
+import sys
+
+ROOT = os.path.dirname(os.path.dirname(os.path.abspath(__file__)))
+HEADS = (b"GEOGCRS", b"GEODCRS", b"GEODETICCRS", b"GEOGRAPHICCRS", b"PROJCRS", b"PROJECTEDCRS", b"VERTCRS",
+         b"VERTICALCRS", b"COMPOUNDCRS")
+
+
+def respelled(text, spelling):
+    """The text with `spelling % 8` spaces behind each comma, and round delimiters from 8 on."""
+    out = bytearray()
+    quoted = False
+    for byte in text:
+        char = bytes([byte])
+        quoted ^= char == b'"'
+        if not quoted and char in b" \t":
+            continue
+        if not quoted and spelling >= 8:
+            char = {b"[": b"(", b"]": b")"}.get(char, char)
+        out += char
+        if not quoted and char == b",":
+            out += b" " * (spelling % 8)
+    return bytes(out)
+
+
+def texts():
+    """Each text, as what stands before the end of its name and what stands behind."""
+    with open(os.path.join(ROOT, "examples/catalogue.txt"), "rb") as file:
+        for line in file.read().splitlines():
+            if line.upper().startswith(HEADS):
+                end = line.index(b'"', line.index(b'"') + 1)
+                yield line[:end], line[end:]
+
+
+def main(crss, spellings):
+    out = sys.stdout.buffer
+    parts = [[(respelled(front, n), respelled(b'"' + rest, n)[1:]) for front, rest in texts()]
+             for n in range(spellings)]
+    for spelling in parts:
+        for number in range(crss):
+            front, rest = spelling[number % len(spelling)]
+            out.write(b'%s %d"%s\n' % (front, number, rest))
+
+
+main(int(sys.argv[1]), int(sys.argv[2]))
