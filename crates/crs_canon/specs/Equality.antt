@@ -19,7 +19,8 @@ canon_writes canon = slice u8 canon.bytes
 
 pub canons-equivalence : IsEquivalence canons_equal
 canons-equivalence =
-    and_equiv (on_equiv (λ canon. tag_of the_type canon.level) nat_eq_equiv) (on_equiv (λ canon. canon.bytes) nat_list_eq_equiv)
+    and_equiv (on_equiv (λ canon. tag_of the_type canon.level) nat_eq_equiv)
+    (on_equiv (λ canon. canon.bytes) nat_list_eq_equiv)
 
 pub canons-decide : (a b : CanonicalText) → (canons_equal a b ≡ true) ↔ (a ≡ b)
 canons-decide a b = (equal, back)
@@ -27,7 +28,8 @@ canons-decide a b = (equal, back)
     equal : canons_equal a b ≡ true → a ≡ b
     equal so =
         let levels : a.level ≡ b.level = same_true the_type (search rules) a.level b.level (first_so _ _ so) in
-        let bytes : a.bytes ≡ b.bytes = (bytes_decides a.bytes b.bytes).0 (second_so (sameb the_type a.level b.level) _ so) in
+        let bytes : a.bytes ≡ b.bytes =
+        (bytes_decides a.bytes b.bytes).0 (second_so (sameb the_type a.level b.level) _ so) in
         λ i. record { bytes = bytes i; level = levels i }
 
     back : a ≡ b → canons_equal a b ≡ true

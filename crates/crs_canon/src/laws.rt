@@ -48,8 +48,8 @@ pub fn main_theorem()
     one_answer();
 }
 
-/// `==` holds of two canonical texts exactly where their levels and bytes are equal, as `same` says; and equal ones give
-/// a hash the same bytes. Profile.
+/// `==` holds of two canonical texts exactly where their levels and bytes are equal, as `same` says; and equal ones
+/// give a hash the same bytes. Profile.
 pub fn equal_canons_are_one()
     ensures equal { (a b : CanonicalText) → (canons_equal a b ≡ true) ↔ (a ≡ b) }
     ensures hash { (a b : CanonicalText) → canons_equal a b ≡ true → canon_writes a ≡ canon_writes b }
