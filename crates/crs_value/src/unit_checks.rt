@@ -199,8 +199,8 @@ fn fits_as(
     requires unit { HasId items.now unit }
     requires system { Shaped Class.CoordinateSystem (item_at items.now cs) }
     requires shaped { Shaped class (item_at items.now crs) }
-    ensures { IsTrue result ↔ (AllAsk (item_at items.now cs) (those class Class.Axis (arguments (item_at items.now crs)))
-        kind
+    ensures { IsTrue result ↔ (
+        AllAsk (item_at items.now cs) (those class Class.Axis (arguments (item_at items.now crs))) kind
         × Fits (item_at items.now unit) kind) }
 {
     all_ask(items, crs, class, cs, kind) && fits(items, unit, kind)
