@@ -11,11 +11,11 @@ use std::alloc::{AllocError, Global};
 /// `lines N`, `text N` and `refused`.
 pub fn put_catalogue(out: &mut String, alloc: Global, input: &[u8]) -> Result<(), AllocError> {
     let mut catalogue = Catalogue::new(alloc, Level::Full);
-    let mut between = "";
-    for line in input.split(|byte| *byte == b'\n') {
-        out.push_str(between)?;
+    for (index, line) in input.split(|byte| *byte == b'\n').enumerate() {
+        if index > 0 {
+            out.push_str("; ")?;
+        }
         put_call(out, &mut catalogue, line)?;
-        between = "; ";
     }
     Ok(())
 }
