@@ -38,13 +38,12 @@ def texts():
         for line in file.read().splitlines():
             if line.upper().startswith(HEADS):
                 end = line.index(b'"', line.index(b'"') + 1)
-                yield line[:end], line[end:]
+                yield line[:end], line[end + 1:]
 
 
 def main(crss, spellings):
     out = sys.stdout.buffer
-    parts = [[(respelled(front, n), respelled(b'"' + rest, n)[1:]) for front, rest in texts()]
-             for n in range(spellings)]
+    parts = [[(respelled(front, n), respelled(rest, n)) for front, rest in texts()] for n in range(spellings)]
     for spelling in parts:
         for number in range(crss):
             front, rest = spelling[number % len(spelling)]
