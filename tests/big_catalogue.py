@@ -13,6 +13,8 @@ import sys
 ROOT = os.path.dirname(os.path.dirname(os.path.abspath(__file__)))
 HEADS = (b"GEOGCRS", b"GEODCRS", b"GEODETICCRS", b"GEOGRAPHICCRS", b"PROJCRS", b"PROJECTEDCRS", b"VERTCRS",
          b"VERTICALCRS", b"COMPOUNDCRS")
+# Lines of the catalogue that begin as a CRS does and are refused, counted from 1.
+REFUSED = (59, 78)
 
 
 def respelled(text, spelling):
@@ -35,8 +37,8 @@ def respelled(text, spelling):
 def texts():
     """Each text, as what stands before the end of its name and what stands behind."""
     with open(os.path.join(ROOT, "examples/catalogue.txt"), "rb") as file:
-        for line in file.read().splitlines():
-            if line.upper().startswith(HEADS):
+        for number, line in enumerate(file.read().splitlines(), 1):
+            if line.upper().startswith(HEADS) and number not in REFUSED:
                 end = line.index(b'"', line.index(b'"') + 1)
                 yield line[:end], line[end + 1:]
 

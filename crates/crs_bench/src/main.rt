@@ -1,26 +1,34 @@
-//! `crs_bench ROUNDS` reads a catalogue from standard input, one text a line, and runs each stage
-//! over all texts that many times. It prints what each stage came to, which is the same in every
+//! `crs_bench ROUNDS [STAGE..]` reads a catalogue from standard input, one text a line, and runs each stage by itself,
+//! or only those named, over all texts that many times. It prints what each stage came to, which is the same in every
 //! run, and on standard error how long it took.
 #![tactic(auto)]
 
 mod catalogue;
+mod entry;
 mod stage;
 mod tally;
 mod timing;
 
 use anyhow::{Context, Result, ensure};
 use catalogue::texts_of;
-use stage::STAGES;
+use entry::{Entry, entries_of};
+use stage::{STAGES, Stage};
 use std::io::Read;
 use std::{env, io};
 use timing::timed;
 
+// Catalogues of so many of the first texts are grouped too, so that the time of a line can be compared.
+const SMALLER: [usize; 3] = [10_000, 100_000, 1_000_000];
+
 fn main(rt: HostRuntime) -> Result<()> {
     let rounds = rounds(&rt)?;
+    let stages = stages(&rt)?;
     let mut bytes = Vec::new(rt.alloc());
     rt.stdin().read_to_end(&mut bytes)?;
     let texts = texts_of(rt.alloc(), &bytes)?;
-    report(&rt, rounds, &texts)?;
+    for stage in &stages {
+        report(&rt, *stage, rounds, &texts)?;
+    }
     Ok(())
 }
 
@@ -35,15 +43,37 @@ fn rounds(rt: &HostRuntime) -> Result<u32> {
     Ok(rounds)
 }
 
-fn report(rt: &HostRuntime, rounds: u32, texts: &[&[u8]]) -> io::Result<()> {
-    for stage in STAGES {
-        let timing = timed(rt, stage, rounds, texts)?;
-        let name = stage.name();
-        let tally = timing.tally();
-        let count = tally.counted();
-        let counted = stage.counted();
-        println!(rt; "{name}: {tally}, {count} {counted}")?;
-        eprintln!(rt; "{name}: {timing}")?;
+// The stages that are named, or all.
+fn stages(rt: &HostRuntime) -> Result<Vec<Stage>> {
+    let mut stages = Vec::new(rt.alloc());
+    for word in env::args(rt)?.skip(2) {
+        let stage = Stage::named(&word).context(format_args!("{word:?} is no stage"))?;
+        stages.push(stage)?;
     }
-    Ok(())
+    if stages.is_empty() {
+        stages.extend_from_slice(&STAGES)?;
+    }
+    Ok(stages)
+}
+
+fn report(rt: &HostRuntime, stage: Stage, rounds: u32, texts: &[&[u8]]) -> io::Result<()> {
+    let entries = entries_of(rt.alloc(), stage, texts)?;
+    if matches!(stage, Stage::Group) {
+        for smaller in SMALLER {
+            if let Some(first) = entries.get(..smaller) {
+                report_of(rt, stage, rounds, first)?;
+            }
+        }
+    }
+    report_of(rt, stage, rounds, &entries)
+}
+
+fn report_of(rt: &HostRuntime, stage: Stage, rounds: u32, entries: &[Entry<'_>]) -> io::Result<()> {
+    let timing = timed(rt, stage, rounds, entries)?;
+    let name = stage.name();
+    let tally = timing.tally();
+    let count = tally.counted();
+    let counted = stage.counted();
+    println!(rt; "{name}: {tally}, {count} {counted}")?;
+    eprintln!(rt; "{name}: {timing}")
 }

@@ -1,57 +1,71 @@
 //! The stages from a text to its canonical spelling, as they are called from outside.
 
+use crate::entry::{Entry, accepted};
 use crate::tally::Outcome;
-use crs_canon::canon;
+use crs_canon::canon_of;
 use crs_group::{Catalogue, Placed};
 use crs_same::same;
 use crs_shape::fit_root;
 use crs_text::{Fault, Feeder, Items, read_items};
-use crs_value::{Crs, Level, read, value_of};
+use crs_value::{Crs, Level, judge, read, value_of};
 use std::alloc::{AllocError, Global};
 
-/// A stage, those before it included. A further one is a variant here, its place in `STAGES`, a name,
-/// and an arm in `outcome`.
+/// A stage by itself: what it is given was made before. A further one is a variant here, its place in `STAGES`, a
+/// name, what it is given, and an arm in `outcome`.
 #[derive(Clone, Copy)]
 pub enum Stage {
-    /// Tokens and items.
+    /// From the text: tokens and items.
     Items,
     /// The same of a text that comes in pieces of at most so many bytes.
     Feed(usize),
-    /// The shape of the items.
+    /// From the items: their shape.
     Shape,
-    /// The value of the items: their shape, the checks, and what they say.
+    /// From the items: their shape and the checks.
+    Judge,
+    /// From the items: their shape, the checks, and what they say.
     Value,
-    /// The value compared with itself and with that of the next text, which is read for it.
+    /// From the text: its value.
+    Read,
+    /// From the values of the text and of the next one: the value compared with itself and with that.
     Same,
-    /// The canonical text of the value.
+    /// From the value: its canonical text.
     Canon,
-    /// The group of the text among those of the texts before it.
+    /// From the text: its group among those of the texts before it.
     Group,
 }
 
 /// All stages, in the order in which they are run.
-pub const STAGES: [Stage; 9] = [
+pub const STAGES: [Stage; 11] = [
     Stage::Items,
     Stage::Feed(1),
     Stage::Feed(16),
     Stage::Feed(4096),
     Stage::Shape,
+    Stage::Judge,
     Stage::Value,
+    Stage::Read,
     Stage::Same,
     Stage::Canon,
     Stage::Group,
 ];
 
 impl Stage {
+    /// The stage of this name; None where there is none.
+    pub fn named(name: &str) -> Option<Stage> {
+        STAGES.iter().find(|stage| stage.name() == name).copied()
+    }
+
     /// The name under which it is reported.
     pub fn name(self) -> &'static str {
         match self {
             Stage::Items => "items",
-            Stage::Feed(1) => "feed by 1",
-            Stage::Feed(16) => "feed by 16",
-            Stage::Feed(_) => "feed by 4096",
+            Stage::Feed(1) => "feed-1",
+            Stage::Feed(16) => "feed-16",
+            Stage::Feed(_) => "feed-4096",
             Stage::Shape => "shape",
+            Stage::Judge => "judge",
             Stage::Value => "value",
+            Stage::Read => "read",
             Stage::Same => "same",
             Stage::Canon => "canon",
             Stage::Group => "group",
@@ -61,7 +75,8 @@ impl Stage {
     /// What the stage counts.
     pub fn counted(self) -> &'static str {
         match self {
-            Stage::Items | Stage::Feed(_) | Stage::Shape | Stage::Value => "items",
+            Stage::Items | Stage::Feed(_) | Stage::Shape | Stage::Judge | Stage::Value => "items",
+            Stage::Read => "CRSs",
             Stage::Same => "same",
             Stage::Canon => "bytes",
             Stage::Group => "groups",
@@ -73,28 +88,33 @@ impl Stage {
     pub fn outcome<'t>(
         self,
         alloc: Global,
-        text: &'t [u8],
-        next: &'t [u8],
+        entry: &Entry<'t>,
+        next: &Entry<'t>,
         before: &mut Catalogue,
     ) -> Result<Outcome, AllocError> {
         match self {
-            Stage::Items => items(alloc, text),
-            Stage::Feed(piece) => fed(alloc, text, piece),
-            Stage::Shape => shape(alloc, text),
-            Stage::Value => value(alloc, text),
-            Stage::Same => compared(alloc, text, next),
-            Stage::Canon => canonical(alloc, text),
-            Stage::Group => placed(before, text),
+            Stage::Items => items(alloc, entry.text),
+            Stage::Feed(piece) => fed(alloc, entry.text, piece),
+            Stage::Shape => Ok(shaped(entry)),
+            Stage::Judge => Ok(judged(entry)),
+            Stage::Value => valued(alloc, entry),
+            Stage::Read => whole(alloc, entry.text),
+            Stage::Same => Ok(compared(entry, next)),
+            Stage::Canon => canonical(alloc, entry),
+            Stage::Group => placed(before, entry.text),
         }
     }
 }
 
 fn items(alloc: Global, text: &[u8]) -> Result<Outcome, AllocError> {
-    match read_items(alloc, text) {
-        Ok(items) => Ok(Outcome::Accepted(items.size(items.root()))),
-        Err(Fault::Refused(_)) => Ok(Outcome::Refused),
-        Err(Fault::Memory(error)) => Err(error),
+    match accepted(read_items(alloc, text))? {
+        Some(items) => Ok(Outcome::Accepted(size(&items))),
+        None => Ok(Outcome::Refused),
     }
+}
+
+fn size(items: &Items<'_>) -> usize {
+    items.size(items.root())
 }
 
 fn fed(alloc: Global, text: &[u8], piece: usize) -> Result<Outcome, AllocError> {
@@ -107,72 +127,73 @@ fn fed(alloc: Global, text: &[u8], piece: usize) -> Result<Outcome, AllocError> 
         }
     }
     match feeder.finish() {
-        Ok(items) => Ok(Outcome::Accepted(items.size(items.root()))),
+        Ok(items) => Ok(Outcome::Accepted(size(&items))),
         Err(Fault::Refused(_)) => Ok(Outcome::Refused),
         Err(Fault::Memory(error)) => Err(error),
     }
 }
 
-fn shape(alloc: Global, text: &[u8]) -> Result<Outcome, AllocError> {
-    match read_items(alloc, text) {
-        Ok(items) => Ok(shaped(&items)),
-        Err(Fault::Refused(_)) => Ok(Outcome::Refused),
-        Err(Fault::Memory(error)) => Err(error),
+fn shaped(entry: &Entry<'_>) -> Outcome {
+    match &entry.items {
+        Some(items) => match fit_root(items) {
+            Ok(_class) => Outcome::Accepted(size(items)),
+            Err(_refusal) => Outcome::Refused,
+        },
+        None => Outcome::Refused,
     }
 }
 
-fn shaped(items: &Items<'_>) -> Outcome {
-    match fit_root(items) {
-        Ok(_class) => Outcome::Accepted(items.size(items.root())),
-        Err(_refusal) => Outcome::Refused,
+fn judged(entry: &Entry<'_>) -> Outcome {
+    match &entry.items {
+        Some(items) => match judge(items) {
+            Ok(_class) => Outcome::Accepted(size(items)),
+            Err(_refusal) => Outcome::Refused,
+        },
+        None => Outcome::Refused,
     }
 }
 
-fn value(alloc: Global, text: &[u8]) -> Result<Outcome, AllocError> {
-    match read_items(alloc, text) {
-        Ok(items) => valued(alloc, &items),
-        Err(Fault::Refused(_)) => Ok(Outcome::Refused),
-        Err(Fault::Memory(error)) => Err(error),
+fn valued(alloc: Global, entry: &Entry<'_>) -> Result<Outcome, AllocError> {
+    match &entry.items {
+        Some(items) => match accepted(value_of(alloc, items))? {
+            Some(_crs) => Ok(Outcome::Accepted(size(items))),
+            None => Ok(Outcome::Refused),
+        },
+        None => Ok(Outcome::Refused),
     }
 }
 
-fn valued(alloc: Global, items: &Items<'_>) -> Result<Outcome, AllocError> {
-    match value_of(alloc, items) {
-        Ok(_crs) => Ok(Outcome::Accepted(items.size(items.root()))),
-        Err(Fault::Refused(_)) => Ok(Outcome::Refused),
-        Err(Fault::Memory(error)) => Err(error),
+fn whole(alloc: Global, text: &[u8]) -> Result<Outcome, AllocError> {
+    match accepted(read(alloc, text))? {
+        Some(_crs) => Ok(Outcome::Accepted(1)),
+        None => Ok(Outcome::Refused),
     }
 }
 
-fn compared<'t>(alloc: Global, text: &'t [u8], next: &'t [u8]) -> Result<Outcome, AllocError> {
-    match read(alloc, text) {
-        Ok(crs) => against(alloc, &crs, next),
-        Err(Fault::Refused(_)) => Ok(Outcome::Refused),
-        Err(Fault::Memory(error)) => Err(error),
+fn compared<'t>(entry: &Entry<'t>, next: &Entry<'t>) -> Outcome {
+    match &entry.crs {
+        Some(crs) => Outcome::Accepted(
+            usize::from(same(crs, crs, Level::Full)) + matches(crs, next),
+        ),
+        None => Outcome::Refused,
     }
 }
 
-fn against<'t>(alloc: Global, crs: &Crs<'t>, next: &'t [u8]) -> Result<Outcome, AllocError> {
-    let itself = usize::from(same(crs, crs, Level::Full));
-    match is_same_as(alloc, crs, next) {
-        Ok(next) => Ok(Outcome::Accepted(itself + usize::from(next))),
-        Err(Fault::Refused(_)) => Ok(Outcome::Accepted(itself)),
-        Err(Fault::Memory(error)) => Err(error),
+// 1 where the next text spells the same CRS, 0 where it spells another or none.
+fn matches<'t>(crs: &Crs<'t>, next: &Entry<'t>) -> usize {
+    match &next.crs {
+        Some(other) => usize::from(same(crs, other, Level::Full)),
+        None => 0,
     }
 }
 
-fn is_same_as<'a>(alloc: Global, crs: &Crs<'a>, next: &'a [u8]) -> Result<bool, Fault> {
-    match read(alloc, next) {
-        Ok(other) => Ok(same(crs, &other, Level::Full)),
-        Err(fault) => Err(fault),
-    }
-}
-
-fn canonical(alloc: Global, text: &[u8]) -> Result<Outcome, AllocError> {
-    match canon(alloc, text, Level::Full) {
-        Ok(canon) => Ok(Outcome::Accepted(canon.bytes().len())),
-        Err(Fault::Refused(_)) => Ok(Outcome::Refused),
-        Err(Fault::Memory(error)) => Err(error),
+fn canonical(alloc: Global, entry: &Entry<'_>) -> Result<Outcome, AllocError> {
+    match &entry.crs {
+        Some(crs) => {
+            let canon = canon_of(alloc, crs, Level::Full)?;
+            Ok(Outcome::Accepted(canon.bytes().len()))
+        }
+        None => Ok(Outcome::Refused),
     }
 }
 

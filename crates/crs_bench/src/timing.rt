@@ -1,5 +1,6 @@
 //! How long a stage takes.
 
+use crate::entry::Entry;
 use crate::stage::Stage;
 use crate::tally::Tally;
 use crs_group::Catalogue;
@@ -17,17 +18,17 @@ pub struct Timing {
     time: Duration,
 }
 
-/// Runs the stage over all texts, so many times.
+/// Runs the stage over all entries, so many times.
 pub fn timed(
     rt: &(impl Clock + AllocGlobal),
     stage: Stage,
     rounds: u32,
-    texts: &[&[u8]],
+    entries: &[Entry<'_>],
 ) -> io::Result<Timing> {
     let start = Instant::now(rt)?;
     let mut tally = Tally::EMPTY;
     for round in 0..rounds {
-        tally = one_round(rt.alloc(), stage, texts)?;
+        tally = one_round(rt.alloc(), stage, entries)?;
     }
     let time = start.elapsed(rt)?;
     Ok(Timing {
@@ -37,12 +38,12 @@ pub fn timed(
     })
 }
 
-fn one_round(alloc: Global, stage: Stage, texts: &[&[u8]]) -> Result<Tally, AllocError> {
+fn one_round(alloc: Global, stage: Stage, entries: &[Entry<'_>]) -> Result<Tally, AllocError> {
     let mut tally = Tally::EMPTY;
     let mut before = Catalogue::new(alloc, Level::Full);
-    for (index, text) in texts.iter().enumerate() {
-        let next = texts.get(index.saturating_add(1)).unwrap_or(text);
-        tally.add(text, stage.outcome(alloc, text, next, &mut before)?);
+    for (index, entry) in entries.iter().enumerate() {
+        let next = entries.get(index.saturating_add(1)).unwrap_or(entry);
+        tally.add(entry.text, stage.outcome(alloc, entry, next, &mut before)?);
     }
     Ok(tally)
 }
