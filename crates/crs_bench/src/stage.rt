@@ -172,9 +172,10 @@ fn whole(alloc: Global, text: &[u8]) -> Result<Outcome, AllocError> {
 
 fn compared<'t>(entry: &Entry<'t>, next: &Entry<'t>) -> Outcome {
     match &entry.crs {
-        Some(crs) => Outcome::Accepted(
-            usize::from(same(crs, crs, Level::Full)) + matches(crs, next),
-        ),
+        Some(crs) => {
+            let itself = usize::from(same(crs, crs, Level::Full));
+            Outcome::Accepted(itself.saturating_add(matches(crs, next)))
+        }
         None => Outcome::Refused,
     }
 }
