@@ -66,5 +66,7 @@ fn written(alloc: Global, crs: &Crs<'_>, level: Level, room: usize) -> Result<Ca
     one_form_is_the_same();
     let mut bytes = Vec::with_capacity(alloc, room)?;
     write_crs(&mut bytes, crs, level)?;
+    // Whoever keeps many holds no room that none needs.
+    bytes.shrink_to_fit();
     Ok(Canon::new(bytes, level))
 }
