@@ -1,5 +1,5 @@
 -- What `canon` and `check` write for a text, and their status.
-use Rattle.std.specs.Prelude.{◌≡◌, ◌++◌, ◌⊎◌, ℕ, List, [], ◌∷◌, codes}
+use Rattle.std.specs.Prelude.{◌≡◌, ◌++◌, ◌⊎◌, ℕ, List, [], ◌∷◌, Result, Ok, Err, codes}
 use Rattle.crs_text.specs.Refusal.{RefusedAt}
 use Rattle.crs_value.specs.declared.crs.Crs.{Crs}
 use Rattle.crs_value.specs.declared.crs.Kind.{Kind}
@@ -48,3 +48,8 @@ IsCanonOutput level text written status = WritesCanonical level text written sta
 -- what `check` writes for a text, and its status
 unfoldable pub IsCheckOutput : List ℕ → List ℕ → ℕ → Type 0
 IsCheckOutput text written status = WritesAccepted text written status ⊎ WritesRefusal text written status
+
+-- what is written of a kind or a refusal that was found
+abbrev pub WritesFound : Result Kind RefusedAt → List ℕ → ℕ → Type 0
+WritesFound (Ok found) written status = IsLine (codes "accepted " ++ kind_word found) 0 written status
+WritesFound (Err refusal) written status = IsLine (refused_text refusal.number refusal.place) 1 written status

@@ -5,9 +5,10 @@ ghost use Rattle.crs_group.specs.Streams.{fresh_sink, fresh_source};
 
 use crate::answer::{Answer, write_answer};
 use crate::judging::judged;
+use crate::pieces::read_pieces;
 use crate::print::refused_line;
-use crate::text::read_text;
 use crate::{RunFault, Sink, Source};
+use crs_text::Refusal;
 use crs_value::Kind;
 use std::alloc::{AllocError, Global};
 use std::io::{Read, Write};
@@ -30,23 +31,24 @@ pub fn run_check<R: Read, W: Write>(
     ensures write_failed { IsErrOf result RunFault.WriteFailed ↔ (w.new.failed ≡ true) }
     ensures too_long { IsErrOf result (RunFault.TooLong 0) ↔ (1048576 < r.new.taken) × (r.new.failed ≡ false) }
 {
-    let text = read_text(alloc, r)?;
-    write_answer(alloc, &CheckAnswer { text: &text }, w)
+    let feeder = read_pieces(alloc, r)?;
+    let found = judged(&feeder).map_err(|_| RunFault::Memory)?;
+    write_answer(alloc, &CheckAnswer { found }, w)
 }
 
 // The kind of the CRS that a text spells, or the refusal.
 #[derive(Drop)]
-struct CheckAnswer<'t> {
-    text: &'t [u8],
+struct CheckAnswer {
+    found: Result<Kind, Refusal>,
 }
 
-impl Answer for CheckAnswer<'_> {
-    ghost use Rattle.crs_desk.specs.Output.{IsCheckOutput};
+impl Answer for CheckAnswer {
+    ghost use Rattle.crs_desk.specs.Output.{WritesFound};
 
-    ghost Output = { λ s written status. IsCheckOutput s.text.now written status };
+    ghost Output = { λ s written status. WritesFound s.found written status };
 
     fn output(&self, alloc: Global) -> Result<(Vec<u8>, u8), AllocError> {
-        match judged(alloc, self.text)? {
+        match self.found {
             Ok(kind) => {
                 let line = accepted_line(alloc, kind)?;
                 Ok((line, 0))

@@ -1,19 +1,24 @@
 //! What a text spells, for the commands.
-ghost use Rattle.std.specs.Prelude.{◌≡◌, IfOk, MatchResult, Some};
+ghost use Rattle.std.specs.Prelude.{◌≡◌, ℕ, List, IfOk, MatchResult, Some};
 ghost use Rattle.crs_text.specs.Fault.{refusal_of};
 ghost use Rattle.crs_value.specs.SpellsText.{Refuses};
 ghost use Rattle.crs_desk.specs.Output.{IsKindOf};
+ghost use Rattle.crs_desk.specs.Pieces.{IsWholeHeld};
 
-use crs_text::{Fault, Refusal};
-use crs_value::{Kind, read};
-use std::alloc::{AllocError, Global};
+use crs_text::laws::{one_answer, settled_refusals};
+use crs_text::{Fault, Feeder, Refusal};
+use crs_value::{Kind, kind_of};
+use std::alloc::AllocError;
 
-// The kind of the CRS that a text spells, or the refusal.
-pub(crate) fn judged(alloc: Global, text: &[u8]) -> Result<Result<Kind, Refusal>, AllocError>
-    ensures { IfOk result (λ answer. MatchResult answer (IsKindOf text.now) (Refuses text.now)) }
+// The kind of the CRS that a text spells, or the refusal, by a feeder that holds the text or enough to refuse it.
+pub(crate) fn judged(feeder: &Feeder) -> Result<Result<Kind, Refusal>, AllocError>
+    ensures { IfOk result (λ found. (text : List ℕ) → IsWholeHeld text feeder.now →
+        MatchResult found (IsKindOf text) (Refuses text)) }
 {
-    match read(alloc, text) {
-        Ok(crs) => Ok(Ok(crs.kind())),
+    one_answer();
+    settled_refusals();
+    match feeder.finish() {
+        Ok(items) => Ok(kind_of(&items)),
         Err(fault) => Ok(Err(refusal_in(fault)?)),
     }
 }

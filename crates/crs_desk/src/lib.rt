@@ -12,6 +12,7 @@ mod answer;
 mod canon_run;
 mod check_run;
 mod judging;
+mod pieces;
 mod print;
 mod same_run;
 mod text;

@@ -6,9 +6,9 @@ use crate::{RunFault, Source};
 use std::alloc::{AllocError, Global};
 use std::io::Read;
 
-const MAX_READS: u32 = 1_048_576;
+pub(crate) const MAX_READS: u32 = 1_048_576;
 
-const MAX_BYTES: usize = 1_048_576;
+pub(crate) const MAX_BYTES: usize = 1_048_576;
 
 const ROOM: usize = 65_536;
 
@@ -53,7 +53,7 @@ fn read_into<R: Read>(
     Err(RunFault::TooManyReads)
 }
 
-fn make_room(alloc: Global) -> Result<Vec<u8>, AllocError>
+pub(crate) fn make_room(alloc: Global) -> Result<Vec<u8>, AllocError>
     ensures { IfOk result (λ room. vec_len room ≡ 65536) }
 {
     vec![in alloc; 0u8; ROOM]

@@ -8,6 +8,7 @@ pub mod DecideLemmas
 pub mod EitherLemmas
 pub mod FrameLemmas
 pub mod IdentLemmas
+pub mod KindLemmas
 pub mod KnownLemmas
 pub mod LeastLemmas
 pub mod NodeLemmas

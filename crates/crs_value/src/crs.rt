@@ -1,5 +1,6 @@
 //! Coordinate reference systems.
 ghost use Rattle.std.specs.Prelude.{◌≡◌};
+ghost use Rattle.crs_value.specs.ReadsCrs.{kind_by};
 
 use crate::compound::Compound;
 use crate::frame::Frame;
@@ -98,14 +99,20 @@ impl Crs<'_> {
         ensures { result ≡ kind_of self.now }
     {
         match self {
-            Crs::Geodetic(geodetic) => match geodetic.system.system_type {
-                SystemType::Ellipsoidal => Kind::Geographic,
-                SystemType::Cartesian | SystemType::Spherical | SystemType::Vertical =>
-                    Kind::Geodetic,
-            },
+            Crs::Geodetic(geodetic) => kind_by(geodetic.system.system_type),
             Crs::Projected(_) => Kind::Projected,
             Crs::Vertical(_) => Kind::Vertical,
             Crs::Compound(_) => Kind::Compound,
         }
+    }
+}
+
+// The kind of a geodetic or geographic CRS that has a system of this type.
+pub(crate) fn kind_by(system_type: SystemType) -> Kind
+    ensures { result ≡ kind_by system_type }
+{
+    match system_type {
+        SystemType::Ellipsoidal => Kind::Geographic,
+        SystemType::Cartesian | SystemType::Spherical | SystemType::Vertical => Kind::Geodetic,
     }
 }

@@ -54,5 +54,5 @@ pub use system_type::SystemType;
 pub use unit::Unit;
 pub use unit_kind::UnitKind;
 pub use usage::{BoundingBox, Extent, Tail, Usage};
-pub use value::{judge, read, value_of};
+pub use value::{judge, kind_of, read, value_of};
 pub use vertical::{GeoidModel, Vertical};

@@ -2,6 +2,7 @@
 ghost use Rattle.std.specs.Prelude.{◌≡◌, IfOk};
 ghost use Rattle.std.specs.Option.{option_copied};
 ghost use Rattle.crs_text.specs.Items.{HasId, arguments};
+ghost use Rattle.crs_value.specs.BadSystem.{HasType};
 ghost use Rattle.crs_value.specs.Checks.{IsSound, HasSystem};
 ghost use Rattle.crs_value.specs.Reading.{item_at, those, Requires, ReadsFirst};
 ghost use Rattle.crs_value.specs.Reads.{ReadsType, ReadsSystem};
@@ -94,6 +95,16 @@ fn system_type(items: &Items<'_>, id: ItemId) -> SystemType
         Some(system_type) => system_type,
         None => unreachable!(),
     }
+}
+
+// The type of the system of a CRS of this class.
+pub(crate) fn system_type_of(items: &Items<'_>, id: ItemId, class: Class) -> SystemType
+    requires has { HasId items.now id }
+    requires sound { IsSound class (item_at items.now id) }
+    requires there { Requires class Class.CoordinateSystem 0 }
+    ensures { ReadsFirst HasType (those class Class.CoordinateSystem (arguments (item_at items.now id))) result }
+{
+    system_type(items, required(items, id, class, Class::CoordinateSystem))
 }
 
 // The system of a CRS of this class: its node `CS`, and the axes and the shared unit beside that.

@@ -2,12 +2,13 @@
 ghost use Rattle.std.specs.Prelude.{◌≡◌, MatchResult, IfOk, Some};
 ghost use Rattle.crs_shape.specs.ShapeFault.{class_of_root};
 ghost use Rattle.crs_value.specs.declared.crs.Crs.{Crs};
+ghost use Rattle.crs_value.specs.ReadsCrs.{kind_of};
 ghost use Rattle.crs_value.specs.Spells.{SpellsCrs, IsFaultOf, RefusesCrs};
 ghost use Rattle.crs_value.specs.SpellsText.{Spells, IsFaultOfText};
 
-use crate::crs::Crs;
+use crate::crs::{Crs, Kind};
 use crate::own_checks::first_break;
-use crate::whole::read_crs;
+use crate::whole::{kind_of_root, read_crs};
 use crs_decimal::laws::denotes_some;
 use crs_shape::laws::{no_fault_is_shape, slots_count};
 use crs_shape::{Class, fit_root};
@@ -32,6 +33,22 @@ pub fn judge(items: &Items<'_>) -> Result<Class, Refusal>
         None => Ok(class),
         Some(refusal) => Err(refusal),
     }
+}
+
+/// The kind of the CRS that the items of a text spell. Its value isn't built, and no memory is taken.
+///
+/// The items are refused where `value_of` refuses them, with the same number and place. Time is linear in the items.
+/// ISO 19162:2019, "Coordinate reference systems"; the checks are the profile's.
+pub fn kind_of(items: &Items<'_>) -> Result<Kind, Refusal>
+    ensures { MatchResult result
+        (λ kind. (value : Crs) × SpellsCrs items.now value × (kind ≡ kind_of value))
+        (RefusesCrs items.now) }
+{
+    no_fault_is_shape();
+    let root = items.root();
+    items.formed(root);
+    let class = judge(items)?;
+    Ok(kind_of_root(items, root, class))
 }
 
 /// The value that the items of a text spell, with the text's bytes borrowed.
