@@ -11,6 +11,7 @@ pub mod IdentLemmas
 pub mod KnownLemmas
 pub mod LeastLemmas
 pub mod NodeLemmas
+pub mod NotedLemmas
 pub mod NumberLemmas
 pub mod OneCrsLemmas
 pub mod OneLemmas

@@ -11,6 +11,7 @@ pub mod ConversionValues
 pub mod CrsValues
 pub mod Found
 pub mod Least
+pub mod Noted
 pub mod Reading
 pub mod Reads
 pub mod ReadsConversion
