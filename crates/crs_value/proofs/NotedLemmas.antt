@@ -60,11 +60,14 @@ pub record Seen (tree : Item) (parent : Class) (all : Siblings) (firsts : Firsts
   pub bbox : SeenOf tree parent class.BoundingBox all (ahead tree at) firsts.bbox
   pub extent : SeenOf tree parent class.VerticalExtent all (ahead tree at) firsts.extent
   pub remark : SeenOf tree parent class.Remark all (ahead tree at) firsts.remark
+  pub usage : SeenOf tree parent class.Usage all (ahead tree at) firsts.usage
+  pub identifier : SeenOf tree parent class.Identifier all (ahead tree at) firsts.identifier
 
 pub seen-first : (tree : Item) (parent : Class) (all : Siblings) (firsts : Firsts) (at : Option ℕ) → IsAt tree all at →
     firsts.system ≡ None → firsts.axis ≡ None → firsts.unit ≡ None → firsts.scope ≡ None →
-    firsts.area ≡ None → firsts.bbox ≡ None → firsts.extent ≡ None → firsts.remark ≡ None → Seen tree parent all firsts at
-seen-first tree parent all firsts at h e0 e1 e2 e3 e4 e5 e6 e7 = record {
+    firsts.area ≡ None → firsts.bbox ≡ None → firsts.extent ≡ None → firsts.remark ≡ None →
+    firsts.usage ≡ None → firsts.identifier ≡ None → Seen tree parent all firsts at
+seen-first tree parent all firsts at h e0 e1 e2 e3 e4 e5 e6 e7 e8 e9 = record {
   holds = holds_at tree all at h;
   system = start class.CoordinateSystem firsts.system e0;
   axis = start class.Axis firsts.axis e1;
@@ -74,6 +77,8 @@ seen-first tree parent all firsts at h e0 e1 e2 e3 e4 e5 e6 e7 = record {
   bbox = start class.BoundingBox firsts.bbox e5;
   extent = start class.VerticalExtent firsts.extent e6;
   remark = start class.Remark firsts.remark e7;
+  usage = start class.Usage firsts.usage e8;
+  identifier = start class.Identifier firsts.identifier e9;
 }
   where
     start : (c : Class) (o : Option ℕ) → o ≡ None → SeenOf tree parent c all (ahead tree at) o
@@ -89,6 +94,8 @@ pub record AreNoted (old new : Firsts) (d : Class) (id : ℕ) : Type 0 where
   pub bbox : new.bbox ≡ noted (is_same class.BoundingBox d) old.bbox id
   pub extent : new.extent ≡ noted (is_same class.VerticalExtent d) old.extent id
   pub remark : new.remark ≡ noted (is_same class.Remark d) old.remark id
+  pub usage : new.usage ≡ noted (is_same class.Usage d) old.usage id
+  pub identifier : new.identifier ≡ noted (is_same class.Identifier d) old.identifier id
 
 pub seen-on : (tree : Item) (parent d : Class) (all : Siblings) (old new : Firsts) (id : ℕ) (at : Option ℕ) → Seen tree parent all old (Some id) → class_in parent (item_at tree id) ≡ Some d →
     AreNoted old new d id → IsAt tree (rest_of (here tree id)) at → Seen tree parent all new at
@@ -102,6 +109,8 @@ seen-on tree parent d all old new id at so named are next = record {
   bbox = one-on tree parent class.BoundingBox d all old.bbox new.bbox id at so.holds named are.bbox so.bbox next;
   extent = one-on tree parent class.VerticalExtent d all old.extent new.extent id at so.holds named are.extent so.extent next;
   remark = one-on tree parent class.Remark d all old.remark new.remark id at so.holds named are.remark so.remark next;
+  usage = one-on tree parent class.Usage d all old.usage new.usage id at so.holds named are.usage so.usage next;
+  identifier = one-on tree parent class.Identifier d all old.identifier new.identifier id at so.holds named are.identifier so.identifier next;
 }
 
 pub seen-past : (tree : Item) (parent : Class) (all : Siblings) (firsts : Firsts) (id : ℕ) (at : Option ℕ) → Seen tree parent all firsts (Some id) → class_in parent (item_at tree id) ≡ None →
@@ -116,6 +125,8 @@ seen-past tree parent all firsts id at so unnamed next = record {
   bbox = one-none tree parent class.BoundingBox all firsts.bbox id at so.holds unnamed so.bbox next;
   extent = one-none tree parent class.VerticalExtent all firsts.extent id at so.holds unnamed so.extent next;
   remark = one-none tree parent class.Remark all firsts.remark id at so.holds unnamed so.remark next;
+  usage = one-none tree parent class.Usage all firsts.usage id at so.holds unnamed so.usage next;
+  identifier = one-none tree parent class.Identifier all firsts.identifier id at so.holds unnamed so.identifier next;
 }
 
 pub seen-end : (tree : Item) (parent : Class) (all : Siblings) (firsts : Firsts) (at : Option ℕ) → Seen tree parent all firsts at → at ≡ None → AreFirsts tree parent all firsts
@@ -128,4 +139,6 @@ seen-end tree parent all firsts at so none = record {
   bbox = one-end tree parent class.BoundingBox all firsts.bbox at so.bbox none;
   extent = one-end tree parent class.VerticalExtent all firsts.extent at so.extent none;
   remark = one-end tree parent class.Remark all firsts.remark at so.remark none;
+  usage = one-end tree parent class.Usage all firsts.usage at so.usage none;
+  identifier = one-end tree parent class.Identifier all firsts.identifier at so.identifier none;
 }

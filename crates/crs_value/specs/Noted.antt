@@ -22,3 +22,5 @@ pub record AreFirsts (tree : Item) (parent : Class) (items : Siblings) (firsts :
   pub bbox : IsFound tree parent class.BoundingBox (those parent class.BoundingBox items) firsts.bbox
   pub extent : IsFound tree parent class.VerticalExtent (those parent class.VerticalExtent items) firsts.extent
   pub remark : IsFound tree parent class.Remark (those parent class.Remark items) firsts.remark
+  pub usage : IsFound tree parent class.Usage (those parent class.Usage items) firsts.usage
+  pub identifier : IsFound tree parent class.Identifier (those parent class.Identifier items) firsts.identifier

@@ -1,4 +1,4 @@
-//! The first arguments of a CRS of those classes that its checks ask for, found in one walk.
+//! The first arguments of a CRS of those classes that its checks and its reading ask for, found in one walk.
 ghost use Rattle.std.specs.Prelude.{◌≡◌, true};
 ghost use Rattle.crs_text.specs.Items.{HasId, arguments};
 ghost use Rattle.crs_value.specs.Noted.{AreFirsts, noted};
@@ -19,6 +19,8 @@ pub(crate) struct Firsts {
     pub(crate) bbox: Option<ItemId>,
     pub(crate) extent: Option<ItemId>,
     pub(crate) remark: Option<ItemId>,
+    pub(crate) usage: Option<ItemId>,
+    pub(crate) identifier: Option<ItemId>,
 }
 
 // None was seen yet.
@@ -31,6 +33,8 @@ const NONE: Firsts = Firsts {
     bbox: None,
     extent: None,
     remark: None,
+    usage: None,
+    identifier: None,
 };
 
 // The first of a class, if this is a further one.
@@ -54,6 +58,8 @@ impl Firsts {
         ensures bbox { self.new.bbox ≡ noted (is_same Class.BoundingBox class) self.old.bbox id }
         ensures extent { self.new.extent ≡ noted (is_same Class.VerticalExtent class) self.old.extent id }
         ensures remark { self.new.remark ≡ noted (is_same Class.Remark class) self.old.remark id }
+        ensures usage { self.new.usage ≡ noted (is_same Class.Usage class) self.old.usage id }
+        ensures identifier { self.new.identifier ≡ noted (is_same Class.Identifier class) self.old.identifier id }
     {
         match class {
             Class::CoordinateSystem => self.system = first_of(self.system, id),
@@ -64,6 +70,8 @@ impl Firsts {
             Class::BoundingBox => self.bbox = first_of(self.bbox, id),
             Class::VerticalExtent => self.extent = first_of(self.extent, id),
             Class::Remark => self.remark = first_of(self.remark, id),
+            Class::Usage => self.usage = first_of(self.usage, id),
+            Class::Identifier => self.identifier = first_of(self.identifier, id),
             _ => {}
         }
     }
