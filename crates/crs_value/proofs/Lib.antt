@@ -19,6 +19,7 @@ pub mod OrderLemmas
 pub mod OwnLemmas
 pub mod PlaceLemmas
 pub mod ReadyLemmas
+pub mod SignLemmas
 pub mod SomeCrsLemmas
 pub mod SomeLeastLemmas
 pub mod SomeValueLemmas

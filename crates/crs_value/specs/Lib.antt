@@ -9,6 +9,7 @@ pub mod Checks
 pub mod CompoundValues
 pub mod ConversionValues
 pub mod CrsValues
+pub mod FirstByte
 pub mod Found
 pub mod Least
 pub mod Noted
