@@ -105,3 +105,10 @@ any-first B tree parent c items id o found h =
     back : (f : RefusedAt) → AnyOf B (item_at tree id ∷ []) f → B (item_at tree id) f
     back f (inl k) = k
     back f (inr k) = absurd k
+
+-- those from the first found one on are all of the class
+pub found-any : (B : Item → RefusedAt → Type 0) (tree : Item) (parent c : Class) (items : List Item) (at : Option ℕ) (o : Option RefusedAt) →
+    IsFound tree parent c items at → IsLeast (AnyOf B (from_found tree parent c at)) o → IsLeast (AnyOf B items) o
+found-any B tree parent c items at o found h =
+    let P : List Item → Type 0 = λ xs. IsLeast (AnyOf B xs) o in
+    subst P (sym (found-is tree parent c items at found)) h

@@ -12,6 +12,7 @@ pub mod KindLemmas
 pub mod KnownLemmas
 pub mod LeastLemmas
 pub mod NodeLemmas
+pub mod NotedLemmas
 pub mod NumberLemmas
 pub mod OneCrsLemmas
 pub mod OneLemmas
@@ -19,6 +20,7 @@ pub mod OrderLemmas
 pub mod OwnLemmas
 pub mod PlaceLemmas
 pub mod ReadyLemmas
+pub mod SignLemmas
 pub mod SomeCrsLemmas
 pub mod SomeLeastLemmas
 pub mod SomeValueLemmas

@@ -9,8 +9,10 @@ pub mod Checks
 pub mod CompoundValues
 pub mod ConversionValues
 pub mod CrsValues
+pub mod FirstByte
 pub mod Found
 pub mod Least
+pub mod Noted
 pub mod Reading
 pub mod Reads
 pub mod ReadsConversion

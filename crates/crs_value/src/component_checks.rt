@@ -8,6 +8,7 @@ ghost use Rattle.crs_value.specs.Checks.{OfCompound};
 ghost use Rattle.crs_value.specs.Reading.{item_at, those, Requires};
 
 use crate::checks::{Check, any_of, lesser, refusal_at};
+use crate::firsts::firsts_of;
 use crate::node::{number, required};
 use crate::repeats::repeats_once;
 use crate::system_checks::type_of;
@@ -107,5 +108,9 @@ pub(crate) fn compound(items: &Items<'_>, id: ItemId) -> Option<Refusal>
     let projected = lesser(bad_part(items, id, Class::ProjectedCrs), None);
     let geographic = lesser(bad_part(items, id, Class::GeographicCrs), projected);
     let geodetic = lesser(bad_part(items, id, Class::GeodeticCrs), geographic);
-    lesser(repeats_once(items, id, Class::CompoundCrs), geodetic)
+    let firsts = firsts_of(items, id, Class::CompoundCrs);
+    lesser(
+        repeats_once(items, id, Class::CompoundCrs, &firsts),
+        geodetic,
+    )
 }

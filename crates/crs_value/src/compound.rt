@@ -7,10 +7,11 @@ ghost use Rattle.crs_value.specs.ReadsCrs.{ReadsHorizontal};
 
 use crate::arguments::first;
 use crate::crs::Geodetic;
+use crate::firsts::firsts_of;
 use crate::geodetic::read_geodetic;
 use crate::node::{Node, one, text};
 use crate::projected::Projected;
-use crate::usage::Tail;
+use crate::usage::{Tail, read_tail};
 use crate::vertical::Vertical;
 use crs_shape::Class;
 use crs_shape::laws::slots_count;
@@ -116,11 +117,12 @@ impl<'a> Node<'a> for Compound<'a> {
         class: Class,
     ) -> Result<Self, AllocError> {
         slots_count();
+        let firsts = firsts_of(items, id, class);
         Ok(Compound {
             name: text(items, id, class),
             horizontal: read_horizontal(alloc, items, id)?,
             vertical: one(alloc, items, id, class, Class::VerticalCrs)?,
-            tail: Tail::read(alloc, items, id, class)?,
+            tail: read_tail(alloc, items, id, class, &firsts)?,
         })
     }
 }

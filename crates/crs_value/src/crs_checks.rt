@@ -5,10 +5,12 @@ ghost use Rattle.crs_shape.specs.Shaped.{Shaped};
 ghost use Rattle.crs_value.specs.BadSystem.{dimensions_of};
 ghost use Rattle.crs_value.specs.Break.{AnyOf, IsLeast};
 ghost use Rattle.crs_value.specs.Checks.{BreaksAmong, once, OfHead, OfAxes, OfCrs};
+ghost use Rattle.crs_value.specs.Noted.{AreFirsts};
 ghost use Rattle.crs_value.specs.RepeatedPart.{RepeatsAny};
 ghost use Rattle.crs_value.specs.Reading.{item_at, those};
 
-use crate::checks::{Check, any_of, lesser};
+use crate::checks::{Check, any_from, lesser};
+use crate::firsts::{Firsts, firsts_of};
 use crate::order_checks::bad_order;
 use crate::repeats::repeats_once;
 use crate::system_checks::{bad_count, bad_system};
@@ -24,6 +26,7 @@ const ORDER: u8 = 26;
 struct HeadOf {
     crs: ItemId,
     class: Class,
+    axis: Option<ItemId>,
 }
 
 impl Check for HeadOf {
@@ -32,9 +35,10 @@ impl Check for HeadOf {
     ghost use Rattle.crs_shape.specs.declared.class.Class.TheVariants as classes;
     ghost use Rattle.crs_value.specs.BadSystem.{dimensions_of};
     ghost use Rattle.crs_value.specs.Checks.{OfHead};
-    ghost use Rattle.crs_value.specs.Reading.{item_at, those};
+    ghost use Rattle.crs_value.specs.Reading.{item_at, those, IsFound};
 
-    ghost Fits = { λ s tree class. HasId tree s.crs × (class ≡ classes.CoordinateSystem) };
+    ghost Fits = { λ s tree class. HasId tree s.crs × (class ≡ classes.CoordinateSystem)
+        × IsFound tree s.class classes.Axis (those s.class classes.Axis (arguments (item_at tree s.crs))) s.axis };
 
     ghost Broken = { λ s tree item f. OfHead (dimensions_of s.class)
         (those s.class classes.Axis (arguments (item_at tree s.crs))) item f };
@@ -42,7 +46,7 @@ impl Check for HeadOf {
     fn check(&self, items: &Items<'_>, id: ItemId, _class: Class) -> Option<Refusal> {
         lesser(
             bad_system(items, id, self.class),
-            bad_count(items, self.crs, self.class, id),
+            bad_count(items, self.crs, self.class, id, self.axis),
         )
     }
 }
@@ -52,6 +56,8 @@ impl Check for HeadOf {
 struct UnitsOf {
     crs: ItemId,
     class: Class,
+    axis: Option<ItemId>,
+    unit: Option<ItemId>,
 }
 
 impl Check for UnitsOf {
@@ -60,46 +66,60 @@ impl Check for UnitsOf {
     ghost use Rattle.crs_shape.specs.Shaped.{Shaped};
     ghost use Rattle.crs_shape.specs.declared.class.Class.TheVariants as classes;
     ghost use Rattle.crs_value.specs.BadUnit.{BadUnit};
-    ghost use Rattle.crs_value.specs.Reading.{item_at, those};
+    ghost use Rattle.crs_value.specs.Reading.{item_at, those, IsFound};
 
     ghost Fits = { λ s tree class. HasId tree s.crs × Shaped s.class (item_at tree s.crs)
-        × (class ≡ classes.CoordinateSystem) };
+        × (class ≡ classes.CoordinateSystem)
+        × IsFound tree s.class classes.Axis (those s.class classes.Axis (arguments (item_at tree s.crs))) s.axis
+        × IsFound tree s.class classes.AxisUnit (those s.class classes.AxisUnit (arguments (item_at tree s.crs)))
+        s.unit };
 
     ghost Broken = { λ s tree item f. BadUnit (those s.class classes.Axis (arguments (item_at tree s.crs)))
         (those s.class classes.AxisUnit (arguments (item_at tree s.crs))) item f };
 
     fn check(&self, items: &Items<'_>, id: ItemId, _class: Class) -> Option<Refusal> {
-        bad_unit(items, self.crs, self.class, id)
+        bad_unit(items, self.crs, self.class, id, self.axis, self.unit)
     }
 }
 
 // 22, 23 and 25: repeated parts, and the nodes `CS`.
-fn of_head(items: &Items<'_>, id: ItemId, class: Class) -> Option<Refusal>
+fn of_head(items: &Items<'_>, id: ItemId, class: Class, firsts: &Firsts) -> Option<Refusal>
     requires has { HasId items.now id }
     requires shaped { Shaped class (item_at items.now id) }
+    requires firsts { AreFirsts items.now class (arguments (item_at items.now id)) firsts.now }
     ensures { IsLeast (λ f. RepeatsAny class (arguments (item_at items.now id)) once f
         ⊎ AnyOf (OfHead (dimensions_of class) (those class Class.Axis (arguments (item_at items.now id))))
         (those class Class.CoordinateSystem (arguments (item_at items.now id))) f) result }
 {
-    let head = HeadOf { crs: id, class };
+    let head = HeadOf {
+        crs: id,
+        class,
+        axis: firsts.axis,
+    };
     lesser(
-        repeats_once(items, id, class),
-        any_of(&head, items, id, class, Class::CoordinateSystem),
+        repeats_once(items, id, class, firsts),
+        any_from(&head, items, firsts.system, class, Class::CoordinateSystem),
     )
 }
 
 // 26 and 27: the axes and their units.
-fn of_axes(items: &Items<'_>, id: ItemId, class: Class) -> Option<Refusal>
+fn of_axes(items: &Items<'_>, id: ItemId, class: Class, firsts: &Firsts) -> Option<Refusal>
     requires has { HasId items.now id }
     requires shaped { Shaped class (item_at items.now id) }
+    requires firsts { AreFirsts items.now class (arguments (item_at items.now id)) firsts.now }
     ensures { IsLeast (OfAxes (those class Class.CoordinateSystem (arguments (item_at items.now id)))
         (those class Class.Axis (arguments (item_at items.now id)))
         (those class Class.AxisUnit (arguments (item_at items.now id)))) result }
 {
-    let units = UnitsOf { crs: id, class };
+    let units = UnitsOf {
+        crs: id,
+        class,
+        axis: firsts.axis,
+        unit: firsts.unit,
+    };
     lesser(
-        bad_order(items, id, class),
-        any_of(&units, items, id, class, Class::CoordinateSystem),
+        bad_order(items, id, class, firsts),
+        any_from(&units, items, firsts.system, class, Class::CoordinateSystem),
     )
 }
 
@@ -130,9 +150,10 @@ pub(crate) fn whole_crs(
     ensures { IsLeast (λ f. BreaksAmong class (arguments (item_at items.now id)) f
         ⊎ OfCrs (dimensions_of class) class (item_at items.now id) f) result }
 {
-    let found = lesser(inside, of_head(items, id, class));
+    let firsts = firsts_of(items, id, class);
+    let found = lesser(inside, of_head(items, id, class, &firsts));
     match early(&found) {
         Some(first) => Some(first),
-        None => lesser(found, of_axes(items, id, class)),
+        None => lesser(found, of_axes(items, id, class, &firsts)),
     }
 }

@@ -7,9 +7,10 @@ ghost use Rattle.crs_value.specs.ReadsCrs.{IsGeodeticClass, ReadsGeodetic};
 
 use crate::crs::Geodetic;
 use crate::crs_frame::geodetic_frame;
+use crate::firsts::firsts_of;
 use crate::node::{Node, optional, text};
 use crate::system::read_system;
-use crate::usage::Tail;
+use crate::usage::read_tail;
 use crs_shape::Class;
 use crs_shape::laws::slots_count;
 use crs_text::{ItemId, Items};
@@ -28,11 +29,12 @@ pub(crate) fn read_geodetic<'a>(
     ensures { IfOk result (λ value. ReadsGeodetic class (item_at items.now id) value) }
 {
     slots_count();
+    let firsts = firsts_of(items, id, class);
     Ok(Geodetic {
         name: text(items, id, class),
         frame: geodetic_frame(alloc, items, id, class)?,
         meridian: optional(alloc, items, id, class, Class::PrimeMeridian)?,
-        system: read_system(alloc, items, id, class)?,
-        tail: Tail::read(alloc, items, id, class)?,
+        system: read_system(alloc, items, id, class, &firsts)?,
+        tail: read_tail(alloc, items, id, class, &firsts)?,
     })
 }

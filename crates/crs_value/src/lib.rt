@@ -13,6 +13,7 @@ mod crs_checks;
 mod crs_frame;
 mod direction;
 mod ellipsoid;
+mod firsts;
 mod frame;
 mod geodetic;
 mod ident;

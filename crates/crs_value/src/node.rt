@@ -76,7 +76,33 @@ pub(crate) fn optional<'a, T: Node<'a>>(
     ensures { IfOk result (λ value. ReadsOptional (T.Reads class) (those parent class (arguments
         (item_at items.now id))) value) }
 {
-    match first(items, id, parent, class) {
+    optional_from(
+        alloc,
+        items,
+        id,
+        parent,
+        class,
+        first(items, id, parent, class),
+    )
+}
+
+// The same where the first argument of the class was found.
+pub(crate) fn optional_from<'a, T: Node<'a>>(
+    alloc: Global,
+    items: &Items<'a>,
+    _id: ItemId,
+    parent: Class,
+    class: Class,
+    found: Option<ItemId>,
+) -> Result<Option<T>, AllocError>
+    requires has { HasId items.now _id }
+    requires sound { IsSound parent (item_at items.now _id) }
+    requires suits { T.Suits class }
+    requires found { IsFound items.now parent class (those parent class (arguments (item_at items.now _id))) found }
+    ensures { IfOk result (λ value. ReadsOptional (T.Reads class) (those parent class (arguments
+        (item_at items.now _id))) value) }
+{
+    match found {
         None => Ok(None),
         Some(found) => Ok(Some(T::read(alloc, items, found, class)?)),
     }
@@ -95,8 +121,34 @@ pub(crate) fn many<'a, T: Node<'a>>(
     ensures { IfOk result (λ values. ReadsEach (T.Reads class) (those parent class (arguments
         (item_at items.now id))) values) }
 {
+    many_from(
+        alloc,
+        items,
+        id,
+        parent,
+        class,
+        first(items, id, parent, class),
+    )
+}
+
+// The same where the first argument of the class was found.
+pub(crate) fn many_from<'a, T: Node<'a>>(
+    alloc: Global,
+    items: &Items<'a>,
+    _id: ItemId,
+    parent: Class,
+    class: Class,
+    found: Option<ItemId>,
+) -> Result<List<T>, AllocError>
+    requires has { HasId items.now _id }
+    requires sound { IsSound parent (item_at items.now _id) }
+    requires suits { T.Suits class }
+    requires found { IsFound items.now parent class (those parent class (arguments (item_at items.now _id))) found }
+    ensures { IfOk result (λ values. ReadsEach (T.Reads class) (those parent class (arguments
+        (item_at items.now _id))) values) }
+{
     let mut list = List::new(alloc);
-    let mut at = first(items, id, parent, class);
+    let mut at = found;
     while let Some(found) = at {
         list.push(T::read(alloc, items, found, class)?)?;
         at = later(items, found, parent, class);
@@ -127,8 +179,28 @@ pub(crate) fn optional_text<'a>(
     ensures { ReadsOptional (ReadsTextOf class) (those parent class (arguments (item_at items.now id)))
         (option_copied result) }
 {
-    let found = first(items, id, parent, class)?;
-    Some(text(items, found, class))
+    optional_text_from(items, id, parent, class, first(items, id, parent, class))
+}
+
+// The same where the first argument of the class was found.
+pub(crate) fn optional_text_from<'a>(
+    items: &Items<'a>,
+    _id: ItemId,
+    parent: Class,
+    class: Class,
+    found: Option<ItemId>,
+) -> Option<&'a [u8]>
+    requires has { HasId items.now _id }
+    requires sound { IsSound parent (item_at items.now _id) }
+    requires enough { Requires class Class.Text 0 }
+    requires found { IsFound items.now parent class (those parent class (arguments (item_at items.now _id))) found }
+    ensures { ReadsOptional (ReadsTextOf class) (those parent class (arguments (item_at items.now _id)))
+        (option_copied result) }
+{
+    match found {
+        None => None,
+        Some(found) => Some(text(items, found, class)),
+    }
 }
 
 // Number `k` of a node's numbers, the first being 0.

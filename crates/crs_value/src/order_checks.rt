@@ -5,10 +5,12 @@ ghost use Rattle.crs_shape.specs.Shaped.{Shaped};
 ghost use Rattle.crs_value.specs.BadOrder.{IsPosition, HasThis, OneHas, LacksOrder, orders_in, SomeHasOrder, BadOrders};
 ghost use Rattle.crs_value.specs.BadOrder.{BadOrder};
 ghost use Rattle.crs_value.specs.Break.{AnyOf, IsLeast};
-ghost use Rattle.crs_value.specs.Reading.{item_at, those};
+ghost use Rattle.crs_value.specs.Noted.{AreFirsts};
+ghost use Rattle.crs_value.specs.Reading.{item_at, those, IsFound};
 
 use crate::arguments::{first, later};
-use crate::checks::{Check, any_of, lesser, refusal_at};
+use crate::checks::{Check, any_from, any_of, lesser, refusal_at};
+use crate::firsts::Firsts;
 use crate::node::number;
 use crate::system_checks::count_of;
 use crs_decimal::Decimal;
@@ -52,14 +54,23 @@ fn has_this(items: &Items<'_>, axis: ItemId, value: &Decimal) -> bool
 }
 
 // Whether one of the first `k` axes has this order.
-fn one_has(items: &Items<'_>, crs: ItemId, class: Class, k: usize, value: &Decimal) -> bool
-    requires crs { HasId items.now crs }
-    requires shaped { Shaped class (item_at items.now crs) }
-    requires within { k ≤ length (those class Class.Axis (arguments (item_at items.now crs))) }
+fn one_has(
+    items: &Items<'_>,
+    _crs: ItemId,
+    class: Class,
+    axis: Option<ItemId>,
+    k: usize,
+    value: &Decimal,
+) -> bool
+    requires crs { HasId items.now _crs }
+    requires shaped { Shaped class (item_at items.now _crs) }
+    requires axis { IsFound items.now class Class.Axis (those class Class.Axis (arguments (item_at items.now _crs)))
+        axis }
+    requires within { k ≤ length (those class Class.Axis (arguments (item_at items.now _crs))) }
     ensures { IsTrue result ↔ OneHas value.now (take k (those class Class.Axis (arguments
-        (item_at items.now crs)))) }
+        (item_at items.now _crs)))) }
 {
-    let mut at = first(items, crs, class, Class::Axis);
+    let mut at = axis;
     for _step in 0..k {
         let Some(axis) = at else { unreachable!() };
         if has_this(items, axis, value) {
@@ -75,6 +86,7 @@ fn one_has(items: &Items<'_>, crs: ItemId, class: Class, k: usize, value: &Decim
 struct Position {
     crs: ItemId,
     class: Class,
+    axis: Option<ItemId>,
     count: usize,
     before: usize,
 }
@@ -85,9 +97,10 @@ impl Check for Position {
     ghost use Rattle.crs_shape.specs.Shaped.{Shaped};
     ghost use Rattle.crs_shape.specs.declared.class.Class.TheVariants as classes;
     ghost use Rattle.crs_value.specs.BadOrder.{IsBadOrder};
-    ghost use Rattle.crs_value.specs.Reading.{item_at, those};
+    ghost use Rattle.crs_value.specs.Reading.{item_at, those, IsFound};
 
     ghost Fits = { λ s tree class. HasId tree s.crs × Shaped s.class (item_at tree s.crs) × (class ≡ classes.Order)
+        × IsFound tree s.class classes.Axis (those s.class classes.Axis (arguments (item_at tree s.crs))) s.axis
         × (s.before ≤ length (those s.class classes.Axis (arguments (item_at tree s.crs)))) };
 
     ghost Broken = { λ s tree item f. IsBadOrder s.count
@@ -99,7 +112,7 @@ impl Check for Position {
         if !is_position(&value, self.count) {
             return Some(refusal_at(items, id, 26));
         }
-        if one_has(items, self.crs, self.class, self.before, &value) {
+        if one_has(items, self.crs, self.class, self.axis, self.before, &value) {
             return Some(refusal_at(items, id, 26));
         }
         None
@@ -137,11 +150,13 @@ fn has_order(items: &Items<'_>, axis: ItemId) -> bool
 }
 
 // Whether some axis has an order.
-fn some_has_order(items: &Items<'_>, crs: ItemId, class: Class) -> bool
-    requires { HasId items.now crs }
-    ensures { IsTrue result ↔ SomeHasOrder (those class Class.Axis (arguments (item_at items.now crs))) }
+fn some_has_order(items: &Items<'_>, _crs: ItemId, class: Class, axis: Option<ItemId>) -> bool
+    requires crs { HasId items.now _crs }
+    requires axis { IsFound items.now class Class.Axis (those class Class.Axis (arguments (item_at items.now _crs)))
+        axis }
+    ensures { IsTrue result ↔ SomeHasOrder (those class Class.Axis (arguments (item_at items.now _crs))) }
 {
-    let mut at = first(items, crs, class, Class::Axis);
+    let mut at = axis;
     while let Some(axis) = at {
         if has_order(items, axis) {
             return true;
@@ -152,20 +167,22 @@ fn some_has_order(items: &Items<'_>, crs: ItemId, class: Class) -> bool
 }
 
 // 26: the first order that is no position or stands twice.
-fn bad_orders(items: &Items<'_>, crs: ItemId, class: Class) -> Option<Refusal>
+fn bad_orders(items: &Items<'_>, crs: ItemId, class: Class, firsts: &Firsts) -> Option<Refusal>
     requires crs { HasId items.now crs }
     requires shaped { Shaped class (item_at items.now crs) }
+    requires firsts { AreFirsts items.now class (arguments (item_at items.now crs)) firsts.now }
     ensures { IsLeast (BadOrders (length (those class Class.Axis (arguments (item_at items.now crs)))) []
         (those class Class.Axis (arguments (item_at items.now crs)))) result }
 {
-    let count = count_of(items, crs, class, Class::Axis);
+    let count = count_of(items, crs, class, Class::Axis, firsts.axis);
     let mut before = 0;
     let mut least = None;
-    let mut at = first(items, crs, class, Class::Axis);
+    let mut at = firsts.axis;
     while let Some(axis) = at {
         let position = Position {
             crs,
             class,
+            axis: firsts.axis,
             count,
             before,
         };
@@ -180,25 +197,38 @@ fn bad_orders(items: &Items<'_>, crs: ItemId, class: Class) -> Option<Refusal>
 }
 
 // 26: an axis that lacks an order beside one that has it, or the first bad order.
-pub(crate) fn bad_order(items: &Items<'_>, crs: ItemId, class: Class) -> Option<Refusal>
+pub(crate) fn bad_order(
+    items: &Items<'_>,
+    crs: ItemId,
+    class: Class,
+    firsts: &Firsts,
+) -> Option<Refusal>
     requires crs { HasId items.now crs }
     requires shaped { Shaped class (item_at items.now crs) }
+    requires firsts { AreFirsts items.now class (arguments (item_at items.now crs)) firsts.now }
     ensures { IsLeast (BadOrder (those class Class.Axis (arguments (item_at items.now crs)))) result }
 {
-    match any_of(&Orderless, items, crs, class, Class::Axis) {
-        None => bad_orders(items, crs, class),
-        Some(lacks) => beside(items, crs, class, lacks),
+    match any_from(&Orderless, items, firsts.axis, class, Class::Axis) {
+        None => bad_orders(items, crs, class, firsts),
+        Some(lacks) => beside(items, crs, class, firsts, lacks),
     }
 }
 
 // An axis that lacks an order counts beside one that has it.
-fn beside(items: &Items<'_>, crs: ItemId, class: Class, lacks: Refusal) -> Option<Refusal>
+fn beside(
+    items: &Items<'_>,
+    crs: ItemId,
+    class: Class,
+    firsts: &Firsts,
+    lacks: Refusal,
+) -> Option<Refusal>
     requires crs { HasId items.now crs }
+    requires firsts { AreFirsts items.now class (arguments (item_at items.now crs)) firsts.now }
     requires lacks { IsLeast (AnyOf LacksOrder (those class Class.Axis (arguments (item_at items.now crs))))
         (Some lacks) }
     ensures { IsLeast (BadOrder (those class Class.Axis (arguments (item_at items.now crs)))) result }
 {
-    if some_has_order(items, crs, class) {
+    if some_has_order(items, crs, class, firsts.axis) {
         Some(lacks)
     } else {
         None

@@ -2,6 +2,7 @@
 
 use crate::conversion::Conversion;
 use crate::crs_frame::geodetic_frame;
+use crate::firsts::firsts_of;
 use crate::frame::Frame;
 use crate::ident::Ident;
 use crate::list::List;
@@ -9,7 +10,7 @@ use crate::meridian::Meridian;
 use crate::node::{Node, many, one, optional, text};
 use crate::system::{System, read_system};
 use crate::unit::Unit;
-use crate::usage::Tail;
+use crate::usage::{Tail, read_tail};
 use crs_shape::Class;
 use crs_shape::laws::slots_count;
 use crs_text::{ItemId, Items};
@@ -134,12 +135,13 @@ impl<'a> Node<'a> for Projected<'a> {
         class: Class,
     ) -> Result<Self, AllocError> {
         slots_count();
+        let firsts = firsts_of(items, id, class);
         Ok(Projected {
             name: text(items, id, class),
             base: one(alloc, items, id, class, Class::BaseCrs)?,
             conversion: one(alloc, items, id, class, Class::Conversion)?,
-            system: read_system(alloc, items, id, class)?,
-            tail: Tail::read(alloc, items, id, class)?,
+            system: read_system(alloc, items, id, class, &firsts)?,
+            tail: read_tail(alloc, items, id, class, &firsts)?,
         })
     }
 }

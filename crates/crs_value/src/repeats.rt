@@ -3,11 +3,13 @@ ghost use Rattle.crs_text.specs.Items.{HasId, arguments};
 ghost use Rattle.crs_shape.specs.Shaped.{Shaped};
 ghost use Rattle.crs_value.specs.Break.{IsLeast};
 ghost use Rattle.crs_value.specs.Checks.{once};
+ghost use Rattle.crs_value.specs.Noted.{AreFirsts};
 ghost use Rattle.crs_value.specs.RepeatedPart.{Repeats, RepeatsAny};
-ghost use Rattle.crs_value.specs.Reading.{item_at};
+ghost use Rattle.crs_value.specs.Reading.{item_at, those, IsFound};
 
 use crate::arguments::{first, later};
 use crate::checks::{any_from, lesser};
+use crate::firsts::Firsts;
 use crate::single_checks::Repeated;
 use crs_shape::Class;
 use crs_text::{ItemId, Items, Refusal};
@@ -18,25 +20,55 @@ pub(crate) fn repeats(items: &Items<'_>, id: ItemId, parent: Class, class: Class
     requires shaped { Shaped parent (item_at items.now id) }
     ensures { IsLeast (Repeats parent (arguments (item_at items.now id)) class) result }
 {
-    let found = first(items, id, parent, class)?;
-    any_from(
-        &Repeated,
-        items,
-        later(items, found, parent, class),
-        parent,
-        class,
-    )
+    again(items, id, parent, class, first(items, id, parent, class))
+}
+
+// The first node of this class after the first one, which was found.
+fn again(
+    items: &Items<'_>,
+    _id: ItemId,
+    parent: Class,
+    class: Class,
+    found: Option<ItemId>,
+) -> Option<Refusal>
+    requires has { HasId items.now _id }
+    requires shaped { Shaped parent (item_at items.now _id) }
+    requires found { IsFound items.now parent class (those parent class (arguments (item_at items.now _id))) found }
+    ensures { IsLeast (Repeats parent (arguments (item_at items.now _id)) class) result }
+{
+    match found {
+        None => None,
+        Some(first) => any_from(
+            &Repeated,
+            items,
+            later(items, first, parent, class),
+            parent,
+            class,
+        ),
+    }
 }
 
 // The first node of these classes after the first one of its class.
-pub(crate) fn repeats_once(items: &Items<'_>, id: ItemId, parent: Class) -> Option<Refusal>
+pub(crate) fn repeats_once(
+    items: &Items<'_>,
+    id: ItemId,
+    parent: Class,
+    firsts: &Firsts,
+) -> Option<Refusal>
     requires has { HasId items.now id }
+    requires firsts { AreFirsts items.now parent (arguments (item_at items.now id)) firsts.now }
     requires shaped { Shaped parent (item_at items.now id) }
     ensures { IsLeast (RepeatsAny parent (arguments (item_at items.now id)) once) result }
 {
-    let remarks = lesser(repeats(items, id, parent, Class::Remark), None);
-    let extents = lesser(repeats(items, id, parent, Class::VerticalExtent), remarks);
-    let boxes = lesser(repeats(items, id, parent, Class::BoundingBox), extents);
-    let areas = lesser(repeats(items, id, parent, Class::Area), boxes);
-    lesser(repeats(items, id, parent, Class::Scope), areas)
+    let remarks = lesser(again(items, id, parent, Class::Remark, firsts.remark), None);
+    let extents = lesser(
+        again(items, id, parent, Class::VerticalExtent, firsts.extent),
+        remarks,
+    );
+    let boxes = lesser(
+        again(items, id, parent, Class::BoundingBox, firsts.bbox),
+        extents,
+    );
+    let areas = lesser(again(items, id, parent, Class::Area, firsts.area), boxes);
+    lesser(again(items, id, parent, Class::Scope, firsts.scope), areas)
 }

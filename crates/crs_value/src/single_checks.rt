@@ -1,6 +1,10 @@
 //! The checks of words, of numbers, and of parts that may stand once.
-ghost use Rattle.std.specs.Prelude.{IsTrue, ◌↔◌};
-ghost use Rattle.crs_value.specs.BadValue.{IsAboveZero};
+ghost use Rattle.std.specs.Prelude.{◌≡◌, ◌≤◌, ◌≢◌, IsTrue, ◌↔◌, None};
+ghost use Rattle.crs_text.specs.Items.{HasId};
+ghost use Rattle.crs_value.specs.BadValue.{IsAboveZero, NotAbove, IsNegative};
+ghost use Rattle.crs_value.specs.Break.{IsLeast};
+ghost use Rattle.crs_value.specs.FirstByte.{first_byte};
+ghost use Rattle.crs_value.specs.Reading.{item_at};
 
 use crate::checks::{Check, refusal_at};
 use crate::direction::Direction;
@@ -10,6 +14,43 @@ use crs_decimal::Decimal;
 use crs_decimal::laws::denotes_one;
 use crs_shape::Class;
 use crs_text::{ItemId, Items, Refusal};
+
+fn first_byte(bytes: &[u8]) -> u8
+    ensures { result ≡ first_byte bytes.now }
+{
+    match bytes.first() {
+        Some(byte) => *byte,
+        None => 0,
+    }
+}
+
+fn is_leading(byte: u8) -> bool
+    ensures { IsTrue result ↔ ((49 ≤ byte) × (byte ≤ 57)) }
+{
+    b'1' <= byte && byte <= b'9'
+}
+
+// Whether a number begins with a digit that isn't 0: then it is above zero, and needn't be read.
+fn begins_above_zero(items: &Items<'_>, id: ItemId) -> bool
+    requires { HasId items.now id }
+    ensures { IsTrue result → IsLeast (NotAbove (item_at items.now id)) None }
+{
+    is_leading(first_byte(items.raw(id)))
+}
+
+fn is_no_minus(byte: u8) -> bool
+    ensures { IsTrue result ↔ (byte ≢ 45) }
+{
+    byte != b'-'
+}
+
+// Whether a number begins with no minus: then it isn't negative, and needn't be read.
+fn begins_without_minus(items: &Items<'_>, id: ItemId) -> bool
+    requires { HasId items.now id }
+    ensures { IsTrue result → IsLeast (IsNegative (item_at items.now id)) None }
+{
+    is_no_minus(first_byte(items.raw(id)))
+}
 
 fn is_above_zero(value: Decimal) -> bool
     ensures { IsTrue result ↔ IsAboveZero value }
@@ -81,6 +122,9 @@ impl Check for AboveZero {
     ghost Broken = { λ s tree item f. NotAbove item f };
 
     fn check(&self, items: &Items<'_>, id: ItemId, _class: Class) -> Option<Refusal> {
+        if begins_above_zero(items, id) {
+            return None;
+        }
         denotes_one();
         let value = decimal_of(items, id);
         if is_above_zero(value) {
@@ -104,6 +148,9 @@ impl Check for NotNegative {
     ghost Broken = { λ s tree item f. IsNegative item f };
 
     fn check(&self, items: &Items<'_>, id: ItemId, _class: Class) -> Option<Refusal> {
+        if begins_without_minus(items, id) {
+            return None;
+        }
         denotes_one();
         let value = decimal_of(items, id);
         if value.is_negative() {

@@ -4,14 +4,16 @@ ghost use Rattle.std.specs.Option.{option_copied};
 ghost use Rattle.crs_text.specs.Items.{HasId, arguments};
 ghost use Rattle.crs_value.specs.BadSystem.{HasType};
 ghost use Rattle.crs_value.specs.Checks.{IsSound, HasSystem};
+ghost use Rattle.crs_value.specs.Noted.{AreFirsts};
 ghost use Rattle.crs_value.specs.Reading.{item_at, those, Requires, ReadsFirst};
 ghost use Rattle.crs_value.specs.Reads.{ReadsType, ReadsSystem};
 ghost use Rattle.crs_value.specs.SoundSystem.{own_or};
 
 use crate::axis::Axis;
+use crate::firsts::Firsts;
 use crate::ident::Ident;
 use crate::list::List;
-use crate::node::{many, number, optional, required};
+use crate::node::{many, many_from, number, optional_from, required};
 use crate::system_type::SystemType;
 use crate::unit::Unit;
 use crs_decimal::Decimal;
@@ -113,11 +115,13 @@ pub(crate) fn read_system<'a>(
     items: &Items<'a>,
     id: ItemId,
     class: Class,
+    firsts: &Firsts,
 ) -> Result<System<'a>, AllocError>
     requires has { HasId items.now id }
     requires sound { IsSound class (item_at items.now id) }
     requires system { HasSystem class }
     requires there { Requires class Class.CoordinateSystem 0 × Requires class Class.Axis 0 }
+    requires firsts { AreFirsts items.now class (arguments (item_at items.now id)) firsts.now }
     ensures { IfOk result (λ system. ReadsSystem class (item_at items.now id) system) }
 {
     slots_count();
@@ -132,7 +136,7 @@ pub(crate) fn read_system<'a>(
             Class::CoordinateSystem,
             Class::Identifier,
         )?,
-        axes: many(alloc, items, id, class, Class::Axis)?,
-        unit: optional(alloc, items, id, class, Class::AxisUnit)?,
+        axes: many_from(alloc, items, id, class, Class::Axis, firsts.axis)?,
+        unit: optional_from(alloc, items, id, class, Class::AxisUnit, firsts.unit)?,
     })
 }

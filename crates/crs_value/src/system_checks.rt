@@ -7,9 +7,9 @@ ghost use Rattle.crs_shape.specs.Shaped.{Shaped};
 ghost use Rattle.crs_value.specs.AxisCount.{AxisCount};
 ghost use Rattle.crs_value.specs.BadSystem.{HasType, IsOneOf, dimensions_of, BadSystem};
 ghost use Rattle.crs_value.specs.Break.{IsLeast};
-ghost use Rattle.crs_value.specs.Reading.{item_at, those, IsReading};
+ghost use Rattle.crs_value.specs.Reading.{item_at, those, IsFound, IsReading};
 
-use crate::arguments::{first, later};
+use crate::arguments::later;
 use crate::checks::refusal_at;
 use crate::node::{number, required};
 use crate::system_type::SystemType;
@@ -65,14 +65,21 @@ pub(crate) fn bad_system(items: &Items<'_>, cs: ItemId, class: Class) -> Option<
     }
 }
 
-// How many arguments of a class a node has.
-pub(crate) fn count_of(items: &Items<'_>, id: ItemId, parent: Class, class: Class) -> usize
-    requires { HasId items.now id }
+// How many arguments of a class a node has, from the first one on.
+pub(crate) fn count_of(
+    items: &Items<'_>,
+    id: ItemId,
+    parent: Class,
+    class: Class,
+    from: Option<ItemId>,
+) -> usize
+    requires has { HasId items.now id }
+    requires from { IsFound items.now parent class (those parent class (arguments (item_at items.now id))) from }
     ensures { result ≡ length (those parent class (arguments (item_at items.now id))) }
 {
     let _bound = items.arg_count(id);
     let mut count = 0;
-    let mut at = first(items, id, parent, class);
+    let mut at = from;
     while let Some(found) = at {
         count += 1;
         at = later(items, found, parent, class);
@@ -81,16 +88,24 @@ pub(crate) fn count_of(items: &Items<'_>, id: ItemId, parent: Class, class: Clas
 }
 
 // 25: a number of axes that isn't the dimension.
-pub(crate) fn bad_count(items: &Items<'_>, crs: ItemId, class: Class, cs: ItemId) -> Option<Refusal>
+pub(crate) fn bad_count(
+    items: &Items<'_>,
+    crs: ItemId,
+    class: Class,
+    cs: ItemId,
+    axis: Option<ItemId>,
+) -> Option<Refusal>
     requires has { HasId items.now cs }
     requires crs { HasId items.now crs }
     requires shaped { Shaped Class.CoordinateSystem (item_at items.now cs) }
+    requires axis { IsFound items.now class Class.Axis (those class Class.Axis (arguments (item_at items.now crs)))
+        axis }
     ensures { IsLeast (AxisCount (those class Class.Axis (arguments (item_at items.now crs)))
         (item_at items.now cs)) result }
 {
     denotes_one();
     let dimension = number(items, cs, Class::CoordinateSystem);
-    let axes = count_of(items, crs, class, Class::Axis);
+    let axes = count_of(items, crs, class, Class::Axis, axis);
     if dimension.is_whole(axes as u64) {
         None
     } else {

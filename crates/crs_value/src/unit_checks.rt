@@ -4,7 +4,7 @@ ghost use Rattle.crs_text.specs.Items.{HasId, arguments};
 ghost use Rattle.crs_shape.specs.Shaped.{Shaped};
 ghost use Rattle.crs_value.specs.BadUnit.{Asks, Fits, AllAsk, SharedFits, BadShared, BadUnit};
 ghost use Rattle.crs_value.specs.Break.{IsLeast};
-ghost use Rattle.crs_value.specs.Reading.{item_at, those, IsReading, ReadsFirst};
+ghost use Rattle.crs_value.specs.Reading.{item_at, those, IsFound, IsReading, ReadsFirst};
 ghost use Rattle.crs_value.specs.Reads.{ReadsDirection};
 
 use crate::arguments::{first, later};
@@ -251,18 +251,29 @@ fn bad_shared(
 }
 
 // 27: a unit that is missing, doesn't fit, or stands beside a shared one.
-pub(crate) fn bad_unit(items: &Items<'_>, crs: ItemId, class: Class, cs: ItemId) -> Option<Refusal>
+pub(crate) fn bad_unit(
+    items: &Items<'_>,
+    crs: ItemId,
+    class: Class,
+    cs: ItemId,
+    axis: Option<ItemId>,
+    unit: Option<ItemId>,
+) -> Option<Refusal>
     requires cs { HasId items.now cs }
     requires crs { HasId items.now crs }
     requires system { Shaped Class.CoordinateSystem (item_at items.now cs) }
     requires shaped { Shaped class (item_at items.now crs) }
+    requires axis { IsFound items.now class Class.Axis (those class Class.Axis (arguments (item_at items.now crs)))
+        axis }
+    requires unit { IsFound items.now class Class.AxisUnit (those class Class.AxisUnit (arguments
+        (item_at items.now crs))) unit }
     ensures { IsLeast (BadUnit (those class Class.Axis (arguments (item_at items.now crs)))
         (those class Class.AxisUnit (arguments (item_at items.now crs))) (item_at items.now cs)) result }
 {
-    match first(items, crs, class, Class::AxisUnit) {
-        None => any_of(&OwnUnit { cs }, items, crs, class, Class::Axis),
+    match unit {
+        None => any_from(&OwnUnit { cs }, items, axis, class, Class::Axis),
         Some(unit) => lesser(
-            any_of(&NoUnit, items, crs, class, Class::Axis),
+            any_from(&NoUnit, items, axis, class, Class::Axis),
             bad_shared(items, crs, class, cs, unit),
         ),
     }

@@ -1,15 +1,19 @@
 //! Usages, and the ends of CRSs.
 ghost use Rattle.std.specs.Prelude.{◌↔◌, IsTrue, IfOk};
 ghost use Rattle.std.specs.Option.{option_copied};
-ghost use Rattle.crs_text.specs.Items.{HasId};
+ghost use Rattle.crs_text.specs.Items.{HasId, arguments};
 ghost use Rattle.crs_value.specs.Checks.{IsSound};
 ghost use Rattle.crs_value.specs.Reading.{item_at};
-ghost use Rattle.crs_value.specs.Reads.{ReadsBare};
+ghost use Rattle.crs_value.specs.Noted.{AreFirsts};
+ghost use Rattle.crs_value.specs.Reads.{ReadsBare, ReadsTail};
 ghost use Rattle.crs_value.specs.Values.{SaysSome};
 
+use crate::firsts::Firsts;
 use crate::ident::Ident;
 use crate::list::List;
-use crate::node::{Node, many, number_at, optional, optional_text};
+use crate::node::{
+    Node, many_from, number_at, optional, optional_from, optional_text, optional_text_from,
+};
 use crate::unit::Unit;
 use crs_decimal::Decimal;
 use crs_shape::Class;
@@ -267,15 +271,24 @@ fn bare_usage<'a>(
     items: &Items<'a>,
     id: ItemId,
     class: Class,
+    firsts: &Firsts,
 ) -> Result<Option<Usage<'a>>, AllocError>
     requires has { HasId items.now id }
     requires sound { IsSound class (item_at items.now id) }
+    requires firsts { AreFirsts items.now class (arguments (item_at items.now id)) firsts.now }
     ensures { IfOk result (ReadsBare class (item_at items.now id)) }
 {
-    let scope = optional_text(items, id, class, Class::Scope);
-    let area = optional_text(items, id, class, Class::Area);
-    let bbox = optional(alloc, items, id, class, Class::BoundingBox)?;
-    let extent = optional(alloc, items, id, class, Class::VerticalExtent)?;
+    let scope = optional_text_from(items, id, class, Class::Scope, firsts.scope);
+    let area = optional_text_from(items, id, class, Class::Area, firsts.area);
+    let bbox = optional_from(alloc, items, id, class, Class::BoundingBox, firsts.bbox)?;
+    let extent = optional_from(
+        alloc,
+        items,
+        id,
+        class,
+        Class::VerticalExtent,
+        firsts.extent,
+    )?;
     if !says_some(scope, area, &bbox, &extent) {
         return Ok(None);
     }
@@ -288,28 +301,30 @@ fn bare_usage<'a>(
 }
 
 // The end of a CRS of this class.
-impl<'a> Node<'a> for Tail<'a> {
-    ghost use Rattle.std.specs.Prelude.{◌≡◌};
-    ghost use Rattle.crs_shape.specs.declared.class.Class.TheVariants as classes;
-    ghost use Rattle.crs_value.specs.Reading.{Requires};
-    ghost use Rattle.crs_value.specs.Reads.{ReadsTail};
-
-    ghost Suits = { λ c. Unit {0} };
-
-    ghost Reads = { λ c item parts. ReadsTail c item parts };
-
-    fn read(
-        alloc: Global,
-        items: &Items<'a>,
-        id: ItemId,
-        class: Class,
-    ) -> Result<Self, AllocError> {
-        slots_count();
-        Ok(Tail {
-            usages: many(alloc, items, id, class, Class::Usage)?,
-            bare: bare_usage(alloc, items, id, class)?,
-            ids: many(alloc, items, id, class, Class::Identifier)?,
-            remark: optional_text(items, id, class, Class::Remark),
-        })
-    }
+pub(crate) fn read_tail<'a>(
+    alloc: Global,
+    items: &Items<'a>,
+    id: ItemId,
+    class: Class,
+    firsts: &Firsts,
+) -> Result<Tail<'a>, AllocError>
+    requires has { HasId items.now id }
+    requires sound { IsSound class (item_at items.now id) }
+    requires firsts { AreFirsts items.now class (arguments (item_at items.now id)) firsts.now }
+    ensures { IfOk result (λ tail. ReadsTail class (item_at items.now id) tail) }
+{
+    slots_count();
+    Ok(Tail {
+        usages: many_from(alloc, items, id, class, Class::Usage, firsts.usage)?,
+        bare: bare_usage(alloc, items, id, class, firsts)?,
+        ids: many_from(
+            alloc,
+            items,
+            id,
+            class,
+            Class::Identifier,
+            firsts.identifier,
+        )?,
+        remark: optional_text_from(items, id, class, Class::Remark, firsts.remark),
+    })
 }

@@ -64,7 +64,7 @@ pub fn value_of<'a>(alloc: Global, items: &Items<'a>) -> Result<Crs<'a>, Fault>
     let root = items.root();
     items.formed(root);
     match judge(items) {
-        Ok(class) => read_crs(alloc, items, root, class).map_err(Fault::Memory),
+        Ok(class) => read_crs(alloc, items, root, class),
         Err(refusal) => Err(Fault::Refused(refusal)),
     }
 }

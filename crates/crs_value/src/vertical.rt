@@ -1,12 +1,13 @@
 //! Vertical CRSs and their geoid models.
 
 use crate::crs_frame::vertical_frame;
+use crate::firsts::firsts_of;
 use crate::frame::Frame;
 use crate::ident::Ident;
 use crate::list::List;
 use crate::node::{Node, many, text};
 use crate::system::{System, read_system};
-use crate::usage::Tail;
+use crate::usage::{Tail, read_tail};
 use crs_shape::Class;
 use crs_shape::laws::slots_count;
 use crs_text::{ItemId, Items};
@@ -106,12 +107,13 @@ impl<'a> Node<'a> for Vertical<'a> {
         class: Class,
     ) -> Result<Self, AllocError> {
         slots_count();
+        let firsts = firsts_of(items, id, class);
         Ok(Vertical {
             name: text(items, id, class),
             frame: vertical_frame(alloc, items, id, class)?,
-            system: read_system(alloc, items, id, class)?,
+            system: read_system(alloc, items, id, class, &firsts)?,
             geoid_models: many(alloc, items, id, class, Class::GeoidModel)?,
-            tail: Tail::read(alloc, items, id, class)?,
+            tail: read_tail(alloc, items, id, class, &firsts)?,
         })
     }
 }

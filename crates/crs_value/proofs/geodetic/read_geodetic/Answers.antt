@@ -10,5 +10,5 @@ invariant_of-result c =
       frame = c.in_ok-geodetic_frame.ensures;
       meridian = c.in_ok-optional.ensures;
       system = c.in_ok-read_system.ensures;
-      tail = c.in_ok-read.ensures;
+      tail = c.in_ok-read_tail.ensures;
     })

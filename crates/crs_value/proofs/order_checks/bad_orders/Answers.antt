@@ -7,7 +7,7 @@ use Rattle.crs_value.proofs.order_checks.bad_orders.Goals as goal
 
 pub loop-at-init : goal.loop-at-init
 loop-at-init c =
-    ordering-first c.args.items.now c.args.class (item_at c.args.items.now c.args.crs) c.count_of-count.result c.first-at.result c.requires.shaped c.count_of-count.ensures c.first-at.ensures
+    ordering-first c.args.items.now c.args.class (item_at c.args.items.now c.args.crs) c.count_of-count.result c.args.firsts.now.axis c.requires.shaped c.count_of-count.ensures c.requires.firsts.axis
 
 pub loop-at-preserved : goal.loop-at-preserved
 loop-at-preserved c =

@@ -5,4 +5,4 @@ use Rattle.crs_value.proofs.OrderLemmas.{Seeking}
 use Rattle.crs_value.proofs.order_checks.one_has.Given as goal
 
 abbrev pub invariant-loop-step : goal.invariant-loop-step
-invariant-loop-step l = Seeking l.items l.class (those l.class class.Axis (arguments (item_at l.items l.fn.crs))) l.value l._step l.at
+invariant-loop-step l = Seeking l.items l.class (those l.class class.Axis (arguments (item_at l.items l.fn._crs))) l.value l._step l.at

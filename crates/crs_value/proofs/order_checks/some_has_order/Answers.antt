@@ -8,7 +8,7 @@ use Rattle.crs_value.proofs.order_checks.some_has_order.Goals as goal
 pub loop-at-preserved : goal.loop-at-preserved
 loop-at-preserved c =
     let tree = c.args.items.now in
-    let whole = those c.args.class class.Axis (arguments (item_at tree c.args.crs)) in
+    let whole = those c.args.class class.Axis (arguments (item_at tree c.args._crs)) in
     let P : Option ℕ → Type 0 = λ at. Some-left tree c.args.class whole at in
     some-on tree c.args.class whole c.in-Some.axis c.later-at.result (subst P c.in-Some.is c.loop-at.invariant)
     (λ h. let e = c.has_order.ensures.1 h in let f = c.if-has_order.false in cc) c.later-at.ensures

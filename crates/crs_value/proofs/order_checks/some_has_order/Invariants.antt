@@ -7,7 +7,7 @@ use Rattle.crs_value.proofs.OrderLemmas.{Some-left}
 use Rattle.crs_value.proofs.order_checks.some_has_order.Given as goal
 
 abbrev pub invariant-loop-at : goal.invariant-loop-at
-invariant-loop-at l = Some-left l.items l.class (those l.class class.Axis (arguments (item_at l.items l.fn.crs))) l.at
+invariant-loop-at l = Some-left l.items l.class (those l.class class.Axis (arguments (item_at l.items l.fn._crs))) l.at
 
 abbrev pub decreases-loop-at : goal.decreases-loop-at
 decreases-loop-at l = length (from_found l.items l.class class.Axis l.at)

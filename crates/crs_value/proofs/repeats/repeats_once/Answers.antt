@@ -14,11 +14,11 @@ returns c =
     let items = arguments (item_at c.args.items.now c.args.id) in
     let R : Class → RefusedAt → Type 0 = λ d f. Repeats c.args.parent items d f in
     let All : List Class → RefusedAt → Type 0 = λ ds f. RepeatsAny c.args.parent items ds f in
-    let e : IsLeast (All (class.Remark ∷ [])) c.lesser-remarks.result = either-is (R class.Remark) (All []) _ None _ c.lesser-remarks.ensures c.repeats.ensures (λ f h. h) in
+    let e : IsLeast (All (class.Remark ∷ [])) c.lesser-remarks.result = either-is (R class.Remark) (All []) _ None _ c.lesser-remarks.ensures c.again.ensures (λ f h. h) in
     let d : IsLeast (All (class.VerticalExtent ∷ class.Remark ∷ [])) c.lesser-extents.result =
-    either-is (R class.VerticalExtent) (All (class.Remark ∷ [])) _ _ _ c.lesser-extents.ensures c.repeats-2.ensures e in
+    either-is (R class.VerticalExtent) (All (class.Remark ∷ [])) _ _ _ c.lesser-extents.ensures c.again-2.ensures e in
     let b : IsLeast (All (class.BoundingBox ∷ class.VerticalExtent ∷ class.Remark ∷ [])) c.lesser-boxes.result =
-    either-is (R class.BoundingBox) (All (class.VerticalExtent ∷ class.Remark ∷ [])) _ _ _ c.lesser-boxes.ensures c.repeats-3.ensures d in
+    either-is (R class.BoundingBox) (All (class.VerticalExtent ∷ class.Remark ∷ [])) _ _ _ c.lesser-boxes.ensures c.again-3.ensures d in
     let a : IsLeast (All (class.Area ∷ class.BoundingBox ∷ class.VerticalExtent ∷ class.Remark ∷ [])) c.lesser-areas.result =
-    either-is (R class.Area) (All (class.BoundingBox ∷ class.VerticalExtent ∷ class.Remark ∷ [])) _ _ _ c.lesser-areas.ensures c.repeats-4.ensures b in
-    either-is (R class.Scope) (All (class.Area ∷ class.BoundingBox ∷ class.VerticalExtent ∷ class.Remark ∷ [])) _ _ _ c.lesser.ensures c.repeats-5.ensures a
+    either-is (R class.Area) (All (class.BoundingBox ∷ class.VerticalExtent ∷ class.Remark ∷ [])) _ _ _ c.lesser-areas.ensures c.again-4.ensures b in
+    either-is (R class.Scope) (All (class.Area ∷ class.BoundingBox ∷ class.VerticalExtent ∷ class.Remark ∷ [])) _ _ _ c.lesser.ensures c.again-5.ensures a

@@ -15,6 +15,6 @@ invariant_of-result c =
       head =
           reads-first ReadsHead cs (those c.args.class class.CoordinateSystem (arguments item)) _ _ c.required-head.ensures.found.0
           (record { system_type = c.system_type.ensures; dimension = c.number.ensures; ids = c.in_ok-many.ensures });
-      axes = c.in_ok-many-2.ensures;
-      unit = c.in_ok-optional.ensures;
+      axes = c.in_ok-many_from.ensures;
+      unit = c.in_ok-optional_from.ensures;
     })

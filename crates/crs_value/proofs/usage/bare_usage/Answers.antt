@@ -7,8 +7,8 @@ pub invariant_of-result : goal.invariant_of-result
 invariant_of-result c =
     usage-tells c.args.class (item_at c.args.items.now c.args.id) _ c.requires.sound
     (record {
-      scope = c.optional_text-scope.ensures;
-      area = c.optional_text-area.ensures;
+      scope = c.optional_text_from-scope.ensures;
+      area = c.optional_text_from-area.ensures;
       bbox = c.in_ok-bbox.ensures;
       extent = c.in_ok-extent.ensures;
     })

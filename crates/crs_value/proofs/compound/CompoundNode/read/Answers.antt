@@ -16,5 +16,5 @@ invariant_of-result c =
       name = c.text.ensures;
       horizontal = subst P (sym c.requires.suits) c.in_ok-read_horizontal.ensures;
       vertical = c.in_ok-one.ensures;
-      tail = c.in_ok-read.ensures;
+      tail = c.in_ok-read_tail.ensures;
     })

@@ -14,5 +14,5 @@ invariant_of-result c =
       base = c.in_ok-one.ensures;
       conversion = c.in_ok-one-2.ensures;
       system = c.in_ok-read_system.ensures;
-      tail = c.in_ok-read.ensures;
+      tail = c.in_ok-read_tail.ensures;
     })

@@ -14,5 +14,5 @@ invariant_of-result c =
       frame = c.in_ok-vertical_frame.ensures;
       system = c.in_ok-read_system.ensures;
       geoid_models = c.in_ok-many.ensures;
-      tail = c.in_ok-read.ensures;
+      tail = c.in_ok-read_tail.ensures;
     })
