@@ -1,5 +1,5 @@
-use Rattle.crs_shape.proofs.WordLemmas.{same-bytes}
-use Rattle.crs_shape.proofs.spelling.same_letters.Goals as goal
+use Rattle.crs_text.proofs.WordLemmas.{same-bytes}
+use Rattle.crs_text.proofs.keyword.same_letters.Goals as goal
 
 pub returns-then-a-b : goal.returns-then-a-b
 returns-then-a-b c =

@@ -1,6 +1,6 @@
 use Rattle.std.proofs.Common.{◌+◌, ◌-◌, ◌<◌}
-use Rattle.crs_shape.specs.KeywordTable.{AreSameWithin}
-use Rattle.crs_shape.proofs.spelling.same_blocks.Given as goal
+use Rattle.crs_text.specs.KeywordTable.{AreSameWithin}
+use Rattle.crs_text.proofs.keyword.same_blocks.Given as goal
 
 abbrev pub invariant-loop-at : goal.invariant-loop-at
 invariant-loop-at l = (l.at < l.last + 8) × AreSameWithin l.a l.b 0 l.at
