@@ -34,11 +34,11 @@ pub same-keyword_of : (a b : List ℕ) → Same a b → keyword_of a ≡ keyword
 unfolding keyword_of
 same-keyword_of a b e = same-spelled every_keyword a b e
 
-and-left : (a b : Bool) → (a && b) ≡ true → a ≡ true
+pub and-left : (a b : Bool) → (a && b) ≡ true → a ≡ true
 and-left true b e = refl
 and-left false b e = cc
 
-and-right : (a b : Bool) → (a && b) ≡ true → b ≡ true
+pub and-right : (a b : Bool) → (a && b) ≡ true → b ≡ true
 and-right true b e = e
 and-right false b e = cc
 

@@ -1,6 +1,6 @@
 -- One token more, or the reason why nothing goes on.
 use Rattle.std.proofs.Common.{◌≡◌, ℕ, suc, ◌+◌, ◌≤◌, ◌<◌, Bool, true, false, List, [], ◌∷◌, ◌++◌, length, take, drop, Option, Some, None, refl, sym, ap, subst, ◌∙◌, arith}
-use Rattle.std.proofs.lemmas.List.{length-drop, length-take, length-append, drop-drop, drop_all, take-append-drop}
+use Rattle.std.proofs.lemmas.List.{length-drop, length-append, drop-drop, drop_all, take-append-drop}
 use Rattle.std.specs.List.{prefix_len}
 use Rattle.std.proofs.lemmas.List.Sums.{prefix_len-le-length}
 use Rattle.crs_text.specs.Tokens as tokens

@@ -1,13 +1,13 @@
 -- A bridge: the keywords by the length of their spelling, for a quick look-up.
-use Rattle.std.specs.Prelude.{◌≡◌, ◌≤◌, ◌<◌, ◌==◌, slice_index, ℕ, Option, Some, None, List, [], ◌∷◌, if◌then◌else◌}
+use Rattle.std.specs.Prelude.{◌≡◌, ◌≤◌, ◌<◌, ◌==◌, ◌&&◌, nat_le, slice_index, ℕ, Bool, IsTrue, length, Option, Some, None, List, [], ◌∷◌, if◌then◌else◌}
 use Rattle.std.specs.Char.{to_ascii_lowercase}
-use Rattle.std.specs.Str.{str_eq_ignore_ascii_case}
+use Rattle.std.specs.Str.{bytes_eq, str_to_ascii_lowercase}
 use Rattle.crs_text.specs.Keywords.{spelling_of}
 use Rattle.crs_text.specs.declared.keyword.Keyword.{Keyword}
 use Rattle.crs_text.specs.declared.keyword.Keyword.TheVariants as keyword
 use Rattle.crs_text.specs.declared.keyword.Spelling.{Spelling}
 
--- a keyword and its spelling
+-- a keyword and its spelling in small letters
 pub record Spelled : Type 0 where
   pub word : List ℕ
   pub named : Keyword
@@ -17,7 +17,7 @@ abbrev pub shown : Spelling → Spelled
 shown s = record { word = s.word.now; named = s.keyword }
 
 abbrev pub spelled : Keyword → Spelled
-spelled k = record { word = spelling_of k; named = k }
+spelled k = record { word = str_to_ascii_lowercase (spelling_of k); named = k }
 
 abbrev pub every_length : List (ℕ × List Keyword)
 every_length =
@@ -51,9 +51,22 @@ of_length n = at_length n every_length
 -- the keyword among these that a word is, letter case aside
 abbrev pub first_among : List Spelled → List ℕ → Option Keyword
 first_among [] word = None
-first_among (s ∷ ss) word = if str_eq_ignore_ascii_case s.word word then Some s.named else first_among ss word
+first_among (s ∷ ss) word =
+    if bytes_eq s.word (str_to_ascii_lowercase word) then Some s.named else first_among ss word
 
--- two words are the same from one place up to another, letter case aside
+-- a small letter
+abbrev pub is_letter : ℕ → Bool
+is_letter c = nat_le 97 c && nat_le c 122
+
+-- a word of small letters
+abbrev pub AreLetters : List ℕ → Type 0
+AreLetters word = (k : ℕ) → k < length word → IsTrue (is_letter (slice_index word k))
+
+abbrev pub AreSpellings : List Spelled → Type 0
+AreSpellings [] = Unit {0}
+AreSpellings (s ∷ ss) = AreLetters s.word × AreSpellings ss
+
+-- a word is one of small letters from one place up to another, letter case aside
 abbrev pub AreSameWithin : List ℕ → List ℕ → ℕ → ℕ → Type 0
-AreSameWithin a b low high =
-    (k : ℕ) → low ≤ k → k < high → to_ascii_lowercase (slice_index a k) ≡ to_ascii_lowercase (slice_index b k)
+AreSameWithin letters word low high =
+    (k : ℕ) → low ≤ k → k < high → slice_index letters k ≡ to_ascii_lowercase (slice_index word k)

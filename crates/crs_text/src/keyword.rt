@@ -1,9 +1,10 @@
 //! Keywords: the words that the grammar of well-known text gives a meaning, found by their spelling.
 ghost use Rattle.std.specs.Prelude.{◌≡◌, ◌+◌, ◌≤◌, ◌↔◌, IsTrue, length, map};
 ghost use Rattle.std.specs.Char.{to_ascii_lowercase};
-ghost use Rattle.std.specs.Str.{str_eq_ignore_ascii_case};
+ghost use Rattle.std.specs.Str.{bytes_eq, str_to_ascii_lowercase};
 ghost use Rattle.crs_text.specs.Keywords.{keyword_of};
-ghost use Rattle.crs_text.specs.KeywordTable.{shown, spelled, of_length, first_among, AreSameWithin};
+ghost use Rattle.crs_text.specs.KeywordTable.{shown, spelled, of_length, first_among, is_letter, AreLetters};
+ghost use Rattle.crs_text.specs.KeywordTable.{AreSpellings, AreSameWithin};
 
 /// A keyword, under its spelling: letter case doesn't count, and one thing may have several keywords.
 /// ISO 19162:2019; what each stands for is the profile's choice.
@@ -110,7 +111,7 @@ const BLOCK: usize = 8;
 
 const HALF_BLOCK: usize = 4;
 
-// A keyword and its spelling.
+// A keyword and its spelling in small letters.
 #[derive(Clone, Copy)]
 struct Spelling {
     word: &'static [u8],
@@ -122,85 +123,85 @@ macro_rules! spelling {
 }
 
 // The keywords of two bytes, of three and so on; the frequent ones go first.
-const TWO: &[Spelling] = &[spelling!(b"ID", Id), spelling!(b"CS", Cs)];
+const TWO: &[Spelling] = &[spelling!(b"id", Id), spelling!(b"cs", Cs)];
 
 const THREE: &[Spelling] = &[
-    spelling!(b"TRF", Trf),
-    spelling!(b"VRF", Vrf),
-    spelling!(b"URI", Uri),
+    spelling!(b"trf", Trf),
+    spelling!(b"vrf", Vrf),
+    spelling!(b"uri", Uri),
 ];
 
 const FOUR: &[Spelling] = &[
-    spelling!(b"AXIS", Axis),
-    spelling!(b"BBOX", BBox),
-    spelling!(b"AREA", Area),
-    spelling!(b"UNIT", PlainUnit),
+    spelling!(b"axis", Axis),
+    spelling!(b"bbox", BBox),
+    spelling!(b"area", Area),
+    spelling!(b"unit", PlainUnit),
 ];
 
 const FIVE: &[Spelling] = &[
-    spelling!(b"ORDER", Order),
-    spelling!(b"SCOPE", Scope),
-    spelling!(b"USAGE", Usage),
-    spelling!(b"DATUM", Datum),
+    spelling!(b"order", Order),
+    spelling!(b"scope", Scope),
+    spelling!(b"usage", Usage),
+    spelling!(b"datum", Datum),
 ];
 
 const SIX: &[Spelling] = &[
-    spelling!(b"MEMBER", Member),
-    spelling!(b"PRIMEM", PrimeM),
-    spelling!(b"METHOD", Method),
-    spelling!(b"VDATUM", VDatum),
-    spelling!(b"REMARK", Remark),
-    spelling!(b"ANCHOR", Anchor),
+    spelling!(b"member", Member),
+    spelling!(b"primem", PrimeM),
+    spelling!(b"method", Method),
+    spelling!(b"vdatum", VDatum),
+    spelling!(b"remark", Remark),
+    spelling!(b"anchor", Anchor),
 ];
 
 const SEVEN: &[Spelling] = &[
-    spelling!(b"GEOGCRS", GeogCrs),
-    spelling!(b"PROJCRS", ProjCrs),
-    spelling!(b"GEODCRS", GeodCrs),
-    spelling!(b"VERTCRS", VertCrs),
+    spelling!(b"geogcrs", GeogCrs),
+    spelling!(b"projcrs", ProjCrs),
+    spelling!(b"geodcrs", GeodCrs),
+    spelling!(b"vertcrs", VertCrs),
 ];
 
 const EIGHT: &[Spelling] = &[
-    spelling!(b"ENSEMBLE", Ensemble),
-    spelling!(b"MERIDIAN", Meridian),
-    spelling!(b"SPHEROID", Spheroid),
-    spelling!(b"CITATION", Citation),
+    spelling!(b"ensemble", Ensemble),
+    spelling!(b"meridian", Meridian),
+    spelling!(b"spheroid", Spheroid),
+    spelling!(b"citation", Citation),
 ];
 
 const NINE: &[Spelling] = &[
-    spelling!(b"ANGLEUNIT", AngleUnit),
-    spelling!(b"PARAMETER", Parameter),
-    spelling!(b"ELLIPSOID", Ellipsoid),
-    spelling!(b"SCALEUNIT", ScaleUnit),
+    spelling!(b"angleunit", AngleUnit),
+    spelling!(b"parameter", Parameter),
+    spelling!(b"ellipsoid", Ellipsoid),
+    spelling!(b"scaleunit", ScaleUnit),
 ];
 
 const TEN: &[Spelling] = &[
-    spelling!(b"LENGTHUNIT", LengthUnit),
-    spelling!(b"CONVERSION", Conversion),
-    spelling!(b"PROJECTION", Projection),
-    spelling!(b"GEOIDMODEL", GeoidModel),
+    spelling!(b"lengthunit", LengthUnit),
+    spelling!(b"conversion", Conversion),
+    spelling!(b"projection", Projection),
+    spelling!(b"geoidmodel", GeoidModel),
 ];
 
 const ELEVEN: &[Spelling] = &[
-    spelling!(b"BASEGEOGCRS", BaseGeogCrs),
-    spelling!(b"BASEGEODCRS", BaseGeodCrs),
-    spelling!(b"COMPOUNDCRS", CompoundCrs),
-    spelling!(b"GEODETICCRS", GeodeticCrs),
-    spelling!(b"VERTICALCRS", VerticalCrs),
+    spelling!(b"basegeogcrs", BaseGeogCrs),
+    spelling!(b"basegeodcrs", BaseGeodCrs),
+    spelling!(b"compoundcrs", CompoundCrs),
+    spelling!(b"geodeticcrs", GeodeticCrs),
+    spelling!(b"verticalcrs", VerticalCrs),
 ];
 
-const TWELVE: &[Spelling] = &[spelling!(b"PROJECTEDCRS", ProjectedCrs)];
+const TWELVE: &[Spelling] = &[spelling!(b"projectedcrs", ProjectedCrs)];
 
 const THIRTEEN: &[Spelling] = &[
-    spelling!(b"PRIMEMERIDIAN", PrimeMeridian),
-    spelling!(b"GEODETICDATUM", GeodeticDatum),
-    spelling!(b"VERTICALDATUM", VerticalDatum),
-    spelling!(b"GEOGRAPHICCRS", GeographicCrs),
+    spelling!(b"primemeridian", PrimeMeridian),
+    spelling!(b"geodeticdatum", GeodeticDatum),
+    spelling!(b"verticaldatum", VerticalDatum),
+    spelling!(b"geographiccrs", GeographicCrs),
 ];
 
-const FOURTEEN: &[Spelling] = &[spelling!(b"VERTICALEXTENT", VerticalExtent)];
+const FOURTEEN: &[Spelling] = &[spelling!(b"verticalextent", VerticalExtent)];
 
-const SIXTEEN: &[Spelling] = &[spelling!(b"ENSEMBLEACCURACY", EnsembleAccuracy)];
+const SIXTEEN: &[Spelling] = &[spelling!(b"ensembleaccuracy", EnsembleAccuracy)];
 
 fn of_length(length: usize) -> &'static [Spelling]
     ensures { map shown result.now ≡ map spelled (of_length length) }
@@ -234,6 +235,7 @@ impl Keyword {
 }
 
 fn first_among(spellings: &[Spelling], word: &[u8]) -> Option<Keyword>
+    requires { AreSpellings (map shown spellings.now) }
     ensures { result ≡ first_among (map shown spellings.now) word.now }
 {
     for spelling in spellings {
@@ -244,51 +246,67 @@ fn first_among(spellings: &[Spelling], word: &[u8]) -> Option<Keyword>
     None
 }
 
-// Whether two words are the same, letter case aside.
-fn same_word(keyword: &[u8], word: &[u8]) -> bool
-    ensures { result ≡ str_eq_ignore_ascii_case keyword.now word.now }
+// Whether a word is this one of small letters, letter case aside.
+fn same_word(letters: &[u8], word: &[u8]) -> bool
+    requires { AreLetters letters.now }
+    ensures { result ≡ bytes_eq letters.now (str_to_ascii_lowercase word.now) }
 {
-    same_letters(keyword, word)
+    same_letters(letters, word)
 }
 
-fn same_letters(a: &[u8], b: &[u8]) -> bool
-    ensures { IsTrue result ↔ (map to_ascii_lowercase a.now ≡ map to_ascii_lowercase b.now) }
+fn same_letters(letters: &[u8], word: &[u8]) -> bool
+    requires { AreLetters letters.now }
+    ensures { IsTrue result ↔ (letters.now ≡ map to_ascii_lowercase word.now) }
 {
-    a.len() == b.len() && same_blocks(a, b)
+    letters.len() == word.len() && same_blocks(letters, word)
 }
 
 // By blocks of bytes, of which the last may overlap the one before.
-fn same_blocks(a: &[u8], b: &[u8]) -> bool
-    requires { length a.now ≡ length b.now }
-    ensures { IsTrue result ↔ AreSameWithin a.now b.now 0 (length a.now) }
+fn same_blocks(letters: &[u8], word: &[u8]) -> bool
+    requires long { length letters.now ≡ length word.now }
+    requires letters { AreLetters letters.now }
+    ensures { IsTrue result ↔ AreSameWithin letters.now word.now 0 (length letters.now) }
 {
-    if a.len() < HALF_BLOCK {
-        return same_block(a, b, 0, a.len());
+    let length = letters.len();
+    if length < HALF_BLOCK {
+        return same_block(letters, word, 0, length);
     }
-    if a.len() < BLOCK {
-        return same_block(a, b, 0, HALF_BLOCK)
-            && same_block(a, b, a.len() - HALF_BLOCK, HALF_BLOCK);
+    if length < BLOCK {
+        return same_block(letters, word, 0, HALF_BLOCK)
+            && same_block(letters, word, length - HALF_BLOCK, HALF_BLOCK);
     }
-    let last = a.len() - BLOCK;
+    let last = length - BLOCK;
     let mut at = 0;
     while at < last {
-        if !same_block(a, b, at, BLOCK) {
+        if !same_block(letters, word, at, BLOCK) {
             return false;
         }
         at += BLOCK;
     }
-    same_block(a, b, last, BLOCK)
+    same_block(letters, word, last, BLOCK)
 }
 
 // The loop has no early exit, so that it is compiled to vector code.
 #[inline(always)]
-fn same_block(a: &[u8], b: &[u8], at: usize, size: usize) -> bool
-    requires { (at + size ≤ length a.now) × (at + size ≤ length b.now) }
-    ensures { IsTrue result ↔ AreSameWithin a.now b.now at (at + size) }
+fn same_block(letters: &[u8], word: &[u8], at: usize, size: usize) -> bool
+    requires within { (at + size ≤ length letters.now) × (at + size ≤ length word.now) }
+    requires letters { AreLetters letters.now }
+    ensures { IsTrue result ↔ AreSameWithin letters.now word.now at (at + size) }
 {
     let mut same = true;
     for i in 0..size {
-        same &= a[at + i].to_ascii_lowercase() == b[at + i].to_ascii_lowercase();
+        same &= same_letter(letters[at + i], word[at + i]);
     }
     same
+}
+
+// The bit in which a small letter differs from its capital.
+const SMALL: u8 = 0x20;
+
+#[inline(always)]
+fn same_letter(letter: u8, byte: u8) -> bool
+    requires { IsTrue (is_letter letter) }
+    ensures { IsTrue result ↔ (letter ≡ to_ascii_lowercase byte) }
+{
+    byte | SMALL == letter
 }

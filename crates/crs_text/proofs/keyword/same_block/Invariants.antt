@@ -3,4 +3,4 @@ use Rattle.crs_text.specs.KeywordTable.{AreSameWithin}
 use Rattle.crs_text.proofs.keyword.same_block.Given as goal
 
 abbrev pub invariant-loop-i : goal.invariant-loop-i
-invariant-loop-i l = IsTrue l.same ↔ AreSameWithin l.a l.b l.at (l.at + l.i)
+invariant-loop-i l = IsTrue l.same ↔ AreSameWithin l.letters l.word l.at (l.at + l.i)
