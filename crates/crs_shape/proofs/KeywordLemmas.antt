@@ -12,7 +12,7 @@ use Rattle.crs_shape.specs.Slots.{SlotParts, slots_of, named_in, class_named}
 use Rattle.crs_shape.specs.KeywordTable.{classes_of, classes_by, is_among, is_part, is_root}
 use Rattle.crs_text.specs.Keywords.{spelling_of, every_keyword, first_spelled, keyword_of}
 use Rattle.crs_text.specs.declared.keyword.Keyword.{Keyword}
-use Rattle.crs_text.proofs.KeywordLemmas.{Same, same-of, same-keyword_of, same-spelling}
+use Rattle.crs_shape.proofs.SpellingLemmas.{Same, same-of, same-keyword_of, same-spelling}
 use Rattle.crs_shape.proofs.BoolLemmas.{and-left, and-right}
 use Rattle.crs_shape.proofs.KeywordTableLemmas.{is_everywhere, same_class, same_test, is_named, is_named_root, is_right, is_had, is_listed, named, named_root, right, had, listed}
 

@@ -12,3 +12,4 @@ pub mod RootLemmas
 pub mod SlotLemmas
 pub mod TableLemmas
 pub mod WalkLemmas
+pub mod SpellingLemmas

@@ -13,10 +13,10 @@ use Rattle.crs_text.specs.Keywords.{spelling_of, every_keyword, first_spelled, k
 use Rattle.crs_text.specs.KeywordTable.{spelled, every_length, at_length, of_length, first_among}
 
 -- two words that differ in letter case alone
-abbrev pub Same : List ℕ → List ℕ → Type 0
+abbrev Same : List ℕ → List ℕ → Type 0
 Same a b = str_to_ascii_lowercase a ≡ str_to_ascii_lowercase b
 
-pub same-of : (a b : List ℕ) → str_eq_ignore_ascii_case a b ≡ true → Same a b
+same-of : (a b : List ℕ) → str_eq_ignore_ascii_case a b ≡ true → Same a b
 same-of a b e = (bytes_eq-Decides (str_to_ascii_lowercase a) (str_to_ascii_lowercase b)).0 e
 
 same-length : (a b : List ℕ) → Same a b → length a ≡ length b
@@ -30,7 +30,7 @@ same-spelled : (ks : List Keyword) (a b : List ℕ) → Same a b → first_spell
 same-spelled [] a b e = refl
 same-spelled (k ∷ ks) a b e = rw (same-one k a b e, same-spelled ks a b e) refl
 
-pub same-keyword_of : (a b : List ℕ) → Same a b → keyword_of a ≡ keyword_of b
+same-keyword_of : (a b : List ℕ) → Same a b → keyword_of a ≡ keyword_of b
 unfolding keyword_of
 same-keyword_of a b e = same-spelled every_keyword a b e
 
@@ -127,21 +127,3 @@ by-rows (k ∷ ks) word all none =
 pub keyword_of-table : (word : List ℕ) → first_among (map spelled (of_length (length word))) word ≡ keyword_of word
 keyword_of-table word =
     by-rows (of_length (length word)) word (at-length (length word) every_length owned) (λ e. none-of word e)
-
--- What a keyword is
-
-spelled-of : (ks : List Keyword) (word : List ℕ) (k : Keyword) → first_spelled ks word ≡ Some k →
-    str_eq_ignore_ascii_case (spelling_of k) word ≡ true
-spelled-of [] word k e = cc
-spelled-of (j ∷ ks) word k e =
-    elim (str_eq_ignore_ascii_case (spelling_of j) word)
-    as (λ b. str_eq_ignore_ascii_case (spelling_of j) word ≡ b → (if b then Some j else first_spelled ks word) ≡ Some k →
-    str_eq_ignore_ascii_case (spelling_of k) word ≡ true) [
-      | true ↦ λ t f. let same : j ≡ k = cc in ap (λ i. str_eq_ignore_ascii_case (spelling_of i) word) (sym same) ∙ t
-      | false ↦ λ t f. spelled-of ks word k f
-    ] refl e
-
--- a word that is a keyword differs from its spelling in letter case alone
-pub same-spelling : (word : List ℕ) (k : Keyword) → keyword_of word ≡ Some k → Same (spelling_of k) word
-unfolding keyword_of
-same-spelling word k e = same-of (spelling_of k) word (spelled-of every_keyword word k e)
