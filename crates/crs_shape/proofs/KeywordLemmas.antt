@@ -1,29 +1,22 @@
--- What a word names is what the table of keywords says: letter case doesn't count, each row is right, and
--- no keyword is left out.
-use Rattle.std.proofs.Common.{◌≡◌, ℕ, Bool, true, false, ◌||◌, ◌==◌, List, [], ◌∷◌, Option, Some, None, length, if◌then◌else◌, refl, sym, ap, ◌∙◌}
+-- What a word names is what the table of keywords says: letter case doesn't count, each keyword's classes are right,
+-- and no keyword of a class is left out.
+use Rattle.std.proofs.Common.{◌≡◌, ℕ, Bool, true, false, ◌||◌, List, [], ◌∷◌, Option, Some, None, if◌then◌else◌, refl, sym, ap, ◌∙◌}
 use Rattle.std.specs.List.{list_all, list_any, find}
 use Rattle.std.specs.Str.{bytes_eq, str_eq_ignore_ascii_case, str_to_ascii_lowercase}
-use Rattle.std.specs.Char.{to_ascii_lowercase}
-use Rattle.std.proofs.lemmas.List.{length-map}
-use Rattle.std.proofs.lemmas.Slice.Eq.{bytes_eq-Decides}
 use denote.Enum.Bare.{same_true}
 use Rattle.crs_shape.specs.contracts.class.Class.{the_type}
 use Rattle.crs_shape.specs.declared.class.Class.{Class}
 use Rattle.crs_shape.specs.Keywords.{keywords_of, is_one_of, is_keyword, first_named, is_known, every_class, root_classes, root_named}
 use Rattle.crs_shape.specs.Shape.{has_class}
 use Rattle.crs_shape.specs.Slots.{SlotParts, slots_of, named_in, class_named}
-use Rattle.crs_shape.specs.KeywordTable.{KeywordParts, every_length, at_length, of_length, classes_among, classes_with, is_part, is_root}
+use Rattle.crs_shape.specs.KeywordTable.{classes_of, classes_by, is_among, is_part, is_root}
+use Rattle.crs_text.specs.Keywords.{spelling_of, every_keyword, first_spelled, keyword_of}
+use Rattle.crs_text.specs.declared.keyword.Keyword.{Keyword}
+use Rattle.crs_shape.proofs.SpellingLemmas.{Same, same-of, same-keyword_of, same-spelling}
 use Rattle.crs_shape.proofs.BoolLemmas.{and-left, and-right}
-use Rattle.crs_shape.proofs.KeywordTableLemmas.{same_class, is_named, is_named_root, is_right, is_listed, named, named_root, right, listed}
+use Rattle.crs_shape.proofs.KeywordTableLemmas.{is_everywhere, same_class, same_test, is_named, is_named_root, is_right, is_had, is_listed, named, named_root, right, had, listed}
 
 -- Letter case
-
--- two words that differ in letter case alone
-abbrev Same : List ℕ → List ℕ → Type 0
-Same a b = str_to_ascii_lowercase a ≡ str_to_ascii_lowercase b
-
-same-of : (a b : List ℕ) → str_eq_ignore_ascii_case a b ≡ true → Same a b
-same-of a b e = (bytes_eq-Decides (str_to_ascii_lowercase a) (str_to_ascii_lowercase b)).0 e
 
 same-keyword : (c : Class) (a b : List ℕ) → Same a b → is_keyword c a ≡ is_keyword c b
 unfolding is_keyword
@@ -41,13 +34,8 @@ same-any : (cs : List Class) (a b : List ℕ) → Same a b → list_any (λ c. i
 same-any [] a b e = refl
 same-any (c ∷ cs) a b e = rw (same-keyword c a b e, same-any cs a b e) refl
 
-same-length : (a b : List ℕ) → Same a b → length a ≡ length b
-same-length a b e = sym (length-map a to_ascii_lowercase) ∙ ap length e ∙ length-map b to_ascii_lowercase
-
 same-listed : (a b : List ℕ) → Same a b → is_listed a ≡ is_listed b
-same-listed a b e =
-    ap (λ l. list_any (λ k. bytes_eq (str_to_ascii_lowercase k.word) l) (of_length (length a))) e
-    ∙ ap (λ n. list_any (λ k. str_eq_ignore_ascii_case k.word b) (of_length n)) (same-length a b e)
+same-listed a b e = rw (same-keyword_of a b e) refl
 
 -- A word that the table doesn't have
 
@@ -78,33 +66,37 @@ any-none : (cs : List Class) (word : List ℕ) → is_listed word ≡ false → 
 any-none [] word e = refl
 any-none (c ∷ cs) word e = rw (no-keyword word e c) (any-none cs word e)
 
--- The rows
+not-listed : (word : List ℕ) → keyword_of word ≡ None → is_listed word ≡ false
+not-listed word e = rw e refl
 
-at-length : (test : KeywordParts → Bool) (n : ℕ) (rows : List (ℕ × List KeywordParts)) →
-    list_all (λ row. list_all test row.1) rows ≡ true → list_all test (at_length n rows) ≡ true
-at-length test n [] all = refl
-at-length test n (row ∷ rows) all =
-    elim (n == row.0) as (λ b. list_all test (if b then row.1 else at_length n rows) ≡ true) [
-      | true ↦ and-left (list_all test row.1) (list_all (λ r. list_all test r.1) rows) all
-      | false ↦ at-length test n rows (and-right (list_all test row.1) (list_all (λ r. list_all test r.1) rows) all)
-    ]
+-- What is right for each keyword and doesn't look at letter case is right for a word.
 
--- What is right for each row and doesn't look at letter case is right for a word.
-by-table : {X : Type 0} (named : List ℕ → X) (given : List Class → X) (test : KeywordParts → Bool) (rows : List KeywordParts) (word : List ℕ) →
-    ((k : KeywordParts) → test k ≡ true → given k.classes ≡ named k.word) →
+in-list : (test : Keyword → Bool) (ks : List Keyword) (word : List ℕ) (k : Keyword) → list_all test ks ≡ true →
+    first_spelled ks word ≡ Some k → test k ≡ true
+in-list test [] word k all e = cc
+in-list test (j ∷ ks) word k all e =
+    elim (str_eq_ignore_ascii_case (spelling_of j) word)
+    as (λ b. (if b then Some j else first_spelled ks word) ≡ Some k → test k ≡ true) [
+      | true ↦ λ f. let same : j ≡ k = cc in ap test (sym same) ∙ and-left (test j) (list_all test ks) all
+      | false ↦ λ f. in-list test ks word k (and-right (test j) (list_all test ks) all) f
+    ] e
+
+passes : (test : Keyword → Bool) (word : List ℕ) (k : Keyword) → is_everywhere test ≡ true → keyword_of word ≡ Some k →
+    test k ≡ true
+unfolding keyword_of
+passes test word k all e = in-list test every_keyword word k all e
+
+by-table : {X : Type 0} (named : List ℕ → X) (given : List Class → X) (test : Keyword → Bool) (word : List ℕ) →
+    ((k : Keyword) → test k ≡ true → given (classes_of k) ≡ named (spelling_of k)) →
     ((a b : List ℕ) → Same a b → named a ≡ named b) →
-    list_all test rows ≡ true →
-    (list_any (λ k. str_eq_ignore_ascii_case k.word word) rows ≡ false → given [] ≡ named word) →
-    given (classes_among rows word) ≡ named word
-by-table named given test [] word row same all none = none refl
-by-table named given test (k ∷ ks) word row same all none =
-    elim (str_eq_ignore_ascii_case k.word word)
-    as (λ b. str_eq_ignore_ascii_case k.word word ≡ b →
-    ((b || list_any (λ r. str_eq_ignore_ascii_case r.word word) ks) ≡ false → given [] ≡ named word) →
-    given (if b then k.classes else classes_among ks word) ≡ named word) [
-      | true ↦ λ e no. row k (and-left (test k) (list_all test ks) all) ∙ same k.word word (same-of k.word word e)
-      | false ↦ λ e no. by-table named given test ks word row same (and-right (test k) (list_all test ks) all) no
-    ] refl none
+    is_everywhere test ≡ true →
+    (is_listed word ≡ false → given [] ≡ named word) →
+    given (classes_by (keyword_of word)) ≡ named word
+by-table named given test word row same all none =
+    elim (keyword_of word) as (λ o. keyword_of word ≡ o → given (classes_by o) ≡ named word) [
+      | None ↦ λ e. none (not-listed word e)
+      | Some k ↦ λ e. row k (passes test word k all e) ∙ same (spelling_of k) word (same-spelling word k e)
+    ] refl
 
 same_class-true : (a b : Option Class) → same_class a b ≡ true → a ≡ b
 same_class-true None None e = refl
@@ -112,31 +104,47 @@ same_class-true None (Some b) e = cc
 same_class-true (Some a) None e = cc
 same_class-true (Some a) (Some b) e = ap Some (same_true the_type tt a b e)
 
+same_test-true : (a b : Bool) → same_test a b ≡ true → a ≡ b
+same_test-true true true e = refl
+same_test-true true false e = cc
+same_test-true false true e = cc
+same_test-true false false e = refl
+
 -- The laws
 
-pub class_named-table : (parent : Class) (word : List ℕ) → find (is_part parent) (classes_with word) ≡ class_named parent word
-unfolding class_named classes_with
+pub class_named-table : (parent : Class) (word : List ℕ) →
+    find (is_part parent) (classes_by (keyword_of word)) ≡ class_named parent word
+unfolding class_named
 class_named-table parent word =
-    by-table (λ w. class_named parent w) (λ cs. find (is_part parent) cs) (is_named parent) (of_length (length word)) word
-    (λ k e. same_class-true (find (is_part parent) k.classes) (class_named parent k.word) e)
+    by-table (λ w. class_named parent w) (λ cs. find (is_part parent) cs) (is_named parent) word
+    (λ k e. same_class-true (find (is_part parent) (classes_of k)) (class_named parent (spelling_of k)) e)
     (λ a b e. same-named (slots_of parent) a b e)
-    (at-length (is_named parent) (length word) every_length (named parent))
+    (named parent)
     (λ e. sym (named-none (slots_of parent) word e))
 
-pub root_named-table : (word : List ℕ) → find is_root (classes_with word) ≡ root_named word
-unfolding root_named classes_with
+pub root_named-table : (word : List ℕ) → find is_root (classes_by (keyword_of word)) ≡ root_named word
+unfolding root_named
 root_named-table word =
-    by-table (λ w. root_named w) (λ cs. find is_root cs) is_named_root (of_length (length word)) word
-    (λ k e. same_class-true (find is_root k.classes) (root_named k.word) e)
+    by-table (λ w. root_named w) (λ cs. find is_root cs) is_named_root word
+    (λ k e. same_class-true (find is_root (classes_of k)) (root_named (spelling_of k)) e)
     (λ a b e. same-first root_classes a b e)
-    (at-length is_named_root (length word) every_length named_root)
+    named_root
     (λ e. sym (first-none root_classes word e))
 
-pub is_known-table : (word : List ℕ) → has_class (classes_with word) ≡ is_known word
-unfolding is_known classes_with
+pub is_known-table : (word : List ℕ) → has_class (classes_by (keyword_of word)) ≡ is_known word
+unfolding is_known
 is_known-table word =
-    by-table (λ w. is_known w) has_class is_right (of_length (length word)) word
-    (λ k e. and-left (has_class k.classes) (is_known k.word) e ∙ sym (and-right (has_class k.classes) (is_known k.word) e))
+    by-table (λ w. is_known w) has_class is_right word
+    (λ k e. and-left (has_class (classes_of k)) (is_known (spelling_of k)) e
+    ∙ sym (and-right (has_class (classes_of k)) (is_known (spelling_of k)) e))
     (λ a b e. same-any every_class a b e)
-    (at-length is_right (length word) every_length right)
+    right
     (λ e. sym (any-none every_class word e))
+
+pub is_keyword-table : (c : Class) (word : List ℕ) → is_among c (classes_by (keyword_of word)) ≡ is_keyword c word
+is_keyword-table c word =
+    by-table (λ w. is_keyword c w) (is_among c) (is_had c) word
+    (λ k e. same_test-true (is_among c (classes_of k)) (is_keyword c (spelling_of k)) e)
+    (λ a b e. same-keyword c a b e)
+    (had c)
+    (λ e. sym (no-keyword word e c))

@@ -1,7 +1,6 @@
 -- What the table of keywords says, row by row, by computation.
-use Rattle.std.proofs.Common.{◌≡◌, ℕ, Bool, true, false, ◌&&◌, List, Option, Some, None, length, refl}
-use Rattle.std.specs.List.{list_all, list_any, find}
-use Rattle.std.specs.Str.{str_eq_ignore_ascii_case}
+use Rattle.std.proofs.Common.{◌≡◌, ℕ, Bool, true, false, not, ◌&&◌, List, Option, Some, None, refl}
+use Rattle.std.specs.List.{list_all, find}
 use denote.Enum.Bare.{sameb}
 use Rattle.crs_shape.specs.contracts.class.Class.{the_type}
 use Rattle.crs_shape.specs.declared.class.Class.{Class}
@@ -9,7 +8,9 @@ use Rattle.crs_shape.specs.declared.class.Class.TheVariants as class
 use Rattle.crs_shape.specs.Keywords.{keywords_of, is_keyword, is_known, root_named}
 use Rattle.crs_shape.specs.Shape.{has_class}
 use Rattle.crs_shape.specs.Slots.{class_named}
-use Rattle.crs_shape.specs.KeywordTable.{KeywordParts, every_length, of_length, is_part, is_root}
+use Rattle.crs_shape.specs.KeywordTable.{classes_of, is_among, is_part, is_root}
+use Rattle.crs_text.specs.Keywords.{spelling_of, every_keyword, keyword_of}
+use Rattle.crs_text.specs.declared.keyword.Keyword.{Keyword}
 
 -- whether two answers are the same
 abbrev pub same_class : Option Class → Option Class → Bool
@@ -18,25 +19,38 @@ same_class None (Some b) = false
 same_class (Some a) None = false
 same_class (Some a) (Some b) = sameb the_type a b
 
--- whether each row of the table passes
-abbrev pub is_everywhere : (KeywordParts → Bool) → Bool
-is_everywhere test = list_all (λ row. list_all test row.1) every_length
+-- whether each keyword passes
+abbrev pub is_everywhere : (Keyword → Bool) → Bool
+is_everywhere test = list_all test every_keyword
 
--- the classes of a row name what its keyword names in a parent
-abbrev pub is_named : Class → KeywordParts → Bool
-is_named parent k = same_class (find (is_part parent) k.classes) (class_named parent k.word)
+-- the classes of a keyword name what its spelling names in a parent
+abbrev pub is_named : Class → Keyword → Bool
+is_named parent k = same_class (find (is_part parent) (classes_of k)) (class_named parent (spelling_of k))
 
 -- and what it names at the head of a text
-abbrev pub is_named_root : KeywordParts → Bool
-is_named_root k = same_class (find is_root k.classes) (root_named k.word)
+abbrev pub is_named_root : Keyword → Bool
+is_named_root k = same_class (find is_root (classes_of k)) (root_named (spelling_of k))
 
 -- a keyword of the table is known and has a class
-abbrev pub is_right : KeywordParts → Bool
-is_right k = has_class k.classes && is_known k.word
+abbrev pub is_right : Keyword → Bool
+is_right k = has_class (classes_of k) && is_known (spelling_of k)
 
--- the table has this keyword
+-- whether two answers are the same
+abbrev pub same_test : Bool → Bool → Bool
+same_test true b = b
+same_test false b = not b
+
+-- its classes are those that have its spelling among their keywords
+abbrev pub is_had : Class → Keyword → Bool
+is_had c k = same_test (is_among c (classes_of k)) (is_keyword c (spelling_of k))
+
+-- it is a keyword's spelling
 abbrev pub is_listed : List ℕ → Bool
-is_listed word = list_any (λ k. str_eq_ignore_ascii_case k.word word) (of_length (length word))
+is_listed word = is_some (keyword_of word)
+  where
+    is_some : Option Keyword → Bool
+    is_some None = false
+    is_some (Some k) = true
 
 pub named_root : is_everywhere is_named_root ≡ true
 unfolding is_keyword root_named
@@ -89,7 +103,51 @@ named class.Citation = refl
 named class.Uri = refl
 named class.Remark = refl
 
+pub had : (c : Class) → is_everywhere (is_had c) ≡ true
+unfolding is_keyword
+had class.Number = refl
+had class.Text = refl
+had class.Word = refl
+had class.GeodeticCrs = refl
+had class.GeographicCrs = refl
+had class.ProjectedCrs = refl
+had class.VerticalCrs = refl
+had class.CompoundCrs = refl
+had class.BaseCrs = refl
+had class.GeodeticFrame = refl
+had class.VerticalFrame = refl
+had class.GeodeticEnsemble = refl
+had class.VerticalEnsemble = refl
+had class.Member = refl
+had class.EnsembleAccuracy = refl
+had class.Anchor = refl
+had class.Ellipsoid = refl
+had class.PrimeMeridian = refl
+had class.LengthUnit = refl
+had class.AngleUnit = refl
+had class.ScaleUnit = refl
+had class.PlainUnit = refl
+had class.AxisUnit = refl
+had class.CoordinateSystem = refl
+had class.Axis = refl
+had class.Meridian = refl
+had class.Order = refl
+had class.Conversion = refl
+had class.Method = refl
+had class.Parameter = refl
+had class.GeoidModel = refl
+had class.Usage = refl
+had class.Scope = refl
+had class.Area = refl
+had class.BoundingBox = refl
+had class.VerticalExtent = refl
+had class.Identifier = refl
+had class.Citation = refl
+had class.Uri = refl
+had class.Remark = refl
+
 pub listed : (c : Class) → list_all is_listed (keywords_of c) ≡ true
+unfolding keyword_of
 listed class.Number = refl
 listed class.Text = refl
 listed class.Word = refl

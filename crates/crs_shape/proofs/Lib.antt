@@ -3,6 +3,7 @@ pub mod CountLemmas
 pub mod FaultLemmas
 pub mod FitLemmas
 pub mod PlaceLemmas
+pub mod ItemLemmas
 pub mod KeywordTableLemmas
 pub mod KeywordLemmas
 pub mod ListLemmas
@@ -11,4 +12,4 @@ pub mod RootLemmas
 pub mod SlotLemmas
 pub mod TableLemmas
 pub mod WalkLemmas
-pub mod WordLemmas
+pub mod SpellingLemmas

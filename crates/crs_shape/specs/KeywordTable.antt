@@ -1,114 +1,73 @@
--- A bridge: the table of keywords: each keyword once, under its length, with the classes that have it.
-use Rattle.std.specs.Prelude.{◌≡◌, ◌≤◌, ◌<◌, ◌==◌, slice_index, ℕ, Bool, List, [], ◌∷◌, codes, length, if◌then◌else◌}
-use Prim.Native.String.{String}
+-- A bridge: the table of keywords: the classes that have each keyword.
+use Rattle.std.specs.Prelude.{Bool, Option, Some, None, List, [], ◌∷◌}
 use Rattle.std.specs.List.{list_any}
-use Rattle.std.specs.Char.{to_ascii_lowercase}
-use Rattle.std.specs.Str.{str_eq_ignore_ascii_case}
 use denote.Enum.Bare.{sameb}
+use Rattle.crs_text.specs.declared.keyword.Keyword.{Keyword}
+use Rattle.crs_text.specs.declared.keyword.Keyword.TheVariants as keyword
 use Rattle.crs_shape.specs.contracts.class.Class.{the_type}
 use Rattle.crs_shape.specs.declared.class.Class.{Class}
 use Rattle.crs_shape.specs.declared.class.Class.TheVariants as class
-use Rattle.crs_shape.specs.declared.spelling.Keyword.{Keyword}
 use Rattle.crs_shape.specs.Keywords.{root_classes}
 use Rattle.crs_shape.specs.Slots.{slots_of, takes}
 
--- a keyword and its classes
-pub record KeywordParts : Type 0 where
-  pub word : List ℕ
-  pub classes : List Class
+-- the classes that have a keyword; where several of them may stand in one parent, that which the keyword names there
+-- goes first
+abbrev pub classes_of : Keyword → List Class
+classes_of keyword.Id = class.Identifier ∷ []
+classes_of keyword.Cs = class.CoordinateSystem ∷ []
+classes_of keyword.Trf = class.GeodeticFrame ∷ []
+classes_of keyword.Vrf = class.VerticalFrame ∷ []
+classes_of keyword.Uri = class.Uri ∷ []
+classes_of keyword.Axis = class.Axis ∷ []
+classes_of keyword.BBox = class.BoundingBox ∷ []
+classes_of keyword.Area = class.Area ∷ []
+classes_of keyword.PlainUnit = class.PlainUnit ∷ class.LengthUnit ∷ class.AngleUnit ∷ class.AxisUnit ∷ []
+classes_of keyword.Order = class.Order ∷ []
+classes_of keyword.Scope = class.Scope ∷ []
+classes_of keyword.Usage = class.Usage ∷ []
+classes_of keyword.Datum = class.GeodeticFrame ∷ []
+classes_of keyword.Member = class.Member ∷ []
+classes_of keyword.PrimeM = class.PrimeMeridian ∷ []
+classes_of keyword.Method = class.Method ∷ []
+classes_of keyword.VDatum = class.VerticalFrame ∷ []
+classes_of keyword.Remark = class.Remark ∷ []
+classes_of keyword.Anchor = class.Anchor ∷ []
+classes_of keyword.GeogCrs = class.GeographicCrs ∷ []
+classes_of keyword.ProjCrs = class.ProjectedCrs ∷ []
+classes_of keyword.GeodCrs = class.GeodeticCrs ∷ []
+classes_of keyword.VertCrs = class.VerticalCrs ∷ []
+classes_of keyword.Ensemble = class.GeodeticEnsemble ∷ class.VerticalEnsemble ∷ []
+classes_of keyword.Meridian = class.Meridian ∷ []
+classes_of keyword.Spheroid = class.Ellipsoid ∷ []
+classes_of keyword.Citation = class.Citation ∷ []
+classes_of keyword.AngleUnit = class.AngleUnit ∷ class.AxisUnit ∷ []
+classes_of keyword.Parameter = class.Parameter ∷ []
+classes_of keyword.Ellipsoid = class.Ellipsoid ∷ []
+classes_of keyword.ScaleUnit = class.ScaleUnit ∷ []
+classes_of keyword.LengthUnit = class.LengthUnit ∷ class.AxisUnit ∷ []
+classes_of keyword.Conversion = class.Conversion ∷ []
+classes_of keyword.Projection = class.Method ∷ []
+classes_of keyword.GeoidModel = class.GeoidModel ∷ []
+classes_of keyword.BaseGeogCrs = class.BaseCrs ∷ []
+classes_of keyword.BaseGeodCrs = class.BaseCrs ∷ []
+classes_of keyword.CompoundCrs = class.CompoundCrs ∷ []
+classes_of keyword.GeodeticCrs = class.GeodeticCrs ∷ []
+classes_of keyword.VerticalCrs = class.VerticalCrs ∷ []
+classes_of keyword.ProjectedCrs = class.ProjectedCrs ∷ []
+classes_of keyword.PrimeMeridian = class.PrimeMeridian ∷ []
+classes_of keyword.GeodeticDatum = class.GeodeticFrame ∷ []
+classes_of keyword.VerticalDatum = class.VerticalFrame ∷ []
+classes_of keyword.GeographicCrs = class.GeographicCrs ∷ []
+classes_of keyword.VerticalExtent = class.VerticalExtent ∷ []
+classes_of keyword.EnsembleAccuracy = class.EnsembleAccuracy ∷ []
 
--- a keyword of the program, as such a record
-abbrev pub shown : Keyword → KeywordParts
-shown k = record { word = k.word.now; classes = k.classes.now }
+abbrev pub classes_by : Option Keyword → List Class
+classes_by None = []
+classes_by (Some k) = classes_of k
 
-abbrev pub one : String → Class → KeywordParts
-one word c = record { word = codes word; classes = c ∷ [] }
-
-abbrev pub some : String → List Class → KeywordParts
-some word cs = record { word = codes word; classes = cs }
-
--- the keywords of two letters, of three, and so on
-abbrev pub two : List KeywordParts
-two = one "ID" class.Identifier ∷ one "CS" class.CoordinateSystem ∷ []
-
-abbrev pub three : List KeywordParts
-three = one "TRF" class.GeodeticFrame ∷ one "VRF" class.VerticalFrame ∷ one "URI" class.Uri ∷ []
-
-abbrev pub four : List KeywordParts
-four =
-    one "AXIS" class.Axis ∷ one "BBOX" class.BoundingBox ∷ one "AREA" class.Area ∷
-    some "UNIT" (class.PlainUnit ∷ class.LengthUnit ∷ class.AngleUnit ∷ class.AxisUnit ∷ []) ∷ []
-
-abbrev pub five : List KeywordParts
-five =
-    one "ORDER" class.Order ∷ one "SCOPE" class.Scope ∷ one "USAGE" class.Usage ∷
-    one "DATUM" class.GeodeticFrame ∷ []
-
-abbrev pub six : List KeywordParts
-six =
-    one "MEMBER" class.Member ∷ one "PRIMEM" class.PrimeMeridian ∷ one "METHOD" class.Method ∷
-    one "VDATUM" class.VerticalFrame ∷ one "REMARK" class.Remark ∷ one "ANCHOR" class.Anchor ∷ []
-
-abbrev pub seven : List KeywordParts
-seven =
-    one "GEOGCRS" class.GeographicCrs ∷ one "PROJCRS" class.ProjectedCrs ∷ one "GEODCRS" class.GeodeticCrs ∷
-    one "VERTCRS" class.VerticalCrs ∷ []
-
-abbrev pub eight : List KeywordParts
-eight =
-    some "ENSEMBLE" (class.GeodeticEnsemble ∷ class.VerticalEnsemble ∷ []) ∷ one "MERIDIAN" class.Meridian ∷
-    one "SPHEROID" class.Ellipsoid ∷ one "CITATION" class.Citation ∷ []
-
-abbrev pub nine : List KeywordParts
-nine =
-    some "ANGLEUNIT" (class.AngleUnit ∷ class.AxisUnit ∷ []) ∷ one "PARAMETER" class.Parameter ∷
-    one "ELLIPSOID" class.Ellipsoid ∷ one "SCALEUNIT" class.ScaleUnit ∷ []
-
-abbrev pub ten : List KeywordParts
-ten =
-    some "LENGTHUNIT" (class.LengthUnit ∷ class.AxisUnit ∷ []) ∷ one "CONVERSION" class.Conversion ∷
-    one "PROJECTION" class.Method ∷ one "GEOIDMODEL" class.GeoidModel ∷ []
-
-abbrev pub eleven : List KeywordParts
-eleven =
-    one "BASEGEOGCRS" class.BaseCrs ∷ one "BASEGEODCRS" class.BaseCrs ∷ one "COMPOUNDCRS" class.CompoundCrs ∷
-    one "GEODETICCRS" class.GeodeticCrs ∷ one "VERTICALCRS" class.VerticalCrs ∷ []
-
-abbrev pub twelve : List KeywordParts
-twelve = one "PROJECTEDCRS" class.ProjectedCrs ∷ []
-
-abbrev pub thirteen : List KeywordParts
-thirteen =
-    one "PRIMEMERIDIAN" class.PrimeMeridian ∷ one "GEODETICDATUM" class.GeodeticFrame ∷
-    one "VERTICALDATUM" class.VerticalFrame ∷ one "GEOGRAPHICCRS" class.GeographicCrs ∷ []
-
-abbrev pub fourteen : List KeywordParts
-fourteen = one "VERTICALEXTENT" class.VerticalExtent ∷ []
-
-abbrev pub sixteen : List KeywordParts
-sixteen = one "ENSEMBLEACCURACY" class.EnsembleAccuracy ∷ []
-
-abbrev pub every_length : List (ℕ × List KeywordParts)
-every_length =
-    (2, two) ∷ (3, three) ∷ (4, four) ∷ (5, five) ∷ (6, six) ∷ (7, seven) ∷ (8, eight) ∷ (9, nine) ∷ (10, ten) ∷
-    (11, eleven) ∷ (12, twelve) ∷ (13, thirteen) ∷ (14, fourteen) ∷ (16, sixteen) ∷ []
-
-abbrev pub at_length : ℕ → List (ℕ × List KeywordParts) → List KeywordParts
-at_length n [] = []
-at_length n (row ∷ rows) = if n == row.0 then row.1 else at_length n rows
-
--- the keywords of a length
-abbrev pub of_length : ℕ → List KeywordParts
-of_length n = at_length n every_length
-
--- the classes of the keyword among these that a word is, letter case aside; none if it is none of them
-abbrev pub classes_among : List KeywordParts → List ℕ → List Class
-classes_among [] word = []
-classes_among (k ∷ ks) word = if str_eq_ignore_ascii_case k.word word then k.classes else classes_among ks word
-
--- the classes that have a word among their keywords
-unfoldable pub classes_with : List ℕ → List Class
-classes_with word = classes_among (of_length (length word)) word
+-- whether it is one of these classes
+abbrev pub is_among : Class → List Class → Bool
+is_among c classes = list_any (λ d. sameb the_type d c) classes
 
 -- whether arguments of a class may stand in a parent
 abbrev pub is_part : Class → Class → Bool
@@ -116,9 +75,4 @@ is_part parent c = list_any (λ s. takes s c) (slots_of parent)
 
 -- whether it is a class of a whole text
 abbrev pub is_root : Class → Bool
-is_root c = list_any (λ d. sameb the_type d c) root_classes
-
--- two words are the same from one place up to another, letter case aside
-abbrev pub AreSameWithin : List ℕ → List ℕ → ℕ → ℕ → Type 0
-AreSameWithin a b low high =
-    (k : ℕ) → low ≤ k → k < high → to_ascii_lowercase (slice_index a k) ≡ to_ascii_lowercase (slice_index b k)
+is_root c = is_among c root_classes

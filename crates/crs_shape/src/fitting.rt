@@ -1,18 +1,19 @@
 //! Whether items have the shape of a class.
 ghost use Rattle.std.specs.Prelude.{◌≡◌, ◌+◌, ◌^◌, ◌<◌, ◌&&◌, not, true, false, Some, IsTrue, IsFalse, MatchResult};
 ghost use Rattle.std.specs.Prelude.{option_map};
-ghost use Rattle.crs_text.specs.Items.{first_of, close_of, here, HasId};
+ghost use Rattle.crs_text.specs.Items.{first_of, close_of, kind_of, raw_of, here, HasId};
+ghost use Rattle.crs_shape.specs.Keywords.{is_known};
 ghost use Rattle.crs_text.specs.Refusal.{is_refusal};
 ghost use Rattle.crs_shape.specs.FirstFault.{step_of, first_inside};
 ghost use Rattle.crs_shape.specs.ShapeFault.{class_in, is_of, misplaced, missing, IsFree, IsOnly, Inside, AtRoot};
 ghost use Rattle.crs_shape.specs.ShapeFault.{class_of_root};
-ghost use Rattle.crs_shape.specs.Slots.{shown};
+ghost use Rattle.crs_shape.specs.Slots.{shown, is_class};
 ghost use Rattle.crs_shape.specs.Walk.{after, may_end, left_of};
 
 use crate::class::Class;
-use crate::keyword::{has_keyword, known, root_class};
+use crate::keyword::{has_keyword, known_by, root_by};
 use crate::slot::Slot;
-use crate::table::{class_of, slots};
+use crate::table::{class_by, names_by, slots};
 use crs_text::{ItemId, ItemKind, Items, Refusal};
 
 /// Whether an item has the shape of a class. Takes no memory; the time is linear in the item.
@@ -58,7 +59,7 @@ fn class_at_root(items: &Items<'_>, id: ItemId) -> Option<Class>
 {
     match items.kind(id) {
         ItemKind::Number | ItemKind::Text | ItemKind::Word => None,
-        ItemKind::Node => root_class(items.raw(id)),
+        ItemKind::Node => root_by(items.keyword(id)),
     }
 }
 
@@ -125,7 +126,9 @@ fn step(
     Some((class, stepped))
 }
 
-fn class_in(items: &Items<'_>, id: ItemId, parent: Class) -> Option<Class>
+/// The class of an item in a parent of this class: number, text, word, or what its keyword names there; None where
+/// its keyword names none. Profile.
+pub fn class_in(items: &Items<'_>, id: ItemId, parent: Class) -> Option<Class>
     requires { HasId items.now id }
     ensures { result ≡ class_in parent (first_of (here items.now id)) }
 {
@@ -133,7 +136,20 @@ fn class_in(items: &Items<'_>, id: ItemId, parent: Class) -> Option<Class>
         ItemKind::Number => Some(Class::Number),
         ItemKind::Text => Some(Class::Text),
         ItemKind::Word => Some(Class::Word),
-        ItemKind::Node => class_of(parent, items.raw(id)),
+        ItemKind::Node => class_by(parent, items.keyword(id)),
+    }
+}
+
+/// Whether an item is of that class in a parent of this class; it asks for less than `class_in`. Profile.
+pub fn stands_as(items: &Items<'_>, id: ItemId, parent: Class, class: Class) -> bool
+    requires { HasId items.now id }
+    ensures { result ≡ is_class class (class_in parent (first_of (here items.now id))) }
+{
+    match items.kind(id) {
+        ItemKind::Number => class == Class::Number,
+        ItemKind::Text => class == Class::Text,
+        ItemKind::Word => class == Class::Word,
+        ItemKind::Node => names_by(parent, items.keyword(id), class),
     }
 }
 
@@ -145,8 +161,17 @@ fn is_of(items: &Items<'_>, id: ItemId, class: Class) -> bool
         ItemKind::Number => Class::Number == class,
         ItemKind::Text => Class::Text == class,
         ItemKind::Word => Class::Word == class,
-        ItemKind::Node => has_keyword(class, items.raw(id)),
+        ItemKind::Node => has_keyword(class, items.keyword(id)),
     }
+}
+
+// Whether a node's keyword is one of any class.
+fn is_known(items: &Items<'_>, id: ItemId) -> bool
+    requires has { HasId items.now id }
+    requires node { kind_of (first_of (here items.now id)) ≡ ItemKind.Node }
+    ensures { result ≡ is_known (raw_of (first_of (here items.now id))) }
+{
+    known_by(items.keyword(id))
 }
 
 fn misplaced(items: &Items<'_>, id: ItemId) -> Refusal
@@ -155,7 +180,7 @@ fn misplaced(items: &Items<'_>, id: ItemId) -> Refusal
 {
     let number = match items.kind(id) {
         ItemKind::Number | ItemKind::Text | ItemKind::Word => 12,
-        ItemKind::Node => if known(items.raw(id)) { 12 } else { 11 },
+        ItemKind::Node => if is_known(items, id) { 12 } else { 11 },
     };
     refusal(number, items.place(id))
 }

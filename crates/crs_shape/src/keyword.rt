@@ -1,13 +1,14 @@
 //! Keywords.
 ghost use Rattle.std.specs.Prelude.{◌≡◌, map};
-ghost use Rattle.std.specs.List.{find, list_any};
-ghost use Rattle.std.specs.Str.{str_eq_ignore_ascii_case};
-ghost use Rattle.crs_shape.specs.KeywordTable.{is_root};
-ghost use Rattle.crs_shape.specs.Keywords.{keywords_of, is_keyword, is_known, root_named};
+ghost use Rattle.std.specs.List.{find};
+ghost use Rattle.crs_shape.specs.KeywordTable.{classes_by, is_among, is_root};
+ghost use Rattle.crs_shape.specs.Keywords.{keywords_of, is_known, root_named};
 ghost use Rattle.crs_shape.specs.Shape.{has_class};
 
 use crate::class::Class;
-use crate::spelling::{classes_with, same_word};
+use crate::naming::classes_by;
+use crate::slot::has;
+use crs_text::Keyword;
 
 /// The keywords of a class, none for an item that isn't a node. The first is the one that is written; but a
 /// geodetic CRS with an ellipsoidal system is written as a geographic one, and a unit on an axis by its kind.
@@ -60,7 +61,14 @@ pub fn keywords(class: Class) -> &'static [&'static [u8]]
 pub fn root_class(keyword: &[u8]) -> Option<Class>
     ensures { result ≡ root_named keyword.now }
 {
-    first_root(classes_with(keyword))
+    root_by(Keyword::of(keyword))
+}
+
+// The class that a keyword names at the head of a text.
+pub(crate) fn root_by(keyword: Option<Keyword>) -> Option<Class>
+    ensures { result ≡ find is_root (classes_by keyword) }
+{
+    first_root(classes_by(keyword))
 }
 
 fn first_root(classes: &[Class]) -> Option<Class>
@@ -91,7 +99,14 @@ fn is_root(class: Class) -> bool
 pub fn known(keyword: &[u8]) -> bool
     ensures { result ≡ is_known keyword.now }
 {
-    has_class(classes_with(keyword))
+    known_by(Keyword::of(keyword))
+}
+
+// Whether any class has this keyword.
+pub(crate) fn known_by(keyword: Option<Keyword>) -> bool
+    ensures { result ≡ has_class (classes_by keyword) }
+{
+    has_class(classes_by(keyword))
 }
 
 fn has_class(classes: &[Class]) -> bool
@@ -100,20 +115,9 @@ fn has_class(classes: &[Class]) -> bool
     !classes.is_empty()
 }
 
-#[tactic(auto, unfolding(crate::specs::Keywords::is_keyword))]
-pub(crate) fn has_keyword(class: Class, word: &[u8]) -> bool
-    ensures { result ≡ is_keyword class word.now }
+// Whether a class has this keyword.
+pub(crate) fn has_keyword(class: Class, keyword: Option<Keyword>) -> bool
+    ensures { result ≡ is_among class (classes_by keyword) }
 {
-    is_among(keywords(class), word)
-}
-
-fn is_among(keywords: &[&[u8]], word: &[u8]) -> bool
-    ensures { result ≡ list_any (λ k. str_eq_ignore_ascii_case k.now word.now) keywords.now }
-{
-    for keyword in keywords {
-        if same_word(keyword, word) {
-            return true;
-        }
-    }
-    false
+    has(classes_by(keyword), class)
 }

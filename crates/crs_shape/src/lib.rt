@@ -5,13 +5,13 @@ mod class;
 mod fitting;
 mod keyword;
 pub mod laws;
+mod naming;
 mod part;
 mod slot;
-mod spelling;
 mod table;
 
 pub use class::Class;
-pub use fitting::{fit, fit_root};
+pub use fitting::{class_in, fit, fit_root, stands_as};
 pub use keyword::{keywords, known, root_class};
 pub use slot::Slot;
 pub use table::{class_of, names, slots};

@@ -46,8 +46,8 @@ impl Slot {
     }
 }
 
-// Mostly the first class is the one, so that a plain loop is quicker than `contains`.
-fn has(classes: &[Class], class: Class) -> bool
+// Whether it is one of these classes. Mostly the first is the one, so that a plain loop is quicker than `contains`.
+pub(crate) fn has(classes: &[Class], class: Class) -> bool
     ensures { result ≡ list_any (λ d. sameb the_type d class) classes.now }
 {
     for own in classes {

@@ -1,14 +1,15 @@
 //! The slots of each class.
 ghost use Rattle.std.specs.Prelude.{◌≡◌, map};
 ghost use Rattle.std.specs.List.{find};
-ghost use Rattle.crs_shape.specs.KeywordTable.{is_part};
+ghost use Rattle.crs_shape.specs.KeywordTable.{classes_by, is_part};
 ghost use Rattle.crs_shape.specs.Slots.{shown, slots_of, class_named, is_class};
 
 use crate::class::Class;
 use crate::keyword::has_keyword;
+use crate::naming::classes_by;
 use crate::part::is_part;
 use crate::slot::Slot;
-use crate::spelling::classes_with;
+use crs_text::Keyword;
 
 // exactly one argument, of one of these classes
 macro_rules! one {
@@ -232,11 +233,19 @@ pub fn slots(class: Class) -> &'static [Slot]
     }
 }
 
-/// The class that this keyword names in a parent of this class; None where it names none. Profile.
+/// The class that this keyword names in a parent of this class; None where it names none. Of an item that was
+/// read, `class_in` tells it without a look at the keyword's bytes. Profile.
 pub fn class_of(parent: Class, keyword: &[u8]) -> Option<Class>
     ensures { result ≡ class_named parent keyword.now }
 {
-    first_part(parent, classes_with(keyword))
+    class_by(parent, Keyword::of(keyword))
+}
+
+// The class that a keyword names in a parent of this class.
+pub(crate) fn class_by(parent: Class, keyword: Option<Keyword>) -> Option<Class>
+    ensures { result ≡ find (is_part parent) (classes_by keyword) }
+{
+    first_part(parent, classes_by(keyword))
 }
 
 fn first_part(parent: Class, classes: &[Class]) -> Option<Class>
@@ -255,7 +264,14 @@ fn first_part(parent: Class, classes: &[Class]) -> Option<Class>
 pub fn names(parent: Class, keyword: &[u8], class: Class) -> bool
     ensures { result ≡ is_class class (class_named parent keyword.now) }
 {
-    has_keyword(class, keyword) && is_class(class_of(parent, keyword), class)
+    names_by(parent, Keyword::of(keyword), class)
+}
+
+// Whether a keyword names that class in a parent of this class.
+pub(crate) fn names_by(parent: Class, keyword: Option<Keyword>, class: Class) -> bool
+    ensures { result ≡ is_class class (find (is_part parent) (classes_by keyword)) }
+{
+    has_keyword(class, keyword) && is_class(class_by(parent, keyword), class)
 }
 
 fn is_class(named: Option<Class>, class: Class) -> bool

@@ -135,11 +135,11 @@ module _ (text : List ℕ) (at : ℕ) (lt : at < length text) where
 
   pub all_from_lexed : (l : Lexed) → IsLexed (drop at text) l → IsLexedSettled (drop at text) l → AllSettled (length text) (drop at text)
   all_from_lexed (lexed.Number n) l s =
-      let a = number_at text at lt n l in token_all (length text) (drop at text) (single a.of_kind at a.raw) (drop (at + n) text) a.forms (rest_some n s)
+      let a = number_at text at lt n l in token_all (length text) (drop at text) (single a.of_kind at (take n (drop at text))) (drop (at + n) text) a.forms (rest_some n s)
   all_from_lexed (lexed.Text n) l s =
-      let a = text_at text at lt n l in token_all (length text) (drop at text) (single a.of_kind at a.raw) (drop (at + (n + 2)) text) a.forms (rest_some (n + 2) s)
+      let a = text_at text at lt n l in token_all (length text) (drop at text) (single a.of_kind at (take n (drop 1 (drop at text)))) (drop (at + (n + 2)) text) a.forms (rest_some (n + 2) s)
   all_from_lexed (lexed.Word n) l s =
-      let a = word_at text at lt n l in token_all (length text) (drop at text) (single a.of_kind at a.raw) (drop (at + n) text) a.forms (rest_some n s)
+      let a = word_at text at lt n l in token_all (length text) (drop at text) (single a.of_kind at (take n (drop at text))) (drop (at + n) text) a.forms (rest_some n s)
   all_from_lexed lexed.Comma l s = token_all (length text) (drop at text) comma (drop (at + 1) text) (comma_at text at lt l) tt
   all_from_lexed (lexed.Opening square) l s = token_all (length text) (drop at text) (opening square) (drop (at + 1) text) (opening_at text at lt square l) tt
   all_from_lexed (lexed.Closing square) l s = token_all (length text) (drop at text) (closing at square) (drop (at + 1) text) (closing_at text at lt square l) tt
@@ -147,11 +147,11 @@ module _ (text : List ℕ) (at : ℕ) (lt : at < length text) where
 
   pub held_from_lexed : (l : Lexed) → IsLexed (drop at text) l → ¬ (IsLexedSettled (drop at text) l) → IsHeldAt text at
   held_from_lexed (lexed.Number n) l s ts =
-      let a = number_at text at lt n l in token_held (length text) (drop at text) ts (single a.of_kind at a.raw) (drop (at + n) text) a.forms (λ some. some (rest_none n s))
+      let a = number_at text at lt n l in token_held (length text) (drop at text) ts (single a.of_kind at (take n (drop at text))) (drop (at + n) text) a.forms (λ some. some (rest_none n s))
   held_from_lexed (lexed.Text n) l s ts =
-      let a = text_at text at lt n l in token_held (length text) (drop at text) ts (single a.of_kind at a.raw) (drop (at + (n + 2)) text) a.forms (λ some. some (rest_none (n + 2) s))
+      let a = text_at text at lt n l in token_held (length text) (drop at text) ts (single a.of_kind at (take n (drop 1 (drop at text)))) (drop (at + (n + 2)) text) a.forms (λ some. some (rest_none (n + 2) s))
   held_from_lexed (lexed.Word n) l s ts =
-      let a = word_at text at lt n l in token_held (length text) (drop at text) ts (single a.of_kind at a.raw) (drop (at + n) text) a.forms (λ some. some (rest_none n s))
+      let a = word_at text at lt n l in token_held (length text) (drop at text) ts (single a.of_kind at (take n (drop at text))) (drop (at + n) text) a.forms (λ some. some (rest_none n s))
   held_from_lexed lexed.Comma l s ts = absurd (s tt)
   held_from_lexed (lexed.Opening square) l s ts = absurd (s tt)
   held_from_lexed (lexed.Closing square) l s ts = absurd (s tt)

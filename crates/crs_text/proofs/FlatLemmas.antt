@@ -25,15 +25,15 @@ flat_same rows rows' opens opens' position p q = cc
 
 rows-gather : (place : ℕ) (keyword : List ℕ) (square : Bool) (before : List Item) (item : Item) (later : Siblings) (close depth : ℕ) →
     rows depth (gather place keyword square before item later close) ≡
-    node_rows place (length keyword) square close (length before + suc (count later)) depth (rows_before (suc depth) before ++ (rows (suc depth) item ++ rows_of_items (suc depth) later))
+    node_rows place keyword square close (length before + suc (count later)) depth (rows_before (suc depth) before ++ (rows (suc depth) item ++ rows_of_items (suc depth) later))
 rows-gather place keyword square [] item later close depth =
     let e : 0 + suc (count later) ≡ suc (count later) = omega arith in rw e refl
 rows-gather place keyword square (b ∷ before) item later close depth =
     let e : suc (length before) + suc (count later) ≡ length before + suc (suc (count later)) = omega arith in
     let body : rows_before (suc depth) before ++ (rows (suc depth) b ++ (rows (suc depth) item ++ rows_of_items (suc depth) later)) ≡
     (rows_before (suc depth) before ++ rows (suc depth) b) ++ (rows (suc depth) item ++ rows_of_items (suc depth) later) = simp append_assoc in
-    rows-gather place keyword square before b (More item later) close depth ∙ ap (λ rs. node_rows place (length keyword) square close (length before + suc (suc (count later))) depth rs) body
-    ∙ ap (λ n. node_rows place (length keyword) square close n depth ((rows_before (suc depth) before ++ rows (suc depth) b) ++ (rows (suc depth) item ++ rows_of_items (suc depth) later))) (sym e)
+    rows-gather place keyword square before b (More item later) close depth ∙ ap (λ rs. node_rows place keyword square close (length before + suc (suc (count later))) depth rs) body
+    ∙ ap (λ n. node_rows place keyword square close n depth ((rows_before (suc depth) before ++ rows (suc depth) b) ++ (rows (suc depth) item ++ rows_of_items (suc depth) later))) (sym e)
 
 length-seam : (xs : List Row) (y : Row) (ys : List Row) → length (xs ++ y ∷ ys) - length xs ≡ suc (length ys)
 length-seam xs y ys = omega (arith, length-append xs (y ∷ ys))
@@ -62,7 +62,7 @@ comma-rows : (f : Frame) (fs : List Frame) (item : Item) →
 comma-rows f fs item = append_assoc (rows_of_frames fs) (open_row f (length fs) ∷ rows_before (suc (length fs)) f.before) (rows (suc (length fs)) item)
 
 leaf-rows : (kind : Kind) (place : ℕ) (raw : List ℕ) (f : Frame) (fs : List Frame) →
-    with_leaf (flat (wants (f ∷ fs))) (item_kind kind) place (length raw) ≡ flat (behind_leaf kind place raw (f ∷ fs))
+    with_leaf (flat (wants (f ∷ fs))) (item_kind kind) place raw ≡ flat (behind_leaf kind place raw (f ∷ fs))
 leaf-rows kind place raw f fs = go kind
   where
     one : length f.before + 1 ≡ suc (length f.before)
@@ -71,7 +71,7 @@ leaf-rows kind place raw f fs = go kind
     deep : length (opens_of fs) ≡ length fs
     deep = length-opens_of fs
 
-    go : (kind : Kind) → with_leaf (flat (wants (f ∷ fs))) (item_kind kind) place (length raw) ≡ flat (behind_leaf kind place raw (f ∷ fs))
+    go : (kind : Kind) → with_leaf (flat (wants (f ∷ fs))) (item_kind kind) place raw ≡ flat (behind_leaf kind place raw (f ∷ fs))
     go number = rw (one, deep) refl
     go text = rw (one, deep) refl
     go word = rw (one, deep) refl
@@ -106,7 +106,7 @@ open-rows : (place : ℕ) (raw : List ℕ) (fs : List Frame) (square : Bool) →
     with_open (flat (worded place raw fs)) square ≡ flat (wants (record { place = place; keyword = raw; square = square; before = [] } ∷ fs))
 open-rows place raw fs square =
     let A = rows_of_frames fs in
-    let r = leaf_row Word place (length raw) (length fs) in
+    let r = leaf_row Word place raw (length fs) in
     let len : length (A ++ r ∷ []) - 1 ≡ length A = omega (arith, length-append A (r ∷ [])) in
     let get = get_or-append_seam A r [] no_row in
     let put = set-append_seam A r [] (record r { kind = Node; square = square }) in

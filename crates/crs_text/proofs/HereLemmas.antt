@@ -61,7 +61,7 @@ mutual
   length-rows_of_items (More item items) depth =
       length-append (rows depth item) (rows_of_items depth items) ∙ (let a = length-rows item depth in let b = length-rows_of_items items depth in omega (arith, a, b))
 
-leaf-row_of : (kind : Kind) (place : ℕ) (raw : List ℕ) (depth : ℕ) → leaf_row (item_kind kind) place (length raw) depth ≡ row_of depth (leaf kind place raw)
+leaf-row_of : (kind : Kind) (place : ℕ) (raw : List ℕ) (depth : ℕ) → leaf_row (item_kind kind) place raw depth ≡ row_of depth (leaf kind place raw)
 leaf-row_of number place raw depth = refl
 leaf-row_of text place raw depth = refl
 leaf-row_of word place raw depth = refl

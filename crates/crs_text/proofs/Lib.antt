@@ -6,6 +6,7 @@ pub mod FlawLemmas
 pub mod FrontsLemmas
 pub mod HereLemmas
 pub mod IdLemmas
+pub mod KeywordLemmas
 pub mod LeftLemmas
 pub mod LexedLemmas
 pub mod OneItem
@@ -26,4 +27,5 @@ pub mod TreeLemmas
 mod Utf8CutLemmas
 pub mod Utf8Lemmas
 pub mod ViableLemmas
+pub mod WordLemmas
 pub mod WrittenLemmas

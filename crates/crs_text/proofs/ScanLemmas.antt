@@ -1,6 +1,6 @@
 -- One token more, or the reason why nothing goes on.
 use Rattle.std.proofs.Common.{◌≡◌, ℕ, suc, ◌+◌, ◌≤◌, ◌<◌, Bool, true, false, List, [], ◌∷◌, ◌++◌, length, take, drop, Option, Some, None, refl, sym, ap, subst, ◌∙◌, arith}
-use Rattle.std.proofs.lemmas.List.{length-drop, length-take, length-append, drop-drop, drop_all, take-append-drop}
+use Rattle.std.proofs.lemmas.List.{length-drop, length-append, drop-drop, drop_all, take-append-drop}
 use Rattle.std.specs.List.{prefix_len}
 use Rattle.std.proofs.lemmas.List.Sums.{prefix_len-le-length}
 use Rattle.crs_text.specs.Tokens as tokens
@@ -127,32 +127,26 @@ module _ (text : List ℕ) (at : ℕ) (lt : at < length text) where
       subst (λ z. Forms (length text) (single kind at raw) (drop at text) z) (further n)
       (record { spelled = s.spelled; formed = s.formed; ends = s.ends; placed = placed text at private_le })
 
-  pub number_at : (n : ℕ) → IsLexed (drop at text) (lexed.Number n) → IsSingleAt text at kinds.Number n n
+  pub number_at : (n : ℕ) → IsLexed (drop at text) (lexed.Number n) → IsSingleAt text at kinds.Number (take n (drop at text)) n
   number_at n l = record {
     of_kind = tokens.number;
-    raw = take n (drop at text);
     is_kind = refl;
-    is_length = omega (arith, length-take n (drop at text), l.1);
     forms = single_at tokens.number (take n (drop at text)) n l.0;
     within = fits n l.1;
   }
 
-  pub word_at : (n : ℕ) → IsLexed (drop at text) (lexed.Word n) → IsSingleAt text at kinds.Word n n
+  pub word_at : (n : ℕ) → IsLexed (drop at text) (lexed.Word n) → IsSingleAt text at kinds.Word (take n (drop at text)) n
   word_at n l = record {
     of_kind = tokens.word;
-    raw = take n (drop at text);
     is_kind = refl;
-    is_length = omega (arith, length-take n (drop at text), l.1);
     forms = single_at tokens.word (take n (drop at text)) n l.0;
     within = fits n l.1;
   }
 
-  pub text_at : (n : ℕ) → IsLexed (drop at text) (lexed.Text n) → IsSingleAt text at kinds.Text n (n + 2)
+  pub text_at : (n : ℕ) → IsLexed (drop at text) (lexed.Text n) → IsSingleAt text at kinds.Text (take n (drop 1 (drop at text))) (n + 2)
   text_at n l = record {
     of_kind = tokens.text;
-    raw = take n (drop 1 (drop at text));
     is_kind = refl;
-    is_length = omega (arith, length-take n (drop 1 (drop at text)), length-drop 1 (drop at text), l.1);
     forms = single_at tokens.text (take n (drop 1 (drop at text))) (n + 2) l.0;
     within = fits (n + 2) l.1;
   }

@@ -30,7 +30,7 @@ each_both P [] b h k = k
 each_both P (t ∷ a) b h k = (h.0, each_both P a b h.1 k)
 
 part-leaf : (source : List ℕ) (kind : Kind) (place : ℕ) (raw : List ℕ) (depth : ℕ) → TokenStands source (single kind place raw) →
-    part source (leaf_row (item_kind kind) place (length raw) depth) ≡ part_of (leaf kind place raw)
+    part source (leaf_row (item_kind kind) place raw depth) ≡ part_of (leaf kind place raw)
 part-leaf source number place raw depth h = rw (← h.bytes) refl
 part-leaf source text place raw depth h = rw (← h.bytes) refl
 part-leaf source word place raw depth h = rw (← h.bytes) refl

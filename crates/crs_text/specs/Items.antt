@@ -4,8 +4,10 @@ use Rattle.std.specs.Prelude.{◌≡◌, ◌≢◌, ℕ, zero, suc, ◌+◌, ◌
 use Rattle.std.specs.Prelude.{slice_index_or}
 use Rattle.crs_decimal.specs.Bounds.{Denotes}
 use Rattle.crs_decimal.specs.Value.{Value, IsNormal, exact}
+use Rattle.crs_text.specs.Keywords.{keyword_of}
 use Rattle.crs_text.specs.declared.items.ItemKind.{ItemKind}
 use Rattle.crs_text.specs.declared.items.ItemKind.TheVariants.{Number, Text, Word, Node}
+use Rattle.crs_text.specs.declared.keyword.Keyword.{Keyword}
 use Rattle.crs_text.specs.Tokens.{Kind, number, text, word, Token, single, comma, opening, closing}
 
 mutual
@@ -90,6 +92,17 @@ kind_of (node place keyword square first others close) = Node
 abbrev pub raw_of : Item → List ℕ
 raw_of (leaf kind place raw) = raw
 raw_of (node place keyword square first others close) = keyword
+
+-- the keyword that raw bytes of this kind are; none where they are no keyword, or those of a number or text
+abbrev pub keyword_at : ItemKind → List ℕ → Option Keyword
+keyword_at Number raw = None
+keyword_at Text raw = None
+keyword_at Word raw = keyword_of raw
+keyword_at Node raw = keyword_of raw
+
+-- the keyword that a word or a node's word is
+abbrev pub keyword_in : Item → Option Keyword
+keyword_in item = keyword_at (kind_of item) (raw_of item)
 
 -- the place of an item's first byte
 abbrev pub place_of : Item → ℕ

@@ -2,6 +2,8 @@ pub mod Examples
 pub mod Fault
 pub mod Feeding
 pub mod Items
+pub mod KeywordTable
+pub mod Keywords
 pub mod Lexing
 pub mod Quoted
 pub mod Refusal

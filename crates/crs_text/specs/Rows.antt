@@ -2,7 +2,8 @@
 use Rattle.std.specs.Prelude.{◌≡◌, ℕ, suc, Bool, false, Some, List, [], ◌∷◌, ◌++◌, length}
 use Rattle.crs_text.specs.Tokens.{Token}
 use Rattle.crs_text.specs.Items.{Item, leaf, node, Siblings, End, More, arguments, count, kind_of, raw_of, place_of}
-use Rattle.crs_text.specs.Items.{size_of}
+use Rattle.crs_text.specs.Items.{size_of, keyword_in}
+use Rattle.crs_text.specs.Keywords.{keyword_of}
 use Rattle.crs_text.specs.State.{Frame, State, wants, worded, after, start, run}
 use Rattle.crs_text.specs.Table.{Flat, item_kind, leaf_row}
 use Rattle.crs_text.specs.declared.items.ItemKind.TheVariants.{Word, Node}
@@ -11,24 +12,25 @@ use Rattle.crs_text.specs.declared.table.Row.{Row}
 use Rattle.crs_text.specs.declared.table.Open.{Open}
 
 -- a node's row and the rows of its arguments
-abbrev pub node_rows : ℕ → ℕ → Bool → ℕ → ℕ → ℕ → List Row → List Row
-node_rows place len square close n depth body =
+abbrev pub node_rows : ℕ → List ℕ → Bool → ℕ → ℕ → ℕ → List Row → List Row
+node_rows place keyword square close n depth body =
     record {
       kind = Node;
       square = square;
       depth = depth;
       place = place;
-      length = len;
+      length = length keyword;
       close = close;
       count = n;
       size = suc (length body);
+      keyword = keyword_of keyword;
     } ∷ body
 
 abbrev mutual
   pub rows : ℕ → Item → List Row
-  rows depth (leaf kind place raw) = leaf_row (item_kind kind) place (length raw) depth ∷ []
+  rows depth (leaf kind place raw) = leaf_row (item_kind kind) place raw depth ∷ []
   rows depth (node place keyword square first others close) =
-      node_rows place (length keyword) square close (suc (count others)) depth
+      node_rows place keyword square close (suc (count others)) depth
       (rows (suc depth) first ++ rows_of_items (suc depth) others)
 
   pub rows_of_items : ℕ → Siblings → List Row
@@ -51,6 +53,7 @@ open_row f depth =
       close = 0;
       count = 0;
       size = 1;
+      keyword = keyword_of f.keyword;
     }
 
 abbrev pub rows_of_frames : List Frame → List Row
@@ -76,7 +79,7 @@ flat (wants (f ∷ fs)) =
     }
 flat (worded place raw fs) =
     record {
-      rows = rows_of_frames fs ++ leaf_row Word place (length raw) (length fs) ∷ [];
+      rows = rows_of_frames fs ++ leaf_row Word place raw (length fs) ∷ [];
       opens = opens_of fs;
       position = AfterWord;
     }
@@ -106,4 +109,5 @@ row_of depth item = record {
   close = close_place item;
   count = count (arguments item);
   size = size_of item;
+  keyword = keyword_in item;
 }

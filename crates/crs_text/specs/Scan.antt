@@ -38,12 +38,10 @@ abbrev pub IsStoppedBy : List ℕ → ℕ → Flat → Fault → Type 0
 IsStoppedBy text at table (faults.Refused refusal) = IsStopped text at table refusal
 IsStoppedBy text at table (faults.Memory e) = Unit {0}
 
--- a single token of this kind stands here: the length of its raw bytes, and of all its bytes
-pub record IsSingleAt (text : List ℕ) (at : ℕ) (kind : ItemKind) (len size : ℕ) : Type 0 where
+-- a single token of this kind stands here, with these raw bytes and as many bytes in all as `size` says
+pub record IsSingleAt (text : List ℕ) (at : ℕ) (kind : ItemKind) (raw : List ℕ) (size : ℕ) : Type 0 where
   pub of_kind : Kind
-  pub raw : List ℕ
   pub is_kind : kind ≡ item_kind of_kind
-  pub is_length : len ≡ length raw
   pub forms : Forms (length text) (single of_kind at raw) (drop at text) (drop (at + size) text)
   pub within : at + size ≤ length text
 

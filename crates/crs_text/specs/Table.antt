@@ -2,6 +2,7 @@
 use Rattle.std.specs.Prelude.{◌≡◌, ℕ, zero, suc, ◌+◌, ◌-◌, ◌<◌, nat_lt, ◌&&◌, Bool, true, false, if◌then◌else◌, Option}
 use Rattle.std.specs.Prelude.{Some, None, List, [], ◌∷◌, ◌++◌, length, slice_index_or, slice_set}
 use Rattle.crs_text.specs.Tokens.{Kind, number, text, word, Token, single, comma, opening, closing}
+use Rattle.crs_text.specs.Items.{keyword_at}
 use Rattle.crs_text.specs.State.{same_square}
 use Rattle.crs_text.specs.declared.items.ItemKind.{ItemKind}
 use Rattle.crs_text.specs.declared.items.ItemKind.TheVariants.{Number, Text, Word, Node}
@@ -23,7 +24,17 @@ abbrev pub no_open : Open
 no_open = record { row = 0; square = false; count = 0 }
 
 abbrev pub no_row : Row
-no_row = record { kind = Node; square = false; depth = 0; place = 0; length = 0; close = 0; count = 0; size = 0 }
+no_row = record {
+  kind = Node;
+  square = false;
+  depth = 0;
+  place = 0;
+  length = 0;
+  close = 0;
+  count = 0;
+  size = 0;
+  keyword = None;
+}
 
 -- the first of these, as many as `depth` says, the last first
 abbrev pub held : ℕ → List Open → List Open
@@ -31,9 +42,18 @@ held zero opens = []
 held (suc depth) opens = slice_index_or opens depth no_open ∷ held depth opens
 
 -- the row of a single item, with `depth` delimiters open around it
-abbrev pub leaf_row : ItemKind → ℕ → ℕ → ℕ → Row
-leaf_row kind place len depth =
-    record { kind = kind; square = false; depth = depth; place = place; length = len; close = 0; count = 0; size = 1 }
+abbrev pub leaf_row : ItemKind → ℕ → List ℕ → ℕ → Row
+leaf_row kind place raw depth = record {
+  kind = kind;
+  square = false;
+  depth = depth;
+  place = place;
+  length = length raw;
+  close = 0;
+  count = 0;
+  size = 1;
+  keyword = keyword_at kind raw;
+}
 
 abbrev pub item_kind : Kind → ItemKind
 item_kind number = Number
@@ -67,15 +87,15 @@ counted (o ∷ os) = record o { count = o.count + 1 } ∷ os
 abbrev pub counted_in : Flat → Flat
 counted_in f = record { rows = f.rows; opens = counted f.opens; position = f.position }
 
-abbrev pub with_leaf : Flat → ItemKind → ℕ → ℕ → Flat
-with_leaf f kind place len = record {
-  rows = f.rows ++ leaf_row kind place len (length f.opens) ∷ [];
+abbrev pub with_leaf : Flat → ItemKind → ℕ → List ℕ → Flat
+with_leaf f kind place raw = record {
+  rows = f.rows ++ leaf_row kind place raw (length f.opens) ∷ [];
   opens = counted f.opens;
   position = position_after kind;
 }
 
-abbrev pub flat_single : Flat → ItemKind → ℕ → ℕ → Option Flat
-flat_single f kind place len = if may_begin f.position f.opens kind then Some (with_leaf f kind place len) else None
+abbrev pub flat_single : Flat → ItemKind → ℕ → List ℕ → Option Flat
+flat_single f kind place raw = if may_begin f.position f.opens kind then Some (with_leaf f kind place raw) else None
 
 -- an item has come within an open node
 abbrev pub may_go_on : Position → List Open → Bool
@@ -136,7 +156,7 @@ flat_close f place square =
 
 -- one token more
 abbrev pub flat_step : Flat → Token → Option Flat
-flat_step f (single kind place raw) = flat_single f (item_kind kind) place (length raw)
+flat_step f (single kind place raw) = flat_single f (item_kind kind) place raw
 flat_step f comma = flat_comma f
 flat_step f (opening square) = flat_open f square
 flat_step f (closing place square) = flat_close f place square

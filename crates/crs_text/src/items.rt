@@ -1,12 +1,13 @@
 ghost use Rattle.std.specs.Prelude.{◌≡◌, ℕ, ◌+◌, ◌^◌, ◌<◌, ◌≤◌, ◌↔◌, IsTrue, Option, length, take, drop};
 ghost use Rattle.std.specs.Prelude.{slice_index_or};
 ghost use Rattle.crs_text.specs.Items.{More, End, arguments, count, first_of, rest_of, skip, kind_of, raw_of, place_of};
-ghost use Rattle.crs_text.specs.Items.{close_of, size_of, here, HasId, IsAt, IsNumberOf};
+ghost use Rattle.crs_text.specs.Items.{keyword_in, close_of, size_of, here, HasId, IsAt, IsNumberOf};
 ghost use Rattle.crs_text.specs.Table.{no_row};
 ghost use Rattle.crs_text.specs.Rows.{rows, row_of};
 ghost use Rattle.crs_text.specs.Tree.{raw_place};
 ghost use Rattle.crs_text.specs.Written.{AreFormed};
 
+use crate::keyword::Keyword;
 use crate::table::{Row, Table};
 use crs_decimal::Decimal;
 use std::marker::Model;
@@ -157,6 +158,15 @@ impl<'a> Items<'a> {
         let source = self.source;
         let row = self.row(id);
         part_of(source, raw_place(row.kind, row.place), row.length)
+    }
+
+    /// The keyword that a word or a node's word is, letter case aside; `None` where it is none, and for numbers and
+    /// texts. It was found when the item was read.
+    pub fn keyword(&self, id: ItemId) -> Option<Keyword>
+        requires { HasId self.now id }
+        ensures { result ≡ keyword_in (first_of (here self.now id)) }
+    {
+        self.row(id).keyword
     }
 
     /// Each single token and each keyword in the item is well formed: a call that does nothing, and whose

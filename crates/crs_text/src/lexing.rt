@@ -34,9 +34,9 @@ pub(crate) fn rest_of(bytes: &[u8], at: usize) -> &[u8]
     bytes.split_at(at).1
 }
 
-// The first bytes, up to `end`.
+/// The first bytes, up to `end`.
 #[inline]
-fn front_of(bytes: &[u8], end: usize) -> &[u8]
+pub(crate) fn front_of(bytes: &[u8], end: usize) -> &[u8]
     requires { end ≤ length bytes.now }
     ensures { result.now ≡ take end bytes.now }
 {

@@ -11,7 +11,7 @@ ghost use Rattle.crs_text.specs.Lexing.{IsLexed};
 
 use crate::fault::Fault;
 use crate::items::ItemKind;
-use crate::lexing::{Lexed, rest_of, token_at};
+use crate::lexing::{Lexed, front_of, rest_of, token_at};
 use crate::refusal::Reason;
 use crate::runs::white_length;
 use crate::table::{Opened, Table};
@@ -22,19 +22,19 @@ fn unexpected(at: usize) -> Fault
     Fault::Refused(Reason::Unexpected.at(at))
 }
 
-// A number, text or word of `size` bytes.
+// A number, text or word of `size` bytes, which has these raw bytes.
 fn take_single(
     table: &mut Table,
     text: &[u8],
     at: usize,
     kind: ItemKind,
-    length: usize,
+    raw: &[u8],
     size: usize,
 ) -> Result<usize, Fault>
-    requires { IsSingleAt text.now at kind length size }
+    requires { IsSingleAt text.now at kind raw.now size }
     ensures { MatchResult result (IsTaken text.now at table.old table.new) (IsStoppedBy text.now at table.old) }
 {
-    match table.single(kind, at, length) {
+    match table.single(kind, at, raw) {
         Ok(true) => Ok(size),
         Ok(false) => Err(unexpected(at)),
         Err(refused) => Err(Fault::Memory(refused)),
@@ -97,9 +97,18 @@ pub(crate) fn take_lexed(
     ensures { MatchResult result (IsTaken text.now at table.old table.new) (IsStoppedBy text.now at table.old) }
 {
     match lexed {
-        Lexed::Number { length } => take_single(table, text, at, ItemKind::Number, length, length),
-        Lexed::Text { length } => take_single(table, text, at, ItemKind::Text, length, length + 2),
-        Lexed::Word { length } => take_single(table, text, at, ItemKind::Word, length, length),
+        Lexed::Number { length } => {
+            let raw = front_of(rest_of(text, at), length);
+            take_single(table, text, at, ItemKind::Number, raw, length)
+        }
+        Lexed::Text { length } => {
+            let raw = front_of(rest_of(rest_of(text, at), 1), length);
+            take_single(table, text, at, ItemKind::Text, raw, length + 2)
+        }
+        Lexed::Word { length } => {
+            let raw = front_of(rest_of(text, at), length);
+            take_single(table, text, at, ItemKind::Word, raw, length)
+        }
         Lexed::Comma => take_comma(table, text, at),
         Lexed::Opening { square } => take_opening(table, text, at, square),
         Lexed::Closing { square } => take_closing(table, text, at, square),

@@ -3,11 +3,13 @@ ghost use Rattle.std.specs.Prelude.{[], ◌∷◌, length};
 ghost use Rattle.crs_text.specs.Table.{AreRoomy, counted, counted_in, position_after, may_begin, with_leaf};
 ghost use Rattle.crs_text.specs.Table.{flat_single, may_go_on, flat_comma, is_after_word, with_open, has_square};
 ghost use Rattle.crs_text.specs.Table.{with_close, flat_close, IsStep, IsOpened, is_whole};
+ghost use Rattle.crs_text.specs.Items.{keyword_at};
 ghost use Rattle.crs_text.specs.State.{start};
 ghost use Rattle.crs_text.specs.declared.table.Position.TheVariants.{AfterWord};
 ghost use Rattle.crs_text.specs.Rows.{flat};
 
 use crate::items::ItemKind;
+use crate::keyword::Keyword;
 use std::alloc::{AllocError, Global};
 use std::marker::Model;
 
@@ -36,7 +38,7 @@ pub(crate) enum Opened {
 
 /// An item: its first byte's place, the length of its raw bytes, which begin there or behind a
 /// quote; a node's closing delimiter, its count of arguments and of all items in it, itself
-/// included; and how many delimiters are open around it.
+/// included; how many delimiters are open around it; and the keyword that a word or a node's word is.
 #[derive(Clone, Copy)]
 pub(crate) struct Row {
     pub(crate) place: usize,
@@ -47,6 +49,7 @@ pub(crate) struct Row {
     pub(crate) kind: ItemKind,
     pub(crate) square: bool,
     pub(crate) depth: u8,
+    pub(crate) keyword: Option<Keyword>,
 }
 
 /// An open node: its row, its delimiter, and how many of its arguments have begun.
@@ -72,6 +75,16 @@ fn position_after(kind: ItemKind) -> Position
     match kind {
         ItemKind::Word => Position::AfterWord,
         ItemKind::Number | ItemKind::Text | ItemKind::Node => Position::AfterItem,
+    }
+}
+
+// The keyword that raw bytes of this kind are.
+fn keyword_at(kind: ItemKind, raw: &[u8]) -> Option<Keyword>
+    ensures { result ≡ keyword_at kind raw.now }
+{
+    match kind {
+        ItemKind::Number | ItemKind::Text => None,
+        ItemKind::Word | ItemKind::Node => Keyword::of(raw),
     }
 }
 
@@ -145,9 +158,9 @@ impl Table {
 
     // A number, text or word that is allowed.
     #[tactic(auto, using(crate::proofs::TableLemmas::held_rules))]
-    fn begin(&mut self, kind: ItemKind, place: usize, length: usize) -> Result<(), AllocError>
+    fn begin(&mut self, kind: ItemKind, place: usize, raw: &[u8]) -> Result<(), AllocError>
         requires { may_begin self.old.position self.old.opens kind ≡ true }
-        ensures ok { OnOk result (self.new ≡ with_leaf self.old kind place length) }
+        ensures ok { OnOk result (self.new ≡ with_leaf self.old kind place raw.now) }
         ensures err { OnErr result (self.new ≡ self.old) }
     {
         self.rows.push(Row {
@@ -155,10 +168,11 @@ impl Table {
             square: false,
             depth: self.depth as u8,
             place,
-            length,
+            length: raw.len(),
             close: 0,
             count: 0,
             size: 1,
+            keyword: keyword_at(kind, raw),
         })?;
         self.count_argument();
         self.position = position_after(kind);
@@ -170,15 +184,15 @@ impl Table {
         &mut self,
         kind: ItemKind,
         place: usize,
-        length: usize,
+        raw: &[u8],
     ) -> Result<bool, AllocError>
-        ensures ok { IfOk result (λ taken. IsStep (flat_single self.old kind place length) taken self.old self.new) }
-        ensures err { OnErr result (IsSome (flat_single self.old kind place length) × (self.new ≡ self.old)) }
+        ensures ok { IfOk result (λ taken. IsStep (flat_single self.old kind place raw.now) taken self.old self.new) }
+        ensures err { OnErr result (IsSome (flat_single self.old kind place raw.now) × (self.new ≡ self.old)) }
     {
         if !self.may_begin(kind) {
             return Ok(false);
         }
-        self.begin(kind, place, length)?;
+        self.begin(kind, place, raw)?;
         Ok(true)
     }
 

@@ -1,36 +1,10 @@
 //! The arguments of a node, by their class.
 ghost use Rattle.std.specs.Prelude.{◌≡◌, ◌<◌};
 ghost use Rattle.crs_text.specs.Items.{arguments, rest_of, here, HasId};
-ghost use Rattle.crs_shape.specs.ShapeFault.{class_in};
-ghost use Rattle.crs_value.specs.Reading.{item_at, ahead, Holds, is_a, those, IsFound};
+ghost use Rattle.crs_value.specs.Reading.{item_at, ahead, Holds, those, IsFound};
 
-use crs_shape::{Class, class_of, names};
-use crs_text::{ItemId, ItemKind, Items};
-
-// The class of an item in a parent of this class.
-pub(crate) fn class_in(items: &Items<'_>, id: ItemId, parent: Class) -> Option<Class>
-    requires { HasId items.now id }
-    ensures { result ≡ class_in parent (item_at items.now id) }
-{
-    match items.kind(id) {
-        ItemKind::Number => Some(Class::Number),
-        ItemKind::Text => Some(Class::Text),
-        ItemKind::Word => Some(Class::Word),
-        ItemKind::Node => class_of(parent, items.raw(id)),
-    }
-}
-
-fn is_a(items: &Items<'_>, id: ItemId, parent: Class, class: Class) -> bool
-    requires { HasId items.now id }
-    ensures { result ≡ is_a parent class (item_at items.now id) }
-{
-    match items.kind(id) {
-        ItemKind::Number => class == Class::Number,
-        ItemKind::Text => class == Class::Text,
-        ItemKind::Word => class == Class::Word,
-        ItemKind::Node => names(parent, items.raw(id), class),
-    }
-}
+use crs_shape::{Class, stands_as};
+use crs_text::{ItemId, Items};
 
 // The first argument of this class from this one on.
 fn found(items: &Items<'_>, from: Option<ItemId>, parent: Class, class: Class) -> Option<ItemId>
@@ -39,7 +13,7 @@ fn found(items: &Items<'_>, from: Option<ItemId>, parent: Class, class: Class) -
 {
     let mut at = from;
     while let Some(id) = at {
-        if is_a(items, id, parent, class) {
+        if stands_as(items, id, parent, class) {
             return Some(id);
         }
         at = items.next(id);

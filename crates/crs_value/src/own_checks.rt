@@ -6,13 +6,13 @@ ghost use Rattle.crs_value.specs.Break.{IsLeast};
 ghost use Rattle.crs_value.specs.Checks.{HasSystem, OfEllipsoid, Own, Breaks, BreaksAmong};
 ghost use Rattle.crs_value.specs.Reading.{item_at, those};
 
-use crate::arguments::{class_in, first, later};
+use crate::arguments::{first, later};
 use crate::checks::{Check, any_from, any_of, lesser};
 use crate::component_checks::compound;
 use crate::crs_checks::whole_crs;
 use crate::repeats::repeats;
 use crate::single_checks::{AboveZero, NotNegative, UnknownDirection, UnknownType};
-use crs_shape::Class;
+use crs_shape::{Class, class_in};
 use crs_text::{ItemId, ItemKind, Items, Refusal};
 
 // The numbers of an ellipsoid.

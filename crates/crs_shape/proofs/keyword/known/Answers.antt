@@ -1,7 +1,8 @@
 use Rattle.std.proofs.Common.{◌∙◌, ap}
+use Rattle.crs_shape.specs.KeywordTable.{classes_by}
 use Rattle.crs_shape.specs.Shape.{has_class}
 use Rattle.crs_shape.proofs.KeywordLemmas.{is_known-table}
 use Rattle.crs_shape.proofs.keyword.known.Goals as goal
 
 pub returns : goal.returns
-returns c = c.has_class.ensures ∙ ap has_class c.classes_with.ensures ∙ is_known-table _
+returns c = c.known_by.ensures ∙ ap (λ k. has_class (classes_by k)) c.of.ensures ∙ is_known-table _

@@ -1,7 +1,11 @@
-use Rattle.std.proofs.Common.{sym, ◌∙◌}
-use Rattle.crs_shape.proofs.FitLemmas.{not-named}
+use Rattle.std.proofs.Common.{◌∙◌, ap}
+use Rattle.std.specs.List.{find}
+use Rattle.crs_shape.specs.KeywordTable.{classes_by, is_part}
+use Rattle.crs_shape.specs.Slots.{is_class}
+use Rattle.crs_shape.proofs.KeywordLemmas.{class_named-table}
 use Rattle.crs_shape.proofs.table.names.Goals as goal
 
-pub returns-else-has_keyword : goal.returns-else-has_keyword
-returns-else-has_keyword c =
-    c.if-has_keyword.false ∙ sym (not-named _ _ _ (sym c.has_keyword.ensures ∙ c.if-has_keyword.false))
+pub returns : goal.returns
+returns c =
+    c.names_by.ensures ∙ ap (λ k. is_class c.args.class (find (is_part c.args.parent) (classes_by k))) c.of.ensures
+    ∙ ap (is_class c.args.class) (class_named-table _ _)

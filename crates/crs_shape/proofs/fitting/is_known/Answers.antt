@@ -1,0 +1,8 @@
+use Rattle.std.proofs.Common.{◌∙◌, ap, sym}
+use Rattle.crs_shape.specs.KeywordTable.{classes_by}
+use Rattle.crs_shape.specs.Shape.{has_class}
+use Rattle.crs_shape.proofs.ItemLemmas.{is_known-node}
+use Rattle.crs_shape.proofs.fitting.is_known.Goals as goal
+
+pub returns : goal.returns
+returns c = c.known_by.ensures ∙ ap (λ k. has_class (classes_by k)) c.keyword.ensures ∙ is_known-node _ (sym c.requires.node)

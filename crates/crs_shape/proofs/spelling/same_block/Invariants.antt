@@ -1,6 +1,0 @@
-use Rattle.std.proofs.Common.{◌+◌, ◌↔◌, IsTrue}
-use Rattle.crs_shape.specs.KeywordTable.{AreSameWithin}
-use Rattle.crs_shape.proofs.spelling.same_block.Given as goal
-
-abbrev pub invariant-loop-i : goal.invariant-loop-i
-invariant-loop-i l = IsTrue l.same ↔ AreSameWithin l.a l.b l.at (l.at + l.i)

@@ -1,0 +1,65 @@
+//! The classes of each keyword.
+ghost use Rattle.std.specs.Prelude.{◌≡◌};
+ghost use Rattle.crs_shape.specs.KeywordTable.{classes_of, classes_by};
+
+use crate::class::Class;
+use crs_text::Keyword;
+
+// these classes
+macro_rules! classes {
+    ($($class:ident),+) => { &[$(Class::$class),+] };
+}
+
+// The classes that have this keyword. Where several of them may stand in one parent, that which the keyword
+// names there goes first.
+fn classes_of(keyword: Keyword) -> &'static [Class]
+    ensures { result.now ≡ classes_of keyword }
+{
+    match keyword {
+        Keyword::Id => classes!(Identifier),
+        Keyword::Cs => classes!(CoordinateSystem),
+        Keyword::Trf | Keyword::Datum | Keyword::GeodeticDatum => classes!(GeodeticFrame),
+        Keyword::Vrf | Keyword::VDatum | Keyword::VerticalDatum => classes!(VerticalFrame),
+        Keyword::Uri => classes!(Uri),
+        Keyword::Axis => classes!(Axis),
+        Keyword::BBox => classes!(BoundingBox),
+        Keyword::Area => classes!(Area),
+        Keyword::PlainUnit => classes!(PlainUnit, LengthUnit, AngleUnit, AxisUnit),
+        Keyword::Order => classes!(Order),
+        Keyword::Scope => classes!(Scope),
+        Keyword::Usage => classes!(Usage),
+        Keyword::Member => classes!(Member),
+        Keyword::PrimeM | Keyword::PrimeMeridian => classes!(PrimeMeridian),
+        Keyword::Method | Keyword::Projection => classes!(Method),
+        Keyword::Remark => classes!(Remark),
+        Keyword::Anchor => classes!(Anchor),
+        Keyword::GeogCrs | Keyword::GeographicCrs => classes!(GeographicCrs),
+        Keyword::ProjCrs | Keyword::ProjectedCrs => classes!(ProjectedCrs),
+        Keyword::GeodCrs | Keyword::GeodeticCrs => classes!(GeodeticCrs),
+        Keyword::VertCrs | Keyword::VerticalCrs => classes!(VerticalCrs),
+        Keyword::Ensemble => classes!(GeodeticEnsemble, VerticalEnsemble),
+        Keyword::Meridian => classes!(Meridian),
+        Keyword::Spheroid | Keyword::Ellipsoid => classes!(Ellipsoid),
+        Keyword::Citation => classes!(Citation),
+        Keyword::AngleUnit => classes!(AngleUnit, AxisUnit),
+        Keyword::Parameter => classes!(Parameter),
+        Keyword::ScaleUnit => classes!(ScaleUnit),
+        Keyword::LengthUnit => classes!(LengthUnit, AxisUnit),
+        Keyword::Conversion => classes!(Conversion),
+        Keyword::GeoidModel => classes!(GeoidModel),
+        Keyword::BaseGeogCrs | Keyword::BaseGeodCrs => classes!(BaseCrs),
+        Keyword::CompoundCrs => classes!(CompoundCrs),
+        Keyword::VerticalExtent => classes!(VerticalExtent),
+        Keyword::EnsembleAccuracy => classes!(EnsembleAccuracy),
+    }
+}
+
+// The classes that have this keyword; none where there is no keyword.
+pub(crate) fn classes_by(keyword: Option<Keyword>) -> &'static [Class]
+    ensures { result.now ≡ classes_by keyword }
+{
+    match keyword {
+        None => &[],
+        Some(keyword) => classes_of(keyword),
+    }
+}
