@@ -4,8 +4,7 @@ ghost use Rattle.crs_text.specs.Items.{HasId, arguments};
 ghost use Rattle.crs_value.specs.Noted.{AreFirsts, noted};
 ghost use Rattle.crs_value.specs.Reading.{is_same, item_at};
 
-use crate::arguments::class_in;
-use crs_shape::Class;
+use crs_shape::{Class, class_in};
 use crs_text::{ItemId, Items};
 
 // The first argument of each of these classes; None where there is none.
