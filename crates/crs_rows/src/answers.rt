@@ -55,12 +55,14 @@ fn put_text_answer(
         "numbers" => texts::put_column(out, alloc, input, Column::Number),
         "sizes" => texts::put_column(out, alloc, input, Column::Size),
         "nexts" => texts::put_column(out, alloc, input, Column::Next),
+        "keywords" => texts::put_column(out, alloc, input, Column::Keyword),
         "prefixes" => texts::put_prefixes(out, alloc, input),
         "fit_root" => shapes::put_class(out, alloc, input),
         "fit" => shapes::put_fit(out, alloc, input),
         "class_of" => shapes::put_keywords(out, input),
         "slots" => shapes::put_slots(out, input),
         "known" => shapes::put_known(out, input),
+        "class_in" => shapes::put_classes(out, alloc, input),
         _ => put_value_answer(out, alloc, call, input),
     }
 }

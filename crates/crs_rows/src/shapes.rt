@@ -1,11 +1,15 @@
 //! The calls on the shapes of texts.
+ghost use Rattle.crs_text.specs.Items.{HasId};
+
 use crate::escapes::put_text;
 use crate::pieces::agree;
 use crate::sameness::split_line;
 use crate::texts::{put_fault, put_refusal};
 use bstr::ByteSlice;
-use crs_shape::{Class, Slot, class_of, fit, fit_root, keywords, known, root_class, slots};
-use crs_text::{Refusal, read_items};
+use crs_shape::{
+    Class, Slot, class_in, class_of, fit, fit_root, keywords, known, root_class, slots, stands_as,
+};
+use crs_text::{ItemId, Items, Refusal, read_items};
 use std::alloc::{AllocError, Global};
 
 /// `class` and the first keyword of the root's class, or the refusal of the text or of its shape; `another answer in
@@ -135,5 +139,49 @@ fn put_shape(out: &mut String, fitted: Result<(), Refusal>) -> Result<(), AllocE
     match fitted {
         Ok(()) => out.push_str("fits"),
         Err(refusal) => put_refusal(out, refusal),
+    }
+}
+
+/// The classes of the arguments of a text's node in the class that the keywords of the line before it lead to, `none` for
+/// an argument that has none there; or the text's refusal.
+pub fn put_classes(out: &mut String, alloc: Global, input: &[u8]) -> Result<(), AllocError> {
+    let (path, text) = split_line(input);
+    match (class_at(path), read_items(alloc, text)) {
+        (None, _) => out.push_str("none"),
+        (Some(class), Ok(items)) => put_arguments(out, &items, class),
+        (Some(_class), Err(fault)) => put_fault(out, fault),
+    }
+}
+
+fn put_arguments(out: &mut String, items: &Items<'_>, parent: Class) -> Result<(), AllocError> {
+    out.push_str("classes")?;
+    let root = items.root();
+    for i in 0..items.arg_count(root) {
+        if let Some(id) = items.arg(root, i) {
+            out.push(' ')?;
+            put_class_in(out, items, id, parent)?;
+        }
+    }
+    Ok(())
+}
+
+// An argument's class; `another` where one call denies what the other says.
+fn put_class_in(
+    out: &mut String,
+    items: &Items<'_>,
+    id: ItemId,
+    parent: Class,
+) -> Result<(), AllocError>
+    requires { HasId items.now id }
+{
+    match class_in(items, id, parent) {
+        None => out.push_str("none"),
+        Some(class) => {
+            if stands_as(items, id, parent, class) {
+                put_class_word(out, class)
+            } else {
+                out.push_str("another")
+            }
+        }
     }
 }

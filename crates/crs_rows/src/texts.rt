@@ -5,7 +5,7 @@ use crate::escapes::put_text;
 use crate::numbers::put_spelling;
 use crate::pieces::agree;
 use crs_decimal::Decimal;
-use crs_text::{Fault, ItemId, ItemKind, Items, Refusal, read_items};
+use crs_text::{Fault, ItemId, ItemKind, Items, Keyword, Refusal, read_items};
 use std::alloc::{AllocError, Global};
 
 // No item stands inside more delimiters than these.
@@ -24,6 +24,8 @@ pub enum Column {
     Size,
     /// The place of the argument behind it in its node.
     Next,
+    /// The keyword that a word or a node's word is.
+    Keyword,
 }
 
 impl Column {
@@ -34,6 +36,7 @@ impl Column {
             Column::Number => "numbers",
             Column::Size => "sizes",
             Column::Next => "nexts",
+            Column::Keyword => "keywords",
         }
     }
 }
@@ -167,6 +170,7 @@ fn put_each(
         Column::Number => put_number(out, items.number(id))?,
         Column::Size => write!(out, " {}", items.size(id))?,
         Column::Next => put_next(out, items, id)?,
+        Column::Keyword => put_keyword(out, items.keyword(id))?,
     }
     for i in 0..items.arg_count(id) {
         if depth > 0
@@ -190,6 +194,13 @@ fn put_next(out: &mut String, items: &Items<'_>, id: ItemId) -> Result<(), Alloc
 fn put_close(out: &mut String, close: Option<usize>) -> Result<(), AllocError> {
     match close {
         Some(place) => write!(out, " {place}"),
+        None => out.push_str(" none"),
+    }
+}
+
+fn put_keyword(out: &mut String, keyword: Option<Keyword>) -> Result<(), AllocError> {
+    match keyword {
+        Some(keyword) => write!(out, " {keyword:?}"),
         None => out.push_str(" none"),
     }
 }
