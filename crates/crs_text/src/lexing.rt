@@ -142,6 +142,7 @@ fn closed(left: &[u8], length: usize) -> Lexed
 }
 
 // The run that begins what is left: a number, or what it is refused for.
+#[inline(always)]
 fn run(left: &[u8]) -> Lexed
     requires { BeginsWith spelling.is_run_start left.now }
     ensures { IsLexed left.now result }
@@ -154,6 +155,7 @@ fn run(left: &[u8]) -> Lexed
     }
 }
 
+#[inline(always)]
 fn single_word(left: &[u8]) -> Lexed
     requires { BeginsWith tokens.is_letter left.now }
     ensures { IsLexed left.now result }
@@ -163,6 +165,7 @@ fn single_word(left: &[u8]) -> Lexed
 }
 
 /// The token or the flaw that begins what is left, which begins with no white space.
+#[inline(always)]
 pub(crate) fn token_at(left: &[u8]) -> Lexed
     requires { 0 < length left.now }
     ensures { IsLexed left.now result }

@@ -23,6 +23,7 @@ fn unexpected(at: usize) -> Fault
 }
 
 // A number, text or word of `size` bytes, which has these raw bytes.
+#[inline(always)]
 fn take_single(
     table: &mut Table,
     text: &[u8],
@@ -41,6 +42,7 @@ fn take_single(
     }
 }
 
+#[inline(always)]
 fn take_comma(table: &mut Table, text: &[u8], at: usize) -> Result<usize, Fault>
     requires within { at < length text.now }
     requires forms { Forms (length text.now) comma (drop at text.now) (drop (at + 1) text.now) }
@@ -53,6 +55,7 @@ fn take_comma(table: &mut Table, text: &[u8], at: usize) -> Result<usize, Fault>
     }
 }
 
+#[inline(always)]
 fn take_closing(table: &mut Table, text: &[u8], at: usize, square: bool) -> Result<usize, Fault>
     requires within { at < length text.now }
     requires forms { Forms (length text.now) (closing at square) (drop at text.now) (drop (at + 1) text.now) }
@@ -65,6 +68,7 @@ fn take_closing(table: &mut Table, text: &[u8], at: usize, square: bool) -> Resu
     }
 }
 
+#[inline(always)]
 fn take_opening(table: &mut Table, text: &[u8], at: usize, square: bool) -> Result<usize, Fault>
     requires within { at < length text.now }
     requires forms { Forms (length text.now) (opening square) (drop at text.now) (drop (at + 1) text.now) }
@@ -86,6 +90,7 @@ fn flawed(text: &[u8], at: usize, reason: Reason, skip: usize) -> Fault
 }
 
 /// What begins at this place: how many bytes it has, if it is a token that the table takes.
+#[inline(always)]
 pub(crate) fn take_lexed(
     table: &mut Table,
     text: &[u8],
@@ -117,6 +122,7 @@ pub(crate) fn take_lexed(
 }
 
 // The token at this place: how many bytes it has, if the table takes it.
+#[inline(always)]
 fn take_token(table: &mut Table, text: &[u8], at: usize) -> Result<usize, Fault>
     requires { at < length text.now }
     ensures { MatchResult result (IsTaken text.now at table.old table.new) (IsStoppedBy text.now at table.old) }
@@ -125,6 +131,7 @@ fn take_token(table: &mut Table, text: &[u8], at: usize) -> Result<usize, Fault>
 }
 
 /// Where the white space that begins at `end` has an end.
+#[inline(always)]
 pub(crate) fn after_white(text: &[u8], end: usize) -> usize
     requires { end ≤ length text.now }
     ensures { result ≡ end + prefix_len is_white (drop end text.now) }
@@ -133,6 +140,7 @@ pub(crate) fn after_white(text: &[u8], end: usize) -> usize
 }
 
 /// Takes the token at this place and the white space behind it.
+#[inline(always)]
 pub(crate) fn advance(table: &mut Table, text: &[u8], at: usize) -> Result<usize, Fault>
     requires more { at < length text.now }
     requires reached { IsReached text.now table.old at }

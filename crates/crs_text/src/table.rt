@@ -143,6 +143,7 @@ impl Table {
 
     // One argument more in the last opened node.
     #[tactic(auto, using(crate::proofs::TableLemmas::held_rules))]
+    #[inline(always)]
     fn count_argument(&mut self)
         requires { AreRoomy (length self.old.rows) (counted self.old.opens) }
         ensures { self.new ≡ counted_in self.old }
@@ -158,6 +159,7 @@ impl Table {
 
     // A number, text or word that is allowed.
     #[tactic(auto, using(crate::proofs::TableLemmas::held_rules))]
+    #[inline(always)]
     fn begin(&mut self, kind: ItemKind, place: usize, raw: &[u8]) -> Result<(), AllocError>
         requires { may_begin self.old.position self.old.opens kind ≡ true }
         ensures ok { OnOk result (self.new ≡ with_leaf self.old kind place raw.now) }
@@ -180,6 +182,7 @@ impl Table {
     }
 
     /// A number, text or word: whether it is allowed, and then its row is there.
+    #[inline(always)]
     pub(crate) fn single(
         &mut self,
         kind: ItemKind,
@@ -206,6 +209,7 @@ impl Table {
     }
 
     /// A comma: whether it is allowed.
+    #[inline(always)]
     pub(crate) fn comma(&mut self) -> bool
         ensures { IsStep (flat_comma self.old) result self.old self.new }
     {
@@ -218,6 +222,7 @@ impl Table {
 
     // The last word becomes a node.
     #[tactic(auto, using(crate::proofs::TableLemmas::held_rules))]
+    #[inline(always)]
     fn open_last(&mut self, square: bool)
         requires word { self.old.position ≡ AfterWord }
         requires room { length self.old.opens < 12 }
@@ -241,6 +246,7 @@ impl Table {
 
     /// An opening delimiter.
     #[tactic(auto, using(crate::proofs::TableLemmas::held_rules))]
+    #[inline(always)]
     pub(crate) fn open(&mut self, square: bool) -> Opened
         ensures { IsOpened self.old square result self.new }
     {
@@ -261,6 +267,7 @@ impl Table {
     }
 
     // The last opened node is complete.
+    #[inline(always)]
     fn close_last(&mut self, place: usize)
         requires { may_go_on self.old.position self.old.opens ≡ true }
         ensures { self.new ≡ with_close self.old place }
@@ -279,6 +286,7 @@ impl Table {
     }
 
     /// A closing delimiter at this place: whether it is allowed, and then its node's row is complete.
+    #[inline(always)]
     pub(crate) fn close(&mut self, place: usize, square: bool) -> bool
         ensures { IsStep (flat_close self.old place square) result self.old self.new }
     {
