@@ -10,14 +10,14 @@ mod tally;
 mod timing;
 
 use anyhow::{Context, Result, ensure};
-use catalogue::texts_of;
+use catalogue::{front_of, texts_of};
 use entry::{Entry, entries_of};
 use stage::{STAGES, Stage};
 use std::io::Read;
 use std::{env, io};
 use timing::timed;
 
-// Catalogues of so many of the first texts are grouped too, so that the time of a line can be compared.
+// A stage whose time may grow with the catalogue is run over so many of the first texts, too.
 const SMALLER: [usize; 3] = [10_000, 100_000, 1_000_000];
 
 fn main(rt: HostRuntime) -> Result<()> {
@@ -27,7 +27,7 @@ fn main(rt: HostRuntime) -> Result<()> {
     rt.stdin().read_to_end(&mut bytes)?;
     let texts = texts_of(rt.alloc(), &bytes)?;
     for stage in &stages {
-        report(&rt, *stage, rounds, &texts)?;
+        report(&rt, *stage, rounds, &texts, &bytes)?;
     }
     Ok(())
 }
@@ -56,20 +56,39 @@ fn stages(rt: &HostRuntime) -> Result<Vec<Stage>> {
     Ok(stages)
 }
 
-fn report(rt: &HostRuntime, stage: Stage, rounds: u32, texts: &[&[u8]]) -> io::Result<()> {
+fn report(
+    rt: &HostRuntime,
+    stage: Stage,
+    rounds: u32,
+    texts: &[&[u8]],
+    bytes: &[u8],
+) -> io::Result<()> {
     let entries = entries_of(rt.alloc(), stage, texts)?;
-    if matches!(stage, Stage::Group) {
+    if stage.grows() {
         for smaller in SMALLER {
-            if let Some(first) = entries.get(..smaller) {
-                report_of(rt, stage, rounds, first)?;
+            match entries.get(..smaller) {
+                Some(first) if first.len() < entries.len() => report_of(
+                    rt,
+                    stage,
+                    rounds,
+                    first,
+                    front_of(bytes, smaller),
+                )?,
+                _ => {}
             }
         }
     }
-    report_of(rt, stage, rounds, &entries)
+    report_of(rt, stage, rounds, &entries, bytes)
 }
 
-fn report_of(rt: &HostRuntime, stage: Stage, rounds: u32, entries: &[Entry<'_>]) -> io::Result<()> {
-    let timing = timed(rt, stage, rounds, entries)?;
+fn report_of(
+    rt: &HostRuntime,
+    stage: Stage,
+    rounds: u32,
+    entries: &[Entry<'_>],
+    lines: &[u8],
+) -> io::Result<()> {
+    let timing = timed(rt, stage, rounds, entries, lines)?;
     let name = stage.name();
     let tally = timing.tally();
     let count = tally.counted();

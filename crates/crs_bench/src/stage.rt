@@ -1,14 +1,16 @@
 //! The stages from a text to its canonical spelling, as they are called from outside.
 
+use crate::catalogue::{Bytes, Counted};
 use crate::entry::{Entry, accepted};
 use crate::tally::Outcome;
 use crs_canon::canon_of;
-use crs_group::{Catalogue, Placed};
+use crs_group::{Catalogue, Placed, RunFault, Sink, Source, Summary, run_group};
 use crs_same::same;
 use crs_shape::fit_root;
 use crs_text::{Fault, Feeder, Items, read_items};
 use crs_value::{Crs, Level, judge, read, value_of};
 use std::alloc::{AllocError, Global};
+use std::io;
 
 /// A stage by itself: what it is given was made before. A further one is a variant here, its place in `STAGES`, a
 /// name, what it is given, and an arm in `outcome`.
@@ -32,10 +34,12 @@ pub enum Stage {
     Canon,
     /// From the text: its group among those of the texts before it.
     Group,
+    /// From the lines of all texts: what the command writes of them.
+    Run,
 }
 
 /// All stages, in the order in which they are run.
-pub const STAGES: [Stage; 11] = [
+pub const STAGES: [Stage; 12] = [
     Stage::Items,
     Stage::Feed(1),
     Stage::Feed(16),
@@ -47,6 +51,7 @@ pub const STAGES: [Stage; 11] = [
     Stage::Same,
     Stage::Canon,
     Stage::Group,
+    Stage::Run,
 ];
 
 impl Stage {
@@ -69,6 +74,7 @@ impl Stage {
             Stage::Same => "same",
             Stage::Canon => "canon",
             Stage::Group => "group",
+            Stage::Run => "run-group",
         }
     }
 
@@ -79,12 +85,17 @@ impl Stage {
             Stage::Read => "CRSs",
             Stage::Same => "same",
             Stage::Canon => "bytes",
-            Stage::Group => "groups",
+            Stage::Group | Stage::Run => "groups",
         }
     }
 
+    /// Whether it is reported of the first texts alone, too: its time may grow with the catalogue.
+    pub fn grows(self) -> bool {
+        matches!(self, Stage::Group | Stage::Run)
+    }
+
     /// What the stage makes of a text that stands before another one, and behind those of a catalogue. `Group` alone
-    /// changes the catalogue.
+    /// changes the catalogue. (`Run` is run over all lines at once, by `grouped`.)
     pub fn outcome<'t>(
         self,
         alloc: Global,
@@ -101,7 +112,7 @@ impl Stage {
             Stage::Read => whole(alloc, entry.text),
             Stage::Same => Ok(compared(entry, next)),
             Stage::Canon => canonical(alloc, entry),
-            Stage::Group => placed(before, entry.text),
+            Stage::Group | Stage::Run => placed(before, entry.text),
         }
     }
 }
@@ -206,5 +217,16 @@ fn placed(before: &mut Catalogue, text: &[u8]) -> Result<Outcome, AllocError> {
         Placed::Blank | Placed::Group(_) => {
             Ok(Outcome::Accepted(before.groups().saturating_sub(groups)))
         }
+    }
+}
+
+/// What the command makes of lines, as they are read and written.
+pub fn grouped(alloc: Global, lines: &[u8]) -> io::Result<Summary> {
+    let mut source = Source::new(Bytes { left: lines });
+    let mut sink = Sink::new(Counted { bytes: 0 });
+    match run_group(alloc, Level::Full, &mut source, &mut sink) {
+        Ok(summary) => Ok(summary),
+        Err(RunFault::Memory) => Err(io::Error::from(io::ErrorKind::OutOfMemory)),
+        Err(_) => Err(io::Error::from(io::ErrorKind::InvalidData)),
     }
 }

@@ -37,6 +37,12 @@ impl Tally {
         }
     }
 
+    /// So many counted, and so many refused, over all texts.
+    pub fn set(&mut self, counted: u64, refused: u64) {
+        self.counted = counted;
+        self.refused = refused;
+    }
+
     /// How many texts.
     pub fn texts(&self) -> u64 {
         self.texts
