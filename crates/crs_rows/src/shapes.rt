@@ -142,8 +142,8 @@ fn put_shape(out: &mut String, fitted: Result<(), Refusal>) -> Result<(), AllocE
     }
 }
 
-/// The classes of the arguments of a text's node in the class that the keywords of the line before it lead to, `none` for
-/// an argument that has none there; or the text's refusal.
+/// The classes of the arguments of a text's node in the class that the keywords of the line before it lead to, `none`
+/// for an argument that has none there; or the text's refusal.
 pub fn put_classes(out: &mut String, alloc: Global, input: &[u8]) -> Result<(), AllocError> {
     let (path, text) = split_line(input);
     match (class_at(path), read_items(alloc, text)) {
