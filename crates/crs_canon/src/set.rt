@@ -9,6 +9,10 @@ use crs_value::Level;
 use std::alloc::{AllocError, Global};
 use std::collections::BTreeSet;
 
+/// The room that a member's spelling is given at first, which most don't exceed: a vector that grows from nothing is
+/// copied five times on its way there.
+pub(crate) const MEMBER_ROOM: usize = 128;
+
 // A value that may be a member of a set.
 pub(crate) trait Spell: Sized {
     ghost spelling: { Level → Self → List ℕ };
@@ -35,7 +39,7 @@ fn gather<T: Spell>(
     ensures { OnOk result (spellings sorted.new.keys
         ≡ put (λ b. b) (T.spelling level member.now) (spellings sorted.old.keys)) }
 {
-    let mut bytes = Vec::new(alloc);
+    let mut bytes = Vec::with_capacity(alloc, MEMBER_ROOM)?;
     member.write(&mut bytes, level)?;
     sorted.insert(bytes)?;
     Ok(())

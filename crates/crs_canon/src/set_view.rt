@@ -10,7 +10,7 @@ ghost use Rattle.crs_canon.specs.SetText.{HaveOneTextWhereSame, IsSetText};
 
 use crate::canonical::Canonical;
 use crate::laws::set_texts_are_equal_where_same;
-use crate::set::write_sorted;
+use crate::set::{MEMBER_ROOM, write_sorted};
 use crs_normal::laws::sets::texts_are_in_order;
 use crs_value::Level;
 use std::alloc::{AllocError, Global};
@@ -125,7 +125,7 @@ fn gather<T: Canonical>(
     ensures { OnOk result (spellings sorted.new.keys
         ≡ put (λ b. b) (T.spelling level member.now) (spellings sorted.old.keys)) }
 {
-    let mut bytes = Vec::new(alloc);
+    let mut bytes = Vec::with_capacity(alloc, MEMBER_ROOM)?;
     member.write(alloc, level, &mut bytes)?;
     sorted.insert(bytes)?;
     Ok(())

@@ -243,9 +243,6 @@ pub taken_some : (text : List ℕ) (at n : ℕ) (before behind : Flat) → IsTak
 taken_some text at n before behind t =
     omega (arith, forms_shorter (length text) t.token (drop at text) (drop (at + n) text) t.forms, length-drop at text, length-drop (at + n) text)
 
-pub white_fits : (text : List ℕ) (end w : ℕ) → end ≤ length text → w ≡ prefix_len is_white (drop end text) → end + w ≤ length text
-white_fits text end w le e = omega (arith, prefix_len-le-length is_white (drop end text), length-drop end text, e)
-
 pub fault_of_stop : (bytes : List ℕ) (at : ℕ) (table : Flat) (fault : Fault) → IsReached bytes table at → IsStoppedBy bytes at table fault → IsTextFault bytes fault
 fault_of_stop bytes at table (faults.Refused r) reached s = refused_at bytes at table r reached s
 fault_of_stop bytes at table (faults.Memory e) reached s = tt

@@ -11,7 +11,9 @@ use std::simd::prelude::*;
 /// How many bytes are loaded at once.
 const LANES: usize = 16;
 
-fn is_white(byte: u8) -> bool
+/// Whether a byte is white space.
+#[inline(always)]
+pub(crate) fn is_white(byte: u8) -> bool
     ensures { result ≡ tokens.is_white byte }
 {
     byte == b' ' || byte == b'\t' || byte == b'\n' || byte == b'\r'

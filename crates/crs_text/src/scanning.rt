@@ -13,7 +13,7 @@ use crate::fault::Fault;
 use crate::items::ItemKind;
 use crate::lexing::{Lexed, front_of, rest_of, token_at};
 use crate::refusal::Reason;
-use crate::runs::white_length;
+use crate::runs::{is_white, white_length};
 use crate::table::{Opened, Table};
 
 fn unexpected(at: usize) -> Fault
@@ -136,7 +136,14 @@ pub(crate) fn after_white(text: &[u8], end: usize) -> usize
     requires { end ≤ length text.now }
     ensures { result ≡ end + prefix_len is_white (drop end text.now) }
 {
-    end + white_length(rest_of(text, end))
+    let mut at = end;
+    while at < text.len() {
+        if !is_white(text[at]) {
+            return at;
+        }
+        at += 1;
+    }
+    at
 }
 
 /// Takes the token at this place and the white space behind it.

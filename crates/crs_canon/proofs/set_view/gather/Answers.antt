@@ -3,5 +3,5 @@ use Rattle.crs_canon.proofs.set_view.gather.Goals as goal
 
 pub returns : goal.returns
 returns g c =
-    gathered c.args.sorted.now.keys c.insert.new.self.keys c.write.new.out c.new-bytes.result.items
-    (g.T.Canonical.spelling c.args.level c.args.member.now) c.in_ok-insert.ensures.keys c.new-bytes.ensures.items c.in_ok-write.ensures
+    gathered c.args.sorted.now.keys c.insert.new.self.keys c.write.new.out c.in_ok-bytes.bytes.items
+    (g.T.Canonical.spelling c.args.level c.args.member.now) c.in_ok-insert.ensures.keys c.in_ok-bytes.ensures.items c.in_ok-write.ensures
