@@ -165,12 +165,17 @@ leaf-least : (least : Option RefusedAt) → least ≡ lesser least None
 leaf-least None = refl
 leaf-least (Some fault) = refl
 
+-- an argument of a class whose items break nothing
+pub breaking-quiet : (tree : Item) (c : Class) (item : Item) (least : Option RefusedAt) (id : ℕ) (named : Class) (at : Option ℕ) → Breaking tree c item least (Some id) →
+    class_in c (item_at tree id) ≡ Some named → IsLeast (Breaks named (item_at tree id)) None → IsAt tree (rest_of (here tree id)) at → Breaking tree c item least at
+breaking-quiet tree c item least id named at so is none is_at = breaking-on tree c item least None least id named at so is none (leaf-least least) is_at
+
 -- an argument that is no node breaks nothing
 pub breaking-past : (tree : Item) (c : Class) (item : Item) (least : Option RefusedAt) (id : ℕ) (at : Option ℕ) → Breaking tree c item least (Some id) →
     (kind_of (item_at tree id) ≡ kinds.Node → ⊥) → IsAt tree (rest_of (here tree id)) at → Breaking tree c item least at
 breaking-past tree c item least id at so other is_at =
     let h = argument-class c so.classes (here tree id) so.holds so.shaped in
-    breaking-on tree c item least None least id h.0 at so h.1.1.0 (leaf-unbroken h.0 (item_at tree id) other) (leaf-least least) is_at
+    breaking-quiet tree c item least id h.0 at so h.1.1.0 (leaf-unbroken h.0 (item_at tree id) other) is_at
 
 pub breaking-less : (tree : Item) (id : ℕ) (at : Option ℕ) → HasId tree id → IsAt tree (rest_of (here tree id)) at → sizes (ahead tree at) < sizes (here tree id)
 breaking-less tree id at has is_at =

@@ -19,6 +19,7 @@ pub mod OneLemmas
 pub mod OrderLemmas
 pub mod OwnLemmas
 pub mod PlaceLemmas
+pub mod QuietLemmas
 pub mod ReadyLemmas
 pub mod SignLemmas
 pub mod SomeCrsLemmas

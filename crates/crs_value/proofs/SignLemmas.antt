@@ -1,14 +1,16 @@
--- What the first byte of a number's spelling tells of its sign.
-use Rattle.std.proofs.Common.{◌≡◌, ◌≢◌, ℕ, zero, suc, ◌+◌, ◌-◌, ◌*◌, ◌^◌, ◌<◌, ◌≤◌, ◌&&◌, Bool, true, false, inl, inr, ◌⊎◌, Option, Some, None, List, [], ◌∷◌, ◌++◌, fold, refl, sym, ◌∙◌, ap, subst, arith, ◌||◌, ◌==◌}
+-- What the first bytes of a number's spelling tell of its sign.
+use Rattle.std.proofs.Common.{◌≡◌, ◌≢◌, ℕ, zero, suc, ◌+◌, ◌-◌, ◌*◌, ◌^◌, ◌<◌, ◌≤◌, ◌&&◌, cond, Bool, true, false, inl, inr, ◌⊎◌, Option, Some, None, List, [], ◌∷◌, ◌++◌, fold, refl, sym, ◌∙◌, ap, subst, append_assoc, arith, ◌||◌, ◌==◌}
+use Rattle.std.specs.List.{find}
 use Rattle.std.proofs.Math.Nat.{mul_assoc, pow-suc}
 use Rattle.std.proofs.lemmas.Bool.Decides.{nat_tests}
+use Rattle.std.proofs.lemmas.List.Sums.{fold-append}
 use Rattle.crs_decimal.specs.Bounds.{number_of, is_minus, digits_value}
-use Rattle.crs_decimal.specs.Spelling.{Sign, unsigned, plus, minus, Exponent, sign_text, fraction_text, fraction_digits, exponent_text, mantissa, IsExponent}
+use Rattle.crs_decimal.specs.Spelling.{Sign, unsigned, plus, minus, Exponent, sign_text, fraction_text, fraction_digits, exponent_text, text, mantissa, IsExponent}
 use Rattle.crs_decimal.specs.Value.{Value, IsNormal, is_normal, is_power, exact}
 use Rattle.crs_text.specs.Items.{Item, raw_of}
 use Rattle.crs_value.specs.BadValue.{IsAboveZero, NotAbove, IsNegative}
 use Rattle.crs_value.specs.Break.{IsLeast}
-use Rattle.crs_value.specs.FirstByte.{first_byte}
+use Rattle.crs_value.specs.FirstByte.{first_byte, is_telling}
 use Rattle.crs_value.specs.Reads.{ReadsNumber}
 
 sign-by : (s : Sign) (whole fraction exponent : List ℕ) (b : ℕ) → b ≡ first_byte (sign_text s ++ whole ++ fraction ++ exponent) → (b ≡ 45 → ⊥) → is_minus s ≡ false
@@ -41,25 +43,69 @@ below-sure item b e other = λ f h. wrong h.1.0 h.1.1.0 h.1.1.1
 
 -- ---- a first digit that isn't 0
 
+some-byte : {a b : ℕ} → Some a ≡ Some b → a ≡ b
+some-byte e = ap from e
+  where
+    from : Option ℕ → ℕ
+    from None = 0
+    from (Some n) = n
+
 fold-some : (ds : List ℕ) (n : ℕ) → 0 < n → 0 < fold (λ m d. m * 10 + (d - 48)) n ds
 fold-some [] n some = some
 fold-some (d ∷ ds) n some = fold-some ds (n * 10 + (d - 48)) (omega (arith, some))
 
+-- digits, and what stands behind them: the first byte that tells is a digit that isn't 0, or stands behind
+telling-in : (ds rest : List ℕ) (b : ℕ) → find is_telling (ds ++ rest) ≡ Some b → 49 ≤ b → ((n : ℕ) → 0 < fold (λ m d. m * 10 + (d - 48)) n ds) ⊎ (find is_telling rest ≡ Some b)
+telling-in [] rest b e low = inr e
+telling-in (d ∷ ds) rest b e low =
+    elim (is_telling d) as (λ t. cond t (Some d) (find is_telling (ds ++ rest)) ≡ Some b →
+    ((n : ℕ) → 0 < fold (λ m x. m * 10 + (x - 48)) n (d ∷ ds)) ⊎ (find is_telling rest ≡ Some b)) [
+      | true ↦ λ same. inl (λ n. fold-some ds (n * 10 + (d - 48)) (let k : d ≡ b = some-byte same in omega (arith, low, k)))
+      | false ↦ λ later. more (telling-in ds rest b later low)
+    ] e
+  where
+    more : ((n : ℕ) → 0 < fold (λ m x. m * 10 + (x - 48)) n ds) ⊎ (find is_telling rest ≡ Some b) →
+        ((n : ℕ) → 0 < fold (λ m x. m * 10 + (x - 48)) n (d ∷ ds)) ⊎ (find is_telling rest ≡ Some b)
+    more (inl h) = inl (λ n. h (n * 10 + (d - 48)))
+    more (inr k) = inr k
+
 letter-high : (l : ℕ) → (l == 69 || l == 101) ≡ true → 58 ≤ l
 letter-high l e = grind (arith, nat_tests)
 
-whole-begins : (whole : List ℕ) (fraction : Option (List ℕ)) (exponent : Option Exponent) (b : ℕ) → b ≡ first_byte (whole ++ fraction_text fraction ++ exponent_text exponent) →
-    49 ≤ b → b ≤ 57 → IsExponent exponent → (more : List ℕ) × (whole ≡ b ∷ more)
-whole-begins [] None None b e low high is = let z : b ≡ 0 = e in absurd (omega (arith, z, low))
-whole-begins [] None (Some x) b e low high is = let z : b ≡ x.letter = e in let k = letter-high x.letter is.0 in absurd (omega (arith, z, high, k))
-whole-begins [] (Some ds) exponent b e low high is = let z : b ≡ 46 = e in absurd (omega (arith, z, low))
-whole-begins (w ∷ ws) fraction exponent b e low high is = (ws, ap (λ x. x ∷ ws) (sym e))
+letter-tells : (l : ℕ) → (l == 69 || l == 101) ≡ true → is_telling l ≡ true
+letter-tells l e = grind (arith, nat_tests)
 
-no-sign : (s : Sign) (whole fraction exponent : List ℕ) (b : ℕ) → b ≡ first_byte (sign_text s ++ whole ++ fraction ++ exponent) → 49 ≤ b →
-    b ≡ first_byte (whole ++ fraction ++ exponent)
-no-sign unsigned whole fraction exponent b e low = e
-no-sign plus whole fraction exponent b e low = let z : b ≡ 43 = e in absurd (omega (arith, z, low))
-no-sign minus whole fraction exponent b e low = let z : b ≡ 45 = e in absurd (omega (arith, z, low))
+telling-letter : (x : Option Exponent) (b : ℕ) → IsExponent x → find is_telling (exponent_text x) ≡ Some b → b ≤ 57 → ⊥
+telling-letter None b is e high = cc
+telling-letter (Some x) b is e high =
+    let at : cond (is_telling x.letter) (Some x.letter) (find is_telling (sign_text x.sign ++ x.digits)) ≡ Some b = e in
+    let k : x.letter ≡ b = some-byte (rw (letter-tells x.letter is.0) at at) in
+    omega (arith, high, k, letter-high x.letter is.0)
+
+telling-fraction : (fraction : Option (List ℕ)) (x : Option Exponent) (n b : ℕ) → IsExponent x → find is_telling (fraction_text fraction ++ exponent_text x) ≡ Some b → 49 ≤ b →
+    b ≤ 57 → 0 < fold (λ m d. m * 10 + (d - 48)) n (fraction_digits fraction)
+telling-fraction None x n b is e low high = absurd (telling-letter x b is e high)
+telling-fraction (Some ds) x n b is e low high = by (telling-in ds (exponent_text x) b e low)
+  where
+    by : ((k : ℕ) → 0 < fold (λ m d. m * 10 + (d - 48)) k ds) ⊎ (find is_telling (exponent_text x) ≡ Some b) → 0 < fold (λ m d. m * 10 + (d - 48)) n ds
+    by (inl h) = h n
+    by (inr k) = absurd (telling-letter x b is k high)
+
+telling-mantissa : (whole : List ℕ) (fraction : Option (List ℕ)) (x : Option Exponent) (b : ℕ) → IsExponent x →
+    find is_telling (whole ++ (fraction_text fraction ++ exponent_text x)) ≡ Some b → 49 ≤ b → b ≤ 57 → 0 < digits_value (whole ++ fraction_digits fraction)
+telling-mantissa whole fraction x b is e low high =
+    subst (λ v. 0 < v) (sym (fold-append (λ m d. m * 10 + (d - 48)) 0 whole (fraction_digits fraction)))
+    (by (telling-in whole (fraction_text fraction ++ exponent_text x) b e low))
+  where
+    by : ((k : ℕ) → 0 < fold (λ m d. m * 10 + (d - 48)) k whole) ⊎ (find is_telling (fraction_text fraction ++ exponent_text x) ≡ Some b) →
+        0 < fold (λ m d. m * 10 + (d - 48)) (digits_value whole) (fraction_digits fraction)
+    by (inl h) = fold-some (fraction_digits fraction) (digits_value whole) (h 0)
+    by (inr k) = telling-fraction fraction x (digits_value whole) b is k low high
+
+telling-sign : (s : Sign) (rest : List ℕ) (b : ℕ) → find is_telling (sign_text s ++ rest) ≡ Some b → 49 ≤ b → (is_minus s ≡ false) × (find is_telling rest ≡ Some b)
+telling-sign unsigned rest b e low = (refl, e)
+telling-sign plus rest b e low = (refl, e)
+telling-sign minus rest b e low = let k : 45 ≡ b = some-byte e in absurd (omega (arith, low, k))
 
 ten-some : (k : ℕ) (m : ℕ) → 0 < m → 0 < m * 10 ^ k
 ten-some zero m some = omega (arith, some)
@@ -68,28 +114,24 @@ ten-some (suc k) m some =
     let e : m * 10 ^ suc k ≡ m * 10 ^ k * 10 = ap (λ p. m * p) (pow-suc 10 k) ∙ sym (mul_assoc m (10 ^ k) 10) in
     omega (arith, h, e)
 
-pub above-sure : (item : Item) (b : ℕ) → b ≡ first_byte (raw_of item) → (49 ≤ b) × (b ≤ 57) → IsLeast (NotAbove item) None
+pub above-sure : (item : Item) (b : ℕ) → find is_telling (raw_of item) ≡ Some b → (49 ≤ b) × (b ≤ 57) → IsLeast (NotAbove item) None
 above-sure item b e within = λ f h. h.1.1.1 (above h.1.0 h.1.1.0)
   where
     above : (v : Value) → ReadsNumber item v → IsAboveZero v
     above v (normal, (p, spells, bounded, same)) = (sign same.1, size)
       where
-        other : b ≡ 45 → ⊥
-        other z = omega (arith, z, within.0)
+        in_turn : text p ≡ sign_text p.sign ++ (p.whole ++ (fraction_text p.fraction ++ exponent_text p.exponent))
+        in_turn =
+            append_assoc (sign_text p.sign ++ p.whole) (fraction_text p.fraction) (exponent_text p.exponent)
+            ∙ append_assoc (sign_text p.sign) p.whole (fraction_text p.fraction ++ exponent_text p.exponent)
 
-        unsigned-is : is_minus p.sign ≡ false
-        unsigned-is = sign-by p.sign p.whole (fraction_text p.fraction) (exponent_text p.exponent) b (e ∙ ap first_byte spells.0) other
-
-        begins : (more : List ℕ) × (p.whole ≡ b ∷ more)
-        begins =
-            whole-begins p.whole p.fraction p.exponent b
-            (no-sign p.sign p.whole (fraction_text p.fraction) (exponent_text p.exponent) b (e ∙ ap first_byte spells.0) within.0) within.0 within.1 spells.1.exponent
+        behind : (is_minus p.sign ≡ false) × (find is_telling (p.whole ++ (fraction_text p.fraction ++ exponent_text p.exponent)) ≡ Some b)
+        behind =
+            telling-sign p.sign (p.whole ++ (fraction_text p.fraction ++ exponent_text p.exponent)) b
+            (sym (ap (find is_telling) (spells.0 ∙ in_turn)) ∙ e) within.0
 
         some : 0 < digits_value (mantissa p)
-        some =
-            let P : List ℕ → Type 0 = λ w. 0 < digits_value (w ++ fraction_digits p.fraction) in
-            let first : 0 < 0 * 10 + (b - 48) = omega (arith, within.0) in
-            subst P (sym begins.1) (fold-some (begins.0 ++ fraction_digits p.fraction) (0 * 10 + (b - 48)) first)
+        some = telling-mantissa p.whole p.fraction p.exponent b spells.1.exponent behind.1 within.0 within.1
 
         size : v.digits ≢ 0
         size none =
@@ -100,5 +142,5 @@ above-sure item b e within = λ f h. h.1.1.1 (above h.1.0 h.1.1.0)
             omega (arith, l, z)
 
         sign : (is_minus p.sign ≡ v.negative) ⊎ ((digits_value (mantissa p) ≡ 0) × (v.digits ≡ 0)) → v.negative ≡ false
-        sign (inl h) = sym h ∙ unsigned-is
+        sign (inl h) = sym h ∙ behind.0
         sign (inr h) = absurd (omega (arith, h.0, some))

@@ -1,6 +1,6 @@
 //! The checks that a node breaks by itself, and with what stands in it.
-ghost use Rattle.std.specs.Prelude.{◌↔◌, ◌⊎◌, IsTrue};
-ghost use Rattle.crs_text.specs.Items.{HasId, arguments};
+ghost use Rattle.std.specs.Prelude.{◌↔◌, ◌⊎◌, IsTrue, None};
+ghost use Rattle.crs_text.specs.Items.{Item, HasId, arguments};
 ghost use Rattle.crs_shape.specs.Shaped.{Shaped};
 ghost use Rattle.crs_value.specs.Break.{IsLeast};
 ghost use Rattle.crs_value.specs.Checks.{HasSystem, OfEllipsoid, Own, Breaks, BreaksAmong};
@@ -79,6 +79,28 @@ fn own(items: &Items<'_>, id: ItemId, class: Class, inside: Option<Refusal>) -> 
     lesser(inside, own_of_part(items, id, class))
 }
 
+// Whether an item of this class breaks no check, whatever stands in it: then it needn't be walked through.
+fn breaks_nothing(class: Class) -> bool
+    ensures { IsTrue result → ((item : Item) → IsLeast (Breaks class item) None) }
+{
+    matches!(
+        class,
+        Class::Member
+            | Class::EnsembleAccuracy
+            | Class::Anchor
+            | Class::Order
+            | Class::Method
+            | Class::GeoidModel
+            | Class::Scope
+            | Class::Area
+            | Class::BoundingBox
+            | Class::Identifier
+            | Class::Citation
+            | Class::Uri
+            | Class::Remark
+    )
+}
+
 // The first check that an item of this class breaks.
 pub(crate) fn first_break(items: &Items<'_>, id: ItemId, class: Class) -> Option<Refusal>
     requires has { HasId items.now id }
@@ -97,7 +119,9 @@ pub(crate) fn first_break(items: &Items<'_>, id: ItemId, class: Class) -> Option
             let Some(named) = class_in(items, argument, class) else {
                 unreachable!()
             };
-            inside = lesser(inside, first_break(items, argument, named));
+            if !breaks_nothing(named) {
+                inside = lesser(inside, first_break(items, argument, named));
+            }
         }
         next = items.next(argument);
     }

@@ -1,9 +1,10 @@
 //! The checks of words, of numbers, and of parts that may stand once.
 ghost use Rattle.std.specs.Prelude.{◌≡◌, ◌≤◌, ◌≢◌, IsTrue, ◌↔◌, None};
+ghost use Rattle.std.specs.List.{find};
 ghost use Rattle.crs_text.specs.Items.{HasId};
 ghost use Rattle.crs_value.specs.BadValue.{IsAboveZero, NotAbove, IsNegative};
 ghost use Rattle.crs_value.specs.Break.{IsLeast};
-ghost use Rattle.crs_value.specs.FirstByte.{first_byte};
+ghost use Rattle.crs_value.specs.FirstByte.{first_byte, is_telling};
 ghost use Rattle.crs_value.specs.Reading.{item_at};
 
 use crate::checks::{Check, refusal_at};
@@ -30,12 +31,34 @@ fn is_leading(byte: u8) -> bool
     b'1' <= byte && byte <= b'9'
 }
 
-// Whether a number begins with a digit that isn't 0: then it is above zero, and needn't be read.
+fn is_telling(byte: u8) -> bool
+    ensures { result ≡ is_telling byte }
+{
+    byte != b'0' && byte != b'.' && byte != b'+'
+}
+
+// The first byte that tells whether a number is above zero.
+fn first_telling(bytes: &[u8]) -> Option<u8>
+    ensures { result ≡ find is_telling bytes.now }
+{
+    for byte in bytes {
+        if is_telling(*byte) {
+            return Some(*byte);
+        }
+    }
+    None
+}
+
+// Whether a digit that isn't 0 comes first, or behind zeros, a period and a plus alone: then the number is above zero,
+// and needn't be read.
 fn begins_above_zero(items: &Items<'_>, id: ItemId) -> bool
     requires { HasId items.now id }
     ensures { IsTrue result → IsLeast (NotAbove (item_at items.now id)) None }
 {
-    is_leading(first_byte(items.raw(id)))
+    match first_telling(items.raw(id)) {
+        Some(byte) => is_leading(byte),
+        None => false,
+    }
 }
 
 fn is_no_minus(byte: u8) -> bool

@@ -1,0 +1,146 @@
+-- Classes whose items break no check, whatever stands in them.
+use Rattle.std.proofs.Common.{◌≡◌, ℕ, ◌&&◌, Bool, true, false, inl, inr, ◌⊎◌, Option, Some, None, List, [], ◌∷◌, if◌then◌else◌, refl, ◌∙◌, ap, subst}
+use Rattle.std.specs.List.{list_all}
+use Rattle.crs_text.specs.Items.{Item, leaf, node, Siblings, End, More}
+use Rattle.crs_text.specs.Refusal.{RefusedAt}
+use Rattle.crs_text.specs.Tokens.{number, text, word}
+use Rattle.crs_shape.specs.declared.class.Class.{Class}
+use Rattle.crs_shape.specs.declared.class.Class.TheVariants as class
+use Rattle.crs_shape.specs.Keywords.{is_keyword, first_named}
+use Rattle.crs_shape.specs.ShapeFault.{class_in}
+use Rattle.crs_shape.specs.Slots.{SlotParts, slots_of, named_in, class_named}
+use Rattle.crs_value.specs.Checks.{AtClass, Own, Breaks, BreaksAmong}
+
+-- such a class; a number, a text and a word are so too
+abbrev pub is_quiet : Class → Bool
+is_quiet class.Number = true
+is_quiet class.Text = true
+is_quiet class.Word = true
+is_quiet class.Member = true
+is_quiet class.EnsembleAccuracy = true
+is_quiet class.Anchor = true
+is_quiet class.Order = true
+is_quiet class.Method = true
+is_quiet class.GeoidModel = true
+is_quiet class.Scope = true
+is_quiet class.Area = true
+is_quiet class.BoundingBox = true
+is_quiet class.Identifier = true
+is_quiet class.Citation = true
+is_quiet class.Uri = true
+is_quiet class.Remark = true
+is_quiet other = false
+
+abbrev are_quiet : List SlotParts → Bool
+are_quiet slots = list_all (λ slot. list_all is_quiet slot.classes) slots
+
+-- the slots of such a class take such classes alone
+slots-quiet : (c : Class) → is_quiet c ≡ true → are_quiet (slots_of c) ≡ true
+slots-quiet class.Number e = refl
+slots-quiet class.Text e = refl
+slots-quiet class.Word e = refl
+slots-quiet class.Member e = refl
+slots-quiet class.EnsembleAccuracy e = refl
+slots-quiet class.Anchor e = refl
+slots-quiet class.Order e = refl
+slots-quiet class.Method e = refl
+slots-quiet class.GeoidModel e = refl
+slots-quiet class.Scope e = refl
+slots-quiet class.Area e = refl
+slots-quiet class.BoundingBox e = refl
+slots-quiet class.Identifier e = refl
+slots-quiet class.Citation e = refl
+slots-quiet class.Uri e = refl
+slots-quiet class.Remark e = refl
+slots-quiet other e = let k : false ≡ true = e in cc
+
+own-quiet : (c : Class) (item : Item) (f : RefusedAt) → is_quiet c ≡ true → Own c item f → ⊥
+unfolding Own
+own-quiet class.Number item f e h = h
+own-quiet class.Text item f e h = h
+own-quiet class.Word item f e h = h
+own-quiet class.Member item f e h = h
+own-quiet class.EnsembleAccuracy item f e h = h
+own-quiet class.Anchor item f e h = h
+own-quiet class.Order item f e h = h
+own-quiet class.Method item f e h = h
+own-quiet class.GeoidModel item f e h = h
+own-quiet class.Scope item f e h = h
+own-quiet class.Area item f e h = h
+own-quiet class.BoundingBox item f e h = h
+own-quiet class.Identifier item f e h = h
+own-quiet class.Citation item f e h = h
+own-quiet class.Uri item f e h = h
+own-quiet class.Remark item f e h = h
+own-quiet other item f e h = let k : false ≡ true = e in cc
+
+and-both : (a b : Bool) → (a && b) ≡ true → (a ≡ true) × (b ≡ true)
+and-both true b e = (refl, e)
+and-both false b e = cc
+
+some-class : {c d : Class} → Some c ≡ Some d → c ≡ d
+some-class e = cc
+
+first-quiet : (cs : List Class) (name : List ℕ) (d : Class) → list_all is_quiet cs ≡ true → first_named cs name ≡ Some d → is_quiet d ≡ true
+first-quiet [] name d all e = cc
+first-quiet (c ∷ cs) name d all e =
+    let both = and-both (is_quiet c) (list_all is_quiet cs) all in
+    elim (is_keyword c name) as (λ b. (if b then Some c else first_named cs name) ≡ Some d → is_quiet d ≡ true) [
+      | true ↦ λ same. subst (λ x. is_quiet x ≡ true) (some-class same) both.0
+      | false ↦ λ later. first-quiet cs name d both.1 later
+    ] e
+
+named-quiet : (slots : List SlotParts) (name : List ℕ) (d : Class) → are_quiet slots ≡ true → named_in slots name ≡ Some d → is_quiet d ≡ true
+named-quiet [] name d all e = cc
+named-quiet (s ∷ ss) name d all e =
+    let both = and-both (list_all is_quiet s.classes) (are_quiet ss) all in
+    elim (first_named s.classes name) as (λ o. first_named s.classes name ≡ o → is_quiet d ≡ true) [
+      | None ↦ λ f. named-quiet ss name d both.1 (rw f at e)
+      | Some x ↦ λ f. first-quiet s.classes name d both.0 (f ∙ (rw f at e))
+    ] refl
+
+-- what stands in an item of such a class is of such a class
+class-quiet : (c : Class) (item : Item) (d : Class) → is_quiet c ≡ true → class_in c item ≡ Some d → is_quiet d ≡ true
+unfolding class_named
+class-quiet c (leaf number place raw) d quiet e = subst (λ x. is_quiet x ≡ true) (some-class e) refl
+class-quiet c (leaf text place raw) d quiet e = subst (λ x. is_quiet x ≡ true) (some-class e) refl
+class-quiet c (leaf word place raw) d quiet e = subst (λ x. is_quiet x ≡ true) (some-class e) refl
+class-quiet c (node place keyword square first others close) d quiet e = named-quiet (slots_of c) keyword d (slots-quiet c quiet) e
+
+-- a fault of an argument, in a class of which there is none
+at-quiet : (o : Option Class) (P : Class → Type 0) → ((d : Class) → o ≡ Some d → P d → ⊥) → AtClass o P → ⊥
+at-quiet None P none h = h
+at-quiet (Some d) P none h = none d refl h
+
+mutual
+  pub quiet-unbroken : (c : Class) (item : Item) (f : RefusedAt) → is_quiet c ≡ true → Breaks c item f → ⊥
+  quiet-unbroken c (leaf kind place raw) f quiet h = h
+  quiet-unbroken c (node place keyword square first others close) f quiet (inl h) =
+      own-quiet c (node place keyword square first others close) f quiet h
+  quiet-unbroken c (node place keyword square first others close) f quiet (inr (inl h)) =
+      at-quiet (class_in c first) (λ d. Breaks d first f) (λ d is k. quiet-unbroken d first f (class-quiet c first d quiet is) k) h
+  quiet-unbroken c (node place keyword square first others close) f quiet (inr (inr h)) = among-unbroken c others f quiet h
+
+  among-unbroken : (c : Class) (items : Siblings) (f : RefusedAt) → is_quiet c ≡ true → BreaksAmong c items f → ⊥
+  among-unbroken c End f quiet h = h
+  among-unbroken c (More item items) f quiet (inl h) =
+      at-quiet (class_in c item) (λ d. Breaks d item f) (λ d is k. quiet-unbroken d item f (class-quiet c item d quiet is) k) h
+  among-unbroken c (More item items) f quiet (inr h) = among-unbroken c items f quiet h
+
+-- ---- the classes as the program names them
+
+-- one of these classes
+abbrev IsOneOf : Class → Class → List Class → Type 0
+IsOneOf c d [] = c ≡ d
+IsOneOf c d (e ∷ es) = (c ≡ d) ⊎ IsOneOf c e es
+
+pub one-quiet : (c d : Class) (es : List Class) → list_all is_quiet (d ∷ es) ≡ true → IsOneOf c d es → is_quiet c ≡ true
+one-quiet c d [] all is = ap is_quiet is ∙ (and-both (is_quiet d) true all).0
+one-quiet c d (e ∷ es) all (inl is) = ap is_quiet is ∙ (and-both (is_quiet d) (list_all is_quiet (e ∷ es)) all).0
+one-quiet c d (e ∷ es) all (inr is) = one-quiet c e es (and-both (is_quiet d) (list_all is_quiet (e ∷ es)) all).1 is
+
+-- those behind the first
+abbrev pub later_quiet : List Class
+later_quiet =
+    class.EnsembleAccuracy ∷ class.Anchor ∷ class.Order ∷ class.Method ∷ class.GeoidModel ∷ class.Scope ∷ class.Area ∷ class.BoundingBox ∷ class.Identifier
+    ∷ class.Citation ∷ class.Uri ∷ class.Remark ∷ []
