@@ -1,9 +1,9 @@
 -- When two canonical texts are equal, as a test, and that it tells equal ones from others.
-use Rattle.std.specs.Prelude.{◌≡◌, ◌↔◌, ◌&&◌, ℕ, Bool, true, List, nat_eq}
+use Rattle.std.specs.Prelude.{◌≡◌, ◌↔◌, ◌&&◌, ℕ, Bool, true, List, [], ◌∷◌, nat_eq}
 use Rattle.std.proofs.Common.{ap, rules, ◌∙◌}
 use Rattle.std.specs.Cmp.{IsEquivalence, and_equiv, on_equiv, nat_eq_equiv, first_so, second_so}
 use Rattle.std.specs.Cmp.Lexicographic.{bytes_decides, nat_list_eq_equiv, pointwise}
-use Rattle.std.specs.Hash.{HashWrites, slice, u8}
+use Rattle.std.specs.Hash.{HashWrites}
 use denote.Enum.Bare.{sameb, same_true}
 use denote.Enum.Declared.{tag_of}
 use Rattle.crs_value.specs.contracts.level.Level.{the_type}
@@ -13,9 +13,9 @@ use Rattle.crs_canon.specs.Canonical.{CanonicalText}
 abbrev pub canons_equal : CanonicalText → CanonicalText → Bool
 canons_equal a b = sameb the_type a.level b.level && pointwise nat_eq a.bytes b.bytes
 
--- what a canonical text gives to a hash: its bytes
+-- what a canonical text gives to a hash: its bytes, in one write
 abbrev pub canon_writes : CanonicalText → HashWrites
-canon_writes canon = slice u8 canon.bytes
+canon_writes canon = canon.bytes ∷ []
 
 pub canons-equivalence : IsEquivalence canons_equal
 canons-equivalence =

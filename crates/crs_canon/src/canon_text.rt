@@ -71,7 +71,9 @@ impl Hash for Canon {
 
     ghost respects_eq = { canons-hash };
 
+    // The bytes in one write, of which a hasher takes many at a time; a slice writes them one by one.
+    // No end is marked, since no canonical text is the front of another.
     fn hash<H: Hasher>(&self, state: &mut H) {
-        self.bytes().hash(state);
+        state.write(self.bytes());
     }
 }

@@ -6,6 +6,7 @@ pub mod Mantissa
 pub mod Number
 pub mod Plain
 pub mod Short
+pub mod Sign
 pub mod Spelling
 pub mod Split
 pub mod Value

@@ -11,21 +11,30 @@ use std::marker::Model;
 #[derive(Clone, Copy, PartialEq, Eq, Debug)]
 pub struct Decimal {
     digits: u128,
-    power: i32,
-    negative: bool,
+    // As wide as they are so that there is no gap: a struct with gaps is copied by overlapping loads,
+    // which wait for the stores before them.
+    power: i64,
+    // 1 below zero, 0 elsewhere
+    sign: u64,
 }
 
 impl Model for Decimal {
+    ghost use Rattle.std.specs.Prelude.{◌<◌, ◌==◌};
+    ghost use Rattle.std.specs.Int.{from_bool};
     ghost use Rattle.crs_decimal.specs.Value.{IsNormal};
     ghost use Rattle.crs_decimal.specs.Value as value;
+    ghost use Rattle.crs_decimal.specs.Sign.{sign_back};
 
     ghost Value = { value.Value };
 
-    ghost view = { λ d. record { negative = d.negative; digits = d.digits; power = d.power } };
+    ghost view = { λ d. record { negative = d.sign == 1; digits = d.digits; power = d.power } };
 
-    ghost invariant = { λ d. IsNormal (record { negative = d.negative; digits = d.digits; power = d.power }) };
+    ghost invariant = { λ d. (d.sign < 2)
+        × IsNormal (record { negative = d.sign == 1; digits = d.digits; power = d.power }) };
 
-    ghost inverse = { λ v. record { negative = v.negative; digits = v.digits; power = v.power } };
+    ghost inverse = { λ v. record { digits = v.digits; power = v.power; sign = from_bool v.negative } };
+
+    ghost inverse_ok = { λ d h i. record { digits = d.digits; power = d.power; sign = sign_back d.sign h.0 i } };
 }
 
 impl Decimal {
@@ -34,9 +43,9 @@ impl Decimal {
         ensures normal { IsNormal result }
     {
         Decimal {
-            negative: false,
             digits: 0,
             power: 0,
+            sign: 0,
         }
     }
 
@@ -50,9 +59,23 @@ impl Decimal {
         ensures normal { IsNormal result }
     {
         Decimal {
-            negative,
             digits,
-            power,
+            power: i64::from(power),
+            sign: u64::from(negative),
+        }
+    }
+
+    // The same number, put together anew. Where one of two ways has its number in registers and the
+    // other in memory, the compiler merges them in memory, and a load there waits for the stores; of
+    // a number that is put together anew it merges the fields.
+    #[inline(always)]
+    pub(crate) fn rebuilt(self) -> Decimal
+        ensures { result ≡ self }
+    {
+        Decimal {
+            digits: self.digits,
+            power: self.power,
+            sign: self.sign,
         }
     }
 
@@ -61,7 +84,7 @@ impl Decimal {
         ensures value { result ≡ self.now.negative }
         ensures normal { IsNormal self.now }
     {
-        self.negative
+        self.sign == 1
     }
 
     /// Whether the number is zero.
@@ -85,7 +108,7 @@ impl Decimal {
         ensures value { result ≡ self.now.power }
         ensures normal { IsNormal self.now }
     {
-        self.power
+        self.power as i32
     }
 
     /// Whether this and the other are the same number, as `==` tells too.

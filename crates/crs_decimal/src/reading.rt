@@ -28,7 +28,10 @@ impl Decimal {
     {
         match read_short(bytes) {
             Some(number) => Ok(number.decimal()),
-            None => parse_any(bytes),
+            None => match parse_any(bytes) {
+                Ok(number) => Ok(number.rebuilt()),
+                Err(fault) => Err(fault),
+            },
         }
     }
 }
