@@ -1,5 +1,5 @@
 -- Arguments: those of a class, one after another, are sound where their node is, and as many as its slots require.
-use Rattle.std.proofs.Common.{◌≡◌, ◌≢◌, ℕ, suc, ◌+◌, ◌<◌, ◌≤◌, length, Bool, true, false, inl, inr, Option, Some, None, List, [], ◌∷◌, if◌then◌else◌, refl, sym, ◌∙◌, ap, subst, arith, rules}
+use Rattle.std.proofs.Common.{◌≡◌, ◌≢◌, ℕ, suc, ◌+◌, ◌<◌, ◌≤◌, length, Bool, true, false, IsTrue, inl, inr, Option, Some, None, List, [], ◌∷◌, if◌then◌else◌, refl, sym, ◌∙◌, ap, subst, arith, rules}
 use denote.Enum.Bare.{sameb, same_true}
 use Rattle.crs_text.specs.Items.{Item, leaf, node, Siblings, End, More, arguments, count, first_of, rest_of, kind_of, here, HasId, IsAt}
 use Rattle.crs_text.specs.Refusal.{RefusedAt}
@@ -10,7 +10,7 @@ use Rattle.crs_text.specs.declared.items.ItemKind.TheVariants as kinds
 use Rattle.crs_shape.specs.declared.class.Class.{Class}
 use Rattle.crs_shape.specs.declared.class.Class.TheVariants as class
 use Rattle.crs_shape.specs.Keywords.{is_keyword}
-use Rattle.crs_shape.specs.Counts.{one_if, how_many, least}
+use Rattle.crs_shape.specs.Counts.{one_if, how_many, is_bounded, least, most}
 use Rattle.crs_shape.specs.Shape.{Allowed}
 use Rattle.crs_shape.specs.Shaped.{Shaped, AreShaped}
 use Rattle.crs_shape.specs.ShapeFault.{class_in, class_of_kind}
@@ -123,6 +123,22 @@ arguments-many law parent c (node place keyword square first others close) shape
     let many = those-many parent c (shape.0 ∷ shape.1.0) (More first others) (shape.1.1.0, (shape.1.1.1.0, shape.1.1.1.1.0)) in
     let enough = law (is_same c) (slots_of parent) (shape.0 ∷ shape.1.0) shape.1.1.1.1.1 in
     omega (arith, many, enough)
+
+abbrev pub SlotsBound : Type 0
+SlotsBound = (test : Class → Bool) (slots : List SlotParts) (classes : List Class) → IsTrue (is_bounded test slots) → Allowed slots classes → how_many test classes ≤ most test slots
+
+pub arguments-few : SlotsBound → (parent c : Class) (item : Item) → IsTrue (is_bounded (is_same c) (slots_of parent)) → Shaped parent item →
+    length (those parent c (arguments item)) ≤ most (is_same c) (slots_of parent)
+arguments-few law parent c (leaf kind place raw) bounded shaped = omega arith
+arguments-few law parent c (node place keyword square first others close) bounded shaped =
+    let shape = shaped.1 in
+    let many = those-many parent c (shape.0 ∷ shape.1.0) (More first others) (shape.1.1.0, (shape.1.1.1.0, shape.1.1.1.1.0)) in
+    let few = law (is_same c) (slots_of parent) (shape.0 ∷ shape.1.0) bounded shape.1.1.1.1.1 in
+    omega (arith, many, few)
+
+pub nothing : {A : Type 0} (xs : List A) → length xs ≤ 0 → xs ≡ []
+nothing [] h = refl
+nothing (x ∷ xs) h = absurd (omega (arith, h))
 
 -- ---- the search for the first of those
 

@@ -1,5 +1,5 @@
 -- A check over the items of one class, one after another.
-use Rattle.std.proofs.Common.{◌≡◌, ℕ, true, false, Option, Some, None, inl, inr, take, drop, List, [], ◌∷◌, ◌++◌, refl, sym, ◌∙◌, ap, subst, append_assoc}
+use Rattle.std.proofs.Common.{◌≡◌, ℕ, ◌≤◌, length, true, false, Option, Some, None, inl, inr, take, drop, List, [], ◌∷◌, ◌++◌, refl, sym, ◌∙◌, ap, subst, arith, append_assoc}
 use Rattle.crs_decimal.specs.Bounds.{Denotes}
 use Rattle.crs_decimal.specs.Value.{Value, IsNormal, exact}
 use Rattle.crs_text.specs.Items.{Item, arguments, rest_of, raw_of, here}
@@ -12,7 +12,7 @@ use Rattle.crs_value.specs.Found.{from_found, AllShaped}
 use Rattle.crs_value.specs.Least.{lesser}
 use Rattle.crs_value.specs.Reading.{item_at, those, Holds, IsFound}
 use Rattle.crs_value.specs.Reads.{ReadsNumber}
-use Rattle.crs_value.proofs.ArgumentLemmas.{found-is, found-holds, all-shaped, found-shaped}
+use Rattle.crs_value.proofs.ArgumentLemmas.{found-is, found-holds, all-shaped, found-shaped, nothing}
 use Rattle.crs_value.proofs.LeastLemmas.{least-more, least-same}
 
 -- the first break among those before
@@ -101,6 +101,19 @@ pub any-first : (B : Item → RefusedAt → Type 0) (tree : Item) (parent c : Cl
 any-first B tree parent c items id o found h =
     let Q : List Item → Type 0 = λ xs. IsLeast (AnyOf B (take 1 xs)) o in
     subst Q (sym found.0) (least-same (B (item_at tree id)) (λ f. AnyOf B (item_at tree id ∷ []) f) o (λ f k. inl k) back h)
+  where
+    back : (f : RefusedAt) → AnyOf B (item_at tree id ∷ []) f → B (item_at tree id) f
+    back f (inl k) = k
+    back f (inr k) = absurd k
+
+-- where there is no more than the one
+pub only-one : (B : Item → RefusedAt → Type 0) (tree : Item) (parent c : Class) (items : List Item) (id : ℕ) (o : Option RefusedAt) → length items ≤ 1 →
+    IsFound tree parent c items (Some id) → IsLeast (B (item_at tree id)) o → IsLeast (AnyOf B items) o
+only-one B tree parent c items id o few found h =
+    let rest = those parent c (rest_of (here tree id)) in
+    let none : rest ≡ [] = nothing rest (omega (arith, few, ap length found.0)) in
+    let P : List Item → Type 0 = λ xs. IsLeast (AnyOf B xs) o in
+    subst P (sym (found.0 ∙ ap (λ xs. item_at tree id ∷ xs) none)) (least-same (B (item_at tree id)) (λ f. AnyOf B (item_at tree id ∷ []) f) o (λ f k. inl k) back h)
   where
     back : (f : RefusedAt) → AnyOf B (item_at tree id ∷ []) f → B (item_at tree id) f
     back f (inl k) = k

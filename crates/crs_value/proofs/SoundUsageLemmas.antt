@@ -18,7 +18,7 @@ use Rattle.crs_value.specs.Sound.{IsUnitOf}
 use Rattle.crs_value.specs.Checks.{IsSound}
 use Rattle.crs_value.specs.SoundUsages.{IsBox, IsExtent, IsUsage, IsTail}
 use Rattle.crs_value.specs.Values.{UsageParts, SaysSome}
-use Rattle.crs_value.proofs.ArgumentLemmas.{arguments-sound, those-first, those-many}
+use Rattle.crs_value.proofs.ArgumentLemmas.{SlotsBound, arguments-few, arguments-sound, nothing, those-first, those-many}
 use Rattle.crs_value.proofs.SoundLemmas.{Tells, tells-as, optional-tells, each-tells, optional-text-tells, number-first, ids-tell, length-tells}
 
 pub box-tells : (c : Class) → Tells c (ReadsBox c) IsBox
@@ -56,22 +56,11 @@ usage-tells c item value sound reads some = record {
 
 -- ---- a node `USAGE` has an argument, which is one of its four parts
 
-abbrev pub SlotsBound : Type 0
-SlotsBound = (test : Class → Bool) (slots : List SlotParts) (classes : List Class) → IsTrue (is_bounded test slots) → Allowed slots classes → how_many test classes ≤ most test slots
-
-nothing : {A : Type 0} (xs : List A) → length xs ≤ 0 → xs ≡ []
-nothing [] h = refl
-nothing (x ∷ xs) h = absurd (omega (arith, h))
-
 -- a node has no arguments of a class that none of its slots takes
 pub arguments-none : SlotsBound → (parent c : Class) (item : Item) → IsTrue (is_bounded (is_same c) (slots_of parent)) → most (is_same c) (slots_of parent) ≡ 0 →
     Shaped parent item → those parent c (arguments item) ≡ []
-arguments-none law parent c (leaf kind place raw) bounded none shaped = refl
-arguments-none law parent c (node place keyword square first others close) bounded none shaped =
-    let shape = shaped.1 in
-    let many = those-many parent c (shape.0 ∷ shape.1.0) (More first others) (shape.1.1.0, (shape.1.1.1.0, shape.1.1.1.1.0)) in
-    let few = law (is_same c) (slots_of parent) (shape.0 ∷ shape.1.0) bounded shape.1.1.1.1.1 in
-    nothing (those parent c (More first others)) (omega (arith, many, few, none))
+arguments-none law parent c item bounded none shaped =
+    nothing (those parent c (arguments item)) (omega (arith, arguments-few law parent c item bounded shaped, none))
 
 abbrev is_part : Class → Bool
 is_part d = is_same class.Scope d || is_same class.Area d || is_same class.BoundingBox d || is_same class.VerticalExtent d

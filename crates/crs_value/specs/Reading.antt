@@ -1,11 +1,11 @@
 -- Readings: what is read from an item, or from the arguments of one class.
-use Rattle.std.specs.Prelude.{◌≡◌, ℕ, ◌<◌, Bool, List, [], ◌∷◌, Option, Some, None, if◌then◌else◌}
+use Rattle.std.specs.Prelude.{◌≡◌, ℕ, ◌<◌, ◌≤◌, Bool, IsTrue, List, [], ◌∷◌, Option, Some, None, if◌then◌else◌}
 use Rattle.std.specs.List.{list_any}
 use denote.Enum.Bare.{sameb}
 use Rattle.crs_text.specs.Items.{Item, Siblings, End, More, first_of, rest_of, here, HasId}
 use Rattle.crs_shape.specs.contracts.class.Class.{the_type}
 use Rattle.crs_shape.specs.declared.class.Class.{Class}
-use Rattle.crs_shape.specs.Counts.{least}
+use Rattle.crs_shape.specs.Counts.{is_bounded, least, most}
 use Rattle.crs_shape.specs.ShapeFault.{class_in}
 use Rattle.crs_shape.specs.Slots.{slots_of, is_class}
 
@@ -44,6 +44,10 @@ those parent c (More item items) = if is_a parent c item then item ∷ those par
 -- the slots of a class require more than `n` arguments of class `d`
 abbrev pub Requires : Class → Class → ℕ → Type 0
 Requires c d n = n < least (is_same d) (slots_of c)
+
+-- the slots of a class take one argument of class `d` at most
+abbrev pub TakesOne : Class → Class → Type 0
+TakesOne c d = IsTrue (is_bounded (is_same d) (slots_of c)) × (most (is_same d) (slots_of c) ≤ 1)
 
 -- the slots of a class require an argument of one of these classes
 abbrev pub RequiresOneOf : Class → List Class → Type 0

@@ -7,10 +7,11 @@ ghost use Rattle.crs_shape.specs.Shaped.{Shaped};
 ghost use Rattle.crs_value.specs.Break.{at, AnyOf, IsLeast};
 ghost use Rattle.crs_value.specs.Found.{from_found, AllShaped};
 ghost use Rattle.crs_value.specs.Least.{is_before, lesser};
-ghost use Rattle.crs_value.specs.Reading.{item_at, Holds, those};
+ghost use Rattle.crs_value.specs.Reading.{item_at, Holds, IsFound, TakesOne, those};
 
 use crate::arguments::{first, later};
 use crs_shape::Class;
+use crs_shape::laws::slots_count;
 use crs_text::{ItemId, Items, Refusal};
 
 fn is_before(a: Refusal, b: Refusal) -> bool
@@ -88,4 +89,47 @@ pub(crate) fn any_of<C: Check>(
         (item_at items.now id)))) result }
 {
     any_from(check, items, first(items, id, parent, class), parent, class)
+}
+
+// The break of a node's argument of a class that may stand in it once, which was found where there is one.
+pub(crate) fn only_from<C: Check>(
+    check: &C,
+    items: &Items<'_>,
+    _id: ItemId,
+    parent: Class,
+    class: Class,
+    found: Option<ItemId>,
+) -> Option<Refusal>
+    requires has { HasId items.now _id }
+    requires fits { C.Fits check.now items.now class }
+    requires shaped { Shaped parent (item_at items.now _id) }
+    requires once { TakesOne parent class }
+    requires found { IsFound items.now parent class (those parent class (arguments (item_at items.now _id))) found }
+    ensures { IsLeast (AnyOf (C.Broken check.now items.now) (those parent class (arguments
+        (item_at items.now _id)))) result }
+{
+    slots_count();
+    match found {
+        None => None,
+        Some(found) => check.check(items, found, class),
+    }
+}
+
+// The same where it is to be found.
+pub(crate) fn only_of<C: Check>(
+    check: &C,
+    items: &Items<'_>,
+    id: ItemId,
+    parent: Class,
+    class: Class,
+) -> Option<Refusal>
+    requires has { HasId items.now id }
+    requires fits { C.Fits check.now items.now class }
+    requires shaped { Shaped parent (item_at items.now id) }
+    requires once { TakesOne parent class }
+    ensures { IsLeast (AnyOf (C.Broken check.now items.now) (those parent class (arguments
+        (item_at items.now id)))) result }
+{
+    let found = first(items, id, parent, class);
+    only_from(check, items, id, parent, class, found)
 }

@@ -7,9 +7,9 @@ ghost use Rattle.crs_value.specs.Break.{AnyOf, IsLeast};
 ghost use Rattle.crs_value.specs.Checks.{BreaksAmong, once, OfHead, OfAxes, OfCrs};
 ghost use Rattle.crs_value.specs.Noted.{AreFirsts};
 ghost use Rattle.crs_value.specs.RepeatedPart.{RepeatsAny};
-ghost use Rattle.crs_value.specs.Reading.{item_at, those};
+ghost use Rattle.crs_value.specs.Reading.{item_at, those, TakesOne};
 
-use crate::checks::{Check, any_from, lesser};
+use crate::checks::{Check, lesser, only_from};
 use crate::firsts::{Firsts, firsts_of};
 use crate::order_checks::bad_order;
 use crate::repeats::repeats_once;
@@ -86,6 +86,7 @@ impl Check for UnitsOf {
 fn of_head(items: &Items<'_>, id: ItemId, class: Class, firsts: &Firsts) -> Option<Refusal>
     requires has { HasId items.now id }
     requires shaped { Shaped class (item_at items.now id) }
+    requires once { TakesOne class Class.CoordinateSystem }
     requires firsts { AreFirsts items.now class (arguments (item_at items.now id)) firsts.now }
     ensures { IsLeast (λ f. RepeatsAny class (arguments (item_at items.now id)) once f
         ⊎ AnyOf (OfHead (dimensions_of class) (those class Class.Axis (arguments (item_at items.now id))))
@@ -98,7 +99,7 @@ fn of_head(items: &Items<'_>, id: ItemId, class: Class, firsts: &Firsts) -> Opti
     };
     lesser(
         repeats_once(items, id, class, firsts),
-        any_from(&head, items, firsts.system, class, Class::CoordinateSystem),
+        only_from(&head, items, id, class, Class::CoordinateSystem, firsts.system),
     )
 }
 
@@ -106,6 +107,7 @@ fn of_head(items: &Items<'_>, id: ItemId, class: Class, firsts: &Firsts) -> Opti
 fn of_axes(items: &Items<'_>, id: ItemId, class: Class, firsts: &Firsts) -> Option<Refusal>
     requires has { HasId items.now id }
     requires shaped { Shaped class (item_at items.now id) }
+    requires once { TakesOne class Class.CoordinateSystem }
     requires firsts { AreFirsts items.now class (arguments (item_at items.now id)) firsts.now }
     ensures { IsLeast (OfAxes (those class Class.CoordinateSystem (arguments (item_at items.now id)))
         (those class Class.Axis (arguments (item_at items.now id)))
@@ -119,7 +121,7 @@ fn of_axes(items: &Items<'_>, id: ItemId, class: Class, firsts: &Firsts) -> Opti
     };
     lesser(
         bad_order(items, id, class, firsts),
-        any_from(&units, items, firsts.system, class, Class::CoordinateSystem),
+        only_from(&units, items, id, class, Class::CoordinateSystem, firsts.system),
     )
 }
 
@@ -146,6 +148,7 @@ pub(crate) fn whole_crs(
 ) -> Option<Refusal>
     requires has { HasId items.now id }
     requires shaped { Shaped class (item_at items.now id) }
+    requires once { TakesOne class Class.CoordinateSystem }
     requires inside { IsLeast (BreaksAmong class (arguments (item_at items.now id))) inside }
     ensures { IsLeast (λ f. BreaksAmong class (arguments (item_at items.now id)) f
         ⊎ OfCrs (dimensions_of class) class (item_at items.now id) f) result }

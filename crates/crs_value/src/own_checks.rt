@@ -7,7 +7,7 @@ ghost use Rattle.crs_value.specs.Checks.{HasSystem, OfEllipsoid, Own, Breaks, Br
 ghost use Rattle.crs_value.specs.Reading.{item_at, those};
 
 use crate::arguments::{first, later};
-use crate::checks::{Check, any_from, any_of, lesser};
+use crate::checks::{Check, any_from, lesser, only_of};
 use crate::component_checks::compound;
 use crate::crs_checks::whole_crs;
 use crate::repeats::repeats;
@@ -58,9 +58,9 @@ fn own_of_part(items: &Items<'_>, id: ItemId, class: Class) -> Option<Refusal>
         | Class::AngleUnit
         | Class::ScaleUnit
         | Class::PlainUnit
-        | Class::AxisUnit => any_of(&AboveZero, items, id, class, Class::Number),
-        Class::CoordinateSystem => any_of(&UnknownType, items, id, class, Class::Word),
-        Class::Axis => any_of(&UnknownDirection, items, id, class, Class::Word),
+        | Class::AxisUnit => only_of(&AboveZero, items, id, class, Class::Number),
+        Class::CoordinateSystem => only_of(&UnknownType, items, id, class, Class::Word),
+        Class::Axis => only_of(&UnknownDirection, items, id, class, Class::Word),
         _ => None,
     }
 }
