@@ -83,6 +83,10 @@ size-above : (item : Item) → 0 < size_of item
 size-above (leaf kind place raw) = omega arith
 size-above (node place keyword square first others close) = omega arith
 
+-- no argument is looked at where none breaks a check
+pub breaking-none : (tree : Item) (c : Class) (item : Item) → IsLeast (BreaksAmong c (arguments item)) None → Breaking tree c item None None
+breaking-none tree c item h = record { done = arguments item; parts = sym (join-end (arguments item)); holds = tt; classes = []; shaped = tt; less = size-above item; is_least = h }
+
 -- an argument that is there has its class and its shape
 argument-class : (c : Class) (ds : List Class) (items : Siblings) → items ≢ End → AreShaped c ds items →
     (d : Class) × ((rest : List Class) × ((class_in c (first_of items) ≡ Some d) × (Shaped d (first_of items) × AreShaped c rest (rest_of items))))

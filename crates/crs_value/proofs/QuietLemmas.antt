@@ -16,6 +16,7 @@ abbrev pub is_quiet : Class → Bool
 is_quiet class.Number = true
 is_quiet class.Text = true
 is_quiet class.Word = true
+is_quiet class.VerticalEnsemble = true
 is_quiet class.Member = true
 is_quiet class.EnsembleAccuracy = true
 is_quiet class.Anchor = true
@@ -31,14 +32,18 @@ is_quiet class.Uri = true
 is_quiet class.Remark = true
 is_quiet other = false
 
-abbrev are_quiet : List SlotParts → Bool
+abbrev pub are_quiet : List SlotParts → Bool
 are_quiet slots = list_all (λ slot. list_all is_quiet slot.classes) slots
 
--- the slots of such a class take such classes alone
-slots-quiet : (c : Class) → is_quiet c ≡ true → are_quiet (slots_of c) ≡ true
+-- a class that takes such classes alone
+abbrev pub is_quiet_within : Class → Bool
+is_quiet_within c = are_quiet (slots_of c)
+
+slots-quiet : (c : Class) → is_quiet c ≡ true → is_quiet_within c ≡ true
 slots-quiet class.Number e = refl
 slots-quiet class.Text e = refl
 slots-quiet class.Word e = refl
+slots-quiet class.VerticalEnsemble e = refl
 slots-quiet class.Member e = refl
 slots-quiet class.EnsembleAccuracy e = refl
 slots-quiet class.Anchor e = refl
@@ -59,6 +64,7 @@ unfolding Own
 own-quiet class.Number item f e h = h
 own-quiet class.Text item f e h = h
 own-quiet class.Word item f e h = h
+own-quiet class.VerticalEnsemble item f e h = h
 own-quiet class.Member item f e h = h
 own-quiet class.EnsembleAccuracy item f e h = h
 own-quiet class.Anchor item f e h = h
@@ -99,13 +105,13 @@ named-quiet (s ∷ ss) name d all e =
       | Some x ↦ λ f. first-quiet s.classes name d both.0 (f ∙ (rw f at e))
     ] refl
 
--- what stands in an item of such a class is of such a class
-class-quiet : (c : Class) (item : Item) (d : Class) → is_quiet c ≡ true → class_in c item ≡ Some d → is_quiet d ≡ true
+-- what stands in an item of a class that takes such classes alone is of such a class
+class-quiet : (c : Class) (item : Item) (d : Class) → is_quiet_within c ≡ true → class_in c item ≡ Some d → is_quiet d ≡ true
 unfolding class_named
 class-quiet c (leaf number place raw) d quiet e = subst (λ x. is_quiet x ≡ true) (some-class e) refl
 class-quiet c (leaf text place raw) d quiet e = subst (λ x. is_quiet x ≡ true) (some-class e) refl
 class-quiet c (leaf word place raw) d quiet e = subst (λ x. is_quiet x ≡ true) (some-class e) refl
-class-quiet c (node place keyword square first others close) d quiet e = named-quiet (slots_of c) keyword d (slots-quiet c quiet) e
+class-quiet c (node place keyword square first others close) d quiet e = named-quiet (slots_of c) keyword d quiet e
 
 -- a fault of an argument, in a class of which there is none
 at-quiet : (o : Option Class) (P : Class → Type 0) → ((d : Class) → o ≡ Some d → P d → ⊥) → AtClass o P → ⊥
@@ -118,14 +124,14 @@ mutual
   quiet-unbroken c (node place keyword square first others close) f quiet (inl h) =
       own-quiet c (node place keyword square first others close) f quiet h
   quiet-unbroken c (node place keyword square first others close) f quiet (inr (inl h)) =
-      at-quiet (class_in c first) (λ d. Breaks d first f) (λ d is k. quiet-unbroken d first f (class-quiet c first d quiet is) k) h
-  quiet-unbroken c (node place keyword square first others close) f quiet (inr (inr h)) = among-unbroken c others f quiet h
+      at-quiet (class_in c first) (λ d. Breaks d first f) (λ d is k. quiet-unbroken d first f (class-quiet c first d (slots-quiet c quiet) is) k) h
+  quiet-unbroken c (node place keyword square first others close) f quiet (inr (inr h)) = within-unbroken c others f (slots-quiet c quiet) h
 
-  among-unbroken : (c : Class) (items : Siblings) (f : RefusedAt) → is_quiet c ≡ true → BreaksAmong c items f → ⊥
-  among-unbroken c End f quiet h = h
-  among-unbroken c (More item items) f quiet (inl h) =
+  pub within-unbroken : (c : Class) (items : Siblings) (f : RefusedAt) → is_quiet_within c ≡ true → BreaksAmong c items f → ⊥
+  within-unbroken c End f quiet h = h
+  within-unbroken c (More item items) f quiet (inl h) =
       at-quiet (class_in c item) (λ d. Breaks d item f) (λ d is k. quiet-unbroken d item f (class-quiet c item d quiet is) k) h
-  among-unbroken c (More item items) f quiet (inr h) = among-unbroken c items f quiet h
+  within-unbroken c (More item items) f quiet (inr h) = within-unbroken c items f quiet h
 
 -- ---- the classes as the program names them
 
@@ -134,13 +140,17 @@ abbrev IsOneOf : Class → Class → List Class → Type 0
 IsOneOf c d [] = c ≡ d
 IsOneOf c d (e ∷ es) = (c ≡ d) ⊎ IsOneOf c e es
 
-pub one-quiet : (c d : Class) (es : List Class) → list_all is_quiet (d ∷ es) ≡ true → IsOneOf c d es → is_quiet c ≡ true
-one-quiet c d [] all is = ap is_quiet is ∙ (and-both (is_quiet d) true all).0
-one-quiet c d (e ∷ es) all (inl is) = ap is_quiet is ∙ (and-both (is_quiet d) (list_all is_quiet (e ∷ es)) all).0
-one-quiet c d (e ∷ es) all (inr is) = one-quiet c e es (and-both (is_quiet d) (list_all is_quiet (e ∷ es)) all).1 is
+pub one-passes : (test : Class → Bool) (c d : Class) (es : List Class) → list_all test (d ∷ es) ≡ true → IsOneOf c d es → test c ≡ true
+one-passes test c d [] all is = ap test is ∙ (and-both (test d) true all).0
+one-passes test c d (e ∷ es) all (inl is) = ap test is ∙ (and-both (test d) (list_all test (e ∷ es)) all).0
+one-passes test c d (e ∷ es) all (inr is) = one-passes test c e es (and-both (test d) (list_all test (e ∷ es)) all).1 is
 
--- those behind the first
+-- the quiet ones behind the first
 abbrev pub later_quiet : List Class
 later_quiet =
-    class.EnsembleAccuracy ∷ class.Anchor ∷ class.Order ∷ class.Method ∷ class.GeoidModel ∷ class.Scope ∷ class.Area ∷ class.BoundingBox ∷ class.Identifier
-    ∷ class.Citation ∷ class.Uri ∷ class.Remark ∷ []
+    class.Member ∷ class.EnsembleAccuracy ∷ class.Anchor ∷ class.Order ∷ class.Method ∷ class.GeoidModel ∷ class.Scope ∷ class.Area ∷ class.BoundingBox
+    ∷ class.Identifier ∷ class.Citation ∷ class.Uri ∷ class.Remark ∷ []
+
+-- those that are quiet within, behind the first
+abbrev pub later_quiet_within : List Class
+later_quiet_within = class.AngleUnit ∷ class.ScaleUnit ∷ class.PlainUnit ∷ class.AxisUnit ∷ class.CoordinateSystem ∷ class.VerticalFrame ∷ []

@@ -11,6 +11,7 @@ ghost use Rattle.crs_value.specs.Reading.{item_at, those, TakesOne};
 
 use crate::checks::{Check, lesser, only_from};
 use crate::firsts::{Firsts, firsts_of};
+use crate::node::number;
 use crate::order_checks::bad_order;
 use crate::repeats::repeats_once;
 use crate::system_checks::{bad_count, bad_system};
@@ -44,9 +45,10 @@ impl Check for HeadOf {
         (those s.class classes.Axis (arguments (item_at tree s.crs))) item f };
 
     fn check(&self, items: &Items<'_>, id: ItemId, _class: Class) -> Option<Refusal> {
+        let dimension = number(items, id, Class::CoordinateSystem);
         lesser(
-            bad_system(items, id, self.class),
-            bad_count(items, self.crs, self.class, id, self.axis),
+            bad_system(items, id, self.class, &dimension),
+            bad_count(items, self.crs, self.class, id, self.axis, &dimension),
         )
     }
 }

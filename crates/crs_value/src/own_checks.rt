@@ -85,7 +85,8 @@ fn breaks_nothing(class: Class) -> bool
 {
     matches!(
         class,
-        Class::Member
+        Class::VerticalEnsemble
+            | Class::Member
             | Class::EnsembleAccuracy
             | Class::Anchor
             | Class::Order
@@ -101,6 +102,22 @@ fn breaks_nothing(class: Class) -> bool
     )
 }
 
+// Whether what stands in an item of this class breaks no check: then only its own checks are left.
+fn breaks_nothing_within(class: Class) -> bool
+    ensures { IsTrue result → ((item : Item) → IsLeast (BreaksAmong class (arguments item)) None) }
+{
+    matches!(
+        class,
+        Class::LengthUnit
+            | Class::AngleUnit
+            | Class::ScaleUnit
+            | Class::PlainUnit
+            | Class::AxisUnit
+            | Class::CoordinateSystem
+            | Class::VerticalFrame
+    )
+}
+
 // The first check that an item of this class breaks.
 pub(crate) fn first_break(items: &Items<'_>, id: ItemId, class: Class) -> Option<Refusal>
     requires has { HasId items.now id }
@@ -112,7 +129,11 @@ pub(crate) fn first_break(items: &Items<'_>, id: ItemId, class: Class) -> Option
         ItemKind::Node => {}
     }
     let mut inside = None;
-    let mut next = items.arg(id, 0);
+    let mut next = if breaks_nothing_within(class) {
+        None
+    } else {
+        items.arg(id, 0)
+    };
     while let Some(argument) = next {
         // A number, text or word breaks no check by itself.
         if items.kind(argument) == ItemKind::Node {

@@ -1,10 +1,11 @@
 //! The checks of what may stand once.
-ghost use Rattle.crs_text.specs.Items.{HasId, arguments};
+ghost use Rattle.crs_text.specs.Items.{HasId, arguments, rest_of, here};
 ghost use Rattle.crs_shape.specs.Shaped.{Shaped};
-ghost use Rattle.crs_value.specs.Break.{IsLeast};
+ghost use Rattle.crs_value.specs.Break.{AnyOf, IsLeast};
 ghost use Rattle.crs_value.specs.Checks.{once};
+ghost use Rattle.crs_value.specs.Found.{AllShaped};
 ghost use Rattle.crs_value.specs.Noted.{AreFirsts};
-ghost use Rattle.crs_value.specs.RepeatedPart.{Repeats, RepeatsAny};
+ghost use Rattle.crs_value.specs.RepeatedPart.{IsRepeated, Repeats, RepeatsAny};
 ghost use Rattle.crs_value.specs.Reading.{item_at, those, IsFound};
 
 use crate::arguments::{first, later};
@@ -23,7 +24,8 @@ pub(crate) fn repeats(items: &Items<'_>, id: ItemId, parent: Class, class: Class
     again(items, id, parent, class, first(items, id, parent, class))
 }
 
-// The first node of this class after the first one, which was found.
+// The first node of this class after the first one, which was found. Mostly there is none to look behind.
+#[inline(always)]
 fn again(
     items: &Items<'_>,
     _id: ItemId,
@@ -38,14 +40,24 @@ fn again(
 {
     match found {
         None => None,
-        Some(first) => any_from(
-            &Repeated,
-            items,
-            later(items, first, parent, class),
-            parent,
-            class,
-        ),
+        Some(first) => behind(items, first, parent, class),
     }
+}
+
+// The first node of this class behind this one.
+#[inline(never)]
+fn behind(items: &Items<'_>, id: ItemId, parent: Class, class: Class) -> Option<Refusal>
+    requires has { HasId items.now id }
+    requires shaped { AllShaped class (those parent class (rest_of (here items.now id))) }
+    ensures { IsLeast (AnyOf IsRepeated (those parent class (rest_of (here items.now id)))) result }
+{
+    any_from(
+        &Repeated,
+        items,
+        later(items, id, parent, class),
+        parent,
+        class,
+    )
 }
 
 // The first node of these classes after the first one of its class.

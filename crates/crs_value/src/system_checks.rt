@@ -5,13 +5,13 @@ ghost use Rattle.crs_decimal.specs.Value.{exact};
 ghost use Rattle.crs_text.specs.Items.{HasId, arguments};
 ghost use Rattle.crs_shape.specs.Shaped.{Shaped};
 ghost use Rattle.crs_value.specs.AxisCount.{AxisCount};
-ghost use Rattle.crs_value.specs.BadSystem.{HasType, IsOneOf, dimensions_of, BadSystem};
+ghost use Rattle.crs_value.specs.BadSystem.{HasType, HasDimension, IsOneOf, dimensions_of, BadSystem};
 ghost use Rattle.crs_value.specs.Break.{IsLeast};
 ghost use Rattle.crs_value.specs.Reading.{item_at, those, IsFound, IsReading};
 
 use crate::arguments::later;
 use crate::checks::refusal_at;
-use crate::node::{number, required};
+use crate::node::required;
 use crate::system_type::SystemType;
 use crs_decimal::Decimal;
 use crs_decimal::laws::denotes_one;
@@ -50,15 +50,20 @@ fn is_allowed(class: Class, system_type: SystemType, dimension: &Decimal) -> boo
 }
 
 // 23: a type and dimension that the CRS doesn't allow.
-pub(crate) fn bad_system(items: &Items<'_>, cs: ItemId, class: Class) -> Option<Refusal>
+pub(crate) fn bad_system(
+    items: &Items<'_>,
+    cs: ItemId,
+    class: Class,
+    dimension: &Decimal,
+) -> Option<Refusal>
     requires has { HasId items.now cs }
     requires shaped { Shaped Class.CoordinateSystem (item_at items.now cs) }
+    requires dimension { HasDimension (item_at items.now cs) dimension.now }
     ensures { IsLeast (BadSystem (dimensions_of class) (item_at items.now cs)) result }
 {
     denotes_one();
     let system_type = type_of(items, cs)?;
-    let dimension = number(items, cs, Class::CoordinateSystem);
-    if is_allowed(class, system_type, &dimension) {
+    if is_allowed(class, system_type, dimension) {
         None
     } else {
         Some(refusal_at(items, cs, 23))
@@ -94,17 +99,17 @@ pub(crate) fn bad_count(
     class: Class,
     cs: ItemId,
     axis: Option<ItemId>,
+    dimension: &Decimal,
 ) -> Option<Refusal>
     requires has { HasId items.now cs }
     requires crs { HasId items.now crs }
-    requires shaped { Shaped Class.CoordinateSystem (item_at items.now cs) }
+    requires dimension { HasDimension (item_at items.now cs) dimension.now }
     requires axis { IsFound items.now class Class.Axis (those class Class.Axis (arguments (item_at items.now crs)))
         axis }
     ensures { IsLeast (AxisCount (those class Class.Axis (arguments (item_at items.now crs)))
         (item_at items.now cs)) result }
 {
     denotes_one();
-    let dimension = number(items, cs, Class::CoordinateSystem);
     let axes = count_of(items, crs, class, Class::Axis, axis);
     if dimension.is_whole(axes as u64) {
         None

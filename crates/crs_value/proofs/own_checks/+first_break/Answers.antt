@@ -3,13 +3,20 @@ use denote.Enum.Bare.{sameb}
 use Rattle.crs_text.specs.contracts.items.ItemKind.{the_type}
 use Rattle.crs_text.specs.declared.items.ItemKind.TheVariants as kinds
 use Rattle.crs_value.specs.Reading.{item_at}
-use Rattle.crs_value.proofs.BreakLemmas.{Breaking, breaking-first, breaking-on, breaking-quiet, breaking-past, breaking-end, breaks-whole}
+use Rattle.crs_value.proofs.BreakLemmas.{Breaking, breaking-first, breaking-none, breaking-on, breaking-quiet, breaking-past, breaking-end, breaks-whole}
 use Rattle.crs_value.proofs.own_checks.+first_break.Goals as goal
-use Rattle.crs_value.proofs.own_checks.+first_break.Goals.{then-eq+in-Some-class_in+then-not-breaks_nothing, then-eq+in-Some-class_in+else-not-breaks_nothing, else-eq}
+use Rattle.crs_value.proofs.own_checks.+first_break.Goals.{then-breaks_nothing_within, else-breaks_nothing_within, then-eq+in-Some-class_in+then-not-breaks_nothing, then-eq+in-Some-class_in+else-not-breaks_nothing, else-eq}
 
 pub loop-next-init : goal.loop-next-init
 loop-next-init t c =
-    breaking-first c.args.items.now c.args.class (item_at c.args.items.now c.args.id) c.arg-next.result c.requires.shaped c.arg-next.ensures
+    let tree = c.args.items.now in
+    let item = item_at tree c.args.id in
+    elim c.if-breaks_nothing_within.branch [
+      | then-breaks_nothing_within w ↦ rw w.next-is
+          (breaking-none tree c.args.class item (c.breaks_nothing_within.ensures w.if-breaks_nothing_within.true item))
+      | else-breaks_nothing_within w ↦ rw w.next-is
+          (breaking-first tree c.args.class item w.arg-next.result c.requires.shaped w.arg-next.ensures)
+    ]
 
 pub loop-next-preserved : goal.loop-next-preserved
 loop-next-preserved t c =

@@ -10,5 +10,5 @@ use Rattle.crs_value.proofs.system_checks.bad_count.Goals as goal
 pub returns-then-is_whole : goal.returns-then-is_whole
 returns-then-is_whole c =
     let tree = c.args.items.now in
-    let P : ℕ → Type 0 = λ n. SameNumber (exact c.number-dimension.result) (whole_number n) in
-    count-none c.denotes_one.ensures (those c.args.class class.Axis (arguments (item_at tree c.args.crs))) (item_at tree c.args.cs) c.number-dimension.result c.number-dimension.ensures (subst P c.count_of-axes.ensures (c.if-is_whole.ensures.0 refl))
+    let P : ℕ → Type 0 = λ n. SameNumber (exact c.args.dimension.now) (whole_number n) in
+    count-none c.denotes_one.ensures (those c.args.class class.Axis (arguments (item_at tree c.args.crs))) (item_at tree c.args.cs) c.args.dimension.now c.requires.dimension (subst P c.count_of-axes.ensures (c.if-is_whole.ensures.0 refl))

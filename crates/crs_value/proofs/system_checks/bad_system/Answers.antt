@@ -6,5 +6,5 @@ use Rattle.crs_value.proofs.system_checks.bad_system.Goals as goal
 
 pub returns-then-is_allowed : goal.returns-then-is_allowed
 returns-then-is_allowed c =
-    system-none c.denotes_one.ensures (dimensions_of c.args.class) (item_at c.args.items.now c.args.cs) c.in_ok-system_type.system_type c.number-dimension.result
-    c.in_ok-system_type.ensures c.number-dimension.ensures (c.if-is_allowed.ensures.0 refl)
+    system-none c.denotes_one.ensures (dimensions_of c.args.class) (item_at c.args.items.now c.args.cs) c.in_ok-system_type.system_type c.args.dimension.now
+    c.in_ok-system_type.ensures c.requires.dimension (c.if-is_allowed.ensures.0 refl)
