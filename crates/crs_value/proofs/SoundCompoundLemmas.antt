@@ -21,11 +21,11 @@ use Rattle.crs_value.specs.SoundCrs.{IsCrs}
 use Rattle.crs_value.specs.SoundSingle.{IsProjected, IsVertical}
 use Rattle.crs_value.specs.Spells.{SpellsCrs}
 use Rattle.crs_value.specs.Values.{SystemParts}
-use Rattle.crs_value.proofs.ArgumentLemmas.{AllSound, SlotsCount, arguments-sound}
+use Rattle.crs_value.proofs.ArgumentLemmas.{SlotsBound, AllSound, SlotsCount, arguments-sound}
 use Rattle.crs_value.proofs.DecideLemmas.{stable, same-either, ellipsoidal-either}
 use Rattle.crs_value.proofs.SoundCrsLemmas.{geodetic-tells, projected-tells, vertical-tells}
 use Rattle.crs_value.proofs.SoundLemmas.{Tells, tells-as, first-tells, text-of-tells}
-use Rattle.crs_value.proofs.SoundUsageLemmas.{SlotsBound, tail-tells}
+use Rattle.crs_value.proofs.SoundUsageLemmas.{tail-tells}
 use Rattle.crs_value.proofs.SpellsLemmas.{NoFaultIsShape, root-shaped}
 
 -- ---- the horizontal part's system

@@ -23,12 +23,12 @@ use Rattle.crs_value.specs.SoundConversion.{IsConversion, IsGeoidModel}
 use Rattle.crs_value.specs.SoundFrames.{IsMeridian}
 use Rattle.crs_value.specs.SoundSingle.{IsGeodeticFrame, IsVerticalFrame, IsGeodetic, IsBase, IsProjected, IsVertical}
 use Rattle.crs_value.specs.Values.{SystemParts, EllipsoidParts, DatumParts, EnsembleParts}
-use Rattle.crs_value.proofs.ArgumentLemmas.{AllSound, SlotsCount, arguments-sound, not-none}
+use Rattle.crs_value.proofs.ArgumentLemmas.{SlotsBound, AllSound, SlotsCount, arguments-sound, not-none}
 use Rattle.crs_value.proofs.SoundConversionLemmas.{conversion-tells, geoid-model-tells}
 use Rattle.crs_value.proofs.SoundFrameLemmas.{datum-tells, ensemble-tells, meridian-tells}
 use Rattle.crs_value.proofs.SoundLemmas.{Tells, first-tells, optional-tells, each-tells, text-of-tells, ids-tell, angle-tells}
 use Rattle.crs_value.proofs.SoundSystemLemmas.{read-none, read-there, system-allowed, system-free, system-tells}
-use Rattle.crs_value.proofs.SoundUsageLemmas.{SlotsBound, arguments-none, tail-tells}
+use Rattle.crs_value.proofs.SoundUsageLemmas.{arguments-none, tail-tells}
 
 -- ---- frames
 

@@ -87,10 +87,8 @@ own-none cs axis r e none =
     back f (inr h) = let P : List Item → Type 0 = λ xs. AnyOf (Misfits cs axis) xs f in absurd (subst P none h)
 
 pub own-some : (tree cs axis : Item) (id : ℕ) (o : Option RefusedAt) → IsFound tree class.Axis class.AxisUnit (units_in axis) (Some id) →
-    IsLeast (AnyOf (Misfits cs axis) (from_found tree class.Axis class.AxisUnit (Some id))) o → IsLeast (BadOwnUnit cs axis) o
-own-some tree cs axis id o found h =
-    let P : List Item → Type 0 = λ xs. IsLeast (AnyOf (Misfits cs axis) xs) o in
-    least-same (AnyOf (Misfits cs axis) (units_in axis)) (BadOwnUnit cs axis) o (λ f k. inr k) back (subst P (sym found.0) h)
+    IsLeast (AnyOf (Misfits cs axis) (units_in axis)) o → IsLeast (BadOwnUnit cs axis) o
+own-some tree cs axis id o found h = least-same (AnyOf (Misfits cs axis) (units_in axis)) (BadOwnUnit cs axis) o (λ f k. inr k) back h
   where
     back : (f : RefusedAt) → BadOwnUnit cs axis f → AnyOf (Misfits cs axis) (units_in axis) f
     back f (inl k) = let e : [] ≡ item_at tree id ∷ those class.Axis class.AxisUnit (rest_of (here tree id)) = sym k.1 ∙ found.0 in absurd cc

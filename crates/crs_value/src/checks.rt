@@ -74,23 +74,6 @@ pub(crate) fn any_from<C: Check>(
     least
 }
 
-// The first break among a node's arguments of one class.
-pub(crate) fn any_of<C: Check>(
-    check: &C,
-    items: &Items<'_>,
-    id: ItemId,
-    parent: Class,
-    class: Class,
-) -> Option<Refusal>
-    requires has { HasId items.now id }
-    requires fits { C.Fits check.now items.now class }
-    requires shaped { Shaped parent (item_at items.now id) }
-    ensures { IsLeast (AnyOf (C.Broken check.now items.now) (those parent class (arguments
-        (item_at items.now id)))) result }
-{
-    any_from(check, items, first(items, id, parent, class), parent, class)
-}
-
 // The break of a node's argument of a class that may stand in it once, which was found where there is one.
 pub(crate) fn only_from<C: Check>(
     check: &C,

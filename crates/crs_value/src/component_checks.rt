@@ -5,9 +5,9 @@ ghost use Rattle.crs_shape.specs.Shaped.{Shaped};
 ghost use Rattle.crs_value.specs.BadComponent.{IsNotEllipsoidal, IsNotPlane, IsNotHorizontal, BadComponent};
 ghost use Rattle.crs_value.specs.Break.{AnyOf, IsLeast, FirstIs};
 ghost use Rattle.crs_value.specs.Checks.{OfCompound};
-ghost use Rattle.crs_value.specs.Reading.{item_at, those, Requires};
+ghost use Rattle.crs_value.specs.Reading.{item_at, those, Requires, TakesOne};
 
-use crate::checks::{Check, any_of, lesser, refusal_at};
+use crate::checks::{Check, lesser, only_of, refusal_at};
 use crate::firsts::firsts_of;
 use crate::node::{number, required};
 use crate::repeats::repeats_once;
@@ -93,10 +93,11 @@ fn bad_part(items: &Items<'_>, id: ItemId, class: Class) -> Option<Refusal>
     requires has { HasId items.now id }
     requires shaped { Shaped Class.CompoundCrs (item_at items.now id) }
     requires there { Requires class Class.CoordinateSystem 0 }
+    requires once { TakesOne Class.CompoundCrs class }
     ensures { IsLeast (AnyOf (BadComponent class) (those Class.CompoundCrs class (arguments
         (item_at items.now id)))) result }
 {
-    any_of(&Component { class }, items, id, Class::CompoundCrs, class)
+    only_of(&Component { class }, items, id, Class::CompoundCrs, class)
 }
 
 // The checks of a compound CRS: what may stand once, and its horizontal part.

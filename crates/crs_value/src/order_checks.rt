@@ -9,7 +9,7 @@ ghost use Rattle.crs_value.specs.Noted.{AreFirsts};
 ghost use Rattle.crs_value.specs.Reading.{item_at, those, IsFound};
 
 use crate::arguments::{first, later};
-use crate::checks::{Check, any_from, any_of, lesser, refusal_at};
+use crate::checks::{Check, any_from, lesser, only_of, refusal_at};
 use crate::firsts::Firsts;
 use crate::node::number;
 use crate::system_checks::count_of;
@@ -188,7 +188,7 @@ fn bad_orders(items: &Items<'_>, crs: ItemId, class: Class, firsts: &Firsts) -> 
         };
         least = lesser(
             least,
-            any_of(&position, items, axis, Class::Axis, Class::Order),
+            only_of(&position, items, axis, Class::Axis, Class::Order),
         );
         before += 1;
         at = later(items, axis, class, Class::Axis);

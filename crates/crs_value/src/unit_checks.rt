@@ -8,7 +8,7 @@ ghost use Rattle.crs_value.specs.Reading.{item_at, those, IsFound, IsReading, Re
 ghost use Rattle.crs_value.specs.Reads.{ReadsDirection};
 
 use crate::arguments::{first, later};
-use crate::checks::{Check, any_from, any_of, lesser, refusal_at};
+use crate::checks::{Check, any_from, lesser, only_from, only_of, refusal_at};
 use crate::direction::Direction;
 use crate::node::required;
 use crate::system_checks::type_of;
@@ -109,7 +109,14 @@ impl Check for OwnUnit {
             cs: self.cs,
             axis: id,
         };
-        any_from(&misfit, items, Some(unit), Class::Axis, Class::AxisUnit)
+        only_from(
+            &misfit,
+            items,
+            id,
+            Class::Axis,
+            Class::AxisUnit,
+            Some(unit),
+        )
     }
 }
 
@@ -143,7 +150,7 @@ impl Check for NoUnit {
     ghost Broken = { λ s tree item f. HasOwnUnit item f };
 
     fn check(&self, items: &Items<'_>, id: ItemId, _class: Class) -> Option<Refusal> {
-        any_of(&Superfluous, items, id, Class::Axis, Class::AxisUnit)
+        only_of(&Superfluous, items, id, Class::Axis, Class::AxisUnit)
     }
 }
 

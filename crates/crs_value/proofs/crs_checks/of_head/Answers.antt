@@ -6,14 +6,8 @@ use Rattle.crs_value.specs.Break.{AnyOf}
 use Rattle.crs_value.specs.Checks.{OfHead, once}
 use Rattle.crs_value.specs.RepeatedPart.{RepeatsAny}
 use Rattle.crs_value.specs.Reading.{item_at, those}
-use Rattle.crs_value.proofs.ArgumentLemmas.{found-shaped}
-use Rattle.crs_value.proofs.CheckLemmas.{found-any}
 use Rattle.crs_value.proofs.LeastLemmas.{either-is}
 use Rattle.crs_value.proofs.crs_checks.of_head.Goals as goal
-
-pub any_from-requires-clause-shaped : goal.any_from-requires-clause-shaped
-any_from-requires-clause-shaped c =
-    found-shaped c.args.items.now c.args.class class.CoordinateSystem (item_at c.args.items.now c.args.id) c.args.firsts.now.system c.requires.shaped c.requires.firsts.system
 
 pub returns : goal.returns
 returns c =
@@ -21,7 +15,6 @@ returns c =
     let systems = those c.args.class class.CoordinateSystem items in
     let axes = those c.args.class class.Axis items in
     let Repeated : RefusedAt → Type 0 = λ f. RepeatsAny c.args.class items once f in
-    either-is Repeated (AnyOf (OfHead (dimensions_of c.args.class) axes) systems) c.repeats_once.result c.any_from.result c.lesser.result c.lesser.ensures
+    either-is Repeated (AnyOf (OfHead (dimensions_of c.args.class) axes) systems) c.repeats_once.result c.only_from.result c.lesser.result c.lesser.ensures
     c.repeats_once.ensures
-    (found-any (OfHead (dimensions_of c.args.class) axes) c.args.items.now c.args.class class.CoordinateSystem systems c.args.firsts.now.system c.any_from.result
-    c.requires.firsts.system c.any_from.ensures)
+    c.only_from.ensures

@@ -14,5 +14,5 @@ loop-at-preserved c =
     let tree = c.args.items.now in
     let whole = those c.args.class class.Axis (arguments (item_at tree c.args.crs)) in
     let P : Option ℕ → Type 0 = λ at. Ordering tree c.args.class whole c.count_of-count.result c.loop-at.before c.loop-at.least at in
-    ordering-on tree c.args.class whole c.count_of-count.result c.loop-at.before c.loop-at.least c.any_of.result c.lesser-least.result c.in-Some.axis c.later-at.result
-    (subst P c.in-Some.is c.loop-at.invariant) c.any_of.ensures c.lesser-least.ensures c.later-at.ensures
+    ordering-on tree c.args.class whole c.count_of-count.result c.loop-at.before c.loop-at.least c.only_of.result c.lesser-least.result c.in-Some.axis c.later-at.result
+    (subst P c.in-Some.is c.loop-at.invariant) c.only_of.ensures c.lesser-least.ensures c.later-at.ensures

@@ -6,11 +6,11 @@ pub returns-in-CompoundCrs : goal.returns-in-CompoundCrs
 returns-in-CompoundCrs c = own-compound c.args.class (item_at c.args.items.now c.args.id) c.compound.result c.in-CompoundCrs.is c.compound.ensures
 
 pub returns-in-LengthUnit : goal.returns-in-LengthUnit
-returns-in-LengthUnit c = own-unit c.args.class (item_at c.args.items.now c.args.id) c.any_of.result c.any_of.ensures c.in-LengthUnit.is
+returns-in-LengthUnit c = own-unit c.args.class (item_at c.args.items.now c.args.id) c.only_of.result c.only_of.ensures c.in-LengthUnit.is
 
 pub returns-in-CoordinateSystem : goal.returns-in-CoordinateSystem
 returns-in-CoordinateSystem c =
-    own-system c.args.class (item_at c.args.items.now c.args.id) c.any_of-in-CoordinateSystem.result c.in-CoordinateSystem.is c.any_of-in-CoordinateSystem.ensures
+    own-system c.args.class (item_at c.args.items.now c.args.id) c.only_of-in-CoordinateSystem.result c.in-CoordinateSystem.is c.only_of-in-CoordinateSystem.ensures
 
 pub returns-in-Axis : goal.returns-in-Axis
-returns-in-Axis c = own-axis c.args.class (item_at c.args.items.now c.args.id) c.any_of-in-Axis.result c.in-Axis.is c.any_of-in-Axis.ensures
+returns-in-Axis c = own-axis c.args.class (item_at c.args.items.now c.args.id) c.only_of-in-Axis.result c.in-Axis.is c.only_of-in-Axis.ensures
