@@ -209,6 +209,8 @@ const ONE_NUMBER: &[Slot] = &[one!(Number)];
 
 const ONE_TEXT: &[Slot] = &[one!(Text)];
 
+const NO_SLOTS: &[Slot] = &[];
+
 /// The slots of a class, in order; none for an item that isn't a node.
 /// ISO 19162:2019, the part of the standard that stands above each row; tails and anchors in any
 /// order are the profile's.
@@ -251,7 +253,7 @@ pub(crate) fn row(class: Class) -> &'static [Slot]
         Class::Anchor | Class::Scope | Class::Area | Class::Remark => ONE_TEXT,
         Class::Citation | Class::Uri => ONE_TEXT,
         // items that aren't nodes
-        Class::Number | Class::Text | Class::Word => &[],
+        Class::Number | Class::Text | Class::Word => NO_SLOTS,
     }
 }
 
