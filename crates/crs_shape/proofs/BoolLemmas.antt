@@ -37,6 +37,10 @@ pub not-true : (a : Bool) → not a ≡ true → a ≡ false
 not-true true e = cc
 not-true false e = refl
 
+pub turned : (a : Bool) → not a ≡ false → a ≡ true
+turned true e = refl
+turned false e = cc
+
 pub not-false : (a : Bool) → a ≡ false → not a ≡ true
 not-false true e = cc
 not-false false e = refl

@@ -81,7 +81,7 @@ in-list test (j ∷ ks) word k all e =
       | false ↦ λ f. in-list test ks word k (and-right (test j) (list_all test ks) all) f
     ] e
 
-passes : (test : Keyword → Bool) (word : List ℕ) (k : Keyword) → is_everywhere test ≡ true → keyword_of word ≡ Some k →
+pub passes : (test : Keyword → Bool) (word : List ℕ) (k : Keyword) → is_everywhere test ≡ true → keyword_of word ≡ Some k →
     test k ≡ true
 unfolding keyword_of
 passes test word k all e = in-list test every_keyword word k all e

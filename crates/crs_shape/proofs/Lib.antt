@@ -1,4 +1,5 @@
 pub mod BoolLemmas
+pub mod ClassSetLemmas
 pub mod CountLemmas
 pub mod FaultLemmas
 pub mod FitLemmas
@@ -10,6 +11,7 @@ pub mod ListLemmas
 pub mod ShapedLemmas
 pub mod RootLemmas
 pub mod SlotLemmas
+pub mod SoughtLemmas
 pub mod TableLemmas
 pub mod WalkLemmas
 pub mod SpellingLemmas

@@ -1,6 +1,6 @@
 -- A bridge: the table of keywords: the classes that have each keyword.
 use Rattle.std.specs.Prelude.{Bool, Option, Some, None, List, [], ◌∷◌}
-use Rattle.std.specs.List.{list_any}
+use Rattle.std.specs.List.{list_any, flat_map}
 use denote.Enum.Bare.{sameb}
 use Rattle.crs_text.specs.declared.keyword.Keyword.{Keyword}
 use Rattle.crs_text.specs.declared.keyword.Keyword.TheVariants as keyword
@@ -72,6 +72,10 @@ is_among c classes = list_any (λ d. sameb the_type d c) classes
 -- whether arguments of a class may stand in a parent
 abbrev pub is_part : Class → Class → Bool
 is_part parent c = list_any (λ s. takes s c) (slots_of parent)
+
+-- the classes of the arguments that may stand in a parent
+abbrev pub parts_of : Class → List Class
+parts_of parent = flat_map (λ s. s.classes) (slots_of parent)
 
 -- whether it is a class of a whole text
 abbrev pub is_root : Class → Bool

@@ -1,3 +1,4 @@
+pub mod ClassSet
 pub mod Counts
 pub mod FaultPlace
 pub mod FirstFault
@@ -7,4 +8,5 @@ pub mod Shape
 pub mod ShapeFault
 pub mod Shaped
 pub mod Slots
+pub mod Sought
 pub mod Walk

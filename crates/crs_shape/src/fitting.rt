@@ -1,19 +1,20 @@
 //! Whether items have the shape of a class.
-ghost use Rattle.std.specs.Prelude.{◌≡◌, ◌+◌, ◌^◌, ◌<◌, ◌&&◌, not, true, false, Some, IsTrue, IsFalse, MatchResult};
+ghost use Rattle.std.specs.Prelude.{◌≡◌, ◌+◌, ◌^◌, ◌<◌, ◌&&◌, not, true, false, Some, IsTrue, IsFalse, MatchResult, All};
 ghost use Rattle.std.specs.Prelude.{option_map};
 ghost use Rattle.crs_text.specs.Items.{first_of, close_of, kind_of, raw_of, here, HasId};
 ghost use Rattle.crs_shape.specs.Keywords.{is_known};
 ghost use Rattle.crs_text.specs.Refusal.{is_refusal};
+ghost use Rattle.crs_shape.specs.ClassSet.{HasSet};
 ghost use Rattle.crs_shape.specs.FirstFault.{step_of, first_inside};
 ghost use Rattle.crs_shape.specs.ShapeFault.{class_in, is_of, misplaced, missing, IsFree, IsOnly, Inside, AtRoot};
 ghost use Rattle.crs_shape.specs.ShapeFault.{class_of_root};
-ghost use Rattle.crs_shape.specs.Slots.{shown, is_class};
+ghost use Rattle.crs_shape.specs.Slots.{shown};
 ghost use Rattle.crs_shape.specs.Walk.{after, may_end, left_of};
 
 use crate::class::Class;
 use crate::keyword::{has_keyword, known_by, root_by};
 use crate::slot::Slot;
-use crate::table::{class_by, names_by, slots};
+use crate::table::{class_by, row};
 use crs_text::{ItemId, ItemKind, Items, Refusal};
 
 /// Whether an item has the shape of a class. Takes no memory; the time is linear in the item.
@@ -82,7 +83,7 @@ fn fault_within(items: &Items<'_>, id: ItemId, class: Class, close: usize) -> Op
     requires node { close_of (first_of (here items.now id)) ≡ Some close }
     ensures { result ≡ first_inside class (first_of (here items.now id)) }
 {
-    let row = slots(class);
+    let row = row(class);
     let mut walk = Walk {
         at: 0,
         filled: false,
@@ -117,7 +118,8 @@ fn step(
     row: &[Slot],
     walk: Walk,
 ) -> Option<(Class, Walk)>
-    requires { HasId items.now argument }
+    requires has { HasId items.now argument }
+    requires sets { All HasSet row.now }
     ensures { option_map (λ s. (s.0, left_of row.now s.1)) result
         ≡ step_of parent (left_of row.now walk) (first_of (here items.now argument)) }
 {
@@ -137,19 +139,6 @@ pub fn class_in(items: &Items<'_>, id: ItemId, parent: Class) -> Option<Class>
         ItemKind::Text => Some(Class::Text),
         ItemKind::Word => Some(Class::Word),
         ItemKind::Node => class_by(parent, items.keyword(id)),
-    }
-}
-
-/// Whether an item is of that class in a parent of this class; it asks for less than `class_in`. Profile.
-pub fn stands_as(items: &Items<'_>, id: ItemId, parent: Class, class: Class) -> bool
-    requires { HasId items.now id }
-    ensures { result ≡ is_class class (class_in parent (first_of (here items.now id))) }
-{
-    match items.kind(id) {
-        ItemKind::Number => class == Class::Number,
-        ItemKind::Text => class == Class::Text,
-        ItemKind::Word => class == Class::Word,
-        ItemKind::Node => names_by(parent, items.keyword(id), class),
     }
 }
 
@@ -202,6 +191,7 @@ struct Walk {
 impl Walk {
     // The walk after one more argument, of this class; None where it may not stand there.
     fn after(self, row: &[Slot], class: Class) -> Option<Walk>
+        requires { All HasSet row.now }
         ensures { option_map (λ w. left_of row.now w) result ≡ after (left_of row.now self) class }
     {
         let mut filled = self.filled;

@@ -2,16 +2,19 @@
 #![tactic(auto)]
 
 mod class;
+mod class_set;
 mod fitting;
 mod keyword;
 pub mod laws;
 mod naming;
 mod part;
+mod seeking;
 mod slot;
 mod table;
 
 pub use class::Class;
-pub use fitting::{class_in, fit, fit_root, stands_as};
+pub use fitting::{class_in, fit, fit_root};
 pub use keyword::{keywords, known, root_class};
+pub use seeking::{Sought, stands_as};
 pub use slot::Slot;
 pub use table::{class_of, names, slots};

@@ -3,15 +3,19 @@ ghost use Rattle.std.specs.Prelude.{◌≡◌};
 ghost use Rattle.std.specs.List.{list_any};
 ghost use denote.Enum.Bare.{sameb};
 ghost use Rattle.crs_shape.specs.contracts.class.Class.{the_type};
+ghost use Rattle.crs_shape.specs.ClassSet.{HasSet};
 ghost use Rattle.crs_shape.specs.Slots.{shown, takes};
 
 use crate::class::Class;
+use crate::class_set::ClassSet;
 
 /// A slot: a place in a class's row for arguments of its classes. It takes at least one argument if it
 /// is required, and more than one only if it takes many. Profile.
 #[derive(Clone, Copy, Debug)]
 pub struct Slot {
     pub(crate) classes: &'static [Class],
+    // the same classes
+    pub(crate) set: ClassSet,
     pub(crate) required: bool,
     pub(crate) many: bool,
 }
@@ -40,9 +44,10 @@ impl Slot {
 
     // Whether arguments of this class may stand here.
     pub(crate) fn takes(&self, class: Class) -> bool
+        requires { HasSet self.now }
         ensures { result ≡ takes (shown self.now) class }
     {
-        has(self.classes, class)
+        self.set.has(class)
     }
 }
 

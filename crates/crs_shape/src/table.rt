@@ -1,34 +1,48 @@
 //! The slots of each class.
-ghost use Rattle.std.specs.Prelude.{◌≡◌, map};
+ghost use Rattle.std.specs.Prelude.{◌≡◌, All, map};
 ghost use Rattle.std.specs.List.{find};
+ghost use Rattle.crs_shape.specs.ClassSet.{HasSet};
 ghost use Rattle.crs_shape.specs.KeywordTable.{classes_by, is_part};
 ghost use Rattle.crs_shape.specs.Slots.{shown, slots_of, class_named, is_class};
 
 use crate::class::Class;
+use crate::class_set::{ClassSet, set};
 use crate::keyword::has_keyword;
 use crate::naming::classes_by;
 use crate::part::is_part;
 use crate::slot::Slot;
 use crs_text::Keyword;
 
+// a slot for arguments of these classes
+macro_rules! slot {
+    ($required:literal, $many:literal, $($class:ident),*) => {
+        Slot {
+            classes: &[$(Class::$class),*],
+            set: set!($($class),*),
+            required: $required,
+            many: $many,
+        }
+    };
+}
+
 // exactly one argument, of one of these classes
 macro_rules! one {
-    ($($class:ident),*) => { Slot { classes: &[$(Class::$class),*], required: true, many: false } };
+    ($($class:ident),*) => { slot!(true, false, $($class),*) };
 }
 
 // none or one
 macro_rules! optional {
-    ($($class:ident),*) => { Slot { classes: &[$(Class::$class),*], required: false, many: false } };
+    ($($class:ident),*) => { slot!(false, false, $($class),*) };
 }
 
 // any number, none included, in any order
 macro_rules! any {
-    ($($class:ident),*) => { Slot { classes: &[$(Class::$class),*], required: false, many: true } };
+    ($($class:ident),*) => { slot!(false, true, $($class),*) };
 }
 
 // one or more
 macro_rules! some {
-    ($($class:ident),*) => { Slot { classes: &[$(Class::$class),*], required: true, many: true } };
+    ($($class:ident),*) => { slot!(true, true, $($class),*) };
 }
 
 // what may stand at a CRS's end
@@ -195,11 +209,21 @@ const ONE_NUMBER: &[Slot] = &[one!(Number)];
 
 const ONE_TEXT: &[Slot] = &[one!(Text)];
 
+const NO_SLOTS: &[Slot] = &[];
+
 /// The slots of a class, in order; none for an item that isn't a node.
 /// ISO 19162:2019, the part of the standard that stands above each row; tails and anchors in any
 /// order are the profile's.
 pub fn slots(class: Class) -> &'static [Slot]
     ensures { map shown result.now ≡ slots_of class }
+{
+    row(class)
+}
+
+// The slots of a class, each with the set of its classes.
+pub(crate) fn row(class: Class) -> &'static [Slot]
+    ensures slots { map shown result.now ≡ slots_of class }
+    ensures sets { All HasSet result.now }
 {
     match class {
         Class::GeodeticCrs | Class::GeographicCrs => GEODETIC_CRS,
@@ -229,7 +253,7 @@ pub fn slots(class: Class) -> &'static [Slot]
         Class::Anchor | Class::Scope | Class::Area | Class::Remark => ONE_TEXT,
         Class::Citation | Class::Uri => ONE_TEXT,
         // items that aren't nodes
-        Class::Number | Class::Text | Class::Word => &[],
+        Class::Number | Class::Text | Class::Word => NO_SLOTS,
     }
 }
 
@@ -268,13 +292,13 @@ pub fn names(parent: Class, keyword: &[u8], class: Class) -> bool
 }
 
 // Whether a keyword names that class in a parent of this class.
-pub(crate) fn names_by(parent: Class, keyword: Option<Keyword>, class: Class) -> bool
+fn names_by(parent: Class, keyword: Option<Keyword>, class: Class) -> bool
     ensures { result ≡ is_class class (find (is_part parent) (classes_by keyword)) }
 {
     has_keyword(class, keyword) && is_class(class_by(parent, keyword), class)
 }
 
-fn is_class(named: Option<Class>, class: Class) -> bool
+pub(crate) fn is_class(named: Option<Class>, class: Class) -> bool
     ensures { result ≡ is_class class named }
 {
     match named {

@@ -3,7 +3,7 @@ ghost use Rattle.std.specs.Prelude.{◌≡◌, ◌<◌};
 ghost use Rattle.crs_text.specs.Items.{arguments, rest_of, here, HasId};
 ghost use Rattle.crs_value.specs.Reading.{item_at, ahead, Holds, those, IsFound};
 
-use crs_shape::{Class, stands_as};
+use crs_shape::{Class, Sought};
 use crs_text::{ItemId, Items};
 
 // The first argument of this class from this one on.
@@ -11,9 +11,10 @@ fn found(items: &Items<'_>, from: Option<ItemId>, parent: Class, class: Class) -
     requires { Holds items.now from }
     ensures { IsFound items.now parent class (those parent class (ahead items.now from)) result }
 {
+    let sought = Sought::new(parent, class);
     let mut at = from;
     while let Some(id) = at {
-        if stands_as(items, id, parent, class) {
+        if sought.is(items, id) {
             return Some(id);
         }
         at = items.next(id);

@@ -14,7 +14,7 @@ fault_within-within-requires t c =
 pub loop-next-init : goal.loop-next-init
 loop-next-init t c =
     let P : List SlotParts → Type 0 = λ slots. Going c.args.items.now c.args.class (first_of (here c.args.items.now c.args.id)) c.args.close slots c.arg-next.result in
-    subst P (sym c.slots-row.ensures)
+    subst P (sym c.row-row.ensures.slots)
     (going_first c.args.items.now _ _ _ _ c.requires.class c.requires.node c.arg-next.ensures)
 
 pub returns-in_default-step : goal.returns-in_default-step

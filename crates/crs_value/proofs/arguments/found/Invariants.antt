@@ -5,7 +5,7 @@ use Rattle.crs_value.proofs.arguments.found.Given as goal
 
 abbrev pub invariant-loop-at : goal.invariant-loop-at
 invariant-loop-at l = record {
-  same : those l.parent l.class (ahead l.items l.at) ≡ those l.parent l.class (ahead l.items l.initial.at);
+  same : those l.fn.parent l.fn.class (ahead l.items l.at) ≡ those l.fn.parent l.fn.class (ahead l.items l.initial.at);
   has : Holds l.items l.at;
 }
 

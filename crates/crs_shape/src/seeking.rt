@@ -1,0 +1,164 @@
+//! The search for an argument of a class.
+ghost use Rattle.std.specs.Prelude.{◌≡◌};
+ghost use Rattle.crs_text.specs.Items.{first_of, here, HasId};
+ghost use Rattle.crs_shape.specs.ClassSet.{has_bit, keyword_bit, keyword_set};
+ghost use Rattle.crs_shape.specs.ShapeFault.{class_in};
+ghost use Rattle.crs_shape.specs.Slots.{is_class};
+ghost use Rattle.crs_shape.specs.Sought.{kind_for};
+
+use crate::class::Class;
+use crate::table::{class_by, is_class};
+use crs_text::{ItemId, ItemKind, Items, Keyword};
+use std::marker::Model;
+
+/// What is sought among arguments: one of a class, in a parent of a class. What each argument is asked first
+/// is found once: its kind, and which keywords the class has. Profile.
+#[derive(Clone, Copy)]
+pub struct Sought {
+    keywords: KeywordSet,
+    kind: ItemKind,
+    parent: Class,
+    class: Class,
+}
+
+impl Model for Sought {
+    ghost use Rattle.std.specs.Prelude.{◌≡◌};
+    ghost use Rattle.crs_shape.specs.ClassSet.{keyword_set};
+    ghost use Rattle.crs_shape.specs.Sought.{SoughtParts, kind_for};
+
+    ghost Value = { SoughtParts };
+
+    ghost view = { λ s. record { parent = s.parent; class = s.class } };
+
+    ghost invariant = { λ s. (s.keywords.bits ≡ keyword_set s.class) × (s.kind ≡ kind_for s.class) };
+
+    ghost inverse = { λ v. record {
+      keywords = record { bits = keyword_set v.class };
+      kind = kind_for v.class;
+      parent = v.parent;
+      class = v.class;
+    } };
+}
+
+impl Sought {
+    /// An argument of this class in a parent of that one.
+    pub fn new(parent: Class, class: Class) -> Sought
+        ensures { result ≡ record { parent = parent; class = class } }
+    {
+        Sought {
+            keywords: keywords_of(class),
+            kind: kind_for(class),
+            parent,
+            class,
+        }
+    }
+
+    /// Whether an item is what is sought.
+    #[inline(always)]
+    pub fn is(&self, items: &Items<'_>, id: ItemId) -> bool
+        requires { HasId items.now id }
+        ensures { result ≡ is_class self.now.class (class_in self.now.parent (first_of (here items.now id))) }
+    {
+        if items.kind(id) != self.kind {
+            return false;
+        }
+        if self.kind != ItemKind::Node {
+            return true;
+        }
+        let Some(keyword) = items.keyword(id) else {
+            return false;
+        };
+        if !self.keywords.has(keyword) {
+            return false;
+        }
+        is_class(class_by(self.parent, Some(keyword)), self.class)
+    }
+}
+
+/// Whether an item is of that class in a parent of this class; it asks for less than `class_in`. Whoever asks it of
+/// many items has a `Sought` for them all. Profile.
+pub fn stands_as(items: &Items<'_>, id: ItemId, parent: Class, class: Class) -> bool
+    requires { HasId items.now id }
+    ensures { result ≡ is_class class (class_in parent (first_of (here items.now id))) }
+{
+    Sought::new(parent, class).is(items, id)
+}
+
+// What an item of this class is.
+fn kind_for(class: Class) -> ItemKind
+    ensures { result ≡ kind_for class }
+{
+    if class == Class::Number {
+        ItemKind::Number
+    } else if class == Class::Text {
+        ItemKind::Text
+    } else if class == Class::Word {
+        ItemKind::Word
+    } else {
+        ItemKind::Node
+    }
+}
+
+// A set of keywords, as a word with a bit for each keyword.
+#[derive(Clone, Copy)]
+struct KeywordSet {
+    bits: u64,
+}
+
+impl KeywordSet {
+    fn has(self, keyword: Keyword) -> bool
+        ensures { result ≡ has_bit self.bits (keyword_bit keyword) }
+    {
+        (self.bits >> keyword as u64) & 1 == 1
+    }
+}
+
+// the set of these keywords
+macro_rules! keywords {
+    ($($keyword:ident),*) => { KeywordSet { bits: 0 $(| 1 << Keyword::$keyword as u64)* } };
+}
+
+// The keywords of a class; none for an item that isn't a node.
+fn keywords_of(class: Class) -> KeywordSet
+    ensures { result.bits ≡ keyword_set class }
+{
+    match class {
+        Class::GeodeticCrs => keywords!(GeodCrs, GeodeticCrs),
+        Class::GeographicCrs => keywords!(GeogCrs, GeographicCrs),
+        Class::ProjectedCrs => keywords!(ProjCrs, ProjectedCrs),
+        Class::BaseCrs => keywords!(BaseGeogCrs, BaseGeodCrs),
+        Class::VerticalCrs => keywords!(VertCrs, VerticalCrs),
+        Class::CompoundCrs => keywords!(CompoundCrs),
+        Class::GeodeticFrame => keywords!(Datum, Trf, GeodeticDatum),
+        Class::VerticalFrame => keywords!(VDatum, Vrf, VerticalDatum),
+        Class::GeodeticEnsemble | Class::VerticalEnsemble => keywords!(Ensemble),
+        Class::Member => keywords!(Member),
+        Class::EnsembleAccuracy => keywords!(EnsembleAccuracy),
+        Class::Anchor => keywords!(Anchor),
+        Class::Ellipsoid => keywords!(Ellipsoid, Spheroid),
+        Class::PrimeMeridian => keywords!(PrimeM, PrimeMeridian),
+        Class::LengthUnit => keywords!(LengthUnit, PlainUnit),
+        Class::AngleUnit => keywords!(AngleUnit, PlainUnit),
+        Class::ScaleUnit => keywords!(ScaleUnit),
+        Class::PlainUnit => keywords!(PlainUnit),
+        Class::AxisUnit => keywords!(LengthUnit, AngleUnit, PlainUnit),
+        Class::CoordinateSystem => keywords!(Cs),
+        Class::Axis => keywords!(Axis),
+        Class::Meridian => keywords!(Meridian),
+        Class::Order => keywords!(Order),
+        Class::Conversion => keywords!(Conversion),
+        Class::Method => keywords!(Method, Projection),
+        Class::Parameter => keywords!(Parameter),
+        Class::GeoidModel => keywords!(GeoidModel),
+        Class::Usage => keywords!(Usage),
+        Class::Scope => keywords!(Scope),
+        Class::Area => keywords!(Area),
+        Class::BoundingBox => keywords!(BBox),
+        Class::VerticalExtent => keywords!(VerticalExtent),
+        Class::Identifier => keywords!(Id),
+        Class::Citation => keywords!(Citation),
+        Class::Uri => keywords!(Uri),
+        Class::Remark => keywords!(Remark),
+        Class::Number | Class::Text | Class::Word => keywords!(),
+    }
+}
