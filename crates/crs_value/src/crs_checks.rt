@@ -101,7 +101,14 @@ fn of_head(items: &Items<'_>, id: ItemId, class: Class, firsts: &Firsts) -> Opti
     };
     lesser(
         repeats_once(items, id, class, firsts),
-        only_from(&head, items, id, class, Class::CoordinateSystem, firsts.system),
+        only_from(
+            &head,
+            items,
+            id,
+            class,
+            Class::CoordinateSystem,
+            firsts.system,
+        ),
     )
 }
 
@@ -123,7 +130,14 @@ fn of_axes(items: &Items<'_>, id: ItemId, class: Class, firsts: &Firsts) -> Opti
     };
     lesser(
         bad_order(items, id, class, firsts),
-        only_from(&units, items, id, class, Class::CoordinateSystem, firsts.system),
+        only_from(
+            &units,
+            items,
+            id,
+            class,
+            Class::CoordinateSystem,
+            firsts.system,
+        ),
     )
 }
 

@@ -109,14 +109,7 @@ impl Check for OwnUnit {
             cs: self.cs,
             axis: id,
         };
-        only_from(
-            &misfit,
-            items,
-            id,
-            Class::Axis,
-            Class::AxisUnit,
-            Some(unit),
-        )
+        only_from(&misfit, items, id, Class::Axis, Class::AxisUnit, Some(unit))
     }
 }
 
