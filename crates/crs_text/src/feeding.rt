@@ -80,8 +80,9 @@ fn settle(table: &mut Table, text: &[u8], at: usize) -> Result<Option<usize>, Fa
     if !is_settled(left, lexed) {
         return Ok(None);
     }
-    match take_lexed(table, text, at, lexed) {
-        Ok(size) => Ok(Some(after_white(text, at + size))),
+    let mut taken = 0;
+    match take_lexed(table, text, at, lexed, &mut taken) {
+        Ok(()) => Ok(Some(after_white(text, at + taken))),
         Err(fault) => Err(fault),
     }
 }

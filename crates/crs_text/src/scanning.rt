@@ -22,6 +22,9 @@ fn unexpected(at: usize) -> Fault
     Fault::Refused(Reason::Unexpected.at(at))
 }
 
+// How many bytes were taken comes back by reference, as does the place that is reached: a count and a fault that share
+// the room of one answer are kept byte by byte, which costs five instructions a token.
+
 // A number, text or word of `size` bytes, which has these raw bytes.
 #[inline(always)]
 fn take_single(
@@ -31,51 +34,81 @@ fn take_single(
     kind: ItemKind,
     raw: &[u8],
     size: usize,
-) -> Result<usize, Fault>
+    taken: &mut usize,
+) -> Result<(), Fault>
     requires { IsSingleAt text.now at kind raw.now size }
-    ensures { MatchResult result (IsTaken text.now at table.old table.new) (IsStoppedBy text.now at table.old) }
+    ensures { MatchResult result (λ _. IsTaken text.now at table.old table.new taken.new)
+        (IsStoppedBy text.now at table.old) }
 {
     match table.single(kind, at, raw) {
-        Ok(true) => Ok(size),
+        Ok(true) => {
+            *taken = size;
+            Ok(())
+        }
         Ok(false) => Err(unexpected(at)),
         Err(refused) => Err(Fault::Memory(refused)),
     }
 }
 
 #[inline(always)]
-fn take_comma(table: &mut Table, text: &[u8], at: usize) -> Result<usize, Fault>
+fn take_comma(
+    table: &mut Table,
+    text: &[u8],
+    at: usize,
+    taken: &mut usize,
+) -> Result<(), Fault>
     requires within { at < length text.now }
     requires forms { Forms (length text.now) comma (drop at text.now) (drop (at + 1) text.now) }
-    ensures { MatchResult result (IsTaken text.now at table.old table.new) (IsStoppedBy text.now at table.old) }
+    ensures { MatchResult result (λ _. IsTaken text.now at table.old table.new taken.new)
+        (IsStoppedBy text.now at table.old) }
 {
     if table.comma() {
-        Ok(1)
+        *taken = 1;
+        Ok(())
     } else {
         Err(unexpected(at))
     }
 }
 
 #[inline(always)]
-fn take_closing(table: &mut Table, text: &[u8], at: usize, square: bool) -> Result<usize, Fault>
+fn take_closing(
+    table: &mut Table,
+    text: &[u8],
+    at: usize,
+    square: bool,
+    taken: &mut usize,
+) -> Result<(), Fault>
     requires within { at < length text.now }
     requires forms { Forms (length text.now) (closing at square) (drop at text.now) (drop (at + 1) text.now) }
-    ensures { MatchResult result (IsTaken text.now at table.old table.new) (IsStoppedBy text.now at table.old) }
+    ensures { MatchResult result (λ _. IsTaken text.now at table.old table.new taken.new)
+        (IsStoppedBy text.now at table.old) }
 {
     if table.close(at, square) {
-        Ok(1)
+        *taken = 1;
+        Ok(())
     } else {
         Err(unexpected(at))
     }
 }
 
 #[inline(always)]
-fn take_opening(table: &mut Table, text: &[u8], at: usize, square: bool) -> Result<usize, Fault>
+fn take_opening(
+    table: &mut Table,
+    text: &[u8],
+    at: usize,
+    square: bool,
+    taken: &mut usize,
+) -> Result<(), Fault>
     requires within { at < length text.now }
     requires forms { Forms (length text.now) (opening square) (drop at text.now) (drop (at + 1) text.now) }
-    ensures { MatchResult result (IsTaken text.now at table.old table.new) (IsStoppedBy text.now at table.old) }
+    ensures { MatchResult result (λ _. IsTaken text.now at table.old table.new taken.new)
+        (IsStoppedBy text.now at table.old) }
 {
     match table.open(square) {
-        Opened::Taken => Ok(1),
+        Opened::Taken => {
+            *taken = 1;
+            Ok(())
+        }
         Opened::TooDeep => Err(Fault::Refused(Reason::TooDeep.at(at))),
         Opened::Refused => Err(unexpected(at)),
     }
@@ -89,45 +122,53 @@ fn flawed(text: &[u8], at: usize, reason: Reason, skip: usize) -> Fault
     Fault::Refused(reason.at(at + skip))
 }
 
-/// What begins at this place: how many bytes it has, if it is a token that the table takes.
+/// What begins at this place, if it is a token that the table takes; `taken` is how many bytes it has.
 #[inline(always)]
 pub(crate) fn take_lexed(
     table: &mut Table,
     text: &[u8],
     at: usize,
     lexed: Lexed,
-) -> Result<usize, Fault>
+    taken: &mut usize,
+) -> Result<(), Fault>
     requires more { at < length text.now }
     requires lexed { IsLexed (drop at text.now) lexed }
-    ensures { MatchResult result (IsTaken text.now at table.old table.new) (IsStoppedBy text.now at table.old) }
+    ensures { MatchResult result (λ _. IsTaken text.now at table.old table.new taken.new)
+        (IsStoppedBy text.now at table.old) }
 {
     match lexed {
         Lexed::Number { length } => {
             let raw = front_of(rest_of(text, at), length);
-            take_single(table, text, at, ItemKind::Number, raw, length)
+            take_single(table, text, at, ItemKind::Number, raw, length, taken)
         }
         Lexed::Text { length } => {
             let raw = front_of(rest_of(rest_of(text, at), 1), length);
-            take_single(table, text, at, ItemKind::Text, raw, length + 2)
+            take_single(table, text, at, ItemKind::Text, raw, length + 2, taken)
         }
         Lexed::Word { length } => {
             let raw = front_of(rest_of(text, at), length);
-            take_single(table, text, at, ItemKind::Word, raw, length)
+            take_single(table, text, at, ItemKind::Word, raw, length, taken)
         }
-        Lexed::Comma => take_comma(table, text, at),
-        Lexed::Opening { square } => take_opening(table, text, at, square),
-        Lexed::Closing { square } => take_closing(table, text, at, square),
+        Lexed::Comma => take_comma(table, text, at, taken),
+        Lexed::Opening { square } => take_opening(table, text, at, square, taken),
+        Lexed::Closing { square } => take_closing(table, text, at, square, taken),
         Lexed::Flaw { reason, skip } => Err(flawed(text, at, reason, skip)),
     }
 }
 
-// The token at this place: how many bytes it has, if the table takes it.
+// The token at this place, if the table takes it.
 #[inline(always)]
-fn take_token(table: &mut Table, text: &[u8], at: usize) -> Result<usize, Fault>
+fn take_token(
+    table: &mut Table,
+    text: &[u8],
+    at: usize,
+    taken: &mut usize,
+) -> Result<(), Fault>
     requires { at < length text.now }
-    ensures { MatchResult result (IsTaken text.now at table.old table.new) (IsStoppedBy text.now at table.old) }
+    ensures { MatchResult result (λ _. IsTaken text.now at table.old table.new taken.new)
+        (IsStoppedBy text.now at table.old) }
 {
-    take_lexed(table, text, at, token_at(rest_of(text, at)))
+    take_lexed(table, text, at, token_at(rest_of(text, at)), taken)
 }
 
 /// Where the white space that begins at `end` has an end.
@@ -146,17 +187,22 @@ pub(crate) fn after_white(text: &[u8], end: usize) -> usize
     at
 }
 
-/// Takes the token at this place and the white space behind it.
+/// Takes the token at this place and the white space behind it, and moves the place behind both.
 #[inline(always)]
-pub(crate) fn advance(table: &mut Table, text: &[u8], at: usize) -> Result<usize, Fault>
-    requires more { at < length text.now }
-    requires reached { IsReached text.now table.old at }
+pub(crate) fn advance(table: &mut Table, text: &[u8], at: &mut usize) -> Result<(), Fault>
+    requires more { at.old < length text.now }
+    requires reached { IsReached text.now table.old at.old }
     ensures { MatchResult result
-        (λ next. IsReached text.now table.new next × (at < next))
+        (λ _. IsReached text.now table.new at.new × (at.old < at.new))
         (IsTextFault text.now) }
 {
-    match take_token(table, text, at) {
-        Ok(size) => Ok(after_white(text, at + size)),
+    let start = *at;
+    let mut taken = 0;
+    match take_token(table, text, start, &mut taken) {
+        Ok(()) => {
+            *at = after_white(text, start + taken);
+            Ok(())
+        }
         Err(fault) => Err(fault),
     }
 }
@@ -170,7 +216,7 @@ pub(crate) fn scan_from(table: &mut Table, text: &[u8], from: usize) -> Result<(
 {
     let mut at = from;
     while at < text.len() {
-        at = advance(table, text, at)?;
+        advance(table, text, &mut at)?;
     }
     if table.is_whole() {
         Ok(())

@@ -26,7 +26,7 @@ returns-in-Ok c =
     let is = subst (λ z. IsLexed z l) c.rest_of-left.ensures c.token_at-lexed.ensures in
     let judged = subst (λ z. MatchBool c.is_settled.result (IsLexedSettled z l) (¬ (IsLexedSettled z l))) c.rest_of-left.ensures c.is_settled.ensures in
     let all = all_from_lexed text at c.requires.more l is (MatchBool-at_true _ _ c.if-not-is_settled.false judged) in
-    let n = c.in-Ok.size in
+    let n = c.take_lexed.new.taken in
     let r = settled_next text at n (prefix_len is_white (drop (at + n) text)) c.args.table.now c.take_lexed.new.table all c.requires.reached c.in-Ok.ensures refl in (
       subst (IsSettledTo text c.take_lexed.new.table) (sym c.after_white.ensures) r,
       omega (arith, taken_some text at n c.args.table.now c.take_lexed.new.table c.in-Ok.ensures, c.after_white.ensures),
