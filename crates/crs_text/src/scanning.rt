@@ -168,6 +168,10 @@ fn take_token(
     ensures { MatchResult result (λ _. IsTaken text.now at table.old table.new taken.new)
         (IsStoppedBy text.now at table.old) }
 {
+    // A fourth of all tokens are commas.
+    if text[at] == b',' {
+        return take_comma(table, text, at, taken);
+    }
     take_lexed(table, text, at, token_at(rest_of(text, at)), taken)
 }
 
