@@ -10,7 +10,7 @@ use Rattle.crs_value.specs.declared.system_type.SystemType.{SystemType}
 use Rattle.crs_value.specs.declared.system_type.SystemType.TheVariants.{Cartesian, Ellipsoidal, Spherical, Vertical}
 
 abbrev pub directions : List Direction
-directions = North ∷ NorthNorthEast ∷ NorthEast ∷ EastNorthEast ∷ East ∷ EastSouthEast ∷ SouthEast ∷ SouthSouthEast ∷ South ∷ SouthSouthWest ∷ SouthWest ∷ WestSouthWest ∷ West ∷ WestNorthWest ∷ NorthWest ∷ NorthNorthWest ∷ GeocentricX ∷ GeocentricY ∷ GeocentricZ ∷ Up ∷ Down ∷ Unspecified ∷ []
+directions = North ∷ East ∷ Up ∷ GeocentricX ∷ GeocentricY ∷ GeocentricZ ∷ South ∷ West ∷ Down ∷ NorthNorthEast ∷ NorthEast ∷ EastNorthEast ∷ EastSouthEast ∷ SouthEast ∷ SouthSouthEast ∷ SouthSouthWest ∷ SouthWest ∷ WestSouthWest ∷ WestNorthWest ∷ NorthWest ∷ NorthNorthWest ∷ Unspecified ∷ []
 
 abbrev pub types : List SystemType
 types = Cartesian ∷ Ellipsoidal ∷ Spherical ∷ Vertical ∷ []
@@ -66,26 +66,26 @@ type_one raw t u p q =
 
 abbrev pub direction_place : Direction → ℕ
 direction_place North = 0
-direction_place NorthNorthEast = 1
-direction_place NorthEast = 2
-direction_place EastNorthEast = 3
-direction_place East = 4
-direction_place EastSouthEast = 5
-direction_place SouthEast = 6
-direction_place SouthSouthEast = 7
-direction_place South = 8
-direction_place SouthSouthWest = 9
-direction_place SouthWest = 10
-direction_place WestSouthWest = 11
-direction_place West = 12
-direction_place WestNorthWest = 13
-direction_place NorthWest = 14
-direction_place NorthNorthWest = 15
-direction_place GeocentricX = 16
-direction_place GeocentricY = 17
-direction_place GeocentricZ = 18
-direction_place Up = 19
-direction_place Down = 20
+direction_place NorthNorthEast = 9
+direction_place NorthEast = 10
+direction_place EastNorthEast = 11
+direction_place East = 1
+direction_place EastSouthEast = 12
+direction_place SouthEast = 13
+direction_place SouthSouthEast = 14
+direction_place South = 6
+direction_place SouthSouthWest = 15
+direction_place SouthWest = 16
+direction_place WestSouthWest = 17
+direction_place West = 7
+direction_place WestNorthWest = 18
+direction_place NorthWest = 19
+direction_place NorthNorthWest = 20
+direction_place GeocentricX = 3
+direction_place GeocentricY = 4
+direction_place GeocentricZ = 5
+direction_place Up = 2
+direction_place Down = 8
 direction_place Unspecified = 21
 
 pub direction_placed : (d : Direction) → get_or directions (direction_place d) d ≡ d
