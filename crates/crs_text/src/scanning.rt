@@ -51,12 +51,7 @@ fn take_single(
 }
 
 #[inline(always)]
-fn take_comma(
-    table: &mut Table,
-    text: &[u8],
-    at: usize,
-    taken: &mut usize,
-) -> Result<(), Fault>
+fn take_comma(table: &mut Table, text: &[u8], at: usize, taken: &mut usize) -> Result<(), Fault>
     requires within { at < length text.now }
     requires forms { Forms (length text.now) comma (drop at text.now) (drop (at + 1) text.now) }
     ensures { MatchResult result (λ _. IsTaken text.now at table.old table.new taken.new)
@@ -158,12 +153,7 @@ pub(crate) fn take_lexed(
 
 // The token at this place, if the table takes it.
 #[inline(always)]
-fn take_token(
-    table: &mut Table,
-    text: &[u8],
-    at: usize,
-    taken: &mut usize,
-) -> Result<(), Fault>
+fn take_token(table: &mut Table, text: &[u8], at: usize, taken: &mut usize) -> Result<(), Fault>
     requires { at < length text.now }
     ensures { MatchResult result (λ _. IsTaken text.now at table.old table.new taken.new)
         (IsStoppedBy text.now at table.old) }
