@@ -1,8 +1,9 @@
 -- The first arguments of a node of some classes, found in one walk.
-use Rattle.std.proofs.Common.{◌≡◌, ℕ, Bool, true, false, Option, Some, None, sym, ◌∙◌, ap, subst}
+use Rattle.std.proofs.Common.{◌≡◌, ℕ, ◌+◌, ◌≤◌, length, Bool, true, false, Option, Some, None, sym, ◌∙◌, ap, subst, arith}
 use Rattle.crs_text.specs.Items.{Item, Siblings, rest_of, here, HasId, IsAt}
 use Rattle.crs_shape.specs.declared.class.Class.{Class}
 use Rattle.crs_shape.specs.declared.class.Class.TheVariants as class
+use Rattle.crs_shape.specs.Counts.{one_if}
 use Rattle.crs_shape.specs.ShapeFault.{class_in}
 use Rattle.crs_shape.specs.Slots.{is_class}
 use Rattle.crs_value.specs.declared.firsts.Firsts.{Firsts}
@@ -49,11 +50,22 @@ one-end : (tree : Item) (parent c : Class) (all : Siblings) (found : Option ℕ)
 one-end tree parent c all None at so none = so ∙ ap (λ o. those parent c (ahead tree o)) none
 one-end tree parent c all (Some id) at so none = so
 
+-- how many of a class are left, behind one that is of the class or not
+one-more : (b : Bool) (tree : Item) (parent c : Class) (id : ℕ) (at : Option ℕ) → HasId tree id → is_a parent c (item_at tree id) ≡ b → IsAt tree (rest_of (here tree id)) at →
+    length (those parent c (here tree id)) ≡ one_if b + length (those parent c (ahead tree at))
+one-more true tree parent c id at has e next =
+    let behind = ap (λ xs. length (those parent c xs)) (ahead_at tree (rest_of (here tree id)) at next) in
+    omega (arith, ap length (those-first parent c (here tree id) has e), behind)
+one-more false tree parent c id at has e next =
+    let behind = ap (λ xs. length (those parent c xs)) (ahead_at tree (rest_of (here tree id)) at next) in
+    omega (arith, ap length (those-later parent c (here tree id) has e), behind)
+
 -- those of all classes that are asked for
 pub record Seen (tree : Item) (parent : Class) (all : Siblings) (firsts : Firsts) (at : Option ℕ) : Type 0 where
   pub holds : Holds tree at
   pub system : SeenOf tree parent class.CoordinateSystem all (ahead tree at) firsts.system
   pub axis : SeenOf tree parent class.Axis all (ahead tree at) firsts.axis
+  pub axes : firsts.axes + length (those parent class.Axis (ahead tree at)) ≡ length (those parent class.Axis all)
   pub unit : SeenOf tree parent class.AxisUnit all (ahead tree at) firsts.unit
   pub scope : SeenOf tree parent class.Scope all (ahead tree at) firsts.scope
   pub area : SeenOf tree parent class.Area all (ahead tree at) firsts.area
@@ -66,11 +78,12 @@ pub record Seen (tree : Item) (parent : Class) (all : Siblings) (firsts : Firsts
 pub seen-first : (tree : Item) (parent : Class) (all : Siblings) (firsts : Firsts) (at : Option ℕ) → IsAt tree all at →
     firsts.system ≡ None → firsts.axis ≡ None → firsts.unit ≡ None → firsts.scope ≡ None →
     firsts.area ≡ None → firsts.bbox ≡ None → firsts.extent ≡ None → firsts.remark ≡ None →
-    firsts.usage ≡ None → firsts.identifier ≡ None → Seen tree parent all firsts at
-seen-first tree parent all firsts at h e0 e1 e2 e3 e4 e5 e6 e7 e8 e9 = record {
+    firsts.usage ≡ None → firsts.identifier ≡ None → firsts.axes ≡ 0 → Seen tree parent all firsts at
+seen-first tree parent all firsts at h e0 e1 e2 e3 e4 e5 e6 e7 e8 e9 none = record {
   holds = holds_at tree all at h;
   system = start class.CoordinateSystem firsts.system e0;
   axis = start class.Axis firsts.axis e1;
+  axes = omega (arith, none, ap (λ xs. length (those parent class.Axis xs)) (ahead_at tree all at h));
   unit = start class.AxisUnit firsts.unit e2;
   scope = start class.Scope firsts.scope e3;
   area = start class.Area firsts.area e4;
@@ -88,6 +101,7 @@ seen-first tree parent all firsts at h e0 e1 e2 e3 e4 e5 e6 e7 e8 e9 = record {
 pub record AreNoted (old new : Firsts) (d : Class) (id : ℕ) : Type 0 where
   pub system : new.system ≡ noted (is_same class.CoordinateSystem d) old.system id
   pub axis : new.axis ≡ noted (is_same class.Axis d) old.axis id
+  pub axes : new.axes ≡ old.axes + one_if (is_same class.Axis d)
   pub unit : new.unit ≡ noted (is_same class.AxisUnit d) old.unit id
   pub scope : new.scope ≡ noted (is_same class.Scope d) old.scope id
   pub area : new.area ≡ noted (is_same class.Area d) old.area id
@@ -103,6 +117,7 @@ seen-on tree parent d all old new id at so named are next = record {
   holds = holds_at tree (rest_of (here tree id)) at next;
   system = one-on tree parent class.CoordinateSystem d all old.system new.system id at so.holds named are.system so.system next;
   axis = one-on tree parent class.Axis d all old.axis new.axis id at so.holds named are.axis so.axis next;
+  axes = omega (arith, are.axes, so.axes, one-more (is_same class.Axis d) tree parent class.Axis id at so.holds (ap (is_class class.Axis) named) next);
   unit = one-on tree parent class.AxisUnit d all old.unit new.unit id at so.holds named are.unit so.unit next;
   scope = one-on tree parent class.Scope d all old.scope new.scope id at so.holds named are.scope so.scope next;
   area = one-on tree parent class.Area d all old.area new.area id at so.holds named are.area so.area next;
@@ -119,6 +134,7 @@ seen-past tree parent all firsts id at so unnamed next = record {
   holds = holds_at tree (rest_of (here tree id)) at next;
   system = one-none tree parent class.CoordinateSystem all firsts.system id at so.holds unnamed so.system next;
   axis = one-none tree parent class.Axis all firsts.axis id at so.holds unnamed so.axis next;
+  axes = omega (arith, so.axes, one-more false tree parent class.Axis id at so.holds (ap (is_class class.Axis) unnamed) next);
   unit = one-none tree parent class.AxisUnit all firsts.unit id at so.holds unnamed so.unit next;
   scope = one-none tree parent class.Scope all firsts.scope id at so.holds unnamed so.scope next;
   area = one-none tree parent class.Area all firsts.area id at so.holds unnamed so.area next;
@@ -130,15 +146,23 @@ seen-past tree parent all firsts id at so unnamed next = record {
 }
 
 pub seen-end : (tree : Item) (parent : Class) (all : Siblings) (firsts : Firsts) (at : Option ℕ) → Seen tree parent all firsts at → at ≡ None → AreFirsts tree parent all firsts
-seen-end tree parent all firsts at so none = record {
-  system = one-end tree parent class.CoordinateSystem all firsts.system at so.system none;
-  axis = one-end tree parent class.Axis all firsts.axis at so.axis none;
-  unit = one-end tree parent class.AxisUnit all firsts.unit at so.unit none;
-  scope = one-end tree parent class.Scope all firsts.scope at so.scope none;
-  area = one-end tree parent class.Area all firsts.area at so.area none;
-  bbox = one-end tree parent class.BoundingBox all firsts.bbox at so.bbox none;
-  extent = one-end tree parent class.VerticalExtent all firsts.extent at so.extent none;
-  remark = one-end tree parent class.Remark all firsts.remark at so.remark none;
-  usage = one-end tree parent class.Usage all firsts.usage at so.usage none;
-  identifier = one-end tree parent class.Identifier all firsts.identifier at so.identifier none;
-}
+seen-end tree parent all firsts at so none =
+    let left = ap (λ o. length (those parent class.Axis (ahead tree o))) none in record {
+      system = one-end tree parent class.CoordinateSystem all firsts.system at so.system none;
+      axis = one-end tree parent class.Axis all firsts.axis at so.axis none;
+      axes = omega (arith, so.axes, left);
+      unit = one-end tree parent class.AxisUnit all firsts.unit at so.unit none;
+      scope = one-end tree parent class.Scope all firsts.scope at so.scope none;
+      area = one-end tree parent class.Area all firsts.area at so.area none;
+      bbox = one-end tree parent class.BoundingBox all firsts.bbox at so.bbox none;
+      extent = one-end tree parent class.VerticalExtent all firsts.extent at so.extent none;
+      remark = one-end tree parent class.Remark all firsts.remark at so.remark none;
+      usage = one-end tree parent class.Usage all firsts.usage at so.usage none;
+      identifier = one-end tree parent class.Identifier all firsts.identifier at so.identifier none;
+    }
+
+-- one axis more is still among all of them
+pub axis-among : (tree : Item) (parent d : Class) (all : Siblings) (firsts : Firsts) (id : ℕ) → Seen tree parent all firsts (Some id) → class_in parent (item_at tree id) ≡ Some d →
+    is_same class.Axis d ≡ true → firsts.axes + 1 ≤ length (those parent class.Axis all)
+axis-among tree parent d all firsts id so named axis =
+    omega (arith, so.axes, ap length (those-first parent class.Axis (here tree id) so.holds (ap (is_class class.Axis) named ∙ axis)))

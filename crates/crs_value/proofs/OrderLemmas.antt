@@ -1,5 +1,5 @@
 -- The checks of the orders of axes.
-use Rattle.std.proofs.Common.{◌≡◌, ◌≢◌, ℕ, zero, suc, ◌+◌, ◌<◌, ◌≤◌, length, take, drop, Bool, IsTrue, ◌↔◌, inl, inr, ◌⊎◌, Option, Some, None, List, [], ◌∷◌, ◌++◌, refl, sym, ◌∙◌, ap, subst, append_assoc, arith}
+use Rattle.std.proofs.Common.{◌≡◌, ◌≢◌, ℕ, zero, suc, ◌+◌, ◌<◌, ◌≤◌, length, take, drop, Bool, IsTrue, ◌↔◌, inl, inr, ◌⊎◌, Option, Some, None, List, [], ◌∷◌, ◌++◌, refl, sym, ◌∙◌, ap, subst, append_assoc, length-append, arith}
 use Rattle.crs_decimal.specs.Number.{Number, SameNumber, whole_number}
 use Rattle.crs_decimal.specs.Value.{Value, exact}
 use Rattle.crs_text.specs.Items.{Item, arguments, rest_of, here}
@@ -238,6 +238,12 @@ pub record Ordering (tree : Item) (parent : Class) (whole : List Item) (count be
   pub holds : Holds tree at
   pub shaped : AllShaped class.Axis (from_found tree parent class.Axis at)
   pub is_least : IsLeast (BadOrders (length whole) [] done) least
+
+-- where an axis is left, those before it aren't all
+pub more-are-left : (tree : Item) (parent : Class) (whole : List Item) (count before : ℕ) (least : Option RefusedAt) (id : ℕ) → Ordering tree parent whole count before least (Some id) →
+    before + 1 ≤ length whole
+more-are-left tree parent whole count before least id so =
+    omega (arith, so.many, ap length so.parts, length-append so.done (from_found tree parent class.Axis (Some id)))
 
 pub ordering-first : (tree : Item) (parent : Class) (item : Item) (count : ℕ) (at : Option ℕ) → Shaped parent item → count ≡ length (those parent class.Axis (arguments item)) →
     IsFound tree parent class.Axis (those parent class.Axis (arguments item)) at → Ordering tree parent (those parent class.Axis (arguments item)) count 0 None at

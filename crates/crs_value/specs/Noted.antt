@@ -1,5 +1,5 @@
 -- A bridge: the first arguments of some classes, as one walk over a node finds them.
-use Rattle.std.specs.Prelude.{ℕ, Bool, true, false, Option, Some, None}
+use Rattle.std.specs.Prelude.{◌≡◌, ℕ, length, Bool, true, false, Option, Some, None}
 use Rattle.crs_text.specs.Items.{Item, Siblings}
 use Rattle.crs_shape.specs.declared.class.Class.{Class}
 use Rattle.crs_shape.specs.declared.class.Class.TheVariants as class
@@ -12,10 +12,11 @@ noted false old id = old
 noted true None id = Some id
 noted true (Some old) id = Some old
 
--- each is the first of its class among these arguments
+-- each is the first of its class among these arguments, and so many axes are among them
 pub record AreFirsts (tree : Item) (parent : Class) (items : Siblings) (firsts : Firsts) : Type 0 where
   pub system : IsFound tree parent class.CoordinateSystem (those parent class.CoordinateSystem items) firsts.system
   pub axis : IsFound tree parent class.Axis (those parent class.Axis items) firsts.axis
+  pub axes : firsts.axes ≡ length (those parent class.Axis items)
   pub unit : IsFound tree parent class.AxisUnit (those parent class.AxisUnit items) firsts.unit
   pub scope : IsFound tree parent class.Scope (those parent class.Scope items) firsts.scope
   pub area : IsFound tree parent class.Area (those parent class.Area items) firsts.area

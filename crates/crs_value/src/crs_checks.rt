@@ -27,19 +27,19 @@ const ORDER: u8 = 26;
 struct HeadOf {
     crs: ItemId,
     class: Class,
-    axis: Option<ItemId>,
+    axes: usize,
 }
 
 impl Check for HeadOf {
-    ghost use Rattle.std.specs.Prelude.{◌≡◌};
+    ghost use Rattle.std.specs.Prelude.{◌≡◌, length};
     ghost use Rattle.crs_text.specs.Items.{HasId, arguments};
     ghost use Rattle.crs_shape.specs.declared.class.Class.TheVariants as classes;
     ghost use Rattle.crs_value.specs.BadSystem.{dimensions_of};
     ghost use Rattle.crs_value.specs.Checks.{OfHead};
-    ghost use Rattle.crs_value.specs.Reading.{item_at, those, IsFound};
+    ghost use Rattle.crs_value.specs.Reading.{item_at, those};
 
     ghost Fits = { λ s tree class. HasId tree s.crs × (class ≡ classes.CoordinateSystem)
-        × IsFound tree s.class classes.Axis (those s.class classes.Axis (arguments (item_at tree s.crs))) s.axis };
+        × (s.axes ≡ length (those s.class classes.Axis (arguments (item_at tree s.crs)))) };
 
     ghost Broken = { λ s tree item f. OfHead (dimensions_of s.class)
         (those s.class classes.Axis (arguments (item_at tree s.crs))) item f };
@@ -48,7 +48,7 @@ impl Check for HeadOf {
         let dimension = number(items, id, Class::CoordinateSystem);
         lesser(
             bad_system(items, id, self.class, &dimension),
-            bad_count(items, self.crs, self.class, id, self.axis, &dimension),
+            bad_count(items, self.crs, self.class, id, self.axes, &dimension),
         )
     }
 }
@@ -97,7 +97,7 @@ fn of_head(items: &Items<'_>, id: ItemId, class: Class, firsts: &Firsts) -> Opti
     let head = HeadOf {
         crs: id,
         class,
-        axis: firsts.axis,
+        axes: firsts.axes,
     };
     lesser(
         repeats_once(items, id, class, firsts),

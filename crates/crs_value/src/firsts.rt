@@ -1,17 +1,19 @@
 //! The first arguments of a CRS of those classes that its checks and its reading ask for, found in one walk.
-ghost use Rattle.std.specs.Prelude.{◌≡◌, true};
+ghost use Rattle.std.specs.Prelude.{◌≡◌, ◌+◌, ◌^◌, ◌<◌, true, IsTrue};
 ghost use Rattle.crs_text.specs.Items.{HasId, arguments};
+ghost use Rattle.crs_shape.specs.Counts.{one_if};
 ghost use Rattle.crs_value.specs.Noted.{AreFirsts, noted};
 ghost use Rattle.crs_value.specs.Reading.{is_same, item_at};
 
 use crs_shape::{Class, class_in};
 use crs_text::{ItemId, Items};
 
-// The first argument of each of these classes; None where there is none.
+// The first argument of each of these classes, None where there is none; and how many axes there are.
 #[derive(Clone, Copy)]
 pub(crate) struct Firsts {
     pub(crate) system: Option<ItemId>,
     pub(crate) axis: Option<ItemId>,
+    pub(crate) axes: usize,
     pub(crate) unit: Option<ItemId>,
     pub(crate) scope: Option<ItemId>,
     pub(crate) area: Option<ItemId>,
@@ -26,6 +28,7 @@ pub(crate) struct Firsts {
 const NONE: Firsts = Firsts {
     system: None,
     axis: None,
+    axes: 0,
     unit: None,
     scope: None,
     area: None,
@@ -49,8 +52,10 @@ fn first_of(old: Option<ItemId>, id: ItemId) -> Option<ItemId>
 impl Firsts {
     // One argument more, of this class.
     fn note(&mut self, class: Class, id: ItemId)
+        requires { IsTrue (is_same Class.Axis class) → self.old.axes + 1 < 2 ^ 64 }
         ensures system { self.new.system ≡ noted (is_same Class.CoordinateSystem class) self.old.system id }
         ensures axis { self.new.axis ≡ noted (is_same Class.Axis class) self.old.axis id }
+        ensures axes { self.new.axes ≡ self.old.axes + one_if (is_same Class.Axis class) }
         ensures unit { self.new.unit ≡ noted (is_same Class.AxisUnit class) self.old.unit id }
         ensures scope { self.new.scope ≡ noted (is_same Class.Scope class) self.old.scope id }
         ensures area { self.new.area ≡ noted (is_same Class.Area class) self.old.area id }
@@ -62,7 +67,10 @@ impl Firsts {
     {
         match class {
             Class::CoordinateSystem => self.system = first_of(self.system, id),
-            Class::Axis => self.axis = first_of(self.axis, id),
+            Class::Axis => {
+                self.axis = first_of(self.axis, id);
+                self.axes += 1;
+            }
             Class::AxisUnit => self.unit = first_of(self.unit, id),
             Class::Scope => self.scope = first_of(self.scope, id),
             Class::Area => self.area = first_of(self.area, id),
@@ -81,6 +89,8 @@ pub(crate) fn firsts_of(items: &Items<'_>, id: ItemId, parent: Class) -> Firsts
     requires { HasId items.now id }
     ensures { AreFirsts items.now parent (arguments (item_at items.now id)) result }
 {
+    // The axes are no more than the arguments, whose number is a usize.
+    let _bound = items.arg_count(id);
     let mut firsts = NONE;
     let mut next = items.arg(id, 0);
     while let Some(argument) = next {

@@ -12,7 +12,6 @@ use crate::arguments::{first, later};
 use crate::checks::{Check, any_from, lesser, only_of, refusal_at};
 use crate::firsts::Firsts;
 use crate::node::number;
-use crate::system_checks::count_of;
 use crs_decimal::Decimal;
 use crs_decimal::laws::{denotes_one, same_number_is_equivalence};
 use crs_shape::Class;
@@ -174,7 +173,9 @@ fn bad_orders(items: &Items<'_>, crs: ItemId, class: Class, firsts: &Firsts) -> 
     ensures { IsLeast (BadOrders (length (those class Class.Axis (arguments (item_at items.now crs)))) []
         (those class Class.Axis (arguments (item_at items.now crs)))) result }
 {
-    let count = count_of(items, crs, class, Class::Axis, firsts.axis);
+    // The axes are no more than the arguments, whose number is a usize.
+    let _bound = items.arg_count(crs);
+    let count = firsts.axes;
     let mut before = 0;
     let mut least = None;
     let mut at = firsts.axis;

@@ -9,7 +9,6 @@ ghost use Rattle.crs_value.specs.BadSystem.{HasType, HasDimension, IsOneOf, dime
 ghost use Rattle.crs_value.specs.Break.{IsLeast};
 ghost use Rattle.crs_value.specs.Reading.{item_at, those, IsFound, IsReading};
 
-use crate::arguments::later;
 use crate::checks::refusal_at;
 use crate::node::required;
 use crate::system_type::SystemType;
@@ -70,47 +69,23 @@ pub(crate) fn bad_system(
     }
 }
 
-// How many arguments of a class a node has, from the first one on.
-pub(crate) fn count_of(
-    items: &Items<'_>,
-    id: ItemId,
-    parent: Class,
-    class: Class,
-    from: Option<ItemId>,
-) -> usize
-    requires has { HasId items.now id }
-    requires from { IsFound items.now parent class (those parent class (arguments (item_at items.now id))) from }
-    ensures { result ≡ length (those parent class (arguments (item_at items.now id))) }
-{
-    let _bound = items.arg_count(id);
-    let mut count = 0;
-    let mut at = from;
-    while let Some(found) = at {
-        count += 1;
-        at = later(items, found, parent, class);
-    }
-    count
-}
-
 // 25: a number of axes that isn't the dimension.
 pub(crate) fn bad_count(
     items: &Items<'_>,
-    crs: ItemId,
-    class: Class,
+    _crs: ItemId,
+    _class: Class,
     cs: ItemId,
-    axis: Option<ItemId>,
+    axes: usize,
     dimension: &Decimal,
 ) -> Option<Refusal>
     requires has { HasId items.now cs }
-    requires crs { HasId items.now crs }
+    requires crs { HasId items.now _crs }
     requires dimension { HasDimension (item_at items.now cs) dimension.now }
-    requires axis { IsFound items.now class Class.Axis (those class Class.Axis (arguments (item_at items.now crs)))
-        axis }
-    ensures { IsLeast (AxisCount (those class Class.Axis (arguments (item_at items.now crs)))
+    requires axes { axes ≡ length (those _class Class.Axis (arguments (item_at items.now _crs))) }
+    ensures { IsLeast (AxisCount (those _class Class.Axis (arguments (item_at items.now _crs)))
         (item_at items.now cs)) result }
 {
     denotes_one();
-    let axes = count_of(items, crs, class, Class::Axis, axis);
     if dimension.is_whole(axes as u64) {
         None
     } else {

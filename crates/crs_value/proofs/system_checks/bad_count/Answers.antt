@@ -11,4 +11,4 @@ pub returns-then-is_whole : goal.returns-then-is_whole
 returns-then-is_whole c =
     let tree = c.args.items.now in
     let P : ℕ → Type 0 = λ n. SameNumber (exact c.args.dimension.now) (whole_number n) in
-    count-none c.denotes_one.ensures (those c.args.class class.Axis (arguments (item_at tree c.args.crs))) (item_at tree c.args.cs) c.args.dimension.now c.requires.dimension (subst P c.count_of-axes.ensures (c.if-is_whole.ensures.0 refl))
+    count-none c.denotes_one.ensures (those c.args._class class.Axis (arguments (item_at tree c.args._crs))) (item_at tree c.args.cs) c.args.dimension.now c.requires.dimension (subst P c.requires.axes (c.if-is_whole.ensures.0 refl))
