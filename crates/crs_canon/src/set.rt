@@ -10,7 +10,7 @@ use std::alloc::{AllocError, Global};
 use std::collections::BTreeSet;
 
 /// The room that a member's spelling is given at first, which most don't exceed: a vector that grows from nothing is
-/// copied five times on its way there.
+/// copied several times on its way there.
 pub(crate) const MEMBER_ROOM: usize = 128;
 
 // A value that may be a member of a set.

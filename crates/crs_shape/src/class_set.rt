@@ -1,5 +1,5 @@
 //! Sets of classes, as words with a bit for each class: the test of a bit is one step, where a `match` over
-//! classes jumps, and the jump is mostly foretold wrongly.
+//! classes jumps, and the jump is often foretold wrongly.
 ghost use Rattle.std.specs.Prelude.{◌≡◌};
 ghost use Rattle.crs_shape.specs.ClassSet.{bit_of, has_bit};
 

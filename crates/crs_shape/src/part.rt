@@ -14,6 +14,60 @@ macro_rules! with_tail {
     };
 }
 
+// Geodetic and geographic CRS
+const GEODETIC_CRS: ClassSet = with_tail!(
+    Text,
+    GeodeticFrame,
+    GeodeticEnsemble,
+    PrimeMeridian,
+    CoordinateSystem,
+    Axis,
+    AxisUnit
+);
+
+// Projected CRS
+const PROJECTED_CRS: ClassSet = with_tail!(
+    Text,
+    BaseCrs,
+    Conversion,
+    CoordinateSystem,
+    Axis,
+    AxisUnit
+);
+
+// Vertical CRS
+const VERTICAL_CRS: ClassSet = with_tail!(
+    Text,
+    VerticalFrame,
+    VerticalEnsemble,
+    GeoidModel,
+    CoordinateSystem,
+    Axis,
+    AxisUnit
+);
+
+// Compound CRS
+const COMPOUND_CRS: ClassSet = with_tail!(
+    Text,
+    VerticalCrs,
+    GeodeticCrs,
+    GeographicCrs,
+    ProjectedCrs
+);
+
+const BASE_CRS: ClassSet = set!(
+    Text,
+    GeodeticFrame,
+    GeodeticEnsemble,
+    PrimeMeridian,
+    AngleUnit,
+    Identifier
+);
+
+const PARAMETER: ClassSet = set!(
+    Text, Number, PlainUnit, LengthUnit, AngleUnit, ScaleUnit, Identifier
+);
+
 // Whether arguments of this class may stand in a parent of that class.
 pub(crate) fn is_part(parent: Class, class: Class) -> bool
     ensures { result ≡ is_part parent class }
@@ -26,47 +80,11 @@ fn parts(parent: Class) -> ClassSet
     ensures { result.bits ≡ set_of (parts_of parent) }
 {
     match parent {
-        Class::GeodeticCrs | Class::GeographicCrs => with_tail!(
-            Text,
-            GeodeticFrame,
-            GeodeticEnsemble,
-            PrimeMeridian,
-            CoordinateSystem,
-            Axis,
-            AxisUnit
-        ),
-        Class::ProjectedCrs => with_tail!(
-            Text,
-            BaseCrs,
-            Conversion,
-            CoordinateSystem,
-            Axis,
-            AxisUnit
-        ),
-        Class::VerticalCrs => with_tail!(
-            Text,
-            VerticalFrame,
-            VerticalEnsemble,
-            GeoidModel,
-            CoordinateSystem,
-            Axis,
-            AxisUnit
-        ),
-        Class::CompoundCrs => with_tail!(
-            Text,
-            VerticalCrs,
-            GeodeticCrs,
-            GeographicCrs,
-            ProjectedCrs
-        ),
-        Class::BaseCrs => set!(
-            Text,
-            GeodeticFrame,
-            GeodeticEnsemble,
-            PrimeMeridian,
-            AngleUnit,
-            Identifier
-        ),
+        Class::GeodeticCrs | Class::GeographicCrs => GEODETIC_CRS,
+        Class::ProjectedCrs => PROJECTED_CRS,
+        Class::VerticalCrs => VERTICAL_CRS,
+        Class::CompoundCrs => COMPOUND_CRS,
+        Class::BaseCrs => BASE_CRS,
         Class::GeodeticFrame => set!(Text, Ellipsoid, Anchor, Identifier),
         Class::VerticalFrame => set!(Text, Anchor, Identifier),
         Class::GeodeticEnsemble => set!(Text, Member, Ellipsoid, EnsembleAccuracy, Identifier),
@@ -79,9 +97,7 @@ fn parts(parent: Class) -> ClassSet
         Class::Axis => set!(Text, Word, Meridian, Order, AxisUnit, Identifier),
         Class::Meridian => set!(Number, AngleUnit),
         Class::Conversion => set!(Text, Method, Parameter, Identifier),
-        Class::Parameter => set!(
-            Text, Number, PlainUnit, LengthUnit, AngleUnit, ScaleUnit, Identifier
-        ),
+        Class::Parameter => PARAMETER,
         Class::Method | Class::Member | Class::GeoidModel => set!(Text, Identifier),
         Class::Usage => set!(Scope, Area, BoundingBox, VerticalExtent),
         Class::VerticalExtent => set!(Number, LengthUnit),

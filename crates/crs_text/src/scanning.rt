@@ -23,7 +23,7 @@ fn unexpected(at: usize) -> Fault
 }
 
 // How many bytes were taken comes back by reference, as does the place that is reached: a count and a fault that share
-// the room of one answer are kept byte by byte, which costs five instructions a token.
+// the room of one answer are kept byte by byte, which costs some four instructions a token.
 
 // A number, text or word of `size` bytes, which has these raw bytes.
 #[inline(always)]
