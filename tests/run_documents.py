@@ -1,57 +1,109 @@
 #!/usr/bin/env python3
-"""Runs the command lines that documents show, and compares what they print with what the documents say.
+"""Runs the command lines that documents show, and holds what the documents quote against the files that they quote.
 
     run_documents.py [FILE.md ..]
 
 In a block that begins with the line ```console, a line '$ COMMAND' is run by the shell in the repository's folder, and
-the lines up to the next command are what it must print on standard output. Without files they are README.md and
-docs/*.md. Each command that prints something else has a line; the last line is 'N passed, M failed', and the status is 0 where M is 0.
+the lines up to the next command are what it must print on standard output. A block that begins with the line
+```console needs=TOOL[,TOOL..] is run where each TOOL is there, a program on the PATH or, as python3:MODULE, a module of
+that Python; elsewhere its commands are told as skipped, by the tool's name. A block that begins with ```rust is code
+that must stand, line by line, in a file of crates/crs_examples/src, which the gate proves and runs.
+
+Without files they are README.md and docs/*.md; README.md then has at most 1,500 words. Each command that prints
+something else has a line; the last line is 'N passed, M failed', and the status is 0 where M is 0.
 """
-import os
+import collections
+import pathlib
+import shutil
 import subprocess
 import sys
 
-ROOT = os.path.dirname(os.path.dirname(os.path.abspath(__file__)))
+ROOT = pathlib.Path(__file__).resolve().parent.parent
+EXAMPLES = ROOT / "crates" / "crs_examples" / "src"
 SECONDS = 60
+MOST_WORDS = 1500
 
 
-def commands_of(path):
-    """Each command with its line's number and the lines that it must print."""
+def blocks_of(path):
+    """Each fenced block: the number of its first line inside, what its fence says, and its lines."""
+    head, start, lines = None, 0, []
+    for number, line in enumerate(path.read_text(encoding="utf-8").split("\n"), 1):
+        if line.startswith("```") and head is None:
+            head, start, lines = line[3:], number + 1, []
+        elif line.startswith("```"):
+            yield start, head, lines
+            head = None
+        elif head is not None:
+            lines.append(line)
+
+
+def commands_of(start, lines):
+    """Each command with its line's number and the text that it must print."""
     commands = []
-    is_shown = False
-    with open(path, encoding="utf-8") as file:
-        for number, line in enumerate(file.read().split("\n"), 1):
-            if line.startswith("```"):
-                is_shown = line == "```console"
-            elif is_shown and line.startswith("$ "):
-                commands.append((number, line[2:], []))
-            elif is_shown:
-                commands[-1][2].append(line)
-    return commands
+    for number, line in enumerate(lines, start):
+        if line.startswith("$ "):
+            commands.append((number, line[2:], []))
+        elif commands:
+            commands[-1][2].append(line + "\n")
+    return [(number, command, "".join(wanted)) for number, command, wanted in commands]
 
 
 def printed(command):
-    done = subprocess.run(["sh", "-c", command], cwd=ROOT, stdout=subprocess.PIPE, timeout=SECONDS)
+    done = subprocess.run(["sh", "-c", command], cwd=ROOT, stdout=subprocess.PIPE, timeout=SECONDS, check=False)
     return done.stdout.decode("utf-8", "replace")
 
 
-def documents():
-    docs = os.path.join(ROOT, "docs")
-    names = [os.path.join(docs, name) for name in sorted(os.listdir(docs)) if name.endswith(".md")]
-    return [os.path.join(ROOT, "README.md"), *names]
+def is_there(tool):
+    program, _, module = tool.partition(":")
+    if shutil.which(program) is None:
+        return False
+    if not module:
+        return True
+    return subprocess.run([program, "-c", f"import {module}"], capture_output=True, check=False).returncode == 0
+
+
+def lacking(head):
+    """The first tool of a block that isn't there, or None."""
+    _, _, needs = head.partition("needs=")
+    return next((tool for tool in needs.split(",") if tool and not is_there(tool)), None)
+
+
+def faults_of(path, skipped):
+    """For each thing that is held against the repository why it fails, or None."""
+    for start, head, lines in blocks_of(path):
+        place = f"{path.name}:{start}"
+        if head.split(" ")[0] == "console":
+            tool = lacking(head)
+            for number, command, wanted in commands_of(start, lines):
+                if tool:
+                    skipped[tool] += 1
+                    continue
+                found = printed(command)
+                place = f"{path.name}:{number}"
+                yield None if found == wanted else f"{place}: {command}: printed {found!r}, wanted {wanted!r}"
+        elif head == "rust":
+            text = "\n".join(lines) + "\n"
+            stands = any(text in file.read_text(encoding="utf-8") for file in EXAMPLES.rglob("*.rt"))
+            yield None if stands else f"{place}: this code stands in no file of {EXAMPLES.relative_to(ROOT)}"
+    if path == ROOT / "README.md":
+        words = len(path.read_text(encoding="utf-8").split())
+        yield None if words <= MOST_WORDS else f"{path.name}: {words} words, at most {MOST_WORDS}"
 
 
 def main(names):
+    files = [pathlib.Path(name).resolve() for name in names]
+    files = files or [ROOT / "README.md", *sorted((ROOT / "docs").glob("*.md"))]
     passed = failed = 0
-    for name in names or documents():
-        for number, command, lines in commands_of(name):
-            wanted = "".join(line + "\n" for line in lines)
-            found = printed(command)
-            if found == wanted:
+    skipped = collections.Counter()
+    for file in files:
+        for fault in faults_of(file, skipped):
+            if fault is None:
                 passed += 1
             else:
                 failed += 1
-                print(f"{os.path.basename(name)}:{number}: {command}: printed {found!r}, wanted {wanted!r}")
+                print(fault)
+    for tool, count in skipped.items():
+        print(f"skipped: {tool} isn't there: {count} commands")
     print(f"{passed} passed, {failed} failed")
     return 1 if failed else 0
 

@@ -1,5 +1,6 @@
 ghost use Rattle.std.specs.Prelude.{◌≡◌, [], map, IfOk, IfErr, IsSome, Some, false, option_and_then};
 ghost use Rattle.clap.specs.Words.{app_of, fault_of, found_of, rows_of, rule_of, shape_of, subcommand_rows_of};
+ghost use Rattle.clap.specs.Simple.{new_shape};
 ghost use Rattle.clap.specs.declared.builder.command.Command.TheViews.{out-Command as fields_of};
 ghost use Rattle.crs_line.specs.CommandLine.{HandsOn, IsRefusal, asked, desk, input_desk, lone_desk, operand};
 ghost use Rattle.crs_line.specs.CommandLine.{request_of, same_of, same_shape};
@@ -11,6 +12,24 @@ use std::alloc::{AllocError, Global};
 
 /// The version that `--version` prints.
 pub const VERSION: &str = "0.1.0";
+
+// What help says of the commands that read standard input.
+const CANON_ABOUT: &str = "Writes the canonical text of the text on standard input";
+
+const CHECK_ABOUT: &str = "Tells what kind of CRS standard input spells, or where it is refused";
+
+const GROUP_ABOUT: &str =
+    "Groups the lines of standard input, a text each, by the CRSs that they spell";
+
+// What the help of a command says last: its statuses.
+const CANON_STATUS: &str = "Status: 0 and the canonical text, 1 and the refusal, 2 for a fault.";
+
+const CHECK_STATUS: &str = "Status: 0 and the kind, 1 and the refusal, 2 for a fault.";
+
+const GROUP_STATUS: &str = "Status: 0, 1 where a line was refused, 2 for a fault.";
+
+const SAME_STATUS: &str =
+    "Status: 0 and `same`, 1 and the first part that differs, or a refusal, 2 for a fault.";
 
 /// What the words of a command line ask for. The first word is the program's name.
 /// `Line` where `clap` refuses the words, or help or the version is asked for, `Memory` where memory ran out. Profile.
@@ -50,17 +69,21 @@ fn with_inputs<'a>(alloc: Global) -> Result<Command<'a>, AllocError>
     ensures shape { IfOk result (λ command. app_of command ≡ input_desk) }
     ensures globals { IfOk result (λ command. (fields_of command).has_globals ≡ false) }
 {
-    let canon = Command::new(alloc, "canon").about("Writes the canonical text of standard input");
-    let check = Command::new(alloc, "check").about(
-        "Tells what standard input spells, or where it is refused",
-    );
-    let group = Command::new(alloc, "group").about(
-        "Groups the lines of standard input by what they spell",
-    );
+    let canon = input_command(alloc, "canon", CANON_ABOUT, CANON_STATUS);
+    let check = input_command(alloc, "check", CHECK_ABOUT, CHECK_STATUS);
+    let group = input_command(alloc, "group", GROUP_ABOUT, GROUP_STATUS);
     desk_alone(alloc)
         .subcommand(canon)?
         .subcommand(check)?
         .subcommand(group)
+}
+
+// A command that takes no words, what help says of it, and what it says last.
+fn input_command<'a>(alloc: Global, name: &'a str, about: &'a str, status: &'a str) -> Command<'a>
+    ensures shape { shape_of result ≡ new_shape name.entry.now }
+    ensures globals { (fields_of result).has_globals ≡ false }
+{
+    Command::new(alloc, name).about(about).after_help(status)
 }
 
 fn desk_alone<'a>(alloc: Global) -> Command<'a>
@@ -77,20 +100,29 @@ fn same_command<'a>(alloc: Global) -> Result<Command<'a>, AllocError>
     ensures shape { IfOk result (λ command. shape_of command ≡ same_shape) }
     ensures globals { IfOk result (λ command. (fields_of command).has_globals ≡ false) }
 {
-    let first = needed_word(alloc, "first", "A");
-    let second = needed_word(alloc, "second", "B");
+    let first = needed_word(
+        alloc,
+        "first",
+        "A",
+        "The first text itself, as \"$(cat a.wkt)\"",
+    );
+    let second = needed_word(alloc, "second", "B", "The second text itself");
     Command::new(alloc, "same")
-        .about("Compares two texts")
+        .about("Compares two texts, and names the first part in which their CRSs differ")
+        .after_help(SAME_STATUS)
         .arg(first)?
         .arg(second)
 }
 
-// An operand that has to be given, and what help calls it.
-fn needed_word<'a>(alloc: Global, id: &'a str, shown: &'a str) -> Arg<'a>
+// An operand that has to be given, what help calls it, and what help says of it.
+fn needed_word<'a>(alloc: Global, id: &'a str, shown: &'a str, help: &'a str) -> Arg<'a>
     ensures rule { rule_of result ≡ operand id.entry.now }
     ensures local { result.global ≡ false }
 {
-    Arg::new(alloc, id).value_name(shown).required(true)
+    Arg::new(alloc, id)
+        .value_name(shown)
+        .help(help)
+        .required(true)
 }
 
 fn refusal(error: clap::Error) -> RequestFault

@@ -1,0 +1,40 @@
+//! A text read, and a look at its ellipsoid.
+
+use crs_text::Fault;
+use crs_value::{Crs, Ellipsoid, Frame, Horizontal, read};
+use std::alloc::Global;
+
+/// The ellipsoid of a CRS; None of a vertical one.
+pub fn ellipsoid_of<'c, 'a>(crs: &'c Crs<'a>) -> Option<&'c Ellipsoid<'a>> {
+    match crs {
+        Crs::Geodetic(crs) => ellipsoid_in(&crs.frame),
+        Crs::Projected(crs) => ellipsoid_in(&crs.base.frame),
+        Crs::Vertical(_) => None,
+        Crs::Compound(crs) => match &crs.horizontal {
+            Horizontal::Geodetic(part) => ellipsoid_in(&part.frame),
+            Horizontal::Projected(part) => ellipsoid_in(&part.base.frame),
+        },
+    }
+}
+
+fn ellipsoid_in<'c, 'a>(frame: &'c Frame<'a>) -> Option<&'c Ellipsoid<'a>> {
+    match frame {
+        Frame::Datum(datum) => datum.ellipsoid.as_ref(),
+        Frame::Ensemble(ensemble) => ensemble.ellipsoid.as_ref(),
+    }
+}
+
+/// The inverse flattening of a text's ellipsoid with all its digits; None of a vertical CRS.
+pub fn flattening_of(alloc: Global, text: &[u8]) -> Result<Option<String>, Fault> {
+    let crs = read(alloc, text)?;
+    let Some(ellipsoid) = ellipsoid_of(&crs) else {
+        return Ok(None);
+    };
+    let mut digits = Vec::new(alloc);
+    ellipsoid
+        .inverse_flattening
+        .write(&mut digits)
+        .map_err(Fault::Memory)?;
+    let text = String::from_utf8_lossy(alloc, &digits).map_err(Fault::Memory)?;
+    Ok(Some(text))
+}

@@ -1,0 +1,17 @@
+//! What a caller is told where there is no answer.
+
+use crs_text::Fault;
+use std::alloc::{AllocError, Global};
+
+/// What to tell a user: of a refusal its number, name and place, with the text from there on; of want of memory, that
+/// the same call may be made again.
+pub fn told(alloc: Global, text: &[u8], fault: &Fault) -> Result<String, AllocError> {
+    match fault.refusal() {
+        Some(refusal) => {
+            let (number, name, place) = (refusal.number(), refusal.name(), refusal.place());
+            let rest = String::from_utf8_lossy(alloc, text.get(place..).unwrap_or(&[]))?;
+            format!(in alloc; "{number} {name} at byte {place}, before {rest:?}")
+        }
+        None => String::from_str(alloc, "no memory; the call may be made again"),
+    }
+}

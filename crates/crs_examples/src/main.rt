@@ -1,0 +1,99 @@
+//! The library's calls, task by task, over the lines of standard input, a text each. `docs/CALLING.md` shows the
+//! functions of the other files as they stand here.
+#![tactic(auto)]
+
+mod catalogue;
+mod difference;
+mod ellipsoid;
+mod faults;
+mod key;
+mod pieces;
+
+use bstr::ByteSlice;
+use crs_canon::Canon;
+use crs_text::Fault;
+use crs_value::Kind;
+use indexmap::IndexMap;
+use std::alloc::Global;
+use std::io;
+use std::io::Read;
+
+fn main(rt: HostRuntime) -> io::Result<()> {
+    let mut bytes = Vec::new(rt.alloc());
+    rt.stdin().read_to_end(&mut bytes)?;
+    let mut lines = Vec::new(rt.alloc());
+    for line in bytes.as_slice().lines() {
+        lines.push(line)?;
+    }
+    print_keys(&rt, &lines)?;
+    print_differences(&rt, &lines)?;
+    print_ellipsoids(&rt, &lines)?;
+    print_kinds(&rt, &lines)?;
+    print_groups(&rt, &bytes)
+}
+
+fn print_keys(rt: &HostRuntime, lines: &[&[u8]]) -> io::Result<()> {
+    let mut cache: IndexMap<Canon, usize> = IndexMap::new(rt.alloc());
+    for line in lines {
+        let text = match key::number_of(rt.alloc(), &mut cache, line) {
+            Ok(number) => format!(in rt.alloc(); "entry {number}")?,
+            Err(fault) => faults::told(rt.alloc(), line, &fault)?,
+        };
+        println!(rt; "key: {text}")?;
+    }
+    Ok(())
+}
+
+// Each line beside the next.
+fn print_differences(rt: &HostRuntime, lines: &[&[u8]]) -> io::Result<()> {
+    for (line, next) in lines.iter().zip(lines.iter().skip(1)) {
+        let text = match difference::difference(rt.alloc(), line, next) {
+            Ok(text) => text,
+            Err(fault) => format!(in rt.alloc(); "{fault}")?,
+        };
+        println!(rt; "difference: {text}")?;
+    }
+    Ok(())
+}
+
+fn print_ellipsoids(rt: &HostRuntime, lines: &[&[u8]]) -> io::Result<()> {
+    for line in lines {
+        let text = match ellipsoid::flattening_of(rt.alloc(), line) {
+            Ok(Some(text)) => text,
+            Ok(None) => String::from_str(rt.alloc(), "none")?,
+            Err(fault) => faults::told(rt.alloc(), line, &fault)?,
+        };
+        println!(rt; "inverse flattening: {text}")?;
+    }
+    Ok(())
+}
+
+fn print_kinds(rt: &HostRuntime, lines: &[&[u8]]) -> io::Result<()> {
+    for line in lines {
+        let text = kind_told(rt.alloc(), line)?;
+        println!(rt; "in pieces: {text}")?;
+    }
+    Ok(())
+}
+
+fn kind_told(alloc: Global, line: &[u8]) -> io::Result<String> {
+    match pieces::kind_in_pieces(alloc, line) {
+        Ok(kind) => Ok(String::from_str(alloc, word_of(kind))?),
+        Err(fault) => Ok(faults::told(alloc, line, &fault)?),
+    }
+}
+
+fn word_of(kind: Kind) -> &'static str {
+    match kind {
+        Kind::Geodetic => "geodetic",
+        Kind::Geographic => "geographic",
+        Kind::Projected => "projected",
+        Kind::Vertical => "vertical",
+        Kind::Compound => "compound",
+    }
+}
+
+fn print_groups(rt: &HostRuntime, bytes: &[u8]) -> io::Result<()> {
+    let text = catalogue::groups_of(rt.alloc(), bytes)?;
+    print!(rt; "{text}")
+}
