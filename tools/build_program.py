@@ -29,20 +29,21 @@ PARTS = ("src", "specs", "proofs")
 MOST_JOBS = 4
 JOB_BYTES = 1_500_000_000
 TARGET = "x86_64-unknown-linux-gnu"
+BESIDE = 15
 # Seconds of each crate, as this script measured them on four cores and nothing else at work (docs/GATE.md): what is
 # left is told by them, and by how much slower or faster the crates before were.
 KNOWN_SECONDS = {
-    "crs_decimal": 50,
-    "crs_text": 110,
+    "crs_decimal": 38,
+    "crs_text": 90,
     "crs_shape": 60,
-    "crs_value": 150,
-    "crs_same": 90,
-    "crs_normal": 40,
-    "crs_canon": 150,
-    "crs_group": 70,
-    "crs_line": 80,
-    "crs_desk": 60,
-    "crsdesk": 60,
+    "crs_value": 192,
+    "crs_same": 115,
+    "crs_normal": 36,
+    "crs_canon": 173,
+    "crs_group": 84,
+    "crs_line": 120,
+    "crs_desk": 66,
+    "crsdesk": 92,
 }
 ANY_TOOLCHAIN = "CRSDESK_ANY_TOOLCHAIN"
 
@@ -153,6 +154,8 @@ class Crate:
                 stderr=subprocess.STDOUT,
                 start_new_session=True,
             )
+        # A crate beside the chain takes what the chain leaves idle.
+        os.setpriority(os.PRIO_PROCESS, self.process.pid, 0 if jobs > 1 else BESIDE)
 
     def kill(self):
         """Ends the check with its copies."""
@@ -209,10 +212,10 @@ class Progress:
         self.began = time.monotonic()
         self.proved = []
         self.is_terminal = sys.stderr.isatty()
-        self.known = spent = 0
+        # What the crates before were known to take, and what they took.
+        self.known = self.spent = 0.0
         left = sum(KNOWN_SECONDS.get(it.name, 60) for it in crates)
-        self.known, self.spent = 0.0, spent
-        say(f"proving and building the program, once: {len(crates)} crates, about {minutes(left)} on four cores")
+        say(f"proving and building the program: {len(crates)} crates, about {minutes(left)} on four cores")
 
     def left(self, running):
         """Seconds that are left, by the known times and by how the crates before compare with theirs."""
@@ -261,7 +264,7 @@ def prove(crates):
     """Proves what isn't proved yet: the chain of crates with all jobs, a crate beside it with one."""
     jobs = jobs_of_this_machine()
     left = [it for it in crates if not it.is_proved()]
-    progress, running = Progress(left), []
+    progress, running = Progress([*left]), []
     try:
         while left or running:
             ready = [it for it in left if not any(below in left or below in running for below in it.below)]
