@@ -264,6 +264,8 @@ def prove(crates):
     """Proves what isn't proved yet: the chain of crates with all jobs, a crate beside it with one."""
     jobs = jobs_of_this_machine()
     left = [it for it in crates if not it.is_proved()]
+    if not left:
+        return
     progress, running = Progress([*left]), []
     try:
         while left or running:
