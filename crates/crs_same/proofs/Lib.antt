@@ -9,3 +9,4 @@ mod SamenessOfCrsLemmas
 mod SamenessOfFramesLemmas
 mod SamenessOfPartsLemmas
 mod SamenessOfSystemsLemmas
+mod SetLemmas

@@ -5,6 +5,7 @@ ghost use Rattle.crs_same.specs.Sets.{SameSet};
 ghost use Rattle.crs_same.specs.SameConversions.{SameMethod, SameParameter, SameConversion, SameGeoidModel};
 
 use crate::idents::same_idents;
+use crate::keys::{Key, key_of_named};
 use crate::numbers::same_value;
 use crate::path::Path;
 use crate::sets::{Member, same_set};
@@ -42,6 +43,15 @@ impl Member for Parameter<'_> {
     fn is_same(&self, other: &Self, level: Level) -> bool {
         same_parameter(self, other, level)
     }
+
+    fn key(&self, level: Level) -> u64 {
+        let mut key = Key::new();
+        key.put_text(self.name);
+        key.put_number(&self.value);
+        key.put_optional_unit(&self.unit, level);
+        key.put_idents(self.ids.as_slice(), level);
+        key.finish()
+    }
 }
 
 /// Whether two parameters are the same: name, number, identifiers, and the units in both or in neither; `UNIT` is a
@@ -62,6 +72,10 @@ impl Member for GeoidModel<'_> {
 
     fn is_same(&self, other: &Self, level: Level) -> bool {
         same_geoid_model(self, other, level)
+    }
+
+    fn key(&self, level: Level) -> u64 {
+        key_of_named(self.name, self.ids.as_slice(), level)
     }
 }
 

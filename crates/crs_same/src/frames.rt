@@ -9,6 +9,7 @@ ghost use Rattle.crs_same.specs.SameFrames.{SameEllipsoid, SameMeridian, IsZero,
 ghost use Rattle.crs_same.specs.SameFrames.{SameDatum, SameEnsemble, SameFrame};
 
 use crate::idents::same_idents;
+use crate::keys::key_of_named;
 use crate::numbers::same_value;
 use crate::path::Path;
 use crate::sets::{Member as SetMember, same_set};
@@ -153,6 +154,10 @@ impl SetMember for Member<'_> {
 
     fn is_same(&self, other: &Self, level: Level) -> bool {
         same_member(self, other, level)
+    }
+
+    fn key(&self, level: Level) -> u64 {
+        key_of_named(self.name, self.ids.as_slice(), level)
     }
 }
 

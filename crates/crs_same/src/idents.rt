@@ -3,6 +3,7 @@ ghost use Rattle.std.specs.Prelude.{◌↔◌, IsTrue};
 ghost use Rattle.crs_same.specs.SameIdents.{SameIdent, SameIdents};
 ghost use Rattle.crs_same.specs.Sets.{SameSet};
 
+use crate::keys::key_of_ident;
 use crate::sets::{Member, same_set};
 use crate::texts::{same_optional_text, same_text};
 use crs_value::{Ident, Level, List};
@@ -26,6 +27,10 @@ impl Member for Ident<'_> {
 
     fn is_same(&self, other: &Self, level: Level) -> bool {
         same_ident(self, other, level)
+    }
+
+    fn key(&self, _level: Level) -> u64 {
+        key_of_ident(self)
     }
 }
 

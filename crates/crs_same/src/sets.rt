@@ -1,9 +1,14 @@
 //! Lists that are taken as sets.
 ghost use Rattle.std.specs.Prelude.{◌↔◌, IsTrue};
+ghost use Rattle.std.specs.Option.{option_copied};
 ghost use Rattle.crs_value.specs.declared.level.Level.{Level};
 ghost use Rattle.crs_same.specs.Sets.{HasSame, AllHaveSame, SameSet};
 
+use crate::places::Places;
 use crs_value::Level;
+
+// Among so few a same member is looked for one by one.
+pub(crate) const FEW: usize = 32;
 
 // A value that may be a member of a set.
 pub(crate) trait Member: Sized {
@@ -11,9 +16,12 @@ pub(crate) trait Member: Sized {
 
     fn is_same(&self, other: &Self, level: Level) -> bool
         ensures { IsTrue result ↔ Same level self.now other.now };
+
+    // A number that same members share. No promise rests on it: it says where a same one is looked for first.
+    fn key(&self, level: Level) -> u64;
 }
 
-fn has_same<T: Member>(member: &T, others: &[T], level: Level) -> bool
+pub(crate) fn has_same<T: Member>(member: &T, others: &[T], level: Level) -> bool
     ensures { IsTrue result ↔ HasSame (T.Same level) member.now others.now }
 {
     for other in others {
@@ -35,9 +43,53 @@ fn all_have_same<T: Member>(members: &[T], others: &[T], level: Level) -> bool
     true
 }
 
+// The same of many, in time that grows with the sum of their lengths as long as keys tell members apart.
+fn all_of_many_have_same<T: Member>(members: &[T], others: &[T], level: Level) -> bool
+    ensures { IsTrue result ↔ AllHaveSame (T.Same level) members.now others.now }
+{
+    let mut places = Places::new();
+    let mut at: usize = 0;
+    for member in members {
+        if !is_found(member, members, others, at, &mut places, level) {
+            return false;
+        }
+        at = at.saturating_add(1);
+    }
+    true
+}
+
+// Whether the member at a place has a same one: at that place, at the one that its key leads to, or anywhere.
+pub(crate) fn is_found<T: Member>(
+    member: &T,
+    members: &[T],
+    others: &[T],
+    at: usize,
+    places: &mut Places,
+    level: Level,
+) -> bool
+    ensures { IsTrue result ↔ HasSame (T.Same level) member.now others.now }
+{
+    is_same_at(member, others, at, level)
+        || is_same_at(member, others, places.of(at, members, others, level), level)
+        || has_same(member, others, level)
+}
+
+fn is_same_at<T: Member>(member: &T, others: &[T], place: usize, level: Level) -> bool
+    ensures { IsTrue result → HasSame (T.Same level) member.now others.now }
+{
+    match others.get(place) {
+        Some(other) => member.is_same(other, level),
+        None => false,
+    }
+}
+
 // Whether each member of either list has a same member in the other.
 pub(crate) fn same_set<T: Member>(members: &[T], others: &[T], level: Level) -> bool
     ensures { IsTrue result ↔ SameSet (T.Same level) members.now others.now }
 {
+    if members.len() > FEW && others.len() > FEW {
+        return all_of_many_have_same(members, others, level)
+            && all_of_many_have_same(others, members, level);
+    }
     all_have_same(members, others, level) && all_have_same(others, members, level)
 }

@@ -7,8 +7,11 @@ ghost use Rattle.crs_same.specs.SameUsages.{SameBox, SameExtent, SameUsage, usag
 ghost use Rattle.crs_same.specs.SameUsages.{SameTail};
 
 use crate::idents::same_idents;
+use crate::keys::Key;
 use crate::numbers::same_value;
 use crate::path::Path;
+use crate::places::Places;
+use crate::sets::{FEW, Member, has_same, is_found};
 use crate::step::Step;
 use crate::texts::same_optional_text;
 use crate::units::same_length;
@@ -66,15 +69,42 @@ pub fn same_usage<'a>(a: &Usage<'a>, b: &Usage<'a>, _level: Level) -> bool
         && same_extents(&a.extent, &b.extent, Level::Full)
 }
 
-fn has_same<'a>(usage: &Usage<'a>, others: &[Usage<'a>]) -> bool
+impl Member for Usage<'_> {
+    ghost use Rattle.crs_same.specs.SameUsages.{SameUsage};
+
+    ghost Same = { λ level a b. SameUsage a b };
+
+    fn is_same(&self, other: &Self, level: Level) -> bool {
+        same_usage(self, other, level)
+    }
+
+    fn key(&self, _level: Level) -> u64 {
+        let mut key = Key::new();
+        key.put_optional_text(self.scope);
+        key.put_optional_text(self.area);
+        key.put_box(&self.bbox);
+        key.put_extent(&self.extent, Level::Full);
+        key.finish()
+    }
+}
+
+fn has_same_usage<'a>(usage: &Usage<'a>, others: &[Usage<'a>]) -> bool
     ensures { IsTrue result ↔ HasSame SameUsage usage.now others.now }
 {
-    for other in others {
-        if same_usage(usage, other, Level::Full) {
-            return true;
-        }
-    }
-    false
+    has_same(usage, others, Level::Full)
+}
+
+// The same of many.
+fn is_found_usage<'a>(
+    usage: &Usage<'a>,
+    usages: &[Usage<'a>],
+    others: &[Usage<'a>],
+    at: usize,
+    places: &mut Places,
+) -> bool
+    ensures { IsTrue result ↔ HasSame SameUsage usage.now others.now }
+{
+    is_found(usage, usages, others, at, places, Level::Full)
 }
 
 // Among the usages at an end, the bare one included.
@@ -82,9 +112,9 @@ fn has_same_in<'a>(usage: &Usage<'a>, tail: &Tail<'a>) -> bool
     ensures { IsTrue result ↔ HasSame SameUsage usage.now (usages_of tail.now) }
 {
     match &tail.bare {
-        None => has_same(usage, tail.usages.as_slice()),
+        None => has_same_usage(usage, tail.usages.as_slice()),
         Some(bare) => {
-            same_usage(usage, bare, Level::Full) || has_same(usage, tail.usages.as_slice())
+            same_usage(usage, bare, Level::Full) || has_same_usage(usage, tail.usages.as_slice())
         }
     }
 }
@@ -92,12 +122,49 @@ fn has_same_in<'a>(usage: &Usage<'a>, tail: &Tail<'a>) -> bool
 fn all_have_same<'a>(usages: &[Usage<'a>], tail: &Tail<'a>) -> bool
     ensures { IsTrue result ↔ AllHaveSame SameUsage usages.now (usages_of tail.now) }
 {
+    if usages.len() > FEW && tail.usages.as_slice().len() > FEW {
+        return all_of_many_have_same(usages, tail);
+    }
     for usage in usages {
         if !has_same_in(usage, tail) {
             return false;
         }
     }
     true
+}
+
+// The same of many.
+fn all_of_many_have_same<'a>(usages: &[Usage<'a>], tail: &Tail<'a>) -> bool
+    ensures { IsTrue result ↔ AllHaveSame SameUsage usages.now (usages_of tail.now) }
+{
+    let mut places = Places::new();
+    let mut at: usize = 0;
+    for usage in usages {
+        if !is_found_in(usage, usages, tail, at, &mut places) {
+            return false;
+        }
+        at = at.saturating_add(1);
+    }
+    true
+}
+
+fn is_found_in<'a>(
+    usage: &Usage<'a>,
+    usages: &[Usage<'a>],
+    tail: &Tail<'a>,
+    at: usize,
+    places: &mut Places,
+) -> bool
+    ensures { IsTrue result ↔ HasSame SameUsage usage.now (usages_of tail.now) }
+{
+    let others = tail.usages.as_slice();
+    match &tail.bare {
+        None => is_found_usage(usage, usages, others, at, places),
+        Some(bare) => {
+            same_usage(usage, bare, Level::Full)
+                || is_found_usage(usage, usages, others, at, places)
+        }
+    }
 }
 
 fn all_have_same_in<'a>(a: &Tail<'a>, b: &Tail<'a>) -> bool
