@@ -1,7 +1,8 @@
 #!/usr/bin/env python3
-"""Writes one hostile text of a mebibyte to standard output, as a catalogue of one line: hostile_texts.py KIND.
+"""Writes hostile texts of a mebibyte to standard output, as a catalogue: hostile_texts.py KIND.
 
-Without a word it prints the kinds.
+Of most kinds it is one text. Those that begin with "pair-" are two texts whose sets are hard to compare. Without a word
+it prints the kinds.
 """
 import sys
 
@@ -22,6 +23,51 @@ def nested(arguments):
 
 
 HEIGHT = b'VERTCRS["H",VDATUM["D"],CS[vertical,1],AXIS["h",up],LENGTHUNIT["metre",1]'
+
+
+def height(*parts):
+    """A vertical CRS with these parts behind its unit."""
+    return HEIGHT + b"".join(b"," + part for part in parts) + b"]"
+
+
+def many(part, length=SIZE - 200):
+    """`part(n)` for n = 0, 1, .., as many as have room in so many bytes."""
+    parts, left = [], length
+    while (left := left - len(part(len(parts))) - 1) >= 0:
+        parts.append(part(len(parts)))
+    return parts
+
+
+def reversed_pair(part):
+    """Two sets of many members, in opposite orders."""
+    parts = many(part)
+    return height(*parts) + b"\n" + height(*reversed(parts))
+
+
+def identifier(number):
+    return b'ID["",%d]' % number
+
+
+def usage(number, *identifiers):
+    unit = b'LENGTHUNIT["m",1' + b"".join(b"," + it for it in identifiers) + b"]"
+    return b"USAGE[VERTICALEXTENT[0,%d,%s]]" % (number, unit)
+
+
+def repeated_pair(small, big, others):
+    """Two sets that are the same: one has a short member many times, the other once, in a long spelling."""
+    front = [usage(number) for number in range(1, others)]
+    return height(*front, *many(lambda _: small, SIZE - 4000)) + b"\n" + height(big, *front)
+
+
+def nested_pair(count):
+    """Two sets of so many usages, whose units have all identifiers but one each, the second in opposite orders."""
+    size = (SIZE - 200) // count
+    identifiers = many(identifier, size - 60)
+    usages = [[it for it in identifiers if it != left] for left in identifiers[-count:]]
+    first = height(*(usage(0, *it) for it in usages))
+    return first + b"\n" + height(*(usage(0, *reversed(it)) for it in reversed(usages)))
+
+
 KINDS = {
     "doubled-quotes": filled(b'VERTCRS["', b'""', b'"]'),
     "empty-texts": filled(b"VERTCRS[", b'"",', b'""]'),
@@ -41,8 +87,26 @@ KINDS = {
     "twelve-open-nodes": nested(10_000),
     "twelve-open-nodes-of-a-mebibyte": nested(SIZE // 24 - 1),
 }
+PAIRS = {
+    "pair-identifiers": lambda: reversed_pair(identifier),
+    "pair-usages": lambda: reversed_pair(usage),
+    "pair-repeated-member": lambda: repeated_pair(
+        usage(0, identifier(1)), usage(0, *[identifier(1)] * ((SIZE - 4000) // 10)), 40
+    ),
+    "pair-unlike-repeated-member": lambda: repeated_pair(
+        usage(0, identifier(1)), usage(0, *many(identifier, SIZE - 4000)), 40
+    ),
+    "pair-40-nested": lambda: nested_pair(40),
+    "pair-280-nested": lambda: nested_pair(280),
+}
 
-if len(sys.argv) == 2:
-    sys.stdout.buffer.write(KINDS[sys.argv[1]] + b"\n")
-else:
-    print("\n".join(KINDS))
+
+def main(words):
+    if len(words) != 1:
+        print("\n".join([*KINDS, *PAIRS]))
+    else:
+        sys.stdout.buffer.write((PAIRS[words[0]]() if words[0] in PAIRS else KINDS[words[0]]) + b"\n")
+
+
+if __name__ == "__main__":
+    main(sys.argv[1:])

@@ -33,17 +33,17 @@ BESIDE = 15
 # Seconds of each crate, as this script measured them on four cores and nothing else at work (docs/GATE.md): what is
 # left is told by them, and by how much slower or faster the crates before were.
 KNOWN_SECONDS = {
-    "crs_decimal": 38,
-    "crs_text": 90,
-    "crs_shape": 60,
-    "crs_value": 192,
-    "crs_same": 115,
-    "crs_normal": 36,
-    "crs_canon": 173,
-    "crs_group": 84,
-    "crs_line": 120,
-    "crs_desk": 66,
-    "crsdesk": 92,
+    "crs_decimal": 22,
+    "crs_text": 40,
+    "crs_shape": 28,
+    "crs_value": 91,
+    "crs_same": 60,
+    "crs_normal": 15,
+    "crs_canon": 109,
+    "crs_group": 51,
+    "crs_line": 58,
+    "crs_desk": 40,
+    "crsdesk": 58,
 }
 ANY_TOOLCHAIN = "CRSDESK_ANY_TOOLCHAIN"
 
@@ -214,17 +214,25 @@ class Progress:
         self.is_terminal = sys.stderr.isatty()
         # What the crates before were known to take, and what they took.
         self.known = self.spent = 0.0
-        left = sum(KNOWN_SECONDS.get(it.name, 60) for it in crates)
-        say(f"proving and building the program: {len(crates)} crates, about {minutes(left)} on four cores")
+        left = minutes(self.left(running=[]))
+        say(f"proving and building the program: {len(crates)} crates, about {left} on four cores")
 
     def left(self, running):
-        """Seconds that are left, by the known times and by how the crates before compare with theirs."""
+        """Seconds that are left, by the known times and by how the crates before compare with theirs: a crate waits for
+        those below it alone."""
         pace = self.spent / self.known if self.known else 1.0
-        waiting = [it for it in self.crates if it not in self.proved and it not in running]
-        left = sum(KNOWN_SECONDS.get(it.name, 60) * pace for it in waiting)
-        now = time.monotonic()
-        rests = [max(KNOWN_SECONDS.get(it.name, 60) * pace - (now - it.began), 5) for it in running]
-        return left + max(rests, default=0)
+        ends = {}
+        for crate in self.crates:
+            begins = max((ends[it] for it in crate.below if it in ends), default=0.0)
+            ends[crate] = begins + self.rest(crate, pace, crate in running)
+        return max(ends.values())
+
+    def rest(self, crate, pace, is_running):
+        """Seconds that a crate takes yet."""
+        if crate in self.proved:
+            return 0.0
+        known = KNOWN_SECONDS.get(crate.name, 60) * pace
+        return max(known - (time.monotonic() - crate.began), 5.0) if is_running else known
 
     def add(self, crate, running):
         self.proved.append(crate)

@@ -26,6 +26,7 @@ pub fn run_check<R: Read, W: Write>(
     requires sink { w.old ≡ fresh_sink w.old.contents }
     ensures answered { IfOk result (IsAnswered IsCheckOutput r.old r.new w.old w.new) }
     ensures reads { r.new.reads ≤ 1048576 }
+    ensures past_end { r.new.past_end ≡ false }
     ensures fault { IfErr result (IsRunFault r.new w.old w.new) }
     ensures read_failed { IsErrOf result RunFault.ReadFailed ↔ (r.new.failed ≡ true) }
     ensures write_failed { IsErrOf result RunFault.WriteFailed ↔ (w.new.failed ≡ true) }

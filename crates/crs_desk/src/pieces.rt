@@ -1,5 +1,5 @@
 //! Texts that are judged piece by piece, as they are read.
-ghost use Rattle.std.specs.Prelude.{◌≡◌, ◌≤◌, ◌++◌, [], ℕ, List, IfOk, IfErr, length};
+ghost use Rattle.std.specs.Prelude.{◌≡◌, ◌≤◌, ◌++◌, [], ℕ, List, IfOk, IfErr, false, length};
 ghost use Rattle.crs_group.specs.Streams.{fresh_source};
 ghost use Rattle.crs_desk.specs.Pieces.{IsHeld, IsHeldOf};
 ghost use Rattle.crs_desk.specs.Whole.{IsReadFault};
@@ -19,6 +19,7 @@ pub(crate) fn read_pieces<R: Read>(
     requires { source.old ≡ fresh_source source.old.remaining }
     ensures ok { IfOk result (IsHeldOf source.old source.new) }
     ensures reads { source.new.reads ≤ 1048576 }
+    ensures past_end { source.new.past_end ≡ false }
     ensures err { IfErr result (IsReadFault source.new) }
 {
     let mut room = make_room(alloc).map_err(|_| RunFault::Memory)?;
@@ -37,6 +38,7 @@ fn feed_all<R: Read>(
     requires room { length room.old ≡ 65536 }
     ensures ok { IfOk result (λ _. IsHeldOf source.old source.new feeder.new) }
     ensures reads { source.new.reads ≤ 1048576 }
+    ensures past_end { source.new.past_end ≡ false }
     ensures err { IfErr result (IsReadFault source.new) }
 {
     let mut taken = 0;

@@ -1,4 +1,4 @@
-ghost use Rattle.std.specs.Prelude.{◌≡◌, ◌≤◌, [], IfOk, IfErr, vec_len};
+ghost use Rattle.std.specs.Prelude.{◌≡◌, ◌≤◌, [], IfOk, IfErr, false, vec_len};
 ghost use Rattle.crs_group.specs.Streams.{fresh_source};
 ghost use Rattle.crs_desk.specs.Whole.{IsWhole, IsReadFault};
 
@@ -17,6 +17,7 @@ pub(crate) fn read_text<R: Read>(alloc: Global, source: &mut Source<R>) -> Resul
     requires { source.old ≡ fresh_source source.old.remaining }
     ensures ok { IfOk result (λ text. IsWhole source.old source.new text.items) }
     ensures reads { source.new.reads ≤ 1048576 }
+    ensures past_end { source.new.past_end ≡ false }
     ensures err { IfErr result (IsReadFault source.new) }
 {
     let mut room = make_room(alloc).map_err(|_| RunFault::Memory)?;
@@ -35,6 +36,7 @@ fn read_into<R: Read>(
     requires room { vec_len room.old ≡ 65536 }
     ensures ok { IfOk result (λ _. IsWhole source.old source.new text.new.items) }
     ensures reads { source.new.reads ≤ 1048576 }
+    ensures past_end { source.new.past_end ≡ false }
     ensures err { IfErr result (IsReadFault source.new) }
 {
     for turn in 0..MAX_READS {

@@ -4,7 +4,7 @@ use Rattle.std.specs.Io.KnownBytes.{Appends, Consumes}
 use Rattle.crs_value.specs.declared.level.Level.{Level}
 use Rattle.crs_group.specs.LongLines.{HasShortLines, IsTooLong}
 use Rattle.crs_group.specs.Output.{IsGroupOutput}
-use Rattle.crs_group.specs.Streams.{SourceState, SinkState}
+use Rattle.crs_group.specs.Streams.{IsAskedFor, SourceState, SinkState}
 use Rattle.crs_group.specs.declared.fault.RunFault.{RunFault}
 use Rattle.crs_group.specs.declared.fault.RunFault.TheVariants.{ReadFailed, WriteFailed, TooLong, TooManyReads, Memory}
 use Rattle.crs_group.specs.declared.summary.Summary.{Summary}
@@ -38,7 +38,7 @@ pub record IsGrouped (level : Level) (old_source new_source : SourceState) (old_
   pub written : List ℕ
   pub is_output : IsGroupOutput level bytes written summary
   pub is_sent : Appends old_sink.contents new_sink.contents written
-  pub is_used : new_sink.used ≡ true
+  pub is_asked : IsAskedFor written old_sink new_sink
   pub is_healthy : new_sink.failed ≡ false
 
 -- what a fault says of the reading that it ended

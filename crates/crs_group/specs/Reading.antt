@@ -6,7 +6,7 @@ use Rattle.crs_group.specs.Cutting.{CutterParts, IsCutTo, IsLedgerFor, LedgerPar
 use Rattle.crs_group.specs.GroupRun.{HasGivenAll}
 use Rattle.crs_group.specs.LongLines.{HasShortLines}
 use Rattle.crs_group.specs.Output.{catalogue_text}
-use Rattle.crs_group.specs.Streams.{SourceState, SinkState}
+use Rattle.crs_group.specs.Streams.{IsAskedFor, SourceState, SinkState}
 use Rattle.crs_group.specs.declared.fault.RunFault.{RunFault}
 use Rattle.crs_group.specs.declared.fault.RunFault.TheVariants.{ReadFailed, WriteFailed, TooLong, TooManyReads, Memory}
 use Rattle.crs_group.specs.declared.summary.Summary.{Summary}
@@ -29,7 +29,7 @@ pub record IsLedgerWhole (level : Level) (old new : SourceState) (ledger : Ledge
 -- the sink got the text of the ledger's catalogue, and this is the summary
 pub record WritesLedger (ledger : LedgerParts) (old new : SinkState) (summary : Summary) : Type 0 where
   pub is_sent : Appends old.contents new.contents (catalogue_text ledger.catalogue)
-  pub is_used : new.used ≡ true
+  pub is_asked : IsAskedFor (catalogue_text ledger.catalogue) old new
   pub is_healthy : new.failed ≡ false
   pub lines : summary.lines ≡ ledger.lines
   pub blank : summary.blank ≡ ledger.blank

@@ -1,4 +1,4 @@
-ghost use Rattle.std.specs.Prelude.{◌≡◌, ◌≤◌, ◌↔◌, [], IfErr, IfOk, IsErrOf, OnOk, length, true, vec_len};
+ghost use Rattle.std.specs.Prelude.{◌≡◌, ◌≤◌, ◌↔◌, [], IfErr, IfOk, IsErrOf, OnOk, false, length, true, vec_len};
 ghost use Rattle.crs_group.specs.Cutting.{IsCutTo};
 ghost use Rattle.crs_group.specs.GroupRun.{IsGroupFault, IsGrouped, IsReadingFault};
 ghost use Rattle.crs_group.specs.Reading.{IsLedgerWhole, IsReadInto, WritesLedger, IsWritingFault};
@@ -21,7 +21,7 @@ const ROOM: usize = 65_536;
 
 /// Reads lines of texts to the end, and writes their catalogue at a level: for each group `group N:` and the numbers
 /// of its lines, and then for each refused line `line L:` and the refusal. Lines are numbered from 1, blank ones
-/// included. `ReadFailed` and `WriteFailed` where the source or the sink has failed, `TooLong(n)` where line `n` has
+/// included. Where nothing is to be written the sink isn't asked. `ReadFailed` and `WriteFailed` where the source or the sink has failed, `TooLong(n)` where line `n` has
 /// more than 1,048,576 bytes before its line feed, `TooManyReads` where 1,048,576 reads have not shown the end,
 /// `Memory` where memory ran out. Nothing was written then, but for `WriteFailed`. Profile.
 pub fn run_group<R: Read, W: Write>(
@@ -34,6 +34,7 @@ pub fn run_group<R: Read, W: Write>(
     requires sink { w.old ≡ fresh_sink w.old.contents }
     ensures answered { IfOk result (IsGrouped level r.old r.new w.old w.new) }
     ensures reads { r.new.reads ≤ 1048576 }
+    ensures past_end { r.new.past_end ≡ false }
     ensures fault { IfErr result (IsGroupFault r.old r.new w.old w.new) }
     ensures read_failed { IsErrOf result RunFault.ReadFailed ↔ (r.new.failed ≡ true) }
     ensures write_failed { IsErrOf result RunFault.WriteFailed ↔ (w.new.failed ≡ true) }
@@ -51,6 +52,7 @@ fn read_ledger<R: Read>(
     requires { source.old ≡ fresh_source source.old.remaining }
     ensures ok { IfOk result (IsLedgerWhole level source.old source.new) }
     ensures reads { source.new.reads ≤ 1048576 }
+    ensures past_end { source.new.past_end ≡ false }
     ensures err { IfErr result (IsReadingFault source.old source.new) }
 {
     let mut room = make_room(alloc).map_err(|_| RunFault::Memory)?;
@@ -69,6 +71,7 @@ fn read_into<R: Read>(
     requires room { length room.old ≡ 65536 }
     ensures ok { OnOk result (IsReadInto source.old source.new cutter.new) }
     ensures reads { source.new.reads ≤ 1048576 }
+    ensures past_end { source.new.past_end ≡ false }
     ensures err { IfErr result (IsReadingFault source.old source.new) }
     ensures level { cutter.new.ledger.catalogue.level ≡ cutter.old.ledger.catalogue.level }
 {
@@ -94,7 +97,9 @@ fn write_ledger<W: Write>(
 {
     let mut text = Vec::new(alloc);
     write_catalogue(&mut text, ledger.catalogue()).map_err(|_| RunFault::Memory)?;
-    sink.write_all(&text).map_err(|_| RunFault::WriteFailed)?;
+    if !text.is_empty() {
+        sink.write_all(&text).map_err(|_| RunFault::WriteFailed)?;
+    }
     Ok(ledger.summary())
 }
 

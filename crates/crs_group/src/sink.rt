@@ -38,13 +38,14 @@ impl<W: Write> Sink<W> {
         }
     }
 
-    /// Writes all the bytes. An error is the writer's own; the sink has `failed` from then on.
+    /// Writes all the bytes; where there are none the writer isn't asked. An error is the writer's own, an interruption
+    /// included, or `WriteZero` where the writer takes no byte; the sink has `failed` from then on.
     pub fn write_all(&mut self, bytes: &[u8]) -> io::Result<()>
         ensures bytes { OnOk result (Appends self.old.contents self.new.contents bytes.now) }
         ensures counted { CountsWrite self.old self.new result }
     {
         self.used = true;
-        let result = self.writer.write_all(bytes);
+        let result = write_whole(&mut self.writer, bytes);
         if result.is_err() {
             self.failed = true;
         }
@@ -57,4 +58,19 @@ impl<W: Write> Sink<W> {
     {
         self.failed
     }
+}
+
+// Writes all the bytes, as many at a time as the writer takes. An interruption ends it, as it ends a read: the writer's
+// own `write_all` would try again.
+fn write_whole<W: Write>(writer: &mut W, bytes: &[u8]) -> io::Result<()>
+    ensures { OnOk result (Appends (W.contents writer.old) (W.contents writer.new) bytes.now) }
+{
+    let mut rest = bytes;
+    while !rest.is_empty() {
+        match writer.write(rest)? {
+            0 => return Err(io::Error::from(io::ErrorKind::WriteZero)),
+            count => rest = &rest[count..],
+        }
+    }
+    Ok(())
 }

@@ -14,6 +14,7 @@ pub struct Source<R: Read> {
     reads: u32,
     taken: u64,
     ended: bool,
+    past_end: bool,
     failed: bool,
 }
 
@@ -28,6 +29,7 @@ impl<R: Read> Model for Source<R> {
       reads = source.reads;
       taken = source.taken;
       ended = source.ended;
+      past_end = source.past_end;
       failed = source.failed;
     } };
 
@@ -44,6 +46,7 @@ impl<R: Read> Source<R> {
             reads: 0,
             taken: 0,
             ended: false,
+            past_end: false,
             failed: false,
         }
     }
@@ -59,6 +62,7 @@ impl<R: Read> Source<R> {
         ensures counted { CountsRead self.old self.new result }
     {
         self.reads += 1;
+        self.past_end = self.past_end || self.ended;
         match self.reader.read(room) {
             Ok(count) => {
                 self.taken += count as u64;

@@ -1,7 +1,8 @@
 //! From the name of a call to its answer.
-use crate::runs::Command;
 use crate::texts::Column;
-use crate::{canonical, catalogues, lines, numbers, pieces, runs, sameness, shapes, texts, values};
+use crate::{
+    canonical, catalogues, failures, lines, numbers, pieces, runs, sameness, shapes, texts, values,
+};
 use std::alloc::{AllocError, Global};
 
 /// Appends the answer of a call to an input, as a row writes it, the lines of the input having these ends; behind a
@@ -14,11 +15,10 @@ pub fn put_answer(
     ends: &[usize],
 ) -> Result<(), AllocError> {
     match call.split_once(' ') {
-        Some(("run_canon", words)) => runs::put_run(out, alloc, Command::Canon, words, input),
-        Some(("run_check", words)) => runs::put_run(out, alloc, Command::Check, words, input),
-        Some(("run_group", words)) => catalogues::put_run(out, alloc, words, input),
-        Some(("run_same", "unwritable")) => runs::put_unwritable_same(out, alloc, input),
-        Some(_) => out.push_str("no such call"),
+        Some(("failed_reads", words)) => failures::put_failed_reads(out, alloc, words, input),
+        Some(("failed_writes", words)) => failures::put_failed_writes(out, alloc, words, input),
+        Some(("run_same", words)) => runs::put_same(out, alloc, words, input),
+        Some(_) => runs::put_run(out, alloc, call, input),
         None if call == "feed" => pieces::put_fed(out, alloc, input, ends),
         None => put_plain_answer(out, alloc, call, input),
     }
@@ -85,9 +85,9 @@ fn put_value_answer(
         "Set::write" => canonical::put_set(out, alloc, input),
         "run_canon" => runs::put_canon(out, alloc, input),
         "run_check" => runs::put_check(out, alloc, input),
-        "run_same" => runs::put_same(out, alloc, input),
+        "run_same" => runs::put_same(out, alloc, "", input),
         "Catalogue" => catalogues::put_catalogue(out, alloc, input),
-        "run_group" => catalogues::put_run(out, alloc, "", input),
+        "run_group" => runs::put_run(out, alloc, call, input),
         "request" => lines::put_request(out, alloc, input),
         _ => out.push_str("no such call"),
     }

@@ -1,9 +1,7 @@
 //! Catalogues of lines.
 use crate::escapes::put_text;
-use crate::runs::{put_fault, put_streams, put_written};
-use crate::streams::{Manner, Page, Pieces};
-use crs_desk::{Level, Sink, Source};
-use crs_group::{Catalogue, Placed, Summary, run_group};
+use crs_desk::Level;
+use crs_group::{Catalogue, Placed};
 use crs_text::Refusal;
 use std::alloc::{AllocError, Global};
 
@@ -89,60 +87,4 @@ fn put_refused(out: &mut String, refused: &[(u64, Refusal)]) -> Result<(), Alloc
         put_refusal(out, *refusal)?;
     }
     Ok(())
-}
-
-/// The summary of `run_group` over the input, read in this manner, or its fault; the count of reads, which of source
-/// and sink has failed, and what was written; `no such manner` where the words say none.
-pub fn put_run(
-    out: &mut String,
-    alloc: Global,
-    words: &str,
-    input: &[u8],
-) -> Result<(), AllocError> {
-    match Manner::read(words) {
-        Some(manner) => put_run_in(out, alloc, manner, input),
-        None => out.push_str("no such manner"),
-    }
-}
-
-fn put_run_in(
-    out: &mut String,
-    alloc: Global,
-    manner: Manner,
-    input: &[u8],
-) -> Result<(), AllocError> {
-    let mut page = Page {
-        written: Vec::new(alloc),
-        is_unwritable: manner.is_unwritable,
-    };
-    put_ended(out, alloc, Pieces::new(input, manner), &mut page)?;
-    put_written(out, &page.written)
-}
-
-fn put_ended(
-    out: &mut String,
-    alloc: Global,
-    reader: Pieces<'_>,
-    page: &mut Page,
-) -> Result<(), AllocError> {
-    let mut source = Source::new(reader);
-    let mut sink = Sink::new(page);
-    match run_group(alloc, Level::Full, &mut source, &mut sink) {
-        Ok(summary) => put_summary(out, summary)?,
-        Err(fault) => put_fault(out, fault)?,
-    }
-    put_streams(out, source.reads(), source.failed(), sink.failed())
-}
-
-fn put_summary(out: &mut String, summary: Summary) -> Result<(), AllocError> {
-    let Summary {
-        lines,
-        blank,
-        refused,
-        groups,
-    } = summary;
-    write!(
-        out,
-        "lines {lines}, blank {blank}, refused {refused}, groups {groups}"
-    )
 }

@@ -6,6 +6,7 @@ mod answers;
 mod canonical;
 mod catalogues;
 mod escapes;
+mod failures;
 mod lines;
 mod numbers;
 mod pieces;
@@ -19,7 +20,7 @@ mod values;
 
 use std::{fs, io};
 
-const FILES: [&str; 20] = [
+const FILES: [&str; 21] = [
     "decimals",
     "refusals",
     "tokens",
@@ -36,6 +37,7 @@ const FILES: [&str; 20] = [
     "streams",
     "checks",
     "same",
+    "long_sets",
     "same_runs",
     "lines",
     "catalogues",

@@ -33,35 +33,42 @@ pub fn agree(alloc: Global, text: &[u8]) -> Result<bool, AllocError> {
     if text.len() > LONGEST {
         return Ok(true);
     }
-    let mut whole = String::new(alloc);
-    put_read(&mut whole, read_items(alloc, text))?;
-    Ok(agree_in_two(alloc, text, whole.as_str())? && agree_in_many(alloc, text, whole.as_str())?)
+    Ok(agree_in_two(alloc, text)? && agree_in_many(alloc, text)?)
 }
 
-fn agree_in_two(alloc: Global, text: &[u8], whole: &str) -> Result<bool, AllocError> {
+fn agree_in_two(alloc: Global, text: &[u8]) -> Result<bool, AllocError> {
+    let whole = answer(alloc, text)?;
     for cut in 0..text.len() {
         let (first, second) = text.split_at(cut);
         let mut feeder = Feeder::new(alloc);
         feed(&mut feeder, first)?;
         feed(&mut feeder, second)?;
-        if !answers(alloc, &feeder, whole)? {
+        if !answers(alloc, &feeder, whole.as_str())? {
             return Ok(false);
         }
     }
     Ok(true)
 }
 
-fn agree_in_many(alloc: Global, text: &[u8], whole: &str) -> Result<bool, AllocError> {
+/// Whether a text gives the same answer as a whole and in pieces of 1 to 7 bytes.
+pub fn agree_in_many(alloc: Global, text: &[u8]) -> Result<bool, AllocError> {
+    let whole = answer(alloc, text)?;
     for size in 1..8 {
         let mut feeder = Feeder::new(alloc);
         for piece in text.chunks(size) {
             feed(&mut feeder, piece)?;
         }
-        if !answers(alloc, &feeder, whole)? {
+        if !answers(alloc, &feeder, whole.as_str())? {
             return Ok(false);
         }
     }
     Ok(true)
+}
+
+fn answer(alloc: Global, text: &[u8]) -> Result<String, AllocError> {
+    let mut answer = String::new(alloc);
+    put_read(&mut answer, read_items(alloc, text))?;
+    Ok(answer)
 }
 
 // A refusal is told by `finish` again.

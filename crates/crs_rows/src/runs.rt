@@ -2,113 +2,64 @@
 use crate::escapes::put_text;
 use crate::sameness::split_line;
 use crate::streams::{Manner, Page, Pieces};
-use crs_desk::{Level, RunFault, Sink, Source, run_canon, run_check, run_same};
+use crs_desk::{Level, RunFault, Sink, Source, run_canon, run_check, run_group, run_same};
+use crs_group::Summary;
 use std::alloc::{AllocError, Global};
 
-/// The status of `canon` over a reader and a writer in memory, or its fault, and what it has written.
-pub fn put_canon(out: &mut String, alloc: Global, input: &[u8]) -> Result<(), AllocError> {
-    let mut written = Vec::new(alloc);
-    put_outcome(out, canon(alloc, input, &mut written))?;
-    put_written(out, &written)
-}
-
-/// The same of `check`.
-pub fn put_check(out: &mut String, alloc: Global, input: &[u8]) -> Result<(), AllocError> {
-    let mut written = Vec::new(alloc);
-    put_outcome(out, check(alloc, input, &mut written))?;
-    put_written(out, &written)
-}
-
-/// The same of `same` for two texts, one a line.
-pub fn put_same(out: &mut String, alloc: Global, input: &[u8]) -> Result<(), AllocError> {
-    put_same_into(out, alloc, input, false)
-}
-
-/// The same into a writer that fails.
-pub fn put_unwritable_same(
-    out: &mut String,
-    alloc: Global,
-    input: &[u8],
-) -> Result<(), AllocError> {
-    put_same_into(out, alloc, input, true)
-}
-
-fn put_same_into(
-    out: &mut String,
-    alloc: Global,
-    input: &[u8],
-    is_unwritable: bool,
-) -> Result<(), AllocError> {
-    let mut page = Page {
-        written: Vec::new(alloc),
-        is_unwritable,
-    };
-    let (first, second) = split_line(input);
-    let outcome = same(alloc, first, second, &mut page);
-    put_outcome(out, outcome)?;
-    put_written(out, &page.written)
-}
-
-fn same(alloc: Global, first: &[u8], second: &[u8], page: &mut Page) -> Result<u8, RunFault> {
-    run_same(alloc, Level::Full, first, second, &mut Sink::new(page))
-}
-
-/// `, written` and what was written, or that nothing was.
-pub fn put_written(out: &mut String, written: &[u8]) -> Result<(), AllocError> {
-    if written.is_empty() {
-        return out.push_str(", nothing written");
-    }
-    out.push_str(", written ")?;
-    put_text(out, written)
-}
-
-fn canon(alloc: Global, input: &[u8], written: &mut Vec<u8>) -> Result<u8, RunFault> {
-    let mut source = Source::new(input);
-    let mut sink = Sink::new(written);
-    run_canon(alloc, Level::Full, &mut source, &mut sink)
-}
-
-fn check(alloc: Global, input: &[u8], written: &mut Vec<u8>) -> Result<u8, RunFault> {
-    let mut source = Source::new(input);
-    let mut sink = Sink::new(written);
-    run_check(alloc, &mut source, &mut sink)
-}
-
-/// A command that reads one text.
+/// A command that reads its input.
 #[derive(Clone, Copy)]
 pub enum Command {
     Canon,
     Check,
+    Group,
 }
 
-/// The outcome of a command whose text is read in this manner, the count of reads, which of source and sink has
-/// failed, and what was written; `no such manner` where the words say none.
-pub fn put_run(
-    out: &mut String,
-    alloc: Global,
-    command: Command,
-    words: &str,
-    input: &[u8],
-) -> Result<(), AllocError> {
-    match Manner::read(words) {
-        Some(manner) => put_run_in(out, alloc, command, manner, input),
-        None => out.push_str("no such manner"),
+impl Command {
+    fn read(word: &str) -> Option<Command> {
+        match word {
+            "run_canon" => Some(Command::Canon),
+            "run_check" => Some(Command::Check),
+            "run_group" => Some(Command::Group),
+            _ => None,
+        }
     }
 }
 
-fn put_run_in(
-    out: &mut String,
+/// The command that the first word names, and the manner that the others say; None where a word says none.
+pub fn read_run(words: &str) -> Option<(Command, Manner)> {
+    let (name, manner) = words.split_once(' ').unwrap_or((words, ""));
+    Some((Command::read(name)?, Manner::read(manner)?))
+}
+
+/// What a run did.
+#[derive(Drop)]
+pub struct Done {
+    /// Its outcome, the count of reads, and which of source and sink has failed.
+    pub told: String,
+    /// What it wrote.
+    pub written: Vec<u8>,
+}
+
+/// Runs a command over an input that is read, and whose answer is written, in this manner.
+pub fn run(
     alloc: Global,
     command: Command,
     manner: Manner,
     input: &[u8],
-) -> Result<(), AllocError> {
-    let mut page = Page {
-        written: Vec::new(alloc),
-        is_unwritable: manner.is_unwritable,
-    };
-    put_ended(out, alloc, command, Pieces::new(input, manner), &mut page)?;
-    put_written(out, &page.written)
+) -> Result<Done, AllocError> {
+    let mut told = String::new(alloc);
+    let mut page = Page::new(alloc, manner);
+    put_ended(
+        &mut told,
+        alloc,
+        command,
+        Pieces::new(input, manner),
+        &mut page,
+    )?;
+    Ok(Done {
+        told,
+        written: page.written,
+    })
 }
 
 fn put_ended(
@@ -120,26 +71,19 @@ fn put_ended(
 ) -> Result<(), AllocError> {
     let mut source = Source::new(reader);
     let mut sink = Sink::new(page);
-    let outcome = match command {
-        Command::Canon => run_canon(alloc, Level::Full, &mut source, &mut sink),
-        Command::Check => run_check(alloc, &mut source, &mut sink),
-    };
-    put_outcome(out, outcome)?;
-    put_streams(out, source.reads(), source.failed(), sink.failed())
-}
-
-/// The count of reads, and which of source and sink has failed.
-pub fn put_streams(
-    out: &mut String,
-    reads: u32,
-    source_failed: bool,
-    sink_failed: bool,
-) -> Result<(), AllocError> {
-    write!(out, ", reads {reads}")?;
-    if source_failed {
+    match command {
+        Command::Canon => put_outcome(out, run_canon(alloc, Level::Full, &mut source, &mut sink))?,
+        Command::Check => put_outcome(out, run_check(alloc, &mut source, &mut sink))?,
+        Command::Group => match run_group(alloc, Level::Full, &mut source, &mut sink) {
+            Ok(summary) => put_summary(out, summary)?,
+            Err(fault) => put_fault(out, fault)?,
+        },
+    }
+    write!(out, ", reads {}", source.reads())?;
+    if source.failed() {
         out.push_str(", source failed")?;
     }
-    if sink_failed {
+    if sink.failed() {
         out.push_str(", sink failed")?;
     }
     Ok(())
@@ -152,8 +96,21 @@ fn put_outcome(out: &mut String, outcome: Result<u8, RunFault>) -> Result<(), Al
     }
 }
 
-/// The fault of a run; want of memory is the error.
-pub fn put_fault(out: &mut String, fault: RunFault) -> Result<(), AllocError> {
+fn put_summary(out: &mut String, summary: Summary) -> Result<(), AllocError> {
+    let Summary {
+        lines,
+        blank,
+        refused,
+        groups,
+    } = summary;
+    write!(
+        out,
+        "lines {lines}, blank {blank}, refused {refused}, groups {groups}"
+    )
+}
+
+// The fault of a run; want of memory is the error.
+fn put_fault(out: &mut String, fault: RunFault) -> Result<(), AllocError> {
     match fault {
         RunFault::ReadFailed => out.push_str("fault ReadFailed"),
         RunFault::WriteFailed => out.push_str("fault WriteFailed"),
@@ -161,4 +118,71 @@ pub fn put_fault(out: &mut String, fault: RunFault) -> Result<(), AllocError> {
         RunFault::TooManyReads => out.push_str("fault TooManyReads"),
         RunFault::Memory => Err(AllocError),
     }
+}
+
+/// What the run that the words name did; `no such run` where they name none.
+pub fn put_run(
+    out: &mut String,
+    alloc: Global,
+    words: &str,
+    input: &[u8],
+) -> Result<(), AllocError> {
+    let Some((command, manner)) = read_run(words) else {
+        return out.push_str("no such run");
+    };
+    let done = run(alloc, command, manner, input)?;
+    put_done(out, &done)
+}
+
+/// What a run did.
+pub fn put_done(out: &mut String, done: &Done) -> Result<(), AllocError> {
+    out.push_str(done.told.as_str())?;
+    put_written(out, &done.written)
+}
+
+// `, written` and what was written, or that nothing was.
+fn put_written(out: &mut String, written: &[u8]) -> Result<(), AllocError> {
+    if written.is_empty() {
+        return out.push_str(", nothing written");
+    }
+    out.push_str(", written ")?;
+    put_text(out, written)
+}
+
+/// The status of `canon` over a reader and a writer of the library, or its fault, and what it has written.
+pub fn put_canon(out: &mut String, alloc: Global, input: &[u8]) -> Result<(), AllocError> {
+    let mut written = Vec::new(alloc);
+    let mut sink = Sink::new(&mut written);
+    put_outcome(
+        out,
+        run_canon(alloc, Level::Full, &mut Source::new(input), &mut sink),
+    )?;
+    put_written(out, &written)
+}
+
+/// The same of `check`.
+pub fn put_check(out: &mut String, alloc: Global, input: &[u8]) -> Result<(), AllocError> {
+    let mut written = Vec::new(alloc);
+    let mut sink = Sink::new(&mut written);
+    put_outcome(out, run_check(alloc, &mut Source::new(input), &mut sink))?;
+    put_written(out, &written)
+}
+
+/// The same of `same` for two texts, one a line, whose answer is written in the manner of the words.
+pub fn put_same(
+    out: &mut String,
+    alloc: Global,
+    words: &str,
+    input: &[u8],
+) -> Result<(), AllocError> {
+    let Some(manner) = Manner::read(words) else {
+        return out.push_str("no such run");
+    };
+    let mut page = Page::new(alloc, manner);
+    let (first, second) = split_line(input);
+    put_outcome(
+        out,
+        run_same(alloc, Level::Full, first, second, &mut Sink::new(&mut page)),
+    )?;
+    put_written(out, &page.written)
 }

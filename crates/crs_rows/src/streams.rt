@@ -1,9 +1,11 @@
 //! Readers and writers that a program may meet: a reader that cuts its text into pieces, goes on without end or
-//! fails, and a writer that fails.
+//! fails, and a writer that takes few bytes or fails.
+use std::alloc::Global;
 use std::io;
-use std::io::{Read, Write};
+use std::io::{ErrorKind, Read, Write};
 
-/// How a text is read, and whether a write fails: a row's words `pieces=N`, `fails=N`, `endless` and `unwritable`.
+/// How a text is read and an answer written: a row's words `pieces=N`, `fails=N`, `endless`, `takes=N`, `stops=N` and
+/// `interrupted`.
 #[derive(Clone, Copy)]
 pub struct Manner {
     /// The most bytes of one read.
@@ -12,8 +14,12 @@ pub struct Manner {
     pub fails_at: u32,
     /// Whether the text begins anew where it ends.
     pub is_endless: bool,
-    /// Whether each write fails.
-    pub is_unwritable: bool,
+    /// The most bytes that one write takes.
+    pub takes: usize,
+    /// The write that fails, counted from 1; none where it is 0.
+    pub stops_at: u32,
+    /// Whether what fails is interrupted.
+    pub is_interrupted: bool,
 }
 
 impl Manner {
@@ -23,13 +29,15 @@ impl Manner {
             piece: usize::MAX,
             fails_at: 0,
             is_endless: false,
-            is_unwritable: false,
+            takes: usize::MAX,
+            stops_at: 0,
+            is_interrupted: false,
         };
         for word in words.split(' ') {
             match word {
                 "" => (),
                 "endless" => manner.is_endless = true,
-                "unwritable" => manner.is_unwritable = true,
+                "interrupted" => manner.is_interrupted = true,
                 _ => manner.read_count(word)?,
             }
         }
@@ -41,9 +49,19 @@ impl Manner {
         match name {
             "pieces" => self.piece = count.parse().ok()?,
             "fails" => self.fails_at = count.parse().ok()?,
+            "takes" => self.takes = count.parse().ok()?,
+            "stops" => self.stops_at = count.parse().ok()?,
             _ => return None,
         }
         Some(())
+    }
+
+    fn failure(&self) -> io::Error {
+        io::Error::from(if self.is_interrupted {
+            ErrorKind::Interrupted
+        } else {
+            ErrorKind::BrokenPipe
+        })
     }
 }
 
@@ -71,7 +89,7 @@ impl Read for Pieces<'_> {
     fn read(&mut self, buf: &mut [u8]) -> io::Result<usize> {
         self.calls = self.calls.saturating_add(1);
         if self.calls == self.manner.fails_at {
-            return Err(io::Error::from(io::ErrorKind::Interrupted));
+            return Err(self.manner.failure());
         }
         if self.left.is_empty() && self.manner.is_endless {
             self.left = self.text;
@@ -85,20 +103,33 @@ impl Read for Pieces<'_> {
     }
 }
 
-/// A writer into memory, or one that fails at each write.
+/// A writer into memory, in this manner.
 #[derive(Drop)]
 pub struct Page {
     pub written: Vec<u8>,
-    pub is_unwritable: bool,
+    manner: Manner,
+    calls: u32,
+}
+
+impl Page {
+    pub fn new(alloc: Global, manner: Manner) -> Page {
+        Page {
+            written: Vec::new(alloc),
+            manner,
+            calls: 0,
+        }
+    }
 }
 
 impl Write for Page {
     fn write(&mut self, buf: &[u8]) -> io::Result<usize> {
-        if self.is_unwritable {
-            return Err(io::Error::from(io::ErrorKind::BrokenPipe));
+        self.calls = self.calls.saturating_add(1);
+        if self.calls == self.manner.stops_at {
+            return Err(self.manner.failure());
         }
-        self.written.extend_from_slice(buf)?;
-        Ok(buf.len())
+        let count = buf.len().min(self.manner.takes);
+        self.written.extend_from_slice(&buf[..count])?;
+        Ok(count)
     }
 
     fn flush(&mut self) -> io::Result<()> {

@@ -3,7 +3,7 @@ ghost use Rattle.crs_text.specs.Items.{HasId};
 
 use crate::escapes::put_text;
 use crate::numbers::put_spelling;
-use crate::pieces::agree;
+use crate::pieces::{agree, agree_in_many};
 use crs_decimal::Decimal;
 use crs_text::{Fault, ItemId, ItemKind, Items, Keyword, Refusal, read_items};
 use std::alloc::{AllocError, Global};
@@ -76,13 +76,18 @@ pub fn put_column(
     }
 }
 
-/// The refusal of each proper prefix, its number and place joined by `@`; `accepted` where it has none.
+/// The refusal of each proper prefix, its number and place joined by `@`; `accepted` where it has none, and
+/// `another-in-pieces` where its pieces of 1 to 7 bytes have another.
 pub fn put_prefixes(out: &mut String, alloc: Global, input: &[u8]) -> Result<(), AllocError> {
     out.push_str("refusals")?;
     for count in 0..input.len() {
-        match read_items(alloc, &input[..count]) {
+        let prefix = &input[..count];
+        match read_items(alloc, prefix) {
             Ok(_items) => out.push_str(" accepted")?,
             Err(fault) => put_short(out, fault)?,
+        }
+        if !agree_in_many(alloc, prefix)? {
+            out.push_str(" another-in-pieces")?;
         }
     }
     Ok(())

@@ -6,6 +6,7 @@ ghost use Rattle.crs_same.specs.SameConversions.{SameMethod, SameParameter, Same
 
 use crate::idents::same_idents;
 use crate::keys::{Key, key_of_named};
+use crate::laws::{same_geoid_model_is_equivalence, same_parameter_is_equivalence};
 use crate::numbers::same_value;
 use crate::path::Path;
 use crate::sets::{Member, same_set};
@@ -52,6 +53,10 @@ impl Member for Parameter<'_> {
         key.put_idents(self.ids.as_slice(), level);
         key.finish()
     }
+
+    fn same_is_equivalence(&self) {
+        same_parameter_is_equivalence();
+    }
 }
 
 /// Whether two parameters are the same: name, number, identifiers, and the units in both or in neither; `UNIT` is a
@@ -76,6 +81,10 @@ impl Member for GeoidModel<'_> {
 
     fn key(&self, level: Level) -> u64 {
         key_of_named(self.name, self.ids.as_slice(), level)
+    }
+
+    fn same_is_equivalence(&self) {
+        same_geoid_model_is_equivalence();
     }
 }
 

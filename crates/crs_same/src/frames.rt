@@ -10,6 +10,7 @@ ghost use Rattle.crs_same.specs.SameFrames.{SameDatum, SameEnsemble, SameFrame};
 
 use crate::idents::same_idents;
 use crate::keys::key_of_named;
+use crate::laws::same_member_is_equivalence;
 use crate::numbers::same_value;
 use crate::path::Path;
 use crate::sets::{Member as SetMember, same_set};
@@ -158,6 +159,10 @@ impl SetMember for Member<'_> {
 
     fn key(&self, level: Level) -> u64 {
         key_of_named(self.name, self.ids.as_slice(), level)
+    }
+
+    fn same_is_equivalence(&self) {
+        same_member_is_equivalence();
     }
 }
 

@@ -4,6 +4,7 @@ ghost use Rattle.crs_same.specs.SameIdents.{SameIdent, SameIdents};
 ghost use Rattle.crs_same.specs.Sets.{SameSet};
 
 use crate::keys::key_of_ident;
+use crate::laws::same_ident_is_equivalence;
 use crate::sets::{Member, same_set};
 use crate::texts::{same_optional_text, same_text};
 use crs_value::{Ident, Level, List};
@@ -31,6 +32,10 @@ impl Member for Ident<'_> {
 
     fn key(&self, _level: Level) -> u64 {
         key_of_ident(self)
+    }
+
+    fn same_is_equivalence(&self) {
+        same_ident_is_equivalence();
     }
 }
 

@@ -1,12 +1,16 @@
 //! Keys of the members of sets: numbers that same members share, by which a same one is looked for. No promise rests
 //! on them, since what a key leads to is compared.
 
+ghost use Rattle.std.specs.Prelude.{◌<◌, length};
+
 use crs_decimal::Decimal;
 use crs_value::{BoundingBox, Extent, Ident, Level, Unit};
 use std::hash::{DefaultHasher, Hasher};
 
-// So many identifiers are sorted at once.
-const AT_ONCE: usize = 512;
+// So many keys of identifiers are told apart, in so many slots.
+const MOST: usize = 512;
+
+const SLOTS: usize = 1024;
 
 // What a key is made of, part by part.
 #[derive(Drop)]
@@ -116,60 +120,66 @@ pub(crate) fn key_of_ident(ident: &Ident<'_>) -> u64 {
     key.finish()
 }
 
-// The sum of the members' keys, each key once.
+// The sum of the members' keys, each key once, as long as they are few.
 fn key_of_set(idents: &[Ident<'_>]) -> u64 {
     match idents {
         [] => 0,
-        [ident] => key_of_ident(ident),
-        _ => sum_of_keys(idents),
+        [ident] => used(key_of_ident(ident)),
+        _ => sum_of_keys(idents).unwrap_or_else(|| key_of_many(idents)),
     }
 }
 
-fn sum_of_keys(idents: &[Ident<'_>]) -> u64 {
+// None where there are too many keys.
+fn sum_of_keys(idents: &[Ident<'_>]) -> Option<u64> {
+    let mut keys = [0; SLOTS];
+    let mut count: usize = 0;
     let mut sum: u64 = 0;
-    for (turn, chunk) in idents.chunks(AT_ONCE).enumerate() {
-        let before = idents.get(..turn.saturating_mul(AT_ONCE)).unwrap_or(&[]);
-        sum = sum.wrapping_add(sum_of_new_keys(chunk, before));
-    }
-    sum
-}
-
-// The sum of the keys of a chunk that no identifier before it has, each key once.
-fn sum_of_new_keys(chunk: &[Ident<'_>], before: &[Ident<'_>]) -> u64 {
-    let mut room = [0u64; AT_ONCE];
-    let keys = sorted_keys(&mut room, chunk);
-    let mut is_old = [false; AT_ONCE];
-    mark_old(&mut is_old, keys, before);
-    let mut sum: u64 = 0;
-    let mut last = None;
-    for (key, old) in keys.iter().zip(&is_old) {
-        if !*old && last != Some(*key) {
-            sum = sum.wrapping_add(*key);
+    for ident in idents {
+        let key = used(key_of_ident(ident));
+        let slot = slot_of(&keys, key);
+        if keys[slot] != key {
+            if count == MOST {
+                return None;
+            }
+            keys[slot] = key;
+            count = count.saturating_add(1);
+            sum = sum.wrapping_add(key);
         }
-        last = Some(*key);
     }
-    sum
+    Some(sum)
 }
 
-fn sorted_keys<'r>(room: &'r mut [u64; AT_ONCE], chunk: &[Ident<'_>]) -> &'r [u64] {
-    for (place, ident) in room.iter_mut().zip(chunk) {
-        *place = key_of_ident(ident);
-    }
-    let count = chunk.len().min(AT_ONCE);
-    let keys = &mut room[..count];
-    keys.sort_unstable();
-    keys
-}
-
-// Marks the first of the keys that one of these has.
-fn mark_old(is_old: &mut [bool; AT_ONCE], keys: &[u64], idents: &[Ident<'_>]) {
+// The sum of the greatest key of each share of the keys.
+fn key_of_many(idents: &[Ident<'_>]) -> u64 {
+    let mut greatest = [0; SLOTS];
     for ident in idents {
         let key = key_of_ident(ident);
-        let first = keys.partition_point(|it| *it < key);
-        if keys.get(first) == Some(&key) {
-            if let Some(old) = is_old.get_mut(first) {
-                *old = true;
-            }
-        }
+        let share = (key % SLOTS as u64) as usize;
+        greatest[share] = key.max(greatest[share]);
     }
+    greatest
+        .iter()
+        .fold(0, |sum: u64, key| sum.wrapping_add(*key))
+}
+
+// No key is that of a free slot.
+pub(crate) fn used(key: u64) -> u64 {
+    key | 1
+}
+
+// The slot that has this key, or the free one where it would stand.
+pub(crate) fn slot_of(keys: &[u64], key: u64) -> usize
+    requires { 0 < length keys.now }
+    ensures { result < length keys.now }
+{
+    let count = keys.len();
+    let mut slot = (key % count as u64) as usize;
+    for _turn in 0..count {
+        let at = slot % count;
+        if keys[at] == key || keys[at] == 0 {
+            return at;
+        }
+        slot = at + 1;
+    }
+    slot % count
 }

@@ -5,13 +5,13 @@
 mod conversions;
 mod crs;
 mod frames;
+mod guesses;
 mod idents;
 mod keys;
 pub mod laws;
 mod numbers;
 pub mod parts;
 mod path;
-mod places;
 mod sets;
 mod step;
 mod systems;

@@ -1,10 +1,11 @@
 //! Lists that are taken as sets.
-ghost use Rattle.std.specs.Prelude.{◌↔◌, IsTrue};
+ghost use Rattle.std.specs.Prelude.{◌≤◌, ◌↔◌, IsTrue, length, take};
 ghost use Rattle.std.specs.Option.{option_copied};
 ghost use Rattle.crs_value.specs.declared.level.Level.{Level};
+ghost use Rattle.crs_same.specs.Sameness.{IsSameness};
 ghost use Rattle.crs_same.specs.Sets.{HasSame, AllHaveSame, SameSet};
 
-use crate::places::Places;
+use crate::guesses::Guesses;
 use crs_value::Level;
 
 // Among so few a same member is looked for one by one.
@@ -19,6 +20,10 @@ pub(crate) trait Member: Sized {
 
     // A number that same members share. No promise rests on it: it says where a same one is looked for first.
     fn key(&self, level: Level) -> u64;
+
+    // Sameness of members is an equivalence. The call does nothing.
+    fn same_is_equivalence(&self)
+        ensures { (level : Level) → IsSameness (Same level) };
 }
 
 pub(crate) fn has_same<T: Member>(member: &T, others: &[T], level: Level) -> bool
@@ -47,34 +52,47 @@ fn all_have_same<T: Member>(members: &[T], others: &[T], level: Level) -> bool
 fn all_of_many_have_same<T: Member>(members: &[T], others: &[T], level: Level) -> bool
     ensures { IsTrue result ↔ AllHaveSame (T.Same level) members.now others.now }
 {
-    let mut places = Places::new();
+    let mut guesses = Guesses::new();
     let mut at: usize = 0;
     for member in members {
-        if !is_found(member, members, others, at, &mut places, level) {
+        if !is_met(member, at, members, others, &mut guesses, level) {
             return false;
         }
-        at = at.saturating_add(1);
+        at += 1;
     }
     true
 }
 
-// Whether the member at a place has a same one: at that place, at the one that its key leads to, or anywhere.
-pub(crate) fn is_found<T: Member>(
+// Whether a member has a same one, as all before it have: at its own place, or as one before it, or anywhere.
+fn is_met<T: Member>(
     member: &T,
+    at: usize,
     members: &[T],
     others: &[T],
-    at: usize,
-    places: &mut Places,
+    guesses: &mut Guesses,
     level: Level,
 ) -> bool
+    requires there { at ≤ length members.now }
+    requires before { AllHaveSame (T.Same level) (take at members.now) others.now }
     ensures { IsTrue result ↔ HasSame (T.Same level) member.now others.now }
 {
-    is_same_at(member, others, at, level)
-        || is_same_at(member, others, places.of(at, members, others, level), level)
-        || has_same(member, others, level)
+    if is_same_at(member, others, at, level) {
+        return true;
+    }
+    member.same_is_equivalence();
+    let guess = guesses.of(at, members, others, level);
+    is_same_at(member, &members[..at], guess.before, level)
+        || is_found(member, others, guess.other, level)
 }
 
-fn is_same_at<T: Member>(member: &T, others: &[T], place: usize, level: Level) -> bool
+// Whether a member has a same one: at this place, or anywhere.
+pub(crate) fn is_found<T: Member>(member: &T, others: &[T], place: usize, level: Level) -> bool
+    ensures { IsTrue result ↔ HasSame (T.Same level) member.now others.now }
+{
+    is_same_at(member, others, place, level) || has_same(member, others, level)
+}
+
+pub(crate) fn is_same_at<T: Member>(member: &T, others: &[T], place: usize, level: Level) -> bool
     ensures { IsTrue result → HasSame (T.Same level) member.now others.now }
 {
     match others.get(place) {

@@ -1,17 +1,18 @@
 //! Usages, and the ends of CRSs.
-ghost use Rattle.std.specs.Prelude.{◌≡◌, ◌≤◌, ◌↔◌, IsTrue, None, length};
+ghost use Rattle.std.specs.Prelude.{◌≡◌, ◌≤◌, ◌↔◌, IsTrue, None, length, take};
 ghost use Rattle.crs_value.specs.declared.level.Level.{Level};
 ghost use Rattle.crs_same.specs.FirstInCrs.{FirstInTail};
 ghost use Rattle.crs_same.specs.Sets.{BothOrNeither, HasSame, AllHaveSame};
 ghost use Rattle.crs_same.specs.SameUsages.{SameBox, SameExtent, SameUsage, usages_of, SameUsages, SameRemark};
 ghost use Rattle.crs_same.specs.SameUsages.{SameTail};
 
+use crate::guesses::Guesses;
 use crate::idents::same_idents;
 use crate::keys::Key;
+use crate::laws::same_usage_is_equivalence;
 use crate::numbers::same_value;
 use crate::path::Path;
-use crate::places::Places;
-use crate::sets::{FEW, Member, has_same, is_found};
+use crate::sets::{FEW, Member, has_same, is_found, is_same_at};
 use crate::step::Step;
 use crate::texts::same_optional_text;
 use crate::units::same_length;
@@ -86,25 +87,16 @@ impl Member for Usage<'_> {
         key.put_extent(&self.extent, Level::Full);
         key.finish()
     }
+
+    fn same_is_equivalence(&self) {
+        same_usage_is_equivalence();
+    }
 }
 
 fn has_same_usage<'a>(usage: &Usage<'a>, others: &[Usage<'a>]) -> bool
     ensures { IsTrue result ↔ HasSame SameUsage usage.now others.now }
 {
     has_same(usage, others, Level::Full)
-}
-
-// The same of many.
-fn is_found_usage<'a>(
-    usage: &Usage<'a>,
-    usages: &[Usage<'a>],
-    others: &[Usage<'a>],
-    at: usize,
-    places: &mut Places,
-) -> bool
-    ensures { IsTrue result ↔ HasSame SameUsage usage.now others.now }
-{
-    is_found(usage, usages, others, at, places, Level::Full)
 }
 
 // Among the usages at an end, the bare one included.
@@ -137,34 +129,67 @@ fn all_have_same<'a>(usages: &[Usage<'a>], tail: &Tail<'a>) -> bool
 fn all_of_many_have_same<'a>(usages: &[Usage<'a>], tail: &Tail<'a>) -> bool
     ensures { IsTrue result ↔ AllHaveSame SameUsage usages.now (usages_of tail.now) }
 {
-    let mut places = Places::new();
+    let mut guesses = Guesses::new();
     let mut at: usize = 0;
     for usage in usages {
-        if !is_found_in(usage, usages, tail, at, &mut places) {
+        if !is_met_in(usage, at, usages, tail, &mut guesses) {
             return false;
         }
-        at = at.saturating_add(1);
+        at += 1;
     }
     true
 }
 
-fn is_found_in<'a>(
+// Whether a usage has a same one, as all before it have.
+fn is_met_in<'a>(
     usage: &Usage<'a>,
+    at: usize,
     usages: &[Usage<'a>],
     tail: &Tail<'a>,
-    at: usize,
-    places: &mut Places,
+    guesses: &mut Guesses,
 ) -> bool
+    requires there { at ≤ length usages.now }
+    requires before { AllHaveSame SameUsage (take at usages.now) (usages_of tail.now) }
+    ensures { IsTrue result ↔ HasSame SameUsage usage.now (usages_of tail.now) }
+{
+    if is_same_in(usage, tail, at) {
+        return true;
+    }
+    same_usage_is_equivalence();
+    let guess = guesses.of(at, usages, tail.usages.as_slice(), Level::Full);
+    is_same_usage_at(usage, &usages[..at], guess.before) || is_found_in(usage, tail, guess.other)
+}
+
+fn is_same_in<'a>(usage: &Usage<'a>, tail: &Tail<'a>, place: usize) -> bool
+    ensures { IsTrue result → HasSame SameUsage usage.now (usages_of tail.now) }
+{
+    let others = tail.usages.as_slice();
+    match &tail.bare {
+        None => is_same_usage_at(usage, others, place),
+        Some(_) => is_same_usage_at(usage, others, place),
+    }
+}
+
+fn is_found_in<'a>(usage: &Usage<'a>, tail: &Tail<'a>, place: usize) -> bool
     ensures { IsTrue result ↔ HasSame SameUsage usage.now (usages_of tail.now) }
 {
     let others = tail.usages.as_slice();
     match &tail.bare {
-        None => is_found_usage(usage, usages, others, at, places),
-        Some(bare) => {
-            same_usage(usage, bare, Level::Full)
-                || is_found_usage(usage, usages, others, at, places)
-        }
+        None => is_found_usage(usage, others, place),
+        Some(bare) => same_usage(usage, bare, Level::Full) || is_found_usage(usage, others, place),
     }
+}
+
+fn is_same_usage_at<'a>(usage: &Usage<'a>, usages: &[Usage<'a>], place: usize) -> bool
+    ensures { IsTrue result → HasSame SameUsage usage.now usages.now }
+{
+    is_same_at(usage, usages, place, Level::Full)
+}
+
+fn is_found_usage<'a>(usage: &Usage<'a>, others: &[Usage<'a>], place: usize) -> bool
+    ensures { IsTrue result ↔ HasSame SameUsage usage.now others.now }
+{
+    is_found(usage, others, place, Level::Full)
 }
 
 fn all_have_same_in<'a>(a: &Tail<'a>, b: &Tail<'a>) -> bool

@@ -29,6 +29,7 @@ loop-turn-preserved g c =
       taken = search rules;
       short = search rules;
       unended = search rules;
+      within = search rules;
       healthy = search rules;
       held = (
         held.0 ++ take c.in_ok-count.count c.read.new.room,

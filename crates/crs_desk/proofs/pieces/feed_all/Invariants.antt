@@ -11,6 +11,7 @@ invariant-loop-turn g l =
       taken : l.source.taken ≡ l.taken;
       short : l.taken ≤ 1048576;
       unended : l.source.ended ≡ false;
+      within : l.source.past_end ≡ false;
       healthy : l.source.failed ≡ false;
       held : (text : List ℕ) × HasGiven l.fn.source l.source text × IsHeld l.refused text l.feeder;
     }

@@ -10,6 +10,7 @@ invariant-loop-turn g l =
       taken : l.source.taken ≡ vec_len l.text;
       short : vec_len l.text ≤ 1048576;
       unended : l.source.ended ≡ false;
+      within : l.source.past_end ≡ false;
       healthy : l.source.failed ≡ false;
       told : Consumes l.fn.source.remaining l.source.remaining l.text.items;
     }

@@ -62,6 +62,7 @@ loop-turn-preserved g c =
             c.read.ensures.counted c.read.ensures.bound got,
       );
       unended = search rules;
+      within = search rules;
       healthy = search rules;
       cut = (cut.0 ++ take c.in_ok-count.count c.read.new.room, given, c.in_ok-take.ensures.cut cut.0 cut.2);
       level = search rules;

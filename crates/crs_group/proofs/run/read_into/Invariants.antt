@@ -10,6 +10,7 @@ invariant-loop-turn g l =
       reads : l.source.reads ≡ l.turn;
       few : l.source.taken ≤ 65536 * l.turn;
       unended : l.source.ended ≡ false;
+      within : l.source.past_end ≡ false;
       healthy : l.source.failed ≡ false;
       cut : (bytes : List ℕ) × HasGiven l.fn.source l.source bytes × IsCutTo bytes l.cutter;
       level : l.cutter.ledger.catalogue.level ≡ l.fn.cutter.ledger.catalogue.level;

@@ -1,6 +1,10 @@
-use Rattle.std.proofs.Common.{◌↔◌, drop}
+use Rattle.std.proofs.Common.{◌≡◌, take}
 use Rattle.crs_same.specs.Sets.{AllHaveSame}
 use Rattle.crs_same.proofs.sets.all_of_many_have_same.Given as goal
 
 abbrev pub invariant-loop-member : goal.invariant-loop-member
-invariant-loop-member g l = AllHaveSame (g.T.Member.Same l.level) l.members l.others ↔ AllHaveSame (g.T.Member.Same l.level) (drop l.member-index l.members) l.others
+invariant-loop-member g l =
+    record {
+      at : l.at ≡ l.member-index;
+      before : AllHaveSame (g.T.Member.Same l.level) (take l.member-index l.members) l.others;
+    }
