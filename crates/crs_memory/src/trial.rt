@@ -1,0 +1,58 @@
+//! A call that is made while a growth of memory may be refused.
+use std::alloc::{AllocError, Global};
+use std::io;
+use std::io::Write;
+
+/// A call that takes memory, with all that it is handed.
+pub trait Trial {
+    /// What the call answers where it has the memory, be it a refusal.
+    type Answer: Drop;
+
+    /// Makes the call, and nothing else that takes memory. The error is want of memory.
+    fn call(&mut self, alloc: Global) -> Result<Self::Answer, AllocError>;
+
+    /// Whether all that the call is handed is as it was before the first call.
+    fn is_kept(&self, alloc: Global) -> Result<bool, AllocError>;
+
+    /// Appends the text of an answer, and of what the call has changed.
+    fn put_answer(&self, out: &mut String, answer: &Self::Answer) -> Result<(), AllocError>;
+}
+
+/// Makes the call between two lines on standard output, and prints its answer.
+pub fn run<T: Trial>(rt: &(impl Print + AllocGlobal), trial: &mut T) -> io::Result<()> {
+    io::writer(rt).write_all(b"call\n")?;
+    let called = trial.call(rt.alloc());
+    io::writer(rt).write_all(b"answered\n")?;
+    let mut text = String::new(rt.alloc());
+    put_called(&mut text, rt.alloc(), trial, called)?;
+    print!(rt; "{text}")
+}
+
+fn put_called<T: Trial>(
+    out: &mut String,
+    alloc: Global,
+    trial: &mut T,
+    called: Result<T::Answer, AllocError>,
+) -> Result<(), AllocError> {
+    match called {
+        Ok(answer) => put_line(out, "answer ", trial, &answer),
+        Err(_) => {
+            out.push_str("answer memory\n")?;
+            let is_kept = trial.is_kept(alloc)?;
+            out.push_str(if is_kept { "kept yes\n" } else { "kept no\n" })?;
+            let answer = trial.call(alloc)?;
+            put_line(out, "again ", trial, &answer)
+        }
+    }
+}
+
+fn put_line<T: Trial>(
+    out: &mut String,
+    word: &str,
+    trial: &T,
+    answer: &T::Answer,
+) -> Result<(), AllocError> {
+    out.push_str(word)?;
+    trial.put_answer(out, answer)?;
+    out.push('\n')
+}
