@@ -52,8 +52,10 @@ class Stop(Exception):
     """Why there is no program, in a line for the user."""
 
 
-def say(text):
-    print(f"crsdesk: {text}", file=sys.stderr, flush=True)
+def say(text, end="\n"):
+    """A line on standard error; on a terminal in place of the one that is rewritten."""
+    front = "\r\033[K" if sys.stderr.isatty() else ""
+    print(f"{front}crsdesk: {text}", end=end, file=sys.stderr, flush=True)
 
 
 def minutes(seconds):
@@ -253,10 +255,8 @@ class Progress:
         text += f"; {so_far} so far"
         if len(self.proved) < len(self.crates):
             text += f", about {minutes(self.left(running))} left"
-        if self.is_terminal:
-            print(f"\r\033[Kcrsdesk: {text}", end="\n" if ends else "", file=sys.stderr, flush=True)
-        elif ends:
-            say(text)
+        if ends or self.is_terminal:
+            say(text, end="\n" if ends else "")
 
 
 def jobs_of_this_machine():
