@@ -3,7 +3,7 @@ use Rattle.std.proofs.Common.{◌≡◌, ℕ, suc, ◌+◌, List, [], ◌∷◌,
 use Rattle.crs_text.specs.Items.{Siblings, End}
 use Rattle.crs_text.specs.Written.{item_text, others_text}
 use Rattle.crs_value.specs.Values.{AxisParts, SystemParts}
-use Rattle.crs_value.specs.declared.level.Level.{Level}
+use Rattle.crs_value.specs.declared.values.level.Level.{Level}
 use Rattle.crs_normal.specs.SpelledItems.{each}
 use Rattle.crs_normal.specs.SpelledSystems.{axes_from, axis_at, item_axis, item_head, norm_axis, norm_system, system_items, with_axis}
 use Rattle.crs_canon.proofs.PieceLemmas.{two}

@@ -1,8 +1,8 @@
 -- A bridge: the canonical text of a CRS.
 use Rattle.std.specs.Prelude.{ℕ, List}
 use Rattle.crs_text.specs.Written.{item_text}
-use Rattle.crs_value.specs.declared.crs.Crs.{Crs}
-use Rattle.crs_value.specs.declared.level.Level.{Level}
+use Rattle.crs_value.specs.declared.values.crs.Crs.{Crs}
+use Rattle.crs_value.specs.declared.values.level.Level.{Level}
 use Rattle.crs_normal.specs.SpelledCrs.{item_crs, norm_crs}
 
 abbrev pub crs_text : Level → Crs → List ℕ

@@ -6,7 +6,7 @@ use Rattle.std.specs.Cmp.Lexicographic.{bytes_decides, nat_list_eq_equiv, pointw
 use Rattle.std.specs.Hash.{HashWrites}
 use denote.Enum.Bare.{sameb, same_true}
 use denote.Enum.Declared.{tag_of}
-use Rattle.crs_value.specs.contracts.level.Level.{the_type}
+use Rattle.crs_value.specs.contracts.values.level.Level.{the_type}
 use Rattle.crs_canon.specs.Canonical.{CanonicalText}
 
 -- whether levels and texts are equal

@@ -1,6 +1,6 @@
 //! Nodes that are compared and written by themselves.
 ghost use Rattle.std.specs.Prelude.{◌≡◌, ◌↔◌, ◌++◌, ◌∷◌, ℕ, IsTrue, List, MatchResult};
-ghost use Rattle.crs_value.specs.declared.level.Level.{Level};
+ghost use Rattle.crs_value.specs.declared.values.level.Level.{Level};
 ghost use Rattle.crs_normal.specs.CanonicalForm.{IsCanonicalForm};
 
 mod axes;

@@ -2,8 +2,8 @@
 ghost use Rattle.std.specs.Prelude.{◌≡◌, ◌↔◌, ◌++◌, [], List, true, ℕ};
 ghost use Rattle.crs_value.specs.Sound.{Each};
 ghost use Rattle.crs_value.specs.SoundCrs.{IsCrs};
-ghost use Rattle.crs_value.specs.declared.crs.Crs.{Crs};
-ghost use Rattle.crs_value.specs.declared.level.Level.{Level};
+ghost use Rattle.crs_value.specs.declared.values.crs.Crs.{Crs};
+ghost use Rattle.crs_value.specs.declared.values.level.Level.{Level};
 ghost use Rattle.crs_same.specs.SameCrs.{SameCrs};
 ghost use Rattle.crs_canon.specs.Canonical.{CanonicalText, IsCanonicalText};
 ghost use Rattle.crs_canon.specs.Equality.{canon_writes, canons_equal};

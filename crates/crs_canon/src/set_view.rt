@@ -1,7 +1,7 @@
 //! Sets of nodes, which are views of slices.
 ghost use Rattle.std.specs.Prelude.{◌≡◌, ◌↔◌, ◌++◌, ℕ, IsTrue, List, map, MatchResult, OnOk};
 ghost use Rattle.crs_value.specs.Sound.{Each};
-ghost use Rattle.crs_value.specs.declared.level.Level.{Level};
+ghost use Rattle.crs_value.specs.declared.values.level.Level.{Level};
 ghost use Rattle.crs_same.specs.Sets.{AllHaveSame, HasSame, SameSet};
 ghost use Rattle.crs_normal.specs.Ascending.{Has};
 ghost use Rattle.crs_normal.specs.Ordered.{in_order, put, put_all};

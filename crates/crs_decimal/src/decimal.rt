@@ -30,7 +30,7 @@ impl Model for Decimal {
     ghost view = { λ d. record { negative = d.sign == 1; digits = d.digits; power = d.power } };
 
     ghost invariant = { λ d. (d.sign < 2)
-        × IsNormal (record { negative = d.sign == 1; digits = d.digits; power = d.power }) };
+        × IsNormal (view d) };
 
     ghost inverse = { λ v. record { digits = v.digits; power = v.power; sign = from_bool v.negative } };
 

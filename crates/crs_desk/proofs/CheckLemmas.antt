@@ -2,7 +2,7 @@
 use Rattle.std.proofs.Common.{ℕ, List, inl, inr, Result, Ok, Err}
 use Rattle.std.specs.Prelude.{MatchResult}
 use Rattle.crs_text.specs.Refusal.{RefusedAt}
-use Rattle.crs_value.specs.declared.crs.Kind.{Kind}
+use Rattle.crs_value.specs.declared.values.crs.Kind.{Kind}
 use Rattle.crs_value.specs.SpellsText.{Refuses}
 use Rattle.crs_group.specs.Streams.{SourceState, SinkState}
 use Rattle.crs_desk.specs.Ending.{IsWritten, IsAnswered}

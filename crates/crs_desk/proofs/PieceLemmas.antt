@@ -11,8 +11,8 @@ use Rattle.crs_text.specs.Settled.{IsSettledRefusal}
 use Rattle.crs_text.specs.TextFault.{SpellsNode, RefusesText, IsTextFault}
 use Rattle.crs_text.specs.declared.fault.Fault.{Fault}
 use Rattle.crs_text.specs.declared.fault.Fault.TheVariants as faults
-use Rattle.crs_value.specs.declared.crs.Crs.{Crs}
-use Rattle.crs_value.specs.declared.crs.Kind.{Kind}
+use Rattle.crs_value.specs.declared.values.crs.Crs.{Crs}
+use Rattle.crs_value.specs.declared.values.crs.Kind.{Kind}
 use Rattle.crs_value.specs.ReadsCrs.{kind_of}
 use Rattle.crs_value.specs.Spells.{SpellsCrs, RefusesCrs}
 use Rattle.crs_value.specs.SpellsText.{Refuses}

@@ -1,12 +1,12 @@
 -- What `canon` and `check` write for a text, and their status.
 use Rattle.std.specs.Prelude.{◌≡◌, ◌++◌, ◌⊎◌, ℕ, List, [], ◌∷◌, Result, Ok, Err, codes}
 use Rattle.crs_text.specs.Refusal.{RefusedAt}
-use Rattle.crs_value.specs.declared.crs.Crs.{Crs}
-use Rattle.crs_value.specs.declared.crs.Kind.{Kind}
-use Rattle.crs_value.specs.declared.crs.Kind.TheVariants as kind
+use Rattle.crs_value.specs.declared.values.crs.Crs.{Crs}
+use Rattle.crs_value.specs.declared.values.crs.Kind.{Kind}
+use Rattle.crs_value.specs.declared.values.crs.Kind.TheVariants as kind
 use Rattle.crs_value.specs.ReadsCrs.{kind_of}
 use Rattle.crs_value.specs.SpellsText.{Spells, Refuses}
-use Rattle.crs_value.specs.declared.level.Level.{Level}
+use Rattle.crs_value.specs.declared.values.level.Level.{Level}
 use Rattle.crs_canon.specs.Canonical.{IsCanonicalOf}
 use Rattle.crs_group.specs.Output.{refused_text}
 

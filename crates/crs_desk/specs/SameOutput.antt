@@ -1,8 +1,8 @@
 -- What `same` writes for two texts, and its status.
 use Rattle.std.specs.Prelude.{◌++◌, ◌⊎◌, ℕ, List, Option, Some, None, codes}
 use Rattle.crs_text.specs.Refusal.{RefusedAt}
-use Rattle.crs_value.specs.declared.crs.Crs.{Crs}
-use Rattle.crs_value.specs.declared.level.Level.{Level}
+use Rattle.crs_value.specs.declared.values.crs.Crs.{Crs}
+use Rattle.crs_value.specs.declared.values.level.Level.{Level}
 use Rattle.crs_value.specs.SpellsText.{Spells, Refuses}
 use Rattle.crs_same.specs.declared.step.Step.{Step}
 use Rattle.crs_same.specs.FirstInCrs.{FirstInCrs}

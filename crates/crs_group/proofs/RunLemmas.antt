@@ -4,7 +4,7 @@ use Rattle.std.specs.Prelude.{IfOk, IsErr, MatchResult}
 use Rattle.std.specs.Io.{ReadsAtMost}
 use Rattle.std.specs.Io.KnownBytes.{Consumes, Keeps, ReadConsumes}
 use Rattle.crs_group.specs.Cutting.{CutterParts, IsCutFault, IsCutTo, IsLedgerFor, LedgerParts}
-use Rattle.crs_value.specs.declared.level.Level.{Level}
+use Rattle.crs_value.specs.declared.values.level.Level.{Level}
 use Rattle.crs_group.specs.Reading.{IsLedgerWhole, IsReadInto}
 use Rattle.crs_group.specs.GroupRun.{GivesShortLines, HasGiven, IsReadingFault}
 use Rattle.crs_group.specs.Streams.{CountsRead, SourceState}

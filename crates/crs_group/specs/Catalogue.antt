@@ -1,7 +1,7 @@
 -- Catalogues of lines, as callers see them.
 use Rattle.std.specs.Prelude.{ℕ, zero, suc, List, Option, None, slice_get}
 use Rattle.crs_text.specs.Refusal.{RefusedAt}
-use Rattle.crs_value.specs.declared.level.Level.{Level}
+use Rattle.crs_value.specs.declared.values.level.Level.{Level}
 use Rattle.crs_canon.specs.Canonical.{CanonicalText}
 
 -- a line as it is added: its number, and its text

@@ -1,7 +1,7 @@
 -- How a run over the lines of a source ends.
 use Rattle.std.specs.Prelude.{◌≡◌, ℕ, true, false, List, IfSome, length}
 use Rattle.std.specs.Io.KnownBytes.{Appends, Consumes}
-use Rattle.crs_value.specs.declared.level.Level.{Level}
+use Rattle.crs_value.specs.declared.values.level.Level.{Level}
 use Rattle.crs_group.specs.LongLines.{HasShortLines, IsTooLong}
 use Rattle.crs_group.specs.Output.{IsGroupOutput}
 use Rattle.crs_group.specs.Streams.{IsAskedFor, SourceState, SinkState}

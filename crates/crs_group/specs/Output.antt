@@ -2,7 +2,7 @@
 use Rattle.std.specs.Prelude.{◌≡◌, ◌+◌, ◌++◌, ◌∷◌, [], ℕ, List, codes, decimal, length}
 use Rattle.std.specs.List.{flat_map}
 use Rattle.crs_text.specs.Refusal.{RefusedAt, name_of}
-use Rattle.crs_value.specs.declared.level.Level.{Level}
+use Rattle.crs_value.specs.declared.values.level.Level.{Level}
 use Rattle.crs_group.specs.Catalogue.{GroupParts, CatalogueParts}
 use Rattle.crs_group.specs.GroupTexts.{IsCatalogueOf}
 use Rattle.crs_group.specs.Lines.{AreLines, blank_in, numbered}

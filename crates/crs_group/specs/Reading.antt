@@ -1,7 +1,7 @@
 -- A bridge: what the two halves of a run over lines do, the reading and the writing.
 use Rattle.std.specs.Prelude.{◌≡◌, ◌*◌, ◌≤◌, ℕ, List, true, false, length}
 use Rattle.std.specs.Io.KnownBytes.{Appends}
-use Rattle.crs_value.specs.declared.level.Level.{Level}
+use Rattle.crs_value.specs.declared.values.level.Level.{Level}
 use Rattle.crs_group.specs.Cutting.{CutterParts, IsCutTo, IsLedgerFor, LedgerParts}
 use Rattle.crs_group.specs.GroupRun.{HasGivenAll}
 use Rattle.crs_group.specs.LongLines.{HasShortLines}

@@ -81,10 +81,30 @@ pub fn try_number(rt: &(impl Print + AllocGlobal), text: &[u8]) -> io::Result<()
 }
 
 /// `Path::write` of the path to the first part in which the CRSs of two texts differ.
-pub fn try_path(rt: &(impl Print + AllocGlobal), first: &[u8], second: &[u8]) -> io::Result<()> {
+pub fn try_path<'a>(
+    rt: &(impl Print + AllocGlobal),
+    first: &'a [u8],
+    second: &'a [u8],
+) -> io::Result<()> {
     let first = crs_of(rt.alloc(), first)?;
-    let second = crs_of(rt.alloc(), second)?;
-    match first_part(&first, &second, Level::Full) {
+    try_path_from(rt, &first, second)
+}
+
+fn try_path_from<'a>(
+    rt: &(impl Print + AllocGlobal),
+    first: &Crs<'a>,
+    text: &'a [u8],
+) -> io::Result<()> {
+    let second = crs_of(rt.alloc(), text)?;
+    try_path_between(rt, first, &second)
+}
+
+fn try_path_between<'a>(
+    rt: &(impl Print + AllocGlobal),
+    first: &Crs<'a>,
+    second: &Crs<'a>,
+) -> io::Result<()> {
+    match first_part(first, second, Level::Full) {
         Some(path) => run_append(rt, Part::Path(&path)),
         None => Err(unusable()),
     }
@@ -113,8 +133,8 @@ fn part_of<'v, 'a>(crs: &'v Crs<'a>, word: &str) -> Option<Part<'v, 'a>> {
         "unit" => Some(Part::Unit(axis.unit.as_ref()?)),
         "frame" => Some(Part::Frame(&vertical.frame)),
         "usage" => Some(Part::Usage(vertical.tail.usages.as_slice().first()?)),
-        "identifier" => Some(Part::Ident(vertical.tail.ids.as_slice().first()?)),
-        "identifiers" => Some(Part::Idents(vertical.tail.ids.as_slice())),
+        "identifier" => Some(Part::Ident(vertical.tail.identifiers.as_slice().first()?)),
+        "identifiers" => Some(Part::Idents(vertical.tail.identifiers.as_slice())),
         _ => None,
     }
 }

@@ -113,9 +113,12 @@ pub fn try_canon_of(rt: &(impl Print + AllocGlobal), text: &[u8]) -> io::Result<
 
 /// The CRS that a text spells, for a call that is handed one.
 pub fn crs_of(alloc: Global, text: &[u8]) -> io::Result<Crs<'_>> {
-    match read(alloc, text) {
-        Ok(crs) => Ok(crs),
-        Err(Fault::Refused(_)) => Err(unusable()),
-        Err(Fault::Memory(error)) => Err(io::Error::from(error)),
+    read(alloc, text).map_err(fault_of)
+}
+
+fn fault_of(fault: Fault) -> io::Error {
+    match fault {
+        Fault::Refused(_) => unusable(),
+        Fault::Memory(error) => io::Error::from(error),
     }
 }

@@ -7,8 +7,8 @@ use Rattle.crs_text.specs.Written.{WrittenSpells, at_place, item_text}
 use Rattle.crs_shape.specs.declared.class.Class.{Class}
 use Rattle.crs_shape.specs.ShapeFault.{AtRoot, Inside, IsFree, class_of_root}
 use Rattle.crs_shape.specs.Shaped.{Shaped}
-use Rattle.crs_value.specs.declared.crs.Crs.{Crs}
-use Rattle.crs_value.specs.declared.level.Level.{Level}
+use Rattle.crs_value.specs.declared.values.crs.Crs.{Crs}
+use Rattle.crs_value.specs.declared.values.level.Level.{Level}
 use Rattle.crs_value.specs.ReadsCrs.{ReadsCrs}
 use Rattle.crs_value.specs.Spells.{SpellsCrs}
 use Rattle.crs_value.specs.SpellsText.{Spells}

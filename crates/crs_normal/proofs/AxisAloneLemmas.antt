@@ -12,8 +12,8 @@ use Rattle.crs_value.specs.Reading.{ReadsEach, ReadsFirst, ReadsOptional, is_a, 
 use Rattle.crs_value.specs.Reads.{ReadsAxis, ReadsAxisMeridian, ReadsDirection, ReadsIdent, ReadsNumber, ReadsNumberOf, ReadsText, ReadsUnit}
 use Rattle.crs_value.specs.Values.{AxisParts, UnitParts}
 use Rattle.crs_value.specs.Words.{direction_word}
-use Rattle.crs_value.specs.declared.level.Level.{Level}
-use Rattle.crs_value.specs.declared.unit_kind.UnitKind.TheVariants as kinds
+use Rattle.crs_value.specs.declared.values.level.Level.{Level}
+use Rattle.crs_value.specs.declared.values.unit_kind.UnitKind.TheVariants as kinds
 use Rattle.crs_normal.specs.AxisAlone.{AreNormalArguments, IsNormalArgument, IsNormalAxis}
 use Rattle.crs_normal.specs.Flat.{flat}
 use Rattle.crs_normal.specs.Normal.{IsNormalIn}
@@ -62,7 +62,7 @@ plain-reads item u r = record {
   kind = r.kind;
   name = subst (λ xs. ReadsFirst ReadsText xs u.name) (those-alike class.Text (arguments item)) r.name;
   factor = subst (λ xs. ReadsFirst ReadsNumber xs u.factor) (those-alike class.Number (arguments item)) r.factor;
-  ids = subst (λ xs. ReadsEach (ReadsIdent class.Identifier) xs u.ids) (those-alike class.Identifier (arguments item)) r.ids;
+  identifiers = subst (λ xs. ReadsEach (ReadsIdent class.Identifier) xs u.identifiers) (those-alike class.Identifier (arguments item)) r.identifiers;
 }
 
 -- ---- the arguments of an axis by itself
@@ -187,6 +187,6 @@ axis-alone-form law level (node place keyword square first others close) x shape
     (those-looked d class.AxisUnit (slots_of d) items v) (v4.1.1.0.not_more refl) x.unit reads.unit _ _
     (idents-found-spelled level d items v5.0
     (each-good level class.Identifier (λ e. cc) (those d class.Identifier items) (fair class.Identifier))
-    (those-looked d class.Identifier (slots_of d) items v) normal.2.0 x.ids reads.ids End End refl)
+    (those-looked d class.Identifier (slots_of d) items v) normal.2.0 normal.1.0 x.identifiers reads.identifiers End End refl)
     ∙ opt-plain level x.unit _))
     ∙ opt-meridians level x.meridian _)))

@@ -13,10 +13,10 @@ use Rattle.crs_value.specs.Reading.{those, ReadsFirst, ReadsOptional}
 use Rattle.crs_value.specs.Reads.{ReadsAxis, ReadsAxisMeridian, ReadsDirection, ReadsNumber, ReadsNumberOf, ReadsText, ReadsType, ReadsUnit}
 use Rattle.crs_value.specs.Values.{AxisMeridianParts, AxisParts, SystemParts, UnitParts}
 use Rattle.crs_value.specs.Words.{SpellsWord, direction_word, system_word}
-use Rattle.crs_value.specs.declared.level.Level.{Level}
-use Rattle.crs_value.specs.declared.system_type.SystemType.{SystemType}
-use Rattle.crs_value.specs.declared.unit_kind.UnitKind.{UnitKind}
-use Rattle.crs_value.specs.declared.unit_kind.UnitKind.TheVariants as kinds
+use Rattle.crs_value.specs.declared.values.level.Level.{Level}
+use Rattle.crs_value.specs.declared.values.system_type.SystemType.{SystemType}
+use Rattle.crs_value.specs.declared.values.unit_kind.UnitKind.{UnitKind}
+use Rattle.crs_value.specs.declared.values.unit_kind.UnitKind.TheVariants as kinds
 use Rattle.crs_same.specs.SameSystems.{own_or}
 use Rattle.crs_normal.specs.Flat.{flat}
 use Rattle.crs_normal.specs.Normal.{IsNormalIn, IsWordIn}
@@ -203,7 +203,7 @@ axis-form law level c system k (node place keyword square first others close) x 
           (those-looked d class.AxisUnit (slots_of d) items v)
           (v4.1.1.0.not_more refl) x.unit reads.unit _ _
           (idents-spelled level d items v5.0 o.kept (those-looked d class.Identifier (slots_of d) items v) o.sets.0
-          x.ids reads.ids End End refl)
+          x.identifiers reads.identifiers End End refl)
           ∙ opt-own level system asked (those d class.AxisUnit items) x.unit own reads.unit _)
           ∙ opt-order k x.order known.0 known.1.0 known.1.1 _)
           ∙ opt-meridians level x.meridian _))),

@@ -7,10 +7,10 @@ use Rattle.crs_decimal.specs.Value.{Value, IsNormal}
 use Rattle.crs_value.specs.BadUnit.{asked_kind}
 use Rattle.crs_value.specs.Sound.{Each, IsAxis, IsAxisMeridian, IsAxisUnit, IsUnit}
 use Rattle.crs_value.specs.Values.{AxisMeridianParts, AxisParts, SystemParts, UnitParts}
-use Rattle.crs_value.specs.declared.level.Level.{Level}
-use Rattle.crs_value.specs.declared.unit_kind.UnitKind.{UnitKind}
-use Rattle.crs_value.specs.declared.unit_kind.UnitKind.TheVariants as kinds
-use Rattle.crs_value.specs.declared.unit_kind.UnitKind.TheVariants as kinds
+use Rattle.crs_value.specs.declared.values.level.Level.{Level}
+use Rattle.crs_value.specs.declared.values.unit_kind.UnitKind.{UnitKind}
+use Rattle.crs_value.specs.declared.values.unit_kind.UnitKind.TheVariants as kinds
+use Rattle.crs_value.specs.declared.values.unit_kind.UnitKind.TheVariants as kinds
 use Rattle.crs_same.specs.SameSystems.{HasAt, IsAt, SameAxis, SameAxisAlone, SameAxisMeridian, own_or}
 use Rattle.crs_same.specs.SameUnits.{SameUnit, SameValue}
 use Rattle.crs_same.specs.Sets.{BothOrNeither}
@@ -62,14 +62,14 @@ module _ (laws : LowerLaws) (sets : SetsDecide) (level : Level) where
       in-y.order in
       let unit = units-agree laws sets level kinds.Plain x.unit y.unit (plain-unit x.unit in-x.unit)
       (plain-unit y.unit in-y.unit) in
-      let ids = sets.idents level x.ids y.ids in-x.ids in-y.ids in (
+      let identifiers = sets.idents level x.identifiers y.identifiers in-x.identifiers in-y.identifiers in (
         λ e. record {
           name = ap (λ (z : AxisParts). z.name) e;
           direction = ap (λ (z : AxisParts). z.direction) e;
           meridian = meridian.0 (ap (λ (z : AxisParts). z.meridian) e);
           order = order.0 (ap (λ (z : AxisParts). z.order) e);
           unit = unit.0 (ap (λ (z : AxisParts). z.unit) e);
-          ids = ids.0 (ap (λ (z : AxisParts). z.ids) e);
+          identifiers = identifiers.0 (ap (λ (z : AxisParts). z.identifiers) e);
         },
         λ s. λ i. record {
           name = s.name i;
@@ -77,7 +77,7 @@ module _ (laws : LowerLaws) (sets : SetsDecide) (level : Level) where
           meridian = meridian.1 s.meridian i;
           order = order.1 s.order i;
           unit = unit.1 s.unit i;
-          ids = ids.1 s.ids i;
+          identifiers = identifiers.1 s.identifiers i;
         },
       )
 
@@ -103,13 +103,13 @@ module _ (laws : LowerLaws) (sets : SetsDecide) (level : Level) where
       let moved : x.direction ≡ y.direction →
       norm_units level asked second ≡ norm_units level (asked_kind b.system_type y.direction) second =
       λ e. λ i. norm_units level (asked_kind (type i) (e i)) second in
-      let ids = sets.idents level x.ids y.ids in-x.ids in-y.ids in (
+      let identifiers = sets.idents level x.identifiers y.identifiers in-x.identifiers in-y.identifiers in (
         λ e. record {
           name = ap (λ (z : AxisParts). z.name) e;
           direction = ap (λ (z : AxisParts). z.direction) e;
           meridian = meridian.0 (ap (λ (z : AxisParts). z.meridian) e);
           unit = units.0 (ap (λ (z : AxisParts). z.unit) e ∙ sym (moved (ap (λ (z : AxisParts). z.direction) e)));
-          ids = ids.0 (ap (λ (z : AxisParts). z.ids) e);
+          identifiers = identifiers.0 (ap (λ (z : AxisParts). z.identifiers) e);
         },
         λ s. λ i. record {
           name = s.name i;
@@ -117,7 +117,7 @@ module _ (laws : LowerLaws) (sets : SetsDecide) (level : Level) where
           meridian = meridian.1 s.meridian i;
           order = Some (whole_value k);
           unit = (units.1 s.unit ∙ moved s.direction) i;
-          ids = ids.1 s.ids i;
+          identifiers = identifiers.1 s.identifiers i;
         },
       )
 

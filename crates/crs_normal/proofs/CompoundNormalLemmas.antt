@@ -8,11 +8,11 @@ use Rattle.crs_value.specs.Checks.{Own}
 use Rattle.crs_value.specs.Reading.{is_a, those, ReadsElse, ReadsFirst}
 use Rattle.crs_value.specs.Reads.{ReadsText}
 use Rattle.crs_value.specs.ReadsCrs.{ReadsAsHorizontal, ReadsCompound, ReadsCrs, ReadsProjected, ReadsVertical}
-use Rattle.crs_value.specs.declared.compound.Horizontal.{Horizontal}
-use Rattle.crs_value.specs.declared.compound.Horizontal.TheVariants as horizontal
-use Rattle.crs_value.specs.declared.crs.Crs.{Crs}
-use Rattle.crs_value.specs.declared.crs.Crs.TheVariants as crs
-use Rattle.crs_value.specs.declared.level.Level.{Level}
+use Rattle.crs_value.specs.declared.values.compound.Horizontal.{Horizontal}
+use Rattle.crs_value.specs.declared.values.compound.Horizontal.TheVariants as horizontal
+use Rattle.crs_value.specs.declared.values.crs.Crs.{Crs}
+use Rattle.crs_value.specs.declared.values.crs.Crs.TheVariants as crs
+use Rattle.crs_value.specs.declared.values.level.Level.{Level}
 use Rattle.crs_normal.specs.Flat.{flat}
 use Rattle.crs_normal.specs.NormalOwn.{Rise}
 use Rattle.crs_value.specs.Sound.{Each}

@@ -12,12 +12,12 @@ use Rattle.crs_value.specs.SoundCrs.{IsCrs}
 use Rattle.crs_value.specs.SoundSingle.{IsBase, IsGeodetic, IsProjected, IsVertical}
 use Rattle.crs_value.specs.SoundSystem.{IsSystem}
 use Rattle.crs_value.specs.Values.{SystemParts}
-use Rattle.crs_value.specs.declared.compound.Horizontal.TheVariants as horizontal
-use Rattle.crs_value.specs.declared.crs.Crs.TheVariants as crs
-use Rattle.crs_value.specs.declared.level.Level.{Level}
-use Rattle.crs_value.specs.declared.system_type.SystemType.{SystemType}
-use Rattle.crs_value.specs.declared.system_type.SystemType.TheVariants as types
-use Rattle.crs_value.specs.declared.unit_kind.UnitKind.TheVariants as kinds
+use Rattle.crs_value.specs.declared.values.compound.Horizontal.TheVariants as horizontal
+use Rattle.crs_value.specs.declared.values.crs.Crs.TheVariants as crs
+use Rattle.crs_value.specs.declared.values.level.Level.{Level}
+use Rattle.crs_value.specs.declared.values.system_type.SystemType.{SystemType}
+use Rattle.crs_value.specs.declared.values.system_type.SystemType.TheVariants as types
+use Rattle.crs_value.specs.declared.values.unit_kind.UnitKind.TheVariants as kinds
 use Rattle.crs_same.specs.SameCrs.{SameBase, SameCompound, SameCrs, SameGeodetic, SameHorizontal, SameProjected}
 use Rattle.crs_same.specs.SameCrs.{SameVertical}
 use Rattle.crs_same.specs.SameSystems.{SameSystem}
@@ -118,20 +118,20 @@ module _ (laws : LowerLaws) (sets : SetsDecide) (level : Level) where
       let frame = geodetic-frame-agrees laws sets level a.frame b.frame in-a.frame in-b.frame in
       let meridian = meridian-agrees laws sets level a.meridian b.meridian in-a.meridian in-b.meridian in
       let unit = units-of-agree laws sets level kinds.Angle kinds.Angle a.unit b.unit in-a.unit in-b.unit in
-      let ids = sets.idents level a.ids b.ids in-a.ids in-b.ids in (
+      let identifiers = sets.idents level a.identifiers b.identifiers in-a.identifiers in-b.identifiers in (
         λ e. record {
           name = ap (λ (x : BaseParts). x.name) e;
           frame = frame.0 (ap (λ (x : BaseParts). x.frame) e);
           meridian = meridian.0 (ap (λ (x : BaseParts). x.meridian) e);
           unit = unit.0 (ap (λ (x : BaseParts). x.unit) e);
-          ids = ids.0 (ap (λ (x : BaseParts). x.ids) e);
+          identifiers = identifiers.0 (ap (λ (x : BaseParts). x.identifiers) e);
         },
         λ s. λ i. record {
           name = s.name i;
           frame = frame.1 s.frame i;
           meridian = meridian.1 s.meridian i;
           unit = unit.1 s.unit i;
-          ids = ids.1 s.ids i;
+          identifiers = identifiers.1 s.identifiers i;
         },
       )
 

@@ -11,8 +11,8 @@ use Rattle.crs_shape.specs.Slots.{slots_of}
 use Rattle.crs_value.specs.Reading.{those, ReadsFirst, ReadsOptional}
 use Rattle.crs_value.specs.Reads.{ReadsEllipsoid, ReadsMeridian, ReadsNumber, ReadsText, ReadsUnit}
 use Rattle.crs_value.specs.Values.{UnitParts}
-use Rattle.crs_value.specs.declared.level.Level.{Level}
-use Rattle.crs_value.specs.declared.unit_kind.UnitKind.TheVariants as kinds
+use Rattle.crs_value.specs.declared.values.level.Level.{Level}
+use Rattle.crs_value.specs.declared.values.unit_kind.UnitKind.TheVariants as kinds
 use Rattle.crs_value.specs.Sound.{Each}
 use Rattle.crs_normal.specs.SpelledFrames.{is_zero, item_ellipsoid, item_meridian, norm_ellipsoid, norm_given}
 use Rattle.crs_normal.specs.SpelledItems.{number_item, opt, text_item}
@@ -49,8 +49,8 @@ ellipsoid-form law level c (node place keyword square first others close) x good
     (unit-form law level d class.LengthUnit kinds.Length refl (in-length kinds.Length) (λ raw h. h))
     (those d class.LengthUnit items) v3.0 (kept-good level d class.LengthUnit items o.kept)
     (those-looked d class.LengthUnit (slots_of d) items v) (v3.1.1.0.not_more refl) x.unit reads.unit _ _
-    (idents-spelled level d items v4.0 o.kept (those-looked d class.Identifier (slots_of d) items v) o.sets.0 x.ids
-    reads.ids End End refl)
+    (idents-spelled level d items v4.0 o.kept (those-looked d class.Identifier (slots_of d) items v) o.sets.0 x.identifiers
+    reads.identifiers End End refl)
     ∙ opt-length (ReadsUnit class.LengthUnit) level (those d class.LengthUnit items) x.unit o.own reads.unit _)))
 
 -- ---- prime meridians
@@ -123,8 +123,8 @@ meridian-form law zero_plain level c (node place keyword square first others clo
     (unit-form law level d class.AngleUnit kinds.Angle refl (in-angle kinds.Angle) (λ raw h. h))
     (those d class.AngleUnit items) v2.0 (kept-good level d class.AngleUnit items o.kept)
     (those-looked d class.AngleUnit (slots_of d) items v) (v2.1.1.0.not_more refl) x.unit reads.unit _ _
-    (idents-spelled level d items v3.0 o.kept (those-looked d class.Identifier (slots_of d) items v) o.sets.0 x.ids
-    reads.ids End End refl)
+    (idents-spelled level d items v3.0 o.kept (those-looked d class.Identifier (slots_of d) items v) o.sets.0 x.identifiers
+    reads.identifiers End End refl)
     ∙ opt-angle level (is_zero x.longitude) (those d class.AngleUnit items) x.unit
     (λ e. o.own (zero-written law zero_plain level (those d class.Number items) v1.0
     (kept-good level d class.Number items o.kept)

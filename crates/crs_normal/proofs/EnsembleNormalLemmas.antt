@@ -9,10 +9,10 @@ use Rattle.crs_value.specs.Reading.{is_a, those, ReadsElse, ReadsFirst, ReadsOpt
 use Rattle.crs_value.specs.Reads.{ReadsDatum, ReadsEllipsoid, ReadsEnsemble, ReadsMember, ReadsMeridian, ReadsNumberOf, ReadsText, ReadsUnit}
 use Rattle.crs_value.specs.ReadsCrs.{ReadsAsDatum, ReadsAsEnsemble, ReadsBase}
 use Rattle.crs_value.specs.Values.{EllipsoidParts, MeridianParts}
-use Rattle.crs_value.specs.declared.frame.Frame.{Frame}
-use Rattle.crs_value.specs.declared.frame.Frame.TheVariants as frame
-use Rattle.crs_value.specs.declared.level.Level.{Level}
-use Rattle.crs_value.specs.declared.unit_kind.UnitKind.TheVariants as kinds
+use Rattle.crs_value.specs.declared.values.frame.Frame.{Frame}
+use Rattle.crs_value.specs.declared.values.frame.Frame.TheVariants as frame
+use Rattle.crs_value.specs.declared.values.level.Level.{Level}
+use Rattle.crs_value.specs.declared.values.unit_kind.UnitKind.TheVariants as kinds
 use Rattle.crs_normal.specs.Flat.{flat}
 use Rattle.crs_value.specs.Sound.{Each}
 use Rattle.crs_normal.specs.SpelledCrs.{item_base, norm_base}
@@ -62,8 +62,8 @@ geodetic_ensemble-form law level c (node place keyword square first others close
     (number-node-form law level d class.EnsembleAccuracy (codes "ENSEMBLEACCURACY") refl (λ bytes h. h) (λ raw h. h))
     (those d class.EnsembleAccuracy items) v3.0 (kept-good level d class.EnsembleAccuracy items o.kept)
     (those-looked d class.EnsembleAccuracy (slots_of d) items v) (v3.1.1.0.not_more refl) x.accuracy reads.accuracy _ _
-    (idents-spelled level d items v4.0 o.kept (those-looked d class.Identifier (slots_of d) items v) o.sets.0 x.ids
-    reads.ids End End refl))
+    (idents-spelled level d items v4.0 o.kept (those-looked d class.Identifier (slots_of d) items v) o.sets.0 x.identifiers
+    reads.identifiers End End refl))
     ∙ opt-mapped item_ellipsoid (norm_ellipsoid level) x.ellipsoid _)))
 
 without : (level : Level) (e : Option EllipsoidParts) → e ≡ None → (rest : Siblings) →
@@ -99,8 +99,8 @@ vertical_ensemble-form law level c (node place keyword square first others close
     (number-node-form law level d class.EnsembleAccuracy (codes "ENSEMBLEACCURACY") refl (λ bytes h. h) (λ raw h. h))
     (those d class.EnsembleAccuracy items) v2.0 (kept-good level d class.EnsembleAccuracy items o.kept)
     (those-looked d class.EnsembleAccuracy (slots_of d) items v) (v2.1.1.0.not_more refl) x.accuracy reads.accuracy _ _
-    (idents-spelled level d items v3.0 o.kept (those-looked d class.Identifier (slots_of d) items v) o.sets.0 x.ids
-    reads.ids End End refl)
+    (idents-spelled level d items v3.0 o.kept (those-looked d class.Identifier (slots_of d) items v) o.sets.0 x.identifiers
+    reads.identifiers End End refl)
     ∙ without level x.ellipsoid bare _)))
 
 -- ---- frames of either sort
@@ -220,8 +220,8 @@ base-form law zero_plain level c (node place keyword square first others close) 
     (those d class.AngleUnit items) v3.0 (kept-good level d class.AngleUnit items o.kept)
     (those-looked d class.AngleUnit (slots_of d) items v)
     (v3.1.1.0.not_more refl) x.unit reads.unit _ _
-    (idents-spelled level d items v4.0 o.kept (those-looked d class.Identifier (slots_of d) items v) o.sets.0 x.ids
-    reads.ids End End refl)
+    (idents-spelled level d items v4.0 o.kept (those-looked d class.Identifier (slots_of d) items v) o.sets.0 x.identifiers
+    reads.identifiers End End refl)
     ∙ opt-units level kinds.Angle x.unit _)
     ∙ opt-meridian (ReadsMeridian class.PrimeMeridian) level (those d class.PrimeMeridian items) x.meridian o.own
     reads.meridian _)))

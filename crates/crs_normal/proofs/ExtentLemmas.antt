@@ -1,15 +1,15 @@
 -- Boxes and extents of a usage: their items read as them wherever they stand, and their one form agrees with sameness.
-use Rattle.std.proofs.Common.{◌≡◌, ◌↔◌, ℕ, ◌+◌, true, codes, IfSome, Option, Some, None, List, [], ◌∷◌, inl, inr, refl, sym, ◌∙◌, ap, arith}
+use Rattle.std.proofs.Common.{◌≡◌, ◌↔◌, ℕ, ◌+◌, true, codes, IfSome, Option, Some, None, List, [], inl, inr, refl, sym, ◌∙◌, ap, arith}
 use Rattle.crs_decimal.specs.Value.{Value, IsNormal}
 use Rattle.crs_text.specs.Items.{End, More}
 use Rattle.crs_text.specs.Written.{at_place}
 use Rattle.crs_shape.specs.declared.class.Class.TheVariants as class
 use Rattle.crs_shape.specs.Keywords.{is_keyword}
 use Rattle.crs_shape.specs.Slots.{class_named, is_class}
-use Rattle.crs_value.specs.declared.level.Level.{Level}
-use Rattle.crs_value.specs.declared.level.Level.TheVariants as levels
-use Rattle.crs_value.specs.declared.unit_kind.UnitKind.{UnitKind}
-use Rattle.crs_value.specs.declared.unit_kind.UnitKind.TheVariants as kinds
+use Rattle.crs_value.specs.KeptLaws.{kept-none}
+use Rattle.crs_value.specs.declared.values.level.Level.{Level}
+use Rattle.crs_value.specs.declared.values.unit_kind.UnitKind.{UnitKind}
+use Rattle.crs_value.specs.declared.values.unit_kind.UnitKind.TheVariants as kinds
 use Rattle.crs_value.specs.Reading.{ReadsOptional}
 use Rattle.crs_value.specs.Reads.{ReadsBox, ReadsExtent, ReadsUnit}
 use Rattle.crs_value.specs.Sound.{Each, IsIdent, IsUnit, IsUnitOf, Suits}
@@ -23,7 +23,7 @@ use Rattle.crs_normal.specs.SpelledItems.{number_item, opt}
 use Rattle.crs_normal.specs.SpelledUnits.{item_unit, metre, norm_length, norm_unit, set_idents, whole_value}
 use Rattle.crs_normal.specs.SpelledUsages.{item_box, item_extent, norm_extent}
 use Rattle.crs_normal.specs.TextLaws.{TextLaws}
-use Rattle.crs_normal.proofs.IdentLemmas.{ReadsIdentOnce, idents-agree}
+use Rattle.crs_normal.proofs.IdentLemmas.{ReadsIdentOnce, idents-agree, none-form, none-same}
 use Rattle.crs_normal.proofs.ItemLemmas.{Gives, IsOf, fit-end, fit-more, fit-node, fit-opt, gives-over, lacks-end, opt-read, value-fit}
 use Rattle.crs_normal.proofs.MemberUnitLemmas.{NamesId, number-read, unit-agrees, unit-fit, unit-kept, unit-read, values-agree}
 
@@ -39,7 +39,7 @@ metre-is = record {
   name = ((codes "metre", refl), (codes "metre", (refl, refl)));
   factor = refl;
   above_zero = (refl, λ e. absurd (omega arith));
-  ids = tt;
+  identifiers = tt;
 }
 
 length-kind : (k : UnitKind) → Suits kinds.Length k → kind_as kinds.Length k ≡ kinds.Length
@@ -51,31 +51,29 @@ pub length-kept : (level : Level) (o : Option UnitParts) → IfSome o (IsUnitOf 
 length-kept level None s = (metre-is, refl)
 length-kept level (Some u) s = (unit-kept level kinds.Length u s.0, length-kind u.kind s.1)
 
-none-agrees : TextLaws → ReadsIdentOnce → (level : Level) (ids : List IdentParts) → Each IsIdent ids →
-    ([] ≡ set_idents level ids) ↔ HasNoIdents level ids
-unfolding set_idents
-none-agrees laws once levels.Full [] s = (λ e. refl, λ e. refl)
-none-agrees laws once levels.Full (x ∷ xs) s = (
-  λ e. absurd ((idents-agree laws once levels.Full (x ∷ xs) [] s tt).0 (sym e)).0.0,
-  λ e.
-      sym (ap (set_idents levels.Full) e),
+none-agrees : TextLaws → ReadsIdentOnce → (level : Level) (identifiers : List IdentParts) → Each IsIdent identifiers →
+    ([] ≡ set_idents level identifiers) ↔ HasNoIdents level identifiers
+none-agrees laws once level identifiers s = (
+  λ e. none-same level identifiers
+      ((idents-agree laws once level identifiers [] s tt).0 (sym e ∙ sym (none-form level [] (kept-none level)))),
+  λ e. sym (none-form level identifiers e),
 )
 
 abbrev unit-made : UnitKind → List ℕ → Value → List IdentParts → UnitParts
-unit-made x0 x1 x2 x3 = record { kind = x0; name = x1; factor = x2; ids = x3 }
+unit-made x0 x1 x2 x3 = record { kind = x0; name = x1; factor = x2; identifiers = x3 }
 
 metre-agrees : TextLaws → ReadsIdentOnce → (level : Level) (u : UnitParts) → IsUnit u →
     (metre ≡ norm_unit level kinds.Length u) ↔ IsMetre level u
 metre-agrees laws once level u s =
-    let ids = none-agrees laws once level u.ids s.ids in
+    let identifiers = none-agrees laws once level u.identifiers s.identifiers in
     let factor = laws.one_value u.factor (whole_value 1) s.factor refl in (
       λ e. record {
         kind = ap (λ x. x.kind) (sym e);
         name = ap (λ x. x.name) (sym e);
         factor = factor.1 (ap (λ x. x.factor) (sym e));
-        ids = ids.0 (ap (λ x. x.ids) e);
+        identifiers = identifiers.0 (ap (λ x. x.identifiers) e);
       },
-      λ m. λ i. unit-made (sym m.kind i) (sym m.name i) (sym (factor.0 m.factor) i) (ids.1 m.ids i),
+      λ m. λ i. unit-made (sym m.kind i) (sym m.name i) (sym (factor.0 m.factor) i) (identifiers.1 m.identifiers i),
     )
 
 pub length-agrees : TextLaws → ReadsIdentOnce → (level : Level) (a b : Option UnitParts) →

@@ -10,9 +10,11 @@ use Rattle.crs_shape.specs.ShapeFault.{class_in}
 use Rattle.crs_shape.specs.Slots.{slots_of, is_class}
 use Rattle.crs_value.specs.Checks.{AtClass}
 use Rattle.crs_value.specs.Reading.{is_a, those, ReadsFirst, ReadsOptional, ReadsEach}
-use Rattle.crs_value.specs.declared.level.Level.{Level}
+use Rattle.crs_value.specs.Kept.{kept}
+use Rattle.crs_value.specs.KeptLaws.{kept-where_none}
+use Rattle.crs_value.specs.declared.values.level.Level.{Level}
 use Rattle.crs_normal.specs.Flat.{flat, flats}
-use Rattle.crs_normal.specs.Normal.{IsNormalIn, AreNormalIn, IsWritten}
+use Rattle.crs_normal.specs.Normal.{IsNormalIn, AreNormalIn, IsWritten, KeepsAll}
 use Rattle.crs_normal.specs.NormalOwn.{Ascend, HasSets, Own}
 use Rattle.crs_value.specs.Sound.{Each}
 use Rattle.crs_normal.specs.Ascending.{Ascends}
@@ -53,6 +55,7 @@ pub record Kept (level : Level) (c : Class) (items : Siblings) : Type 0 where
   pub classes : List Class
   pub shaped : AreShaped c classes items
   pub normal : AreNormalIn level c items
+  pub left : KeepsAll level c items
 
 good-as : (level : Level) (c d : Class) (item : Item) (e : Class) → class_in c item ≡ Some e → Shaped e item →
     AtClass (class_in c item) (λ x. IsNormalIn level c x item) → is_a c d item ≡ true → IsGood level c d item
@@ -102,7 +105,7 @@ opened level parent c place keyword square first others close shaped normal =
       written = normal.0;
       own = normal.2;
       sets = normal.3;
-      kept = record { classes = s.0 ∷ s.1.0; shaped = are; normal = (normal.4, normal.5) };
+      kept = record { classes = s.0 ∷ s.1.0; shaped = are; normal = (normal.4, normal.5); left = normal.1 };
       slots = view c (s.0 ∷ s.1.0) (More first others) s.1.1.1.1.1 are;
     }
 
@@ -201,6 +204,20 @@ written-ascend spell [] (v ∷ vs) h up = absurd h
 written-ascend spell (i ∷ is) [] h up = absurd h
 written-ascend spell (i ∷ is) (v ∷ vs) h up =
     (below-written spell i v h.0 is vs h.1 up.0, written-ascend spell is vs h.1 up.1)
+
+-- of what is read from no items there is none
+reads-none : {V : Type 0} (R : Item → V → Type 0) (items : List Item) (values : List V) → ReadsEach R items values →
+    items ≡ [] → values ≡ []
+reads-none R [] [] reads none = refl
+reads-none R [] (v ∷ vs) reads none = absurd reads
+reads-none R (item ∷ items) values reads none = absurd (cc)
+
+-- what is read from items that the level keeps, it keeps
+pub reads-kept : {V : Type 0} (level : Level) (R : Item → V → Type 0) (items : List Item) (values : List V) →
+    ReadsEach R items values →
+    kept level items ≡ items → kept level values ≡ values
+reads-kept level R items values reads =
+    kept-where_none level items values (reads-none R items values reads)
 
 -- a set is in order already
 pub set-ordered : {V W : Type 0} (level : Level) (c d : Class) (R : Item → V → Type 0) (spell : W → Item)

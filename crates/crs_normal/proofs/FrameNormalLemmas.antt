@@ -9,7 +9,7 @@ use Rattle.crs_value.specs.Checks.{Own}
 use Rattle.crs_value.specs.Reading.{those, ReadsOptional}
 use Rattle.crs_value.specs.Reads.{ReadsDatum, ReadsEllipsoid, ReadsText, ReadsTextOf}
 use Rattle.crs_value.specs.Values.{EllipsoidParts}
-use Rattle.crs_value.specs.declared.level.Level.{Level}
+use Rattle.crs_value.specs.declared.values.level.Level.{Level}
 use Rattle.crs_normal.specs.SpelledFrames.{item_datum, item_ellipsoid, norm_datum, norm_ellipsoid}
 use Rattle.crs_normal.specs.SpelledItems.{opt, text_item, text_node}
 use Rattle.crs_normal.proofs.CheckedLemmas.{Checked, IsUnbroken, as-few, once-only}
@@ -69,8 +69,8 @@ geodetic_datum-form law level c (node place keyword square first others close) x
     (text-node-form level d class.Anchor (codes "ANCHOR") refl (λ bytes h. h))
     (those d class.Anchor items) v2.0 (kept-good level d class.Anchor items o.kept) anchors
     (as-few _ _ anchors (single-anchor keyword place square first others close checked.0)) x.anchor reads.anchor _ _
-    (idents-spelled level d items v3.0 o.kept (those-looked d class.Identifier (slots_of d) items v) o.sets.0 x.ids
-    reads.ids End End refl))
+    (idents-spelled level d items v3.0 o.kept (those-looked d class.Identifier (slots_of d) items v) o.sets.0 x.identifiers
+    reads.identifiers End End refl))
     ∙ opt-mapped item_ellipsoid (norm_ellipsoid level) x.ellipsoid _))
 
 pub vertical_datum-form : PlainIsOne → (level : Level) (c : Class) →
@@ -98,8 +98,8 @@ vertical_datum-form law level c (node place keyword square first others close) x
     (those d class.Anchor items) v1.0 (kept-good level d class.Anchor items o.kept) anchors
     (as-few _ _ anchors (single-vertical_anchor keyword place square first others close checked.0)) x.anchor
     reads.anchor _ _
-    (idents-spelled level d items v2.0 o.kept (those-looked d class.Identifier (slots_of d) items v) o.sets.0 x.ids
-    reads.ids End End refl)
+    (idents-spelled level d items v2.0 o.kept (those-looked d class.Identifier (slots_of d) items v) o.sets.0 x.identifiers
+    reads.identifiers End End refl)
     ∙ without x.ellipsoid bare _))
   where
     without : (e : Option EllipsoidParts) → e ≡ None → (rest : Siblings) →

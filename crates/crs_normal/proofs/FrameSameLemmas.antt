@@ -7,10 +7,10 @@ use Rattle.crs_decimal.specs.Value.{Value, IsNormal}
 use Rattle.crs_value.specs.SoundFrames.{IsDatum, IsEllipsoid, IsEnsemble, IsMember, IsMeridian}
 use Rattle.crs_value.specs.SoundSingle.{IsGeodeticFrame, IsVerticalFrame}
 use Rattle.crs_value.specs.Values.{DatumParts, EllipsoidParts, EnsembleParts, MemberParts, MeridianParts, UnitParts}
-use Rattle.crs_value.specs.declared.frame.Frame.{Frame}
-use Rattle.crs_value.specs.declared.frame.Frame.TheVariants as frame
-use Rattle.crs_value.specs.declared.level.Level.{Level}
-use Rattle.crs_value.specs.declared.unit_kind.UnitKind.TheVariants as kinds
+use Rattle.crs_value.specs.declared.values.frame.Frame.{Frame}
+use Rattle.crs_value.specs.declared.values.frame.Frame.TheVariants as frame
+use Rattle.crs_value.specs.declared.values.level.Level.{Level}
+use Rattle.crs_value.specs.declared.values.unit_kind.UnitKind.TheVariants as kinds
 use Rattle.crs_same.specs.SameFrames.{IsGreenwich, IsZero, SameDatum, SameEllipsoid, SameEnsemble, SameFrame, SameGiven}
 use Rattle.crs_same.specs.SameFrames.{SameMember, SameMeridian}
 use Rattle.crs_same.specs.SameIdents.{SameIdents}
@@ -56,21 +56,21 @@ module _ (laws : LowerLaws) (sets : SetsDecide) (level : Level) where
       let flattening =
       values-agree laws a.inverse_flattening b.inverse_flattening in-a.inverse_flattening in-b.inverse_flattening in
       let unit = length-agrees laws sets level a.unit b.unit in-a.unit in-b.unit in
-      let ids = sets.idents level a.ids b.ids in-a.ids in-b.ids in (
+      let identifiers = sets.idents level a.identifiers b.identifiers in-a.identifiers in-b.identifiers in (
         λ e. record {
           name = ap (λ (x : EllipsoidParts). x.name) e;
           semi_major_axis = axis.0 (ap (λ (x : EllipsoidParts). x.semi_major_axis) e);
           inverse_flattening = flattening.0 (ap (λ (x : EllipsoidParts). x.inverse_flattening) e);
           unit = unit.0 (some-one (norm_length level a.unit) (norm_length level b.unit)
               (ap (λ (x : EllipsoidParts). x.unit) e));
-          ids = ids.0 (ap (λ (x : EllipsoidParts). x.ids) e);
+          identifiers = identifiers.0 (ap (λ (x : EllipsoidParts). x.identifiers) e);
         },
         λ s. λ i. record {
           name = s.name i;
           semi_major_axis = axis.1 s.semi_major_axis i;
           inverse_flattening = flattening.1 s.inverse_flattening i;
           unit = Some (unit.1 s.unit i);
-          ids = ids.1 s.ids i;
+          identifiers = identifiers.1 s.identifiers i;
         },
       )
 
@@ -85,18 +85,18 @@ module _ (laws : LowerLaws) (sets : SetsDecide) (level : Level) where
   greenwich-agrees : (m : MeridianParts) → IsMeridian m → (norm_given level m ≡ greenwich) ↔ IsGreenwich level m
   greenwich-agrees m in-m =
       let longitude = whole-agrees laws 0 refl m.longitude in-m.longitude in
-      let ids = none-agree sets level m.ids in-m.ids in (
+      let identifiers = none-agree sets level m.identifiers in-m.identifiers in (
         λ e. record {
           name = ap (λ (x : MeridianParts). x.name) e;
           longitude = longitude.0 (ap (λ (x : MeridianParts). x.longitude) e);
-          ids = ids.0 (ap (λ (x : MeridianParts). x.ids) e);
+          identifiers = identifiers.0 (ap (λ (x : MeridianParts). x.identifiers) e);
         },
         λ s. λ i. record {
           name = s.name i;
           longitude = longitude.1 s.longitude i;
           unit = ap (λ t. if t then None else norm_units level kinds.Angle m.unit)
               ((zero-agrees laws m.longitude in-m.longitude).1 s.longitude) i;
-          ids = ids.1 s.ids i;
+          identifiers = identifiers.1 s.identifiers i;
         },
       )
 
@@ -111,13 +111,13 @@ module _ (laws : LowerLaws) (sets : SetsDecide) (level : Level) where
           name = ap (λ (x : MeridianParts). x.name) e;
           longitude = longitude.0 at;
           unit = (unit at).0 (ap (λ (x : MeridianParts). x.unit) e);
-          ids = ids.0 (ap (λ (x : MeridianParts). x.ids) e);
+          identifiers = identifiers.0 (ap (λ (x : MeridianParts). x.identifiers) e);
         },
     λ s. λ i. record {
       name = s.name i;
       longitude = longitude.1 s.longitude i;
       unit = (unit (longitude.1 s.longitude)).1 s.unit i;
-      ids = ids.1 s.ids i;
+      identifiers = identifiers.1 s.identifiers i;
     },
   )
     where
@@ -149,8 +149,8 @@ module _ (laws : LowerLaws) (sets : SetsDecide) (level : Level) where
         ],
       )
 
-      ids : (set_idents level a.ids ≡ set_idents level b.ids) ↔ SameIdents level a.ids b.ids
-      ids = sets.idents level a.ids b.ids in-a.ids in-b.ids
+      identifiers : (set_idents level a.identifiers ≡ set_idents level b.identifiers) ↔ SameIdents level a.identifiers b.identifiers
+      identifiers = sets.idents level a.identifiers b.identifiers in-a.identifiers in-b.identifiers
 
   pub meridian-agrees : FormDecides (Maybe IsMeridian) (norm_meridian level) (SameMeridian level)
   meridian-agrees None None in-a in-b = (λ e. tt, λ s. refl)
@@ -171,26 +171,26 @@ module _ (laws : LowerLaws) (sets : SetsDecide) (level : Level) where
 
   pub member-agrees : FormDecides IsMember (norm_member level) (SameMember level)
   member-agrees a b in-a in-b =
-      let ids = sets.idents level a.ids b.ids in-a.ids in-b.ids in (
-        λ e. record { name = ap (λ (x : MemberParts). x.name) e; ids = ids.0 (ap (λ (x : MemberParts). x.ids) e) },
-        λ s. λ i. record { name = s.name i; ids = ids.1 s.ids i },
+      let identifiers = sets.idents level a.identifiers b.identifiers in-a.identifiers in-b.identifiers in (
+        λ e. record { name = ap (λ (x : MemberParts). x.name) e; identifiers = identifiers.0 (ap (λ (x : MemberParts). x.identifiers) e) },
+        λ s. λ i. record { name = s.name i; identifiers = identifiers.1 s.identifiers i },
       )
 
   pub datum-agrees : FormDecides IsDatum (norm_datum level) (SameDatum level)
   datum-agrees a b in-a in-b =
       let ellipsoid = ellipsoids-agree a.ellipsoid b.ellipsoid in-a.ellipsoid in-b.ellipsoid in
-      let ids = sets.idents level a.ids b.ids in-a.ids in-b.ids in (
+      let identifiers = sets.idents level a.identifiers b.identifiers in-a.identifiers in-b.identifiers in (
         λ e. record {
           name = ap (λ (x : DatumParts). x.name) e;
           ellipsoid = ellipsoid.0 (ap (λ (x : DatumParts). x.ellipsoid) e);
           anchor = ap (λ (x : DatumParts). x.anchor) e;
-          ids = ids.0 (ap (λ (x : DatumParts). x.ids) e);
+          identifiers = identifiers.0 (ap (λ (x : DatumParts). x.identifiers) e);
         },
         λ s. λ i. record {
           name = s.name i;
           ellipsoid = ellipsoid.1 s.ellipsoid i;
           anchor = s.anchor i;
-          ids = ids.1 s.ids i;
+          identifiers = identifiers.1 s.identifiers i;
         },
       )
 
@@ -199,20 +199,20 @@ module _ (laws : LowerLaws) (sets : SetsDecide) (level : Level) where
       let members = sets.members level a.members b.members in-a.members in-b.members in
       let ellipsoid = ellipsoids-agree a.ellipsoid b.ellipsoid in-a.ellipsoid in-b.ellipsoid in
       let accuracy = values-agree laws a.accuracy b.accuracy in-a.accuracy in-b.accuracy in
-      let ids = sets.idents level a.ids b.ids in-a.ids in-b.ids in (
+      let identifiers = sets.idents level a.identifiers b.identifiers in-a.identifiers in-b.identifiers in (
         λ e. record {
           name = ap (λ (x : EnsembleParts). x.name) e;
           members = members.0 (ap (λ (x : EnsembleParts). x.members) e);
           ellipsoid = ellipsoid.0 (ap (λ (x : EnsembleParts). x.ellipsoid) e);
           accuracy = accuracy.0 (ap (λ (x : EnsembleParts). x.accuracy) e);
-          ids = ids.0 (ap (λ (x : EnsembleParts). x.ids) e);
+          identifiers = identifiers.0 (ap (λ (x : EnsembleParts). x.identifiers) e);
         },
         λ s. λ i. record {
           name = s.name i;
           members = members.1 s.members i;
           ellipsoid = ellipsoid.1 s.ellipsoid i;
           accuracy = accuracy.1 s.accuracy i;
-          ids = ids.1 s.ids i;
+          identifiers = identifiers.1 s.identifiers i;
         },
       )
 

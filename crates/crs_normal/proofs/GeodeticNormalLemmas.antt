@@ -11,9 +11,9 @@ use Rattle.crs_value.specs.Reading.{those, ReadsEach}
 use Rattle.crs_value.specs.Reads.{ReadsAxis, ReadsMeridian, ReadsText}
 use Rattle.crs_value.specs.ReadsConversion.{ReadsGeoidModel}
 use Rattle.crs_value.specs.ReadsCrs.{ReadsGeodetic}
-use Rattle.crs_value.specs.declared.level.Level.{Level}
-use Rattle.crs_value.specs.declared.system_type.SystemType.{SystemType}
-use Rattle.crs_value.specs.declared.system_type.SystemType.TheVariants as types
+use Rattle.crs_value.specs.declared.values.level.Level.{Level}
+use Rattle.crs_value.specs.declared.values.system_type.SystemType.{SystemType}
+use Rattle.crs_value.specs.declared.values.system_type.SystemType.TheVariants as types
 use Rattle.crs_normal.specs.Flat.{flats}
 use Rattle.crs_normal.specs.NormalOwn.{Has, HasAxes, HasSets, HasTail, Rise}
 use Rattle.crs_value.specs.Sound.{Each}

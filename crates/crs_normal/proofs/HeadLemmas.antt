@@ -17,9 +17,9 @@ use Rattle.crs_value.specs.Reading.{is_a, those, ReadsEach, ReadsFirst}
 use Rattle.crs_value.specs.Reads.{ReadsHead, ReadsType}
 use Rattle.crs_value.specs.Values.{SystemParts}
 use Rattle.crs_value.specs.Words.{system_word}
-use Rattle.crs_value.specs.declared.level.Level.{Level}
-use Rattle.crs_value.specs.declared.system_type.SystemType.{SystemType}
-use Rattle.crs_value.specs.declared.system_type.SystemType.TheVariants as types
+use Rattle.crs_value.specs.declared.values.level.Level.{Level}
+use Rattle.crs_value.specs.declared.values.system_type.SystemType.{SystemType}
+use Rattle.crs_value.specs.declared.values.system_type.SystemType.TheVariants as types
 use Rattle.crs_normal.specs.NormalOwn.{HasTail, words_in}
 use Rattle.crs_value.specs.Sound.{Each}
 use Rattle.crs_normal.proofs.AxisNormalLemmas.{type-raw}

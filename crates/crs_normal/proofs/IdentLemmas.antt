@@ -1,6 +1,6 @@
 -- Identifiers: the item of one reads as it wherever it stands, equal texts are of equal identifiers, and the set of
 -- them in order is one exactly where they are the same set.
-use Rattle.std.proofs.Common.{◌≡◌, ◌≤◌, ◌↔◌, ℕ, suc, ◌+◌, Bool, true, false, ◌&&◌, codes, if◌then◌else◌, Option, Some, None, List, [], length, map, map-id, nat_le, refl, ap, subst, arith}
+use Rattle.std.proofs.Common.{◌≡◌, ◌≤◌, ◌↔◌, ℕ, suc, ◌+◌, Bool, true, false, ◌&&◌, codes, if◌then◌else◌, Option, Some, None, List, [], length, map, map-id, nat_le, refl, ap, subst, arith, ◌∷◌}
 use Rattle.std.proofs.lemmas.Bool.{and_parts, leb-true}
 use Rattle.std.specs.List.{list_all}
 use Rattle.crs_decimal.specs.Spelling.{is_digit}
@@ -12,8 +12,9 @@ use Rattle.crs_shape.specs.declared.class.Class.TheVariants as class
 use Rattle.crs_shape.specs.Keywords.{is_keyword}
 use Rattle.crs_shape.specs.Slots.{class_named, is_class}
 use Rattle.crs_shape.specs.ShapeFault.{class_of_kind}
-use Rattle.crs_value.specs.declared.level.Level.{Level}
-use Rattle.crs_value.specs.declared.level.Level.TheVariants as levels
+use Rattle.crs_value.specs.Kept.{kept}
+use Rattle.crs_value.specs.KeptLaws.{kept-each, kept-none}
+use Rattle.crs_value.specs.declared.values.level.Level.{Level}
 use Rattle.crs_value.specs.Reading.{ReadsFirst, ReadsOptional}
 use Rattle.crs_value.specs.Reads.{ReadsText, ReadsTextOf, single_of, ReadsIdent}
 use Rattle.crs_value.specs.Sound.{Each, IsText, IsIdent}
@@ -219,14 +220,35 @@ pub idents-agree : TextLaws → ReadsIdentOnce → (level : Level) (xs ys : List
     Each IsIdent ys →
     (set_idents level xs ≡ set_idents level ys) ↔ SameIdents level xs ys
 unfolding set_idents
-idents-agree laws once levels.Full xs ys p q =
-    subst (λ vs. (in_order bytes vs ≡ in_order bytes ys) ↔ SameSet SameIdent xs ys) (map-id xs)
-    (subst (λ vs. (in_order bytes (map (λ i. i) xs) ≡ in_order bytes vs) ↔ SameSet SameIdent xs ys) (map-id ys)
-    (set-agrees (λ i. i) bytes IsIdent SameIdent (λ a b s t. ident-agrees a b) (ident-told laws once) xs ys p q))
+idents-agree laws once level xs ys p q =
+    by (kept level xs) (kept level ys) (kept-each (λ l. IsIdent) level xs p) (kept-each (λ l. IsIdent) level ys q)
   where
     bytes : IdentParts → List ℕ
     bytes i = item_text (item_ident i)
 
+    by : (xs ys : List IdentParts) → Each IsIdent xs → Each IsIdent ys →
+        (in_order bytes xs ≡ in_order bytes ys) ↔ SameSet SameIdent xs ys
+    by xs ys p q =
+        subst (λ vs. (in_order bytes vs ≡ in_order bytes ys) ↔ SameSet SameIdent xs ys) (map-id xs)
+        (subst (λ vs. (in_order bytes (map (λ i. i) xs) ≡ in_order bytes vs) ↔ SameSet SameIdent xs ys) (map-id ys)
+        (set-agrees (λ i. i) bytes IsIdent SameIdent (λ a b s t. ident-agrees a b) (ident-told laws once) xs ys p q))
+
 pub idents-kept : (level : Level) (xs : List IdentParts) → Each IsIdent xs → Each IsIdent (set_idents level xs)
 unfolding set_idents
-idents-kept levels.Full xs p = each-in_order (λ i. item_text (item_ident i)) IsIdent xs p
+idents-kept level xs p =
+    each-in_order (λ i. item_text (item_ident i)) IsIdent (kept level xs) (kept-each (λ l. IsIdent) level xs p)
+
+-- ---- no identifiers
+
+pub none-form : (level : Level) (xs : List IdentParts) → kept level xs ≡ [] → set_idents level xs ≡ []
+unfolding set_idents
+none-form level xs none = ap (in_order (λ i. item_text (item_ident i))) none
+
+none-beside : (xs ys : List IdentParts) → ys ≡ [] → SameSet SameIdent xs ys → xs ≡ []
+none-beside [] ys none s = refl
+none-beside (x ∷ xs) [] none s = absurd s.0.0
+none-beside (x ∷ xs) (y ∷ ys) none s = absurd (cc)
+
+-- the same as none
+pub none-same : (level : Level) (xs : List IdentParts) → SameIdents level xs [] → kept level xs ≡ []
+none-same level xs s = none-beside (kept level xs) (kept level []) (kept-none level) s

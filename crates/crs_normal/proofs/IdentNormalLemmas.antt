@@ -17,7 +17,7 @@ use Rattle.crs_shape.specs.Slots.{one, optional, optional_of, slots_of}
 use Rattle.crs_value.specs.Reading.{is_a, those, ReadsFirst, ReadsOptional}
 use Rattle.crs_value.specs.Reads.{ReadsText, ReadsTextOf, ReadsIdent, single_of}
 use Rattle.crs_value.specs.Values.{IdentParts}
-use Rattle.crs_value.specs.declared.level.Level.{Level}
+use Rattle.crs_value.specs.declared.values.level.Level.{Level}
 use Rattle.crs_normal.specs.Flat.{flat, flats}
 use Rattle.crs_normal.specs.NormalOwn.{IsCode, IsShort}
 use Rattle.crs_value.specs.Sound.{Each}

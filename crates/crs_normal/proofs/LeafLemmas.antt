@@ -12,7 +12,7 @@ use Rattle.crs_shape.specs.Shaped.{Shaped}
 use Rattle.crs_shape.specs.Slots.{SlotParts, one, slots_of}
 use Rattle.crs_value.specs.Reading.{those}
 use Rattle.crs_value.specs.Reads.{ReadsText, ReadsNumber, ReadsTextOf, ReadsNumberOf}
-use Rattle.crs_value.specs.declared.level.Level.{Level}
+use Rattle.crs_value.specs.declared.values.level.Level.{Level}
 use Rattle.crs_normal.specs.Flat.{flat}
 use Rattle.crs_normal.specs.Normal.{IsNormalIn, IsNumberIn, IsWritten}
 use Rattle.crs_normal.specs.SpelledItems.{number_item, number_node, text_item, text_node}

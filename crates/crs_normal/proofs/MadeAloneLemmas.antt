@@ -13,9 +13,9 @@ use Rattle.crs_shape.specs.ShapeFault.{class_in}
 use Rattle.crs_shape.specs.Shaped.{Shaped}
 use Rattle.crs_shape.specs.Slots.{class_named, slots_of}
 use Rattle.crs_value.specs.Checks.{Breaks, Own as BreaksOwn}
-use Rattle.crs_value.specs.declared.level.Level.{Level}
-use Rattle.crs_value.specs.declared.unit_kind.UnitKind.{UnitKind}
-use Rattle.crs_value.specs.declared.unit_kind.UnitKind.TheVariants as kinds
+use Rattle.crs_value.specs.declared.values.level.Level.{Level}
+use Rattle.crs_value.specs.declared.values.unit_kind.UnitKind.{UnitKind}
+use Rattle.crs_value.specs.declared.values.unit_kind.UnitKind.TheVariants as kinds
 use Rattle.crs_value.specs.Reading.{those}
 use Rattle.crs_value.specs.Sound.{Each, IsAxis, IsAxisUnit, IsUnit}
 use Rattle.crs_value.specs.Values.{AxisParts, UnitParts}
@@ -31,7 +31,7 @@ use Rattle.crs_normal.specs.SpelledSystems.{item_axis, item_axis_meridian, norm_
 use Rattle.crs_normal.specs.SpelledUnits.{item_ident, item_unit, norm_units, set_idents}
 use Rattle.crs_normal.proofs.MadeAxisLemmas.{axis-meridians-made, known-direction, order-made}
 use Rattle.crs_normal.proofs.MadeFitLemmas.{fills-any, fills-one, fills-optional, runs-fit}
-use Rattle.crs_normal.proofs.MadeIdentLemmas.{ids-ascend, ids-made, ids_run}
+use Rattle.crs_normal.proofs.MadeIdentLemmas.{identifiers-ascend, identifiers-left, identifiers-made, ids_run}
 use Rattle.crs_normal.proofs.MadeLeafLemmas.{text-made, word-made}
 use Rattle.crs_normal.proofs.MadeLemmas.{AreMade, Made, MadeBy, Run, RunsMadeBy, Sees, all-formed, all-shaped, all-unbroken, all-within, alone, as-argument, at-class, at-level, classes, each-line, each-set, given, lines, made-lines, opt-line, sees-by, unbroken-node}
 use Rattle.crs_normal.proofs.MadePlaceLemmas.{class-at}
@@ -122,7 +122,7 @@ module _ (l : DecimalLaws) (level : Level) (u : UnitParts) (h : IsUnit u) where
   plain-stands p =
       let k = unit-kept l level class.AxisUnit kinds.Length u (inl refl) h in
       node-stands (IsNormalIn level) 2 class.AxisUnit (codes "UNIT") (text_item u.name)
-      (More (number_item u.factor) (each item_ident (set_idents level u.ids) End)) (unit_runs level u) (simp each-line)
+      (More (number_item u.factor) (each item_ident (set_idents level u.identifiers) End)) (unit_runs level u) (simp each-line)
       (refl, refl) refl k.made k.allowed k.unbroken p
 
   plain-alone : MadeBy (AsArgument level) 4 class.Axis class.AxisUnit (item_unit (unit_as level kinds.Plain u))
@@ -177,13 +177,13 @@ module _ (l : DecimalLaws) (level : Level) (x : AxisParts) (h : IsAxis x) where
       record { of = class.Meridian; items = given item_axis_meridian (norm_axis_meridians level x.meridian) } ∷
       record { of = class.Order; items = given (number_node (codes "ORDER")) x.order } ∷
       record { of = class.AxisUnit; items = given item_unit (norm_units level kinds.Plain x.unit) } ∷
-      ids_run level x.ids ∷ []
+      ids_run level x.identifiers ∷ []
 
   abbrev alone_others : Siblings
   alone_others =
       More (word_item (direction_word x.direction)) (opt item_axis_meridian (norm_axis_meridians level x.meridian)
       (opt (number_node (codes "ORDER")) x.order (opt item_unit (norm_units level kinds.Plain x.unit)
-      (each item_ident (set_idents level x.ids) End))))
+      (each item_ident (set_idents level x.identifiers) End))))
 
   alone-lines : More (text_item x.name) alone_others ≡ lines alone_runs
   alone-lines = simp (opt-line, each-line)
@@ -208,8 +208,8 @@ module _ (l : DecimalLaws) (level : Level) (x : AxisParts) (h : IsAxis x) where
           (
             units-alone l level x.unit h.unit,
             (
-              each-alone level 4 class.Identifier (ids_run level x.ids).items
-                  (ids-made l level 4 class.Axis x.ids (omega arith) refl h.ids),
+              each-alone level 4 class.Identifier (ids_run level x.identifiers).items
+                  (identifiers-made l level 4 class.Axis x.identifiers (omega arith) refl h.identifiers),
               tt,
             ),
           ),
@@ -256,8 +256,8 @@ module _ (l : DecimalLaws) (level : Level) (x : AxisParts) (h : IsAxis x) where
         unbroken = s.unbroken;
         normal = (
           refl,
-          at-level level class.Axis i,
-          each-set class.Axis alone_runs i set_classes look (ids-ascend level x.ids, (tt, (tt, (tt, (tt, tt))))),
+          at-level level class.Axis alone_runs i look (identifiers-left level x.identifiers),
+          each-set class.Axis alone_runs i set_classes look (identifiers-ascend level x.identifiers, (tt, (tt, (tt, (tt, tt))))),
           all-normal-alone level 4 4 (classes alone_runs) (More (text_item x.name) alone_others)
               (subst (AreMade (AsArgument level) 4 class.Axis (classes alone_runs)) (sym alone-lines)
               (made-lines (AsArgument level) 4 class.Axis alone_runs alone-made)),

@@ -12,13 +12,13 @@ use Rattle.crs_value.specs.BadUnit.{asked_kind, units_in, kind_by_direction}
 use Rattle.crs_value.specs.UnknownWord.{UnknownDirection}
 use Rattle.crs_value.specs.Break.{AnyOf}
 use Rattle.crs_value.specs.Checks.{Own as BreaksOwn}
-use Rattle.crs_value.specs.declared.direction.Direction.{Direction}
-use Rattle.crs_value.specs.declared.direction.Direction.TheVariants as direction
-use Rattle.crs_value.specs.declared.level.Level.{Level}
-use Rattle.crs_value.specs.declared.system_type.SystemType.{SystemType}
-use Rattle.crs_value.specs.declared.system_type.SystemType.TheVariants as types
-use Rattle.crs_value.specs.declared.unit_kind.UnitKind.{UnitKind}
-use Rattle.crs_value.specs.declared.unit_kind.UnitKind.TheVariants as kinds
+use Rattle.crs_value.specs.declared.values.direction.Direction.{Direction}
+use Rattle.crs_value.specs.declared.values.direction.Direction.TheVariants as direction
+use Rattle.crs_value.specs.declared.values.level.Level.{Level}
+use Rattle.crs_value.specs.declared.values.system_type.SystemType.{SystemType}
+use Rattle.crs_value.specs.declared.values.system_type.SystemType.TheVariants as types
+use Rattle.crs_value.specs.declared.values.unit_kind.UnitKind.{UnitKind}
+use Rattle.crs_value.specs.declared.values.unit_kind.UnitKind.TheVariants as kinds
 use Rattle.crs_value.specs.Reading.{those}
 use Rattle.crs_value.specs.Reads.{ReadsDirection}
 use Rattle.crs_value.specs.Sound.{Each, IsAxis, IsAxisMeridian, IsUnitOf}
@@ -33,9 +33,9 @@ use Rattle.crs_normal.specs.SpelledUnits.{item_ident, item_unit, norm_unit, norm
 use Rattle.crs_normal.proofs.MadeEllipsoidLemmas.{suits-kind, unit-argument}
 use Rattle.crs_normal.proofs.MadeFitLemmas.{fills-any, fills-one, fills-optional, runs-fit}
 use Rattle.crs_normal.proofs.MadeFrameLemmas.{number-node-made}
-use Rattle.crs_normal.proofs.MadeIdentLemmas.{ids-ascend, ids-made, ids_run}
+use Rattle.crs_normal.proofs.MadeIdentLemmas.{identifiers-ascend, identifiers-left, identifiers-made, ids_run}
 use Rattle.crs_normal.proofs.MadeLeafLemmas.{number-made, text-made, word-made}
-use Rattle.crs_normal.proofs.MadeLemmas.{Made, Run, RunsMade, alone, as-argument, each-line, given, lines, node-made, opt-line, sees}
+use Rattle.crs_normal.proofs.MadeLemmas.{Made, Run, RunsMade, alone, as-argument, each-line, given, keeps-none, lines, node-made, opt-line, sees}
 use Rattle.crs_normal.proofs.MadePlaceLemmas.{ArePlaced}
 use Rattle.crs_normal.proofs.MadeWordLemmas.{direction-letters}
 
@@ -85,6 +85,7 @@ axis-meridian-made l level m h =
       );
       allowed = runs-fit (slots_of class.Meridian) (axis_meridian_runs level m) (fills-one refl, (fills-one refl, tt));
       sets = (tt, (tt, (tt, (tt, (tt, tt)))));
+      left = keeps-none level;
       own = λ item s. tt;
       unbroken = λ item fault s b. b;
     })
@@ -132,13 +133,13 @@ axis_runs level asked k x u =
     alone class.Text (text_item x.name) ∷ alone class.Word (word_item (direction_word x.direction)) ∷
     record { of = class.Meridian; items = given item_axis_meridian (norm_axis_meridians level x.meridian) } ∷
     alone class.Order (number_node (codes "ORDER") (whole_value k)) ∷ alone class.AxisUnit
-    (item_unit (norm_unit level asked u)) ∷ ids_run level x.ids ∷ []
+    (item_unit (norm_unit level asked u)) ∷ ids_run level x.identifiers ∷ []
 
 abbrev axis_others : Level → UnitKind → ℕ → AxisParts → Option UnitParts → Siblings
 axis_others level asked k x w =
     More (word_item (direction_word x.direction)) (opt item_axis_meridian (norm_axis_meridians level x.meridian)
     (opt (number_node (codes "ORDER")) (Some (whole_value k)) (opt item_unit (norm_units level asked w)
-    (each item_ident (set_idents level x.ids) End))))
+    (each item_ident (set_idents level x.identifiers) End))))
 
 axis-lines : (level : Level) (asked : UnitKind) (k : ℕ) (x : AxisParts) (w : Option UnitParts) (u : UnitParts) →
     w ≡ Some u →
@@ -184,7 +185,7 @@ axis-runs-made l level t shared k x f low high =
                     (suits-kind asked f.unit.kind f.suits.1) f.suits.0,
                 tt,
               ),
-              (ids-made l level 4 class.Axis x.ids (omega arith) refl f.axis.ids, tt),
+              (identifiers-made l level 4 class.Axis x.identifiers (omega arith) refl f.axis.identifiers, tt),
             ),
           ),
         ),
@@ -216,7 +217,8 @@ axis-made l level s k x f low high =
           ),
         ),
       );
-      sets = (ids-ascend level x.ids, (tt, (tt, (tt, (tt, tt)))));
+      sets = (identifiers-ascend level x.identifiers, (tt, (tt, (tt, (tt, tt)))));
+      left = identifiers-left level x.identifiers;
       own = λ item v. tt;
       unbroken = λ item fault v b. known-direction x.direction (those class.Axis class.Word (arguments item)) fault
           (v.view class.Word) b;

@@ -8,8 +8,9 @@ use Rattle.crs_shape.specs.declared.class.Class.{Class}
 use Rattle.crs_shape.specs.declared.class.Class.TheVariants as class
 use Rattle.crs_shape.specs.Slots.{class_named}
 use Rattle.crs_value.specs.BadSystem.{IsOneOf}
-use Rattle.crs_value.specs.declared.level.Level.{Level}
-use Rattle.crs_value.specs.declared.system_type.SystemType.{SystemType}
+use Rattle.crs_value.specs.Kept.{kept_one}
+use Rattle.crs_value.specs.declared.values.level.Level.{Level}
+use Rattle.crs_value.specs.declared.values.system_type.SystemType.{SystemType}
 use Rattle.crs_value.specs.Reading.{those}
 use Rattle.crs_value.specs.Sound.{Each}
 use Rattle.crs_value.specs.SoundSystem.{IsSystem}
@@ -17,7 +18,6 @@ use Rattle.crs_value.specs.SoundUsages.{IsTail}
 use Rattle.crs_value.specs.Values.{AxisParts, SystemParts, TailParts}
 use Rattle.crs_normal.specs.DecimalLaws.{DecimalLaws}
 use Rattle.crs_normal.specs.SpelledSystems.{axes_from, item_axis, item_head, norm_system}
-use Rattle.crs_normal.specs.SpelledUsages.{norm_remark}
 use Rattle.crs_normal.proofs.MadeCheckLemmas.{IsSystemSeen}
 use Rattle.crs_normal.proofs.MadeEllipsoidLemmas.{placed-none}
 use Rattle.crs_normal.proofs.MadeLemmas.{Made, Run, RunsMade, alone, as-argument, items_in}
@@ -123,7 +123,7 @@ tail-seen level c item t v = record {
   area = placed-none (those c class.Area (arguments item)) v.1.0;
   bbox = placed-none (those c class.BoundingBox (arguments item)) v.1.1.0;
   extent = placed-none (those c class.VerticalExtent (arguments item)) v.1.1.1.0;
-  remarks = norm_remark level t.remark;
+  remarks = kept_one level t.remark;
   remark = v.1.1.1.1.0;
 }
 

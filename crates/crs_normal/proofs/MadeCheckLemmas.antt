@@ -13,8 +13,8 @@ use Rattle.crs_value.specs.BadSystem.{IsOneOf}
 use Rattle.crs_value.specs.BadUnit.{BadOwnUnit, Misfits, asked_kind, units_in}
 use Rattle.crs_value.specs.Break.{AnyOf}
 use Rattle.crs_value.specs.Checks.{BadSystems, OfHead}
-use Rattle.crs_value.specs.declared.direction.Direction.{Direction}
-use Rattle.crs_value.specs.declared.system_type.SystemType.{SystemType}
+use Rattle.crs_value.specs.declared.values.direction.Direction.{Direction}
+use Rattle.crs_value.specs.declared.values.system_type.SystemType.{SystemType}
 use Rattle.crs_value.specs.Reading.{ReadsFirst, those}
 use Rattle.crs_value.specs.Reads.{ReadsDirection, ReadsKind, ReadsNumber, ReadsType}
 use Rattle.crs_value.specs.Sound.{Each}

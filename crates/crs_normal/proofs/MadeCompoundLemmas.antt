@@ -14,11 +14,11 @@ use Rattle.crs_value.specs.Break.{AnyOf, FirstIs}
 use Rattle.crs_value.specs.Checks.{OfCompound, Own as BreaksOwn, horizontal_classes}
 use Rattle.crs_value.specs.CompoundValues.{CompoundParts}
 use Rattle.crs_value.specs.CrsValues.{GeodeticParts, ProjectedParts, VerticalParts}
-use Rattle.crs_value.specs.declared.compound.Horizontal.{Horizontal}
-use Rattle.crs_value.specs.declared.compound.Horizontal.TheVariants as horizontal
-use Rattle.crs_value.specs.declared.level.Level.{Level}
-use Rattle.crs_value.specs.declared.system_type.SystemType.{SystemType}
-use Rattle.crs_value.specs.declared.system_type.SystemType.TheVariants as types
+use Rattle.crs_value.specs.declared.values.compound.Horizontal.{Horizontal}
+use Rattle.crs_value.specs.declared.values.compound.Horizontal.TheVariants as horizontal
+use Rattle.crs_value.specs.declared.values.level.Level.{Level}
+use Rattle.crs_value.specs.declared.values.system_type.SystemType.{SystemType}
+use Rattle.crs_value.specs.declared.values.system_type.SystemType.TheVariants as types
 use Rattle.crs_value.specs.Reading.{those}
 use Rattle.crs_value.specs.Sound.{Each, IsText}
 use Rattle.crs_value.specs.SoundCompound.{IsCompound, IsHorizontal, IsPlane}
@@ -36,13 +36,13 @@ use Rattle.crs_normal.proofs.MadeBehindLemmas.{AxisEach, Shows, tail-seen, tail_
 use Rattle.crs_normal.proofs.MadeCheckLemmas.{first-number, word-type}
 use Rattle.crs_normal.proofs.MadeFitLemmas.{fills-one, fit-before, last-fits}
 use Rattle.crs_normal.proofs.MadeGeodeticLemmas.{end_classes, geodetic-made, geodetic-seen}
-use Rattle.crs_normal.proofs.MadeIdentLemmas.{ids-ascend}
+use Rattle.crs_normal.proofs.MadeIdentLemmas.{identifiers-ascend}
 use Rattle.crs_normal.proofs.MadeLeafLemmas.{text-made}
-use Rattle.crs_normal.proofs.MadeLemmas.{Made, Run, RunsMade, alone, as-argument, classes, each-line, items_in, node-made, opt-line, views}
+use Rattle.crs_normal.proofs.MadeLemmas.{KeepsRuns, Made, Run, RunsMade, alone, as-argument, classes, each-line, items_in, node-made, opt-line, views}
 use Rattle.crs_normal.proofs.MadePlaceLemmas.{ArePlaced}
 use Rattle.crs_normal.proofs.MadeProjectedLemmas.{projected-made, projected-seen}
 use Rattle.crs_normal.proofs.MadeSystemLemmas.{IsHeadItem}
-use Rattle.crs_normal.proofs.MadeTailLemmas.{IsTailSeen, RunsRise, has-tail, no-repeats, tail-fits, tail-runs-made, tail_runs, usages-ascend}
+use Rattle.crs_normal.proofs.MadeTailLemmas.{IsTailSeen, RunsRise, has-tail, no-repeats, tail-fits, tail-left, tail-runs-made, tail_runs, usages-ascend}
 use Rattle.crs_normal.proofs.MadeVerticalLemmas.{vertical-made}
 
 -- ---- horizontal parts: geographic or projected
@@ -116,8 +116,13 @@ side-taken false = refl
 
 side-sets : (level : Level) (b : Bool) (j : Item) (name : List ℕ) (v : VerticalParts) (t : TailParts) →
     Each (λ d. Ascend (items_in d (compound_runs level b j name v t))) set_classes
-side-sets level true j name v t = (ids-ascend level t.ids, (usages-ascend level (usages_of t), (tt, (tt, (tt, tt)))))
-side-sets level false j name v t = (ids-ascend level t.ids, (usages-ascend level (usages_of t), (tt, (tt, (tt, tt)))))
+side-sets level true j name v t = (identifiers-ascend level t.identifiers, (usages-ascend level (usages_of t), (tt, (tt, (tt, tt)))))
+side-sets level false j name v t = (identifiers-ascend level t.identifiers, (usages-ascend level (usages_of t), (tt, (tt, (tt, tt)))))
+
+side-left : (level : Level) (b : Bool) (j : Item) (name : List ℕ) (v : VerticalParts) (t : TailParts) →
+    KeepsRuns level (compound_runs level b j name v t)
+side-left level true j name v t = tail-left level t
+side-left level false j name v t = tail-left level t
 
 side-rise : (level : Level) (b : Bool) (j : Item) (name : List ℕ) (v : VerticalParts) (t : TailParts) →
     RunsRise 0 (compound_runs level b j name v t)
@@ -214,6 +219,7 @@ side-made l each_at level b j name v t s n h g =
           (tail_runs level t) (fills-one refl, (fills-one (side-taken b), (fills-one refl, tt)))
           (last-fits end_classes (classes (tail_runs level t)) (tail-fits end_classes level t refl refl refl));
       sets = side-sets level b j name v t;
+      left = side-left level b j name v t;
       own = λ item q.
           has-tail level 7 class.CompoundCrs (compound_runs level b j name v t) item q made
           (side-rise level b j name v t)

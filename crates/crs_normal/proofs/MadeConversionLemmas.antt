@@ -8,9 +8,9 @@ use Rattle.crs_shape.specs.Keywords.{is_keyword}
 use Rattle.crs_shape.specs.Slots.{class_named, optional_of, slots_of, takes}
 use Rattle.crs_value.specs.Checks.{Own as BreaksOwn}
 use Rattle.crs_value.specs.ConversionValues.{ConversionParts, ParameterParts}
-use Rattle.crs_value.specs.declared.level.Level.{Level}
-use Rattle.crs_value.specs.declared.unit_kind.UnitKind.{UnitKind}
-use Rattle.crs_value.specs.declared.unit_kind.UnitKind.TheVariants as kinds
+use Rattle.crs_value.specs.declared.values.level.Level.{Level}
+use Rattle.crs_value.specs.declared.values.unit_kind.UnitKind.{UnitKind}
+use Rattle.crs_value.specs.declared.values.unit_kind.UnitKind.TheVariants as kinds
 use Rattle.crs_value.specs.Sound.{Each, IsUnit}
 use Rattle.crs_value.specs.SoundConversion.{IsConversion, IsParameter}
 use Rattle.crs_value.specs.Values.{UnitParts}
@@ -24,9 +24,9 @@ use Rattle.crs_normal.specs.SpelledItems.{each, number_item, opt, text_item}
 use Rattle.crs_normal.specs.SpelledUnits.{item_ident, item_unit, norm_unit, norm_units, set_idents}
 use Rattle.crs_normal.proofs.MadeAscendLemmas.{set-ascends, set-each}
 use Rattle.crs_normal.proofs.MadeFitLemmas.{fills-any, fills-one, fills-optional, runs-fit}
-use Rattle.crs_normal.proofs.MadeIdentLemmas.{ids-ascend, ids-made, ids_run}
+use Rattle.crs_normal.proofs.MadeIdentLemmas.{identifiers-ascend, identifiers-left, identifiers-made, ids_run}
 use Rattle.crs_normal.proofs.MadeLeafLemmas.{number-made, text-made}
-use Rattle.crs_normal.proofs.MadeLemmas.{Made, Run, alone, as-argument, each-line, given, items_in, node-made, opt-line}
+use Rattle.crs_normal.proofs.MadeLemmas.{KeepsRuns, Made, Run, alone, as-argument, each-line, given, items_in, node-made, opt-line}
 use Rattle.crs_normal.proofs.MadeNamedLemmas.{method-made}
 use Rattle.crs_normal.proofs.MadeUnitLemmas.{unit-made}
 
@@ -69,19 +69,31 @@ parameter-unit l level (Some u) h =
 abbrev parameter_runs : Level → Class → ParameterParts → List Run
 parameter_runs level c p =
     alone class.Text (text_item p.name) ∷ alone class.Number (number_item p.value) ∷
-    record { of = c; items = given item_unit (norm_units level kinds.Plain p.unit) } ∷ ids_run level p.ids ∷ []
+    record { of = c; items = given item_unit (norm_units level kinds.Plain p.unit) } ∷ ids_run level p.identifiers ∷ []
 
 kind-sets : (level : Level) (k : UnitKind) (p : ParameterParts) →
     Each (λ d. Ascend (items_in d (parameter_runs level (kind_class k) p))) set_classes
-kind-sets level kinds.Length p = (ids-ascend level p.ids, (tt, (tt, (tt, (tt, tt)))))
-kind-sets level kinds.Angle p = (ids-ascend level p.ids, (tt, (tt, (tt, (tt, tt)))))
-kind-sets level kinds.Scale p = (ids-ascend level p.ids, (tt, (tt, (tt, (tt, tt)))))
-kind-sets level kinds.Plain p = (ids-ascend level p.ids, (tt, (tt, (tt, (tt, tt)))))
+kind-sets level kinds.Length p = (identifiers-ascend level p.identifiers, (tt, (tt, (tt, (tt, tt)))))
+kind-sets level kinds.Angle p = (identifiers-ascend level p.identifiers, (tt, (tt, (tt, (tt, tt)))))
+kind-sets level kinds.Scale p = (identifiers-ascend level p.identifiers, (tt, (tt, (tt, (tt, tt)))))
+kind-sets level kinds.Plain p = (identifiers-ascend level p.identifiers, (tt, (tt, (tt, (tt, tt)))))
 
 parameter-sets : (level : Level) (x : Option UnitParts) (p : ParameterParts) →
     Each (λ d. Ascend (items_in d (parameter_runs level (given_class x) p))) set_classes
 parameter-sets level None p = kind-sets level kinds.Plain p
 parameter-sets level (Some u) p = kind-sets level (kind_as kinds.Plain u.kind) p
+
+kind-left : (level : Level) (k : UnitKind) (p : ParameterParts) →
+    KeepsRuns level (parameter_runs level (kind_class k) p)
+kind-left level kinds.Length p = identifiers-left level p.identifiers
+kind-left level kinds.Angle p = identifiers-left level p.identifiers
+kind-left level kinds.Scale p = identifiers-left level p.identifiers
+kind-left level kinds.Plain p = identifiers-left level p.identifiers
+
+parameter-left : (level : Level) (x : Option UnitParts) (p : ParameterParts) →
+    KeepsRuns level (parameter_runs level (given_class x) p)
+parameter-left level None p = kind-left level kinds.Plain p
+parameter-left level (Some u) p = kind-left level (kind_as kinds.Plain u.kind) p
 
 abbrev unit_classes : List Class
 unit_classes = class.PlainUnit ∷ class.LengthUnit ∷ class.AngleUnit ∷ class.ScaleUnit ∷ []
@@ -102,7 +114,7 @@ unfolding BreaksOwn class_named is_keyword
 parameter-made l level m h =
     node-made level 3 class.Parameter (codes "PARAMETER") (text_item m.name)
     (More (number_item m.value) (opt item_unit (norm_units level kinds.Plain m.unit)
-    (each item_ident (set_idents level m.ids) End)))
+    (each item_ident (set_idents level m.identifiers) End)))
     (parameter_runs level (given_class m.unit) m) (simp (opt-line, each-line)) (record {
       letters = (refl, refl);
       known = refl;
@@ -114,7 +126,7 @@ parameter-made l level m h =
           (
             parameter-unit l level m.unit h.unit,
             (
-              ids-made l level 3 class.Parameter m.ids (omega arith) refl h.ids,
+              identifiers-made l level 3 class.Parameter m.identifiers (omega arith) refl h.identifiers,
               tt,
             ),
           ),
@@ -128,6 +140,7 @@ parameter-made l level m h =
         ),
       );
       sets = parameter-sets level m.unit m;
+      left = parameter-left level m.unit m;
       own = λ item s. tt;
       unbroken = λ item fault s b. b;
     })
@@ -138,7 +151,7 @@ abbrev conversion_runs : Level → ConversionParts → List Run
 conversion_runs level m =
     alone class.Text (text_item m.name) ∷ alone class.Method (item_method (norm_method level m.method)) ∷
     record { of = class.Parameter; items = map item_parameter (set_parameters level m.parameters) } ∷
-    ids_run level m.ids ∷ []
+    ids_run level m.identifiers ∷ []
 
 parameters-made : DecimalLaws → (level : Level) (ps : List ParameterParts) → Each IsParameter ps →
     Each (Made level 4 class.Conversion class.Parameter) (map item_parameter (set_parameters level ps))
@@ -159,7 +172,7 @@ unfolding BreaksOwn class_named is_keyword
 conversion-made l level m h =
     node-made level 4 class.Conversion (codes "CONVERSION") (text_item m.name)
     (More (item_method (norm_method level m.method))
-    (each item_parameter (set_parameters level m.parameters) (each item_ident (set_idents level m.ids) End)))
+    (each item_parameter (set_parameters level m.parameters) (each item_ident (set_idents level m.identifiers) End)))
     (conversion_runs level m) (simp each-line) (record {
       letters = (refl, refl);
       known = refl;
@@ -175,8 +188,8 @@ conversion-made l level m h =
           (
             parameters-made l level m.parameters h.parameters,
             (
-              ids-made l level 4 class.Conversion m.ids (omega arith)
-                  refl h.ids,
+              identifiers-made l level 4 class.Conversion m.identifiers (omega arith)
+                  refl h.identifiers,
               tt,
             ),
           ),
@@ -186,7 +199,8 @@ conversion-made l level m h =
         fills-one refl,
         (fills-one refl, (fills-any refl, (fills-any refl, tt))),
       );
-      sets = (ids-ascend level m.ids, (tt, (tt, (parameters-ascend level m.parameters, (tt, tt)))));
+      sets = (identifiers-ascend level m.identifiers, (tt, (tt, (parameters-ascend level m.parameters, (tt, tt)))));
+      left = identifiers-left level m.identifiers;
       own = λ item s. tt;
       unbroken = λ item fault s b. b;
     })

@@ -6,11 +6,11 @@ use Rattle.crs_text.specs.TextFault.{SpellsNode}
 use Rattle.crs_shape.specs.declared.class.Class.{Class}
 use Rattle.crs_shape.specs.Keywords.{is_keyword, root_named}
 use Rattle.crs_shape.specs.ShapeFault.{class_of_root}
-use Rattle.crs_value.specs.declared.crs.Crs.{Crs}
-use Rattle.crs_value.specs.declared.crs.Crs.TheVariants as crs
-use Rattle.crs_value.specs.declared.level.Level.{Level}
-use Rattle.crs_value.specs.declared.system_type.SystemType.{SystemType}
-use Rattle.crs_value.specs.declared.system_type.SystemType.TheVariants as types
+use Rattle.crs_value.specs.declared.values.crs.Crs.{Crs}
+use Rattle.crs_value.specs.declared.values.crs.Crs.TheVariants as crs
+use Rattle.crs_value.specs.declared.values.level.Level.{Level}
+use Rattle.crs_value.specs.declared.values.system_type.SystemType.{SystemType}
+use Rattle.crs_value.specs.declared.values.system_type.SystemType.TheVariants as types
 use Rattle.crs_value.specs.SoundCrs.{IsCrs}
 use Rattle.crs_normal.specs.DecimalLaws.{DecimalLaws}
 use Rattle.crs_normal.specs.Made.{IsMade, crs_class, root_class}

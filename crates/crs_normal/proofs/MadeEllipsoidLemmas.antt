@@ -11,14 +11,14 @@ use Rattle.crs_shape.specs.Keywords.{is_keyword}
 use Rattle.crs_shape.specs.Slots.{class_named, slots_of}
 use Rattle.crs_value.specs.BadValue.{IsAboveZero}
 use Rattle.crs_value.specs.Checks.{OfEllipsoid, Own as BreaksOwn}
-use Rattle.crs_value.specs.declared.level.Level.{Level}
-use Rattle.crs_value.specs.declared.level.Level.TheVariants as levels
-use Rattle.crs_value.specs.declared.unit_kind.UnitKind.{UnitKind}
-use Rattle.crs_value.specs.declared.unit_kind.UnitKind.TheVariants as kinds
+use Rattle.crs_value.specs.KeptLaws.{kept-none}
+use Rattle.crs_value.specs.declared.values.level.Level.{Level}
+use Rattle.crs_value.specs.declared.values.unit_kind.UnitKind.{UnitKind}
+use Rattle.crs_value.specs.declared.values.unit_kind.UnitKind.TheVariants as kinds
 use Rattle.crs_value.specs.Reading.{those}
 use Rattle.crs_value.specs.Sound.{Each, IsUnit, IsUnitOf, Suits}
 use Rattle.crs_value.specs.SoundFrames.{IsEllipsoid}
-use Rattle.crs_value.specs.Values.{EllipsoidParts, UnitParts}
+use Rattle.crs_value.specs.Values.{EllipsoidParts, IdentParts, UnitParts}
 use Rattle.crs_value.specs.Words.{unit_word}
 use Rattle.crs_same.specs.SameUnits.{kind_as}
 use Rattle.crs_normal.specs.DecimalLaws.{DecimalLaws}
@@ -26,8 +26,9 @@ use Rattle.crs_normal.specs.Made.{IsKindIn, IsMade}
 use Rattle.crs_normal.specs.SpelledFrames.{item_ellipsoid, norm_ellipsoid}
 use Rattle.crs_normal.specs.SpelledItems.{each, number_item, opt, text_item}
 use Rattle.crs_normal.specs.SpelledUnits.{item_ident, item_unit, metre, norm_length, norm_unit, norm_units, set_idents}
+use Rattle.crs_normal.proofs.IdentLemmas.{none-form}
 use Rattle.crs_normal.proofs.MadeFitLemmas.{fills-any, fills-one, fills-optional, runs-fit}
-use Rattle.crs_normal.proofs.MadeIdentLemmas.{ids-ascend, ids-made, ids_run}
+use Rattle.crs_normal.proofs.MadeIdentLemmas.{identifiers-ascend, identifiers-left, identifiers-made, ids_run}
 use Rattle.crs_normal.proofs.MadeLeafLemmas.{number-made, text-made}
 use Rattle.crs_normal.proofs.MadeLemmas.{IsKept, Made, Run, alone, as-argument, each-line, given, node-made}
 use Rattle.crs_normal.proofs.MadePlaceLemmas.{ArePlaced}
@@ -71,16 +72,20 @@ metre-unit = record {
   name = ((codes "metre", refl), metre-name);
   factor = refl;
   above_zero = (refl, λ e. cc);
-  ids = tt;
+  identifiers = tt;
 }
+
+abbrev metre-with : List IdentParts → UnitParts
+metre-with identifiers = record { kind = metre.kind; name = metre.name; factor = metre.factor; identifiers = identifiers }
 
 -- a unit of length, which is the metre where none is written
 pub length-argument : DecimalLaws → (level : Level) (most : ℕ) (parent : Class) (x : Option UnitParts) → 3 ≤ most →
     class_named parent (codes "LENGTHUNIT") ≡ Some class.LengthUnit → IfSome x (IsUnitOf kinds.Length) →
     Made level most parent class.LengthUnit (item_unit (norm_length level x))
-unfolding set_idents
-length-argument l levels.Full most parent None deep named h =
-    unit-argument l levels.Full most parent class.LengthUnit kinds.Length metre deep named refl refl metre-unit
+length-argument l level most parent None deep named h =
+    subst (λ identifiers. Made level most parent class.LengthUnit (item_unit (metre-with identifiers)))
+    (none-form level [] (kept-none level))
+    (unit-argument l level most parent class.LengthUnit kinds.Length metre deep named refl refl metre-unit)
 length-argument l level most parent (Some u) deep named h =
     unit-argument l level most parent class.LengthUnit kinds.Length u deep named refl
     (suits-kind kinds.Length u.kind h.1) h.0
@@ -111,7 +116,7 @@ abbrev ellipsoid_runs : Level → EllipsoidParts → List Run
 ellipsoid_runs level e =
     alone class.Text (text_item e.name) ∷ alone class.Number (number_item e.semi_major_axis) ∷
     alone class.Number (number_item e.inverse_flattening) ∷ alone class.LengthUnit
-    (item_unit (norm_length level e.unit)) ∷ ids_run level e.ids ∷ []
+    (item_unit (norm_length level e.unit)) ∷ ids_run level e.identifiers ∷ []
 
 ellipsoid-kept : DecimalLaws → (level : Level) (e : EllipsoidParts) → IsEllipsoid e →
     IsKept level 3 class.Ellipsoid (codes "ELLIPSOID") (ellipsoid_runs level e)
@@ -128,7 +133,7 @@ ellipsoid-kept l level e h = record {
         (number-made l level 3 class.Ellipsoid e.inverse_flattening h.inverse_flattening, tt),
         (
           (length-argument l level 3 class.Ellipsoid e.unit (omega arith) refl h.unit, tt),
-          (ids-made l level 3 class.Ellipsoid e.ids (omega arith) refl h.ids, tt),
+          (identifiers-made l level 3 class.Ellipsoid e.identifiers (omega arith) refl h.identifiers, tt),
         ),
       ),
     ),
@@ -147,7 +152,8 @@ ellipsoid-kept l level e h = record {
       ),
     ),
   );
-  sets = (ids-ascend level e.ids, (tt, (tt, (tt, (tt, tt)))));
+  sets = (identifiers-ascend level e.identifiers, (tt, (tt, (tt, (tt, tt)))));
+  left = identifiers-left level e.identifiers;
   own = λ item s. placed-some (those class.Ellipsoid class.LengthUnit (arguments item)) []
       (item_unit (norm_length level e.unit)) (s.view class.LengthUnit);
   unbroken = λ item fault s b.
@@ -161,5 +167,5 @@ pub ellipsoid-made : DecimalLaws → (level : Level) (e : EllipsoidParts) → Is
 ellipsoid-made l level e h =
     node-made level 3 class.Ellipsoid (codes "ELLIPSOID") (text_item e.name)
     (More (number_item e.semi_major_axis) (More (number_item e.inverse_flattening)
-    (opt item_unit (Some (norm_length level e.unit)) (each item_ident (set_idents level e.ids) End))))
+    (opt item_unit (Some (norm_length level e.unit)) (each item_ident (set_idents level e.identifiers) End))))
     (ellipsoid_runs level e) (simp each-line) (ellipsoid-kept l level e h)

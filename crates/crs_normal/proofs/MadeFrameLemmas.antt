@@ -13,9 +13,9 @@ use Rattle.crs_shape.specs.Shape.{Allowed}
 use Rattle.crs_shape.specs.Slots.{class_named, slots_of}
 use Rattle.crs_value.specs.Break.{AnyOf}
 use Rattle.crs_value.specs.Checks.{Own as BreaksOwn}
-use Rattle.crs_value.specs.declared.frame.Frame.{Frame}
-use Rattle.crs_value.specs.declared.frame.Frame.TheVariants as frame
-use Rattle.crs_value.specs.declared.level.Level.{Level}
+use Rattle.crs_value.specs.declared.values.frame.Frame.{Frame}
+use Rattle.crs_value.specs.declared.values.frame.Frame.TheVariants as frame
+use Rattle.crs_value.specs.declared.values.level.Level.{Level}
 use Rattle.crs_value.specs.Reading.{those}
 use Rattle.crs_value.specs.RepeatedPart.{IsRepeated}
 use Rattle.crs_value.specs.Sound.{Each, IsText}
@@ -32,9 +32,9 @@ use Rattle.crs_normal.specs.SpelledUnits.{item_ident, set_idents}
 use Rattle.crs_normal.proofs.MadeAscendLemmas.{set-ascends, set-each, set-some}
 use Rattle.crs_normal.proofs.MadeEllipsoidLemmas.{ellipsoid-made}
 use Rattle.crs_normal.proofs.MadeFitLemmas.{fills-any, fills-one, fills-some, runs-fit}
-use Rattle.crs_normal.proofs.MadeIdentLemmas.{given-made, ids-ascend, ids-made, ids_run, text-node-made}
+use Rattle.crs_normal.proofs.MadeIdentLemmas.{given-made, identifiers-ascend, identifiers-left, identifiers-made, ids_run, text-node-made}
 use Rattle.crs_normal.proofs.MadeLeafLemmas.{number-made, text-made}
-use Rattle.crs_normal.proofs.MadeLemmas.{Made, Run, alone, as-argument, each-line, given, node-made, opt-line}
+use Rattle.crs_normal.proofs.MadeLemmas.{Made, Run, alone, as-argument, each-line, given, keeps-none, node-made, opt-line}
 use Rattle.crs_normal.proofs.MadePlaceLemmas.{ArePlaced}
 use Rattle.crs_normal.proofs.MadeNamedLemmas.{member-made}
 
@@ -53,6 +53,7 @@ number-node-made l level c keyword v letters known written allowed own unbroken 
       made = ((number-made l level 0 c v h, tt), tt);
       allowed = allowed;
       sets = (tt, (tt, (tt, (tt, (tt, tt)))));
+      left = keeps-none level;
       own = λ item s. own item;
       unbroken = λ item fault s. unbroken item fault;
     })
@@ -99,19 +100,19 @@ anchors-made level parent anchor named h =
 abbrev geodetic_datum_runs : Level → EllipsoidParts → DatumParts → List Run
 geodetic_datum_runs level e d =
     alone class.Text (text_item d.name) ∷ alone class.Ellipsoid (item_ellipsoid (norm_ellipsoid level e)) ∷
-    anchor_run d.anchor ∷ ids_run level d.ids ∷ []
+    anchor_run d.anchor ∷ ids_run level d.identifiers ∷ []
 
 geodetic-datum-made : DecimalLaws → (level : Level) (x : Option EllipsoidParts) (d : DatumParts) → IsSome x →
     IfSome x IsEllipsoid → IsDatum d → (p : ℕ) →
     IsMade level class.GeodeticFrame 5 (at_place p (node_of (codes "DATUM") (text_item d.name)
     (opt item_ellipsoid (option_map (norm_ellipsoid level) x) (opt (text_node (codes "ANCHOR")) d.anchor
-    (each item_ident (set_idents level d.ids) End)))))
+    (each item_ident (set_idents level d.identifiers) End)))))
 unfolding BreaksOwn class_named is_keyword
 geodetic-datum-made l level None d some e h = absurd (cc some)
 geodetic-datum-made l level (Some x) d some e h =
     node-made level 4 class.GeodeticFrame (codes "DATUM") (text_item d.name)
     (opt item_ellipsoid (Some (norm_ellipsoid level x)) (opt (text_node (codes "ANCHOR")) d.anchor
-    (each item_ident (set_idents level d.ids) End)))
+    (each item_ident (set_idents level d.identifiers) End)))
     (geodetic_datum_runs level x d) (simp (opt-line, each-line)) (record {
       letters = (refl, refl);
       known = refl;
@@ -126,13 +127,14 @@ geodetic-datum-made l level (Some x) d some e h =
           ),
           (
             anchors-made level class.GeodeticFrame d.anchor refl h.anchor,
-            (ids-made l level 4 class.GeodeticFrame d.ids (omega arith) refl h.ids, tt),
+            (identifiers-made l level 4 class.GeodeticFrame d.identifiers (omega arith) refl h.identifiers, tt),
           ),
         ),
       );
       allowed = runs-fit (slots_of class.GeodeticFrame) (geodetic_datum_runs level x d)
           (fills-one refl, (fills-one refl, (fills-any refl, (fills-any refl, tt))));
-      sets = (ids-ascend level d.ids, (tt, (tt, (tt, (tt, tt)))));
+      sets = (identifiers-ascend level d.identifiers, (tt, (tt, (tt, (tt, tt)))));
+      left = identifiers-left level d.identifiers;
       own = λ item s. tt;
       unbroken = λ item fault s b.
           not-repeated (text_node (codes "ANCHOR")) d.anchor (those class.GeodeticFrame class.Anchor (arguments item))
@@ -140,18 +142,18 @@ geodetic-datum-made l level (Some x) d some e h =
     })
 
 abbrev vertical_datum_runs : Level → DatumParts → List Run
-vertical_datum_runs level d = alone class.Text (text_item d.name) ∷ anchor_run d.anchor ∷ ids_run level d.ids ∷ []
+vertical_datum_runs level d = alone class.Text (text_item d.name) ∷ anchor_run d.anchor ∷ ids_run level d.identifiers ∷ []
 
 vertical-datum-made : DecimalLaws → (level : Level) (x : Option EllipsoidParts) (d : DatumParts) → IsNone x →
     IsDatum d → (p : ℕ) →
     IsMade level class.VerticalFrame 5 (at_place p (node_of (codes "VDATUM") (text_item d.name)
     (opt item_ellipsoid (option_map (norm_ellipsoid level) x) (opt (text_node (codes "ANCHOR")) d.anchor
-    (each item_ident (set_idents level d.ids) End)))))
+    (each item_ident (set_idents level d.identifiers) End)))))
 unfolding BreaksOwn class_named is_keyword
 vertical-datum-made l level (Some x) d none h = absurd (cc none)
 vertical-datum-made l level None d none h =
     node-made level 4 class.VerticalFrame (codes "VDATUM") (text_item d.name)
-    (opt (text_node (codes "ANCHOR")) d.anchor (each item_ident (set_idents level d.ids) End))
+    (opt (text_node (codes "ANCHOR")) d.anchor (each item_ident (set_idents level d.identifiers) End))
     (vertical_datum_runs level d) (simp (opt-line, each-line)) (record {
       letters = (refl, refl);
       known = refl;
@@ -161,8 +163,8 @@ vertical-datum-made l level None d none h =
         (
           anchors-made level class.VerticalFrame d.anchor refl h.anchor,
           (
-            ids-made l level 4 class.VerticalFrame d.ids
-                (omega arith) refl h.ids,
+            identifiers-made l level 4 class.VerticalFrame d.identifiers
+                (omega arith) refl h.identifiers,
             tt,
           ),
         ),
@@ -171,7 +173,8 @@ vertical-datum-made l level None d none h =
         fills-one refl,
         (fills-any refl, (fills-any refl, tt)),
       );
-      sets = (ids-ascend level d.ids, (tt, (tt, (tt, (tt, tt)))));
+      sets = (identifiers-ascend level d.identifiers, (tt, (tt, (tt, (tt, tt)))));
+      left = identifiers-left level d.identifiers;
       own = λ item s. tt;
       unbroken = λ item fault s b.
           not-repeated (text_node (codes "ANCHOR")) d.anchor (those class.VerticalFrame class.Anchor (arguments item))
@@ -211,13 +214,13 @@ abbrev geodetic_ensemble_runs : Level → EllipsoidParts → EnsembleParts → L
 geodetic_ensemble_runs level x e =
     alone class.Text (text_item e.name) ∷ members_run level e.members ∷ alone class.Ellipsoid
     (item_ellipsoid (norm_ellipsoid level x)) ∷
-    alone class.EnsembleAccuracy (number_node (codes "ENSEMBLEACCURACY") e.accuracy) ∷ ids_run level e.ids ∷ []
+    alone class.EnsembleAccuracy (number_node (codes "ENSEMBLEACCURACY") e.accuracy) ∷ ids_run level e.identifiers ∷ []
 
 -- the arguments behind an ensemble's name
 abbrev ensemble_others : Level → Option EllipsoidParts → EnsembleParts → Siblings
 ensemble_others level x e =
     each item_member (set_members level e.members) (opt item_ellipsoid (option_map (norm_ellipsoid level) x)
-    (More (number_node (codes "ENSEMBLEACCURACY") e.accuracy) (each item_ident (set_idents level e.ids) End)))
+    (More (number_node (codes "ENSEMBLEACCURACY") e.accuracy) (each item_ident (set_idents level e.identifiers) End)))
 
 geodetic-ensemble-made : DecimalLaws → (level : Level) (x : Option EllipsoidParts) (e : EnsembleParts) → IsSome x →
     IfSome x IsEllipsoid → IsEnsemble e →
@@ -243,7 +246,7 @@ geodetic-ensemble-made l level (Some x) e some f h =
             ),
             (
               (accuracy-argument l level class.GeodeticEnsemble e.accuracy refl h.accuracy, tt),
-              (ids-made l level 4 class.GeodeticEnsemble e.ids (omega arith) refl h.ids, tt),
+              (identifiers-made l level 4 class.GeodeticEnsemble e.identifiers (omega arith) refl h.identifiers, tt),
             ),
           ),
         ),
@@ -255,7 +258,8 @@ geodetic-ensemble-made l level (Some x) e some f h =
           (fills-one refl, (fills-one refl, (fills-any refl, tt))),
         ),
       );
-      sets = (ids-ascend level e.ids, (tt, (members-ascend level e.members, (tt, (tt, tt)))));
+      sets = (identifiers-ascend level e.identifiers, (tt, (members-ascend level e.members, (tt, (tt, tt)))));
+      left = identifiers-left level e.identifiers;
       own = λ item s. tt;
       unbroken = λ item fault s b. b;
     })
@@ -263,7 +267,7 @@ geodetic-ensemble-made l level (Some x) e some f h =
 abbrev vertical_ensemble_runs : Level → EnsembleParts → List Run
 vertical_ensemble_runs level e =
     alone class.Text (text_item e.name) ∷ members_run level e.members ∷
-    alone class.EnsembleAccuracy (number_node (codes "ENSEMBLEACCURACY") e.accuracy) ∷ ids_run level e.ids ∷ []
+    alone class.EnsembleAccuracy (number_node (codes "ENSEMBLEACCURACY") e.accuracy) ∷ ids_run level e.identifiers ∷ []
 
 vertical-ensemble-made : DecimalLaws → (level : Level) (x : Option EllipsoidParts) (e : EnsembleParts) → IsNone x →
     IsEnsemble e →
@@ -283,7 +287,7 @@ vertical-ensemble-made l level None e none h =
           members-made l level class.VerticalEnsemble e.members refl h.members,
           (
             (accuracy-argument l level class.VerticalEnsemble e.accuracy refl h.accuracy, tt),
-            (ids-made l level 4 class.VerticalEnsemble e.ids (omega arith) refl h.ids, tt),
+            (identifiers-made l level 4 class.VerticalEnsemble e.identifiers (omega arith) refl h.identifiers, tt),
           ),
         ),
       );
@@ -294,7 +298,8 @@ vertical-ensemble-made l level None e none h =
           (fills-one refl, (fills-any refl, tt)),
         ),
       );
-      sets = (ids-ascend level e.ids, (tt, (members-ascend level e.members, (tt, (tt, tt)))));
+      sets = (identifiers-ascend level e.identifiers, (tt, (members-ascend level e.members, (tt, (tt, tt)))));
+      left = identifiers-left level e.identifiers;
       own = λ item s. tt;
       unbroken = λ item fault s b. b;
     })

@@ -14,11 +14,11 @@ use Rattle.crs_shape.specs.Slots.{class_named, geodetic_slots, one, one_of, opti
 use Rattle.crs_value.specs.BadSystem.{IsOneOf, geodetic_dimensions, geographic_dimensions}
 use Rattle.crs_value.specs.Checks.{OfCrs, Own as BreaksOwn}
 use Rattle.crs_value.specs.CrsValues.{GeodeticParts}
-use Rattle.crs_value.specs.declared.frame.Frame.{Frame}
-use Rattle.crs_value.specs.declared.frame.Frame.TheVariants as frame
-use Rattle.crs_value.specs.declared.level.Level.{Level}
-use Rattle.crs_value.specs.declared.system_type.SystemType.{SystemType}
-use Rattle.crs_value.specs.declared.system_type.SystemType.TheVariants as types
+use Rattle.crs_value.specs.declared.values.frame.Frame.{Frame}
+use Rattle.crs_value.specs.declared.values.frame.Frame.TheVariants as frame
+use Rattle.crs_value.specs.declared.values.level.Level.{Level}
+use Rattle.crs_value.specs.declared.values.system_type.SystemType.{SystemType}
+use Rattle.crs_value.specs.declared.values.system_type.SystemType.TheVariants as types
 use Rattle.crs_value.specs.Reading.{those}
 use Rattle.crs_value.specs.Sound.{Each}
 use Rattle.crs_value.specs.SoundSingle.{IsGeodetic, IsGeodeticFrame}
@@ -39,12 +39,12 @@ use Rattle.crs_normal.proofs.MadeBehindLemmas.{AxisEach, IsFew, NamesSystem, Sho
 use Rattle.crs_normal.proofs.MadeCheckLemmas.{IsSystemSeen, has-axes, no-bad-systems}
 use Rattle.crs_normal.proofs.MadeFitLemmas.{fills-one, fills-optional, fills-some, fit-before, last-fits}
 use Rattle.crs_normal.proofs.MadeFrameLemmas.{geodetic-frame-made}
-use Rattle.crs_normal.proofs.MadeIdentLemmas.{ids-ascend}
+use Rattle.crs_normal.proofs.MadeIdentLemmas.{identifiers-ascend}
 use Rattle.crs_normal.proofs.MadeLeafLemmas.{text-made}
-use Rattle.crs_normal.proofs.MadeLemmas.{IsKept, Made, Run, RunsMade, Sees, alone, as-argument, classes, each-line, given, items_in, node-made, opt-line, sees, views}
+use Rattle.crs_normal.proofs.MadeLemmas.{IsKept, KeepsRuns, Made, Run, RunsMade, Sees, alone, as-argument, classes, each-line, given, items_in, node-made, opt-line, sees, views}
 use Rattle.crs_normal.proofs.MadePlaceLemmas.{ArePlaced}
 use Rattle.crs_normal.proofs.MadeMeridianLemmas.{meridian-argument}
-use Rattle.crs_normal.proofs.MadeTailLemmas.{IsTailSeen, NamesTail, RunsRise, has-tail, no-repeats, tail-fits, tail_runs, usages-ascend}
+use Rattle.crs_normal.proofs.MadeTailLemmas.{IsTailSeen, NamesTail, RunsRise, has-tail, no-repeats, tail-fits, tail-left, tail_runs, usages-ascend}
 
 -- ---- the frame as an argument, of one class or the other
 
@@ -78,6 +78,11 @@ pub frame-sets : (f : Frame) (n j : Item) (rest : List Run) → Each (λ d. Asce
     Each (λ d. Ascend (items_in d (alone class.Text n ∷ alone (geodetic_class f) j ∷ rest))) set_classes
 frame-sets (frame.Datum d) n j rest h = h
 frame-sets (frame.Ensemble e) n j rest h = h
+
+pub frame-left : (level : Level) (f : Frame) (n j : Item) (rest : List Run) → KeepsRuns level rest →
+    KeepsRuns level (alone class.Text n ∷ alone (geodetic_class f) j ∷ rest)
+frame-left level (frame.Datum d) n j rest h = h
+frame-left level (frame.Ensemble e) n j rest h = h
 
 -- what stands in a CRS or base with a prime meridian
 abbrev pub geodetic_classes : List Class
@@ -219,7 +224,7 @@ geodetic-allowed l level g few =
 
 pub end-sets : (level : Level) (g : GeodeticParts) →
     Each (λ d. Ascend (items_in d (meridian_run level g ∷ behind level g.system g.tail))) set_classes
-end-sets level g = (ids-ascend level g.tail.ids, (usages-ascend level (usages_of g.tail), (tt, (tt, (tt, tt)))))
+end-sets level g = (identifiers-ascend level g.tail.identifiers, (usages-ascend level (usages_of g.tail), (tt, (tt, (tt, tt)))))
 
 geodetic-runs-made : DecimalLaws → (level : Level) (c : Class) (keyword : List ℕ) (g : GeodeticParts) →
     IsRootClass g.system.system_type c keyword →
@@ -273,6 +278,8 @@ geodetic-kept l level c keyword g r few h = record {
       (geodetic-allowed l level g few);
   sets = frame-sets g.frame (text_item g.name) (item_frame (codes "DATUM") (norm_frame level g.frame))
       (meridian_run level g ∷ behind level g.system g.tail) (end-sets level g);
+  left = frame-left level g.frame (text_item g.name) (item_frame (codes "DATUM") (norm_frame level g.frame))
+      (meridian_run level g ∷ behind level g.system g.tail) (tail-left level g.tail);
   own = λ item s.
       let v = shown item s in
       let seen = system-seen l level c item g.system g.tail few v.1 in

@@ -11,8 +11,9 @@ use Rattle.crs_shape.specs.Shape.{Allowed}
 use Rattle.crs_shape.specs.ShapeFault.{class_of_kind}
 use Rattle.crs_shape.specs.Slots.{class_named, one_of, optional_of, slots_of, takes}
 use Rattle.crs_value.specs.Checks.{Own as BreaksOwn}
-use Rattle.crs_value.specs.declared.level.Level.{Level}
-use Rattle.crs_value.specs.declared.level.Level.TheVariants as levels
+use Rattle.crs_value.specs.Kept.{kept}
+use Rattle.crs_value.specs.KeptLaws.{kept-each, kept-made, kept-none}
+use Rattle.crs_value.specs.declared.values.level.Level.{Level}
 use Rattle.crs_value.specs.Reads.{single_of}
 use Rattle.crs_value.specs.Sound.{Each, IsIdent, IsText}
 use Rattle.crs_value.specs.Values.{IdentParts}
@@ -20,13 +21,14 @@ use Rattle.crs_normal.specs.DecimalLaws.{DecimalLaws}
 use Rattle.crs_normal.specs.Made.{IsMade}
 use Rattle.crs_normal.specs.Normal.{IsWritten}
 use Rattle.crs_normal.specs.NormalOwn.{Ascend, IsCode, Own, set_classes}
+use Rattle.crs_normal.specs.Ordered.{in_order}
 use Rattle.crs_normal.specs.SpelledItems.{code_item, opt, text_item, text_node}
 use Rattle.crs_normal.specs.SpelledUnits.{item_ident, set_idents}
 use Rattle.crs_normal.proofs.MadeAscendLemmas.{set-ascends}
 use Rattle.crs_normal.proofs.SetLemmas.{each-in_order}
 use Rattle.crs_normal.proofs.MadeFitLemmas.{fills-one, fills-optional, runs-fit}
 use Rattle.crs_normal.proofs.MadeLeafLemmas.{IsCodeKind, code-kind, code-made, code_kind, text-made}
-use Rattle.crs_normal.proofs.MadeLemmas.{IsKept, Made, Run, alone, as-argument, given, items_in, line, lines, node-made, opt-line}
+use Rattle.crs_normal.proofs.MadeLemmas.{IsKept, Keeps, KeepsRuns, Made, Run, alone, as-argument, given, items_in, keeps-none, line, lines, node-made, opt-line}
 
 -- ---- nodes of one text
 
@@ -43,6 +45,7 @@ text-node-made level c keyword raw letters known written allowed own unbroken h 
       made = ((text-made level 0 c raw h, tt), tt);
       allowed = allowed;
       sets = (tt, (tt, (tt, (tt, (tt, tt)))));
+      left = keeps-none level;
       own = λ item s. own item;
       unbroken = λ item fault s. unbroken item fault;
     })
@@ -93,6 +96,17 @@ no-sets i text word = (tt, (tt, (tt, (tt, (tt, tt)))))
 no-sets i word number = (tt, (tt, (tt, (tt, (tt, tt)))))
 no-sets i word text = (tt, (tt, (tt, (tt, (tt, tt)))))
 no-sets i word word = (tt, (tt, (tt, (tt, (tt, tt)))))
+
+none-left : (level : Level) (i : IdentParts) (k v : Kind) → KeepsRuns level (ident_runs i k v)
+none-left level i number number = keeps-none level
+none-left level i number text = keeps-none level
+none-left level i number word = keeps-none level
+none-left level i text number = keeps-none level
+none-left level i text text = keeps-none level
+none-left level i text word = keeps-none level
+none-left level i word number = keeps-none level
+none-left level i word text = keeps-none level
+none-left level i word word = keeps-none level
 
 abbrev code_classes : List Class
 code_classes = class.Number ∷ class.Text ∷ []
@@ -187,6 +201,7 @@ ident-kept l level i k v h a b = record {
     ),
   );
   sets = no-sets i k v;
+  left = none-left level i k v;
   own = λ item s. subst (λ js. Each IsCode (single_of (skip 1 js) ++ single_of (skip 2 js))) (sym s.are)
       (codes-are i k v s.start a b);
   unbroken = λ item fault s b. b;
@@ -236,23 +251,32 @@ each-item : {A : Type 0} (P : A → Type 0) (Q : Item → Type 0) (spell : A →
 each-item P Q spell [] h f = tt
 each-item P Q spell (x ∷ xs) h f = (f x h.0, each-item P Q spell xs h.1 f)
 
-pub idents-sound : (level : Level) (ids : List IdentParts) → Each IsIdent ids → Each IsIdent (set_idents level ids)
+pub idents-sound : (level : Level) (identifiers : List IdentParts) → Each IsIdent identifiers → Each IsIdent (set_idents level identifiers)
 unfolding set_idents
-idents-sound levels.Full ids h = each-in_order (λ i. item_text (item_ident i)) IsIdent ids h
+idents-sound level identifiers h =
+    each-in_order (λ i. item_text (item_ident i)) IsIdent (kept level identifiers) (kept-each (λ l. IsIdent) level identifiers h)
 
 -- the run of identifiers in a node where their keyword names them
 abbrev pub ids_run : Level → List IdentParts → Run
-ids_run level ids = record { of = class.Identifier; items = map item_ident (set_idents level ids) }
+ids_run level identifiers = record { of = class.Identifier; items = map item_ident (set_idents level identifiers) }
 
-pub ids-made : DecimalLaws → (level : Level) (most : ℕ) (parent : Class) (ids : List IdentParts) → 2 ≤ most →
+pub identifiers-made : DecimalLaws → (level : Level) (most : ℕ) (parent : Class) (identifiers : List IdentParts) → 2 ≤ most →
     class_named parent (codes "ID") ≡ Some class.Identifier →
-    Each IsIdent ids → Each (Made level most parent class.Identifier) (map item_ident (set_idents level ids))
-ids-made l level most parent ids deep named h =
-    each-item IsIdent (Made level most parent class.Identifier) item_ident (set_idents level ids)
-    (idents-sound level ids h)
+    Each IsIdent identifiers → Each (Made level most parent class.Identifier) (map item_ident (set_idents level identifiers))
+identifiers-made l level most parent identifiers deep named h =
+    each-item IsIdent (Made level most parent class.Identifier) item_ident (set_idents level identifiers)
+    (idents-sound level identifiers h)
     (λ i q. as-argument level 2 most parent class.Identifier (item_ident i) deep named (ident-made l level i q))
 
 -- nothing stands behind them that is one
-pub ids-ascend : (level : Level) (ids : List IdentParts) → Ascend (map item_ident (set_idents level ids) ++ [])
+pub identifiers-ascend : (level : Level) (identifiers : List IdentParts) → Ascend (map item_ident (set_idents level identifiers) ++ [])
 unfolding set_idents
-ids-ascend levels.Full ids = set-ascends item_ident ids
+identifiers-ascend level identifiers = set-ascends item_ident (kept level identifiers)
+
+-- and the level keeps them all, beside no usage and no remark
+pub identifiers-left : (level : Level) (identifiers : List IdentParts) → Keeps level (map item_ident (set_idents level identifiers) ++ []) [] []
+unfolding set_idents
+identifiers-left level identifiers = (
+  kept-made (λ is. map item_ident (in_order (λ i. item_text (item_ident i)) is) ++ []) refl level identifiers,
+  (kept-none level, (kept-none level, tt)),
+)

@@ -14,7 +14,7 @@ use Rattle.crs_shape.specs.declared.class.Class.TheVariants as class
 use denote.Enum.Bare.{sameb}
 use Rattle.crs_shape.specs.contracts.class.Class.{the_type}
 use Rattle.crs_shape.specs.ShapeFault.{class_of_kind}
-use Rattle.crs_value.specs.declared.level.Level.{Level}
+use Rattle.crs_value.specs.declared.values.level.Level.{Level}
 use Rattle.crs_value.specs.Sound.{IsText}
 use Rattle.crs_normal.specs.DecimalLaws.{DecimalLaws}
 use Rattle.crs_normal.specs.Normal.{IsNumberIn, IsSingleIn, IsWordIn}

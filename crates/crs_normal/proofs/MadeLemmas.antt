@@ -6,14 +6,16 @@ use Rattle.crs_text.specs.Refusal.{RefusedAt}
 use Rattle.crs_text.specs.Tokens.{IsWord}
 use Rattle.crs_text.specs.Written.{AreFormed, AreAllFormed, at_place, at_places, item_text}
 use Rattle.crs_shape.specs.declared.class.Class.{Class}
+use Rattle.crs_shape.specs.declared.class.Class.TheVariants as class
 use Rattle.crs_shape.specs.Keywords.{is_keyword}
 use Rattle.crs_shape.specs.Shape.{Allowed}
 use Rattle.crs_shape.specs.ShapeFault.{class_in}
 use Rattle.crs_shape.specs.Shaped.{Shaped, AreShaped}
 use Rattle.crs_shape.specs.Slots.{is_class, slots_of}
 use Rattle.crs_value.specs.Checks.{AtClass, Breaks, BreaksAmong, Own as BreaksOwn}
-use Rattle.crs_value.specs.declared.level.Level.{Level}
-use Rattle.crs_value.specs.declared.level.Level.TheVariants as levels
+use Rattle.crs_value.specs.Kept.{kept}
+use Rattle.crs_value.specs.KeptLaws.{kept-none, kept-where_none}
+use Rattle.crs_value.specs.declared.values.level.Level.{Level}
 use Rattle.crs_value.specs.Reading.{is_same, those}
 use Rattle.crs_normal.specs.Made.{IsMade}
 use Rattle.crs_normal.specs.Normal.{AreNormalIn, AtLevel, IsNormalIn, IsWritten}
@@ -205,6 +207,17 @@ pub record Sees (c : Class) (runs : List Run) (item : Item) : Type 0 where
   pub are : arguments item ≡ at_places start (lines runs)
   pub view : (e : Class) → ArePlaced (those c e (arguments item)) (items_in e runs)
 
+-- the level keeps all of these identifiers, usages and remarks
+abbrev pub Keeps : Level → List Item → List Item → List Item → Type 0
+Keeps level identifiers usages remarks = Each (λ js. kept level js ≡ js) (identifiers ∷ usages ∷ remarks ∷ [])
+
+pub keeps-none : (level : Level) → Keeps level [] [] []
+keeps-none level = (kept-none level, (kept-none level, (kept-none level, tt)))
+
+abbrev pub KeepsRuns : Level → List Run → Type 0
+KeepsRuns level runs =
+    Keeps level (items_in class.Identifier runs) (items_in class.Usage runs) (items_in class.Remark runs)
+
 -- what a node with these arguments needs
 pub record IsKept (level : Level) (most : ℕ) (c : Class) (keyword : List ℕ) (runs : List Run) : Type 0 where
   pub letters : IsWord keyword
@@ -213,11 +226,25 @@ pub record IsKept (level : Level) (most : ℕ) (c : Class) (keyword : List ℕ) 
   pub made : RunsMade level most c runs
   pub allowed : Allowed (slots_of c) (classes runs)
   pub sets : Each (λ d. Ascend (items_in d runs)) set_classes
+  pub left : KeepsRuns level runs
   pub own : (item : Item) → Sees c runs item → Own c item
   pub unbroken : (item : Item) (fault : RefusedAt) → Sees c runs item → ¬ (BreaksOwn c item fault)
 
-pub at-level : (level : Level) (c : Class) (item : Item) → AtLevel level c item
-at-level levels.Full c item = tt
+none-placed : (items js : List Item) → ArePlaced items js → js ≡ [] → items ≡ []
+none-placed [] js h none = refl
+none-placed (item ∷ items) [] h none = absurd h
+none-placed (item ∷ items) (j ∷ js) h none = absurd (cc)
+
+pub at-level : (level : Level) (c : Class) (runs : List Run) (item : Item) → Sees c runs item → KeepsRuns level runs →
+    AtLevel level c item
+at-level level c runs item s left =
+    (one class.Identifier left.0, (one class.Usage left.1.0, (one class.Remark left.1.1.0, tt)))
+  where
+    one : (d : Class) → kept level (items_in d runs) ≡ items_in d runs →
+        kept level (those c d (arguments item)) ≡ those c d (arguments item)
+    one d =
+        kept-where_none level (items_in d runs) (those c d (arguments item))
+        (none-placed (those c d (arguments item)) (items_in d runs) (s.view d))
 
 pub sees-by : (N : Class → Class → Item → Type 0) (most : ℕ) (c : Class) (keyword : List ℕ) (first : Item) (others : Siblings) (runs : List Run)
     (p : ℕ) →
@@ -293,7 +320,7 @@ node-at level most c keyword first others runs (d ∷ ds) p same q h k =
           (all-unbroken (IsNormalIn level) most c fault s ds others h.1) (k.unbroken i fault look) b;
       normal = λ parent. (
         k.written,
-        at-level level c i,
+        at-level level c runs i look k.left,
         k.own i look,
         each-set c runs i set_classes look k.sets,
         at-class (λ e. IsNormalIn level c e (at_place (p + length keyword + 1) first))

@@ -12,9 +12,9 @@ use Rattle.crs_shape.specs.declared.class.Class.TheVariants as class
 use Rattle.crs_shape.specs.Keywords.{is_keyword}
 use Rattle.crs_shape.specs.Slots.{class_named, slots_of}
 use Rattle.crs_value.specs.Checks.{Own as BreaksOwn}
-use Rattle.crs_value.specs.declared.level.Level.{Level}
-use Rattle.crs_value.specs.declared.level.Level.TheVariants as levels
-use Rattle.crs_value.specs.declared.unit_kind.UnitKind.TheVariants as kinds
+use Rattle.crs_value.specs.KeptLaws.{kept-none}
+use Rattle.crs_value.specs.declared.values.level.Level.{Level}
+use Rattle.crs_value.specs.declared.values.unit_kind.UnitKind.TheVariants as kinds
 use Rattle.crs_value.specs.Reading.{those}
 use Rattle.crs_value.specs.Sound.{Each, IsIdent, IsText}
 use Rattle.crs_value.specs.SoundFrames.{IsMeridian}
@@ -27,7 +27,8 @@ use Rattle.crs_normal.specs.SpelledItems.{each, node_of, number_item, opt, text_
 use Rattle.crs_normal.specs.SpelledUnits.{item_ident, item_unit, norm_units, set_idents, whole_value}
 use Rattle.crs_normal.proofs.MadeEllipsoidLemmas.{given-unit, placed-none}
 use Rattle.crs_normal.proofs.MadeFitLemmas.{fills-any, fills-one, fills-optional, runs-fit}
-use Rattle.crs_normal.proofs.MadeIdentLemmas.{ids-ascend, ids-made, ids_run}
+use Rattle.crs_normal.proofs.IdentLemmas.{none-form}
+use Rattle.crs_normal.proofs.MadeIdentLemmas.{identifiers-ascend, identifiers-left, identifiers-made, ids_run}
 use Rattle.crs_normal.proofs.MadeLeafLemmas.{number-made, text-made}
 use Rattle.crs_normal.proofs.MadeLemmas.{Made, Run, Sees, alone, as-argument, each-line, given, node-made, opt-line}
 use Rattle.crs_normal.proofs.MadePlaceLemmas.{ArePlaced}
@@ -51,15 +52,15 @@ plain-zero l v n e =
 -- ---- prime meridians, whose unit isn't written at longitude 0
 
 abbrev meridian_runs : Level → List ℕ → Value → Option UnitParts → List IdentParts → List Run
-meridian_runs level name longitude unit ids =
+meridian_runs level name longitude unit identifiers =
     alone class.Text (text_item name) ∷ alone class.Number (number_item longitude) ∷
-    record { of = class.AngleUnit; items = given item_unit unit } ∷ ids_run level ids ∷ []
+    record { of = class.AngleUnit; items = given item_unit unit } ∷ ids_run level identifiers ∷ []
 
 unit-if-any : DecimalLaws → (level : Level) (name : List ℕ) (v : Value) (unit : Option UnitParts)
-    (ids : List IdentParts) (item : Item) → IsNormal v →
-    (is_zero v ≡ true → unit ≡ None) → Sees class.PrimeMeridian (meridian_runs level name v unit ids) item →
+    (identifiers : List IdentParts) (item : Item) → IsNormal v →
+    (is_zero v ≡ true → unit ≡ None) → Sees class.PrimeMeridian (meridian_runs level name v unit identifiers) item →
     HasUnitIfAny item
-unit-if-any l level name v unit ids item n none s e =
+unit-if-any l level name v unit identifiers item n none s e =
     let p : plain v ∷ [] ≡ codes "0" ∷ [] =
     sym (placed-raw v (those class.PrimeMeridian class.Number (arguments item)) (s.view class.Number)) ∙ e in
     let q : plain v ≡ codes "0" = cc in
@@ -69,17 +70,17 @@ unit-if-any l level name v unit ids item n none s e =
     (s.view class.AngleUnit))
 
 meridian-parts-made : DecimalLaws →
-    (level : Level) (name : List ℕ) (v : Value) (unit : Option UnitParts) (ids : List IdentParts) →
+    (level : Level) (name : List ℕ) (v : Value) (unit : Option UnitParts) (identifiers : List IdentParts) →
     IsText name → IsNormal v → (is_zero v ≡ true → unit ≡ None) →
     Each (Made level 3 class.PrimeMeridian class.AngleUnit) (given item_unit unit) →
-    Each IsIdent ids → (p : ℕ) →
+    Each IsIdent identifiers → (p : ℕ) →
     IsMade level class.PrimeMeridian 4 (at_place p (node_of (codes "PRIMEM") (text_item name)
-    (More (number_item v) (opt item_unit unit (each item_ident (set_idents level ids) End)))))
+    (More (number_item v) (opt item_unit unit (each item_ident (set_idents level identifiers) End)))))
 unfolding BreaksOwn class_named is_keyword
-meridian-parts-made l level name v unit ids t n none u h =
+meridian-parts-made l level name v unit identifiers t n none u h =
     node-made level 3 class.PrimeMeridian (codes "PRIMEM") (text_item name)
-    (More (number_item v) (opt item_unit unit (each item_ident (set_idents level ids) End)))
-    (meridian_runs level name v unit ids) (simp (opt-line, each-line)) (record {
+    (More (number_item v) (opt item_unit unit (each item_ident (set_idents level identifiers) End)))
+    (meridian_runs level name v unit identifiers) (simp (opt-line, each-line)) (record {
       letters = (refl, refl);
       known = refl;
       written = refl;
@@ -87,13 +88,14 @@ meridian-parts-made l level name v unit ids t n none u h =
         (text-made level 3 class.PrimeMeridian name t, tt),
         (
           (number-made l level 3 class.PrimeMeridian v n, tt),
-          (u, (ids-made l level 3 class.PrimeMeridian ids (omega arith) refl h, tt)),
+          (u, (identifiers-made l level 3 class.PrimeMeridian identifiers (omega arith) refl h, tt)),
         ),
       );
-      allowed = runs-fit (slots_of class.PrimeMeridian) (meridian_runs level name v unit ids)
+      allowed = runs-fit (slots_of class.PrimeMeridian) (meridian_runs level name v unit identifiers)
           (fills-one refl, (fills-one refl, (fills-optional item_unit unit refl, (fills-any refl, tt))));
-      sets = (ids-ascend level ids, (tt, (tt, (tt, (tt, tt)))));
-      own = λ item s. unit-if-any l level name v unit ids item n none s;
+      sets = (identifiers-ascend level identifiers, (tt, (tt, (tt, (tt, tt)))));
+      left = identifiers-left level identifiers;
+      own = λ item s. unit-if-any l level name v unit identifiers item n none s;
       unbroken = λ item fault s b. b;
     })
 
@@ -112,24 +114,28 @@ pub meridian-made : DecimalLaws → (level : Level) (m : MeridianParts) → IsMe
 unfolding class_named is_keyword
 meridian-made l level m h =
     meridian-parts-made l level m.name m.longitude (if is_zero m.longitude then None else norm_units level kinds.Angle
-    m.unit) m.ids h.name h.longitude
+    m.unit) m.identifiers h.name h.longitude
     (unit-at (is_zero m.longitude) (norm_units level kinds.Angle m.unit))
     (given-at level (is_zero m.longitude) (norm_units level kinds.Angle m.unit)
     (given-unit l level 3 class.PrimeMeridian class.AngleUnit kinds.Angle m.unit (omega arith) refl refl h.unit))
-    h.ids
+    h.identifiers
 
 greenwich-name : IsUtf8 (codes "Greenwich")
 unfolding lib.Utf8.encode
 greenwich-name = (codes "Greenwich", (refl, refl))
 
+abbrev greenwich-with : List IdentParts → MeridianParts
+greenwich-with identifiers = record { name = codes "Greenwich"; longitude = whole_value 0; unit = None; identifiers = identifiers }
+
 pub greenwich-made : DecimalLaws → (level : Level) (p : ℕ) →
     IsMade level class.PrimeMeridian 4 (at_place p (item_meridian greenwich))
-unfolding set_idents
-greenwich-made l levels.Full p =
-    meridian-parts-made l levels.Full (codes "Greenwich") (whole_value 0) None [] (
+greenwich-made l level p =
+    subst (λ identifiers. IsMade level class.PrimeMeridian 4 (at_place p (item_meridian (greenwich-with identifiers))))
+    (none-form level [] (kept-none level))
+    (meridian-parts-made l level (codes "Greenwich") (whole_value 0) None [] (
       (codes "Greenwich", refl),
       greenwich-name,
-    ) refl (λ e. refl) tt tt p
+    ) refl (λ e. refl) tt tt p)
 
 -- a prime meridian as an argument, which is Greenwich where none is written
 pub meridian-argument : DecimalLaws → (level : Level) (most : ℕ) (parent : Class) (m : Option MeridianParts) →

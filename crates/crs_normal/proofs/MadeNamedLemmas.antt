@@ -11,7 +11,7 @@ use Rattle.crs_shape.specs.Shape.{Allowed}
 use Rattle.crs_shape.specs.Slots.{class_named, named_slots, slots_of}
 use Rattle.crs_value.specs.Checks.{Own as BreaksOwn}
 use Rattle.crs_value.specs.ConversionValues.{GeoidModelParts, MethodParts}
-use Rattle.crs_value.specs.declared.level.Level.{Level}
+use Rattle.crs_value.specs.declared.values.level.Level.{Level}
 use Rattle.crs_value.specs.Sound.{Each, IsIdent, IsText}
 use Rattle.crs_value.specs.SoundConversion.{IsGeoidModel, IsMethod}
 use Rattle.crs_value.specs.SoundFrames.{IsMember}
@@ -25,7 +25,7 @@ use Rattle.crs_normal.specs.SpelledFrames.{item_member, norm_member}
 use Rattle.crs_normal.specs.SpelledItems.{each, node_of, text_item}
 use Rattle.crs_normal.specs.SpelledUnits.{item_ident, set_idents}
 use Rattle.crs_normal.proofs.MadeFitLemmas.{fills-any, fills-one, runs-fit}
-use Rattle.crs_normal.proofs.MadeIdentLemmas.{ids-ascend, ids-made, ids_run}
+use Rattle.crs_normal.proofs.MadeIdentLemmas.{identifiers-ascend, identifiers-left, identifiers-made, ids_run}
 use Rattle.crs_normal.proofs.MadeLeafLemmas.{text-made}
 use Rattle.crs_normal.proofs.MadeLemmas.{Run, alone, classes, each-line, node-made}
 
@@ -40,22 +40,23 @@ record IsNamed (c : Class) (keyword : List ℕ) : Type 0 where
   names_id : class_named c (codes "ID") ≡ Some class.Identifier
 
 abbrev named_runs : Level → List ℕ → List IdentParts → List Run
-named_runs level name ids = alone class.Text (text_item name) ∷ ids_run level ids ∷ []
+named_runs level name identifiers = alone class.Text (text_item name) ∷ ids_run level identifiers ∷ []
 
-named-made : DecimalLaws → (level : Level) (c : Class) (keyword name : List ℕ) (ids : List IdentParts) →
-    IsNamed c keyword → IsText name → Each IsIdent ids →
-    (p : ℕ) → IsMade level c 3 (at_place p (node_of keyword (text_item name) (each item_ident (set_idents level ids)
+named-made : DecimalLaws → (level : Level) (c : Class) (keyword name : List ℕ) (identifiers : List IdentParts) →
+    IsNamed c keyword → IsText name → Each IsIdent identifiers →
+    (p : ℕ) → IsMade level c 3 (at_place p (node_of keyword (text_item name) (each item_ident (set_idents level identifiers)
     End)))
-named-made l level c keyword name ids n t h =
-    node-made level 2 c keyword (text_item name) (each item_ident (set_idents level ids) End)
-    (named_runs level name ids) (simp each-line) (record {
+named-made l level c keyword name identifiers n t h =
+    node-made level 2 c keyword (text_item name) (each item_ident (set_idents level identifiers) End)
+    (named_runs level name identifiers) (simp each-line) (record {
       letters = n.letters;
       known = n.known;
       written = n.written;
-      made = ((text-made level 2 c name t, tt), (ids-made l level 2 c ids (omega arith) n.names_id h, tt));
-      allowed = subst (λ slots. Allowed slots (classes (named_runs level name ids))) (sym n.slots)
-          (runs-fit named_slots (named_runs level name ids) (fills-one refl, (fills-any refl, tt)));
-      sets = (ids-ascend level ids, (tt, (tt, (tt, (tt, tt)))));
+      made = ((text-made level 2 c name t, tt), (identifiers-made l level 2 c identifiers (omega arith) n.names_id h, tt));
+      allowed = subst (λ slots. Allowed slots (classes (named_runs level name identifiers))) (sym n.slots)
+          (runs-fit named_slots (named_runs level name identifiers) (fills-one refl, (fills-any refl, tt)));
+      sets = (identifiers-ascend level identifiers, (tt, (tt, (tt, (tt, tt)))));
+      left = identifiers-left level identifiers;
       own = λ item s. n.own item;
       unbroken = λ item fault s. n.unbroken item fault;
     })
@@ -98,13 +99,13 @@ is-geoid-model = record {
 
 pub member-made : DecimalLaws → (level : Level) (m : MemberParts) → IsMember m → (p : ℕ) →
     IsMade level class.Member 3 (at_place p (item_member (norm_member level m)))
-member-made l level m h = named-made l level class.Member (codes "MEMBER") m.name m.ids is-member h.name h.ids
+member-made l level m h = named-made l level class.Member (codes "MEMBER") m.name m.identifiers is-member h.name h.identifiers
 
 pub method-made : DecimalLaws → (level : Level) (m : MethodParts) → IsMethod m → (p : ℕ) →
     IsMade level class.Method 3 (at_place p (item_method (norm_method level m)))
-method-made l level m h = named-made l level class.Method (codes "METHOD") m.name m.ids is-method h.name h.ids
+method-made l level m h = named-made l level class.Method (codes "METHOD") m.name m.identifiers is-method h.name h.identifiers
 
 pub geoid-model-made : DecimalLaws → (level : Level) (g : GeoidModelParts) → IsGeoidModel g → (p : ℕ) →
     IsMade level class.GeoidModel 3 (at_place p (item_geoid_model (norm_geoid_model level g)))
-geoid-model-made l level g h = named-made l level class.GeoidModel (codes "GEOIDMODEL") g.name g.ids is-geoid-model
-    h.name h.ids
+geoid-model-made l level g h = named-made l level class.GeoidModel (codes "GEOIDMODEL") g.name g.identifiers is-geoid-model
+    h.name h.identifiers

@@ -10,10 +10,10 @@ use Rattle.crs_shape.specs.Slots.{class_named, one, optional, slots_of, some, ta
 use Rattle.crs_value.specs.BadSystem.{projected_dimensions}
 use Rattle.crs_value.specs.Checks.{OfCrs, Own as BreaksOwn}
 use Rattle.crs_value.specs.CrsValues.{BaseParts, ProjectedParts}
-use Rattle.crs_value.specs.declared.level.Level.{Level}
-use Rattle.crs_value.specs.declared.system_type.SystemType.{SystemType}
-use Rattle.crs_value.specs.declared.system_type.SystemType.TheVariants as types
-use Rattle.crs_value.specs.declared.unit_kind.UnitKind.TheVariants as kinds
+use Rattle.crs_value.specs.declared.values.level.Level.{Level}
+use Rattle.crs_value.specs.declared.values.system_type.SystemType.{SystemType}
+use Rattle.crs_value.specs.declared.values.system_type.SystemType.TheVariants as types
+use Rattle.crs_value.specs.declared.values.unit_kind.UnitKind.TheVariants as kinds
 use Rattle.crs_value.specs.Reading.{those}
 use Rattle.crs_value.specs.Sound.{Each}
 use Rattle.crs_value.specs.SoundSingle.{IsBase, IsProjected}
@@ -32,12 +32,12 @@ use Rattle.crs_normal.proofs.MadeCheckLemmas.{IsSystemSeen, has-axes, no-bad-sys
 use Rattle.crs_normal.proofs.MadeConversionLemmas.{conversion-made}
 use Rattle.crs_normal.proofs.MadeEllipsoidLemmas.{given-unit}
 use Rattle.crs_normal.proofs.MadeFitLemmas.{fills-any, fills-one, fills-optional, fills-some, fit-before, last-fits, runs-fit}
-use Rattle.crs_normal.proofs.MadeGeodeticLemmas.{end_classes, frame-argument, frame-sets, frame-shows, frame-taken, geodetic_classes, meridian-there}
-use Rattle.crs_normal.proofs.MadeIdentLemmas.{ids-ascend, ids-made, ids_run}
+use Rattle.crs_normal.proofs.MadeGeodeticLemmas.{end_classes, frame-argument, frame-left, frame-sets, frame-shows, frame-taken, geodetic_classes, meridian-there}
+use Rattle.crs_normal.proofs.MadeIdentLemmas.{identifiers-ascend, identifiers-left, identifiers-made, ids_run}
 use Rattle.crs_normal.proofs.MadeLeafLemmas.{text-made}
 use Rattle.crs_normal.proofs.MadeLemmas.{IsKept, Run, RunsMade, alone, as-argument, classes, each-line, given, node-made, opt-line, sees, views}
 use Rattle.crs_normal.proofs.MadeMeridianLemmas.{meridian-argument}
-use Rattle.crs_normal.proofs.MadeTailLemmas.{IsTailSeen, RunsRise, has-tail, no-repeats, tail-fits, tail_runs, usages-ascend}
+use Rattle.crs_normal.proofs.MadeTailLemmas.{IsTailSeen, RunsRise, has-tail, no-repeats, tail-fits, tail-left, tail_runs, usages-ascend}
 
 -- ---- base CRSs
 
@@ -46,7 +46,7 @@ abbrev base_rest : Level → BaseParts → List Run
 base_rest level b =
     record { of = class.PrimeMeridian; items = given item_meridian (norm_meridian level b.meridian) } ∷
     record { of = class.AngleUnit; items = given item_unit (norm_units level kinds.Angle b.unit) } ∷
-    ids_run level b.ids ∷ []
+    ids_run level b.identifiers ∷ []
 
 abbrev base_runs : Level → BaseParts → List Run
 base_runs level b =
@@ -59,7 +59,7 @@ unfolding BreaksOwn class_named is_keyword
 base-made l level b h =
     node-made level 5 class.BaseCrs (codes "BASEGEOGCRS") (text_item b.name)
     (More (item_frame (codes "DATUM") (norm_frame level b.frame)) (opt item_meridian (norm_meridian level b.meridian)
-    (opt item_unit (norm_units level kinds.Angle b.unit) (each item_ident (set_idents level b.ids) End))))
+    (opt item_unit (norm_units level kinds.Angle b.unit) (each item_ident (set_idents level b.identifiers) End))))
     (base_runs level b) (simp (opt-line, each-line)) (record {
       letters = (refl, refl);
       known = refl;
@@ -76,7 +76,7 @@ base-made l level b h =
             meridian-argument l level 5 class.BaseCrs b.meridian (omega arith) refl h.meridian,
             (
               given-unit l level 5 class.BaseCrs class.AngleUnit kinds.Angle b.unit (omega arith) refl refl h.unit,
-              (ids-made l level 5 class.BaseCrs b.ids (omega arith) refl h.ids, tt),
+              (identifiers-made l level 5 class.BaseCrs b.identifiers (omega arith) refl h.identifiers, tt),
             ),
           ),
         ),
@@ -93,7 +93,9 @@ base-made l level b h =
       );
       sets = frame-sets b.frame (text_item b.name) (item_frame (codes "DATUM") (norm_frame level b.frame))
           (base_rest level b)
-          (ids-ascend level b.ids, (tt, (tt, (tt, (tt, tt)))));
+          (identifiers-ascend level b.identifiers, (tt, (tt, (tt, (tt, tt)))));
+      left = frame-left level b.frame (text_item b.name) (item_frame (codes "DATUM") (norm_frame level b.frame))
+          (base_rest level b) (identifiers-left level b.identifiers);
       own = λ item s.
           meridian-there level b.meridian (those class.BaseCrs class.PrimeMeridian (arguments item))
           (frame-shows class.BaseCrs item (text_item b.name) (item_frame (codes "DATUM") (norm_frame level b.frame))
@@ -201,7 +203,8 @@ projected-kept l level g few h = record {
   written = refl;
   made = projected-runs-made l level g few h;
   allowed = projected-allowed l level g few;
-  sets = (ids-ascend level g.tail.ids, (usages-ascend level (usages_of g.tail), (tt, (tt, (tt, tt)))));
+  sets = (identifiers-ascend level g.tail.identifiers, (usages-ascend level (usages_of g.tail), (tt, (tt, (tt, tt)))));
+  left = tail-left level g.tail;
   own = λ item s.
       let v = views class.ProjectedCrs (projected_runs level g) item crs_classes s in (
         has-axes class.ProjectedCrs item g.system.system_type g.system.dimension

@@ -19,9 +19,9 @@ use Rattle.crs_value.specs.BadUnit.{asked_kind}
 use Rattle.crs_value.specs.UnknownWord.{UnknownType}
 use Rattle.crs_value.specs.Break.{AnyOf}
 use Rattle.crs_value.specs.Checks.{Own as BreaksOwn}
-use Rattle.crs_value.specs.declared.level.Level.{Level}
-use Rattle.crs_value.specs.declared.system_type.SystemType.{SystemType}
-use Rattle.crs_value.specs.declared.unit_kind.UnitKind.{UnitKind}
+use Rattle.crs_value.specs.declared.values.level.Level.{Level}
+use Rattle.crs_value.specs.declared.values.system_type.SystemType.{SystemType}
+use Rattle.crs_value.specs.declared.values.unit_kind.UnitKind.{UnitKind}
 use Rattle.crs_value.specs.Reading.{those}
 use Rattle.crs_value.specs.Reads.{ReadsType}
 use Rattle.crs_value.specs.Sound.{Each, IsAxis, IsAxisUnit, Suits}
@@ -36,7 +36,7 @@ use Rattle.crs_normal.specs.SpelledSystems.{axes_from, axis_at, is_at, item_axis
 use Rattle.crs_normal.specs.SpelledUnits.{item_ident, set_idents, whole_value}
 use Rattle.crs_normal.proofs.MadeAxisLemmas.{Fits, IsAxisItem, axis-made, axis-seen, whole-normal}
 use Rattle.crs_normal.proofs.MadeFitLemmas.{fills-any, fills-one, runs-fit}
-use Rattle.crs_normal.proofs.MadeIdentLemmas.{ids-ascend, ids-made, ids_run}
+use Rattle.crs_normal.proofs.MadeIdentLemmas.{identifiers-ascend, identifiers-left, identifiers-made, ids_run}
 use Rattle.crs_normal.proofs.MadeLeafLemmas.{number-made, word-made}
 use Rattle.crs_normal.proofs.MadeLemmas.{Made, Run, RunsMade, alone, as-argument, each-line, node-made, sees}
 use Rattle.crs_normal.proofs.MadePlaceLemmas.{ArePlaced}
@@ -198,7 +198,7 @@ axes-seen l level s k (item ∷ items) (a ∷ rest) p h low high =
 
 abbrev head_runs : Level → SystemParts → List Run
 head_runs level s = alone class.Word (word_item (system_word s.system_type)) ∷ alone class.Number
-    (number_item s.dimension) ∷ ids_run level s.ids ∷ []
+    (number_item s.dimension) ∷ ids_run level s.identifiers ∷ []
 
 head-runs-made : DecimalLaws → (level : Level) (s : SystemParts) → IsSystem s →
     RunsMade level 2 class.CoordinateSystem (head_runs level s)
@@ -213,7 +213,7 @@ head-runs-made l level s h = (
   ),
   (
     (number-made l level 2 class.CoordinateSystem s.dimension h.dimension, tt),
-    (ids-made l level 2 class.CoordinateSystem s.ids (omega arith) refl h.ids, tt),
+    (identifiers-made l level 2 class.CoordinateSystem s.identifiers (omega arith) refl h.identifiers, tt),
   ),
 )
 
@@ -229,7 +229,7 @@ pub head-made : DecimalLaws → (level : Level) (s : SystemParts) → IsSystem s
 unfolding BreaksOwn is_keyword
 head-made l level s h =
     node-made level 2 class.CoordinateSystem (codes "CS") (word_item (system_word s.system_type))
-    (More (number_item s.dimension) (each item_ident (set_idents level s.ids) End)) (head_runs level s)
+    (More (number_item s.dimension) (each item_ident (set_idents level s.identifiers) End)) (head_runs level s)
     (simp each-line) (record {
       letters = (refl, refl);
       known = refl;
@@ -239,7 +239,8 @@ head-made l level s h =
         fills-one refl,
         (fills-one refl, (fills-any refl, tt)),
       );
-      sets = (ids-ascend level s.ids, (tt, (tt, (tt, (tt, tt)))));
+      sets = (identifiers-ascend level s.identifiers, (tt, (tt, (tt, (tt, tt)))));
+      left = identifiers-left level s.identifiers;
       own = λ item v. tt;
       unbroken = λ item fault v b. known-type s.system_type (those class.CoordinateSystem class.Word (arguments item))
           fault (v.view class.Word) b;
@@ -254,7 +255,7 @@ pub head-seen : DecimalLaws → (level : Level) (s : SystemParts) → IsSystem s
     IsHeadItem s.system_type s.dimension (at_place p (item_head (norm_system level s)))
 head-seen l level s h p =
     let look = sees level 2 class.CoordinateSystem (codes "CS") (word_item (system_word s.system_type))
-    (More (number_item s.dimension) (each item_ident (set_idents level s.ids) End)) (head_runs level s) p
+    (More (number_item s.dimension) (each item_ident (set_idents level s.identifiers) End)) (head_runs level s) p
     (simp each-line) (head-runs-made l level s h) in
     record { words = look.view class.Word; numbers = look.view class.Number }
 

@@ -11,8 +11,10 @@ use Rattle.crs_shape.specs.ShapeFault.{class_in}
 use Rattle.crs_shape.specs.Slots.{any_of, class_named, slots_of, takes}
 use Rattle.crs_value.specs.Break.{AnyOf}
 use Rattle.crs_value.specs.Checks.{AtClass, Own as BreaksOwn, once}
-use Rattle.crs_value.specs.declared.level.Level.{Level}
-use Rattle.crs_value.specs.declared.level.Level.TheVariants as levels
+use Rattle.crs_value.specs.Kept.{kept, kept_one}
+use Rattle.crs_value.specs.KeptLaws.{kept-each, kept-if_some, kept-made, kept-made_one}
+use Rattle.crs_value.specs.declared.values.level.Level.{Level}
+use Rattle.crs_value.specs.declared.values.level.Level.TheVariants as levels
 use Rattle.crs_value.specs.Reading.{those}
 use Rattle.crs_value.specs.RepeatedPart.{IsRepeated, RepeatsAny}
 use Rattle.crs_value.specs.Sound.{Each, IsText}
@@ -22,20 +24,23 @@ use Rattle.crs_same.specs.SameUsages.{usages_of, with_bare}
 use Rattle.crs_normal.specs.DecimalLaws.{DecimalLaws}
 use Rattle.crs_normal.specs.Made.{IsMade}
 use Rattle.crs_normal.specs.NormalOwn.{Ascend, HasTail, Rise, rank}
+use Rattle.crs_normal.specs.Ordered.{in_order}
 use Rattle.crs_normal.specs.SpelledItems.{text_item, text_node}
-use Rattle.crs_normal.specs.SpelledUsages.{item_usage, norm_remark, norm_tail, norm_usage, set_usages, tail_items}
+use Rattle.crs_normal.specs.SpelledUnits.{item_ident, set_idents}
+use Rattle.crs_normal.specs.SpelledUsages.{item_usage, norm_tail, norm_usage, set_usages, tail_items}
 use Rattle.crs_normal.proofs.MadeAscendLemmas.{set-ascends, set-each}
 use Rattle.crs_normal.proofs.MadeFitLemmas.{fills-one, runs-fit, taken-more}
 use Rattle.crs_normal.proofs.MadeFrameLemmas.{not-repeated}
-use Rattle.crs_normal.proofs.MadeIdentLemmas.{given-made, ids-made, ids_run, text-node-made}
-use Rattle.crs_normal.proofs.MadeLemmas.{Made, Run, RunsMade, Sees, alone, as-argument, at-class, classes, each-line, given, line, lines, opt-line}
+use Rattle.crs_normal.proofs.MadeIdentLemmas.{given-made, identifiers-left, identifiers-made, ids_run, text-node-made}
+use Rattle.crs_normal.proofs.MadeLemmas.{Keeps, Made, Run, RunsMade, Sees, alone, as-argument, at-class, classes, each-line, given, line, lines, opt-line}
 use Rattle.crs_normal.proofs.MadePlaceLemmas.{ArePlaced, class-at}
 use Rattle.crs_normal.proofs.MadeUsageLemmas.{usage-made, usage-named}
+use Rattle.crs_normal.proofs.ViewLemmas.{each-so}
 
 -- ---- the usages, the bare parts being one more
 
 pub usages-sound : (t : TailParts) → IsTail t → Each IsUsage (usages_of t)
-usages-sound t h = by t.bare h.bare
+usages-sound t h = by t.bare_parts h.bare_parts
   where
     by : (bare : Option UsageParts) → IfSome bare IsUsage → Each IsUsage (with_bare bare t.usages)
     by None u = h.usages
@@ -45,14 +50,22 @@ usages-made : DecimalLaws → (level : Level) (most : ℕ) (parent : Class) (us 
     class_named parent (codes "USAGE") ≡ Some class.Usage → Each IsUsage us → Each (Made level most parent class.Usage)
     (map item_usage (set_usages level us))
 unfolding set_usages
-usages-made l levels.Full most parent us deep named h =
-    set-each norm_usage item_usage IsUsage (Made levels.Full most parent class.Usage) us h
-    (λ u q. as-argument levels.Full 5 most parent class.Usage (item_usage (norm_usage u)) deep
-    (usage-named parent u q.some named) (usage-made l levels.Full u q))
+usages-made l level most parent us deep named h =
+    set-each norm_usage item_usage (IsArgument level) (Made level most parent class.Usage) (kept level us)
+    (kept-each IsArgument level us (each-so IsUsage (IsArgument levels.Full) argument us h))
+    (λ u q. q)
+  where
+    IsArgument : Level → UsageParts → Type 0
+    IsArgument l u = Made l most parent class.Usage (item_usage (norm_usage u))
+
+    argument : (u : UsageParts) → IsUsage u → IsArgument levels.Full u
+    argument u q =
+        as-argument levels.Full 5 most parent class.Usage (item_usage (norm_usage u)) deep
+        (usage-named parent u q.some named) (usage-made l u q)
 
 pub usages-ascend : (level : Level) (us : List UsageParts) → Ascend (map item_usage (set_usages level us) ++ [])
 unfolding set_usages
-usages-ascend levels.Full us = set-ascends item_usage (map norm_usage us)
+usages-ascend level us = set-ascends item_usage (map norm_usage (kept level us))
 
 -- ---- the remark
 
@@ -65,17 +78,17 @@ remark-made level raw h =
     (λ item fault b. b) h
 
 remark-text : (level : Level) (remark : Option (List ℕ)) → IfSome remark IsText →
-    IfSome (norm_remark level remark) IsText
-remark-text levels.Full remark h = h
+    IfSome (kept_one level remark) IsText
+remark-text level remark h = kept-if_some (λ l. IsText) level remark h
 
 -- ---- the end of a CRS
 
-abbrev remark_items : Level → TailParts → List Item
-remark_items level t = given (text_node (codes "REMARK")) (norm_remark level t.remark)
+abbrev pub remark_items : Level → TailParts → List Item
+remark_items level t = given (text_node (codes "REMARK")) (kept_one level t.remark)
 
 abbrev pub tail_runs : Level → TailParts → List Run
 tail_runs level t =
-    record { of = class.Usage; items = map item_usage (set_usages level (usages_of t)) } ∷ ids_run level t.ids ∷
+    record { of = class.Usage; items = map item_usage (set_usages level (usages_of t)) } ∷ ids_run level t.identifiers ∷
     record { of = class.Remark; items = remark_items level t } ∷ []
 
 pub tail-lines : (level : Level) (t : TailParts) → tail_items (norm_tail level t) ≡ lines (tail_runs level t)
@@ -95,9 +108,9 @@ tail-runs-made l level most c t deep n h =
     let one : 1 ≤ most = omega arith in (
       usages-made l level most c (usages_of t) deep n.usage (usages-sound t h),
       (
-        ids-made l level most c t.ids two n.ident h.ids,
+        identifiers-made l level most c t.identifiers two n.ident h.identifiers,
         (
-          given-made level most c class.Remark IsText (text_node (codes "REMARK")) (norm_remark level t.remark)
+          given-made level most c class.Remark IsText (text_node (codes "REMARK")) (kept_one level t.remark)
               (remark-text level t.remark h.remark)
               (λ raw q. as-argument level 1 most c class.Remark (text_node (codes "REMARK") raw) one n.remark
               (remark-made level raw q)),
@@ -111,10 +124,23 @@ pub tail-fits : (cs : List Class) (level : Level) (t : TailParts) → takes (any
     takes (any_of cs) class.Remark ≡ true → AllTaken (any_of cs) (classes (tail_runs level t))
 tail-fits cs level t u i r =
     taken-more (any_of cs) class.Usage (map item_usage (set_usages level (usages_of t)))
-    (classes (ids_run level t.ids ∷ record { of = class.Remark; items = remark_items level t } ∷ [])) u
-    (taken-more (any_of cs) class.Identifier ((ids_run level t.ids).items)
+    (classes (ids_run level t.identifiers ∷ record { of = class.Remark; items = remark_items level t } ∷ [])) u
+    (taken-more (any_of cs) class.Identifier ((ids_run level t.identifiers).items)
     (classes (record { of = class.Remark; items = remark_items level t } ∷ [])) i
     (taken-more (any_of cs) class.Remark (remark_items level t) [] r tt))
+
+-- the level keeps all that is written at the end
+pub tail-left : (level : Level) (t : TailParts) → Keeps level (map item_ident (set_idents level t.identifiers) ++ [])
+    (map item_usage (set_usages level (usages_of t)) ++ []) (remark_items level t ++ [])
+unfolding set_usages
+tail-left level t = (
+  (identifiers-left level t.identifiers).0,
+  (
+    kept-made (λ us. map item_usage (in_order (λ u. item_text (item_usage u)) (map norm_usage us)) ++ []) refl level
+        (usages_of t),
+    (kept-made_one (λ remark. given (text_node (codes "REMARK")) remark ++ []) refl level t.remark, tt),
+  ),
+)
 
 -- ---- ranks never fall
 

@@ -14,9 +14,9 @@ use Rattle.crs_shape.specs.Slots.{class_named, slots_of, unit_slots}
 use Rattle.crs_value.specs.BadValue.{IsAboveZero, NotAbove}
 use Rattle.crs_value.specs.Break.{AnyOf}
 use Rattle.crs_value.specs.Checks.{OfUnit, Own as BreaksOwn}
-use Rattle.crs_value.specs.declared.level.Level.{Level}
-use Rattle.crs_value.specs.declared.unit_kind.UnitKind.{UnitKind}
-use Rattle.crs_value.specs.declared.unit_kind.UnitKind.TheVariants as kinds
+use Rattle.crs_value.specs.declared.values.level.Level.{Level}
+use Rattle.crs_value.specs.declared.values.unit_kind.UnitKind.{UnitKind}
+use Rattle.crs_value.specs.declared.values.unit_kind.UnitKind.TheVariants as kinds
 use Rattle.crs_value.specs.Reading.{those}
 use Rattle.crs_value.specs.Reads.{ReadsNumber}
 use Rattle.crs_value.specs.Sound.{IsUnit}
@@ -29,7 +29,7 @@ use Rattle.crs_normal.specs.NormalOwn.{Own}
 use Rattle.crs_normal.specs.SpelledItems.{each, number_item, text_item}
 use Rattle.crs_normal.specs.SpelledUnits.{item_ident, item_unit, set_idents}
 use Rattle.crs_normal.proofs.MadeFitLemmas.{fills-any, fills-one, runs-fit}
-use Rattle.crs_normal.proofs.MadeIdentLemmas.{ids-ascend, ids-made, ids_run}
+use Rattle.crs_normal.proofs.MadeIdentLemmas.{identifiers-ascend, identifiers-left, identifiers-made, ids_run}
 use Rattle.crs_normal.proofs.MadeLeafLemmas.{number-made, text-made}
 use Rattle.crs_normal.proofs.MadeLemmas.{IsKept, Run, alone, classes, each-line, node-made}
 use Rattle.crs_normal.proofs.MadePlaceLemmas.{ArePlaced}
@@ -116,11 +116,11 @@ unit-names-id other kind h = absurd h
 
 abbrev pub unit_runs : Level → UnitParts → List Run
 unit_runs level u = alone class.Text (text_item u.name) ∷ alone class.Number (number_item u.factor) ∷
-    ids_run level u.ids ∷ []
+    ids_run level u.identifiers ∷ []
 
 -- a unit in its one form, of this kind
 abbrev pub unit_as : Level → UnitKind → UnitParts → UnitParts
-unit_as level kind u = record { kind = kind; name = u.name; factor = u.factor; ids = set_idents level u.ids }
+unit_as level kind u = record { kind = kind; name = u.name; factor = u.factor; identifiers = set_idents level u.identifiers }
 
 pub unit-kept : DecimalLaws → (level : Level) (c : Class) (kind : UnitKind) (u : UnitParts) → IsKindIn c kind → IsUnit u →
     IsKept level 2 c (unit_word kind) (unit_runs level u)
@@ -132,12 +132,13 @@ unit-kept l level c kind u k h = record {
     (text-made level 2 c u.name h.name, tt),
     (
       (number-made l level 2 c u.factor h.factor, tt),
-      (ids-made l level 2 c u.ids (omega arith) (unit-names-id c kind k) h.ids, tt),
+      (identifiers-made l level 2 c u.identifiers (omega arith) (unit-names-id c kind k) h.identifiers, tt),
     ),
   );
   allowed = subst (λ slots. Allowed slots (classes (unit_runs level u))) (sym (unit-slots c kind k))
       (runs-fit unit_slots (unit_runs level u) (fills-one refl, (fills-one refl, (fills-any refl, tt))));
-  sets = (ids-ascend level u.ids, (tt, (tt, (tt, (tt, tt)))));
+  sets = (identifiers-ascend level u.identifiers, (tt, (tt, (tt, (tt, tt)))));
+  left = identifiers-left level u.identifiers;
   own = λ item s. unit-own c kind item k;
   unbroken = λ item fault s b.
       not-below l u.factor (those c class.Number (arguments item)) fault h.factor h.above_zero (s.view class.Number)
@@ -149,5 +150,5 @@ pub unit-made : DecimalLaws → (level : Level) (c : Class) (kind : UnitKind) (u
     IsMade level c 3 (at_place p (item_unit (unit_as level kind u)))
 unit-made l level c kind u k h =
     node-made level 2 c (unit_word kind) (text_item u.name) (More (number_item u.factor)
-    (each item_ident (set_idents level u.ids) End))
+    (each item_ident (set_idents level u.identifiers) End))
     (unit_runs level u) (simp each-line) (unit-kept l level c kind u k h)

@@ -9,8 +9,8 @@ use Rattle.crs_shape.specs.Keywords.{is_keyword}
 use Rattle.crs_shape.specs.ShapeFault.{class_in}
 use Rattle.crs_shape.specs.Slots.{class_named, slots_of}
 use Rattle.crs_value.specs.Checks.{Own as BreaksOwn}
-use Rattle.crs_value.specs.declared.level.Level.{Level}
-use Rattle.crs_value.specs.declared.level.Level.TheVariants as levels
+use Rattle.crs_value.specs.declared.values.level.Level.{Level}
+use Rattle.crs_value.specs.declared.values.level.Level.TheVariants as levels
 use Rattle.crs_value.specs.Reading.{those}
 use Rattle.crs_value.specs.Sound.{Each, IsText}
 use Rattle.crs_value.specs.SoundUsages.{IsBox, IsExtent, IsUsage}
@@ -24,7 +24,7 @@ use Rattle.crs_normal.proofs.MadeEllipsoidLemmas.{length-argument, placed-some}
 use Rattle.crs_normal.proofs.MadeFitLemmas.{fills-one, fills-optional, runs-fit}
 use Rattle.crs_normal.proofs.MadeIdentLemmas.{given-made, text-node-made}
 use Rattle.crs_normal.proofs.MadeLeafLemmas.{number-made}
-use Rattle.crs_normal.proofs.MadeLemmas.{IsKept, Made, Run, alone, as-argument, given, lines, node-made, opt-line}
+use Rattle.crs_normal.proofs.MadeLemmas.{IsKept, Made, Run, alone, as-argument, given, keeps-none, lines, node-made, opt-line}
 
 scope-made : (level : Level) (raw : List ℕ) → IsText raw → (p : ℕ) →
     IsMade level class.Scope 1 (at_place p (text_node (codes "SCOPE") raw))
@@ -74,6 +74,7 @@ box-made l level b h =
         (fills-one refl, (fills-one refl, (fills-one refl, tt))),
       );
       sets = (tt, (tt, (tt, (tt, (tt, tt)))));
+      left = keeps-none level;
       own = λ item s. tt;
       unbroken = λ item fault s k. k;
     })
@@ -105,6 +106,7 @@ extent-made l level e h =
       allowed = runs-fit (slots_of class.VerticalExtent) (extent_runs level e)
           (fills-one refl, (fills-one refl, (fills-optional item_unit (Some (norm_length level e.unit)) refl, tt)));
       sets = (tt, (tt, (tt, (tt, (tt, tt)))));
+      left = keeps-none level;
       own = λ item s.
           placed-some (those class.VerticalExtent class.LengthUnit (arguments item)) []
           (item_unit (norm_length level e.unit)) (s.view class.LengthUnit);
@@ -156,10 +158,10 @@ extents-made l level (Some e) h = (
   tt,
 )
 
-pub usage-made : DecimalLaws → (level : Level) (u : UsageParts) → IsUsage u → (p : ℕ) →
-    IsMade level class.Usage 5 (at_place p (item_usage (norm_usage u)))
+pub usage-made : DecimalLaws → (u : UsageParts) → IsUsage u → (p : ℕ) →
+    IsMade levels.Full class.Usage 5 (at_place p (item_usage (norm_usage u)))
 unfolding BreaksOwn class_named is_keyword
-usage-made l levels.Full u h =
+usage-made l u h =
     from-made levels.Full 4 class.Usage (codes "USAGE") (usage_items (norm_usage u)) (usage_runs (norm_usage u))
     (some-item u.scope u.area u.bbox u.extent h.some) (simp opt-line) (record {
       letters = (refl, refl);
@@ -192,6 +194,7 @@ usage-made l levels.Full u h =
         ),
       );
       sets = (tt, (tt, (tt, (tt, (tt, tt)))));
+      left = keeps-none levels.Full;
       own = λ item s. tt;
       unbroken = λ item fault s k. k;
     })

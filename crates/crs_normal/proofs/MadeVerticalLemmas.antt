@@ -13,11 +13,11 @@ use Rattle.crs_value.specs.BadSystem.{vertical_dimensions}
 use Rattle.crs_value.specs.Checks.{OfCrs, Own as BreaksOwn}
 use Rattle.crs_value.specs.ConversionValues.{GeoidModelParts}
 use Rattle.crs_value.specs.CrsValues.{VerticalParts}
-use Rattle.crs_value.specs.declared.frame.Frame.{Frame}
-use Rattle.crs_value.specs.declared.frame.Frame.TheVariants as frame
-use Rattle.crs_value.specs.declared.level.Level.{Level}
-use Rattle.crs_value.specs.declared.system_type.SystemType.{SystemType}
-use Rattle.crs_value.specs.declared.system_type.SystemType.TheVariants as types
+use Rattle.crs_value.specs.declared.values.frame.Frame.{Frame}
+use Rattle.crs_value.specs.declared.values.frame.Frame.TheVariants as frame
+use Rattle.crs_value.specs.declared.values.level.Level.{Level}
+use Rattle.crs_value.specs.declared.values.system_type.SystemType.{SystemType}
+use Rattle.crs_value.specs.declared.values.system_type.SystemType.TheVariants as types
 use Rattle.crs_value.specs.Reading.{those}
 use Rattle.crs_value.specs.Sound.{Each}
 use Rattle.crs_value.specs.SoundConversion.{IsGeoidModel}
@@ -39,11 +39,11 @@ use Rattle.crs_normal.proofs.MadeCheckLemmas.{IsSystemSeen, has-axes, no-bad-sys
 use Rattle.crs_normal.proofs.MadeFitLemmas.{fills-one, fills-optional, fills-some, fit-before, last-fits, taken-more}
 use Rattle.crs_normal.proofs.MadeFrameLemmas.{vertical-frame-made}
 use Rattle.crs_normal.proofs.MadeGeodeticLemmas.{end_classes}
-use Rattle.crs_normal.proofs.MadeIdentLemmas.{ids-ascend}
+use Rattle.crs_normal.proofs.MadeIdentLemmas.{identifiers-ascend}
 use Rattle.crs_normal.proofs.MadeLeafLemmas.{text-made}
-use Rattle.crs_normal.proofs.MadeLemmas.{IsKept, Made, Run, RunsMade, Sees, alone, as-argument, classes, each-line, items_in, node-made, opt-line, views}
+use Rattle.crs_normal.proofs.MadeLemmas.{IsKept, KeepsRuns, Made, Run, RunsMade, Sees, alone, as-argument, classes, each-line, items_in, node-made, opt-line, views}
 use Rattle.crs_normal.proofs.MadeNamedLemmas.{geoid-model-made}
-use Rattle.crs_normal.proofs.MadeTailLemmas.{IsTailSeen, RunsRise, has-tail, no-repeats, tail-fits, tail-runs-made, tail_runs, usages-ascend}
+use Rattle.crs_normal.proofs.MadeTailLemmas.{IsTailSeen, RunsRise, has-tail, no-repeats, tail-fits, tail-left, tail-runs-made, tail_runs, usages-ascend}
 
 -- ---- the frame, of one class or the other
 
@@ -66,6 +66,11 @@ vertical-sets : (f : Frame) (n j : Item) (rest : List Run) → Each (λ d. Ascen
     Each (λ d. Ascend (items_in d (alone class.Text n ∷ alone (vertical_class f) j ∷ rest))) set_classes
 vertical-sets (frame.Datum d) n j rest h = h
 vertical-sets (frame.Ensemble e) n j rest h = h
+
+vertical-left : (level : Level) (f : Frame) (n j : Item) (rest : List Run) → KeepsRuns level rest →
+    KeepsRuns level (alone class.Text n ∷ alone (vertical_class f) j ∷ rest)
+vertical-left level (frame.Datum d) n j rest h = h
+vertical-left level (frame.Ensemble e) n j rest h = h
 
 vertical-shows : (item n j : Item) (f : Frame) (rest : List Run) →
     Each (Shows class.VerticalCrs item (alone class.Text n ∷ alone (vertical_class f) j ∷ rest)) crs_classes →
@@ -218,12 +223,14 @@ vertical-kept l level g few h = record {
   allowed = vertical-allowed l level g few;
   sets = vertical-sets g.frame (text_item g.name) (item_frame (codes "VDATUM") (norm_frame level g.frame))
       (vertical_rest level g) (
-        ids-ascend level g.tail.ids,
+        identifiers-ascend level g.tail.identifiers,
         (
           usages-ascend level (usages_of g.tail),
           (tt, (tt, (models-ascend level g.geoid_models, tt))),
         ),
       );
+  left = vertical-left level g.frame (text_item g.name) (item_frame (codes "VDATUM") (norm_frame level g.frame))
+      (vertical_rest level g) (tail-left level g.tail);
   own = λ item s.
       let v = vertical-shown level g item s in (
         has-axes class.VerticalCrs item g.system.system_type g.system.dimension

@@ -8,7 +8,7 @@ use Rattle.crs_shape.specs.declared.class.Class.TheVariants as class
 use Rattle.crs_shape.specs.Keywords.{is_keyword}
 use Rattle.crs_shape.specs.Slots.{class_named}
 use Rattle.crs_value.specs.ConversionValues.{GeoidModelParts}
-use Rattle.crs_value.specs.declared.level.Level.{Level}
+use Rattle.crs_value.specs.declared.values.level.Level.{Level}
 use Rattle.crs_value.specs.Reading.{ReadsEach}
 use Rattle.crs_value.specs.Reads.{ReadsIdent, ReadsMember}
 use Rattle.crs_value.specs.ReadsConversion.{ReadsGeoidModel}
@@ -27,19 +27,19 @@ use Rattle.crs_normal.specs.SpelledUnits.{item_ident}
 use Rattle.crs_normal.specs.TextLaws.{TextLaws}
 use Rattle.crs_normal.proofs.IdentLemmas.{ReadsIdentOnce, idents-agree, idents-kept, text-fit, writable}
 use Rattle.crs_normal.proofs.ItemLemmas.{Gives, fit-node, gives-over, told}
-use Rattle.crs_normal.proofs.MemberUnitLemmas.{NamesId, ids-fit, ids-read}
+use Rattle.crs_normal.proofs.MemberUnitLemmas.{NamesId, identifiers-fit, identifiers-read}
 use Rattle.crs_normal.proofs.SetLemmas.{set-agrees}
 
 abbrev ReadsIds : List IdentParts → List Item → Type 0
-ReadsIds ids l = ReadsEach (ReadsIdent class.Identifier) l ids
+ReadsIds identifiers l = ReadsEach (ReadsIdent class.Identifier) l identifiers
 
 -- ---- nodes of a name and identifiers
 
-named-ids : (c : Class) → NamesId c → (name : List ℕ) (ids : List IdentParts) → Each IsIdent ids →
-    Gives c class.Identifier (ReadsIds ids) (More (text_item name) (each item_ident ids End))
-named-ids c e name ids s =
-    gives-over c class.Identifier (ReadsIds ids) (text_item name) (each item_ident ids End) (λ p. refl)
-    (ids-read c e ids s)
+named-identifiers : (c : Class) → NamesId c → (name : List ℕ) (identifiers : List IdentParts) → Each IsIdent identifiers →
+    Gives c class.Identifier (ReadsIds identifiers) (More (text_item name) (each item_ident identifiers End))
+named-identifiers c e name identifiers s =
+    gives-over c class.Identifier (ReadsIds identifiers) (text_item name) (each item_ident identifiers End) (λ p. refl)
+    (identifiers-read c e identifiers s)
 
 member-names : NamesId class.Member
 unfolding class_named is_keyword
@@ -53,15 +53,15 @@ geoid-names = refl
 
 pub member-read : (m : MemberParts) → IsMember m → (place : ℕ) →
     ReadsMember class.Member (at_place place (item_member m)) m
-member-read m s place = record { name = refl; ids = named-ids class.Member member-names m.name m.ids s.ids (place + 6) }
+member-read m s place = record { name = refl; identifiers = named-identifiers class.Member member-names m.name m.identifiers s.identifiers (place + 6) }
 
 pub member-fit : TextLaws → (m : MemberParts) → IsMember m → IsFit 3 (item_member m)
 member-fit laws m s =
-    fit-node 2 (codes "MEMBER") (text_item m.name) (each item_ident m.ids End) (refl, refl) (text-fit 2 m.name s.name)
-    (ids-fit laws 2 (omega arith) m.ids s.ids)
+    fit-node 2 (codes "MEMBER") (text_item m.name) (each item_ident m.identifiers End) (refl, refl) (text-fit 2 m.name s.name)
+    (identifiers-fit laws 2 (omega arith) m.identifiers s.identifiers)
 
 pub member-kept : (level : Level) (m : MemberParts) → IsMember m → IsMember (norm_member level m)
-member-kept level m s = record { name = s.name; ids = idents-kept level m.ids s.ids }
+member-kept level m s = record { name = s.name; identifiers = idents-kept level m.identifiers s.identifiers }
 
 abbrev pub ReadsMemberOnce : Type 0
 ReadsMemberOnce = (c : Class) (item : Item) (a b : MemberParts) → ReadsMember c item a → ReadsMember c item b → a ≡ b
@@ -73,14 +73,14 @@ member-told laws once =
     (λ x s. writable 3 (item_member x) (omega arith) (member-fit laws x s) tt) member-read
 
 abbrev member-made : List ℕ → List IdentParts → MemberParts
-member-made x0 x1 = record { name = x0; ids = x1 }
+member-made x0 x1 = record { name = x0; identifiers = x1 }
 
 member-agrees : TextLaws → ReadsIdentOnce → (level : Level) (a b : MemberParts) → IsMember a → IsMember b →
     (norm_member level a ≡ norm_member level b) ↔ SameMember level a b
 member-agrees laws once level a b p q =
-    let ids = idents-agree laws once level a.ids b.ids p.ids q.ids in (
-      λ e. record { name = ap (λ x. x.name) e; ids = ids.0 (ap (λ x. x.ids) e) },
-      λ s. λ i. member-made (s.name i) (ids.1 s.ids i),
+    let identifiers = idents-agree laws once level a.identifiers b.identifiers p.identifiers q.identifiers in (
+      λ e. record { name = ap (λ x. x.name) e; identifiers = identifiers.0 (ap (λ x. x.identifiers) e) },
+      λ s. λ i. member-made (s.name i) (identifiers.1 s.identifiers i),
     )
 
 pub members-agree : TextLaws → ReadsIdentOnce → ReadsMemberOnce → (level : Level) (xs ys : List MemberParts) →
@@ -98,16 +98,16 @@ members-agree laws idents once level xs ys p q =
 pub geoid-read : (g : GeoidModelParts) → IsGeoidModel g → (place : ℕ) →
     ReadsGeoidModel class.GeoidModel (at_place place (item_geoid_model g)) g
 geoid-read g s place =
-    record { name = refl; ids = named-ids class.GeoidModel geoid-names g.name g.ids s.ids (place + 10) }
+    record { name = refl; identifiers = named-identifiers class.GeoidModel geoid-names g.name g.identifiers s.identifiers (place + 10) }
 
 pub geoid-fit : TextLaws → (g : GeoidModelParts) → IsGeoidModel g → IsFit 3 (item_geoid_model g)
 geoid-fit laws g s =
-    fit-node 2 (codes "GEOIDMODEL") (text_item g.name) (each item_ident g.ids End) (refl, refl)
+    fit-node 2 (codes "GEOIDMODEL") (text_item g.name) (each item_ident g.identifiers End) (refl, refl)
     (text-fit 2 g.name s.name)
-    (ids-fit laws 2 (omega arith) g.ids s.ids)
+    (identifiers-fit laws 2 (omega arith) g.identifiers s.identifiers)
 
 pub geoid-kept : (level : Level) (g : GeoidModelParts) → IsGeoidModel g → IsGeoidModel (norm_geoid_model level g)
-geoid-kept level g s = record { name = s.name; ids = idents-kept level g.ids s.ids }
+geoid-kept level g s = record { name = s.name; identifiers = idents-kept level g.identifiers s.identifiers }
 
 abbrev pub ReadsGeoidOnce : Type 0
 ReadsGeoidOnce =
@@ -120,14 +120,14 @@ geoid-told laws once =
     (λ x s. writable 3 (item_geoid_model x) (omega arith) (geoid-fit laws x s) tt) geoid-read
 
 abbrev geoid-made : List ℕ → List IdentParts → GeoidModelParts
-geoid-made x0 x1 = record { name = x0; ids = x1 }
+geoid-made x0 x1 = record { name = x0; identifiers = x1 }
 
 geoid-agrees : TextLaws → ReadsIdentOnce → (level : Level) (a b : GeoidModelParts) → IsGeoidModel a → IsGeoidModel b →
     (norm_geoid_model level a ≡ norm_geoid_model level b) ↔ SameGeoidModel level a b
 geoid-agrees laws once level a b p q =
-    let ids = idents-agree laws once level a.ids b.ids p.ids q.ids in (
-      λ e. record { name = ap (λ x. x.name) e; ids = ids.0 (ap (λ x. x.ids) e) },
-      λ s. λ i. geoid-made (s.name i) (ids.1 s.ids i),
+    let identifiers = idents-agree laws once level a.identifiers b.identifiers p.identifiers q.identifiers in (
+      λ e. record { name = ap (λ x. x.name) e; identifiers = identifiers.0 (ap (λ x. x.identifiers) e) },
+      λ s. λ i. geoid-made (s.name i) (identifiers.1 s.identifiers i),
     )
 
 pub geoids-agree : TextLaws → ReadsIdentOnce → ReadsGeoidOnce → (level : Level) (xs ys : List GeoidModelParts) →

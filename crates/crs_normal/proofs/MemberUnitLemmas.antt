@@ -9,9 +9,9 @@ use Rattle.crs_shape.specs.declared.class.Class.{Class}
 use Rattle.crs_shape.specs.declared.class.Class.TheVariants as class
 use Rattle.crs_shape.specs.Keywords.{is_keyword}
 use Rattle.crs_shape.specs.Slots.{class_named, is_class}
-use Rattle.crs_value.specs.declared.level.Level.{Level}
-use Rattle.crs_value.specs.declared.unit_kind.UnitKind.{UnitKind}
-use Rattle.crs_value.specs.declared.unit_kind.UnitKind.TheVariants as kinds
+use Rattle.crs_value.specs.declared.values.level.Level.{Level}
+use Rattle.crs_value.specs.declared.values.unit_kind.UnitKind.{UnitKind}
+use Rattle.crs_value.specs.declared.values.unit_kind.UnitKind.TheVariants as kinds
 use Rattle.crs_value.specs.Reading.{ReadsEach}
 use Rattle.crs_value.specs.Reads.{ReadsIdent, ReadsNumber, ReadsUnit}
 use Rattle.crs_value.specs.Sound.{Each, IsIdent, IsUnit}
@@ -36,22 +36,22 @@ pub id-over : (c d : Class) → NamesId c → is_class d (Some class.Identifier)
     IsOf false c d (item_ident x)
 id-over c d e n x place = ap (is_class d) e ∙ n
 
-pub ids-over : (c d : Class) → NamesId c → is_class d (Some class.Identifier) ≡ false →
-    (P : List Item → Type 0) (ids : List IdentParts) →
-    P [] → Gives c d P (each item_ident ids End)
-ids-over c d e n P ids p = each-over c d item_ident (id-over c d e n) P ids End (λ start. p)
+pub identifiers-over : (c d : Class) → NamesId c → is_class d (Some class.Identifier) ≡ false →
+    (P : List Item → Type 0) (identifiers : List IdentParts) →
+    P [] → Gives c d P (each item_ident identifiers End)
+identifiers-over c d e n P identifiers p = each-over c d item_ident (id-over c d e n) P identifiers End (λ start. p)
 
-pub ids-read : (c : Class) → NamesId c → (ids : List IdentParts) → Each IsIdent ids →
-    Gives c class.Identifier (λ l. ReadsEach (ReadsIdent class.Identifier) l ids) (each item_ident ids End)
-ids-read c e ids s =
+pub identifiers-read : (c : Class) → NamesId c → (identifiers : List IdentParts) → Each IsIdent identifiers →
+    Gives c class.Identifier (λ l. ReadsEach (ReadsIdent class.Identifier) l identifiers) (each item_ident identifiers End)
+identifiers-read c e identifiers s =
     each-read c class.Identifier item_ident IsIdent (ReadsIdent class.Identifier)
-    (λ x q place. ap (is_class class.Identifier) e) ident-read ids End s
+    (λ x q place. ap (is_class class.Identifier) e) ident-read identifiers End s
     (lacks-end c class.Identifier)
 
-pub ids-fit : TextLaws → (n : ℕ) → 2 ≤ n → (ids : List IdentParts) → Each IsIdent ids →
-    AreFit n (each item_ident ids End)
-ids-fit laws n l ids s =
-    fit-each n item_ident IsIdent (λ x q. fit-deeper 2 n (item_ident x) l (ident-fit laws x q)) ids End s (fit-end n)
+pub identifiers-fit : TextLaws → (n : ℕ) → 2 ≤ n → (identifiers : List IdentParts) → Each IsIdent identifiers →
+    AreFit n (each item_ident identifiers End)
+identifiers-fit laws n l identifiers s =
+    fit-each n item_ident IsIdent (λ x q. fit-deeper 2 n (item_ident x) l (ident-fit laws x q)) identifiers End s (fit-end n)
 
 -- ---- numbers
 
@@ -70,12 +70,12 @@ unit-read laws c e u s place = record {
   kind = refl;
   name = refl;
   factor = number-read laws u.factor s.factor 0;
-  ids =
-      gives-over c class.Identifier (λ l. ReadsEach (ReadsIdent class.Identifier) l u.ids) (text_item u.name)
-      (More (number_item u.factor) (each item_ident u.ids End)) (λ p. refl)
-      (gives-over c class.Identifier (λ l. ReadsEach (ReadsIdent class.Identifier) l u.ids) (number_item u.factor)
-      (each item_ident u.ids End) (λ p. refl)
-      (ids-read c e u.ids s.ids)) (place + length (unit_word u.kind));
+  identifiers =
+      gives-over c class.Identifier (λ l. ReadsEach (ReadsIdent class.Identifier) l u.identifiers) (text_item u.name)
+      (More (number_item u.factor) (each item_ident u.identifiers End)) (λ p. refl)
+      (gives-over c class.Identifier (λ l. ReadsEach (ReadsIdent class.Identifier) l u.identifiers) (number_item u.factor)
+      (each item_ident u.identifiers End) (λ p. refl)
+      (identifiers-read c e u.identifiers s.identifiers)) (place + length (unit_word u.kind));
 }
 
 unit-is-word : (k : UnitKind) → IsWord (unit_word k)
@@ -86,10 +86,10 @@ unit-is-word kinds.Plain = (refl, refl)
 
 pub unit-fit : TextLaws → (u : UnitParts) → IsUnit u → IsFit 3 (item_unit u)
 unit-fit laws u s =
-    fit-node 2 (unit_word u.kind) (text_item u.name) (More (number_item u.factor) (each item_ident u.ids End))
+    fit-node 2 (unit_word u.kind) (text_item u.name) (More (number_item u.factor) (each item_ident u.identifiers End))
     (unit-is-word u.kind) (text-fit 2 u.name s.name)
-    (fit-more 2 (number_item u.factor) (each item_ident u.ids End) (value-fit laws 2 u.factor s.factor)
-    (ids-fit laws 2 (omega arith) u.ids s.ids))
+    (fit-more 2 (number_item u.factor) (each item_ident u.identifiers End) (value-fit laws 2 u.factor s.factor)
+    (identifiers-fit laws 2 (omega arith) u.identifiers s.identifiers))
 
 length-names : NamesId class.LengthUnit
 unfolding class_named is_keyword
@@ -111,25 +111,25 @@ unit-kept level asked u s = record {
   name = s.name;
   factor = s.factor;
   above_zero = s.above_zero;
-  ids = idents-kept level u.ids s.ids;
+  identifiers = idents-kept level u.identifiers s.identifiers;
 }
 
 abbrev unit-made : UnitKind → List ℕ → Value → List IdentParts → UnitParts
-unit-made x0 x1 x2 x3 = record { kind = x0; name = x1; factor = x2; ids = x3 }
+unit-made x0 x1 x2 x3 = record { kind = x0; name = x1; factor = x2; identifiers = x3 }
 
 pub unit-agrees : TextLaws → ReadsIdentOnce → (level : Level) (asked : UnitKind) (a b : UnitParts) → IsUnit a →
     IsUnit b →
     (norm_unit level asked a ≡ norm_unit level asked b) ↔ SameUnit asked level a b
 unit-agrees laws once level asked a b p q =
-    let ids = idents-agree laws once level a.ids b.ids p.ids q.ids in
+    let identifiers = idents-agree laws once level a.identifiers b.identifiers p.identifiers q.identifiers in
     let factors = values-agree laws a.factor b.factor p.factor q.factor in (
       λ e. record {
         kind = ap (λ x. x.kind) e;
         name = ap (λ x. x.name) e;
         factor = factors.0 (ap (λ x. x.factor) e);
-        ids = ids.0 (ap (λ x. x.ids) e);
+        identifiers = identifiers.0 (ap (λ x. x.identifiers) e);
       },
-      λ s. λ i. unit-made (s.kind i) (s.name i) (factors.1 s.factor i) (ids.1 s.ids i),
+      λ s. λ i. unit-made (s.kind i) (s.name i) (factors.1 s.factor i) (identifiers.1 s.identifiers i),
     )
 
 -- parts that may be missing agree where the parts do

@@ -12,8 +12,8 @@ use Rattle.crs_value.specs.Reading.{is_a, those, ReadsElse}
 use Rattle.crs_value.specs.Reads.{ReadsIds, ReadsMember, ReadsNumber, ReadsText, ReadsTextOf}
 use Rattle.crs_value.specs.ReadsConversion.{parameter_units, ReadsAsUnit, ReadsConversion, ReadsGeoidModel, ReadsMethod, ReadsParameter, ReadsUnitOf}
 use Rattle.crs_value.specs.Values.{IdentParts, UnitParts}
-use Rattle.crs_value.specs.declared.level.Level.{Level}
-use Rattle.crs_value.specs.declared.unit_kind.UnitKind.TheVariants as kinds
+use Rattle.crs_value.specs.declared.values.level.Level.{Level}
+use Rattle.crs_value.specs.declared.values.unit_kind.UnitKind.TheVariants as kinds
 use Rattle.crs_normal.specs.Flat.{flat}
 use Rattle.crs_normal.specs.Normal.{IsWritten}
 use Rattle.crs_value.specs.Sound.{Each}
@@ -29,39 +29,39 @@ use Rattle.crs_normal.proofs.ViewLemmas.{View, each-so, flats_onto, flats-spread
 -- a node of a name and identifiers
 named-flat : (level : Level) (c d : Class) (keyword : List ℕ) → slots_of d ≡ named_slots →
     ((bytes : List ℕ) → IsWritten d bytes → bytes ≡ keyword) →
-    (item : Item) → IsGood level c d item → (name : List ℕ) (ids : List IdentParts) → ReadsTextOf d item name →
-    ReadsIds d item ids →
-    flat item ≡ node_of keyword (text_item name) (each item_ident (set_idents level ids) End)
-named-flat level c d keyword slots its (leaf kind place raw) good name ids a b = absurd a
-named-flat level c d keyword slots its (node place bytes square first others close) good name ids a b =
+    (item : Item) → IsGood level c d item → (name : List ℕ) (identifiers : List IdentParts) → ReadsTextOf d item name →
+    ReadsIds d item identifiers →
+    flat item ≡ node_of keyword (text_item name) (each item_ident (set_idents level identifiers) End)
+named-flat level c d keyword slots its (leaf kind place raw) good name identifiers a b = absurd a
+named-flat level c d keyword slots its (node place bytes square first others close) good name identifiers a b =
     let o = opened level c d place bytes square first others close good.shaped good.normal in
     let items = More first others in
     let v = subst (λ (ss : List SlotParts). View d ss items) slots o.slots in
     let v1 = v.1.1.1.1 in
     node-spelled place bytes keyword square first others close
-    (More (text_item name) (each item_ident (set_idents level ids) End)) (its bytes o.written)
+    (More (text_item name) (each item_ident (set_idents level identifiers) End)) (its bytes o.written)
     (flats-spread d named_slots items v
     ∙ one-spelled level d class.Text ReadsText text_item (text-form level d) (those d class.Text items) v.0
     (kept-good level d class.Text items o.kept)
     (those-looked d class.Text named_slots items v) (v.1.1.0.not_more refl) name a _ _
-    (idents-spelled level d items v1.0 o.kept (those-looked d class.Identifier named_slots items v) o.sets.0 ids b End
+    (idents-spelled level d items v1.0 o.kept (those-looked d class.Identifier named_slots items v) o.sets.0 identifiers b End
     End refl))
 
 pub member-form : (level : Level) (c : Class) →
     Form level c class.Member (ReadsMember class.Member) (λ m. item_member (norm_member level m))
 member-form level c item x good reads =
-    named-flat level c class.Member (codes "MEMBER") refl (λ bytes h. h) item good x.name x.ids reads.name reads.ids
+    named-flat level c class.Member (codes "MEMBER") refl (λ bytes h. h) item good x.name x.identifiers reads.name reads.identifiers
 
 pub method-form : (level : Level) (c : Class) →
     Form level c class.Method (ReadsMethod class.Method) (λ m. item_method (norm_method level m))
 method-form level c item x good reads =
-    named-flat level c class.Method (codes "METHOD") refl (λ bytes h. h) item good x.name x.ids reads.name reads.ids
+    named-flat level c class.Method (codes "METHOD") refl (λ bytes h. h) item good x.name x.identifiers reads.name reads.identifiers
 
 pub geoid_model-form : (level : Level) (c : Class) →
     Form level c class.GeoidModel (ReadsGeoidModel class.GeoidModel) (λ g. item_geoid_model (norm_geoid_model level g))
 geoid_model-form level c item x good reads =
-    named-flat level c class.GeoidModel (codes "GEOIDMODEL") refl (λ bytes h. h) item good x.name x.ids reads.name
-    reads.ids
+    named-flat level c class.GeoidModel (codes "GEOIDMODEL") refl (λ bytes h. h) item good x.name x.identifiers reads.name
+    reads.identifiers
 
 -- ---- the unit of a parameter, of one of several classes
 
@@ -167,8 +167,8 @@ parameter-form law level c (node place keyword square first others close) x good
     (kept-good level d class.Number items o.kept) (those-looked d class.Number (slots_of d) items v)
     (v1.1.1.0.not_more refl) x.value reads.value _ _
     (ap (flats_onto v2.0)
-    (idents-spelled level d items v3.0 o.kept (those-looked d class.Identifier (slots_of d) items v) o.sets.0 x.ids
-    reads.ids End End refl)
+    (idents-spelled level d items v3.0 o.kept (those-looked d class.Identifier (slots_of d) items v) o.sets.0 x.identifiers
+    reads.identifiers End End refl)
     ∙ unit-of law level d (node place keyword square first others close) o.kept v2.0 (v2.1.1.0.not_more refl)
     parameter_units every-unit
     (looked class.PlainUnit, (looked class.LengthUnit, (looked class.AngleUnit, (looked class.ScaleUnit, tt))))
@@ -201,5 +201,5 @@ conversion-form law level c (node place keyword square first others close) x goo
     (those d class.Parameter items) v2.0 (kept-good level d class.Parameter items o.kept)
     (those-looked d class.Parameter (slots_of d) items v)
     o.sets.1.1.1.0 x.parameters reads.parameters _ _
-    (idents-spelled level d items v3.0 o.kept (those-looked d class.Identifier (slots_of d) items v) o.sets.0 x.ids
-    reads.ids End End refl))))
+    (idents-spelled level d items v3.0 o.kept (those-looked d class.Identifier (slots_of d) items v) o.sets.0 x.identifiers
+    reads.identifiers End End refl))))

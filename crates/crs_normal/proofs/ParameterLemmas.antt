@@ -10,9 +10,9 @@ use Rattle.crs_shape.specs.declared.class.Class.TheVariants as class
 use Rattle.crs_shape.specs.Keywords.{is_keyword}
 use Rattle.crs_shape.specs.Slots.{class_named, is_class}
 use Rattle.crs_value.specs.ConversionValues.{ParameterParts}
-use Rattle.crs_value.specs.declared.level.Level.{Level}
-use Rattle.crs_value.specs.declared.unit_kind.UnitKind.{UnitKind}
-use Rattle.crs_value.specs.declared.unit_kind.UnitKind.TheVariants as kinds
+use Rattle.crs_value.specs.declared.values.level.Level.{Level}
+use Rattle.crs_value.specs.declared.values.unit_kind.UnitKind.{UnitKind}
+use Rattle.crs_value.specs.declared.values.unit_kind.UnitKind.TheVariants as kinds
 use Rattle.crs_value.specs.Reading.{those, ReadsEach, ReadsElse}
 use Rattle.crs_value.specs.Reads.{ReadsIdent}
 use Rattle.crs_value.specs.ReadsConversion.{ReadsAsUnit, ReadsParameter, ReadsUnitOf, parameter_units}
@@ -29,7 +29,7 @@ use Rattle.crs_normal.specs.SpelledUnits.{item_ident, item_unit, norm_units}
 use Rattle.crs_normal.specs.TextLaws.{TextLaws}
 use Rattle.crs_normal.proofs.IdentLemmas.{ReadsIdentOnce, idents-agree, idents-kept, text-fit, writable}
 use Rattle.crs_normal.proofs.ItemLemmas.{IsOf, Gives, Lacks, fit-more, fit-node, fit-opt, gives-first, gives-over, opt-over, told, value-fit}
-use Rattle.crs_normal.proofs.MemberUnitLemmas.{NamesId, ids-fit, ids-over, ids-read, number-read, unit-fit, unit-kept, unit-read, units-agree, values-agree}
+use Rattle.crs_normal.proofs.MemberUnitLemmas.{NamesId, identifiers-fit, identifiers-over, identifiers-read, number-read, unit-fit, unit-kept, unit-read, units-agree, values-agree}
 use Rattle.crs_normal.proofs.SetLemmas.{set-agrees}
 
 parameter-names : NamesId class.Parameter
@@ -78,40 +78,40 @@ unit-no-id u = by u.kind refl
     by kinds.Scale e = unit-is class.Identifier false u kinds.Scale e refl
     by kinds.Plain e = unit-is class.Identifier false u kinds.Plain e refl
 
-parameter-ids : (p : ParameterParts) → Each IsIdent p.ids →
-    Gives class.Parameter class.Identifier (λ l. ReadsEach (ReadsIdent class.Identifier) l p.ids)
-    (parameter-items p.name p.value (opt item_unit p.unit (each item_ident p.ids End)))
-parameter-ids p s =
-    behind-value class.Identifier refl refl (λ l. ReadsEach (ReadsIdent class.Identifier) l p.ids) p.name p.value
-    (opt item_unit p.unit (each item_ident p.ids End))
+parameter-identifiers : (p : ParameterParts) → Each IsIdent p.identifiers →
+    Gives class.Parameter class.Identifier (λ l. ReadsEach (ReadsIdent class.Identifier) l p.identifiers)
+    (parameter-items p.name p.value (opt item_unit p.unit (each item_ident p.identifiers End)))
+parameter-identifiers p s =
+    behind-value class.Identifier refl refl (λ l. ReadsEach (ReadsIdent class.Identifier) l p.identifiers) p.name p.value
+    (opt item_unit p.unit (each item_ident p.identifiers End))
     (opt-over class.Parameter class.Identifier item_unit unit-no-id
-    (λ l. ReadsEach (ReadsIdent class.Identifier) l p.ids) p.unit
-    (each item_ident p.ids End) (ids-read class.Parameter parameter-names p.ids s))
+    (λ l. ReadsEach (ReadsIdent class.Identifier) l p.identifiers) p.unit
+    (each item_ident p.identifiers End) (identifiers-read class.Parameter parameter-names p.identifiers s))
 
 else-over : (d : Class) (Other : Option UnitParts → Type 0) (o : Option UnitParts) (items : Siblings) →
     Lacks class.Parameter d items → Other o →
     (start : ℕ) → ReadsElse (ReadsAsUnit d) (those class.Parameter d (at_places start items)) Other o
 else-over d Other o items g h start = subst (λ l. ReadsElse (ReadsAsUnit d) l Other o) (sym (g start)) h
 
-module _ (laws : TextLaws) (name : List ℕ) (value : Value) (ids : List IdentParts) where
+module _ (laws : TextLaws) (name : List ℕ) (value : Value) (identifiers : List IdentParts) where
   abbrev with-unit : Option UnitParts → Siblings
-  with-unit o = parameter-items name value (opt item_unit o (each item_ident ids End))
+  with-unit o = parameter-items name value (opt item_unit o (each item_ident identifiers End))
 
   no-unit : (d : Class) → is_class d (Some class.Text) ≡ false → is_class d (Some class.Number) ≡ false →
       is_class d (Some class.Identifier) ≡ false →
       Lacks class.Parameter d (with-unit None)
   no-unit d t n i =
-      behind-value d t n (λ l. l ≡ []) name value (each item_ident ids End)
-      (ids-over class.Parameter d parameter-names i (λ l. l ≡ []) ids refl)
+      behind-value d t n (λ l. l ≡ []) name value (each item_ident identifiers End)
+      (identifiers-over class.Parameter d parameter-names i (λ l. l ≡ []) identifiers refl)
 
   other-unit : (d : Class) → is_class d (Some class.Text) ≡ false → is_class d (Some class.Number) ≡ false →
       is_class d (Some class.Identifier) ≡ false →
       (u : UnitParts) (k : UnitKind) → u.kind ≡ k → is_class d (Some (class-as k)) ≡ false → Lacks class.Parameter d
       (with-unit (Some u))
   other-unit d t n i u k e h =
-      behind-value d t n (λ l. l ≡ []) name value (More (item_unit u) (each item_ident ids End))
-      (gives-over class.Parameter d (λ l. l ≡ []) (item_unit u) (each item_ident ids End) (unit-is d false u k e h)
-      (ids-over class.Parameter d parameter-names i (λ l. l ≡ []) ids refl))
+      behind-value d t n (λ l. l ≡ []) name value (More (item_unit u) (each item_ident identifiers End))
+      (gives-over class.Parameter d (λ l. l ≡ []) (item_unit u) (each item_ident identifiers End) (unit-is d false u k e h)
+      (identifiers-over class.Parameter d parameter-names i (λ l. l ≡ []) identifiers refl))
 
   this-unit : (d : Class) (Other : Option UnitParts → Type 0) → is_class d (Some class.Text) ≡ false →
       is_class d (Some class.Number) ≡ false → NamesId d →
@@ -119,16 +119,16 @@ module _ (laws : TextLaws) (name : List ℕ) (value : Value) (ids : List IdentPa
       Gives class.Parameter d (λ l. ReadsElse (ReadsAsUnit d) l Other (Some u)) (with-unit (Some u))
   this-unit d Other t n names u s k e h =
       behind-value d t n (λ l. ReadsElse (ReadsAsUnit d) l Other (Some u)) name value
-      (More (item_unit u) (each item_ident ids End))
+      (More (item_unit u) (each item_ident identifiers End))
       (gives-first class.Parameter d (λ l. ReadsElse (ReadsAsUnit d) l Other (Some u)) (item_unit u)
-      (each item_ident ids End) (unit-is d true u k e h)
+      (each item_ident identifiers End) (unit-is d true u k e h)
       (λ place start. unit-read laws d names u s place))
 
   abbrev whole : Option UnitParts → ℕ → Item
   whole o place =
       at_place place
       (node_of (codes "PARAMETER") (text_item name)
-      (More (number_item value) (opt item_unit o (each item_ident ids End))))
+      (More (number_item value) (opt item_unit o (each item_ident identifiers End))))
 
   -- the readings that follow those of the classes before
   abbrev From : List Class → Option UnitParts → ℕ → Option UnitParts → Type 0
@@ -207,19 +207,19 @@ pub parameter-read : TextLaws → (p : ParameterParts) → IsParameter p → (pl
 parameter-read laws p s place = record {
   name = refl;
   value = number-read laws p.value s.value 0;
-  unit = unit-of laws p.name p.value p.ids p.unit s.unit place;
-  ids = parameter-ids p s.ids (place + 9);
+  unit = unit-of laws p.name p.value p.identifiers p.unit s.unit place;
+  identifiers = parameter-identifiers p s.identifiers (place + 9);
 }
 
 pub parameter-fit : TextLaws → (p : ParameterParts) → IsParameter p → IsFit 4 (item_parameter p)
 parameter-fit laws p s =
     fit-node 3 (codes "PARAMETER") (text_item p.name)
-    (More (number_item p.value) (opt item_unit p.unit (each item_ident p.ids End))) (refl, refl)
+    (More (number_item p.value) (opt item_unit p.unit (each item_ident p.identifiers End))) (refl, refl)
     (text-fit 3 p.name s.name)
-    (fit-more 3 (number_item p.value) (opt item_unit p.unit (each item_ident p.ids End))
+    (fit-more 3 (number_item p.value) (opt item_unit p.unit (each item_ident p.identifiers End))
     (value-fit laws 3 p.value s.value)
-    (fit-opt 3 item_unit IsUnit (unit-fit laws) p.unit (each item_ident p.ids End) s.unit
-    (ids-fit laws 3 (omega arith) p.ids s.ids)))
+    (fit-opt 3 item_unit IsUnit (unit-fit laws) p.unit (each item_ident p.identifiers End) s.unit
+    (identifiers-fit laws 3 (omega arith) p.identifiers s.identifiers)))
 
 pub units-kept : (level : Level) (asked : UnitKind) (o : Option UnitParts) → IfSome o IsUnit →
     IfSome (norm_units level asked o) IsUnit
@@ -231,7 +231,7 @@ parameter-kept level p s = record {
   name = s.name;
   value = s.value;
   unit = units-kept level kinds.Plain p.unit s.unit;
-  ids = idents-kept level p.ids s.ids;
+  identifiers = idents-kept level p.identifiers s.identifiers;
 }
 
 abbrev pub ReadsParameterOnce : Type 0
@@ -245,21 +245,21 @@ parameter-told laws once =
     (λ x s. writable 4 (item_parameter x) (omega arith) (parameter-fit laws x s) tt) (parameter-read laws)
 
 abbrev parameter-made : List ℕ → Value → Option UnitParts → List IdentParts → ParameterParts
-parameter-made x0 x1 x2 x3 = record { name = x0; value = x1; unit = x2; ids = x3 }
+parameter-made x0 x1 x2 x3 = record { name = x0; value = x1; unit = x2; identifiers = x3 }
 
 parameter-agrees : TextLaws → ReadsIdentOnce → (level : Level) (a b : ParameterParts) → IsParameter a → IsParameter b →
     (norm_parameter level a ≡ norm_parameter level b) ↔ SameParameter level a b
 parameter-agrees laws once level a b p q =
-    let ids = idents-agree laws once level a.ids b.ids p.ids q.ids in
+    let identifiers = idents-agree laws once level a.identifiers b.identifiers p.identifiers q.identifiers in
     let values = values-agree laws a.value b.value p.value q.value in
     let units = units-agree laws once level kinds.Plain a.unit b.unit p.unit q.unit in (
       λ e. record {
         name = ap (λ x. x.name) e;
         value = values.0 (ap (λ x. x.value) e);
         unit = units.0 (ap (λ x. x.unit) e);
-        ids = ids.0 (ap (λ x. x.ids) e);
+        identifiers = identifiers.0 (ap (λ x. x.identifiers) e);
       },
-      λ s. λ i. parameter-made (s.name i) (values.1 s.value i) (units.1 s.unit i) (ids.1 s.ids i),
+      λ s. λ i. parameter-made (s.name i) (values.1 s.value i) (units.1 s.unit i) (identifiers.1 s.identifiers i),
     )
 
 pub parameters-agree : TextLaws → ReadsIdentOnce → ReadsParameterOnce → (level : Level) (xs ys : List ParameterParts) →

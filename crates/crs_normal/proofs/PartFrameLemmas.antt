@@ -9,9 +9,9 @@ use Rattle.crs_value.specs.SoundFrames.{IsDatum, IsEnsemble}
 use Rattle.crs_value.specs.SoundSingle.{IsGeodeticFrame, IsVerticalFrame}
 use Rattle.crs_value.specs.Told.{IsReadAs}
 use Rattle.crs_value.specs.Values.{DatumParts, EllipsoidParts, EnsembleParts}
-use Rattle.crs_value.specs.declared.frame.Frame.{Frame}
-use Rattle.crs_value.specs.declared.frame.Frame.TheVariants as frame
-use Rattle.crs_value.specs.declared.level.Level.{Level}
+use Rattle.crs_value.specs.declared.values.frame.Frame.{Frame}
+use Rattle.crs_value.specs.declared.values.frame.Frame.TheVariants as frame
+use Rattle.crs_value.specs.declared.values.level.Level.{Level}
 use Rattle.crs_same.specs.SameFrames.{SameDatum, SameEnsemble, SameFrame}
 use Rattle.crs_normal.specs.CanonicalForm.{IsCanonicalForm}
 use Rattle.crs_normal.specs.Made.{IsMade, geodetic_class, vertical_class}

@@ -7,7 +7,7 @@ use Rattle.crs_text.specs.Written.{AreFormed, at_place, item_text}
 use Rattle.crs_shape.specs.declared.class.Class.{Class}
 use Rattle.crs_shape.specs.Shaped.{Shaped}
 use Rattle.crs_value.specs.Checks.{Breaks, IsSound}
-use Rattle.crs_value.specs.declared.level.Level.{Level}
+use Rattle.crs_value.specs.declared.values.level.Level.{Level}
 use Rattle.crs_value.specs.Told.{IsReadAs, IsReadOnce}
 use Rattle.crs_normal.specs.CanonicalForm.{IsCanonicalForm}
 use Rattle.crs_normal.specs.Closed.{IsClosed}

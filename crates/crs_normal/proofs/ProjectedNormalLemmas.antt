@@ -10,7 +10,7 @@ use Rattle.crs_value.specs.Reading.{those}
 use Rattle.crs_value.specs.Reads.{ReadsAxis, ReadsText}
 use Rattle.crs_value.specs.ReadsConversion.{ReadsConversion}
 use Rattle.crs_value.specs.ReadsCrs.{ReadsBase, ReadsProjected, ReadsVertical}
-use Rattle.crs_value.specs.declared.level.Level.{Level}
+use Rattle.crs_value.specs.declared.values.level.Level.{Level}
 use Rattle.crs_normal.specs.NormalOwn.{Rise}
 use Rattle.crs_normal.specs.SpelledConversions.{item_conversion, norm_conversion}
 use Rattle.crs_normal.specs.SpelledCrs.{item_base, item_projected, item_vertical, norm_base, norm_projected, norm_vertical}

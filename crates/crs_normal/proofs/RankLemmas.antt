@@ -86,16 +86,16 @@ none-here c d (item ∷ items) e =
 pub record Split (c : Class) (m : ℕ) (front : List Item) : Type 0 where
   pub models : List Item
   pub usages : List Item
-  pub ids : List Item
+  pub identifiers : List Item
   pub remarks : List Item
-  pub are : front ≡ models ++ (usages ++ (ids ++ remarks))
+  pub are : front ≡ models ++ (usages ++ (identifiers ++ remarks))
   pub as_model : Each (λ i. class_in c i ≡ Some class.GeoidModel) models
   pub as_usage : Each (λ i. class_in c i ≡ Some class.Usage) usages
-  pub as_id : Each (λ i. class_in c i ≡ Some class.Identifier) ids
+  pub as_id : Each (λ i. class_in c i ≡ Some class.Identifier) identifiers
   pub as_remark : Each (λ i. class_in c i ≡ Some class.Remark) remarks
   pub no_model : 2 ≤ m → models ≡ []
   pub no_usage : 3 ≤ m → usages ≡ []
-  pub no_id : 4 ≤ m → ids ≡ []
+  pub no_id : 4 ≤ m → identifiers ≡ []
 
 rise-as : (c : Class) (m : ℕ) (item : Item) (rest : Siblings) (d : Class) → class_in c item ≡ Some d →
     Rise c m (More item rest) → (m ≤ rank d) × Rise c (rank d) rest
@@ -107,7 +107,7 @@ pub split : (c : Class) (m : ℕ) (front : List Item) → Rise c m (onto front E
 split c m [] rise ends = record {
   models = [];
   usages = [];
-  ids = [];
+  identifiers = [];
   remarks = [];
   are = refl;
   as_model = tt;
@@ -125,7 +125,7 @@ split c m (item ∷ items) rise (inl named, ends) =
     record {
       models = item ∷ s.models;
       usages = s.usages;
-      ids = s.ids;
+      identifiers = s.identifiers;
       remarks = s.remarks;
       are = ap (λ xs. item ∷ xs) s.are;
       as_model = (named, s.as_model);
@@ -144,9 +144,9 @@ split c m (item ∷ items) rise (inr (inl named), ends) =
     record {
       models = [];
       usages = item ∷ s.usages;
-      ids = s.ids;
+      identifiers = s.identifiers;
       remarks = s.remarks;
-      are = ap (λ xs. item ∷ xs) (s.are ∙ ap (λ xs. xs ++ (s.usages ++ (s.ids ++ s.remarks))) no_models);
+      are = ap (λ xs. item ∷ xs) (s.are ∙ ap (λ xs. xs ++ (s.usages ++ (s.identifiers ++ s.remarks))) no_models);
       as_model = tt;
       as_usage = (named, s.as_usage);
       as_id = s.as_id;
@@ -164,11 +164,11 @@ split c m (item ∷ items) rise (inr (inr (inl named)), ends) =
     record {
       models = [];
       usages = [];
-      ids = item ∷ s.ids;
+      identifiers = item ∷ s.identifiers;
       remarks = s.remarks;
       are = ap (λ xs. item ∷ xs)
-          (s.are ∙ ap (λ xs. xs ++ (s.usages ++ (s.ids ++ s.remarks))) no_models
-          ∙ ap (λ xs. xs ++ (s.ids ++ s.remarks)) no_usages);
+          (s.are ∙ ap (λ xs. xs ++ (s.usages ++ (s.identifiers ++ s.remarks))) no_models
+          ∙ ap (λ xs. xs ++ (s.identifiers ++ s.remarks)) no_usages);
       as_model = tt;
       as_usage = tt;
       as_id = (named, s.as_id);
@@ -186,11 +186,11 @@ split c m (item ∷ items) rise (inr (inr (inr named)), ends) =
     record {
       models = [];
       usages = [];
-      ids = [];
+      identifiers = [];
       remarks = item ∷ s.remarks;
       are = ap (λ xs. item ∷ xs)
-          (s.are ∙ ap (λ xs. xs ++ (s.usages ++ (s.ids ++ s.remarks))) no_models
-          ∙ ap (λ xs. xs ++ (s.ids ++ s.remarks)) no_usages
+          (s.are ∙ ap (λ xs. xs ++ (s.usages ++ (s.identifiers ++ s.remarks))) no_models
+          ∙ ap (λ xs. xs ++ (s.identifiers ++ s.remarks)) no_usages
           ∙ ap (λ xs. xs ++ s.remarks) no_ids);
       as_model = tt;
       as_usage = tt;

@@ -9,13 +9,13 @@ use Rattle.crs_shape.specs.ShapeFault.{class_of_root}
 use Rattle.crs_shape.specs.Slots.{class_named, is_class}
 use Rattle.crs_value.specs.CompoundValues.{CompoundParts}
 use Rattle.crs_value.specs.CrsValues.{GeodeticParts, ProjectedParts}
-use Rattle.crs_value.specs.declared.compound.Horizontal.{Horizontal}
-use Rattle.crs_value.specs.declared.compound.Horizontal.TheVariants as horizontal
-use Rattle.crs_value.specs.declared.crs.Crs.{Crs}
-use Rattle.crs_value.specs.declared.crs.Crs.TheVariants as crs
-use Rattle.crs_value.specs.declared.level.Level.{Level}
-use Rattle.crs_value.specs.declared.system_type.SystemType.{SystemType}
-use Rattle.crs_value.specs.declared.system_type.SystemType.TheVariants as types
+use Rattle.crs_value.specs.declared.values.compound.Horizontal.{Horizontal}
+use Rattle.crs_value.specs.declared.values.compound.Horizontal.TheVariants as horizontal
+use Rattle.crs_value.specs.declared.values.crs.Crs.{Crs}
+use Rattle.crs_value.specs.declared.values.crs.Crs.TheVariants as crs
+use Rattle.crs_value.specs.declared.values.level.Level.{Level}
+use Rattle.crs_value.specs.declared.values.system_type.SystemType.{SystemType}
+use Rattle.crs_value.specs.declared.values.system_type.SystemType.TheVariants as types
 use Rattle.crs_value.specs.Reading.{those, ReadsElse, ReadsFirst}
 use Rattle.crs_value.specs.ReadsCrs.{IsGeodeticClass, ReadsAsHorizontal, ReadsCompound, ReadsCrs, ReadsVertical}
 use Rattle.crs_value.specs.SoundCompound.{IsCompound, IsHorizontal}
@@ -39,7 +39,7 @@ geographic-names = record {
   heads = ReadNameLemmas.geographic-crs-cs;
   axes = ReadNameLemmas.geographic-crs-axis;
   usages = ReadNameLemmas.geographic-crs-usage;
-  ids = ReadNameLemmas.geographic-crs-id;
+  identifiers = ReadNameLemmas.geographic-crs-id;
   remarks = ReadNameLemmas.geographic-crs-remark;
 }
 
@@ -51,7 +51,7 @@ geodetic-names = record {
   heads = ReadNameLemmas.geodetic-crs-cs;
   axes = ReadNameLemmas.geodetic-crs-axis;
   usages = ReadNameLemmas.geodetic-crs-usage;
-  ids = ReadNameLemmas.geodetic-crs-id;
+  identifiers = ReadNameLemmas.geodetic-crs-id;
   remarks = ReadNameLemmas.geodetic-crs-remark;
 }
 

@@ -8,10 +8,10 @@ use Rattle.crs_shape.specs.declared.class.Class.TheVariants as class
 use Rattle.crs_shape.specs.Slots.{class_named}
 use Rattle.crs_value.specs.BadSystem.{IsOneOf, geodetic_dimensions, projected_dimensions, vertical_dimensions}
 use Rattle.crs_value.specs.CrsValues.{BaseParts, GeodeticParts, ProjectedParts, VerticalParts}
-use Rattle.crs_value.specs.declared.level.Level.{Level}
-use Rattle.crs_value.specs.declared.system_type.SystemType.{SystemType}
-use Rattle.crs_value.specs.declared.system_type.SystemType.TheVariants as types
-use Rattle.crs_value.specs.declared.unit_kind.UnitKind.TheVariants as kinds
+use Rattle.crs_value.specs.declared.values.level.Level.{Level}
+use Rattle.crs_value.specs.declared.values.system_type.SystemType.{SystemType}
+use Rattle.crs_value.specs.declared.values.system_type.SystemType.TheVariants as types
+use Rattle.crs_value.specs.declared.values.unit_kind.UnitKind.TheVariants as kinds
 use Rattle.crs_value.specs.Reading.{ReadsFirst}
 use Rattle.crs_value.specs.Reads.{ReadsMeridian, ReadsUnit}
 use Rattle.crs_value.specs.ReadsConversion.{ReadsConversion, ReadsGeoidModel}
@@ -29,7 +29,7 @@ use Rattle.crs_normal.specs.TextLaws.{TextLaws}
 use Rattle.crs_normal.proofs.MemberUnitLemmas.{NamesId}
 use Rattle.crs_normal.proofs.ReadDatumLemmas.{frame-read, frame-segment, geodetic-back, vertical-back}
 use Rattle.crs_normal.proofs.ReadEndLemmas.{axes-segment, conversion-read, geoids-back, head-segment, system-read, tail-read, tail-segments}
-use Rattle.crs_normal.proofs.ReadFrameLemmas.{IsAngle, angles-back, angles-in, angles-kept, ids-field, ids-segment, meridian-read, name-segment}
+use Rattle.crs_normal.proofs.ReadFrameLemmas.{IsAngle, angles-back, angles-in, angles-kept, identifiers-field, identifiers-segment, meridian-read, name-segment}
 use Rattle.crs_normal.proofs.ReadNameLemmas
 use Rattle.crs_normal.proofs.ReadSystemLemmas.{AreWhole}
 use Rattle.crs_normal.proofs.ReadWalkLemmas.{AreIn, IsIn, MayIn, ReadsBack, Segment, each-all, each-field, each-segment, first-field, one-segment, opt-field, opt-segment, some-all}
@@ -91,7 +91,7 @@ pub record GeodeticNames (c : Class) : Type 0 where
   pub heads : class_named c (codes "CS") ≡ Some class.CoordinateSystem
   pub axes : class_named c (codes "AXIS") ≡ Some class.Axis
   pub usages : class_named c (codes "USAGE") ≡ Some class.Usage
-  pub ids : NamesId c
+  pub identifiers : NamesId c
   pub remarks : class_named c (codes "REMARK") ≡ Some class.Remark
 
 module _ (laws : TextLaws) (lower : LowerLaws) (c : Class) (names : GeodeticNames c) (level : Level) (g : GeodeticParts) (s : IsGeodetic g) where
@@ -117,7 +117,7 @@ module _ (laws : TextLaws) (lower : LowerLaws) (c : Class) (names : GeodeticName
   geodetic-axes = axes-segment laws c names.heads names.axes level g.system s.system geodetic-whole
 
   abbrev geodetic-tail : List (Segment c)
-  geodetic-tail = tail-segments laws c names.usages names.ids names.remarks level g.tail s.tail
+  geodetic-tail = tail-segments laws c names.usages names.identifiers names.remarks level g.tail s.tail
 
   pub geodetic-read : ReadsBack item_geodetic (ReadsGeodetic c) (norm_geodetic level g)
   geodetic-read place =
@@ -139,7 +139,7 @@ module _ (laws : TextLaws) (lower : LowerLaws) (c : Class) (names : GeodeticName
             (name-segment c g.name ∷ geodetic-frame ∷ geodetic-meridian ∷ []) geodetic-tail item start refl refl refl
             refl refl refl;
         tail =
-            tail-read laws c names.usages names.ids names.remarks level g.tail s.tail
+            tail-read laws c names.usages names.identifiers names.remarks level g.tail s.tail
             (name-segment c g.name ∷ geodetic-frame ∷ geodetic-meridian ∷ geodetic-head ∷ geodetic-axes ∷ []) item
             start refl refl refl refl refl refl refl refl;
       }
@@ -169,8 +169,8 @@ module _ (laws : TextLaws) (level : Level) (b : BaseParts) (s : IsBase b) where
   abbrev base-unit : Segment base
   base-unit = opt-segment base class.AngleUnit item_unit (norm_units level kinds.Angle b.unit) base-unit-in
 
-  abbrev base-ids : Segment base
-  base-ids = ids-segment base ReadNameLemmas.base-crs-id (set_idents level b.ids)
+  abbrev base-identifiers : Segment base
+  base-identifiers = identifiers-segment base ReadNameLemmas.base-crs-id (set_idents level b.identifiers)
 
   pub base-read : ReadsBack item_base (ReadsBase class.BaseCrs) (norm_base level b)
   base-read place = record {
@@ -179,20 +179,20 @@ module _ (laws : TextLaws) (level : Level) (b : BaseParts) (s : IsBase b) where
         frame-read base class.GeodeticFrame class.GeodeticEnsemble (codes "DATUM") ReadNameLemmas.base-crs-datum
         ReadNameLemmas.base-crs-ensemble refl refl refl (norm_frame level b.frame)
         (geodetic-back laws level b.frame s.frame) (name-segment base b.name ∷ [])
-        (base-meridian ∷ base-unit ∷ base-ids ∷ []) refl refl refl
+        (base-meridian ∷ base-unit ∷ base-identifiers ∷ []) refl refl refl
         (at_place place (item_base (norm_base level b))) (place + 11) refl;
     meridian =
-        opt-field base class.PrimeMeridian (name-segment base b.name ∷ base-frame ∷ []) (base-unit ∷ base-ids ∷ []) refl
+        opt-field base class.PrimeMeridian (name-segment base b.name ∷ base-frame ∷ []) (base-unit ∷ base-identifiers ∷ []) refl
         item_meridian (ReadsMeridian class.PrimeMeridian) refl refl (norm_meridian level b.meridian)
         (meridian-in base ReadNameLemmas.base-crs-primem (norm_meridian level b.meridian))
         (meridian-read laws level b.meridian s.meridian) (place + 11);
     unit =
-        opt-field base class.AngleUnit (name-segment base b.name ∷ base-frame ∷ base-meridian ∷ []) (base-ids ∷ []) refl
+        opt-field base class.AngleUnit (name-segment base b.name ∷ base-frame ∷ base-meridian ∷ []) (base-identifiers ∷ []) refl
         item_unit (ReadsUnit class.AngleUnit) refl refl (norm_units level kinds.Angle b.unit) base-unit-in
         (angles-back laws (norm_units level kinds.Angle b.unit) base-angle) (place + 11);
-    ids =
-        ids-field base ReadNameLemmas.base-crs-id
-        (name-segment base b.name ∷ base-frame ∷ base-meridian ∷ base-unit ∷ []) refl level b.ids s.ids (place + 11);
+    identifiers =
+        identifiers-field base ReadNameLemmas.base-crs-id
+        (name-segment base b.name ∷ base-frame ∷ base-meridian ∷ base-unit ∷ []) refl level b.identifiers s.identifiers (place + 11);
   }
 
 -- ---- projected CRSs

@@ -6,8 +6,9 @@ use Rattle.crs_shape.specs.declared.class.Class.{Class}
 use Rattle.crs_shape.specs.declared.class.Class.TheVariants as class
 use Rattle.crs_shape.specs.Slots.{class_named}
 use Rattle.crs_value.specs.ConversionValues.{ConversionParts, GeoidModelParts, MethodParts, ParameterParts}
-use Rattle.crs_value.specs.declared.level.Level.{Level}
-use Rattle.crs_value.specs.declared.level.Level.TheVariants as levels
+use Rattle.crs_value.specs.Kept.{kept, kept_one}
+use Rattle.crs_value.specs.KeptLaws.{kept-each}
+use Rattle.crs_value.specs.declared.values.level.Level.{Level}
 use Rattle.crs_value.specs.Reading.{those, ReadsFirst, ReadsOptional, ReadsEach}
 use Rattle.crs_value.specs.Reads.{ReadsAxis, ReadsHead, ReadsIdent, ReadsSystem, ReadsTail, ReadsTextOf, ReadsUnit, ReadsUsage}
 use Rattle.crs_value.specs.ReadsConversion.{ReadsConversion, ReadsGeoidModel, ReadsMethod, ReadsParameter}
@@ -21,13 +22,13 @@ use Rattle.crs_normal.specs.SpelledConversions.{item_conversion, item_geoid_mode
 use Rattle.crs_normal.specs.SpelledItems.{node_from, text_node}
 use Rattle.crs_normal.specs.SpelledSystems.{axes_from, item_axis, item_head, norm_system, system_items}
 use Rattle.crs_normal.specs.SpelledUnits.{item_ident, set_idents}
-use Rattle.crs_normal.specs.SpelledUsages.{item_usage, norm_remark, norm_tail, norm_usage, set_usages, tail_items}
+use Rattle.crs_normal.specs.SpelledUsages.{item_usage, norm_tail, norm_usage, set_usages, tail_items}
 use Rattle.crs_normal.specs.TextLaws.{TextLaws}
 use Rattle.crs_normal.proofs.MadeTailLemmas.{usages-sound}
 use Rattle.crs_normal.proofs.MemberLemmas.{geoid-kept, geoid-read}
 use Rattle.crs_normal.proofs.MemberUnitLemmas.{NamesId}
 use Rattle.crs_normal.proofs.ParameterLemmas.{parameter-kept, parameter-read}
-use Rattle.crs_normal.proofs.ReadFrameLemmas.{idents-back, idents-in, ids-field, ids-segment, name-segment}
+use Rattle.crs_normal.proofs.ReadFrameLemmas.{idents-back, idents-in, identifiers-field, identifiers-segment, name-segment}
 use Rattle.crs_normal.proofs.ReadNameLemmas
 use Rattle.crs_normal.proofs.ReadSystemLemmas.{AreWhole, axes-read, head-read}
 use Rattle.crs_normal.proofs.ReadWalkLemmas.{AllPass, AreIn, IsIn, MayIn, ReadsBack, Segment, each-all, each-field, each-imp, each-segment, first-field, lacking, lay, one-segment, opt-field, opt-segment, past, set-kept, some-all}
@@ -39,8 +40,8 @@ pub method-read : (level : Level) (m : MethodParts) → IsMethod m →
     ReadsBack item_method (ReadsMethod class.Method) (norm_method level m)
 method-read level m s place = record {
   name = refl;
-  ids =
-      ids-field class.Method ReadNameLemmas.method-id (name-segment class.Method m.name ∷ []) refl level m.ids s.ids
+  identifiers =
+      identifiers-field class.Method ReadNameLemmas.method-id (name-segment class.Method m.name ∷ []) refl level m.identifiers s.identifiers
       (place + 6);
 }
 
@@ -71,25 +72,25 @@ module _ (laws : TextLaws) (level : Level) (v : ConversionParts) (s : IsConversi
   parameters-segment =
       each-segment class.Conversion class.Parameter item_parameter (set_parameters level v.parameters) parameters-in
 
-  abbrev conversion-ids : Segment class.Conversion
-  conversion-ids = ids-segment class.Conversion ReadNameLemmas.conversion-id (set_idents level v.ids)
+  abbrev conversion-identifiers : Segment class.Conversion
+  conversion-identifiers = identifiers-segment class.Conversion ReadNameLemmas.conversion-id (set_idents level v.identifiers)
 
   pub conversion-read : ReadsBack item_conversion (ReadsConversion class.Conversion) (norm_conversion level v)
   conversion-read place = record {
     name = refl;
     method =
         first-field class.Conversion class.Method (name-segment class.Conversion v.name ∷ [])
-        (parameters-segment ∷ conversion-ids ∷ []) refl
+        (parameters-segment ∷ conversion-identifiers ∷ []) refl
         (λ l. ReadsFirst (ReadsMethod class.Method) l (norm_method level v.method)) method-item method-in refl
         (λ p others. method-read level v.method s.method p) (place + 10);
     parameters =
         each-field class.Conversion class.Parameter (name-segment class.Conversion v.name ∷ method-segment ∷ [])
-        (conversion-ids ∷ []) refl item_parameter (ReadsParameter class.Parameter) refl refl
+        (conversion-identifiers ∷ []) refl item_parameter (ReadsParameter class.Parameter) refl refl
         (set_parameters level v.parameters) parameters-in (parameters-back laws level v.parameters s.parameters)
         (place + 10);
-    ids =
-        ids-field class.Conversion ReadNameLemmas.conversion-id
-        (name-segment class.Conversion v.name ∷ method-segment ∷ parameters-segment ∷ []) refl level v.ids s.ids
+    identifiers =
+        identifiers-field class.Conversion ReadNameLemmas.conversion-id
+        (name-segment class.Conversion v.name ∷ method-segment ∷ parameters-segment ∷ []) refl level v.identifiers s.identifiers
         (place + 10);
   }
 
@@ -111,8 +112,9 @@ from-in c k keyword e (More first others) n = λ place. e
 written-usages : (level : Level) (us : List UsageParts) → Each IsUsage us →
     Each IsWrittenUsage (set_usages level us)
 unfolding set_usages
-written-usages levels.Full us s =
-    set-kept norm_usage (λ u. item_text (item_usage u)) IsUsage IsWrittenUsage usage-kept us s
+written-usages level us s =
+    set-kept norm_usage (λ u. item_text (item_usage u)) IsUsage IsWrittenUsage usage-kept (kept level us)
+    (kept-each (λ l. IsUsage) level us s)
 
 module _ (laws : TextLaws) (c : Class) (usages : class_named c (codes "USAGE") ≡ Some class.Usage) (names : NamesId c) (remarks : class_named c (codes "REMARK") ≡ Some class.Remark) (level : Level) (t : TailParts) (s : IsTail t) where
   abbrev tail-usages : List UsageParts
@@ -126,22 +128,22 @@ module _ (laws : TextLaws) (c : Class) (usages : class_named c (codes "USAGE") �
       each-imp IsWrittenUsage (λ u. IsIn c class.Usage (item_usage u))
       (λ u q. from-in c class.Usage (codes "USAGE") usages _ (usage-is-node u q.some)) tail-usages written
 
-  pub remark-in : MayIn c class.Remark (text_node (codes "REMARK")) (norm_remark level t.remark)
+  pub remark-in : MayIn c class.Remark (text_node (codes "REMARK")) (kept_one level t.remark)
   remark-in =
       some-all (λ x. IsIn c class.Remark (text_node (codes "REMARK") x)) (λ x place. remarks)
-      (norm_remark level t.remark)
+      (kept_one level t.remark)
 
   abbrev pub usages-segment : Segment c
   usages-segment = each-segment c class.Usage item_usage tail-usages usages-in
 
-  abbrev pub tail-ids : Segment c
-  tail-ids = ids-segment c names (set_idents level t.ids)
+  abbrev pub tail-identifiers : Segment c
+  tail-identifiers = identifiers-segment c names (set_idents level t.identifiers)
 
   abbrev pub remark-segment : Segment c
-  remark-segment = opt-segment c class.Remark (text_node (codes "REMARK")) (norm_remark level t.remark) remark-in
+  remark-segment = opt-segment c class.Remark (text_node (codes "REMARK")) (kept_one level t.remark) remark-in
 
   abbrev pub tail-segments : List (Segment c)
-  tail-segments = usages-segment ∷ tail-ids ∷ remark-segment ∷ []
+  tail-segments = usages-segment ∷ tail-identifiers ∷ remark-segment ∷ []
 
   module _ (before : List (Segment c)) (item : Item) (start : ℕ) (same : arguments item ≡ at_places start (lay c before (tail_items (norm_tail level t)))) where
     lacks : (d : Class) → AllPass c d before → AllPass c d tail-segments → those c d (arguments item) ≡ []
@@ -157,36 +159,36 @@ module _ (laws : TextLaws) (c : Class) (usages : class_named c (codes "USAGE") �
     tail-read p-usage p-scope p-area p-box p-extent p-id p-remark = record {
       usages =
           subst (λ items. ReadsEach (ReadsUsage class.Usage) (those c class.Usage items) tail-usages) (sym same)
-          (each-field c class.Usage before (tail-ids ∷ remark-segment ∷ []) p-usage item_usage
+          (each-field c class.Usage before (tail-identifiers ∷ remark-segment ∷ []) p-usage item_usage
           (ReadsUsage class.Usage) refl refl tail-usages usages-in
           (each-imp IsWrittenUsage (ReadsBack item_usage (ReadsUsage class.Usage)) (usage-read laws) tail-usages
           written) start);
-      bare = record {
+      bare_parts = record {
         scope = lacks class.Scope p-scope refl;
         area = lacks class.Area p-area refl;
         bbox = lacks class.BoundingBox p-box refl;
         extent = lacks class.VerticalExtent p-extent refl;
       };
-      ids =
+      identifiers =
           subst
-          (λ items. ReadsEach (ReadsIdent class.Identifier) (those c class.Identifier items) (set_idents level t.ids))
+          (λ items. ReadsEach (ReadsIdent class.Identifier) (those c class.Identifier items) (set_idents level t.identifiers))
           (sym same)
           (past c class.Identifier
-          (λ l. ReadsEach (ReadsIdent class.Identifier) l (set_idents level t.ids)) before
+          (λ l. ReadsEach (ReadsIdent class.Identifier) l (set_idents level t.identifiers)) before
           (tail_items (norm_tail level t)) p-id
           (each-field c class.Identifier (usages-segment ∷ []) (remark-segment ∷ []) refl item_ident
-          (ReadsIdent class.Identifier) refl refl (set_idents level t.ids) (idents-in c names (set_idents level t.ids))
-          (idents-back level t.ids s.ids)) start);
+          (ReadsIdent class.Identifier) refl refl (set_idents level t.identifiers) (idents-in c names (set_idents level t.identifiers))
+          (idents-back level t.identifiers s.identifiers)) start);
       remark =
           subst
-          (λ items. ReadsOptional (ReadsTextOf class.Remark) (those c class.Remark items) (norm_remark level t.remark))
+          (λ items. ReadsOptional (ReadsTextOf class.Remark) (those c class.Remark items) (kept_one level t.remark))
           (sym same)
-          (past c class.Remark (λ l. ReadsOptional (ReadsTextOf class.Remark) l (norm_remark level t.remark)) before
+          (past c class.Remark (λ l. ReadsOptional (ReadsTextOf class.Remark) l (kept_one level t.remark)) before
           (tail_items (norm_tail level t)) p-remark
-          (opt-field c class.Remark (usages-segment ∷ tail-ids ∷ []) [] refl (text_node (codes "REMARK"))
-          (ReadsTextOf class.Remark) refl refl (norm_remark level t.remark) remark-in
+          (opt-field c class.Remark (usages-segment ∷ tail-identifiers ∷ []) [] refl (text_node (codes "REMARK"))
+          (ReadsTextOf class.Remark) refl refl (kept_one level t.remark) remark-in
           (some-all (ReadsBack (text_node (codes "REMARK")) (ReadsTextOf class.Remark)) (λ x p. refl)
-          (norm_remark level t.remark))) start);
+          (kept_one level t.remark))) start);
     }
 
 -- ---- systems among the arguments of a CRS

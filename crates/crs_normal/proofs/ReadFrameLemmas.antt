@@ -7,9 +7,9 @@ use Rattle.crs_text.specs.Written.{item_text}
 use Rattle.crs_shape.specs.declared.class.Class.{Class}
 use Rattle.crs_shape.specs.declared.class.Class.TheVariants as class
 use Rattle.crs_shape.specs.Slots.{class_named}
-use Rattle.crs_value.specs.declared.level.Level.{Level}
-use Rattle.crs_value.specs.declared.unit_kind.UnitKind.{UnitKind}
-use Rattle.crs_value.specs.declared.unit_kind.UnitKind.TheVariants as kinds
+use Rattle.crs_value.specs.declared.values.level.Level.{Level}
+use Rattle.crs_value.specs.declared.values.unit_kind.UnitKind.{UnitKind}
+use Rattle.crs_value.specs.declared.values.unit_kind.UnitKind.TheVariants as kinds
 use Rattle.crs_value.specs.Reading.{ReadsEach, ReadsFirst}
 use Rattle.crs_value.specs.Reads.{ReadsDatum, ReadsEllipsoid, ReadsEnsemble, ReadsIdent, ReadsMember, ReadsMeridian, ReadsNumberOf, ReadsTextOf, ReadsUnit}
 use Rattle.crs_value.specs.Sound.{Each, IsIdent, IsUnit, IsUnitOf, Suits}
@@ -31,17 +31,17 @@ use Rattle.crs_normal.proofs.ReadWalkLemmas.{AllPass, AreIn, IsIn, MayIn, ReadsB
 
 -- ---- identifiers
 
-pub idents-back : (level : Level) (ids : List IdentParts) → Each IsIdent ids →
-    Each (ReadsBack item_ident (ReadsIdent class.Identifier)) (set_idents level ids)
-idents-back level ids s =
-    each-imp IsIdent (ReadsBack item_ident (ReadsIdent class.Identifier)) ident-read (set_idents level ids)
-    (idents-kept level ids s)
+pub idents-back : (level : Level) (identifiers : List IdentParts) → Each IsIdent identifiers →
+    Each (ReadsBack item_ident (ReadsIdent class.Identifier)) (set_idents level identifiers)
+idents-back level identifiers s =
+    each-imp IsIdent (ReadsBack item_ident (ReadsIdent class.Identifier)) ident-read (set_idents level identifiers)
+    (idents-kept level identifiers s)
 
-pub idents-in : (c : Class) → NamesId c → (ids : List IdentParts) → AreIn c class.Identifier item_ident ids
-idents-in c e ids = each-all (λ x. IsIn c class.Identifier (item_ident x)) (λ x place. e) ids
+pub idents-in : (c : Class) → NamesId c → (identifiers : List IdentParts) → AreIn c class.Identifier item_ident identifiers
+idents-in c e identifiers = each-all (λ x. IsIn c class.Identifier (item_ident x)) (λ x place. e) identifiers
 
-abbrev pub ids-segment : (c : Class) → NamesId c → List IdentParts → Segment c
-ids-segment c e ids = each-segment c class.Identifier item_ident ids (idents-in c e ids)
+abbrev pub identifiers-segment : (c : Class) → NamesId c → List IdentParts → Segment c
+identifiers-segment c e identifiers = each-segment c class.Identifier item_ident identifiers (idents-in c e identifiers)
 
 abbrev pub name-segment : (c : Class) → List ℕ → Segment c
 name-segment c name = one-segment c class.Text (text_item name) (λ place. refl)
@@ -71,13 +71,13 @@ pub angles-kept : (level : Level) (o : Option UnitParts) → IfSome o (IsUnitOf 
 angles-kept level None s = tt
 angles-kept level (Some u) s = angle-kept level u s
 
-pub ids-field : (c : Class) (e : NamesId c) (before : List (Segment c)) → AllPass c class.Identifier before →
-    (level : Level) (ids : List IdentParts) → Each IsIdent ids →
-    Gives c class.Identifier (λ l. ReadsEach (ReadsIdent class.Identifier) l (set_idents level ids))
-    (lay c before (each item_ident (set_idents level ids) End))
-ids-field c e before p level ids s =
-    each-field c class.Identifier before [] p item_ident (ReadsIdent class.Identifier) refl refl (set_idents level ids)
-    (idents-in c e (set_idents level ids)) (idents-back level ids s)
+pub identifiers-field : (c : Class) (e : NamesId c) (before : List (Segment c)) → AllPass c class.Identifier before →
+    (level : Level) (identifiers : List IdentParts) → Each IsIdent identifiers →
+    Gives c class.Identifier (λ l. ReadsEach (ReadsIdent class.Identifier) l (set_idents level identifiers))
+    (lay c before (each item_ident (set_idents level identifiers) End))
+identifiers-field c e before p level identifiers s =
+    each-field c class.Identifier before [] p item_ident (ReadsIdent class.Identifier) refl refl (set_idents level identifiers)
+    (idents-in c e (set_idents level identifiers)) (idents-back level identifiers s)
 
 -- ---- ellipsoids
 
@@ -95,8 +95,8 @@ module _ (laws : TextLaws) (level : Level) (e : EllipsoidParts) (s : IsEllipsoid
       name-segment class.Ellipsoid e.name ∷ number-segment class.Ellipsoid e.semi_major_axis ∷
       number-segment class.Ellipsoid e.inverse_flattening ∷ []
 
-  abbrev ellipsoid-ids : List IdentParts
-  ellipsoid-ids = set_idents level e.ids
+  abbrev ellipsoid-identifiers : List IdentParts
+  ellipsoid-identifiers = set_idents level e.identifiers
 
   pub ellipsoid-read : ReadsBack item_ellipsoid (ReadsEllipsoid class.Ellipsoid) (norm_ellipsoid level e)
   ellipsoid-read place = record {
@@ -105,16 +105,16 @@ module _ (laws : TextLaws) (level : Level) (e : EllipsoidParts) (s : IsEllipsoid
     inverse_flattening = number-read laws e.inverse_flattening s.inverse_flattening 0;
     unit =
         opt-field class.Ellipsoid class.LengthUnit ellipsoid-front
-        (ids-segment class.Ellipsoid ReadNameLemmas.ellipsoid-id ellipsoid-ids ∷ []) refl item_unit
+        (identifiers-segment class.Ellipsoid ReadNameLemmas.ellipsoid-id ellipsoid-identifiers ∷ []) refl item_unit
         (ReadsUnit class.LengthUnit) refl refl (Some ellipsoid-unit) ellipsoid-unit-in
         (unit-read laws class.LengthUnit ReadNameLemmas.length-unit-id ellipsoid-unit
         (length-kept level e.unit s.unit).0) (place + 9);
-    ids =
-        ids-field class.Ellipsoid ReadNameLemmas.ellipsoid-id
+    identifiers =
+        identifiers-field class.Ellipsoid ReadNameLemmas.ellipsoid-id
         (name-segment class.Ellipsoid e.name ∷ number-segment class.Ellipsoid e.semi_major_axis ∷
         number-segment class.Ellipsoid e.inverse_flattening ∷
         opt-segment class.Ellipsoid class.LengthUnit item_unit (Some ellipsoid-unit) ellipsoid-unit-in ∷ []) refl level
-        e.ids s.ids
+        e.identifiers s.identifiers
         (place + 9);
   }
 
@@ -154,13 +154,13 @@ module _ (laws : TextLaws) (level : Level) (m : MeridianParts) (s : IsMeridian m
     unit =
         opt-field class.PrimeMeridian class.AngleUnit
         (name-segment class.PrimeMeridian m.name ∷ number-segment class.PrimeMeridian m.longitude ∷ [])
-        (ids-segment class.PrimeMeridian ReadNameLemmas.prime-meridian-id (set_idents level m.ids) ∷ []) refl item_unit
+        (identifiers-segment class.PrimeMeridian ReadNameLemmas.prime-meridian-id (set_idents level m.identifiers) ∷ []) refl item_unit
         (ReadsUnit class.AngleUnit) refl refl meridian-unit meridian-in
         (angles-back laws meridian-unit meridian-angle) (place + 6);
-    ids =
-        ids-field class.PrimeMeridian ReadNameLemmas.prime-meridian-id
+    identifiers =
+        identifiers-field class.PrimeMeridian ReadNameLemmas.prime-meridian-id
         (name-segment class.PrimeMeridian m.name ∷ number-segment class.PrimeMeridian m.longitude ∷
-        opt-segment class.PrimeMeridian class.AngleUnit item_unit meridian-unit meridian-in ∷ []) refl level m.ids s.ids
+        opt-segment class.PrimeMeridian class.AngleUnit item_unit meridian-unit meridian-in ∷ []) refl level m.identifiers s.identifiers
         (place + 6);
   }
 
@@ -169,7 +169,7 @@ greenwich-read laws place = record {
   name = refl;
   longitude = number-read laws (whole_value 0) refl 0;
   unit = tt;
-  ids = tt;
+  identifiers = tt;
 }
 
 -- Greenwich is written where none is given
@@ -209,20 +209,20 @@ module _ (laws : TextLaws) (c : Class) (keyword : List ℕ) (names : NamesId c) 
     ellipsoid =
         opt-field c class.Ellipsoid (name-segment c d.name ∷ [])
         (opt-segment c class.Anchor (text_node (codes "ANCHOR")) d.anchor anchor-in ∷
-        ids-segment c names (set_idents level d.ids) ∷ []) refl item_ellipsoid
+        identifiers-segment c names (set_idents level d.identifiers) ∷ []) refl item_ellipsoid
         (ReadsEllipsoid class.Ellipsoid) refl refl datum-ellipsoid on
         (ellipsoids-back laws level d.ellipsoid s.ellipsoid) (place + length keyword);
     anchor =
         opt-field c class.Anchor
         (name-segment c d.name ∷ opt-segment c class.Ellipsoid item_ellipsoid datum-ellipsoid on ∷ [])
-        (ids-segment c names (set_idents level d.ids) ∷ []) refl (text_node (codes "ANCHOR"))
+        (identifiers-segment c names (set_idents level d.identifiers) ∷ []) refl (text_node (codes "ANCHOR"))
         (ReadsTextOf class.Anchor) refl refl d.anchor anchor-in
         (some-all (ReadsBack (text_node (codes "ANCHOR")) (ReadsTextOf class.Anchor)) (λ x p. refl) d.anchor)
         (place + length keyword);
-    ids =
-        ids-field c names
+    identifiers =
+        identifiers-field c names
         (name-segment c d.name ∷ opt-segment c class.Ellipsoid item_ellipsoid datum-ellipsoid on ∷
-        opt-segment c class.Anchor (text_node (codes "ANCHOR")) d.anchor anchor-in ∷ []) refl level d.ids s.ids
+        opt-segment c class.Anchor (text_node (codes "ANCHOR")) d.anchor anchor-in ∷ []) refl level d.identifiers s.identifiers
         (place + length keyword);
   }
 
@@ -247,27 +247,27 @@ module _ (laws : TextLaws) (c : Class) (names : NamesId c) (members : class_name
   abbrev members-segment : Segment c
   members-segment = each-segment c class.Member item_member (set_members level e.members) members-in
 
-  abbrev ensemble-ids : Segment c
-  ensemble-ids = ids-segment c names (set_idents level e.ids)
+  abbrev ensemble-identifiers : Segment c
+  ensemble-identifiers = identifiers-segment c names (set_idents level e.identifiers)
 
   pub ensemble-read : ReadsBack item_ensemble (ReadsEnsemble c) (norm_ensemble level e)
   ensemble-read place = record {
     name = refl;
     members =
         each-field c class.Member (name-segment c e.name ∷ [])
-        (ensemble-ellipsoid ∷ accuracy-segment ∷ ensemble-ids ∷ []) refl item_member (ReadsMember class.Member) refl
+        (ensemble-ellipsoid ∷ accuracy-segment ∷ ensemble-identifiers ∷ []) refl item_member (ReadsMember class.Member) refl
         refl (set_members level e.members) members-in (members-back level e.members s.members) (place + 8);
     ellipsoid =
         opt-field c class.Ellipsoid (name-segment c e.name ∷ members-segment ∷ [])
-        (accuracy-segment ∷ ensemble-ids ∷ []) refl item_ellipsoid (ReadsEllipsoid class.Ellipsoid) refl refl
+        (accuracy-segment ∷ ensemble-identifiers ∷ []) refl item_ellipsoid (ReadsEllipsoid class.Ellipsoid) refl refl
         (option_map (norm_ellipsoid level) e.ellipsoid) on
         (ellipsoids-back laws level e.ellipsoid s.ellipsoid) (place + 8);
     accuracy =
         first-field c class.EnsembleAccuracy (name-segment c e.name ∷ members-segment ∷ ensemble-ellipsoid ∷ [])
-        (ensemble-ids ∷ []) refl (λ l. ReadsFirst (ReadsNumberOf class.EnsembleAccuracy) l e.accuracy) accuracy-item
+        (ensemble-identifiers ∷ []) refl (λ l. ReadsFirst (ReadsNumberOf class.EnsembleAccuracy) l e.accuracy) accuracy-item
         accuracy-in refl (λ p others. number-read laws e.accuracy s.accuracy 0) (place + 8);
-    ids =
-        ids-field c names
-        (name-segment c e.name ∷ members-segment ∷ ensemble-ellipsoid ∷ accuracy-segment ∷ []) refl level e.ids s.ids
+    identifiers =
+        identifiers-field c names
+        (name-segment c e.name ∷ members-segment ∷ ensemble-ellipsoid ∷ accuracy-segment ∷ []) refl level e.identifiers s.identifiers
         (place + 8);
   }

@@ -4,13 +4,13 @@ use Rattle.crs_decimal.specs.Value.{IsNormal}
 use Rattle.crs_text.specs.Written.{at_place}
 use Rattle.crs_shape.specs.declared.class.Class.TheVariants as class
 use Rattle.crs_value.specs.BadUnit.{asked_kind, kind_by_direction}
-use Rattle.crs_value.specs.declared.direction.Direction.{Direction}
-use Rattle.crs_value.specs.declared.direction.Direction.TheVariants as direction
-use Rattle.crs_value.specs.declared.level.Level.{Level}
-use Rattle.crs_value.specs.declared.system_type.SystemType.{SystemType}
-use Rattle.crs_value.specs.declared.system_type.SystemType.TheVariants as types
-use Rattle.crs_value.specs.declared.unit_kind.UnitKind.{UnitKind}
-use Rattle.crs_value.specs.declared.unit_kind.UnitKind.TheVariants as kinds
+use Rattle.crs_value.specs.declared.values.direction.Direction.{Direction}
+use Rattle.crs_value.specs.declared.values.direction.Direction.TheVariants as direction
+use Rattle.crs_value.specs.declared.values.level.Level.{Level}
+use Rattle.crs_value.specs.declared.values.system_type.SystemType.{SystemType}
+use Rattle.crs_value.specs.declared.values.system_type.SystemType.TheVariants as types
+use Rattle.crs_value.specs.declared.values.unit_kind.UnitKind.{UnitKind}
+use Rattle.crs_value.specs.declared.values.unit_kind.UnitKind.TheVariants as kinds
 use Rattle.crs_value.specs.Reading.{ReadsFirst}
 use Rattle.crs_value.specs.Reads.{ReadsAxis, ReadsAxisMeridian, ReadsHead, ReadsNumberOf, ReadsUnit}
 use Rattle.crs_value.specs.Sound.{Each, IsAxis, IsAxisMeridian, IsAxisUnit}
@@ -25,7 +25,7 @@ use Rattle.crs_normal.specs.SpelledSystems.{axes_from, axis_at, is_at, item_axis
 use Rattle.crs_normal.specs.SpelledUnits.{item_unit, norm_unit, norm_units, set_idents, whole_value}
 use Rattle.crs_normal.specs.TextLaws.{TextLaws}
 use Rattle.crs_normal.proofs.MemberUnitLemmas.{number-read, unit-kept, unit-read}
-use Rattle.crs_normal.proofs.ReadFrameLemmas.{angle-kept, ids-field, ids-segment, name-segment, number-segment, unit-in}
+use Rattle.crs_normal.proofs.ReadFrameLemmas.{angle-kept, identifiers-field, identifiers-segment, name-segment, number-segment, unit-in}
 use Rattle.crs_normal.proofs.ReadNameLemmas
 use Rattle.crs_normal.proofs.ReadWalkLemmas.{IsIn, MayIn, ReadsBack, Segment, first-field, one-segment, opt-field, opt-segment, some-all, some-imp}
 
@@ -142,8 +142,8 @@ module _ (laws : TextLaws) (level : Level) (system : SystemParts) (shared : IfSo
   abbrev axis-unit-segment : Segment class.Axis
   axis-unit-segment = opt-segment class.Axis class.AxisUnit item_unit unit-of-axis unit-within
 
-  abbrev axis-ids : Segment class.Axis
-  axis-ids = ids-segment class.Axis ReadNameLemmas.axis-id (set_idents level x.ids)
+  abbrev axis-identifiers : Segment class.Axis
+  axis-identifiers = identifiers-segment class.Axis ReadNameLemmas.axis-id (set_idents level x.identifiers)
 
   pub axis-read : ReadsBack item_axis (ReadsAxis class.Axis) (norm_axis level system k x)
   unfolding norm_axis
@@ -152,21 +152,21 @@ module _ (laws : TextLaws) (level : Level) (system : SystemParts) (shared : IfSo
     direction = refl;
     meridian =
         opt-field class.Axis class.Meridian (axis-name ∷ axis-word ∷ [])
-        (axis-order ∷ axis-unit-segment ∷ axis-ids ∷ []) refl item_axis_meridian (ReadsAxisMeridian class.Meridian)
+        (axis-order ∷ axis-unit-segment ∷ axis-identifiers ∷ []) refl item_axis_meridian (ReadsAxisMeridian class.Meridian)
         refl refl (norm_axis_meridians level x.meridian) meridian-in
         (axis-meridians-read laws level x.meridian s.meridian) (place + 4);
     order =
-        opt-field class.Axis class.Order (axis-name ∷ axis-word ∷ axis-along ∷ []) (axis-unit-segment ∷ axis-ids ∷ [])
+        opt-field class.Axis class.Order (axis-name ∷ axis-word ∷ axis-along ∷ []) (axis-unit-segment ∷ axis-identifiers ∷ [])
         refl (number_node (codes "ORDER")) (ReadsNumberOf class.Order) refl refl (Some (whole_value k)) order-in
         (λ p. number-read laws (whole_value k) whole 0) (place + 4);
     unit =
-        opt-field class.Axis class.AxisUnit (axis-name ∷ axis-word ∷ axis-along ∷ axis-order ∷ []) (axis-ids ∷ []) refl
+        opt-field class.Axis class.AxisUnit (axis-name ∷ axis-word ∷ axis-along ∷ axis-order ∷ []) (axis-identifiers ∷ []) refl
         item_unit (ReadsUnit class.AxisUnit) refl refl unit-of-axis unit-within
         (some-imp IsAxisUnit (ReadsBack item_unit (ReadsUnit class.AxisUnit))
         (λ u q. unit-read laws class.AxisUnit ReadNameLemmas.axis-unit-id u q.0) unit-of-axis unit-sound) (place + 4);
-    ids =
-        ids-field class.Axis ReadNameLemmas.axis-id
-        (axis-name ∷ axis-word ∷ axis-along ∷ axis-order ∷ axis-unit-segment ∷ []) refl level x.ids s.ids (place + 4);
+    identifiers =
+        identifiers-field class.Axis ReadNameLemmas.axis-id
+        (axis-name ∷ axis-word ∷ axis-along ∷ axis-order ∷ axis-unit-segment ∷ []) refl level x.identifiers s.identifiers (place + 4);
   }
 
 -- ---- an axis by itself
@@ -214,30 +214,30 @@ module _ (laws : TextLaws) (level : Level) (x : AxisParts) (s : IsAxis x) where
   abbrev own-unit-segment : Segment class.Axis
   own-unit-segment = opt-segment class.Axis class.AxisUnit item_unit own-unit own-unit-in
 
-  abbrev own-ids : Segment class.Axis
-  own-ids = ids-segment class.Axis ReadNameLemmas.axis-id (set_idents level x.ids)
+  abbrev own-identifiers : Segment class.Axis
+  own-identifiers = identifiers-segment class.Axis ReadNameLemmas.axis-id (set_idents level x.identifiers)
 
   pub axis-alone-read : ReadsBack item_axis (ReadsAxis class.Axis) (norm_axis_alone level x)
   axis-alone-read place = record {
     name = refl;
     direction = refl;
     meridian =
-        opt-field class.Axis class.Meridian (own-name ∷ own-word ∷ []) (own-order ∷ own-unit-segment ∷ own-ids ∷ [])
+        opt-field class.Axis class.Meridian (own-name ∷ own-word ∷ []) (own-order ∷ own-unit-segment ∷ own-identifiers ∷ [])
         refl item_axis_meridian (ReadsAxisMeridian class.Meridian) refl refl (norm_axis_meridians level x.meridian)
         own-meridian-in (axis-meridians-read laws level x.meridian s.meridian) (place + 4);
     order =
-        opt-field class.Axis class.Order (own-name ∷ own-word ∷ own-along ∷ []) (own-unit-segment ∷ own-ids ∷ []) refl
+        opt-field class.Axis class.Order (own-name ∷ own-word ∷ own-along ∷ []) (own-unit-segment ∷ own-identifiers ∷ []) refl
         (number_node (codes "ORDER")) (ReadsNumberOf class.Order) refl refl x.order own-order-in
         (some-imp IsNormal (ReadsBack (number_node (codes "ORDER")) (ReadsNumberOf class.Order))
         (λ v n p. number-read laws v n 0) x.order s.order) (place + 4);
     unit =
-        opt-field class.Axis class.AxisUnit (own-name ∷ own-word ∷ own-along ∷ own-order ∷ []) (own-ids ∷ []) refl
+        opt-field class.Axis class.AxisUnit (own-name ∷ own-word ∷ own-along ∷ own-order ∷ []) (own-identifiers ∷ []) refl
         item_unit (ReadsUnit class.AxisUnit) refl refl own-unit own-unit-in
         (some-imp IsAxisUnit (ReadsBack item_unit (ReadsUnit class.AxisUnit))
         (λ u q. unit-read laws class.AxisUnit ReadNameLemmas.axis-unit-id u q.0) own-unit own-unit-sound) (place + 4);
-    ids =
-        ids-field class.Axis ReadNameLemmas.axis-id
-        (own-name ∷ own-word ∷ own-along ∷ own-order ∷ own-unit-segment ∷ []) refl level x.ids s.ids (place + 4);
+    identifiers =
+        identifiers-field class.Axis ReadNameLemmas.axis-id
+        (own-name ∷ own-word ∷ own-along ∷ own-order ∷ own-unit-segment ∷ []) refl level x.identifiers s.identifiers (place + 4);
   }
 
 -- ---- the axes of a system
@@ -279,8 +279,8 @@ pub head-read : TextLaws → (level : Level) (system : SystemParts) → IsSystem
 head-read laws level system s place = record {
   system_type = refl;
   dimension = number-read laws system.dimension s.dimension 0;
-  ids =
-      ids-field class.CoordinateSystem ReadNameLemmas.coordinate-system-id
+  identifiers =
+      identifiers-field class.CoordinateSystem ReadNameLemmas.coordinate-system-id
       (one-segment class.CoordinateSystem class.Word (word_item (system_word system.system_type)) (λ p. refl)
-      ∷ number-segment class.CoordinateSystem system.dimension ∷ []) refl level system.ids s.ids (place + 2);
+      ∷ number-segment class.CoordinateSystem system.dimension ∷ []) refl level system.identifiers s.identifiers (place + 2);
 }

@@ -11,7 +11,7 @@ use Rattle.crs_value.specs.Reading.{those, ReadsEach}
 use Rattle.crs_value.specs.Reads.{ReadsAxis, ReadsHead, ReadsNumber, ReadsSystem, ReadsType}
 use Rattle.crs_value.specs.Values.{AxisParts, SystemParts}
 use Rattle.crs_value.specs.Words.{system_word}
-use Rattle.crs_value.specs.declared.level.Level.{Level}
+use Rattle.crs_value.specs.declared.values.level.Level.{Level}
 use Rattle.crs_normal.specs.NormalOwn.{AreOrdered, Has, HasAxes}
 use Rattle.crs_value.specs.Sound.{Each}
 use Rattle.crs_normal.specs.SpelledItems.{each, number_item, word_item}
@@ -159,8 +159,8 @@ head-form law level c (node place keyword square first others close) x good read
     (those d class.Number items) v1.0
     (kept-good level d class.Number items o.kept) (those-looked d class.Number (slots_of d) items v)
     (v1.1.1.0.not_more refl) x.dimension reads.dimension _ _
-    (idents-spelled level d items v2.0 o.kept (those-looked d class.Identifier (slots_of d) items v) o.sets.0 x.ids
-    reads.ids End End refl)))
+    (idents-spelled level d items v2.0 o.kept (those-looked d class.Identifier (slots_of d) items v) o.sets.0 x.identifiers
+    reads.identifiers End End refl)))
 
 -- the node `CS`, the axes and no shared unit
 pub system-spelled : PlainIsOne → (level : Level) (c : Class) (item : Item) → Kept level c (arguments item) →

@@ -4,7 +4,7 @@ use Rattle.std.proofs.Common.{sym, ap, subst, arith}
 use Rattle.std.specs.Prelude.{⊤}
 use Rattle.std.proofs.lemmas.Bool.{cases_lt}
 use Rattle.crs_value.specs.Values.{AxisParts, SystemParts}
-use Rattle.crs_value.specs.declared.level.Level.{Level}
+use Rattle.crs_value.specs.declared.values.level.Level.{Level}
 use Rattle.crs_same.specs.SameIdents.{SameIdents}
 use Rattle.crs_same.specs.SameSystems.{SameAt, SameAxes, SameAxis, SameSystem}
 use Rattle.crs_same.specs.SameUnits.{SameValue}
@@ -94,13 +94,13 @@ module _ (laws : LowerLaws) (sets : SetsDecide) (level : Level) where
         record {
           system_type = type;
           dimension = size;
-          ids = ids.0 (ap (λ (x : SystemParts). x.ids) e);
+          identifiers = identifiers.0 (ap (λ (x : SystemParts). x.identifiers) e);
           axes = (axes type size).0 (ap (λ (x : SystemParts). x.axes) e);
         },
     λ s. λ i. record {
       system_type = s.system_type i;
       dimension = dimension.1 s.dimension i;
-      ids = ids.1 s.ids i;
+      identifiers = identifiers.1 s.identifiers i;
       axes = (axes s.system_type s.dimension).1 s.axes i;
       unit = None;
     },
@@ -109,8 +109,8 @@ module _ (laws : LowerLaws) (sets : SetsDecide) (level : Level) where
       dimension : (a.dimension ≡ b.dimension) ↔ SameValue a.dimension b.dimension
       dimension = values-agree laws a.dimension b.dimension in-a.0.dimension in-b.0.dimension
 
-      ids : (set_idents level a.ids ≡ set_idents level b.ids) ↔ SameIdents level a.ids b.ids
-      ids = sets.idents level a.ids b.ids in-a.0.ids in-b.0.ids
+      identifiers : (set_idents level a.identifiers ≡ set_idents level b.identifiers) ↔ SameIdents level a.identifiers b.identifiers
+      identifiers = sets.idents level a.identifiers b.identifiers in-a.0.identifiers in-b.0.identifiers
 
       axes : a.system_type ≡ b.system_type → SameValue a.dimension b.dimension →
           (axes_from level a 1 (length a.axes) ≡ axes_from level b 1 (length b.axes)) ↔ SameAxes level a b

@@ -1,5 +1,5 @@
 -- The end of a normal CRS is the one form of its value.
-use Rattle.std.proofs.Common.{◌≡◌, ℕ, ◌≤◌, length, Bool, true, false, inl, inr, IsSome, Option, Some, None, List, [], ◌∷◌, ◌++◌, if◌then◌else◌, codes, refl, sym, ◌∙◌, ap}
+use Rattle.std.proofs.Common.{Bool, IsSome, List, None, Option, Some, ℕ, [], ap, ap₂, codes, false, if◌then◌else◌, inl, inr, length, map, refl, sym, true, ◌++◌, ◌∙◌, ◌∷◌, ◌≡◌, ◌≤◌}
 use Rattle.crs_text.specs.Items.{Item, Siblings, End, More, arguments}
 use Rattle.crs_shape.specs.declared.class.Class.{Class}
 use Rattle.crs_shape.specs.declared.class.Class.TheVariants as class
@@ -10,18 +10,21 @@ use Rattle.crs_value.specs.Reading.{is_a, those, ReadsEach, ReadsOptional}
 use Rattle.crs_value.specs.Reads.{ReadsBare, ReadsTail, ReadsTextOf, ReadsUsage}
 use Rattle.crs_value.specs.ReadsConversion.{ReadsGeoidModel}
 use Rattle.crs_value.specs.Values.{SaysSome, TailParts, UsageParts}
-use Rattle.crs_value.specs.declared.level.Level.{Level}
-use Rattle.crs_value.specs.declared.level.Level.TheVariants as levels
+use Rattle.crs_value.specs.Kept.{kept}
+use Rattle.crs_value.specs.KeptLaws.{kept-where_none-one}
+use Rattle.crs_value.specs.declared.values.level.Level.{Level}
 use Rattle.crs_same.specs.SameUsages.{usages_of, with_bare}
 use Rattle.crs_normal.specs.Flat.{flat}
 use Rattle.crs_normal.specs.NormalOwn.{HasSets, HasTail, Rise}
 use Rattle.crs_value.specs.Sound.{Each}
+use Rattle.crs_normal.specs.Ordered.{in_order}
+use Rattle.crs_text.specs.Written.{item_text}
 use Rattle.crs_normal.specs.SpelledConversions.{item_geoid_model, norm_geoid_model, set_geoid_models}
 use Rattle.crs_normal.specs.SpelledItems.{each, opt, text_node}
 use Rattle.crs_normal.specs.SpelledUnits.{item_ident, set_idents}
 use Rattle.crs_normal.specs.SpelledUsages.{item_usage, norm_tail, norm_usage, set_usages, tail_items}
 use Rattle.crs_normal.proofs.CheckedLemmas.{as-few}
-use Rattle.crs_normal.proofs.FormLemmas.{Kept, kept-good, optional-spelled, set-spelled}
+use Rattle.crs_normal.proofs.FormLemmas.{Kept, kept-good, optional-spelled, reads-kept, set-spelled}
 use Rattle.crs_normal.proofs.FrameNormalLemmas.{none-read}
 use Rattle.crs_normal.proofs.LeafLemmas.{PlainIsOne, text-node-form}
 use Rattle.crs_normal.proofs.NamedNormalLemmas.{geoid_model-form}
@@ -71,15 +74,15 @@ record Sorted (c : Class) (front : List Item) (m u i r : List Item) : Type 0 whe
   are : front ≡ m ++ (u ++ (i ++ r))
   models : those c class.GeoidModel (onto front End) ≡ m
   usages : those c class.Usage (onto front End) ≡ u
-  ids : those c class.Identifier (onto front End) ≡ i
+  identifiers : those c class.Identifier (onto front End) ≡ i
   remarks : those c class.Remark (onto front End) ≡ r
 
 sorted-of : (c : Class) (k : ℕ) (front : List Item) (s : Split c k front) →
-    Sorted c front s.models s.usages s.ids s.remarks
+    Sorted c front s.models s.usages s.identifiers s.remarks
 sorted-of c k front s =
     let m = s.models in
     let u = s.usages in
-    let i = s.ids in
+    let i = s.identifiers in
     let r = s.remarks in
     record {
       are = s.are;
@@ -99,7 +102,7 @@ sorted-of c k front s =
           (as-class c class.Identifier class.Usage false refl i s.as_id)
           ∙ those-none c class.Usage r (as-class c class.Remark class.Usage false refl r s.as_remark))
           ∙ nothing-behind u;
-      ids = at class.Identifier
+      identifiers = at class.Identifier
           ∙ those-passed c class.Identifier m (u ++ (i ++ r))
           (as-class c class.GeoidModel class.Identifier false refl m s.as_model)
           ∙ those-passed c class.Identifier u (i ++ r) (as-class c class.Usage class.Identifier false refl u s.as_usage)
@@ -116,7 +119,7 @@ sorted-of c k front s =
     }
   where
     at : (d : Class) → those c d (onto front End) ≡ those c d
-        (onto (s.models ++ (s.usages ++ (s.ids ++ s.remarks))) End)
+        (onto (s.models ++ (s.usages ++ (s.identifiers ++ s.remarks))) End)
     at d = ap (λ xs. those c d (onto xs End)) s.are
 
 -- ---- no part of a usage stands bare
@@ -125,7 +128,7 @@ some-other : {V : Type 0} {value : Option V} → value ≡ None → ¬ (IsSome v
 some-other e some = cc
 
 usages-bare : (c : Class) (item : Item) → HasTail c item → (t : TailParts) → ReadsTail c item t → usages_of t ≡ t.usages
-usages-bare c item has t reads = by t.bare reads.bare
+usages-bare c item has t reads = by t.bare_parts reads.bare_parts
   where
     lacks : {V : Type 0} (R : Item → V → Type 0) (found : List Item) → found ≡ [] → (value : Option V) →
         ReadsOptional R found value → ¬ (IsSome value)
@@ -161,16 +164,15 @@ pub tail-spelled : PlainIsOne → (level : Level) (c : Class) (item : Item) → 
     (t : TailParts) → ReadsTail c item t →
     flats_onto front End ≡ each item_geoid_model (set_geoid_models level models) (tail_items (norm_tail level t))
 unfolding set_geoid_models set_usages
-tail-spelled law levels.Full c item k sets has front n rise ends found few models read_models t reads =
-    let level = levels.Full in
+tail-spelled law level c item k sets has front n rise ends found few models read_models t reads =
     let items = arguments item in
     let s = split c n front rise ends in
     let o = sorted-of c n front s in
     let remarks = found class.Remark tt ∙ o.remarks in
     ap (λ xs. flats_onto xs End) o.are
-    ∙ flats-joined s.models (s.usages ++ (s.ids ++ s.remarks)) End
-    ∙ ap (flats_onto s.models) (flats-joined s.usages (s.ids ++ s.remarks) End
-    ∙ ap (flats_onto s.usages) (flats-joined s.ids s.remarks End))
+    ∙ flats-joined s.models (s.usages ++ (s.identifiers ++ s.remarks)) End
+    ∙ ap (flats_onto s.models) (flats-joined s.usages (s.identifiers ++ s.remarks) End
+    ∙ ap (flats_onto s.usages) (flats-joined s.identifiers s.remarks End))
     ∙ set-spelled level c class.GeoidModel (ReadsGeoidModel class.GeoidModel) item_geoid_model (norm_geoid_model level)
     (geoid_model-form level c)
     (those c class.GeoidModel items) s.models (kept-good level c class.GeoidModel items k) (found class.GeoidModel tt
@@ -179,11 +181,14 @@ tail-spelled law levels.Full c item k sets has front n rise ends found few model
     (set-spelled level c class.Usage (ReadsUsage class.Usage) item_usage norm_usage (usage-form law level c)
     (those c class.Usage items) s.usages (kept-good level c class.Usage items k) (found class.Usage tt
     ∙ o.usages) sets.1.0 t.usages reads.usages _ _
-    (idents-spelled level c items s.ids k (found class.Identifier tt ∙ o.ids) sets.0 t.ids reads.ids _ _
+    (idents-spelled level c items s.identifiers k (found class.Identifier tt ∙ o.identifiers) sets.0 t.identifiers reads.identifiers _ _
     (optional-spelled level c class.Remark (ReadsTextOf class.Remark) (text_node (codes "REMARK"))
     (text-node-form level c class.Remark (codes "REMARK") refl (λ bytes h. h))
     (those c class.Remark items) s.remarks (kept-good level c class.Remark items k) remarks (as-few _ _ remarks few)
     t.remark reads.remark End End refl))
-    ∙ ap (λ us. each item_usage (set_usages levels.Full us)
-    (each item_ident (set_idents levels.Full t.ids) (opt (text_node (codes "REMARK")) t.remark End)))
-    (sym (usages-bare c item has t reads)))
+    ∙ ap₂ (λ us remark. each item_usage (in_order (λ u. item_text (item_usage u)) (map norm_usage us))
+    (each item_ident (set_idents level t.identifiers) (opt (text_node (codes "REMARK")) remark End)))
+    (sym (ap (kept level) (usages-bare c item has t reads)
+    ∙ reads-kept level (ReadsUsage class.Usage) (those c class.Usage items) t.usages reads.usages k.left.1.0))
+    (sym (kept-where_none-one level (those c class.Remark items) t.remark
+    (λ e. none-read (ReadsTextOf class.Remark) (those c class.Remark items) e t.remark reads.remark) k.left.1.1.0)))

@@ -3,14 +3,15 @@ use Rattle.std.proofs.Common.{◌≡◌, ◌↔◌, Some, None, refl, ap}
 use Rattle.std.specs.Option.{option_map}
 use Rattle.crs_value.specs.SoundUsages.{IsBox, IsExtent, IsTail, IsUsage}
 use Rattle.crs_value.specs.Values.{BoxParts, ExtentParts, TailParts, UsageParts}
-use Rattle.crs_value.specs.declared.level.Level.{Level}
-use Rattle.crs_value.specs.declared.level.Level.TheVariants as levels
+use Rattle.crs_value.specs.Kept.{kept_one}
+use Rattle.crs_value.specs.declared.values.level.Level.{Level}
+use Rattle.crs_value.specs.declared.values.level.Level.TheVariants as levels
 use Rattle.crs_same.specs.SameUsages.{SameBox, SameExtent, SameRemark, SameTail, SameUsage, SameUsages}
 use Rattle.crs_same.specs.SameUsages.{usages_of}
 use Rattle.crs_normal.specs.Decides.{FormDecides, SetsDecide}
 use Rattle.crs_normal.specs.LowerLaws.{LowerLaws}
 use Rattle.crs_normal.specs.SpelledUnits.{norm_length}
-use Rattle.crs_normal.specs.SpelledUsages.{norm_extent, norm_remark, norm_tail, norm_usage, set_usages}
+use Rattle.crs_normal.specs.SpelledUsages.{norm_extent, norm_tail, norm_usage, set_usages}
 use Rattle.crs_normal.proofs.MadeTailLemmas.{usages-sound}
 use Rattle.crs_normal.proofs.PartSameLemmas.{options-agree, values-agree}
 use Rattle.crs_normal.proofs.UnitSameLemmas.{length-agrees, some-one}
@@ -77,27 +78,27 @@ module _ (laws : LowerLaws) (sets : SetsDecide) where
 module _ (sets : SetsDecide) where
   usages-agree : (level : Level) (a b : TailParts) → IsTail a → IsTail b →
       (set_usages level (usages_of a) ≡ set_usages level (usages_of b)) ↔ SameUsages level a b
-  usages-agree levels.Full a b in-a in-b =
-      sets.usages (usages_of a) (usages_of b) (usages-sound a in-a) (usages-sound b in-b)
+  usages-agree level a b in-a in-b =
+      sets.usages level (usages_of a) (usages_of b) (usages-sound a in-a) (usages-sound b in-b)
 
-  remarks-agree : (level : Level) (a b : TailParts) → (norm_remark level a.remark ≡ norm_remark level b.remark)
+  remarks-agree : (level : Level) (a b : TailParts) → (kept_one level a.remark ≡ kept_one level b.remark)
       ↔ SameRemark level a b
-  remarks-agree levels.Full a b = (λ e. e, λ s. s)
+  remarks-agree level a b = (λ e. e, λ s. s)
 
   pub tail-agrees : (level : Level) → FormDecides IsTail (norm_tail level) (SameTail level)
   tail-agrees level a b in-a in-b =
       let usages = usages-agree level a b in-a in-b in
       let remark = remarks-agree level a b in
-      let ids = sets.idents level a.ids b.ids in-a.ids in-b.ids in (
+      let identifiers = sets.idents level a.identifiers b.identifiers in-a.identifiers in-b.identifiers in (
         λ e. record {
           usages = usages.0 (ap (λ (x : TailParts). x.usages) e);
-          ids = ids.0 (ap (λ (x : TailParts). x.ids) e);
+          identifiers = identifiers.0 (ap (λ (x : TailParts). x.identifiers) e);
           remark = remark.0 (ap (λ (x : TailParts). x.remark) e);
         },
         λ s. λ i. record {
           usages = usages.1 s.usages i;
-          bare = None;
-          ids = ids.1 s.ids i;
+          bare_parts = None;
+          identifiers = identifiers.1 s.identifiers i;
           remark = remark.1 s.remark i;
         },
       )

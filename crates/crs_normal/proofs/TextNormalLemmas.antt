@@ -9,8 +9,8 @@ use Rattle.crs_shape.specs.ShapeFault.{Inside, IsFree}
 use Rattle.crs_value.specs.ReadsCrs.{ReadsCrs}
 use Rattle.crs_value.specs.Spells.{SpellsCrs}
 use Rattle.crs_value.specs.SpellsText.{Spells}
-use Rattle.crs_value.specs.declared.crs.Crs.{Crs}
-use Rattle.crs_value.specs.declared.level.Level.{Level}
+use Rattle.crs_value.specs.declared.values.crs.Crs.{Crs}
+use Rattle.crs_value.specs.declared.values.level.Level.{Level}
 use Rattle.crs_normal.specs.Normal.{IsNormalIn, IsNormalText}
 use Rattle.crs_normal.specs.SpelledCrs.{item_crs, norm_crs}
 use Rattle.crs_normal.proofs.CheckedLemmas.{IsUnbroken}

@@ -10,10 +10,11 @@ use Rattle.crs_value.specs.Reading.{those, ReadsEach}
 use Rattle.crs_value.specs.Reads.{ReadsIdent, ReadsIds, ReadsNumber, ReadsText, ReadsUnit}
 use Rattle.crs_value.specs.Values.{IdentParts}
 use Rattle.crs_value.specs.Words.{SpellsWord, unit_word}
-use Rattle.crs_value.specs.declared.level.Level.{Level}
-use Rattle.crs_value.specs.declared.level.Level.TheVariants as levels
-use Rattle.crs_value.specs.declared.unit_kind.UnitKind.{UnitKind}
-use Rattle.crs_value.specs.declared.unit_kind.UnitKind.TheVariants as kinds
+use Rattle.crs_value.specs.Kept.{kept}
+use Rattle.crs_value.specs.KeptLaws.{kept-none}
+use Rattle.crs_value.specs.declared.values.level.Level.{Level}
+use Rattle.crs_value.specs.declared.values.unit_kind.UnitKind.{UnitKind}
+use Rattle.crs_value.specs.declared.values.unit_kind.UnitKind.TheVariants as kinds
 use Rattle.crs_same.specs.SameUnits.{kind_as}
 use Rattle.crs_normal.specs.Normal.{IsNormalIn, IsWritten}
 use Rattle.crs_normal.specs.NormalOwn.{Ascend}
@@ -21,7 +22,7 @@ use Rattle.crs_value.specs.Sound.{Each}
 use Rattle.crs_normal.specs.Ordered.{in_order}
 use Rattle.crs_normal.specs.SpelledItems.{each, number_item, text_item}
 use Rattle.crs_normal.specs.SpelledUnits.{item_ident, item_unit, norm_unit, set_idents}
-use Rattle.crs_normal.proofs.FormLemmas.{IsGood, Form, Kept, kept-good, node-spelled, one-spelled, opened, set-ordered, set-spelled}
+use Rattle.crs_normal.proofs.FormLemmas.{IsGood, Form, Kept, kept-good, node-spelled, one-spelled, opened, reads-kept, set-ordered, set-spelled}
 use Rattle.crs_normal.proofs.IdentNormalLemmas.{ident-form}
 use Rattle.crs_normal.proofs.LeafLemmas.{ArePlain, PlainIsOne, number-form, text-form}
 use Rattle.crs_normal.proofs.ViewLemmas.{View, flats_onto, flats-spread, those-looked}
@@ -35,37 +36,42 @@ map-same (x ∷ xs) = ap (λ ys. x ∷ ys) (map-same xs)
 pub idents-found-spelled : (level : Level) (c : Class) (items : Siblings) (front : List Item) →
     Each (IsGood level c class.Identifier) (those c class.Identifier items) →
     those c class.Identifier items ≡ front →
-    Ascend (those c class.Identifier items) → (ids : List IdentParts) →
-    ReadsEach (ReadsIdent class.Identifier) (those c class.Identifier items) ids →
-    (rest after : Siblings) → rest ≡ after → flats_onto front rest ≡ each item_ident (set_idents level ids) after
+    Ascend (those c class.Identifier items) →
+    kept level (those c class.Identifier items) ≡ those c class.Identifier items → (identifiers : List IdentParts) →
+    ReadsEach (ReadsIdent class.Identifier) (those c class.Identifier items) identifiers →
+    (rest after : Siblings) → rest ≡ after → flats_onto front rest ≡ each item_ident (set_idents level identifiers) after
 unfolding set_idents
-idents-found-spelled levels.Full c items front good e up ids reads rest after f =
-    set-spelled levels.Full c class.Identifier (ReadsIdent class.Identifier) item_ident (λ x. x)
-    (ident-form levels.Full c) (those c class.Identifier items) front good e up ids reads rest after f
-    ∙ ap (λ xs. each item_ident (in_order (λ i. item_text (item_ident i)) xs) after) (map-same ids)
+idents-found-spelled level c items front good e up left identifiers reads rest after f =
+    set-spelled level c class.Identifier (ReadsIdent class.Identifier) item_ident (λ x. x)
+    (ident-form level c) (those c class.Identifier items) front good e up identifiers reads rest after f
+    ∙ ap (λ xs. each item_ident (in_order (λ i. item_text (item_ident i)) xs) after) (map-same identifiers
+    ∙ sym (reads-kept level (ReadsIdent class.Identifier) (those c class.Identifier items) identifiers reads left))
 
 pub idents-spelled : (level : Level) (c : Class) (items : Siblings) (front : List Item) → Kept level c items →
     those c class.Identifier items ≡ front →
-    Ascend (those c class.Identifier items) → (ids : List IdentParts) →
-    ReadsEach (ReadsIdent class.Identifier) (those c class.Identifier items) ids →
-    (rest after : Siblings) → rest ≡ after → flats_onto front rest ≡ each item_ident (set_idents level ids) after
-idents-spelled level c items front k = idents-found-spelled level c items front (kept-good level c class.Identifier items k)
+    Ascend (those c class.Identifier items) → (identifiers : List IdentParts) →
+    ReadsEach (ReadsIdent class.Identifier) (those c class.Identifier items) identifiers →
+    (rest after : Siblings) → rest ≡ after → flats_onto front rest ≡ each item_ident (set_idents level identifiers) after
+idents-spelled level c items front k e up =
+    idents-found-spelled level c items front (kept-good level c class.Identifier items k) e up k.left.0
 
 -- the identifiers of a normal node are in order
-pub idents-ordered : (level : Level) (parent c : Class) (item : Item) (ids : List IdentParts) → Shaped c item →
-    IsNormalIn level parent c item → ReadsIds c item ids → set_idents level ids ≡ ids
+pub idents-ordered : (level : Level) (parent c : Class) (item : Item) (identifiers : List IdentParts) → Shaped c item →
+    IsNormalIn level parent c item → ReadsIds c item identifiers → set_idents level identifiers ≡ identifiers
 unfolding set_idents
-idents-ordered levels.Full parent c (leaf kind place raw) [] shaped normal reads = refl
-idents-ordered levels.Full parent c (leaf kind place raw) (x ∷ xs) shaped normal reads = absurd reads
-idents-ordered levels.Full parent c (node place keyword square first others close) ids shaped normal reads =
-    let o = opened levels.Full parent c place keyword square first others close shaped normal in
+idents-ordered level parent c (leaf kind place raw) [] shaped normal reads =
+    ap (in_order (λ (i : IdentParts). item_text (item_ident i))) (kept-none level)
+idents-ordered level parent c (leaf kind place raw) (x ∷ xs) shaped normal reads = absurd reads
+idents-ordered level parent c (node place keyword square first others close) identifiers shaped normal reads =
+    let o = opened level parent c place keyword square first others close shaped normal in
     let items = More first others in
     let bytes = λ (i : IdentParts). item_text (item_ident i) in
-    ap (in_order bytes) (sym (map-same ids))
-    ∙ set-ordered levels.Full c class.Identifier (ReadsIdent class.Identifier) item_ident (λ x. x)
-    (ident-form levels.Full c) (those c class.Identifier items)
-    (kept-good levels.Full c class.Identifier items o.kept) o.sets.0 ids reads
-    ∙ map-same ids
+    ap (in_order bytes) (reads-kept level (ReadsIdent class.Identifier) (those c class.Identifier items) identifiers reads
+    o.kept.left.0 ∙ sym (map-same identifiers))
+    ∙ set-ordered level c class.Identifier (ReadsIdent class.Identifier) item_ident (λ x. x)
+    (ident-form level c) (those c class.Identifier items)
+    (kept-good level c class.Identifier items o.kept) o.sets.0 identifiers reads
+    ∙ map-same identifiers
 
 -- ---- units
 
@@ -118,5 +124,5 @@ unit-form law level c d asked slots kind_in plains (node place keyword square fi
     (those d class.Number items) v1.0
     (kept-good level d class.Number items o.kept) (those-looked d class.Number unit_slots items v)
     (v1.1.1.0.not_more refl) x.factor reads.factor _ _
-    (idents-spelled level d items v2.0 o.kept (those-looked d class.Identifier unit_slots items v) o.sets.0 x.ids
-    reads.ids End End refl)))
+    (idents-spelled level d items v2.0 o.kept (those-looked d class.Identifier unit_slots items v) o.sets.0 x.identifiers
+    reads.identifiers End End refl)))

@@ -1,19 +1,19 @@
 -- Units have one form exactly where they are the same: alone, as an asked kind, and where a missing one is the metre.
-use Rattle.std.proofs.Common.{◌≡◌, ◌↔◌, ◌∙◌, ℕ, List, [], ◌∷◌, Some, None, refl, sym, ap}
+use Rattle.std.proofs.Common.{◌≡◌, ◌↔◌, ◌∙◌, ℕ, List, [], Some, None, refl, sym, ap}
 use Rattle.crs_decimal.specs.Number.{SameNumber, whole_number}
 use Rattle.crs_decimal.specs.Value.{Value, IsNormal, exact}
 use Rattle.crs_value.specs.Sound.{Each, IsIdent, IsUnit, IsUnitOf}
 use Rattle.crs_value.specs.Values.{IdentParts, UnitParts}
-use Rattle.crs_value.specs.declared.level.Level.{Level}
-use Rattle.crs_value.specs.declared.level.Level.TheVariants as levels
-use Rattle.crs_value.specs.declared.unit_kind.UnitKind.{UnitKind}
-use Rattle.crs_value.specs.declared.unit_kind.UnitKind.TheVariants as kinds
-use Rattle.crs_same.specs.SameIdents.{SameIdents}
+use Rattle.crs_value.specs.KeptLaws.{kept-none}
+use Rattle.crs_value.specs.declared.values.level.Level.{Level}
+use Rattle.crs_value.specs.declared.values.unit_kind.UnitKind.{UnitKind}
+use Rattle.crs_value.specs.declared.values.unit_kind.UnitKind.TheVariants as kinds
 use Rattle.crs_same.specs.SameUnits.{HasNoIdents, IsMetre, SameLength, SameUnit}
 use Rattle.crs_same.specs.Sets.{BothOrNeither}
 use Rattle.crs_normal.specs.Decides.{FormDecides, Maybe, SetsDecide}
 use Rattle.crs_normal.specs.LowerLaws.{LowerLaws}
 use Rattle.crs_normal.specs.SpelledUnits.{metre, norm_length, norm_unit, norm_units, set_idents, whole_value}
+use Rattle.crs_normal.proofs.IdentLemmas.{none-form, none-same}
 use Rattle.crs_normal.proofs.PartSameLemmas.{options-agree, values-agree}
 
 pub some-one : {A : Type 0} (a b : A) → Some a ≡ Some b → a ≡ b
@@ -21,20 +21,12 @@ some-one a b e = cc
 
 -- ---- no identifiers
 
-no-form : (level : Level) → set_idents level [] ≡ []
-unfolding set_idents
-no-form levels.Full = refl
-
 module _ (sets : SetsDecide) where
-  none-same : (level : Level) (ids : List IdentParts) → SameIdents level ids [] → HasNoIdents level ids
-  none-same levels.Full [] s = refl
-  none-same levels.Full (ident ∷ ids) s = absurd s.0.0
-
-  pub none-agree : (level : Level) (ids : List IdentParts) → Each IsIdent ids → (set_idents level ids ≡ [])
-      ↔ HasNoIdents level ids
-  none-agree levels.Full ids sound = (
-    λ e. none-same levels.Full ids ((sets.idents levels.Full ids [] sound tt).0 (e ∙ sym (no-form levels.Full))),
-    λ e. ap (set_idents levels.Full) e ∙ no-form levels.Full,
+  pub none-agree : (level : Level) (identifiers : List IdentParts) → Each IsIdent identifiers → (set_idents level identifiers ≡ [])
+      ↔ HasNoIdents level identifiers
+  none-agree level identifiers sound = (
+    λ e. none-same level identifiers ((sets.idents level identifiers [] sound tt).0 (e ∙ sym (none-form level [] (kept-none level)))),
+    λ e. none-form level identifiers e,
   )
 
 -- ---- whole numbers
@@ -49,14 +41,14 @@ module _ (laws : LowerLaws) (sets : SetsDecide) (level : Level) where
   pub unit-agrees : (asked : UnitKind) → FormDecides IsUnit (norm_unit level asked) (SameUnit asked level)
   unit-agrees asked a b in-a in-b =
       let factor = values-agree laws a.factor b.factor in-a.factor in-b.factor in
-      let ids = sets.idents level a.ids b.ids in-a.ids in-b.ids in (
+      let identifiers = sets.idents level a.identifiers b.identifiers in-a.identifiers in-b.identifiers in (
         λ e. record {
           kind = ap (λ (u : UnitParts). u.kind) e;
           name = ap (λ (u : UnitParts). u.name) e;
           factor = factor.0 (ap (λ (u : UnitParts). u.factor) e);
-          ids = ids.0 (ap (λ (u : UnitParts). u.ids) e);
+          identifiers = identifiers.0 (ap (λ (u : UnitParts). u.identifiers) e);
         },
-        λ s. λ i. record { kind = s.kind i; name = s.name i; factor = factor.1 s.factor i; ids = ids.1 s.ids i },
+        λ s. λ i. record { kind = s.kind i; name = s.name i; factor = factor.1 s.factor i; identifiers = identifiers.1 s.identifiers i },
       )
 
   pub units-agree : (asked : UnitKind) →
@@ -75,14 +67,14 @@ module _ (laws : LowerLaws) (sets : SetsDecide) (level : Level) where
   metre-agrees : (u : UnitParts) → IsUnit u → (norm_unit level kinds.Length u ≡ metre) ↔ IsMetre level u
   metre-agrees u in-u =
       let factor = whole-agrees laws 1 refl u.factor in-u.factor in
-      let ids = none-agree sets level u.ids in-u.ids in (
+      let identifiers = none-agree sets level u.identifiers in-u.identifiers in (
         λ e. record {
           kind = ap (λ (u : UnitParts). u.kind) e;
           name = ap (λ (u : UnitParts). u.name) e;
           factor = factor.0 (ap (λ (u : UnitParts). u.factor) e);
-          ids = ids.0 (ap (λ (u : UnitParts). u.ids) e);
+          identifiers = identifiers.0 (ap (λ (u : UnitParts). u.identifiers) e);
         },
-        λ s. λ i. record { kind = s.kind i; name = s.name i; factor = factor.1 s.factor i; ids = ids.1 s.ids i },
+        λ s. λ i. record { kind = s.kind i; name = s.name i; factor = factor.1 s.factor i; identifiers = identifiers.1 s.identifiers i },
       )
 
   pub length-agrees : FormDecides (Maybe (IsUnitOf kinds.Length)) (norm_length level) (SameLength level)

@@ -7,7 +7,10 @@ use Rattle.crs_shape.specs.declared.class.Class.{Class}
 use Rattle.crs_shape.specs.declared.class.Class.TheVariants as class
 use Rattle.crs_shape.specs.Keywords.{is_keyword}
 use Rattle.crs_shape.specs.Slots.{class_named, is_class}
-use Rattle.crs_value.specs.declared.level.Level.TheVariants as levels
+use Rattle.crs_value.specs.Kept.{kept}
+use Rattle.crs_value.specs.KeptLaws.{kept-each}
+use Rattle.crs_value.specs.declared.values.level.Level.{Level}
+use Rattle.crs_value.specs.declared.values.level.Level.TheVariants as levels
 use Rattle.crs_value.specs.Reading.{those, ReadsOptional}
 use Rattle.crs_value.specs.Reads.{ReadsBox, ReadsExtent, ReadsTextOf, ReadsUsage}
 use Rattle.crs_value.specs.Sound.{Each, IsText}
@@ -238,10 +241,11 @@ usage-agrees laws once a b p q =
       λ s. λ i. usage-made (s.scope i) (s.area i) (bboxes.1 s.bbox i) (extents.1 s.extent i),
     )
 
-pub usages-agree : TextLaws → ReadsIdentOnce → ReadsUsageOnce → (xs ys : List UsageParts) → Each IsUsage xs →
-    Each IsUsage ys →
-    (set_usages levels.Full xs ≡ set_usages levels.Full ys) ↔ SameSet SameUsage xs ys
+pub usages-agree : TextLaws → ReadsIdentOnce → ReadsUsageOnce → (level : Level) (xs ys : List UsageParts) →
+    Each IsUsage xs → Each IsUsage ys →
+    (set_usages level xs ≡ set_usages level ys) ↔ SameSet SameUsage (kept level xs) (kept level ys)
 unfolding set_usages
-usages-agree laws idents once xs ys p q =
+usages-agree laws idents once level xs ys p q =
     set-agrees norm_usage (λ u. item_text (item_usage u)) IsUsage SameUsage (usage-agrees laws idents)
-    (λ a b s t. usage-told laws once (norm_usage a) (norm_usage b) (usage-kept a s) (usage-kept b t)) xs ys p q
+    (λ a b s t. usage-told laws once (norm_usage a) (norm_usage b) (usage-kept a s) (usage-kept b t))
+    (kept level xs) (kept level ys) (kept-each (λ l. IsUsage) level xs p) (kept-each (λ l. IsUsage) level ys q)

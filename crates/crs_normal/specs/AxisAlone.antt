@@ -7,7 +7,7 @@ use Rattle.crs_shape.specs.ShapeFault.{class_in}
 use Rattle.crs_value.specs.Checks.{AtClass}
 use Rattle.crs_value.specs.Reads.{ReadsAxis}
 use Rattle.crs_value.specs.Values.{AxisParts}
-use Rattle.crs_value.specs.declared.level.Level.{Level}
+use Rattle.crs_value.specs.declared.values.level.Level.{Level}
 use Rattle.crs_same.specs.SameSystems.{SameAxisAlone}
 use Rattle.crs_normal.specs.Normal.{AtLevel, IsNormalIn, IsWritten}
 use Rattle.crs_normal.specs.NormalOwn.{HasSets}

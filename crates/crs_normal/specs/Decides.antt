@@ -7,8 +7,8 @@ use Rattle.crs_value.specs.SoundFrames.{IsMember}
 use Rattle.crs_value.specs.SoundSystem.{IsSystem}
 use Rattle.crs_value.specs.SoundUsages.{IsUsage}
 use Rattle.crs_value.specs.Values.{SystemParts}
-use Rattle.crs_value.specs.declared.level.Level.{Level}
-use Rattle.crs_value.specs.declared.level.Level.TheVariants as levels
+use Rattle.crs_value.specs.Kept.{kept}
+use Rattle.crs_value.specs.declared.values.level.Level.{Level}
 use Rattle.crs_same.specs.SameConversions.{SameGeoidModel, SameParameter}
 use Rattle.crs_same.specs.SameCrs.{SameCrs}
 use Rattle.crs_same.specs.SameFrames.{SameMember}
@@ -33,7 +33,8 @@ pub record SetsDecide : Type 0 where
       FormDecides (Each IsParameter) (set_parameters level) (SameSet (SameParameter level))
   pub geoid_models : (level : Level) →
       FormDecides (Each IsGeoidModel) (set_geoid_models level) (SameSet (SameGeoidModel level))
-  pub usages : FormDecides (Each IsUsage) (set_usages levels.Full) (SameSet SameUsage)
+  pub usages : (level : Level) →
+      FormDecides (Each IsUsage) (set_usages level) (λ xs ys. SameSet SameUsage (kept level xs) (kept level ys))
 
 -- a part that may be missing, with what is asked of it where it is there
 abbrev pub Maybe : {A : Type 0} → (A → Type 0) → Option A → Type 0

@@ -4,7 +4,7 @@ use Rattle.std.specs.Prelude.{ℕ, List, codes}
 use Rattle.crs_text.specs.Items.{Item, leaf, Siblings, End, More}
 use Rattle.crs_text.specs.Tokens.{number}
 use Rattle.crs_shape.specs.declared.class.Class.TheVariants as class
-use Rattle.crs_value.specs.declared.level.Level.TheVariants as levels
+use Rattle.crs_value.specs.declared.values.level.Level.TheVariants as levels
 use Rattle.crs_normal.specs.Normal.{IsNormalIn}
 use Rattle.crs_normal.specs.SpelledItems.{node_of, text_item, text_node, word_item}
 

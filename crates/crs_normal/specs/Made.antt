@@ -7,15 +7,15 @@ use Rattle.crs_shape.specs.declared.class.Class.{Class}
 use Rattle.crs_shape.specs.declared.class.Class.TheVariants as class
 use Rattle.crs_shape.specs.Shaped.{Shaped}
 use Rattle.crs_value.specs.Checks.{Breaks}
-use Rattle.crs_value.specs.declared.crs.Crs.{Crs}
-use Rattle.crs_value.specs.declared.crs.Crs.TheVariants as crs
-use Rattle.crs_value.specs.declared.frame.Frame.{Frame}
-use Rattle.crs_value.specs.declared.frame.Frame.TheVariants as frame
-use Rattle.crs_value.specs.declared.level.Level.{Level}
-use Rattle.crs_value.specs.declared.system_type.SystemType.{SystemType}
-use Rattle.crs_value.specs.declared.system_type.SystemType.TheVariants as types
-use Rattle.crs_value.specs.declared.unit_kind.UnitKind.{UnitKind}
-use Rattle.crs_value.specs.declared.unit_kind.UnitKind.TheVariants as kinds
+use Rattle.crs_value.specs.declared.values.crs.Crs.{Crs}
+use Rattle.crs_value.specs.declared.values.crs.Crs.TheVariants as crs
+use Rattle.crs_value.specs.declared.values.frame.Frame.{Frame}
+use Rattle.crs_value.specs.declared.values.frame.Frame.TheVariants as frame
+use Rattle.crs_value.specs.declared.values.level.Level.{Level}
+use Rattle.crs_value.specs.declared.values.system_type.SystemType.{SystemType}
+use Rattle.crs_value.specs.declared.values.system_type.SystemType.TheVariants as types
+use Rattle.crs_value.specs.declared.values.unit_kind.UnitKind.{UnitKind}
+use Rattle.crs_value.specs.declared.values.unit_kind.UnitKind.TheVariants as kinds
 use Rattle.crs_normal.specs.Normal.{IsNormalIn}
 
 -- the item has no fault of shape, breaks no check and is normal, in whichever node it stands

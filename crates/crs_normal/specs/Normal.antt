@@ -2,7 +2,9 @@
 -- arguments a node has and in which order they stand is the shape's.
 use Rattle.std.specs.Prelude.{◌≡◌, ◌⊎◌, ℕ, Some, List, [], ◌∷◌, codes}
 use Rattle.crs_decimal.specs.Plain.{IsPlain}
-use Rattle.crs_text.specs.Items.{Item, leaf, node, Siblings, End, More}
+use Rattle.crs_text.specs.declared.keyword.Keyword.{Keyword}
+use Rattle.crs_text.specs.Keywords.{spelling_of}
+use Rattle.crs_text.specs.Items.{Item, leaf, node, Siblings, End, More, arguments}
 use Rattle.crs_text.specs.TextFault.{SpellsNode}
 use Rattle.crs_text.specs.Tokens.{Kind, number, text, word}
 use Rattle.crs_text.specs.Written.{item_text}
@@ -11,17 +13,19 @@ use Rattle.crs_shape.specs.declared.class.Class.TheVariants as class
 use Rattle.crs_shape.specs.Keywords.{keywords_of}
 use Rattle.crs_shape.specs.ShapeFault.{class_in, class_of_root}
 use Rattle.crs_value.specs.Checks.{AtClass}
-use Rattle.crs_value.specs.declared.direction.Direction.{Direction}
-use Rattle.crs_value.specs.declared.level.Level.{Level}
-use Rattle.crs_value.specs.declared.level.Level.TheVariants as levels
-use Rattle.crs_value.specs.declared.system_type.SystemType.{SystemType}
+use Rattle.crs_value.specs.declared.values.direction.Direction.{Direction}
+use Rattle.crs_value.specs.Kept.{kept}
+use Rattle.crs_value.specs.Reading.{those}
+use Rattle.crs_value.specs.Sound.{Each}
+use Rattle.crs_value.specs.declared.values.level.Level.{Level}
+use Rattle.crs_value.specs.declared.values.system_type.SystemType.{SystemType}
 use Rattle.crs_value.specs.Words.{direction_word, system_word}
 use Rattle.crs_normal.specs.NormalOwn.{HasSets, Own}
 
--- the keyword is the first of these
-abbrev pub IsFirst : List ℕ → List (List ℕ) → Type 0
+-- the keyword is spelled as the first of these
+abbrev pub IsFirst : List ℕ → List Keyword → Type 0
 IsFirst keyword [] = ⊥
-IsFirst keyword (first ∷ others) = keyword ≡ first
+IsFirst keyword (first ∷ others) = keyword ≡ spelling_of first
 
 -- the first keyword of each class; a unit on an axis by its kind
 abbrev pub IsWritten : Class → List ℕ → Type 0
@@ -45,9 +49,17 @@ IsSingleIn parent number raw = IsNumberIn parent raw
 IsSingleIn parent text raw = Unit {0}
 IsSingleIn parent word raw = IsWordIn parent raw
 
+-- what a level may leave out of a node
+abbrev pub left_out : List Class
+left_out = class.Identifier ∷ class.Usage ∷ class.Remark ∷ []
+
+-- among these arguments of a node, of what may be left out, the level keeps all
+abbrev pub KeepsAll : Level → Class → Siblings → Type 0
+KeepsAll level c items = Each (λ d. kept level (those c d items) ≡ those c d items) left_out
+
 -- what the level asks of a node
 abbrev pub AtLevel : Level → Class → Item → Type 0
-AtLevel levels.Full c item = Unit {0}
+AtLevel level c item = KeepsAll level c (arguments item)
 
 abbrev mutual
   -- an item of a class in a node of another

@@ -13,13 +13,14 @@ use Rattle.crs_value.specs.SoundFrames.{IsDatum, IsEnsemble}
 use Rattle.crs_value.specs.SoundSingle.{IsGeodetic, IsProjected}
 use Rattle.crs_value.specs.Values.{AxisMeridianParts, BoxParts, DatumParts, EllipsoidParts, EnsembleParts}
 use Rattle.crs_value.specs.Values.{ExtentParts, IdentParts, MemberParts, MeridianParts, UnitParts, UsageParts}
-use Rattle.crs_value.specs.declared.compound.Horizontal.{Horizontal}
-use Rattle.crs_value.specs.declared.compound.Horizontal.TheVariants as horizontal
-use Rattle.crs_value.specs.declared.frame.Frame.{Frame}
-use Rattle.crs_value.specs.declared.frame.Frame.TheVariants as frame
-use Rattle.crs_value.specs.declared.level.Level.{Level}
-use Rattle.crs_value.specs.declared.unit_kind.UnitKind.{UnitKind}
-use Rattle.crs_value.specs.declared.unit_kind.UnitKind.TheVariants as kinds
+use Rattle.crs_value.specs.declared.values.compound.Horizontal.{Horizontal}
+use Rattle.crs_value.specs.declared.values.compound.Horizontal.TheVariants as horizontal
+use Rattle.crs_value.specs.declared.values.frame.Frame.{Frame}
+use Rattle.crs_value.specs.declared.values.frame.Frame.TheVariants as frame
+use Rattle.crs_value.specs.declared.values.level.Level.{Level}
+use Rattle.crs_value.specs.declared.values.level.Level.TheVariants as levels
+use Rattle.crs_value.specs.declared.values.unit_kind.UnitKind.{UnitKind}
+use Rattle.crs_value.specs.declared.values.unit_kind.UnitKind.TheVariants as kinds
 use Rattle.crs_same.specs.SameConversions.{SameConversion, SameGeoidModel, SameMethod, SameParameter}
 use Rattle.crs_same.specs.SameCrs.{SameBase, SameCompound, SameGeodetic, SameProjected, SameVertical}
 use Rattle.crs_same.specs.SameFrames.{SameDatum, SameEllipsoid, SameEnsemble, SameGiven, SameMember}
@@ -30,8 +31,9 @@ use Rattle.crs_same.specs.SameUsages.{SameBox, SameExtent, SameUsage}
 use Rattle.crs_normal.specs.Made.{root_class}
 use Rattle.crs_normal.specs.SpelledAs.{IsSpelledAs}
 
+-- with all that it holds, at each level
 abbrev pub IsSpelledIdent : Level → IdentParts → List ℕ → Type 0
-IsSpelledIdent level ident = IsSpelledAs level class.Identifier ReadsIdent SameIdent ident
+IsSpelledIdent level ident = IsSpelledAs levels.Full class.Identifier ReadsIdent SameIdent ident
 
 -- the class of a unit by itself, by its kind: `UNIT` is a kind of its own
 abbrev pub unit_class : UnitKind → Class
@@ -106,8 +108,9 @@ IsSpelledBox level box = IsSpelledAs level class.BoundingBox ReadsBox SameBox bo
 abbrev pub IsSpelledExtent : Level → ExtentParts → List ℕ → Type 0
 IsSpelledExtent level extent = IsSpelledAs level class.VerticalExtent ReadsExtent (SameExtent level) extent
 
+-- with all that it holds, at each level
 abbrev pub IsSpelledUsage : Level → UsageParts → List ℕ → Type 0
-IsSpelledUsage level usage = IsSpelledAs level class.Usage ReadsUsage SameUsage usage
+IsSpelledUsage level usage = IsSpelledAs levels.Full class.Usage ReadsUsage SameUsage usage
 
 -- ---- CRSs of each kind, and base CRSs
 

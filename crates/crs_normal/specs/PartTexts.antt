@@ -7,11 +7,11 @@ use Rattle.crs_value.specs.ConversionValues.{ConversionParts, GeoidModelParts, M
 use Rattle.crs_value.specs.CrsValues.{BaseParts, GeodeticParts, ProjectedParts, VerticalParts}
 use Rattle.crs_value.specs.Values.{AxisMeridianParts, AxisParts, BoxParts, DatumParts, EllipsoidParts, EnsembleParts}
 use Rattle.crs_value.specs.Values.{ExtentParts, IdentParts, MemberParts, MeridianParts, UnitParts, UsageParts}
-use Rattle.crs_value.specs.declared.compound.Horizontal.{Horizontal}
-use Rattle.crs_value.specs.declared.frame.Frame.{Frame}
-use Rattle.crs_value.specs.declared.frame.Frame.TheVariants as frame
-use Rattle.crs_value.specs.declared.level.Level.{Level}
-use Rattle.crs_value.specs.declared.unit_kind.UnitKind.TheVariants as kinds
+use Rattle.crs_value.specs.declared.values.compound.Horizontal.{Horizontal}
+use Rattle.crs_value.specs.declared.values.frame.Frame.{Frame}
+use Rattle.crs_value.specs.declared.values.frame.Frame.TheVariants as frame
+use Rattle.crs_value.specs.declared.values.level.Level.{Level}
+use Rattle.crs_value.specs.declared.values.unit_kind.UnitKind.TheVariants as kinds
 use Rattle.crs_normal.specs.SpelledConversions.{item_conversion, item_geoid_model, item_method, item_parameter}
 use Rattle.crs_normal.specs.SpelledConversions.{norm_conversion, norm_geoid_model, norm_method, norm_parameter}
 use Rattle.crs_normal.specs.SpelledCrs.{item_base, item_compound, item_geodetic, item_horizontal, item_projected}
@@ -42,7 +42,7 @@ norm_axis_alone level x = record {
   meridian = norm_axis_meridians level x.meridian;
   order = x.order;
   unit = norm_units level kinds.Plain x.unit;
-  ids = set_idents level x.ids;
+  identifiers = set_idents level x.identifiers;
 }
 
 abbrev pub axis_text : Level → AxisParts → List ℕ

@@ -3,17 +3,17 @@ use Rattle.std.specs.Prelude.{List, codes, map}
 use Rattle.crs_text.specs.Items.{Item, End, More}
 use Rattle.crs_text.specs.Written.{item_text}
 use Rattle.crs_value.specs.ConversionValues.{MethodParts, ParameterParts, ConversionParts, GeoidModelParts}
-use Rattle.crs_value.specs.declared.level.Level.{Level}
-use Rattle.crs_value.specs.declared.unit_kind.UnitKind.TheVariants as kinds
+use Rattle.crs_value.specs.declared.values.level.Level.{Level}
+use Rattle.crs_value.specs.declared.values.unit_kind.UnitKind.TheVariants as kinds
 use Rattle.crs_normal.specs.Ordered.{in_order}
 use Rattle.crs_normal.specs.SpelledItems.{each, node_of, number_item, opt, text_item}
 use Rattle.crs_normal.specs.SpelledUnits.{item_ident, item_unit, norm_units, set_idents}
 
 abbrev pub norm_method : Level → MethodParts → MethodParts
-norm_method level m = record { name = m.name; ids = set_idents level m.ids }
+norm_method level m = record { name = m.name; identifiers = set_idents level m.identifiers }
 
 abbrev pub item_method : MethodParts → Item
-item_method m = node_of (codes "METHOD") (text_item m.name) (each item_ident m.ids End)
+item_method m = node_of (codes "METHOD") (text_item m.name) (each item_ident m.identifiers End)
 
 -- ---- parameters: a set; `UNIT` is a kind of its own
 
@@ -22,13 +22,13 @@ norm_parameter level p = record {
   name = p.name;
   value = p.value;
   unit = norm_units level kinds.Plain p.unit;
-  ids = set_idents level p.ids;
+  identifiers = set_idents level p.identifiers;
 }
 
 abbrev pub item_parameter : ParameterParts → Item
 item_parameter p =
     node_of (codes "PARAMETER") (text_item p.name)
-    (More (number_item p.value) (opt item_unit p.unit (each item_ident p.ids End)))
+    (More (number_item p.value) (opt item_unit p.unit (each item_ident p.identifiers End)))
 
 unfoldable pub set_parameters : Level → List ParameterParts → List ParameterParts
 set_parameters level parameters = in_order (λ p. item_text (item_parameter p)) (map (norm_parameter level) parameters)
@@ -38,21 +38,21 @@ norm_conversion level c = record {
   name = c.name;
   method = norm_method level c.method;
   parameters = set_parameters level c.parameters;
-  ids = set_idents level c.ids;
+  identifiers = set_idents level c.identifiers;
 }
 
 abbrev pub item_conversion : ConversionParts → Item
 item_conversion c =
     node_of (codes "CONVERSION") (text_item c.name)
-    (More (item_method c.method) (each item_parameter c.parameters (each item_ident c.ids End)))
+    (More (item_method c.method) (each item_parameter c.parameters (each item_ident c.identifiers End)))
 
 -- ---- geoid models: a set
 
 abbrev pub norm_geoid_model : Level → GeoidModelParts → GeoidModelParts
-norm_geoid_model level g = record { name = g.name; ids = set_idents level g.ids }
+norm_geoid_model level g = record { name = g.name; identifiers = set_idents level g.identifiers }
 
 abbrev pub item_geoid_model : GeoidModelParts → Item
-item_geoid_model g = node_of (codes "GEOIDMODEL") (text_item g.name) (each item_ident g.ids End)
+item_geoid_model g = node_of (codes "GEOIDMODEL") (text_item g.name) (each item_ident g.identifiers End)
 
 unfoldable pub set_geoid_models : Level → List GeoidModelParts → List GeoidModelParts
 set_geoid_models level models = in_order (λ g. item_text (item_geoid_model g)) (map (norm_geoid_model level) models)

@@ -3,14 +3,14 @@ use Rattle.std.specs.Prelude.{ℕ, List, codes}
 use Rattle.crs_text.specs.Items.{Item, End, More}
 use Rattle.crs_value.specs.CompoundValues.{CompoundParts}
 use Rattle.crs_value.specs.CrsValues.{GeodeticParts, BaseParts, ProjectedParts, VerticalParts}
-use Rattle.crs_value.specs.declared.compound.Horizontal.{Horizontal}
-use Rattle.crs_value.specs.declared.compound.Horizontal.TheVariants as horizontal
-use Rattle.crs_value.specs.declared.crs.Crs.{Crs}
-use Rattle.crs_value.specs.declared.crs.Crs.TheVariants as crs
-use Rattle.crs_value.specs.declared.level.Level.{Level}
-use Rattle.crs_value.specs.declared.system_type.SystemType.{SystemType}
-use Rattle.crs_value.specs.declared.system_type.SystemType.TheVariants as types
-use Rattle.crs_value.specs.declared.unit_kind.UnitKind.TheVariants as kinds
+use Rattle.crs_value.specs.declared.values.compound.Horizontal.{Horizontal}
+use Rattle.crs_value.specs.declared.values.compound.Horizontal.TheVariants as horizontal
+use Rattle.crs_value.specs.declared.values.crs.Crs.{Crs}
+use Rattle.crs_value.specs.declared.values.crs.Crs.TheVariants as crs
+use Rattle.crs_value.specs.declared.values.level.Level.{Level}
+use Rattle.crs_value.specs.declared.values.system_type.SystemType.{SystemType}
+use Rattle.crs_value.specs.declared.values.system_type.SystemType.TheVariants as types
+use Rattle.crs_value.specs.declared.values.unit_kind.UnitKind.TheVariants as kinds
 use Rattle.crs_normal.specs.SpelledConversions.{item_conversion, item_geoid_model, norm_conversion, set_geoid_models}
 use Rattle.crs_normal.specs.SpelledFrames.{item_frame, item_meridian, norm_frame, norm_meridian}
 use Rattle.crs_normal.specs.SpelledItems.{each, node_of, opt, text_item}
@@ -48,13 +48,13 @@ norm_base level b = record {
   frame = norm_frame level b.frame;
   meridian = norm_meridian level b.meridian;
   unit = norm_units level kinds.Angle b.unit;
-  ids = set_idents level b.ids;
+  identifiers = set_idents level b.identifiers;
 }
 
 abbrev pub item_base : BaseParts → Item
 item_base b =
     node_of (codes "BASEGEOGCRS") (text_item b.name) (More (item_frame (codes "DATUM") b.frame)
-    (opt item_meridian b.meridian (opt item_unit b.unit (each item_ident b.ids End))))
+    (opt item_meridian b.meridian (opt item_unit b.unit (each item_ident b.identifiers End))))
 
 abbrev pub norm_projected : Level → ProjectedParts → ProjectedParts
 norm_projected level p = record {

@@ -5,10 +5,10 @@ use Rattle.crs_decimal.specs.Value.{Value}
 use Rattle.crs_text.specs.Items.{Item, End, More}
 use Rattle.crs_text.specs.Written.{item_text}
 use Rattle.crs_value.specs.Values.{EllipsoidParts, MeridianParts, MemberParts, DatumParts, EnsembleParts}
-use Rattle.crs_value.specs.declared.frame.Frame.{Frame}
-use Rattle.crs_value.specs.declared.frame.Frame.TheVariants as frame
-use Rattle.crs_value.specs.declared.level.Level.{Level}
-use Rattle.crs_value.specs.declared.unit_kind.UnitKind.TheVariants as kinds
+use Rattle.crs_value.specs.declared.values.frame.Frame.{Frame}
+use Rattle.crs_value.specs.declared.values.frame.Frame.TheVariants as frame
+use Rattle.crs_value.specs.declared.values.level.Level.{Level}
+use Rattle.crs_value.specs.declared.values.unit_kind.UnitKind.TheVariants as kinds
 use Rattle.crs_normal.specs.Ordered.{in_order}
 use Rattle.crs_normal.specs.SpelledItems.{each, node_of, number_item, number_node, opt, text_item, text_node}
 use Rattle.crs_normal.specs.SpelledUnits.{item_ident, item_unit, norm_length, norm_units, set_idents, whole_value}
@@ -21,13 +21,13 @@ norm_ellipsoid level e = record {
   semi_major_axis = e.semi_major_axis;
   inverse_flattening = e.inverse_flattening;
   unit = Some (norm_length level e.unit);
-  ids = set_idents level e.ids;
+  identifiers = set_idents level e.identifiers;
 }
 
 abbrev pub item_ellipsoid : EllipsoidParts → Item
 item_ellipsoid e =
     node_of (codes "ELLIPSOID") (text_item e.name) (More (number_item e.semi_major_axis)
-    (More (number_item e.inverse_flattening) (opt item_unit e.unit (each item_ident e.ids End))))
+    (More (number_item e.inverse_flattening) (opt item_unit e.unit (each item_ident e.identifiers End))))
 
 -- ---- prime meridians: a missing one is Greenwich, and at longitude 0 there is no unit
 
@@ -35,14 +35,14 @@ abbrev pub is_zero : Value → Bool
 is_zero value = value.digits == 0
 
 abbrev pub greenwich : MeridianParts
-greenwich = record { name = codes "Greenwich"; longitude = whole_value 0; unit = None; ids = [] }
+greenwich = record { name = codes "Greenwich"; longitude = whole_value 0; unit = None; identifiers = [] }
 
 abbrev pub norm_given : Level → MeridianParts → MeridianParts
 norm_given level m = record {
   name = m.name;
   longitude = m.longitude;
   unit = if is_zero m.longitude then None else norm_units level kinds.Angle m.unit;
-  ids = set_idents level m.ids;
+  identifiers = set_idents level m.identifiers;
 }
 
 abbrev pub norm_meridian : Level → Option MeridianParts → Option MeridianParts
@@ -52,15 +52,15 @@ norm_meridian level (Some m) = Some (norm_given level m)
 abbrev pub item_meridian : MeridianParts → Item
 item_meridian m =
     node_of (codes "PRIMEM") (text_item m.name) (More (number_item m.longitude)
-    (opt item_unit m.unit (each item_ident m.ids End)))
+    (opt item_unit m.unit (each item_ident m.identifiers End)))
 
 -- ---- members: a set
 
 abbrev pub norm_member : Level → MemberParts → MemberParts
-norm_member level m = record { name = m.name; ids = set_idents level m.ids }
+norm_member level m = record { name = m.name; identifiers = set_idents level m.identifiers }
 
 abbrev pub item_member : MemberParts → Item
-item_member m = node_of (codes "MEMBER") (text_item m.name) (each item_ident m.ids End)
+item_member m = node_of (codes "MEMBER") (text_item m.name) (each item_ident m.identifiers End)
 
 unfoldable pub set_members : Level → List MemberParts → List MemberParts
 set_members level members = in_order (λ m. item_text (item_member m)) (map (norm_member level) members)
@@ -72,7 +72,7 @@ norm_datum level d = record {
   name = d.name;
   ellipsoid = option_map (norm_ellipsoid level) d.ellipsoid;
   anchor = d.anchor;
-  ids = set_idents level d.ids;
+  identifiers = set_idents level d.identifiers;
 }
 
 abbrev pub norm_ensemble : Level → EnsembleParts → EnsembleParts
@@ -81,7 +81,7 @@ norm_ensemble level e = record {
   members = set_members level e.members;
   ellipsoid = option_map (norm_ellipsoid level) e.ellipsoid;
   accuracy = e.accuracy;
-  ids = set_idents level e.ids;
+  identifiers = set_idents level e.identifiers;
 }
 
 abbrev pub norm_frame : Level → Frame → Frame
@@ -92,12 +92,12 @@ norm_frame level (frame.Ensemble e) = frame.Ensemble (norm_ensemble level e)
 abbrev pub item_datum : List ℕ → DatumParts → Item
 item_datum keyword d =
     node_of keyword (text_item d.name) (opt item_ellipsoid d.ellipsoid
-    (opt (text_node (codes "ANCHOR")) d.anchor (each item_ident d.ids End)))
+    (opt (text_node (codes "ANCHOR")) d.anchor (each item_ident d.identifiers End)))
 
 abbrev pub item_ensemble : EnsembleParts → Item
 item_ensemble e =
     node_of (codes "ENSEMBLE") (text_item e.name) (each item_member e.members (opt item_ellipsoid e.ellipsoid
-    (More (number_node (codes "ENSEMBLEACCURACY") e.accuracy) (each item_ident e.ids End))))
+    (More (number_node (codes "ENSEMBLEACCURACY") e.accuracy) (each item_ident e.identifiers End))))
 
 abbrev pub item_frame : List ℕ → Frame → Item
 item_frame keyword (frame.Datum d) = item_datum keyword d

@@ -8,8 +8,8 @@ use Rattle.crs_text.specs.Items.{Item, Siblings, End, More}
 use Rattle.crs_value.specs.BadUnit.{asked_kind}
 use Rattle.crs_value.specs.Values.{AxisMeridianParts, AxisParts, SystemParts}
 use Rattle.crs_value.specs.Words.{direction_word, system_word}
-use Rattle.crs_value.specs.declared.level.Level.{Level}
-use Rattle.crs_value.specs.declared.unit_kind.UnitKind.TheVariants as kinds
+use Rattle.crs_value.specs.declared.values.level.Level.{Level}
+use Rattle.crs_value.specs.declared.values.unit_kind.UnitKind.TheVariants as kinds
 use Rattle.crs_same.specs.SameSystems.{own_or}
 use Rattle.crs_normal.specs.SpelledItems.{each, node_of, number_item, number_node, opt, text_item, word_item}
 use Rattle.crs_normal.specs.SpelledUnits.{item_ident, item_unit, norm_unit, norm_units, set_idents, whole_value}
@@ -29,7 +29,7 @@ norm_axis level system k axis = record {
   meridian = norm_axis_meridians level axis.meridian;
   order = Some (whole_value k);
   unit = norm_units level (asked_kind system.system_type axis.direction) (own_or axis.unit system.unit);
-  ids = set_idents level axis.ids;
+  identifiers = set_idents level axis.identifiers;
 }
 
 -- whether a number is this whole number
@@ -60,7 +60,7 @@ abbrev pub norm_system : Level → SystemParts → SystemParts
 norm_system level s = record {
   system_type = s.system_type;
   dimension = s.dimension;
-  ids = set_idents level s.ids;
+  identifiers = set_idents level s.identifiers;
   axes = axes_from level s 1 (length s.axes);
   unit = None;
 }
@@ -72,13 +72,13 @@ abbrev pub item_axis : AxisParts → Item
 item_axis axis =
     node_of (codes "AXIS") (text_item axis.name) (More (word_item (direction_word axis.direction))
     (opt item_axis_meridian axis.meridian (opt (number_node (codes "ORDER")) axis.order
-    (opt item_unit axis.unit (each item_ident axis.ids End)))))
+    (opt item_unit axis.unit (each item_ident axis.identifiers End)))))
 
 -- the node `CS`, and the axes behind it
 abbrev pub item_head : SystemParts → Item
 item_head s =
     node_of (codes "CS") (word_item (system_word s.system_type))
-    (More (number_item s.dimension) (each item_ident s.ids End))
+    (More (number_item s.dimension) (each item_ident s.identifiers End))
 
 abbrev pub system_items : SystemParts → Siblings → Siblings
 system_items s rest = More (item_head s) (each item_axis s.axes rest)

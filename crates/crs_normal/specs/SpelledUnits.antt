@@ -5,10 +5,10 @@ use Rattle.crs_text.specs.Items.{Item, End, More}
 use Rattle.crs_text.specs.Written.{item_text}
 use Rattle.crs_value.specs.Values.{IdentParts, UnitParts}
 use Rattle.crs_value.specs.Words.{unit_word}
-use Rattle.crs_value.specs.declared.level.Level.{Level}
-use Rattle.crs_value.specs.declared.level.Level.TheVariants as levels
-use Rattle.crs_value.specs.declared.unit_kind.UnitKind.{UnitKind}
-use Rattle.crs_value.specs.declared.unit_kind.UnitKind.TheVariants as kinds
+use Rattle.crs_value.specs.Kept.{kept}
+use Rattle.crs_value.specs.declared.values.level.Level.{Level}
+use Rattle.crs_value.specs.declared.values.unit_kind.UnitKind.{UnitKind}
+use Rattle.crs_value.specs.declared.values.unit_kind.UnitKind.TheVariants as kinds
 use Rattle.crs_same.specs.SameUnits.{kind_as}
 use Rattle.crs_normal.specs.Ordered.{in_order}
 use Rattle.crs_normal.specs.SpelledItems.{code_item, each, node_of, number_item, opt, text_item, text_node}
@@ -18,9 +18,9 @@ item_ident i =
     node_of (codes "ID") (text_item i.authority) (More (code_item i.code)
     (opt code_item i.version (opt (text_node (codes "CITATION")) i.citation (opt (text_node (codes "URI")) i.uri End))))
 
--- identifiers as a set
+-- the identifiers that the level keeps, as a set
 unfoldable pub set_idents : Level → List IdentParts → List IdentParts
-set_idents levels.Full ids = in_order (λ i. item_text (item_ident i)) ids
+set_idents level identifiers = in_order (λ i. item_text (item_ident i)) (kept level identifiers)
 
 -- the whole number k, where it doesn't end in a zero
 abbrev pub whole_value : ℕ → Value
@@ -29,7 +29,7 @@ whole_value k = record { negative = false; digits = k; power = pos 0 }
 -- a unit where this kind is asked
 abbrev pub norm_unit : Level → UnitKind → UnitParts → UnitParts
 norm_unit level asked u =
-    record { kind = kind_as asked u.kind; name = u.name; factor = u.factor; ids = set_idents level u.ids }
+    record { kind = kind_as asked u.kind; name = u.name; factor = u.factor; identifiers = set_idents level u.identifiers }
 
 abbrev pub norm_units : Level → UnitKind → Option UnitParts → Option UnitParts
 norm_units level asked None = None
@@ -37,11 +37,11 @@ norm_units level asked (Some u) = Some (norm_unit level asked u)
 
 -- what a missing unit of length is
 abbrev pub metre : UnitParts
-metre = record { kind = kinds.Length; name = codes "metre"; factor = whole_value 1; ids = [] }
+metre = record { kind = kinds.Length; name = codes "metre"; factor = whole_value 1; identifiers = [] }
 
 abbrev pub norm_length : Level → Option UnitParts → UnitParts
 norm_length level None = metre
 norm_length level (Some u) = norm_unit level kinds.Length u
 
 abbrev pub item_unit : UnitParts → Item
-item_unit u = node_of (unit_word u.kind) (text_item u.name) (More (number_item u.factor) (each item_ident u.ids End))
+item_unit u = node_of (unit_word u.kind) (text_item u.name) (More (number_item u.factor) (each item_ident u.identifiers End))

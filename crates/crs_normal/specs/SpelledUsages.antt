@@ -1,11 +1,12 @@
 -- A bridge: usages and the ends of CRSs in their one form, and as items.
-use Rattle.std.specs.Prelude.{ℕ, List, Option, Some, None, codes, map}
+use Rattle.std.specs.Prelude.{List, Some, None, codes, map}
 use Rattle.std.specs.Option.{option_map}
 use Rattle.crs_text.specs.Items.{Item, Siblings, End, More}
 use Rattle.crs_text.specs.Written.{item_text}
 use Rattle.crs_value.specs.Values.{BoxParts, ExtentParts, UsageParts, TailParts}
-use Rattle.crs_value.specs.declared.level.Level.{Level}
-use Rattle.crs_value.specs.declared.level.Level.TheVariants as levels
+use Rattle.crs_value.specs.Kept.{kept, kept_one}
+use Rattle.crs_value.specs.declared.values.level.Level.{Level}
+use Rattle.crs_value.specs.declared.values.level.Level.TheVariants as levels
 use Rattle.crs_same.specs.SameUsages.{usages_of}
 use Rattle.crs_normal.specs.Ordered.{in_order}
 use Rattle.crs_normal.specs.SpelledItems.{each, node_from, node_of, number_item, opt, text_node}
@@ -33,21 +34,18 @@ item_usage u =
     node_from (codes "USAGE") (opt (text_node (codes "SCOPE")) u.scope (opt (text_node (codes "AREA")) u.area
     (opt item_box u.bbox (opt item_extent u.extent End))))
 
--- usages as a set
+-- the usages that the level keeps, as a set
 unfoldable pub set_usages : Level → List UsageParts → List UsageParts
-set_usages levels.Full usages = in_order (λ u. item_text (item_usage u)) (map norm_usage usages)
-
-abbrev pub norm_remark : Level → Option (List ℕ) → Option (List ℕ)
-norm_remark levels.Full remark = remark
+set_usages level usages = in_order (λ u. item_text (item_usage u)) (map norm_usage (kept level usages))
 
 -- the bare parts are a usage like the others
 abbrev pub norm_tail : Level → TailParts → TailParts
 norm_tail level t = record {
   usages = set_usages level (usages_of t);
-  bare = None;
-  ids = set_idents level t.ids;
-  remark = norm_remark level t.remark;
+  bare_parts = None;
+  identifiers = set_idents level t.identifiers;
+  remark = kept_one level t.remark;
 }
 
 abbrev pub tail_items : TailParts → Siblings
-tail_items t = each item_usage t.usages (each item_ident t.ids (opt (text_node (codes "REMARK")) t.remark End))
+tail_items t = each item_usage t.usages (each item_ident t.identifiers (opt (text_node (codes "REMARK")) t.remark End))

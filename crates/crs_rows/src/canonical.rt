@@ -130,13 +130,17 @@ pub fn put_set(out: &mut String, alloc: Global, input: &[u8]) -> Result<(), Allo
 
 fn put_set_of(out: &mut String, alloc: Global, crs: &Crs<'_>) -> Result<(), AllocError> {
     match crs {
-        Crs::Vertical(vertical) => put_members(out, alloc, vertical.tail.ids.as_slice()),
+        Crs::Vertical(vertical) => put_members(out, alloc, vertical.tail.identifiers.as_slice()),
         Crs::Geodetic(_) | Crs::Projected(_) | Crs::Compound(_) => out.push_str("no set"),
     }
 }
 
-fn put_members(out: &mut String, alloc: Global, ids: &[Ident<'_>]) -> Result<(), AllocError> {
-    let set = Set::of(ids);
+fn put_members(
+    out: &mut String,
+    alloc: Global,
+    identifiers: &[Ident<'_>],
+) -> Result<(), AllocError> {
+    let set = Set::of(identifiers);
     if !set.same(&set, Level::Full) {
         return out.push_str("one way");
     }

@@ -36,7 +36,7 @@ fn put_fitted(out: &mut String, fitted: Result<Class, Refusal>) -> Result<(), Al
 
 fn put_keyword(out: &mut String, class: Class) -> Result<(), AllocError> {
     match keywords(class).first() {
-        Some(keyword) => put_text(out, keyword),
+        Some(keyword) => put_text(out, keyword.spelling()),
         None => Ok(()),
     }
 }
@@ -71,7 +71,7 @@ pub fn put_keywords(out: &mut String, input: &[u8]) -> Result<(), AllocError> {
             out.push_str("keywords")?;
             for keyword in keywords(class) {
                 out.push(' ')?;
-                put_text(out, keyword)?;
+                put_text(out, keyword.spelling())?;
             }
             Ok(())
         }

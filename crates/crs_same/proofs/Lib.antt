@@ -1,7 +1,7 @@
 mod AxisLemmas
 mod CountLemmas
 mod FrontLemmas
-mod LevelLemmas
+mod KeptLemmas
 mod NumberLemmas
 mod PositionLemmas
 mod SamenessLemmas

@@ -1,10 +1,10 @@
 -- The sameness of coordinate reference systems.
-use Rattle.crs_value.specs.declared.compound.Horizontal.{Horizontal}
-use Rattle.crs_value.specs.declared.compound.Horizontal.TheVariants as horizontal
-use Rattle.crs_value.specs.declared.crs.Crs.{Crs}
-use Rattle.crs_value.specs.declared.crs.Crs.TheVariants as crs
-use Rattle.crs_value.specs.declared.level.Level.{Level}
-use Rattle.crs_value.specs.declared.unit_kind.UnitKind.TheVariants as kinds
+use Rattle.crs_value.specs.declared.values.compound.Horizontal.{Horizontal}
+use Rattle.crs_value.specs.declared.values.compound.Horizontal.TheVariants as horizontal
+use Rattle.crs_value.specs.declared.values.crs.Crs.{Crs}
+use Rattle.crs_value.specs.declared.values.crs.Crs.TheVariants as crs
+use Rattle.crs_value.specs.declared.values.level.Level.{Level}
+use Rattle.crs_value.specs.declared.values.unit_kind.UnitKind.TheVariants as kinds
 use Rattle.crs_value.specs.ReadsCrs.{kind_by, kind_of}
 use Rattle.crs_value.specs.SoundCompound.{IsHorizontal, IsCompound}
 use Rattle.crs_value.specs.SoundCrs.{IsCrs}
@@ -24,12 +24,12 @@ use Rattle.crs_same.proofs.SamenessLemmas.{equal-by, by, ◌⊗◌, in-words, ov
 pub base : (level : Level) → IsSameness (SameFrame level) → IsSameness (SameMeridian level) →
     IsSameness (SameUnit kinds.Angle level) →
     IsSameness (SameIdents level) → IsSameness (SameBase level)
-base level frames meridians angle ids =
+base level frames meridians angle identifiers =
     in-words
     (equal-by (λ a. a.name) ⊗ by (λ a. a.frame) frames ⊗ by (λ a. a.meridian) meridians
-    ⊗ by (λ a. a.unit) (optional angle) ⊗ by (λ a. a.ids) ids)
-    (λ a b s. (s.name, (s.frame, (s.meridian, (s.unit, s.ids)))))
-    (λ a b p. record { name = p.0; frame = p.1.0; meridian = p.1.1.0; unit = p.1.1.1.0; ids = p.1.1.1.1 })
+    ⊗ by (λ a. a.unit) (optional angle) ⊗ by (λ a. a.identifiers) identifiers)
+    (λ a b s. (s.name, (s.frame, (s.meridian, (s.unit, s.identifiers)))))
+    (λ a b p. record { name = p.0; frame = p.1.0; meridian = p.1.1.0; unit = p.1.1.1.0; identifiers = p.1.1.1.1 })
 
 module _ (level : Level) (systems : IsSamenessOf IsSystem (SameSystem level)) (ends : IsSameness (SameTail level)) where
   pub geodetic : IsSameness (SameFrame level) → IsSameness (SameMeridian level) →

@@ -1,9 +1,9 @@
 -- The sameness of ellipsoids, prime meridians, reference frames and ensembles.
 use Rattle.std.proofs.Common.{◌∙◌, sym, ◌⊎◌, inl, inr}
-use Rattle.crs_value.specs.declared.frame.Frame.{Frame}
-use Rattle.crs_value.specs.declared.frame.Frame.TheVariants as frame
-use Rattle.crs_value.specs.declared.level.Level.{Level}
-use Rattle.crs_value.specs.declared.unit_kind.UnitKind.TheVariants as kinds
+use Rattle.crs_value.specs.declared.values.frame.Frame.{Frame}
+use Rattle.crs_value.specs.declared.values.frame.Frame.TheVariants as frame
+use Rattle.crs_value.specs.declared.values.level.Level.{Level}
+use Rattle.crs_value.specs.declared.values.unit_kind.UnitKind.TheVariants as kinds
 use Rattle.crs_value.specs.Values.{MeridianParts}
 use Rattle.crs_same.specs.Sameness.{IsSameness}
 use Rattle.crs_same.specs.SameFrames.{SameEllipsoid, IsZero, IsGreenwich, SameGiven, SameMeridian, SameMember}
@@ -16,17 +16,17 @@ use Rattle.crs_same.proofs.SamenessOfPartsLemmas.{whole, none-beside-none, none-
 
 pub ellipsoid : (level : Level) → IsSameness SameValue → IsSameness (SameLength level) → IsSameness (SameIdents level) →
     IsSameness (SameEllipsoid level)
-ellipsoid level number long ids =
+ellipsoid level number long identifiers =
     in-words
     (equal-by (λ a. a.name) ⊗ by (λ a. a.semi_major_axis) number ⊗ by (λ a. a.inverse_flattening) number
-    ⊗ by (λ a. a.unit) long ⊗ by (λ a. a.ids) ids)
-    (λ a b s. (s.name, (s.semi_major_axis, (s.inverse_flattening, (s.unit, s.ids)))))
+    ⊗ by (λ a. a.unit) long ⊗ by (λ a. a.identifiers) identifiers)
+    (λ a b s. (s.name, (s.semi_major_axis, (s.inverse_flattening, (s.unit, s.identifiers)))))
     (λ a b p. record {
       name = p.0;
       semi_major_axis = p.1.0;
       inverse_flattening = p.1.1.0;
       unit = p.1.1.1.0;
-      ids = p.1.1.1.1;
+      identifiers = p.1.1.1.1;
     })
 
 -- ---- prime meridians
@@ -74,16 +74,16 @@ module _ (level : Level) (number : IsSameness SameValue) (angle : IsSameness (Sa
   }
 
   pub given : IsSameness (SameIdents level) → IsSameness (SameGiven level)
-  given ids =
-      in-words (equal-by (λ a. a.name) ⊗ same-angle ⊗ by (λ a. a.ids) ids)
-      (λ a b s. (s.name, ((s.longitude, s.unit), s.ids)))
-      (λ a b p. record { name = p.0; longitude = p.1.0.0; unit = p.1.0.1; ids = p.1.1 })
+  given identifiers =
+      in-words (equal-by (λ a. a.name) ⊗ same-angle ⊗ by (λ a. a.identifiers) identifiers)
+      (λ a b s. (s.name, ((s.longitude, s.unit), s.identifiers)))
+      (λ a b p. record { name = p.0; longitude = p.1.0.0; unit = p.1.0.1; identifiers = p.1.1 })
 
   greenwich-beside-greenwich : (a b : MeridianParts) → IsGreenwich level a → SameGiven level a b → IsGreenwich level b
   greenwich-beside-greenwich a b g s = record {
     name = sym s.name ∙ g.name;
     longitude = zero-beside-zero a b s.longitude g.longitude;
-    ids = none-beside-none level a.ids b.ids g.ids s.ids;
+    identifiers = none-beside-none level a.identifiers b.identifiers g.identifiers s.identifiers;
   }
 
   greenwiches-alike : (a b : MeridianParts) → IsGreenwich level a → IsGreenwich level b → SameGiven level a b
@@ -91,39 +91,39 @@ module _ (level : Level) (number : IsSameness SameValue) (angle : IsSameness (Sa
     name = g.name ∙ sym h.name;
     longitude = zeros-alike a b g.longitude h.longitude;
     unit = inl g.longitude;
-    ids = none-alike level a.ids b.ids g.ids h.ids;
+    identifiers = none-alike level a.identifiers b.identifiers g.identifiers h.identifiers;
   }
 
   pub meridian : IsSameness (SameIdents level) → IsSameness (SameMeridian level)
-  meridian ids =
-      with-default (IsGreenwich level) (SameMeridian level) (given ids) greenwich-beside-greenwich greenwiches-alike
+  meridian identifiers =
+      with-default (IsGreenwich level) (SameMeridian level) (given identifiers) greenwich-beside-greenwich greenwiches-alike
       tt (λ b. (λ h. h, λ h. h)) (λ a. (λ h. h, λ h. h)) (λ a b. (λ h. h, λ h. h))
 
 -- ---- frames
 
 pub member : (level : Level) → IsSameness (SameIdents level) → IsSameness (SameMember level)
-member level ids =
-    in-words (equal-by (λ a. a.name) ⊗ by (λ a. a.ids) ids)
-    (λ a b s. (s.name, s.ids))
-    (λ a b p. record { name = p.0; ids = p.1 })
+member level identifiers =
+    in-words (equal-by (λ a. a.name) ⊗ by (λ a. a.identifiers) identifiers)
+    (λ a b s. (s.name, s.identifiers))
+    (λ a b p. record { name = p.0; identifiers = p.1 })
 
 pub datum : (level : Level) → IsSameness (SameEllipsoid level) → IsSameness (SameIdents level) →
     IsSameness (SameDatum level)
-datum level round ids =
+datum level round identifiers =
     in-words
-    (equal-by (λ a. a.name) ⊗ by (λ a. a.ellipsoid) (optional round) ⊗ equal-by (λ a. a.anchor) ⊗ by (λ a. a.ids) ids)
-    (λ a b s. (s.name, (s.ellipsoid, (s.anchor, s.ids))))
-    (λ a b p. record { name = p.0; ellipsoid = p.1.0; anchor = p.1.1.0; ids = p.1.1.1 })
+    (equal-by (λ a. a.name) ⊗ by (λ a. a.ellipsoid) (optional round) ⊗ equal-by (λ a. a.anchor) ⊗ by (λ a. a.identifiers) identifiers)
+    (λ a b s. (s.name, (s.ellipsoid, (s.anchor, s.identifiers))))
+    (λ a b p. record { name = p.0; ellipsoid = p.1.0; anchor = p.1.1.0; identifiers = p.1.1.1 })
 
 pub ensemble : (level : Level) → IsSameness SameValue → IsSameness (SameMember level) →
     IsSameness (SameEllipsoid level) →
     IsSameness (SameIdents level) → IsSameness (SameEnsemble level)
-ensemble level number one round ids =
+ensemble level number one round identifiers =
     in-words
     (equal-by (λ a. a.name) ⊗ by (λ a. a.members) (set one) ⊗ by (λ a. a.ellipsoid) (optional round)
-    ⊗ by (λ a. a.accuracy) number ⊗ by (λ a. a.ids) ids)
-    (λ a b s. (s.name, (s.members, (s.ellipsoid, (s.accuracy, s.ids)))))
-    (λ a b p. record { name = p.0; members = p.1.0; ellipsoid = p.1.1.0; accuracy = p.1.1.1.0; ids = p.1.1.1.1 })
+    ⊗ by (λ a. a.accuracy) number ⊗ by (λ a. a.identifiers) identifiers)
+    (λ a b s. (s.name, (s.members, (s.ellipsoid, (s.accuracy, s.identifiers)))))
+    (λ a b p. record { name = p.0; members = p.1.0; ellipsoid = p.1.1.0; accuracy = p.1.1.1.0; identifiers = p.1.1.1.1 })
 
 pub frame-of : (level : Level) → IsSameness (SameDatum level) → IsSameness (SameEnsemble level) →
     IsSameness (SameFrame level)

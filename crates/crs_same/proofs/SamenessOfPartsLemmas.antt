@@ -1,17 +1,19 @@
 -- The sameness of each kind of part, but for frames and coordinate systems.
-use Rattle.std.proofs.Common.{◌∙◌, refl, sym, List, [], ◌∷◌}
+use Rattle.std.proofs.Common.{◌≡◌, ◌∙◌, refl, sym, List, [], ◌∷◌}
 use Rattle.std.specs.Prelude.{pos, false, ℕ}
 use Rattle.crs_decimal.specs.Number.{SameNumber}
 use Rattle.crs_decimal.specs.Value.{Value, exact}
-use Rattle.crs_value.specs.declared.level.Level.{Level}
-use Rattle.crs_value.specs.declared.level.Level.TheVariants as levels
-use Rattle.crs_value.specs.declared.unit_kind.UnitKind.{UnitKind}
-use Rattle.crs_value.specs.declared.unit_kind.UnitKind.TheVariants as kinds
+use Rattle.crs_value.specs.declared.values.level.Level.{Level}
+use Rattle.crs_value.specs.declared.values.level.Level.TheVariants as levels
+use Rattle.crs_value.specs.declared.values.unit_kind.UnitKind.{UnitKind}
+use Rattle.crs_value.specs.declared.values.unit_kind.UnitKind.TheVariants as kinds
+use Rattle.crs_value.specs.Kept.{kept, kept_one}
 use Rattle.crs_value.specs.Values.{IdentParts, UnitParts}
 use Rattle.crs_same.specs.Sameness.{IsSameness}
 use Rattle.crs_same.specs.SameConversions.{SameMethod, SameParameter, SameConversion, SameGeoidModel}
 use Rattle.crs_same.specs.SameIdents.{SameIdent, SameIdents}
 use Rattle.crs_same.specs.SameUnits.{SameValue, SameUnit, SameLength, IsMetre, HasNoIdents, kind_as}
+use Rattle.crs_same.specs.Sets.{SameSet}
 use Rattle.crs_same.specs.SameUsages.{SameBox, SameExtent, SameUsage, SameUsages, SameRemark, SameTail, usages_of}
 use Rattle.crs_same.proofs.SamenessLemmas.{equal-by, by, ◌⊗◌, in-words, optional, with-default, set}
 
@@ -30,29 +32,35 @@ ident =
     (λ a b p. record { authority = p.0; code = p.1.0; version = p.1.1.0; citation = p.1.1.1.0; uri = p.1.1.1.1 })
 
 pub idents : (level : Level) → IsSameness SameIdent → IsSameness (SameIdents level)
-idents levels.Full one = set one
+idents level one = by (kept level) (set one)
+
+none-beside : (xs ys : List IdentParts) → xs ≡ [] → SameSet SameIdent xs ys → ys ≡ []
+none-beside [] [] none same = refl
+none-beside [] (y ∷ ys) none same = absurd same.1.0
+none-beside (x ∷ xs) ys none same = absurd (cc)
+
+both-none : (xs ys : List IdentParts) → xs ≡ [] → ys ≡ [] → SameSet SameIdent xs ys
+both-none [] [] none also = (tt, tt)
+both-none [] (y ∷ ys) none also = absurd (cc)
+both-none (x ∷ xs) ys none also = absurd (cc)
 
 pub none-beside-none : (level : Level) (xs ys : List IdentParts) → HasNoIdents level xs → SameIdents level xs ys →
     HasNoIdents level ys
-none-beside-none levels.Full [] [] none same = refl
-none-beside-none levels.Full [] (y ∷ ys) none same = absurd same.1.0
-none-beside-none levels.Full (x ∷ xs) ys none same = absurd (cc)
+none-beside-none level xs ys = none-beside (kept level xs) (kept level ys)
 
 pub none-alike : (level : Level) (xs ys : List IdentParts) → HasNoIdents level xs → HasNoIdents level ys →
     SameIdents level xs ys
-none-alike levels.Full [] [] none also = (tt, tt)
-none-alike levels.Full [] (y ∷ ys) none also = absurd (cc)
-none-alike levels.Full (x ∷ xs) ys none also = absurd (cc)
+none-alike level xs ys = both-none (kept level xs) (kept level ys)
 
 -- ---- units
 
 pub unit : (asked : UnitKind) (level : Level) → IsSameness SameValue → IsSameness (SameIdents level) →
     IsSameness (SameUnit asked level)
-unit asked level number ids =
+unit asked level number identifiers =
     in-words
-    (equal-by (λ a. kind_as asked a.kind) ⊗ equal-by (λ a. a.name) ⊗ by (λ a. a.factor) number ⊗ by (λ a. a.ids) ids)
-    (λ a b s. (s.kind, (s.name, (s.factor, s.ids))))
-    (λ a b p. record { kind = p.0; name = p.1.0; factor = p.1.1.0; ids = p.1.1.1 })
+    (equal-by (λ a. kind_as asked a.kind) ⊗ equal-by (λ a. a.name) ⊗ by (λ a. a.factor) number ⊗ by (λ a. a.identifiers) identifiers)
+    (λ a b s. (s.kind, (s.name, (s.factor, s.identifiers))))
+    (λ a b p. record { kind = p.0; name = p.1.0; factor = p.1.1.0; identifiers = p.1.1.1 })
 
 -- the decimal that is this whole number
 abbrev pub whole : ℕ → Value
@@ -65,7 +73,7 @@ module _ (level : Level) (number : IsSameness SameValue) where
     kind = sym s.kind ∙ m.kind;
     name = sym s.name ∙ m.name;
     factor = number.transitive b.factor a.factor (whole 1) (number.symmetric a.factor b.factor s.factor) m.factor;
-    ids = none-beside-none level a.ids b.ids m.ids s.ids;
+    identifiers = none-beside-none level a.identifiers b.identifiers m.identifiers s.identifiers;
   }
 
   metres-alike : (a b : UnitParts) → IsMetre level a → IsMetre level b → SameUnit kinds.Length level a b
@@ -74,7 +82,7 @@ module _ (level : Level) (number : IsSameness SameValue) where
     kind = m.kind ∙ sym n.kind;
     name = m.name ∙ sym n.name;
     factor = number.transitive a.factor (whole 1) b.factor m.factor (number.symmetric b.factor (whole 1) n.factor);
-    ids = none-alike level a.ids b.ids m.ids n.ids;
+    identifiers = none-alike level a.identifiers b.identifiers m.identifiers n.identifiers;
   }
 
   pub length : IsSameness (SameUnit kinds.Length level) → IsSameness (SameLength level)
@@ -85,32 +93,32 @@ module _ (level : Level) (number : IsSameness SameValue) where
 -- ---- conversions and geoid models
 
 pub method : (level : Level) → IsSameness (SameIdents level) → IsSameness (SameMethod level)
-method level ids =
-    in-words (equal-by (λ a. a.name) ⊗ by (λ a. a.ids) ids)
-    (λ a b s. (s.name, s.ids))
-    (λ a b p. record { name = p.0; ids = p.1 })
+method level identifiers =
+    in-words (equal-by (λ a. a.name) ⊗ by (λ a. a.identifiers) identifiers)
+    (λ a b s. (s.name, s.identifiers))
+    (λ a b p. record { name = p.0; identifiers = p.1 })
 
 pub parameter : (level : Level) → IsSameness SameValue → IsSameness (SameUnit kinds.Plain level) →
     IsSameness (SameIdents level) →
     IsSameness (SameParameter level)
-parameter level number one ids =
-    in-words (equal-by (λ a. a.name) ⊗ by (λ a. a.value) number ⊗ by (λ a. a.unit) (optional one) ⊗ by (λ a. a.ids) ids)
-    (λ a b s. (s.name, (s.value, (s.unit, s.ids))))
-    (λ a b p. record { name = p.0; value = p.1.0; unit = p.1.1.0; ids = p.1.1.1 })
+parameter level number one identifiers =
+    in-words (equal-by (λ a. a.name) ⊗ by (λ a. a.value) number ⊗ by (λ a. a.unit) (optional one) ⊗ by (λ a. a.identifiers) identifiers)
+    (λ a b s. (s.name, (s.value, (s.unit, s.identifiers))))
+    (λ a b p. record { name = p.0; value = p.1.0; unit = p.1.1.0; identifiers = p.1.1.1 })
 
 pub conversion : (level : Level) → IsSameness (SameMethod level) → IsSameness (SameParameter level) →
     IsSameness (SameIdents level) →
     IsSameness (SameConversion level)
-conversion level how one ids =
-    in-words (equal-by (λ a. a.name) ⊗ by (λ a. a.method) how ⊗ by (λ a. a.parameters) (set one) ⊗ by (λ a. a.ids) ids)
-    (λ a b s. (s.name, (s.method, (s.parameters, s.ids))))
-    (λ a b p. record { name = p.0; method = p.1.0; parameters = p.1.1.0; ids = p.1.1.1 })
+conversion level how one identifiers =
+    in-words (equal-by (λ a. a.name) ⊗ by (λ a. a.method) how ⊗ by (λ a. a.parameters) (set one) ⊗ by (λ a. a.identifiers) identifiers)
+    (λ a b s. (s.name, (s.method, (s.parameters, s.identifiers))))
+    (λ a b p. record { name = p.0; method = p.1.0; parameters = p.1.1.0; identifiers = p.1.1.1 })
 
 pub geoid-model : (level : Level) → IsSameness (SameIdents level) → IsSameness (SameGeoidModel level)
-geoid-model level ids =
-    in-words (equal-by (λ a. a.name) ⊗ by (λ a. a.ids) ids)
-    (λ a b s. (s.name, s.ids))
-    (λ a b p. record { name = p.0; ids = p.1 })
+geoid-model level identifiers =
+    in-words (equal-by (λ a. a.name) ⊗ by (λ a. a.identifiers) identifiers)
+    (λ a b s. (s.name, s.identifiers))
+    (λ a b p. record { name = p.0; identifiers = p.1 })
 
 -- ---- usages, and the ends of CRSs
 
@@ -135,13 +143,13 @@ usage flat high =
     (λ a b p. record { scope = p.0; area = p.1.0; bbox = p.1.1.0; extent = p.1.1.1 })
 
 usages : (level : Level) → IsSameness SameUsage → IsSameness (SameUsages level)
-usages levels.Full one = by usages_of (set one)
+usages level one = by (λ t. kept level (usages_of t)) (set one)
 
 remark : (level : Level) → IsSameness (SameRemark level)
-remark levels.Full = equal-by (λ a. a.remark)
+remark level = equal-by (λ a. kept_one level a.remark)
 
 pub tail : (level : Level) → IsSameness SameUsage → IsSameness (SameIdents level) → IsSameness (SameTail level)
-tail level one ids =
-    in-words (usages level one ⊗ by (λ a. a.ids) ids ⊗ remark level)
-    (λ a b s. (s.usages, (s.ids, s.remark)))
-    (λ a b p. record { usages = p.0; ids = p.1.0; remark = p.1.1 })
+tail level one identifiers =
+    in-words (usages level one ⊗ by (λ a. a.identifiers) identifiers ⊗ remark level)
+    (λ a b s. (s.usages, (s.identifiers, s.remark)))
+    (λ a b p. record { usages = p.0; identifiers = p.1.0; remark = p.1.1 })

@@ -1,9 +1,9 @@
 -- The sameness of axes and of coordinate systems, position by position.
 use Rattle.std.proofs.Common.{◌≡◌, ◌∙◌, refl, sym, ap, subst, ℕ, ◌≤◌, length, Option}
 use Rattle.std.specs.Prelude.{⊤}
-use Rattle.crs_value.specs.declared.level.Level.{Level}
-use Rattle.crs_value.specs.declared.unit_kind.UnitKind.{UnitKind}
-use Rattle.crs_value.specs.declared.unit_kind.UnitKind.TheVariants as kinds
+use Rattle.crs_value.specs.declared.values.level.Level.{Level}
+use Rattle.crs_value.specs.declared.values.unit_kind.UnitKind.{UnitKind}
+use Rattle.crs_value.specs.declared.values.unit_kind.UnitKind.TheVariants as kinds
 use Rattle.crs_value.specs.BadUnit.{asked_kind}
 use Rattle.crs_value.specs.SoundSystem.{IsSystem}
 use Rattle.crs_value.specs.Values.{UnitParts, AxisParts, SystemParts}
@@ -27,22 +27,22 @@ axis-meridian level number angle =
 pub axis-alone : (level : Level) → IsSameness SameValue → IsSameness (SameAxisMeridian level) →
     IsSameness (SameUnit kinds.Plain level) →
     IsSameness (SameIdents level) → IsSameness (SameAxisAlone level)
-axis-alone level number along one ids =
+axis-alone level number along one identifiers =
     in-words
     (equal-by (λ a. a.name) ⊗ equal-by (λ a. a.direction) ⊗ by (λ a. a.meridian) (optional along)
     ⊗ by (λ a. a.order) (optional number)
-    ⊗ by (λ a. a.unit) (optional one) ⊗ by (λ a. a.ids) ids)
-    (λ a b s. (s.name, (s.direction, (s.meridian, (s.order, (s.unit, s.ids))))))
+    ⊗ by (λ a. a.unit) (optional one) ⊗ by (λ a. a.identifiers) identifiers)
+    (λ a b s. (s.name, (s.direction, (s.meridian, (s.order, (s.unit, s.identifiers))))))
     (λ a b p. record {
       name = p.0;
       direction = p.1.0;
       meridian = p.1.1.0;
       order = p.1.1.1.0;
       unit = p.1.1.1.1.0;
-      ids = p.1.1.1.1.1;
+      identifiers = p.1.1.1.1.1;
     })
 
-module _ (level : Level) (along : IsSameness (SameAxisMeridian level)) (ids : IsSameness (SameIdents level))
+module _ (level : Level) (along : IsSameness (SameAxisMeridian level)) (identifiers : IsSameness (SameIdents level))
     (units : (asked : UnitKind) → IsSameness (SameUnit asked level)) where
   -- of axes with their units
   axis-in : (asked : UnitKind) →
@@ -50,9 +50,9 @@ module _ (level : Level) (along : IsSameness (SameAxisMeridian level)) (ids : Is
   axis-in asked =
       in-words
       (equal-by (λ x. x.0.name) ⊗ equal-by (λ x. x.0.direction) ⊗ by (λ x. x.0.meridian) (optional along)
-      ⊗ by (λ x. x.1) (optional (units asked)) ⊗ by (λ x. x.0.ids) ids)
-      (λ x y s. (s.name, (s.direction, (s.meridian, (s.unit, s.ids)))))
-      (λ x y p. record { name = p.0; direction = p.1.0; meridian = p.1.1.0; unit = p.1.1.1.0; ids = p.1.1.1.1 })
+      ⊗ by (λ x. x.1) (optional (units asked)) ⊗ by (λ x. x.0.identifiers) identifiers)
+      (λ x y s. (s.name, (s.direction, (s.meridian, (s.unit, s.identifiers)))))
+      (λ x y p. record { name = p.0; direction = p.1.0; meridian = p.1.1.0; unit = p.1.1.1.0; identifiers = p.1.1.1.1 })
 
   axis-itself : (a : SystemParts) (x : AxisParts) → SameAxis level a a x x
   unfolding SameAxis
@@ -113,19 +113,19 @@ module _ (level : Level) (along : IsSameness (SameAxisMeridian level)) (ids : Is
       reflexive = λ a is. record {
         system_type = refl;
         dimension = number.reflexive a.dimension;
-        ids = ids.reflexive a.ids;
+        identifiers = identifiers.reflexive a.identifiers;
         axes = axes-themselves a is;
       };
       symmetric = λ a b is-a is-b s. record {
         system_type = sym s.system_type;
         dimension = number.symmetric a.dimension b.dimension s.dimension;
-        ids = ids.symmetric a.ids b.ids s.ids;
+        identifiers = identifiers.symmetric a.identifiers b.identifiers s.identifiers;
         axes = axes-swapped a b is-a is-b s;
       };
       transitive = λ a b c is-a is-b is-c s t. record {
         system_type = s.system_type ∙ t.system_type;
         dimension = number.transitive a.dimension b.dimension c.dimension s.dimension t.dimension;
-        ids = ids.transitive a.ids b.ids c.ids s.ids t.ids;
+        identifiers = identifiers.transitive a.identifiers b.identifiers c.identifiers s.identifiers t.identifiers;
         axes = axes-joined a b c is-a is-b s t;
       };
     }

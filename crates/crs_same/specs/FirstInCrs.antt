@@ -1,11 +1,11 @@
 -- The parts of coordinate reference systems, in order.
 use Rattle.std.specs.Prelude.{◌≡◌, Option, List, []}
-use Rattle.crs_value.specs.declared.compound.Horizontal.{Horizontal}
-use Rattle.crs_value.specs.declared.compound.Horizontal.TheVariants as horizontal
-use Rattle.crs_value.specs.declared.crs.Crs.{Crs}
-use Rattle.crs_value.specs.declared.crs.Crs.TheVariants as crs
-use Rattle.crs_value.specs.declared.level.Level.{Level}
-use Rattle.crs_value.specs.declared.unit_kind.UnitKind.TheVariants as kinds
+use Rattle.crs_value.specs.declared.values.compound.Horizontal.{Horizontal}
+use Rattle.crs_value.specs.declared.values.compound.Horizontal.TheVariants as horizontal
+use Rattle.crs_value.specs.declared.values.crs.Crs.{Crs}
+use Rattle.crs_value.specs.declared.values.crs.Crs.TheVariants as crs
+use Rattle.crs_value.specs.declared.values.level.Level.{Level}
+use Rattle.crs_value.specs.declared.values.unit_kind.UnitKind.TheVariants as kinds
 use Rattle.crs_value.specs.CompoundValues.{CompoundParts}
 use Rattle.crs_value.specs.ConversionValues.{MethodParts, ConversionParts}
 use Rattle.crs_value.specs.CrsValues.{GeodeticParts, BaseParts, ProjectedParts, VerticalParts}
@@ -25,20 +25,20 @@ use Rattle.crs_same.specs.Sets.{SameSet, BothOrNeither}
 abbrev pub FirstInMethod : List Step → Level → MethodParts → MethodParts → Option (List Step) → Type 0
 FirstInMethod at level a b =
     Part (at ▸ step.Name) (a.name ≡ b.name)
-    ⨾ Part (at ▸ step.Id) (SameIdents level a.ids b.ids)
+    ⨾ Part (at ▸ step.Id) (SameIdents level a.identifiers b.identifiers)
 
 unfoldable pub FirstInConversion : List Step → Level → ConversionParts → ConversionParts → Option (List Step) → Type 0
 FirstInConversion at level a b =
     Part (at ▸ step.Name) (a.name ≡ b.name)
     ⨾ FirstInMethod (at ▸ step.Method) level a.method b.method
     ⨾ Part (at ▸ step.Parameters) (SameSet (SameParameter level) a.parameters b.parameters)
-    ⨾ Part (at ▸ step.Id) (SameIdents level a.ids b.ids)
+    ⨾ Part (at ▸ step.Id) (SameIdents level a.identifiers b.identifiers)
 
 -- the end of a CRS
 unfoldable pub FirstInTail : List Step → Level → TailParts → TailParts → Option (List Step) → Type 0
 FirstInTail at level a b =
     Part (at ▸ step.Usage) (SameUsages level a b)
-    ⨾ Part (at ▸ step.Id) (SameIdents level a.ids b.ids)
+    ⨾ Part (at ▸ step.Id) (SameIdents level a.identifiers b.identifiers)
     ⨾ Part (at ▸ step.Remark) (SameRemark level a b)
 
 -- the kind is geodetic or geographic
@@ -57,7 +57,7 @@ FirstInBase at level a b =
     ⨾ FirstInFrame (at ▸ step.Datum) level a.frame b.frame
     ⨾ FirstInMeridian (at ▸ step.Meridian) level a.meridian b.meridian
     ⨾ Part (at ▸ step.Unit) (BothOrNeither (SameUnit kinds.Angle level) a.unit b.unit)
-    ⨾ Part (at ▸ step.Id) (SameIdents level a.ids b.ids)
+    ⨾ Part (at ▸ step.Id) (SameIdents level a.identifiers b.identifiers)
 
 unfoldable pub FirstInProjected : List Step → Level → ProjectedParts → ProjectedParts → Option (List Step) → Type 0
 FirstInProjected at level a b =

@@ -1,9 +1,9 @@
 -- The parts of ellipsoids, prime meridians, reference frames and ensembles, in order.
 use Rattle.std.specs.Prelude.{◌≡◌, Option, Some, None, List, ◌⊎◌, codes}
-use Rattle.crs_value.specs.declared.frame.Frame.{Frame}
-use Rattle.crs_value.specs.declared.frame.Frame.TheVariants as frame
-use Rattle.crs_value.specs.declared.level.Level.{Level}
-use Rattle.crs_value.specs.declared.unit_kind.UnitKind.TheVariants as kinds
+use Rattle.crs_value.specs.declared.values.frame.Frame.{Frame}
+use Rattle.crs_value.specs.declared.values.frame.Frame.TheVariants as frame
+use Rattle.crs_value.specs.declared.values.level.Level.{Level}
+use Rattle.crs_value.specs.declared.values.unit_kind.UnitKind.TheVariants as kinds
 use Rattle.crs_value.specs.Values.{EllipsoidParts, MeridianParts, DatumParts, EnsembleParts}
 use Rattle.crs_same.specs.declared.step.Step.{Step}
 use Rattle.crs_same.specs.declared.step.Step.TheVariants as step
@@ -19,7 +19,7 @@ FirstInEllipsoid at level a b =
     ⨾ Part (at ▸ step.SemiMajor) (SameValue a.semi_major_axis b.semi_major_axis)
     ⨾ Part (at ▸ step.Flattening) (SameValue a.inverse_flattening b.inverse_flattening)
     ⨾ Part (at ▸ step.Unit) (SameLength level a.unit b.unit)
-    ⨾ Part (at ▸ step.Id) (SameIdents level a.ids b.ids)
+    ⨾ Part (at ▸ step.Id) (SameIdents level a.identifiers b.identifiers)
 
 -- where only one side has an ellipsoid, its name is the first part that is on one side alone
 abbrev pub FirstInEllipsoids : List Step → Level → Option EllipsoidParts → Option EllipsoidParts → Option (List Step) →
@@ -37,14 +37,14 @@ FirstInGiven at level a b =
     Part (at ▸ step.Name) (a.name ≡ b.name)
     ⨾ Part (at ▸ step.Longitude) (SameValue a.longitude b.longitude)
     ⨾ Part (at ▸ step.Unit) (IsZero a.longitude ⊎ BothOrNeither (SameUnit kinds.Angle level) a.unit b.unit)
-    ⨾ Part (at ▸ step.Id) (SameIdents level a.ids b.ids)
+    ⨾ Part (at ▸ step.Id) (SameIdents level a.identifiers b.identifiers)
 
 -- beside a missing one, which is Greenwich
 abbrev pub FirstBesideGreenwich : List Step → Level → MeridianParts → Option (List Step) → Type 0
 FirstBesideGreenwich at level meridian =
     Part (at ▸ step.Name) (meridian.name ≡ codes "Greenwich")
     ⨾ Part (at ▸ step.Longitude) (IsZero meridian.longitude)
-    ⨾ Part (at ▸ step.Id) (HasNoIdents level meridian.ids)
+    ⨾ Part (at ▸ step.Id) (HasNoIdents level meridian.identifiers)
 
 unfoldable pub FirstInMeridian : List Step → Level → Option MeridianParts → Option MeridianParts → Option (List Step) →
     Type 0
@@ -60,7 +60,7 @@ FirstInDatum at level a b =
     Part (at ▸ step.Name) (a.name ≡ b.name)
     ⨾ FirstInEllipsoids (at ▸ step.Ellipsoid) level a.ellipsoid b.ellipsoid
     ⨾ Part (at ▸ step.Anchor) (a.anchor ≡ b.anchor)
-    ⨾ Part (at ▸ step.Id) (SameIdents level a.ids b.ids)
+    ⨾ Part (at ▸ step.Id) (SameIdents level a.identifiers b.identifiers)
 
 abbrev pub FirstInEnsemble : List Step → Level → EnsembleParts → EnsembleParts → Option (List Step) → Type 0
 FirstInEnsemble at level a b =
@@ -68,7 +68,7 @@ FirstInEnsemble at level a b =
     ⨾ Part (at ▸ step.Members) (SameSet (SameMember level) a.members b.members)
     ⨾ FirstInEllipsoids (at ▸ step.Ellipsoid) level a.ellipsoid b.ellipsoid
     ⨾ Part (at ▸ step.Accuracy) (SameValue a.accuracy b.accuracy)
-    ⨾ Part (at ▸ step.Id) (SameIdents level a.ids b.ids)
+    ⨾ Part (at ▸ step.Id) (SameIdents level a.identifiers b.identifiers)
 
 -- a reference frame and an ensemble differ in their kind
 unfoldable pub FirstInFrame : List Step → Level → Frame → Frame → Option (List Step) → Type 0

@@ -1,6 +1,6 @@
 -- The parts of coordinate systems, in order.
 use Rattle.std.specs.Prelude.{◌≡◌, ℕ, suc, ◌≤◌, ◌<◌, length, Option, Some, None, List}
-use Rattle.crs_value.specs.declared.level.Level.{Level}
+use Rattle.crs_value.specs.declared.values.level.Level.{Level}
 use Rattle.crs_value.specs.BadUnit.{asked_kind}
 use Rattle.crs_value.specs.Values.{AxisParts, SystemParts}
 use Rattle.crs_same.specs.declared.step.Step.{Step}
@@ -20,7 +20,7 @@ FirstInAxis at level a b x y =
     ⨾ Part (at ▸ step.Meridian) (BothOrNeither (SameAxisMeridian level) x.meridian y.meridian)
     ⨾ Part (at ▸ step.Unit) (BothOrNeither (SameUnit (asked_kind a.system_type x.direction) level)
     (own_or x.unit a.unit) (own_or y.unit b.unit))
-    ⨾ Part (at ▸ step.Id) (SameIdents level x.ids y.ids)
+    ⨾ Part (at ▸ step.Id) (SameIdents level x.identifiers y.identifiers)
 
 -- the axes at this position
 abbrev pub FirstAt : List Step → Level → SystemParts → SystemParts → ℕ → Option (List Step) → Type 0
@@ -43,5 +43,5 @@ unfoldable pub FirstInSystem : List Step → Level → SystemParts → SystemPar
 FirstInSystem at level a b =
     Part (at ▸ step.SystemType) (a.system_type ≡ b.system_type)
     ⨾ Part (at ▸ step.Dimension) (SameValue a.dimension b.dimension)
-    ⨾ Part (at ▸ step.Id) (SameIdents level a.ids b.ids)
+    ⨾ Part (at ▸ step.Id) (SameIdents level a.identifiers b.identifiers)
     ⨾ FirstInAxes at level a b

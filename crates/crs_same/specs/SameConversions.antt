@@ -1,7 +1,7 @@
 -- When conversions and geoid models are the same.
 use Rattle.std.specs.Prelude.{◌≡◌}
-use Rattle.crs_value.specs.declared.level.Level.{Level}
-use Rattle.crs_value.specs.declared.unit_kind.UnitKind.TheVariants as kinds
+use Rattle.crs_value.specs.declared.values.level.Level.{Level}
+use Rattle.crs_value.specs.declared.values.unit_kind.UnitKind.TheVariants as kinds
 use Rattle.crs_value.specs.ConversionValues.{MethodParts, ParameterParts, ConversionParts, GeoidModelParts}
 use Rattle.crs_same.specs.Sets.{SameSet, BothOrNeither}
 use Rattle.crs_same.specs.SameIdents.{SameIdents}
@@ -9,22 +9,22 @@ use Rattle.crs_same.specs.SameUnits.{SameValue, SameUnit}
 
 pub record SameMethod (level : Level) (a b : MethodParts) : Type 0 where
   pub name : a.name ≡ b.name
-  pub ids : SameIdents level a.ids b.ids
+  pub identifiers : SameIdents level a.identifiers b.identifiers
 
 -- in a parameter `UNIT` is a kind of its own; a missing unit differs from each that is there
 pub record SameParameter (level : Level) (a b : ParameterParts) : Type 0 where
   pub name : a.name ≡ b.name
   pub value : SameValue a.value b.value
   pub unit : BothOrNeither (SameUnit kinds.Plain level) a.unit b.unit
-  pub ids : SameIdents level a.ids b.ids
+  pub identifiers : SameIdents level a.identifiers b.identifiers
 
 -- the parameters are a set
 pub record SameConversion (level : Level) (a b : ConversionParts) : Type 0 where
   pub name : a.name ≡ b.name
   pub method : SameMethod level a.method b.method
   pub parameters : SameSet (SameParameter level) a.parameters b.parameters
-  pub ids : SameIdents level a.ids b.ids
+  pub identifiers : SameIdents level a.identifiers b.identifiers
 
 pub record SameGeoidModel (level : Level) (a b : GeoidModelParts) : Type 0 where
   pub name : a.name ≡ b.name
-  pub ids : SameIdents level a.ids b.ids
+  pub identifiers : SameIdents level a.identifiers b.identifiers

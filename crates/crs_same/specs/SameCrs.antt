@@ -1,11 +1,11 @@
 -- When coordinate reference systems are the same.
 use Rattle.std.specs.Prelude.{◌≡◌}
-use Rattle.crs_value.specs.declared.compound.Horizontal.{Horizontal}
-use Rattle.crs_value.specs.declared.compound.Horizontal.TheVariants as horizontal
-use Rattle.crs_value.specs.declared.crs.Crs.{Crs}
-use Rattle.crs_value.specs.declared.crs.Crs.TheVariants as crs
-use Rattle.crs_value.specs.declared.level.Level.{Level}
-use Rattle.crs_value.specs.declared.unit_kind.UnitKind.TheVariants as kinds
+use Rattle.crs_value.specs.declared.values.compound.Horizontal.{Horizontal}
+use Rattle.crs_value.specs.declared.values.compound.Horizontal.TheVariants as horizontal
+use Rattle.crs_value.specs.declared.values.crs.Crs.{Crs}
+use Rattle.crs_value.specs.declared.values.crs.Crs.TheVariants as crs
+use Rattle.crs_value.specs.declared.values.level.Level.{Level}
+use Rattle.crs_value.specs.declared.values.unit_kind.UnitKind.TheVariants as kinds
 use Rattle.crs_value.specs.CompoundValues.{CompoundParts}
 use Rattle.crs_value.specs.CrsValues.{GeodeticParts, BaseParts, ProjectedParts, VerticalParts}
 use Rattle.crs_value.specs.ReadsCrs.{kind_by, kind_of}
@@ -32,7 +32,7 @@ pub record SameBase (level : Level) (a b : BaseParts) : Type 0 where
   pub frame : SameFrame level a.frame b.frame
   pub meridian : SameMeridian level a.meridian b.meridian
   pub unit : BothOrNeither (SameUnit kinds.Angle level) a.unit b.unit
-  pub ids : SameIdents level a.ids b.ids
+  pub identifiers : SameIdents level a.identifiers b.identifiers
 
 pub record SameProjected (level : Level) (a b : ProjectedParts) : Type 0 where
   pub name : a.name ≡ b.name

@@ -2,10 +2,10 @@
 use Rattle.std.specs.Prelude.{◌≡◌, Option, Some, None, ◌⊎◌, codes}
 use Rattle.crs_decimal.specs.Number.{SameNumber, whole_number}
 use Rattle.crs_decimal.specs.Value.{Value, exact}
-use Rattle.crs_value.specs.declared.frame.Frame.{Frame}
-use Rattle.crs_value.specs.declared.frame.Frame.TheVariants as frame
-use Rattle.crs_value.specs.declared.level.Level.{Level}
-use Rattle.crs_value.specs.declared.unit_kind.UnitKind.TheVariants as kinds
+use Rattle.crs_value.specs.declared.values.frame.Frame.{Frame}
+use Rattle.crs_value.specs.declared.values.frame.Frame.TheVariants as frame
+use Rattle.crs_value.specs.declared.values.level.Level.{Level}
+use Rattle.crs_value.specs.declared.values.unit_kind.UnitKind.TheVariants as kinds
 use Rattle.crs_value.specs.Values.{EllipsoidParts, MeridianParts, MemberParts, DatumParts, EnsembleParts}
 use Rattle.crs_same.specs.Sets.{SameSet, BothOrNeither}
 use Rattle.crs_same.specs.SameIdents.{SameIdents}
@@ -17,7 +17,7 @@ pub record SameEllipsoid (level : Level) (a b : EllipsoidParts) : Type 0 where
   pub semi_major_axis : SameValue a.semi_major_axis b.semi_major_axis
   pub inverse_flattening : SameValue a.inverse_flattening b.inverse_flattening
   pub unit : SameLength level a.unit b.unit
-  pub ids : SameIdents level a.ids b.ids
+  pub identifiers : SameIdents level a.identifiers b.identifiers
 
 -- ---- prime meridians
 
@@ -28,14 +28,14 @@ IsZero value = SameNumber (exact value) (whole_number 0)
 pub record IsGreenwich (level : Level) (meridian : MeridianParts) : Type 0 where
   pub name : meridian.name ≡ codes "Greenwich"
   pub longitude : IsZero meridian.longitude
-  pub ids : HasNoIdents level meridian.ids
+  pub identifiers : HasNoIdents level meridian.identifiers
 
 -- at longitude 0 the unit doesn't count; at another a missing one differs from each that is there
 pub record SameGiven (level : Level) (a b : MeridianParts) : Type 0 where
   pub name : a.name ≡ b.name
   pub longitude : SameValue a.longitude b.longitude
   pub unit : IsZero a.longitude ⊎ BothOrNeither (SameUnit kinds.Angle level) a.unit b.unit
-  pub ids : SameIdents level a.ids b.ids
+  pub identifiers : SameIdents level a.identifiers b.identifiers
 
 abbrev pub SameMeridian : Level → Option MeridianParts → Option MeridianParts → Type 0
 SameMeridian level None None = Unit {0}
@@ -47,13 +47,13 @@ SameMeridian level (Some a) (Some b) = SameGiven level a b
 
 pub record SameMember (level : Level) (a b : MemberParts) : Type 0 where
   pub name : a.name ≡ b.name
-  pub ids : SameIdents level a.ids b.ids
+  pub identifiers : SameIdents level a.identifiers b.identifiers
 
 pub record SameDatum (level : Level) (a b : DatumParts) : Type 0 where
   pub name : a.name ≡ b.name
   pub ellipsoid : BothOrNeither (SameEllipsoid level) a.ellipsoid b.ellipsoid
   pub anchor : a.anchor ≡ b.anchor
-  pub ids : SameIdents level a.ids b.ids
+  pub identifiers : SameIdents level a.identifiers b.identifiers
 
 -- the members are a set
 pub record SameEnsemble (level : Level) (a b : EnsembleParts) : Type 0 where
@@ -61,7 +61,7 @@ pub record SameEnsemble (level : Level) (a b : EnsembleParts) : Type 0 where
   pub members : SameSet (SameMember level) a.members b.members
   pub ellipsoid : BothOrNeither (SameEllipsoid level) a.ellipsoid b.ellipsoid
   pub accuracy : SameValue a.accuracy b.accuracy
-  pub ids : SameIdents level a.ids b.ids
+  pub identifiers : SameIdents level a.identifiers b.identifiers
 
 -- a reference frame and an ensemble are never the same
 abbrev pub SameFrame : Level → Frame → Frame → Type 0

@@ -1,7 +1,7 @@
 -- When identifiers are the same, one by one and as a set.
 use Rattle.std.specs.Prelude.{◌≡◌, List}
-use Rattle.crs_value.specs.declared.level.Level.{Level}
-use Rattle.crs_value.specs.declared.level.Level.TheVariants as levels
+use Rattle.crs_value.specs.declared.values.level.Level.{Level}
+use Rattle.crs_value.specs.Kept.{kept}
 use Rattle.crs_value.specs.Values.{IdentParts}
 use Rattle.crs_same.specs.Sets.{SameSet}
 
@@ -13,6 +13,6 @@ pub record SameIdent (a b : IdentParts) : Type 0 where
   pub citation : a.citation ≡ b.citation
   pub uri : a.uri ≡ b.uri
 
--- the identifiers of a part
+-- the identifiers that the level keeps of a part, as a set
 abbrev pub SameIdents : Level → List IdentParts → List IdentParts → Type 0
-SameIdents levels.Full xs ys = SameSet SameIdent xs ys
+SameIdents level xs ys = SameSet SameIdent (kept level xs) (kept level ys)

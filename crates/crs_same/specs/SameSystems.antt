@@ -2,9 +2,9 @@
 use Rattle.std.specs.Prelude.{◌≡◌, ℕ, ◌+◌, ◌≤◌, length, Option, Some, None, List, [], ◌∷◌, ◌⊎◌}
 use Rattle.crs_decimal.specs.Number.{SameNumber, whole_number}
 use Rattle.crs_decimal.specs.Value.{Value, exact}
-use Rattle.crs_value.specs.declared.level.Level.{Level}
-use Rattle.crs_value.specs.declared.unit_kind.UnitKind.{UnitKind}
-use Rattle.crs_value.specs.declared.unit_kind.UnitKind.TheVariants as kinds
+use Rattle.crs_value.specs.declared.values.level.Level.{Level}
+use Rattle.crs_value.specs.declared.values.unit_kind.UnitKind.{UnitKind}
+use Rattle.crs_value.specs.declared.values.unit_kind.UnitKind.TheVariants as kinds
 use Rattle.crs_value.specs.BadUnit.{asked_kind}
 pub use Rattle.crs_value.specs.SoundSystem.{own_or}
 use Rattle.crs_value.specs.Values.{UnitParts, AxisMeridianParts, AxisParts, SystemParts}
@@ -25,7 +25,7 @@ pub record SameAxisIn (asked : UnitKind) (level : Level) (a b : AxisParts)
   pub direction : a.direction ≡ b.direction
   pub meridian : BothOrNeither (SameAxisMeridian level) a.meridian b.meridian
   pub unit : BothOrNeither (SameUnit asked level) first second
-  pub ids : SameIdents level a.ids b.ids
+  pub identifiers : SameIdents level a.identifiers b.identifiers
 
 -- two axes of two systems
 unfoldable pub SameAxis : Level → SystemParts → SystemParts → AxisParts → AxisParts → Type 0
@@ -39,7 +39,7 @@ pub record SameAxisAlone (level : Level) (a b : AxisParts) : Type 0 where
   pub meridian : BothOrNeither (SameAxisMeridian level) a.meridian b.meridian
   pub order : BothOrNeither SameValue a.order b.order
   pub unit : BothOrNeither (SameUnit kinds.Plain level) a.unit b.unit
-  pub ids : SameIdents level a.ids b.ids
+  pub identifiers : SameIdents level a.identifiers b.identifiers
 
 -- ---- positions
 
@@ -64,5 +64,5 @@ SameAxes level a b = (position : ℕ) → 1 ≤ position → position ≤ length
 pub record SameSystem (level : Level) (a b : SystemParts) : Type 0 where
   pub system_type : a.system_type ≡ b.system_type
   pub dimension : SameValue a.dimension b.dimension
-  pub ids : SameIdents level a.ids b.ids
+  pub identifiers : SameIdents level a.identifiers b.identifiers
   pub axes : SameAxes level a b

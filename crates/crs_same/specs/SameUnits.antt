@@ -2,10 +2,10 @@
 use Rattle.std.specs.Prelude.{◌≡◌, List, [], Option, Some, None, codes}
 use Rattle.crs_decimal.specs.Number.{SameNumber, whole_number}
 use Rattle.crs_decimal.specs.Value.{Value, exact}
-use Rattle.crs_value.specs.declared.level.Level.{Level}
-use Rattle.crs_value.specs.declared.level.Level.TheVariants as levels
-use Rattle.crs_value.specs.declared.unit_kind.UnitKind.{UnitKind}
-use Rattle.crs_value.specs.declared.unit_kind.UnitKind.TheVariants as kinds
+use Rattle.crs_value.specs.declared.values.level.Level.{Level}
+use Rattle.crs_value.specs.declared.values.unit_kind.UnitKind.{UnitKind}
+use Rattle.crs_value.specs.declared.values.unit_kind.UnitKind.TheVariants as kinds
+use Rattle.crs_value.specs.Kept.{kept}
 pub use Rattle.crs_value.specs.Sound.{kind_as}
 use Rattle.crs_value.specs.Values.{IdentParts, UnitParts}
 use Rattle.crs_same.specs.SameIdents.{SameIdents}
@@ -19,18 +19,18 @@ pub record SameUnit (asked : UnitKind) (level : Level) (a b : UnitParts) : Type 
   pub kind : kind_as asked a.kind ≡ kind_as asked b.kind
   pub name : a.name ≡ b.name
   pub factor : SameValue a.factor b.factor
-  pub ids : SameIdents level a.ids b.ids
+  pub identifiers : SameIdents level a.identifiers b.identifiers
 
 -- no identifier counts
 abbrev pub HasNoIdents : Level → List IdentParts → Type 0
-HasNoIdents levels.Full ids = ids ≡ []
+HasNoIdents level identifiers = kept level identifiers ≡ []
 
 -- what a missing unit of length stands for: "metre" of factor 1, without identifiers
 pub record IsMetre (level : Level) (unit : UnitParts) : Type 0 where
   pub kind : kind_as kinds.Length unit.kind ≡ kinds.Length
   pub name : unit.name ≡ codes "metre"
   pub factor : SameNumber (exact unit.factor) (whole_number 1)
-  pub ids : HasNoIdents level unit.ids
+  pub identifiers : HasNoIdents level unit.identifiers
 
 -- the same unit of length, where a missing one is the metre
 abbrev pub SameLength : Level → Option UnitParts → Option UnitParts → Type 0

@@ -1,7 +1,8 @@
 -- When usages and the ends of CRSs are the same.
 use Rattle.std.specs.Prelude.{◌≡◌, List, ◌∷◌, Option, Some, None}
-use Rattle.crs_value.specs.declared.level.Level.{Level}
-use Rattle.crs_value.specs.declared.level.Level.TheVariants as levels
+use Rattle.crs_value.specs.declared.values.level.Level.{Level}
+use Rattle.crs_value.specs.declared.values.level.Level.TheVariants as levels
+use Rattle.crs_value.specs.Kept.{kept, kept_one}
 use Rattle.crs_value.specs.Values.{BoxParts, ExtentParts, UsageParts, TailParts}
 use Rattle.crs_same.specs.Sets.{SameSet, BothOrNeither}
 use Rattle.crs_same.specs.SameIdents.{SameIdents}
@@ -35,15 +36,16 @@ with_bare (Some bare) usages = bare ∷ usages
 
 -- the usages at a CRS's end: the bare parts are together one more
 abbrev pub usages_of : TailParts → List UsageParts
-usages_of tail = with_bare tail.bare tail.usages
+usages_of tail = with_bare tail.bare_parts tail.usages
 
+-- those that the level keeps, as a set
 abbrev pub SameUsages : Level → TailParts → TailParts → Type 0
-SameUsages levels.Full a b = SameSet SameUsage (usages_of a) (usages_of b)
+SameUsages level a b = SameSet SameUsage (kept level (usages_of a)) (kept level (usages_of b))
 
 abbrev pub SameRemark : Level → TailParts → TailParts → Type 0
-SameRemark levels.Full a b = a.remark ≡ b.remark
+SameRemark level a b = kept_one level a.remark ≡ kept_one level b.remark
 
 pub record SameTail (level : Level) (a b : TailParts) : Type 0 where
   pub usages : SameUsages level a b
-  pub ids : SameIdents level a.ids b.ids
+  pub identifiers : SameIdents level a.identifiers b.identifiers
   pub remark : SameRemark level a b

@@ -23,7 +23,7 @@ fn first_in_method<'a>(at: Path, a: &Method<'a>, b: &Method<'a>, level: Level) -
     if !same_text(a.name, b.name) {
         return Some(at.then(Step::Name));
     }
-    if !same_idents(&a.ids, &b.ids, level) {
+    if !same_idents(&a.identifiers, &b.identifiers, level) {
         return Some(at.then(Step::Id));
     }
     None
@@ -50,7 +50,7 @@ impl Member for Parameter<'_> {
         key.put_text(self.name);
         key.put_number(&self.value);
         key.put_optional_unit(&self.unit, level);
-        key.put_idents(self.ids.as_slice(), level);
+        key.put_idents(self.identifiers.as_slice(), level);
         key.finish()
     }
 
@@ -67,7 +67,7 @@ pub fn same_parameter<'a>(a: &Parameter<'a>, b: &Parameter<'a>, level: Level) ->
     same_text(a.name, b.name)
         && same_value(&a.value, &b.value)
         && same_units_as(UnitKind::Plain, a.unit.as_ref(), b.unit.as_ref(), level)
-        && same_idents(&a.ids, &b.ids, level)
+        && same_idents(&a.identifiers, &b.identifiers, level)
 }
 
 impl Member for GeoidModel<'_> {
@@ -80,7 +80,7 @@ impl Member for GeoidModel<'_> {
     }
 
     fn key(&self, level: Level) -> u64 {
-        key_of_named(self.name, self.ids.as_slice(), level)
+        key_of_named(self.name, self.identifiers.as_slice(), level)
     }
 
     fn same_is_equivalence(&self) {
@@ -92,7 +92,7 @@ impl Member for GeoidModel<'_> {
 pub fn same_geoid_model<'a>(a: &GeoidModel<'a>, b: &GeoidModel<'a>, level: Level) -> bool
     ensures { IsTrue result ↔ SameGeoidModel level a.now b.now }
 {
-    same_text(a.name, b.name) && same_idents(&a.ids, &b.ids, level)
+    same_text(a.name, b.name) && same_idents(&a.identifiers, &b.identifiers, level)
 }
 
 fn same_parameters<'a>(a: &[Parameter<'a>], b: &[Parameter<'a>], level: Level) -> bool
@@ -131,7 +131,7 @@ pub(crate) fn first_in_conversion<'a>(
     if !same_parameters(a.parameters.as_slice(), b.parameters.as_slice(), level) {
         return Some(at.then(Step::Parameters));
     }
-    if !same_idents(&a.ids, &b.ids, level) {
+    if !same_idents(&a.identifiers, &b.identifiers, level) {
         return Some(at.then(Step::Id));
     }
     None

@@ -78,7 +78,7 @@ fn first_in_base<'a>(at: Path, a: &Base<'a>, b: &Base<'a>, level: Level) -> Opti
     if !same_units_as(UnitKind::Angle, a.unit.as_ref(), b.unit.as_ref(), level) {
         return Some(at.then(Step::Unit));
     }
-    if !same_idents(&a.ids, &b.ids, level) {
+    if !same_idents(&a.identifiers, &b.identifiers, level) {
         return Some(at.then(Step::Id));
     }
     None

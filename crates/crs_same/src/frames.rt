@@ -1,6 +1,6 @@
 //! Ellipsoids, prime meridians, reference frames and ensembles.
 ghost use Rattle.std.specs.Prelude.{◌≡◌, ◌≤◌, ◌↔◌, ◌⊎◌, IsTrue, None, length};
-ghost use Rattle.crs_value.specs.declared.unit_kind.UnitKind.TheVariants as kinds;
+ghost use Rattle.crs_value.specs.declared.values.unit_kind.UnitKind.TheVariants as kinds;
 ghost use Rattle.crs_same.specs.FirstInFrames.{FirstInEllipsoid, FirstInEllipsoids, FirstInGiven, FirstBesideGreenwich};
 ghost use Rattle.crs_same.specs.FirstInFrames.{FirstInMeridian, FirstInDatum, FirstInEnsemble, FirstInFrame};
 ghost use Rattle.crs_same.specs.Sets.{BothOrNeither, SameSet};
@@ -41,7 +41,7 @@ fn first_in_ellipsoid<'a>(
     if !same_length(&a.unit, &b.unit, level) {
         return Some(at.then(Step::Unit));
     }
-    if !same_idents(&a.ids, &b.ids, level) {
+    if !same_idents(&a.identifiers, &b.identifiers, level) {
         return Some(at.then(Step::Id));
     }
     None
@@ -96,7 +96,7 @@ fn first_in_given<'a>(at: Path, a: &Meridian<'a>, b: &Meridian<'a>, level: Level
     if !same_meridian_units(a, b, level) {
         return Some(at.then(Step::Unit));
     }
-    if !same_idents(&a.ids, &b.ids, level) {
+    if !same_idents(&a.identifiers, &b.identifiers, level) {
         return Some(at.then(Step::Id));
     }
     None
@@ -114,7 +114,7 @@ fn first_beside_greenwich(at: Path, meridian: &Meridian<'_>, level: Level) -> Op
     if !meridian.longitude.is_whole(0) {
         return Some(at.then(Step::Longitude));
     }
-    if !has_no_idents(&meridian.ids, level) {
+    if !has_no_idents(&meridian.identifiers, level) {
         return Some(at.then(Step::Id));
     }
     None
@@ -158,7 +158,7 @@ impl SetMember for Member<'_> {
     }
 
     fn key(&self, level: Level) -> u64 {
-        key_of_named(self.name, self.ids.as_slice(), level)
+        key_of_named(self.name, self.identifiers.as_slice(), level)
     }
 
     fn same_is_equivalence(&self) {
@@ -170,7 +170,7 @@ impl SetMember for Member<'_> {
 pub fn same_member<'a>(a: &Member<'a>, b: &Member<'a>, level: Level) -> bool
     ensures { IsTrue result ↔ SameMember level a.now b.now }
 {
-    same_text(a.name, b.name) && same_idents(&a.ids, &b.ids, level)
+    same_text(a.name, b.name) && same_idents(&a.identifiers, &b.identifiers, level)
 }
 
 fn same_members<'a>(a: &[Member<'a>], b: &[Member<'a>], level: Level) -> bool
@@ -194,7 +194,7 @@ fn first_in_datum<'a>(at: Path, a: &Datum<'a>, b: &Datum<'a>, level: Level) -> O
     if !same_optional_text(a.anchor, b.anchor) {
         return Some(at.then(Step::Anchor));
     }
-    if !same_idents(&a.ids, &b.ids, level) {
+    if !same_idents(&a.identifiers, &b.identifiers, level) {
         return Some(at.then(Step::Id));
     }
     None
@@ -218,7 +218,7 @@ fn first_in_ensemble<'a>(at: Path, a: &Ensemble<'a>, b: &Ensemble<'a>, level: Le
     if !same_value(&a.accuracy, &b.accuracy) {
         return Some(at.then(Step::Accuracy));
     }
-    if !same_idents(&a.ids, &b.ids, level) {
+    if !same_idents(&a.identifiers, &b.identifiers, level) {
         return Some(at.then(Step::Id));
     }
     None

@@ -45,11 +45,9 @@ fn same_ident_set<'a>(a: &[Ident<'a>], b: &[Ident<'a>]) -> bool
     same_set(a, b, Level::Full)
 }
 
-// The identifiers of a part.
+// The identifiers that the level keeps of a part.
 pub(crate) fn same_idents<'a>(a: &List<Ident<'a>>, b: &List<Ident<'a>>, level: Level) -> bool
     ensures { IsTrue result ↔ SameIdents level a.now b.now }
 {
-    match level {
-        Level::Full => same_ident_set(a.as_slice(), b.as_slice()),
-    }
+    same_ident_set(level.kept(a.as_slice()), level.kept(b.as_slice()))
 }

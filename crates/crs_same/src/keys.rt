@@ -91,14 +91,12 @@ impl Key {
     fn put_unit(&mut self, unit: &Unit<'_>, level: Level) {
         self.put_text(unit.name);
         self.put_number(&unit.factor);
-        self.put_idents(unit.ids.as_slice(), level);
+        self.put_idents(unit.identifiers.as_slice(), level);
     }
 
-    // Identifiers, in any order and however often.
+    // The identifiers that the level keeps, in any order and however often.
     pub(crate) fn put_idents(&mut self, idents: &[Ident<'_>], level: Level) {
-        match level {
-            Level::Full => self.hasher.write_u64(key_of_set(idents)),
-        }
+        self.hasher.write_u64(key_of_set(level.kept(idents)));
     }
 }
 

@@ -1,7 +1,7 @@
 //! Laws of the definitions, as contracts of functions that do nothing.
 ghost use Rattle.std.specs.Prelude.{◌≡◌, ◌≤◌, ℕ, ⊤, length};
-ghost use Rattle.crs_value.specs.declared.level.Level.{Level};
-ghost use Rattle.crs_value.specs.declared.unit_kind.UnitKind.{UnitKind};
+ghost use Rattle.crs_value.specs.declared.values.level.Level.{Level};
+ghost use Rattle.crs_value.specs.declared.values.unit_kind.UnitKind.{UnitKind};
 ghost use Rattle.crs_value.specs.SoundCompound.{IsHorizontal, IsCompound};
 ghost use Rattle.crs_value.specs.SoundCrs.{IsCrs};
 ghost use Rattle.crs_value.specs.SoundSingle.{IsGeodetic, IsProjected, IsVertical};

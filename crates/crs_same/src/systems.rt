@@ -77,7 +77,7 @@ fn first_in_axis<'a>(
     if !same_units_as(asked, a.unit_of(x), b.unit_of(y), level) {
         return Some(at.then(Step::Unit));
     }
-    if !same_idents(&x.ids, &y.ids, level) {
+    if !same_idents(&x.identifiers, &y.identifiers, level) {
         return Some(at.then(Step::Id));
     }
     None
@@ -164,7 +164,7 @@ pub(crate) fn first_in_system<'a>(
     if !same_value(&a.dimension, &b.dimension) {
         return Some(at.then(Step::Dimension));
     }
-    if !same_idents(&a.ids, &b.ids, level) {
+    if !same_idents(&a.identifiers, &b.identifiers, level) {
         return Some(at.then(Step::Id));
     }
     as_many_axes();
@@ -181,7 +181,7 @@ pub fn same_axis<'a>(a: &Axis<'a>, b: &Axis<'a>, level: Level) -> bool
         && same_axis_meridians(&a.meridian, &b.meridian, level)
         && same_order(a.order, b.order)
         && same_units_as(UnitKind::Plain, a.unit.as_ref(), b.unit.as_ref(), level)
-        && same_idents(&a.ids, &b.ids, level)
+        && same_idents(&a.identifiers, &b.identifiers, level)
 }
 
 fn same_order(a: Option<Decimal>, b: Option<Decimal>) -> bool

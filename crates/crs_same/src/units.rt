@@ -1,7 +1,7 @@
 //! Units.
 ghost use Rattle.std.specs.Prelude.{◌≡◌, ◌↔◌, IsTrue};
 ghost use Rattle.std.specs.Option.{option_copied};
-ghost use Rattle.crs_value.specs.declared.unit_kind.UnitKind.TheVariants as kinds;
+ghost use Rattle.crs_value.specs.declared.values.unit_kind.UnitKind.TheVariants as kinds;
 ghost use Rattle.crs_same.specs.Sets.{BothOrNeither};
 ghost use Rattle.crs_same.specs.SameUnits.{SameUnit, SameLength, IsMetre, HasNoIdents};
 
@@ -23,7 +23,7 @@ pub(crate) fn same_unit_as<'a>(asked: UnitKind, a: &Unit<'a>, b: &Unit<'a>, leve
     same_kind(a.kind.as_asked(asked), b.kind.as_asked(asked))
         && same_text(a.name, b.name)
         && same_value(&a.factor, &b.factor)
-        && same_idents(&a.ids, &b.ids, level)
+        && same_idents(&a.identifiers, &b.identifiers, level)
 }
 
 /// Whether two units are the same: kind, name, factor and identifiers; `UNIT` is a kind of its own. Profile.
@@ -49,12 +49,10 @@ pub(crate) fn same_units_as<'a>(
     }
 }
 
-pub(crate) fn has_no_idents(ids: &List<Ident<'_>>, level: Level) -> bool
-    ensures { IsTrue result ↔ HasNoIdents level ids.now }
+pub(crate) fn has_no_idents(identifiers: &List<Ident<'_>>, level: Level) -> bool
+    ensures { IsTrue result ↔ HasNoIdents level identifiers.now }
 {
-    match level {
-        Level::Full => ids.as_slice().is_empty(),
-    }
+    level.kept(identifiers.as_slice()).is_empty()
 }
 
 fn is_metre(unit: &Unit<'_>, level: Level) -> bool
@@ -63,7 +61,7 @@ fn is_metre(unit: &Unit<'_>, level: Level) -> bool
     same_kind(unit.kind.as_asked(UnitKind::Length), UnitKind::Length)
         && same_text(unit.name, b"metre")
         && unit.factor.is_whole(1)
-        && has_no_idents(&unit.ids, level)
+        && has_no_idents(&unit.identifiers, level)
 }
 
 // Of lengths: a missing unit is the metre.

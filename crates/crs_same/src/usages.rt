@@ -1,9 +1,10 @@
 //! Usages, and the ends of CRSs.
 ghost use Rattle.std.specs.Prelude.{◌≡◌, ◌≤◌, ◌↔◌, IsTrue, None, length, take};
-ghost use Rattle.crs_value.specs.declared.level.Level.{Level};
+ghost use Rattle.std.specs.Option.{option_copied};
+ghost use Rattle.crs_value.specs.declared.values.level.Level.{Level};
 ghost use Rattle.crs_same.specs.FirstInCrs.{FirstInTail};
-ghost use Rattle.crs_same.specs.Sets.{BothOrNeither, HasSame, AllHaveSame};
-ghost use Rattle.crs_same.specs.SameUsages.{SameBox, SameExtent, SameUsage, usages_of, SameUsages, SameRemark};
+ghost use Rattle.crs_same.specs.Sets.{BothOrNeither, HasSame, AllHaveSame, SameSet};
+ghost use Rattle.crs_same.specs.SameUsages.{SameBox, SameExtent, SameUsage, with_bare, SameUsages, SameRemark};
 ghost use Rattle.crs_same.specs.SameUsages.{SameTail};
 
 use crate::guesses::Guesses;
@@ -99,26 +100,24 @@ fn has_same_usage<'a>(usage: &Usage<'a>, others: &[Usage<'a>]) -> bool
     has_same(usage, others, Level::Full)
 }
 
-// Among the usages at an end, the bare one included.
-fn has_same_in<'a>(usage: &Usage<'a>, tail: &Tail<'a>) -> bool
-    ensures { IsTrue result ↔ HasSame SameUsage usage.now (usages_of tail.now) }
+// Among these and the bare one, if there is one.
+fn has_same_in<'a>(usage: &Usage<'a>, bare: Option<&Usage<'a>>, others: &[Usage<'a>]) -> bool
+    ensures { IsTrue result ↔ HasSame SameUsage usage.now (with_bare (option_copied bare.entry) others.now) }
 {
-    match &tail.bare {
-        None => has_same_usage(usage, tail.usages.as_slice()),
-        Some(bare) => {
-            same_usage(usage, bare, Level::Full) || has_same_usage(usage, tail.usages.as_slice())
-        }
+    match bare {
+        None => has_same_usage(usage, others),
+        Some(bare) => same_usage(usage, bare, Level::Full) || has_same_usage(usage, others),
     }
 }
 
-fn all_have_same<'a>(usages: &[Usage<'a>], tail: &Tail<'a>) -> bool
-    ensures { IsTrue result ↔ AllHaveSame SameUsage usages.now (usages_of tail.now) }
+fn all_have_same<'a>(usages: &[Usage<'a>], bare: Option<&Usage<'a>>, others: &[Usage<'a>]) -> bool
+    ensures { IsTrue result ↔ AllHaveSame SameUsage usages.now (with_bare (option_copied bare.entry) others.now) }
 {
-    if usages.len() > FEW && tail.usages.as_slice().len() > FEW {
-        return all_of_many_have_same(usages, tail);
+    if usages.len() > FEW && others.len() > FEW {
+        return all_of_many_have_same(usages, bare, others);
     }
     for usage in usages {
-        if !has_same_in(usage, tail) {
+        if !has_same_in(usage, bare, others) {
             return false;
         }
     }
@@ -126,13 +125,17 @@ fn all_have_same<'a>(usages: &[Usage<'a>], tail: &Tail<'a>) -> bool
 }
 
 // The same of many.
-fn all_of_many_have_same<'a>(usages: &[Usage<'a>], tail: &Tail<'a>) -> bool
-    ensures { IsTrue result ↔ AllHaveSame SameUsage usages.now (usages_of tail.now) }
+fn all_of_many_have_same<'a>(
+    usages: &[Usage<'a>],
+    bare: Option<&Usage<'a>>,
+    others: &[Usage<'a>],
+) -> bool
+    ensures { IsTrue result ↔ AllHaveSame SameUsage usages.now (with_bare (option_copied bare.entry) others.now) }
 {
     let mut guesses = Guesses::new();
     let mut at: usize = 0;
     for usage in usages {
-        if !is_met_in(usage, at, usages, tail, &mut guesses) {
+        if !is_met_in(usage, at, usages, bare, others, &mut guesses) {
             return false;
         }
         at += 1;
@@ -145,36 +148,46 @@ fn is_met_in<'a>(
     usage: &Usage<'a>,
     at: usize,
     usages: &[Usage<'a>],
-    tail: &Tail<'a>,
+    bare: Option<&Usage<'a>>,
+    others: &[Usage<'a>],
     guesses: &mut Guesses,
 ) -> bool
     requires there { at ≤ length usages.now }
-    requires before { AllHaveSame SameUsage (take at usages.now) (usages_of tail.now) }
-    ensures { IsTrue result ↔ HasSame SameUsage usage.now (usages_of tail.now) }
+    requires before { AllHaveSame SameUsage (take at usages.now) (with_bare (option_copied bare) others.now) }
+    ensures { IsTrue result ↔ HasSame SameUsage usage.now (with_bare (option_copied bare.entry) others.now) }
 {
-    if is_same_in(usage, tail, at) {
+    if is_same_in(usage, bare, others, at) {
         return true;
     }
     same_usage_is_equivalence();
-    let guess = guesses.of(at, usages, tail.usages.as_slice(), Level::Full);
-    is_same_usage_at(usage, &usages[..at], guess.before) || is_found_in(usage, tail, guess.other)
+    let guess = guesses.of(at, usages, others, Level::Full);
+    is_same_usage_at(usage, &usages[..at], guess.before)
+        || is_found_in(usage, bare, others, guess.other)
 }
 
-fn is_same_in<'a>(usage: &Usage<'a>, tail: &Tail<'a>, place: usize) -> bool
-    ensures { IsTrue result → HasSame SameUsage usage.now (usages_of tail.now) }
+fn is_same_in<'a>(
+    usage: &Usage<'a>,
+    bare: Option<&Usage<'a>>,
+    others: &[Usage<'a>],
+    place: usize,
+) -> bool
+    ensures { IsTrue result → HasSame SameUsage usage.now (with_bare (option_copied bare.entry) others.now) }
 {
-    let others = tail.usages.as_slice();
-    match &tail.bare {
+    match bare {
         None => is_same_usage_at(usage, others, place),
         Some(_) => is_same_usage_at(usage, others, place),
     }
 }
 
-fn is_found_in<'a>(usage: &Usage<'a>, tail: &Tail<'a>, place: usize) -> bool
-    ensures { IsTrue result ↔ HasSame SameUsage usage.now (usages_of tail.now) }
+fn is_found_in<'a>(
+    usage: &Usage<'a>,
+    bare: Option<&Usage<'a>>,
+    others: &[Usage<'a>],
+    place: usize,
+) -> bool
+    ensures { IsTrue result ↔ HasSame SameUsage usage.now (with_bare (option_copied bare.entry) others.now) }
 {
-    let others = tail.usages.as_slice();
-    match &tail.bare {
+    match bare {
         None => is_found_usage(usage, others, place),
         Some(bare) => same_usage(usage, bare, Level::Full) || is_found_usage(usage, others, place),
     }
@@ -192,29 +205,50 @@ fn is_found_usage<'a>(usage: &Usage<'a>, others: &[Usage<'a>], place: usize) -> 
     is_found(usage, others, place, Level::Full)
 }
 
-fn all_have_same_in<'a>(a: &Tail<'a>, b: &Tail<'a>) -> bool
-    ensures { IsTrue result ↔ AllHaveSame SameUsage (usages_of a.now) (usages_of b.now) }
+fn all_have_same_in<'a>(
+    one: Option<&Usage<'a>>,
+    usages: &[Usage<'a>],
+    bare: Option<&Usage<'a>>,
+    others: &[Usage<'a>],
+) -> bool
+    ensures { IsTrue result ↔ AllHaveSame SameUsage (with_bare (option_copied one.entry) usages.now)
+        (with_bare (option_copied bare.entry) others.now) }
 {
-    match &a.bare {
-        None => all_have_same(a.usages.as_slice(), b),
-        Some(bare) => has_same_in(bare, b) && all_have_same(a.usages.as_slice(), b),
+    match one {
+        None => all_have_same(usages, bare, others),
+        Some(one) => has_same_in(one, bare, others) && all_have_same(usages, bare, others),
     }
 }
 
+fn same_usage_set<'a>(
+    one: Option<&Usage<'a>>,
+    usages: &[Usage<'a>],
+    bare: Option<&Usage<'a>>,
+    others: &[Usage<'a>],
+) -> bool
+    ensures { IsTrue result ↔ SameSet SameUsage (with_bare (option_copied one.entry) usages.now)
+        (with_bare (option_copied bare.entry) others.now) }
+{
+    all_have_same_in(one, usages, bare, others) && all_have_same_in(bare, others, one, usages)
+}
+
+// What the level keeps of them.
+#[tactic(auto, using(crate::proofs::KeptLemmas::kept_rules))]
 fn same_usages<'a>(a: &Tail<'a>, b: &Tail<'a>, level: Level) -> bool
     ensures { IsTrue result ↔ SameUsages level a.now b.now }
 {
-    match level {
-        Level::Full => all_have_same_in(a, b) && all_have_same_in(b, a),
-    }
+    same_usage_set(
+        level.kept_one(a.bare_parts.as_ref()),
+        level.kept(a.usages.as_slice()),
+        level.kept_one(b.bare_parts.as_ref()),
+        level.kept(b.usages.as_slice()),
+    )
 }
 
 fn same_remark<'a>(a: &Tail<'a>, b: &Tail<'a>, level: Level) -> bool
     ensures { IsTrue result ↔ SameRemark level a.now b.now }
 {
-    match level {
-        Level::Full => same_optional_text(a.remark, b.remark),
-    }
+    same_optional_text(level.kept_text(a.remark), level.kept_text(b.remark))
 }
 
 #[tactic(auto, unfolding(crate::specs::FirstInCrs::FirstInTail))]
@@ -226,7 +260,7 @@ pub(crate) fn first_in_tail<'a>(at: Path, a: &Tail<'a>, b: &Tail<'a>, level: Lev
     if !same_usages(a, b, level) {
         return Some(at.then(Step::Usage));
     }
-    if !same_idents(&a.ids, &b.ids, level) {
+    if !same_idents(&a.identifiers, &b.identifiers, level) {
         return Some(at.then(Step::Id));
     }
     if !same_remark(a, b, level) {

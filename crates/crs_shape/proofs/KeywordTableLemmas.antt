@@ -1,190 +1,91 @@
 -- What the table of keywords says, row by row, by computation.
-use Rattle.std.proofs.Common.{◌≡◌, ℕ, Bool, true, false, not, ◌&&◌, List, Option, Some, None, refl}
-use Rattle.std.specs.List.{list_all, find}
-use denote.Enum.Bare.{sameb}
-use Rattle.crs_shape.specs.contracts.class.Class.{the_type}
-use Rattle.crs_shape.specs.declared.class.Class.{Class}
-use Rattle.crs_shape.specs.declared.class.Class.TheVariants as class
-use Rattle.crs_shape.specs.Keywords.{keywords_of, is_keyword, is_known, root_named}
-use Rattle.crs_shape.specs.Shape.{has_class}
-use Rattle.crs_shape.specs.Slots.{class_named}
-use Rattle.crs_shape.specs.KeywordTable.{classes_of, is_among, is_part, is_root}
-use Rattle.crs_text.specs.Keywords.{spelling_of, every_keyword, keyword_of}
+use Rattle.std.proofs.Common.{◌≡◌, ℕ, Bool, true, false, List, length, Option, Some, None, ◌==◌, ◌||◌, [], ◌∷◌, ap, sym, ◌∙◌, refl, rules}
+use Rattle.std.specs.List.{list_all, list_any, find}
+use Rattle.std.proofs.lemmas.Bool.{agree_below_at}
+use denote.Enum.Bare.{sameb, same_true}
+use denote.Enum.Declared.{rowss, tag_of}
+use denote.Enum.Enum.{tag_below}
+use Rattle.crs_text.specs.contracts.keyword.Keyword as keywords
 use Rattle.crs_text.specs.declared.keyword.Keyword.{Keyword}
+use Rattle.crs_text.specs.Keywords.{spelling_of, every_keyword}
+use Rattle.crs_shape.specs.contracts.class.Class as classes
+use Rattle.crs_shape.specs.declared.class.Class.{Class}
+use Rattle.crs_shape.specs.Keywords.{every_class, is_keyword, root_named}
+use Rattle.crs_shape.specs.KeywordTable.{classes_of, is_among, is_part, is_root}
+use Rattle.crs_shape.specs.Slots.{class_named}
+use Rattle.crs_shape.proofs.BoolLemmas.{and-left, and-right}
+
+-- each class is among all, and each keyword: by its number
+
+pub class-among : (c : Class) → is_among c every_class ≡ true
+class-among c =
+    agree_below_at (λ n. list_any (λ d. tag_of classes.the_type d == n) every_class) (λ _. true) (length (rowss classes.the_type.parts))
+    (tag_of classes.the_type c) refl (tag_below (rowss classes.the_type.parts) (classes.the_type.to c))
+
+keyword-among : (k : Keyword) → list_any (λ j. sameb keywords.the_type j k) every_keyword ≡ true
+keyword-among k =
+    agree_below_at (λ n. list_any (λ j. tag_of keywords.the_type j == n) every_keyword) (λ _. true) (length (rowss keywords.the_type.parts))
+    (tag_of keywords.the_type k) refl (tag_below (rowss keywords.the_type.parts) (keywords.the_type.to k))
+
+-- what all pass, each passes
+
+among-passes : {X : Type 0} (test same : X → Bool) (xs : List X) (x : X) → ((y : X) → same y ≡ true → y ≡ x) →
+    list_all test xs ≡ true → list_any same xs ≡ true → test x ≡ true
+among-passes test same [] x is all e = cc
+among-passes test same (y ∷ ys) x is all e =
+    elim (same y) as (λ b. same y ≡ b → (b || list_any same ys) ≡ true → test x ≡ true) [
+      | true ↦ λ f g. ap test (sym (is y f)) ∙ and-left (test y) (list_all test ys) all
+      | false ↦ λ f g. among-passes test same ys x is (and-right (test y) (list_all test ys) all) g
+    ] refl e
+
+pub every-class : (test : Class → Bool) → list_all test every_class ≡ true → (c : Class) → test c ≡ true
+every-class test all c =
+    among-passes test (λ d. sameb classes.the_type d c) every_class c
+    (λ d e. same_true classes.the_type (search rules) d c e) all (class-among c)
+
+pub every-keyword : (test : Keyword → Bool) → list_all test every_keyword ≡ true → (k : Keyword) → test k ≡ true
+every-keyword test all k =
+    among-passes test (λ j. sameb keywords.the_type j k) every_keyword k
+    (λ j e. same_true keywords.the_type (search rules) j k e) all (keyword-among k)
 
 -- whether two answers are the same
-abbrev pub same_class : Option Class → Option Class → Bool
+abbrev same_class : Option Class → Option Class → Bool
 same_class None None = true
 same_class None (Some b) = false
 same_class (Some a) None = false
-same_class (Some a) (Some b) = sameb the_type a b
+same_class (Some a) (Some b) = sameb classes.the_type a b
 
--- whether each keyword passes
-abbrev pub is_everywhere : (Keyword → Bool) → Bool
-is_everywhere test = list_all test every_keyword
+same_class-true : (a b : Option Class) → same_class a b ≡ true → a ≡ b
+same_class-true None None e = refl
+same_class-true None (Some b) e = cc
+same_class-true (Some a) None e = cc
+same_class-true (Some a) (Some b) e = ap Some (same_true classes.the_type (search rules) a b e)
 
--- the classes of a keyword name what its spelling names in a parent
-abbrev pub is_named : Class → Keyword → Bool
-is_named parent k = same_class (find (is_part parent) (classes_of k)) (class_named parent (spelling_of k))
+-- these classes name what this word names in a parent
+abbrev is_named : List Class → List ℕ → Class → Bool
+is_named cs word parent = same_class (find (is_part parent) cs) (class_named parent word)
+
+-- the classes of a keyword name what its spelling names
+abbrev is_named_everywhere : Keyword → Bool
+is_named_everywhere k = list_all (is_named (classes_of k) (spelling_of k)) every_class
+
+all_named : list_all is_named_everywhere every_keyword ≡ true
+unfolding is_keyword class_named
+all_named = refl
+
+pub named : (parent : Class) (k : Keyword) → find (is_part parent) (classes_of k) ≡ class_named parent (spelling_of k)
+named parent k =
+    same_class-true (find (is_part parent) (classes_of k)) (class_named parent (spelling_of k))
+    (every-class (is_named (classes_of k) (spelling_of k)) (every-keyword is_named_everywhere all_named k) parent)
 
 -- and what it names at the head of a text
-abbrev pub is_named_root : Keyword → Bool
+abbrev is_named_root : Keyword → Bool
 is_named_root k = same_class (find is_root (classes_of k)) (root_named (spelling_of k))
 
--- a keyword of the table is known and has a class
-abbrev pub is_right : Keyword → Bool
-is_right k = has_class (classes_of k) && is_known (spelling_of k)
-
--- whether two answers are the same
-abbrev pub same_test : Bool → Bool → Bool
-same_test true b = b
-same_test false b = not b
-
--- its classes are those that have its spelling among their keywords
-abbrev pub is_had : Class → Keyword → Bool
-is_had c k = same_test (is_among c (classes_of k)) (is_keyword c (spelling_of k))
-
--- it is a keyword's spelling
-abbrev pub is_listed : List ℕ → Bool
-is_listed word = is_some (keyword_of word)
-  where
-    is_some : Option Keyword → Bool
-    is_some None = false
-    is_some (Some k) = true
-
-pub named_root : is_everywhere is_named_root ≡ true
+all_named_root : list_all is_named_root every_keyword ≡ true
 unfolding is_keyword root_named
-named_root = refl
+all_named_root = refl
 
-pub right : is_everywhere is_right ≡ true
-unfolding is_keyword is_known
-right = refl
-
-pub named : (parent : Class) → is_everywhere (is_named parent) ≡ true
-unfolding is_keyword class_named
-named class.Number = refl
-named class.Text = refl
-named class.Word = refl
-named class.GeodeticCrs = refl
-named class.GeographicCrs = refl
-named class.ProjectedCrs = refl
-named class.VerticalCrs = refl
-named class.CompoundCrs = refl
-named class.BaseCrs = refl
-named class.GeodeticFrame = refl
-named class.VerticalFrame = refl
-named class.GeodeticEnsemble = refl
-named class.VerticalEnsemble = refl
-named class.Member = refl
-named class.EnsembleAccuracy = refl
-named class.Anchor = refl
-named class.Ellipsoid = refl
-named class.PrimeMeridian = refl
-named class.LengthUnit = refl
-named class.AngleUnit = refl
-named class.ScaleUnit = refl
-named class.PlainUnit = refl
-named class.AxisUnit = refl
-named class.CoordinateSystem = refl
-named class.Axis = refl
-named class.Meridian = refl
-named class.Order = refl
-named class.Conversion = refl
-named class.Method = refl
-named class.Parameter = refl
-named class.GeoidModel = refl
-named class.Usage = refl
-named class.Scope = refl
-named class.Area = refl
-named class.BoundingBox = refl
-named class.VerticalExtent = refl
-named class.Identifier = refl
-named class.Citation = refl
-named class.Uri = refl
-named class.Remark = refl
-
-pub had : (c : Class) → is_everywhere (is_had c) ≡ true
-unfolding is_keyword
-had class.Number = refl
-had class.Text = refl
-had class.Word = refl
-had class.GeodeticCrs = refl
-had class.GeographicCrs = refl
-had class.ProjectedCrs = refl
-had class.VerticalCrs = refl
-had class.CompoundCrs = refl
-had class.BaseCrs = refl
-had class.GeodeticFrame = refl
-had class.VerticalFrame = refl
-had class.GeodeticEnsemble = refl
-had class.VerticalEnsemble = refl
-had class.Member = refl
-had class.EnsembleAccuracy = refl
-had class.Anchor = refl
-had class.Ellipsoid = refl
-had class.PrimeMeridian = refl
-had class.LengthUnit = refl
-had class.AngleUnit = refl
-had class.ScaleUnit = refl
-had class.PlainUnit = refl
-had class.AxisUnit = refl
-had class.CoordinateSystem = refl
-had class.Axis = refl
-had class.Meridian = refl
-had class.Order = refl
-had class.Conversion = refl
-had class.Method = refl
-had class.Parameter = refl
-had class.GeoidModel = refl
-had class.Usage = refl
-had class.Scope = refl
-had class.Area = refl
-had class.BoundingBox = refl
-had class.VerticalExtent = refl
-had class.Identifier = refl
-had class.Citation = refl
-had class.Uri = refl
-had class.Remark = refl
-
-pub listed : (c : Class) → list_all is_listed (keywords_of c) ≡ true
-unfolding keyword_of
-listed class.Number = refl
-listed class.Text = refl
-listed class.Word = refl
-listed class.GeodeticCrs = refl
-listed class.GeographicCrs = refl
-listed class.ProjectedCrs = refl
-listed class.VerticalCrs = refl
-listed class.CompoundCrs = refl
-listed class.BaseCrs = refl
-listed class.GeodeticFrame = refl
-listed class.VerticalFrame = refl
-listed class.GeodeticEnsemble = refl
-listed class.VerticalEnsemble = refl
-listed class.Member = refl
-listed class.EnsembleAccuracy = refl
-listed class.Anchor = refl
-listed class.Ellipsoid = refl
-listed class.PrimeMeridian = refl
-listed class.LengthUnit = refl
-listed class.AngleUnit = refl
-listed class.ScaleUnit = refl
-listed class.PlainUnit = refl
-listed class.AxisUnit = refl
-listed class.CoordinateSystem = refl
-listed class.Axis = refl
-listed class.Meridian = refl
-listed class.Order = refl
-listed class.Conversion = refl
-listed class.Method = refl
-listed class.Parameter = refl
-listed class.GeoidModel = refl
-listed class.Usage = refl
-listed class.Scope = refl
-listed class.Area = refl
-listed class.BoundingBox = refl
-listed class.VerticalExtent = refl
-listed class.Identifier = refl
-listed class.Citation = refl
-listed class.Uri = refl
-listed class.Remark = refl
+pub named_root : (k : Keyword) → find is_root (classes_of k) ≡ root_named (spelling_of k)
+named_root k =
+    same_class-true (find is_root (classes_of k)) (root_named (spelling_of k)) (every-keyword is_named_root all_named_root k)

@@ -14,4 +14,3 @@ pub mod SlotLemmas
 pub mod SoughtLemmas
 pub mod TableLemmas
 pub mod WalkLemmas
-pub mod SpellingLemmas

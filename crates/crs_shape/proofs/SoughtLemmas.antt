@@ -1,29 +1,26 @@
 -- What isn't of the kind of a class, or has none of its keywords, isn't of the class.
-use Rattle.std.proofs.Common.{◌≡◌, ◌≢◌, ℕ, Bool, true, false, ◌==◌, ◌&&◌, List, map, Option, Some, refl, sym, ◌∙◌, ap, rules}
-use Rattle.std.specs.Prelude.{filter}
-use Rattle.std.specs.List.{list_any, find}
-use Rattle.std.proofs.lemmas.Map.Views.{any-filter_same}
+use Rattle.std.proofs.Common.{◌≡◌, ◌≢◌, ℕ, true, false, ◌==◌, List, map, Option, Some, refl, sym, ◌∙◌, ap, rules}
+use Rattle.std.specs.List.{find}
 use denote.Enum.Bare.{sameb, same_true}
 use Rattle.crs_text.specs.contracts.items.ItemKind as kinds
-use Rattle.crs_text.specs.contracts.keyword.Keyword as keywords
 use Rattle.crs_text.specs.declared.items.ItemKind.{ItemKind}
 use Rattle.crs_text.specs.declared.items.ItemKind.TheVariants as kind
 use Rattle.crs_text.specs.declared.keyword.Keyword.{Keyword}
 use Rattle.crs_text.specs.Items.{Item, leaf, node, kind_of, keyword_in}
-use Rattle.crs_text.specs.Keywords.{every_keyword, keyword_of}
+use Rattle.crs_text.specs.Keywords.{keyword_of, AreSpelled}
 use Rattle.crs_text.specs.Tokens.{number, text, word}
 use Rattle.crs_shape.specs.contracts.class.Class.{the_type}
 use Rattle.crs_shape.specs.declared.class.Class.{Class}
 use Rattle.crs_shape.specs.declared.class.Class.TheVariants as class
 use Rattle.crs_shape.specs.ClassSet.{has_bit, keyword_bit, keyword_set}
-use Rattle.crs_shape.specs.Keywords.{is_keyword}
+use Rattle.crs_shape.specs.Keywords.{is_keyword, keywords_of}
 use Rattle.crs_shape.specs.KeywordTable.{classes_of, classes_by, is_among, is_part}
 use Rattle.crs_shape.specs.ShapeFault.{class_in}
 use Rattle.crs_shape.specs.Slots.{is_class}
 use Rattle.crs_shape.specs.Sought.{kind_for}
 use Rattle.crs_shape.proofs.ClassSetLemmas.{has_bit-word_of}
 use Rattle.crs_shape.proofs.ItemLemmas.{class_in-node, not-among}
-use Rattle.crs_shape.proofs.KeywordLemmas.{class_named-table, is_keyword-table, passes}
+use Rattle.crs_shape.proofs.KeywordLemmas.{among-classes_of, class_named-table, is_keyword-table}
 use Rattle.crs_shape.proofs.ListLemmas.{list_any-map}
 
 -- ---- the kind
@@ -67,53 +64,38 @@ leaf-other c d k right other =
 node-other : (c : Class) (k : ItemKind) → k ≡ kind_for c → sameb kinds.the_type kind.Node k ≡ false → kind_for c ≢ kind.Node
 node-other c k right other e = true-false (ap (sameb kinds.the_type kind.Node) (sym (right ∙ e)) ∙ other)
 
-pub other_kind : (parent c : Class) (k : ItemKind) (item : Item) → k ≡ kind_for c → sameb kinds.the_type (kind_of item) k ≡ false →
+pub other_kind : AreSpelled → (parent c : Class) (k : ItemKind) (item : Item) → k ≡ kind_for c → sameb kinds.the_type (kind_of item) k ≡ false →
     false ≡ is_class c (class_in parent item)
-other_kind parent c k (leaf number place raw) right other = leaf-other c class.Number k right other
-other_kind parent c k (leaf text place raw) right other = leaf-other c class.Text k right other
-other_kind parent c k (leaf word place raw) right other = leaf-other c class.Word k right other
-other_kind parent c k (node place spelled square first others close) right other =
+other_kind law parent c k (leaf number place raw) right other = leaf-other c class.Number k right other
+other_kind law parent c k (leaf text place raw) right other = leaf-other c class.Text k right other
+other_kind law parent c k (leaf word place raw) right other = leaf-other c class.Word k right other
+other_kind law parent c k (node place spelled square first others close) right other =
     sym (not-among c (is_part parent) (classes_by (keyword_of spelled))
-    (is_keyword-table c spelled ∙ no-keyword c spelled (node-other c k right other)))
-    ∙ ap (is_class c) (class_named-table parent spelled)
+    (is_keyword-table law c spelled ∙ no-keyword c spelled (node-other c k right other)))
+    ∙ ap (is_class c) (class_named-table law parent spelled)
 
 -- ---- a node's keyword
 
 pub is_node : (a b k : ItemKind) → a ≡ k → sameb kinds.the_type a b ≡ true → sameb kinds.the_type b kind.Node ≡ true → kind.Node ≡ k
 is_node a b k e f g = sym (same_true kinds.the_type (search rules) b kind.Node g) ∙ sym (same_true kinds.the_type (search rules) a b f) ∙ e
 
-pub node_named : (parent c : Class) (item : Item) (k : Option Keyword) → kind.Node ≡ kind_of item → k ≡ keyword_in item →
+pub node_named : AreSpelled → (parent c : Class) (item : Item) (k : Option Keyword) → kind.Node ≡ kind_of item → k ≡ keyword_in item →
     is_class c (find (is_part parent) (classes_by k)) ≡ is_class c (class_in parent item)
-node_named parent c item k is e =
-    ap (λ o. is_class c (find (is_part parent) (classes_by o))) e ∙ ap (is_class c) (class_in-node parent item is)
+node_named law parent c item k is e =
+    ap (λ o. is_class c (find (is_part parent) (classes_by o))) e ∙ ap (is_class c) (class_in-node law parent item is)
 
--- the set of a class's keywords has the bit of each of its keywords
+-- the set of a class's keywords has the bits of these
+has_bit-keyword_set : (c : Class) (k : Keyword) → has_bit (keyword_set c) (keyword_bit k) ≡ is_among c (classes_of k)
+has_bit-keyword_set c k =
+    has_bit-word_of (keyword_bit k) (map keyword_bit (keywords_of c))
+    ∙ list_any-map (λ i. i == keyword_bit k) keyword_bit (keywords_of c)
+    ∙ sym (among-classes_of c k)
 
-abbrev is_this : Keyword → Keyword → Bool
-is_this k j = sameb keywords.the_type j k
-
-every-keyword : (k : Keyword) (spelled : List ℕ) → keyword_of spelled ≡ Some k → list_any (is_this k) every_keyword ≡ true
-every-keyword k spelled e = passes (λ j. list_any (is_this j) every_keyword) spelled k refl e
-
-has_bit-keyword_set : (c : Class) (k : Keyword) (spelled : List ℕ) → keyword_of spelled ≡ Some k →
-    has_bit (keyword_set c) (keyword_bit k) ≡ is_among c (classes_of k)
-has_bit-keyword_set c k spelled e =
-    has_bit-word_of (keyword_bit k) (map keyword_bit (filter (λ j. is_among c (classes_of j)) every_keyword))
-    ∙ list_any-map (λ i. i == keyword_bit k) keyword_bit (filter (λ j. is_among c (classes_of j)) every_keyword)
-    ∙ any-filter_same (is_this k) (λ j. is_among c (classes_of j)) (is_among c (classes_of k))
-    (λ j f. ap (λ x. is_among c (classes_of x)) (same_true keywords.the_type (search rules) j k f)) every_keyword
-    ∙ ap (λ b. is_among c (classes_of k) && b) (every-keyword k spelled e)
-    ∙ and-true (is_among c (classes_of k))
-  where
-    and-true : (b : Bool) → (b && true) ≡ b
-    and-true true = refl
-    and-true false = refl
-
-pub other_keyword : (parent c : Class) (item : Item) (k : Keyword) → kind.Node ≡ kind_of item → Some k ≡ keyword_in item →
+pub other_keyword : AreSpelled → (parent c : Class) (item : Item) (k : Keyword) → kind.Node ≡ kind_of item → Some k ≡ keyword_in item →
     has_bit (keyword_set c) (keyword_bit k) ≡ false → false ≡ is_class c (class_in parent item)
-other_keyword parent c (leaf number place raw) k is e none = cc
-other_keyword parent c (leaf text place raw) k is e none = cc
-other_keyword parent c (leaf word place raw) k is e none = cc
-other_keyword parent c (node place spelled square first others close) k is e none =
-    sym (not-among c (is_part parent) (classes_of k) (sym (has_bit-keyword_set c k spelled (sym e)) ∙ none))
-    ∙ node_named parent c (node place spelled square first others close) (Some k) is e
+other_keyword law parent c (leaf number place raw) k is e none = cc
+other_keyword law parent c (leaf text place raw) k is e none = cc
+other_keyword law parent c (leaf word place raw) k is e none = cc
+other_keyword law parent c (node place spelled square first others close) k is e none =
+    sym (not-among c (is_part parent) (classes_of k) (sym (has_bit-keyword_set c k) ∙ none))
+    ∙ node_named law parent c (node place spelled square first others close) (Some k) is e

@@ -1,15 +1,14 @@
 -- A bridge: sets of classes, and of keywords, as words with a bit for each.
-use Rattle.std.specs.Prelude.{◌≡◌, ℕ, Bool, ◌==◌, ◌^◌, List, [], ◌∷◌, filter, map}
+use Rattle.std.specs.Prelude.{◌≡◌, ℕ, Bool, ◌==◌, ◌^◌, List, [], ◌∷◌, map}
 use Rattle.std.specs.Int.{bit_at}
 use Rattle.std.specs.Int.RustNames.{bit_or}
 use denote.Enum.Declared.{tag_of}
 use Rattle.crs_text.specs.contracts.keyword.Keyword as keywords
 use Rattle.crs_text.specs.declared.keyword.Keyword.{Keyword}
-use Rattle.crs_text.specs.Keywords.{every_keyword}
 use Rattle.crs_shape.specs.contracts.class.Class as classes
 use Rattle.crs_shape.specs.declared.class.Class.{Class}
 use Rattle.crs_shape.specs.declared.slot.Slot.{Slot}
-use Rattle.crs_shape.specs.KeywordTable.{classes_of, is_among}
+use Rattle.crs_shape.specs.Keywords.{keywords_of}
 
 -- the word with these bits
 abbrev pub word_of : List ℕ → ℕ
@@ -37,4 +36,4 @@ keyword_bit k = tag_of keywords.the_type k
 
 -- the keywords of a class, as a set
 abbrev pub keyword_set : Class → ℕ
-keyword_set c = word_of (map keyword_bit (filter (λ k. is_among c (classes_of k)) every_keyword))
+keyword_set c = word_of (map keyword_bit (keywords_of c))

@@ -1,61 +1,72 @@
 -- Keywords: a node begins with a keyword of its class. A class's first keyword is the one that is written, but a
 -- geodetic CRS with an ellipsoidal system is written as a geographic one, and a unit on an axis by its kind. All are
 -- read without regard to case.
-use Rattle.std.specs.Prelude.{ℕ, Bool, Option, Some, None, List, [], ◌∷◌, codes, if◌then◌else◌}
+use Rattle.std.specs.Prelude.{ℕ, Bool, Option, Some, None, List, [], ◌∷◌, if◌then◌else◌}
 use Rattle.std.specs.List.{list_any}
 use Rattle.std.specs.Str.{str_eq_ignore_ascii_case}
+use denote.Enum.Bare.{sameb}
+use Rattle.crs_text.specs.contracts.keyword.Keyword.{the_type}
+use Rattle.crs_text.specs.declared.keyword.Keyword.{Keyword}
+use Rattle.crs_text.specs.declared.keyword.Keyword.TheVariants as keyword
+use Rattle.crs_text.specs.Keywords.{spelling_of}
 use Rattle.crs_shape.specs.declared.class.Class.{Class}
 use Rattle.crs_shape.specs.declared.class.Class.TheVariants as class
 
 -- an item that isn't a node has no keyword
-abbrev pub keywords_of : Class → List (List ℕ)
+abbrev pub keywords_of : Class → List Keyword
 keywords_of class.Number = []
 keywords_of class.Text = []
 keywords_of class.Word = []
-keywords_of class.GeodeticCrs = codes "GEODCRS" ∷ codes "GEODETICCRS" ∷ []
-keywords_of class.GeographicCrs = codes "GEOGCRS" ∷ codes "GEOGRAPHICCRS" ∷ []
-keywords_of class.ProjectedCrs = codes "PROJCRS" ∷ codes "PROJECTEDCRS" ∷ []
-keywords_of class.VerticalCrs = codes "VERTCRS" ∷ codes "VERTICALCRS" ∷ []
-keywords_of class.CompoundCrs = codes "COMPOUNDCRS" ∷ []
-keywords_of class.BaseCrs = codes "BASEGEOGCRS" ∷ codes "BASEGEODCRS" ∷ []
-keywords_of class.GeodeticFrame = codes "DATUM" ∷ codes "TRF" ∷ codes "GEODETICDATUM" ∷ []
-keywords_of class.VerticalFrame = codes "VDATUM" ∷ codes "VRF" ∷ codes "VERTICALDATUM" ∷ []
-keywords_of class.GeodeticEnsemble = codes "ENSEMBLE" ∷ []
-keywords_of class.VerticalEnsemble = codes "ENSEMBLE" ∷ []
-keywords_of class.Member = codes "MEMBER" ∷ []
-keywords_of class.EnsembleAccuracy = codes "ENSEMBLEACCURACY" ∷ []
-keywords_of class.Anchor = codes "ANCHOR" ∷ []
-keywords_of class.Ellipsoid = codes "ELLIPSOID" ∷ codes "SPHEROID" ∷ []
-keywords_of class.PrimeMeridian = codes "PRIMEM" ∷ codes "PRIMEMERIDIAN" ∷ []
-keywords_of class.LengthUnit = codes "LENGTHUNIT" ∷ codes "UNIT" ∷ []
-keywords_of class.AngleUnit = codes "ANGLEUNIT" ∷ codes "UNIT" ∷ []
-keywords_of class.ScaleUnit = codes "SCALEUNIT" ∷ []
-keywords_of class.PlainUnit = codes "UNIT" ∷ []
-keywords_of class.AxisUnit = codes "LENGTHUNIT" ∷ codes "ANGLEUNIT" ∷ codes "UNIT" ∷ []
-keywords_of class.CoordinateSystem = codes "CS" ∷ []
-keywords_of class.Axis = codes "AXIS" ∷ []
-keywords_of class.Meridian = codes "MERIDIAN" ∷ []
-keywords_of class.Order = codes "ORDER" ∷ []
-keywords_of class.Conversion = codes "CONVERSION" ∷ []
-keywords_of class.Method = codes "METHOD" ∷ codes "PROJECTION" ∷ []
-keywords_of class.Parameter = codes "PARAMETER" ∷ []
-keywords_of class.GeoidModel = codes "GEOIDMODEL" ∷ []
-keywords_of class.Usage = codes "USAGE" ∷ []
-keywords_of class.Scope = codes "SCOPE" ∷ []
-keywords_of class.Area = codes "AREA" ∷ []
-keywords_of class.BoundingBox = codes "BBOX" ∷ []
-keywords_of class.VerticalExtent = codes "VERTICALEXTENT" ∷ []
-keywords_of class.Identifier = codes "ID" ∷ []
-keywords_of class.Citation = codes "CITATION" ∷ []
-keywords_of class.Uri = codes "URI" ∷ []
-keywords_of class.Remark = codes "REMARK" ∷ []
+keywords_of class.GeodeticCrs = keyword.GeodCrs ∷ keyword.GeodeticCrs ∷ []
+keywords_of class.GeographicCrs = keyword.GeogCrs ∷ keyword.GeographicCrs ∷ []
+keywords_of class.ProjectedCrs = keyword.ProjCrs ∷ keyword.ProjectedCrs ∷ []
+keywords_of class.VerticalCrs = keyword.VertCrs ∷ keyword.VerticalCrs ∷ []
+keywords_of class.CompoundCrs = keyword.CompoundCrs ∷ []
+keywords_of class.BaseCrs = keyword.BaseGeogCrs ∷ keyword.BaseGeodCrs ∷ []
+keywords_of class.GeodeticFrame = keyword.Datum ∷ keyword.Trf ∷ keyword.GeodeticDatum ∷ []
+keywords_of class.VerticalFrame = keyword.VDatum ∷ keyword.Vrf ∷ keyword.VerticalDatum ∷ []
+keywords_of class.GeodeticEnsemble = keyword.Ensemble ∷ []
+keywords_of class.VerticalEnsemble = keyword.Ensemble ∷ []
+keywords_of class.Member = keyword.Member ∷ []
+keywords_of class.EnsembleAccuracy = keyword.EnsembleAccuracy ∷ []
+keywords_of class.Anchor = keyword.Anchor ∷ []
+keywords_of class.Ellipsoid = keyword.Ellipsoid ∷ keyword.Spheroid ∷ []
+keywords_of class.PrimeMeridian = keyword.PrimeM ∷ keyword.PrimeMeridian ∷ []
+keywords_of class.PlainUnit = keyword.PlainUnit ∷ []
+keywords_of class.LengthUnit = keyword.LengthUnit ∷ keyword.PlainUnit ∷ []
+keywords_of class.AngleUnit = keyword.AngleUnit ∷ keyword.PlainUnit ∷ []
+keywords_of class.ScaleUnit = keyword.ScaleUnit ∷ []
+keywords_of class.AxisUnit = keyword.LengthUnit ∷ keyword.AngleUnit ∷ keyword.PlainUnit ∷ []
+keywords_of class.CoordinateSystem = keyword.Cs ∷ []
+keywords_of class.Axis = keyword.Axis ∷ []
+keywords_of class.Meridian = keyword.Meridian ∷ []
+keywords_of class.Order = keyword.Order ∷ []
+keywords_of class.Conversion = keyword.Conversion ∷ []
+keywords_of class.Method = keyword.Method ∷ keyword.Projection ∷ []
+keywords_of class.Parameter = keyword.Parameter ∷ []
+keywords_of class.GeoidModel = keyword.GeoidModel ∷ []
+keywords_of class.Usage = keyword.Usage ∷ []
+keywords_of class.Scope = keyword.Scope ∷ []
+keywords_of class.Area = keyword.Area ∷ []
+keywords_of class.BoundingBox = keyword.BBox ∷ []
+keywords_of class.VerticalExtent = keyword.VerticalExtent ∷ []
+keywords_of class.Identifier = keyword.Id ∷ []
+keywords_of class.Citation = keyword.Citation ∷ []
+keywords_of class.Uri = keyword.Uri ∷ []
+keywords_of class.Remark = keyword.Remark ∷ []
 
+-- whether a keyword is one of the class
+abbrev pub has_keyword : Class → Keyword → Bool
+has_keyword c k = list_any (λ j. sameb the_type j k) (keywords_of c)
+
+-- All classes. Where several of those that have a keyword may stand in one parent, it names the first there: so a unit
+-- that doesn't say its kind goes before those that do.
 abbrev pub every_class : List Class
 every_class =
     class.Number ∷ class.Text ∷ class.Word ∷ class.GeodeticCrs ∷ class.GeographicCrs ∷ class.ProjectedCrs ∷
     class.VerticalCrs ∷ class.CompoundCrs ∷ class.BaseCrs ∷ class.GeodeticFrame ∷ class.VerticalFrame ∷
     class.GeodeticEnsemble ∷ class.VerticalEnsemble ∷ class.Member ∷ class.EnsembleAccuracy ∷ class.Anchor ∷
-    class.Ellipsoid ∷ class.PrimeMeridian ∷ class.LengthUnit ∷ class.AngleUnit ∷ class.ScaleUnit ∷ class.PlainUnit ∷
+    class.Ellipsoid ∷ class.PrimeMeridian ∷ class.PlainUnit ∷ class.LengthUnit ∷ class.AngleUnit ∷ class.ScaleUnit ∷
     class.AxisUnit ∷ class.CoordinateSystem ∷ class.Axis ∷ class.Meridian ∷ class.Order ∷ class.Conversion ∷
     class.Method ∷ class.Parameter ∷ class.GeoidModel ∷ class.Usage ∷ class.Scope ∷ class.Area ∷
     class.BoundingBox ∷ class.VerticalExtent ∷ class.Identifier ∷ class.Citation ∷ class.Uri ∷ class.Remark ∷ []
@@ -65,8 +76,8 @@ abbrev pub root_classes : List Class
 root_classes = class.GeodeticCrs ∷ class.GeographicCrs ∷ class.ProjectedCrs ∷ class.VerticalCrs ∷ class.CompoundCrs ∷ []
 
 -- whether a word is one of these keywords
-abbrev pub is_one_of : List (List ℕ) → List ℕ → Bool
-is_one_of keywords word = list_any (λ keyword. str_eq_ignore_ascii_case keyword word) keywords
+abbrev pub is_one_of : List Keyword → List ℕ → Bool
+is_one_of keywords word = list_any (λ k. str_eq_ignore_ascii_case (spelling_of k) word) keywords
 
 -- whether a word is a keyword of the class
 unfoldable pub is_keyword : Class → List ℕ → Bool

@@ -1,4 +1,5 @@
 /// What an item is in its parent: a number, a text or a word, or a node of one of the kinds below.
+/// Where a keyword is of several that may stand in one parent, it names the first of them there.
 /// ISO 19162:2019; a variant's part of the standard stands beside its keywords and its slots.
 #[derive(Clone, Copy, Debug, PartialEq, Eq)]
 pub enum Class {
@@ -38,14 +39,14 @@ pub enum Class {
     Ellipsoid,
     /// A prime meridian.
     PrimeMeridian,
+    /// In a parameter, a unit that doesn't say its kind.
+    PlainUnit,
     /// A unit where only a length fits.
     LengthUnit,
     /// A unit where only an angle fits.
     AngleUnit,
     /// A unit of scale.
     ScaleUnit,
-    /// In a parameter, a unit that doesn't say its kind.
-    PlainUnit,
     /// A unit on an axis, or shared by the axes: a length, an angle, or one that doesn't say its kind.
     AxisUnit,
     /// A coordinate system.

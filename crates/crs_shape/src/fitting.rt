@@ -15,6 +15,7 @@ use crate::class::Class;
 use crate::keyword::{has_keyword, known_by, root_by};
 use crate::slot::Slot;
 use crate::table::{class_by, row};
+use crs_text::laws::keywords_are_spelled;
 use crs_text::{ItemId, ItemKind, Items, Refusal};
 
 /// Whether an item has the shape of a class. Takes no memory; the time is linear in the item.
@@ -58,6 +59,7 @@ fn class_at_root(items: &Items<'_>, id: ItemId) -> Option<Class>
     requires { HasId items.now id }
     ensures { result ≡ class_of_root (first_of (here items.now id)) }
 {
+    keywords_are_spelled();
     match items.kind(id) {
         ItemKind::Number | ItemKind::Text | ItemKind::Word => None,
         ItemKind::Node => root_by(items.keyword(id)),
@@ -134,6 +136,7 @@ pub fn class_in(items: &Items<'_>, id: ItemId, parent: Class) -> Option<Class>
     requires { HasId items.now id }
     ensures { result ≡ class_in parent (first_of (here items.now id)) }
 {
+    keywords_are_spelled();
     match items.kind(id) {
         ItemKind::Number => Some(Class::Number),
         ItemKind::Text => Some(Class::Text),
@@ -146,6 +149,7 @@ fn is_of(items: &Items<'_>, id: ItemId, class: Class) -> bool
     requires { HasId items.now id }
     ensures { result ≡ is_of class (first_of (here items.now id)) }
 {
+    keywords_are_spelled();
     match items.kind(id) {
         ItemKind::Number => Class::Number == class,
         ItemKind::Text => Class::Text == class,
@@ -160,6 +164,7 @@ fn is_known(items: &Items<'_>, id: ItemId) -> bool
     requires node { kind_of (first_of (here items.now id)) ≡ ItemKind.Node }
     ensures { result ≡ is_known (raw_of (first_of (here items.now id))) }
 {
+    keywords_are_spelled();
     known_by(items.keyword(id))
 }
 

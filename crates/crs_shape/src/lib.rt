@@ -8,6 +8,7 @@ mod keyword;
 pub mod laws;
 mod naming;
 mod part;
+mod rows;
 mod seeking;
 mod slot;
 mod table;

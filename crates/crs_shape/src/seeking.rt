@@ -7,7 +7,9 @@ ghost use Rattle.crs_shape.specs.Slots.{is_class};
 ghost use Rattle.crs_shape.specs.Sought.{kind_for};
 
 use crate::class::Class;
+use crate::rows::rows;
 use crate::table::{class_by, is_class};
+use crs_text::laws::keywords_are_spelled;
 use crs_text::{ItemId, ItemKind, Items, Keyword};
 use std::marker::Model;
 
@@ -59,6 +61,7 @@ impl Sought {
         requires { HasId items.now id }
         ensures { result ≡ is_class self.now.class (class_in self.now.parent (first_of (here items.now id))) }
     {
+        keywords_are_spelled();
         if items.kind(id) != self.kind {
             return false;
         }
@@ -113,52 +116,18 @@ impl KeywordSet {
     }
 }
 
-// the set of these keywords
-macro_rules! keywords {
-    ($($keyword:ident),*) => { KeywordSet { bits: 0 $(| 1 << Keyword::$keyword as u64)* } };
+// the sets of the keywords of classes
+macro_rules! keyword_sets {
+    ($class:expr; $($($of:ident[$($keyword:ident),*]),+ { $($count:ident($($part:ident),+))* })*) => {
+        match $class {
+            $($(Class::$of => KeywordSet { bits: 0 $(| 1 << Keyword::$keyword as u64)* },)+)*
+        }
+    };
 }
 
 // The keywords of a class; none for an item that isn't a node.
 fn keywords_of(class: Class) -> KeywordSet
     ensures { result.bits ≡ keyword_set class }
 {
-    match class {
-        Class::GeodeticCrs => keywords!(GeodCrs, GeodeticCrs),
-        Class::GeographicCrs => keywords!(GeogCrs, GeographicCrs),
-        Class::ProjectedCrs => keywords!(ProjCrs, ProjectedCrs),
-        Class::BaseCrs => keywords!(BaseGeogCrs, BaseGeodCrs),
-        Class::VerticalCrs => keywords!(VertCrs, VerticalCrs),
-        Class::CompoundCrs => keywords!(CompoundCrs),
-        Class::GeodeticFrame => keywords!(Datum, Trf, GeodeticDatum),
-        Class::VerticalFrame => keywords!(VDatum, Vrf, VerticalDatum),
-        Class::GeodeticEnsemble | Class::VerticalEnsemble => keywords!(Ensemble),
-        Class::Member => keywords!(Member),
-        Class::EnsembleAccuracy => keywords!(EnsembleAccuracy),
-        Class::Anchor => keywords!(Anchor),
-        Class::Ellipsoid => keywords!(Ellipsoid, Spheroid),
-        Class::PrimeMeridian => keywords!(PrimeM, PrimeMeridian),
-        Class::LengthUnit => keywords!(LengthUnit, PlainUnit),
-        Class::AngleUnit => keywords!(AngleUnit, PlainUnit),
-        Class::ScaleUnit => keywords!(ScaleUnit),
-        Class::PlainUnit => keywords!(PlainUnit),
-        Class::AxisUnit => keywords!(LengthUnit, AngleUnit, PlainUnit),
-        Class::CoordinateSystem => keywords!(Cs),
-        Class::Axis => keywords!(Axis),
-        Class::Meridian => keywords!(Meridian),
-        Class::Order => keywords!(Order),
-        Class::Conversion => keywords!(Conversion),
-        Class::Method => keywords!(Method, Projection),
-        Class::Parameter => keywords!(Parameter),
-        Class::GeoidModel => keywords!(GeoidModel),
-        Class::Usage => keywords!(Usage),
-        Class::Scope => keywords!(Scope),
-        Class::Area => keywords!(Area),
-        Class::BoundingBox => keywords!(BBox),
-        Class::VerticalExtent => keywords!(VerticalExtent),
-        Class::Identifier => keywords!(Id),
-        Class::Citation => keywords!(Citation),
-        Class::Uri => keywords!(Uri),
-        Class::Remark => keywords!(Remark),
-        Class::Number | Class::Text | Class::Word => keywords!(),
-    }
+    rows!(keyword_sets, class)
 }

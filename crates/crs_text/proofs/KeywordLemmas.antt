@@ -1,16 +1,19 @@
--- The keywords of a word's length have the keyword that it is, if it is one: letter case doesn't count, each keyword is
--- its own spelling's, and none is left out.
-use Rattle.std.proofs.Common.{◌≡◌, ℕ, Bool, true, false, ◌||◌, ◌&&◌, ◌==◌, List, [], ◌∷◌, Option, Some, None, length, map, if◌then◌else◌, refl, sym, ap, ◌∙◌}
+-- The keywords of a word's length have the keyword that it is, if it is one; letter case doesn't count in it, and a word
+-- is a keyword exactly where it is its spelling, letter case aside.
+use Rattle.std.proofs.Common.{◌≡◌, ◌↔◌, ℕ, Bool, true, false, ◌&&◌, ◌||◌, ◌==◌, IsTrue, List, [], ◌∷◌, Option, Some, None, filter, length, map, if◌then◌else◌, refl, sym, ap, ◌∙◌}
 use Rattle.std.specs.List.{list_all, list_any}
 use Rattle.std.specs.Str.{bytes_eq, str_eq_ignore_ascii_case, str_to_ascii_lowercase}
 use Rattle.std.specs.Char.{to_ascii_lowercase}
 use Rattle.std.proofs.lemmas.List.{length-map}
+use Rattle.std.proofs.lemmas.Bool.{agree_below_at, eqb-false}
 use Rattle.std.proofs.lemmas.Slice.Eq.{bytes_eq-Decides}
 use denote.Enum.Bare.{sameb, same_true}
+use denote.Enum.Declared.{rowss, tag_of}
+use denote.Enum.Enum.{tag_below}
 use Rattle.crs_text.specs.contracts.keyword.Keyword.{the_type}
 use Rattle.crs_text.specs.declared.keyword.Keyword.{Keyword}
 use Rattle.crs_text.specs.Keywords.{spelling_of, every_keyword, first_spelled, keyword_of}
-use Rattle.crs_text.specs.KeywordTable.{spelled, every_length, at_length, of_length, first_among}
+use Rattle.crs_text.specs.KeywordTable.{spelled, of_length, first_among}
 
 -- two words that differ in letter case alone
 abbrev Same : List ℕ → List ℕ → Type 0
@@ -22,6 +25,8 @@ same-of a b e = (bytes_eq-Decides (str_to_ascii_lowercase a) (str_to_ascii_lower
 same-length : (a b : List ℕ) → Same a b → length a ≡ length b
 same-length a b e = sym (length-map a to_ascii_lowercase) ∙ ap length e ∙ length-map b to_ascii_lowercase
 
+-- Letter case
+
 same-one : (k : Keyword) (a b : List ℕ) → Same a b →
     str_eq_ignore_ascii_case (spelling_of k) a ≡ str_eq_ignore_ascii_case (spelling_of k) b
 same-one k a b e = ap (λ l. bytes_eq (str_to_ascii_lowercase (spelling_of k)) l) e
@@ -30,9 +35,51 @@ same-spelled : (ks : List Keyword) (a b : List ℕ) → Same a b → first_spell
 same-spelled [] a b e = refl
 same-spelled (k ∷ ks) a b e = rw (same-one k a b e, same-spelled ks a b e) refl
 
-same-keyword_of : (a b : List ℕ) → Same a b → keyword_of a ≡ keyword_of b
+pub same-keyword_of : (a b : List ℕ) → Same a b → keyword_of a ≡ keyword_of b
 unfolding keyword_of
 same-keyword_of a b e = same-spelled every_keyword a b e
+
+-- The look-up
+
+by-length : (ks : List Keyword) (word : List ℕ) →
+    first_among (map spelled (filter (λ k. length (spelling_of k) == length word) ks)) word ≡ first_spelled ks word
+by-length [] word = refl
+by-length (k ∷ ks) word =
+    elim (length (spelling_of k) == length word)
+    as (λ b. (length (spelling_of k) == length word) ≡ b →
+    first_among (map spelled (if b then k ∷ among else among)) word ≡ first_spelled (k ∷ ks) word) [
+      | true ↦ λ e. ap (λ o. if str_eq_ignore_ascii_case (spelling_of k) word then Some k else o) (by-length ks word)
+      | false ↦ λ e. by-length ks word ∙ sym (ap (λ b. if b then Some k else first_spelled ks word) (other e))
+    ] refl
+  where
+    among : List Keyword
+    among = filter (λ j. length (spelling_of j) == length word) ks
+
+    other : (length (spelling_of k) == length word) ≡ false → str_eq_ignore_ascii_case (spelling_of k) word ≡ false
+    other e =
+        elim (str_eq_ignore_ascii_case (spelling_of k) word)
+        as (λ b. str_eq_ignore_ascii_case (spelling_of k) word ≡ b → b ≡ false) [
+          | true ↦ λ f. absurd (eqb-false (length (spelling_of k)) (length word) e
+              (same-length (spelling_of k) word (same-of (spelling_of k) word f)))
+          | false ↦ λ f. refl
+        ] refl
+
+pub keyword_of-table : (word : List ℕ) → first_among (map spelled (of_length (length word))) word ≡ keyword_of word
+unfolding keyword_of
+keyword_of-table word = by-length every_keyword word
+
+-- A keyword is its spelling
+
+spelled-of : (ks : List Keyword) (word : List ℕ) (k : Keyword) → first_spelled ks word ≡ Some k →
+    str_eq_ignore_ascii_case (spelling_of k) word ≡ true
+spelled-of [] word k e = cc
+spelled-of (j ∷ ks) word k e =
+    elim (str_eq_ignore_ascii_case (spelling_of j) word)
+    as (λ b. str_eq_ignore_ascii_case (spelling_of j) word ≡ b → (if b then Some j else first_spelled ks word) ≡ Some k →
+    str_eq_ignore_ascii_case (spelling_of k) word ≡ true) [
+      | true ↦ λ t f. let same : j ≡ k = cc in ap (λ i. str_eq_ignore_ascii_case (spelling_of i) word) (sym same) ∙ t
+      | false ↦ λ t f. spelled-of ks word k f
+    ] refl e
 
 pub and-left : (a b : Bool) → (a && b) ≡ true → a ≡ true
 and-left true b e = refl
@@ -41,11 +88,6 @@ and-left false b e = cc
 pub and-right : (a b : Bool) → (a && b) ≡ true → b ≡ true
 and-right true b e = e
 and-right false b e = cc
-
-true-false : true ≡ false → ⊥
-true-false p = cc
-
--- The table, by computation
 
 -- whether two answers are the same
 abbrev same_keyword : Option Keyword → Option Keyword → Bool
@@ -64,66 +106,36 @@ same_keyword-true (Some a) (Some b) e = ap Some (same_true the_type tt a b e)
 abbrev own : Keyword → Bool
 own k = same_keyword (keyword_of (spelling_of k)) (Some k)
 
-owned : list_all (λ row. list_all own row.1) every_length ≡ true
+owned : list_all own every_keyword ≡ true
 unfolding keyword_of
 owned = refl
 
--- the keywords of its length have this word
-abbrev is_listed : List ℕ → Bool
-is_listed word = list_any (λ k. str_eq_ignore_ascii_case (spelling_of k) word) (of_length (length word))
+-- each keyword is among all: by its number
+listed : (k : Keyword) → list_any (λ j. sameb the_type j k) every_keyword ≡ true
+listed k =
+    agree_below_at (λ n. list_any (λ j. tag_of the_type j == n) every_keyword) (λ _. true) (length (rowss the_type.parts)) (tag_of the_type k) refl
+    (tag_below (rowss the_type.parts) (the_type.to k))
 
-listed : list_all (λ k. is_listed (spelling_of k)) every_keyword ≡ true
-listed = refl
+-- what all pass, each passes
+passes : (test : Keyword → Bool) (ks : List Keyword) (k : Keyword) → list_all test ks ≡ true →
+    list_any (λ j. sameb the_type j k) ks ≡ true → test k ≡ true
+passes test [] k all e = cc
+passes test (j ∷ js) k all e =
+    elim (sameb the_type j k) as (λ b. sameb the_type j k ≡ b → (b || list_any (λ i. sameb the_type i k) js) ≡ true →
+    test k ≡ true) [
+      | true ↦ λ same f. ap test (sym (same_true the_type tt j k same)) ∙ and-left (test j) (list_all test js) all
+      | false ↦ λ other f. passes test js k (and-right (test j) (list_all test js) all) f
+    ] refl e
 
--- The look-up
-
-same-listed : (a b : List ℕ) → Same a b → is_listed a ≡ is_listed b
-same-listed a b e =
-    ap (λ l. list_any (λ k. bytes_eq (str_to_ascii_lowercase (spelling_of k)) l) (of_length (length a))) e
-    ∙ ap (λ n. list_any (λ k. str_eq_ignore_ascii_case (spelling_of k) b) (of_length n)) (same-length a b e)
-
-none-spelled : (ks : List Keyword) (word : List ℕ) → list_all (λ k. is_listed (spelling_of k)) ks ≡ true →
-    is_listed word ≡ false → first_spelled ks word ≡ None
-none-spelled [] word all e = refl
-none-spelled (k ∷ ks) word all e =
-    elim (str_eq_ignore_ascii_case (spelling_of k) word)
-    as (λ b. str_eq_ignore_ascii_case (spelling_of k) word ≡ b →
-    (if b then Some k else first_spelled ks word) ≡ None) [
-      | true ↦ λ f. absurd (true-false
-          (sym (and-left (is_listed (spelling_of k)) (list_all (λ j. is_listed (spelling_of j)) ks) all)
-          ∙ same-listed (spelling_of k) word (same-of (spelling_of k) word f) ∙ e))
-      | false ↦ λ f. none-spelled ks word
-          (and-right (is_listed (spelling_of k)) (list_all (λ j. is_listed (spelling_of j)) ks) all) e
-    ] refl
-
-none-of : (word : List ℕ) → is_listed word ≡ false → keyword_of word ≡ None
+spelled-by : (k : Keyword) (word : List ℕ) → keyword_of word ≡ Some k →
+    IsTrue (str_eq_ignore_ascii_case (spelling_of k) word)
 unfolding keyword_of
-none-of word e = none-spelled every_keyword word listed e
+spelled-by k word e = spelled-of every_keyword word k e
 
-at-length : (n : ℕ) (rows : List (ℕ × List Keyword)) →
-    list_all (λ row. list_all own row.1) rows ≡ true → list_all own (at_length n rows) ≡ true
-at-length n [] all = refl
-at-length n (row ∷ rows) all =
-    elim (n == row.0) as (λ b. list_all own (if b then row.1 else at_length n rows) ≡ true) [
-      | true ↦ and-left (list_all own row.1) (list_all (λ r. list_all own r.1) rows) all
-      | false ↦ at-length n rows (and-right (list_all own row.1) (list_all (λ r. list_all own r.1) rows) all)
-    ]
-
-by-rows : (ks : List Keyword) (word : List ℕ) → list_all own ks ≡ true →
-    (list_any (λ k. str_eq_ignore_ascii_case (spelling_of k) word) ks ≡ false → keyword_of word ≡ None) →
-    first_among (map spelled ks) word ≡ keyword_of word
-by-rows [] word all none = sym (none refl)
-by-rows (k ∷ ks) word all none =
-    elim (str_eq_ignore_ascii_case (spelling_of k) word)
-    as (λ b. str_eq_ignore_ascii_case (spelling_of k) word ≡ b →
-    ((b || list_any (λ j. str_eq_ignore_ascii_case (spelling_of j) word) ks) ≡ false → keyword_of word ≡ None) →
-    (if b then Some k else first_among (map spelled ks) word) ≡ keyword_of word) [
-      | true ↦ λ e no.
-          sym (same_keyword-true (keyword_of (spelling_of k)) (Some k) (and-left (own k) (list_all own ks) all))
-          ∙ same-keyword_of (spelling_of k) word (same-of (spelling_of k) word e)
-      | false ↦ λ e no. by-rows ks word (and-right (own k) (list_all own ks) all) no
-    ] refl none
-
-pub keyword_of-table : (word : List ℕ) → first_among (map spelled (of_length (length word))) word ≡ keyword_of word
-keyword_of-table word =
-    by-rows (of_length (length word)) word (at-length (length word) every_length owned) (λ e. none-of word e)
+pub keyword-spelled : (k : Keyword) (word : List ℕ) →
+    IsTrue (str_eq_ignore_ascii_case (spelling_of k) word) ↔ (keyword_of word ≡ Some k)
+keyword-spelled k word = (
+  λ e. sym (same-keyword_of (spelling_of k) word (same-of (spelling_of k) word e))
+      ∙ same_keyword-true (keyword_of (spelling_of k)) (Some k) (passes own every_keyword k owned (listed k)),
+  spelled-by k word,
+)

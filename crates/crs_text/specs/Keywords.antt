@@ -1,6 +1,6 @@
 -- Keywords: the words that the grammar gives a meaning, each under its name, and how they are written. Letter case
 -- doesn't count.
-use Rattle.std.specs.Prelude.{ℕ, Option, Some, None, List, [], ◌∷◌, codes, if◌then◌else◌}
+use Rattle.std.specs.Prelude.{◌≡◌, ◌↔◌, IsTrue, ℕ, Option, Some, None, List, [], ◌∷◌, codes, if◌then◌else◌}
 use Rattle.std.specs.Str.{str_eq_ignore_ascii_case}
 use Rattle.crs_text.specs.declared.keyword.Keyword.{Keyword}
 use Rattle.crs_text.specs.declared.keyword.Keyword.TheVariants as keyword
@@ -76,3 +76,9 @@ first_spelled (k ∷ ks) word =
 -- the keyword that a word is; none where it is no keyword's spelling
 unfoldable pub keyword_of : List ℕ → Option Keyword
 keyword_of word = first_spelled every_keyword word
+
+-- a word is a keyword exactly where it is that one's spelling, letter case aside
+abbrev pub AreSpelled : Type 0
+AreSpelled =
+    (k : Keyword) (word : List ℕ) →
+    IsTrue (str_eq_ignore_ascii_case (spelling_of k) word) ↔ (keyword_of word ≡ Some k)

@@ -1,9 +1,9 @@
 //! Keywords: the words that the grammar of well-known text gives a meaning, found by their spelling.
 ghost use Rattle.std.specs.Prelude.{◌≡◌, ◌+◌, ◌≤◌, ◌↔◌, IsTrue, length, map};
 ghost use Rattle.std.specs.Char.{to_ascii_lowercase};
-ghost use Rattle.std.specs.Str.{bytes_eq, str_to_ascii_lowercase};
-ghost use Rattle.crs_text.specs.Keywords.{keyword_of};
-ghost use Rattle.crs_text.specs.KeywordTable.{shown, spelled, of_length, first_among, is_letter, AreLetters};
+ghost use Rattle.std.specs.Str.{str_eq_ignore_ascii_case};
+ghost use Rattle.crs_text.specs.Keywords.{keyword_of, spelling_of};
+ghost use Rattle.crs_text.specs.KeywordTable.{shown, spelled, of_length, first_among, is_capital, AreCapitals};
 ghost use Rattle.crs_text.specs.KeywordTable.{AreSpellings, AreSameWithin};
 
 /// A keyword, under its spelling: letter case doesn't count, and one thing may have several keywords.
@@ -111,118 +111,93 @@ const BLOCK: usize = 8;
 
 const HALF_BLOCK: usize = 4;
 
-// A keyword and its spelling in small letters.
+// The keywords with their bytes, in capitals, by how many these are; of each length the frequent ones go first. The
+// bytes stand here alone: each table is made of these rows by a macro.
+macro_rules! keywords {
+    ($table:ident, $asked:expr) => {
+        $table! {
+            $asked;
+            2 { Id: b"ID", Cs: b"CS" }
+            3 { Trf: b"TRF", Vrf: b"VRF", Uri: b"URI" }
+            4 { Axis: b"AXIS", BBox: b"BBOX", Area: b"AREA", PlainUnit: b"UNIT" }
+            5 { Order: b"ORDER", Scope: b"SCOPE", Usage: b"USAGE", Datum: b"DATUM" }
+            6 {
+                Member: b"MEMBER",
+                PrimeM: b"PRIMEM",
+                Method: b"METHOD",
+                VDatum: b"VDATUM",
+                Remark: b"REMARK",
+                Anchor: b"ANCHOR"
+            }
+            7 { GeogCrs: b"GEOGCRS", ProjCrs: b"PROJCRS", GeodCrs: b"GEODCRS", VertCrs: b"VERTCRS" }
+            8 {
+                Ensemble: b"ENSEMBLE",
+                Meridian: b"MERIDIAN",
+                Spheroid: b"SPHEROID",
+                Citation: b"CITATION"
+            }
+            9 {
+                AngleUnit: b"ANGLEUNIT",
+                Parameter: b"PARAMETER",
+                Ellipsoid: b"ELLIPSOID",
+                ScaleUnit: b"SCALEUNIT"
+            }
+            10 {
+                LengthUnit: b"LENGTHUNIT",
+                Conversion: b"CONVERSION",
+                Projection: b"PROJECTION",
+                GeoidModel: b"GEOIDMODEL"
+            }
+            11 {
+                BaseGeogCrs: b"BASEGEOGCRS",
+                BaseGeodCrs: b"BASEGEODCRS",
+                CompoundCrs: b"COMPOUNDCRS",
+                GeodeticCrs: b"GEODETICCRS",
+                VerticalCrs: b"VERTICALCRS"
+            }
+            12 { ProjectedCrs: b"PROJECTEDCRS" }
+            13 {
+                PrimeMeridian: b"PRIMEMERIDIAN",
+                GeodeticDatum: b"GEODETICDATUM",
+                VerticalDatum: b"VERTICALDATUM",
+                GeographicCrs: b"GEOGRAPHICCRS"
+            }
+            14 { VerticalExtent: b"VERTICALEXTENT" }
+            16 { EnsembleAccuracy: b"ENSEMBLEACCURACY" }
+        }
+    };
+}
+
+// A keyword and its spelling in capitals.
 #[derive(Clone, Copy)]
 struct Spelling {
     word: &'static [u8],
     keyword: Keyword,
 }
 
-macro_rules! spelling {
-    ($word:literal, $keyword:ident) => { Spelling { word: $word, keyword: Keyword::$keyword } };
+// the keywords of a length
+macro_rules! by_length {
+    ($length:expr; $($bytes:literal { $($keyword:ident: $word:literal),* })*) => {
+        match $length {
+            $($bytes => &[$(Spelling { word: $word, keyword: Keyword::$keyword }),*],)*
+            _ => &[],
+        }
+    };
 }
 
-// The keywords of two bytes, of three and so on; the frequent ones go first.
-const TWO: &[Spelling] = &[spelling!(b"id", Id), spelling!(b"cs", Cs)];
-
-const THREE: &[Spelling] = &[
-    spelling!(b"trf", Trf),
-    spelling!(b"vrf", Vrf),
-    spelling!(b"uri", Uri),
-];
-
-const FOUR: &[Spelling] = &[
-    spelling!(b"axis", Axis),
-    spelling!(b"bbox", BBox),
-    spelling!(b"area", Area),
-    spelling!(b"unit", PlainUnit),
-];
-
-const FIVE: &[Spelling] = &[
-    spelling!(b"order", Order),
-    spelling!(b"scope", Scope),
-    spelling!(b"usage", Usage),
-    spelling!(b"datum", Datum),
-];
-
-const SIX: &[Spelling] = &[
-    spelling!(b"member", Member),
-    spelling!(b"primem", PrimeM),
-    spelling!(b"method", Method),
-    spelling!(b"vdatum", VDatum),
-    spelling!(b"remark", Remark),
-    spelling!(b"anchor", Anchor),
-];
-
-const SEVEN: &[Spelling] = &[
-    spelling!(b"geogcrs", GeogCrs),
-    spelling!(b"projcrs", ProjCrs),
-    spelling!(b"geodcrs", GeodCrs),
-    spelling!(b"vertcrs", VertCrs),
-];
-
-const EIGHT: &[Spelling] = &[
-    spelling!(b"ensemble", Ensemble),
-    spelling!(b"meridian", Meridian),
-    spelling!(b"spheroid", Spheroid),
-    spelling!(b"citation", Citation),
-];
-
-const NINE: &[Spelling] = &[
-    spelling!(b"angleunit", AngleUnit),
-    spelling!(b"parameter", Parameter),
-    spelling!(b"ellipsoid", Ellipsoid),
-    spelling!(b"scaleunit", ScaleUnit),
-];
-
-const TEN: &[Spelling] = &[
-    spelling!(b"lengthunit", LengthUnit),
-    spelling!(b"conversion", Conversion),
-    spelling!(b"projection", Projection),
-    spelling!(b"geoidmodel", GeoidModel),
-];
-
-const ELEVEN: &[Spelling] = &[
-    spelling!(b"basegeogcrs", BaseGeogCrs),
-    spelling!(b"basegeodcrs", BaseGeodCrs),
-    spelling!(b"compoundcrs", CompoundCrs),
-    spelling!(b"geodeticcrs", GeodeticCrs),
-    spelling!(b"verticalcrs", VerticalCrs),
-];
-
-const TWELVE: &[Spelling] = &[spelling!(b"projectedcrs", ProjectedCrs)];
-
-const THIRTEEN: &[Spelling] = &[
-    spelling!(b"primemeridian", PrimeMeridian),
-    spelling!(b"geodeticdatum", GeodeticDatum),
-    spelling!(b"verticaldatum", VerticalDatum),
-    spelling!(b"geographiccrs", GeographicCrs),
-];
-
-const FOURTEEN: &[Spelling] = &[spelling!(b"verticalextent", VerticalExtent)];
-
-const SIXTEEN: &[Spelling] = &[spelling!(b"ensembleaccuracy", EnsembleAccuracy)];
+// the spelling of a keyword
+macro_rules! by_keyword {
+    ($asked:expr; $($bytes:literal { $($keyword:ident: $word:literal),* })*) => {
+        match $asked {
+            $($(Keyword::$keyword => $word,)*)*
+        }
+    };
+}
 
 fn of_length(length: usize) -> &'static [Spelling]
     ensures { map shown result.now ≡ map spelled (of_length length) }
 {
-    match length {
-        2 => TWO,
-        3 => THREE,
-        4 => FOUR,
-        5 => FIVE,
-        6 => SIX,
-        7 => SEVEN,
-        8 => EIGHT,
-        9 => NINE,
-        10 => TEN,
-        11 => ELEVEN,
-        12 => TWELVE,
-        13 => THIRTEEN,
-        14 => FOURTEEN,
-        16 => SIXTEEN,
-        _ => &[],
-    }
+    keywords!(by_length, length)
 }
 
 impl Keyword {
@@ -231,6 +206,13 @@ impl Keyword {
         ensures { result ≡ keyword_of word.now }
     {
         first_among(of_length(word.len()), word)
+    }
+
+    /// How the keyword is spelled, in capitals.
+    pub fn spelling(self) -> &'static [u8]
+        ensures { result.now ≡ spelling_of self }
+    {
+        keywords!(by_keyword, self)
     }
 }
 
@@ -246,17 +228,17 @@ fn first_among(spellings: &[Spelling], word: &[u8]) -> Option<Keyword>
     None
 }
 
-// Whether a word is this one of small letters, letter case aside.
+// Whether a word is this one of capitals, letter case aside.
 fn same_word(letters: &[u8], word: &[u8]) -> bool
-    requires { AreLetters letters.now }
-    ensures { result ≡ bytes_eq letters.now (str_to_ascii_lowercase word.now) }
+    requires { AreCapitals letters.now }
+    ensures { result ≡ str_eq_ignore_ascii_case letters.now word.now }
 {
     same_letters(letters, word)
 }
 
 fn same_letters(letters: &[u8], word: &[u8]) -> bool
-    requires { AreLetters letters.now }
-    ensures { IsTrue result ↔ (letters.now ≡ map to_ascii_lowercase word.now) }
+    requires { AreCapitals letters.now }
+    ensures { IsTrue result ↔ (map to_ascii_lowercase letters.now ≡ map to_ascii_lowercase word.now) }
 {
     letters.len() == word.len() && same_blocks(letters, word)
 }
@@ -264,7 +246,7 @@ fn same_letters(letters: &[u8], word: &[u8]) -> bool
 // By blocks of bytes, of which the last may overlap the one before.
 fn same_blocks(letters: &[u8], word: &[u8]) -> bool
     requires long { length letters.now ≡ length word.now }
-    requires letters { AreLetters letters.now }
+    requires letters { AreCapitals letters.now }
     ensures { IsTrue result ↔ AreSameWithin letters.now word.now 0 (length letters.now) }
 {
     let length = letters.len();
@@ -290,7 +272,7 @@ fn same_blocks(letters: &[u8], word: &[u8]) -> bool
 #[inline(always)]
 fn same_block(letters: &[u8], word: &[u8], at: usize, size: usize) -> bool
     requires within { (at + size ≤ length letters.now) × (at + size ≤ length word.now) }
-    requires letters { AreLetters letters.now }
+    requires letters { AreCapitals letters.now }
     ensures { IsTrue result ↔ AreSameWithin letters.now word.now at (at + size) }
 {
     let mut same = true;
@@ -305,8 +287,8 @@ const SMALL: u8 = 0x20;
 
 #[inline(always)]
 fn same_letter(letter: u8, byte: u8) -> bool
-    requires { IsTrue (is_letter letter) }
-    ensures { IsTrue result ↔ (letter ≡ to_ascii_lowercase byte) }
+    requires { IsTrue (is_capital letter) }
+    ensures { IsTrue result ↔ (to_ascii_lowercase letter ≡ to_ascii_lowercase byte) }
 {
-    byte | SMALL == letter
+    byte & !SMALL == letter
 }

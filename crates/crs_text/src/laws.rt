@@ -2,12 +2,19 @@
 ghost use Rattle.std.specs.Prelude.{◌≡◌, ◌≤◌, ◌↔◌, ◌⊎◌, ℕ, Bool, List, [], ◌∷◌, ◌++◌, length};
 ghost use Rattle.crs_text.specs.Tokens.{Token, opening, AreTokens};
 ghost use Rattle.crs_text.specs.Items.{Item, tokens, AreNode, BeginsNoNode};
+ghost use Rattle.crs_text.specs.Keywords.{AreSpelled};
 ghost use Rattle.crs_text.specs.TextFault.{SpellsNode, RefusesText};
 ghost use Rattle.crs_text.specs.Written.{WrittenSpells, AreFormed, item_text, at_place};
 ghost use Rattle.crs_text.specs.Examples.{AreSized, AreNumbered, AreLimited};
 ghost use Rattle.crs_text.specs.Viable.{IsViable, IsViableAtAnyDepth, Allows, IsFull};
 ghost use Rattle.crs_text.specs.Settled.{IsSettledRefusal, IsTakenSoFar};
 ghost use Rattle.crs_text.specs.SettledExamples.{AreSettledRows};
+
+/// Letter case doesn't count in a keyword: a word is one exactly where it is that one's spelling, letter case aside.
+/// ISO 19162:2019, "Keywords".
+pub fn keywords_are_spelled()
+    ensures { AreSpelled }
+{}
 
 /// Which tokens can be completed to a text, token by token. Profile.
 pub fn viability()

@@ -97,7 +97,7 @@ impl Model for Table {
     ghost view = { λ t. record { rows = t.rows.items; opens = held t.depth t.opens; position = t.position } };
 
     ghost invariant = { λ t. (t.depth ≤ 12)
-        × IsRoomy (record { rows = t.rows.items; opens = held t.depth t.opens; position = t.position }) };
+        × IsRoomy (view t) };
 }
 
 impl Table {

@@ -2,16 +2,18 @@
 use Rattle.std.proofs.Common.{◌≡◌, ℕ, Bool, true, false, inl, ◌||◌, List, [], ◌∷◌, refl, sym, subst}
 use Rattle.std.specs.Str.{str_eq_ignore_ascii_case, str_to_ascii_lowercase}
 use Rattle.std.proofs.lemmas.Slice.Eq.{bytes_eq-Decides}
+use Rattle.crs_text.specs.declared.keyword.Keyword.{Keyword}
+use Rattle.crs_text.specs.Keywords.{spelling_of}
 use Rattle.crs_text.specs.Items.{Item, leaf, node, arguments}
 use Rattle.crs_text.specs.Tokens.{Kind, number, text, word}
 use Rattle.crs_shape.specs.declared.class.Class.{Class}
 use Rattle.crs_shape.specs.declared.class.Class.TheVariants as class
 use Rattle.crs_shape.specs.Keywords.{is_keyword, is_one_of, keywords_of}
 use Rattle.crs_shape.specs.Shaped.{Shaped}
-use Rattle.crs_value.specs.declared.direction.Direction.{Direction}
-use Rattle.crs_value.specs.declared.system_type.SystemType.{SystemType}
-use Rattle.crs_value.specs.declared.unit_kind.UnitKind.{UnitKind}
-use Rattle.crs_value.specs.declared.unit_kind.UnitKind.TheVariants as kinds
+use Rattle.crs_value.specs.declared.values.direction.Direction.{Direction}
+use Rattle.crs_value.specs.declared.values.system_type.SystemType.{SystemType}
+use Rattle.crs_value.specs.declared.values.unit_kind.UnitKind.{UnitKind}
+use Rattle.crs_value.specs.declared.values.unit_kind.UnitKind.TheVariants as kinds
 use Rattle.crs_value.specs.UnknownWord.{UnknownType, UnknownDirection}
 use Rattle.crs_value.specs.Break.{at, AnyOf}
 use Rattle.crs_value.specs.Checks.{Own, IsSound}
@@ -35,9 +37,9 @@ known-type (node place keyword square first others close) w more sound e none =
     let P : List Item → Type 0 = λ xs. AnyOf UnknownType xs (at 21 w) in
     sound.unbroken (at 21 w) (inl (subst P (sym e) (inl (refl, none))))
 
-abbrev pub NoneOf : List (List ℕ) → List ℕ → Type 0
+abbrev pub NoneOf : List Keyword → List ℕ → Type 0
 NoneOf [] raw = Unit {0}
-NoneOf (w ∷ ws) raw = ¬ (SpellsWord raw w) × NoneOf ws raw
+NoneOf (k ∷ ks) raw = ¬ (SpellsWord raw (spelling_of k)) × NoneOf ks raw
 
 or-cases : (a b : Bool) → (a || b) ≡ true → (a ≡ true → ⊥) → b ≡ true
 or-cases true b e other = absurd (other refl)
@@ -46,10 +48,11 @@ or-cases false b e other = e
 spelled : (w raw : List ℕ) → str_eq_ignore_ascii_case w raw ≡ true → SpellsWord raw w
 spelled w raw e = sym ((bytes_eq-Decides (str_to_ascii_lowercase w) (str_to_ascii_lowercase raw)).0 e)
 
-pub none-of : (ws : List (List ℕ)) (raw : List ℕ) → NoneOf ws raw → is_one_of ws raw ≡ true → ⊥
+pub none-of : (ks : List Keyword) (raw : List ℕ) → NoneOf ks raw → is_one_of ks raw ≡ true → ⊥
 none-of [] raw none e = cc
-none-of (w ∷ ws) raw none e =
-    none-of ws raw none.1 (or-cases (str_eq_ignore_ascii_case w raw) (is_one_of ws raw) e (λ f. none.0 (spelled w raw f)))
+none-of (k ∷ ks) raw none e =
+    none-of ks raw none.1
+    (or-cases (str_eq_ignore_ascii_case (spelling_of k) raw) (is_one_of ks raw) e (λ f. none.0 (spelled (spelling_of k) raw f)))
 
 unit-words : (c : Class) (raw : List ℕ) → IsUnitClass c → ((k : UnitKind) → ¬ (SpellsWord raw (unit_word k))) → NoneOf (keywords_of c) raw
 unit-words class.LengthUnit raw is none = (none kinds.Length, (none kinds.Plain, tt))

@@ -6,7 +6,7 @@ use Rattle.crs_shape.specs.declared.class.Class.TheVariants as class
 use Rattle.crs_shape.specs.Counts.{one_if}
 use Rattle.crs_shape.specs.ShapeFault.{class_in}
 use Rattle.crs_shape.specs.Slots.{is_class}
-use Rattle.crs_value.specs.declared.firsts.Firsts.{Firsts}
+use Rattle.crs_value.specs.declared.reading.firsts.Firsts.{Firsts}
 use Rattle.crs_value.specs.Noted.{noted, AreFirsts}
 use Rattle.crs_value.specs.Reading.{item_at, is_same, is_a, those, ahead, Holds, IsFound}
 use Rattle.crs_value.proofs.ArgumentLemmas.{ahead_at, holds_at, those-first, those-later}

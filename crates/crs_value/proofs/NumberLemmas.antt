@@ -7,7 +7,7 @@ use Rattle.crs_shape.specs.declared.class.Class.{Class}
 use Rattle.crs_shape.specs.declared.class.Class.TheVariants as class
 use Rattle.crs_shape.specs.FaultPlace.{IsPlaceIn, IsShapeNumber}
 use Rattle.crs_shape.specs.ShapeFault.{AtRoot, class_in}
-use Rattle.crs_value.specs.declared.system_type.SystemType.{SystemType}
+use Rattle.crs_value.specs.declared.values.system_type.SystemType.{SystemType}
 use Rattle.crs_value.specs.BadValue.{NotAbove, IsNegative}
 use Rattle.crs_value.specs.BadOrder.{LacksOrder, IsBadOrder, BadOrders, BadOrder, orders_in}
 use Rattle.crs_value.specs.BadComponent.{BadComponent, BadComponents}

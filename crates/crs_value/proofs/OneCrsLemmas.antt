@@ -4,11 +4,11 @@ use Rattle.crs_decimal.specs.Value.{Value}
 use Rattle.crs_text.specs.Items.{Item, arguments}
 use Rattle.crs_shape.specs.declared.class.Class.{Class}
 use Rattle.crs_shape.specs.declared.class.Class.TheVariants as class
-use Rattle.crs_value.specs.declared.compound.Horizontal.{Horizontal}
-use Rattle.crs_value.specs.declared.compound.Horizontal.TheVariants as horizontals
-use Rattle.crs_value.specs.declared.crs.Crs.TheVariants as crs
-use Rattle.crs_value.specs.declared.frame.Frame.{Frame}
-use Rattle.crs_value.specs.declared.frame.Frame.TheVariants as frames
+use Rattle.crs_value.specs.declared.values.compound.Horizontal.{Horizontal}
+use Rattle.crs_value.specs.declared.values.compound.Horizontal.TheVariants as horizontals
+use Rattle.crs_value.specs.declared.values.crs.Crs.TheVariants as crs
+use Rattle.crs_value.specs.declared.values.frame.Frame.{Frame}
+use Rattle.crs_value.specs.declared.values.frame.Frame.TheVariants as frames
 use Rattle.crs_value.specs.CompoundValues.{CompoundParts}
 use Rattle.crs_value.specs.ConversionValues.{MethodParts, ParameterParts, ConversionParts, GeoidModelParts}
 use Rattle.crs_value.specs.CrsValues.{GeodeticParts, BaseParts, ProjectedParts, VerticalParts}
@@ -26,7 +26,7 @@ one-else R Other one other [] a b p q = other a b p q
 one-else R Other one other (i ∷ items) a b p q = one i a b p q
 
 abbrev method-made : List ℕ → List IdentParts → MethodParts
-method-made x0 x1 = record { name = x0; ids = x1 }
+method-made x0 x1 = record { name = x0; identifiers = x1 }
 
 method-equal : (x0 y0 : List ℕ) (x1 y1 : List IdentParts) → x0 ≡ y0 → x1 ≡ y1 →
     method-made x0 x1 ≡ method-made y0 y1
@@ -34,9 +34,9 @@ method-equal x0 y0 x1 y1 e0 e1 = cc
 
 pub method-one : (c : Class) → IsOne (ReadsMethod c)
 method-one c item a b p q =
-    method-equal a.name b.name a.ids b.ids
+    method-equal a.name b.name a.identifiers b.identifiers
     (text-of-one c item a.name b.name p.name q.name)
-    (one-each (ReadsIdent class.Identifier) (ident-one class.Identifier) (those c class.Identifier (arguments item)) a.ids b.ids p.ids q.ids)
+    (one-each (ReadsIdent class.Identifier) (ident-one class.Identifier) (those c class.Identifier (arguments item)) a.identifiers b.identifiers p.identifiers q.identifiers)
 
 as_unit-one : DenotesOne → (d : Class) → IsOne (ReadsAsUnit d)
 as_unit-one law d item None b p q = absurd p
@@ -51,7 +51,7 @@ unit_of-one law (d ∷ ds) c item a b p q =
     one-else (ReadsAsUnit d) (ReadsUnitOf ds c item) (as_unit-one law d) (unit_of-one law ds c item) (those c d (arguments item)) a b p q
 
 abbrev parameter-made : List ℕ → Value → Option UnitParts → List IdentParts → ParameterParts
-parameter-made x0 x1 x2 x3 = record { name = x0; value = x1; unit = x2; ids = x3 }
+parameter-made x0 x1 x2 x3 = record { name = x0; value = x1; unit = x2; identifiers = x3 }
 
 parameter-equal : (x0 y0 : List ℕ) (x1 y1 : Value) (x2 y2 : Option UnitParts) (x3 y3 : List IdentParts) → x0 ≡ y0 → x1 ≡ y1 → x2 ≡ y2 → x3 ≡ y3 →
     parameter-made x0 x1 x2 x3 ≡ parameter-made y0 y1 y2 y3
@@ -59,14 +59,14 @@ parameter-equal x0 y0 x1 y1 x2 y2 x3 y3 e0 e1 e2 e3 = cc
 
 pub parameter-one : DenotesOne → (c : Class) → IsOne (ReadsParameter c)
 parameter-one law c item a b p q =
-    parameter-equal a.name b.name a.value b.value a.unit b.unit a.ids b.ids
+    parameter-equal a.name b.name a.value b.value a.unit b.unit a.identifiers b.identifiers
     (text-of-one c item a.name b.name p.name q.name)
     (number-of-one law c item a.value b.value p.value q.value)
     (unit_of-one law parameter_units c item a.unit b.unit p.unit q.unit)
-    (one-each (ReadsIdent class.Identifier) (ident-one class.Identifier) (those c class.Identifier (arguments item)) a.ids b.ids p.ids q.ids)
+    (one-each (ReadsIdent class.Identifier) (ident-one class.Identifier) (those c class.Identifier (arguments item)) a.identifiers b.identifiers p.identifiers q.identifiers)
 
 abbrev conversion-made : List ℕ → MethodParts → List ParameterParts → List IdentParts → ConversionParts
-conversion-made x0 x1 x2 x3 = record { name = x0; method = x1; parameters = x2; ids = x3 }
+conversion-made x0 x1 x2 x3 = record { name = x0; method = x1; parameters = x2; identifiers = x3 }
 
 conversion-equal : (x0 y0 : List ℕ) (x1 y1 : MethodParts) (x2 y2 : List ParameterParts) (x3 y3 : List IdentParts) → x0 ≡ y0 → x1 ≡ y1 → x2 ≡ y2 → x3 ≡ y3 →
     conversion-made x0 x1 x2 x3 ≡ conversion-made y0 y1 y2 y3
@@ -74,14 +74,14 @@ conversion-equal x0 y0 x1 y1 x2 y2 x3 y3 e0 e1 e2 e3 = cc
 
 pub conversion-one : DenotesOne → (c : Class) → IsOne (ReadsConversion c)
 conversion-one law c item a b p q =
-    conversion-equal a.name b.name a.method b.method a.parameters b.parameters a.ids b.ids
+    conversion-equal a.name b.name a.method b.method a.parameters b.parameters a.identifiers b.identifiers
     (text-of-one c item a.name b.name p.name q.name)
     (one-first (ReadsMethod class.Method) (method-one class.Method) (those c class.Method (arguments item)) a.method b.method p.method q.method)
     (one-each (ReadsParameter class.Parameter) (parameter-one law class.Parameter) (those c class.Parameter (arguments item)) a.parameters b.parameters p.parameters q.parameters)
-    (one-each (ReadsIdent class.Identifier) (ident-one class.Identifier) (those c class.Identifier (arguments item)) a.ids b.ids p.ids q.ids)
+    (one-each (ReadsIdent class.Identifier) (ident-one class.Identifier) (those c class.Identifier (arguments item)) a.identifiers b.identifiers p.identifiers q.identifiers)
 
 abbrev geoid_model-made : List ℕ → List IdentParts → GeoidModelParts
-geoid_model-made x0 x1 = record { name = x0; ids = x1 }
+geoid_model-made x0 x1 = record { name = x0; identifiers = x1 }
 
 geoid_model-equal : (x0 y0 : List ℕ) (x1 y1 : List IdentParts) → x0 ≡ y0 → x1 ≡ y1 →
     geoid_model-made x0 x1 ≡ geoid_model-made y0 y1
@@ -89,9 +89,9 @@ geoid_model-equal x0 y0 x1 y1 e0 e1 = cc
 
 pub geoid_model-one : (c : Class) → IsOne (ReadsGeoidModel c)
 geoid_model-one c item a b p q =
-    geoid_model-equal a.name b.name a.ids b.ids
+    geoid_model-equal a.name b.name a.identifiers b.identifiers
     (text-of-one c item a.name b.name p.name q.name)
-    (one-each (ReadsIdent class.Identifier) (ident-one class.Identifier) (those c class.Identifier (arguments item)) a.ids b.ids p.ids q.ids)
+    (one-each (ReadsIdent class.Identifier) (ident-one class.Identifier) (those c class.Identifier (arguments item)) a.identifiers b.identifiers p.identifiers q.identifiers)
 
 as_datum-one : DenotesOne → (d : Class) → IsOne (ReadsAsDatum d)
 as_datum-one law d item (frames.Datum a) (frames.Datum b) p q = ap (λ x. frames.Datum x) (datum-one law d item a b p q)
@@ -125,7 +125,7 @@ geodetic-one law c item a b p q =
     (tail-one law c item a.tail b.tail p.tail q.tail)
 
 abbrev base-made : List ℕ → Frame → Option MeridianParts → Option UnitParts → List IdentParts → BaseParts
-base-made x0 x1 x2 x3 x4 = record { name = x0; frame = x1; meridian = x2; unit = x3; ids = x4 }
+base-made x0 x1 x2 x3 x4 = record { name = x0; frame = x1; meridian = x2; unit = x3; identifiers = x4 }
 
 base-equal : (x0 y0 : List ℕ) (x1 y1 : Frame) (x2 y2 : Option MeridianParts) (x3 y3 : Option UnitParts) (x4 y4 : List IdentParts) → x0 ≡ y0 → x1 ≡ y1 → x2 ≡ y2 → x3 ≡ y3 → x4 ≡ y4 →
     base-made x0 x1 x2 x3 x4 ≡ base-made y0 y1 y2 y3 y4
@@ -133,12 +133,12 @@ base-equal x0 y0 x1 y1 x2 y2 x3 y3 x4 y4 e0 e1 e2 e3 e4 = cc
 
 pub base-one : DenotesOne → (c : Class) → IsOne (ReadsBase c)
 base-one law c item a b p q =
-    base-equal a.name b.name a.frame b.frame a.meridian b.meridian a.unit b.unit a.ids b.ids
+    base-equal a.name b.name a.frame b.frame a.meridian b.meridian a.unit b.unit a.identifiers b.identifiers
     (text-of-one c item a.name b.name p.name q.name)
     (frame-one law class.GeodeticFrame class.GeodeticEnsemble c item a.frame b.frame p.frame q.frame)
     (one-optional (ReadsMeridian class.PrimeMeridian) (meridian-one law class.PrimeMeridian) (those c class.PrimeMeridian (arguments item)) a.meridian b.meridian p.meridian q.meridian)
     (one-optional (ReadsUnit class.AngleUnit) (unit-one law class.AngleUnit) (those c class.AngleUnit (arguments item)) a.unit b.unit p.unit q.unit)
-    (one-each (ReadsIdent class.Identifier) (ident-one class.Identifier) (those c class.Identifier (arguments item)) a.ids b.ids p.ids q.ids)
+    (one-each (ReadsIdent class.Identifier) (ident-one class.Identifier) (those c class.Identifier (arguments item)) a.identifiers b.identifiers p.identifiers q.identifiers)
 
 abbrev projected-made : List ℕ → BaseParts → ConversionParts → SystemParts → TailParts → ProjectedParts
 projected-made x0 x1 x2 x3 x4 = record { name = x0; base = x1; conversion = x2; system = x3; tail = x4 }

@@ -6,9 +6,9 @@ use Rattle.crs_text.specs.Items.{Item, arguments, raw_of, skip}
 use Rattle.crs_text.specs.Refusal.{RefusedAt}
 use Rattle.crs_shape.specs.declared.class.Class.{Class}
 use Rattle.crs_shape.specs.declared.class.Class.TheVariants as class
-use Rattle.crs_value.specs.declared.direction.Direction.{Direction}
-use Rattle.crs_value.specs.declared.system_type.SystemType.{SystemType}
-use Rattle.crs_value.specs.declared.unit_kind.UnitKind.{UnitKind}
+use Rattle.crs_value.specs.declared.values.direction.Direction.{Direction}
+use Rattle.crs_value.specs.declared.values.system_type.SystemType.{SystemType}
+use Rattle.crs_value.specs.declared.values.unit_kind.UnitKind.{UnitKind}
 use Rattle.crs_value.specs.Break.{IsBefore, IsLeast}
 use Rattle.crs_value.specs.Reading.{those, ReadsFirst, ReadsOptional, ReadsEach}
 use Rattle.crs_value.specs.Reads.{ReadsText, ReadsNumber, ReadsType, ReadsDirection, ReadsKind, ReadsTextOf, ReadsNumberOf, ReadsNumberAt, single_of, ReadsIdent, ReadsUnit, ReadsAxisMeridian, ReadsAxis, ReadsHead, ReadsSystem, ReadsEllipsoid, ReadsMeridian, ReadsMember, ReadsDatum, ReadsEnsemble, ReadsBox, ReadsExtent, ReadsUsage, LacksUsage, ReadsBare, ReadsTail}
@@ -84,7 +84,7 @@ ident-one c item a b p q =
     (one-optional (ReadsTextOf class.Uri) (text-of-one class.Uri) (those c class.Uri (arguments item)) a.uri b.uri p.uri q.uri)
 
 abbrev unit-made : UnitKind → List ℕ → Value → List IdentParts → UnitParts
-unit-made x0 x1 x2 x3 = record { kind = x0; name = x1; factor = x2; ids = x3 }
+unit-made x0 x1 x2 x3 = record { kind = x0; name = x1; factor = x2; identifiers = x3 }
 
 unit-equal : (x0 y0 : UnitKind) (x1 y1 : List ℕ) (x2 y2 : Value) (x3 y3 : List IdentParts) → x0 ≡ y0 → x1 ≡ y1 → x2 ≡ y2 → x3 ≡ y3 →
     unit-made x0 x1 x2 x3 ≡ unit-made y0 y1 y2 y3
@@ -92,11 +92,11 @@ unit-equal x0 y0 x1 y1 x2 y2 x3 y3 e0 e1 e2 e3 = cc
 
 pub unit-one : DenotesOne → (c : Class) → IsOne (ReadsUnit c)
 unit-one law c item a b p q =
-    unit-equal a.kind b.kind a.name b.name a.factor b.factor a.ids b.ids
+    unit-equal a.kind b.kind a.name b.name a.factor b.factor a.identifiers b.identifiers
     (kind-one item a.kind b.kind p.kind q.kind)
     (text-of-one c item a.name b.name p.name q.name)
     (number-of-one law c item a.factor b.factor p.factor q.factor)
-    (one-each (ReadsIdent class.Identifier) (ident-one class.Identifier) (those c class.Identifier (arguments item)) a.ids b.ids p.ids q.ids)
+    (one-each (ReadsIdent class.Identifier) (ident-one class.Identifier) (those c class.Identifier (arguments item)) a.identifiers b.identifiers p.identifiers q.identifiers)
 
 abbrev axis_meridian-made : Value → UnitParts → AxisMeridianParts
 axis_meridian-made x0 x1 = record { longitude = x0; unit = x1 }
@@ -112,7 +112,7 @@ axis_meridian-one law c item a b p q =
     (one-first (ReadsUnit class.AngleUnit) (unit-one law class.AngleUnit) (those c class.AngleUnit (arguments item)) a.unit b.unit p.unit q.unit)
 
 abbrev axis-made : List ℕ → Direction → Option AxisMeridianParts → Option Value → Option UnitParts → List IdentParts → AxisParts
-axis-made x0 x1 x2 x3 x4 x5 = record { name = x0; direction = x1; meridian = x2; order = x3; unit = x4; ids = x5 }
+axis-made x0 x1 x2 x3 x4 x5 = record { name = x0; direction = x1; meridian = x2; order = x3; unit = x4; identifiers = x5 }
 
 axis-equal : (x0 y0 : List ℕ) (x1 y1 : Direction) (x2 y2 : Option AxisMeridianParts) (x3 y3 : Option Value) (x4 y4 : Option UnitParts) (x5 y5 : List IdentParts) → x0 ≡ y0 → x1 ≡ y1 → x2 ≡ y2 → x3 ≡ y3 → x4 ≡ y4 → x5 ≡ y5 →
     axis-made x0 x1 x2 x3 x4 x5 ≡ axis-made y0 y1 y2 y3 y4 y5
@@ -120,16 +120,16 @@ axis-equal x0 y0 x1 y1 x2 y2 x3 y3 x4 y4 x5 y5 e0 e1 e2 e3 e4 e5 = cc
 
 pub axis-one : DenotesOne → (c : Class) → IsOne (ReadsAxis c)
 axis-one law c item a b p q =
-    axis-equal a.name b.name a.direction b.direction a.meridian b.meridian a.order b.order a.unit b.unit a.ids b.ids
+    axis-equal a.name b.name a.direction b.direction a.meridian b.meridian a.order b.order a.unit b.unit a.identifiers b.identifiers
     (text-of-one c item a.name b.name p.name q.name)
     (one-first ReadsDirection direction-one (those c class.Word (arguments item)) a.direction b.direction p.direction q.direction)
     (one-optional (ReadsAxisMeridian class.Meridian) (axis_meridian-one law class.Meridian) (those c class.Meridian (arguments item)) a.meridian b.meridian p.meridian q.meridian)
     (one-optional (ReadsNumberOf class.Order) (number-of-one law class.Order) (those c class.Order (arguments item)) a.order b.order p.order q.order)
     (one-optional (ReadsUnit class.AxisUnit) (unit-one law class.AxisUnit) (those c class.AxisUnit (arguments item)) a.unit b.unit p.unit q.unit)
-    (one-each (ReadsIdent class.Identifier) (ident-one class.Identifier) (those c class.Identifier (arguments item)) a.ids b.ids p.ids q.ids)
+    (one-each (ReadsIdent class.Identifier) (ident-one class.Identifier) (those c class.Identifier (arguments item)) a.identifiers b.identifiers p.identifiers q.identifiers)
 
 abbrev ellipsoid-made : List ℕ → Value → Value → Option UnitParts → List IdentParts → EllipsoidParts
-ellipsoid-made x0 x1 x2 x3 x4 = record { name = x0; semi_major_axis = x1; inverse_flattening = x2; unit = x3; ids = x4 }
+ellipsoid-made x0 x1 x2 x3 x4 = record { name = x0; semi_major_axis = x1; inverse_flattening = x2; unit = x3; identifiers = x4 }
 
 ellipsoid-equal : (x0 y0 : List ℕ) (x1 y1 : Value) (x2 y2 : Value) (x3 y3 : Option UnitParts) (x4 y4 : List IdentParts) → x0 ≡ y0 → x1 ≡ y1 → x2 ≡ y2 → x3 ≡ y3 → x4 ≡ y4 →
     ellipsoid-made x0 x1 x2 x3 x4 ≡ ellipsoid-made y0 y1 y2 y3 y4
@@ -137,15 +137,15 @@ ellipsoid-equal x0 y0 x1 y1 x2 y2 x3 y3 x4 y4 e0 e1 e2 e3 e4 = cc
 
 pub ellipsoid-one : DenotesOne → (c : Class) → IsOne (ReadsEllipsoid c)
 ellipsoid-one law c item a b p q =
-    ellipsoid-equal a.name b.name a.semi_major_axis b.semi_major_axis a.inverse_flattening b.inverse_flattening a.unit b.unit a.ids b.ids
+    ellipsoid-equal a.name b.name a.semi_major_axis b.semi_major_axis a.inverse_flattening b.inverse_flattening a.unit b.unit a.identifiers b.identifiers
     (text-of-one c item a.name b.name p.name q.name)
     (number-at-one law 0 c item a.semi_major_axis b.semi_major_axis p.semi_major_axis q.semi_major_axis)
     (number-at-one law 1 c item a.inverse_flattening b.inverse_flattening p.inverse_flattening q.inverse_flattening)
     (one-optional (ReadsUnit class.LengthUnit) (unit-one law class.LengthUnit) (those c class.LengthUnit (arguments item)) a.unit b.unit p.unit q.unit)
-    (one-each (ReadsIdent class.Identifier) (ident-one class.Identifier) (those c class.Identifier (arguments item)) a.ids b.ids p.ids q.ids)
+    (one-each (ReadsIdent class.Identifier) (ident-one class.Identifier) (those c class.Identifier (arguments item)) a.identifiers b.identifiers p.identifiers q.identifiers)
 
 abbrev meridian-made : List ℕ → Value → Option UnitParts → List IdentParts → MeridianParts
-meridian-made x0 x1 x2 x3 = record { name = x0; longitude = x1; unit = x2; ids = x3 }
+meridian-made x0 x1 x2 x3 = record { name = x0; longitude = x1; unit = x2; identifiers = x3 }
 
 meridian-equal : (x0 y0 : List ℕ) (x1 y1 : Value) (x2 y2 : Option UnitParts) (x3 y3 : List IdentParts) → x0 ≡ y0 → x1 ≡ y1 → x2 ≡ y2 → x3 ≡ y3 →
     meridian-made x0 x1 x2 x3 ≡ meridian-made y0 y1 y2 y3
@@ -153,14 +153,14 @@ meridian-equal x0 y0 x1 y1 x2 y2 x3 y3 e0 e1 e2 e3 = cc
 
 pub meridian-one : DenotesOne → (c : Class) → IsOne (ReadsMeridian c)
 meridian-one law c item a b p q =
-    meridian-equal a.name b.name a.longitude b.longitude a.unit b.unit a.ids b.ids
+    meridian-equal a.name b.name a.longitude b.longitude a.unit b.unit a.identifiers b.identifiers
     (text-of-one c item a.name b.name p.name q.name)
     (number-of-one law c item a.longitude b.longitude p.longitude q.longitude)
     (one-optional (ReadsUnit class.AngleUnit) (unit-one law class.AngleUnit) (those c class.AngleUnit (arguments item)) a.unit b.unit p.unit q.unit)
-    (one-each (ReadsIdent class.Identifier) (ident-one class.Identifier) (those c class.Identifier (arguments item)) a.ids b.ids p.ids q.ids)
+    (one-each (ReadsIdent class.Identifier) (ident-one class.Identifier) (those c class.Identifier (arguments item)) a.identifiers b.identifiers p.identifiers q.identifiers)
 
 abbrev member-made : List ℕ → List IdentParts → MemberParts
-member-made x0 x1 = record { name = x0; ids = x1 }
+member-made x0 x1 = record { name = x0; identifiers = x1 }
 
 member-equal : (x0 y0 : List ℕ) (x1 y1 : List IdentParts) → x0 ≡ y0 → x1 ≡ y1 →
     member-made x0 x1 ≡ member-made y0 y1
@@ -168,12 +168,12 @@ member-equal x0 y0 x1 y1 e0 e1 = cc
 
 pub member-one : (c : Class) → IsOne (ReadsMember c)
 member-one c item a b p q =
-    member-equal a.name b.name a.ids b.ids
+    member-equal a.name b.name a.identifiers b.identifiers
     (text-of-one c item a.name b.name p.name q.name)
-    (one-each (ReadsIdent class.Identifier) (ident-one class.Identifier) (those c class.Identifier (arguments item)) a.ids b.ids p.ids q.ids)
+    (one-each (ReadsIdent class.Identifier) (ident-one class.Identifier) (those c class.Identifier (arguments item)) a.identifiers b.identifiers p.identifiers q.identifiers)
 
 abbrev datum-made : List ℕ → Option EllipsoidParts → Option (List ℕ) → List IdentParts → DatumParts
-datum-made x0 x1 x2 x3 = record { name = x0; ellipsoid = x1; anchor = x2; ids = x3 }
+datum-made x0 x1 x2 x3 = record { name = x0; ellipsoid = x1; anchor = x2; identifiers = x3 }
 
 datum-equal : (x0 y0 : List ℕ) (x1 y1 : Option EllipsoidParts) (x2 y2 : Option (List ℕ)) (x3 y3 : List IdentParts) → x0 ≡ y0 → x1 ≡ y1 → x2 ≡ y2 → x3 ≡ y3 →
     datum-made x0 x1 x2 x3 ≡ datum-made y0 y1 y2 y3
@@ -181,14 +181,14 @@ datum-equal x0 y0 x1 y1 x2 y2 x3 y3 e0 e1 e2 e3 = cc
 
 pub datum-one : DenotesOne → (c : Class) → IsOne (ReadsDatum c)
 datum-one law c item a b p q =
-    datum-equal a.name b.name a.ellipsoid b.ellipsoid a.anchor b.anchor a.ids b.ids
+    datum-equal a.name b.name a.ellipsoid b.ellipsoid a.anchor b.anchor a.identifiers b.identifiers
     (text-of-one c item a.name b.name p.name q.name)
     (one-optional (ReadsEllipsoid class.Ellipsoid) (ellipsoid-one law class.Ellipsoid) (those c class.Ellipsoid (arguments item)) a.ellipsoid b.ellipsoid p.ellipsoid q.ellipsoid)
     (one-optional (ReadsTextOf class.Anchor) (text-of-one class.Anchor) (those c class.Anchor (arguments item)) a.anchor b.anchor p.anchor q.anchor)
-    (one-each (ReadsIdent class.Identifier) (ident-one class.Identifier) (those c class.Identifier (arguments item)) a.ids b.ids p.ids q.ids)
+    (one-each (ReadsIdent class.Identifier) (ident-one class.Identifier) (those c class.Identifier (arguments item)) a.identifiers b.identifiers p.identifiers q.identifiers)
 
 abbrev ensemble-made : List ℕ → List MemberParts → Option EllipsoidParts → Value → List IdentParts → EnsembleParts
-ensemble-made x0 x1 x2 x3 x4 = record { name = x0; members = x1; ellipsoid = x2; accuracy = x3; ids = x4 }
+ensemble-made x0 x1 x2 x3 x4 = record { name = x0; members = x1; ellipsoid = x2; accuracy = x3; identifiers = x4 }
 
 ensemble-equal : (x0 y0 : List ℕ) (x1 y1 : List MemberParts) (x2 y2 : Option EllipsoidParts) (x3 y3 : Value) (x4 y4 : List IdentParts) → x0 ≡ y0 → x1 ≡ y1 → x2 ≡ y2 → x3 ≡ y3 → x4 ≡ y4 →
     ensemble-made x0 x1 x2 x3 x4 ≡ ensemble-made y0 y1 y2 y3 y4
@@ -196,12 +196,12 @@ ensemble-equal x0 y0 x1 y1 x2 y2 x3 y3 x4 y4 e0 e1 e2 e3 e4 = cc
 
 pub ensemble-one : DenotesOne → (c : Class) → IsOne (ReadsEnsemble c)
 ensemble-one law c item a b p q =
-    ensemble-equal a.name b.name a.members b.members a.ellipsoid b.ellipsoid a.accuracy b.accuracy a.ids b.ids
+    ensemble-equal a.name b.name a.members b.members a.ellipsoid b.ellipsoid a.accuracy b.accuracy a.identifiers b.identifiers
     (text-of-one c item a.name b.name p.name q.name)
     (one-each (ReadsMember class.Member) (member-one class.Member) (those c class.Member (arguments item)) a.members b.members p.members q.members)
     (one-optional (ReadsEllipsoid class.Ellipsoid) (ellipsoid-one law class.Ellipsoid) (those c class.Ellipsoid (arguments item)) a.ellipsoid b.ellipsoid p.ellipsoid q.ellipsoid)
     (one-first (ReadsNumberOf class.EnsembleAccuracy) (number-of-one law class.EnsembleAccuracy) (those c class.EnsembleAccuracy (arguments item)) a.accuracy b.accuracy p.accuracy q.accuracy)
-    (one-each (ReadsIdent class.Identifier) (ident-one class.Identifier) (those c class.Identifier (arguments item)) a.ids b.ids p.ids q.ids)
+    (one-each (ReadsIdent class.Identifier) (ident-one class.Identifier) (those c class.Identifier (arguments item)) a.identifiers b.identifiers p.identifiers q.identifiers)
 
 abbrev box-made : Value → Value → Value → Value → BoxParts
 box-made x0 x1 x2 x3 = record { south = x0; west = x1; north = x2; east = x3 }
@@ -272,7 +272,7 @@ bare-one law c item (Some u) None p q = absurd (lacks-says c item u q p.0 p.1)
 bare-one law c item (Some u) (Some v) p q = ap (λ x. Some x) (usage-one law c item u v p.0 q.0)
 
 abbrev tail-made : List UsageParts → Option UsageParts → List IdentParts → Option (List ℕ) → TailParts
-tail-made x0 x1 x2 x3 = record { usages = x0; bare = x1; ids = x2; remark = x3 }
+tail-made x0 x1 x2 x3 = record { usages = x0; bare_parts = x1; identifiers = x2; remark = x3 }
 
 tail-equal : (x0 y0 : List UsageParts) (x1 y1 : Option UsageParts) (x2 y2 : List IdentParts) (x3 y3 : Option (List ℕ)) → x0 ≡ y0 → x1 ≡ y1 → x2 ≡ y2 → x3 ≡ y3 →
     tail-made x0 x1 x2 x3 ≡ tail-made y0 y1 y2 y3
@@ -280,26 +280,26 @@ tail-equal x0 y0 x1 y1 x2 y2 x3 y3 e0 e1 e2 e3 = cc
 
 pub tail-one : DenotesOne → (c : Class) → IsOne (ReadsTail c)
 tail-one law c item a b p q =
-    tail-equal a.usages b.usages a.bare b.bare a.ids b.ids a.remark b.remark
+    tail-equal a.usages b.usages a.bare_parts b.bare_parts a.identifiers b.identifiers a.remark b.remark
     (one-each (ReadsUsage class.Usage) (usage-one law class.Usage) (those c class.Usage (arguments item)) a.usages b.usages p.usages q.usages)
-    (bare-one law c item a.bare b.bare p.bare q.bare)
-    (one-each (ReadsIdent class.Identifier) (ident-one class.Identifier) (those c class.Identifier (arguments item)) a.ids b.ids p.ids q.ids)
+    (bare-one law c item a.bare_parts b.bare_parts p.bare_parts q.bare_parts)
+    (one-each (ReadsIdent class.Identifier) (ident-one class.Identifier) (those c class.Identifier (arguments item)) a.identifiers b.identifiers p.identifiers q.identifiers)
     (one-optional (ReadsTextOf class.Remark) (text-of-one class.Remark) (those c class.Remark (arguments item)) a.remark b.remark p.remark q.remark)
 
 -- a system's own node gives three of its fields
 head-one : DenotesOne → (items : List Item) (a b : SystemParts) → ReadsFirst ReadsHead items a → ReadsFirst ReadsHead items b →
-    (a.system_type ≡ b.system_type) × ((a.dimension ≡ b.dimension) × (a.ids ≡ b.ids))
+    (a.system_type ≡ b.system_type) × ((a.dimension ≡ b.dimension) × (a.identifiers ≡ b.identifiers))
 head-one law [] a b p q = absurd p
 head-one law (i ∷ items) a b p q = (
   one-first ReadsType type-one (those class.CoordinateSystem class.Word (arguments i)) a.system_type b.system_type p.system_type q.system_type,
   (
     number-of-one law class.CoordinateSystem i a.dimension b.dimension p.dimension q.dimension,
-    one-each (ReadsIdent class.Identifier) (ident-one class.Identifier) (those class.CoordinateSystem class.Identifier (arguments i)) a.ids b.ids p.ids q.ids,
+    one-each (ReadsIdent class.Identifier) (ident-one class.Identifier) (those class.CoordinateSystem class.Identifier (arguments i)) a.identifiers b.identifiers p.identifiers q.identifiers,
   ),
 )
 
 abbrev system-made : SystemType → Value → List IdentParts → List AxisParts → Option UnitParts → SystemParts
-system-made t d i a u = record { system_type = t; dimension = d; ids = i; axes = a; unit = u }
+system-made t d i a u = record { system_type = t; dimension = d; identifiers = i; axes = a; unit = u }
 
 system-equal : (t t' : SystemType) (d d' : Value) (i i' : List IdentParts) (a a' : List AxisParts) (u u' : Option UnitParts) → t ≡ t' → d ≡ d' → i ≡ i' → a ≡ a' → u ≡ u' →
     system-made t d i a u ≡ system-made t' d' i' a' u'
@@ -308,7 +308,7 @@ system-equal t t' d d' i i' a a' u u' e f g h j = cc
 pub system-one : DenotesOne → (c : Class) → IsOne (ReadsSystem c)
 system-one law c item a b p q =
     let h = head-one law (those c class.CoordinateSystem (arguments item)) a b p.head q.head in
-    system-equal a.system_type b.system_type a.dimension b.dimension a.ids b.ids a.axes b.axes a.unit b.unit h.0 h.1.0 h.1.1
+    system-equal a.system_type b.system_type a.dimension b.dimension a.identifiers b.identifiers a.axes b.axes a.unit b.unit h.0 h.1.0 h.1.1
     (one-each (ReadsAxis class.Axis) (axis-one law class.Axis) (those c class.Axis (arguments item)) a.axes b.axes p.axes q.axes)
     (one-optional (ReadsUnit class.AxisUnit) (unit-one law class.AxisUnit) (those c class.AxisUnit (arguments item)) a.unit b.unit p.unit q.unit)
 

@@ -4,10 +4,10 @@ use Rattle.crs_text.specs.Items.{Item, arguments}
 use Rattle.crs_shape.specs.declared.class.Class.{Class}
 use Rattle.crs_shape.specs.declared.class.Class.TheVariants as class
 use Rattle.crs_shape.specs.Keywords.{root_classes}
-use Rattle.crs_value.specs.declared.compound.Horizontal.{Horizontal}
-use Rattle.crs_value.specs.declared.compound.Horizontal.TheVariants as horizontals
-use Rattle.crs_value.specs.declared.crs.Crs.TheVariants as crs
-use Rattle.crs_value.specs.declared.frame.Frame.TheVariants as frames
+use Rattle.crs_value.specs.declared.values.compound.Horizontal.{Horizontal}
+use Rattle.crs_value.specs.declared.values.compound.Horizontal.TheVariants as horizontals
+use Rattle.crs_value.specs.declared.values.crs.Crs.TheVariants as crs
+use Rattle.crs_value.specs.declared.values.frame.Frame.TheVariants as frames
 use Rattle.crs_value.specs.Checks.{IsSound}
 use Rattle.crs_value.specs.Found.{IsAmong}
 use Rattle.crs_value.specs.Reading.{those, Requires, RequiresOneOf, ReadsFirst, ReadsElse}
@@ -17,7 +17,7 @@ use Rattle.crs_value.specs.ReadsCrs.{IsGeodeticClass, ReadsAsDatum, ReadsAsEnsem
 use Rattle.crs_value.proofs.ArgumentLemmas.{SlotsCount, arguments-sound}
 use Rattle.crs_value.proofs.FrameLemmas.{one-there}
 use Rattle.crs_value.proofs.ReadyLemmas.{Numbers}
-use Rattle.crs_value.proofs.SomeValueLemmas.{Exists, first-of, else-of, text-some, number-of-some, ids-some, unit-some, first-some, optional-some, each-some, system-some, meridian-some, datum-some, ensemble-some, tail-some}
+use Rattle.crs_value.proofs.SomeValueLemmas.{Exists, first-of, else-of, text-some, number-of-some, identifiers-some, unit-some, first-some, optional-some, each-some, system-some, meridian-some, datum-some, ensemble-some, tail-some}
 
 module _ (numbers : Numbers) (slots : SlotsCount) where
   -- ---- conversions
@@ -25,8 +25,8 @@ module _ (numbers : Numbers) (slots : SlotsCount) where
   method-some : (item : Item) → IsSound class.Method item → Exists (ReadsMethod class.Method item)
   method-some item g =
       let name = text-some numbers slots class.Method item g (omega arith) in
-      let ids = ids-some numbers slots class.Method item g in
-      (record { name = name.0; ids = ids.0 }, record { name = name.1; ids = ids.1 })
+      let identifiers = identifiers-some numbers slots class.Method item g in
+      (record { name = name.0; identifiers = identifiers.0 }, record { name = name.1; identifiers = identifiers.1 })
 
   abbrev AreUnitClasses : List Class → Type 0
   AreUnitClasses [] = Unit {0}
@@ -45,22 +45,22 @@ module _ (numbers : Numbers) (slots : SlotsCount) where
       let name = text-some numbers slots class.Parameter item g (omega arith) in
       let value = number-of-some numbers slots class.Parameter item g (omega arith) in
       let unit = unit_of-some parameter_units (tt, (tt, (tt, (tt, tt)))) class.Parameter item g in
-      let ids = ids-some numbers slots class.Parameter item g in
-      (record { name = name.0; value = value.0; unit = unit.0; ids = ids.0 }, record { name = name.1; value = value.1; unit = unit.1; ids = ids.1 })
+      let identifiers = identifiers-some numbers slots class.Parameter item g in
+      (record { name = name.0; value = value.0; unit = unit.0; identifiers = identifiers.0 }, record { name = name.1; value = value.1; unit = unit.1; identifiers = identifiers.1 })
 
   conversion-some : (item : Item) → IsSound class.Conversion item → Exists (ReadsConversion class.Conversion item)
   conversion-some item g =
       let name = text-some numbers slots class.Conversion item g (omega arith) in
       let method = first-some numbers slots (ReadsMethod class.Method) class.Conversion class.Method item g (omega arith) (method-some) in
       let parameters = each-some numbers slots (ReadsParameter class.Parameter) class.Conversion class.Parameter item g (parameter-some) in
-      let ids = ids-some numbers slots class.Conversion item g in
-      (record { name = name.0; method = method.0; parameters = parameters.0; ids = ids.0 }, record { name = name.1; method = method.1; parameters = parameters.1; ids = ids.1 })
+      let identifiers = identifiers-some numbers slots class.Conversion item g in
+      (record { name = name.0; method = method.0; parameters = parameters.0; identifiers = identifiers.0 }, record { name = name.1; method = method.1; parameters = parameters.1; identifiers = identifiers.1 })
 
   geoid_model-some : (item : Item) → IsSound class.GeoidModel item → Exists (ReadsGeoidModel class.GeoidModel item)
   geoid_model-some item g =
       let name = text-some numbers slots class.GeoidModel item g (omega arith) in
-      let ids = ids-some numbers slots class.GeoidModel item g in
-      (record { name = name.0; ids = ids.0 }, record { name = name.1; ids = ids.1 })
+      let identifiers = identifiers-some numbers slots class.GeoidModel item g in
+      (record { name = name.0; identifiers = identifiers.0 }, record { name = name.1; identifiers = identifiers.1 })
 
   -- ---- coordinate reference systems
 
@@ -98,8 +98,8 @@ module _ (numbers : Numbers) (slots : SlotsCount) where
       let frame = frame-some class.GeodeticFrame class.GeodeticEnsemble class.BaseCrs item g (omega arith) (omega arith) (omega arith) (omega arith) in
       let meridian = optional-some numbers slots (ReadsMeridian class.PrimeMeridian) class.BaseCrs class.PrimeMeridian item g (meridian-some numbers slots) in
       let unit = optional-some numbers slots (ReadsUnit class.AngleUnit) class.BaseCrs class.AngleUnit item g (unit-some numbers slots class.AngleUnit tt) in
-      let ids = ids-some numbers slots class.BaseCrs item g in
-      (record { name = name.0; frame = frame.0; meridian = meridian.0; unit = unit.0; ids = ids.0 }, record { name = name.1; frame = frame.1; meridian = meridian.1; unit = unit.1; ids = ids.1 })
+      let identifiers = identifiers-some numbers slots class.BaseCrs item g in
+      (record { name = name.0; frame = frame.0; meridian = meridian.0; unit = unit.0; identifiers = identifiers.0 }, record { name = name.1; frame = frame.1; meridian = meridian.1; unit = unit.1; identifiers = identifiers.1 })
 
   projected-some : (item : Item) → IsSound class.ProjectedCrs item → Exists (ReadsProjected class.ProjectedCrs item)
   projected-some item g =

@@ -4,8 +4,8 @@ use Rattle.crs_decimal.specs.Value.{Value}
 use Rattle.crs_text.specs.Items.{Item, arguments, raw_of, skip}
 use Rattle.crs_shape.specs.declared.class.Class.{Class}
 use Rattle.crs_shape.specs.declared.class.Class.TheVariants as class
-use Rattle.crs_value.specs.declared.system_type.SystemType.{SystemType}
-use Rattle.crs_value.specs.declared.unit_kind.UnitKind.{UnitKind}
+use Rattle.crs_value.specs.declared.values.system_type.SystemType.{SystemType}
+use Rattle.crs_value.specs.declared.values.unit_kind.UnitKind.{UnitKind}
 use Rattle.crs_value.specs.Checks.{IsSound}
 use Rattle.crs_value.specs.Reading.{those, Requires, ReadsFirst, ReadsOptional, ReadsEach, ReadsElse}
 use Rattle.crs_value.specs.Reads.{ReadsText, ReadsNumber, ReadsType, ReadsDirection, ReadsKind, ReadsTextOf, ReadsNumberOf, ReadsNumberAt, single_of, IsUnitClass, ReadsIdent, ReadsIds, ReadsUnit, ReadsAxisMeridian, ReadsAxis, ReadsHead, ReadsSystem, ReadsEllipsoid, ReadsMeridian, ReadsMember, ReadsDatum, ReadsEnsemble, ReadsBox, ReadsExtent, ReadsUsage, ReadsBare, ReadsTail}
@@ -109,8 +109,8 @@ module _ (numbers : Numbers) (slots : SlotsCount) where
       let uri = optional-some (ReadsTextOf class.Uri) class.Identifier class.Uri item g (λ i h. text-some class.Uri i h (omega arith)) in
       (record { authority = authority.0; code = code.0; version = version.0; citation = citation.0; uri = uri.0 }, record { authority = authority.1; code = code.1; version = version.1; citation = citation.1; uri = uri.1 })
 
-  pub ids-some : (c : Class) (item : Item) → IsSound c item → Exists (ReadsIds c item)
-  ids-some c item g = each-some (ReadsIdent class.Identifier) c class.Identifier item g ident-some
+  pub identifiers-some : (c : Class) (item : Item) → IsSound c item → Exists (ReadsIds c item)
+  identifiers-some c item g = each-some (ReadsIdent class.Identifier) c class.Identifier item g ident-some
 
   -- ---- units and systems
 
@@ -134,8 +134,8 @@ module _ (numbers : Numbers) (slots : SlotsCount) where
       let kind = kind-some c is item g in
       let name = text-some c item g (unit-needs c is).0 in
       let factor = number-of-some c item g (unit-needs c is).1 in
-      let ids = ids-some c item g in
-      (record { kind = kind.0; name = name.0; factor = factor.0; ids = ids.0 }, record { kind = kind.1; name = name.1; factor = factor.1; ids = ids.1 })
+      let identifiers = identifiers-some c item g in
+      (record { kind = kind.0; name = name.0; factor = factor.0; identifiers = identifiers.0 }, record { kind = kind.1; name = name.1; factor = factor.1; identifiers = identifiers.1 })
 
   axis_meridian-some : (item : Item) → IsSound class.Meridian item → Exists (ReadsAxisMeridian class.Meridian item)
   axis_meridian-some item g =
@@ -161,8 +161,8 @@ module _ (numbers : Numbers) (slots : SlotsCount) where
       let meridian = optional-some (ReadsAxisMeridian class.Meridian) class.Axis class.Meridian item g (axis_meridian-some) in
       let order = optional-some (ReadsNumberOf class.Order) class.Axis class.Order item g (λ i h. number-of-some class.Order i h (omega arith)) in
       let unit = optional-some (ReadsUnit class.AxisUnit) class.Axis class.AxisUnit item g (unit-some class.AxisUnit tt) in
-      let ids = ids-some class.Axis item g in
-      (record { name = name.0; direction = direction.0; meridian = meridian.0; order = order.0; unit = unit.0; ids = ids.0 }, record { name = name.1; direction = direction.1; meridian = meridian.1; order = order.1; unit = unit.1; ids = ids.1 })
+      let identifiers = identifiers-some class.Axis item g in
+      (record { name = name.0; direction = direction.0; meridian = meridian.0; order = order.0; unit = unit.0; identifiers = identifiers.0 }, record { name = name.1; direction = direction.1; meridian = meridian.1; order = order.1; unit = unit.1; identifiers = identifiers.1 })
 
   type-some : (item : Item) → IsSound class.CoordinateSystem item → Exists (ReadsFirst ReadsType (those class.CoordinateSystem class.Word (arguments item)))
   type-some item g = by (those class.CoordinateSystem class.Word (arguments item)) refl
@@ -176,18 +176,18 @@ module _ (numbers : Numbers) (slots : SlotsCount) where
       by (w ∷ more) e = found w more e (type-known (raw_of w))
 
   abbrev made : SystemType → Value → List IdentParts → List AxisParts → Option UnitParts → SystemParts
-  made system_type dimension ids axes unit = record { system_type = system_type; dimension = dimension; ids = ids; axes = axes; unit = unit }
+  made system_type dimension identifiers axes unit = record { system_type = system_type; dimension = dimension; identifiers = identifiers; axes = axes; unit = unit }
 
   abbrev Heads : List Item → List AxisParts → Option UnitParts → Type 0
-  Heads items axes unit = (t : SystemType) × ((d : Value) × ((ids : List IdentParts) × ReadsFirst ReadsHead items (made t d ids axes unit)))
+  Heads items axes unit = (t : SystemType) × ((d : Value) × ((identifiers : List IdentParts) × ReadsFirst ReadsHead items (made t d identifiers axes unit)))
 
   head-some : (items : List Item) → (items ≡ [] → ⊥) → AllSound class.CoordinateSystem items → (axes : List AxisParts) (unit : Option UnitParts) → Heads items axes unit
   head-some [] some g axes unit = absurd (some refl)
   head-some (cs ∷ items) some g axes unit =
       let t = type-some cs g.0 in
       let d = number-of-some class.CoordinateSystem cs g.0 (omega arith) in
-      let ids = ids-some class.CoordinateSystem cs g.0 in
-      (t.0, (d.0, (ids.0, record { system_type = t.1; dimension = d.1; ids = ids.1 })))
+      let identifiers = identifiers-some class.CoordinateSystem cs g.0 in
+      (t.0, (d.0, (identifiers.0, record { system_type = t.1; dimension = d.1; identifiers = identifiers.1 })))
 
   pub system-some : (c : Class) (item : Item) → IsSound c item → Requires c class.CoordinateSystem 0 → Exists (ReadsSystem c item)
   system-some c item g some =
@@ -206,30 +206,30 @@ module _ (numbers : Numbers) (slots : SlotsCount) where
       let semi_major_axis = number-at-some 0 class.Ellipsoid item g (omega arith) in
       let inverse_flattening = number-at-some 1 class.Ellipsoid item g (omega arith) in
       let unit = optional-some (ReadsUnit class.LengthUnit) class.Ellipsoid class.LengthUnit item g (unit-some class.LengthUnit tt) in
-      let ids = ids-some class.Ellipsoid item g in
-      (record { name = name.0; semi_major_axis = semi_major_axis.0; inverse_flattening = inverse_flattening.0; unit = unit.0; ids = ids.0 }, record { name = name.1; semi_major_axis = semi_major_axis.1; inverse_flattening = inverse_flattening.1; unit = unit.1; ids = ids.1 })
+      let identifiers = identifiers-some class.Ellipsoid item g in
+      (record { name = name.0; semi_major_axis = semi_major_axis.0; inverse_flattening = inverse_flattening.0; unit = unit.0; identifiers = identifiers.0 }, record { name = name.1; semi_major_axis = semi_major_axis.1; inverse_flattening = inverse_flattening.1; unit = unit.1; identifiers = identifiers.1 })
 
   pub meridian-some : (item : Item) → IsSound class.PrimeMeridian item → Exists (ReadsMeridian class.PrimeMeridian item)
   meridian-some item g =
       let name = text-some class.PrimeMeridian item g (omega arith) in
       let longitude = number-of-some class.PrimeMeridian item g (omega arith) in
       let unit = optional-some (ReadsUnit class.AngleUnit) class.PrimeMeridian class.AngleUnit item g (unit-some class.AngleUnit tt) in
-      let ids = ids-some class.PrimeMeridian item g in
-      (record { name = name.0; longitude = longitude.0; unit = unit.0; ids = ids.0 }, record { name = name.1; longitude = longitude.1; unit = unit.1; ids = ids.1 })
+      let identifiers = identifiers-some class.PrimeMeridian item g in
+      (record { name = name.0; longitude = longitude.0; unit = unit.0; identifiers = identifiers.0 }, record { name = name.1; longitude = longitude.1; unit = unit.1; identifiers = identifiers.1 })
 
   member-some : (item : Item) → IsSound class.Member item → Exists (ReadsMember class.Member item)
   member-some item g =
       let name = text-some class.Member item g (omega arith) in
-      let ids = ids-some class.Member item g in
-      (record { name = name.0; ids = ids.0 }, record { name = name.1; ids = ids.1 })
+      let identifiers = identifiers-some class.Member item g in
+      (record { name = name.0; identifiers = identifiers.0 }, record { name = name.1; identifiers = identifiers.1 })
 
   pub datum-some : (c : Class) → Requires c class.Text 0 → (item : Item) → IsSound c item → Exists (ReadsDatum c item)
   datum-some c named item g =
       let name = text-some c item g named in
       let ellipsoid = optional-some (ReadsEllipsoid class.Ellipsoid) c class.Ellipsoid item g (ellipsoid-some) in
       let anchor = optional-some (ReadsTextOf class.Anchor) c class.Anchor item g (λ i h. text-some class.Anchor i h (omega arith)) in
-      let ids = ids-some c item g in
-      (record { name = name.0; ellipsoid = ellipsoid.0; anchor = anchor.0; ids = ids.0 }, record { name = name.1; ellipsoid = ellipsoid.1; anchor = anchor.1; ids = ids.1 })
+      let identifiers = identifiers-some c item g in
+      (record { name = name.0; ellipsoid = ellipsoid.0; anchor = anchor.0; identifiers = identifiers.0 }, record { name = name.1; ellipsoid = ellipsoid.1; anchor = anchor.1; identifiers = identifiers.1 })
 
   pub ensemble-some : (c : Class) → Requires c class.Text 0 → Requires c class.EnsembleAccuracy 0 → (item : Item) → IsSound c item → Exists (ReadsEnsemble c item)
   ensemble-some c named exact item g =
@@ -237,8 +237,8 @@ module _ (numbers : Numbers) (slots : SlotsCount) where
       let members = each-some (ReadsMember class.Member) c class.Member item g (member-some) in
       let ellipsoid = optional-some (ReadsEllipsoid class.Ellipsoid) c class.Ellipsoid item g (ellipsoid-some) in
       let accuracy = first-some (ReadsNumberOf class.EnsembleAccuracy) c class.EnsembleAccuracy item g exact (λ i h. number-of-some class.EnsembleAccuracy i h (omega arith)) in
-      let ids = ids-some c item g in
-      (record { name = name.0; members = members.0; ellipsoid = ellipsoid.0; accuracy = accuracy.0; ids = ids.0 }, record { name = name.1; members = members.1; ellipsoid = ellipsoid.1; accuracy = accuracy.1; ids = ids.1 })
+      let identifiers = identifiers-some c item g in
+      (record { name = name.0; members = members.0; ellipsoid = ellipsoid.0; accuracy = accuracy.0; identifiers = identifiers.0 }, record { name = name.1; members = members.1; ellipsoid = ellipsoid.1; accuracy = accuracy.1; identifiers = identifiers.1 })
 
   -- ---- tails
 
@@ -272,6 +272,6 @@ module _ (numbers : Numbers) (slots : SlotsCount) where
   tail-some c item g =
       let usages = each-some (ReadsUsage class.Usage) c class.Usage item g (usage-some class.Usage) in
       let bare = bare-some c item g in
-      let ids = ids-some c item g in
+      let identifiers = identifiers-some c item g in
       let remark = optional-some (ReadsTextOf class.Remark) c class.Remark item g (λ i h. text-some class.Remark i h (omega arith)) in
-      (record { usages = usages.0; bare = bare.0; ids = ids.0; remark = remark.0 }, record { usages = usages.1; bare = bare.1; ids = ids.1; remark = remark.1 })
+      (record { usages = usages.0; bare_parts = bare.0; identifiers = identifiers.0; remark = remark.0 }, record { usages = usages.1; bare_parts = bare.1; identifiers = identifiers.1; remark = remark.1 })

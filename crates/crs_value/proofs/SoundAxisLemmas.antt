@@ -3,12 +3,12 @@ use Rattle.crs_text.specs.Items.{arguments}
 use Rattle.crs_decimal.specs.Value.{IsNormal}
 use Rattle.crs_shape.specs.declared.class.Class.{Class}
 use Rattle.crs_shape.specs.declared.class.Class.TheVariants as class
-use Rattle.crs_value.specs.declared.unit_kind.UnitKind.TheVariants as kinds
+use Rattle.crs_value.specs.declared.values.unit_kind.UnitKind.TheVariants as kinds
 use Rattle.crs_value.specs.Reading.{those}
 use Rattle.crs_value.specs.Reads.{ReadsNumberOf, ReadsUnit, ReadsAxisMeridian, ReadsAxis}
 use Rattle.crs_value.specs.Sound.{IsUnitOf, IsAxisUnit, IsAxisMeridian, IsAxis}
 use Rattle.crs_value.proofs.ArgumentLemmas.{arguments-sound}
-use Rattle.crs_value.proofs.SoundLemmas.{Tells, first-tells, optional-tells, text-of-tells, number-of-tells, ids-tell, angle-tells, axis-unit-tells}
+use Rattle.crs_value.proofs.SoundLemmas.{Tells, first-tells, optional-tells, text-of-tells, number-of-tells, identifiers-tell, angle-tells, axis-unit-tells}
 
 pub axis-meridian-tells : (c : Class) → Tells c (ReadsAxisMeridian c) IsAxisMeridian
 axis-meridian-tells c item value sound reads = record {
@@ -30,5 +30,5 @@ axis-tells c item value sound reads = record {
   unit =
       optional-tells (ReadsUnit class.AxisUnit) IsAxisUnit class.AxisUnit axis-unit-tells (those c class.AxisUnit (arguments item)) value.unit
       (arguments-sound c class.AxisUnit item sound) reads.unit;
-  ids = ids-tell c item value.ids sound reads.ids;
+  identifiers = identifiers-tell c item value.identifiers sound reads.identifiers;
 }

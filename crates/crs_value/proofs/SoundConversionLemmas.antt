@@ -12,18 +12,18 @@ use Rattle.crs_value.specs.Sound.{IsUnit}
 use Rattle.crs_value.specs.SoundConversion.{IsMethod, IsParameter, IsConversion, IsGeoidModel}
 use Rattle.crs_value.specs.Values.{UnitParts}
 use Rattle.crs_value.proofs.ArgumentLemmas.{AllSound, arguments-sound}
-use Rattle.crs_value.proofs.SoundLemmas.{Tells, first-tells, each-tells, text-of-tells, number-of-tells, ids-tell, unit-tells}
+use Rattle.crs_value.proofs.SoundLemmas.{Tells, first-tells, each-tells, text-of-tells, number-of-tells, identifiers-tell, unit-tells}
 
 pub method-tells : (c : Class) → Tells c (ReadsMethod c) IsMethod
 method-tells c item value sound reads = record {
   name = text-of-tells c item value.name sound reads.name;
-  ids = ids-tell c item value.ids sound reads.ids;
+  identifiers = identifiers-tell c item value.identifiers sound reads.identifiers;
 }
 
 pub geoid-model-tells : (c : Class) → Tells c (ReadsGeoidModel c) IsGeoidModel
 geoid-model-tells c item value sound reads = record {
   name = text-of-tells c item value.name sound reads.name;
-  ids = ids-tell c item value.ids sound reads.ids;
+  identifiers = identifiers-tell c item value.identifiers sound reads.identifiers;
 }
 
 -- ---- the unit of a parameter
@@ -49,7 +49,7 @@ parameter-tells c item value sound reads = record {
   name = text-of-tells c item value.name sound reads.name;
   value = number-of-tells c item value.value sound reads.value;
   unit = unit-of-tells (class.PlainUnit ∷ class.LengthUnit ∷ class.AngleUnit ∷ class.ScaleUnit ∷ []) (tt, (tt, (tt, (tt, tt)))) c item value.unit sound reads.unit;
-  ids = ids-tell c item value.ids sound reads.ids;
+  identifiers = identifiers-tell c item value.identifiers sound reads.identifiers;
 }
 
 pub conversion-tells : (c : Class) → Tells c (ReadsConversion c) IsConversion
@@ -61,5 +61,5 @@ conversion-tells c item value sound reads = record {
   parameters =
       each-tells (ReadsParameter class.Parameter) IsParameter class.Parameter (parameter-tells class.Parameter) (those c class.Parameter (arguments item)) value.parameters
       (arguments-sound c class.Parameter item sound) reads.parameters;
-  ids = ids-tell c item value.ids sound reads.ids;
+  identifiers = identifiers-tell c item value.identifiers sound reads.identifiers;
 }

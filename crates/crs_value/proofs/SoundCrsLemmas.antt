@@ -7,11 +7,11 @@ use Rattle.crs_shape.specs.declared.class.Class.{Class}
 use Rattle.crs_shape.specs.declared.class.Class.TheVariants as class
 use Rattle.crs_shape.specs.Counts.{most, is_bounded}
 use Rattle.crs_shape.specs.Slots.{slots_of}
-use Rattle.crs_value.specs.declared.frame.Frame.{Frame}
-use Rattle.crs_value.specs.declared.frame.Frame.TheVariants as frames
-use Rattle.crs_value.specs.declared.system_type.SystemType.{SystemType}
-use Rattle.crs_value.specs.declared.system_type.SystemType.TheVariants as types
-use Rattle.crs_value.specs.declared.unit_kind.UnitKind.TheVariants as kinds
+use Rattle.crs_value.specs.declared.values.frame.Frame.{Frame}
+use Rattle.crs_value.specs.declared.values.frame.Frame.TheVariants as frames
+use Rattle.crs_value.specs.declared.values.system_type.SystemType.{SystemType}
+use Rattle.crs_value.specs.declared.values.system_type.SystemType.TheVariants as types
+use Rattle.crs_value.specs.declared.values.unit_kind.UnitKind.TheVariants as kinds
 use Rattle.crs_value.specs.BadSystem.{IsOneOf, geodetic_dimensions, dimensions_of}
 use Rattle.crs_value.specs.Checks.{HasSystem, IsSound}
 use Rattle.crs_value.specs.Reading.{is_same, those, Requires, ReadsFirst, ReadsOptional, ReadsElse}
@@ -26,7 +26,7 @@ use Rattle.crs_value.specs.Values.{SystemParts, EllipsoidParts, DatumParts, Ense
 use Rattle.crs_value.proofs.ArgumentLemmas.{SlotsBound, AllSound, SlotsCount, arguments-sound, not-none}
 use Rattle.crs_value.proofs.SoundConversionLemmas.{conversion-tells, geoid-model-tells}
 use Rattle.crs_value.proofs.SoundFrameLemmas.{datum-tells, ensemble-tells, meridian-tells}
-use Rattle.crs_value.proofs.SoundLemmas.{Tells, first-tells, optional-tells, each-tells, text-of-tells, ids-tell, angle-tells}
+use Rattle.crs_value.proofs.SoundLemmas.{Tells, first-tells, optional-tells, each-tells, text-of-tells, identifiers-tell, angle-tells}
 use Rattle.crs_value.proofs.SoundSystemLemmas.{read-none, read-there, system-allowed, system-free, system-tells}
 use Rattle.crs_value.proofs.SoundUsageLemmas.{arguments-none, tail-tells}
 
@@ -130,7 +130,7 @@ base-tells law c item value sound reads = record {
   unit =
       optional-tells (ReadsUnit class.AngleUnit) (IsUnitOf kinds.Angle) class.AngleUnit angle-tells (those c class.AngleUnit (arguments item)) value.unit
       (arguments-sound c class.AngleUnit item sound) reads.unit;
-  ids = ids-tell c item value.ids sound reads.ids;
+  identifiers = identifiers-tell c item value.identifiers sound reads.identifiers;
 }
 
 pub projected-tells : SlotsCount → SlotsBound → Tells class.ProjectedCrs (ReadsProjected class.ProjectedCrs) IsProjected

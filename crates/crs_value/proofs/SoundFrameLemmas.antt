@@ -6,7 +6,7 @@ use Rattle.crs_text.specs.Items.{Item, leaf, node, More, arguments}
 use Rattle.crs_text.specs.Refusal.{RefusedAt}
 use Rattle.crs_shape.specs.declared.class.Class.{Class}
 use Rattle.crs_shape.specs.declared.class.Class.TheVariants as class
-use Rattle.crs_value.specs.declared.unit_kind.UnitKind.TheVariants as kinds
+use Rattle.crs_value.specs.declared.values.unit_kind.UnitKind.TheVariants as kinds
 use Rattle.crs_value.specs.BadValue.{IsAboveZero, NotAbove, IsNegative}
 use Rattle.crs_value.specs.Break.{at, AnyOf}
 use Rattle.crs_value.specs.Checks.{OfEllipsoid, Own, IsSound}
@@ -15,7 +15,7 @@ use Rattle.crs_value.specs.Reads.{ReadsNumber, ReadsNumberAt, ReadsNumberOf, Rea
 use Rattle.crs_value.specs.Sound.{IsUnitOf}
 use Rattle.crs_value.specs.SoundFrames.{IsEllipsoid, IsMeridian, IsMember, IsDatum, IsEnsemble}
 use Rattle.crs_value.proofs.ArgumentLemmas.{SlotsCount, arguments-sound, not-none}
-use Rattle.crs_value.proofs.SoundLemmas.{Tells, first-tells, optional-tells, each-tells, text-of-tells, optional-text-tells, number-first, number-of-tells, ids-tell, above-not-not, length-tells, angle-tells}
+use Rattle.crs_value.proofs.SoundLemmas.{Tells, first-tells, optional-tells, each-tells, text-of-tells, optional-text-tells, number-first, number-of-tells, identifiers-tell, above-not-not, length-tells, angle-tells}
 
 -- ---- ellipsoids
 
@@ -57,7 +57,7 @@ ellipsoid-tells c same item value sound reads =
       unit =
           optional-tells (ReadsUnit class.LengthUnit) (IsUnitOf kinds.Length) class.LengthUnit length-tells (those c class.LengthUnit (arguments item)) value.unit
           (arguments-sound c class.LengthUnit item sound) reads.unit;
-      ids = ids-tell c item value.ids sound reads.ids;
+      identifiers = identifiers-tell c item value.identifiers sound reads.identifiers;
     }
 
 -- ---- prime meridians and members
@@ -69,13 +69,13 @@ meridian-tells c item value sound reads = record {
   unit =
       optional-tells (ReadsUnit class.AngleUnit) (IsUnitOf kinds.Angle) class.AngleUnit angle-tells (those c class.AngleUnit (arguments item)) value.unit
       (arguments-sound c class.AngleUnit item sound) reads.unit;
-  ids = ids-tell c item value.ids sound reads.ids;
+  identifiers = identifiers-tell c item value.identifiers sound reads.identifiers;
 }
 
 pub member-tells : (c : Class) → Tells c (ReadsMember c) IsMember
 member-tells c item value sound reads = record {
   name = text-of-tells c item value.name sound reads.name;
-  ids = ids-tell c item value.ids sound reads.ids;
+  identifiers = identifiers-tell c item value.identifiers sound reads.identifiers;
 }
 
 -- ---- frames
@@ -87,7 +87,7 @@ datum-tells c item value sound reads = record {
       optional-tells (ReadsEllipsoid class.Ellipsoid) IsEllipsoid class.Ellipsoid (ellipsoid-tells class.Ellipsoid refl) (those c class.Ellipsoid (arguments item)) value.ellipsoid
       (arguments-sound c class.Ellipsoid item sound) reads.ellipsoid;
   anchor = optional-text-tells c class.Anchor item value.anchor sound reads.anchor;
-  ids = ids-tell c item value.ids sound reads.ids;
+  identifiers = identifiers-tell c item value.identifiers sound reads.identifiers;
 }
 
 none-read : {V : Type 0} (R : Item → V → Type 0) (items : List Item) (values : List V) → ReadsEach R items values → values ≡ [] → items ≡ []
@@ -109,5 +109,5 @@ ensemble-tells law c enough item value sound reads = record {
   accuracy =
       first-tells (ReadsNumberOf class.EnsembleAccuracy) IsNormal class.EnsembleAccuracy (number-of-tells class.EnsembleAccuracy)
       (those c class.EnsembleAccuracy (arguments item)) value.accuracy (arguments-sound c class.EnsembleAccuracy item sound) reads.accuracy;
-  ids = ids-tell c item value.ids sound reads.ids;
+  identifiers = identifiers-tell c item value.identifiers sound reads.identifiers;
 }

@@ -16,8 +16,8 @@ use Rattle.crs_shape.specs.declared.class.Class.{Class}
 use Rattle.crs_shape.specs.declared.class.Class.TheVariants as class
 use Rattle.crs_shape.specs.Keywords.{is_keyword, keywords_of}
 use Rattle.crs_shape.specs.Shaped.{Shaped}
-use Rattle.crs_value.specs.declared.unit_kind.UnitKind.{UnitKind}
-use Rattle.crs_value.specs.declared.unit_kind.UnitKind.TheVariants as kinds
+use Rattle.crs_value.specs.declared.values.unit_kind.UnitKind.{UnitKind}
+use Rattle.crs_value.specs.declared.values.unit_kind.UnitKind.TheVariants as kinds
 use Rattle.crs_value.specs.BadValue.{IsAboveZero, NotAbove}
 use Rattle.crs_value.specs.Break.{at, AnyOf}
 use Rattle.crs_value.specs.Checks.{OfUnit, Own, IsSound}
@@ -208,9 +208,9 @@ ident-tells c item value sound reads =
       uri = optional-text-tells c class.Uri item value.uri sound reads.uri;
     }
 
-pub ids-tell : (c : Class) (item : Item) (ids : List IdentParts) → IsSound c item → ReadsIds c item ids → Each IsIdent ids
-ids-tell c item ids sound reads =
-    each-tells (ReadsIdent class.Identifier) IsIdent class.Identifier (ident-tells class.Identifier) (those c class.Identifier (arguments item)) ids (arguments-sound c class.Identifier item sound) reads
+pub identifiers-tell : (c : Class) (item : Item) (identifiers : List IdentParts) → IsSound c item → ReadsIds c item identifiers → Each IsIdent identifiers
+identifiers-tell c item identifiers sound reads =
+    each-tells (ReadsIdent class.Identifier) IsIdent class.Identifier (ident-tells class.Identifier) (those c class.Identifier (arguments item)) identifiers (arguments-sound c class.Identifier item sound) reads
 
 -- ---- units
 
@@ -245,7 +245,7 @@ unit-tells c is item value sound reads = record {
   name = text-of-tells c item value.name sound reads.name;
   factor = number-of-tells c item value.factor sound reads.factor;
   above_zero = factor-above c item value.factor is sound reads.factor;
-  ids = ids-tell c item value.ids sound reads.ids;
+  identifiers = identifiers-tell c item value.identifiers sound reads.identifiers;
 }
 
 -- no keyword of the class is that of this kind

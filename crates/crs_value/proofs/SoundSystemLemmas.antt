@@ -7,9 +7,9 @@ use Rattle.crs_text.specs.Items.{Item, leaf, node, arguments, raw_of}
 use Rattle.crs_text.specs.Refusal.{RefusedAt}
 use Rattle.crs_shape.specs.declared.class.Class.{Class}
 use Rattle.crs_shape.specs.declared.class.Class.TheVariants as class
-use Rattle.crs_value.specs.declared.system_type.SystemType.{SystemType}
-use Rattle.crs_value.specs.declared.unit_kind.UnitKind.{UnitKind}
-use Rattle.crs_value.specs.declared.unit_kind.UnitKind.TheVariants as kinds
+use Rattle.crs_value.specs.declared.values.system_type.SystemType.{SystemType}
+use Rattle.crs_value.specs.declared.values.unit_kind.UnitKind.{UnitKind}
+use Rattle.crs_value.specs.declared.values.unit_kind.UnitKind.TheVariants as kinds
 use Rattle.crs_value.specs.BadOrder.{IsPosition, orders_in, SomeHasOrder, AllHaveOrder, LacksOrder, OneHas, ReadsOrder, IsBadOrder, BadOrders, BadOrder}
 use Rattle.crs_value.specs.BadSystem.{HasType, IsOneOf, dimensions_of}
 use Rattle.crs_value.specs.BadUnit.{asked_kind, Asks, Fits, units_in, Misfits, BadOwnUnit, IsSuperfluous, HasOwnUnit, AllAsk, SharedFits, BadUnit}
@@ -23,7 +23,7 @@ use Rattle.crs_value.specs.Values.{UnitParts, AxisParts, SystemParts}
 use Rattle.crs_value.proofs.ArgumentLemmas.{AllSound, SlotsCount, arguments-sound, not-none}
 use Rattle.crs_value.proofs.DecideLemmas.{Either, stable, both-either, nil-either, same-either, one-of-either, position-either, kind-either, suits-either, each-either, some-kind}
 use Rattle.crs_value.proofs.SoundAxisLemmas.{axis-tells}
-use Rattle.crs_value.proofs.SoundLemmas.{Tells, optional-tells, each-tells, number-of-tells, ids-tell, axis-unit-tells}
+use Rattle.crs_value.proofs.SoundLemmas.{Tells, optional-tells, each-tells, number-of-tells, identifiers-tell, axis-unit-tells}
 use Rattle.crs_value.proofs.UnitLemmas.{asks-one}
 use Rattle.crs_value.proofs.WordLemmas.{kind_one}
 
@@ -284,9 +284,9 @@ head-number : (systems : List Item) (parts : SystemParts) → AllSound class.Coo
 head-number [] parts sound reads = absurd reads
 head-number (cs ∷ more) parts sound reads = number-of-tells class.CoordinateSystem cs parts.dimension sound.0 reads.dimension
 
-head-ids : (systems : List Item) (parts : SystemParts) → AllSound class.CoordinateSystem systems → ReadsFirst ReadsHead systems parts → Each IsIdent parts.ids
-head-ids [] parts sound reads = absurd reads
-head-ids (cs ∷ more) parts sound reads = ids-tell class.CoordinateSystem cs parts.ids sound.0 reads.ids
+head-identifiers : (systems : List Item) (parts : SystemParts) → AllSound class.CoordinateSystem systems → ReadsFirst ReadsHead systems parts → Each IsIdent parts.identifiers
+head-identifiers [] parts sound reads = absurd reads
+head-identifiers (cs ∷ more) parts sound reads = identifiers-tell class.CoordinateSystem cs parts.identifiers sound.0 reads.identifiers
 
 no-axis : (axes : List Item) (values : List AxisParts) → ReadAxes axes values → values ≡ [] → axes ≡ []
 no-axis [] values reads e = refl
@@ -303,7 +303,7 @@ system-tells law c is enough item parts sound reads =
     let P : ℕ → Type 0 = λ n. SameNumber (exact parts.dimension) (whole_number n) in
     record {
       dimension = head-number systems parts heads reads.head;
-      ids = head-ids systems parts heads reads.head;
+      identifiers = head-identifiers systems parts heads reads.head;
       some = λ none. not-none law c class.Axis item sound.shaped enough (no-axis axes parts.axes reads.axes none);
       axes = each-tells (ReadsAxis class.Axis) IsAxis class.Axis (axis-tells class.Axis) axes parts.axes (arguments-sound c class.Axis item sound) reads.axes;
       count =

@@ -10,7 +10,7 @@ use Rattle.crs_shape.specs.Counts.{one_if, how_many, most, is_bounded}
 use Rattle.crs_shape.specs.Shape.{Allowed}
 use Rattle.crs_shape.specs.Shaped.{Shaped}
 use Rattle.crs_shape.specs.Slots.{SlotParts, slots_of}
-use Rattle.crs_value.specs.declared.unit_kind.UnitKind.TheVariants as kinds
+use Rattle.crs_value.specs.declared.values.unit_kind.UnitKind.TheVariants as kinds
 use Rattle.crs_value.specs.Reading.{is_same, those, ReadsOptional}
 use Rattle.crs_shape.specs.Slots.{is_class}
 use Rattle.crs_value.specs.Reads.{ReadsTextOf, ReadsUnit, LacksUsage, ReadsBare, ReadsBox, ReadsExtent, ReadsUsage, ReadsTail}
@@ -19,7 +19,7 @@ use Rattle.crs_value.specs.Checks.{IsSound}
 use Rattle.crs_value.specs.SoundUsages.{IsBox, IsExtent, IsUsage, IsTail}
 use Rattle.crs_value.specs.Values.{UsageParts, SaysSome}
 use Rattle.crs_value.proofs.ArgumentLemmas.{SlotsBound, arguments-few, arguments-sound, nothing, those-first, those-many}
-use Rattle.crs_value.proofs.SoundLemmas.{Tells, tells-as, optional-tells, each-tells, optional-text-tells, number-first, ids-tell, length-tells}
+use Rattle.crs_value.proofs.SoundLemmas.{Tells, tells-as, optional-tells, each-tells, optional-text-tells, number-first, identifiers-tell, length-tells}
 
 pub box-tells : (c : Class) → Tells c (ReadsBox c) IsBox
 box-tells c item value sound reads =
@@ -136,7 +136,7 @@ tail-tells law c item value sound reads =
     let all = arguments-sound c class.Usage item sound in
     record {
       usages = each-tells (ReadsUsage class.Usage) IsUsage class.Usage (node-tells law class.Usage refl) usages value.usages all reads.usages;
-      bare = bare-tells c item value.bare sound reads.bare;
-      ids = ids-tell c item value.ids sound reads.ids;
+      bare_parts = bare-tells c item value.bare_parts sound reads.bare_parts;
+      identifiers = identifiers-tell c item value.identifiers sound reads.identifiers;
       remark = optional-text-tells c class.Remark item value.remark sound reads.remark;
     }

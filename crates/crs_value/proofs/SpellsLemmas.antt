@@ -7,7 +7,7 @@ use Rattle.crs_shape.specs.declared.class.Class.{Class}
 use Rattle.crs_shape.specs.Keywords.{is_keyword, first_named, root_classes, root_named}
 use Rattle.crs_shape.specs.Shaped.{Shaped}
 use Rattle.crs_shape.specs.ShapeFault.{IsFree, Inside, AtRoot, class_of_root}
-use Rattle.crs_value.specs.declared.crs.Crs.{Crs}
+use Rattle.crs_value.specs.declared.values.crs.Crs.{Crs}
 use Rattle.crs_value.specs.Break.{IsLeast}
 use Rattle.crs_value.specs.Checks.{Breaks, IsSound}
 use Rattle.crs_value.specs.Found.{IsAmong}

@@ -6,7 +6,7 @@ use Rattle.crs_text.specs.Items.{Item, Siblings, End, More, count, arguments}
 use Rattle.crs_text.specs.Refusal.{RefusedAt}
 use Rattle.crs_shape.specs.declared.class.Class.{Class}
 use Rattle.crs_shape.specs.declared.class.Class.TheVariants as class
-use Rattle.crs_value.specs.declared.system_type.SystemType.{SystemType}
+use Rattle.crs_value.specs.declared.values.system_type.SystemType.{SystemType}
 use Rattle.crs_value.specs.AxisCount.{AxisCount}
 use Rattle.crs_value.specs.BadSystem.{HasType, HasDimension, IsOneOf, BadSystem}
 use Rattle.crs_value.specs.Break.{at, IsLeast}

@@ -4,7 +4,7 @@ use Rattle.crs_text.specs.Items.{Item}
 use Rattle.crs_text.specs.Refusal.{RefusedAt}
 use Rattle.crs_text.specs.TextFault.{SpellsNode, RefusesText}
 use Rattle.crs_shape.specs.ShapeFault.{AtRoot}
-use Rattle.crs_value.specs.declared.crs.Crs.{Crs}
+use Rattle.crs_value.specs.declared.values.crs.Crs.{Crs}
 use Rattle.crs_value.specs.Spells.{SpellsCrs, RefusesCrs}
 use Rattle.crs_value.specs.SpellsText.{Spells, Refuses}
 use Rattle.crs_value.proofs.CheckLemmas.{DenotesOne}

@@ -4,8 +4,8 @@ use Rattle.crs_text.specs.Items.{Item, arguments, raw_of, rest_of, here}
 use Rattle.crs_text.specs.Refusal.{RefusedAt}
 use Rattle.crs_shape.specs.declared.class.Class.{Class}
 use Rattle.crs_shape.specs.declared.class.Class.TheVariants as class
-use Rattle.crs_value.specs.declared.unit_kind.UnitKind.{UnitKind}
-use Rattle.crs_value.specs.declared.unit_kind.UnitKind.TheVariants as kinds
+use Rattle.crs_value.specs.declared.values.unit_kind.UnitKind.{UnitKind}
+use Rattle.crs_value.specs.declared.values.unit_kind.UnitKind.TheVariants as kinds
 use Rattle.crs_value.specs.BadUnit.{asked_kind, Asks, Fits, units_in, Misfits, BadOwnUnit, HasOwnUnit, BadShared, BadUnit, AllAsk}
 use Rattle.crs_value.specs.Break.{at, AnyOf, IsLeast}
 use Rattle.crs_value.specs.Found.{from_found, AllShaped}

@@ -2,7 +2,7 @@
 use Rattle.std.specs.Prelude.{ℕ, List}
 use Rattle.crs_value.specs.CrsValues.{VerticalParts}
 use Rattle.crs_value.specs.Values.{TailParts}
-use Rattle.crs_value.specs.declared.compound.Horizontal.{Horizontal}
+use Rattle.crs_value.specs.declared.values.compound.Horizontal.{Horizontal}
 
 -- a compound CRS
 pub record CompoundParts : Type 0 where

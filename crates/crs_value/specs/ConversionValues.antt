@@ -6,23 +6,23 @@ use Rattle.crs_value.specs.Values.{IdentParts, UnitParts}
 -- the method of a conversion
 pub record MethodParts : Type 0 where
   pub name : List ℕ
-  pub ids : List IdentParts
+  pub identifiers : List IdentParts
 
 -- a parameter of a conversion: its number, and the unit of that, if one is written
 pub record ParameterParts : Type 0 where
   pub name : List ℕ
   pub value : Value
   pub unit : Option UnitParts
-  pub ids : List IdentParts
+  pub identifiers : List IdentParts
 
 -- a conversion: how projected coordinates come from those of the base CRS
 pub record ConversionParts : Type 0 where
   pub name : List ℕ
   pub method : MethodParts
   pub parameters : List ParameterParts
-  pub ids : List IdentParts
+  pub identifiers : List IdentParts
 
 -- a geoid model
 pub record GeoidModelParts : Type 0 where
   pub name : List ℕ
-  pub ids : List IdentParts
+  pub identifiers : List IdentParts

@@ -2,7 +2,7 @@
 use Rattle.std.specs.Prelude.{ℕ, List, Option}
 use Rattle.crs_value.specs.ConversionValues.{ConversionParts, GeoidModelParts}
 use Rattle.crs_value.specs.Values.{IdentParts, UnitParts, MeridianParts, SystemParts, TailParts}
-use Rattle.crs_value.specs.declared.frame.Frame.{Frame}
+use Rattle.crs_value.specs.declared.values.frame.Frame.{Frame}
 
 -- a geodetic or geographic CRS
 pub record GeodeticParts : Type 0 where
@@ -18,7 +18,7 @@ pub record BaseParts : Type 0 where
   pub frame : Frame
   pub meridian : Option MeridianParts
   pub unit : Option UnitParts
-  pub ids : List IdentParts
+  pub identifiers : List IdentParts
 
 -- a projected CRS
 pub record ProjectedParts : Type 0 where

@@ -11,6 +11,8 @@ pub mod ConversionValues
 pub mod CrsValues
 pub mod FirstByte
 pub mod Found
+pub mod Kept
+pub mod KeptLaws
 pub mod Least
 pub mod Noted
 pub mod Reading

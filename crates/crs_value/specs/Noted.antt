@@ -3,7 +3,7 @@ use Rattle.std.specs.Prelude.{◌≡◌, ℕ, length, Bool, true, false, Option,
 use Rattle.crs_text.specs.Items.{Item, Siblings}
 use Rattle.crs_shape.specs.declared.class.Class.{Class}
 use Rattle.crs_shape.specs.declared.class.Class.TheVariants as class
-use Rattle.crs_value.specs.declared.firsts.Firsts.{Firsts}
+use Rattle.crs_value.specs.declared.reading.firsts.Firsts.{Firsts}
 use Rattle.crs_value.specs.Reading.{those, IsFound}
 
 -- the first one of a class, with one argument more, which is of the class or not

@@ -7,9 +7,9 @@ use Rattle.crs_text.specs.declared.items.ItemKind.{ItemKind}
 use Rattle.crs_text.specs.declared.items.ItemKind.TheVariants as kinds
 use Rattle.crs_shape.specs.declared.class.Class.{Class}
 use Rattle.crs_shape.specs.declared.class.Class.TheVariants as class
-use Rattle.crs_value.specs.declared.direction.Direction.{Direction}
-use Rattle.crs_value.specs.declared.system_type.SystemType.{SystemType}
-use Rattle.crs_value.specs.declared.unit_kind.UnitKind.{UnitKind}
+use Rattle.crs_value.specs.declared.values.direction.Direction.{Direction}
+use Rattle.crs_value.specs.declared.values.system_type.SystemType.{SystemType}
+use Rattle.crs_value.specs.declared.values.unit_kind.UnitKind.{UnitKind}
 use Rattle.crs_value.specs.Reading.{those, ReadsFirst, ReadsOptional, ReadsEach}
 use Rattle.crs_value.specs.Values.{IdentParts, UnitParts, AxisMeridianParts, AxisParts, SystemParts, EllipsoidParts}
 use Rattle.crs_value.specs.Values.{MeridianParts, MemberParts, DatumParts, EnsembleParts, BoxParts, ExtentParts}
@@ -73,7 +73,7 @@ pub record ReadsIdent (c : Class) (item : Item) (parts : IdentParts) : Type 0 wh
 
 -- the identifiers of a node
 abbrev pub ReadsIds : Class → Item → List IdentParts → Type 0
-ReadsIds c item ids = ReadsEach (ReadsIdent class.Identifier) (those c class.Identifier (arguments item)) ids
+ReadsIds c item identifiers = ReadsEach (ReadsIdent class.Identifier) (those c class.Identifier (arguments item)) identifiers
 
 -- the classes of units
 abbrev pub IsUnitClass : Class → Type 0
@@ -88,7 +88,7 @@ pub record ReadsUnit (c : Class) (item : Item) (parts : UnitParts) : Type 0 wher
   pub kind : ReadsKind item parts.kind
   pub name : ReadsTextOf c item parts.name
   pub factor : ReadsNumberOf c item parts.factor
-  pub ids : ReadsIds c item parts.ids
+  pub identifiers : ReadsIds c item parts.identifiers
 
 pub record ReadsAxisMeridian (c : Class) (item : Item) (parts : AxisMeridianParts) : Type 0 where
   pub longitude : ReadsNumberOf c item parts.longitude
@@ -101,13 +101,13 @@ pub record ReadsAxis (c : Class) (item : Item) (parts : AxisParts) : Type 0 wher
       (those c class.Meridian (arguments item)) parts.meridian
   pub order : ReadsOptional (ReadsNumberOf class.Order) (those c class.Order (arguments item)) parts.order
   pub unit : ReadsOptional (ReadsUnit class.AxisUnit) (those c class.AxisUnit (arguments item)) parts.unit
-  pub ids : ReadsIds c item parts.ids
+  pub identifiers : ReadsIds c item parts.identifiers
 
 -- what a node `CS` says of a system
 pub record ReadsHead (item : Item) (parts : SystemParts) : Type 0 where
   pub system_type : ReadsFirst ReadsType (those class.CoordinateSystem class.Word (arguments item)) parts.system_type
   pub dimension : ReadsNumberOf class.CoordinateSystem item parts.dimension
-  pub ids : ReadsIds class.CoordinateSystem item parts.ids
+  pub identifiers : ReadsIds class.CoordinateSystem item parts.identifiers
 
 -- the system of a CRS: its node `CS`, and the axes and the shared unit beside that
 pub record ReadsSystem (c : Class) (item : Item) (parts : SystemParts) : Type 0 where
@@ -120,17 +120,17 @@ pub record ReadsEllipsoid (c : Class) (item : Item) (parts : EllipsoidParts) : T
   pub semi_major_axis : ReadsNumberAt 0 c item parts.semi_major_axis
   pub inverse_flattening : ReadsNumberAt 1 c item parts.inverse_flattening
   pub unit : ReadsOptional (ReadsUnit class.LengthUnit) (those c class.LengthUnit (arguments item)) parts.unit
-  pub ids : ReadsIds c item parts.ids
+  pub identifiers : ReadsIds c item parts.identifiers
 
 pub record ReadsMeridian (c : Class) (item : Item) (parts : MeridianParts) : Type 0 where
   pub name : ReadsTextOf c item parts.name
   pub longitude : ReadsNumberOf c item parts.longitude
   pub unit : ReadsOptional (ReadsUnit class.AngleUnit) (those c class.AngleUnit (arguments item)) parts.unit
-  pub ids : ReadsIds c item parts.ids
+  pub identifiers : ReadsIds c item parts.identifiers
 
 pub record ReadsMember (c : Class) (item : Item) (parts : MemberParts) : Type 0 where
   pub name : ReadsTextOf c item parts.name
-  pub ids : ReadsIds c item parts.ids
+  pub identifiers : ReadsIds c item parts.identifiers
 
 -- a frame's anchor is its first; a second is a repeated part
 pub record ReadsDatum (c : Class) (item : Item) (parts : DatumParts) : Type 0 where
@@ -138,7 +138,7 @@ pub record ReadsDatum (c : Class) (item : Item) (parts : DatumParts) : Type 0 wh
   pub ellipsoid : ReadsOptional (ReadsEllipsoid class.Ellipsoid)
       (those c class.Ellipsoid (arguments item)) parts.ellipsoid
   pub anchor : ReadsOptional (ReadsTextOf class.Anchor) (those c class.Anchor (arguments item)) parts.anchor
-  pub ids : ReadsIds c item parts.ids
+  pub identifiers : ReadsIds c item parts.identifiers
 
 pub record ReadsEnsemble (c : Class) (item : Item) (parts : EnsembleParts) : Type 0 where
   pub name : ReadsTextOf c item parts.name
@@ -147,7 +147,7 @@ pub record ReadsEnsemble (c : Class) (item : Item) (parts : EnsembleParts) : Typ
       (those c class.Ellipsoid (arguments item)) parts.ellipsoid
   pub accuracy : ReadsFirst (ReadsNumberOf class.EnsembleAccuracy)
       (those c class.EnsembleAccuracy (arguments item)) parts.accuracy
-  pub ids : ReadsIds c item parts.ids
+  pub identifiers : ReadsIds c item parts.identifiers
 
 pub record ReadsBox (c : Class) (item : Item) (parts : BoxParts) : Type 0 where
   pub south : ReadsNumberAt 0 c item parts.south
@@ -183,6 +183,6 @@ ReadsBare c item (Some parts) = ReadsUsage c item parts × SaysSome parts
 -- the end of a CRS
 pub record ReadsTail (c : Class) (item : Item) (parts : TailParts) : Type 0 where
   pub usages : ReadsEach (ReadsUsage class.Usage) (those c class.Usage (arguments item)) parts.usages
-  pub bare : ReadsBare c item parts.bare
-  pub ids : ReadsIds c item parts.ids
+  pub bare_parts : ReadsBare c item parts.bare_parts
+  pub identifiers : ReadsIds c item parts.identifiers
   pub remark : ReadsOptional (ReadsTextOf class.Remark) (those c class.Remark (arguments item)) parts.remark

@@ -10,7 +10,7 @@ use Rattle.crs_value.specs.Values.{UnitParts}
 
 pub record ReadsMethod (c : Class) (item : Item) (parts : MethodParts) : Type 0 where
   pub name : ReadsTextOf c item parts.name
-  pub ids : ReadsIds c item parts.ids
+  pub identifiers : ReadsIds c item parts.identifiers
 
 -- the classes of a parameter's unit; in a parameter the keyword `UNIT` names the plain one alone
 abbrev pub parameter_units : List Class
@@ -31,15 +31,15 @@ pub record ReadsParameter (c : Class) (item : Item) (parts : ParameterParts) : T
   pub name : ReadsTextOf c item parts.name
   pub value : ReadsNumberOf c item parts.value
   pub unit : ReadsUnitOf parameter_units c item parts.unit
-  pub ids : ReadsIds c item parts.ids
+  pub identifiers : ReadsIds c item parts.identifiers
 
 pub record ReadsConversion (c : Class) (item : Item) (parts : ConversionParts) : Type 0 where
   pub name : ReadsTextOf c item parts.name
   pub method : ReadsFirst (ReadsMethod class.Method) (those c class.Method (arguments item)) parts.method
   pub parameters : ReadsEach (ReadsParameter class.Parameter)
       (those c class.Parameter (arguments item)) parts.parameters
-  pub ids : ReadsIds c item parts.ids
+  pub identifiers : ReadsIds c item parts.identifiers
 
 pub record ReadsGeoidModel (c : Class) (item : Item) (parts : GeoidModelParts) : Type 0 where
   pub name : ReadsTextOf c item parts.name
-  pub ids : ReadsIds c item parts.ids
+  pub identifiers : ReadsIds c item parts.identifiers

@@ -3,16 +3,16 @@ use Rattle.std.specs.Prelude.{◌≡◌}
 use Rattle.crs_text.specs.Items.{Item, arguments}
 use Rattle.crs_shape.specs.declared.class.Class.{Class}
 use Rattle.crs_shape.specs.declared.class.Class.TheVariants as class
-use Rattle.crs_value.specs.declared.compound.Horizontal.{Horizontal}
-use Rattle.crs_value.specs.declared.compound.Horizontal.TheVariants as horizontal
-use Rattle.crs_value.specs.declared.crs.Crs.{Crs}
-use Rattle.crs_value.specs.declared.crs.Crs.TheVariants as crs
-use Rattle.crs_value.specs.declared.crs.Kind.{Kind}
-use Rattle.crs_value.specs.declared.crs.Kind.TheVariants as kind
-use Rattle.crs_value.specs.declared.frame.Frame.{Frame}
-use Rattle.crs_value.specs.declared.frame.Frame.TheVariants as frame
-use Rattle.crs_value.specs.declared.system_type.SystemType.{SystemType}
-use Rattle.crs_value.specs.declared.system_type.SystemType.TheVariants as types
+use Rattle.crs_value.specs.declared.values.compound.Horizontal.{Horizontal}
+use Rattle.crs_value.specs.declared.values.compound.Horizontal.TheVariants as horizontal
+use Rattle.crs_value.specs.declared.values.crs.Crs.{Crs}
+use Rattle.crs_value.specs.declared.values.crs.Crs.TheVariants as crs
+use Rattle.crs_value.specs.declared.values.crs.Kind.{Kind}
+use Rattle.crs_value.specs.declared.values.crs.Kind.TheVariants as kind
+use Rattle.crs_value.specs.declared.values.frame.Frame.{Frame}
+use Rattle.crs_value.specs.declared.values.frame.Frame.TheVariants as frame
+use Rattle.crs_value.specs.declared.values.system_type.SystemType.{SystemType}
+use Rattle.crs_value.specs.declared.values.system_type.SystemType.TheVariants as types
 use Rattle.crs_value.specs.CompoundValues.{CompoundParts}
 use Rattle.crs_value.specs.CrsValues.{GeodeticParts, BaseParts, ProjectedParts, VerticalParts}
 use Rattle.crs_value.specs.Reading.{those, ReadsFirst, ReadsOptional, ReadsEach, ReadsElse}
@@ -62,7 +62,7 @@ pub record ReadsBase (c : Class) (item : Item) (parts : BaseParts) : Type 0 wher
   pub meridian : ReadsOptional (ReadsMeridian class.PrimeMeridian)
       (those c class.PrimeMeridian (arguments item)) parts.meridian
   pub unit : ReadsOptional (ReadsUnit class.AngleUnit) (those c class.AngleUnit (arguments item)) parts.unit
-  pub ids : ReadsIds c item parts.ids
+  pub identifiers : ReadsIds c item parts.identifiers
 
 pub record ReadsProjected (c : Class) (item : Item) (parts : ProjectedParts) : Type 0 where
   pub name : ReadsTextOf c item parts.name

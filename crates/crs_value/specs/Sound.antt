@@ -3,8 +3,8 @@
 use Rattle.std.specs.Prelude.{◌≡◌, ◌≢◌, ℕ, List, [], ◌∷◌, ◌⊎◌, IsUtf8, IfSome}
 use Rattle.crs_decimal.specs.Value.{IsNormal}
 use Rattle.crs_text.specs.Quoted.{IsInside}
-use Rattle.crs_value.specs.declared.unit_kind.UnitKind.{UnitKind}
-use Rattle.crs_value.specs.declared.unit_kind.UnitKind.TheVariants as kinds
+use Rattle.crs_value.specs.declared.values.unit_kind.UnitKind.{UnitKind}
+use Rattle.crs_value.specs.declared.values.unit_kind.UnitKind.TheVariants as kinds
 use Rattle.crs_value.specs.BadValue.{IsAboveZero}
 use Rattle.crs_value.specs.Values.{IdentParts, UnitParts, AxisMeridianParts, AxisParts}
 
@@ -32,7 +32,7 @@ pub record IsUnit (unit : UnitParts) : Type 0 where
   pub name : IsText unit.name
   pub factor : IsNormal unit.factor
   pub above_zero : IsAboveZero unit.factor
-  pub ids : Each IsIdent unit.ids
+  pub identifiers : Each IsIdent unit.identifiers
 
 -- the kind of a unit where this kind is asked: `UNIT` is of that
 abbrev pub kind_as : UnitKind → UnitKind → UnitKind
@@ -64,4 +64,4 @@ pub record IsAxis (axis : AxisParts) : Type 0 where
   pub meridian : IfSome axis.meridian IsAxisMeridian
   pub order : IfSome axis.order IsNormal
   pub unit : IfSome axis.unit IsAxisUnit
-  pub ids : Each IsIdent axis.ids
+  pub identifiers : Each IsIdent axis.identifiers

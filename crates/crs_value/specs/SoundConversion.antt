@@ -6,21 +6,21 @@ use Rattle.crs_value.specs.Sound.{Each, IsText, IsIdent, IsUnit}
 
 pub record IsMethod (method : MethodParts) : Type 0 where
   pub name : IsText method.name
-  pub ids : Each IsIdent method.ids
+  pub identifiers : Each IsIdent method.identifiers
 
 -- a parameter's unit may be of each kind
 pub record IsParameter (parameter : ParameterParts) : Type 0 where
   pub name : IsText parameter.name
   pub value : IsNormal parameter.value
   pub unit : IfSome parameter.unit IsUnit
-  pub ids : Each IsIdent parameter.ids
+  pub identifiers : Each IsIdent parameter.identifiers
 
 pub record IsConversion (conversion : ConversionParts) : Type 0 where
   pub name : IsText conversion.name
   pub method : IsMethod conversion.method
   pub parameters : Each IsParameter conversion.parameters
-  pub ids : Each IsIdent conversion.ids
+  pub identifiers : Each IsIdent conversion.identifiers
 
 pub record IsGeoidModel (model : GeoidModelParts) : Type 0 where
   pub name : IsText model.name
-  pub ids : Each IsIdent model.ids
+  pub identifiers : Each IsIdent model.identifiers

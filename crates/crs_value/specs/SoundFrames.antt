@@ -1,7 +1,7 @@
 -- What is asked of ellipsoids, prime meridians, reference frames and ensembles by themselves.
 use Rattle.std.specs.Prelude.{◌≡◌, ◌≢◌, false, [], IfSome}
 use Rattle.crs_decimal.specs.Value.{IsNormal}
-use Rattle.crs_value.specs.declared.unit_kind.UnitKind.TheVariants as kinds
+use Rattle.crs_value.specs.declared.values.unit_kind.UnitKind.TheVariants as kinds
 use Rattle.crs_value.specs.BadValue.{IsAboveZero}
 use Rattle.crs_value.specs.Sound.{Each, IsText, IsIdent, IsUnitOf}
 use Rattle.crs_value.specs.Values.{EllipsoidParts, MeridianParts, MemberParts, DatumParts, EnsembleParts}
@@ -14,23 +14,23 @@ pub record IsEllipsoid (ellipsoid : EllipsoidParts) : Type 0 where
   pub inverse_flattening : IsNormal ellipsoid.inverse_flattening
   pub not_negative : ellipsoid.inverse_flattening.negative ≡ false
   pub unit : IfSome ellipsoid.unit (IsUnitOf kinds.Length)
-  pub ids : Each IsIdent ellipsoid.ids
+  pub identifiers : Each IsIdent ellipsoid.identifiers
 
 pub record IsMeridian (meridian : MeridianParts) : Type 0 where
   pub name : IsText meridian.name
   pub longitude : IsNormal meridian.longitude
   pub unit : IfSome meridian.unit (IsUnitOf kinds.Angle)
-  pub ids : Each IsIdent meridian.ids
+  pub identifiers : Each IsIdent meridian.identifiers
 
 pub record IsMember (member : MemberParts) : Type 0 where
   pub name : IsText member.name
-  pub ids : Each IsIdent member.ids
+  pub identifiers : Each IsIdent member.identifiers
 
 pub record IsDatum (datum : DatumParts) : Type 0 where
   pub name : IsText datum.name
   pub ellipsoid : IfSome datum.ellipsoid IsEllipsoid
   pub anchor : IfSome datum.anchor IsText
-  pub ids : Each IsIdent datum.ids
+  pub identifiers : Each IsIdent datum.identifiers
 
 -- a datum ensemble has at least one member
 pub record IsEnsemble (ensemble : EnsembleParts) : Type 0 where
@@ -39,4 +39,4 @@ pub record IsEnsemble (ensemble : EnsembleParts) : Type 0 where
   pub members : Each IsMember ensemble.members
   pub ellipsoid : IfSome ensemble.ellipsoid IsEllipsoid
   pub accuracy : IsNormal ensemble.accuracy
-  pub ids : Each IsIdent ensemble.ids
+  pub identifiers : Each IsIdent ensemble.identifiers

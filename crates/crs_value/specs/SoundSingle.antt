@@ -1,8 +1,8 @@
 -- What is asked of geodetic, projected and vertical CRSs, and of base CRSs, by themselves.
 use Rattle.std.specs.Prelude.{IfSome, IsSome, IsNone}
-use Rattle.crs_value.specs.declared.frame.Frame.{Frame}
-use Rattle.crs_value.specs.declared.frame.Frame.TheVariants as frame
-use Rattle.crs_value.specs.declared.unit_kind.UnitKind.TheVariants as kinds
+use Rattle.crs_value.specs.declared.values.frame.Frame.{Frame}
+use Rattle.crs_value.specs.declared.values.frame.Frame.TheVariants as frame
+use Rattle.crs_value.specs.declared.values.unit_kind.UnitKind.TheVariants as kinds
 use Rattle.crs_value.specs.BadSystem.{IsOneOf, geodetic_dimensions, projected_dimensions, vertical_dimensions}
 use Rattle.crs_value.specs.CrsValues.{GeodeticParts, BaseParts, ProjectedParts, VerticalParts}
 use Rattle.crs_value.specs.Sound.{Each, IsText, IsIdent, IsUnitOf}
@@ -35,7 +35,7 @@ pub record IsBase (base : BaseParts) : Type 0 where
   pub frame : IsGeodeticFrame base.frame
   pub meridian : IfSome base.meridian IsMeridian
   pub unit : IfSome base.unit (IsUnitOf kinds.Angle)
-  pub ids : Each IsIdent base.ids
+  pub identifiers : Each IsIdent base.identifiers
 
 -- likewise of a projected CRS
 pub record IsProjected (projected : ProjectedParts) : Type 0 where

@@ -3,8 +3,8 @@
 use Rattle.std.specs.Prelude.{◌≡◌, ◌≢◌, Option, Some, None, List, [], ◌∷◌, ◌⊎◌, length, map, IfSome, IsSomeAnd}
 use Rattle.crs_decimal.specs.Number.{SameNumber, whole_number}
 use Rattle.crs_decimal.specs.Value.{Value, IsNormal, exact}
-use Rattle.crs_value.specs.declared.system_type.SystemType.{SystemType}
-use Rattle.crs_value.specs.declared.unit_kind.UnitKind.{UnitKind}
+use Rattle.crs_value.specs.declared.values.system_type.SystemType.{SystemType}
+use Rattle.crs_value.specs.declared.values.unit_kind.UnitKind.{UnitKind}
 use Rattle.crs_value.specs.BadOrder.{IsPosition}
 use Rattle.crs_value.specs.BadUnit.{asked_kind}
 use Rattle.crs_value.specs.Sound.{Each, IsIdent, Suits, IsAxisUnit, IsAxis}
@@ -53,7 +53,7 @@ HasUnits system_type axes (Some shared) = Each (λ axis. axis.unit ≡ None) axe
 -- it has an axis, and as many as its dimension says
 pub record IsSystem (system : SystemParts) : Type 0 where
   pub dimension : IsNormal system.dimension
-  pub ids : Each IsIdent system.ids
+  pub identifiers : Each IsIdent system.identifiers
   pub some : system.axes ≢ []
   pub axes : Each IsAxis system.axes
   pub count : SameNumber (exact system.dimension) (whole_number (length system.axes))

@@ -1,7 +1,7 @@
 -- What is asked of usages and of a CRS's end by themselves.
 use Rattle.std.specs.Prelude.{IfSome}
 use Rattle.crs_decimal.specs.Value.{IsNormal}
-use Rattle.crs_value.specs.declared.unit_kind.UnitKind.TheVariants as kinds
+use Rattle.crs_value.specs.declared.values.unit_kind.UnitKind.TheVariants as kinds
 use Rattle.crs_value.specs.Sound.{Each, IsText, IsIdent, IsUnitOf}
 use Rattle.crs_value.specs.Values.{BoxParts, ExtentParts, UsageParts, SaysSome, TailParts}
 
@@ -25,6 +25,6 @@ pub record IsUsage (usage : UsageParts) : Type 0 where
 
 pub record IsTail (tail : TailParts) : Type 0 where
   pub usages : Each IsUsage tail.usages
-  pub bare : IfSome tail.bare IsUsage
-  pub ids : Each IsIdent tail.ids
+  pub bare_parts : IfSome tail.bare_parts IsUsage
+  pub identifiers : Each IsIdent tail.identifiers
   pub remark : IfSome tail.remark IsText

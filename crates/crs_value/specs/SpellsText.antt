@@ -5,7 +5,7 @@ use Rattle.crs_text.specs.Refusal.{RefusedAt}
 use Rattle.crs_text.specs.TextFault.{SpellsNode, RefusesText}
 use Rattle.crs_text.specs.declared.fault.Fault.{Fault}
 use Rattle.crs_text.specs.declared.fault.Fault.TheVariants as faults
-use Rattle.crs_value.specs.declared.crs.Crs.{Crs}
+use Rattle.crs_value.specs.declared.values.crs.Crs.{Crs}
 use Rattle.crs_value.specs.Spells.{SpellsCrs, RefusesCrs}
 
 -- the text is a node that spells this value

@@ -3,9 +3,9 @@
 -- quoted or not.
 use Rattle.std.specs.Prelude.{◌⊎◌, ℕ, List, Option, IsSome}
 use Rattle.crs_decimal.specs.Value.{Value}
-use Rattle.crs_value.specs.declared.direction.Direction.{Direction}
-use Rattle.crs_value.specs.declared.system_type.SystemType.{SystemType}
-use Rattle.crs_value.specs.declared.unit_kind.UnitKind.{UnitKind}
+use Rattle.crs_value.specs.declared.values.direction.Direction.{Direction}
+use Rattle.crs_value.specs.declared.values.system_type.SystemType.{SystemType}
+use Rattle.crs_value.specs.declared.values.unit_kind.UnitKind.{UnitKind}
 
 -- an identifier
 pub record IdentParts : Type 0 where
@@ -20,7 +20,7 @@ pub record UnitParts : Type 0 where
   pub kind : UnitKind
   pub name : List ℕ
   pub factor : Value
-  pub ids : List IdentParts
+  pub identifiers : List IdentParts
 
 -- the meridian that an axis at a pole goes along
 pub record AxisMeridianParts : Type 0 where
@@ -34,13 +34,13 @@ pub record AxisParts : Type 0 where
   pub meridian : Option AxisMeridianParts
   pub order : Option Value
   pub unit : Option UnitParts
-  pub ids : List IdentParts
+  pub identifiers : List IdentParts
 
 -- a coordinate system: its axes as they are written, and the unit that they share, if they share one
 pub record SystemParts : Type 0 where
   pub system_type : SystemType
   pub dimension : Value
-  pub ids : List IdentParts
+  pub identifiers : List IdentParts
   pub axes : List AxisParts
   pub unit : Option UnitParts
 
@@ -50,26 +50,26 @@ pub record EllipsoidParts : Type 0 where
   pub semi_major_axis : Value
   pub inverse_flattening : Value
   pub unit : Option UnitParts
-  pub ids : List IdentParts
+  pub identifiers : List IdentParts
 
 -- a prime meridian
 pub record MeridianParts : Type 0 where
   pub name : List ℕ
   pub longitude : Value
   pub unit : Option UnitParts
-  pub ids : List IdentParts
+  pub identifiers : List IdentParts
 
 -- a member of a datum ensemble
 pub record MemberParts : Type 0 where
   pub name : List ℕ
-  pub ids : List IdentParts
+  pub identifiers : List IdentParts
 
 -- a reference frame, with its ellipsoid if it is geodetic
 pub record DatumParts : Type 0 where
   pub name : List ℕ
   pub ellipsoid : Option EllipsoidParts
   pub anchor : Option (List ℕ)
-  pub ids : List IdentParts
+  pub identifiers : List IdentParts
 
 -- a datum ensemble, with its ellipsoid if it is geodetic
 pub record EnsembleParts : Type 0 where
@@ -77,7 +77,7 @@ pub record EnsembleParts : Type 0 where
   pub members : List MemberParts
   pub ellipsoid : Option EllipsoidParts
   pub accuracy : Value
-  pub ids : List IdentParts
+  pub identifiers : List IdentParts
 
 -- a box of latitudes and longitudes
 pub record BoxParts : Type 0 where
@@ -106,6 +106,6 @@ SaysSome usage = IsSome usage.scope ⊎ (IsSome usage.area ⊎ (IsSome usage.bbo
 -- a CRS's end: its usages, the one whose parts stand bare, if any does, its identifiers and its remark
 pub record TailParts : Type 0 where
   pub usages : List UsageParts
-  pub bare : Option UsageParts
-  pub ids : List IdentParts
+  pub bare_parts : Option UsageParts
+  pub identifiers : List IdentParts
   pub remark : Option (List ℕ)

@@ -1,17 +1,17 @@
 -- Words: those of coordinate system types, axis directions and units, and how bytes spell a word in either case.
 use Rattle.std.specs.Prelude.{◌≡◌, ℕ, List, codes}
 use Rattle.std.specs.Str.{str_to_ascii_lowercase}
-use Rattle.crs_value.specs.declared.direction.Direction.{Direction}
-use Rattle.crs_value.specs.declared.direction.Direction.TheVariants.{North, NorthNorthEast, NorthEast, EastNorthEast}
-use Rattle.crs_value.specs.declared.direction.Direction.TheVariants.{East, EastSouthEast, SouthEast, SouthSouthEast}
-use Rattle.crs_value.specs.declared.direction.Direction.TheVariants.{South, SouthSouthWest, SouthWest, WestSouthWest}
-use Rattle.crs_value.specs.declared.direction.Direction.TheVariants.{West, WestNorthWest, NorthWest, NorthNorthWest}
-use Rattle.crs_value.specs.declared.direction.Direction.TheVariants.{GeocentricX, GeocentricY, GeocentricZ, Up, Down}
-use Rattle.crs_value.specs.declared.direction.Direction.TheVariants.{Unspecified}
-use Rattle.crs_value.specs.declared.system_type.SystemType.{SystemType}
-use Rattle.crs_value.specs.declared.system_type.SystemType.TheVariants.{Cartesian, Ellipsoidal, Spherical, Vertical}
-use Rattle.crs_value.specs.declared.unit_kind.UnitKind.{UnitKind}
-use Rattle.crs_value.specs.declared.unit_kind.UnitKind.TheVariants as kinds
+use Rattle.crs_value.specs.declared.values.direction.Direction.{Direction}
+use Rattle.crs_value.specs.declared.values.direction.Direction.TheVariants.{North, NorthNorthEast, NorthEast, EastNorthEast}
+use Rattle.crs_value.specs.declared.values.direction.Direction.TheVariants.{East, EastSouthEast, SouthEast, SouthSouthEast}
+use Rattle.crs_value.specs.declared.values.direction.Direction.TheVariants.{South, SouthSouthWest, SouthWest, WestSouthWest}
+use Rattle.crs_value.specs.declared.values.direction.Direction.TheVariants.{West, WestNorthWest, NorthWest, NorthNorthWest}
+use Rattle.crs_value.specs.declared.values.direction.Direction.TheVariants.{GeocentricX, GeocentricY, GeocentricZ, Up, Down}
+use Rattle.crs_value.specs.declared.values.direction.Direction.TheVariants.{Unspecified}
+use Rattle.crs_value.specs.declared.values.system_type.SystemType.{SystemType}
+use Rattle.crs_value.specs.declared.values.system_type.SystemType.TheVariants.{Cartesian, Ellipsoidal, Spherical, Vertical}
+use Rattle.crs_value.specs.declared.values.unit_kind.UnitKind.{UnitKind}
+use Rattle.crs_value.specs.declared.values.unit_kind.UnitKind.TheVariants as kinds
 
 -- the bytes are this word, letter case aside
 abbrev pub SpellsWord : List ℕ → List ℕ → Type 0

@@ -1,4 +1,13 @@
 //! Checks of items of the right shape: which is broken first.
+pub(crate) mod component;
+pub(crate) mod crs;
+pub(crate) mod order;
+pub(crate) mod own;
+pub(crate) mod repeats;
+pub(crate) mod single;
+pub(crate) mod system;
+pub(crate) mod unit;
+
 ghost use Rattle.std.specs.Prelude.{◌≡◌, IsTrue};
 ghost use Rattle.crs_text.specs.Items.{Item, HasId, arguments};
 ghost use Rattle.crs_text.specs.Refusal.{RefusedAt, is_refusal};
@@ -9,7 +18,7 @@ ghost use Rattle.crs_value.specs.Found.{from_found, AllShaped};
 ghost use Rattle.crs_value.specs.Least.{is_before, lesser};
 ghost use Rattle.crs_value.specs.Reading.{item_at, Holds, IsFound, TakesOne, those};
 
-use crate::arguments::{first, later};
+use crate::reading::arguments::{first, later};
 use crs_shape::Class;
 use crs_shape::laws::slots_count;
 use crs_text::{ItemId, Items, Refusal};

@@ -5,7 +5,7 @@ ghost use Rattle.crs_text.specs.Refusal.{RefusedAt};
 ghost use Rattle.crs_text.specs.Written.{AreFormed};
 ghost use Rattle.crs_shape.specs.declared.class.Class.{Class};
 ghost use Rattle.crs_value.specs.ConversionValues.{ParameterParts, GeoidModelParts};
-ghost use Rattle.crs_value.specs.declared.crs.Crs.{Crs};
+ghost use Rattle.crs_value.specs.declared.values.crs.Crs.{Crs};
 ghost use Rattle.crs_value.specs.Reads.{ReadsIdent, ReadsUnit, ReadsMember, ReadsExtent, ReadsUsage};
 ghost use Rattle.crs_value.specs.ReadsConversion.{ReadsParameter, ReadsGeoidModel};
 ghost use Rattle.crs_value.specs.SoundCrs.{IsCrs};
@@ -15,7 +15,7 @@ ghost use Rattle.crs_value.specs.Values.{IdentParts, UnitParts, MemberParts, Ext
 
 pub mod parts;
 
-use crate::crs::Crs;
+use crate::values::crs::Crs;
 use crs_decimal::laws::{denotes_one, denotes_some};
 use crs_shape::laws::{fault_at_root_is_one, fault_is_within, no_fault_is_shape, slots_count};
 

@@ -117,7 +117,13 @@ impl Canonical for GeoidModel<'_> {
 
     fn write(&self, alloc: Global, level: Level, out: &mut Vec<u8>) -> Result<(), AllocError> {
         let mut text = Vec::new(alloc);
-        write_named(&mut text, b"GEOIDMODEL[\"", self.name, &self.ids, level)?;
+        write_named(
+            &mut text,
+            b"GEOIDMODEL[\"",
+            self.name,
+            &self.identifiers,
+            level,
+        )?;
         out.extend_from_slice(text.as_slice())
     }
 

@@ -93,7 +93,7 @@ impl Canonical for Member<'_> {
 
     fn write(&self, alloc: Global, level: Level, out: &mut Vec<u8>) -> Result<(), AllocError> {
         let mut text = Vec::new(alloc);
-        write_named(&mut text, b"MEMBER[\"", self.name, &self.ids, level)?;
+        write_named(&mut text, b"MEMBER[\"", self.name, &self.identifiers, level)?;
         out.extend_from_slice(text.as_slice())
     }
 

@@ -39,7 +39,7 @@ impl Canonical for Ident<'_> {
 
 impl Canonical for Unit<'_> {
     ghost use Rattle.crs_value.specs.Sound.{IsUnit};
-    ghost use Rattle.crs_value.specs.declared.unit_kind.UnitKind.TheVariants as kinds;
+    ghost use Rattle.crs_value.specs.declared.values.unit_kind.UnitKind.TheVariants as kinds;
     ghost use Rattle.crs_same.specs.SameUnits.{SameUnit};
     ghost use Rattle.crs_normal.specs.PartSpellings.{IsSpelledUnit};
     ghost use Rattle.crs_normal.specs.PartTexts.{unit_text};

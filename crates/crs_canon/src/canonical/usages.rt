@@ -56,9 +56,7 @@ impl Canonical for Extent<'_> {
 
     fn write(&self, alloc: Global, level: Level, out: &mut Vec<u8>) -> Result<(), AllocError> {
         let mut text = Vec::new(alloc);
-        match level {
-            Level::Full => write_extent(&mut text, self)?,
-        }
+        write_extent(&mut text, self, level)?;
         append_argument(out, text.as_slice())
     }
 

@@ -4,7 +4,7 @@ ghost use Rattle.crs_text.specs.Items.{End, More};
 ghost use Rattle.crs_text.specs.Written.{item_text, others_text};
 ghost use Rattle.crs_value.specs.BadUnit.{asked_kind};
 ghost use Rattle.crs_value.specs.Words.{direction_word};
-ghost use Rattle.crs_value.specs.declared.unit_kind.UnitKind.TheVariants as kinds;
+ghost use Rattle.crs_value.specs.declared.values.unit_kind.UnitKind.TheVariants as kinds;
 ghost use Rattle.crs_same.specs.SameSystems.{own_or};
 ghost use Rattle.crs_decimal.specs.Plain.{plain};
 ghost use Rattle.crs_normal.specs.PartTexts.{axis_text};
@@ -98,10 +98,10 @@ fn write_from_unit(
 ) -> Result<(), AllocError>
     ensures { OnOk result (out.new.items ≡ out.old.items ++ others_text (opt item_unit (norm_units level
         (asked_kind system.now.system_type axis.now.direction) (own_or axis.now.unit system.now.unit))
-        (each item_ident (set_idents level axis.now.ids) End))) }
+        (each item_ident (set_idents level axis.now.identifiers) End))) }
 {
     write_axis_unit(out, system, axis, level)?;
-    write_idents(out, &axis.ids, level)
+    write_idents(out, &axis.identifiers, level)
 }
 
 #[tactic(auto, using(crate::proofs::PieceLemmas::then_rules))]
@@ -115,7 +115,7 @@ fn write_from_order(
     ensures { OnOk result (out.new.items ≡ out.old.items ++ others_text
         (More (number_node (codes "ORDER") (whole_value position)) (opt item_unit (norm_units level
         (asked_kind system.now.system_type axis.now.direction) (own_or axis.now.unit system.now.unit))
-        (each item_ident (set_idents level axis.now.ids) End)))) }
+        (each item_ident (set_idents level axis.now.identifiers) End)))) }
 {
     write_order(out, position)?;
     write_from_unit(out, system, axis, level)
@@ -133,7 +133,7 @@ fn write_from_meridian(
         (opt item_axis_meridian (norm_axis_meridians level axis.now.meridian)
         (More (number_node (codes "ORDER") (whole_value position)) (opt item_unit (norm_units level
         (asked_kind system.now.system_type axis.now.direction) (own_or axis.now.unit system.now.unit))
-        (each item_ident (set_idents level axis.now.ids) End))))) }
+        (each item_ident (set_idents level axis.now.identifiers) End))))) }
 {
     write_optional_meridian(out, &axis.meridian, level)?;
     write_from_order(out, system, axis, position, level)
@@ -152,7 +152,7 @@ fn write_from_direction(
         (opt item_axis_meridian (norm_axis_meridians level axis.now.meridian)
         (More (number_node (codes "ORDER") (whole_value position)) (opt item_unit (norm_units level
         (asked_kind system.now.system_type axis.now.direction) (own_or axis.now.unit system.now.unit))
-        (each item_ident (set_idents level axis.now.ids) End)))))) }
+        (each item_ident (set_idents level axis.now.identifiers) End)))))) }
 {
     write_direction(out, axis.direction)?;
     write_from_meridian(out, system, axis, position, level)
@@ -200,10 +200,10 @@ fn write_optional_order(out: &mut Vec<u8>, order: &Option<Decimal>) -> Result<()
 fn write_from_own_unit(out: &mut Vec<u8>, axis: &Axis<'_>, level: Level) -> Result<(), AllocError>
     ensures { OnOk result (out.new.items ≡ out.old.items ++ others_text
         (opt item_unit (norm_units level kinds.Plain axis.now.unit)
-        (each item_ident (set_idents level axis.now.ids) End))) }
+        (each item_ident (set_idents level axis.now.identifiers) End))) }
 {
     write_optional_unit(out, UnitKind::Plain, axis.unit.as_ref(), level)?;
-    write_idents(out, &axis.ids, level)
+    write_idents(out, &axis.identifiers, level)
 }
 
 #[tactic(auto, using(crate::proofs::PieceLemmas::then_rules))]
@@ -211,7 +211,7 @@ fn write_from_own_order(out: &mut Vec<u8>, axis: &Axis<'_>, level: Level) -> Res
     ensures { OnOk result (out.new.items ≡ out.old.items ++ others_text
         (opt (number_node (codes "ORDER")) axis.now.order
         (opt item_unit (norm_units level kinds.Plain axis.now.unit)
-        (each item_ident (set_idents level axis.now.ids) End)))) }
+        (each item_ident (set_idents level axis.now.identifiers) End)))) }
 {
     write_optional_order(out, &axis.order)?;
     write_from_own_unit(out, axis, level)
@@ -227,7 +227,7 @@ fn write_from_own_meridian(
         (opt item_axis_meridian (norm_axis_meridians level axis.now.meridian)
         (opt (number_node (codes "ORDER")) axis.now.order
         (opt item_unit (norm_units level kinds.Plain axis.now.unit)
-        (each item_ident (set_idents level axis.now.ids) End))))) }
+        (each item_ident (set_idents level axis.now.identifiers) End))))) }
 {
     write_optional_meridian(out, &axis.meridian, level)?;
     write_from_own_order(out, axis, level)
@@ -244,7 +244,7 @@ fn write_from_own_direction(
         (opt item_axis_meridian (norm_axis_meridians level axis.now.meridian)
         (opt (number_node (codes "ORDER")) axis.now.order
         (opt item_unit (norm_units level kinds.Plain axis.now.unit)
-        (each item_ident (set_idents level axis.now.ids) End)))))) }
+        (each item_ident (set_idents level axis.now.identifiers) End)))))) }
 {
     write_direction(out, axis.direction)?;
     write_from_own_meridian(out, axis, level)

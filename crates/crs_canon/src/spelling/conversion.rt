@@ -2,7 +2,7 @@
 ghost use Rattle.std.specs.Prelude.{◌≡◌, ◌∷◌, ◌++◌, OnOk};
 ghost use Rattle.crs_text.specs.Items.{End, More};
 ghost use Rattle.crs_text.specs.Written.{item_text, others_text};
-ghost use Rattle.crs_value.specs.declared.unit_kind.UnitKind.TheVariants as kinds;
+ghost use Rattle.crs_value.specs.declared.values.unit_kind.UnitKind.TheVariants as kinds;
 ghost use Rattle.crs_normal.specs.SpelledConversions.{item_conversion, item_geoid_model, item_method, item_parameter};
 ghost use Rattle.crs_normal.specs.SpelledConversions.{norm_conversion, norm_method, norm_parameter, set_geoid_models};
 ghost use Rattle.crs_normal.specs.SpelledConversions.{set_parameters};
@@ -25,7 +25,7 @@ pub(crate) fn write_method(
     ensures { OnOk result (out.new.items
         ≡ out.old.items ++ 44 ∷ item_text (item_method (norm_method level method.now))) }
 {
-    write_named(out, b",METHOD[\"", method.name, &method.ids, level)
+    write_named(out, b",METHOD[\"", method.name, &method.identifiers, level)
 }
 
 #[tactic(auto, using(crate::proofs::PieceLemmas::then_rules))]
@@ -35,10 +35,10 @@ fn write_from_unit(
     level: Level,
 ) -> Result<(), AllocError>
     ensures { OnOk result (out.new.items ≡ out.old.items ++ others_text (opt item_unit
-        (norm_units level kinds.Plain parameter.now.unit) (each item_ident (set_idents level parameter.now.ids) End))) }
+        (norm_units level kinds.Plain parameter.now.unit) (each item_ident (set_idents level parameter.now.identifiers) End))) }
 {
     write_optional_unit(out, UnitKind::Plain, parameter.unit.as_ref(), level)?;
-    write_idents(out, &parameter.ids, level)
+    write_idents(out, &parameter.identifiers, level)
 }
 
 #[tactic(auto, using(crate::proofs::PieceLemmas::then_rules))]
@@ -49,7 +49,7 @@ fn write_from_value(
 ) -> Result<(), AllocError>
     ensures { OnOk result (out.new.items ≡ out.old.items ++ others_text
         (More (number_item parameter.now.value) (opt item_unit (norm_units level kinds.Plain parameter.now.unit)
-        (each item_ident (set_idents level parameter.now.ids) End)))) }
+        (each item_ident (set_idents level parameter.now.identifiers) End)))) }
 {
     write_number(out, &parameter.value)?;
     write_from_unit(out, parameter, level)
@@ -99,10 +99,10 @@ fn write_from_parameters(
 ) -> Result<(), AllocError>
     ensures { OnOk result (out.new.items ≡ out.old.items ++ others_text
         (each item_parameter (set_parameters level conversion.now.parameters)
-        (each item_ident (set_idents level conversion.now.ids) End))) }
+        (each item_ident (set_idents level conversion.now.identifiers) End))) }
 {
     write_parameters(out, &conversion.parameters, level)?;
-    write_idents(out, &conversion.ids, level)
+    write_idents(out, &conversion.identifiers, level)
 }
 
 #[tactic(auto, using(crate::proofs::PieceLemmas::then_rules))]
@@ -114,7 +114,7 @@ fn write_from_method(
     ensures { OnOk result (out.new.items ≡ out.old.items ++ others_text
         (More (item_method (norm_method level conversion.now.method))
         (each item_parameter (set_parameters level conversion.now.parameters)
-        (each item_ident (set_idents level conversion.now.ids) End)))) }
+        (each item_ident (set_idents level conversion.now.identifiers) End)))) }
 {
     write_method(out, &conversion.method, level)?;
     write_from_parameters(out, conversion, level)
@@ -141,7 +141,7 @@ impl Spell for GeoidModel<'_> {
     ghost spelling = { λ level g. item_text (item_geoid_model (norm_geoid_model level g)) };
 
     fn write(&self, out: &mut Vec<u8>, level: Level) -> Result<(), AllocError> {
-        write_named(out, b"GEOIDMODEL[\"", self.name, &self.ids, level)
+        write_named(out, b"GEOIDMODEL[\"", self.name, &self.identifiers, level)
     }
 }
 

@@ -2,7 +2,7 @@
 ghost use Rattle.std.specs.Prelude.{◌≡◌, ◌∷◌, ◌++◌, [], OnOk, codes};
 ghost use Rattle.crs_text.specs.Items.{End, More};
 ghost use Rattle.crs_text.specs.Written.{item_text, others_text};
-ghost use Rattle.crs_value.specs.declared.unit_kind.UnitKind.TheVariants as kinds;
+ghost use Rattle.crs_value.specs.declared.values.unit_kind.UnitKind.TheVariants as kinds;
 ghost use Rattle.crs_normal.specs.SpelledConversions.{item_conversion, item_geoid_model, norm_conversion};
 ghost use Rattle.crs_normal.specs.SpelledConversions.{set_geoid_models};
 ghost use Rattle.crs_normal.specs.SpelledCrs.{geodetic_keyword, item_base, item_compound, item_crs, item_geodetic};
@@ -102,10 +102,10 @@ pub(crate) fn write_geodetic(
 fn write_base_from_unit(out: &mut Vec<u8>, base: &Base<'_>, level: Level) -> Result<(), AllocError>
     ensures { OnOk result (out.new.items ≡ out.old.items ++ others_text
         (opt item_unit (norm_units level kinds.Angle base.now.unit)
-        (each item_ident (set_idents level base.now.ids) End))) }
+        (each item_ident (set_idents level base.now.identifiers) End))) }
 {
     write_optional_unit(out, UnitKind::Angle, base.unit.as_ref(), level)?;
-    write_idents(out, &base.ids, level)
+    write_idents(out, &base.identifiers, level)
 }
 
 #[tactic(auto, using(crate::proofs::PieceLemmas::then_rules))]
@@ -117,7 +117,7 @@ fn write_base_from_meridian(
     ensures { OnOk result (out.new.items ≡ out.old.items ++ others_text
         (opt item_meridian (norm_meridian level base.now.meridian)
         (opt item_unit (norm_units level kinds.Angle base.now.unit)
-        (each item_ident (set_idents level base.now.ids) End)))) }
+        (each item_ident (set_idents level base.now.identifiers) End)))) }
 {
     write_meridian(out, &base.meridian, level)?;
     write_base_from_unit(out, base, level)
@@ -129,7 +129,7 @@ fn write_base_from_frame(out: &mut Vec<u8>, base: &Base<'_>, level: Level) -> Re
         (More (item_frame (codes "DATUM") (norm_frame level base.now.frame))
         (opt item_meridian (norm_meridian level base.now.meridian)
         (opt item_unit (norm_units level kinds.Angle base.now.unit)
-        (each item_ident (set_idents level base.now.ids) End))))) }
+        (each item_ident (set_idents level base.now.identifiers) End))))) }
 {
     write_geodetic_frame(out, &base.frame, level)?;
     write_base_from_meridian(out, base, level)

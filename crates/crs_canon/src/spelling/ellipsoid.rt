@@ -20,10 +20,10 @@ fn write_from_unit(
     level: Level,
 ) -> Result<(), AllocError>
     ensures { OnOk result (out.new.items ≡ out.old.items ++ others_text (opt item_unit
-        (Some (norm_length level ellipsoid.now.unit)) (each item_ident (set_idents level ellipsoid.now.ids) End))) }
+        (Some (norm_length level ellipsoid.now.unit)) (each item_ident (set_idents level ellipsoid.now.identifiers) End))) }
 {
     write_length(out, ellipsoid.unit.as_ref(), level)?;
-    write_idents(out, &ellipsoid.ids, level)
+    write_idents(out, &ellipsoid.identifiers, level)
 }
 
 #[tactic(auto, using(crate::proofs::PieceLemmas::then_rules))]
@@ -34,7 +34,7 @@ fn write_from_flattening(
 ) -> Result<(), AllocError>
     ensures { OnOk result (out.new.items ≡ out.old.items ++ others_text
         (More (number_item ellipsoid.now.inverse_flattening) (opt item_unit
-        (Some (norm_length level ellipsoid.now.unit)) (each item_ident (set_idents level ellipsoid.now.ids) End)))) }
+        (Some (norm_length level ellipsoid.now.unit)) (each item_ident (set_idents level ellipsoid.now.identifiers) End)))) }
 {
     write_number(out, &ellipsoid.inverse_flattening)?;
     write_from_unit(out, ellipsoid, level)
@@ -49,7 +49,7 @@ fn write_from_axis(
     ensures { OnOk result (out.new.items ≡ out.old.items ++ others_text
         (More (number_item ellipsoid.now.semi_major_axis)
         (More (number_item ellipsoid.now.inverse_flattening) (opt item_unit
-        (Some (norm_length level ellipsoid.now.unit)) (each item_ident (set_idents level ellipsoid.now.ids) End))))) }
+        (Some (norm_length level ellipsoid.now.unit)) (each item_ident (set_idents level ellipsoid.now.identifiers) End))))) }
 {
     write_number(out, &ellipsoid.semi_major_axis)?;
     write_from_flattening(out, ellipsoid, level)

@@ -26,7 +26,7 @@ impl Spell for Member<'_> {
     ghost spelling = { λ level m. item_text (item_member (norm_member level m)) };
 
     fn write(&self, out: &mut Vec<u8>, level: Level) -> Result<(), AllocError> {
-        write_named(out, b"MEMBER[\"", self.name, &self.ids, level)
+        write_named(out, b"MEMBER[\"", self.name, &self.identifiers, level)
     }
 }
 
@@ -53,17 +53,17 @@ fn write_anchor(out: &mut Vec<u8>, anchor: Option<&[u8]>) -> Result<(), AllocErr
 #[tactic(auto, using(crate::proofs::PieceLemmas::then_rules))]
 fn write_from_anchor(out: &mut Vec<u8>, datum: &Datum<'_>, level: Level) -> Result<(), AllocError>
     ensures { OnOk result (out.new.items ≡ out.old.items ++ others_text
-        (opt (text_node (codes "ANCHOR")) datum.now.anchor (each item_ident (set_idents level datum.now.ids) End))) }
+        (opt (text_node (codes "ANCHOR")) datum.now.anchor (each item_ident (set_idents level datum.now.identifiers) End))) }
 {
     write_anchor(out, datum.anchor)?;
-    write_idents(out, &datum.ids, level)
+    write_idents(out, &datum.identifiers, level)
 }
 
 #[tactic(auto, using(crate::proofs::PieceLemmas::then_rules))]
 fn write_behind_name(out: &mut Vec<u8>, datum: &Datum<'_>, level: Level) -> Result<(), AllocError>
     ensures { OnOk result (out.new.items ≡ out.old.items ++ others_text
         (opt item_ellipsoid (option_map (norm_ellipsoid level) datum.now.ellipsoid)
-        (opt (text_node (codes "ANCHOR")) datum.now.anchor (each item_ident (set_idents level datum.now.ids) End)))) }
+        (opt (text_node (codes "ANCHOR")) datum.now.anchor (each item_ident (set_idents level datum.now.identifiers) End)))) }
 {
     write_optional_ellipsoid(out, &datum.ellipsoid, level)?;
     write_from_anchor(out, datum, level)
@@ -77,7 +77,7 @@ fn write_datum(
 ) -> Result<(), AllocError>
     ensures { OnOk result (out.new.items ≡ out.old.items ++ named opening.now datum.now.name
         (opt item_ellipsoid (option_map (norm_ellipsoid level) datum.now.ellipsoid)
-        (opt (text_node (codes "ANCHOR")) datum.now.anchor (each item_ident (set_idents level datum.now.ids) End)))) }
+        (opt (text_node (codes "ANCHOR")) datum.now.anchor (each item_ident (set_idents level datum.now.identifiers) End)))) }
 {
     open_text(out, opening, datum.name)?;
     write_behind_name(out, datum, level)?;
@@ -114,10 +114,10 @@ fn write_from_accuracy(
 ) -> Result<(), AllocError>
     ensures { OnOk result (out.new.items ≡ out.old.items ++ others_text
         (More (number_node (codes "ENSEMBLEACCURACY") ensemble.now.accuracy)
-        (each item_ident (set_idents level ensemble.now.ids) End))) }
+        (each item_ident (set_idents level ensemble.now.identifiers) End))) }
 {
     write_accuracy(out, &ensemble.accuracy)?;
-    write_idents(out, &ensemble.ids, level)
+    write_idents(out, &ensemble.identifiers, level)
 }
 
 #[tactic(auto, using(crate::proofs::PieceLemmas::then_rules))]
@@ -129,7 +129,7 @@ fn write_from_ellipsoid(
     ensures { OnOk result (out.new.items ≡ out.old.items ++ others_text
         (opt item_ellipsoid (option_map (norm_ellipsoid level) ensemble.now.ellipsoid)
         (More (number_node (codes "ENSEMBLEACCURACY") ensemble.now.accuracy)
-        (each item_ident (set_idents level ensemble.now.ids) End)))) }
+        (each item_ident (set_idents level ensemble.now.identifiers) End)))) }
 {
     write_optional_ellipsoid(out, &ensemble.ellipsoid, level)?;
     write_from_accuracy(out, ensemble, level)
@@ -145,7 +145,7 @@ fn write_from_members(
         (each item_member (set_members level ensemble.now.members)
         (opt item_ellipsoid (option_map (norm_ellipsoid level) ensemble.now.ellipsoid)
         (More (number_node (codes "ENSEMBLEACCURACY") ensemble.now.accuracy)
-        (each item_ident (set_idents level ensemble.now.ids) End))))) }
+        (each item_ident (set_idents level ensemble.now.identifiers) End))))) }
 {
     write_members(out, &ensemble.members, level)?;
     write_from_ellipsoid(out, ensemble, level)

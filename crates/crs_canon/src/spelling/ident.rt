@@ -78,25 +78,23 @@ impl Spell for Ident<'_> {
     }
 }
 
-fn write_ident_set(out: &mut Vec<u8>, ids: &[Ident<'_>]) -> Result<(), AllocError>
-    ensures { OnOk result (out.new.items ≡ out.old.items ++ set_text (map (λ i. item_text (item_ident i)) ids.now)) }
+fn write_ident_set(out: &mut Vec<u8>, identifiers: &[Ident<'_>]) -> Result<(), AllocError>
+    ensures { OnOk result (out.new.items ≡ out.old.items ++ set_text (map (λ i. item_text (item_ident i)) identifiers.now)) }
 {
-    write_set(out, ids, Level::Full)
+    write_set(out, identifiers, Level::Full)
 }
 
-// The identifiers of a part.
+// The identifiers that the level keeps of a part.
 #[tactic(auto, using(crate::proofs::WrittenLemmas::written_rules))]
 pub(crate) fn write_idents(
     out: &mut Vec<u8>,
-    ids: &List<Ident<'_>>,
+    identifiers: &List<Ident<'_>>,
     level: Level,
 ) -> Result<(), AllocError>
     ensures { OnOk result (out.new.items
-        ≡ out.old.items ++ others_text (each item_ident (set_idents level ids.now) End)) }
+        ≡ out.old.items ++ others_text (each item_ident (set_idents level identifiers.now) End)) }
 {
-    match level {
-        Level::Full => write_ident_set(out, ids.as_slice()),
-    }
+    write_ident_set(out, level.kept(identifiers.as_slice()))
 }
 
 // A node of a name and identifiers.
@@ -104,13 +102,13 @@ pub(crate) fn write_named(
     out: &mut Vec<u8>,
     opening: &[u8],
     name: &[u8],
-    ids: &List<Ident<'_>>,
+    identifiers: &List<Ident<'_>>,
     level: Level,
 ) -> Result<(), AllocError>
     ensures { OnOk result (out.new.items
-        ≡ out.old.items ++ named opening.now name.now (each item_ident (set_idents level ids.now) End)) }
+        ≡ out.old.items ++ named opening.now name.now (each item_ident (set_idents level identifiers.now) End)) }
 {
     open_text(out, opening, name)?;
-    write_idents(out, ids, level)?;
+    write_idents(out, identifiers, level)?;
     append(out, b"]")
 }

@@ -2,7 +2,7 @@
 ghost use Rattle.std.specs.Prelude.{◌≡◌, ◌∷◌, ◌++◌, OnOk, None, if◌then◌else◌};
 ghost use Rattle.crs_text.specs.Items.{End, More};
 ghost use Rattle.crs_text.specs.Written.{item_text, others_text};
-ghost use Rattle.crs_value.specs.declared.unit_kind.UnitKind.TheVariants as kinds;
+ghost use Rattle.crs_value.specs.declared.values.unit_kind.UnitKind.TheVariants as kinds;
 ghost use Rattle.crs_normal.specs.SpelledFrames.{greenwich, is_zero, item_meridian, norm_given, norm_meridian};
 ghost use Rattle.crs_normal.specs.SpelledItems.{each, number_item, opt};
 ghost use Rattle.crs_normal.specs.SpelledUnits.{item_ident, item_unit, norm_units, set_idents};
@@ -39,10 +39,10 @@ fn write_from_unit(
 ) -> Result<(), AllocError>
     ensures { OnOk result (out.new.items ≡ out.old.items ++ others_text (opt item_unit
         (if is_zero meridian.now.longitude then None else norm_units level kinds.Angle meridian.now.unit)
-        (each item_ident (set_idents level meridian.now.ids) End))) }
+        (each item_ident (set_idents level meridian.now.identifiers) End))) }
 {
     write_unit_of(out, meridian, level)?;
-    write_idents(out, &meridian.ids, level)
+    write_idents(out, &meridian.identifiers, level)
 }
 
 #[tactic(auto, using(crate::proofs::PieceLemmas::then_rules))]
@@ -54,7 +54,7 @@ fn write_from_longitude(
     ensures { OnOk result (out.new.items ≡ out.old.items ++ others_text
         (More (number_item meridian.now.longitude) (opt item_unit
         (if is_zero meridian.now.longitude then None else norm_units level kinds.Angle meridian.now.unit)
-        (each item_ident (set_idents level meridian.now.ids) End)))) }
+        (each item_ident (set_idents level meridian.now.identifiers) End)))) }
 {
     write_number(out, &meridian.longitude)?;
     write_from_unit(out, meridian, level)

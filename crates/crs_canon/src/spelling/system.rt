@@ -83,10 +83,10 @@ fn write_from_dimension(
     level: Level,
 ) -> Result<(), AllocError>
     ensures { OnOk result (out.new.items ≡ out.old.items ++ others_text
-        (More (number_item system.now.dimension) (each item_ident (set_idents level system.now.ids) End))) }
+        (More (number_item system.now.dimension) (each item_ident (set_idents level system.now.identifiers) End))) }
 {
     write_number(out, &system.dimension)?;
-    write_idents(out, &system.ids, level)
+    write_idents(out, &system.identifiers, level)
 }
 
 fn open_head(out: &mut Vec<u8>, system: &System<'_>) -> Result<(), AllocError>

@@ -3,27 +3,32 @@ ghost use Rattle.std.specs.Prelude.{◌≡◌, ◌++◌, OnOk, codes, map};
 ghost use Rattle.std.specs.Option.{option_copied};
 ghost use Rattle.crs_text.specs.Items.{End};
 ghost use Rattle.crs_text.specs.Written.{item_text, others_text};
-ghost use Rattle.crs_same.specs.SameUsages.{usages_of};
+ghost use Rattle.crs_value.specs.Kept.{kept_one};
+ghost use Rattle.crs_same.specs.SameUsages.{usages_of, with_bare};
 ghost use Rattle.crs_normal.specs.SpelledItems.{each, opt, text_node};
 ghost use Rattle.crs_normal.specs.SpelledUnits.{item_ident, set_idents};
-ghost use Rattle.crs_normal.specs.SpelledUsages.{item_usage, norm_remark, norm_tail, norm_usage, set_usages};
+ghost use Rattle.crs_normal.specs.SpelledUsages.{item_usage, norm_tail, norm_usage, set_usages};
 ghost use Rattle.crs_normal.specs.SpelledUsages.{tail_items};
 ghost use Rattle.crs_canon.specs.Members.{set_text};
 
 use crate::set::{write_set, write_set_with};
 use crate::spelling::ident::write_idents;
 use crate::spelling::texts::write_optional_text;
-use crs_value::{Level, Tail};
+use crs_value::{Level, Tail, Usage};
 use std::alloc::AllocError;
 
 // The bare parts are together one usage more.
-fn write_usage_set(out: &mut Vec<u8>, tail: &Tail<'_>) -> Result<(), AllocError>
-    ensures { OnOk result (out.new.items
-        ≡ out.old.items ++ set_text (map (λ u. item_text (item_usage (norm_usage u))) (usages_of tail.now))) }
+fn write_usage_set(
+    out: &mut Vec<u8>,
+    bare: Option<&Usage<'_>>,
+    usages: &[Usage<'_>],
+) -> Result<(), AllocError>
+    ensures { OnOk result (out.new.items ≡ out.old.items ++ set_text
+        (map (λ u. item_text (item_usage (norm_usage u))) (with_bare (option_copied bare.entry) usages.now))) }
 {
-    match &tail.bare {
-        None => write_set(out, tail.usages.as_slice(), Level::Full),
-        Some(bare) => write_set_with(out, bare, tail.usages.as_slice(), Level::Full),
+    match bare {
+        None => write_set(out, usages, Level::Full),
+        Some(bare) => write_set_with(out, bare, usages, Level::Full),
     }
 }
 
@@ -32,28 +37,28 @@ fn write_usages(out: &mut Vec<u8>, tail: &Tail<'_>, level: Level) -> Result<(), 
     ensures { OnOk result (out.new.items
         ≡ out.old.items ++ others_text (each item_usage (set_usages level (usages_of tail.now)) End)) }
 {
-    match level {
-        Level::Full => write_usage_set(out, tail),
-    }
+    write_usage_set(
+        out,
+        level.kept_one(tail.bare_parts.as_ref()),
+        level.kept(tail.usages.as_slice()),
+    )
 }
 
 #[tactic(auto, using(crate::proofs::TextLemmas::text_node_rules))]
 fn write_remark(out: &mut Vec<u8>, remark: Option<&[u8]>, level: Level) -> Result<(), AllocError>
     ensures { OnOk result (out.new.items ≡ out.old.items
-        ++ others_text (opt (text_node (codes "REMARK")) (norm_remark level (option_copied remark.entry)) End)) }
+        ++ others_text (opt (text_node (codes "REMARK")) (kept_one level (option_copied remark.entry)) End)) }
 {
-    match level {
-        Level::Full => write_optional_text(out, b",REMARK[\"", remark),
-    }
+    write_optional_text(out, b",REMARK[\"", level.kept_text(remark))
 }
 
 #[tactic(auto, using(crate::proofs::PieceLemmas::then_rules))]
 fn write_from_ids(out: &mut Vec<u8>, tail: &Tail<'_>, level: Level) -> Result<(), AllocError>
     ensures { OnOk result (out.new.items ≡ out.old.items ++ others_text
-        (each item_ident (set_idents level tail.now.ids)
-        (opt (text_node (codes "REMARK")) (norm_remark level tail.now.remark) End))) }
+        (each item_ident (set_idents level tail.now.identifiers)
+        (opt (text_node (codes "REMARK")) (kept_one level tail.now.remark) End))) }
 {
-    write_idents(out, &tail.ids, level)?;
+    write_idents(out, &tail.identifiers, level)?;
     write_remark(out, tail.remark, level)
 }
 

@@ -27,10 +27,10 @@ fn unit_opening(kind: UnitKind) -> &'static str
 #[tactic(auto, using(crate::proofs::PieceLemmas::then_rules))]
 fn write_from_factor(out: &mut Vec<u8>, unit: &Unit<'_>, level: Level) -> Result<(), AllocError>
     ensures { OnOk result (out.new.items ≡ out.old.items ++ others_text
-        (More (number_item unit.now.factor) (each item_ident (set_idents level unit.now.ids) End))) }
+        (More (number_item unit.now.factor) (each item_ident (set_idents level unit.now.identifiers) End))) }
 {
     write_number(out, &unit.factor)?;
-    write_idents(out, &unit.ids, level)
+    write_idents(out, &unit.identifiers, level)
 }
 
 // Behind a comma; where this kind is asked, which `UNIT` is of.

@@ -3,7 +3,7 @@ ghost use Rattle.std.specs.Prelude.{◌≡◌, ◌∷◌, ◌++◌, ℕ, List, O
 ghost use Rattle.std.specs.Option.{option_copied, option_map};
 ghost use Rattle.crs_text.specs.Items.{Siblings, End, More};
 ghost use Rattle.crs_text.specs.Written.{item_text, others_text};
-ghost use Rattle.crs_value.specs.declared.level.Level.TheVariants as levels;
+ghost use Rattle.crs_value.specs.declared.values.level.Level.TheVariants as levels;
 ghost use Rattle.crs_normal.specs.SpelledItems.{number_item, opt, text_node};
 ghost use Rattle.crs_normal.specs.SpelledUnits.{item_unit, norm_length};
 ghost use Rattle.crs_normal.specs.SpelledUsages.{item_box, item_extent, item_usage, norm_extent, norm_usage};
@@ -68,21 +68,29 @@ fn write_optional_box(out: &mut Vec<u8>, bbox: &Option<BoundingBox>) -> Result<(
 }
 
 #[tactic(auto, using(crate::proofs::PieceLemmas::then_rules))]
-fn write_from_maximum(out: &mut Vec<u8>, extent: &Extent<'_>) -> Result<(), AllocError>
+fn write_from_maximum(
+    out: &mut Vec<u8>,
+    extent: &Extent<'_>,
+    level: Level,
+) -> Result<(), AllocError>
     ensures { OnOk result (out.new.items ≡ out.old.items ++ others_text (More (number_item extent.now.maximum)
-        (opt item_unit (Some (norm_length levels.Full extent.now.unit)) End))) }
+        (opt item_unit (Some (norm_length level extent.now.unit)) End))) }
 {
     write_number(out, &extent.maximum)?;
-    write_length(out, extent.unit.as_ref(), Level::Full)
+    write_length(out, extent.unit.as_ref(), level)
 }
 
 // Behind a comma.
-pub(crate) fn write_extent(out: &mut Vec<u8>, extent: &Extent<'_>) -> Result<(), AllocError>
+pub(crate) fn write_extent(
+    out: &mut Vec<u8>,
+    extent: &Extent<'_>,
+    level: Level,
+) -> Result<(), AllocError>
     ensures { OnOk result (out.new.items
-        ≡ out.old.items ++ 44 ∷ item_text (item_extent (norm_extent levels.Full extent.now))) }
+        ≡ out.old.items ++ 44 ∷ item_text (item_extent (norm_extent level extent.now))) }
 {
     open_number(out, b",VERTICALEXTENT[", &extent.minimum)?;
-    write_from_maximum(out, extent)?;
+    write_from_maximum(out, extent, level)?;
     append(out, b"]")
 }
 
@@ -92,7 +100,7 @@ fn write_optional_extent(out: &mut Vec<u8>, extent: &Option<Extent<'_>>) -> Resu
 {
     match extent {
         None => Ok(()),
-        Some(extent) => write_extent(out, extent),
+        Some(extent) => write_extent(out, extent, Level::Full),
     }
 }
 

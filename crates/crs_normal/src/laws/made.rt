@@ -6,10 +6,11 @@ ghost use Rattle.crs_text.specs.Written.{at_place, item_text};
 ghost use Rattle.crs_value.specs.ConversionValues.{ConversionParts, GeoidModelParts, MethodParts, ParameterParts};
 ghost use Rattle.crs_value.specs.CrsValues.{BaseParts, GeodeticParts, ProjectedParts, VerticalParts};
 ghost use Rattle.crs_value.specs.CompoundValues.{CompoundParts};
-ghost use Rattle.crs_value.specs.declared.crs.Crs.{Crs};
-ghost use Rattle.crs_value.specs.declared.frame.Frame.{Frame};
-ghost use Rattle.crs_value.specs.declared.level.Level.{Level};
-ghost use Rattle.crs_value.specs.declared.unit_kind.UnitKind.{UnitKind};
+ghost use Rattle.crs_value.specs.declared.values.crs.Crs.{Crs};
+ghost use Rattle.crs_value.specs.declared.values.frame.Frame.{Frame};
+ghost use Rattle.crs_value.specs.declared.values.level.Level.{Level};
+ghost use Rattle.crs_value.specs.declared.values.level.Level.TheVariants as levels;
+ghost use Rattle.crs_value.specs.declared.values.unit_kind.UnitKind.{UnitKind};
 ghost use Rattle.crs_value.specs.Sound.{Each, IsAxisMeridian, IsIdent, IsUnit};
 ghost use Rattle.crs_value.specs.SoundConversion.{IsConversion, IsGeoidModel, IsMethod, IsParameter};
 ghost use Rattle.crs_value.specs.SoundCompound.{IsCompound};
@@ -153,10 +154,10 @@ pub fn made_extent_is_normal()
     decimal_laws();
 }
 
-/// The item of a usage.
+/// The item of a usage by itself, of which every level keeps all.
 pub fn made_usage_is_normal()
-    ensures { (level : Level) (usage : UsageParts) (place : ℕ) → IsUsage usage →
-        IsMade level class.Usage 5 (at_place place (item_usage (norm_usage usage))) }
+    ensures { (usage : UsageParts) (place : ℕ) → IsUsage usage →
+        IsMade levels.Full class.Usage 5 (at_place place (item_usage (norm_usage usage))) }
 {
     decimal_laws();
 }

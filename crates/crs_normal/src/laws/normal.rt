@@ -12,10 +12,10 @@ ghost use Rattle.crs_value.specs.ReadsCrs.{ReadsBase, ReadsGeodetic, ReadsProjec
 ghost use Rattle.crs_value.specs.ReadsCrs.{ReadsCrs};
 ghost use Rattle.crs_value.specs.SpellsText.{Spells};
 ghost use Rattle.crs_value.specs.Values.{IdentParts, AxisParts, SystemParts};
-ghost use Rattle.crs_value.specs.declared.crs.Crs.{Crs};
-ghost use Rattle.crs_value.specs.declared.level.Level.{Level};
-ghost use Rattle.crs_value.specs.declared.unit_kind.UnitKind.{UnitKind};
-ghost use Rattle.crs_value.specs.declared.unit_kind.UnitKind.TheVariants as kinds;
+ghost use Rattle.crs_value.specs.declared.values.crs.Crs.{Crs};
+ghost use Rattle.crs_value.specs.declared.values.level.Level.{Level};
+ghost use Rattle.crs_value.specs.declared.values.unit_kind.UnitKind.{UnitKind};
+ghost use Rattle.crs_value.specs.declared.values.unit_kind.UnitKind.TheVariants as kinds;
 ghost use Rattle.crs_normal.specs.AxisAlone.{IsNormalAxis};
 ghost use Rattle.crs_normal.specs.Flat.{flat};
 ghost use Rattle.crs_normal.specs.Normal.{IsNormalIn, IsNormalText};
@@ -52,8 +52,8 @@ pub fn normal_identifier_is_its_form()
 
 /// The identifiers of a normal node are in order already, each once.
 pub fn normal_identifiers_are_in_order()
-    ensures { (level : Level) (parent c : Class) (item : Item) (ids : List IdentParts) → Shaped c item →
-        IsNormalIn level parent c item → ReadsIds c item ids → set_idents level ids ≡ ids }
+    ensures { (level : Level) (parent c : Class) (item : Item) (identifiers : List IdentParts) → Shaped c item →
+        IsNormalIn level parent c item → ReadsIds c item identifiers → set_idents level identifiers ≡ identifiers }
 {}
 
 /// A normal unit is the one form of its value, whichever kind is asked, and a plain one where none is.

@@ -8,8 +8,8 @@ ghost use Rattle.crs_value.specs.SoundConversion.{IsConversion, IsGeoidModel, Is
 ghost use Rattle.crs_value.specs.SoundFrames.{IsDatum, IsEllipsoid, IsEnsemble, IsMember, IsMeridian};
 ghost use Rattle.crs_value.specs.SoundSingle.{IsBase, IsGeodetic, IsProjected, IsVertical};
 ghost use Rattle.crs_value.specs.SoundUsages.{IsBox, IsExtent, IsUsage};
-ghost use Rattle.crs_value.specs.declared.level.Level.{Level};
-ghost use Rattle.crs_value.specs.declared.unit_kind.UnitKind.TheVariants as kinds;
+ghost use Rattle.crs_value.specs.declared.values.level.Level.{Level};
+ghost use Rattle.crs_value.specs.declared.values.unit_kind.UnitKind.TheVariants as kinds;
 ghost use Rattle.crs_same.specs.SameConversions.{SameConversion, SameGeoidModel, SameMethod, SameParameter};
 ghost use Rattle.crs_same.specs.SameCrs.{SameBase, SameCompound, SameGeodetic, SameHorizontal, SameProjected};
 ghost use Rattle.crs_same.specs.SameCrs.{SameVertical};

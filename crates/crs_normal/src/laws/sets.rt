@@ -6,9 +6,9 @@ ghost use Rattle.crs_shape.specs.declared.class.Class.{Class};
 ghost use Rattle.crs_shape.specs.declared.class.Class.TheVariants as class;
 ghost use Rattle.crs_shape.specs.Slots.{class_named};
 ghost use Rattle.crs_value.specs.ConversionValues.{GeoidModelParts, ParameterParts};
-ghost use Rattle.crs_value.specs.declared.level.Level.{Level};
-ghost use Rattle.crs_value.specs.declared.level.Level.TheVariants as levels;
-ghost use Rattle.crs_value.specs.declared.unit_kind.UnitKind.{UnitKind};
+ghost use Rattle.crs_value.specs.Kept.{kept};
+ghost use Rattle.crs_value.specs.declared.values.level.Level.{Level};
+ghost use Rattle.crs_value.specs.declared.values.unit_kind.UnitKind.{UnitKind};
 ghost use Rattle.crs_value.specs.Reads.{ReadsBox, ReadsExtent, ReadsIdent, ReadsMember, ReadsUnit, ReadsUsage};
 ghost use Rattle.crs_value.specs.ReadsConversion.{ReadsGeoidModel, ReadsParameter};
 ghost use Rattle.crs_value.specs.Sound.{Each, IsIdent, IsUnit};
@@ -85,10 +85,10 @@ pub fn same_geoid_models_have_one_form()
     members_read_once();
 }
 
-/// Likewise usages. Profile.
+/// Likewise usages, of which the level may leave some out. Profile.
 pub fn same_usages_have_one_form()
-    ensures { (xs ys : List UsageParts) → Each IsUsage xs → Each IsUsage ys →
-        (set_usages levels.Full xs ≡ set_usages levels.Full ys) ↔ SameSet SameUsage xs ys }
+    ensures { (level : Level) (xs ys : List UsageParts) → Each IsUsage xs → Each IsUsage ys →
+        (set_usages level xs ≡ set_usages level ys) ↔ SameSet SameUsage (kept level xs) (kept level ys) }
 {
     text_laws();
     members_read_once();

@@ -2,8 +2,8 @@
 ghost use Rattle.std.specs.Prelude.{◌≡◌, ◌↔◌, ℕ, List};
 ghost use Rattle.crs_value.specs.SoundCrs.{IsCrs};
 ghost use Rattle.crs_value.specs.SpellsText.{Spells};
-ghost use Rattle.crs_value.specs.declared.crs.Crs.{Crs};
-ghost use Rattle.crs_value.specs.declared.level.Level.{Level};
+ghost use Rattle.crs_value.specs.declared.values.crs.Crs.{Crs};
+ghost use Rattle.crs_value.specs.declared.values.level.Level.{Level};
 ghost use Rattle.crs_same.specs.SameCrs.{SameCrs};
 ghost use Rattle.crs_text.specs.Written.{item_text};
 ghost use Rattle.crs_normal.specs.Normal.{IsNormalText};

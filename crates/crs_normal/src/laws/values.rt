@@ -10,9 +10,9 @@ ghost use Rattle.crs_value.specs.SoundSingle.{IsBase, IsGeodetic, IsProjected, I
 ghost use Rattle.crs_value.specs.SoundSingle.{IsGeodeticFrame, IsVerticalFrame};
 ghost use Rattle.crs_value.specs.SoundUsages.{IsBox, IsExtent, IsTail, IsUsage};
 ghost use Rattle.crs_value.specs.Values.{AxisParts, SystemParts};
-ghost use Rattle.crs_value.specs.declared.level.Level.{Level};
-ghost use Rattle.crs_value.specs.declared.unit_kind.UnitKind.{UnitKind};
-ghost use Rattle.crs_value.specs.declared.unit_kind.UnitKind.TheVariants as kinds;
+ghost use Rattle.crs_value.specs.declared.values.level.Level.{Level};
+ghost use Rattle.crs_value.specs.declared.values.unit_kind.UnitKind.{UnitKind};
+ghost use Rattle.crs_value.specs.declared.values.unit_kind.UnitKind.TheVariants as kinds;
 ghost use Rattle.crs_same.specs.SameConversions.{SameConversion, SameGeoidModel, SameMethod, SameParameter};
 ghost use Rattle.crs_same.specs.SameCrs.{SameBase, SameCompound, SameGeodetic, SameHorizontal};
 ghost use Rattle.crs_same.specs.SameCrs.{SameProjected, SameVertical};

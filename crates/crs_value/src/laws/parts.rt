@@ -15,7 +15,7 @@ ghost use Rattle.crs_value.specs.SoundFrames.{IsEllipsoid, IsMember, IsMeridian}
 ghost use Rattle.crs_value.specs.SoundSingle.{IsBase, IsGeodetic, IsGeodeticFrame, IsProjected, IsVertical};
 ghost use Rattle.crs_value.specs.SoundSingle.{IsVerticalFrame};
 ghost use Rattle.crs_value.specs.SoundUsages.{IsBox, IsExtent, IsUsage};
-ghost use Rattle.crs_value.specs.declared.frame.Frame.TheVariants as frame;
+ghost use Rattle.crs_value.specs.declared.values.frame.Frame.TheVariants as frame;
 ghost use Rattle.crs_value.specs.Told.{IsReadAs, IsReadOnce};
 
 use crs_decimal::laws::denotes_one;

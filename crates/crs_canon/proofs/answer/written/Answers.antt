@@ -1,7 +1,7 @@
 use Rattle.std.proofs.Common.{◌≡◌, subst, sym, rules}
 use Rattle.crs_text.specs.Written.{item_text}
 use Rattle.crs_value.specs.SpellsText.{Spells}
-use Rattle.crs_value.specs.declared.crs.Crs.{Crs}
+use Rattle.crs_value.specs.declared.values.crs.Crs.{Crs}
 use Rattle.crs_normal.specs.Normal.{IsNormalText}
 use Rattle.crs_normal.specs.SpelledCrs.{item_crs, norm_crs}
 use Rattle.crs_canon.proofs.answer.written.Goals as goal

@@ -1,4 +1,4 @@
-use Rattle.crs_value.specs.declared.level.Level.TheVariants as levels
+use Rattle.crs_value.specs.declared.values.level.Level.TheVariants as levels
 use Rattle.crs_same.proofs.SamenessOfPartsLemmas.{usage}
 use Rattle.crs_same.proofs.laws.same_usage_is_equivalence.Goals as goal
 

@@ -5,4 +5,4 @@ use Rattle.crs_shape.proofs.ItemLemmas.{class_of_root-node}
 use Rattle.crs_shape.proofs.fitting.class_at_root.Goals as goal
 
 pub returns-in-Node : goal.returns-in-Node
-returns-in-Node c = c.root_by.ensures ∙ ap (λ k. find is_root (classes_by k)) c.keyword.ensures ∙ class_of_root-node _ c.in-Node.ensures
+returns-in-Node c = c.root_by.ensures ∙ ap (λ k. find is_root (classes_by k)) c.keyword.ensures ∙ class_of_root-node c.keywords_are_spelled.ensures _ c.in-Node.ensures

@@ -5,4 +5,4 @@ use Rattle.crs_shape.proofs.KeywordLemmas.{is_known-table}
 use Rattle.crs_shape.proofs.keyword.known.Goals as goal
 
 pub returns : goal.returns
-returns c = c.known_by.ensures ∙ ap (λ k. has_class (classes_by k)) c.of.ensures ∙ is_known-table _
+returns c = c.known_by.ensures ∙ ap (λ k. has_class (classes_by k)) c.of.ensures ∙ is_known-table c.keywords_are_spelled.ensures _

@@ -5,4 +5,4 @@ use Rattle.crs_shape.proofs.KeywordLemmas.{root_named-table}
 use Rattle.crs_shape.proofs.keyword.root_class.Goals as goal
 
 pub returns : goal.returns
-returns c = c.root_by.ensures ∙ ap (λ k. find is_root (classes_by k)) c.of.ensures ∙ root_named-table _
+returns c = c.root_by.ensures ∙ ap (λ k. find is_root (classes_by k)) c.of.ensures ∙ root_named-table c.keywords_are_spelled.ensures _

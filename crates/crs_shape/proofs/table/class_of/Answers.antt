@@ -6,4 +6,4 @@ use Rattle.crs_shape.proofs.table.class_of.Goals as goal
 
 pub returns : goal.returns
 returns c =
-    c.class_by.ensures ∙ ap (λ k. find (is_part c.args.parent) (classes_by k)) c.of.ensures ∙ class_named-table _ _
+    c.class_by.ensures ∙ ap (λ k. find (is_part c.args.parent) (classes_by k)) c.of.ensures ∙ class_named-table c.keywords_are_spelled.ensures _ _

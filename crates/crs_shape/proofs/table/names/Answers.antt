@@ -8,4 +8,4 @@ use Rattle.crs_shape.proofs.table.names.Goals as goal
 pub returns : goal.returns
 returns c =
     c.names_by.ensures ∙ ap (λ k. is_class c.args.class (find (is_part c.args.parent) (classes_by k))) c.of.ensures
-    ∙ ap (is_class c.args.class) (class_named-table _ _)
+    ∙ ap (is_class c.args.class) (class_named-table c.keywords_are_spelled.ensures _ _)

@@ -5,6 +5,6 @@ use Rattle.crs_text.proofs.keyword.same_letter.Goals as goal
 
 pub returns : goal.returns
 returns c =
-    subst (λ b. IsTrue b ↔ (c.args.letter ≡ to_ascii_lowercase c.args.byte))
+    subst (λ b. IsTrue b ↔ (to_ascii_lowercase c.args.letter ≡ to_ascii_lowercase c.args.byte))
     (sym (same_letter-byte c.args.letter c.args.byte c.ranges.letter.fits c.ranges.byte.fits c.requires))
-    (tested c.args.letter (to_ascii_lowercase c.args.byte))
+    (tested (to_ascii_lowercase c.args.letter) (to_ascii_lowercase c.args.byte))

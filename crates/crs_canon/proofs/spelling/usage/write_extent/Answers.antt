@@ -4,7 +4,6 @@ use Rattle.crs_decimal.specs.Plain.{plain}
 use Rattle.crs_text.specs.Items.{End, More}
 use Rattle.crs_text.specs.Written.{others_text}
 use Rattle.crs_value.specs.Values.{ExtentParts}
-use Rattle.crs_value.specs.declared.level.Level.TheVariants as levels
 use Rattle.crs_normal.specs.SpelledItems.{number_item, opt}
 use Rattle.crs_normal.specs.SpelledUnits.{item_unit, norm_length}
 use Rattle.crs_canon.proofs.PieceLemmas.{three}
@@ -15,7 +14,7 @@ returns c =
     let extent = c.args.extent.now in
     on_ok_weaker c.append.result
     (three c.args.out.now.items (codes ",VERTICALEXTENT[" ++ plain extent.minimum)
-    (others_text (More (number_item extent.maximum) (opt item_unit (Some (norm_length levels.Full extent.unit)) End)))
+    (others_text (More (number_item extent.maximum) (opt item_unit (Some (norm_length c.args.level extent.unit)) End)))
     (93 ∷ []) c.open_number.new.out.items c.write_from_maximum.new.out.items c.append.new.out.items
     (c.in_ok-open_number.ensures ∙ ap (λ (e : ExtentParts). c.args.out.now.items ++ (codes ",VERTICALEXTENT[" ++ plain e.minimum)) c.extent.view_is)
     c.in_ok-write_from_maximum.ensures)

@@ -2,7 +2,7 @@ use Rattle.std.proofs.Common.{◌++◌, codes, ◌∙◌, rules}
 use Rattle.std.proofs.lemmas.Result.{on_ok_weaker}
 use Rattle.std.specs.Option.{option_map}
 use Rattle.crs_text.specs.Items.{End}
-use Rattle.crs_value.specs.declared.level.Level.TheVariants as levels
+use Rattle.crs_value.specs.declared.values.level.Level.TheVariants as levels
 use Rattle.crs_normal.specs.SpelledItems.{opt, text_node}
 use Rattle.crs_normal.specs.SpelledUsages.{item_box, item_extent, norm_extent}
 use Rattle.crs_canon.proofs.EncloseLemmas.{from-enclosed}

@@ -4,8 +4,8 @@ use Rattle.crs_decimal.specs.Plain.{IsPlain}
 use Rattle.crs_decimal.specs.Spelling.{unsigned}
 use Rattle.crs_shape.specs.Keywords.{is_keyword}
 use Rattle.crs_shape.specs.Slots.{class_named}
-use Rattle.crs_value.specs.declared.direction.Direction.TheVariants as direction
-use Rattle.crs_value.specs.declared.system_type.SystemType.TheVariants as types
+use Rattle.crs_value.specs.declared.values.direction.Direction.TheVariants as direction
+use Rattle.crs_value.specs.declared.values.system_type.SystemType.TheVariants as types
 use Rattle.crs_normal.proofs.laws.examples.worked_examples.Goals as goal
 
 one-plain : IsPlain (codes "1")
@@ -22,7 +22,7 @@ pub returns-clause-normal : goal.returns-clause-normal
 unfolding digits class_named is_keyword
 returns-clause-normal c = (
   refl,
-  tt,
+  (refl, (refl, (refl, tt))),
   (
     record { ordered = (refl, tt); own_units = (λ e. cc, tt); none_shared = refl },
     record {
@@ -33,21 +33,21 @@ returns-clause-normal c = (
   (tt, (tt, (tt, (tt, (tt, tt))))),
   tt,
   (
-    (refl, tt, tt, (tt, (tt, (tt, (tt, (tt, tt))))), tt, tt),
+    (refl, (refl, (refl, (refl, tt))), tt, (tt, (tt, (tt, (tt, (tt, tt))))), tt, tt),
     (
-      (refl, tt, tt, (tt, (tt, (tt, (tt, (tt, tt))))), (types.Vertical, refl), (one-plain, tt)),
+      (refl, (refl, (refl, (refl, tt))), tt, (tt, (tt, (tt, (tt, (tt, tt))))), (types.Vertical, refl), (one-plain, tt)),
       (
         (
           refl,
-          tt,
+          (refl, (refl, (refl, tt))),
           tt,
           (tt, (tt, (tt, (tt, (tt, tt))))),
           tt,
           (
             (direction.Up, refl),
             (
-              (refl, tt, tt, (tt, (tt, (tt, (tt, (tt, tt))))), one-plain, tt),
-              ((inl refl, tt, tt, (tt, (tt, (tt, (tt, (tt, tt))))), tt, (one-plain, tt)), tt),
+              (refl, (refl, (refl, (refl, tt))), tt, (tt, (tt, (tt, (tt, (tt, tt))))), one-plain, tt),
+              ((inl refl, (refl, (refl, (refl, tt))), tt, (tt, (tt, (tt, (tt, (tt, tt))))), tt, (one-plain, tt)), tt),
             ),
           ),
         ),

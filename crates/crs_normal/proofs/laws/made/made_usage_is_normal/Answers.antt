@@ -2,4 +2,4 @@ use Rattle.crs_normal.proofs.MadeUsageLemmas.{usage-made}
 use Rattle.crs_normal.proofs.laws.made.made_usage_is_normal.Goals as goal
 
 pub returns : goal.returns
-returns c = λ level x place h. usage-made c.decimal_laws.ensures level x h place
+returns c = λ x place h. usage-made c.decimal_laws.ensures x h place

@@ -4,7 +4,7 @@ use Rattle.crs_shape.specs.declared.class.Class.TheVariants as class
 use Rattle.crs_value.specs.ReadsCrs.{ReadsBase, ReadsCompound, ReadsGeodetic, ReadsProjected, ReadsVertical}
 use Rattle.crs_value.specs.SoundCompound.{IsCompound}
 use Rattle.crs_value.specs.SoundSingle.{IsBase, IsGeodetic, IsProjected, IsVertical}
-use Rattle.crs_value.specs.declared.crs.Crs.TheVariants as crs
+use Rattle.crs_value.specs.declared.values.crs.Crs.TheVariants as crs
 use Rattle.crs_same.specs.SameCrs.{SameBase, SameCompound, SameGeodetic, SameProjected, SameVertical}
 use Rattle.crs_normal.specs.Made.{root_class}
 use Rattle.crs_normal.specs.SpelledCrs.{item_base, item_compound, item_geodetic, item_projected, item_vertical, norm_base, norm_compound, norm_geodetic, norm_projected, norm_vertical}

@@ -11,20 +11,20 @@ use Rattle.crs_shape.proofs.seeking.Sought.is.Goals as goal
 
 pub returns-then-ne : goal.returns-then-ne
 returns-then-ne c =
-    other_kind _ _ _ (first_of (here c.args.items.now c.args.id)) c.self.invariant.1
+    other_kind c.keywords_are_spelled.ensures _ _ _ (first_of (here c.args.items.now c.args.id)) c.self.invariant.1
     (ap (λ k. sameb kinds.the_type k c.self.inside.kind) (sym c.kind.ensures) ∙ not-true _ (sym c.ne.ensures ∙ c.if-ne.true))
     ∙ ap (λ s. is_class s.class (class_in s.parent (first_of (here c.args.items.now c.args.id)))) c.self.view_is
 
 pub returns-in_default : goal.returns-in_default
 returns-in_default c =
-    node_named _ _ (first_of (here c.args.items.now c.args.id)) None
+    node_named c.keywords_are_spelled.ensures _ _ (first_of (here c.args.items.now c.args.id)) None
     (is_node _ _ _ c.kind.ensures (turned _ (sym c.ne.ensures ∙ c.if-ne.false)) (turned _ (sym c.ne-2.ensures ∙ c.if-ne-2.false)))
     c.in_default.ensures
     ∙ ap (λ s. is_class s.class (class_in s.parent (first_of (here c.args.items.now c.args.id)))) c.self.view_is
 
 pub returns-then-not-has : goal.returns-then-not-has
 returns-then-not-has c =
-    other_keyword _ _ (first_of (here c.args.items.now c.args.id)) c.in-Some.keyword
+    other_keyword c.keywords_are_spelled.ensures _ _ (first_of (here c.args.items.now c.args.id)) c.in-Some.keyword
     (is_node _ _ _ c.kind.ensures (turned _ (sym c.ne.ensures ∙ c.if-ne.false)) (turned _ (sym c.ne-2.ensures ∙ c.if-ne-2.false)))
     c.in-Some.ensures
     (ap (λ set. has_bit set (keyword_bit c.in-Some.keyword)) (sym c.self.invariant.0) ∙ sym c.has.ensures ∙ c.if-not-has.true)
@@ -33,7 +33,7 @@ returns-then-not-has c =
 pub returns : goal.returns
 returns c =
     c.is_class.ensures ∙ ap (is_class c.self.inside.class) c.class_by.ensures
-    ∙ node_named _ _ (first_of (here c.args.items.now c.args.id)) _
+    ∙ node_named c.keywords_are_spelled.ensures _ _ (first_of (here c.args.items.now c.args.id)) _
     (is_node _ _ _ c.kind.ensures (turned _ (sym c.ne.ensures ∙ c.if-ne.false)) (turned _ (sym c.ne-2.ensures ∙ c.if-ne-2.false)))
     c.in-Some.ensures
     ∙ ap (λ s. is_class s.class (class_in s.parent (first_of (here c.args.items.now c.args.id)))) c.self.view_is

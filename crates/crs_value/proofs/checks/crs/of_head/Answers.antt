@@ -1,0 +1,20 @@
+use Rattle.crs_text.specs.Items.{arguments}
+use Rattle.crs_text.specs.Refusal.{RefusedAt}
+use Rattle.crs_shape.specs.declared.class.Class.TheVariants as class
+use Rattle.crs_value.specs.BadSystem.{dimensions_of}
+use Rattle.crs_value.specs.Break.{AnyOf}
+use Rattle.crs_value.specs.Checks.{OfHead, once}
+use Rattle.crs_value.specs.RepeatedPart.{RepeatsAny}
+use Rattle.crs_value.specs.Reading.{item_at, those}
+use Rattle.crs_value.proofs.LeastLemmas.{either-is}
+use Rattle.crs_value.proofs.checks.crs.of_head.Goals as goal
+
+pub returns : goal.returns
+returns c =
+    let items = arguments (item_at c.args.items.now c.args.id) in
+    let systems = those c.args.class class.CoordinateSystem items in
+    let axes = those c.args.class class.Axis items in
+    let Repeated : RefusedAt → Type 0 = λ f. RepeatsAny c.args.class items once f in
+    either-is Repeated (AnyOf (OfHead (dimensions_of c.args.class) axes) systems) c.repeats_once.result c.only_from.result c.lesser.result c.lesser.ensures
+    c.repeats_once.ensures
+    c.only_from.ensures

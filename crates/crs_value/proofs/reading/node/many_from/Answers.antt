@@ -1,0 +1,17 @@
+use Rattle.std.proofs.Common.{Option, ℕ, subst}
+use Rattle.crs_text.specs.Items.{arguments}
+use Rattle.crs_value.specs.Reading.{item_at, those}
+use Rattle.crs_value.proofs.NodeLemmas.{Going, going-first, going-end}
+use Rattle.crs_value.proofs.reading.node.many_from.Goals as goal
+
+pub loop-at-init : goal.loop-at-init
+loop-at-init g c =
+    going-first (g.T.Node.Reads c.args.class) c.args.items.now c.args.parent c.args.class (item_at c.args.items.now c.args._id) c.new-list.result c.args.found
+    c.requires.sound c.new-list.ensures c.requires.found
+
+pub returns : goal.returns
+returns g c =
+    let tree = c.args.items.now in
+    let whole = those c.args.parent c.args.class (arguments (item_at tree c.args._id)) in
+    let P : Option ℕ → Type 0 = λ at. Going (g.T.Node.Reads c.args.class) tree c.args.parent c.args.class whole c.loop-at.list at in
+    going-end (g.T.Node.Reads c.args.class) tree c.args.parent c.args.class whole c.loop-at.list (subst P c.in_default.is c.loop-at.invariant)

@@ -1,0 +1,13 @@
+use Rattle.crs_value.specs.Reading.{item_at}
+use Rattle.crs_value.proofs.SoundConversionLemmas.{conversion-tells}
+use Rattle.crs_value.proofs.values.conversion.ConversionNode.read.Goals as goal
+
+pub invariant_of-result : goal.invariant_of-result
+invariant_of-result c =
+    conversion-tells c.args.class (item_at c.args.items.now c.args.id) _ c.requires.sound
+    (record {
+      name = c.text.ensures;
+      method = c.in_ok-one.ensures;
+      parameters = c.in_ok-many.ensures;
+      identifiers = c.in_ok-many-2.ensures;
+    })

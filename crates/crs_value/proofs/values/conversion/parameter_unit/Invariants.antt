@@ -1,0 +1,6 @@
+use Rattle.crs_value.specs.Reading.{item_at}
+use Rattle.crs_value.proofs.ConversionLemmas.{Choosing}
+use Rattle.crs_value.proofs.values.conversion.parameter_unit.Given as goal
+
+abbrev pub invariant-loop-class : goal.invariant-loop-class
+invariant-loop-class l = Choosing (item_at l.items l.id) l.class-index

@@ -1,0 +1,14 @@
+use Rattle.crs_value.specs.Reading.{item_at}
+use Rattle.crs_value.proofs.SoundCrsLemmas.{geodetic-tells}
+use Rattle.crs_value.proofs.values.geodetic.read_geodetic.Goals as goal
+
+pub invariant_of-result : goal.invariant_of-result
+invariant_of-result c =
+    geodetic-tells c.slots_count.ensures.least c.slots_count.ensures.most c.args.class c.requires.class (item_at c.args.items.now c.args.id) _ c.requires.sound
+    (record {
+      name = c.text.ensures;
+      frame = c.in_ok-geodetic_frame.ensures;
+      meridian = c.in_ok-optional.ensures;
+      system = c.in_ok-read_system.ensures;
+      tail = c.in_ok-read_tail.ensures;
+    })

@@ -1,0 +1,13 @@
+use Rattle.crs_value.specs.Reading.{item_at}
+use Rattle.crs_value.proofs.SoundFrameLemmas.{meridian-tells}
+use Rattle.crs_value.proofs.values.meridian.MeridianNode.read.Goals as goal
+
+pub invariant_of-result : goal.invariant_of-result
+invariant_of-result c =
+    meridian-tells c.args.class (item_at c.args.items.now c.args.id) _ c.requires.sound
+    (record {
+      name = c.text.ensures;
+      longitude = c.number.ensures;
+      unit = c.in_ok-optional.ensures;
+      identifiers = c.in_ok-many.ensures;
+    })

@@ -1,0 +1,18 @@
+use Rattle.crs_shape.specs.declared.class.Class.TheVariants as class
+use Rattle.crs_value.specs.ReadsCrs.{ReadsProjected}
+use Rattle.crs_value.specs.SoundSingle.{IsProjected}
+use Rattle.crs_value.proofs.SoundLemmas.{tells-as}
+use Rattle.crs_value.specs.Reading.{item_at}
+use Rattle.crs_value.proofs.SoundCrsLemmas.{projected-tells}
+use Rattle.crs_value.proofs.values.projected.ProjectedNode.read.Goals as goal
+
+pub invariant_of-result : goal.invariant_of-result
+invariant_of-result c =
+    tells-as ReadsProjected IsProjected c.args.class class.ProjectedCrs c.requires.suits (projected-tells c.slots_count.ensures.least c.slots_count.ensures.most) (item_at c.args.items.now c.args.id) _ c.requires.sound
+    (record {
+      name = c.text.ensures;
+      base = c.in_ok-one.ensures;
+      conversion = c.in_ok-one-2.ensures;
+      system = c.in_ok-read_system.ensures;
+      tail = c.in_ok-read_tail.ensures;
+    })

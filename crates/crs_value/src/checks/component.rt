@@ -1,0 +1,117 @@
+//! The checks of a compound CRS.
+ghost use Rattle.std.specs.Prelude.{◌↔◌, IsTrue};
+ghost use Rattle.crs_text.specs.Items.{HasId, arguments};
+ghost use Rattle.crs_shape.specs.Shaped.{Shaped};
+ghost use Rattle.crs_value.specs.BadComponent.{IsNotEllipsoidal, IsNotPlane, IsNotHorizontal, BadComponent};
+ghost use Rattle.crs_value.specs.Break.{AnyOf, IsLeast, FirstIs};
+ghost use Rattle.crs_value.specs.Checks.{OfCompound};
+ghost use Rattle.crs_value.specs.Reading.{item_at, those, Requires, TakesOne};
+
+use crate::checks::repeats::repeats_once;
+use crate::checks::system::type_of;
+use crate::checks::{Check, lesser, only_of, refusal_at};
+use crate::reading::firsts::firsts_of;
+use crate::reading::node::{number, required};
+use crate::values::system_type::SystemType;
+use crs_decimal::laws::denotes_one;
+use crs_shape::Class;
+use crs_text::{ItemId, Items, Refusal};
+
+// Whether a node `CS` has a known type that isn't ellipsoidal.
+fn is_not_ellipsoidal(items: &Items<'_>, cs: ItemId) -> bool
+    requires has { HasId items.now cs }
+    requires shaped { Shaped Class.CoordinateSystem (item_at items.now cs) }
+    ensures { IsTrue result ↔ IsNotEllipsoidal (item_at items.now cs) }
+{
+    match type_of(items, cs) {
+        None | Some(SystemType::Ellipsoidal) => false,
+        Some(SystemType::Cartesian | SystemType::Spherical | SystemType::Vertical) => true,
+    }
+}
+
+fn is_not_plane(items: &Items<'_>, cs: ItemId) -> bool
+    requires has { HasId items.now cs }
+    requires shaped { Shaped Class.CoordinateSystem (item_at items.now cs) }
+    ensures { IsTrue result ↔ IsNotPlane (item_at items.now cs) }
+{
+    denotes_one();
+    !number(items, cs, Class::CoordinateSystem).is_whole(2)
+}
+
+// Whether a horizontal part of this class may not have a node `CS`.
+fn is_not_horizontal(items: &Items<'_>, cs: ItemId, class: Class) -> bool
+    requires has { HasId items.now cs }
+    requires shaped { Shaped Class.CoordinateSystem (item_at items.now cs) }
+    ensures { IsTrue result ↔ IsNotHorizontal class (item_at items.now cs) }
+{
+    match class {
+        Class::GeodeticCrs | Class::GeographicCrs => is_not_ellipsoidal(items, cs)
+            || is_not_plane(items, cs),
+        _ => is_not_plane(items, cs),
+    }
+}
+
+// Whether a part of this class may not be the horizontal one.
+fn is_bad(items: &Items<'_>, id: ItemId, class: Class) -> bool
+    requires has { HasId items.now id }
+    requires shaped { Shaped class (item_at items.now id) }
+    requires there { Requires class Class.CoordinateSystem 0 }
+    ensures { IsTrue result ↔ FirstIs (IsNotHorizontal class) (those class Class.CoordinateSystem (arguments
+        (item_at items.now id))) }
+{
+    let cs = required(items, id, class, Class::CoordinateSystem);
+    is_not_horizontal(items, cs, class)
+}
+
+// 24: a part that is geodetic and not geographic, or whose dimension isn't 2.
+#[derive(Drop)]
+struct Component {
+    class: Class,
+}
+
+impl Check for Component {
+    ghost use Rattle.std.specs.Prelude.{◌≡◌};
+    ghost use Rattle.crs_shape.specs.declared.class.Class.TheVariants as classes;
+    ghost use Rattle.crs_value.specs.BadComponent.{BadComponent};
+    ghost use Rattle.crs_value.specs.Reading.{Requires};
+
+    ghost Fits = { λ s tree class. (class ≡ s.class) × Requires class classes.CoordinateSystem 0 };
+
+    ghost Broken = { λ s tree item f. BadComponent s.class item f };
+
+    fn check(&self, items: &Items<'_>, id: ItemId, _class: Class) -> Option<Refusal> {
+        if is_bad(items, id, self.class) {
+            Some(refusal_at(items, id, 24))
+        } else {
+            None
+        }
+    }
+}
+
+// The first bad part of this class.
+fn bad_part(items: &Items<'_>, id: ItemId, class: Class) -> Option<Refusal>
+    requires has { HasId items.now id }
+    requires shaped { Shaped Class.CompoundCrs (item_at items.now id) }
+    requires there { Requires class Class.CoordinateSystem 0 }
+    requires once { TakesOne Class.CompoundCrs class }
+    ensures { IsLeast (AnyOf (BadComponent class) (those Class.CompoundCrs class (arguments
+        (item_at items.now id)))) result }
+{
+    only_of(&Component { class }, items, id, Class::CompoundCrs, class)
+}
+
+// The checks of a compound CRS: what may stand once, and its horizontal part.
+pub(crate) fn compound(items: &Items<'_>, id: ItemId) -> Option<Refusal>
+    requires has { HasId items.now id }
+    requires shaped { Shaped Class.CompoundCrs (item_at items.now id) }
+    ensures { IsLeast (OfCompound (arguments (item_at items.now id))) result }
+{
+    let projected = lesser(bad_part(items, id, Class::ProjectedCrs), None);
+    let geographic = lesser(bad_part(items, id, Class::GeographicCrs), projected);
+    let geodetic = lesser(bad_part(items, id, Class::GeodeticCrs), geographic);
+    let firsts = firsts_of(items, id, Class::CompoundCrs);
+    lesser(
+        repeats_once(items, id, Class::CompoundCrs, &firsts),
+        geodetic,
+    )
+}

@@ -1,0 +1,237 @@
+//! The checks of the orders of axes.
+ghost use Rattle.std.specs.Prelude.{◌≡◌, ◌≢◌, ◌↔◌, ◌≤◌, [], IsTrue, Some, length, take};
+ghost use Rattle.crs_text.specs.Items.{HasId, arguments};
+ghost use Rattle.crs_shape.specs.Shaped.{Shaped};
+ghost use Rattle.crs_value.specs.BadOrder.{IsPosition, HasThis, OneHas, LacksOrder, orders_in, SomeHasOrder, BadOrders};
+ghost use Rattle.crs_value.specs.BadOrder.{BadOrder};
+ghost use Rattle.crs_value.specs.Break.{AnyOf, IsLeast};
+ghost use Rattle.crs_value.specs.Noted.{AreFirsts};
+ghost use Rattle.crs_value.specs.Reading.{item_at, those, IsFound};
+
+use crate::checks::{Check, any_from, lesser, only_of, refusal_at};
+use crate::reading::arguments::{first, later};
+use crate::reading::firsts::Firsts;
+use crate::reading::node::number;
+use crs_decimal::Decimal;
+use crs_decimal::laws::{denotes_one, same_number_is_equivalence};
+use crs_shape::Class;
+use crs_text::{ItemId, Items, Refusal};
+
+fn is_position(value: &Decimal, n: usize) -> bool
+    ensures { IsTrue result ↔ IsPosition n value.now }
+{
+    same_number_is_equivalence();
+    match value.whole() {
+        None => false,
+        Some(whole) => is_within(whole, n),
+    }
+}
+
+fn is_within(whole: u64, n: usize) -> bool
+    ensures { IsTrue result ↔ ((1 ≤ whole) × (whole ≤ n)) }
+{
+    1 <= whole && whole <= n as u64
+}
+
+fn same_value(a: &Decimal, b: &Decimal) -> bool
+    ensures { IsTrue result ↔ (a.now ≡ b.now) }
+{
+    a == b
+}
+
+// Whether an axis has this order.
+fn has_this(items: &Items<'_>, axis: ItemId, value: &Decimal) -> bool
+    requires has { HasId items.now axis }
+    requires shaped { Shaped Class.Axis (item_at items.now axis) }
+    ensures { IsTrue result ↔ HasThis value.now (item_at items.now axis) }
+{
+    denotes_one();
+    match first(items, axis, Class::Axis, Class::Order) {
+        None => false,
+        Some(order) => same_value(&number(items, order, Class::Order), value),
+    }
+}
+
+// Whether one of the first `k` axes has this order.
+fn one_has(
+    items: &Items<'_>,
+    _crs: ItemId,
+    class: Class,
+    axis: Option<ItemId>,
+    k: usize,
+    value: &Decimal,
+) -> bool
+    requires crs { HasId items.now _crs }
+    requires shaped { Shaped class (item_at items.now _crs) }
+    requires axis { IsFound items.now class Class.Axis (those class Class.Axis (arguments (item_at items.now _crs)))
+        axis }
+    requires within { k ≤ length (those class Class.Axis (arguments (item_at items.now _crs))) }
+    ensures { IsTrue result ↔ OneHas value.now (take k (those class Class.Axis (arguments
+        (item_at items.now _crs)))) }
+{
+    let mut at = axis;
+    for _step in 0..k {
+        let Some(axis) = at else { unreachable!() };
+        if has_this(items, axis, value) {
+            return true;
+        }
+        at = later(items, axis, class, Class::Axis);
+    }
+    false
+}
+
+// 26: an order that is no position among the axes, or that one of the first `before` axes has.
+#[derive(Drop)]
+struct Position {
+    crs: ItemId,
+    class: Class,
+    axis: Option<ItemId>,
+    count: usize,
+    before: usize,
+}
+
+impl Check for Position {
+    ghost use Rattle.std.specs.Prelude.{◌≡◌, ◌≤◌, length, take};
+    ghost use Rattle.crs_text.specs.Items.{HasId, arguments};
+    ghost use Rattle.crs_shape.specs.Shaped.{Shaped};
+    ghost use Rattle.crs_shape.specs.declared.class.Class.TheVariants as classes;
+    ghost use Rattle.crs_value.specs.BadOrder.{IsBadOrder};
+    ghost use Rattle.crs_value.specs.Reading.{item_at, those, IsFound};
+
+    ghost Fits = { λ s tree class. HasId tree s.crs × Shaped s.class (item_at tree s.crs) × (class ≡ classes.Order)
+        × IsFound tree s.class classes.Axis (those s.class classes.Axis (arguments (item_at tree s.crs))) s.axis
+        × (s.before ≤ length (those s.class classes.Axis (arguments (item_at tree s.crs)))) };
+
+    ghost Broken = { λ s tree item f. IsBadOrder s.count
+        (take s.before (those s.class classes.Axis (arguments (item_at tree s.crs)))) item f };
+
+    fn check(&self, items: &Items<'_>, id: ItemId, _class: Class) -> Option<Refusal> {
+        denotes_one();
+        let value = number(items, id, Class::Order);
+        if !is_position(&value, self.count) {
+            return Some(refusal_at(items, id, 26));
+        }
+        if one_has(items, self.crs, self.class, self.axis, self.before, &value) {
+            return Some(refusal_at(items, id, 26));
+        }
+        None
+    }
+}
+
+// 26: an axis that lacks an order.
+struct Orderless;
+
+impl Check for Orderless {
+    ghost use Rattle.std.specs.Prelude.{◌≡◌};
+    ghost use Rattle.crs_shape.specs.declared.class.Class.TheVariants as classes;
+    ghost use Rattle.crs_value.specs.BadOrder.{LacksOrder};
+
+    ghost Fits = { λ s tree class. class ≡ classes.Axis };
+
+    ghost Broken = { λ s tree item f. LacksOrder item f };
+
+    fn check(&self, items: &Items<'_>, id: ItemId, _class: Class) -> Option<Refusal> {
+        match first(items, id, Class::Axis, Class::Order) {
+            None => Some(refusal_at(items, id, 26)),
+            Some(_) => None,
+        }
+    }
+}
+
+fn has_order(items: &Items<'_>, axis: ItemId) -> bool
+    requires { HasId items.now axis }
+    ensures { IsTrue result ↔ (orders_in (item_at items.now axis) ≢ []) }
+{
+    match first(items, axis, Class::Axis, Class::Order) {
+        None => false,
+        Some(_) => true,
+    }
+}
+
+// Whether some axis has an order.
+fn some_has_order(items: &Items<'_>, _crs: ItemId, class: Class, axis: Option<ItemId>) -> bool
+    requires crs { HasId items.now _crs }
+    requires axis { IsFound items.now class Class.Axis (those class Class.Axis (arguments (item_at items.now _crs)))
+        axis }
+    ensures { IsTrue result ↔ SomeHasOrder (those class Class.Axis (arguments (item_at items.now _crs))) }
+{
+    let mut at = axis;
+    while let Some(axis) = at {
+        if has_order(items, axis) {
+            return true;
+        }
+        at = later(items, axis, class, Class::Axis);
+    }
+    false
+}
+
+// 26: the first order that is no position or stands twice.
+fn bad_orders(items: &Items<'_>, crs: ItemId, class: Class, firsts: &Firsts) -> Option<Refusal>
+    requires crs { HasId items.now crs }
+    requires shaped { Shaped class (item_at items.now crs) }
+    requires firsts { AreFirsts items.now class (arguments (item_at items.now crs)) firsts.now }
+    ensures { IsLeast (BadOrders (length (those class Class.Axis (arguments (item_at items.now crs)))) []
+        (those class Class.Axis (arguments (item_at items.now crs)))) result }
+{
+    // The axes are no more than the arguments, whose number is a usize.
+    let _bound = items.arg_count(crs);
+    let count = firsts.axes;
+    let mut before = 0;
+    let mut least = None;
+    let mut at = firsts.axis;
+    while let Some(axis) = at {
+        let position = Position {
+            crs,
+            class,
+            axis: firsts.axis,
+            count,
+            before,
+        };
+        least = lesser(
+            least,
+            only_of(&position, items, axis, Class::Axis, Class::Order),
+        );
+        before += 1;
+        at = later(items, axis, class, Class::Axis);
+    }
+    least
+}
+
+// 26: an axis that lacks an order beside one that has it, or the first bad order.
+pub(crate) fn bad_order(
+    items: &Items<'_>,
+    crs: ItemId,
+    class: Class,
+    firsts: &Firsts,
+) -> Option<Refusal>
+    requires crs { HasId items.now crs }
+    requires shaped { Shaped class (item_at items.now crs) }
+    requires firsts { AreFirsts items.now class (arguments (item_at items.now crs)) firsts.now }
+    ensures { IsLeast (BadOrder (those class Class.Axis (arguments (item_at items.now crs)))) result }
+{
+    match any_from(&Orderless, items, firsts.axis, class, Class::Axis) {
+        None => bad_orders(items, crs, class, firsts),
+        Some(lacks) => beside(items, crs, class, firsts, lacks),
+    }
+}
+
+// An axis that lacks an order counts beside one that has it.
+fn beside(
+    items: &Items<'_>,
+    crs: ItemId,
+    class: Class,
+    firsts: &Firsts,
+    lacks: Refusal,
+) -> Option<Refusal>
+    requires crs { HasId items.now crs }
+    requires firsts { AreFirsts items.now class (arguments (item_at items.now crs)) firsts.now }
+    requires lacks { IsLeast (AnyOf LacksOrder (those class Class.Axis (arguments (item_at items.now crs))))
+        (Some lacks) }
+    ensures { IsLeast (BadOrder (those class Class.Axis (arguments (item_at items.now crs)))) result }
+{
+    if some_has_order(items, crs, class, firsts.axis) {
+        Some(lacks)
+    } else {
+        None
+    }
+}

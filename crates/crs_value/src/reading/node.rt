@@ -1,0 +1,272 @@
+//! Readers: values from the arguments of a node that has its shape and breaks no check.
+ghost use Rattle.std.specs.Prelude.{IfOk, Some};
+ghost use Rattle.std.specs.Option.{option_copied};
+ghost use Rattle.crs_text.specs.Items.{Item, arguments, HasId};
+ghost use Rattle.crs_shape.specs.declared.class.Class.{Class};
+ghost use Rattle.crs_shape.specs.Shaped.{Shaped};
+ghost use Rattle.crs_value.specs.Checks.{IsSound};
+ghost use Rattle.crs_value.specs.Reading.{item_at, Requires, those, IsFound, ReadsFirst, ReadsOptional, ReadsEach};
+ghost use Rattle.crs_value.specs.Reads.{ReadsNumber, ReadsTextOf, ReadsNumberOf, ReadsNumberAt};
+
+use crate::reading::arguments::{first, later};
+use crate::values::list::List;
+use crs_decimal::Decimal;
+use crs_shape::Class;
+use crs_shape::laws::slots_count;
+use crs_text::{ItemId, Items};
+use std::alloc::{AllocError, Global};
+
+// A value that is read from a node of some classes.
+pub(crate) trait Node<'a>: Sized + Drop {
+    ghost Suits: { Class → Type 0 };
+
+    ghost Reads: { Class → Item → Self → Type 0 };
+
+    fn read(alloc: Global, items: &Items<'a>, id: ItemId, class: Class) -> Result<Self, AllocError>
+        requires has { HasId items.now id }
+        requires suits { Suits class }
+        requires sound { IsSound class (item_at items.now id) }
+        ensures { IfOk result (λ value. Reads class (item_at items.now id) value) };
+}
+
+// The argument of this class that the slots require.
+pub(crate) fn required(items: &Items<'_>, id: ItemId, parent: Class, class: Class) -> ItemId
+    requires has { HasId items.now id }
+    requires shaped { Shaped parent (item_at items.now id) }
+    requires enough { Requires parent class 0 }
+    ensures found { IsFound items.now parent class (those parent class (arguments (item_at items.now id)))
+        (Some result) }
+    ensures shaped { Shaped class (item_at items.now result) }
+    ensures sound { IsSound parent (item_at items.now id) → IsSound class (item_at items.now result) }
+{
+    slots_count();
+    match first(items, id, parent, class) {
+        Some(found) => found,
+        None => unreachable!(),
+    }
+}
+
+pub(crate) fn one<'a, T: Node<'a>>(
+    alloc: Global,
+    items: &Items<'a>,
+    id: ItemId,
+    parent: Class,
+    class: Class,
+) -> Result<T, AllocError>
+    requires has { HasId items.now id }
+    requires sound { IsSound parent (item_at items.now id) }
+    requires suits { T.Suits class }
+    requires enough { Requires parent class 0 }
+    ensures { IfOk result (λ value. ReadsFirst (T.Reads class) (those parent class (arguments
+        (item_at items.now id))) value) }
+{
+    T::read(alloc, items, required(items, id, parent, class), class)
+}
+
+pub(crate) fn optional<'a, T: Node<'a>>(
+    alloc: Global,
+    items: &Items<'a>,
+    id: ItemId,
+    parent: Class,
+    class: Class,
+) -> Result<Option<T>, AllocError>
+    requires has { HasId items.now id }
+    requires sound { IsSound parent (item_at items.now id) }
+    requires suits { T.Suits class }
+    ensures { IfOk result (λ value. ReadsOptional (T.Reads class) (those parent class (arguments
+        (item_at items.now id))) value) }
+{
+    optional_from(
+        alloc,
+        items,
+        id,
+        parent,
+        class,
+        first(items, id, parent, class),
+    )
+}
+
+// The same where the first argument of the class was found.
+pub(crate) fn optional_from<'a, T: Node<'a>>(
+    alloc: Global,
+    items: &Items<'a>,
+    _id: ItemId,
+    parent: Class,
+    class: Class,
+    found: Option<ItemId>,
+) -> Result<Option<T>, AllocError>
+    requires has { HasId items.now _id }
+    requires sound { IsSound parent (item_at items.now _id) }
+    requires suits { T.Suits class }
+    requires found { IsFound items.now parent class (those parent class (arguments (item_at items.now _id))) found }
+    ensures { IfOk result (λ value. ReadsOptional (T.Reads class) (those parent class (arguments
+        (item_at items.now _id))) value) }
+{
+    match found {
+        None => Ok(None),
+        Some(found) => Ok(Some(T::read(alloc, items, found, class)?)),
+    }
+}
+
+pub(crate) fn many<'a, T: Node<'a>>(
+    alloc: Global,
+    items: &Items<'a>,
+    id: ItemId,
+    parent: Class,
+    class: Class,
+) -> Result<List<T>, AllocError>
+    requires has { HasId items.now id }
+    requires sound { IsSound parent (item_at items.now id) }
+    requires suits { T.Suits class }
+    ensures { IfOk result (λ values. ReadsEach (T.Reads class) (those parent class (arguments
+        (item_at items.now id))) values) }
+{
+    many_from(
+        alloc,
+        items,
+        id,
+        parent,
+        class,
+        first(items, id, parent, class),
+    )
+}
+
+// The same where the first argument of the class was found.
+pub(crate) fn many_from<'a, T: Node<'a>>(
+    alloc: Global,
+    items: &Items<'a>,
+    _id: ItemId,
+    parent: Class,
+    class: Class,
+    found: Option<ItemId>,
+) -> Result<List<T>, AllocError>
+    requires has { HasId items.now _id }
+    requires sound { IsSound parent (item_at items.now _id) }
+    requires suits { T.Suits class }
+    requires found { IsFound items.now parent class (those parent class (arguments (item_at items.now _id))) found }
+    ensures { IfOk result (λ values. ReadsEach (T.Reads class) (those parent class (arguments
+        (item_at items.now _id))) values) }
+{
+    let mut list = List::new(alloc);
+    let mut at = found;
+    while let Some(found) = at {
+        list.push(T::read(alloc, items, found, class)?)?;
+        at = later(items, found, parent, class);
+    }
+    Ok(list)
+}
+
+// The text of a node.
+pub(crate) fn text<'a>(items: &Items<'a>, id: ItemId, class: Class) -> &'a [u8]
+    requires has { HasId items.now id }
+    requires sound { IsSound class (item_at items.now id) }
+    requires enough { Requires class Class.Text 0 }
+    ensures { ReadsTextOf class (item_at items.now id) result.now }
+{
+    items.raw(required(items, id, class, Class::Text))
+}
+
+// The text of a node that may stand in another.
+pub(crate) fn optional_text<'a>(
+    items: &Items<'a>,
+    id: ItemId,
+    parent: Class,
+    class: Class,
+) -> Option<&'a [u8]>
+    requires has { HasId items.now id }
+    requires sound { IsSound parent (item_at items.now id) }
+    requires enough { Requires class Class.Text 0 }
+    ensures { ReadsOptional (ReadsTextOf class) (those parent class (arguments (item_at items.now id)))
+        (option_copied result) }
+{
+    optional_text_from(items, id, parent, class, first(items, id, parent, class))
+}
+
+// The same where the first argument of the class was found.
+pub(crate) fn optional_text_from<'a>(
+    items: &Items<'a>,
+    _id: ItemId,
+    parent: Class,
+    class: Class,
+    found: Option<ItemId>,
+) -> Option<&'a [u8]>
+    requires has { HasId items.now _id }
+    requires sound { IsSound parent (item_at items.now _id) }
+    requires enough { Requires class Class.Text 0 }
+    requires found { IsFound items.now parent class (those parent class (arguments (item_at items.now _id))) found }
+    ensures { ReadsOptional (ReadsTextOf class) (those parent class (arguments (item_at items.now _id)))
+        (option_copied result) }
+{
+    match found {
+        None => None,
+        Some(found) => Some(text(items, found, class)),
+    }
+}
+
+// Number `k` of a node's numbers, the first being 0.
+pub(crate) fn number_at(items: &Items<'_>, id: ItemId, class: Class, k: usize) -> Decimal
+    requires has { HasId items.now id }
+    requires shaped { Shaped class (item_at items.now id) }
+    requires enough { Requires class Class.Number k }
+    ensures { ReadsNumberAt k class (item_at items.now id) result }
+{
+    slots_count();
+    let mut at = first(items, id, class, Class::Number);
+    for _step in 0..k {
+        let Some(found) = at else { unreachable!() };
+        at = later(items, found, class, Class::Number);
+    }
+    let Some(found) = at else { unreachable!() };
+    decimal_of(items, found)
+}
+
+// The number of a node.
+pub(crate) fn number(items: &Items<'_>, id: ItemId, class: Class) -> Decimal
+    requires has { HasId items.now id }
+    requires shaped { Shaped class (item_at items.now id) }
+    requires enough { Requires class Class.Number 0 }
+    ensures { ReadsNumberOf class (item_at items.now id) result }
+{
+    decimal_of(items, required(items, id, class, Class::Number))
+}
+
+// The number of a node that may stand in another.
+pub(crate) fn optional_number(
+    items: &Items<'_>,
+    id: ItemId,
+    parent: Class,
+    class: Class,
+) -> Option<Decimal>
+    requires has { HasId items.now id }
+    requires sound { IsSound parent (item_at items.now id) }
+    requires enough { Requires class Class.Number 0 }
+    ensures { ReadsOptional (ReadsNumberOf class) (those parent class (arguments
+        (item_at items.now id))) result }
+{
+    let found = first(items, id, parent, class)?;
+    Some(number(items, found, class))
+}
+
+// The number of a node that has to stand in another.
+pub(crate) fn one_number(items: &Items<'_>, id: ItemId, parent: Class, class: Class) -> Decimal
+    requires has { HasId items.now id }
+    requires shaped { Shaped parent (item_at items.now id) }
+    requires there { Requires parent class 0 }
+    requires enough { Requires class Class.Number 0 }
+    ensures { ReadsFirst (ReadsNumberOf class) (those parent class (arguments
+        (item_at items.now id))) result }
+{
+    number(items, required(items, id, parent, class), class)
+}
+
+// A number by itself.
+pub(crate) fn decimal_of(items: &Items<'_>, id: ItemId) -> Decimal
+    requires has { HasId items.now id }
+    requires shaped { Shaped Class.Number (item_at items.now id) }
+    ensures { ReadsNumber (item_at items.now id) result }
+{
+    match items.number(id) {
+        Some(value) => value,
+        None => unreachable!(),
+    }
+}

@@ -1,0 +1,22 @@
+//! The values of nodes, each with its reading.
+
+pub(crate) mod axis;
+pub(crate) mod compound;
+pub(crate) mod conversion;
+pub(crate) mod crs;
+pub(crate) mod crs_frame;
+pub(crate) mod direction;
+pub(crate) mod ellipsoid;
+pub(crate) mod frame;
+pub(crate) mod geodetic;
+pub(crate) mod ident;
+pub(crate) mod level;
+pub(crate) mod list;
+pub(crate) mod meridian;
+pub(crate) mod projected;
+pub(crate) mod system;
+pub(crate) mod system_type;
+pub(crate) mod unit;
+pub(crate) mod unit_kind;
+pub(crate) mod usage;
+pub(crate) mod vertical;

@@ -1,0 +1,158 @@
+//! Axes.
+ghost use Rattle.crs_text.specs.Items.{HasId, arguments};
+ghost use Rattle.crs_value.specs.Checks.{IsSound};
+ghost use Rattle.crs_value.specs.Reading.{item_at, those, ReadsFirst};
+ghost use Rattle.crs_value.specs.Reads.{ReadsDirection};
+
+use crate::reading::node::{Node, many, number, one, optional, optional_number, required, text};
+use crate::values::direction::Direction;
+use crate::values::ident::Ident;
+use crate::values::list::List;
+use crate::values::unit::Unit;
+use crs_decimal::Decimal;
+use crs_shape::Class;
+use crs_text::{ItemId, Items};
+use std::alloc::{AllocError, Global};
+use std::marker::Model;
+
+/// An axis, `AXIS[name, direction, (meridian), (order), (unit), id..]`.
+/// ISO 19162:2019, "Axis".
+pub struct Axis<'a> {
+    /// The name and abbreviation, unsplit.
+    pub name: &'a [u8],
+    /// The direction.
+    pub direction: Direction,
+    /// The meridian that the axis goes along, at a pole.
+    pub meridian: Option<AxisMeridian<'a>>,
+    /// The axis's number in the system: from 1 to the number of axes.
+    pub order: Option<Decimal>,
+    /// The axis's own unit; None where the axes share one.
+    pub unit: Option<Unit<'a>>,
+    /// The identifiers, as written.
+    pub identifiers: List<Ident<'a>>,
+}
+
+impl<'a> Model for Axis<'a> {
+    ghost use Rattle.crs_value.specs.Sound.{IsAxis};
+    ghost use Rattle.crs_value.specs.Values.{AxisParts};
+
+    ghost Value = { AxisParts };
+
+    ghost view = { λ a. record {
+      name = a.name.now;
+      direction = a.direction;
+      meridian = a.meridian;
+      order = a.order;
+      unit = a.unit;
+      identifiers = a.identifiers;
+    } };
+
+    ghost invariant = { λ a. IsAxis (view a) };
+}
+
+// By hand, so that whoever drops one calls this, and proves nothing of its parts.
+impl Drop for Axis<'_> {
+    fn drop(self) {
+        let Axis {
+            name: _,
+            direction: _,
+            meridian: _,
+            order: _,
+            unit: _,
+            identifiers: _,
+        } = self;
+    }
+}
+
+/// The meridian of an axis at a pole, `MERIDIAN[longitude, unit]`.
+/// ISO 19162:2019, "Axis direction".
+pub struct AxisMeridian<'a> {
+    /// The longitude, in the unit.
+    pub longitude: Decimal,
+    /// The unit of the longitude, an angle.
+    pub unit: Unit<'a>,
+}
+
+impl<'a> Model for AxisMeridian<'a> {
+    ghost use Rattle.crs_value.specs.Sound.{IsAxisMeridian};
+    ghost use Rattle.crs_value.specs.Values.{AxisMeridianParts};
+
+    ghost Value = { AxisMeridianParts };
+
+    ghost view = { λ m. record { longitude = m.longitude; unit = m.unit } };
+
+    ghost invariant = { λ m. IsAxisMeridian (view m) };
+}
+
+// By hand, so that whoever drops one calls this, and proves nothing of its parts.
+impl Drop for AxisMeridian<'_> {
+    fn drop(self) {
+        let AxisMeridian {
+            longitude: _,
+            unit: _,
+        } = self;
+    }
+}
+
+impl<'a> Node<'a> for AxisMeridian<'a> {
+    ghost use Rattle.std.specs.Prelude.{◌≡◌};
+    ghost use Rattle.crs_shape.specs.declared.class.Class.TheVariants as classes;
+    ghost use Rattle.crs_value.specs.Reading.{Requires};
+    ghost use Rattle.crs_value.specs.Reads.{ReadsAxisMeridian};
+
+    ghost Suits = { λ c. Requires c classes.Number 0 × Requires c classes.AngleUnit 0 };
+
+    ghost Reads = { λ c item parts. ReadsAxisMeridian c item parts };
+
+    fn read(
+        alloc: Global,
+        items: &Items<'a>,
+        id: ItemId,
+        class: Class,
+    ) -> Result<Self, AllocError> {
+        Ok(AxisMeridian {
+            longitude: number(items, id, class),
+            unit: one(alloc, items, id, class, Class::AngleUnit)?,
+        })
+    }
+}
+
+impl<'a> Node<'a> for Axis<'a> {
+    ghost use Rattle.std.specs.Prelude.{◌≡◌};
+    ghost use Rattle.crs_shape.specs.declared.class.Class.TheVariants as classes;
+    ghost use Rattle.crs_value.specs.Reading.{Requires};
+    ghost use Rattle.crs_value.specs.Reads.{ReadsAxis};
+
+    ghost Suits = { λ c. c ≡ classes.Axis };
+
+    ghost Reads = { λ c item parts. ReadsAxis c item parts };
+
+    fn read(
+        alloc: Global,
+        items: &Items<'a>,
+        id: ItemId,
+        class: Class,
+    ) -> Result<Self, AllocError> {
+        Ok(Axis {
+            name: text(items, id, class),
+            direction: direction(items, id),
+            meridian: optional(alloc, items, id, class, Class::Meridian)?,
+            order: optional_number(items, id, class, Class::Order),
+            unit: optional(alloc, items, id, class, Class::AxisUnit)?,
+            identifiers: many(alloc, items, id, class, Class::Identifier)?,
+        })
+    }
+}
+
+fn direction(items: &Items<'_>, id: ItemId) -> Direction
+    requires has { HasId items.now id }
+    requires sound { IsSound Class.Axis (item_at items.now id) }
+    ensures { ReadsFirst ReadsDirection (those Class.Axis Class.Word (arguments
+        (item_at items.now id))) result }
+{
+    let word = required(items, id, Class::Axis, Class::Word);
+    match Direction::read(items.raw(word)) {
+        Some(direction) => direction,
+        None => unreachable!(),
+    }
+}

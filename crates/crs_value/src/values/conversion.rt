@@ -1,0 +1,215 @@
+//! Conversions: their method and parameters.
+ghost use Rattle.std.specs.Prelude.{IfOk};
+ghost use Rattle.crs_text.specs.Items.{HasId};
+ghost use Rattle.crs_value.specs.Checks.{IsSound};
+ghost use Rattle.crs_value.specs.Reading.{item_at};
+ghost use Rattle.crs_value.specs.ReadsConversion.{ReadsUnitOf, parameter_units};
+
+use crate::reading::arguments::first;
+use crate::reading::node::{Node, many, number, one, text};
+use crate::values::ident::Ident;
+use crate::values::list::List;
+use crate::values::unit::Unit;
+use crs_decimal::Decimal;
+use crs_shape::Class;
+use crs_text::{ItemId, Items};
+use std::alloc::{AllocError, Global};
+use std::marker::Model;
+
+/// A conversion, `CONVERSION[name, method, parameter.., id..]`: how projected coordinates come from
+/// those of the base CRS. ISO 19162:2019, "Map projection conversion".
+pub struct Conversion<'a> {
+    /// The name.
+    pub name: &'a [u8],
+    /// The method.
+    pub method: Method<'a>,
+    /// The parameters, as written.
+    pub parameters: List<Parameter<'a>>,
+    /// The identifiers, as written.
+    pub identifiers: List<Ident<'a>>,
+}
+
+impl<'a> Model for Conversion<'a> {
+    ghost use Rattle.crs_value.specs.ConversionValues.{ConversionParts};
+    ghost use Rattle.crs_value.specs.SoundConversion.{IsConversion};
+
+    ghost Value = { ConversionParts };
+
+    ghost view = { λ c. record { name = c.name.now; method = c.method; parameters = c.parameters; identifiers = c.identifiers } };
+
+    ghost invariant = { λ c. IsConversion (view c) };
+}
+
+// By hand, so that whoever drops one calls this, and proves nothing of its parts.
+impl Drop for Conversion<'_> {
+    fn drop(self) {
+        let Conversion {
+            name: _,
+            method: _,
+            parameters: _,
+            identifiers: _,
+        } = self;
+    }
+}
+
+/// The method of a conversion, `METHOD[name, id..]`.
+/// ISO 19162:2019, "Map projection method".
+pub struct Method<'a> {
+    /// The name.
+    pub name: &'a [u8],
+    /// The identifiers, as written.
+    pub identifiers: List<Ident<'a>>,
+}
+
+impl<'a> Model for Method<'a> {
+    ghost use Rattle.crs_value.specs.ConversionValues.{MethodParts};
+    ghost use Rattle.crs_value.specs.SoundConversion.{IsMethod};
+
+    ghost Value = { MethodParts };
+
+    ghost view = { λ m. record { name = m.name.now; identifiers = m.identifiers } };
+
+    ghost invariant = { λ m. IsMethod (view m) };
+}
+
+// By hand, so that whoever drops one calls this, and proves nothing of its parts.
+impl Drop for Method<'_> {
+    fn drop(self) {
+        let Method {
+            name: _,
+            identifiers: _,
+        } = self;
+    }
+}
+
+/// A parameter of a conversion, `PARAMETER[name, value, (unit), id..]`.
+/// ISO 19162:2019, "Map projection parameter".
+pub struct Parameter<'a> {
+    /// The name.
+    pub name: &'a [u8],
+    /// The number, in the unit; where none is written, in a unit that isn't said.
+    pub value: Decimal,
+    /// The unit, a length, an angle or a scale; or one with `UNIT`, which doesn't say its kind.
+    pub unit: Option<Unit<'a>>,
+    /// The identifiers, as written.
+    pub identifiers: List<Ident<'a>>,
+}
+
+impl<'a> Model for Parameter<'a> {
+    ghost use Rattle.crs_value.specs.ConversionValues.{ParameterParts};
+    ghost use Rattle.crs_value.specs.SoundConversion.{IsParameter};
+
+    ghost Value = { ParameterParts };
+
+    ghost view = { λ p. record { name = p.name.now; value = p.value; unit = p.unit; identifiers = p.identifiers } };
+
+    ghost invariant = { λ p. IsParameter (view p) };
+}
+
+// By hand, so that whoever drops one calls this, and proves nothing of its parts.
+impl Drop for Parameter<'_> {
+    fn drop(self) {
+        let Parameter {
+            name: _,
+            value: _,
+            unit: _,
+            identifiers: _,
+        } = self;
+    }
+}
+
+const PARAMETER_UNITS: [Class; 4] = [
+    Class::PlainUnit,
+    Class::LengthUnit,
+    Class::AngleUnit,
+    Class::ScaleUnit,
+];
+
+// The unit of a parameter, of whichever class.
+fn parameter_unit<'a>(
+    alloc: Global,
+    items: &Items<'a>,
+    id: ItemId,
+) -> Result<Option<Unit<'a>>, AllocError>
+    requires has { HasId items.now id }
+    requires sound { IsSound Class.Parameter (item_at items.now id) }
+    ensures { IfOk result (λ unit. ReadsUnitOf parameter_units Class.Parameter (item_at items.now id) unit) }
+{
+    for class in PARAMETER_UNITS {
+        if let Some(found) = first(items, id, Class::Parameter, class) {
+            return Ok(Some(Unit::read(alloc, items, found, class)?));
+        }
+    }
+    Ok(None)
+}
+
+impl<'a> Node<'a> for Conversion<'a> {
+    ghost use Rattle.std.specs.Prelude.{◌≡◌};
+    ghost use Rattle.crs_shape.specs.declared.class.Class.TheVariants as classes;
+    ghost use Rattle.crs_value.specs.ReadsConversion.{ReadsConversion};
+
+    ghost Suits = { λ c. c ≡ classes.Conversion };
+
+    ghost Reads = { λ c item parts. ReadsConversion c item parts };
+
+    fn read(
+        alloc: Global,
+        items: &Items<'a>,
+        id: ItemId,
+        class: Class,
+    ) -> Result<Self, AllocError> {
+        Ok(Conversion {
+            name: text(items, id, class),
+            method: one(alloc, items, id, class, Class::Method)?,
+            parameters: many(alloc, items, id, class, Class::Parameter)?,
+            identifiers: many(alloc, items, id, class, Class::Identifier)?,
+        })
+    }
+}
+
+impl<'a> Node<'a> for Method<'a> {
+    ghost use Rattle.std.specs.Prelude.{◌≡◌};
+    ghost use Rattle.crs_shape.specs.declared.class.Class.TheVariants as classes;
+    ghost use Rattle.crs_value.specs.Reading.{Requires};
+    ghost use Rattle.crs_value.specs.ReadsConversion.{ReadsMethod};
+
+    ghost Suits = { λ c. Requires c classes.Text 0 };
+
+    ghost Reads = { λ c item parts. ReadsMethod c item parts };
+
+    fn read(
+        alloc: Global,
+        items: &Items<'a>,
+        id: ItemId,
+        class: Class,
+    ) -> Result<Self, AllocError> {
+        Ok(Method {
+            name: text(items, id, class),
+            identifiers: many(alloc, items, id, class, Class::Identifier)?,
+        })
+    }
+}
+
+impl<'a> Node<'a> for Parameter<'a> {
+    ghost use Rattle.std.specs.Prelude.{◌≡◌};
+    ghost use Rattle.crs_shape.specs.declared.class.Class.TheVariants as classes;
+    ghost use Rattle.crs_value.specs.ReadsConversion.{ReadsParameter};
+
+    ghost Suits = { λ c. c ≡ classes.Parameter };
+
+    ghost Reads = { λ c item parts. ReadsParameter c item parts };
+
+    fn read(
+        alloc: Global,
+        items: &Items<'a>,
+        id: ItemId,
+        class: Class,
+    ) -> Result<Self, AllocError> {
+        Ok(Parameter {
+            name: text(items, id, class),
+            value: number(items, id, class),
+            unit: parameter_unit(alloc, items, id)?,
+            identifiers: many(alloc, items, id, class, Class::Identifier)?,
+        })
+    }
+}

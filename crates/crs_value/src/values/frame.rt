@@ -1,0 +1,222 @@
+//! Reference frames and datum ensembles.
+
+use crate::reading::node::{Node, many, one_number, optional, optional_text, text};
+use crate::values::ellipsoid::Ellipsoid;
+use crate::values::ident::Ident;
+use crate::values::list::List;
+use crs_decimal::Decimal;
+use crs_shape::Class;
+use crs_shape::laws::slots_count;
+use crs_text::{ItemId, Items};
+use std::alloc::{AllocError, Global};
+use std::marker::Model;
+
+/// What a CRS's coordinates refer to. ISO 19162:2019, "Datum".
+pub enum Frame<'a> {
+    /// A reference frame.
+    Datum(Datum<'a>),
+    /// A datum ensemble.
+    Ensemble(Ensemble<'a>),
+}
+
+// By hand, so that whoever drops one calls this, and proves nothing of its parts.
+impl Drop for Frame<'_> {
+    fn drop(self) {
+        match self {
+            Frame::Datum(_) => {}
+            Frame::Ensemble(_) => {}
+        }
+    }
+}
+
+/// A geodetic reference frame, `DATUM[name, ellipsoid, anchor.., id..]`, or a vertical one, which has
+/// no ellipsoid. ISO 19162:2019, "Datum".
+pub struct Datum<'a> {
+    /// The name.
+    pub name: &'a [u8],
+    /// The ellipsoid, exactly if the frame is geodetic.
+    pub ellipsoid: Option<Ellipsoid<'a>>,
+    /// How the frame is tied to the Earth.
+    pub anchor: Option<&'a [u8]>,
+    /// The identifiers, as written.
+    pub identifiers: List<Ident<'a>>,
+}
+
+impl<'a> Model for Datum<'a> {
+    ghost use Rattle.std.specs.Option.{option_copied};
+    ghost use Rattle.crs_value.specs.SoundFrames.{IsDatum};
+    ghost use Rattle.crs_value.specs.Values.{DatumParts};
+
+    ghost Value = { DatumParts };
+
+    ghost view = { λ d. record {
+      name = d.name.now;
+      ellipsoid = d.ellipsoid;
+      anchor = option_copied d.anchor;
+      identifiers = d.identifiers;
+    } };
+
+    ghost invariant = { λ d. IsDatum (view d) };
+}
+
+// By hand, so that whoever drops one calls this, and proves nothing of its parts.
+impl Drop for Datum<'_> {
+    fn drop(self) {
+        let Datum {
+            name: _,
+            ellipsoid: _,
+            anchor: _,
+            identifiers: _,
+        } = self;
+    }
+}
+
+/// A datum ensemble, `ENSEMBLE[name, member.., ellipsoid, accuracy, id..]`; one of vertical frames has
+/// no ellipsoid. ISO 19162:2019, "Datum ensemble".
+pub struct Ensemble<'a> {
+    /// The name.
+    pub name: &'a [u8],
+    /// The members, as written; at least one.
+    pub members: List<Member<'a>>,
+    /// The ellipsoid, exactly if the ensemble is geodetic.
+    pub ellipsoid: Option<Ellipsoid<'a>>,
+    /// How far apart the members are, in metres.
+    pub accuracy: Decimal,
+    /// The identifiers, as written.
+    pub identifiers: List<Ident<'a>>,
+}
+
+impl<'a> Model for Ensemble<'a> {
+    ghost use Rattle.crs_value.specs.SoundFrames.{IsEnsemble};
+    ghost use Rattle.crs_value.specs.Values.{EnsembleParts};
+
+    ghost Value = { EnsembleParts };
+
+    ghost view = { λ e. record {
+      name = e.name.now;
+      members = e.members;
+      ellipsoid = e.ellipsoid;
+      accuracy = e.accuracy;
+      identifiers = e.identifiers;
+    } };
+
+    ghost invariant = { λ e. IsEnsemble (view e) };
+}
+
+// By hand, so that whoever drops one calls this, and proves nothing of its parts.
+impl Drop for Ensemble<'_> {
+    fn drop(self) {
+        let Ensemble {
+            name: _,
+            members: _,
+            ellipsoid: _,
+            accuracy: _,
+            identifiers: _,
+        } = self;
+    }
+}
+
+/// A member of a datum ensemble, `MEMBER[name, id..]`. ISO 19162:2019, "Datum ensemble".
+pub struct Member<'a> {
+    /// The name.
+    pub name: &'a [u8],
+    /// The identifiers, as written.
+    pub identifiers: List<Ident<'a>>,
+}
+
+impl<'a> Model for Member<'a> {
+    ghost use Rattle.crs_value.specs.SoundFrames.{IsMember};
+    ghost use Rattle.crs_value.specs.Values.{MemberParts};
+
+    ghost Value = { MemberParts };
+
+    ghost view = { λ m. record { name = m.name.now; identifiers = m.identifiers } };
+
+    ghost invariant = { λ m. IsMember (view m) };
+}
+
+// By hand, so that whoever drops one calls this, and proves nothing of its parts.
+impl Drop for Member<'_> {
+    fn drop(self) {
+        let Member {
+            name: _,
+            identifiers: _,
+        } = self;
+    }
+}
+
+impl<'a> Node<'a> for Datum<'a> {
+    ghost use Rattle.std.specs.Prelude.{◌≡◌};
+    ghost use Rattle.crs_shape.specs.declared.class.Class.TheVariants as classes;
+    ghost use Rattle.crs_value.specs.Reading.{Requires};
+    ghost use Rattle.crs_value.specs.Reads.{ReadsDatum};
+
+    ghost Suits = { λ c. Requires c classes.Text 0 };
+
+    ghost Reads = { λ c item parts. ReadsDatum c item parts };
+
+    fn read(
+        alloc: Global,
+        items: &Items<'a>,
+        id: ItemId,
+        class: Class,
+    ) -> Result<Self, AllocError> {
+        Ok(Datum {
+            name: text(items, id, class),
+            ellipsoid: optional(alloc, items, id, class, Class::Ellipsoid)?,
+            anchor: optional_text(items, id, class, Class::Anchor),
+            identifiers: many(alloc, items, id, class, Class::Identifier)?,
+        })
+    }
+}
+
+impl<'a> Node<'a> for Ensemble<'a> {
+    ghost use Rattle.std.specs.Prelude.{◌≡◌};
+    ghost use Rattle.crs_shape.specs.declared.class.Class.TheVariants as classes;
+    ghost use Rattle.crs_value.specs.Reading.{Requires};
+    ghost use Rattle.crs_value.specs.Reads.{ReadsEnsemble};
+
+    ghost Suits = { λ c. Requires c classes.Text 0 × Requires c classes.Member 0
+        × Requires c classes.EnsembleAccuracy 0 };
+
+    ghost Reads = { λ c item parts. ReadsEnsemble c item parts };
+
+    fn read(
+        alloc: Global,
+        items: &Items<'a>,
+        id: ItemId,
+        class: Class,
+    ) -> Result<Self, AllocError> {
+        slots_count();
+        Ok(Ensemble {
+            name: text(items, id, class),
+            members: many(alloc, items, id, class, Class::Member)?,
+            ellipsoid: optional(alloc, items, id, class, Class::Ellipsoid)?,
+            accuracy: one_number(items, id, class, Class::EnsembleAccuracy),
+            identifiers: many(alloc, items, id, class, Class::Identifier)?,
+        })
+    }
+}
+
+impl<'a> Node<'a> for Member<'a> {
+    ghost use Rattle.std.specs.Prelude.{◌≡◌};
+    ghost use Rattle.crs_shape.specs.declared.class.Class.TheVariants as classes;
+    ghost use Rattle.crs_value.specs.Reading.{Requires};
+    ghost use Rattle.crs_value.specs.Reads.{ReadsMember};
+
+    ghost Suits = { λ c. Requires c classes.Text 0 };
+
+    ghost Reads = { λ c item parts. ReadsMember c item parts };
+
+    fn read(
+        alloc: Global,
+        items: &Items<'a>,
+        id: ItemId,
+        class: Class,
+    ) -> Result<Self, AllocError> {
+        Ok(Member {
+            name: text(items, id, class),
+            identifiers: many(alloc, items, id, class, Class::Identifier)?,
+        })
+    }
+}

@@ -1,0 +1,96 @@
+//! Identifiers.
+ghost use Rattle.std.specs.Option.{option_copied};
+ghost use Rattle.crs_text.specs.Items.{HasId, arguments, skip};
+ghost use Rattle.crs_value.specs.Checks.{IsSound};
+ghost use Rattle.crs_value.specs.Reading.{item_at, ReadsFirst, ReadsOptional};
+ghost use Rattle.crs_value.specs.Reads.{ReadsText, single_of};
+
+use crate::reading::node::{Node, optional_text, text};
+use crs_shape::Class;
+use crs_text::{ItemId, ItemKind, Items};
+use std::alloc::{AllocError, Global};
+use std::marker::Model;
+
+/// An identifier, `ID[authority, code, (version), (citation), (uri)]`. A text is what stands between
+/// its quotes, each quote among them doubled; code and version are their characters, quoted or not.
+/// ISO 19162:2019, "Identifier".
+#[derive(Drop)]
+pub struct Ident<'a> {
+    /// The authority that gave the code.
+    pub authority: &'a [u8],
+    /// The code.
+    pub code: &'a [u8],
+    /// The version of the code or of the register.
+    pub version: Option<&'a [u8]>,
+    /// The authority's citation, `CITATION[text]`.
+    pub citation: Option<&'a [u8]>,
+    /// `URI[text]`.
+    pub uri: Option<&'a [u8]>,
+}
+
+impl<'a> Model for Ident<'a> {
+    ghost use Rattle.std.specs.Option.{option_copied};
+    ghost use Rattle.crs_value.specs.Sound.{IsIdent};
+    ghost use Rattle.crs_value.specs.Values.{IdentParts};
+
+    ghost Value = { IdentParts };
+
+    ghost view = { λ i. record {
+      authority = i.authority.now;
+      code = i.code.now;
+      version = option_copied i.version;
+      citation = option_copied i.citation;
+      uri = option_copied i.uri;
+    } };
+
+    ghost invariant = { λ i. IsIdent (view i) };
+}
+
+// What stands at this place among the arguments, if that is no node.
+fn single<'a>(items: &Items<'a>, id: ItemId, k: usize) -> Option<&'a [u8]>
+    requires { HasId items.now id }
+    ensures { ReadsOptional ReadsText (single_of (skip k (arguments (item_at items.now id))))
+        (option_copied result) }
+{
+    let found = items.arg(id, k)?;
+    match items.kind(found) {
+        ItemKind::Number | ItemKind::Text | ItemKind::Word => Some(items.raw(found)),
+        ItemKind::Node => None,
+    }
+}
+
+fn code<'a>(items: &Items<'a>, id: ItemId) -> &'a [u8]
+    requires has { HasId items.now id }
+    requires sound { IsSound Class.Identifier (item_at items.now id) }
+    ensures { ReadsFirst ReadsText (single_of (skip 1 (arguments (item_at items.now id)))) result.now }
+{
+    match single(items, id, 1) {
+        Some(code) => code,
+        None => unreachable!(),
+    }
+}
+
+impl<'a> Node<'a> for Ident<'a> {
+    ghost use Rattle.std.specs.Prelude.{◌≡◌};
+    ghost use Rattle.crs_shape.specs.declared.class.Class.TheVariants as classes;
+    ghost use Rattle.crs_value.specs.Reads.{ReadsIdent};
+
+    ghost Suits = { λ c. c ≡ classes.Identifier };
+
+    ghost Reads = { λ c item parts. ReadsIdent c item parts };
+
+    fn read(
+        _alloc: Global,
+        items: &Items<'a>,
+        id: ItemId,
+        class: Class,
+    ) -> Result<Self, AllocError> {
+        Ok(Ident {
+            authority: text(items, id, class),
+            code: code(items, id),
+            version: single(items, id, 2),
+            citation: optional_text(items, id, class, Class::Citation),
+            uri: optional_text(items, id, class, Class::Uri),
+        })
+    }
+}

@@ -1,0 +1,72 @@
+//! Prime meridians.
+
+use crate::reading::node::{Node, many, number, optional, text};
+use crate::values::ident::Ident;
+use crate::values::list::List;
+use crate::values::unit::Unit;
+use crs_decimal::Decimal;
+use crs_shape::Class;
+use crs_text::{ItemId, Items};
+use std::alloc::{AllocError, Global};
+use std::marker::Model;
+
+/// A prime meridian, `PRIMEM[name, longitude, (unit), id..]`.
+/// ISO 19162:2019, "Prime meridian".
+pub struct Meridian<'a> {
+    /// The name.
+    pub name: &'a [u8],
+    /// The longitude from Greenwich, in the unit; where none is written, in a unit that isn't said.
+    pub longitude: Decimal,
+    /// The unit of the longitude, an angle.
+    pub unit: Option<Unit<'a>>,
+    /// The identifiers, as written.
+    pub identifiers: List<Ident<'a>>,
+}
+
+impl<'a> Model for Meridian<'a> {
+    ghost use Rattle.crs_value.specs.SoundFrames.{IsMeridian};
+    ghost use Rattle.crs_value.specs.Values.{MeridianParts};
+
+    ghost Value = { MeridianParts };
+
+    ghost view = { λ m. record { name = m.name.now; longitude = m.longitude; unit = m.unit; identifiers = m.identifiers } };
+
+    ghost invariant = { λ m. IsMeridian (view m) };
+}
+
+// By hand, so that whoever drops one calls this, and proves nothing of its parts.
+impl Drop for Meridian<'_> {
+    fn drop(self) {
+        let Meridian {
+            name: _,
+            longitude: _,
+            unit: _,
+            identifiers: _,
+        } = self;
+    }
+}
+
+impl<'a> Node<'a> for Meridian<'a> {
+    ghost use Rattle.std.specs.Prelude.{◌≡◌};
+    ghost use Rattle.crs_shape.specs.declared.class.Class.TheVariants as classes;
+    ghost use Rattle.crs_value.specs.Reading.{Requires};
+    ghost use Rattle.crs_value.specs.Reads.{ReadsMeridian};
+
+    ghost Suits = { λ c. Requires c classes.Text 0 × Requires c classes.Number 0 };
+
+    ghost Reads = { λ c item parts. ReadsMeridian c item parts };
+
+    fn read(
+        alloc: Global,
+        items: &Items<'a>,
+        id: ItemId,
+        class: Class,
+    ) -> Result<Self, AllocError> {
+        Ok(Meridian {
+            name: text(items, id, class),
+            longitude: number(items, id, class),
+            unit: optional(alloc, items, id, class, Class::AngleUnit)?,
+            identifiers: many(alloc, items, id, class, Class::Identifier)?,
+        })
+    }
+}

@@ -1,0 +1,136 @@
+//! Coordinate systems.
+ghost use Rattle.std.specs.Prelude.{◌≡◌, IfOk};
+ghost use Rattle.std.specs.Option.{option_copied};
+ghost use Rattle.crs_text.specs.Items.{HasId, arguments};
+ghost use Rattle.crs_value.specs.BadSystem.{HasType};
+ghost use Rattle.crs_value.specs.Checks.{IsSound, HasSystem};
+ghost use Rattle.crs_value.specs.Noted.{AreFirsts};
+ghost use Rattle.crs_value.specs.Reading.{item_at, those, Requires, ReadsFirst};
+ghost use Rattle.crs_value.specs.Reads.{ReadsType, ReadsSystem};
+ghost use Rattle.crs_value.specs.SoundSystem.{own_or};
+
+use crate::reading::firsts::Firsts;
+use crate::reading::node::{many, many_from, number, optional_from, required};
+use crate::values::axis::Axis;
+use crate::values::ident::Ident;
+use crate::values::list::List;
+use crate::values::system_type::SystemType;
+use crate::values::unit::Unit;
+use crs_decimal::Decimal;
+use crs_shape::Class;
+use crs_shape::laws::slots_count;
+use crs_text::{ItemId, Items};
+use std::alloc::{AllocError, Global};
+use std::marker::Model;
+
+/// A coordinate system: `CS[type, dimension, id..]`, the axes beside it, and their shared unit.
+/// ISO 19162:2019, "Coordinate system".
+pub struct System<'a> {
+    /// The type.
+    pub system_type: SystemType,
+    /// The number of axes.
+    pub dimension: Decimal,
+    /// The identifiers, as written.
+    pub identifiers: List<Ident<'a>>,
+    /// The axes, as written.
+    pub axes: List<Axis<'a>>,
+    /// The unit that the axes share; None where each has its own.
+    pub unit: Option<Unit<'a>>,
+}
+
+impl<'a> Model for System<'a> {
+    ghost use Rattle.crs_value.specs.SoundSystem.{IsSystem};
+    ghost use Rattle.crs_value.specs.Values.{SystemParts};
+
+    ghost Value = { SystemParts };
+
+    ghost view = { λ s. record {
+      system_type = s.system_type;
+      dimension = s.dimension;
+      identifiers = s.identifiers;
+      axes = s.axes;
+      unit = s.unit;
+    } };
+
+    ghost invariant = { λ s. IsSystem (view s) };
+}
+
+// By hand, so that whoever drops one calls this, and proves nothing of its parts.
+impl Drop for System<'_> {
+    fn drop(self) {
+        let System {
+            system_type: _,
+            dimension: _,
+            identifiers: _,
+            axes: _,
+            unit: _,
+        } = self;
+    }
+}
+
+impl<'a> System<'a> {
+    /// The unit of an axis of this system: its own, or else the one that the axes share. ISO 19162:2019, "Axis unit".
+    pub fn unit_of<'b>(&'b self, axis: &'b Axis<'a>) -> Option<&'b Unit<'a>>
+        ensures { option_copied result ≡ own_or axis.now.unit self.now.unit }
+    {
+        match &axis.unit {
+            Some(unit) => Some(unit),
+            None => self.unit.as_ref(),
+        }
+    }
+}
+
+fn system_type(items: &Items<'_>, id: ItemId) -> SystemType
+    requires has { HasId items.now id }
+    requires sound { IsSound Class.CoordinateSystem (item_at items.now id) }
+    ensures { ReadsFirst ReadsType (those Class.CoordinateSystem Class.Word (arguments
+        (item_at items.now id))) result }
+{
+    let word = required(items, id, Class::CoordinateSystem, Class::Word);
+    match SystemType::read(items.raw(word)) {
+        Some(system_type) => system_type,
+        None => unreachable!(),
+    }
+}
+
+// The type of the system of a CRS of this class.
+pub(crate) fn system_type_of(items: &Items<'_>, id: ItemId, class: Class) -> SystemType
+    requires has { HasId items.now id }
+    requires sound { IsSound class (item_at items.now id) }
+    requires there { Requires class Class.CoordinateSystem 0 }
+    ensures { ReadsFirst HasType (those class Class.CoordinateSystem (arguments (item_at items.now id))) result }
+{
+    system_type(items, required(items, id, class, Class::CoordinateSystem))
+}
+
+// The system of a CRS of this class: its node `CS`, and the axes and the shared unit beside that.
+pub(crate) fn read_system<'a>(
+    alloc: Global,
+    items: &Items<'a>,
+    id: ItemId,
+    class: Class,
+    firsts: &Firsts,
+) -> Result<System<'a>, AllocError>
+    requires has { HasId items.now id }
+    requires sound { IsSound class (item_at items.now id) }
+    requires system { HasSystem class }
+    requires there { Requires class Class.CoordinateSystem 0 × Requires class Class.Axis 0 }
+    requires firsts { AreFirsts items.now class (arguments (item_at items.now id)) firsts.now }
+    ensures { IfOk result (λ system. ReadsSystem class (item_at items.now id) system) }
+{
+    slots_count();
+    let head = required(items, id, class, Class::CoordinateSystem);
+    Ok(System {
+        system_type: system_type(items, head),
+        dimension: number(items, head, Class::CoordinateSystem),
+        identifiers: many(
+            alloc,
+            items,
+            head,
+            Class::CoordinateSystem,
+            Class::Identifier,
+        )?,
+        axes: many_from(alloc, items, id, class, Class::Axis, firsts.axis)?,
+        unit: optional_from(alloc, items, id, class, Class::AxisUnit, firsts.unit)?,
+    })
+}

@@ -1,0 +1,88 @@
+//! Units.
+ghost use Rattle.crs_text.specs.Items.{HasId};
+ghost use Rattle.crs_value.specs.Checks.{IsSound};
+ghost use Rattle.crs_value.specs.Reading.{item_at};
+ghost use Rattle.crs_value.specs.Reads.{ReadsKind, IsUnitClass};
+
+use crate::reading::node::{Node, many, number, text};
+use crate::values::ident::Ident;
+use crate::values::list::List;
+use crate::values::unit_kind::UnitKind;
+use crs_decimal::Decimal;
+use crs_shape::Class;
+use crs_text::{ItemId, Items};
+use std::alloc::{AllocError, Global};
+use std::marker::Model;
+
+/// A unit, `LENGTHUNIT[name, factor, id..]` or with another keyword of a unit.
+/// ISO 19162:2019, "Units".
+pub struct Unit<'a> {
+    /// The kind, as the keyword says it.
+    pub kind: UnitKind,
+    /// The name.
+    pub name: &'a [u8],
+    /// How many metres, radians or ones the unit has: above 0.
+    pub factor: Decimal,
+    /// The identifiers, as written.
+    pub identifiers: List<Ident<'a>>,
+}
+
+impl<'a> Model for Unit<'a> {
+    ghost use Rattle.crs_value.specs.Sound.{IsUnit};
+    ghost use Rattle.crs_value.specs.Values.{UnitParts};
+
+    ghost Value = { UnitParts };
+
+    ghost view = { λ u. record { kind = u.kind; name = u.name.now; factor = u.factor; identifiers = u.identifiers } };
+
+    ghost invariant = { λ u. IsUnit (view u) };
+}
+
+// By hand, so that whoever drops one calls this, and proves nothing of its parts.
+impl Drop for Unit<'_> {
+    fn drop(self) {
+        let Unit {
+            kind: _,
+            name: _,
+            factor: _,
+            identifiers: _,
+        } = self;
+    }
+}
+
+fn kind(items: &Items<'_>, id: ItemId, class: Class) -> UnitKind
+    requires has { HasId items.now id }
+    requires class { IsUnitClass class }
+    requires sound { IsSound class (item_at items.now id) }
+    ensures { ReadsKind (item_at items.now id) result }
+{
+    match UnitKind::read(items.raw(id)) {
+        Some(kind) => kind,
+        None => unreachable!(),
+    }
+}
+
+impl<'a> Node<'a> for Unit<'a> {
+    ghost use Rattle.std.specs.Prelude.{◌≡◌};
+    ghost use Rattle.crs_shape.specs.declared.class.Class.TheVariants as classes;
+    ghost use Rattle.crs_value.specs.Reading.{Requires};
+    ghost use Rattle.crs_value.specs.Reads.{ReadsUnit, IsUnitClass};
+
+    ghost Suits = { λ c. IsUnitClass c × Requires c classes.Text 0 × Requires c classes.Number 0 };
+
+    ghost Reads = { λ c item parts. ReadsUnit c item parts };
+
+    fn read(
+        alloc: Global,
+        items: &Items<'a>,
+        id: ItemId,
+        class: Class,
+    ) -> Result<Self, AllocError> {
+        Ok(Unit {
+            kind: kind(items, id, class),
+            name: text(items, id, class),
+            factor: number(items, id, class),
+            identifiers: many(alloc, items, id, class, Class::Identifier)?,
+        })
+    }
+}

@@ -1,0 +1,139 @@
+//! Vertical CRSs and their geoid models.
+
+use crate::reading::firsts::firsts_of;
+use crate::reading::node::{Node, many, text};
+use crate::values::crs_frame::vertical_frame;
+use crate::values::frame::Frame;
+use crate::values::ident::Ident;
+use crate::values::list::List;
+use crate::values::system::{System, read_system};
+use crate::values::usage::{Tail, read_tail};
+use crs_shape::Class;
+use crs_shape::laws::slots_count;
+use crs_text::{ItemId, Items};
+use std::alloc::{AllocError, Global};
+use std::marker::Model;
+
+/// A vertical CRS, `VERTCRS[name, frame, system, tail]`, with geoid models in its tail.
+/// ISO 19162:2019, "Vertical CRS".
+pub struct Vertical<'a> {
+    /// The name.
+    pub name: &'a [u8],
+    /// The vertical frame or ensemble.
+    pub frame: Frame<'a>,
+    /// The coordinate system.
+    pub system: System<'a>,
+    /// The geoid models, as written.
+    pub geoid_models: List<GeoidModel<'a>>,
+    /// Usages, identifiers and remark.
+    pub tail: Tail<'a>,
+}
+
+impl<'a> Model for Vertical<'a> {
+    ghost use Rattle.crs_value.specs.CrsValues.{VerticalParts};
+    ghost use Rattle.crs_value.specs.SoundSingle.{IsVertical};
+
+    ghost Value = { VerticalParts };
+
+    ghost view = { λ v. record {
+      name = v.name.now;
+      frame = v.frame;
+      system = v.system;
+      geoid_models = v.geoid_models;
+      tail = v.tail;
+    } };
+
+    ghost invariant = { λ v. IsVertical (view v) };
+}
+
+// By hand, so that whoever drops one calls this, and proves nothing of its parts.
+impl Drop for Vertical<'_> {
+    fn drop(self) {
+        let Vertical {
+            name: _,
+            frame: _,
+            system: _,
+            geoid_models: _,
+            tail: _,
+        } = self;
+    }
+}
+
+/// A geoid model, `GEOIDMODEL[name, id..]`. ISO 19162:2019, "Vertical CRS".
+pub struct GeoidModel<'a> {
+    /// The name.
+    pub name: &'a [u8],
+    /// The identifiers, as written.
+    pub identifiers: List<Ident<'a>>,
+}
+
+impl<'a> Model for GeoidModel<'a> {
+    ghost use Rattle.crs_value.specs.ConversionValues.{GeoidModelParts};
+    ghost use Rattle.crs_value.specs.SoundConversion.{IsGeoidModel};
+
+    ghost Value = { GeoidModelParts };
+
+    ghost view = { λ g. record { name = g.name.now; identifiers = g.identifiers } };
+
+    ghost invariant = { λ g. IsGeoidModel (view g) };
+}
+
+// By hand, so that whoever drops one calls this, and proves nothing of its parts.
+impl Drop for GeoidModel<'_> {
+    fn drop(self) {
+        let GeoidModel {
+            name: _,
+            identifiers: _,
+        } = self;
+    }
+}
+
+impl<'a> Node<'a> for Vertical<'a> {
+    ghost use Rattle.std.specs.Prelude.{◌≡◌};
+    ghost use Rattle.crs_shape.specs.declared.class.Class.TheVariants as classes;
+    ghost use Rattle.crs_value.specs.ReadsCrs.{ReadsVertical};
+
+    ghost Suits = { λ c. c ≡ classes.VerticalCrs };
+
+    ghost Reads = { λ c item parts. ReadsVertical c item parts };
+
+    fn read(
+        alloc: Global,
+        items: &Items<'a>,
+        id: ItemId,
+        class: Class,
+    ) -> Result<Self, AllocError> {
+        slots_count();
+        let firsts = firsts_of(items, id, class);
+        Ok(Vertical {
+            name: text(items, id, class),
+            frame: vertical_frame(alloc, items, id, class)?,
+            system: read_system(alloc, items, id, class, &firsts)?,
+            geoid_models: many(alloc, items, id, class, Class::GeoidModel)?,
+            tail: read_tail(alloc, items, id, class, &firsts)?,
+        })
+    }
+}
+
+impl<'a> Node<'a> for GeoidModel<'a> {
+    ghost use Rattle.std.specs.Prelude.{◌≡◌};
+    ghost use Rattle.crs_shape.specs.declared.class.Class.TheVariants as classes;
+    ghost use Rattle.crs_value.specs.Reading.{Requires};
+    ghost use Rattle.crs_value.specs.ReadsConversion.{ReadsGeoidModel};
+
+    ghost Suits = { λ c. Requires c classes.Text 0 };
+
+    ghost Reads = { λ c item parts. ReadsGeoidModel c item parts };
+
+    fn read(
+        alloc: Global,
+        items: &Items<'a>,
+        id: ItemId,
+        class: Class,
+    ) -> Result<Self, AllocError> {
+        Ok(GeoidModel {
+            name: text(items, id, class),
+            identifiers: many(alloc, items, id, class, Class::Identifier)?,
+        })
+    }
+}
