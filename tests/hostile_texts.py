@@ -22,7 +22,8 @@ def nested(arguments):
     return text
 
 
-HEIGHT = b'VERTCRS["H",VDATUM["D"],CS[vertical,1],AXIS["h",up],LENGTHUNIT["metre",1]'
+SYSTEM = b'CS[vertical,1],AXIS["h",up],LENGTHUNIT["metre",1]'
+HEIGHT = b'VERTCRS["H",VDATUM["D"],' + SYSTEM
 
 
 def height(*parts):
@@ -84,6 +85,11 @@ KINDS = {
     "white-space": filled(b"VERTCRS", b" ", b"[1]"),
     "commas": filled(b"VERTCRS[1", b",", b"]"),
     "identifiers": filled(HEIGHT, b',ID["X",1]', b"]"),
+    "dynamic-parts": filled(b'VERTCRS["H"', b",DYNAMIC[FRAMEEPOCH[1]]", b"]"),
+    "model-identifiers": filled(
+        b'VERTCRS["H",DYNAMIC[FRAMEEPOCH[2010],VELOCITYGRID["g"', b',ID["X",1]', b']],VDATUM["D"],' + SYSTEM + b"]"
+    ),
+    "anchor-epochs": filled(b'VERTCRS["H",VDATUM["D"', b",ANCHOREPOCH[2010.0]", b"]," + SYSTEM + b"]"),
     "twelve-open-nodes": nested(10_000),
     "twelve-open-nodes-of-a-mebibyte": nested(SIZE // 24 - 1),
 }

@@ -6,6 +6,7 @@ ghost use Rattle.crs_normal.specs.CanonicalForm.{IsCanonicalForm};
 mod axes;
 mod conversions;
 mod crs;
+mod dynamic;
 mod frames;
 mod kinds;
 mod units;

@@ -4,6 +4,7 @@
 pub(crate) mod axis;
 pub(crate) mod conversion;
 pub(crate) mod crs;
+pub(crate) mod dynamic;
 pub(crate) mod ellipsoid;
 pub(crate) mod frame;
 pub(crate) mod ident;

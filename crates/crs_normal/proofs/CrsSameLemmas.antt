@@ -26,6 +26,7 @@ use Rattle.crs_normal.specs.LowerLaws.{LowerLaws}
 use Rattle.crs_normal.specs.SpelledCrs.{norm_base, norm_compound, norm_crs, norm_geodetic, norm_horizontal}
 use Rattle.crs_normal.specs.SpelledCrs.{norm_projected, norm_vertical}
 use Rattle.crs_normal.proofs.ConversionSameLemmas.{conversion-agrees}
+use Rattle.crs_normal.proofs.DynamicSameLemmas.{dynamics-agree, dynamics-sound}
 use Rattle.crs_normal.proofs.FrameSameLemmas.{geodetic-frame-agrees, meridian-agrees, vertical-frame-agrees}
 use Rattle.crs_normal.proofs.SystemSameLemmas.{system-agrees}
 use Rattle.crs_normal.proofs.TailSameLemmas.{tail-agrees}
@@ -87,6 +88,9 @@ module _ (laws : LowerLaws) (sets : SetsDecide) (level : Level) where
 
   pub geodetic-agrees : FormDecides IsGeodetic (norm_geodetic level) (SameGeodetic level)
   geodetic-agrees a b in-a in-b =
+      let dynamic =
+      dynamics-agree laws sets level a.dynamic b.dynamic (dynamics-sound a.dynamic a.frame in-a.dynamic)
+      (dynamics-sound b.dynamic b.frame in-b.dynamic) in
       let frame = geodetic-frame-agrees laws sets level a.frame b.frame in-a.frame in-b.frame in
       let meridian = meridian-agrees laws sets level a.meridian b.meridian in-a.meridian in-b.meridian in
       let numbered-a = geodetic-numbered laws a in-a in
@@ -97,6 +101,7 @@ module _ (laws : LowerLaws) (sets : SetsDecide) (level : Level) where
             record {
               kind = ap kind_by alike.system_type;
               name = ap (λ (x : GeodeticParts). x.name) e;
+              dynamic = dynamic.0 (ap (λ (x : GeodeticParts). x.dynamic) e);
               frame = frame.0 (ap (λ (x : GeodeticParts). x.frame) e);
               meridian = meridian.0 (ap (λ (x : GeodeticParts). x.meridian) e);
               system = alike;
@@ -104,6 +109,7 @@ module _ (laws : LowerLaws) (sets : SetsDecide) (level : Level) where
             },
         λ s. λ i. record {
           name = s.name i;
+          dynamic = dynamic.1 s.dynamic i;
           frame = frame.1 s.frame i;
           meridian = meridian.1 s.meridian i;
           system = system.1 s.system i;
@@ -115,12 +121,16 @@ module _ (laws : LowerLaws) (sets : SetsDecide) (level : Level) where
 
   pub base-agrees : FormDecides IsBase (norm_base level) (SameBase level)
   base-agrees a b in-a in-b =
+      let dynamic =
+      dynamics-agree laws sets level a.dynamic b.dynamic (dynamics-sound a.dynamic a.frame in-a.dynamic)
+      (dynamics-sound b.dynamic b.frame in-b.dynamic) in
       let frame = geodetic-frame-agrees laws sets level a.frame b.frame in-a.frame in-b.frame in
       let meridian = meridian-agrees laws sets level a.meridian b.meridian in-a.meridian in-b.meridian in
       let unit = units-of-agree laws sets level kinds.Angle kinds.Angle a.unit b.unit in-a.unit in-b.unit in
       let identifiers = sets.idents level a.identifiers b.identifiers in-a.identifiers in-b.identifiers in (
         λ e. record {
           name = ap (λ (x : BaseParts). x.name) e;
+          dynamic = dynamic.0 (ap (λ (x : BaseParts). x.dynamic) e);
           frame = frame.0 (ap (λ (x : BaseParts). x.frame) e);
           meridian = meridian.0 (ap (λ (x : BaseParts). x.meridian) e);
           unit = unit.0 (ap (λ (x : BaseParts). x.unit) e);
@@ -128,6 +138,7 @@ module _ (laws : LowerLaws) (sets : SetsDecide) (level : Level) where
         },
         λ s. λ i. record {
           name = s.name i;
+          dynamic = dynamic.1 s.dynamic i;
           frame = frame.1 s.frame i;
           meridian = meridian.1 s.meridian i;
           unit = unit.1 s.unit i;
@@ -163,6 +174,9 @@ module _ (laws : LowerLaws) (sets : SetsDecide) (level : Level) where
 
   pub vertical-agrees : FormDecides IsVertical (norm_vertical level) (SameVertical level)
   vertical-agrees a b in-a in-b =
+      let dynamic =
+      dynamics-agree laws sets level a.dynamic b.dynamic (dynamics-sound a.dynamic a.frame in-a.dynamic)
+      (dynamics-sound b.dynamic b.frame in-b.dynamic) in
       let frame = vertical-frame-agrees laws sets level a.frame b.frame in-a.frame in-b.frame in
       let numbered-a = vertical-numbered laws a in-a in
       let numbered-b = vertical-numbered laws b in-b in
@@ -171,6 +185,7 @@ module _ (laws : LowerLaws) (sets : SetsDecide) (level : Level) where
       let tail = tail-agrees sets level a.tail b.tail in-a.tail in-b.tail in (
         λ e. record {
           name = ap (λ (x : VerticalParts). x.name) e;
+          dynamic = dynamic.0 (ap (λ (x : VerticalParts). x.dynamic) e);
           frame = frame.0 (ap (λ (x : VerticalParts). x.frame) e);
           system = system.0 (ap (λ (x : VerticalParts). x.system) e);
           geoid_models = models.0 (ap (λ (x : VerticalParts). x.geoid_models) e);
@@ -178,6 +193,7 @@ module _ (laws : LowerLaws) (sets : SetsDecide) (level : Level) where
         },
         λ s. λ i. record {
           name = s.name i;
+          dynamic = dynamic.1 s.dynamic i;
           frame = frame.1 s.frame i;
           system = system.1 s.system i;
           geoid_models = models.1 s.geoid_models i;

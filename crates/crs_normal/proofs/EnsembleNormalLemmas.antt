@@ -20,6 +20,7 @@ use Rattle.crs_normal.specs.SpelledFrames.{item_datum, item_ellipsoid, item_ense
 use Rattle.crs_normal.specs.SpelledItems.{number_node, opt, text_item}
 use Rattle.crs_normal.specs.SpelledUnits.{item_unit, norm_unit}
 use Rattle.crs_normal.proofs.CheckedLemmas.{Checked, IsUnbroken, those-unbroken}
+use Rattle.crs_normal.proofs.DynamicNormalLemmas.{dynamic-spelled}
 use Rattle.crs_normal.proofs.EllipsoidNormalLemmas.{ZeroPlain, ellipsoid-form, meridian-form}
 use Rattle.crs_normal.proofs.FormLemmas.{Form, IsGood, kept-good, node-spelled, one-spelled, opened, optional-spelled, set-spelled}
 use Rattle.crs_normal.proofs.FrameNormalLemmas.{geodetic_datum-form, none-read, vertical_datum-form}
@@ -196,6 +197,7 @@ base-form law zero_plain level c (node place keyword square first others close) 
     let v2 = v1.1.1.1.1 in
     let v3 = v2.1.1.1.1 in
     let v4 = v3.1.1.1.1 in
+    let v5 = v4.1.1.1.1 in
     let free = those-unbroken d class.GeodeticFrame o.kept.classes items o.kept.shaped
     (λ fault b. checked.0 fault (inr b)) in
     node-spelled place keyword _ square first others close _ o.written
@@ -203,25 +205,27 @@ base-form law zero_plain level c (node place keyword square first others close) 
     ∙ one-spelled level d class.Text ReadsText text_item (text-form level d) (those d class.Text items) v.0
     (kept-good level d class.Text items o.kept)
     (those-looked d class.Text (slots_of d) items v) (v.1.1.0.not_more refl) x.name reads.name _ _
-    (geodetic_frame-spelled law level d (those d class.GeodeticFrame items) (those d class.GeodeticEnsemble items) v1.0
-    (alone v1.0 v1.1.1.0 refl refl)
+    (dynamic-spelled law level d (those d class.Dynamic items) v1.0 (kept-good level d class.Dynamic items o.kept)
+    (those-looked d class.Dynamic (slots_of d) items v) (v1.1.1.0.not_more refl) x.dynamic reads.dynamic _ _
+    (geodetic_frame-spelled law level d (those d class.GeodeticFrame items) (those d class.GeodeticEnsemble items) v2.0
+    (alone v2.0 v2.1.1.0 refl refl)
     (those-looked d class.GeodeticFrame (slots_of d) items v)
     (those-looked d class.GeodeticEnsemble (slots_of d) items v)
     (kept-good level d class.GeodeticFrame items o.kept) (kept-good level d class.GeodeticEnsemble items o.kept) free
     x.frame reads.frame _ _
     (optional-spelled level d class.PrimeMeridian (ReadsMeridian class.PrimeMeridian)
     (λ m. item_meridian (norm_given level m)) (meridian-form law zero_plain level d)
-    (those d class.PrimeMeridian items) v2.0 (kept-good level d class.PrimeMeridian items o.kept)
+    (those d class.PrimeMeridian items) v3.0 (kept-good level d class.PrimeMeridian items o.kept)
     (those-looked d class.PrimeMeridian (slots_of d) items v)
-    (v2.1.1.0.not_more refl) x.meridian reads.meridian _ _
+    (v3.1.1.0.not_more refl) x.meridian reads.meridian _ _
     (optional-spelled level d class.AngleUnit (ReadsUnit class.AngleUnit)
     (λ u. item_unit (norm_unit level kinds.Angle u))
     (unit-form law level d class.AngleUnit kinds.Angle refl (in-angle kinds.Angle) (λ raw h. h))
-    (those d class.AngleUnit items) v3.0 (kept-good level d class.AngleUnit items o.kept)
+    (those d class.AngleUnit items) v4.0 (kept-good level d class.AngleUnit items o.kept)
     (those-looked d class.AngleUnit (slots_of d) items v)
-    (v3.1.1.0.not_more refl) x.unit reads.unit _ _
-    (idents-spelled level d items v4.0 o.kept (those-looked d class.Identifier (slots_of d) items v) o.sets.0 x.identifiers
+    (v4.1.1.0.not_more refl) x.unit reads.unit _ _
+    (idents-spelled level d items v5.0 o.kept (those-looked d class.Identifier (slots_of d) items v) o.sets.0 x.identifiers
     reads.identifiers End End refl)
     ∙ opt-units level kinds.Angle x.unit _)
     ∙ opt-meridian (ReadsMeridian class.PrimeMeridian) level (those d class.PrimeMeridian items) x.meridian o.own
-    reads.meridian _)))
+    reads.meridian _))))

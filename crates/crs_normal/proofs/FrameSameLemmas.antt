@@ -176,20 +176,27 @@ module _ (laws : LowerLaws) (sets : SetsDecide) (level : Level) where
         λ s. λ i. record { name = s.name i; identifiers = identifiers.1 s.identifiers i },
       )
 
+  epochs-agree : FormDecides (Maybe IsNormal) (λ epoch. epoch) (BothOrNeither SameValue)
+  epochs-agree =
+      options-agree IsNormal (λ value. value) SameValue (values-agree laws) (λ epoch. epoch) refl (λ x. refl)
+
   pub datum-agrees : FormDecides IsDatum (norm_datum level) (SameDatum level)
   datum-agrees a b in-a in-b =
       let ellipsoid = ellipsoids-agree a.ellipsoid b.ellipsoid in-a.ellipsoid in-b.ellipsoid in
+      let epoch = epochs-agree a.anchor_epoch b.anchor_epoch in-a.anchor_epoch in-b.anchor_epoch in
       let identifiers = sets.idents level a.identifiers b.identifiers in-a.identifiers in-b.identifiers in (
         λ e. record {
           name = ap (λ (x : DatumParts). x.name) e;
           ellipsoid = ellipsoid.0 (ap (λ (x : DatumParts). x.ellipsoid) e);
           anchor = ap (λ (x : DatumParts). x.anchor) e;
+          anchor_epoch = epoch.0 (ap (λ (x : DatumParts). x.anchor_epoch) e);
           identifiers = identifiers.0 (ap (λ (x : DatumParts). x.identifiers) e);
         },
         λ s. λ i. record {
           name = s.name i;
           ellipsoid = ellipsoid.1 s.ellipsoid i;
           anchor = s.anchor i;
+          anchor_epoch = epoch.1 s.anchor_epoch i;
           identifiers = identifiers.1 s.identifiers i;
         },
       )

@@ -19,11 +19,13 @@ use Rattle.crs_normal.specs.NormalOwn.{Has, HasAxes, HasSets, HasTail, Rise}
 use Rattle.crs_value.specs.Sound.{Each}
 use Rattle.crs_normal.specs.SpelledConversions.{item_geoid_model, set_geoid_models}
 use Rattle.crs_normal.specs.SpelledCrs.{geodetic_keyword, item_geodetic, norm_geodetic}
+use Rattle.crs_normal.specs.SpelledDynamic.{item_dynamic}
 use Rattle.crs_normal.specs.SpelledFrames.{item_frame, item_meridian, norm_given}
 use Rattle.crs_normal.specs.SpelledItems.{each, opt, text_item}
 use Rattle.crs_normal.specs.SpelledSystems.{system_items}
 use Rattle.crs_normal.specs.SpelledUsages.{tail_items}
 use Rattle.crs_normal.proofs.CheckedLemmas.{Checked, IsUnbroken, once-only, those-unbroken}
+use Rattle.crs_normal.proofs.DynamicNormalLemmas.{dynamic-spelled}
 use Rattle.crs_normal.proofs.EllipsoidNormalLemmas.{meridian-form}
 use Rattle.crs_normal.proofs.EnsembleNormalLemmas.{geodetic_frame-spelled, opt-meridian}
 use Rattle.crs_normal.proofs.FormLemmas.{Form, Kept, kept-good, node-spelled, one-spelled, opened, optional-spelled}
@@ -68,8 +70,8 @@ rise-six c k f g h i j l rest rise =
 abbrev geodetic_items : GeodeticParts → Siblings
 geodetic_items g =
     More (text_item g.name)
-    (More (item_frame (codes "DATUM") g.frame)
-    (opt item_meridian g.meridian (system_items g.system (tail_items g.tail))))
+    (opt item_dynamic g.dynamic (More (item_frame (codes "DATUM") g.frame)
+    (opt item_meridian g.meridian (system_items g.system (tail_items g.tail)))))
 
 geodetic-args : Laws → (level : Level) (c : Class) (item : Item) → Kept level c (arguments item) → HasSets c item →
     Has c class.PrimeMeridian item → HasAxes c item → HasTail c item →
@@ -87,36 +89,41 @@ geodetic-args laws level c item k sets has_meridian has_axes has_tail v free few
     let v4 = v3.1.1.1.1 in
     let v5 = v4.1.1.1.1 in
     let v6 = v5.1.1.1.1 in
+    let v7 = v6.1.1.1.1 in
     let looked = λ (d : Class). those-looked c d geodetic_slots items v in
-    let rise = rise-six c 0 v.0 v1.0 v2.0 v3.0 v4.0 v5.0 (onto v6.0 End)
+    let behind = rise-behind c 0 v.0 (onto v1.0 (onto v2.0 (onto v3.0 (onto v4.0 (onto v5.0 (onto v6.0 (onto v7.0
+    End)))))))
     (subst (Rise c 0) (items-rebuilt c geodetic_slots items v) has_tail.in_order) in
-    let ends = ends-of c item v6.0 has_tail (looked class.Scope) (looked class.Area) (looked class.BoundingBox)
-    (looked class.VerticalExtent) v6.1.1.0.inside in
+    let rise = rise-six c behind.0 v1.0 v2.0 v3.0 v4.0 v5.0 v6.0 (onto v7.0 End) behind.1 in
+    let ends = ends-of c item v7.0 has_tail (looked class.Scope) (looked class.Area) (looked class.BoundingBox)
+    (looked class.VerticalExtent) v7.1.1.0.inside in
     let models = looked class.GeoidModel in
-    let found = found-of c item v6.0 (models
-    ∙ sym (slot-lacks c class.GeoidModel tail v6.0 refl v6.1.1.0)) (looked class.Usage) (looked class.Identifier)
+    let found = found-of c item v7.0 (models
+    ∙ sym (slot-lacks c class.GeoidModel tail v7.0 refl v7.1.1.0)) (looked class.Usage) (looked class.Identifier)
     (looked class.Remark) in
     flats-spread c geodetic_slots items v
     ∙ one-spelled level c class.Text ReadsText text_item (text-form level c) (those c class.Text items) v.0
     (kept-good level c class.Text items k)
     (looked class.Text) (v.1.1.0.not_more refl) x.name reads.name _ _
-    (geodetic_frame-spelled law level c (those c class.GeodeticFrame items) (those c class.GeodeticEnsemble items) v1.0
-    (alone v1.0 v1.1.1.0 refl refl)
+    (dynamic-spelled law level c (those c class.Dynamic items) v1.0 (kept-good level c class.Dynamic items k)
+    (looked class.Dynamic) (v1.1.1.0.not_more refl) x.dynamic reads.dynamic _ _
+    (geodetic_frame-spelled law level c (those c class.GeodeticFrame items) (those c class.GeodeticEnsemble items) v2.0
+    (alone v2.0 v2.1.1.0 refl refl)
     (looked class.GeodeticFrame) (looked class.GeodeticEnsemble)
     (kept-good level c class.GeodeticFrame items k) (kept-good level c class.GeodeticEnsemble items k) free x.frame
     reads.frame _ _
     (optional-spelled level c class.PrimeMeridian (ReadsMeridian class.PrimeMeridian)
     (λ m. item_meridian (norm_given level m)) (meridian-form law laws.zero_plain level c)
-    (those c class.PrimeMeridian items) v2.0 (kept-good level c class.PrimeMeridian items k)
-    (looked class.PrimeMeridian) (v2.1.1.0.not_more refl) x.meridian reads.meridian _ _
-    (system-spelled law level c item k has_axes v3.0 v4.0 v5.0 (looked class.CoordinateSystem) (v3.1.1.0.not_more refl)
+    (those c class.PrimeMeridian items) v3.0 (kept-good level c class.PrimeMeridian items k)
+    (looked class.PrimeMeridian) (v3.1.1.0.not_more refl) x.meridian reads.meridian _ _
+    (system-spelled law level c item k has_axes v4.0 v5.0 v6.0 (looked class.CoordinateSystem) (v4.1.1.0.not_more refl)
     (looked class.Axis) (looked class.AxisUnit)
     x.system reads.system within _ _
-    (tail-spelled law level c item k sets has_tail v6.0 rise.0 rise.1 ends found few [] (none-read-each _ models) x.tail
+    (tail-spelled law level c item k sets has_tail v7.0 rise.0 rise.1 ends found few [] (none-read-each _ models) x.tail
     reads.tail
     ∙ no-models level _))
     ∙ opt-meridian (ReadsMeridian class.PrimeMeridian) level (those c class.PrimeMeridian items) x.meridian has_meridian
-    reads.meridian _))
+    reads.meridian _)))
 
 plain-keyword : (t : SystemType) → t ≢ types.Ellipsoidal → codes "GEODCRS" ≡ geodetic_keyword t
 plain-keyword types.Ellipsoidal other = absurd (other refl)
@@ -137,7 +144,7 @@ geodetic-form laws level c (node place keyword square first others close) x good
     let items = More first others in
     let free : AreFree geodetic_dimensions (those d class.CoordinateSystem items) (those d class.Axis items)
     (those d class.AxisUnit items) =
-    λ fault b. checked.0 fault (inl (inr b)) in
+    λ fault b. checked.0 fault (inl (inr (inl b))) in
     let frames = those-unbroken d class.GeodeticFrame o.kept.classes items o.kept.shaped
     (λ fault b. checked.0 fault (inr b)) in
     let remarks = once-only (those d class.Remark items)
@@ -163,7 +170,7 @@ geographic-form laws level c (node place keyword square first others close) x go
     let items = More first others in
     let free : AreFree geographic_dimensions (those d class.CoordinateSystem items) (those d class.Axis items)
     (those d class.AxisUnit items) =
-    λ fault b. checked.0 fault (inl (inr b)) in
+    λ fault b. checked.0 fault (inl (inr (inl b))) in
     let frames = those-unbroken d class.GeodeticFrame o.kept.classes items o.kept.shaped
     (λ fault b. checked.0 fault (inr b)) in
     let remarks = once-only (those d class.Remark items)

@@ -1,18 +1,25 @@
+mod AxisSameLemmas
+mod ConversionSameLemmas
+mod CrsSameLemmas
+mod FrameSameLemmas
+mod PartSameLemmas
+mod SystemSameLemmas
+mod UnitSameLemmas
+mod WholeLemmas
 pub mod AcceptedLemmas
+pub mod AnchorNormalLemmas
 pub mod AxisAloneLemmas
 pub mod AxisNormalLemmas
-mod AxisSameLemmas
 pub mod CheckedLemmas
 pub mod ClosedLemmas
 pub mod CompoundNormalLemmas
-mod ConversionSameLemmas
-mod CrsSameLemmas
+pub mod DynamicNormalLemmas
+pub mod DynamicSameLemmas
 pub mod EllipsoidNormalLemmas
 pub mod EnsembleNormalLemmas
 pub mod ExtentLemmas
 pub mod FormLemmas
 pub mod FrameNormalLemmas
-mod FrameSameLemmas
 pub mod GeodeticNormalLemmas
 pub mod HeadLemmas
 pub mod IdentLemmas
@@ -27,9 +34,12 @@ pub mod MadeCheckLemmas
 pub mod MadeCompoundLemmas
 pub mod MadeConversionLemmas
 pub mod MadeCrsLemmas
+pub mod MadeDatumLemmas
+pub mod MadeDynamicLemmas
 pub mod MadeEllipsoidLemmas
 pub mod MadeFitLemmas
 pub mod MadeFrameLemmas
+pub mod MadeFrontLemmas
 pub mod MadeGeodeticLemmas
 pub mod MadeIdentLemmas
 pub mod MadeLeafLemmas
@@ -38,6 +48,7 @@ pub mod MadeMeridianLemmas
 pub mod MadeNamedLemmas
 pub mod MadePlaceLemmas
 pub mod MadeProjectedLemmas
+pub mod MadeRiseLemmas
 pub mod MadeSystemLemmas
 pub mod MadeTailLemmas
 pub mod MadeUnitLemmas
@@ -52,13 +63,13 @@ pub mod ParameterLemmas
 pub mod PartFrameLemmas
 pub mod PartKindLemmas
 pub mod PartLemmas
-mod PartSameLemmas
 pub mod PartUnitLemmas
 pub mod ProjectedNormalLemmas
 pub mod RankLemmas
 pub mod ReadCompoundLemmas
 pub mod ReadCrsLemmas
 pub mod ReadDatumLemmas
+pub mod ReadDynamicLemmas
 pub mod ReadEndLemmas
 pub mod ReadFrameLemmas
 pub mod ReadNameLemmas
@@ -66,15 +77,13 @@ pub mod ReadSystemLemmas
 pub mod ReadWalkLemmas
 pub mod SameItemLemmas
 pub mod SetLemmas
+pub mod SortLemmas
 pub mod SystemNormalLemmas
-mod SystemSameLemmas
 pub mod TailNormalLemmas
 pub mod TailSameLemmas
 pub mod TextNormalLemmas
 pub mod UnitNormalLemmas
-mod UnitSameLemmas
 pub mod UsageLemmas
 pub mod UsageNormalLemmas
 pub mod ViewLemmas
-mod WholeLemmas
 pub mod WordFormLemmas

@@ -42,7 +42,8 @@ use Rattle.crs_normal.proofs.MadeLemmas.{KeepsRuns, Made, Run, RunsMade, alone, 
 use Rattle.crs_normal.proofs.MadePlaceLemmas.{ArePlaced}
 use Rattle.crs_normal.proofs.MadeProjectedLemmas.{projected-made, projected-seen}
 use Rattle.crs_normal.proofs.MadeSystemLemmas.{IsHeadItem}
-use Rattle.crs_normal.proofs.MadeTailLemmas.{IsTailSeen, RunsRise, has-tail, no-repeats, tail-fits, tail-left, tail-runs-made, tail_runs, usages-ascend}
+use Rattle.crs_normal.proofs.MadeRiseLemmas.{RunsRise}
+use Rattle.crs_normal.proofs.MadeTailLemmas.{IsTailSeen, has-tail, no-repeats, tail-fits, tail-left, tail-runs-made, tail_runs, usages-ascend}
 use Rattle.crs_normal.proofs.MadeVerticalLemmas.{vertical-made}
 
 -- ---- horizontal parts: geographic or projected

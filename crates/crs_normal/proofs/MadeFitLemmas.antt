@@ -103,3 +103,30 @@ fit-before [] more (run ∷ runs) rest h a = absurd h
 fit-before (slot ∷ slots) more [] rest h a = absurd h
 fit-before (slot ∷ slots) more (run ∷ runs) rest h a =
     slot-fits slot (slots ++ more) run (classes (runs ++ rest)) h.0 (fit-before slots more runs rest h.1 a)
+
+-- two runs for a slot that takes any number
+repeated-onto : (d : Class) (js : List Item) (cs ds : List Class) → repeated d js (cs ++ ds) ≡ repeated d js cs ++ ds
+repeated-onto d [] cs ds = refl
+repeated-onto d (j ∷ js) cs ds = ap (λ r. d ∷ r) (repeated-onto d js cs ds)
+
+pub pair-fits : (cs : List Class) (slots : List SlotParts) (run other : Run) (rest : List Class) →
+    takes (any_of cs) run.of ≡ true → takes (any_of cs) other.of ≡ true → Allowed slots rest →
+    Allowed (any_of cs ∷ slots) (repeated run.of run.items (repeated other.of other.items rest))
+pair-fits cs slots run other rest t u a =
+    let both : List Class = repeated run.of run.items (repeated other.of other.items []) in (
+      both ∷ a.0,
+      (
+        (
+          record {
+            taken = taken-more (any_of cs) run.of run.items (repeated other.of other.items []) t
+                (taken-more (any_of cs) other.of other.items [] u tt);
+            enough = λ h. cc;
+            not_more = λ h. cc;
+          },
+          a.1.0,
+        ),
+        ap (repeated run.of run.items) (repeated-append other.of other.items rest)
+            ∙ repeated-onto run.of run.items (repeated other.of other.items []) rest
+            ∙ ap (λ r. both ++ r) a.1.1,
+      ),
+    )

@@ -1,62 +1,37 @@
--- Datums and ensembles are made.
-use Rattle.std.proofs.Common.{◌≡◌, ◌≢◌, ℕ, ◌++◌, IsTrue, Option, Some, None, List, [], ◌∷◌, map, drop, codes, IfSome, IsNone, IsSome, refl, arith}
+-- Ensembles, and frames of either sort, are made.
+use Rattle.std.proofs.Common.{◌≡◌, ◌≢◌, ℕ, ◌++◌, Option, Some, None, List, [], ◌∷◌, map, codes, IfSome, IsNone, IsSome, refl, arith}
 use Rattle.std.specs.Option.{option_map}
 use Rattle.crs_decimal.specs.Value.{Value, IsNormal}
-use Rattle.crs_text.specs.Items.{Item, Siblings, End, More, arguments}
-use Rattle.crs_text.specs.Refusal.{RefusedAt}
-use Rattle.crs_text.specs.Tokens.{IsWord}
+use Rattle.crs_text.specs.Items.{Siblings, End, More}
 use Rattle.crs_text.specs.Written.{at_place}
 use Rattle.crs_shape.specs.declared.class.Class.{Class}
 use Rattle.crs_shape.specs.declared.class.Class.TheVariants as class
 use Rattle.crs_shape.specs.Keywords.{is_keyword}
-use Rattle.crs_shape.specs.Shape.{Allowed}
 use Rattle.crs_shape.specs.Slots.{class_named, slots_of}
-use Rattle.crs_value.specs.Break.{AnyOf}
 use Rattle.crs_value.specs.Checks.{Own as BreaksOwn}
 use Rattle.crs_value.specs.declared.values.frame.Frame.{Frame}
 use Rattle.crs_value.specs.declared.values.frame.Frame.TheVariants as frame
 use Rattle.crs_value.specs.declared.values.level.Level.{Level}
-use Rattle.crs_value.specs.Reading.{those}
-use Rattle.crs_value.specs.RepeatedPart.{IsRepeated}
-use Rattle.crs_value.specs.Sound.{Each, IsText}
-use Rattle.crs_value.specs.SoundFrames.{IsDatum, IsEllipsoid, IsEnsemble, IsMember}
+use Rattle.crs_value.specs.Sound.{Each}
+use Rattle.crs_value.specs.SoundFrames.{IsEllipsoid, IsEnsemble, IsMember}
 use Rattle.crs_value.specs.SoundSingle.{IsGeodeticFrame, IsVerticalFrame}
-use Rattle.crs_value.specs.Values.{DatumParts, EllipsoidParts, EnsembleParts, MemberParts}
+use Rattle.crs_value.specs.Values.{EllipsoidParts, EnsembleParts, MemberParts}
 use Rattle.crs_normal.specs.DecimalLaws.{DecimalLaws}
 use Rattle.crs_normal.specs.Made.{IsMade, geodetic_class, vertical_class}
-use Rattle.crs_normal.specs.Normal.{IsWritten}
-use Rattle.crs_normal.specs.NormalOwn.{Ascend, Own}
+use Rattle.crs_normal.specs.NormalOwn.{Ascend}
 use Rattle.crs_normal.specs.SpelledFrames.{item_ellipsoid, item_frame, item_member, norm_ellipsoid, norm_frame, norm_member, set_members}
-use Rattle.crs_normal.specs.SpelledItems.{each, node_of, number_item, number_node, opt, text_item, text_node}
+use Rattle.crs_normal.specs.SpelledItems.{each, node_of, number_item, number_node, opt, text_item}
 use Rattle.crs_normal.specs.SpelledUnits.{item_ident, set_idents}
 use Rattle.crs_normal.proofs.MadeAscendLemmas.{set-ascends, set-each, set-some}
+use Rattle.crs_normal.proofs.MadeDatumLemmas.{geodetic-datum-made, number-node-made, vertical-datum-made}
 use Rattle.crs_normal.proofs.MadeEllipsoidLemmas.{ellipsoid-made}
 use Rattle.crs_normal.proofs.MadeFitLemmas.{fills-any, fills-one, fills-some, runs-fit}
-use Rattle.crs_normal.proofs.MadeIdentLemmas.{given-made, identifiers-ascend, identifiers-left, identifiers-made, ids_run, text-node-made}
-use Rattle.crs_normal.proofs.MadeLeafLemmas.{number-made, text-made}
-use Rattle.crs_normal.proofs.MadeLemmas.{Made, Run, alone, as-argument, each-line, given, keeps-none, node-made, opt-line}
-use Rattle.crs_normal.proofs.MadePlaceLemmas.{ArePlaced}
+use Rattle.crs_normal.proofs.MadeIdentLemmas.{identifiers-ascend, identifiers-left, identifiers-made, ids_run}
+use Rattle.crs_normal.proofs.MadeLeafLemmas.{text-made}
+use Rattle.crs_normal.proofs.MadeLemmas.{Made, Run, alone, as-argument, each-line, node-made}
 use Rattle.crs_normal.proofs.MadeNamedLemmas.{member-made}
 
--- ---- nodes of one number
-
-pub number-node-made : DecimalLaws → (level : Level) (c : Class) (keyword : List ℕ) (v : Value) → IsWord keyword →
-    IsTrue (is_keyword c keyword) →
-    IsWritten c keyword → Allowed (slots_of c) (class.Number ∷ []) → ((item : Item) → Own c item) →
-    ((item : Item) (fault : RefusedAt) → ¬ (BreaksOwn c item fault)) → IsNormal v → (p : ℕ) →
-    IsMade level c 1 (at_place p (number_node keyword v))
-number-node-made l level c keyword v letters known written allowed own unbroken h =
-    node-made level 0 c keyword (number_item v) End (alone class.Number (number_item v) ∷ []) refl (record {
-      letters = letters;
-      known = known;
-      written = written;
-      made = ((number-made l level 0 c v h, tt), tt);
-      allowed = allowed;
-      sets = (tt, (tt, (tt, (tt, (tt, tt)))));
-      left = keeps-none level;
-      own = λ item s. own item;
-      unbroken = λ item fault s. unbroken item fault;
-    })
+-- ---- ensembles
 
 accuracy-made : DecimalLaws → (level : Level) (v : Value) → IsNormal v → (p : ℕ) →
     IsMade level class.EnsembleAccuracy 1 (at_place p (number_node (codes "ENSEMBLEACCURACY") v))
@@ -65,123 +40,6 @@ accuracy-made l level v h =
     number-node-made l level class.EnsembleAccuracy (codes "ENSEMBLEACCURACY") v (refl, refl) refl refl
     (runs-fit (slots_of class.EnsembleAccuracy) (alone class.Number (number_item v) ∷ []) (fills-one refl, tt))
     (λ item. tt) (λ item fault b. b) h
-
-anchor-made : (level : Level) (raw : List ℕ) → IsText raw → (p : ℕ) →
-    IsMade level class.Anchor 1 (at_place p (text_node (codes "ANCHOR") raw))
-unfolding is_keyword BreaksOwn
-anchor-made level raw h =
-    text-node-made level class.Anchor (codes "ANCHOR") raw (refl, refl) refl refl
-    (runs-fit (slots_of class.Anchor) (alone class.Text (text_item raw) ∷ []) (fills-one refl, tt)) (λ item. tt)
-    (λ item fault b. b) h
-
--- ---- datums
-
--- one part at most isn't repeated
-pub not-repeated : {A : Type 0} (spell : A → Item) (x : Option A) (items : List Item) (fault : RefusedAt) →
-    ArePlaced items (given spell x ++ []) →
-    ¬ (AnyOf IsRepeated (drop 1 items) fault)
-not-repeated spell None [] fault h b = b
-not-repeated spell None (item ∷ items) fault h b = h
-not-repeated spell (Some x) [] fault h b = h
-not-repeated spell (Some x) (item ∷ []) fault h b = b
-not-repeated spell (Some x) (item ∷ other ∷ items) fault h b = h.1
-
-abbrev anchor_run : Option (List ℕ) → Run
-anchor_run anchor = record { of = class.Anchor; items = given (text_node (codes "ANCHOR")) anchor }
-
-anchors-made : (level : Level) (parent : Class) (anchor : Option (List ℕ)) →
-    class_named parent (codes "ANCHOR") ≡ Some class.Anchor → IfSome anchor IsText →
-    Each (Made level 4 parent class.Anchor) (given (text_node (codes "ANCHOR")) anchor)
-anchors-made level parent anchor named h =
-    given-made level 4 parent class.Anchor IsText (text_node (codes "ANCHOR")) anchor h
-    (λ raw q. as-argument level 1 4 parent class.Anchor (text_node (codes "ANCHOR") raw) (omega arith) named
-    (anchor-made level raw q))
-
-abbrev geodetic_datum_runs : Level → EllipsoidParts → DatumParts → List Run
-geodetic_datum_runs level e d =
-    alone class.Text (text_item d.name) ∷ alone class.Ellipsoid (item_ellipsoid (norm_ellipsoid level e)) ∷
-    anchor_run d.anchor ∷ ids_run level d.identifiers ∷ []
-
-geodetic-datum-made : DecimalLaws → (level : Level) (x : Option EllipsoidParts) (d : DatumParts) → IsSome x →
-    IfSome x IsEllipsoid → IsDatum d → (p : ℕ) →
-    IsMade level class.GeodeticFrame 5 (at_place p (node_of (codes "DATUM") (text_item d.name)
-    (opt item_ellipsoid (option_map (norm_ellipsoid level) x) (opt (text_node (codes "ANCHOR")) d.anchor
-    (each item_ident (set_idents level d.identifiers) End)))))
-unfolding BreaksOwn class_named is_keyword
-geodetic-datum-made l level None d some e h = absurd (cc some)
-geodetic-datum-made l level (Some x) d some e h =
-    node-made level 4 class.GeodeticFrame (codes "DATUM") (text_item d.name)
-    (opt item_ellipsoid (Some (norm_ellipsoid level x)) (opt (text_node (codes "ANCHOR")) d.anchor
-    (each item_ident (set_idents level d.identifiers) End)))
-    (geodetic_datum_runs level x d) (simp (opt-line, each-line)) (record {
-      letters = (refl, refl);
-      known = refl;
-      written = refl;
-      made = (
-        (text-made level 4 class.GeodeticFrame d.name h.name, tt),
-        (
-          (
-            as-argument level 4 4 class.GeodeticFrame class.Ellipsoid (item_ellipsoid (norm_ellipsoid level x))
-                (omega arith) refl (ellipsoid-made l level x e),
-            tt,
-          ),
-          (
-            anchors-made level class.GeodeticFrame d.anchor refl h.anchor,
-            (identifiers-made l level 4 class.GeodeticFrame d.identifiers (omega arith) refl h.identifiers, tt),
-          ),
-        ),
-      );
-      allowed = runs-fit (slots_of class.GeodeticFrame) (geodetic_datum_runs level x d)
-          (fills-one refl, (fills-one refl, (fills-any refl, (fills-any refl, tt))));
-      sets = (identifiers-ascend level d.identifiers, (tt, (tt, (tt, (tt, tt)))));
-      left = identifiers-left level d.identifiers;
-      own = λ item s. tt;
-      unbroken = λ item fault s b.
-          not-repeated (text_node (codes "ANCHOR")) d.anchor (those class.GeodeticFrame class.Anchor (arguments item))
-          fault (s.view class.Anchor) b;
-    })
-
-abbrev vertical_datum_runs : Level → DatumParts → List Run
-vertical_datum_runs level d = alone class.Text (text_item d.name) ∷ anchor_run d.anchor ∷ ids_run level d.identifiers ∷ []
-
-vertical-datum-made : DecimalLaws → (level : Level) (x : Option EllipsoidParts) (d : DatumParts) → IsNone x →
-    IsDatum d → (p : ℕ) →
-    IsMade level class.VerticalFrame 5 (at_place p (node_of (codes "VDATUM") (text_item d.name)
-    (opt item_ellipsoid (option_map (norm_ellipsoid level) x) (opt (text_node (codes "ANCHOR")) d.anchor
-    (each item_ident (set_idents level d.identifiers) End)))))
-unfolding BreaksOwn class_named is_keyword
-vertical-datum-made l level (Some x) d none h = absurd (cc none)
-vertical-datum-made l level None d none h =
-    node-made level 4 class.VerticalFrame (codes "VDATUM") (text_item d.name)
-    (opt (text_node (codes "ANCHOR")) d.anchor (each item_ident (set_idents level d.identifiers) End))
-    (vertical_datum_runs level d) (simp (opt-line, each-line)) (record {
-      letters = (refl, refl);
-      known = refl;
-      written = refl;
-      made = (
-        (text-made level 4 class.VerticalFrame d.name h.name, tt),
-        (
-          anchors-made level class.VerticalFrame d.anchor refl h.anchor,
-          (
-            identifiers-made l level 4 class.VerticalFrame d.identifiers
-                (omega arith) refl h.identifiers,
-            tt,
-          ),
-        ),
-      );
-      allowed = runs-fit (slots_of class.VerticalFrame) (vertical_datum_runs level d) (
-        fills-one refl,
-        (fills-any refl, (fills-any refl, tt)),
-      );
-      sets = (identifiers-ascend level d.identifiers, (tt, (tt, (tt, (tt, tt)))));
-      left = identifiers-left level d.identifiers;
-      own = λ item s. tt;
-      unbroken = λ item fault s b.
-          not-repeated (text_node (codes "ANCHOR")) d.anchor (those class.VerticalFrame class.Anchor (arguments item))
-          fault (s.view class.Anchor) b;
-    })
-
--- ---- ensembles
 
 abbrev members_run : Level → List MemberParts → Run
 members_run level ms = record { of = class.Member; items = map item_member (set_members level ms) }

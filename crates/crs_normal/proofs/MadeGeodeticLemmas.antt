@@ -1,7 +1,8 @@
 -- Geodetic and geographic CRSs are made.
-use Rattle.std.proofs.Common.{◌≡◌, ◌≢◌, ℕ, ◌≤◌, ◌++◌, true, IsTrue, Option, Some, None, List, [], ◌∷◌, map, codes, inl, inr, refl, sym, ap, subst, ◌∙◌, arith}
+use Rattle.std.proofs.Common.{◌≡◌, ◌≢◌, ℕ, ◌≤◌, IsTrue, Some, None, List, [], ◌∷◌, map, codes, inl, inr, refl, sym, ap, subst, ◌∙◌, arith}
+use Rattle.std.specs.Option.{option_map}
 use Rattle.crs_decimal.specs.Value.{Value}
-use Rattle.crs_text.specs.Items.{Item, More, arguments, raw_of}
+use Rattle.crs_text.specs.Items.{Item, Siblings, More, arguments, raw_of}
 use Rattle.crs_text.specs.Refusal.{RefusedAt}
 use Rattle.crs_text.specs.Tokens.{IsWord}
 use Rattle.crs_text.specs.Written.{at_place}
@@ -9,20 +10,17 @@ use Rattle.crs_shape.specs.declared.class.Class.{Class}
 use Rattle.crs_shape.specs.declared.class.Class.TheVariants as class
 use Rattle.crs_shape.specs.Keywords.{is_keyword}
 use Rattle.crs_shape.specs.Shape.{Allowed}
-use Rattle.crs_shape.specs.ShapeFault.{class_in}
-use Rattle.crs_shape.specs.Slots.{class_named, geodetic_slots, one, one_of, optional, slots_of, some, tail, takes}
+use Rattle.crs_shape.specs.Slots.{class_named, geodetic_slots, one, one_of, optional, slots_of, some, tail}
 use Rattle.crs_value.specs.BadSystem.{IsOneOf, geodetic_dimensions, geographic_dimensions}
 use Rattle.crs_value.specs.Checks.{OfCrs, Own as BreaksOwn}
 use Rattle.crs_value.specs.CrsValues.{GeodeticParts}
-use Rattle.crs_value.specs.declared.values.frame.Frame.{Frame}
 use Rattle.crs_value.specs.declared.values.frame.Frame.TheVariants as frame
 use Rattle.crs_value.specs.declared.values.level.Level.{Level}
 use Rattle.crs_value.specs.declared.values.system_type.SystemType.{SystemType}
 use Rattle.crs_value.specs.declared.values.system_type.SystemType.TheVariants as types
 use Rattle.crs_value.specs.Reading.{those}
 use Rattle.crs_value.specs.Sound.{Each}
-use Rattle.crs_value.specs.SoundSingle.{IsGeodetic, IsGeodeticFrame}
-use Rattle.crs_value.specs.Values.{MeridianParts}
+use Rattle.crs_value.specs.SoundSingle.{IsGeodetic}
 use Rattle.crs_value.specs.Words.{system_word}
 use Rattle.crs_same.specs.SameUsages.{usages_of}
 use Rattle.crs_normal.specs.DecimalLaws.{DecimalLaws}
@@ -30,76 +28,24 @@ use Rattle.crs_normal.specs.Made.{IsMade, geodetic_class, root_class}
 use Rattle.crs_normal.specs.Normal.{IsWritten}
 use Rattle.crs_normal.specs.NormalOwn.{Ascend, Has, HasAxes, HasTail, Own, rank, set_classes, words_in}
 use Rattle.crs_normal.specs.SpelledCrs.{geodetic_keyword, item_geodetic, norm_geodetic}
+use Rattle.crs_normal.specs.SpelledDynamic.{item_dynamic, norm_dynamic}
 use Rattle.crs_normal.specs.SpelledFrames.{item_frame, item_meridian, norm_frame, norm_meridian}
 use Rattle.crs_normal.specs.SpelledItems.{opt, text_item, word_item}
 use Rattle.crs_normal.specs.SpelledSystems.{item_head, norm_system, system_items}
 use Rattle.crs_normal.specs.SpelledUnits.{item_unit}
 use Rattle.crs_normal.specs.SpelledUsages.{norm_tail, tail_items}
-use Rattle.crs_normal.proofs.MadeBehindLemmas.{AxisEach, IsFew, NamesSystem, Shows, axes-some, axes_run, behind, behind-made, crs_classes, few-system, no_unit_run, system-seen, tail-seen}
+use Rattle.crs_normal.proofs.MadeBehindLemmas.{AxisEach, IsFew, NamesSystem, Shows, axes-some, axes_run, behind, behind-made, few-system, no_unit_run, system-seen, tail-seen}
 use Rattle.crs_normal.proofs.MadeCheckLemmas.{IsSystemSeen, has-axes, no-bad-systems}
+use Rattle.crs_normal.proofs.MadeDynamicLemmas.{IsSteady, dynamic-argument, dynamic_classes, no-bad-dynamic}
 use Rattle.crs_normal.proofs.MadeFitLemmas.{fills-one, fills-optional, fills-some, fit-before, last-fits}
-use Rattle.crs_normal.proofs.MadeFrameLemmas.{geodetic-frame-made}
+use Rattle.crs_normal.proofs.MadeFrontLemmas.{NamesFrame, frame-argument, frame-left, frame-rank, frame-sets, frame-shows, frame-steady, frame-taken, framed_runs, geodetic_classes, meridian-there}
 use Rattle.crs_normal.proofs.MadeIdentLemmas.{identifiers-ascend}
 use Rattle.crs_normal.proofs.MadeLeafLemmas.{text-made}
-use Rattle.crs_normal.proofs.MadeLemmas.{IsKept, KeepsRuns, Made, Run, RunsMade, Sees, alone, as-argument, classes, each-line, given, items_in, node-made, opt-line, sees, views}
+use Rattle.crs_normal.proofs.MadeLemmas.{IsKept, Run, RunsMade, Sees, alone, classes, each-line, given, items_in, node-made, opt-line, sees, views}
 use Rattle.crs_normal.proofs.MadePlaceLemmas.{ArePlaced}
 use Rattle.crs_normal.proofs.MadeMeridianLemmas.{meridian-argument}
-use Rattle.crs_normal.proofs.MadeTailLemmas.{IsTailSeen, NamesTail, RunsRise, has-tail, no-repeats, tail-fits, tail-left, tail_runs, usages-ascend}
-
--- ---- the frame as an argument, of one class or the other
-
--- a class names the nodes of a geodetic frame
-pub record NamesFrame (c : Class) : Type 0 where
-  pub datum : class_named c (codes "DATUM") ≡ Some class.GeodeticFrame
-  pub ensemble : class_named c (codes "ENSEMBLE") ≡ Some class.GeodeticEnsemble
-
-frame-named : (level : Level) (c : Class) (f : Frame) → NamesFrame c →
-    class_in c (item_frame (codes "DATUM") (norm_frame level f)) ≡ Some (geodetic_class f)
-frame-named level c (frame.Datum d) n = n.datum
-frame-named level c (frame.Ensemble e) n = n.ensemble
-
-pub frame-argument : DecimalLaws → (level : Level) (most : ℕ) (c : Class) (f : Frame) → 5 ≤ most → NamesFrame c →
-    IsGeodeticFrame f →
-    Made level most c (geodetic_class f) (item_frame (codes "DATUM") (norm_frame level f))
-frame-argument l level most c f deep n h =
-    as-argument level 5 most c (geodetic_class f) (item_frame (codes "DATUM") (norm_frame level f)) deep
-    (frame-named level c f n) (geodetic-frame-made l level f h)
-
-pub frame-taken : (f : Frame) →
-    takes (one_of (class.GeodeticFrame ∷ class.GeodeticEnsemble ∷ [])) (geodetic_class f) ≡ true
-frame-taken (frame.Datum d) = refl
-frame-taken (frame.Ensemble e) = refl
-
-frame-rank : (f : Frame) → rank (geodetic_class f) ≡ 0
-frame-rank (frame.Datum d) = refl
-frame-rank (frame.Ensemble e) = refl
-
-pub frame-sets : (f : Frame) (n j : Item) (rest : List Run) → Each (λ d. Ascend (items_in d rest)) set_classes →
-    Each (λ d. Ascend (items_in d (alone class.Text n ∷ alone (geodetic_class f) j ∷ rest))) set_classes
-frame-sets (frame.Datum d) n j rest h = h
-frame-sets (frame.Ensemble e) n j rest h = h
-
-pub frame-left : (level : Level) (f : Frame) (n j : Item) (rest : List Run) → KeepsRuns level rest →
-    KeepsRuns level (alone class.Text n ∷ alone (geodetic_class f) j ∷ rest)
-frame-left level (frame.Datum d) n j rest h = h
-frame-left level (frame.Ensemble e) n j rest h = h
-
--- what stands in a CRS or base with a prime meridian
-abbrev pub geodetic_classes : List Class
-geodetic_classes = class.PrimeMeridian ∷ crs_classes
-
-pub frame-shows : (c : Class) (item n j : Item) (f : Frame) (rest : List Run) →
-    Each (Shows c item (alone class.Text n ∷ alone (geodetic_class f) j ∷ rest)) geodetic_classes →
-    Each (Shows c item rest) geodetic_classes
-frame-shows c item n j (frame.Datum d) rest h = h
-frame-shows c item n j (frame.Ensemble e) rest h = h
-
-pub meridian-there : (level : Level) (m : Option MeridianParts) (items : List Item) →
-    ArePlaced items (given item_meridian (norm_meridian level m) ++ []) → items ≢ []
-meridian-there level None [] h e = h
-meridian-there level None (x ∷ items) h e = cc
-meridian-there level (Some m) [] h e = h
-meridian-there level (Some m) (x ∷ items) h e = cc
+use Rattle.crs_normal.proofs.MadeRiseLemmas.{RunsRise}
+use Rattle.crs_normal.proofs.MadeTailLemmas.{IsTailSeen, NamesTail, has-tail, no-repeats, tail-fits, tail-left, tail_runs, usages-ascend}
 
 -- ---- the class of a CRS by the type of its system
 
@@ -112,6 +58,7 @@ record IsRootClass (t : SystemType) (c : Class) (keyword : List ℕ) : Type 0 wh
   frames : NamesFrame c
   systems : NamesSystem c
   tails : NamesTail c
+  dynamic : class_named c (codes "DYNAMIC") ≡ Some class.Dynamic
   meridian : class_named c (codes "PRIMEM") ≡ Some class.PrimeMeridian
   dimensions : SystemType → List ℕ
   allows : (d : Value) → IsOneOf d (geodetic_dimensions t) → IsOneOf d (dimensions t)
@@ -140,6 +87,7 @@ geodetic-root t n = record {
   frames = record { datum = refl; ensemble = refl };
   systems = record { head = refl; axis = refl };
   tails = record { usage = refl; ident = refl; remark = refl };
+  dynamic = refl;
   meridian = refl;
   dimensions = geodetic_dimensions;
   allows = λ d h. h;
@@ -162,6 +110,7 @@ geographic-root = record {
   frames = record { datum = refl; ensemble = refl };
   systems = record { head = refl; axis = refl };
   tails = record { usage = refl; ident = refl; remark = refl };
+  dynamic = refl;
   meridian = refl;
   dimensions = geographic_dimensions;
   allows = λ d h. h;
@@ -180,11 +129,16 @@ is-root types.Vertical = geodetic-root types.Vertical (λ e. cc)
 abbrev meridian_run : Level → GeodeticParts → Run
 meridian_run level g = record { of = class.PrimeMeridian; items = given item_meridian (norm_meridian level g.meridian) }
 
+-- what a geodetic CRS has behind its frame
+abbrev geodetic_rest : Level → GeodeticParts → List Run
+geodetic_rest level g = meridian_run level g ∷ behind level g.system g.tail
+
+abbrev frame_item : Level → GeodeticParts → Item
+frame_item level g = item_frame (codes "DATUM") (norm_frame level g.frame)
+
 abbrev geodetic_runs : Level → GeodeticParts → List Run
 geodetic_runs level g =
-    alone class.Text (text_item g.name) ∷ alone (geodetic_class g.frame) (item_frame (codes "DATUM")
-    (norm_frame level g.frame)) ∷
-    meridian_run level g ∷ behind level g.system g.tail
+    framed_runs level (text_item g.name) g.dynamic g.frame (frame_item level g) (geodetic_rest level g)
 
 abbrev pub end_classes : List Class
 end_classes =
@@ -200,22 +154,23 @@ geodetic-small types.Vertical = tt
 geodetic-allowed : DecimalLaws → (level : Level) (g : GeodeticParts) → IsFew g.system →
     Allowed geodetic_slots (classes (geodetic_runs level g))
 geodetic-allowed l level g few =
-    fit-before (one class.Text ∷ one_of (class.GeodeticFrame ∷ class.GeodeticEnsemble ∷ []) ∷
+    fit-before (one class.Text ∷ optional class.Dynamic ∷ one_of (class.GeodeticFrame ∷ class.GeodeticEnsemble ∷ []) ∷
     optional class.PrimeMeridian ∷
     one class.CoordinateSystem ∷ some class.Axis ∷ optional class.AxisUnit ∷ []) (tail ∷ [])
-    (alone class.Text (text_item g.name) ∷ alone (geodetic_class g.frame) (item_frame (codes "DATUM")
-    (norm_frame level g.frame)) ∷
-    meridian_run level g ∷ alone class.CoordinateSystem (item_head (norm_system level g.system)) ∷
-    axes_run level g.system ∷ no_unit_run ∷ [])
+    (framed_runs level (text_item g.name) g.dynamic g.frame (frame_item level g) (meridian_run level g ∷
+    alone class.CoordinateSystem (item_head (norm_system level g.system)) ∷ axes_run level g.system ∷ no_unit_run ∷ []))
     (tail_runs level g.tail) (
       fills-one refl,
       (
-        fills-one (frame-taken g.frame),
+        fills-optional item_dynamic (option_map (norm_dynamic level) g.dynamic) refl,
         (
-          fills-optional item_meridian (norm_meridian level g.meridian) refl,
+          fills-one (frame-taken g.frame),
           (
-            fills-one refl,
-            (fills-some refl (axes-some l level g.system few), (fills-optional item_unit None refl, tt)),
+            fills-optional item_meridian (norm_meridian level g.meridian) refl,
+            (
+              fills-one refl,
+              (fills-some refl (axes-some l level g.system few), (fills-optional item_unit None refl, tt)),
+            ),
           ),
         ),
       ),
@@ -223,7 +178,7 @@ geodetic-allowed l level g few =
     (last-fits end_classes (classes (tail_runs level g.tail)) (tail-fits end_classes level g.tail refl refl refl))
 
 pub end-sets : (level : Level) (g : GeodeticParts) →
-    Each (λ d. Ascend (items_in d (meridian_run level g ∷ behind level g.system g.tail))) set_classes
+    Each (λ d. Ascend (items_in d (geodetic_rest level g))) set_classes
 end-sets level g = (identifiers-ascend level g.tail.identifiers, (usages-ascend level (usages_of g.tail), (tt, (tt, (tt, tt)))))
 
 geodetic-runs-made : DecimalLaws → (level : Level) (c : Class) (keyword : List ℕ) (g : GeodeticParts) →
@@ -232,10 +187,13 @@ geodetic-runs-made : DecimalLaws → (level : Level) (c : Class) (keyword : List
 geodetic-runs-made l level c keyword g r few h = (
   (text-made level 5 c g.name h.name, tt),
   (
-    (frame-argument l level 5 c g.frame (omega arith) r.frames h.frame, tt),
+    dynamic-argument l level 5 c g.dynamic g.frame (omega arith) r.dynamic h.dynamic,
     (
-      meridian-argument l level 5 c g.meridian (omega arith) r.meridian h.meridian,
-      behind-made l level 5 c g.system g.tail (omega arith) r.systems r.tails few h.tail,
+      (frame-argument l level 5 c g.frame (omega arith) r.frames h.frame, tt),
+      (
+        meridian-argument l level 5 c g.meridian (omega arith) r.meridian h.meridian,
+        behind-made l level 5 c g.system g.tail (omega arith) r.systems r.tails few h.tail,
+      ),
     ),
   ),
 )
@@ -248,7 +206,10 @@ geodetic-rise level g =
         omega arith,
         (
           omega arith,
-          (omega arith, (omega arith, (omega arith, (omega arith, (omega arith, (omega arith, tt)))))),
+          (
+            omega arith,
+            (omega arith, (omega arith, (omega arith, (omega arith, (omega arith, (omega arith, tt)))))),
+          ),
         ),
       ),
     )
@@ -276,10 +237,10 @@ geodetic-kept l level c keyword g r few h = record {
   made = geodetic-runs-made l level c keyword g r few h;
   allowed = subst (λ slots. Allowed slots (classes (geodetic_runs level g))) (sym r.slots)
       (geodetic-allowed l level g few);
-  sets = frame-sets g.frame (text_item g.name) (item_frame (codes "DATUM") (norm_frame level g.frame))
-      (meridian_run level g ∷ behind level g.system g.tail) (end-sets level g);
-  left = frame-left level g.frame (text_item g.name) (item_frame (codes "DATUM") (norm_frame level g.frame))
-      (meridian_run level g ∷ behind level g.system g.tail) (tail-left level g.tail);
+  sets = frame-sets level (text_item g.name) g.dynamic g.frame (frame_item level g) (geodetic_rest level g)
+      (end-sets level g);
+  left = frame-left level (text_item g.name) g.dynamic g.frame (frame_item level g) (geodetic_rest level g)
+      (tail-left level g.tail);
   own = λ item s.
       let v = shown item s in
       let seen = system-seen l level c item g.system g.tail few v.1 in
@@ -295,35 +256,45 @@ geodetic-kept l level c keyword g r few h = record {
   unbroken = λ item fault s b.
       let v = shown item s in
       no-break item fault (tail-seen level c item g.tail v.1.1.1.1) (system-seen l level c item g.system g.tail few
-      v.1) (r.breaks item fault b);
+      v.1) (steady item s) (r.breaks item fault b);
 }
   where
     shown : (item : Item) → Sees c (geodetic_runs level g) item →
-        Each (Shows c item (meridian_run level g ∷ behind level g.system g.tail)) geodetic_classes
+        Each (Shows c item (geodetic_rest level g)) geodetic_classes
     shown item s =
-        frame-shows c item (text_item g.name) (item_frame (codes "DATUM") (norm_frame level g.frame)) g.frame
-        (meridian_run level g ∷ behind level g.system g.tail) (views c (geodetic_runs level g) item geodetic_classes s)
+        frame-shows level c item (text_item g.name) g.dynamic g.frame (frame_item level g) (geodetic_rest level g)
+        (views c (geodetic_runs level g) item geodetic_classes s)
+
+    steady : (item : Item) → Sees c (geodetic_runs level g) item → IsSteady c item
+    steady item s =
+        frame-steady level c item (text_item g.name) g.dynamic g.frame (frame_item level g) (geodetic_rest level g)
+        h.dynamic (refl, (refl, (refl, tt))) (views c (geodetic_runs level g) item dynamic_classes s)
 
     no-break : (item : Item) (fault : RefusedAt) → IsTailSeen c item →
         IsSystemSeen g.system.system_type g.system.dimension
         (those c class.CoordinateSystem (arguments item)) (those c class.Axis (arguments item))
-        (those c class.AxisUnit (arguments item)) →
+        (those c class.AxisUnit (arguments item)) → IsSteady c item →
         ¬ (OfCrs r.dimensions c item fault)
-    no-break item fault t q (inl b) = no-repeats c item fault t b
-    no-break item fault t q (inr b) =
+    no-break item fault t q y (inl b) = no-repeats c item fault t b
+    no-break item fault t q y (inr (inl b)) =
         no-bad-systems l r.dimensions g.system.system_type g.system.dimension (those c class.CoordinateSystem
         (arguments item))
         (those c class.Axis (arguments item)) (those c class.AxisUnit (arguments item)) fault h.system.dimension
         (r.allows g.system.dimension h.dimension) q b
+    no-break item fault t q y (inr (inr b)) = no-bad-dynamic c item fault y b
+
+-- the arguments behind a CRS's name
+abbrev geodetic_others : Level → GeodeticParts → Siblings
+geodetic_others level g =
+    opt item_dynamic (option_map (norm_dynamic level) g.dynamic) (More (frame_item level g)
+    (opt item_meridian (norm_meridian level g.meridian) (system_items (norm_system level g.system)
+    (tail_items (norm_tail level g.tail)))))
 
 pub geodetic-made : DecimalLaws → AxisEach → (level : Level) (g : GeodeticParts) → IsGeodetic g → (p : ℕ) →
     IsMade level (root_class g.system.system_type) 6 (at_place p (item_geodetic (norm_geodetic level g)))
 geodetic-made l each_at level g h =
     node-made level 5 (root_class g.system.system_type) (geodetic_keyword g.system.system_type) (text_item g.name)
-    (More (item_frame (codes "DATUM") (norm_frame level g.frame))
-    (opt item_meridian (norm_meridian level g.meridian) (system_items (norm_system level g.system)
-    (tail_items (norm_tail level g.tail)))))
-    (geodetic_runs level g) (simp (opt-line, each-line))
+    (geodetic_others level g) (geodetic_runs level g) (simp (opt-line, each-line))
     (geodetic-kept l level (root_class g.system.system_type) (geodetic_keyword g.system.system_type) g
     (is-root g.system.system_type)
     (few-system l each_at geodetic_dimensions geodetic-small g.system h.system h.dimension) h)
@@ -342,12 +313,9 @@ geodetic-seen l each_at level g h p =
     let item : Item = at_place p (item_geodetic (norm_geodetic level g)) in
     let few : IsFew g.system = few-system l each_at geodetic_dimensions geodetic-small g.system h.system h.dimension in
     let s : Sees c (geodetic_runs level g) item =
-    sees level 5 c (geodetic_keyword g.system.system_type) (text_item g.name)
-    (More (item_frame (codes "DATUM") (norm_frame level g.frame))
-    (opt item_meridian (norm_meridian level g.meridian) (system_items (norm_system level g.system)
-    (tail_items (norm_tail level g.tail)))))
+    sees level 5 c (geodetic_keyword g.system.system_type) (text_item g.name) (geodetic_others level g)
     (geodetic_runs level g) p (simp (opt-line, each-line))
     (geodetic-runs-made l level c (geodetic_keyword g.system.system_type) g (is-root g.system.system_type) few h) in
     system-seen l level c item g.system g.tail few
-    (frame-shows c item (text_item g.name) (item_frame (codes "DATUM") (norm_frame level g.frame)) g.frame
-    (meridian_run level g ∷ behind level g.system g.tail) (views c (geodetic_runs level g) item geodetic_classes s)).1
+    (frame-shows level c item (text_item g.name) g.dynamic g.frame (frame_item level g) (geodetic_rest level g)
+    (views c (geodetic_runs level g) item geodetic_classes s)).1

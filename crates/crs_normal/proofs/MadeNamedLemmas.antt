@@ -1,4 +1,4 @@
--- Nodes of a name and identifiers are made: members, methods and geoid models.
+-- Nodes of a name and identifiers are made: members, methods, geoid models and deformation models.
 use Rattle.std.proofs.Common.{◌≡◌, ℕ, IsTrue, Some, List, [], ◌∷◌, codes, refl, sym, subst, arith}
 use Rattle.crs_text.specs.Items.{Item, End}
 use Rattle.crs_text.specs.Refusal.{RefusedAt}
@@ -11,9 +11,11 @@ use Rattle.crs_shape.specs.Shape.{Allowed}
 use Rattle.crs_shape.specs.Slots.{class_named, named_slots, slots_of}
 use Rattle.crs_value.specs.Checks.{Own as BreaksOwn}
 use Rattle.crs_value.specs.ConversionValues.{GeoidModelParts, MethodParts}
+use Rattle.crs_value.specs.DynamicValues.{DeformationModelParts}
 use Rattle.crs_value.specs.declared.values.level.Level.{Level}
 use Rattle.crs_value.specs.Sound.{Each, IsIdent, IsText}
 use Rattle.crs_value.specs.SoundConversion.{IsGeoidModel, IsMethod}
+use Rattle.crs_value.specs.SoundDynamic.{IsDeformationModel}
 use Rattle.crs_value.specs.SoundFrames.{IsMember}
 use Rattle.crs_value.specs.Values.{IdentParts, MemberParts}
 use Rattle.crs_normal.specs.DecimalLaws.{DecimalLaws}
@@ -21,6 +23,7 @@ use Rattle.crs_normal.specs.Made.{IsMade}
 use Rattle.crs_normal.specs.Normal.{IsWritten}
 use Rattle.crs_normal.specs.NormalOwn.{Own}
 use Rattle.crs_normal.specs.SpelledConversions.{item_geoid_model, item_method, norm_geoid_model, norm_method}
+use Rattle.crs_normal.specs.SpelledDynamic.{item_deformation_model, norm_deformation_model}
 use Rattle.crs_normal.specs.SpelledFrames.{item_member, norm_member}
 use Rattle.crs_normal.specs.SpelledItems.{each, node_of, text_item}
 use Rattle.crs_normal.specs.SpelledUnits.{item_ident, set_idents}
@@ -97,6 +100,18 @@ is-geoid-model = record {
   names_id = refl;
 }
 
+is-deformation-model : IsNamed class.DeformationModel (codes "MODEL")
+unfolding BreaksOwn class_named is_keyword
+is-deformation-model = record {
+  letters = (refl, refl);
+  known = refl;
+  written = refl;
+  slots = refl;
+  own = λ item. tt;
+  unbroken = λ item fault b. b;
+  names_id = refl;
+}
+
 pub member-made : DecimalLaws → (level : Level) (m : MemberParts) → IsMember m → (p : ℕ) →
     IsMade level class.Member 3 (at_place p (item_member (norm_member level m)))
 member-made l level m h = named-made l level class.Member (codes "MEMBER") m.name m.identifiers is-member h.name h.identifiers
@@ -109,3 +124,8 @@ pub geoid-model-made : DecimalLaws → (level : Level) (g : GeoidModelParts) →
     IsMade level class.GeoidModel 3 (at_place p (item_geoid_model (norm_geoid_model level g)))
 geoid-model-made l level g h = named-made l level class.GeoidModel (codes "GEOIDMODEL") g.name g.identifiers is-geoid-model
     h.name h.identifiers
+
+pub deformation-model-made : DecimalLaws → (level : Level) (m : DeformationModelParts) → IsDeformationModel m →
+    (p : ℕ) → IsMade level class.DeformationModel 3 (at_place p (item_deformation_model (norm_deformation_model level m)))
+deformation-model-made l level m h = named-made l level class.DeformationModel (codes "MODEL") m.name m.identifiers
+    is-deformation-model h.name h.identifiers

@@ -1,5 +1,6 @@
 -- Base CRSs and projected CRSs are made.
 use Rattle.std.proofs.Common.{ℕ, ◌≤◌, None, List, [], ◌∷◌, codes, inl, inr, refl, arith}
+use Rattle.std.specs.Option.{option_map}
 use Rattle.crs_text.specs.Items.{Item, Siblings, End, More, arguments}
 use Rattle.crs_text.specs.Refusal.{RefusedAt}
 use Rattle.crs_text.specs.Written.{at_place}
@@ -19,9 +20,10 @@ use Rattle.crs_value.specs.Sound.{Each}
 use Rattle.crs_value.specs.SoundSingle.{IsBase, IsProjected}
 use Rattle.crs_same.specs.SameUsages.{usages_of}
 use Rattle.crs_normal.specs.DecimalLaws.{DecimalLaws}
-use Rattle.crs_normal.specs.Made.{IsMade, geodetic_class}
+use Rattle.crs_normal.specs.Made.{IsMade}
 use Rattle.crs_normal.specs.SpelledConversions.{item_conversion, norm_conversion}
 use Rattle.crs_normal.specs.SpelledCrs.{item_base, item_projected, norm_base, norm_projected}
+use Rattle.crs_normal.specs.SpelledDynamic.{item_dynamic, norm_dynamic}
 use Rattle.crs_normal.specs.SpelledFrames.{item_frame, item_meridian, norm_frame, norm_meridian}
 use Rattle.crs_normal.specs.SpelledItems.{each, opt, text_item}
 use Rattle.crs_normal.specs.SpelledSystems.{item_head, norm_system, system_items}
@@ -30,14 +32,17 @@ use Rattle.crs_normal.specs.SpelledUsages.{norm_tail, tail_items}
 use Rattle.crs_normal.proofs.MadeBehindLemmas.{AxisEach, IsFew, axes-some, axes_run, behind, behind-made, crs_classes, few-system, no_unit_run, system-seen, tail-seen}
 use Rattle.crs_normal.proofs.MadeCheckLemmas.{IsSystemSeen, has-axes, no-bad-systems}
 use Rattle.crs_normal.proofs.MadeConversionLemmas.{conversion-made}
+use Rattle.crs_normal.proofs.MadeDynamicLemmas.{IsSteady, dynamic-argument, dynamic_classes, no-bad-dynamic, none-shown}
 use Rattle.crs_normal.proofs.MadeEllipsoidLemmas.{given-unit}
 use Rattle.crs_normal.proofs.MadeFitLemmas.{fills-any, fills-one, fills-optional, fills-some, fit-before, last-fits, runs-fit}
-use Rattle.crs_normal.proofs.MadeGeodeticLemmas.{end_classes, frame-argument, frame-left, frame-sets, frame-shows, frame-taken, geodetic_classes, meridian-there}
+use Rattle.crs_normal.proofs.MadeFrontLemmas.{frame-argument, frame-left, frame-sets, frame-shows, frame-steady, frame-taken, framed_runs, geodetic_classes, meridian-there}
+use Rattle.crs_normal.proofs.MadeGeodeticLemmas.{end_classes}
 use Rattle.crs_normal.proofs.MadeIdentLemmas.{identifiers-ascend, identifiers-left, identifiers-made, ids_run}
 use Rattle.crs_normal.proofs.MadeLeafLemmas.{text-made}
-use Rattle.crs_normal.proofs.MadeLemmas.{IsKept, Run, RunsMade, alone, as-argument, classes, each-line, given, node-made, opt-line, sees, views}
+use Rattle.crs_normal.proofs.MadeLemmas.{IsKept, Run, RunsMade, Sees, alone, as-argument, classes, each-line, given, node-made, opt-line, sees, views}
 use Rattle.crs_normal.proofs.MadeMeridianLemmas.{meridian-argument}
-use Rattle.crs_normal.proofs.MadeTailLemmas.{IsTailSeen, RunsRise, has-tail, no-repeats, tail-fits, tail-left, tail_runs, usages-ascend}
+use Rattle.crs_normal.proofs.MadeRiseLemmas.{RunsRise}
+use Rattle.crs_normal.proofs.MadeTailLemmas.{IsTailSeen, has-tail, no-repeats, tail-fits, tail-left, tail_runs, usages-ascend}
 
 -- ---- base CRSs
 
@@ -48,18 +53,26 @@ base_rest level b =
     record { of = class.AngleUnit; items = given item_unit (norm_units level kinds.Angle b.unit) } ∷
     ids_run level b.identifiers ∷ []
 
+abbrev base_frame : Level → BaseParts → Item
+base_frame level b = item_frame (codes "DATUM") (norm_frame level b.frame)
+
 abbrev base_runs : Level → BaseParts → List Run
-base_runs level b =
-    alone class.Text (text_item b.name) ∷ alone (geodetic_class b.frame) (item_frame (codes "DATUM")
-    (norm_frame level b.frame)) ∷ base_rest level b
+base_runs level b = framed_runs level (text_item b.name) b.dynamic b.frame (base_frame level b) (base_rest level b)
+
+base-steady : (level : Level) (b : BaseParts) (item : Item) → IsBase b → Sees class.BaseCrs (base_runs level b) item →
+    IsSteady class.BaseCrs item
+base-steady level b item h s =
+    frame-steady level class.BaseCrs item (text_item b.name) b.dynamic b.frame (base_frame level b) (base_rest level b)
+    h.dynamic (refl, (refl, (refl, tt))) (views class.BaseCrs (base_runs level b) item dynamic_classes s)
 
 pub base-made : DecimalLaws → (level : Level) (b : BaseParts) → IsBase b → (p : ℕ) →
     IsMade level class.BaseCrs 6 (at_place p (item_base (norm_base level b)))
 unfolding BreaksOwn class_named is_keyword
 base-made l level b h =
     node-made level 5 class.BaseCrs (codes "BASEGEOGCRS") (text_item b.name)
-    (More (item_frame (codes "DATUM") (norm_frame level b.frame)) (opt item_meridian (norm_meridian level b.meridian)
-    (opt item_unit (norm_units level kinds.Angle b.unit) (each item_ident (set_idents level b.identifiers) End))))
+    (opt item_dynamic (option_map (norm_dynamic level) b.dynamic) (More (base_frame level b)
+    (opt item_meridian (norm_meridian level b.meridian) (opt item_unit (norm_units level kinds.Angle b.unit)
+    (each item_ident (set_idents level b.identifiers) End)))))
     (base_runs level b) (simp (opt-line, each-line)) (record {
       letters = (refl, refl);
       known = refl;
@@ -67,16 +80,19 @@ base-made l level b h =
       made = (
         (text-made level 5 class.BaseCrs b.name h.name, tt),
         (
+          dynamic-argument l level 5 class.BaseCrs b.dynamic b.frame (omega arith) refl h.dynamic,
           (
-            frame-argument l level 5 class.BaseCrs b.frame (omega arith) (record { datum = refl; ensemble = refl })
-                h.frame,
-            tt,
-          ),
-          (
-            meridian-argument l level 5 class.BaseCrs b.meridian (omega arith) refl h.meridian,
             (
-              given-unit l level 5 class.BaseCrs class.AngleUnit kinds.Angle b.unit (omega arith) refl refl h.unit,
-              (identifiers-made l level 5 class.BaseCrs b.identifiers (omega arith) refl h.identifiers, tt),
+              frame-argument l level 5 class.BaseCrs b.frame (omega arith) (record { datum = refl; ensemble = refl })
+                  h.frame,
+              tt,
+            ),
+            (
+              meridian-argument l level 5 class.BaseCrs b.meridian (omega arith) refl h.meridian,
+              (
+                given-unit l level 5 class.BaseCrs class.AngleUnit kinds.Angle b.unit (omega arith) refl refl h.unit,
+                (identifiers-made l level 5 class.BaseCrs b.identifiers (omega arith) refl h.identifiers, tt),
+              ),
             ),
           ),
         ),
@@ -84,24 +100,26 @@ base-made l level b h =
       allowed = runs-fit (slots_of class.BaseCrs) (base_runs level b) (
         fills-one refl,
         (
-          fills-one (frame-taken b.frame),
+          fills-optional item_dynamic (option_map (norm_dynamic level) b.dynamic) refl,
           (
-            fills-optional item_meridian (norm_meridian level b.meridian) refl,
-            (fills-optional item_unit (norm_units level kinds.Angle b.unit) refl, (fills-any refl, tt)),
+            fills-one (frame-taken b.frame),
+            (
+              fills-optional item_meridian (norm_meridian level b.meridian) refl,
+              (fills-optional item_unit (norm_units level kinds.Angle b.unit) refl, (fills-any refl, tt)),
+            ),
           ),
         ),
       );
-      sets = frame-sets b.frame (text_item b.name) (item_frame (codes "DATUM") (norm_frame level b.frame))
-          (base_rest level b)
+      sets = frame-sets level (text_item b.name) b.dynamic b.frame (base_frame level b) (base_rest level b)
           (identifiers-ascend level b.identifiers, (tt, (tt, (tt, (tt, tt)))));
-      left = frame-left level b.frame (text_item b.name) (item_frame (codes "DATUM") (norm_frame level b.frame))
-          (base_rest level b) (identifiers-left level b.identifiers);
+      left = frame-left level (text_item b.name) b.dynamic b.frame (base_frame level b) (base_rest level b)
+          (identifiers-left level b.identifiers);
       own = λ item s.
           meridian-there level b.meridian (those class.BaseCrs class.PrimeMeridian (arguments item))
-          (frame-shows class.BaseCrs item (text_item b.name) (item_frame (codes "DATUM") (norm_frame level b.frame))
-          b.frame (base_rest level b)
+          (frame-shows level class.BaseCrs item (text_item b.name) b.dynamic b.frame (base_frame level b)
+          (base_rest level b)
           (views class.BaseCrs (base_runs level b) item geodetic_classes s)).0;
-      unbroken = λ item fault s q. q;
+      unbroken = λ item fault s q. no-bad-dynamic class.BaseCrs item fault (base-steady level b item h s) q;
     })
 
 -- ---- projected CRSs
@@ -185,14 +203,16 @@ projected-breaks : DecimalLaws → (g : ProjectedParts) (item : Item) (fault : R
     IsSystemSeen g.system.system_type g.system.dimension (those class.ProjectedCrs class.CoordinateSystem
     (arguments item))
     (those class.ProjectedCrs class.Axis (arguments item)) (those class.ProjectedCrs class.AxisUnit (arguments item)) →
+    IsSteady class.ProjectedCrs item →
     ¬ (OfCrs projected_dimensions class.ProjectedCrs item fault)
-projected-breaks l g item fault h t q (inl b) = no-repeats class.ProjectedCrs item fault t b
-projected-breaks l g item fault h t q (inr b) =
+projected-breaks l g item fault h t q y (inl b) = no-repeats class.ProjectedCrs item fault t b
+projected-breaks l g item fault h t q y (inr (inl b)) =
     no-bad-systems l projected_dimensions g.system.system_type g.system.dimension
     (those class.ProjectedCrs class.CoordinateSystem (arguments item))
     (those class.ProjectedCrs class.Axis (arguments item)) (those class.ProjectedCrs class.AxisUnit (arguments item))
     fault
     h.system.dimension h.dimension q b
+projected-breaks l g item fault h t q y (inr (inr b)) = no-bad-dynamic class.ProjectedCrs item fault y b
 
 projected-kept : DecimalLaws → (level : Level) (g : ProjectedParts) → IsFew g.system → IsProjected g →
     IsKept level 6 class.ProjectedCrs (codes "PROJCRS") (projected_runs level g)
@@ -216,7 +236,8 @@ projected-kept l level g few h = record {
   unbroken = λ item fault s b.
       let v = views class.ProjectedCrs (projected_runs level g) item crs_classes s in
       projected-breaks l g item fault h (tail-seen level class.ProjectedCrs item g.tail v.1.1.1)
-      (system-seen l level class.ProjectedCrs item g.system g.tail few v) b;
+      (system-seen l level class.ProjectedCrs item g.system g.tail few v)
+      (inl (none-shown (those class.ProjectedCrs class.Dynamic (arguments item)) [] refl (s.view class.Dynamic))) b;
 }
 
 abbrev projected_others : Level → ProjectedParts → Siblings

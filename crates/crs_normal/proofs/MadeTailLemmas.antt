@@ -1,16 +1,15 @@
 -- The ends of CRSs are made.
-use Rattle.std.proofs.Common.{◌≡◌, ℕ, ◌+◌, ◌≤◌, ◌++◌, true, Option, Some, None, List, [], ◌∷◌, length, map, drop, codes, IfSome, inl, inr, refl, sym, subst, ◌∙◌, arith}
-use Rattle.crs_text.specs.Items.{Item, Siblings, End, More, arguments}
+use Rattle.std.proofs.Common.{◌≡◌, ℕ, ◌≤◌, ◌++◌, true, Option, Some, None, List, [], ◌∷◌, map, drop, codes, IfSome, inl, inr, refl, subst, arith}
+use Rattle.crs_text.specs.Items.{Item, arguments}
 use Rattle.crs_text.specs.Refusal.{RefusedAt}
-use Rattle.crs_text.specs.Written.{at_place, at_places, item_text}
+use Rattle.crs_text.specs.Written.{at_place, item_text}
 use Rattle.crs_shape.specs.declared.class.Class.{Class}
 use Rattle.crs_shape.specs.declared.class.Class.TheVariants as class
 use Rattle.crs_shape.specs.Keywords.{is_keyword}
 use Rattle.crs_shape.specs.Shape.{AllTaken}
-use Rattle.crs_shape.specs.ShapeFault.{class_in}
 use Rattle.crs_shape.specs.Slots.{any_of, class_named, slots_of, takes}
 use Rattle.crs_value.specs.Break.{AnyOf}
-use Rattle.crs_value.specs.Checks.{AtClass, Own as BreaksOwn, once}
+use Rattle.crs_value.specs.Checks.{Own as BreaksOwn, once}
 use Rattle.crs_value.specs.Kept.{kept, kept_one}
 use Rattle.crs_value.specs.KeptLaws.{kept-each, kept-if_some, kept-made, kept-made_one}
 use Rattle.crs_value.specs.declared.values.level.Level.{Level}
@@ -23,17 +22,18 @@ use Rattle.crs_value.specs.Values.{TailParts, UsageParts}
 use Rattle.crs_same.specs.SameUsages.{usages_of, with_bare}
 use Rattle.crs_normal.specs.DecimalLaws.{DecimalLaws}
 use Rattle.crs_normal.specs.Made.{IsMade}
-use Rattle.crs_normal.specs.NormalOwn.{Ascend, HasTail, Rise, rank}
+use Rattle.crs_normal.specs.NormalOwn.{Ascend, HasTail}
 use Rattle.crs_normal.specs.Ordered.{in_order}
 use Rattle.crs_normal.specs.SpelledItems.{text_item, text_node}
 use Rattle.crs_normal.specs.SpelledUnits.{item_ident, set_idents}
 use Rattle.crs_normal.specs.SpelledUsages.{item_usage, norm_tail, norm_usage, set_usages, tail_items}
 use Rattle.crs_normal.proofs.MadeAscendLemmas.{set-ascends, set-each}
+use Rattle.crs_normal.proofs.MadeDatumLemmas.{not-repeated}
 use Rattle.crs_normal.proofs.MadeFitLemmas.{fills-one, runs-fit, taken-more}
-use Rattle.crs_normal.proofs.MadeFrameLemmas.{not-repeated}
 use Rattle.crs_normal.proofs.MadeIdentLemmas.{given-made, identifiers-left, identifiers-made, ids_run, text-node-made}
-use Rattle.crs_normal.proofs.MadeLemmas.{Keeps, Made, Run, RunsMade, Sees, alone, as-argument, at-class, classes, each-line, given, line, lines, opt-line}
-use Rattle.crs_normal.proofs.MadePlaceLemmas.{ArePlaced, class-at}
+use Rattle.crs_normal.proofs.MadeLemmas.{Keeps, Made, Run, RunsMade, Sees, alone, as-argument, classes, each-line, given, lines, opt-line}
+use Rattle.crs_normal.proofs.MadePlaceLemmas.{ArePlaced}
+use Rattle.crs_normal.proofs.MadeRiseLemmas.{RunsRise, has-rise}
 use Rattle.crs_normal.proofs.MadeUsageLemmas.{usage-made, usage-named}
 use Rattle.crs_normal.proofs.ViewLemmas.{each-so}
 
@@ -142,43 +142,6 @@ tail-left level t = (
   ),
 )
 
--- ---- ranks never fall
-
--- the ranks of the runs never fall, from this one on
-abbrev pub RunsRise : ℕ → List Run → Type 0
-RunsRise least [] = Unit {0}
-RunsRise least (run ∷ runs) = (least ≤ rank run.of) × RunsRise (rank run.of) runs
-
-rise-lower : (c : Class) (m n : ℕ) (items : Siblings) → m ≤ n → Rise c n items → Rise c m items
-rise-lower c m n End h r = tt
-rise-lower c m n (More item items) h r = by (class_in c item) r
-  where
-    by : (o : Option Class) → AtClass o (λ d. (n ≤ rank d) × Rise c (rank d) items) →
-        AtClass o (λ d. (m ≤ rank d) × Rise c (rank d) items)
-    by None q = q
-    by (Some d) q = let k : n ≤ rank d = q.0 in (omega arith, q.1)
-
-rise-line : (level : Level) (most : ℕ) (c d : Class) (js : List Item) (rest : Siblings) (least s : ℕ) →
-    Each (Made level most c d) js → least ≤ rank d →
-    ((s : ℕ) → Rise c (rank d) (at_places s rest)) → Rise c least (at_places s (line js rest))
-rise-line level most c d [] rest least s h low more = rise-lower c least (rank d) (at_places s rest) low (more s)
-rise-line level most c d (j ∷ js) rest least s h low more =
-    at-class (λ e. (least ≤ rank e) × Rise c (rank e) (at_places (s + 1 + length (item_text j)) (line js rest)))
-    (class_in c (at_place (s + 1) j)) d
-    (class-at c (s + 1) j ∙ h.0.named) (
-      low,
-      rise-line level most c d js rest (rank d) (s + 1 + length (item_text j))
-          h.1 (omega arith) more,
-    )
-
-rise-lines : (level : Level) (most : ℕ) (c : Class) (runs : List Run) (least s : ℕ) → RunsMade level most c runs →
-    RunsRise least runs →
-    Rise c least (at_places s (lines runs))
-rise-lines level most c [] least s h r = tt
-rise-lines level most c (run ∷ runs) least s h r =
-    rise-line level most c run.of run.items (lines runs) least s h.0 r.0 (λ q. rise-lines level most c runs
-    (rank run.of) q h.1 r.1)
-
 -- ---- what the checks see of the end
 
 -- no part of a usage stands bare, and there is one remark at most
@@ -209,6 +172,6 @@ pub has-tail : (level : Level) (most : ℕ) (c : Class) (runs : List Run) (item 
     RunsMade level most c runs → RunsRise 0 runs →
     IsTailSeen c item → HasTail c item
 has-tail level most c runs item s m r t = record {
-  in_order = subst (Rise c 0) (sym s.are) (rise-lines level most c runs 0 s.start m r);
+  in_order = has-rise level most c runs item s m r;
   none_bare = (t.scope, (t.area, (t.bbox, (t.extent, tt))));
 }

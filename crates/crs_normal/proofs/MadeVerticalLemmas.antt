@@ -1,5 +1,6 @@
 -- Vertical CRSs are made.
-use Rattle.std.proofs.Common.{◌≡◌, ℕ, ◌≤◌, ◌++◌, true, Some, None, List, [], ◌∷◌, map, codes, inl, inr, refl, arith}
+use Rattle.std.proofs.Common.{◌≡◌, ℕ, ◌≤◌, ◌++◌, true, Option, Some, None, List, [], ◌∷◌, map, codes, inl, inr, refl, arith}
+use Rattle.std.specs.Option.{option_map}
 use Rattle.crs_text.specs.Items.{Item, More, arguments}
 use Rattle.crs_text.specs.Refusal.{RefusedAt}
 use Rattle.crs_text.specs.Written.{at_place}
@@ -18,24 +19,27 @@ use Rattle.crs_value.specs.declared.values.frame.Frame.TheVariants as frame
 use Rattle.crs_value.specs.declared.values.level.Level.{Level}
 use Rattle.crs_value.specs.declared.values.system_type.SystemType.{SystemType}
 use Rattle.crs_value.specs.declared.values.system_type.SystemType.TheVariants as types
+use Rattle.crs_value.specs.DynamicValues.{DynamicParts}
 use Rattle.crs_value.specs.Reading.{those}
 use Rattle.crs_value.specs.Sound.{Each}
 use Rattle.crs_value.specs.SoundConversion.{IsGeoidModel}
-use Rattle.crs_value.specs.SoundSingle.{IsVertical}
+use Rattle.crs_value.specs.SoundSingle.{IsDynamicOf, IsVertical}
 use Rattle.crs_same.specs.SameUsages.{usages_of}
 use Rattle.crs_normal.specs.DecimalLaws.{DecimalLaws}
 use Rattle.crs_normal.specs.Made.{IsMade, vertical_class}
 use Rattle.crs_normal.specs.NormalOwn.{Ascend, rank, set_classes}
 use Rattle.crs_normal.specs.SpelledConversions.{item_geoid_model, norm_geoid_model, set_geoid_models}
 use Rattle.crs_normal.specs.SpelledCrs.{item_vertical, norm_vertical}
+use Rattle.crs_normal.specs.SpelledDynamic.{item_dynamic, norm_dynamic}
 use Rattle.crs_normal.specs.SpelledFrames.{item_frame, norm_frame}
-use Rattle.crs_normal.specs.SpelledItems.{each, text_item}
+use Rattle.crs_normal.specs.SpelledItems.{each, opt, text_item}
 use Rattle.crs_normal.specs.SpelledSystems.{item_head, norm_system, system_items}
 use Rattle.crs_normal.specs.SpelledUnits.{item_unit}
 use Rattle.crs_normal.specs.SpelledUsages.{norm_tail, tail_items}
 use Rattle.crs_normal.proofs.MadeAscendLemmas.{set-ascends, set-each}
 use Rattle.crs_normal.proofs.MadeBehindLemmas.{AxisEach, IsFew, NamesSystem, Shows, axes-argument, axes-some, axes_run, behind, crs_classes, few-system, head-argument, no_unit_run, system-seen, tail-seen}
 use Rattle.crs_normal.proofs.MadeCheckLemmas.{IsSystemSeen, has-axes, no-bad-systems}
+use Rattle.crs_normal.proofs.MadeDynamicLemmas.{IsSteady, dynamic-argument, dynamic_classes, dynamic_run, no-bad-dynamic, none-shown}
 use Rattle.crs_normal.proofs.MadeFitLemmas.{fills-one, fills-optional, fills-some, fit-before, last-fits, taken-more}
 use Rattle.crs_normal.proofs.MadeFrameLemmas.{vertical-frame-made}
 use Rattle.crs_normal.proofs.MadeGeodeticLemmas.{end_classes}
@@ -43,7 +47,8 @@ use Rattle.crs_normal.proofs.MadeIdentLemmas.{identifiers-ascend}
 use Rattle.crs_normal.proofs.MadeLeafLemmas.{text-made}
 use Rattle.crs_normal.proofs.MadeLemmas.{IsKept, KeepsRuns, Made, Run, RunsMade, Sees, alone, as-argument, classes, each-line, items_in, node-made, opt-line, views}
 use Rattle.crs_normal.proofs.MadeNamedLemmas.{geoid-model-made}
-use Rattle.crs_normal.proofs.MadeTailLemmas.{IsTailSeen, RunsRise, has-tail, no-repeats, tail-fits, tail-left, tail-runs-made, tail_runs, usages-ascend}
+use Rattle.crs_normal.proofs.MadeRiseLemmas.{RunsRise}
+use Rattle.crs_normal.proofs.MadeTailLemmas.{IsTailSeen, has-tail, no-repeats, tail-fits, tail-left, tail-runs-made, tail_runs, usages-ascend}
 
 -- ---- the frame, of one class or the other
 
@@ -62,21 +67,44 @@ vertical-rank : (f : Frame) → rank (vertical_class f) ≡ 0
 vertical-rank (frame.Datum d) = refl
 vertical-rank (frame.Ensemble e) = refl
 
-vertical-sets : (f : Frame) (n j : Item) (rest : List Run) → Each (λ d. Ascend (items_in d rest)) set_classes →
-    Each (λ d. Ascend (items_in d (alone class.Text n ∷ alone (vertical_class f) j ∷ rest))) set_classes
-vertical-sets (frame.Datum d) n j rest h = h
-vertical-sets (frame.Ensemble e) n j rest h = h
+-- the name, the dynamic part and the frame of a vertical CRS, and these
+abbrev framed_runs : Level → Item → Option DynamicParts → Frame → Item → List Run → List Run
+framed_runs level n x f j rest = alone class.Text n ∷ dynamic_run level x ∷ alone (vertical_class f) j ∷ rest
 
-vertical-left : (level : Level) (f : Frame) (n j : Item) (rest : List Run) → KeepsRuns level rest →
-    KeepsRuns level (alone class.Text n ∷ alone (vertical_class f) j ∷ rest)
-vertical-left level (frame.Datum d) n j rest h = h
-vertical-left level (frame.Ensemble e) n j rest h = h
+vertical-sets : (level : Level) (n : Item) (x : Option DynamicParts) (f : Frame) (j : Item) (rest : List Run) →
+    Each (λ d. Ascend (items_in d rest)) set_classes →
+    Each (λ d. Ascend (items_in d (framed_runs level n x f j rest))) set_classes
+vertical-sets level n x (frame.Datum d) j rest h = h
+vertical-sets level n x (frame.Ensemble e) j rest h = h
 
-vertical-shows : (item n j : Item) (f : Frame) (rest : List Run) →
-    Each (Shows class.VerticalCrs item (alone class.Text n ∷ alone (vertical_class f) j ∷ rest)) crs_classes →
+vertical-left : (level : Level) (n : Item) (x : Option DynamicParts) (f : Frame) (j : Item) (rest : List Run) →
+    KeepsRuns level rest → KeepsRuns level (framed_runs level n x f j rest)
+vertical-left level n x (frame.Datum d) j rest h = h
+vertical-left level n x (frame.Ensemble e) j rest h = h
+
+vertical-shows : (level : Level) (item n : Item) (x : Option DynamicParts) (f : Frame) (j : Item) (rest : List Run) →
+    Each (Shows class.VerticalCrs item (framed_runs level n x f j rest)) crs_classes →
     Each (Shows class.VerticalCrs item rest) crs_classes
-vertical-shows item n j (frame.Datum d) rest h = h
-vertical-shows item n j (frame.Ensemble e) rest h = h
+vertical-shows level item n x (frame.Datum d) j rest h = h
+vertical-shows level item n x (frame.Ensemble e) j rest h = h
+
+-- no dynamic part stands beside an ensemble, where none of these stand behind the frame
+vertical-steady : (level : Level) (item n : Item) (x : Option DynamicParts) (f : Frame) (j : Item) (rest : List Run) →
+    IsDynamicOf x f → Each (λ e. items_in e rest ≡ []) dynamic_classes →
+    Each (Shows class.VerticalCrs item (framed_runs level n x f j rest)) dynamic_classes →
+    IsSteady class.VerticalCrs item
+vertical-steady level item n None (frame.Datum d) j rest h none v =
+    inl (none-shown (those class.VerticalCrs class.Dynamic (arguments item)) (items_in class.Dynamic rest) none.0 v.0)
+vertical-steady level item n None (frame.Ensemble e) j rest h none v =
+    inl (none-shown (those class.VerticalCrs class.Dynamic (arguments item)) (items_in class.Dynamic rest) none.0 v.0)
+vertical-steady level item n (Some x) (frame.Datum d) j rest h none v =
+    inr (
+      none-shown (those class.VerticalCrs class.GeodeticEnsemble (arguments item))
+          (items_in class.GeodeticEnsemble rest) none.1.0 v.1.0,
+      none-shown (those class.VerticalCrs class.VerticalEnsemble (arguments item))
+          (items_in class.VerticalEnsemble rest) none.1.1.0 v.1.1.0,
+    )
+vertical-steady level item n (Some x) (frame.Ensemble e) j rest h none v = absurd h
 
 -- ---- geoid models
 
@@ -109,10 +137,12 @@ vertical_rest level g =
     alone class.CoordinateSystem (item_head (norm_system level g.system)) ∷ axes_run level g.system ∷ no_unit_run ∷
     models_run level g ∷ tail_runs level g.tail
 
+abbrev frame_item : Level → VerticalParts → Item
+frame_item level g = item_frame (codes "VDATUM") (norm_frame level g.frame)
+
 abbrev vertical_runs : Level → VerticalParts → List Run
 vertical_runs level g =
-    alone class.Text (text_item g.name) ∷ alone (vertical_class g.frame) (item_frame (codes "VDATUM")
-    (norm_frame level g.frame)) ∷ vertical_rest level g
+    framed_runs level (text_item g.name) g.dynamic g.frame (frame_item level g) (vertical_rest level g)
 
 vertical-small : (t : SystemType) → Each (λ m. m ≤ 3) (vertical_dimensions t)
 vertical-small types.Cartesian = tt
@@ -126,19 +156,21 @@ model_classes = class.GeoidModel ∷ end_classes
 vertical-allowed : DecimalLaws → (level : Level) (g : VerticalParts) → IsFew g.system →
     Allowed (slots_of class.VerticalCrs) (classes (vertical_runs level g))
 vertical-allowed l level g few =
-    fit-before (one class.Text ∷ one_of (class.VerticalFrame ∷ class.VerticalEnsemble ∷ []) ∷
+    fit-before (one class.Text ∷ optional class.Dynamic ∷ one_of (class.VerticalFrame ∷ class.VerticalEnsemble ∷ []) ∷
     one class.CoordinateSystem ∷ some class.Axis ∷
     optional class.AxisUnit ∷ []) (vertical_tail ∷ [])
-    (alone class.Text (text_item g.name) ∷ alone (vertical_class g.frame) (item_frame (codes "VDATUM")
-    (norm_frame level g.frame)) ∷
-    alone class.CoordinateSystem (item_head (norm_system level g.system)) ∷ axes_run level g.system ∷ no_unit_run ∷ [])
+    (framed_runs level (text_item g.name) g.dynamic g.frame (frame_item level g)
+    (alone class.CoordinateSystem (item_head (norm_system level g.system)) ∷ axes_run level g.system ∷ no_unit_run ∷ []))
     (models_run level g ∷ tail_runs level g.tail) (
       fills-one refl,
       (
-        fills-one (vertical-taken g.frame),
+        fills-optional item_dynamic (option_map (norm_dynamic level) g.dynamic) refl,
         (
-          fills-one refl,
-          (fills-some refl (axes-some l level g.system few), (fills-optional item_unit None refl, tt)),
+          fills-one (vertical-taken g.frame),
+          (
+            fills-one refl,
+            (fills-some refl (axes-some l level g.system few), (fills-optional item_unit None refl, tt)),
+          ),
         ),
       ),
     )
@@ -154,22 +186,24 @@ vertical-runs-made l level g few h =
     let names : NamesSystem class.VerticalCrs = record { head = refl; axis = refl } in (
       (text-made level 5 class.VerticalCrs g.name h.name, tt),
       (
+        dynamic-argument l level 5 class.VerticalCrs g.dynamic g.frame (omega arith) refl h.dynamic,
         (
-          as-argument level 5 5 class.VerticalCrs (vertical_class g.frame) (item_frame (codes "VDATUM")
-              (norm_frame level g.frame)) (omega arith)
-              (vertical-named level g.frame) (vertical-frame-made l level g.frame h.frame),
-          tt,
-        ),
-        (
-          (head-argument l level 5 class.VerticalCrs g.system (omega arith) names few.system, tt),
           (
-            axes-argument l level 5 class.VerticalCrs g.system (omega arith) names few,
+            as-argument level 5 5 class.VerticalCrs (vertical_class g.frame) (frame_item level g) (omega arith)
+                (vertical-named level g.frame) (vertical-frame-made l level g.frame h.frame),
+            tt,
+          ),
+          (
+            (head-argument l level 5 class.VerticalCrs g.system (omega arith) names few.system, tt),
             (
-              tt,
+              axes-argument l level 5 class.VerticalCrs g.system (omega arith) names few,
               (
-                models-made l level g.geoid_models h.geoid_models,
-                tail-runs-made l level 5 class.VerticalCrs g.tail (omega arith)
-                    (record { usage = refl; ident = refl; remark = refl }) h.tail,
+                tt,
+                (
+                  models-made l level g.geoid_models h.geoid_models,
+                  tail-runs-made l level 5 class.VerticalCrs g.tail (omega arith)
+                      (record { usage = refl; ident = refl; remark = refl }) h.tail,
+                ),
               ),
             ),
           ),
@@ -185,7 +219,10 @@ vertical-rise level g =
         omega arith,
         (
           omega arith,
-          (omega arith, (omega arith, (omega arith, (omega arith, (omega arith, (omega arith, tt)))))),
+          (
+            omega arith,
+            (omega arith, (omega arith, (omega arith, (omega arith, (omega arith, (omega arith, tt)))))),
+          ),
         ),
       ),
     )
@@ -195,21 +232,22 @@ vertical-breaks : DecimalLaws → (g : VerticalParts) (item : Item) (fault : Ref
     IsSystemSeen g.system.system_type g.system.dimension (those class.VerticalCrs class.CoordinateSystem
     (arguments item))
     (those class.VerticalCrs class.Axis (arguments item)) (those class.VerticalCrs class.AxisUnit (arguments item)) →
+    IsSteady class.VerticalCrs item →
     ¬ (OfCrs vertical_dimensions class.VerticalCrs item fault)
-vertical-breaks l g item fault h t q (inl b) = no-repeats class.VerticalCrs item fault t b
-vertical-breaks l g item fault h t q (inr b) =
+vertical-breaks l g item fault h t q y (inl b) = no-repeats class.VerticalCrs item fault t b
+vertical-breaks l g item fault h t q y (inr (inl b)) =
     no-bad-systems l vertical_dimensions g.system.system_type g.system.dimension
     (those class.VerticalCrs class.CoordinateSystem (arguments item))
     (those class.VerticalCrs class.Axis (arguments item)) (those class.VerticalCrs class.AxisUnit (arguments item))
     fault
     h.system.dimension h.dimension q b
+vertical-breaks l g item fault h t q y (inr (inr b)) = no-bad-dynamic class.VerticalCrs item fault y b
 
 vertical-shown : (level : Level) (g : VerticalParts) (item : Item) →
     Sees class.VerticalCrs (vertical_runs level g) item →
     Each (Shows class.VerticalCrs item (behind level g.system g.tail)) crs_classes
 vertical-shown level g item s =
-    vertical-shows item (text_item g.name) (item_frame (codes "VDATUM") (norm_frame level g.frame)) g.frame
-    (vertical_rest level g)
+    vertical-shows level item (text_item g.name) g.dynamic g.frame (frame_item level g) (vertical_rest level g)
     (views class.VerticalCrs (vertical_runs level g) item crs_classes s)
 
 vertical-kept : DecimalLaws → (level : Level) (g : VerticalParts) → IsFew g.system → IsVertical g →
@@ -221,16 +259,15 @@ vertical-kept l level g few h = record {
   written = refl;
   made = vertical-runs-made l level g few h;
   allowed = vertical-allowed l level g few;
-  sets = vertical-sets g.frame (text_item g.name) (item_frame (codes "VDATUM") (norm_frame level g.frame))
-      (vertical_rest level g) (
-        identifiers-ascend level g.tail.identifiers,
-        (
-          usages-ascend level (usages_of g.tail),
-          (tt, (tt, (models-ascend level g.geoid_models, tt))),
-        ),
-      );
-  left = vertical-left level g.frame (text_item g.name) (item_frame (codes "VDATUM") (norm_frame level g.frame))
-      (vertical_rest level g) (tail-left level g.tail);
+  sets = vertical-sets level (text_item g.name) g.dynamic g.frame (frame_item level g) (vertical_rest level g) (
+    identifiers-ascend level g.tail.identifiers,
+    (
+      usages-ascend level (usages_of g.tail),
+      (tt, (tt, (models-ascend level g.geoid_models, tt))),
+    ),
+  );
+  left = vertical-left level (text_item g.name) g.dynamic g.frame (frame_item level g) (vertical_rest level g)
+      (tail-left level g.tail);
   own = λ item s.
       let v = vertical-shown level g item s in (
         has-axes class.VerticalCrs item g.system.system_type g.system.dimension
@@ -242,15 +279,17 @@ vertical-kept l level g few h = record {
   unbroken = λ item fault s b.
       let v = vertical-shown level g item s in
       vertical-breaks l g item fault h (tail-seen level class.VerticalCrs item g.tail v.1.1.1)
-      (system-seen l level class.VerticalCrs item g.system g.tail few v) b;
+      (system-seen l level class.VerticalCrs item g.system g.tail few v)
+      (vertical-steady level item (text_item g.name) g.dynamic g.frame (frame_item level g) (vertical_rest level g)
+      h.dynamic (refl, (refl, (refl, tt))) (views class.VerticalCrs (vertical_runs level g) item dynamic_classes s)) b;
 }
 
 pub vertical-made : DecimalLaws → AxisEach → (level : Level) (g : VerticalParts) → IsVertical g → (p : ℕ) →
     IsMade level class.VerticalCrs 6 (at_place p (item_vertical (norm_vertical level g)))
 vertical-made l each_at level g h =
     node-made level 5 class.VerticalCrs (codes "VERTCRS") (text_item g.name)
-    (More (item_frame (codes "VDATUM") (norm_frame level g.frame))
+    (opt item_dynamic (option_map (norm_dynamic level) g.dynamic) (More (frame_item level g)
     (system_items (norm_system level g.system) (each item_geoid_model (set_geoid_models level g.geoid_models)
-    (tail_items (norm_tail level g.tail)))))
+    (tail_items (norm_tail level g.tail))))))
     (vertical_runs level g) (simp (opt-line, each-line))
     (vertical-kept l level g (few-system l each_at vertical_dimensions vertical-small g.system h.system h.dimension) h)

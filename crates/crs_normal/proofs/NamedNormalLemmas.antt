@@ -1,4 +1,5 @@
--- Normal members, methods, geoid models, parameters and conversions are the one form of their values.
+-- Normal members, methods, geoid models, deformation models, parameters and conversions are the one form of their
+-- values.
 use Rattle.std.proofs.Common.{◌≡◌, ℕ, ◌≤◌, ◌||◌, length, Bool, true, false, Option, Some, None, List, [], ◌∷◌, if◌then◌else◌, codes, refl, sym, ◌∙◌, ap, subst, arith}
 use Rattle.std.specs.List.{list_any}
 use denote.Enum.Bare.{sameb}
@@ -11,6 +12,7 @@ use Rattle.crs_shape.specs.Slots.{SlotParts, is_class, named_slots, slots_of, un
 use Rattle.crs_value.specs.Reading.{is_a, those, ReadsElse}
 use Rattle.crs_value.specs.Reads.{ReadsIds, ReadsMember, ReadsNumber, ReadsText, ReadsTextOf}
 use Rattle.crs_value.specs.ReadsConversion.{parameter_units, ReadsAsUnit, ReadsConversion, ReadsGeoidModel, ReadsMethod, ReadsParameter, ReadsUnitOf}
+use Rattle.crs_value.specs.ReadsDynamic.{ReadsDeformationModel}
 use Rattle.crs_value.specs.Values.{IdentParts, UnitParts}
 use Rattle.crs_value.specs.declared.values.level.Level.{Level}
 use Rattle.crs_value.specs.declared.values.unit_kind.UnitKind.TheVariants as kinds
@@ -18,6 +20,7 @@ use Rattle.crs_normal.specs.Flat.{flat}
 use Rattle.crs_normal.specs.Normal.{IsWritten}
 use Rattle.crs_value.specs.Sound.{Each}
 use Rattle.crs_normal.specs.SpelledConversions.{item_conversion, item_geoid_model, item_method, item_parameter, norm_conversion, norm_geoid_model, norm_method, norm_parameter, set_parameters}
+use Rattle.crs_normal.specs.SpelledDynamic.{item_deformation_model, norm_deformation_model}
 use Rattle.crs_normal.specs.SpelledFrames.{item_member, norm_member}
 use Rattle.crs_normal.specs.SpelledItems.{each, node_of, number_item, opt, text_item}
 use Rattle.crs_normal.specs.SpelledUnits.{item_ident, item_unit, norm_units, set_idents}
@@ -61,6 +64,13 @@ pub geoid_model-form : (level : Level) (c : Class) →
     Form level c class.GeoidModel (ReadsGeoidModel class.GeoidModel) (λ g. item_geoid_model (norm_geoid_model level g))
 geoid_model-form level c item x good reads =
     named-flat level c class.GeoidModel (codes "GEOIDMODEL") refl (λ bytes h. h) item good x.name x.identifiers reads.name
+    reads.identifiers
+
+pub deformation_model-form : (level : Level) (c : Class) →
+    Form level c class.DeformationModel (ReadsDeformationModel class.DeformationModel)
+    (λ m. item_deformation_model (norm_deformation_model level m))
+deformation_model-form level c item x good reads =
+    named-flat level c class.DeformationModel (codes "MODEL") refl (λ bytes h. h) item good x.name x.identifiers reads.name
     reads.identifiers
 
 -- ---- the unit of a parameter, of one of several classes

@@ -74,7 +74,8 @@ pub datum-in-one : TextLaws → (level : Level) (d : DatumParts) → IsDatum d �
     ReadsDatum class.GeodeticFrame (at_place p (item_own_datum (norm_datum level d))) (norm_datum level d)
 datum-in-one laws level d s p =
     datum-read laws class.GeodeticFrame (datum_keyword (option_map (norm_ellipsoid level) d.ellipsoid))
-    ReadNameLemmas.geodetic-frame-id ReadNameLemmas.geodetic-frame-anchor level d s
+    ReadNameLemmas.geodetic-frame-id ReadNameLemmas.geodetic-frame-anchor ReadNameLemmas.geodetic-frame-anchorepoch
+    level d s
     (ellipsoid-in class.GeodeticFrame ReadNameLemmas.geodetic-frame-ellipsoid
     (option_map (norm_ellipsoid level) d.ellipsoid)) p
 

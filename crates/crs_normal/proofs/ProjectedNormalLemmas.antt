@@ -16,6 +16,7 @@ use Rattle.crs_normal.specs.SpelledConversions.{item_conversion, norm_conversion
 use Rattle.crs_normal.specs.SpelledCrs.{item_base, item_projected, item_vertical, norm_base, norm_projected, norm_vertical}
 use Rattle.crs_normal.specs.SpelledItems.{text_item}
 use Rattle.crs_normal.proofs.CheckedLemmas.{Checked, first-checked, once-only, those-unbroken}
+use Rattle.crs_normal.proofs.DynamicNormalLemmas.{dynamic-spelled}
 use Rattle.crs_normal.proofs.EnsembleNormalLemmas.{base-form, vertical_frame-spelled}
 use Rattle.crs_normal.proofs.FormLemmas.{Form, kept-good, node-spelled, one-spelled, opened}
 use Rattle.crs_normal.proofs.GeodeticNormalLemmas.{found-of, no-models, none-read-each, rise-six}
@@ -49,7 +50,7 @@ projected-form laws level c (node place keyword square first others close) x goo
     let looked = λ (e : Class). those-looked d e (slots_of d) items v in
     let free : AreFree projected_dimensions (those d class.CoordinateSystem items) (those d class.Axis items)
     (those d class.AxisUnit items) =
-    λ fault b. checked.0 fault (inl (inr b)) in
+    λ fault b. checked.0 fault (inl (inr (inl b))) in
     let bases = those-unbroken d class.BaseCrs k.classes items k.shaped (λ fault b. checked.0 fault (inr b)) in
     let remarks = once-only (those d class.Remark items)
     (λ fault b. checked.0 fault (inl (inl (inr (inr (inr (inr (inl b)))))))) in
@@ -104,34 +105,37 @@ vertical-form laws level c (node place keyword square first others close) x good
     let v3 = v2.1.1.1.1 in
     let v4 = v3.1.1.1.1 in
     let v5 = v4.1.1.1.1 in
+    let v6 = v5.1.1.1.1 in
     let looked = λ (e : Class). those-looked d e (slots_of d) items v in
     let free : AreFree vertical_dimensions (those d class.CoordinateSystem items) (those d class.Axis items)
     (those d class.AxisUnit items) =
-    λ fault b. checked.0 fault (inl (inr b)) in
+    λ fault b. checked.0 fault (inl (inr (inl b))) in
     let frames = those-unbroken d class.VerticalFrame k.classes items k.shaped (λ fault b. checked.0 fault (inr b)) in
     let remarks = once-only (those d class.Remark items)
     (λ fault b. checked.0 fault (inl (inl (inr (inr (inr (inr (inl b)))))))) in
     let within = few-axes laws vertical_dimensions small-vertical _ _ _ free x.system reads.system.head
     (each-length (ReadsAxis class.Axis) (those d class.Axis items) x.system.axes reads.system.axes) in
     let has_tail = o.own.1 in
-    let rise = rise-six d 0 [] v.0 v1.0 v2.0 v3.0 v4.0 (onto v5.0 End)
+    let rise = rise-six d 0 v.0 v1.0 v2.0 v3.0 v4.0 v5.0 (onto v6.0 End)
     (subst (Rise d 0) (items-rebuilt d (slots_of d) items v) has_tail.in_order) in
-    let ends = vertical_ends-of d item v5.0 has_tail (looked class.Scope) (looked class.Area) (looked class.BoundingBox)
-    (looked class.VerticalExtent) v5.1.1.0.inside in
-    let found = found-of d item v5.0 (looked class.GeoidModel) (looked class.Usage) (looked class.Identifier)
+    let ends = vertical_ends-of d item v6.0 has_tail (looked class.Scope) (looked class.Area) (looked class.BoundingBox)
+    (looked class.VerticalExtent) v6.1.1.0.inside in
+    let found = found-of d item v6.0 (looked class.GeoidModel) (looked class.Usage) (looked class.Identifier)
     (looked class.Remark) in
     node-spelled place keyword _ square first others close _ o.written
     (flats-spread d (slots_of d) items v
     ∙ one-spelled level d class.Text ReadsText text_item (text-form level d) (those d class.Text items) v.0
     (kept-good level d class.Text items k)
     (looked class.Text) (v.1.1.0.not_more refl) x.name reads.name _ _
-    (vertical_frame-spelled law level d (those d class.VerticalFrame items) (those d class.VerticalEnsemble items) v1.0
-    (alone v1.0 v1.1.1.0 refl refl)
+    (dynamic-spelled law level d (those d class.Dynamic items) v1.0 (kept-good level d class.Dynamic items k)
+    (looked class.Dynamic) (v1.1.1.0.not_more refl) x.dynamic reads.dynamic _ _
+    (vertical_frame-spelled law level d (those d class.VerticalFrame items) (those d class.VerticalEnsemble items) v2.0
+    (alone v2.0 v2.1.1.0 refl refl)
     (looked class.VerticalFrame) (looked class.VerticalEnsemble)
     (kept-good level d class.VerticalFrame items k) (kept-good level d class.VerticalEnsemble items k) frames x.frame
     reads.frame _ _
-    (system-spelled law level d item k o.own.0 v2.0 v3.0 v4.0 (looked class.CoordinateSystem) (v2.1.1.0.not_more refl)
+    (system-spelled law level d item k o.own.0 v3.0 v4.0 v5.0 (looked class.CoordinateSystem) (v3.1.1.0.not_more refl)
     (looked class.Axis) (looked class.AxisUnit)
     x.system reads.system within _ _
-    (tail-spelled law level d item k o.sets has_tail v5.0 rise.0 rise.1 ends found remarks x.geoid_models
-    reads.geoid_models x.tail reads.tail))))
+    (tail-spelled law level d item k o.sets has_tail v6.0 rise.0 rise.1 ends found remarks x.geoid_models
+    reads.geoid_models x.tail reads.tail)))))

@@ -45,7 +45,7 @@ test : {P : Type 0} (b rest : Bool) → (b ≡ true → P) → (rest ≡ true �
 test true rest f g h = f refl
 test false rest f g h = g h
 
-named-so : (c : Class) (item : Item) (at d : Class) → class_in c item ≡ Some at → sameb the_type d at ≡ true →
+pub named-so : (c : Class) (item : Item) (at d : Class) → class_in c item ≡ Some at → sameb the_type d at ≡ true →
     class_in c item ≡ Some d
 named-so c item at d named e = named ∙ ap (λ x. Some x) (sym (same_class d at e))
 
@@ -97,7 +97,7 @@ pub record Split (c : Class) (m : ℕ) (front : List Item) : Type 0 where
   pub no_usage : 3 ≤ m → usages ≡ []
   pub no_id : 4 ≤ m → identifiers ≡ []
 
-rise-as : (c : Class) (m : ℕ) (item : Item) (rest : Siblings) (d : Class) → class_in c item ≡ Some d →
+pub rise-as : (c : Class) (m : ℕ) (item : Item) (rest : Siblings) (d : Class) → class_in c item ≡ Some d →
     Rise c m (More item rest) → (m ≤ rank d) × Rise c (rank d) rest
 rise-as c m item rest d named rise =
     subst (λ (o : Option Class). AtClass o (λ x. (m ≤ rank x) × Rise c (rank x) rest)) named rise

@@ -33,6 +33,7 @@ use Rattle.crs_normal.proofs.ReadWalkLemmas.{IsIn, Passes, ReadsBack, Segment, f
 
 geographic-names : GeodeticNames class.GeographicCrs
 geographic-names = record {
+  dynamics = ReadNameLemmas.geographic-crs-dynamic;
   datums = ReadNameLemmas.geographic-crs-datum;
   ensembles = ReadNameLemmas.geographic-crs-ensemble;
   meridians = ReadNameLemmas.geographic-crs-primem;
@@ -45,6 +46,7 @@ geographic-names = record {
 
 geodetic-names : GeodeticNames class.GeodeticCrs
 geodetic-names = record {
+  dynamics = ReadNameLemmas.geodetic-crs-dynamic;
   datums = ReadNameLemmas.geodetic-crs-datum;
   ensembles = ReadNameLemmas.geodetic-crs-ensemble;
   meridians = ReadNameLemmas.geodetic-crs-primem;

@@ -28,6 +28,7 @@ use Rattle.crs_normal.specs.SpelledUnits.{item_unit, norm_units, set_idents}
 use Rattle.crs_normal.specs.TextLaws.{TextLaws}
 use Rattle.crs_normal.proofs.MemberUnitLemmas.{NamesId}
 use Rattle.crs_normal.proofs.ReadDatumLemmas.{frame-read, frame-segment, geodetic-back, vertical-back}
+use Rattle.crs_normal.proofs.ReadDynamicLemmas.{dynamic-field, dynamic-segment}
 use Rattle.crs_normal.proofs.ReadEndLemmas.{axes-segment, conversion-read, geoids-back, head-segment, system-read, tail-read, tail-segments}
 use Rattle.crs_normal.proofs.ReadFrameLemmas.{IsAngle, angles-back, angles-in, angles-kept, identifiers-field, identifiers-segment, meridian-read, name-segment}
 use Rattle.crs_normal.proofs.ReadNameLemmas
@@ -85,6 +86,7 @@ meridian-in c e o = some-all (λ x. IsIn c class.PrimeMeridian (item_meridian x)
 
 -- what keywords name in a geodetic or geographic CRS
 pub record GeodeticNames (c : Class) : Type 0 where
+  pub dynamics : class_named c (codes "DYNAMIC") ≡ Some class.Dynamic
   pub datums : class_named c (codes "DATUM") ≡ Some class.GeodeticFrame
   pub ensembles : class_named c (codes "ENSEMBLE") ≡ Some class.GeodeticEnsemble
   pub meridians : class_named c (codes "PRIMEM") ≡ Some class.PrimeMeridian
@@ -99,6 +101,9 @@ module _ (laws : TextLaws) (lower : LowerLaws) (c : Class) (names : GeodeticName
   geodetic-whole =
       few lower g.system s.system (geodetic_dimensions g.system.system_type) (geodetic-few g.system.system_type)
       s.dimension
+
+  abbrev geodetic-dynamic : Segment c
+  geodetic-dynamic = dynamic-segment c names.dynamics level g.dynamic
 
   abbrev geodetic-frame : Segment c
   geodetic-frame =
@@ -124,23 +129,26 @@ module _ (laws : TextLaws) (lower : LowerLaws) (c : Class) (names : GeodeticName
       let item = at_place place (item_geodetic (norm_geodetic level g)) in
       let start = place + length (geodetic_keyword g.system.system_type) in record {
         name = refl;
+        dynamic =
+            dynamic-field c names.dynamics level g.dynamic laws g.frame s.dynamic (name-segment c g.name ∷ [])
+            (geodetic-frame ∷ geodetic-meridian ∷ geodetic-head ∷ geodetic-axes ∷ geodetic-tail) refl refl start;
         frame =
             frame-read c class.GeodeticFrame class.GeodeticEnsemble (codes "DATUM") names.datums names.ensembles refl
             refl refl (norm_frame level g.frame) (geodetic-back laws level g.frame s.frame)
-            (name-segment c g.name ∷ []) (geodetic-meridian ∷ geodetic-head ∷ geodetic-axes ∷ geodetic-tail) refl refl
-            refl item start refl;
+            (name-segment c g.name ∷ geodetic-dynamic ∷ [])
+            (geodetic-meridian ∷ geodetic-head ∷ geodetic-axes ∷ geodetic-tail) refl refl refl item start refl;
         meridian =
-            opt-field c class.PrimeMeridian (name-segment c g.name ∷ geodetic-frame ∷ [])
+            opt-field c class.PrimeMeridian (name-segment c g.name ∷ geodetic-dynamic ∷ geodetic-frame ∷ [])
             (geodetic-head ∷ geodetic-axes ∷ geodetic-tail) refl item_meridian (ReadsMeridian class.PrimeMeridian) refl
             refl (norm_meridian level g.meridian) (meridian-in c names.meridians (norm_meridian level g.meridian))
             (meridian-read laws level g.meridian s.meridian) start;
         system =
             system-read laws c names.heads names.axes level g.system s.system geodetic-whole
-            (name-segment c g.name ∷ geodetic-frame ∷ geodetic-meridian ∷ []) geodetic-tail item start refl refl refl
+            (name-segment c g.name ∷ geodetic-dynamic ∷ geodetic-frame ∷ geodetic-meridian ∷ []) geodetic-tail item start refl refl refl
             refl refl refl;
         tail =
             tail-read laws c names.usages names.identifiers names.remarks level g.tail s.tail
-            (name-segment c g.name ∷ geodetic-frame ∷ geodetic-meridian ∷ geodetic-head ∷ geodetic-axes ∷ []) item
+            (name-segment c g.name ∷ geodetic-dynamic ∷ geodetic-frame ∷ geodetic-meridian ∷ geodetic-head ∷ geodetic-axes ∷ []) item
             start refl refl refl refl refl refl refl refl;
       }
 
@@ -149,6 +157,9 @@ module _ (laws : TextLaws) (lower : LowerLaws) (c : Class) (names : GeodeticName
 module _ (laws : TextLaws) (level : Level) (b : BaseParts) (s : IsBase b) where
   abbrev base : Class
   base = class.BaseCrs
+
+  abbrev base-dynamic : Segment base
+  base-dynamic = dynamic-segment base ReadNameLemmas.base-crs-dynamic level b.dynamic
 
   abbrev base-frame : Segment base
   base-frame =
@@ -175,24 +186,28 @@ module _ (laws : TextLaws) (level : Level) (b : BaseParts) (s : IsBase b) where
   pub base-read : ReadsBack item_base (ReadsBase class.BaseCrs) (norm_base level b)
   base-read place = record {
     name = refl;
+    dynamic =
+        dynamic-field base ReadNameLemmas.base-crs-dynamic level b.dynamic laws b.frame s.dynamic
+        (name-segment base b.name ∷ []) (base-frame ∷ base-meridian ∷ base-unit ∷ base-identifiers ∷ []) refl refl
+        (place + 11);
     frame =
         frame-read base class.GeodeticFrame class.GeodeticEnsemble (codes "DATUM") ReadNameLemmas.base-crs-datum
         ReadNameLemmas.base-crs-ensemble refl refl refl (norm_frame level b.frame)
-        (geodetic-back laws level b.frame s.frame) (name-segment base b.name ∷ [])
+        (geodetic-back laws level b.frame s.frame) (name-segment base b.name ∷ base-dynamic ∷ [])
         (base-meridian ∷ base-unit ∷ base-identifiers ∷ []) refl refl refl
         (at_place place (item_base (norm_base level b))) (place + 11) refl;
     meridian =
-        opt-field base class.PrimeMeridian (name-segment base b.name ∷ base-frame ∷ []) (base-unit ∷ base-identifiers ∷ []) refl
+        opt-field base class.PrimeMeridian (name-segment base b.name ∷ base-dynamic ∷ base-frame ∷ []) (base-unit ∷ base-identifiers ∷ []) refl
         item_meridian (ReadsMeridian class.PrimeMeridian) refl refl (norm_meridian level b.meridian)
         (meridian-in base ReadNameLemmas.base-crs-primem (norm_meridian level b.meridian))
         (meridian-read laws level b.meridian s.meridian) (place + 11);
     unit =
-        opt-field base class.AngleUnit (name-segment base b.name ∷ base-frame ∷ base-meridian ∷ []) (base-identifiers ∷ []) refl
+        opt-field base class.AngleUnit (name-segment base b.name ∷ base-dynamic ∷ base-frame ∷ base-meridian ∷ []) (base-identifiers ∷ []) refl
         item_unit (ReadsUnit class.AngleUnit) refl refl (norm_units level kinds.Angle b.unit) base-unit-in
         (angles-back laws (norm_units level kinds.Angle b.unit) base-angle) (place + 11);
     identifiers =
         identifiers-field base ReadNameLemmas.base-crs-id
-        (name-segment base b.name ∷ base-frame ∷ base-meridian ∷ base-unit ∷ []) refl level b.identifiers s.identifiers (place + 11);
+        (name-segment base b.name ∷ base-dynamic ∷ base-frame ∷ base-meridian ∷ base-unit ∷ []) refl level b.identifiers s.identifiers (place + 11);
   }
 
 -- ---- projected CRSs
@@ -272,6 +287,9 @@ module _ (laws : TextLaws) (lower : LowerLaws) (level : Level) (v : VerticalPart
       few lower v.system s.system (vertical_dimensions v.system.system_type) (vertical-few v.system.system_type)
       s.dimension
 
+  abbrev vertical-dynamic : Segment vertical
+  vertical-dynamic = dynamic-segment vertical ReadNameLemmas.vertical-crs-dynamic level v.dynamic
+
   abbrev vertical-frame : Segment vertical
   vertical-frame =
       frame-segment vertical class.VerticalFrame class.VerticalEnsemble (codes "VDATUM")
@@ -305,23 +323,28 @@ module _ (laws : TextLaws) (lower : LowerLaws) (level : Level) (v : VerticalPart
   vertical-read place =
       let item = at_place place (item_vertical (norm_vertical level v)) in record {
         name = refl;
+        dynamic =
+            dynamic-field vertical ReadNameLemmas.vertical-crs-dynamic level v.dynamic laws v.frame s.dynamic
+            (name-segment vertical v.name ∷ [])
+            (vertical-frame ∷ vertical-head ∷ vertical-axes ∷ vertical-geoids ∷ vertical-tail) refl refl (place + 7);
         frame =
             frame-read vertical class.VerticalFrame class.VerticalEnsemble (codes "VDATUM")
             ReadNameLemmas.vertical-crs-vdatum ReadNameLemmas.vertical-crs-ensemble refl refl refl
-            (norm_frame level v.frame) (vertical-back laws level v.frame s.frame) (name-segment vertical v.name ∷ [])
+            (norm_frame level v.frame) (vertical-back laws level v.frame s.frame)
+            (name-segment vertical v.name ∷ vertical-dynamic ∷ [])
             (vertical-head ∷ vertical-axes ∷ vertical-geoids ∷ vertical-tail) refl refl refl item (place + 7) refl;
         system =
             system-read laws vertical ReadNameLemmas.vertical-crs-cs ReadNameLemmas.vertical-crs-axis level v.system
-            s.system vertical-whole (name-segment vertical v.name ∷ vertical-frame ∷ [])
+            s.system vertical-whole (name-segment vertical v.name ∷ vertical-dynamic ∷ vertical-frame ∷ [])
             (vertical-geoids ∷ vertical-tail) item (place + 7) refl refl refl refl refl refl;
         geoid_models =
             each-field vertical class.GeoidModel
-            (name-segment vertical v.name ∷ vertical-frame ∷ vertical-head ∷ vertical-axes ∷ []) vertical-tail refl
+            (name-segment vertical v.name ∷ vertical-dynamic ∷ vertical-frame ∷ vertical-head ∷ vertical-axes ∷ []) vertical-tail refl
             item_geoid_model (ReadsGeoidModel class.GeoidModel) refl refl (set_geoid_models level v.geoid_models)
             geoids-in (geoids-back level v.geoid_models s.geoid_models) (place + 7);
         tail =
             tail-read laws vertical ReadNameLemmas.vertical-crs-usage ReadNameLemmas.vertical-crs-id
             ReadNameLemmas.vertical-crs-remark level v.tail s.tail
-            (name-segment vertical v.name ∷ vertical-frame ∷ vertical-head ∷ vertical-axes ∷ vertical-geoids ∷ []) item
+            (name-segment vertical v.name ∷ vertical-dynamic ∷ vertical-frame ∷ vertical-head ∷ vertical-axes ∷ vertical-geoids ∷ []) item
             (place + 7) refl refl refl refl refl refl refl refl;
       }

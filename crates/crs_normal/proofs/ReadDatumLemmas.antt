@@ -38,7 +38,7 @@ pub geodetic-back : TextLaws → (level : Level) (f : Frame) → IsGeodeticFrame
     FrameBack class.GeodeticFrame class.GeodeticEnsemble (codes "DATUM") (norm_frame level f)
 geodetic-back laws level (frame.Datum d) s =
     datum-read laws class.GeodeticFrame (codes "DATUM") ReadNameLemmas.geodetic-frame-id
-    ReadNameLemmas.geodetic-frame-anchor level d s.0
+    ReadNameLemmas.geodetic-frame-anchor ReadNameLemmas.geodetic-frame-anchorepoch level d s.0
     (ellipsoid-in class.GeodeticFrame ReadNameLemmas.geodetic-frame-ellipsoid
     (option_map (norm_ellipsoid level) d.ellipsoid))
 geodetic-back laws level (frame.Ensemble e) s =
@@ -51,7 +51,7 @@ pub vertical-back : TextLaws → (level : Level) (f : Frame) → IsVerticalFrame
     FrameBack class.VerticalFrame class.VerticalEnsemble (codes "VDATUM") (norm_frame level f)
 vertical-back laws level (frame.Datum d) s =
     datum-read laws class.VerticalFrame (codes "VDATUM") ReadNameLemmas.vertical-frame-id
-    ReadNameLemmas.vertical-frame-anchor level d s.0
+    ReadNameLemmas.vertical-frame-anchor ReadNameLemmas.vertical-frame-anchorepoch level d s.0
     (none-in class.VerticalFrame level d.ellipsoid s.1)
 vertical-back laws level (frame.Ensemble e) s =
     ensemble-read laws class.VerticalEnsemble ReadNameLemmas.vertical-ensemble-id

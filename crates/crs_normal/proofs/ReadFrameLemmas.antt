@@ -1,7 +1,7 @@
 -- Ellipsoids, prime meridians, reference frames and ensembles in their one form are read back from their items.
 use Rattle.std.proofs.Common.{◌≡◌, ℕ, ◌+◌, codes, IfSome, Option, Some, None, List, [], ◌∷◌, length, refl, ◌∙◌, ap, inl, inr, if◌then◌else◌, Bool, true, false}
 use Rattle.std.specs.Option.{option_map}
-use Rattle.crs_decimal.specs.Value.{Value}
+use Rattle.crs_decimal.specs.Value.{Value, IsNormal}
 use Rattle.crs_text.specs.Items.{Item, End}
 use Rattle.crs_text.specs.Written.{item_text}
 use Rattle.crs_shape.specs.declared.class.Class.{Class}
@@ -195,7 +195,7 @@ members-back level ms s =
     (λ m q. member-read (norm_member level m) (member-kept level m q)) ms s
 
 -- in a class of reference frames, where the ellipsoid stands if there is one
-module _ (laws : TextLaws) (c : Class) (keyword : List ℕ) (names : NamesId c) (anchors : class_named c (codes "ANCHOR") ≡ Some class.Anchor) (level : Level) (d : DatumParts) (s : IsDatum d) (on : MayIn c class.Ellipsoid item_ellipsoid (option_map (norm_ellipsoid level) d.ellipsoid)) where
+module _ (laws : TextLaws) (c : Class) (keyword : List ℕ) (names : NamesId c) (anchors : class_named c (codes "ANCHOR") ≡ Some class.Anchor) (epochs : class_named c (codes "ANCHOREPOCH") ≡ Some class.AnchorEpoch) (level : Level) (d : DatumParts) (s : IsDatum d) (on : MayIn c class.Ellipsoid item_ellipsoid (option_map (norm_ellipsoid level) d.ellipsoid)) where
   abbrev datum-ellipsoid : Option EllipsoidParts
   datum-ellipsoid = option_map (norm_ellipsoid level) d.ellipsoid
 
@@ -203,26 +203,47 @@ module _ (laws : TextLaws) (c : Class) (keyword : List ℕ) (names : NamesId c) 
   anchor-in =
       some-all (λ x. IsIn c class.Anchor (text_node (codes "ANCHOR") x)) (λ x place. anchors) d.anchor
 
+  abbrev anchor-segment : Segment c
+  anchor-segment = opt-segment c class.Anchor (text_node (codes "ANCHOR")) d.anchor anchor-in
+
+  anchor-epoch-in : MayIn c class.AnchorEpoch (number_node (codes "ANCHOREPOCH")) d.anchor_epoch
+  anchor-epoch-in =
+      some-all (λ v. IsIn c class.AnchorEpoch (number_node (codes "ANCHOREPOCH") v)) (λ v place. epochs) d.anchor_epoch
+
+  abbrev anchor-epoch-segment : Segment c
+  anchor-epoch-segment =
+      opt-segment c class.AnchorEpoch (number_node (codes "ANCHOREPOCH")) d.anchor_epoch anchor-epoch-in
+
+  abbrev datum-identifiers : Segment c
+  datum-identifiers = identifiers-segment c names (set_idents level d.identifiers)
+
   pub datum-read : ReadsBack (item_datum keyword) (ReadsDatum c) (norm_datum level d)
   datum-read place = record {
     name = refl;
     ellipsoid =
         opt-field c class.Ellipsoid (name-segment c d.name ∷ [])
-        (opt-segment c class.Anchor (text_node (codes "ANCHOR")) d.anchor anchor-in ∷
-        identifiers-segment c names (set_idents level d.identifiers) ∷ []) refl item_ellipsoid
+        (anchor-segment ∷ anchor-epoch-segment ∷ datum-identifiers ∷ []) refl item_ellipsoid
         (ReadsEllipsoid class.Ellipsoid) refl refl datum-ellipsoid on
         (ellipsoids-back laws level d.ellipsoid s.ellipsoid) (place + length keyword);
     anchor =
         opt-field c class.Anchor
         (name-segment c d.name ∷ opt-segment c class.Ellipsoid item_ellipsoid datum-ellipsoid on ∷ [])
-        (identifiers-segment c names (set_idents level d.identifiers) ∷ []) refl (text_node (codes "ANCHOR"))
-        (ReadsTextOf class.Anchor) refl refl d.anchor anchor-in
+        (anchor-epoch-segment ∷ datum-identifiers ∷ []) refl (text_node (codes "ANCHOR")) (ReadsTextOf class.Anchor) refl
+        refl d.anchor anchor-in
         (some-all (ReadsBack (text_node (codes "ANCHOR")) (ReadsTextOf class.Anchor)) (λ x p. refl) d.anchor)
+        (place + length keyword);
+    anchor_epoch =
+        opt-field c class.AnchorEpoch
+        (name-segment c d.name ∷ opt-segment c class.Ellipsoid item_ellipsoid datum-ellipsoid on ∷ anchor-segment ∷ [])
+        (datum-identifiers ∷ []) refl (number_node (codes "ANCHOREPOCH")) (ReadsNumberOf class.AnchorEpoch) refl refl
+        d.anchor_epoch anchor-epoch-in
+        (some-imp IsNormal (ReadsBack (number_node (codes "ANCHOREPOCH")) (ReadsNumberOf class.AnchorEpoch))
+        (λ v h p. number-read laws v h 0) d.anchor_epoch s.anchor_epoch)
         (place + length keyword);
     identifiers =
         identifiers-field c names
         (name-segment c d.name ∷ opt-segment c class.Ellipsoid item_ellipsoid datum-ellipsoid on ∷
-        opt-segment c class.Anchor (text_node (codes "ANCHOR")) d.anchor anchor-in ∷ []) refl level d.identifiers s.identifiers
+        anchor-segment ∷ anchor-epoch-segment ∷ []) refl level d.identifiers s.identifiers
         (place + length keyword);
   }
 

@@ -28,6 +28,10 @@ pub vertical-ensemble-id : class_named class.VerticalEnsemble (codes "ID") ≡ S
 unfolding class_named is_keyword
 vertical-ensemble-id = refl
 
+pub deformation-model-id : class_named class.DeformationModel (codes "ID") ≡ Some class.Identifier
+unfolding class_named is_keyword
+deformation-model-id = refl
+
 pub axis-id : class_named class.Axis (codes "ID") ≡ Some class.Identifier
 unfolding class_named is_keyword
 axis-id = refl
@@ -188,6 +192,30 @@ pub base-crs-primem : class_named class.BaseCrs (codes "PRIMEM") ≡ Some class.
 unfolding class_named is_keyword
 base-crs-primem = refl
 
+pub geodetic-crs-dynamic : class_named class.GeodeticCrs (codes "DYNAMIC") ≡ Some class.Dynamic
+unfolding class_named is_keyword
+geodetic-crs-dynamic = refl
+
+pub geographic-crs-dynamic : class_named class.GeographicCrs (codes "DYNAMIC") ≡ Some class.Dynamic
+unfolding class_named is_keyword
+geographic-crs-dynamic = refl
+
+pub base-crs-dynamic : class_named class.BaseCrs (codes "DYNAMIC") ≡ Some class.Dynamic
+unfolding class_named is_keyword
+base-crs-dynamic = refl
+
+pub vertical-crs-dynamic : class_named class.VerticalCrs (codes "DYNAMIC") ≡ Some class.Dynamic
+unfolding class_named is_keyword
+vertical-crs-dynamic = refl
+
+pub dynamic-frameepoch : class_named class.Dynamic (codes "FRAMEEPOCH") ≡ Some class.FrameEpoch
+unfolding class_named is_keyword
+dynamic-frameepoch = refl
+
+pub dynamic-model : class_named class.Dynamic (codes "MODEL") ≡ Some class.DeformationModel
+unfolding class_named is_keyword
+dynamic-model = refl
+
 pub vertical-crs-vdatum : class_named class.VerticalCrs (codes "VDATUM") ≡ Some class.VerticalFrame
 unfolding class_named is_keyword
 vertical-crs-vdatum = refl
@@ -259,6 +287,14 @@ geodetic-frame-anchor = refl
 pub vertical-frame-anchor : class_named class.VerticalFrame (codes "ANCHOR") ≡ Some class.Anchor
 unfolding class_named is_keyword
 vertical-frame-anchor = refl
+
+pub geodetic-frame-anchorepoch : class_named class.GeodeticFrame (codes "ANCHOREPOCH") ≡ Some class.AnchorEpoch
+unfolding class_named is_keyword
+geodetic-frame-anchorepoch = refl
+
+pub vertical-frame-anchorepoch : class_named class.VerticalFrame (codes "ANCHOREPOCH") ≡ Some class.AnchorEpoch
+unfolding class_named is_keyword
+vertical-frame-anchorepoch = refl
 
 pub geodetic-ensemble-member : class_named class.GeodeticEnsemble (codes "MEMBER") ≡ Some class.Member
 unfolding class_named is_keyword

@@ -1,12 +1,10 @@
 -- The end of a normal CRS is the one form of its value.
-use Rattle.std.proofs.Common.{Bool, IsSome, List, None, Option, Some, ℕ, [], ap, ap₂, codes, false, if◌then◌else◌, inl, inr, length, map, refl, sym, true, ◌++◌, ◌∙◌, ◌∷◌, ◌≡◌, ◌≤◌}
-use Rattle.crs_text.specs.Items.{Item, Siblings, End, More, arguments}
+use Rattle.std.proofs.Common.{IsSome, List, None, Option, Some, ℕ, [], ap, ap₂, codes, false, inl, inr, length, map, refl, sym, true, ◌++◌, ◌∙◌, ◌≡◌, ◌≤◌}
+use Rattle.crs_text.specs.Items.{Item, End, arguments}
 use Rattle.crs_shape.specs.declared.class.Class.{Class}
 use Rattle.crs_shape.specs.declared.class.Class.TheVariants as class
-use Rattle.crs_shape.specs.ShapeFault.{class_in}
-use Rattle.crs_shape.specs.Slots.{is_class}
 use Rattle.crs_value.specs.ConversionValues.{GeoidModelParts}
-use Rattle.crs_value.specs.Reading.{is_a, those, ReadsEach, ReadsOptional}
+use Rattle.crs_value.specs.Reading.{those, ReadsEach, ReadsOptional}
 use Rattle.crs_value.specs.Reads.{ReadsBare, ReadsTail, ReadsTextOf, ReadsUsage}
 use Rattle.crs_value.specs.ReadsConversion.{ReadsGeoidModel}
 use Rattle.crs_value.specs.Values.{SaysSome, TailParts, UsageParts}
@@ -14,7 +12,6 @@ use Rattle.crs_value.specs.Kept.{kept}
 use Rattle.crs_value.specs.KeptLaws.{kept-where_none-one}
 use Rattle.crs_value.specs.declared.values.level.Level.{Level}
 use Rattle.crs_same.specs.SameUsages.{usages_of, with_bare}
-use Rattle.crs_normal.specs.Flat.{flat}
 use Rattle.crs_normal.specs.NormalOwn.{HasSets, HasTail, Rise}
 use Rattle.crs_value.specs.Sound.{Each}
 use Rattle.crs_normal.specs.Ordered.{in_order}
@@ -29,46 +26,12 @@ use Rattle.crs_normal.proofs.FrameNormalLemmas.{none-read}
 use Rattle.crs_normal.proofs.LeafLemmas.{PlainIsOne, text-node-form}
 use Rattle.crs_normal.proofs.NamedNormalLemmas.{geoid_model-form}
 use Rattle.crs_normal.proofs.RankLemmas.{EndsAs, Split, split}
+use Rattle.crs_normal.proofs.SortLemmas.{as-class, flats-joined, nothing-behind, those-kept, those-last, those-none, those-passed}
 use Rattle.crs_normal.proofs.UnitNormalLemmas.{idents-spelled}
 use Rattle.crs_normal.proofs.UsageNormalLemmas.{usage-form}
-use Rattle.crs_normal.proofs.ViewLemmas.{each-so, flats_onto, onto}
+use Rattle.crs_normal.proofs.ViewLemmas.{flats_onto, onto}
 
 -- ---- a front of several sorts
-
-flats-joined : (a b : List Item) (rest : Siblings) → flats_onto (a ++ b) rest ≡ flats_onto a (flats_onto b rest)
-flats-joined [] b rest = refl
-flats-joined (x ∷ xs) b rest = ap (More (flat x)) (flats-joined xs b rest)
-
-those-kept : (c d : Class) (a b : List Item) → Each (λ i. is_a c d i ≡ true) a →
-    those c d (onto (a ++ b) End) ≡ a ++ those c d (onto b End)
-those-kept c d [] b h = refl
-those-kept c d (x ∷ xs) b h =
-    ap (λ t. if t then x ∷ those c d (onto (xs ++ b) End) else those c d (onto (xs ++ b) End)) h.0
-    ∙ ap (λ ys. x ∷ ys) (those-kept c d xs b h.1)
-
-those-passed : (c d : Class) (a b : List Item) → Each (λ i. is_a c d i ≡ false) a →
-    those c d (onto (a ++ b) End) ≡ those c d (onto b End)
-those-passed c d [] b h = refl
-those-passed c d (x ∷ xs) b h =
-    ap (λ t. if t then x ∷ those c d (onto (xs ++ b) End) else those c d (onto (xs ++ b) End)) h.0
-    ∙ those-passed c d xs b h.1
-
-nothing-behind : (xs : List Item) → xs ++ [] ≡ xs
-nothing-behind [] = refl
-nothing-behind (x ∷ xs) = ap (λ ys. x ∷ ys) (nothing-behind xs)
-
-those-none : (c d : Class) (a : List Item) → Each (λ i. is_a c d i ≡ false) a → those c d (onto a End) ≡ []
-those-none c d a h = ap (λ xs. those c d (onto xs End)) (sym (nothing-behind a)) ∙ those-passed c d a [] h
-
-those-last : (c d : Class) (a : List Item) → Each (λ i. is_a c d i ≡ true) a → those c d (onto a End) ≡ a
-those-last c d a h = ap (λ xs. those c d (onto xs End)) (sym (nothing-behind a)) ∙ those-kept c d a [] h
-    ∙ nothing-behind a
-
--- whether items of this class are of that one
-as-class : (c e d : Class) (b : Bool) → is_class d (Some e) ≡ b → (xs : List Item) →
-    Each (λ i. class_in c i ≡ Some e) xs → Each (λ i. is_a c d i ≡ b) xs
-as-class c e d b same xs h =
-    each-so (λ i. class_in c i ≡ Some e) (λ i. is_a c d i ≡ b) (λ i named. ap (is_class d) named ∙ same) xs h
 
 record Sorted (c : Class) (front : List Item) (m u i r : List Item) : Type 0 where
   are : front ≡ m ++ (u ++ (i ++ r))

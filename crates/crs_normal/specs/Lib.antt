@@ -19,6 +19,7 @@ pub mod ReadBack
 pub mod SpelledAs
 pub mod SpelledConversions
 pub mod SpelledCrs
+pub mod SpelledDynamic
 pub mod SpelledFrames
 pub mod SpelledItems
 pub mod SpelledSystems

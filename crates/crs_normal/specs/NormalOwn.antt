@@ -61,11 +61,14 @@ pub record HasAxes (c : Class) (item : Item) : Type 0 where
   pub own_units : Each (Has class.Axis class.AxisUnit) (those c class.Axis (arguments item))
   pub none_shared : Lacks c class.AxisUnit item
 
--- ---- the end of a CRS: geoid models, usages, identifiers, remark; no part of a usage stands bare
+-- ---- the order of what may stand in any: at a CRS's end geoid models, usages, identifiers, remark, and no part of a
+-- usage stands bare; in a reference frame the anchor, its epoch, identifiers
 
--- where an argument of this class stands at a CRS's end, what stands before the end at 0
+-- where an argument of this class stands among those, what stands before them at 0
 abbrev pub rank : Class → ℕ
 rank class.GeoidModel = 1
+rank class.Anchor = 1
+rank class.AnchorEpoch = 2
 rank class.Usage = 2
 rank class.Identifier = 3
 rank class.Remark = 4
@@ -124,6 +127,8 @@ Own class.ProjectedCrs item = HasAxes class.ProjectedCrs item × HasTail class.P
 Own class.VerticalCrs item = HasAxes class.VerticalCrs item × HasTail class.VerticalCrs item
 Own class.CompoundCrs item = HasTail class.CompoundCrs item
 Own class.BaseCrs item = Has class.BaseCrs class.PrimeMeridian item
+Own class.GeodeticFrame item = Rise class.GeodeticFrame 0 (arguments item)
+Own class.VerticalFrame item = Rise class.VerticalFrame 0 (arguments item)
 Own class.Ellipsoid item = Has class.Ellipsoid class.LengthUnit item
 Own class.VerticalExtent item = Has class.VerticalExtent class.LengthUnit item
 Own class.PrimeMeridian item = HasUnitIfAny item

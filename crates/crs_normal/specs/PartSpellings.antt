@@ -5,10 +5,12 @@ use Rattle.crs_shape.specs.declared.class.Class.TheVariants as class
 use Rattle.crs_value.specs.CompoundValues.{CompoundParts}
 use Rattle.crs_value.specs.ConversionValues.{ConversionParts, GeoidModelParts, MethodParts, ParameterParts}
 use Rattle.crs_value.specs.CrsValues.{BaseParts, GeodeticParts, ProjectedParts, VerticalParts}
+use Rattle.crs_value.specs.DynamicValues.{DeformationModelParts, DynamicParts}
 use Rattle.crs_value.specs.Reads.{ReadsAxisMeridian, ReadsBox, ReadsDatum, ReadsEllipsoid, ReadsEnsemble}
 use Rattle.crs_value.specs.Reads.{ReadsExtent, ReadsIdent, ReadsMember, ReadsMeridian, ReadsUnit, ReadsUsage}
 use Rattle.crs_value.specs.ReadsConversion.{ReadsConversion, ReadsGeoidModel, ReadsMethod, ReadsParameter}
 use Rattle.crs_value.specs.ReadsCrs.{ReadsBase, ReadsCompound, ReadsGeodetic, ReadsProjected, ReadsVertical}
+use Rattle.crs_value.specs.ReadsDynamic.{ReadsDeformationModel, ReadsDynamic}
 use Rattle.crs_value.specs.SoundFrames.{IsDatum, IsEnsemble}
 use Rattle.crs_value.specs.SoundSingle.{IsGeodetic, IsProjected}
 use Rattle.crs_value.specs.Values.{AxisMeridianParts, BoxParts, DatumParts, EllipsoidParts, EnsembleParts}
@@ -23,6 +25,7 @@ use Rattle.crs_value.specs.declared.values.unit_kind.UnitKind.{UnitKind}
 use Rattle.crs_value.specs.declared.values.unit_kind.UnitKind.TheVariants as kinds
 use Rattle.crs_same.specs.SameConversions.{SameConversion, SameGeoidModel, SameMethod, SameParameter}
 use Rattle.crs_same.specs.SameCrs.{SameBase, SameCompound, SameGeodetic, SameProjected, SameVertical}
+use Rattle.crs_same.specs.SameDynamic.{SameDeformationModel, SameDynamic}
 use Rattle.crs_same.specs.SameFrames.{SameDatum, SameEllipsoid, SameEnsemble, SameGiven, SameMember}
 use Rattle.crs_same.specs.SameIdents.{SameIdent}
 use Rattle.crs_same.specs.SameSystems.{SameAxisMeridian}
@@ -84,6 +87,15 @@ IsFrame (frame.Ensemble ensemble) = IsEnsemble ensemble
 abbrev pub IsSpelledFrame : Level → Frame → List ℕ → Type 0
 IsSpelledFrame level (frame.Datum datum) bytes = IsSpelledDatum level datum bytes
 IsSpelledFrame level (frame.Ensemble ensemble) bytes = IsSpelledEnsemble level ensemble bytes
+
+-- ---- dynamic parts
+
+abbrev pub IsSpelledDeformationModel : Level → DeformationModelParts → List ℕ → Type 0
+IsSpelledDeformationModel level model =
+    IsSpelledAs level class.DeformationModel ReadsDeformationModel (SameDeformationModel level) model
+
+abbrev pub IsSpelledDynamic : Level → DynamicParts → List ℕ → Type 0
+IsSpelledDynamic level dynamic = IsSpelledAs level class.Dynamic ReadsDynamic (SameDynamic level) dynamic
 
 -- ---- conversions and geoid models
 

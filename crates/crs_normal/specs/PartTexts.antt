@@ -5,6 +5,7 @@ use Rattle.crs_text.specs.Written.{item_text}
 use Rattle.crs_value.specs.CompoundValues.{CompoundParts}
 use Rattle.crs_value.specs.ConversionValues.{ConversionParts, GeoidModelParts, MethodParts, ParameterParts}
 use Rattle.crs_value.specs.CrsValues.{BaseParts, GeodeticParts, ProjectedParts, VerticalParts}
+use Rattle.crs_value.specs.DynamicValues.{DeformationModelParts, DynamicParts}
 use Rattle.crs_value.specs.Values.{AxisMeridianParts, AxisParts, BoxParts, DatumParts, EllipsoidParts, EnsembleParts}
 use Rattle.crs_value.specs.Values.{ExtentParts, IdentParts, MemberParts, MeridianParts, UnitParts, UsageParts}
 use Rattle.crs_value.specs.declared.values.compound.Horizontal.{Horizontal}
@@ -17,6 +18,7 @@ use Rattle.crs_normal.specs.SpelledConversions.{norm_conversion, norm_geoid_mode
 use Rattle.crs_normal.specs.SpelledCrs.{item_base, item_compound, item_geodetic, item_horizontal, item_projected}
 use Rattle.crs_normal.specs.SpelledCrs.{item_vertical, norm_base, norm_compound, norm_geodetic, norm_horizontal}
 use Rattle.crs_normal.specs.SpelledCrs.{norm_projected, norm_vertical}
+use Rattle.crs_normal.specs.SpelledDynamic.{item_deformation_model, item_dynamic, norm_deformation_model, norm_dynamic}
 use Rattle.crs_normal.specs.SpelledFrames.{item_datum, item_ellipsoid, item_ensemble, item_member, item_meridian}
 use Rattle.crs_normal.specs.SpelledFrames.{norm_datum, norm_ellipsoid, norm_ensemble, norm_given, norm_member}
 use Rattle.crs_normal.specs.SpelledSystems.{item_axis, item_axis_meridian, norm_axis_meridian, norm_axis_meridians}
@@ -76,6 +78,14 @@ ensemble_text level x = item_text (item_ensemble (norm_ensemble level x))
 abbrev pub frame_text : Level → Frame → List ℕ
 frame_text level (frame.Datum x) = datum_text level x
 frame_text level (frame.Ensemble x) = ensemble_text level x
+
+-- ---- dynamic parts
+
+abbrev pub deformation_model_text : Level → DeformationModelParts → List ℕ
+deformation_model_text level x = item_text (item_deformation_model (norm_deformation_model level x))
+
+abbrev pub dynamic_text : Level → DynamicParts → List ℕ
+dynamic_text level x = item_text (item_dynamic (norm_dynamic level x))
 
 -- ---- conversions and geoid models
 

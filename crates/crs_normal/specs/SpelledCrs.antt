@@ -1,5 +1,6 @@
 -- A bridge: coordinate reference systems in their one form, and as items.
 use Rattle.std.specs.Prelude.{ℕ, List, codes}
+use Rattle.std.specs.Option.{option_map}
 use Rattle.crs_text.specs.Items.{Item, End, More}
 use Rattle.crs_value.specs.CompoundValues.{CompoundParts}
 use Rattle.crs_value.specs.CrsValues.{GeodeticParts, BaseParts, ProjectedParts, VerticalParts}
@@ -12,6 +13,7 @@ use Rattle.crs_value.specs.declared.values.system_type.SystemType.{SystemType}
 use Rattle.crs_value.specs.declared.values.system_type.SystemType.TheVariants as types
 use Rattle.crs_value.specs.declared.values.unit_kind.UnitKind.TheVariants as kinds
 use Rattle.crs_normal.specs.SpelledConversions.{item_conversion, item_geoid_model, norm_conversion, set_geoid_models}
+use Rattle.crs_normal.specs.SpelledDynamic.{item_dynamic, norm_dynamic}
 use Rattle.crs_normal.specs.SpelledFrames.{item_frame, item_meridian, norm_frame, norm_meridian}
 use Rattle.crs_normal.specs.SpelledItems.{each, node_of, opt, text_item}
 use Rattle.crs_normal.specs.SpelledSystems.{norm_system, system_items}
@@ -23,6 +25,7 @@ use Rattle.crs_normal.specs.SpelledUsages.{norm_tail, tail_items}
 abbrev pub norm_geodetic : Level → GeodeticParts → GeodeticParts
 norm_geodetic level g = record {
   name = g.name;
+  dynamic = option_map (norm_dynamic level) g.dynamic;
   frame = norm_frame level g.frame;
   meridian = norm_meridian level g.meridian;
   system = norm_system level g.system;
@@ -37,14 +40,15 @@ geodetic_keyword types.Vertical = codes "GEODCRS"
 
 abbrev pub item_geodetic : GeodeticParts → Item
 item_geodetic g =
-    node_of (geodetic_keyword g.system.system_type) (text_item g.name) (More (item_frame (codes "DATUM") g.frame)
-    (opt item_meridian g.meridian (system_items g.system (tail_items g.tail))))
+    node_of (geodetic_keyword g.system.system_type) (text_item g.name) (opt item_dynamic g.dynamic (More (item_frame (codes "DATUM") g.frame)
+    (opt item_meridian g.meridian (system_items g.system (tail_items g.tail)))))
 
 -- ---- projected CRSs
 
 abbrev pub norm_base : Level → BaseParts → BaseParts
 norm_base level b = record {
   name = b.name;
+  dynamic = option_map (norm_dynamic level) b.dynamic;
   frame = norm_frame level b.frame;
   meridian = norm_meridian level b.meridian;
   unit = norm_units level kinds.Angle b.unit;
@@ -53,8 +57,8 @@ norm_base level b = record {
 
 abbrev pub item_base : BaseParts → Item
 item_base b =
-    node_of (codes "BASEGEOGCRS") (text_item b.name) (More (item_frame (codes "DATUM") b.frame)
-    (opt item_meridian b.meridian (opt item_unit b.unit (each item_ident b.identifiers End))))
+    node_of (codes "BASEGEOGCRS") (text_item b.name) (opt item_dynamic b.dynamic (More (item_frame (codes "DATUM") b.frame)
+    (opt item_meridian b.meridian (opt item_unit b.unit (each item_ident b.identifiers End)))))
 
 abbrev pub norm_projected : Level → ProjectedParts → ProjectedParts
 norm_projected level p = record {
@@ -75,6 +79,7 @@ item_projected p =
 abbrev pub norm_vertical : Level → VerticalParts → VerticalParts
 norm_vertical level v = record {
   name = v.name;
+  dynamic = option_map (norm_dynamic level) v.dynamic;
   frame = norm_frame level v.frame;
   system = norm_system level v.system;
   geoid_models = set_geoid_models level v.geoid_models;
@@ -83,8 +88,8 @@ norm_vertical level v = record {
 
 abbrev pub item_vertical : VerticalParts → Item
 item_vertical v =
-    node_of (codes "VERTCRS") (text_item v.name) (More (item_frame (codes "VDATUM") v.frame)
-    (system_items v.system (each item_geoid_model v.geoid_models (tail_items v.tail))))
+    node_of (codes "VERTCRS") (text_item v.name) (opt item_dynamic v.dynamic (More (item_frame (codes "VDATUM") v.frame)
+    (system_items v.system (each item_geoid_model v.geoid_models (tail_items v.tail)))))
 
 -- ---- compound CRSs
 

@@ -72,6 +72,7 @@ norm_datum level d = record {
   name = d.name;
   ellipsoid = option_map (norm_ellipsoid level) d.ellipsoid;
   anchor = d.anchor;
+  anchor_epoch = d.anchor_epoch;
   identifiers = set_idents level d.identifiers;
 }
 
@@ -92,7 +93,8 @@ norm_frame level (frame.Ensemble e) = frame.Ensemble (norm_ensemble level e)
 abbrev pub item_datum : List ℕ → DatumParts → Item
 item_datum keyword d =
     node_of keyword (text_item d.name) (opt item_ellipsoid d.ellipsoid
-    (opt (text_node (codes "ANCHOR")) d.anchor (each item_ident d.identifiers End)))
+    (opt (text_node (codes "ANCHOR")) d.anchor (opt (number_node (codes "ANCHOREPOCH")) d.anchor_epoch
+    (each item_ident d.identifiers End))))
 
 abbrev pub item_ensemble : EnsembleParts → Item
 item_ensemble e =

@@ -82,6 +82,8 @@ fn put_value_answer(
         "canon" => canonical::put_canon(out, alloc, input),
         "Canon::same" => canonical::put_same(out, alloc, input),
         "Axis::write" => canonical::put_axis(out, alloc, input),
+        "Dynamic::write" => canonical::put_dynamic(out, alloc, input),
+        "DeformationModel::write" => canonical::put_model(out, alloc, input),
         "Set::write" => canonical::put_set(out, alloc, input),
         "run_canon" => runs::put_canon(out, alloc, input),
         "run_check" => runs::put_check(out, alloc, input),

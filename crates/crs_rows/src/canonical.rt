@@ -4,7 +4,7 @@ use crate::sameness::{first_axis, split_line};
 use crate::texts::put_fault;
 use crs_canon::{Canon, Canonical, Set, canon, canon_of};
 use crs_text::Fault;
-use crs_value::{Crs, Ident, Level, read};
+use crs_value::{Crs, DeformationModel, Dynamic, Ident, Level, read};
 use std::alloc::{AllocError, Global};
 
 /// `text` and the canonical text of a text, or its refusal; `another text` where the text's value has another one, or
@@ -106,6 +106,48 @@ fn put_axis_of(out: &mut String, alloc: Global, crs: &Crs<'_>) -> Result<(), All
         Some(axis) => put_node(out, alloc, axis),
         None => out.push_str("no axis"),
     }
+}
+
+/// `text` and what the dynamic part of a vertical CRS appends by itself, or the refusal of the text; `no dynamic part`
+/// where it has none, and for another CRS.
+pub fn put_dynamic(out: &mut String, alloc: Global, input: &[u8]) -> Result<(), AllocError> {
+    match read(alloc, input) {
+        Ok(crs) => put_dynamic_of(out, alloc, &crs),
+        Err(fault) => put_fault(out, fault),
+    }
+}
+
+fn put_dynamic_of(out: &mut String, alloc: Global, crs: &Crs<'_>) -> Result<(), AllocError> {
+    match dynamic_of(crs) {
+        Some(dynamic) => put_node(out, alloc, dynamic),
+        None => out.push_str("no dynamic part"),
+    }
+}
+
+fn dynamic_of<'v, 'a>(crs: &'v Crs<'a>) -> Option<&'v Dynamic<'a>> {
+    match crs {
+        Crs::Vertical(vertical) => vertical.dynamic.as_ref(),
+        Crs::Geodetic(_) | Crs::Projected(_) | Crs::Compound(_) => None,
+    }
+}
+
+/// The same of its deformation model; `no model`.
+pub fn put_model(out: &mut String, alloc: Global, input: &[u8]) -> Result<(), AllocError> {
+    match read(alloc, input) {
+        Ok(crs) => put_model_of(out, alloc, &crs),
+        Err(fault) => put_fault(out, fault),
+    }
+}
+
+fn put_model_of(out: &mut String, alloc: Global, crs: &Crs<'_>) -> Result<(), AllocError> {
+    match model_of(crs) {
+        Some(model) => put_node(out, alloc, model),
+        None => out.push_str("no model"),
+    }
+}
+
+fn model_of<'v, 'a>(crs: &'v Crs<'a>) -> Option<&'v DeformationModel<'a>> {
+    dynamic_of(crs)?.model.as_ref()
 }
 
 // `text` and what a node appends by itself; `one way` where it isn't the same as itself.

@@ -31,7 +31,7 @@ const FILES: [&str; 21] = [
     "shapes",
     "tables",
     "values",
-    "before_dynamic",
+    "dynamic",
     "canon",
     "runs",
     "streams",

@@ -6,6 +6,7 @@ mod NumberLemmas
 mod PositionLemmas
 mod SamenessLemmas
 mod SamenessOfCrsLemmas
+mod SamenessOfDynamicLemmas
 mod SamenessOfFramesLemmas
 mod SamenessOfPartsLemmas
 mod SamenessOfSystemsLemmas

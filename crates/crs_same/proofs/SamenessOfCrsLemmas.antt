@@ -14,6 +14,7 @@ use Rattle.crs_same.specs.Sameness.{IsSameness, IsSamenessOf}
 use Rattle.crs_same.specs.SameConversions.{SameConversion, SameGeoidModel}
 use Rattle.crs_same.specs.SameCrs.{SameGeodetic, SameBase, SameProjected, SameVertical, SameHorizontal, SameCompound}
 use Rattle.crs_same.specs.SameCrs.{SameParts, SameCrs}
+use Rattle.crs_same.specs.SameDynamic.{SameDynamic}
 use Rattle.crs_same.specs.SameFrames.{SameMeridian, SameFrame}
 use Rattle.crs_same.specs.SameIdents.{SameIdents}
 use Rattle.crs_same.specs.SameSystems.{SameSystem}
@@ -21,31 +22,40 @@ use Rattle.crs_same.specs.SameUnits.{SameUnit}
 use Rattle.crs_same.specs.SameUsages.{SameTail}
 use Rattle.crs_same.proofs.SamenessLemmas.{equal-by, by, ◌⊗◌, in-words, over, of, optional, set}
 
-pub base : (level : Level) → IsSameness (SameFrame level) → IsSameness (SameMeridian level) →
+pub base : (level : Level) → IsSameness (SameDynamic level) → IsSameness (SameFrame level) → IsSameness (SameMeridian level) →
     IsSameness (SameUnit kinds.Angle level) →
     IsSameness (SameIdents level) → IsSameness (SameBase level)
-base level frames meridians angle identifiers =
+base level dynamics frames meridians angle identifiers =
     in-words
-    (equal-by (λ a. a.name) ⊗ by (λ a. a.frame) frames ⊗ by (λ a. a.meridian) meridians
+    (equal-by (λ a. a.name) ⊗ by (λ a. a.dynamic) (optional dynamics) ⊗ by (λ a. a.frame) frames ⊗ by (λ a. a.meridian) meridians
     ⊗ by (λ a. a.unit) (optional angle) ⊗ by (λ a. a.identifiers) identifiers)
-    (λ a b s. (s.name, (s.frame, (s.meridian, (s.unit, s.identifiers)))))
-    (λ a b p. record { name = p.0; frame = p.1.0; meridian = p.1.1.0; unit = p.1.1.1.0; identifiers = p.1.1.1.1 })
+    (λ a b s. (s.name, (s.dynamic, (s.frame, (s.meridian, (s.unit, s.identifiers))))))
+    (λ a b p. record {
+      name = p.0;
+      dynamic = p.1.0;
+      frame = p.1.1.0;
+      meridian = p.1.1.1.0;
+      unit = p.1.1.1.1.0;
+      identifiers = p.1.1.1.1.1;
+    })
 
 module _ (level : Level) (systems : IsSamenessOf IsSystem (SameSystem level)) (ends : IsSameness (SameTail level)) where
-  pub geodetic : IsSameness (SameFrame level) → IsSameness (SameMeridian level) →
+  pub geodetic : IsSameness (SameDynamic level) → IsSameness (SameFrame level) → IsSameness (SameMeridian level) →
       IsSamenessOf IsGeodetic (SameGeodetic level)
-  geodetic frames meridians =
+  geodetic dynamics frames meridians =
       over (in-words
-      (equal-by (λ x. kind_by x.0.system.system_type) ⊗ equal-by (λ x. x.0.name) ⊗ by (λ x. x.0.frame) frames
+      (equal-by (λ x. kind_by x.0.system.system_type) ⊗ equal-by (λ x. x.0.name)
+      ⊗ by (λ x. x.0.dynamic) (optional dynamics) ⊗ by (λ x. x.0.frame) frames
       ⊗ by (λ x. x.0.meridian) meridians ⊗ by (λ x. (x.0.system, x.1.system)) (of systems) ⊗ by (λ x. x.0.tail) ends)
-      (λ x y s. (s.kind, (s.name, (s.frame, (s.meridian, (s.system, s.tail))))))
+      (λ x y s. (s.kind, (s.name, (s.dynamic, (s.frame, (s.meridian, (s.system, s.tail)))))))
       (λ x y p. record {
         kind = p.0;
         name = p.1.0;
-        frame = p.1.1.0;
-        meridian = p.1.1.1.0;
-        system = p.1.1.1.1.0;
-        tail = p.1.1.1.1.1;
+        dynamic = p.1.1.0;
+        frame = p.1.1.1.0;
+        meridian = p.1.1.1.1.0;
+        system = p.1.1.1.1.1.0;
+        tail = p.1.1.1.1.1.1;
       }))
 
   pub projected : IsSameness (SameBase level) → IsSameness (SameConversion level) →
@@ -57,14 +67,21 @@ module _ (level : Level) (systems : IsSamenessOf IsSystem (SameSystem level)) (e
       (λ x y s. (s.name, (s.base, (s.conversion, (s.system, s.tail)))))
       (λ x y p. record { name = p.0; base = p.1.0; conversion = p.1.1.0; system = p.1.1.1.0; tail = p.1.1.1.1 }))
 
-  pub vertical : IsSameness (SameFrame level) → IsSameness (SameGeoidModel level) →
+  pub vertical : IsSameness (SameDynamic level) → IsSameness (SameFrame level) → IsSameness (SameGeoidModel level) →
       IsSamenessOf IsVertical (SameVertical level)
-  vertical frames models =
+  vertical dynamics frames models =
       over (in-words
-      (equal-by (λ x. x.0.name) ⊗ by (λ x. x.0.frame) frames ⊗ by (λ x. (x.0.system, x.1.system)) (of systems)
+      (equal-by (λ x. x.0.name) ⊗ by (λ x. x.0.dynamic) (optional dynamics) ⊗ by (λ x. x.0.frame) frames ⊗ by (λ x. (x.0.system, x.1.system)) (of systems)
       ⊗ by (λ x. x.0.geoid_models) (set models) ⊗ by (λ x. x.0.tail) ends)
-      (λ x y s. (s.name, (s.frame, (s.system, (s.geoid_models, s.tail)))))
-      (λ x y p. record { name = p.0; frame = p.1.0; system = p.1.1.0; geoid_models = p.1.1.1.0; tail = p.1.1.1.1 }))
+      (λ x y s. (s.name, (s.dynamic, (s.frame, (s.system, (s.geoid_models, s.tail))))))
+      (λ x y p. record {
+        name = p.0;
+        dynamic = p.1.0;
+        frame = p.1.1.0;
+        system = p.1.1.1.0;
+        geoid_models = p.1.1.1.1.0;
+        tail = p.1.1.1.1.1;
+      }))
 
 -- ---- compounds
 

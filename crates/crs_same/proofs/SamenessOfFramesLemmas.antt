@@ -107,13 +107,14 @@ member level identifiers =
     (λ a b s. (s.name, s.identifiers))
     (λ a b p. record { name = p.0; identifiers = p.1 })
 
-pub datum : (level : Level) → IsSameness (SameEllipsoid level) → IsSameness (SameIdents level) →
+pub datum : (level : Level) → IsSameness SameValue → IsSameness (SameEllipsoid level) → IsSameness (SameIdents level) →
     IsSameness (SameDatum level)
-datum level round identifiers =
+datum level number round identifiers =
     in-words
-    (equal-by (λ a. a.name) ⊗ by (λ a. a.ellipsoid) (optional round) ⊗ equal-by (λ a. a.anchor) ⊗ by (λ a. a.identifiers) identifiers)
-    (λ a b s. (s.name, (s.ellipsoid, (s.anchor, s.identifiers))))
-    (λ a b p. record { name = p.0; ellipsoid = p.1.0; anchor = p.1.1.0; identifiers = p.1.1.1 })
+    (equal-by (λ a. a.name) ⊗ by (λ a. a.ellipsoid) (optional round) ⊗ equal-by (λ a. a.anchor)
+    ⊗ by (λ a. a.anchor_epoch) (optional number) ⊗ by (λ a. a.identifiers) identifiers)
+    (λ a b s. (s.name, (s.ellipsoid, (s.anchor, (s.anchor_epoch, s.identifiers)))))
+    (λ a b p. record { name = p.0; ellipsoid = p.1.0; anchor = p.1.1.0; anchor_epoch = p.1.1.1.0; identifiers = p.1.1.1.1 })
 
 pub ensemble : (level : Level) → IsSameness SameValue → IsSameness (SameMember level) →
     IsSameness (SameEllipsoid level) →

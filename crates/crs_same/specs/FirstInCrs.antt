@@ -1,5 +1,5 @@
 -- The parts of coordinate reference systems, in order.
-use Rattle.std.specs.Prelude.{◌≡◌, Option, List, []}
+use Rattle.std.specs.Prelude.{◌≡◌, Option, Some, None, List, []}
 use Rattle.crs_value.specs.declared.values.compound.Horizontal.{Horizontal}
 use Rattle.crs_value.specs.declared.values.compound.Horizontal.TheVariants as horizontal
 use Rattle.crs_value.specs.declared.values.crs.Crs.{Crs}
@@ -9,16 +9,18 @@ use Rattle.crs_value.specs.declared.values.unit_kind.UnitKind.TheVariants as kin
 use Rattle.crs_value.specs.CompoundValues.{CompoundParts}
 use Rattle.crs_value.specs.ConversionValues.{MethodParts, ConversionParts}
 use Rattle.crs_value.specs.CrsValues.{GeodeticParts, BaseParts, ProjectedParts, VerticalParts}
+use Rattle.crs_value.specs.DynamicValues.{DynamicParts}
 use Rattle.crs_value.specs.ReadsCrs.{kind_by}
 use Rattle.crs_value.specs.Values.{TailParts}
 use Rattle.crs_same.specs.declared.step.Step.{Step}
 use Rattle.crs_same.specs.declared.step.Step.TheVariants as step
 use Rattle.crs_same.specs.FirstInFrames.{FirstInMeridian, FirstInFrame}
 use Rattle.crs_same.specs.FirstInSystems.{FirstInSystem}
-use Rattle.crs_same.specs.FirstPart.{◌▸◌, ◌⨾◌, Part}
+use Rattle.crs_same.specs.FirstPart.{◌▸◌, ◌⨾◌, Nothing, Part}
 use Rattle.crs_same.specs.SameConversions.{SameParameter, SameGeoidModel}
+use Rattle.crs_same.specs.SameDynamic.{SameDeformationModel}
 use Rattle.crs_same.specs.SameIdents.{SameIdents}
-use Rattle.crs_same.specs.SameUnits.{SameUnit}
+use Rattle.crs_same.specs.SameUnits.{SameUnit, SameValue}
 use Rattle.crs_same.specs.SameUsages.{SameUsages, SameRemark}
 use Rattle.crs_same.specs.Sets.{SameSet, BothOrNeither}
 
@@ -34,6 +36,16 @@ FirstInConversion at level a b =
     ⨾ Part (at ▸ step.Parameters) (SameSet (SameParameter level) a.parameters b.parameters)
     ⨾ Part (at ▸ step.Id) (SameIdents level a.identifiers b.identifiers)
 
+-- where only one side has a dynamic part, its epoch is the first part that is on one side alone
+unfoldable pub FirstInDynamic : List Step → Level → Option DynamicParts → Option DynamicParts → Option (List Step) →
+    Type 0
+FirstInDynamic at level None None = Nothing
+FirstInDynamic at level None (Some b) = Part (at ▸ step.Epoch) ⊥
+FirstInDynamic at level (Some a) None = Part (at ▸ step.Epoch) ⊥
+FirstInDynamic at level (Some a) (Some b) =
+    Part (at ▸ step.Epoch) (SameValue a.epoch b.epoch)
+    ⨾ Part (at ▸ step.Model) (BothOrNeither (SameDeformationModel level) a.model b.model)
+
 -- the end of a CRS
 unfoldable pub FirstInTail : List Step → Level → TailParts → TailParts → Option (List Step) → Type 0
 FirstInTail at level a b =
@@ -46,6 +58,7 @@ unfoldable pub FirstInGeodetic : List Step → Level → GeodeticParts → Geode
 FirstInGeodetic at level a b =
     Part (at ▸ step.Kind) (kind_by a.system.system_type ≡ kind_by b.system.system_type)
     ⨾ Part (at ▸ step.Name) (a.name ≡ b.name)
+    ⨾ FirstInDynamic (at ▸ step.Dynamic) level a.dynamic b.dynamic
     ⨾ FirstInFrame (at ▸ step.Datum) level a.frame b.frame
     ⨾ FirstInMeridian (at ▸ step.Meridian) level a.meridian b.meridian
     ⨾ FirstInSystem (at ▸ step.System) level a.system b.system
@@ -54,6 +67,7 @@ FirstInGeodetic at level a b =
 unfoldable pub FirstInBase : List Step → Level → BaseParts → BaseParts → Option (List Step) → Type 0
 FirstInBase at level a b =
     Part (at ▸ step.Name) (a.name ≡ b.name)
+    ⨾ FirstInDynamic (at ▸ step.Dynamic) level a.dynamic b.dynamic
     ⨾ FirstInFrame (at ▸ step.Datum) level a.frame b.frame
     ⨾ FirstInMeridian (at ▸ step.Meridian) level a.meridian b.meridian
     ⨾ Part (at ▸ step.Unit) (BothOrNeither (SameUnit kinds.Angle level) a.unit b.unit)
@@ -70,6 +84,7 @@ FirstInProjected at level a b =
 unfoldable pub FirstInVertical : List Step → Level → VerticalParts → VerticalParts → Option (List Step) → Type 0
 FirstInVertical at level a b =
     Part (at ▸ step.Name) (a.name ≡ b.name)
+    ⨾ FirstInDynamic (at ▸ step.Dynamic) level a.dynamic b.dynamic
     ⨾ FirstInFrame (at ▸ step.Datum) level a.frame b.frame
     ⨾ FirstInSystem (at ▸ step.System) level a.system b.system
     ⨾ Part (at ▸ step.Geoid) (SameSet (SameGeoidModel level) a.geoid_models b.geoid_models)

@@ -60,6 +60,7 @@ FirstInDatum at level a b =
     Part (at ▸ step.Name) (a.name ≡ b.name)
     ⨾ FirstInEllipsoids (at ▸ step.Ellipsoid) level a.ellipsoid b.ellipsoid
     ⨾ Part (at ▸ step.Anchor) (a.anchor ≡ b.anchor)
+    ⨾ Part (at ▸ step.AnchorEpoch) (BothOrNeither SameValue a.anchor_epoch b.anchor_epoch)
     ⨾ Part (at ▸ step.Id) (SameIdents level a.identifiers b.identifiers)
 
 abbrev pub FirstInEnsemble : List Step → Level → EnsembleParts → EnsembleParts → Option (List Step) → Type 0

@@ -5,6 +5,7 @@ pub mod FirstPart
 pub mod Paths
 pub mod SameConversions
 pub mod SameCrs
+pub mod SameDynamic
 pub mod SameFrames
 pub mod SameIdents
 pub mod SameSystems

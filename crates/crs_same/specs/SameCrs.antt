@@ -11,6 +11,7 @@ use Rattle.crs_value.specs.CrsValues.{GeodeticParts, BaseParts, ProjectedParts, 
 use Rattle.crs_value.specs.ReadsCrs.{kind_by, kind_of}
 use Rattle.crs_same.specs.Sets.{SameSet, BothOrNeither}
 use Rattle.crs_same.specs.SameConversions.{SameConversion, SameGeoidModel}
+use Rattle.crs_same.specs.SameDynamic.{SameDynamic}
 use Rattle.crs_same.specs.SameFrames.{SameFrame, SameMeridian}
 use Rattle.crs_same.specs.SameIdents.{SameIdents}
 use Rattle.crs_same.specs.SameSystems.{SameSystem}
@@ -21,6 +22,7 @@ use Rattle.crs_same.specs.SameUsages.{SameTail}
 pub record SameGeodetic (level : Level) (a b : GeodeticParts) : Type 0 where
   pub kind : kind_by a.system.system_type ≡ kind_by b.system.system_type
   pub name : a.name ≡ b.name
+  pub dynamic : BothOrNeither (SameDynamic level) a.dynamic b.dynamic
   pub frame : SameFrame level a.frame b.frame
   pub meridian : SameMeridian level a.meridian b.meridian
   pub system : SameSystem level a.system b.system
@@ -29,6 +31,7 @@ pub record SameGeodetic (level : Level) (a b : GeodeticParts) : Type 0 where
 -- a missing unit differs from each that is there
 pub record SameBase (level : Level) (a b : BaseParts) : Type 0 where
   pub name : a.name ≡ b.name
+  pub dynamic : BothOrNeither (SameDynamic level) a.dynamic b.dynamic
   pub frame : SameFrame level a.frame b.frame
   pub meridian : SameMeridian level a.meridian b.meridian
   pub unit : BothOrNeither (SameUnit kinds.Angle level) a.unit b.unit
@@ -43,6 +46,7 @@ pub record SameProjected (level : Level) (a b : ProjectedParts) : Type 0 where
 
 pub record SameVertical (level : Level) (a b : VerticalParts) : Type 0 where
   pub name : a.name ≡ b.name
+  pub dynamic : BothOrNeither (SameDynamic level) a.dynamic b.dynamic
   pub frame : SameFrame level a.frame b.frame
   pub system : SameSystem level a.system b.system
   pub geoid_models : SameSet (SameGeoidModel level) a.geoid_models b.geoid_models

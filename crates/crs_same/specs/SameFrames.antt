@@ -53,6 +53,7 @@ pub record SameDatum (level : Level) (a b : DatumParts) : Type 0 where
   pub name : a.name ≡ b.name
   pub ellipsoid : BothOrNeither (SameEllipsoid level) a.ellipsoid b.ellipsoid
   pub anchor : a.anchor ≡ b.anchor
+  pub anchor_epoch : BothOrNeither SameValue a.anchor_epoch b.anchor_epoch
   pub identifiers : SameIdents level a.identifiers b.identifiers
 
 -- the members are a set

@@ -7,6 +7,7 @@ ghost use Rattle.crs_same.specs.SameCrs.{SameGeodetic, SameBase, SameProjected, 
 ghost use Rattle.crs_same.specs.SameCrs.{SameCompound, SameCrs};
 
 use crate::conversions::{first_in_conversion, same_geoid_models};
+use crate::dynamic::first_in_dynamic;
 use crate::frames::{first_in_frame, first_in_meridian};
 use crate::idents::same_idents;
 use crate::path::Path;
@@ -38,6 +39,9 @@ fn first_in_geodetic<'a>(at: Path, a: &Geodetic<'a>, b: &Geodetic<'a>, level: Le
     if !same_text(a.name, b.name) {
         return Some(at.then(Step::Name));
     }
+    if let Some(path) = first_in_dynamic(at.then(Step::Dynamic), &a.dynamic, &b.dynamic, level) {
+        return Some(path);
+    }
     if let Some(path) = first_in_frame(at.then(Step::Datum), &a.frame, &b.frame, level) {
         return Some(path);
     }
@@ -67,6 +71,9 @@ fn first_in_base<'a>(at: Path, a: &Base<'a>, b: &Base<'a>, level: Level) -> Opti
 {
     if !same_text(a.name, b.name) {
         return Some(at.then(Step::Name));
+    }
+    if let Some(path) = first_in_dynamic(at.then(Step::Dynamic), &a.dynamic, &b.dynamic, level) {
+        return Some(path);
     }
     if let Some(path) = first_in_frame(at.then(Step::Datum), &a.frame, &b.frame, level) {
         return Some(path);
@@ -134,6 +141,9 @@ fn first_in_vertical<'a>(at: Path, a: &Vertical<'a>, b: &Vertical<'a>, level: Le
 {
     if !same_text(a.name, b.name) {
         return Some(at.then(Step::Name));
+    }
+    if let Some(path) = first_in_dynamic(at.then(Step::Dynamic), &a.dynamic, &b.dynamic, level) {
+        return Some(path);
     }
     if let Some(path) = first_in_frame(at.then(Step::Datum), &a.frame, &b.frame, level) {
         return Some(path);

@@ -11,7 +11,7 @@ ghost use Rattle.crs_same.specs.SameFrames.{SameDatum, SameEnsemble, SameFrame};
 use crate::idents::same_idents;
 use crate::keys::key_of_named;
 use crate::laws::same_member_is_equivalence;
-use crate::numbers::same_value;
+use crate::numbers::{same_optional_value, same_value};
 use crate::path::Path;
 use crate::sets::{Member as SetMember, same_set};
 use crate::step::Step;
@@ -194,6 +194,9 @@ fn first_in_datum<'a>(at: Path, a: &Datum<'a>, b: &Datum<'a>, level: Level) -> O
     if !same_optional_text(a.anchor, b.anchor) {
         return Some(at.then(Step::Anchor));
     }
+    if !same_optional_value(a.anchor_epoch, b.anchor_epoch) {
+        return Some(at.then(Step::AnchorEpoch));
+    }
     if !same_idents(&a.identifiers, &b.identifiers, level) {
         return Some(at.then(Step::Id));
     }
@@ -244,7 +247,7 @@ pub(crate) fn first_in_frame<'a>(
     }
 }
 
-/// Whether two reference frames are the same: name, ellipsoid and anchor, each in both or in neither, and identifiers.
+/// Whether two reference frames are the same: name, ellipsoid, anchor and its epoch, each in both or in neither, and identifiers.
 /// ISO 19162:2019, "Geodetic reference frame" and "Vertical reference frame".
 pub fn same_datum<'a>(a: &Datum<'a>, b: &Datum<'a>, level: Level) -> bool
     ensures { IsTrue result ↔ SameDatum level a.now b.now }

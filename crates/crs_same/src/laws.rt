@@ -11,6 +11,7 @@ ghost use Rattle.crs_same.specs.Sameness.{IsSameness, IsSamenessOf};
 ghost use Rattle.crs_same.specs.SameConversions.{SameMethod, SameParameter, SameConversion, SameGeoidModel};
 ghost use Rattle.crs_same.specs.SameCrs.{SameGeodetic, SameBase, SameProjected, SameVertical, SameHorizontal};
 ghost use Rattle.crs_same.specs.SameCrs.{SameCompound, SameCrs};
+ghost use Rattle.crs_same.specs.SameDynamic.{SameDeformationModel, SameDynamic};
 ghost use Rattle.crs_same.specs.SameFrames.{SameEllipsoid, SameGiven, SameMeridian, SameMember, SameDatum};
 ghost use Rattle.crs_same.specs.SameFrames.{SameEnsemble, SameFrame};
 ghost use Rattle.crs_same.specs.SameIdents.{SameIdent, SameIdents};
@@ -171,6 +172,7 @@ pub fn same_member_is_equivalence()
 pub fn same_datum_is_equivalence()
     ensures { (level : Level) → IsSameness (SameDatum level) }
 {
+    same_value_is_equivalence();
     same_ellipsoid_is_equivalence();
     same_idents_is_equivalence();
 }
@@ -191,6 +193,21 @@ pub fn same_frame_is_equivalence()
 {
     same_datum_is_equivalence();
     same_ensemble_is_equivalence();
+}
+
+/// Sameness of deformation models is an equivalence.
+pub fn same_deformation_model_is_equivalence()
+    ensures { (level : Level) → IsSameness (SameDeformationModel level) }
+{
+    same_idents_is_equivalence();
+}
+
+/// Sameness of dynamic parts is an equivalence.
+pub fn same_dynamic_is_equivalence()
+    ensures { (level : Level) → IsSameness (SameDynamic level) }
+{
+    same_value_is_equivalence();
+    same_deformation_model_is_equivalence();
 }
 
 /// Sameness of the meridians of axes is an equivalence.
@@ -227,6 +244,7 @@ pub fn same_system_is_equivalence()
 pub fn same_base_is_equivalence()
     ensures { (level : Level) → IsSameness (SameBase level) }
 {
+    same_dynamic_is_equivalence();
     same_frame_is_equivalence();
     same_meridian_is_equivalence();
     same_unit_is_equivalence();
@@ -237,6 +255,7 @@ pub fn same_base_is_equivalence()
 pub fn same_geodetic_is_equivalence()
     ensures { (level : Level) → IsSamenessOf IsGeodetic (SameGeodetic level) }
 {
+    same_dynamic_is_equivalence();
     same_frame_is_equivalence();
     same_meridian_is_equivalence();
     same_system_is_equivalence();
@@ -257,6 +276,7 @@ pub fn same_projected_is_equivalence()
 pub fn same_vertical_is_equivalence()
     ensures { (level : Level) → IsSamenessOf IsVertical (SameVertical level) }
 {
+    same_dynamic_is_equivalence();
     same_frame_is_equivalence();
     same_system_is_equivalence();
     same_geoid_model_is_equivalence();

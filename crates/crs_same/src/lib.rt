@@ -4,6 +4,7 @@
 
 mod conversions;
 mod crs;
+mod dynamic;
 mod frames;
 mod guesses;
 mod idents;

@@ -1,6 +1,7 @@
 //! Numbers.
 ghost use Rattle.std.specs.Prelude.{◌↔◌, IsTrue};
 ghost use Rattle.crs_same.specs.SameUnits.{SameValue};
+ghost use Rattle.crs_same.specs.Sets.{BothOrNeither};
 
 use crs_decimal::Decimal;
 
@@ -9,4 +10,14 @@ pub(crate) fn same_value(a: &Decimal, b: &Decimal) -> bool
     ensures { IsTrue result ↔ SameValue a.now b.now }
 {
     a.same_number(b)
+}
+
+pub(crate) fn same_optional_value(a: Option<Decimal>, b: Option<Decimal>) -> bool
+    ensures { IsTrue result ↔ BothOrNeither SameValue a b }
+{
+    match (a, b) {
+        (None, None) => true,
+        (Some(x), Some(y)) => same_value(&x, &y),
+        (None, Some(_)) | (Some(_), None) => false,
+    }
 }

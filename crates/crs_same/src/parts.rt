@@ -4,6 +4,7 @@ pub use crate::conversions::{same_conversion, same_geoid_model, same_method, sam
 pub use crate::crs::{
     same_base, same_compound, same_geodetic, same_horizontal, same_projected, same_vertical,
 };
+pub use crate::dynamic::{same_deformation_model, same_dynamic};
 pub use crate::frames::{
     same_datum, same_ellipsoid, same_ensemble, same_frame, same_member, same_meridian,
 };

@@ -40,6 +40,14 @@ pub enum Step {
     Ellipsoid,
     /// The anchor of a frame.
     Anchor,
+    /// The dynamic part of a CRS.
+    Dynamic,
+    /// The epoch of a dynamic frame.
+    Epoch,
+    /// The deformation model of a dynamic frame.
+    Model,
+    /// The epoch of a frame's anchor.
+    AnchorEpoch,
     /// The members of an ensemble.
     Members,
     /// The accuracy of an ensemble.
@@ -86,6 +94,10 @@ impl Step {
             Step::Unit => "unit",
             Step::Ellipsoid => "ellipsoid",
             Step::Anchor => "anchor",
+            Step::Dynamic => "dynamic",
+            Step::Epoch => "epoch",
+            Step::Model => "model",
+            Step::AnchorEpoch => "anchorepoch",
             Step::Members => "members",
             Step::Accuracy => "accuracy",
             Step::SemiMajor => "semimajor",

@@ -9,7 +9,7 @@ ghost use Rattle.crs_same.specs.SameUnits.{SameValue};
 
 use crate::idents::same_idents;
 use crate::laws::{as_many_axes, one_axis_each};
-use crate::numbers::same_value;
+use crate::numbers::{same_optional_value, same_value};
 use crate::path::Path;
 use crate::step::Step;
 use crate::texts::same_text;
@@ -179,17 +179,7 @@ pub fn same_axis<'a>(a: &Axis<'a>, b: &Axis<'a>, level: Level) -> bool
     same_text(a.name, b.name)
         && same_direction(a.direction, b.direction)
         && same_axis_meridians(&a.meridian, &b.meridian, level)
-        && same_order(a.order, b.order)
+        && same_optional_value(a.order, b.order)
         && same_units_as(UnitKind::Plain, a.unit.as_ref(), b.unit.as_ref(), level)
         && same_idents(&a.identifiers, &b.identifiers, level)
-}
-
-fn same_order(a: Option<Decimal>, b: Option<Decimal>) -> bool
-    ensures { IsTrue result ↔ BothOrNeither SameValue a b }
-{
-    match (a, b) {
-        (None, None) => true,
-        (Some(x), Some(y)) => same_value(&x, &y),
-        (None, Some(_)) | (Some(_), None) => false,
-    }
 }

@@ -23,6 +23,9 @@ keywords_of class.ProjectedCrs = keyword.ProjCrs ∷ keyword.ProjectedCrs ∷ []
 keywords_of class.VerticalCrs = keyword.VertCrs ∷ keyword.VerticalCrs ∷ []
 keywords_of class.CompoundCrs = keyword.CompoundCrs ∷ []
 keywords_of class.BaseCrs = keyword.BaseGeogCrs ∷ keyword.BaseGeodCrs ∷ []
+keywords_of class.Dynamic = keyword.Dynamic ∷ []
+keywords_of class.FrameEpoch = keyword.FrameEpoch ∷ []
+keywords_of class.DeformationModel = keyword.Model ∷ keyword.VelocityGrid ∷ []
 keywords_of class.GeodeticFrame = keyword.Datum ∷ keyword.Trf ∷ keyword.GeodeticDatum ∷ []
 keywords_of class.VerticalFrame = keyword.VDatum ∷ keyword.Vrf ∷ keyword.VerticalDatum ∷ []
 keywords_of class.GeodeticEnsemble = keyword.Ensemble ∷ []
@@ -30,6 +33,7 @@ keywords_of class.VerticalEnsemble = keyword.Ensemble ∷ []
 keywords_of class.Member = keyword.Member ∷ []
 keywords_of class.EnsembleAccuracy = keyword.EnsembleAccuracy ∷ []
 keywords_of class.Anchor = keyword.Anchor ∷ []
+keywords_of class.AnchorEpoch = keyword.AnchorEpoch ∷ []
 keywords_of class.Ellipsoid = keyword.Ellipsoid ∷ keyword.Spheroid ∷ []
 keywords_of class.PrimeMeridian = keyword.PrimeM ∷ keyword.PrimeMeridian ∷ []
 keywords_of class.PlainUnit = keyword.PlainUnit ∷ []
@@ -64,9 +68,9 @@ has_keyword c k = list_any (λ j. sameb the_type j k) (keywords_of c)
 abbrev pub every_class : List Class
 every_class =
     class.Number ∷ class.Text ∷ class.Word ∷ class.GeodeticCrs ∷ class.GeographicCrs ∷ class.ProjectedCrs ∷
-    class.VerticalCrs ∷ class.CompoundCrs ∷ class.BaseCrs ∷ class.GeodeticFrame ∷ class.VerticalFrame ∷
+    class.VerticalCrs ∷ class.CompoundCrs ∷ class.BaseCrs ∷ class.Dynamic ∷ class.FrameEpoch ∷ class.DeformationModel ∷ class.GeodeticFrame ∷ class.VerticalFrame ∷
     class.GeodeticEnsemble ∷ class.VerticalEnsemble ∷ class.Member ∷ class.EnsembleAccuracy ∷ class.Anchor ∷
-    class.Ellipsoid ∷ class.PrimeMeridian ∷ class.PlainUnit ∷ class.LengthUnit ∷ class.AngleUnit ∷ class.ScaleUnit ∷
+    class.AnchorEpoch ∷ class.Ellipsoid ∷ class.PrimeMeridian ∷ class.PlainUnit ∷ class.LengthUnit ∷ class.AngleUnit ∷ class.ScaleUnit ∷
     class.AxisUnit ∷ class.CoordinateSystem ∷ class.Axis ∷ class.Meridian ∷ class.Order ∷ class.Conversion ∷
     class.Method ∷ class.Parameter ∷ class.GeoidModel ∷ class.Usage ∷ class.Scope ∷ class.Area ∷
     class.BoundingBox ∷ class.VerticalExtent ∷ class.Identifier ∷ class.Citation ∷ class.Uri ∷ class.Remark ∷ []

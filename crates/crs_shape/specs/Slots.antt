@@ -60,8 +60,8 @@ vertical_tail =
 
 abbrev pub geodetic_slots : List SlotParts
 geodetic_slots =
-    one class.Text ∷ one_of (class.GeodeticFrame ∷ class.GeodeticEnsemble ∷ []) ∷ optional class.PrimeMeridian ∷
-    one class.CoordinateSystem ∷ some class.Axis ∷ optional class.AxisUnit ∷ tail ∷ []
+    one class.Text ∷ optional class.Dynamic ∷ one_of (class.GeodeticFrame ∷ class.GeodeticEnsemble ∷ []) ∷
+    optional class.PrimeMeridian ∷ one class.CoordinateSystem ∷ some class.Axis ∷ optional class.AxisUnit ∷ tail ∷ []
 
 -- a unit of a kind: its name, its factor, and identifiers
 abbrev pub unit_slots : List SlotParts
@@ -70,6 +70,10 @@ unit_slots = one class.Text ∷ one class.Number ∷ any class.Identifier ∷ []
 -- a name, and identifiers
 abbrev pub named_slots : List SlotParts
 named_slots = one class.Text ∷ any class.Identifier ∷ []
+
+-- how a reference frame is tied to the Earth, and when
+abbrev pub anchors : SlotParts
+anchors = any_of (class.Anchor ∷ class.AnchorEpoch ∷ [])
 
 -- the slots of each class; an item that isn't a node has none
 abbrev pub slots_of : Class → List SlotParts
@@ -82,16 +86,20 @@ slots_of class.ProjectedCrs =
     one class.Text ∷ one class.BaseCrs ∷ one class.Conversion ∷ one class.CoordinateSystem ∷ some class.Axis ∷
     optional class.AxisUnit ∷ tail ∷ []
 slots_of class.VerticalCrs =
-    one class.Text ∷ one_of (class.VerticalFrame ∷ class.VerticalEnsemble ∷ []) ∷ one class.CoordinateSystem ∷
+    one class.Text ∷ optional class.Dynamic ∷ one_of (class.VerticalFrame ∷ class.VerticalEnsemble ∷ []) ∷ one class.CoordinateSystem ∷
     some class.Axis ∷ optional class.AxisUnit ∷ vertical_tail ∷ []
 slots_of class.CompoundCrs =
     one class.Text ∷ one_of (class.GeodeticCrs ∷ class.GeographicCrs ∷ class.ProjectedCrs ∷ []) ∷ one class.VerticalCrs
     ∷ tail ∷ []
 slots_of class.BaseCrs =
-    one class.Text ∷ one_of (class.GeodeticFrame ∷ class.GeodeticEnsemble ∷ []) ∷ optional class.PrimeMeridian ∷
+    one class.Text ∷ optional class.Dynamic ∷ one_of (class.GeodeticFrame ∷ class.GeodeticEnsemble ∷ []) ∷ optional class.PrimeMeridian ∷
     optional class.AngleUnit ∷ any class.Identifier ∷ []
-slots_of class.GeodeticFrame = one class.Text ∷ one class.Ellipsoid ∷ any class.Anchor ∷ any class.Identifier ∷ []
-slots_of class.VerticalFrame = one class.Text ∷ any class.Anchor ∷ any class.Identifier ∷ []
+slots_of class.GeodeticFrame = one class.Text ∷ one class.Ellipsoid ∷ anchors ∷ any class.Identifier ∷ []
+slots_of class.VerticalFrame = one class.Text ∷ anchors ∷ any class.Identifier ∷ []
+slots_of class.Dynamic = one class.FrameEpoch ∷ optional class.DeformationModel ∷ []
+slots_of class.FrameEpoch = one class.Number ∷ []
+slots_of class.AnchorEpoch = one class.Number ∷ []
+slots_of class.DeformationModel = named_slots
 slots_of class.GeodeticEnsemble =
     one class.Text ∷ some class.Member ∷ one class.Ellipsoid ∷ one class.EnsembleAccuracy ∷ any class.Identifier ∷ []
 slots_of class.VerticalEnsemble =

@@ -21,6 +21,12 @@ pub enum Class {
     CompoundCrs,
     /// The base CRS of a projected CRS.
     BaseCrs,
+    /// What a dynamic frame says.
+    Dynamic,
+    /// The epoch of a dynamic frame.
+    FrameEpoch,
+    /// The deformation model of a dynamic frame.
+    DeformationModel,
     /// A geodetic reference frame.
     GeodeticFrame,
     /// A vertical reference frame.
@@ -35,6 +41,8 @@ pub enum Class {
     EnsembleAccuracy,
     /// A datum's anchor.
     Anchor,
+    /// The epoch of a datum's anchor.
+    AnchorEpoch,
     /// An ellipsoid.
     Ellipsoid,
     /// A prime meridian.

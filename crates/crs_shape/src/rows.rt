@@ -14,6 +14,7 @@ macro_rules! rows {
             // Geodetic and geographic CRS
             GeodeticCrs[GeodCrs, GeodeticCrs], GeographicCrs[GeogCrs, GeographicCrs] {
                 one(Text)
+                optional(Dynamic)
                 one(GeodeticFrame, GeodeticEnsemble)
                 optional(PrimeMeridian)
                 one(CoordinateSystem)
@@ -36,6 +37,7 @@ macro_rules! rows {
             // Vertical CRS
             VerticalCrs[VertCrs, VerticalCrs] {
                 one(Text)
+                optional(Dynamic)
                 one(VerticalFrame, VerticalEnsemble)
                 one(CoordinateSystem)
                 some(Axis)
@@ -53,17 +55,23 @@ macro_rules! rows {
 
             BaseCrs[BaseGeogCrs, BaseGeodCrs] {
                 one(Text)
+                optional(Dynamic)
                 one(GeodeticFrame, GeodeticEnsemble)
                 optional(PrimeMeridian)
                 optional(AngleUnit)
                 any(Identifier)
             }
 
+            // Dynamic frame
+            Dynamic[Dynamic] { one(FrameEpoch) optional(DeformationModel) }
+
             // Datum
             GeodeticFrame[Datum, Trf, GeodeticDatum] {
-                one(Text) one(Ellipsoid) any(Anchor) any(Identifier)
+                one(Text) one(Ellipsoid) any(Anchor, AnchorEpoch) any(Identifier)
             }
-            VerticalFrame[VDatum, Vrf, VerticalDatum] { one(Text) any(Anchor) any(Identifier) }
+            VerticalFrame[VDatum, Vrf, VerticalDatum] {
+                one(Text) any(Anchor, AnchorEpoch) any(Identifier)
+            }
 
             // Datum ensemble
             GeodeticEnsemble[Ensemble] {
@@ -116,7 +124,10 @@ macro_rules! rows {
             }
 
             // a name and identifiers
-            Member[Member], Method[Method, Projection], GeoidModel[GeoidModel] {
+            Member[Member],
+            Method[Method, Projection],
+            GeoidModel[GeoidModel],
+            DeformationModel[Model, VelocityGrid] {
                 one(Text) any(Identifier)
             }
 
@@ -137,7 +148,12 @@ macro_rules! rows {
             }
 
             // one number
-            EnsembleAccuracy[EnsembleAccuracy], Order[Order] { one(Number) }
+            FrameEpoch[FrameEpoch],
+            AnchorEpoch[AnchorEpoch],
+            EnsembleAccuracy[EnsembleAccuracy],
+            Order[Order] {
+                one(Number)
+            }
 
             // one text
             Anchor[Anchor],

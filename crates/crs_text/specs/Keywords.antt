@@ -20,6 +20,7 @@ spelling_of keyword.Order = codes "ORDER"
 spelling_of keyword.Scope = codes "SCOPE"
 spelling_of keyword.Usage = codes "USAGE"
 spelling_of keyword.Datum = codes "DATUM"
+spelling_of keyword.Model = codes "MODEL"
 spelling_of keyword.Member = codes "MEMBER"
 spelling_of keyword.PrimeM = codes "PRIMEM"
 spelling_of keyword.Method = codes "METHOD"
@@ -30,6 +31,7 @@ spelling_of keyword.GeogCrs = codes "GEOGCRS"
 spelling_of keyword.ProjCrs = codes "PROJCRS"
 spelling_of keyword.GeodCrs = codes "GEODCRS"
 spelling_of keyword.VertCrs = codes "VERTCRS"
+spelling_of keyword.Dynamic = codes "DYNAMIC"
 spelling_of keyword.Ensemble = codes "ENSEMBLE"
 spelling_of keyword.Meridian = codes "MERIDIAN"
 spelling_of keyword.Spheroid = codes "SPHEROID"
@@ -42,12 +44,15 @@ spelling_of keyword.LengthUnit = codes "LENGTHUNIT"
 spelling_of keyword.Conversion = codes "CONVERSION"
 spelling_of keyword.Projection = codes "PROJECTION"
 spelling_of keyword.GeoidModel = codes "GEOIDMODEL"
+spelling_of keyword.FrameEpoch = codes "FRAMEEPOCH"
 spelling_of keyword.BaseGeogCrs = codes "BASEGEOGCRS"
 spelling_of keyword.BaseGeodCrs = codes "BASEGEODCRS"
 spelling_of keyword.CompoundCrs = codes "COMPOUNDCRS"
 spelling_of keyword.GeodeticCrs = codes "GEODETICCRS"
 spelling_of keyword.VerticalCrs = codes "VERTICALCRS"
+spelling_of keyword.AnchorEpoch = codes "ANCHOREPOCH"
 spelling_of keyword.ProjectedCrs = codes "PROJECTEDCRS"
+spelling_of keyword.VelocityGrid = codes "VELOCITYGRID"
 spelling_of keyword.PrimeMeridian = codes "PRIMEMERIDIAN"
 spelling_of keyword.GeodeticDatum = codes "GEODETICDATUM"
 spelling_of keyword.VerticalDatum = codes "VERTICALDATUM"
@@ -57,15 +62,7 @@ spelling_of keyword.EnsembleAccuracy = codes "ENSEMBLEACCURACY"
 
 abbrev pub every_keyword : List Keyword
 every_keyword =
-    keyword.Id ∷ keyword.Cs ∷ keyword.Trf ∷ keyword.Vrf ∷ keyword.Uri ∷ keyword.Axis ∷ keyword.BBox ∷ keyword.Area ∷
-    keyword.PlainUnit ∷ keyword.Order ∷ keyword.Scope ∷ keyword.Usage ∷ keyword.Datum ∷ keyword.Member ∷
-    keyword.PrimeM ∷ keyword.Method ∷ keyword.VDatum ∷ keyword.Remark ∷ keyword.Anchor ∷ keyword.GeogCrs ∷
-    keyword.ProjCrs ∷ keyword.GeodCrs ∷ keyword.VertCrs ∷ keyword.Ensemble ∷ keyword.Meridian ∷ keyword.Spheroid ∷
-    keyword.Citation ∷ keyword.AngleUnit ∷ keyword.Parameter ∷ keyword.Ellipsoid ∷ keyword.ScaleUnit ∷
-    keyword.LengthUnit ∷ keyword.Conversion ∷ keyword.Projection ∷ keyword.GeoidModel ∷ keyword.BaseGeogCrs ∷
-    keyword.BaseGeodCrs ∷ keyword.CompoundCrs ∷ keyword.GeodeticCrs ∷ keyword.VerticalCrs ∷ keyword.ProjectedCrs ∷
-    keyword.PrimeMeridian ∷ keyword.GeodeticDatum ∷ keyword.VerticalDatum ∷ keyword.GeographicCrs ∷
-    keyword.VerticalExtent ∷ keyword.EnsembleAccuracy ∷ []
+    keyword.Id ∷ keyword.Cs ∷ keyword.Trf ∷ keyword.Vrf ∷ keyword.Uri ∷ keyword.Axis ∷ keyword.BBox ∷ keyword.Area ∷ keyword.PlainUnit ∷ keyword.Order ∷ keyword.Scope ∷ keyword.Usage ∷ keyword.Datum ∷ keyword.Model ∷ keyword.Member ∷ keyword.PrimeM ∷ keyword.Method ∷ keyword.VDatum ∷ keyword.Remark ∷ keyword.Anchor ∷ keyword.GeogCrs ∷ keyword.ProjCrs ∷ keyword.GeodCrs ∷ keyword.VertCrs ∷ keyword.Dynamic ∷ keyword.Ensemble ∷ keyword.Meridian ∷ keyword.Spheroid ∷ keyword.Citation ∷ keyword.AngleUnit ∷ keyword.Parameter ∷ keyword.Ellipsoid ∷ keyword.ScaleUnit ∷ keyword.LengthUnit ∷ keyword.Conversion ∷ keyword.Projection ∷ keyword.GeoidModel ∷ keyword.FrameEpoch ∷ keyword.BaseGeogCrs ∷ keyword.BaseGeodCrs ∷ keyword.CompoundCrs ∷ keyword.GeodeticCrs ∷ keyword.VerticalCrs ∷ keyword.AnchorEpoch ∷ keyword.ProjectedCrs ∷ keyword.VelocityGrid ∷ keyword.PrimeMeridian ∷ keyword.GeodeticDatum ∷ keyword.VerticalDatum ∷ keyword.GeographicCrs ∷ keyword.VerticalExtent ∷ keyword.EnsembleAccuracy ∷ []
 
 -- the first of these keywords whose spelling the word is, letter case aside
 abbrev pub first_spelled : List Keyword → List ℕ → Option Keyword

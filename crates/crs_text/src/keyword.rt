@@ -36,6 +36,8 @@ pub enum Keyword {
     Usage,
     /// `DATUM`: geodetic reference frame.
     Datum,
+    /// `MODEL`: deformation model.
+    Model,
     /// `MEMBER`: member of an ensemble.
     Member,
     /// `PRIMEM`: prime meridian.
@@ -56,6 +58,8 @@ pub enum Keyword {
     GeodCrs,
     /// `VERTCRS`: vertical CRS.
     VertCrs,
+    /// `DYNAMIC`: what a dynamic frame says.
+    Dynamic,
     /// `ENSEMBLE`: datum ensemble.
     Ensemble,
     /// `MERIDIAN`: meridian of an axis.
@@ -80,6 +84,8 @@ pub enum Keyword {
     Projection,
     /// `GEOIDMODEL`: geoid model.
     GeoidModel,
+    /// `FRAMEEPOCH`: epoch of a dynamic frame.
+    FrameEpoch,
     /// `BASEGEOGCRS`: base CRS.
     BaseGeogCrs,
     /// `BASEGEODCRS`: base CRS.
@@ -90,8 +96,12 @@ pub enum Keyword {
     GeodeticCrs,
     /// `VERTICALCRS`: vertical CRS.
     VerticalCrs,
+    /// `ANCHOREPOCH`: epoch of an anchor.
+    AnchorEpoch,
     /// `PROJECTEDCRS`: projected CRS.
     ProjectedCrs,
+    /// `VELOCITYGRID`: deformation model.
+    VelocityGrid,
     /// `PRIMEMERIDIAN`: prime meridian.
     PrimeMeridian,
     /// `GEODETICDATUM`: geodetic reference frame.
@@ -120,7 +130,7 @@ macro_rules! keywords {
             2 { Id: b"ID", Cs: b"CS" }
             3 { Trf: b"TRF", Vrf: b"VRF", Uri: b"URI" }
             4 { Axis: b"AXIS", BBox: b"BBOX", Area: b"AREA", PlainUnit: b"UNIT" }
-            5 { Order: b"ORDER", Scope: b"SCOPE", Usage: b"USAGE", Datum: b"DATUM" }
+            5 { Order: b"ORDER", Scope: b"SCOPE", Usage: b"USAGE", Datum: b"DATUM", Model: b"MODEL" }
             6 {
                 Member: b"MEMBER",
                 PrimeM: b"PRIMEM",
@@ -129,7 +139,13 @@ macro_rules! keywords {
                 Remark: b"REMARK",
                 Anchor: b"ANCHOR"
             }
-            7 { GeogCrs: b"GEOGCRS", ProjCrs: b"PROJCRS", GeodCrs: b"GEODCRS", VertCrs: b"VERTCRS" }
+            7 {
+                GeogCrs: b"GEOGCRS",
+                ProjCrs: b"PROJCRS",
+                GeodCrs: b"GEODCRS",
+                VertCrs: b"VERTCRS",
+                Dynamic: b"DYNAMIC"
+            }
             8 {
                 Ensemble: b"ENSEMBLE",
                 Meridian: b"MERIDIAN",
@@ -146,16 +162,18 @@ macro_rules! keywords {
                 LengthUnit: b"LENGTHUNIT",
                 Conversion: b"CONVERSION",
                 Projection: b"PROJECTION",
-                GeoidModel: b"GEOIDMODEL"
+                GeoidModel: b"GEOIDMODEL",
+                FrameEpoch: b"FRAMEEPOCH"
             }
             11 {
                 BaseGeogCrs: b"BASEGEOGCRS",
                 BaseGeodCrs: b"BASEGEODCRS",
                 CompoundCrs: b"COMPOUNDCRS",
                 GeodeticCrs: b"GEODETICCRS",
-                VerticalCrs: b"VERTICALCRS"
+                VerticalCrs: b"VERTICALCRS",
+                AnchorEpoch: b"ANCHOREPOCH"
             }
-            12 { ProjectedCrs: b"PROJECTEDCRS" }
+            12 { ProjectedCrs: b"PROJECTEDCRS", VelocityGrid: b"VELOCITYGRID" }
             13 {
                 PrimeMeridian: b"PRIMEMERIDIAN",
                 GeodeticDatum: b"GEODETICDATUM",

@@ -4,6 +4,7 @@ use Rattle.crs_text.specs.Items.{Item, arguments}
 use Rattle.crs_text.specs.Refusal.{RefusedAt}
 use Rattle.crs_shape.specs.declared.class.Class.{Class}
 use Rattle.crs_shape.specs.declared.class.Class.TheVariants as class
+use Rattle.crs_value.specs.BadDynamic.{BadDynamic, IsUnsteady}
 use Rattle.crs_value.specs.BadOrder.{BadOrders, BadOrder, LacksOrder, IsBadOrder, orders_in}
 use Rattle.crs_value.specs.BadSystem.{dimensions_of}
 use Rattle.crs_value.specs.BadUnit.{BadOwnUnit, Misfits, HasOwnUnit, IsSuperfluous, BadUnit, units_in}
@@ -49,6 +50,11 @@ axes-high : (systems axes units : List Item) (f : RefusedAt) → OfAxes systems 
 axes-high systems axes units f (inl h) = order-high axes f h
 axes-high systems axes units f (inr h) = high f.number (any-high (BadUnit axes units) 27 (λ i g x. unit-high axes units i g x) systems f h)
 
+dynamic-high : (c : Class) (item : Item) (f : RefusedAt) → BadDynamic c item f → 26 ≤ f.number
+dynamic-high c item f h =
+    let high : 29 ≤ f.number = any-high IsUnsteady 29 (λ i g x. at-high 29 i g x) (those c class.Dynamic (arguments item)) f h.1 in
+    omega (arith, high)
+
 module _ (c : Class) (item : Item) where
   abbrev axes : List Item
   axes = those c class.Axis (arguments item)
@@ -64,7 +70,7 @@ module _ (c : Class) (item : Item) where
   Head f = RepeatsAny c (arguments item) once f ⊎ AnyOf (OfHead (dimensions_of c) axes) systems f
 
   abbrev pub Axes : RefusedAt → Type 0
-  Axes f = OfAxes systems axes units f
+  Axes f = OfAxes systems axes units f ⊎ BadDynamic c item f
 
   abbrev Inside : RefusedAt → Type 0
   Inside f = BreaksAmong c (arguments item) f
@@ -78,20 +84,26 @@ module _ (c : Class) (item : Item) where
   to : (f : RefusedAt) → Found f ⊎ Axes f → Whole f
   to f (inl (inl h)) = inl h
   to f (inl (inr (inl h))) = inr (inl h)
-  to f (inl (inr (inr h))) = inr (inr (inl h))
-  to f (inr h) = inr (inr (inr h))
+  to f (inl (inr (inr h))) = inr (inr (inl (inl h)))
+  to f (inr (inl h)) = inr (inr (inl (inr h)))
+  to f (inr (inr h)) = inr (inr (inr h))
 
   back : (f : RefusedAt) → Whole f → Found f ⊎ Axes f
   back f (inl h) = inl (inl h)
   back f (inr (inl h)) = inl (inr (inl h))
-  back f (inr (inr (inl h))) = inl (inr (inr h))
-  back f (inr (inr (inr h))) = inr h
+  back f (inr (inr (inl (inl h)))) = inl (inr (inr h))
+  back f (inr (inr (inl (inr h)))) = inr (inl h)
+  back f (inr (inr (inr h))) = inr (inr h)
+
+  high-axes : (f : RefusedAt) → Axes f → 26 ≤ f.number
+  high-axes f (inl h) = axes-high systems axes units f h
+  high-axes f (inr h) = dynamic-high c item f h
 
   pub crs-early : (a b r : Option RefusedAt) (first : RefusedAt) → r ≡ lesser a b → IsLeast Inside a → IsLeast Head b → r ≡ Some first → first.number < 26 → IsLeast Whole (Some first)
   crs-early a b r first e inside head is below =
       let P : Option RefusedAt → Type 0 = λ o. IsLeast Found o in
       least-same (λ f. Found f ⊎ Axes f) Whole (Some first) to back
-      (least-below Found Axes 26 first below (λ f h. axes-high systems axes units f h) (subst P is (either-is Inside Head a b r e inside head)))
+      (least-below Found Axes 26 first below high-axes (subst P is (either-is Inside Head a b r e inside head)))
 
   pub crs-whole : (a b r d s : Option RefusedAt) → r ≡ lesser a b → s ≡ lesser r d → IsLeast Inside a → IsLeast Head b → IsLeast Axes d → IsLeast Whole s
   crs-whole a b r d s e g inside head of_axes =

@@ -5,6 +5,7 @@ pub mod ComponentLemmas
 pub mod ConversionLemmas
 pub mod CrsLemmas
 pub mod DecideLemmas
+pub mod DynamicLemmas
 pub mod EitherLemmas
 pub mod FrameLemmas
 pub mod IdentLemmas
@@ -29,6 +30,7 @@ pub mod SoundAxisLemmas
 pub mod SoundCompoundLemmas
 pub mod SoundConversionLemmas
 pub mod SoundCrsLemmas
+pub mod SoundDynamicLemmas
 pub mod SoundFrameLemmas
 pub mod SoundLemmas
 pub mod SoundSystemLemmas

@@ -74,12 +74,13 @@ pub record Seen (tree : Item) (parent : Class) (all : Siblings) (firsts : Firsts
   pub remark : SeenOf tree parent class.Remark all (ahead tree at) firsts.remark
   pub usage : SeenOf tree parent class.Usage all (ahead tree at) firsts.usage
   pub identifier : SeenOf tree parent class.Identifier all (ahead tree at) firsts.identifier
+  pub dynamic : SeenOf tree parent class.Dynamic all (ahead tree at) firsts.dynamic
 
 pub seen-first : (tree : Item) (parent : Class) (all : Siblings) (firsts : Firsts) (at : Option ℕ) → IsAt tree all at →
     firsts.system ≡ None → firsts.axis ≡ None → firsts.unit ≡ None → firsts.scope ≡ None →
     firsts.area ≡ None → firsts.bbox ≡ None → firsts.extent ≡ None → firsts.remark ≡ None →
-    firsts.usage ≡ None → firsts.identifier ≡ None → firsts.axes ≡ 0 → Seen tree parent all firsts at
-seen-first tree parent all firsts at h e0 e1 e2 e3 e4 e5 e6 e7 e8 e9 none = record {
+    firsts.usage ≡ None → firsts.identifier ≡ None → firsts.dynamic ≡ None → firsts.axes ≡ 0 → Seen tree parent all firsts at
+seen-first tree parent all firsts at h e0 e1 e2 e3 e4 e5 e6 e7 e8 e9 e10 none = record {
   holds = holds_at tree all at h;
   system = start class.CoordinateSystem firsts.system e0;
   axis = start class.Axis firsts.axis e1;
@@ -92,6 +93,7 @@ seen-first tree parent all firsts at h e0 e1 e2 e3 e4 e5 e6 e7 e8 e9 none = reco
   remark = start class.Remark firsts.remark e7;
   usage = start class.Usage firsts.usage e8;
   identifier = start class.Identifier firsts.identifier e9;
+  dynamic = start class.Dynamic firsts.dynamic e10;
 }
   where
     start : (c : Class) (o : Option ℕ) → o ≡ None → SeenOf tree parent c all (ahead tree at) o
@@ -110,6 +112,7 @@ pub record AreNoted (old new : Firsts) (d : Class) (id : ℕ) : Type 0 where
   pub remark : new.remark ≡ noted (is_same class.Remark d) old.remark id
   pub usage : new.usage ≡ noted (is_same class.Usage d) old.usage id
   pub identifier : new.identifier ≡ noted (is_same class.Identifier d) old.identifier id
+  pub dynamic : new.dynamic ≡ noted (is_same class.Dynamic d) old.dynamic id
 
 pub seen-on : (tree : Item) (parent d : Class) (all : Siblings) (old new : Firsts) (id : ℕ) (at : Option ℕ) → Seen tree parent all old (Some id) → class_in parent (item_at tree id) ≡ Some d →
     AreNoted old new d id → IsAt tree (rest_of (here tree id)) at → Seen tree parent all new at
@@ -126,6 +129,7 @@ seen-on tree parent d all old new id at so named are next = record {
   remark = one-on tree parent class.Remark d all old.remark new.remark id at so.holds named are.remark so.remark next;
   usage = one-on tree parent class.Usage d all old.usage new.usage id at so.holds named are.usage so.usage next;
   identifier = one-on tree parent class.Identifier d all old.identifier new.identifier id at so.holds named are.identifier so.identifier next;
+  dynamic = one-on tree parent class.Dynamic d all old.dynamic new.dynamic id at so.holds named are.dynamic so.dynamic next;
 }
 
 pub seen-past : (tree : Item) (parent : Class) (all : Siblings) (firsts : Firsts) (id : ℕ) (at : Option ℕ) → Seen tree parent all firsts (Some id) → class_in parent (item_at tree id) ≡ None →
@@ -143,6 +147,7 @@ seen-past tree parent all firsts id at so unnamed next = record {
   remark = one-none tree parent class.Remark all firsts.remark id at so.holds unnamed so.remark next;
   usage = one-none tree parent class.Usage all firsts.usage id at so.holds unnamed so.usage next;
   identifier = one-none tree parent class.Identifier all firsts.identifier id at so.holds unnamed so.identifier next;
+  dynamic = one-none tree parent class.Dynamic all firsts.dynamic id at so.holds unnamed so.dynamic next;
 }
 
 pub seen-end : (tree : Item) (parent : Class) (all : Siblings) (firsts : Firsts) (at : Option ℕ) → Seen tree parent all firsts at → at ≡ None → AreFirsts tree parent all firsts
@@ -159,6 +164,7 @@ seen-end tree parent all firsts at so none =
       remark = one-end tree parent class.Remark all firsts.remark at so.remark none;
       usage = one-end tree parent class.Usage all firsts.usage at so.usage none;
       identifier = one-end tree parent class.Identifier all firsts.identifier at so.identifier none;
+      dynamic = one-end tree parent class.Dynamic all firsts.dynamic at so.dynamic none;
     }
 
 -- one axis more is still among all of them

@@ -15,7 +15,8 @@ use Rattle.crs_value.specs.BadSystem.{dimensions_of}
 use Rattle.crs_value.specs.BadUnit.{units_in, Misfits, BadOwnUnit, IsSuperfluous, HasOwnUnit, BadUnit}
 use Rattle.crs_value.specs.UnknownWord.{UnknownType, UnknownDirection}
 use Rattle.crs_value.specs.Break.{at, AnyOf}
-use Rattle.crs_value.specs.Checks.{once, OfHead, OfAxes, OfCrs, OfCompound, OfUnit, OfEllipsoid, Own, AtClass, Breaks, BreaksAmong, horizontal_classes}
+use Rattle.crs_value.specs.BadDynamic.{BadDynamic, IsUnsteady}
+use Rattle.crs_value.specs.Checks.{anchors, once, OfHead, OfAxes, OfCrs, OfCompound, OfUnit, OfEllipsoid, Own, AtClass, Breaks, BreaksAmong, horizontal_classes}
 use Rattle.crs_value.specs.RepeatedPart.{IsRepeated, Repeats, RepeatsAny}
 use Rattle.crs_value.specs.Reading.{is_a, those}
 use Rattle.crs_value.specs.SpellsText.{IsFrom, IsRefusal, Refuses}
@@ -23,14 +24,14 @@ use Rattle.crs_value.proofs.PlaceLemmas.{Within, AreWithin, Fine, fine-as, node-
 
 module _ (total : ℕ) where
   abbrev Good : RefusedAt → Type 0
-  Good fault = Fine 21 28 total fault
+  Good fault = Fine 21 29 total fault
 
   abbrev All : List Item → Type 0
   All [] = Unit {0}
   All (item ∷ items) = Within total item × All items
 
-  at-good : (n : ℕ) (item : Item) (fault : RefusedAt) → IsFrom 21 28 n → Within total item → fault ≡ at n item → Good fault
-  at-good n item fault from h e = fine-as 21 28 total fault (at n item) e (from, place-within total item h)
+  at-good : (n : ℕ) (item : Item) (fault : RefusedAt) → IsFrom 21 29 n → Within total item → fault ≡ at n item → Good fault
+  at-good n item fault from h e = fine-as 21 29 total fault (at n item) e (from, place-within total item h)
 
   if-all : (b : Bool) (item : Item) (items : List Item) → Within total item → All items → All (if b then item ∷ items else items)
   if-all true item items h rest = (h, rest)
@@ -107,12 +108,17 @@ module _ (total : ℕ) where
   axes-good systems axes units fault s h g (inl x) = order-good axes fault h x
   axes-good systems axes units fault s h g (inr x) = any-good (BadUnit axes units) fault (λ i w y. unit-good axes units i fault h g y) systems s x
 
+  dynamic-good : (c : Class) (item : Item) (fault : RefusedAt) → Within total item → BadDynamic c item fault → Good fault
+  dynamic-good c item fault h x =
+      any-good IsUnsteady fault (λ i w y. at-good 29 i fault (omega arith, omega arith) w y) (those c class.Dynamic (arguments item)) (inner-all c class.Dynamic item h) x.1
+
   crs-good : (dims : SystemType → List ℕ) (c : Class) (item : Item) (fault : RefusedAt) → Within total item → OfCrs dims c item fault → Good fault
   crs-good dims c item fault h (inl x) = repeats-any-good c (arguments item) once fault (arguments-within total item h) x
-  crs-good dims c item fault h (inr (inl x)) =
+  crs-good dims c item fault h (inr (inl (inl x))) =
       any-good (OfHead dims (those c class.Axis (arguments item))) fault (λ i w y. head-good dims (those c class.Axis (arguments item)) i fault w y)
       (those c class.CoordinateSystem (arguments item)) (inner-all c class.CoordinateSystem item h) x
-  crs-good dims c item fault h (inr (inr x)) =
+  crs-good dims c item fault h (inr (inr x)) = dynamic-good c item fault h x
+  crs-good dims c item fault h (inr (inl (inr x))) =
       axes-good (those c class.CoordinateSystem (arguments item)) (those c class.Axis (arguments item)) (those c class.AxisUnit (arguments item)) fault
       (inner-all c class.CoordinateSystem item h) (inner-all c class.Axis item h) (inner-all c class.AxisUnit item h) x
 
@@ -138,8 +144,9 @@ module _ (total : ℕ) where
   own-good class.ProjectedCrs item fault h x = crs-good (dimensions_of class.ProjectedCrs) class.ProjectedCrs item fault h x
   own-good class.VerticalCrs item fault h x = crs-good (dimensions_of class.VerticalCrs) class.VerticalCrs item fault h x
   own-good class.CompoundCrs item fault h x = compound-good item fault h x
-  own-good class.GeodeticFrame item fault h x = repeats-good class.GeodeticFrame (arguments item) class.Anchor fault (arguments-within total item h) x
-  own-good class.VerticalFrame item fault h x = repeats-good class.VerticalFrame (arguments item) class.Anchor fault (arguments-within total item h) x
+  own-good class.BaseCrs item fault h x = dynamic-good class.BaseCrs item fault h x
+  own-good class.GeodeticFrame item fault h x = repeats-any-good class.GeodeticFrame (arguments item) anchors fault (arguments-within total item h) x
+  own-good class.VerticalFrame item fault h x = repeats-any-good class.VerticalFrame (arguments item) anchors fault (arguments-within total item h) x
   own-good class.Ellipsoid item fault h x = ellipsoid-good (those class.Ellipsoid class.Number (arguments item)) fault (inner-all class.Ellipsoid class.Number item h) x
   own-good class.LengthUnit item fault h x = units-good class.LengthUnit item fault h x
   own-good class.AngleUnit item fault h x = units-good class.AngleUnit item fault h x

@@ -13,8 +13,10 @@ use Rattle.crs_value.specs.CompoundValues.{CompoundParts}
 use Rattle.crs_value.specs.ConversionValues.{MethodParts, ParameterParts, ConversionParts, GeoidModelParts}
 use Rattle.crs_value.specs.CrsValues.{GeodeticParts, BaseParts, ProjectedParts, VerticalParts}
 use Rattle.crs_value.specs.Reading.{those, ReadsFirst, ReadsElse}
-use Rattle.crs_value.specs.Reads.{ReadsIdent, ReadsUnit, ReadsMeridian}
+use Rattle.crs_value.specs.Reads.{ReadsIdent, ReadsNumberOf, ReadsUnit, ReadsMeridian}
 use Rattle.crs_value.specs.ReadsConversion.{ReadsMethod, ReadsAsUnit, ReadsUnitOf, parameter_units, ReadsParameter, ReadsConversion, ReadsGeoidModel}
+use Rattle.crs_value.specs.DynamicValues.{DeformationModelParts, DynamicParts}
+use Rattle.crs_value.specs.ReadsDynamic.{ReadsDeformationModel, ReadsDynamic}
 use Rattle.crs_value.specs.ReadsCrs.{IsGeodeticClass, ReadsAsDatum, ReadsAsEnsemble, ReadsFrame, ReadsGeodetic, ReadsBase, ReadsProjected, ReadsVertical, ReadsAsHorizontal, ReadsHorizontal, ReadsCompound, ReadsCrs}
 use Rattle.crs_value.specs.Values.{IdentParts, UnitParts, MeridianParts, SystemParts, TailParts}
 use Rattle.crs_value.proofs.CheckLemmas.{DenotesOne}
@@ -108,33 +110,60 @@ frame-one law d e c item a b p q =
     one-else (ReadsAsDatum d) (ReadsFirst (ReadsAsEnsemble e) (those c e (arguments item))) (as_datum-one law d)
     (one-first (ReadsAsEnsemble e) (as_ensemble-one law e) (those c e (arguments item))) (those c d (arguments item)) a b p q
 
-abbrev geodetic-made : List ℕ → Frame → Option MeridianParts → SystemParts → TailParts → GeodeticParts
-geodetic-made x0 x1 x2 x3 x4 = record { name = x0; frame = x1; meridian = x2; system = x3; tail = x4 }
+abbrev deformation_model-made : List ℕ → List IdentParts → DeformationModelParts
+deformation_model-made x0 x1 = record { name = x0; identifiers = x1 }
 
-geodetic-equal : (x0 y0 : List ℕ) (x1 y1 : Frame) (x2 y2 : Option MeridianParts) (x3 y3 : SystemParts) (x4 y4 : TailParts) → x0 ≡ y0 → x1 ≡ y1 → x2 ≡ y2 → x3 ≡ y3 → x4 ≡ y4 →
-    geodetic-made x0 x1 x2 x3 x4 ≡ geodetic-made y0 y1 y2 y3 y4
-geodetic-equal x0 y0 x1 y1 x2 y2 x3 y3 x4 y4 e0 e1 e2 e3 e4 = cc
+deformation_model-equal : (x0 y0 : List ℕ) (x1 y1 : List IdentParts) → x0 ≡ y0 → x1 ≡ y1 →
+    deformation_model-made x0 x1 ≡ deformation_model-made y0 y1
+deformation_model-equal x0 y0 x1 y1 e0 e1 = cc
+
+pub deformation_model-one : (c : Class) → IsOne (ReadsDeformationModel c)
+deformation_model-one c item a b p q =
+    deformation_model-equal a.name b.name a.identifiers b.identifiers
+    (text-of-one c item a.name b.name p.name q.name)
+    (one-each (ReadsIdent class.Identifier) (ident-one class.Identifier) (those c class.Identifier (arguments item)) a.identifiers b.identifiers p.identifiers q.identifiers)
+
+abbrev dynamic-made : Value → Option DeformationModelParts → DynamicParts
+dynamic-made x0 x1 = record { epoch = x0; model = x1 }
+
+dynamic-equal : (x0 y0 : Value) (x1 y1 : Option DeformationModelParts) → x0 ≡ y0 → x1 ≡ y1 → dynamic-made x0 x1 ≡ dynamic-made y0 y1
+dynamic-equal x0 y0 x1 y1 e0 e1 = cc
+
+pub dynamic-one : DenotesOne → (c : Class) → IsOne (ReadsDynamic c)
+dynamic-one law c item a b p q =
+    dynamic-equal a.epoch b.epoch a.model b.model
+    (one-first (ReadsNumberOf class.FrameEpoch) (number-of-one law class.FrameEpoch) (those c class.FrameEpoch (arguments item)) a.epoch b.epoch p.epoch q.epoch)
+    (one-optional (ReadsDeformationModel class.DeformationModel) (deformation_model-one class.DeformationModel) (those c class.DeformationModel (arguments item)) a.model b.model p.model q.model)
+
+abbrev geodetic-made : List ℕ → Option DynamicParts → Frame → Option MeridianParts → SystemParts → TailParts → GeodeticParts
+geodetic-made x0 x1 x2 x3 x4 x5 = record { name = x0; dynamic = x1; frame = x2; meridian = x3; system = x4; tail = x5 }
+
+geodetic-equal : (x0 y0 : List ℕ) (x1 y1 : Option DynamicParts) (x2 y2 : Frame) (x3 y3 : Option MeridianParts) (x4 y4 : SystemParts) (x5 y5 : TailParts) → x0 ≡ y0 → x1 ≡ y1 → x2 ≡ y2 → x3 ≡ y3 → x4 ≡ y4 → x5 ≡ y5 →
+    geodetic-made x0 x1 x2 x3 x4 x5 ≡ geodetic-made y0 y1 y2 y3 y4 y5
+geodetic-equal x0 y0 x1 y1 x2 y2 x3 y3 x4 y4 x5 y5 e0 e1 e2 e3 e4 e5 = cc
 
 pub geodetic-one : DenotesOne → (c : Class) → IsOne (ReadsGeodetic c)
 geodetic-one law c item a b p q =
-    geodetic-equal a.name b.name a.frame b.frame a.meridian b.meridian a.system b.system a.tail b.tail
+    geodetic-equal a.name b.name a.dynamic b.dynamic a.frame b.frame a.meridian b.meridian a.system b.system a.tail b.tail
     (text-of-one c item a.name b.name p.name q.name)
+    (one-optional (ReadsDynamic class.Dynamic) (dynamic-one law class.Dynamic) (those c class.Dynamic (arguments item)) a.dynamic b.dynamic p.dynamic q.dynamic)
     (frame-one law class.GeodeticFrame class.GeodeticEnsemble c item a.frame b.frame p.frame q.frame)
     (one-optional (ReadsMeridian class.PrimeMeridian) (meridian-one law class.PrimeMeridian) (those c class.PrimeMeridian (arguments item)) a.meridian b.meridian p.meridian q.meridian)
     (system-one law c item a.system b.system p.system q.system)
     (tail-one law c item a.tail b.tail p.tail q.tail)
 
-abbrev base-made : List ℕ → Frame → Option MeridianParts → Option UnitParts → List IdentParts → BaseParts
-base-made x0 x1 x2 x3 x4 = record { name = x0; frame = x1; meridian = x2; unit = x3; identifiers = x4 }
+abbrev base-made : List ℕ → Option DynamicParts → Frame → Option MeridianParts → Option UnitParts → List IdentParts → BaseParts
+base-made x0 x1 x2 x3 x4 x5 = record { name = x0; dynamic = x1; frame = x2; meridian = x3; unit = x4; identifiers = x5 }
 
-base-equal : (x0 y0 : List ℕ) (x1 y1 : Frame) (x2 y2 : Option MeridianParts) (x3 y3 : Option UnitParts) (x4 y4 : List IdentParts) → x0 ≡ y0 → x1 ≡ y1 → x2 ≡ y2 → x3 ≡ y3 → x4 ≡ y4 →
-    base-made x0 x1 x2 x3 x4 ≡ base-made y0 y1 y2 y3 y4
-base-equal x0 y0 x1 y1 x2 y2 x3 y3 x4 y4 e0 e1 e2 e3 e4 = cc
+base-equal : (x0 y0 : List ℕ) (x1 y1 : Option DynamicParts) (x2 y2 : Frame) (x3 y3 : Option MeridianParts) (x4 y4 : Option UnitParts) (x5 y5 : List IdentParts) → x0 ≡ y0 → x1 ≡ y1 → x2 ≡ y2 → x3 ≡ y3 → x4 ≡ y4 → x5 ≡ y5 →
+    base-made x0 x1 x2 x3 x4 x5 ≡ base-made y0 y1 y2 y3 y4 y5
+base-equal x0 y0 x1 y1 x2 y2 x3 y3 x4 y4 x5 y5 e0 e1 e2 e3 e4 e5 = cc
 
 pub base-one : DenotesOne → (c : Class) → IsOne (ReadsBase c)
 base-one law c item a b p q =
-    base-equal a.name b.name a.frame b.frame a.meridian b.meridian a.unit b.unit a.identifiers b.identifiers
+    base-equal a.name b.name a.dynamic b.dynamic a.frame b.frame a.meridian b.meridian a.unit b.unit a.identifiers b.identifiers
     (text-of-one c item a.name b.name p.name q.name)
+    (one-optional (ReadsDynamic class.Dynamic) (dynamic-one law class.Dynamic) (those c class.Dynamic (arguments item)) a.dynamic b.dynamic p.dynamic q.dynamic)
     (frame-one law class.GeodeticFrame class.GeodeticEnsemble c item a.frame b.frame p.frame q.frame)
     (one-optional (ReadsMeridian class.PrimeMeridian) (meridian-one law class.PrimeMeridian) (those c class.PrimeMeridian (arguments item)) a.meridian b.meridian p.meridian q.meridian)
     (one-optional (ReadsUnit class.AngleUnit) (unit-one law class.AngleUnit) (those c class.AngleUnit (arguments item)) a.unit b.unit p.unit q.unit)
@@ -156,17 +185,18 @@ projected-one law c item a b p q =
     (system-one law c item a.system b.system p.system q.system)
     (tail-one law c item a.tail b.tail p.tail q.tail)
 
-abbrev vertical-made : List ℕ → Frame → SystemParts → List GeoidModelParts → TailParts → VerticalParts
-vertical-made x0 x1 x2 x3 x4 = record { name = x0; frame = x1; system = x2; geoid_models = x3; tail = x4 }
+abbrev vertical-made : List ℕ → Option DynamicParts → Frame → SystemParts → List GeoidModelParts → TailParts → VerticalParts
+vertical-made x0 x1 x2 x3 x4 x5 = record { name = x0; dynamic = x1; frame = x2; system = x3; geoid_models = x4; tail = x5 }
 
-vertical-equal : (x0 y0 : List ℕ) (x1 y1 : Frame) (x2 y2 : SystemParts) (x3 y3 : List GeoidModelParts) (x4 y4 : TailParts) → x0 ≡ y0 → x1 ≡ y1 → x2 ≡ y2 → x3 ≡ y3 → x4 ≡ y4 →
-    vertical-made x0 x1 x2 x3 x4 ≡ vertical-made y0 y1 y2 y3 y4
-vertical-equal x0 y0 x1 y1 x2 y2 x3 y3 x4 y4 e0 e1 e2 e3 e4 = cc
+vertical-equal : (x0 y0 : List ℕ) (x1 y1 : Option DynamicParts) (x2 y2 : Frame) (x3 y3 : SystemParts) (x4 y4 : List GeoidModelParts) (x5 y5 : TailParts) → x0 ≡ y0 → x1 ≡ y1 → x2 ≡ y2 → x3 ≡ y3 → x4 ≡ y4 → x5 ≡ y5 →
+    vertical-made x0 x1 x2 x3 x4 x5 ≡ vertical-made y0 y1 y2 y3 y4 y5
+vertical-equal x0 y0 x1 y1 x2 y2 x3 y3 x4 y4 x5 y5 e0 e1 e2 e3 e4 e5 = cc
 
 pub vertical-one : DenotesOne → (c : Class) → IsOne (ReadsVertical c)
 vertical-one law c item a b p q =
-    vertical-equal a.name b.name a.frame b.frame a.system b.system a.geoid_models b.geoid_models a.tail b.tail
+    vertical-equal a.name b.name a.dynamic b.dynamic a.frame b.frame a.system b.system a.geoid_models b.geoid_models a.tail b.tail
     (text-of-one c item a.name b.name p.name q.name)
+    (one-optional (ReadsDynamic class.Dynamic) (dynamic-one law class.Dynamic) (those c class.Dynamic (arguments item)) a.dynamic b.dynamic p.dynamic q.dynamic)
     (frame-one law class.VerticalFrame class.VerticalEnsemble c item a.frame b.frame p.frame q.frame)
     (system-one law c item a.system b.system p.system q.system)
     (one-each (ReadsGeoidModel class.GeoidModel) (geoid_model-one class.GeoidModel) (those c class.GeoidModel (arguments item)) a.geoid_models b.geoid_models p.geoid_models q.geoid_models)

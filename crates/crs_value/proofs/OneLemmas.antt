@@ -172,19 +172,20 @@ member-one c item a b p q =
     (text-of-one c item a.name b.name p.name q.name)
     (one-each (ReadsIdent class.Identifier) (ident-one class.Identifier) (those c class.Identifier (arguments item)) a.identifiers b.identifiers p.identifiers q.identifiers)
 
-abbrev datum-made : List ℕ → Option EllipsoidParts → Option (List ℕ) → List IdentParts → DatumParts
-datum-made x0 x1 x2 x3 = record { name = x0; ellipsoid = x1; anchor = x2; identifiers = x3 }
+abbrev datum-made : List ℕ → Option EllipsoidParts → Option (List ℕ) → Option Value → List IdentParts → DatumParts
+datum-made x0 x1 x2 x3 x4 = record { name = x0; ellipsoid = x1; anchor = x2; anchor_epoch = x3; identifiers = x4 }
 
-datum-equal : (x0 y0 : List ℕ) (x1 y1 : Option EllipsoidParts) (x2 y2 : Option (List ℕ)) (x3 y3 : List IdentParts) → x0 ≡ y0 → x1 ≡ y1 → x2 ≡ y2 → x3 ≡ y3 →
-    datum-made x0 x1 x2 x3 ≡ datum-made y0 y1 y2 y3
-datum-equal x0 y0 x1 y1 x2 y2 x3 y3 e0 e1 e2 e3 = cc
+datum-equal : (x0 y0 : List ℕ) (x1 y1 : Option EllipsoidParts) (x2 y2 : Option (List ℕ)) (x3 y3 : Option Value) (x4 y4 : List IdentParts) → x0 ≡ y0 → x1 ≡ y1 → x2 ≡ y2 → x3 ≡ y3 → x4 ≡ y4 →
+    datum-made x0 x1 x2 x3 x4 ≡ datum-made y0 y1 y2 y3 y4
+datum-equal x0 y0 x1 y1 x2 y2 x3 y3 x4 y4 e0 e1 e2 e3 e4 = cc
 
 pub datum-one : DenotesOne → (c : Class) → IsOne (ReadsDatum c)
 datum-one law c item a b p q =
-    datum-equal a.name b.name a.ellipsoid b.ellipsoid a.anchor b.anchor a.identifiers b.identifiers
+    datum-equal a.name b.name a.ellipsoid b.ellipsoid a.anchor b.anchor a.anchor_epoch b.anchor_epoch a.identifiers b.identifiers
     (text-of-one c item a.name b.name p.name q.name)
     (one-optional (ReadsEllipsoid class.Ellipsoid) (ellipsoid-one law class.Ellipsoid) (those c class.Ellipsoid (arguments item)) a.ellipsoid b.ellipsoid p.ellipsoid q.ellipsoid)
     (one-optional (ReadsTextOf class.Anchor) (text-of-one class.Anchor) (those c class.Anchor (arguments item)) a.anchor b.anchor p.anchor q.anchor)
+    (one-optional (ReadsNumberOf class.AnchorEpoch) (number-of-one law class.AnchorEpoch) (those c class.AnchorEpoch (arguments item)) a.anchor_epoch b.anchor_epoch p.anchor_epoch q.anchor_epoch)
     (one-each (ReadsIdent class.Identifier) (ident-one class.Identifier) (those c class.Identifier (arguments item)) a.identifiers b.identifiers p.identifiers q.identifiers)
 
 abbrev ensemble-made : List ℕ → List MemberParts → Option EllipsoidParts → Value → List IdentParts → EnsembleParts

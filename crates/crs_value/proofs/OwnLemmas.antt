@@ -4,10 +4,12 @@ use Rattle.crs_text.specs.Items.{Item, arguments}
 use Rattle.crs_text.specs.Refusal.{RefusedAt}
 use Rattle.crs_shape.specs.declared.class.Class.{Class}
 use Rattle.crs_shape.specs.declared.class.Class.TheVariants as class
+use Rattle.crs_value.specs.BadDynamic.{BadDynamic}
 use Rattle.crs_value.specs.BadSystem.{dimensions_of}
+use Rattle.crs_value.specs.RepeatedPart.{RepeatsAny}
 use Rattle.crs_value.specs.UnknownWord.{UnknownType, UnknownDirection}
 use Rattle.crs_value.specs.Break.{AnyOf, IsLeast}
-use Rattle.crs_value.specs.Checks.{OfCrs, OfCompound, OfUnit, HasSystem, Own, BreaksAmong}
+use Rattle.crs_value.specs.Checks.{anchors, OfCrs, OfCompound, OfUnit, HasSystem, Own, BreaksAmong}
 use Rattle.crs_value.specs.Reading.{those}
 
 -- a CRS with a coordinate system breaks by itself what such a CRS breaks
@@ -51,4 +53,22 @@ unfolding Own
 own-axis c item o e h =
     let P : Class → Type 0 = λ x. IsLeast (Own x item) o in
     let Q : Class → Type 0 = λ x. IsLeast (AnyOf UnknownDirection (those x class.Word (arguments item))) o in
+    subst P (sym e) (subst Q e h)
+
+pub own-base : (c : Class) (item : Item) (o : Option RefusedAt) → c ≡ class.BaseCrs → IsLeast (BadDynamic c item) o → IsLeast (Own c item) o
+unfolding Own
+own-base c item o e h =
+    let P : Class → Type 0 = λ x. IsLeast (Own x item) o in
+    let Q : Class → Type 0 = λ x. IsLeast (BadDynamic x item) o in
+    subst P (sym e) (subst Q e h)
+
+pub own-frame : (c : Class) (item : Item) (o : Option RefusedAt) → (c ≡ class.GeodeticFrame) ⊎ (c ≡ class.VerticalFrame) → IsLeast (RepeatsAny c (arguments item) anchors) o → IsLeast (Own c item) o
+unfolding Own
+own-frame c item o (inl e) h =
+    let P : Class → Type 0 = λ x. IsLeast (Own x item) o in
+    let Q : Class → Type 0 = λ x. IsLeast (RepeatsAny x (arguments item) anchors) o in
+    subst P (sym e) (subst Q e h)
+own-frame c item o (inr e) h =
+    let P : Class → Type 0 = λ x. IsLeast (Own x item) o in
+    let Q : Class → Type 0 = λ x. IsLeast (RepeatsAny x (arguments item) anchors) o in
     subst P (sym e) (subst Q e h)

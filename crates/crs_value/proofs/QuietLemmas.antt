@@ -20,6 +20,10 @@ is_quiet class.VerticalEnsemble = true
 is_quiet class.Member = true
 is_quiet class.EnsembleAccuracy = true
 is_quiet class.Anchor = true
+is_quiet class.AnchorEpoch = true
+is_quiet class.Dynamic = true
+is_quiet class.FrameEpoch = true
+is_quiet class.DeformationModel = true
 is_quiet class.Order = true
 is_quiet class.Method = true
 is_quiet class.GeoidModel = true
@@ -47,6 +51,10 @@ slots-quiet class.VerticalEnsemble e = refl
 slots-quiet class.Member e = refl
 slots-quiet class.EnsembleAccuracy e = refl
 slots-quiet class.Anchor e = refl
+slots-quiet class.AnchorEpoch e = refl
+slots-quiet class.Dynamic e = refl
+slots-quiet class.FrameEpoch e = refl
+slots-quiet class.DeformationModel e = refl
 slots-quiet class.Order e = refl
 slots-quiet class.Method e = refl
 slots-quiet class.GeoidModel e = refl
@@ -68,6 +76,10 @@ own-quiet class.VerticalEnsemble item f e h = h
 own-quiet class.Member item f e h = h
 own-quiet class.EnsembleAccuracy item f e h = h
 own-quiet class.Anchor item f e h = h
+own-quiet class.AnchorEpoch item f e h = h
+own-quiet class.Dynamic item f e h = h
+own-quiet class.FrameEpoch item f e h = h
+own-quiet class.DeformationModel item f e h = h
 own-quiet class.Order item f e h = h
 own-quiet class.Method item f e h = h
 own-quiet class.GeoidModel item f e h = h
@@ -148,7 +160,7 @@ one-passes test c d (e ∷ es) all (inr is) = one-passes test c e es (and-both (
 -- the quiet ones behind the first
 abbrev pub later_quiet : List Class
 later_quiet =
-    class.Member ∷ class.EnsembleAccuracy ∷ class.Anchor ∷ class.Order ∷ class.Method ∷ class.GeoidModel ∷ class.Scope ∷ class.Area ∷ class.BoundingBox
+    class.Member ∷ class.EnsembleAccuracy ∷ class.Anchor ∷ class.AnchorEpoch ∷ class.Dynamic ∷ class.FrameEpoch ∷ class.DeformationModel ∷ class.Order ∷ class.Method ∷ class.GeoidModel ∷ class.Scope ∷ class.Area ∷ class.BoundingBox
     ∷ class.Identifier ∷ class.Citation ∷ class.Uri ∷ class.Remark ∷ []
 
 -- those that are quiet within, behind the first

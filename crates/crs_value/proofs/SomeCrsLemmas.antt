@@ -11,8 +11,9 @@ use Rattle.crs_value.specs.declared.values.frame.Frame.TheVariants as frames
 use Rattle.crs_value.specs.Checks.{IsSound}
 use Rattle.crs_value.specs.Found.{IsAmong}
 use Rattle.crs_value.specs.Reading.{those, Requires, RequiresOneOf, ReadsFirst, ReadsElse}
-use Rattle.crs_value.specs.Reads.{IsUnitClass, ReadsUnit, ReadsMeridian}
+use Rattle.crs_value.specs.Reads.{IsUnitClass, ReadsNumberOf, ReadsUnit, ReadsMeridian}
 use Rattle.crs_value.specs.ReadsConversion.{ReadsMethod, ReadsAsUnit, ReadsUnitOf, parameter_units, ReadsParameter, ReadsConversion, ReadsGeoidModel}
+use Rattle.crs_value.specs.ReadsDynamic.{ReadsDeformationModel, ReadsDynamic}
 use Rattle.crs_value.specs.ReadsCrs.{IsGeodeticClass, ReadsAsDatum, ReadsAsEnsemble, ReadsFrame, ReadsGeodetic, ReadsBase, ReadsProjected, ReadsVertical, ReadsAsHorizontal, ReadsHorizontal, ReadsCompound, ReadsCrs}
 use Rattle.crs_value.proofs.ArgumentLemmas.{SlotsCount, arguments-sound}
 use Rattle.crs_value.proofs.FrameLemmas.{one-there}
@@ -62,6 +63,20 @@ module _ (numbers : Numbers) (slots : SlotsCount) where
       let identifiers = identifiers-some numbers slots class.GeoidModel item g in
       (record { name = name.0; identifiers = identifiers.0 }, record { name = name.1; identifiers = identifiers.1 })
 
+  -- ---- dynamic parts
+
+  deformation_model-some : (item : Item) → IsSound class.DeformationModel item → Exists (ReadsDeformationModel class.DeformationModel item)
+  deformation_model-some item g =
+      let name = text-some numbers slots class.DeformationModel item g (omega arith) in
+      let identifiers = identifiers-some numbers slots class.DeformationModel item g in
+      (record { name = name.0; identifiers = identifiers.0 }, record { name = name.1; identifiers = identifiers.1 })
+
+  dynamic-some : (item : Item) → IsSound class.Dynamic item → Exists (ReadsDynamic class.Dynamic item)
+  dynamic-some item g =
+      let epoch = first-some numbers slots (ReadsNumberOf class.FrameEpoch) class.Dynamic class.FrameEpoch item g (omega arith) (λ i h. number-of-some numbers slots class.FrameEpoch i h (omega arith)) in
+      let model = optional-some numbers slots (ReadsDeformationModel class.DeformationModel) class.Dynamic class.DeformationModel item g (deformation_model-some) in
+      (record { epoch = epoch.0; model = model.0 }, record { epoch = epoch.1; model = model.1 })
+
   -- ---- coordinate reference systems
 
   as_datum-some : (d : Class) → Requires d class.Text 0 → (item : Item) → IsSound d item → Exists (ReadsAsDatum d item)
@@ -86,20 +101,22 @@ module _ (numbers : Numbers) (slots : SlotsCount) where
   geodetic-some : (c : Class) → IsGeodeticClass c → (item : Item) → IsSound c item → Exists (ReadsGeodetic c item)
   geodetic-some c is item g =
       let name = text-some numbers slots c item g (geodetic-needs c is).0 in
+      let dynamic = optional-some numbers slots (ReadsDynamic class.Dynamic) c class.Dynamic item g (dynamic-some) in
       let frame = frame-some class.GeodeticFrame class.GeodeticEnsemble c item g (geodetic-needs c is).1.0 (omega arith) (omega arith) (omega arith) in
       let meridian = optional-some numbers slots (ReadsMeridian class.PrimeMeridian) c class.PrimeMeridian item g (meridian-some numbers slots) in
       let system = system-some numbers slots c item g (geodetic-needs c is).1.1 in
       let tail = tail-some numbers slots c item g in
-      (record { name = name.0; frame = frame.0; meridian = meridian.0; system = system.0; tail = tail.0 }, record { name = name.1; frame = frame.1; meridian = meridian.1; system = system.1; tail = tail.1 })
+      (record { name = name.0; dynamic = dynamic.0; frame = frame.0; meridian = meridian.0; system = system.0; tail = tail.0 }, record { name = name.1; dynamic = dynamic.1; frame = frame.1; meridian = meridian.1; system = system.1; tail = tail.1 })
 
   base-some : (item : Item) → IsSound class.BaseCrs item → Exists (ReadsBase class.BaseCrs item)
   base-some item g =
       let name = text-some numbers slots class.BaseCrs item g (omega arith) in
+      let dynamic = optional-some numbers slots (ReadsDynamic class.Dynamic) class.BaseCrs class.Dynamic item g (dynamic-some) in
       let frame = frame-some class.GeodeticFrame class.GeodeticEnsemble class.BaseCrs item g (omega arith) (omega arith) (omega arith) (omega arith) in
       let meridian = optional-some numbers slots (ReadsMeridian class.PrimeMeridian) class.BaseCrs class.PrimeMeridian item g (meridian-some numbers slots) in
       let unit = optional-some numbers slots (ReadsUnit class.AngleUnit) class.BaseCrs class.AngleUnit item g (unit-some numbers slots class.AngleUnit tt) in
       let identifiers = identifiers-some numbers slots class.BaseCrs item g in
-      (record { name = name.0; frame = frame.0; meridian = meridian.0; unit = unit.0; identifiers = identifiers.0 }, record { name = name.1; frame = frame.1; meridian = meridian.1; unit = unit.1; identifiers = identifiers.1 })
+      (record { name = name.0; dynamic = dynamic.0; frame = frame.0; meridian = meridian.0; unit = unit.0; identifiers = identifiers.0 }, record { name = name.1; dynamic = dynamic.1; frame = frame.1; meridian = meridian.1; unit = unit.1; identifiers = identifiers.1 })
 
   projected-some : (item : Item) → IsSound class.ProjectedCrs item → Exists (ReadsProjected class.ProjectedCrs item)
   projected-some item g =
@@ -113,11 +130,12 @@ module _ (numbers : Numbers) (slots : SlotsCount) where
   vertical-some : (item : Item) → IsSound class.VerticalCrs item → Exists (ReadsVertical class.VerticalCrs item)
   vertical-some item g =
       let name = text-some numbers slots class.VerticalCrs item g (omega arith) in
+      let dynamic = optional-some numbers slots (ReadsDynamic class.Dynamic) class.VerticalCrs class.Dynamic item g (dynamic-some) in
       let frame = frame-some class.VerticalFrame class.VerticalEnsemble class.VerticalCrs item g (omega arith) (omega arith) (omega arith) (omega arith) in
       let system = system-some numbers slots class.VerticalCrs item g (omega arith) in
       let geoid_models = each-some numbers slots (ReadsGeoidModel class.GeoidModel) class.VerticalCrs class.GeoidModel item g (geoid_model-some) in
       let tail = tail-some numbers slots class.VerticalCrs item g in
-      (record { name = name.0; frame = frame.0; system = system.0; geoid_models = geoid_models.0; tail = tail.0 }, record { name = name.1; frame = frame.1; system = system.1; geoid_models = geoid_models.1; tail = tail.1 })
+      (record { name = name.0; dynamic = dynamic.0; frame = frame.0; system = system.0; geoid_models = geoid_models.0; tail = tail.0 }, record { name = name.1; dynamic = dynamic.1; frame = frame.1; system = system.1; geoid_models = geoid_models.1; tail = tail.1 })
 
   as_geodetic-some : (c : Class) → IsGeodeticClass c → (item : Item) → IsSound c item → Exists (ReadsAsHorizontal c item)
   as_geodetic-some c is item g = let geodetic = geodetic-some c is item g in (horizontals.Geodetic geodetic.0, (is, geodetic.1))

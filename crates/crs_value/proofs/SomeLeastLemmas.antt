@@ -21,7 +21,8 @@ use Rattle.crs_value.specs.BadSystem.{HasType, HasDimension, IsOneOf, BadSystem,
 use Rattle.crs_value.specs.BadUnit.{asked_kind, Asks, Fits, units_in, LacksUnit, Misfits, BadOwnUnit, IsSuperfluous, HasOwnUnit, AllAsk, SharedFits, BadShared, BadUnit}
 use Rattle.crs_value.specs.UnknownWord.{UnknownType, UnknownDirection}
 use Rattle.crs_value.specs.Break.{at, AnyOf, FirstIs, IsLeast}
-use Rattle.crs_value.specs.Checks.{once, OfHead, OfAxes, OfCrs, OfCompound, OfUnit, OfEllipsoid, Own, AtClass, Breaks, BreaksAmong, horizontal_classes}
+use Rattle.crs_value.specs.BadDynamic.{BadDynamic, HasEnsemble, IsUnsteady}
+use Rattle.crs_value.specs.Checks.{anchors, once, OfHead, OfAxes, OfCrs, OfCompound, OfUnit, OfEllipsoid, Own, AtClass, Breaks, BreaksAmong, horizontal_classes}
 use Rattle.crs_value.specs.RepeatedPart.{IsRepeated, Repeats, RepeatsAny}
 use Rattle.crs_value.specs.Least.{lesser}
 use Rattle.crs_value.specs.Reading.{those, ReadsFirst}
@@ -249,13 +250,26 @@ module _ (numbers : Numbers) (one : DenotesOne) where
   head-least : (dims : SystemType → List ℕ) (axes : List Item) (cs : Item) → Ready class.CoordinateSystem cs → HasLeast (OfHead dims axes cs)
   head-least dims axes cs h = either-least (BadSystem dims cs) (AxisCount axes cs) (system-least dims cs h) (count-least axes cs h)
 
+  unsteady : (items : List Item) → HasLeast (AnyOf IsUnsteady items)
+  unsteady [] = nothing (AnyOf IsUnsteady []) (λ f x. x)
+  unsteady (item ∷ items) = either-least (IsUnsteady item) (AnyOf IsUnsteady items) (Some (at 29 item), least-is (at 29 item) (at 29 item) refl) (unsteady items)
+
+  dynamic-least : (c : Class) (item : Item) → HasLeast (BadDynamic c item)
+  dynamic-least c item =
+      under-least (HasEnsemble c item) (AnyOf IsUnsteady (those c class.Dynamic (arguments item)))
+      (decided-either (decided-not (decided-none (those c class.GeodeticEnsemble (arguments item)))) (decided-not (decided-none (those c class.VerticalEnsemble (arguments item)))))
+      (unsteady (those c class.Dynamic (arguments item)))
+
   crs-least : (dims : SystemType → List ℕ) (c : Class) (item : Item) → Ready c item → HasLeast (OfCrs dims c item)
   crs-least dims c item h =
-      either-least (RepeatsAny c (arguments item) once) (λ f. AnyOf (OfHead dims axes) systems f ⊎ OfAxes systems axes units f) (repeats-any-least c (arguments item) once)
+      either-least (RepeatsAny c (arguments item) once) (λ f. (AnyOf (OfHead dims axes) systems f ⊎ OfAxes systems axes units f) ⊎ BadDynamic c item f)
+      (repeats-any-least c (arguments item) once)
+      (either-least (λ f. AnyOf (OfHead dims axes) systems f ⊎ OfAxes systems axes units f) (BadDynamic c item)
       (either-least (AnyOf (OfHead dims axes) systems) (OfAxes systems axes units)
       (any-least (OfHead dims axes) class.CoordinateSystem (head-least dims axes) systems (those-ready c class.CoordinateSystem item h))
       (either-least (BadOrder axes) (AnyOf (BadUnit axes units) systems) (bad-order-least axes ready)
       (any-least (BadUnit axes units) class.CoordinateSystem (unit-least axes units ready) systems (those-ready c class.CoordinateSystem item h))))
+      (dynamic-least c item))
     where
       axes : List Item
       axes = those c class.Axis (arguments item)
@@ -293,8 +307,9 @@ module _ (numbers : Numbers) (one : DenotesOne) where
   own-least class.ProjectedCrs item h = crs-least (dimensions_of class.ProjectedCrs) class.ProjectedCrs item h
   own-least class.VerticalCrs item h = crs-least (dimensions_of class.VerticalCrs) class.VerticalCrs item h
   own-least class.CompoundCrs item h = compound-least item h
-  own-least class.GeodeticFrame item h = repeats-least class.GeodeticFrame (arguments item) class.Anchor
-  own-least class.VerticalFrame item h = repeats-least class.VerticalFrame (arguments item) class.Anchor
+  own-least class.BaseCrs item h = dynamic-least class.BaseCrs item
+  own-least class.GeodeticFrame item h = repeats-any-least class.GeodeticFrame (arguments item) anchors
+  own-least class.VerticalFrame item h = repeats-any-least class.VerticalFrame (arguments item) anchors
   own-least class.Ellipsoid item h = ellipsoid-least (those class.Ellipsoid class.Number (arguments item)) (those-ready class.Ellipsoid class.Number item h)
   own-least class.LengthUnit item h = units-least class.LengthUnit item h
   own-least class.AngleUnit item h = units-least class.AngleUnit item h

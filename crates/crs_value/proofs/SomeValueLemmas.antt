@@ -228,8 +228,9 @@ module _ (numbers : Numbers) (slots : SlotsCount) where
       let name = text-some c item g named in
       let ellipsoid = optional-some (ReadsEllipsoid class.Ellipsoid) c class.Ellipsoid item g (ellipsoid-some) in
       let anchor = optional-some (ReadsTextOf class.Anchor) c class.Anchor item g (λ i h. text-some class.Anchor i h (omega arith)) in
+      let anchor_epoch = optional-some (ReadsNumberOf class.AnchorEpoch) c class.AnchorEpoch item g (λ i h. number-of-some class.AnchorEpoch i h (omega arith)) in
       let identifiers = identifiers-some c item g in
-      (record { name = name.0; ellipsoid = ellipsoid.0; anchor = anchor.0; identifiers = identifiers.0 }, record { name = name.1; ellipsoid = ellipsoid.1; anchor = anchor.1; identifiers = identifiers.1 })
+      (record { name = name.0; ellipsoid = ellipsoid.0; anchor = anchor.0; anchor_epoch = anchor_epoch.0; identifiers = identifiers.0 }, record { name = name.1; ellipsoid = ellipsoid.1; anchor = anchor.1; anchor_epoch = anchor_epoch.1; identifiers = identifiers.1 })
 
   pub ensemble-some : (c : Class) → Requires c class.Text 0 → Requires c class.EnsembleAccuracy 0 → (item : Item) → IsSound c item → Exists (ReadsEnsemble c item)
   ensemble-some c named exact item g =

@@ -1,8 +1,9 @@
 -- What sound geodetic, projected and vertical CRSs say is sound.
-use Rattle.std.proofs.Common.{◌≡◌, IsTrue, inl, Option, Some, List, [], ◌∷◌, refl, sym, subst, arith}
+use Rattle.std.proofs.Common.{◌≡◌, IsTrue, inl, inr, Option, Some, List, [], ◌∷◌, refl, sym, subst, arith}
 use Rattle.std.specs.Prelude.{IsSome, IsNone}
 use Rattle.crs_decimal.specs.Value.{Value}
 use Rattle.crs_text.specs.Items.{Item, arguments}
+use Rattle.crs_text.specs.Refusal.{RefusedAt}
 use Rattle.crs_shape.specs.declared.class.Class.{Class}
 use Rattle.crs_shape.specs.declared.class.Class.TheVariants as class
 use Rattle.crs_shape.specs.Counts.{most, is_bounded}
@@ -13,7 +14,8 @@ use Rattle.crs_value.specs.declared.values.system_type.SystemType.{SystemType}
 use Rattle.crs_value.specs.declared.values.system_type.SystemType.TheVariants as types
 use Rattle.crs_value.specs.declared.values.unit_kind.UnitKind.TheVariants as kinds
 use Rattle.crs_value.specs.BadSystem.{IsOneOf, geodetic_dimensions, dimensions_of}
-use Rattle.crs_value.specs.Checks.{HasSystem, IsSound}
+use Rattle.crs_value.specs.BadDynamic.{BadDynamic}
+use Rattle.crs_value.specs.Checks.{HasSystem, IsSound, Own}
 use Rattle.crs_value.specs.Reading.{is_same, those, Requires, ReadsFirst, ReadsOptional, ReadsElse}
 use Rattle.crs_value.specs.Reads.{ReadsUnit, ReadsEllipsoid, ReadsMeridian, ReadsDatum, ReadsEnsemble, ReadsSystem}
 use Rattle.crs_value.specs.ReadsConversion.{ReadsConversion, ReadsGeoidModel}
@@ -25,9 +27,10 @@ use Rattle.crs_value.specs.SoundSingle.{IsGeodeticFrame, IsVerticalFrame, IsGeod
 use Rattle.crs_value.specs.Values.{SystemParts, EllipsoidParts, DatumParts, EnsembleParts}
 use Rattle.crs_value.proofs.ArgumentLemmas.{SlotsBound, AllSound, SlotsCount, arguments-sound, not-none}
 use Rattle.crs_value.proofs.SoundConversionLemmas.{conversion-tells, geoid-model-tells}
+use Rattle.crs_value.proofs.SoundDynamicLemmas.{dynamic-of-tells}
 use Rattle.crs_value.proofs.SoundFrameLemmas.{datum-tells, ensemble-tells, meridian-tells}
 use Rattle.crs_value.proofs.SoundLemmas.{Tells, first-tells, optional-tells, each-tells, text-of-tells, identifiers-tell, angle-tells}
-use Rattle.crs_value.proofs.SoundSystemLemmas.{read-none, read-there, system-allowed, system-free, system-tells}
+use Rattle.crs_value.proofs.SoundSystemLemmas.{own-of-crs, read-none, read-there, system-allowed, system-free, system-tells}
 use Rattle.crs_value.proofs.SoundUsageLemmas.{arguments-none, tail-tells}
 
 -- ---- frames
@@ -109,6 +112,9 @@ geodetic-tells law bound c is item value sound reads =
     let has = geodetic-system c is in
     record {
       name = text-of-tells c item value.name sound reads.name;
+      dynamic =
+          dynamic-of-tells class.GeodeticFrame class.GeodeticEnsemble c item value.frame value.dynamic sound (λ fault bad. own-of-crs c item fault has (inr (inr bad))) (λ some. inl some)
+          reads.frame reads.dynamic;
       frame = geodetic-frame-tells law c item value.frame sound reads.frame;
       meridian =
           optional-tells (ReadsMeridian class.PrimeMeridian) IsMeridian class.PrimeMeridian (meridian-tells class.PrimeMeridian) (those c class.PrimeMeridian (arguments item)) value.meridian
@@ -120,9 +126,16 @@ geodetic-tells law bound c is item value sound reads =
 
 -- ---- base and projected CRSs
 
-pub base-tells : SlotsCount → (c : Class) → Tells c (ReadsBase c) IsBase
-base-tells law c item value sound reads = record {
+own-of-base : (item : Item) (fault : RefusedAt) → BadDynamic class.BaseCrs item fault → Own class.BaseCrs item fault
+unfolding Own
+own-of-base item fault bad = bad
+
+pub base-tells : SlotsCount → Tells class.BaseCrs (ReadsBase class.BaseCrs) IsBase
+base-tells law item value sound reads = let c = class.BaseCrs in record {
   name = text-of-tells c item value.name sound reads.name;
+  dynamic =
+      dynamic-of-tells class.GeodeticFrame class.GeodeticEnsemble c item value.frame value.dynamic sound (own-of-base item) (λ some. inl some)
+      reads.frame reads.dynamic;
   frame = geodetic-frame-tells law c item value.frame sound reads.frame;
   meridian =
       optional-tells (ReadsMeridian class.PrimeMeridian) IsMeridian class.PrimeMeridian (meridian-tells class.PrimeMeridian) (those c class.PrimeMeridian (arguments item)) value.meridian
@@ -137,7 +150,7 @@ pub projected-tells : SlotsCount → SlotsBound → Tells class.ProjectedCrs (Re
 projected-tells law bound item value sound reads = record {
   name = text-of-tells class.ProjectedCrs item value.name sound reads.name;
   base =
-      first-tells (ReadsBase class.BaseCrs) IsBase class.BaseCrs (base-tells law class.BaseCrs) (those class.ProjectedCrs class.BaseCrs (arguments item)) value.base
+      first-tells (ReadsBase class.BaseCrs) IsBase class.BaseCrs (base-tells law) (those class.ProjectedCrs class.BaseCrs (arguments item)) value.base
       (arguments-sound class.ProjectedCrs class.BaseCrs item sound) reads.base;
   conversion =
       first-tells (ReadsConversion class.Conversion) IsConversion class.Conversion (conversion-tells class.Conversion) (those class.ProjectedCrs class.Conversion (arguments item)) value.conversion
@@ -152,6 +165,9 @@ projected-tells law bound item value sound reads = record {
 pub vertical-tells : SlotsCount → SlotsBound → Tells class.VerticalCrs (ReadsVertical class.VerticalCrs) IsVertical
 vertical-tells law bound item value sound reads = record {
   name = text-of-tells class.VerticalCrs item value.name sound reads.name;
+  dynamic =
+      dynamic-of-tells class.VerticalFrame class.VerticalEnsemble class.VerticalCrs item value.frame value.dynamic sound
+      (λ fault bad. own-of-crs class.VerticalCrs item fault tt (inr (inr bad))) (λ some. inr some) reads.frame reads.dynamic;
   frame = vertical-frame-tells law bound class.VerticalCrs item value.frame sound reads.frame;
   system = system-tells law class.VerticalCrs tt (omega arith) item value.system sound reads.system;
   dimension = allowed-by class.VerticalCrs item value.system tt sound reads.system;

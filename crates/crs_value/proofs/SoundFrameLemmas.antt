@@ -87,6 +87,9 @@ datum-tells c item value sound reads = record {
       optional-tells (ReadsEllipsoid class.Ellipsoid) IsEllipsoid class.Ellipsoid (ellipsoid-tells class.Ellipsoid refl) (those c class.Ellipsoid (arguments item)) value.ellipsoid
       (arguments-sound c class.Ellipsoid item sound) reads.ellipsoid;
   anchor = optional-text-tells c class.Anchor item value.anchor sound reads.anchor;
+  anchor_epoch =
+      optional-tells (ReadsNumberOf class.AnchorEpoch) IsNormal class.AnchorEpoch (number-of-tells class.AnchorEpoch) (those c class.AnchorEpoch (arguments item)) value.anchor_epoch
+      (arguments-sound c class.AnchorEpoch item sound) reads.anchor_epoch;
   identifiers = identifiers-tell c item value.identifiers sound reads.identifiers;
 }
 

@@ -265,7 +265,7 @@ units-tell (cs ∷ more) axes units parts free head reads unit =
 
 -- ---- the whole system
 
-own-of-crs : (c : Class) (item : Item) (fault : RefusedAt) → HasSystem c → OfCrs (dimensions_of c) c item fault → Own c item fault
+pub own-of-crs : (c : Class) (item : Item) (fault : RefusedAt) → HasSystem c → OfCrs (dimensions_of c) c item fault → Own c item fault
 unfolding Own
 own-of-crs class.GeodeticCrs item fault is h = h
 own-of-crs class.GeographicCrs item fault is h = h
@@ -278,7 +278,7 @@ pub system-free : (c : Class) (item : Item) (parts : SystemParts) → HasSystem 
     BadSystems (dimensions_of c) (those c class.CoordinateSystem (arguments item)) (those c class.Axis (arguments item)) (those c class.AxisUnit (arguments item)) fault → ⊥
 system-free c (leaf kind place raw) parts is sound reads fault bad = absurd reads.head
 system-free c (node place keyword square first others close) parts is sound reads fault bad =
-    sound.unbroken fault (inl (own-of-crs c (node place keyword square first others close) fault is (inr bad)))
+    sound.unbroken fault (inl (own-of-crs c (node place keyword square first others close) fault is (inr (inl bad))))
 
 head-number : (systems : List Item) (parts : SystemParts) → AllSound class.CoordinateSystem systems → ReadsFirst ReadsHead systems parts → IsNormal parts.dimension
 head-number [] parts sound reads = absurd reads

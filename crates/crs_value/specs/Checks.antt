@@ -11,10 +11,11 @@ use Rattle.crs_value.specs.declared.values.system_type.SystemType.{SystemType}
 use Rattle.crs_value.specs.Reading.{those}
 use Rattle.crs_value.specs.Break.{AnyOf}
 use Rattle.crs_value.specs.UnknownWord.{UnknownType, UnknownDirection}
-use Rattle.crs_value.specs.RepeatedPart.{Repeats, RepeatsAny}
+use Rattle.crs_value.specs.RepeatedPart.{RepeatsAny}
 use Rattle.crs_value.specs.BadSystem.{geodetic_dimensions, geographic_dimensions, projected_dimensions}
 use Rattle.crs_value.specs.BadSystem.{vertical_dimensions, BadSystem}
 use Rattle.crs_value.specs.BadComponent.{BadComponents}
+use Rattle.crs_value.specs.BadDynamic.{BadDynamic}
 use Rattle.crs_value.specs.AxisCount.{AxisCount}
 use Rattle.crs_value.specs.BadOrder.{BadOrder}
 use Rattle.crs_value.specs.BadUnit.{BadUnit}
@@ -23,6 +24,10 @@ use Rattle.crs_value.specs.BadValue.{NotAbove, IsNegative}
 -- what may stand once alone at a CRS's end
 abbrev pub once : List Class
 once = class.Scope ∷ class.Area ∷ class.BoundingBox ∷ class.VerticalExtent ∷ class.Remark ∷ []
+
+-- what may stand once alone in a reference frame
+abbrev pub anchors : List Class
+anchors = class.Anchor ∷ class.AnchorEpoch ∷ []
 
 -- the checks of a node `CS` with the axes beside it
 abbrev pub OfHead : (SystemType → List ℕ) → List Item → Item → RefusedAt → Type 0
@@ -49,8 +54,8 @@ HasSystem other = ⊥
 abbrev pub OfCrs : (SystemType → List ℕ) → Class → Item → RefusedAt → Type 0
 OfCrs dimensions c item fault =
     RepeatsAny c (arguments item) once fault
-    ⊎ BadSystems dimensions (those c class.CoordinateSystem (arguments item)) (those c class.Axis (arguments item))
-    (those c class.AxisUnit (arguments item)) fault
+    ⊎ (BadSystems dimensions (those c class.CoordinateSystem (arguments item)) (those c class.Axis (arguments item))
+    (those c class.AxisUnit (arguments item)) fault ⊎ BadDynamic c item fault)
 
 -- the classes of a compound's horizontal part
 abbrev pub horizontal_classes : List Class
@@ -74,9 +79,10 @@ Own class.GeodeticCrs item fault = OfCrs geodetic_dimensions class.GeodeticCrs i
 Own class.GeographicCrs item fault = OfCrs geographic_dimensions class.GeographicCrs item fault
 Own class.ProjectedCrs item fault = OfCrs projected_dimensions class.ProjectedCrs item fault
 Own class.VerticalCrs item fault = OfCrs vertical_dimensions class.VerticalCrs item fault
+Own class.BaseCrs item fault = BadDynamic class.BaseCrs item fault
 Own class.CompoundCrs item fault = OfCompound (arguments item) fault
-Own class.GeodeticFrame item fault = Repeats class.GeodeticFrame (arguments item) class.Anchor fault
-Own class.VerticalFrame item fault = Repeats class.VerticalFrame (arguments item) class.Anchor fault
+Own class.GeodeticFrame item fault = RepeatsAny class.GeodeticFrame (arguments item) anchors fault
+Own class.VerticalFrame item fault = RepeatsAny class.VerticalFrame (arguments item) anchors fault
 Own class.Ellipsoid item fault = OfEllipsoid (those class.Ellipsoid class.Number (arguments item)) fault
 Own class.LengthUnit item fault = OfUnit class.LengthUnit item fault
 Own class.AngleUnit item fault = OfUnit class.AngleUnit item fault

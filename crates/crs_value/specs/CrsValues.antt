@@ -1,12 +1,14 @@
 -- Geodetic, projected and vertical CRSs as they are written.
 use Rattle.std.specs.Prelude.{ℕ, List, Option}
 use Rattle.crs_value.specs.ConversionValues.{ConversionParts, GeoidModelParts}
+use Rattle.crs_value.specs.DynamicValues.{DynamicParts}
 use Rattle.crs_value.specs.Values.{IdentParts, UnitParts, MeridianParts, SystemParts, TailParts}
 use Rattle.crs_value.specs.declared.values.frame.Frame.{Frame}
 
 -- a geodetic or geographic CRS
 pub record GeodeticParts : Type 0 where
   pub name : List ℕ
+  pub dynamic : Option DynamicParts
   pub frame : Frame
   pub meridian : Option MeridianParts
   pub system : SystemParts
@@ -15,6 +17,7 @@ pub record GeodeticParts : Type 0 where
 -- the CRS that a projected one is based on, and the unit of its angles, if one is written
 pub record BaseParts : Type 0 where
   pub name : List ℕ
+  pub dynamic : Option DynamicParts
   pub frame : Frame
   pub meridian : Option MeridianParts
   pub unit : Option UnitParts
@@ -31,6 +34,7 @@ pub record ProjectedParts : Type 0 where
 -- a vertical CRS
 pub record VerticalParts : Type 0 where
   pub name : List ℕ
+  pub dynamic : Option DynamicParts
   pub frame : Frame
   pub system : SystemParts
   pub geoid_models : List GeoidModelParts

@@ -1,5 +1,6 @@
 pub mod AxisCount
 pub mod BadComponent
+pub mod BadDynamic
 pub mod BadOrder
 pub mod BadSystem
 pub mod BadUnit
@@ -9,6 +10,7 @@ pub mod Checks
 pub mod CompoundValues
 pub mod ConversionValues
 pub mod CrsValues
+pub mod DynamicValues
 pub mod FirstByte
 pub mod Found
 pub mod Kept
@@ -19,11 +21,13 @@ pub mod Reading
 pub mod Reads
 pub mod ReadsConversion
 pub mod ReadsCrs
+pub mod ReadsDynamic
 pub mod RepeatedPart
 pub mod Sound
 pub mod SoundCompound
 pub mod SoundConversion
 pub mod SoundCrs
+pub mod SoundDynamic
 pub mod SoundFrames
 pub mod SoundSingle
 pub mod SoundSystem

@@ -25,3 +25,4 @@ pub record AreFirsts (tree : Item) (parent : Class) (items : Siblings) (firsts :
   pub remark : IsFound tree parent class.Remark (those parent class.Remark items) firsts.remark
   pub usage : IsFound tree parent class.Usage (those parent class.Usage items) firsts.usage
   pub identifier : IsFound tree parent class.Identifier (those parent class.Identifier items) firsts.identifier
+  pub dynamic : IsFound tree parent class.Dynamic (those parent class.Dynamic items) firsts.dynamic

@@ -132,12 +132,14 @@ pub record ReadsMember (c : Class) (item : Item) (parts : MemberParts) : Type 0 
   pub name : ReadsTextOf c item parts.name
   pub identifiers : ReadsIds c item parts.identifiers
 
--- a frame's anchor is its first; a second is a repeated part
+-- a frame's anchor and its anchor's epoch are its first; a second is a repeated part
 pub record ReadsDatum (c : Class) (item : Item) (parts : DatumParts) : Type 0 where
   pub name : ReadsTextOf c item parts.name
   pub ellipsoid : ReadsOptional (ReadsEllipsoid class.Ellipsoid)
       (those c class.Ellipsoid (arguments item)) parts.ellipsoid
   pub anchor : ReadsOptional (ReadsTextOf class.Anchor) (those c class.Anchor (arguments item)) parts.anchor
+  pub anchor_epoch : ReadsOptional (ReadsNumberOf class.AnchorEpoch)
+      (those c class.AnchorEpoch (arguments item)) parts.anchor_epoch
   pub identifiers : ReadsIds c item parts.identifiers
 
 pub record ReadsEnsemble (c : Class) (item : Item) (parts : EnsembleParts) : Type 0 where

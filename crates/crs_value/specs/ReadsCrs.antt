@@ -19,6 +19,7 @@ use Rattle.crs_value.specs.Reading.{those, ReadsFirst, ReadsOptional, ReadsEach,
 use Rattle.crs_value.specs.Reads.{ReadsTextOf, ReadsIds, ReadsUnit, ReadsDatum, ReadsEnsemble, ReadsMeridian}
 use Rattle.crs_value.specs.Reads.{ReadsSystem, ReadsTail}
 use Rattle.crs_value.specs.ReadsConversion.{ReadsConversion, ReadsGeoidModel}
+use Rattle.crs_value.specs.ReadsDynamic.{ReadsDynamic}
 
 -- the item is a reference frame of this class, and this is its value
 abbrev pub ReadsAsDatum : Class → Item → Frame → Type 0
@@ -50,6 +51,7 @@ IsGeodeticClass other = ⊥
 
 pub record ReadsGeodetic (c : Class) (item : Item) (parts : GeodeticParts) : Type 0 where
   pub name : ReadsTextOf c item parts.name
+  pub dynamic : ReadsOptional (ReadsDynamic class.Dynamic) (those c class.Dynamic (arguments item)) parts.dynamic
   pub frame : ReadsGeodeticFrame c item parts.frame
   pub meridian : ReadsOptional (ReadsMeridian class.PrimeMeridian)
       (those c class.PrimeMeridian (arguments item)) parts.meridian
@@ -58,6 +60,7 @@ pub record ReadsGeodetic (c : Class) (item : Item) (parts : GeodeticParts) : Typ
 
 pub record ReadsBase (c : Class) (item : Item) (parts : BaseParts) : Type 0 where
   pub name : ReadsTextOf c item parts.name
+  pub dynamic : ReadsOptional (ReadsDynamic class.Dynamic) (those c class.Dynamic (arguments item)) parts.dynamic
   pub frame : ReadsGeodeticFrame c item parts.frame
   pub meridian : ReadsOptional (ReadsMeridian class.PrimeMeridian)
       (those c class.PrimeMeridian (arguments item)) parts.meridian
@@ -74,6 +77,7 @@ pub record ReadsProjected (c : Class) (item : Item) (parts : ProjectedParts) : T
 
 pub record ReadsVertical (c : Class) (item : Item) (parts : VerticalParts) : Type 0 where
   pub name : ReadsTextOf c item parts.name
+  pub dynamic : ReadsOptional (ReadsDynamic class.Dynamic) (those c class.Dynamic (arguments item)) parts.dynamic
   pub frame : ReadsVerticalFrame c item parts.frame
   pub system : ReadsSystem c item parts.system
   pub geoid_models : ReadsEach (ReadsGeoidModel class.GeoidModel)

@@ -30,6 +30,7 @@ pub record IsDatum (datum : DatumParts) : Type 0 where
   pub name : IsText datum.name
   pub ellipsoid : IfSome datum.ellipsoid IsEllipsoid
   pub anchor : IfSome datum.anchor IsText
+  pub anchor_epoch : IfSome datum.anchor_epoch IsNormal
   pub identifiers : Each IsIdent datum.identifiers
 
 -- a datum ensemble has at least one member

@@ -1,12 +1,14 @@
 -- What is asked of geodetic, projected and vertical CRSs, and of base CRSs, by themselves.
-use Rattle.std.specs.Prelude.{IfSome, IsSome, IsNone}
+use Rattle.std.specs.Prelude.{IfSome, IsSome, IsNone, Option, Some, None}
 use Rattle.crs_value.specs.declared.values.frame.Frame.{Frame}
 use Rattle.crs_value.specs.declared.values.frame.Frame.TheVariants as frame
 use Rattle.crs_value.specs.declared.values.unit_kind.UnitKind.TheVariants as kinds
 use Rattle.crs_value.specs.BadSystem.{IsOneOf, geodetic_dimensions, projected_dimensions, vertical_dimensions}
 use Rattle.crs_value.specs.CrsValues.{GeodeticParts, BaseParts, ProjectedParts, VerticalParts}
+use Rattle.crs_value.specs.DynamicValues.{DynamicParts}
 use Rattle.crs_value.specs.Sound.{Each, IsText, IsIdent, IsUnitOf}
 use Rattle.crs_value.specs.SoundConversion.{IsConversion, IsGeoidModel}
+use Rattle.crs_value.specs.SoundDynamic.{IsDynamic}
 use Rattle.crs_value.specs.SoundFrames.{IsMeridian, IsDatum, IsEnsemble}
 use Rattle.crs_value.specs.SoundSystem.{IsSystem}
 use Rattle.crs_value.specs.SoundUsages.{IsTail}
@@ -21,9 +23,16 @@ abbrev pub IsVerticalFrame : Frame → Type 0
 IsVerticalFrame (frame.Datum datum) = IsDatum datum × IsNone datum.ellipsoid
 IsVerticalFrame (frame.Ensemble ensemble) = IsEnsemble ensemble × IsNone ensemble.ellipsoid
 
+-- a dynamic part stands beside a reference frame alone
+abbrev pub IsDynamicOf : Option DynamicParts → Frame → Type 0
+IsDynamicOf None held = Unit {0}
+IsDynamicOf (Some dynamic) (frame.Datum datum) = IsDynamic dynamic
+IsDynamicOf (Some dynamic) (frame.Ensemble ensemble) = ⊥
+
 -- the dimension is one that a geodetic CRS allows for the type of its system
 pub record IsGeodetic (geodetic : GeodeticParts) : Type 0 where
   pub name : IsText geodetic.name
+  pub dynamic : IsDynamicOf geodetic.dynamic geodetic.frame
   pub frame : IsGeodeticFrame geodetic.frame
   pub meridian : IfSome geodetic.meridian IsMeridian
   pub system : IsSystem geodetic.system
@@ -32,6 +41,7 @@ pub record IsGeodetic (geodetic : GeodeticParts) : Type 0 where
 
 pub record IsBase (base : BaseParts) : Type 0 where
   pub name : IsText base.name
+  pub dynamic : IsDynamicOf base.dynamic base.frame
   pub frame : IsGeodeticFrame base.frame
   pub meridian : IfSome base.meridian IsMeridian
   pub unit : IfSome base.unit (IsUnitOf kinds.Angle)
@@ -49,6 +59,7 @@ pub record IsProjected (projected : ProjectedParts) : Type 0 where
 -- and of a vertical one
 pub record IsVertical (vertical : VerticalParts) : Type 0 where
   pub name : IsText vertical.name
+  pub dynamic : IsDynamicOf vertical.dynamic vertical.frame
   pub frame : IsVerticalFrame vertical.frame
   pub system : IsSystem vertical.system
   pub dimension : IsOneOf vertical.system.dimension (vertical_dimensions vertical.system.system_type)

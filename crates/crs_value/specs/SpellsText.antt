@@ -28,4 +28,4 @@ IsFrom low high n = (low ≤ n) × (n ≤ high)
 
 -- the numbers of refusals: of a text, of its shape, of its value
 abbrev pub IsRefusal : ℕ → Type 0
-IsRefusal n = IsFrom 1 8 n ⊎ (IsFrom 11 13 n ⊎ IsFrom 21 28 n)
+IsRefusal n = IsFrom 1 8 n ⊎ (IsFrom 11 13 n ⊎ IsFrom 21 29 n)

@@ -69,6 +69,7 @@ pub record DatumParts : Type 0 where
   pub name : List ℕ
   pub ellipsoid : Option EllipsoidParts
   pub anchor : Option (List ℕ)
+  pub anchor_epoch : Option Value
   pub identifiers : List IdentParts
 
 -- a datum ensemble, with its ellipsoid if it is geodetic

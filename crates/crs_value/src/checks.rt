@@ -1,6 +1,7 @@
 //! Checks of items of the right shape: which is broken first.
 pub(crate) mod component;
 pub(crate) mod crs;
+pub(crate) mod dynamic;
 pub(crate) mod order;
 pub(crate) mod own;
 pub(crate) mod repeats;

@@ -13,6 +13,7 @@ pub use values::compound::{Compound, Horizontal};
 pub use values::conversion::{Conversion, Method, Parameter};
 pub use values::crs::{Crs, Kind};
 pub use values::direction::Direction;
+pub use values::dynamic::{DeformationModel, Dynamic};
 pub use values::ellipsoid::Ellipsoid;
 pub use values::frame::{Datum, Ensemble, Frame, Member};
 pub use values::geodetic::Geodetic;

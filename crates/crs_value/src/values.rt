@@ -6,6 +6,7 @@ pub(crate) mod conversion;
 pub(crate) mod crs;
 pub(crate) mod crs_frame;
 pub(crate) mod direction;
+pub(crate) mod dynamic;
 pub(crate) mod ellipsoid;
 pub(crate) mod frame;
 pub(crate) mod geodetic;

@@ -1,5 +1,6 @@
 //! Coordinate reference systems.
 ghost use Rattle.std.specs.Prelude.{◌≡◌, ◌∷◌, ◌++◌, [], OnOk, codes};
+ghost use Rattle.std.specs.Option.{option_map};
 ghost use Rattle.crs_text.specs.Items.{End, More};
 ghost use Rattle.crs_text.specs.Written.{item_text, others_text};
 ghost use Rattle.crs_value.specs.declared.values.unit_kind.UnitKind.TheVariants as kinds;
@@ -8,6 +9,7 @@ ghost use Rattle.crs_normal.specs.SpelledConversions.{set_geoid_models};
 ghost use Rattle.crs_normal.specs.SpelledCrs.{geodetic_keyword, item_base, item_compound, item_crs, item_geodetic};
 ghost use Rattle.crs_normal.specs.SpelledCrs.{item_horizontal, item_projected, item_vertical, norm_base, norm_compound};
 ghost use Rattle.crs_normal.specs.SpelledCrs.{norm_crs, norm_geodetic, norm_horizontal, norm_projected, norm_vertical};
+ghost use Rattle.crs_normal.specs.SpelledDynamic.{item_dynamic, norm_dynamic};
 ghost use Rattle.crs_normal.specs.SpelledFrames.{item_frame, item_meridian, norm_frame, norm_meridian};
 ghost use Rattle.crs_normal.specs.SpelledItems.{each, opt};
 ghost use Rattle.crs_normal.specs.SpelledSystems.{norm_system, system_items};
@@ -15,6 +17,7 @@ ghost use Rattle.crs_normal.specs.SpelledUnits.{item_ident, item_unit, norm_unit
 ghost use Rattle.crs_normal.specs.SpelledUsages.{norm_tail, tail_items};
 
 use crate::spelling::conversion::{write_conversion, write_geoid_models};
+use crate::spelling::dynamic::write_optional_dynamic;
 use crate::spelling::frame::{write_geodetic_frame, write_vertical_frame};
 use crate::spelling::ident::write_idents;
 use crate::spelling::meridian::write_meridian;
@@ -73,6 +76,22 @@ fn write_from_frame(
     write_from_meridian(out, geodetic, level)
 }
 
+#[tactic(auto, using(crate::proofs::PieceLemmas::then_rules))]
+fn write_from_dynamic(
+    out: &mut Vec<u8>,
+    geodetic: &Geodetic<'_>,
+    level: Level,
+) -> Result<(), AllocError>
+    ensures { OnOk result (out.new.items ≡ out.old.items ++ others_text
+        (opt item_dynamic (option_map (norm_dynamic level) geodetic.now.dynamic)
+        (More (item_frame (codes "DATUM") (norm_frame level geodetic.now.frame))
+        (opt item_meridian (norm_meridian level geodetic.now.meridian)
+        (system_items (norm_system level geodetic.now.system) (tail_items (norm_tail level geodetic.now.tail))))))) }
+{
+    write_optional_dynamic(out, &geodetic.dynamic, level)?;
+    write_from_frame(out, geodetic, level)
+}
+
 fn geodetic_opening(system_type: SystemType) -> &'static str
     ensures { result.now ≡ geodetic_keyword system_type ++ 91 ∷ 34 ∷ [] }
 {
@@ -92,7 +111,7 @@ pub(crate) fn write_geodetic(
 {
     let opening = geodetic_opening(geodetic.system.system_type).as_bytes();
     open_text(out, opening, geodetic.name)?;
-    write_from_frame(out, geodetic, level)?;
+    write_from_dynamic(out, geodetic, level)?;
     append(out, b"]")
 }
 
@@ -135,12 +154,29 @@ fn write_base_from_frame(out: &mut Vec<u8>, base: &Base<'_>, level: Level) -> Re
     write_base_from_meridian(out, base, level)
 }
 
+#[tactic(auto, using(crate::proofs::PieceLemmas::then_rules))]
+fn write_base_from_dynamic(
+    out: &mut Vec<u8>,
+    base: &Base<'_>,
+    level: Level,
+) -> Result<(), AllocError>
+    ensures { OnOk result (out.new.items ≡ out.old.items ++ others_text
+        (opt item_dynamic (option_map (norm_dynamic level) base.now.dynamic)
+        (More (item_frame (codes "DATUM") (norm_frame level base.now.frame))
+        (opt item_meridian (norm_meridian level base.now.meridian)
+        (opt item_unit (norm_units level kinds.Angle base.now.unit)
+        (each item_ident (set_idents level base.now.identifiers) End)))))) }
+{
+    write_optional_dynamic(out, &base.dynamic, level)?;
+    write_base_from_frame(out, base, level)
+}
+
 // Behind a comma.
 pub(crate) fn write_base(out: &mut Vec<u8>, base: &Base<'_>, level: Level) -> Result<(), AllocError>
     ensures { OnOk result (out.new.items ≡ out.old.items ++ 44 ∷ item_text (item_base (norm_base level base.now))) }
 {
     open_text(out, b",BASEGEOGCRS[\"", base.name)?;
-    write_base_from_frame(out, base, level)?;
+    write_base_from_dynamic(out, base, level)?;
     append(out, b"]")
 }
 
@@ -233,6 +269,23 @@ fn write_from_vertical_frame(
     write_from_vertical_system(out, vertical, level)
 }
 
+#[tactic(auto, using(crate::proofs::PieceLemmas::then_rules))]
+fn write_from_vertical_dynamic(
+    out: &mut Vec<u8>,
+    vertical: &Vertical<'_>,
+    level: Level,
+) -> Result<(), AllocError>
+    ensures { OnOk result (out.new.items ≡ out.old.items ++ others_text
+        (opt item_dynamic (option_map (norm_dynamic level) vertical.now.dynamic)
+        (More (item_frame (codes "VDATUM") (norm_frame level vertical.now.frame))
+        (system_items (norm_system level vertical.now.system)
+        (each item_geoid_model (set_geoid_models level vertical.now.geoid_models)
+        (tail_items (norm_tail level vertical.now.tail))))))) }
+{
+    write_optional_dynamic(out, &vertical.dynamic, level)?;
+    write_from_vertical_frame(out, vertical, level)
+}
+
 pub(crate) fn write_vertical(
     out: &mut Vec<u8>,
     vertical: &Vertical<'_>,
@@ -242,7 +295,7 @@ pub(crate) fn write_vertical(
         ≡ out.old.items ++ item_text (item_vertical (norm_vertical level vertical.now))) }
 {
     open_text(out, b"VERTCRS[\"", vertical.name)?;
-    write_from_vertical_frame(out, vertical, level)?;
+    write_from_vertical_dynamic(out, vertical, level)?;
     append(out, b"]")
 }
 

@@ -50,20 +50,51 @@ fn write_anchor(out: &mut Vec<u8>, anchor: Option<&[u8]>) -> Result<(), AllocErr
     write_optional_text(out, b",ANCHOR[\"", anchor)
 }
 
+fn write_anchor_epoch(out: &mut Vec<u8>, epoch: &Option<Decimal>) -> Result<(), AllocError>
+    ensures { OnOk result (out.new.items
+        ≡ out.old.items ++ others_text (opt (number_node (codes "ANCHOREPOCH")) epoch.now End)) }
+{
+    match epoch {
+        None => Ok(()),
+        Some(epoch) => {
+            open_number(out, b",ANCHOREPOCH[", epoch)?;
+            append(out, b"]")
+        }
+    }
+}
+
+#[tactic(auto, using(crate::proofs::PieceLemmas::then_rules))]
+fn write_from_anchor_epoch(
+    out: &mut Vec<u8>,
+    datum: &Datum<'_>,
+    level: Level,
+) -> Result<(), AllocError>
+    ensures { OnOk result (out.new.items ≡ out.old.items ++ others_text
+        (opt (number_node (codes "ANCHOREPOCH")) datum.now.anchor_epoch
+        (each item_ident (set_idents level datum.now.identifiers) End))) }
+{
+    write_anchor_epoch(out, &datum.anchor_epoch)?;
+    write_idents(out, &datum.identifiers, level)
+}
+
 #[tactic(auto, using(crate::proofs::PieceLemmas::then_rules))]
 fn write_from_anchor(out: &mut Vec<u8>, datum: &Datum<'_>, level: Level) -> Result<(), AllocError>
     ensures { OnOk result (out.new.items ≡ out.old.items ++ others_text
-        (opt (text_node (codes "ANCHOR")) datum.now.anchor (each item_ident (set_idents level datum.now.identifiers) End))) }
+        (opt (text_node (codes "ANCHOR")) datum.now.anchor
+        (opt (number_node (codes "ANCHOREPOCH")) datum.now.anchor_epoch
+        (each item_ident (set_idents level datum.now.identifiers) End)))) }
 {
     write_anchor(out, datum.anchor)?;
-    write_idents(out, &datum.identifiers, level)
+    write_from_anchor_epoch(out, datum, level)
 }
 
 #[tactic(auto, using(crate::proofs::PieceLemmas::then_rules))]
 fn write_behind_name(out: &mut Vec<u8>, datum: &Datum<'_>, level: Level) -> Result<(), AllocError>
     ensures { OnOk result (out.new.items ≡ out.old.items ++ others_text
         (opt item_ellipsoid (option_map (norm_ellipsoid level) datum.now.ellipsoid)
-        (opt (text_node (codes "ANCHOR")) datum.now.anchor (each item_ident (set_idents level datum.now.identifiers) End)))) }
+        (opt (text_node (codes "ANCHOR")) datum.now.anchor
+        (opt (number_node (codes "ANCHOREPOCH")) datum.now.anchor_epoch
+        (each item_ident (set_idents level datum.now.identifiers) End))))) }
 {
     write_optional_ellipsoid(out, &datum.ellipsoid, level)?;
     write_from_anchor(out, datum, level)
@@ -77,7 +108,9 @@ fn write_datum(
 ) -> Result<(), AllocError>
     ensures { OnOk result (out.new.items ≡ out.old.items ++ named opening.now datum.now.name
         (opt item_ellipsoid (option_map (norm_ellipsoid level) datum.now.ellipsoid)
-        (opt (text_node (codes "ANCHOR")) datum.now.anchor (each item_ident (set_idents level datum.now.identifiers) End)))) }
+        (opt (text_node (codes "ANCHOR")) datum.now.anchor
+        (opt (number_node (codes "ANCHOREPOCH")) datum.now.anchor_epoch
+        (each item_ident (set_idents level datum.now.identifiers) End))))) }
 {
     open_text(out, opening, datum.name)?;
     write_behind_name(out, datum, level)?;

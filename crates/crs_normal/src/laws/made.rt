@@ -6,6 +6,7 @@ ghost use Rattle.crs_text.specs.Written.{at_place, item_text};
 ghost use Rattle.crs_value.specs.ConversionValues.{ConversionParts, GeoidModelParts, MethodParts, ParameterParts};
 ghost use Rattle.crs_value.specs.CrsValues.{BaseParts, GeodeticParts, ProjectedParts, VerticalParts};
 ghost use Rattle.crs_value.specs.CompoundValues.{CompoundParts};
+ghost use Rattle.crs_value.specs.DynamicValues.{DeformationModelParts, DynamicParts};
 ghost use Rattle.crs_value.specs.declared.values.crs.Crs.{Crs};
 ghost use Rattle.crs_value.specs.declared.values.frame.Frame.{Frame};
 ghost use Rattle.crs_value.specs.declared.values.level.Level.{Level};
@@ -15,6 +16,7 @@ ghost use Rattle.crs_value.specs.Sound.{Each, IsAxisMeridian, IsIdent, IsUnit};
 ghost use Rattle.crs_value.specs.SoundConversion.{IsConversion, IsGeoidModel, IsMethod, IsParameter};
 ghost use Rattle.crs_value.specs.SoundCompound.{IsCompound};
 ghost use Rattle.crs_value.specs.SoundCrs.{IsCrs};
+ghost use Rattle.crs_value.specs.SoundDynamic.{IsDeformationModel, IsDynamic};
 ghost use Rattle.crs_value.specs.SoundFrames.{IsEllipsoid, IsMember, IsMeridian};
 ghost use Rattle.crs_value.specs.SoundSingle.{IsBase, IsGeodetic, IsGeodeticFrame, IsProjected, IsVertical};
 ghost use Rattle.crs_value.specs.SoundSingle.{IsVerticalFrame};
@@ -31,6 +33,8 @@ ghost use Rattle.crs_normal.specs.SpelledConversions.{norm_conversion, norm_geoi
 ghost use Rattle.crs_normal.specs.SpelledCrs.{item_base, item_compound, item_crs, item_geodetic, item_projected};
 ghost use Rattle.crs_normal.specs.SpelledCrs.{item_vertical, norm_base, norm_compound, norm_crs, norm_geodetic};
 ghost use Rattle.crs_normal.specs.SpelledCrs.{norm_projected, norm_vertical};
+ghost use Rattle.crs_normal.specs.SpelledDynamic.{item_deformation_model, item_dynamic};
+ghost use Rattle.crs_normal.specs.SpelledDynamic.{norm_deformation_model, norm_dynamic};
 ghost use Rattle.crs_normal.specs.SpelledFrames.{greenwich, item_ellipsoid, item_frame, item_member, item_meridian};
 ghost use Rattle.crs_normal.specs.SpelledFrames.{norm_ellipsoid, norm_frame, norm_given, norm_member};
 ghost use Rattle.crs_normal.specs.SpelledSystems.{item_axis, item_axis_meridian, item_head, norm_axis_meridian};
@@ -118,6 +122,23 @@ pub fn made_method_is_normal()
 pub fn made_geoid_model_is_normal()
     ensures { (level : Level) (model : GeoidModelParts) (place : ℕ) → IsGeoidModel model →
         IsMade level class.GeoidModel 3 (at_place place (item_geoid_model (norm_geoid_model level model))) }
+{
+    decimal_laws();
+}
+
+/// The item of a deformation model.
+pub fn made_deformation_model_is_normal()
+    ensures { (level : Level) (model : DeformationModelParts) (place : ℕ) → IsDeformationModel model →
+        IsMade level class.DeformationModel 3
+        (at_place place (item_deformation_model (norm_deformation_model level model))) }
+{
+    decimal_laws();
+}
+
+/// The item of a dynamic part.
+pub fn made_dynamic_is_normal()
+    ensures { (level : Level) (dynamic : DynamicParts) (place : ℕ) → IsDynamic dynamic →
+        IsMade level class.Dynamic 4 (at_place place (item_dynamic (norm_dynamic level dynamic))) }
 {
     decimal_laws();
 }

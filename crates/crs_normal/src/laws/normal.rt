@@ -10,6 +10,7 @@ ghost use Rattle.crs_value.specs.Reads.{ReadsUsage};
 ghost use Rattle.crs_value.specs.ReadsConversion.{ReadsMethod, ReadsParameter, ReadsConversion, ReadsGeoidModel};
 ghost use Rattle.crs_value.specs.ReadsCrs.{ReadsBase, ReadsGeodetic, ReadsProjected, ReadsVertical, ReadsCompound};
 ghost use Rattle.crs_value.specs.ReadsCrs.{ReadsCrs};
+ghost use Rattle.crs_value.specs.ReadsDynamic.{ReadsDeformationModel, ReadsDynamic};
 ghost use Rattle.crs_value.specs.SpellsText.{Spells};
 ghost use Rattle.crs_value.specs.Values.{IdentParts, AxisParts, SystemParts};
 ghost use Rattle.crs_value.specs.declared.values.crs.Crs.{Crs};
@@ -30,6 +31,8 @@ ghost use Rattle.crs_shape.specs.Shaped.{Shaped};
 ghost use Rattle.crs_normal.specs.SpelledConversions.{item_method, norm_method, item_parameter, norm_parameter};
 ghost use Rattle.crs_normal.specs.SpelledConversions.{item_conversion, norm_conversion, item_geoid_model};
 ghost use Rattle.crs_normal.specs.SpelledConversions.{norm_geoid_model};
+ghost use Rattle.crs_normal.specs.SpelledDynamic.{item_deformation_model, norm_deformation_model};
+ghost use Rattle.crs_normal.specs.SpelledDynamic.{item_dynamic, norm_dynamic};
 ghost use Rattle.crs_normal.specs.SpelledFrames.{item_ellipsoid, norm_ellipsoid, item_meridian, norm_given};
 ghost use Rattle.crs_normal.specs.SpelledFrames.{item_member, norm_member, item_datum, norm_datum, item_ensemble};
 ghost use Rattle.crs_normal.specs.SpelledFrames.{norm_ensemble};
@@ -106,6 +109,21 @@ pub fn normal_geoid_model_is_its_form()
     ensures { (level : Level) →
         IsItsForm level class.GeoidModel ReadsGeoidModel (λ g. item_geoid_model (norm_geoid_model level g)) }
 {}
+
+/// A normal deformation model is the one form of its value.
+pub fn normal_deformation_model_is_its_form()
+    ensures { (level : Level) →
+        IsItsForm level class.DeformationModel ReadsDeformationModel
+        (λ m. item_deformation_model (norm_deformation_model level m)) }
+{}
+
+/// A normal dynamic part is the one form of its value.
+pub fn normal_dynamic_is_its_form()
+    ensures { (level : Level) →
+        IsItsForm level class.Dynamic ReadsDynamic (λ d. item_dynamic (norm_dynamic level d)) }
+{
+    plain_is_the_one();
+}
 
 /// A normal parameter is the one form of its value.
 pub fn normal_parameter_is_its_form()

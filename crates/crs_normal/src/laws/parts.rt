@@ -5,6 +5,7 @@ ghost use Rattle.crs_text.specs.Written.{AreFormed, item_text};
 ghost use Rattle.crs_value.specs.Sound.{IsAxis, IsAxisMeridian, IsIdent, IsUnit};
 ghost use Rattle.crs_value.specs.SoundCompound.{IsCompound};
 ghost use Rattle.crs_value.specs.SoundConversion.{IsConversion, IsGeoidModel, IsMethod, IsParameter};
+ghost use Rattle.crs_value.specs.SoundDynamic.{IsDeformationModel, IsDynamic};
 ghost use Rattle.crs_value.specs.SoundFrames.{IsDatum, IsEllipsoid, IsEnsemble, IsMember, IsMeridian};
 ghost use Rattle.crs_value.specs.SoundSingle.{IsBase, IsGeodetic, IsProjected, IsVertical};
 ghost use Rattle.crs_value.specs.SoundUsages.{IsBox, IsExtent, IsUsage};
@@ -13,6 +14,7 @@ ghost use Rattle.crs_value.specs.declared.values.unit_kind.UnitKind.TheVariants 
 ghost use Rattle.crs_same.specs.SameConversions.{SameConversion, SameGeoidModel, SameMethod, SameParameter};
 ghost use Rattle.crs_same.specs.SameCrs.{SameBase, SameCompound, SameGeodetic, SameHorizontal, SameProjected};
 ghost use Rattle.crs_same.specs.SameCrs.{SameVertical};
+ghost use Rattle.crs_same.specs.SameDynamic.{SameDeformationModel, SameDynamic};
 ghost use Rattle.crs_same.specs.SameFrames.{SameDatum, SameEllipsoid, SameEnsemble, SameFrame, SameGiven, SameMember};
 ghost use Rattle.crs_same.specs.SameIdents.{SameIdent};
 ghost use Rattle.crs_same.specs.SameSystems.{SameAxisAlone, SameAxisMeridian};
@@ -23,40 +25,44 @@ ghost use Rattle.crs_normal.specs.CanonicalForm.{IsCanonicalForm};
 ghost use Rattle.crs_normal.specs.Closed.{IsClosed};
 ghost use Rattle.crs_normal.specs.PartSpellings.{IsFrame, IsHorizontalPart, IsSpelledAxisMeridian, IsSpelledBase};
 ghost use Rattle.crs_normal.specs.PartSpellings.{IsSpelledBox, IsSpelledCompound, IsSpelledConversion};
-ghost use Rattle.crs_normal.specs.PartSpellings.{IsSpelledDatum, IsSpelledEllipsoid, IsSpelledEnsemble};
+ghost use Rattle.crs_normal.specs.PartSpellings.{IsSpelledDatum, IsSpelledDeformationModel, IsSpelledDynamic};
+ghost use Rattle.crs_normal.specs.PartSpellings.{IsSpelledEllipsoid, IsSpelledEnsemble};
 ghost use Rattle.crs_normal.specs.PartSpellings.{IsSpelledExtent, IsSpelledFrame, IsSpelledGeodetic};
 ghost use Rattle.crs_normal.specs.PartSpellings.{IsSpelledGeoidModel, IsSpelledHorizontal, IsSpelledIdent};
 ghost use Rattle.crs_normal.specs.PartSpellings.{IsSpelledMember, IsSpelledMeridian, IsSpelledMethod};
 ghost use Rattle.crs_normal.specs.PartSpellings.{IsSpelledParameter, IsSpelledProjected, IsSpelledUnit};
 ghost use Rattle.crs_normal.specs.PartSpellings.{IsSpelledUsage, IsSpelledVertical};
 ghost use Rattle.crs_normal.specs.PartTexts.{axis_meridian_text, axis_text, base_text, box_text, compound_text};
-ghost use Rattle.crs_normal.specs.PartTexts.{conversion_text, datum_text, ellipsoid_text, ensemble_text, extent_text};
+ghost use Rattle.crs_normal.specs.PartTexts.{conversion_text, datum_text, deformation_model_text, dynamic_text};
+ghost use Rattle.crs_normal.specs.PartTexts.{ellipsoid_text, ensemble_text, extent_text};
 ghost use Rattle.crs_normal.specs.PartTexts.{frame_text, geodetic_text, geoid_model_text, horizontal_text};
 ghost use Rattle.crs_normal.specs.PartTexts.{ident_text, member_text, meridian_text, method_text, parameter_text};
 ghost use Rattle.crs_normal.specs.PartTexts.{projected_text, unit_text, usage_text, vertical_text};
 
 use crate::laws::made::{
     decimal_laws, made_axis_meridian_is_normal, made_base_is_normal, made_box_is_normal,
-    made_compound_is_normal, made_conversion_is_normal, made_ellipsoid_is_normal,
-    made_extent_is_normal, made_geodetic_frame_is_normal, made_geodetic_is_normal,
-    made_geoid_model_is_normal, made_identifier_is_normal, made_member_is_normal,
-    made_meridian_is_normal, made_method_is_normal, made_parameter_is_normal,
-    made_projected_is_normal, made_unit_is_normal, made_usage_is_normal,
-    made_vertical_frame_is_normal, made_vertical_is_normal,
+    made_compound_is_normal, made_conversion_is_normal, made_deformation_model_is_normal,
+    made_dynamic_is_normal, made_ellipsoid_is_normal, made_extent_is_normal,
+    made_geodetic_frame_is_normal, made_geodetic_is_normal, made_geoid_model_is_normal,
+    made_identifier_is_normal, made_member_is_normal, made_meridian_is_normal,
+    made_method_is_normal, made_parameter_is_normal, made_projected_is_normal, made_unit_is_normal,
+    made_usage_is_normal, made_vertical_frame_is_normal, made_vertical_is_normal,
 };
 use crate::laws::normal::{
     normal_axis_is_its_form, normal_base_is_its_form, normal_conversion_is_its_form,
-    normal_crs_is_its_form, normal_ellipsoid_is_its_form, normal_frame_is_its_form,
-    normal_geoid_model_is_its_form, normal_identifier_is_its_form, normal_member_is_its_form,
-    normal_meridian_is_its_form, normal_method_is_its_form, normal_parameter_is_its_form,
-    normal_unit_is_its_form, normal_usage_is_its_form,
+    normal_crs_is_its_form, normal_deformation_model_is_its_form, normal_dynamic_is_its_form,
+    normal_ellipsoid_is_its_form, normal_frame_is_its_form, normal_geoid_model_is_its_form,
+    normal_identifier_is_its_form, normal_member_is_its_form, normal_meridian_is_its_form,
+    normal_method_is_its_form, normal_parameter_is_its_form, normal_unit_is_its_form,
+    normal_usage_is_its_form,
 };
 use crate::laws::read::{crs_is_read_back, crs_parts_are_read_back, frame_parts_are_read_back};
 use crate::laws::sets::{member_texts_tell_members, members_are_read_back, text_laws};
 use crate::laws::texts::written_forms_are_equal_where_same;
 use crate::laws::values::{
-    same_conversions_have_one_form, same_frames_have_one_form, same_kinds_have_one_form,
-    same_systems_have_one_form, same_tails_have_one_form, same_units_have_one_form,
+    same_conversions_have_one_form, same_dynamic_parts_have_one_form, same_frames_have_one_form,
+    same_kinds_have_one_form, same_systems_have_one_form, same_tails_have_one_form,
+    same_units_have_one_form,
 };
 use crs_text::laws::written_items;
 use crs_value::laws::members_read_once;
@@ -167,6 +173,26 @@ pub fn conversions_are_canonical()
     normal_geoid_model_is_its_form();
     same_conversions_have_one_form();
     members_read_once();
+    parts_read_once();
+    parts_are_sound();
+    text_laws();
+    written_items();
+}
+
+/// So are those of deformation models and dynamic parts. Profile.
+pub fn dynamic_parts_are_canonical()
+    ensures deformation_model { (level : Level) →
+        IsCanonicalForm IsDeformationModel (SameDeformationModel level) (IsSpelledDeformationModel level)
+        (deformation_model_text level) }
+    ensures dynamic { (level : Level) →
+        IsCanonicalForm IsDynamic (SameDynamic level) (IsSpelledDynamic level) (dynamic_text level) }
+{
+    made_deformation_model_is_normal();
+    made_dynamic_is_normal();
+    crs_parts_are_read_back();
+    normal_deformation_model_is_its_form();
+    normal_dynamic_is_its_form();
+    same_dynamic_parts_have_one_form();
     parts_read_once();
     parts_are_sound();
     text_laws();

@@ -5,14 +5,17 @@ ghost use Rattle.crs_shape.specs.declared.class.Class.TheVariants as class;
 ghost use Rattle.crs_shape.specs.ShapeFault.{class_of_root};
 ghost use Rattle.crs_value.specs.ConversionValues.{ConversionParts, MethodParts};
 ghost use Rattle.crs_value.specs.CrsValues.{BaseParts};
+ghost use Rattle.crs_value.specs.DynamicValues.{DeformationModelParts, DynamicParts};
 ghost use Rattle.crs_value.specs.declared.values.crs.Crs.{Crs};
 ghost use Rattle.crs_value.specs.declared.values.level.Level.{Level};
 ghost use Rattle.crs_value.specs.Reads.{ReadsAxis, ReadsAxisMeridian, ReadsEllipsoid, ReadsHead, ReadsMeridian};
 ghost use Rattle.crs_value.specs.ReadsConversion.{ReadsConversion, ReadsMethod};
 ghost use Rattle.crs_value.specs.ReadsCrs.{ReadsBase, ReadsCrs};
+ghost use Rattle.crs_value.specs.ReadsDynamic.{ReadsDeformationModel, ReadsDynamic};
 ghost use Rattle.crs_value.specs.Sound.{IsAxis, IsAxisMeridian};
 ghost use Rattle.crs_value.specs.SoundConversion.{IsConversion, IsMethod};
 ghost use Rattle.crs_value.specs.SoundCrs.{IsCrs};
+ghost use Rattle.crs_value.specs.SoundDynamic.{IsDeformationModel, IsDynamic};
 ghost use Rattle.crs_value.specs.SoundFrames.{IsEllipsoid, IsMeridian};
 ghost use Rattle.crs_value.specs.SoundSingle.{IsBase};
 ghost use Rattle.crs_value.specs.SoundSystem.{IsSystem};
@@ -21,6 +24,8 @@ ghost use Rattle.crs_normal.specs.PartTexts.{norm_axis_alone};
 ghost use Rattle.crs_normal.specs.ReadBack.{crs_class};
 ghost use Rattle.crs_normal.specs.SpelledConversions.{item_conversion, item_method, norm_conversion, norm_method};
 ghost use Rattle.crs_normal.specs.SpelledCrs.{item_base, item_crs, norm_base, norm_crs};
+ghost use Rattle.crs_normal.specs.SpelledDynamic.{item_deformation_model, item_dynamic};
+ghost use Rattle.crs_normal.specs.SpelledDynamic.{norm_deformation_model, norm_dynamic};
 ghost use Rattle.crs_normal.specs.SpelledFrames.{greenwich, item_ellipsoid, item_meridian, norm_ellipsoid, norm_given};
 ghost use Rattle.crs_normal.specs.SpelledSystems.{item_axis, item_axis_meridian, item_head, norm_axis_meridian};
 ghost use Rattle.crs_normal.specs.SpelledSystems.{norm_system};
@@ -42,8 +47,8 @@ pub fn frame_parts_are_read_back()
     text_laws();
 }
 
-/// So are the meridians of axes and the nodes of coordinate systems, conversions and their methods,
-/// and base CRSs. Profile.
+/// So are the meridians of axes and the nodes of coordinate systems, conversions and their methods, deformation
+/// models, dynamic parts and base CRSs. Profile.
 pub fn crs_parts_are_read_back()
     ensures along { (level : Level) (meridian : AxisMeridianParts) (place : ℕ) → IsAxisMeridian meridian →
         ReadsAxisMeridian class.Meridian (at_place place (item_axis_meridian (norm_axis_meridian level meridian)))
@@ -57,6 +62,14 @@ pub fn crs_parts_are_read_back()
     ensures conversion { (level : Level) (conversion : ConversionParts) (place : ℕ) → IsConversion conversion →
         ReadsConversion class.Conversion (at_place place (item_conversion (norm_conversion level conversion)))
         (norm_conversion level conversion) }
+    ensures deformation_model { (level : Level) (model : DeformationModelParts) (place : ℕ) →
+        IsDeformationModel model →
+        ReadsDeformationModel class.DeformationModel
+        (at_place place (item_deformation_model (norm_deformation_model level model)))
+        (norm_deformation_model level model) }
+    ensures dynamic { (level : Level) (dynamic : DynamicParts) (place : ℕ) → IsDynamic dynamic →
+        ReadsDynamic class.Dynamic (at_place place (item_dynamic (norm_dynamic level dynamic)))
+        (norm_dynamic level dynamic) }
     ensures base { (level : Level) (base : BaseParts) (place : ℕ) → IsBase base →
         ReadsBase class.BaseCrs (at_place place (item_base (norm_base level base))) (norm_base level base) }
 {

@@ -5,6 +5,7 @@ ghost use Rattle.crs_text.specs.Items.{Item};
 ghost use Rattle.crs_value.specs.Sound.{IsAxis, IsAxisMeridian, IsAxisUnit, IsUnit, IsUnitOf};
 ghost use Rattle.crs_value.specs.SoundCompound.{IsCompound, IsHorizontal};
 ghost use Rattle.crs_value.specs.SoundConversion.{IsConversion, IsGeoidModel, IsMethod, IsParameter};
+ghost use Rattle.crs_value.specs.SoundDynamic.{IsDeformationModel, IsDynamic};
 ghost use Rattle.crs_value.specs.SoundFrames.{IsDatum, IsEllipsoid, IsEnsemble, IsMember, IsMeridian};
 ghost use Rattle.crs_value.specs.SoundSingle.{IsBase, IsGeodetic, IsProjected, IsVertical};
 ghost use Rattle.crs_value.specs.SoundSingle.{IsGeodeticFrame, IsVerticalFrame};
@@ -16,6 +17,7 @@ ghost use Rattle.crs_value.specs.declared.values.unit_kind.UnitKind.TheVariants 
 ghost use Rattle.crs_same.specs.SameConversions.{SameConversion, SameGeoidModel, SameMethod, SameParameter};
 ghost use Rattle.crs_same.specs.SameCrs.{SameBase, SameCompound, SameGeodetic, SameHorizontal};
 ghost use Rattle.crs_same.specs.SameCrs.{SameProjected, SameVertical};
+ghost use Rattle.crs_same.specs.SameDynamic.{SameDeformationModel, SameDynamic};
 ghost use Rattle.crs_same.specs.SameFrames.{SameDatum, SameEllipsoid, SameEnsemble, SameFrame};
 ghost use Rattle.crs_same.specs.SameFrames.{SameMember, SameMeridian};
 ghost use Rattle.crs_same.specs.SameSystems.{SameAxis, SameAxisAlone, SameAxisMeridian, SameSystem};
@@ -30,6 +32,7 @@ ghost use Rattle.crs_normal.specs.SpelledConversions.{norm_conversion, norm_geoi
 ghost use Rattle.crs_normal.specs.SpelledConversions.{norm_method, norm_parameter};
 ghost use Rattle.crs_normal.specs.SpelledCrs.{norm_base, norm_compound, norm_geodetic, norm_horizontal};
 ghost use Rattle.crs_normal.specs.SpelledCrs.{norm_projected, norm_vertical};
+ghost use Rattle.crs_normal.specs.SpelledDynamic.{norm_deformation_model, norm_dynamic};
 ghost use Rattle.crs_normal.specs.SpelledFrames.{norm_datum, norm_ellipsoid, norm_ensemble, norm_frame};
 ghost use Rattle.crs_normal.specs.SpelledFrames.{norm_member, norm_meridian};
 ghost use Rattle.crs_normal.specs.SpelledSystems.{norm_axis, norm_axis_meridians, norm_system};
@@ -141,6 +144,17 @@ pub fn same_conversions_have_one_form()
         FormDecides IsConversion (norm_conversion level) (SameConversion level) }
     ensures geoid_model { (level : Level) →
         FormDecides IsGeoidModel (norm_geoid_model level) (SameGeoidModel level) }
+{
+    lower_laws();
+    sets_decide();
+}
+
+/// So have deformation models and dynamic parts. Profile.
+pub fn same_dynamic_parts_have_one_form()
+    ensures deformation_model { (level : Level) →
+        FormDecides IsDeformationModel (norm_deformation_model level) (SameDeformationModel level) }
+    ensures dynamic { (level : Level) →
+        FormDecides IsDynamic (norm_dynamic level) (SameDynamic level) }
 {
     lower_laws();
     sets_decide();

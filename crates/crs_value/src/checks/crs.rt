@@ -2,6 +2,7 @@
 ghost use Rattle.std.specs.Prelude.{◌≡◌, ◌<◌, ◌⊎◌, IfSome, Some};
 ghost use Rattle.crs_text.specs.Items.{HasId, arguments};
 ghost use Rattle.crs_shape.specs.Shaped.{Shaped};
+ghost use Rattle.crs_value.specs.BadDynamic.{BadDynamic};
 ghost use Rattle.crs_value.specs.BadSystem.{dimensions_of};
 ghost use Rattle.crs_value.specs.Break.{AnyOf, IsLeast};
 ghost use Rattle.crs_value.specs.Checks.{BreaksAmong, once, OfHead, OfAxes, OfCrs};
@@ -9,6 +10,7 @@ ghost use Rattle.crs_value.specs.Noted.{AreFirsts};
 ghost use Rattle.crs_value.specs.RepeatedPart.{RepeatsAny};
 ghost use Rattle.crs_value.specs.Reading.{item_at, those, TakesOne};
 
+use crate::checks::dynamic::bad_dynamic;
 use crate::checks::order::bad_order;
 use crate::checks::repeats::repeats_once;
 use crate::checks::system::{bad_count, bad_system};
@@ -19,7 +21,7 @@ use crate::reading::node::number;
 use crs_shape::Class;
 use crs_text::{ItemId, Items, Refusal};
 
-// The least number of a check of axes and their units.
+// The least number of a check of axes, their units and dynamic parts.
 const ORDER: u8 = 26;
 
 // 23 and 25: a node `CS`, with the axes beside it.
@@ -112,15 +114,16 @@ fn of_head(items: &Items<'_>, id: ItemId, class: Class, firsts: &Firsts) -> Opti
     )
 }
 
-// 26 and 27: the axes and their units.
+// 26, 27 and 29: the axes and their units, and dynamic parts.
 fn of_axes(items: &Items<'_>, id: ItemId, class: Class, firsts: &Firsts) -> Option<Refusal>
     requires has { HasId items.now id }
     requires shaped { Shaped class (item_at items.now id) }
     requires once { TakesOne class Class.CoordinateSystem }
     requires firsts { AreFirsts items.now class (arguments (item_at items.now id)) firsts.now }
-    ensures { IsLeast (OfAxes (those class Class.CoordinateSystem (arguments (item_at items.now id)))
+    ensures { IsLeast (λ f. OfAxes (those class Class.CoordinateSystem (arguments (item_at items.now id)))
         (those class Class.Axis (arguments (item_at items.now id)))
-        (those class Class.AxisUnit (arguments (item_at items.now id)))) result }
+        (those class Class.AxisUnit (arguments (item_at items.now id))) f
+        ⊎ BadDynamic class (item_at items.now id) f) result }
 {
     let units = UnitsOf {
         crs: id,
@@ -128,7 +131,7 @@ fn of_axes(items: &Items<'_>, id: ItemId, class: Class, firsts: &Firsts) -> Opti
         axis: firsts.axis,
         unit: firsts.unit,
     };
-    lesser(
+    let axes = lesser(
         bad_order(items, id, class, firsts),
         only_from(
             &units,
@@ -138,7 +141,8 @@ fn of_axes(items: &Items<'_>, id: ItemId, class: Class, firsts: &Firsts) -> Opti
             Class::CoordinateSystem,
             firsts.system,
         ),
-    )
+    );
+    lesser(axes, bad_dynamic(items, id, class, firsts.dynamic))
 }
 
 // The refusal, if its number goes before those of the axes.

@@ -8,7 +8,8 @@ ghost use Rattle.crs_value.specs.Reading.{item_at, those};
 
 use crate::checks::component::compound;
 use crate::checks::crs::whole_crs;
-use crate::checks::repeats::repeats;
+use crate::checks::dynamic::bad_dynamic_in;
+use crate::checks::repeats::repeated_anchors;
 use crate::checks::single::{AboveZero, NotNegative, UnknownDirection, UnknownType};
 use crate::checks::{Check, any_from, lesser, only_of};
 use crate::reading::arguments::{first, later};
@@ -52,7 +53,8 @@ fn own_of_part(items: &Items<'_>, id: ItemId, class: Class) -> Option<Refusal>
         Class::GeodeticCrs | Class::GeographicCrs | Class::ProjectedCrs | Class::VerticalCrs =>
             unreachable!(),
         Class::CompoundCrs => compound(items, id),
-        Class::GeodeticFrame | Class::VerticalFrame => repeats(items, id, class, Class::Anchor),
+        Class::BaseCrs => bad_dynamic_in(items, id, class),
+        Class::GeodeticFrame | Class::VerticalFrame => repeated_anchors(items, id, class),
         Class::Ellipsoid => ellipsoid(items, id),
         Class::LengthUnit
         | Class::AngleUnit
@@ -89,6 +91,10 @@ fn breaks_nothing(class: Class) -> bool
             | Class::Member
             | Class::EnsembleAccuracy
             | Class::Anchor
+            | Class::AnchorEpoch
+            | Class::Dynamic
+            | Class::FrameEpoch
+            | Class::DeformationModel
             | Class::Order
             | Class::Method
             | Class::GeoidModel

@@ -2,7 +2,7 @@
 ghost use Rattle.crs_text.specs.Items.{HasId, arguments, rest_of, here};
 ghost use Rattle.crs_shape.specs.Shaped.{Shaped};
 ghost use Rattle.crs_value.specs.Break.{AnyOf, IsLeast};
-ghost use Rattle.crs_value.specs.Checks.{once};
+ghost use Rattle.crs_value.specs.Checks.{anchors, once};
 ghost use Rattle.crs_value.specs.Found.{AllShaped};
 ghost use Rattle.crs_value.specs.Noted.{AreFirsts};
 ghost use Rattle.crs_value.specs.RepeatedPart.{IsRepeated, Repeats, RepeatsAny};
@@ -16,12 +16,22 @@ use crs_shape::Class;
 use crs_text::{ItemId, Items, Refusal};
 
 // The first node of this class after the first one.
-pub(crate) fn repeats(items: &Items<'_>, id: ItemId, parent: Class, class: Class) -> Option<Refusal>
+fn repeats(items: &Items<'_>, id: ItemId, parent: Class, class: Class) -> Option<Refusal>
     requires has { HasId items.now id }
     requires shaped { Shaped parent (item_at items.now id) }
     ensures { IsLeast (Repeats parent (arguments (item_at items.now id)) class) result }
 {
     again(items, id, parent, class, first(items, id, parent, class))
+}
+
+// The first anchor or anchor's epoch of a reference frame after the first one of its class.
+pub(crate) fn repeated_anchors(items: &Items<'_>, id: ItemId, parent: Class) -> Option<Refusal>
+    requires has { HasId items.now id }
+    requires shaped { Shaped parent (item_at items.now id) }
+    ensures { IsLeast (RepeatsAny parent (arguments (item_at items.now id)) anchors) result }
+{
+    let epochs = lesser(repeats(items, id, parent, Class::AnchorEpoch), None);
+    lesser(repeats(items, id, parent, Class::Anchor), epochs)
 }
 
 // The first node of this class after the first one, which was found. Mostly there is none to look behind.

@@ -7,6 +7,8 @@ ghost use Rattle.crs_value.specs.Reads.{ReadsEllipsoid, ReadsEnsemble, ReadsExte
 ghost use Rattle.crs_value.specs.Reads.{ReadsMeridian, ReadsUnit, ReadsUsage};
 ghost use Rattle.crs_value.specs.ReadsConversion.{ReadsConversion, ReadsGeoidModel, ReadsMethod, ReadsParameter};
 ghost use Rattle.crs_value.specs.ReadsCrs.{IsGeodeticClass, ReadsBase, ReadsCompound, ReadsGeodetic, ReadsProjected};
+ghost use Rattle.crs_value.specs.ReadsDynamic.{ReadsDeformationModel, ReadsDynamic};
+ghost use Rattle.crs_value.specs.SoundDynamic.{IsDeformationModel, IsDynamic};
 ghost use Rattle.crs_value.specs.ReadsCrs.{ReadsVertical};
 ghost use Rattle.crs_value.specs.Sound.{IsAxis, IsAxisMeridian, IsIdent, IsUnit};
 ghost use Rattle.crs_value.specs.SoundCompound.{IsCompound};
@@ -33,6 +35,8 @@ pub fn parts_read_once()
     ensures bounding_box { IsReadOnce ReadsBox }
     ensures method { IsReadOnce ReadsMethod }
     ensures conversion { IsReadOnce ReadsConversion }
+    ensures deformation_model { IsReadOnce ReadsDeformationModel }
+    ensures dynamic { IsReadOnce ReadsDynamic }
     ensures base { IsReadOnce ReadsBase }
     ensures geodetic { IsReadOnce ReadsGeodetic }
     ensures projected { IsReadOnce ReadsProjected }
@@ -64,7 +68,9 @@ pub fn parts_are_sound()
     ensures parameter { (c : Class) → IsReadAs ReadsParameter IsParameter c }
     ensures conversion { (c : Class) → IsReadAs ReadsConversion IsConversion c }
     ensures geoid_model { (c : Class) → IsReadAs ReadsGeoidModel IsGeoidModel c }
-    ensures base { (c : Class) → IsReadAs ReadsBase IsBase c }
+    ensures deformation_model { (c : Class) → IsReadAs ReadsDeformationModel IsDeformationModel c }
+    ensures dynamic { (c : Class) → IsReadAs ReadsDynamic IsDynamic c }
+    ensures base { IsReadAs ReadsBase IsBase class.BaseCrs }
 {
     slots_count();
 }

@@ -22,6 +22,7 @@ pub(crate) struct Firsts {
     pub(crate) remark: Option<ItemId>,
     pub(crate) usage: Option<ItemId>,
     pub(crate) identifier: Option<ItemId>,
+    pub(crate) dynamic: Option<ItemId>,
 }
 
 // None was seen yet.
@@ -37,6 +38,7 @@ const NONE: Firsts = Firsts {
     remark: None,
     usage: None,
     identifier: None,
+    dynamic: None,
 };
 
 // The first of a class, if this is a further one.
@@ -64,6 +66,7 @@ impl Firsts {
         ensures remark { self.new.remark ≡ noted (is_same Class.Remark class) self.old.remark id }
         ensures usage { self.new.usage ≡ noted (is_same Class.Usage class) self.old.usage id }
         ensures identifier { self.new.identifier ≡ noted (is_same Class.Identifier class) self.old.identifier id }
+        ensures dynamic { self.new.dynamic ≡ noted (is_same Class.Dynamic class) self.old.dynamic id }
     {
         match class {
             Class::CoordinateSystem => self.system = first_of(self.system, id),
@@ -79,6 +82,7 @@ impl Firsts {
             Class::Remark => self.remark = first_of(self.remark, id),
             Class::Usage => self.usage = first_of(self.usage, id),
             Class::Identifier => self.identifier = first_of(self.identifier, id),
+            Class::Dynamic => self.dynamic = first_of(self.dynamic, id),
             _ => {}
         }
     }

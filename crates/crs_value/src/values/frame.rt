@@ -1,6 +1,8 @@
 //! Reference frames and datum ensembles.
 
-use crate::reading::node::{Node, many, one_number, optional, optional_text, text};
+use crate::reading::node::{
+    Node, many, one_number, optional, optional_number, optional_text, text,
+};
 use crate::values::ellipsoid::Ellipsoid;
 use crate::values::ident::Ident;
 use crate::values::list::List;
@@ -29,8 +31,8 @@ impl Drop for Frame<'_> {
     }
 }
 
-/// A geodetic reference frame, `DATUM[name, ellipsoid, anchor.., id..]`, or a vertical one, which has
-/// no ellipsoid. ISO 19162:2019, "Datum".
+/// A geodetic reference frame, `DATUM[name, ellipsoid, (anchor), (anchor epoch), id..]`, or a vertical one, which has
+/// no ellipsoid. ISO 19162:2019, "Datum"; the anchor's epoch: profile.
 pub struct Datum<'a> {
     /// The name.
     pub name: &'a [u8],
@@ -38,6 +40,8 @@ pub struct Datum<'a> {
     pub ellipsoid: Option<Ellipsoid<'a>>,
     /// How the frame is tied to the Earth.
     pub anchor: Option<&'a [u8]>,
+    /// When it was tied so, in years.
+    pub anchor_epoch: Option<Decimal>,
     /// The identifiers, as written.
     pub identifiers: List<Ident<'a>>,
 }
@@ -53,6 +57,7 @@ impl<'a> Model for Datum<'a> {
       name = d.name.now;
       ellipsoid = d.ellipsoid;
       anchor = option_copied d.anchor;
+      anchor_epoch = d.anchor_epoch;
       identifiers = d.identifiers;
     } };
 
@@ -66,6 +71,7 @@ impl Drop for Datum<'_> {
             name: _,
             ellipsoid: _,
             anchor: _,
+            anchor_epoch: _,
             identifiers: _,
         } = self;
     }
@@ -165,6 +171,7 @@ impl<'a> Node<'a> for Datum<'a> {
             name: text(items, id, class),
             ellipsoid: optional(alloc, items, id, class, Class::Ellipsoid)?,
             anchor: optional_text(items, id, class, Class::Anchor),
+            anchor_epoch: optional_number(items, id, class, Class::AnchorEpoch),
             identifiers: many(alloc, items, id, class, Class::Identifier)?,
         })
     }

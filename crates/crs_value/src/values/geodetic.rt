@@ -6,8 +6,9 @@ ghost use Rattle.crs_value.specs.Reading.{item_at};
 ghost use Rattle.crs_value.specs.ReadsCrs.{IsGeodeticClass, ReadsGeodetic};
 
 use crate::reading::firsts::firsts_of;
-use crate::reading::node::{Node, optional, text};
+use crate::reading::node::{Node, optional, optional_from, text};
 use crate::values::crs_frame::geodetic_frame;
+use crate::values::dynamic::Dynamic;
 use crate::values::frame::Frame;
 use crate::values::meridian::Meridian;
 use crate::values::system::{System, read_system};
@@ -23,6 +24,8 @@ use std::marker::Model;
 pub struct Geodetic<'a> {
     /// The name.
     pub name: &'a [u8],
+    /// What a dynamic frame says; beside an ensemble there is none.
+    pub dynamic: Option<Dynamic<'a>>,
     /// The geodetic frame or ensemble.
     pub frame: Frame<'a>,
     /// The prime meridian; None where none is written, which stands for Greenwich.
@@ -41,6 +44,7 @@ impl<'a> Model for Geodetic<'a> {
 
     ghost view = { λ g. record {
       name = g.name.now;
+      dynamic = g.dynamic;
       frame = g.frame;
       meridian = g.meridian;
       system = g.system;
@@ -55,6 +59,7 @@ impl Drop for Geodetic<'_> {
     fn drop(self) {
         let Geodetic {
             name: _,
+            dynamic: _,
             frame: _,
             meridian: _,
             system: _,
@@ -79,6 +84,7 @@ pub(crate) fn read_geodetic<'a>(
     let firsts = firsts_of(items, id, class);
     Ok(Geodetic {
         name: text(items, id, class),
+        dynamic: optional_from(alloc, items, id, class, Class::Dynamic, firsts.dynamic)?,
         frame: geodetic_frame(alloc, items, id, class)?,
         meridian: optional(alloc, items, id, class, Class::PrimeMeridian)?,
         system: read_system(alloc, items, id, class, &firsts)?,

@@ -4,6 +4,7 @@ use crate::reading::firsts::firsts_of;
 use crate::reading::node::{Node, many, one, optional, text};
 use crate::values::conversion::Conversion;
 use crate::values::crs_frame::geodetic_frame;
+use crate::values::dynamic::Dynamic;
 use crate::values::frame::Frame;
 use crate::values::ident::Ident;
 use crate::values::list::List;
@@ -67,6 +68,8 @@ impl Drop for Projected<'_> {
 pub struct Base<'a> {
     /// The name.
     pub name: &'a [u8],
+    /// What a dynamic frame says; beside an ensemble there is none.
+    pub dynamic: Option<Dynamic<'a>>,
     /// The geodetic frame or ensemble.
     pub frame: Frame<'a>,
     /// The prime meridian; None where none is written, which stands for Greenwich.
@@ -85,6 +88,7 @@ impl<'a> Model for Base<'a> {
 
     ghost view = { λ b. record {
       name = b.name.now;
+      dynamic = b.dynamic;
       frame = b.frame;
       meridian = b.meridian;
       unit = b.unit;
@@ -99,6 +103,7 @@ impl Drop for Base<'_> {
     fn drop(self) {
         let Base {
             name: _,
+            dynamic: _,
             frame: _,
             meridian: _,
             unit: _,
@@ -152,6 +157,7 @@ impl<'a> Node<'a> for Base<'a> {
         slots_count();
         Ok(Base {
             name: text(items, id, class),
+            dynamic: optional(alloc, items, id, class, Class::Dynamic)?,
             frame: geodetic_frame(alloc, items, id, class)?,
             meridian: optional(alloc, items, id, class, Class::PrimeMeridian)?,
             unit: optional(alloc, items, id, class, Class::AngleUnit)?,

@@ -1,8 +1,9 @@
 //! Vertical CRSs and their geoid models.
 
 use crate::reading::firsts::firsts_of;
-use crate::reading::node::{Node, many, text};
+use crate::reading::node::{Node, many, optional_from, text};
 use crate::values::crs_frame::vertical_frame;
+use crate::values::dynamic::Dynamic;
 use crate::values::frame::Frame;
 use crate::values::ident::Ident;
 use crate::values::list::List;
@@ -19,6 +20,8 @@ use std::marker::Model;
 pub struct Vertical<'a> {
     /// The name.
     pub name: &'a [u8],
+    /// What a dynamic frame says; beside an ensemble there is none.
+    pub dynamic: Option<Dynamic<'a>>,
     /// The vertical frame or ensemble.
     pub frame: Frame<'a>,
     /// The coordinate system.
@@ -37,6 +40,7 @@ impl<'a> Model for Vertical<'a> {
 
     ghost view = { λ v. record {
       name = v.name.now;
+      dynamic = v.dynamic;
       frame = v.frame;
       system = v.system;
       geoid_models = v.geoid_models;
@@ -51,6 +55,7 @@ impl Drop for Vertical<'_> {
     fn drop(self) {
         let Vertical {
             name: _,
+            dynamic: _,
             frame: _,
             system: _,
             geoid_models: _,
@@ -107,6 +112,7 @@ impl<'a> Node<'a> for Vertical<'a> {
         let firsts = firsts_of(items, id, class);
         Ok(Vertical {
             name: text(items, id, class),
+            dynamic: optional_from(alloc, items, id, class, Class::Dynamic, firsts.dynamic)?,
             frame: vertical_frame(alloc, items, id, class)?,
             system: read_system(alloc, items, id, class, &firsts)?,
             geoid_models: many(alloc, items, id, class, Class::GeoidModel)?,

@@ -33,7 +33,7 @@ returns-clause-normal c = (
   (tt, (tt, (tt, (tt, (tt, tt))))),
   tt,
   (
-    (refl, (refl, (refl, (refl, tt))), tt, (tt, (tt, (tt, (tt, (tt, tt))))), tt, tt),
+    (refl, (refl, (refl, (refl, tt))), (omega arith, tt), (tt, (tt, (tt, (tt, (tt, tt))))), tt, tt),
     (
       (refl, (refl, (refl, (refl, tt))), tt, (tt, (tt, (tt, (tt, (tt, tt))))), (types.Vertical, refl), (one-plain, tt)),
       (

@@ -22,7 +22,7 @@ returns-clause-base c level =
       made = c.made_base_is_normal.ensures level;
       reads = c.crs_parts_are_read_back.ensures.base level;
       once = c.parts_read_once.ensures.base;
-      sound = c.parts_are_sound.ensures.base class.BaseCrs;
+      sound = c.parts_are_sound.ensures.base;
       own = c.normal_base_is_its_form.ensures level;
     })
 

@@ -1,4 +1,5 @@
 use Rattle.crs_normal.proofs.ReadCrsLemmas.{base-read}
+use Rattle.crs_normal.proofs.ReadDynamicLemmas.{deformation-model-read, dynamic-read}
 use Rattle.crs_normal.proofs.ReadEndLemmas.{conversion-read, method-read}
 use Rattle.crs_normal.proofs.ReadSystemLemmas.{axis-alone-read, axis-meridian-read, head-read}
 use Rattle.crs_normal.proofs.laws.read.crs_parts_are_read_back.Goals as goal
@@ -14,6 +15,12 @@ returns-clause-method c level x place s = method-read level x s place
 
 pub returns-clause-conversion : goal.returns-clause-conversion
 returns-clause-conversion c level x place s = conversion-read c.text_laws.ensures level x s place
+
+pub returns-clause-deformation_model : goal.returns-clause-deformation_model
+returns-clause-deformation_model c level x place s = deformation-model-read level x s place
+
+pub returns-clause-dynamic : goal.returns-clause-dynamic
+returns-clause-dynamic c level x place s = dynamic-read c.text_laws.ensures level x s place
 
 pub returns-clause-base : goal.returns-clause-base
 returns-clause-base c level x place s = base-read c.text_laws.ensures level x s place

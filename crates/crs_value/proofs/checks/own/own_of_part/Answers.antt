@@ -1,5 +1,6 @@
+use Rattle.std.proofs.Common.{rules}
 use Rattle.crs_value.specs.Reading.{item_at}
-use Rattle.crs_value.proofs.OwnLemmas.{own-compound, own-unit, own-system, own-axis}
+use Rattle.crs_value.proofs.OwnLemmas.{own-base, own-compound, own-frame, own-unit, own-system, own-axis}
 use Rattle.crs_value.proofs.checks.own.own_of_part.Goals as goal
 
 pub returns-in-CompoundCrs : goal.returns-in-CompoundCrs
@@ -14,3 +15,11 @@ returns-in-CoordinateSystem c =
 
 pub returns-in-Axis : goal.returns-in-Axis
 returns-in-Axis c = own-axis c.args.class (item_at c.args.items.now c.args.id) c.only_of-in-Axis.result c.in-Axis.is c.only_of-in-Axis.ensures
+
+pub returns-in-BaseCrs : goal.returns-in-BaseCrs
+returns-in-BaseCrs c =
+    own-base c.args.class (item_at c.args.items.now c.args.id) c.bad_dynamic_in.result c.in-BaseCrs.is (search rules)
+
+pub returns-in-GeodeticFrame : goal.returns-in-GeodeticFrame
+returns-in-GeodeticFrame c =
+    own-frame c.args.class (item_at c.args.items.now c.args.id) c.repeated_anchors.result c.in-GeodeticFrame.is c.repeated_anchors.ensures

@@ -3,6 +3,7 @@ use Rattle.crs_shape.specs.declared.class.Class.TheVariants as class
 use Rattle.crs_value.proofs.SoundAxisLemmas.{axis-meridian-tells, axis-tells}
 use Rattle.crs_value.proofs.SoundConversionLemmas.{conversion-tells, geoid-model-tells, method-tells, parameter-tells}
 use Rattle.crs_value.proofs.SoundCrsLemmas.{base-tells, has-ellipsoid, no-ellipsoid}
+use Rattle.crs_value.proofs.SoundDynamicLemmas.{dynamic-tells, model-tells}
 use Rattle.crs_value.proofs.SoundFrameLemmas.{datum-tells, ellipsoid-tells, ensemble-tells, member-tells, meridian-tells}
 use Rattle.crs_value.proofs.SoundLemmas.{ident-tells, unit-tells}
 use Rattle.crs_value.proofs.SoundUsageLemmas.{box-tells, extent-tells, says-some, usage-tells}
@@ -70,6 +71,12 @@ returns-clause-conversion c = conversion-tells
 
 pub returns-clause-geoid_model : goal.returns-clause-geoid_model
 returns-clause-geoid_model c = geoid-model-tells
+
+pub returns-clause-deformation_model : goal.returns-clause-deformation_model
+returns-clause-deformation_model c = model-tells
+
+pub returns-clause-dynamic : goal.returns-clause-dynamic
+returns-clause-dynamic c = dynamic-tells
 
 pub returns-clause-base : goal.returns-clause-base
 returns-clause-base c = base-tells c.slots_count.ensures.least

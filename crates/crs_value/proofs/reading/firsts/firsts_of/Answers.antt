@@ -25,7 +25,7 @@ loop-next-preserved c =
     elim c.match-class_in.branch [
       | in-Some-class_in w ↦ rw w.firsts-is
           (seen-on tree c.args.parent w.in-Some-class_in.class all c.loop-next.firsts w.note.new.self c.in-Some.argument c.next-next.result so (sym w.in-Some-class_in.ensures)
-          (record { system = w.note.ensures.system; axis = w.note.ensures.axis; axes = w.note.ensures.axes; unit = w.note.ensures.unit; scope = w.note.ensures.scope; area = w.note.ensures.area; bbox = w.note.ensures.bbox; extent = w.note.ensures.extent; remark = w.note.ensures.remark; usage = w.note.ensures.usage; identifier = w.note.ensures.identifier }) c.next-next.ensures)
+          (record { system = w.note.ensures.system; axis = w.note.ensures.axis; axes = w.note.ensures.axes; unit = w.note.ensures.unit; scope = w.note.ensures.scope; area = w.note.ensures.area; bbox = w.note.ensures.bbox; extent = w.note.ensures.extent; remark = w.note.ensures.remark; usage = w.note.ensures.usage; identifier = w.note.ensures.identifier; dynamic = w.note.ensures.dynamic }) c.next-next.ensures)
       | in_default-class_in w ↦ rw w.firsts-is
           (seen-past tree c.args.parent all c.loop-next.firsts c.in-Some.argument c.next-next.result so (sym c.class_in.ensures ∙ w.in_default-class_in.is) c.next-next.ensures)
     ]

@@ -7,6 +7,7 @@ invariant_of-result c =
     geodetic-tells c.slots_count.ensures.least c.slots_count.ensures.most c.args.class c.requires.class (item_at c.args.items.now c.args.id) _ c.requires.sound
     (record {
       name = c.text.ensures;
+      dynamic = c.in_ok-optional_from.ensures;
       frame = c.in_ok-geodetic_frame.ensures;
       meridian = c.in_ok-optional.ensures;
       system = c.in_ok-read_system.ensures;

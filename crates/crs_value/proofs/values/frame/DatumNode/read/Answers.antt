@@ -9,5 +9,6 @@ invariant_of-result c =
       name = c.text.ensures;
       ellipsoid = c.in_ok-optional.ensures;
       anchor = c.optional_text.ensures;
+      anchor_epoch = c.optional_number.ensures;
       identifiers = c.in_ok-many.ensures;
     })

@@ -1,14 +1,19 @@
+use Rattle.crs_shape.specs.declared.class.Class.TheVariants as class
 use Rattle.crs_value.specs.Reading.{item_at}
+use Rattle.crs_value.specs.ReadsCrs.{ReadsBase}
+use Rattle.crs_value.specs.SoundSingle.{IsBase}
 use Rattle.crs_value.proofs.SoundCrsLemmas.{base-tells}
+use Rattle.crs_value.proofs.SoundLemmas.{tells-as}
 use Rattle.crs_value.proofs.values.projected.BaseNode.read.Goals as goal
 
 pub invariant_of-result : goal.invariant_of-result
 invariant_of-result c =
-    base-tells c.slots_count.ensures.least c.args.class (item_at c.args.items.now c.args.id) _ c.requires.sound
+    tells-as ReadsBase IsBase c.args.class class.BaseCrs c.requires.suits (base-tells c.slots_count.ensures.least) (item_at c.args.items.now c.args.id) _ c.requires.sound
     (record {
       name = c.text.ensures;
+      dynamic = c.in_ok-optional.ensures;
       frame = c.in_ok-geodetic_frame.ensures;
-      meridian = c.in_ok-optional.ensures;
-      unit = c.in_ok-optional-2.ensures;
+      meridian = c.in_ok-optional-2.ensures;
+      unit = c.in_ok-optional-3.ensures;
       identifiers = c.in_ok-many.ensures;
     })

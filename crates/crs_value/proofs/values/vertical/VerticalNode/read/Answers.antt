@@ -11,6 +11,7 @@ invariant_of-result c =
     tells-as ReadsVertical IsVertical c.args.class class.VerticalCrs c.requires.suits (vertical-tells c.slots_count.ensures.least c.slots_count.ensures.most) (item_at c.args.items.now c.args.id) _ c.requires.sound
     (record {
       name = c.text.ensures;
+      dynamic = c.in_ok-optional_from.ensures;
       frame = c.in_ok-vertical_frame.ensures;
       system = c.in_ok-read_system.ensures;
       geoid_models = c.in_ok-many.ensures;

@@ -1,0 +1,8 @@
+use Rattle.crs_normal.proofs.DynamicSameLemmas.{deformation-model-agrees, dynamic-agrees}
+use Rattle.crs_normal.proofs.laws.values.same_dynamic_parts_have_one_form.Goals as goal
+
+pub returns-clause-deformation_model : goal.returns-clause-deformation_model
+returns-clause-deformation_model c = deformation-model-agrees c.lower_laws.ensures c.sets_decide.ensures
+
+pub returns-clause-dynamic : goal.returns-clause-dynamic
+returns-clause-dynamic c = dynamic-agrees c.lower_laws.ensures c.sets_decide.ensures

@@ -1,0 +1,20 @@
+-- 29: a dynamic part beside an ensemble.
+use Rattle.std.specs.Prelude.{◌≡◌, ◌≢◌, [], ◌⊎◌}
+use Rattle.crs_text.specs.Items.{Item, arguments}
+use Rattle.crs_text.specs.Refusal.{RefusedAt}
+use Rattle.crs_shape.specs.declared.class.Class.{Class}
+use Rattle.crs_shape.specs.declared.class.Class.TheVariants as class
+use Rattle.crs_value.specs.Reading.{those}
+use Rattle.crs_value.specs.Break.{at, AnyOf}
+
+-- an ensemble stands among the arguments
+abbrev pub HasEnsemble : Class → Item → Type 0
+HasEnsemble c item =
+    (those c class.GeodeticEnsemble (arguments item) ≢ []) ⊎ (those c class.VerticalEnsemble (arguments item) ≢ [])
+
+abbrev pub IsUnsteady : Item → RefusedAt → Type 0
+IsUnsteady part fault = fault ≡ at 29 part
+
+-- each dynamic part beside an ensemble
+abbrev pub BadDynamic : Class → Item → RefusedAt → Type 0
+BadDynamic c item fault = HasEnsemble c item × AnyOf IsUnsteady (those c class.Dynamic (arguments item)) fault

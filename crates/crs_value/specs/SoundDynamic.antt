@@ -1,0 +1,13 @@
+-- What is asked of dynamic parts by themselves.
+use Rattle.std.specs.Prelude.{IfSome}
+use Rattle.crs_decimal.specs.Value.{IsNormal}
+use Rattle.crs_value.specs.DynamicValues.{DeformationModelParts, DynamicParts}
+use Rattle.crs_value.specs.Sound.{Each, IsText, IsIdent}
+
+pub record IsDeformationModel (model : DeformationModelParts) : Type 0 where
+  pub name : IsText model.name
+  pub identifiers : Each IsIdent model.identifiers
+
+pub record IsDynamic (dynamic : DynamicParts) : Type 0 where
+  pub epoch : IsNormal dynamic.epoch
+  pub model : IfSome dynamic.model IsDeformationModel

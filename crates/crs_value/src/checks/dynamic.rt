@@ -1,0 +1,73 @@
+//! The check of dynamic parts.
+ghost use Rattle.std.specs.Prelude.{◌↔◌, ◌≢◌, [], IsTrue};
+ghost use Rattle.crs_text.specs.Items.{HasId, arguments};
+ghost use Rattle.crs_shape.specs.Shaped.{Shaped};
+ghost use Rattle.crs_value.specs.BadDynamic.{BadDynamic, HasEnsemble};
+ghost use Rattle.crs_value.specs.Break.{IsLeast};
+ghost use Rattle.crs_value.specs.Reading.{item_at, those, IsFound};
+
+use crate::checks::{Check, any_from, refusal_at};
+use crate::reading::arguments::first;
+use crs_shape::Class;
+use crs_text::{ItemId, Items, Refusal};
+
+// 29: a dynamic part beside an ensemble.
+struct Unsteady;
+
+impl Check for Unsteady {
+    ghost use Rattle.crs_value.specs.BadDynamic.{IsUnsteady};
+
+    ghost Fits = { λ s tree class. Unit {0} };
+
+    ghost Broken = { λ s tree item f. IsUnsteady item f };
+
+    fn check(&self, items: &Items<'_>, id: ItemId, _class: Class) -> Option<Refusal> {
+        Some(refusal_at(items, id, 29))
+    }
+}
+
+fn has_some(items: &Items<'_>, id: ItemId, parent: Class, class: Class) -> bool
+    requires { HasId items.now id }
+    ensures { IsTrue result ↔ (those parent class (arguments (item_at items.now id)) ≢ []) }
+{
+    first(items, id, parent, class).is_some()
+}
+
+fn has_ensemble(items: &Items<'_>, id: ItemId, class: Class) -> bool
+    requires { HasId items.now id }
+    ensures { IsTrue result ↔ HasEnsemble class (item_at items.now id) }
+{
+    has_some(items, id, class, Class::GeodeticEnsemble)
+        || has_some(items, id, class, Class::VerticalEnsemble)
+}
+
+// 29: the dynamic parts beside an ensemble, of which the first was found.
+pub(crate) fn bad_dynamic(
+    items: &Items<'_>,
+    id: ItemId,
+    class: Class,
+    dynamic: Option<ItemId>,
+) -> Option<Refusal>
+    requires has { HasId items.now id }
+    requires shaped { Shaped class (item_at items.now id) }
+    requires found { IsFound items.now class Class.Dynamic (those class Class.Dynamic (arguments
+        (item_at items.now id))) dynamic }
+    ensures { IsLeast (BadDynamic class (item_at items.now id)) result }
+{
+    if dynamic.is_none() {
+        return None;
+    }
+    if !has_ensemble(items, id, class) {
+        return None;
+    }
+    any_from(&Unsteady, items, dynamic, class, Class::Dynamic)
+}
+
+// The same where the first dynamic part wasn't looked for yet.
+pub(crate) fn bad_dynamic_in(items: &Items<'_>, id: ItemId, class: Class) -> Option<Refusal>
+    requires has { HasId items.now id }
+    requires shaped { Shaped class (item_at items.now id) }
+    ensures { IsLeast (BadDynamic class (item_at items.now id)) result }
+{
+    bad_dynamic(items, id, class, first(items, id, class, Class::Dynamic))
+}

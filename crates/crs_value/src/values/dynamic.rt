@@ -1,0 +1,112 @@
+//! What dynamic frames say.
+
+use crate::reading::node::{Node, many, one_number, optional, text};
+use crate::values::ident::Ident;
+use crate::values::list::List;
+use crs_decimal::Decimal;
+use crs_shape::Class;
+use crs_shape::laws::slots_count;
+use crs_text::{ItemId, Items};
+use std::alloc::{AllocError, Global};
+use std::marker::Model;
+
+/// What a dynamic frame says, `DYNAMIC[epoch, (model)]`. ISO 19162:2019, "Dynamic coordinate reference systems".
+pub struct Dynamic<'a> {
+    /// The frame's epoch, in years: when the coordinates of its points hold.
+    pub epoch: Decimal,
+    /// The model by which they move.
+    pub model: Option<DeformationModel<'a>>,
+}
+
+impl<'a> Model for Dynamic<'a> {
+    ghost use Rattle.crs_value.specs.DynamicValues.{DynamicParts};
+    ghost use Rattle.crs_value.specs.SoundDynamic.{IsDynamic};
+
+    ghost Value = { DynamicParts };
+
+    ghost view = { λ d. record { epoch = d.epoch; model = d.model } };
+
+    ghost invariant = { λ d. IsDynamic (view d) };
+}
+
+// By hand, so that whoever drops one calls this, and proves nothing of its parts.
+impl Drop for Dynamic<'_> {
+    fn drop(self) {
+        let Dynamic { epoch: _, model: _ } = self;
+    }
+}
+
+/// A deformation model, `MODEL[name, id..]`, or a velocity grid. ISO 19162:2019, "Deformation model".
+pub struct DeformationModel<'a> {
+    /// The name.
+    pub name: &'a [u8],
+    /// The identifiers, as written.
+    pub identifiers: List<Ident<'a>>,
+}
+
+impl<'a> Model for DeformationModel<'a> {
+    ghost use Rattle.crs_value.specs.DynamicValues.{DeformationModelParts};
+    ghost use Rattle.crs_value.specs.SoundDynamic.{IsDeformationModel};
+
+    ghost Value = { DeformationModelParts };
+
+    ghost view = { λ m. record { name = m.name.now; identifiers = m.identifiers } };
+
+    ghost invariant = { λ m. IsDeformationModel (view m) };
+}
+
+// By hand, so that whoever drops one calls this, and proves nothing of its parts.
+impl Drop for DeformationModel<'_> {
+    fn drop(self) {
+        let DeformationModel {
+            name: _,
+            identifiers: _,
+        } = self;
+    }
+}
+
+impl<'a> Node<'a> for Dynamic<'a> {
+    ghost use Rattle.std.specs.Prelude.{◌≡◌};
+    ghost use Rattle.crs_shape.specs.declared.class.Class.TheVariants as classes;
+    ghost use Rattle.crs_value.specs.ReadsDynamic.{ReadsDynamic};
+
+    ghost Suits = { λ c. c ≡ classes.Dynamic };
+
+    ghost Reads = { λ c item parts. ReadsDynamic c item parts };
+
+    fn read(
+        alloc: Global,
+        items: &Items<'a>,
+        id: ItemId,
+        class: Class,
+    ) -> Result<Self, AllocError> {
+        slots_count();
+        Ok(Dynamic {
+            epoch: one_number(items, id, class, Class::FrameEpoch),
+            model: optional(alloc, items, id, class, Class::DeformationModel)?,
+        })
+    }
+}
+
+impl<'a> Node<'a> for DeformationModel<'a> {
+    ghost use Rattle.std.specs.Prelude.{◌≡◌};
+    ghost use Rattle.crs_shape.specs.declared.class.Class.TheVariants as classes;
+    ghost use Rattle.crs_value.specs.Reading.{Requires};
+    ghost use Rattle.crs_value.specs.ReadsDynamic.{ReadsDeformationModel};
+
+    ghost Suits = { λ c. Requires c classes.Text 0 };
+
+    ghost Reads = { λ c item parts. ReadsDeformationModel c item parts };
+
+    fn read(
+        alloc: Global,
+        items: &Items<'a>,
+        id: ItemId,
+        class: Class,
+    ) -> Result<Self, AllocError> {
+        Ok(DeformationModel {
+            name: text(items, id, class),
+            identifiers: many(alloc, items, id, class, Class::Identifier)?,
+        })
+    }
+}
