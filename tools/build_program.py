@@ -261,11 +261,8 @@ class Progress:
 
 def jobs_of_this_machine():
     cores = len(os.sched_getaffinity(0))
-    free = os.sysconf("SC_AVPHYS_PAGES") * os.sysconf("SC_PAGE_SIZE")
-    with contextlib.suppress(OSError, TypeError):
-        told = re.search(r"MemAvailable: +(\d+) kB", pathlib.Path("/proc/meminfo").read_text(encoding="ascii"))
-        free = int(told[1]) * 1024
-    return max(min(cores, MOST_JOBS, free // JOB_BYTES), 1)
+    memory = os.sysconf("SC_PHYS_PAGES") * os.sysconf("SC_PAGE_SIZE")
+    return max(min(cores, MOST_JOBS, memory // JOB_BYTES), 1)
 
 
 def prove(crates):

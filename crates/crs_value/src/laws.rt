@@ -68,7 +68,7 @@ pub fn one_answer()
     ensures apart { (text : List ℕ) (value : Crs) (fault : RefusedAt) → Spells text value → ¬
         (Refuses text fault) }
 
-    // A refusal has a number from 1 to 8, 11 to 13 or 21 to 28, and a place in the text or at its end.
+    // A refusal has a number from 1 to 8, 11 to 13 or 21 to 29, and a place in the text or at its end.
     ensures within { (text : List ℕ) (fault : RefusedAt) → Refuses text fault → IsRefusal fault.number ×
         (fault.place ≤ length text) }
 
