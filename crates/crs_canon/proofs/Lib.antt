@@ -1,4 +1,5 @@
 pub mod EncloseLemmas
+pub mod LevelLemmas
 pub mod MainLemmas
 pub mod PieceLemmas
 pub mod PlainLemmas

@@ -4,8 +4,9 @@ ghost use Rattle.crs_value.specs.Sound.{Each};
 ghost use Rattle.crs_value.specs.SoundCrs.{IsCrs};
 ghost use Rattle.crs_value.specs.declared.values.crs.Crs.{Crs};
 ghost use Rattle.crs_value.specs.declared.values.level.Level.{Level};
+ghost use Rattle.crs_value.specs.declared.values.level.Level.TheVariants as levels;
 ghost use Rattle.crs_same.specs.SameCrs.{SameCrs};
-ghost use Rattle.crs_canon.specs.Canonical.{CanonicalText, IsCanonicalText};
+ghost use Rattle.crs_canon.specs.Canonical.{CanonicalText, IsCanonicalOf, IsCanonicalText};
 ghost use Rattle.crs_canon.specs.Equality.{canon_writes, canons_equal};
 ghost use Rattle.crs_canon.specs.MainTheorem.{MainTheorem};
 ghost use Rattle.crs_canon.specs.SetText.{HaveOneTextWhereSame};
@@ -15,10 +16,10 @@ use crs_normal::laws::made::made_text_is_normal;
 use crs_normal::laws::parts::closed_texts;
 use crs_normal::laws::sets::texts_are_in_order;
 use crs_normal::laws::texts::{
-    normal_texts_are_equal_where_same, one_form_is_the_same, spelled_crs_is_sound,
-    written_form_is_accepted,
+    normal_text_is_normal_at_full, normal_texts_are_equal_where_same, one_form_is_the_same,
+    spelled_crs_is_sound, written_form_is_accepted,
 };
-use crs_same::laws::same_crs_is_equivalence;
+use crs_same::laws::{same_crs_is_equivalence, same_crs_is_same_by_definition};
 use crs_value::laws::one_answer;
 
 /// Each CRS has a canonical text, and those of two CRSs are equal, byte for byte, exactly where the CRSs are the same.
@@ -44,6 +45,21 @@ pub fn main_theorem()
 {
     canonical_texts_are_equal_where_same();
     same_crs_is_equivalence();
+    spelled_crs_is_sound();
+    one_answer();
+}
+
+/// The two levels. The canonical text by definition of a canonical text at the full level is that of its source, and of
+/// no other; a canonical text by definition is its own at both levels. Profile.
+pub fn levels_of_canonical_texts()
+    ensures through { (text full definition : List ℕ) → IsCanonicalOf levels.Full text full →
+        IsCanonicalOf levels.Definition text definition ↔ IsCanonicalOf levels.Definition full definition }
+    ensures own { (text definition : List ℕ) → IsCanonicalOf levels.Definition text definition → (level : Level) →
+        IsCanonicalOf level definition definition }
+{
+    normal_text_is_normal_at_full();
+    same_crs_is_equivalence();
+    same_crs_is_same_by_definition();
     spelled_crs_is_sound();
     one_answer();
 }

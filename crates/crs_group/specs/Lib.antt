@@ -10,3 +10,4 @@ pub mod Partition
 pub mod Putting
 pub mod Reading
 pub mod Streams
+pub mod United

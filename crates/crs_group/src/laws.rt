@@ -1,11 +1,15 @@
 //! Laws of lines and catalogues: calls that do nothing, and whose contracts are the laws.
 ghost use Rattle.std.specs.Prelude.{◌≡◌, ℕ, List, map};
 ghost use Rattle.bstr.specs.Text.{lines_of, without_terminator};
+ghost use Rattle.crs_value.specs.declared.values.level.Level.TheVariants as levels;
 ghost use Rattle.crs_group.specs.Catalogue.{CatalogueParts, Line};
 ghost use Rattle.crs_group.specs.GroupTexts.{IsCatalogueOf};
 ghost use Rattle.crs_group.specs.Lines.{AreLines};
+ghost use Rattle.crs_group.specs.Partition.{IsPartition, PlacedLine};
+ghost use Rattle.crs_group.specs.United.{AreUnited};
 
 use crs_canon::laws::main_theorem;
+use crs_same::laws::same_crs_is_same_by_definition;
 use crs_value::laws::one_answer;
 
 /// Bytes have one list of lines, and it is the one that `bstr` cuts. Profile.
@@ -21,4 +25,15 @@ pub fn catalogue_is_one()
 {
     main_theorem();
     one_answer();
+}
+
+/// The groups of a catalogue by definition are unions of its groups at the full level. Profile.
+pub fn groups_are_united_by_definition()
+    ensures { (placed united : List PlacedLine) (full definition : CatalogueParts) →
+        IsPartition placed full → IsPartition united definition →
+        map (λ p. p.line) placed ≡ map (λ p. p.line) united →
+        full.level ≡ levels.Full → definition.level ≡ levels.Definition → AreUnited placed united }
+{
+    one_answer();
+    same_crs_is_same_by_definition();
 }

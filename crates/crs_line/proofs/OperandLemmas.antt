@@ -1,6 +1,6 @@
 -- Both texts of `same` are there where the command takes the line: no row of its matches is without a value.
-use Rattle.std.proofs.Common.{◌≡◌, ◌≢◌, subst, ℕ, List, [], ◌∷◌, ◌++◌, length, Option, Some, None, IsSome, Bool, true, false, not, ◌&&◌, ◌||◌, cond, refl, codes, zero, suc, drop, is_some, option_and_then, option_map, ap₂, sym, ◌∙◌}
-use Rattle.std.specs.Prelude.{find, encode_utf8, slice_get}
+use Rattle.std.proofs.Common.{◌≡◌, ◌≢◌, subst, ℕ, List, [], ◌∷◌, ◌++◌, length, Option, Some, None, IsSome, Bool, true, false, not, ◌&&◌, ◌||◌, cond, refl, codes, zero, suc, drop, is_some, option_and_then, option_map, ap, ap₂, sym, ◌∙◌}
+use Rattle.std.specs.Prelude.{find, encode_utf8, slice_get, unwrap_or}
 use Rattle.std.specs.List.{fold, list_all}
 use Rattle.std.specs.Option.{option_map_or}
 use Rattle.std.specs.Str.{bytes_eq, chars}
@@ -16,7 +16,7 @@ use Rattle.clap.specs.Simple.{filled, filled_from, help_rule, new_shape, rows_at
 use Rattle.clap.specs.Walk.{Held, Names, Outcome, Step, Waiting, Walk, done, waits, plain, refused, idle, option, positional, next, trailing, subcommand, value, after_flag, after_step, arg_by_id, arg_by_index, arg_by_long, arg_by_short, at_row, attached_value, bundle, bundle_met, bundle_step, default_rows, flag_met, has_row, is_pending, long_met, long_or_other, more_values, nothing_held, option_met, option_word, plain_word, reacted, reading_by, rows_after, settled, settled_rows, short_met, short_or_plain, subcommand_met, subcommand_or_other, takes_several, takes_values, to_positional, used, used_by_id, walk, walk_from, walked, with_default, with_values, without, word_met}
 use Rattle.clap.specs.Takes.{bundle_passes, bundle_step_passes, flag_word_passes, flags_pass, is_given, is_valid, default_passes, level_passes, long_passes, option_passes, other_passes, positional_passes, react_passes, settle_passes, short_passes, step_passes, turn_passes, use_passes, walk_passes, word_passes}
 use Rattle.clap.proofs.WalkLemmas.{both, first_value-rows}
-use Rattle.crs_line.specs.CommandLine.{operand, same_of, same_texts}
+use Rattle.crs_line.specs.CommandLine.{level_of, level_option, operand, same_of, same_texts}
 
 -- ---- rows with values
 
@@ -69,6 +69,12 @@ operand_keeps : (id : Text) (position : ℕ) → Keeps (with_index position (fil
 operand_keeps id position again [] rows passes have = cc
 operand_keeps id position again (v ∷ vs) rows passes have =
     with_values_keeps id _ CommandLine v vs (without id rows) (at_row_keeps id (λ _. []) [] rows (λ r own. tt) tt have)
+
+level_keeps : (position : ℕ) → Keeps (with_index position (filled level_option))
+level_keeps position again [] rows passes have = cc
+level_keeps position again (v ∷ vs) rows passes have =
+    with_values_keeps (codes "level") _ CommandLine v vs (without (codes "level") rows)
+    (at_row_keeps (codes "level") (λ _. []) [] rows (λ r own. tt) tt have)
 
 kept_either : (here : Bool) (a : Rule) (others : Option Rule) → Keeps a → IsKept others → IsKept (cond here (Some a) others)
 kept_either true a others keeps kept = keeps
@@ -283,15 +289,15 @@ given_there id [] have given = cc
 given_there id (r ∷ rows) have given =
     given_either (bytes_eq r.id id) r (find (λ r. bytes_eq r.id id) rows) (first_there r.values have.0) (given_there id rows have.1) given
 
-both_there : (first second : Option Text) → IsSome first → IsSome second → IsSome (same_texts first second)
-both_there None second one other = cc
-both_there (Some first) None one other = cc
-both_there (Some first) (Some second) one other = refl
+both_there : (level : Text) (first second : Option Text) → IsSome first → IsSome second → IsSome (same_texts level first second)
+both_there level None second one other = cc
+both_there level (Some first) None one other = cc
+both_there level (Some first) (Some second) one other = refl
 
 -- `same`, as `clap` builds it
 abbrev pub built_same : Shape
 built_same = record (new_shape (codes "same")) {
-  rules = filled_from 1 (operand (codes "first") ∷ operand (codes "second") ∷ help_rule ∷ []);
+  rules = filled_from 1 (operand (codes "first") ∷ operand (codes "second") ∷ level_option ∷ help_rule ∷ []);
   disable_help_subcommand = true;
   is_built = true;
 }
@@ -302,8 +308,13 @@ given_texts : (words : List Text) → level_passes built_same [] nothing_held wo
     × ((is_given (codes "first") (rows_after built_same.rules [] words) ≡ true) × (is_given (codes "second") (rows_after built_same.rules [] words) ≡ true))
 given_texts words passes =
     let rows = rows_after built_same.rules [] words in
-    let level = level_rows built_same words
-    ((λ again values. operand_keeps (codes "first") 1 again values), ((λ again values. operand_keeps (codes "second") 2 again values), ((λ again values rows uses have. have), tt))) passes in
+    let level = level_rows built_same words (
+      (λ again values. operand_keeps (codes "first") 1 again values),
+      (
+        (λ again values. operand_keeps (codes "second") 2 again values),
+        ((λ again values. level_keeps 3 again values), ((λ again values rows uses have. have), tt)),
+      ),
+    ) passes in
     let given = both (is_given (codes "first") rows) _ level.1 in
     (level.0, (given.0, (both (is_given (codes "second") rows) _ given.1).0))
 
@@ -315,20 +326,20 @@ pub texts_there : (words : List Text) → level_passes built_same [] nothing_hel
 texts_there words passes =
     let rows = rows_after built_same.rules [] words in
     let given = given_texts words passes in
-    both_there (first_of (codes "first") rows) (first_of (codes "second") rows)
+    both_there (level_of rows) (first_of (codes "first") rows) (first_of (codes "second") rows)
     (given_there (codes "first") rows given.0 given.1.0) (given_there (codes "second") rows given.0 given.1.1)
 
 -- the getters' texts are the request
 pub texts_read : (f : Found) (first second : Option (Bor Text)) → option_map (λ s. s.now) first ≡ first_value f (codes "first")
     → option_map (λ s. s.now) second ≡ first_value f (codes "second")
-    → same_of (rows_of f) ≡ same_texts (option_map (λ s. s.now) first) (option_map (λ s. s.now) second)
+    → same_of (rows_of f) ≡ same_texts (level_of (rows_of f)) (option_map (λ s. s.now) first) (option_map (λ s. s.now) second)
 texts_read f first second one other =
-    ap₂ same_texts (sym (one ∙ first_value-rows f (codes "first"))) (sym (other ∙ first_value-rows f (codes "second")))
+    ap₂ (same_texts (level_of (rows_of f))) (sym (one ∙ first_value-rows f (codes "first"))) (sym (other ∙ first_value-rows f (codes "second")))
 
-there_both : (first second : Option Text) → IsSome (same_texts first second) → IsSome first × IsSome second
-there_both None second some = cc
-there_both (Some first) None some = cc
-there_both (Some first) (Some second) some = (refl, refl)
+there_both : (level : Text) (first second : Option Text) → IsSome (same_texts level first second) → IsSome first × IsSome second
+there_both level None second some = cc
+there_both level (Some first) None some = cc
+there_both level (Some first) (Some second) some = (refl, refl)
 
 some_there : (found : Option (Bor Text)) → IsSome (option_map (λ s. s.now) found) → found ≢ None
 some_there None some = cc
@@ -338,5 +349,17 @@ some_there (Some text) some = λ none. cc
 pub neither_missing : (f : Found) (first second : Option (Bor Text)) → option_map (λ s. s.now) first ≡ first_value f (codes "first")
     → option_map (λ s. s.now) second ≡ first_value f (codes "second") → IsSome (same_of (rows_of f)) → (first ≢ None) × (second ≢ None)
 neither_missing f first second one other some =
-    let both_are = there_both _ _ (subst IsSome (texts_read f first second one other) some) in
+    let both_are = there_both _ _ _ (subst IsSome (texts_read f first second one other) some) in
     (some_there first both_are.0, some_there second both_are.1)
+
+-- ---- the level
+
+now_or : (found : Option (Bor Text)) (usual : Bor Text) → (unwrap_or found usual).now ≡ unwrap_or (option_map (λ s. s.now) found) usual.now
+now_or None usual = refl
+now_or (Some text) usual = refl
+
+-- the getter's text, or `full`, is the level
+pub level_read : (f : Found) (found : Option (Bor Text)) (usual text : Bor Text) → text ≡ unwrap_or found usual
+    → option_map (λ s. s.now) found ≡ first_value f (codes "level") → usual.now ≡ codes "full" → text.now ≡ level_of (rows_of f)
+level_read f found usual text is one full =
+    ap (λ (t : Bor Text). t.now) is ∙ now_or found usual ∙ ap₂ unwrap_or (one ∙ first_value-rows f (codes "level")) full

@@ -1,6 +1,6 @@
 -- The command line: what `clap`'s definition of the commands gives for the words.
 use Rattle.std.specs.Prelude.{◌≡◌, ◌≢◌, ◌==◌, [], ◌∷◌, Bool, true, false, not, List, Option, Some, None, codes}
-use Rattle.std.specs.Prelude.{option_and_then, if◌then◌else◌}
+use Rattle.std.specs.Prelude.{option_and_then, unwrap_or, if◌then◌else◌}
 use Rattle.std.specs.Str.{bytes_eq}
 use Rattle.clap.specs.Words.{App, IsAmong, Row, Rule, Shape, Text, fault_of, first_of, kind_of, new_app, new_rule}
 use Rattle.clap.specs.Words.{subcommand_of, takes, with_subcommand}
@@ -16,38 +16,52 @@ use Rattle.clap.specs.declared.error.kind.ErrorKind.TheVariants as kind
 abbrev pub operand : Text → Rule
 operand id = record (new_rule id) { required = true; value_names = 1 }
 
--- `same`, which wants a first text and a second
+-- the option `--level`, which takes one word
+abbrev pub level_option : Rule
+level_option = record (new_rule (codes "level")) { long = Some (codes "level"); value_names = 1 }
+
+-- a command that takes that option alone
+abbrev pub levelled_shape : Text → Shape
+levelled_shape name = record (new_shape name) { rules = level_option ∷ [] }
+
+-- `same`, which wants a first text and a second, and takes a level
 abbrev pub same_shape : Shape
-same_shape = record (new_shape (codes "same")) { rules = operand (codes "first") ∷ operand (codes "second") ∷ [] }
+same_shape = record (new_shape (codes "same")) {
+  rules = operand (codes "first") ∷ operand (codes "second") ∷ level_option ∷ [];
+}
 
 -- `crsdesk` alone; it has a version, and wants one of its commands
 abbrev pub lone_desk : App
 lone_desk = on_top (λ s. record s { has_version = true; subcommand_required = true }) (new_app (codes "crsdesk"))
 
--- `crsdesk` with `canon`, `check` and `group`, which read standard input
+-- `crsdesk` with `canon`, `check` and `group`, which read standard input; `check` takes no level
 abbrev pub input_desk : App
 input_desk = with_subcommand (with_subcommand (with_subcommand lone_desk
-    (new_shape (codes "canon"))) (new_shape (codes "check"))) (new_shape (codes "group"))
+    (levelled_shape (codes "canon"))) (new_shape (codes "check"))) (levelled_shape (codes "group"))
 
 -- `crsdesk` with all its commands
 abbrev pub desk : App
 desk = with_subcommand input_desk same_shape
 
--- two texts are compared where both are there
-abbrev pub same_texts : Option Text → Option Text → Option Request
-same_texts (Some first) (Some second) = Some (Same first second)
-same_texts first second = None
+-- the level among a command's matches: `full` where none is named
+abbrev pub level_of : List Row → Text
+level_of rows = unwrap_or (first_of (codes "level") rows) (codes "full")
 
--- the texts of `same`, among its matches
+-- two texts are compared at a level where both are there
+abbrev pub same_texts : Text → Option Text → Option Text → Option Request
+same_texts level (Some first) (Some second) = Some (Same level first second)
+same_texts level first second = None
+
+-- the level and the texts of `same`, among its matches
 abbrev pub same_of : List Row → Option Request
-same_of rows = same_texts (first_of (codes "first") rows) (first_of (codes "second") rows)
+same_of rows = same_texts (level_of rows) (first_of (codes "first") rows) (first_of (codes "second") rows)
 
 -- the request of a command's name and of its matches
 abbrev pub request_of : Text × List Row → Option Request
-request_of (name, rows) = if bytes_eq name (codes "canon") then Some Canon
+request_of (name, rows) = if bytes_eq name (codes "canon") then Some (Canon (level_of rows))
     else (if bytes_eq name (codes "check") then Some Check
     else (if bytes_eq name (codes "same") then same_of rows
-    else (if bytes_eq name (codes "group") then Some Group else None)))
+    else (if bytes_eq name (codes "group") then Some (Group (level_of rows)) else None)))
 
 -- what the words ask for, where the command takes them; the first of them is the program's name
 abbrev pub asked : List Text → Option Request

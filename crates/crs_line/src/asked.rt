@@ -2,17 +2,26 @@ use crate::LineWord;
 use std::alloc::AllocError;
 use thiserror::Error;
 
-/// What a command line asks for.
+/// What a command line asks for. A level is the word after `--level`, whatever word it is,
+/// and `full` where the line names none.
 #[derive(Debug, Drop)]
 pub enum Request {
-    /// The canonical text of the text on standard input.
-    Canon,
+    /// The canonical text, at a level, of the text on standard input.
+    Canon {
+        level: LineWord,
+    },
     /// Whether the text on standard input is accepted, and what it spells.
     Check,
-    /// Whether two texts, the first and the second, spell the same.
-    Same(LineWord, LineWord),
-    /// Which lines of standard input, a text each, spell the same.
-    Group,
+    /// Whether two texts spell the same, at a level.
+    Same {
+        level: LineWord,
+        first: LineWord,
+        second: LineWord,
+    },
+    /// Which lines of standard input, a text each, spell the same, at a level.
+    Group {
+        level: LineWord,
+    },
 }
 
 /// Why a command line gives no request.

@@ -1,8 +1,8 @@
 //! Laws of the definitions, as contracts of functions that do nothing.
-ghost use Rattle.std.specs.Prelude.{◌≡◌, ◌≢◌, ◌<◌, ℕ, [], ◌∷◌, List, Some, IsSome, true, false, codes};
+ghost use Rattle.std.specs.Prelude.{◌≡◌, ◌≢◌, ◌<◌, ℕ, [], ◌∷◌, ◌++◌, List, Some, IsSome, true, false, codes};
 ghost use Rattle.clap.specs.Words.{Text, takes};
 ghost use Rattle.crs_line.specs.CommandLine.{asked, desk, is_plain_word};
-ghost use Rattle.crs_line.specs.declared.asked.Request.TheVariants.{Same};
+ghost use Rattle.crs_line.specs.declared.asked.Request.TheVariants.{Canon, Same, Group};
 
 /// A line that the command takes asks for something: no text of `same` is missing there.
 #[tactic(auto, using(crate::proofs::CommandLemmas::taken_asks))]
@@ -11,11 +11,51 @@ pub fn taken_line_asks()
 {}
 
 /// The two words after `same` are the texts where neither is a flag, and any two after `same --`.
+/// The level is `full` there.
 pub fn two_words_are_the_texts()
     ensures plain { (program first second : Text) → is_plain_word first ≡ true → is_plain_word second ≡ true →
-        asked (program ∷ codes "same" ∷ first ∷ second ∷ []) ≡ Some (Same first second) }
+        asked (program ∷ codes "same" ∷ first ∷ second ∷ []) ≡ Some (Same (codes "full") first second) }
     ensures dashes { (program first second : Text) →
-        asked (program ∷ codes "same" ∷ codes "--" ∷ first ∷ second ∷ []) ≡ Some (Same first second) }
+        asked (program ∷ codes "same" ∷ codes "--" ∷ first ∷ second ∷ []) ≡ Some (Same (codes "full") first second) }
+{}
+
+/// The word after `--level` is the level of `same`, before the two texts and after them, where no word is a flag.
+pub fn same_has_a_level()
+    ensures before { (program level first second : Text) → is_plain_word level ≡ true →
+        is_plain_word first ≡ true → is_plain_word second ≡ true →
+        asked (program ∷ codes "same" ∷ codes "--level" ∷ level ∷ first ∷ second ∷ [])
+        ≡ Some (Same level first second) }
+    ensures after { (program level first second : Text) → is_plain_word level ≡ true →
+        is_plain_word first ≡ true → is_plain_word second ≡ true →
+        asked (program ∷ codes "same" ∷ first ∷ second ∷ codes "--level" ∷ level ∷ [])
+        ≡ Some (Same level first second) }
+{}
+
+/// The word after `--level` is the level of `canon` and of `group`, where it is no flag.
+pub fn canon_and_group_have_a_level()
+    ensures canon { (program level : Text) → is_plain_word level ≡ true →
+        asked (program ∷ codes "canon" ∷ codes "--level" ∷ level ∷ []) ≡ Some (Canon level) }
+    ensures group { (program level : Text) → is_plain_word level ≡ true →
+        asked (program ∷ codes "group" ∷ codes "--level" ∷ level ∷ []) ≡ Some (Group level) }
+{}
+
+/// `canon` and `group` alone are at the level `full`.
+pub fn the_usual_level_is_full()
+    ensures canon { (program : Text) → asked (program ∷ codes "canon" ∷ []) ≡ Some (Canon (codes "full")) }
+    ensures group { (program : Text) → asked (program ∷ codes "group" ∷ []) ≡ Some (Group (codes "full")) }
+{}
+
+/// `check` has no level.
+pub fn check_has_no_level()
+    ensures { (program level : Text) →
+        takes desk (program ∷ codes "check" ∷ codes "--level" ∷ level ∷ []) ≡ false }
+{}
+
+/// `--level` is neither given twice nor without a level.
+pub fn one_level_at_most()
+    ensures once { (program one other : Text) →
+        takes desk (program ∷ codes "canon" ∷ (codes "--level=" ++ one) ∷ (codes "--level=" ++ other) ∷ []) ≡ false }
+    ensures whole { (program : Text) → takes desk (program ∷ codes "canon" ∷ codes "--level" ∷ []) ≡ false }
 {}
 
 /// `same` is taken neither alone nor with one word.

@@ -3,7 +3,7 @@ ghost use Rattle.clap.specs.Words.{app_of, fault_of, found_of, rows_of, rule_of,
 ghost use Rattle.clap.specs.Simple.{new_shape};
 ghost use Rattle.clap.specs.declared.builder.command.Command.TheViews.{out-Command as fields_of};
 ghost use Rattle.crs_line.specs.CommandLine.{HandsOn, IsRefusal, asked, desk, input_desk, lone_desk, operand};
-ghost use Rattle.crs_line.specs.CommandLine.{request_of, same_of, same_shape};
+ghost use Rattle.crs_line.specs.CommandLine.{level_of, level_option, levelled_shape, request_of, same_of, same_shape};
 
 use crate::{LineWord, Request, RequestFault};
 use clap::error::ErrorKind;
@@ -20,6 +20,13 @@ const CHECK_ABOUT: &str = "Tells what kind of CRS standard input spells, or wher
 
 const GROUP_ABOUT: &str =
     "Groups the lines of standard input, a text each, by the CRSs that they spell";
+
+// What help says of the option `--level`.
+const LEVEL_HELP: &str =
+    "What counts: full, or definition, without identifiers, usages and remarks [default: full]";
+
+// The level where the line names none.
+const USUAL_LEVEL: &str = "full";
 
 // What the help of a command says last: its statuses.
 const CANON_STATUS: &str = "Status: 0 and the canonical text, 1 and the refusal, 2 for a fault.";
@@ -69,13 +76,26 @@ fn with_inputs<'a>(alloc: Global) -> Result<Command<'a>, AllocError>
     ensures shape { IfOk result (λ command. app_of command ≡ input_desk) }
     ensures globals { IfOk result (λ command. (fields_of command).has_globals ≡ false) }
 {
-    let canon = input_command(alloc, "canon", CANON_ABOUT, CANON_STATUS);
+    let canon = levelled_command(alloc, "canon", CANON_ABOUT, CANON_STATUS)?;
     let check = input_command(alloc, "check", CHECK_ABOUT, CHECK_STATUS);
-    let group = input_command(alloc, "group", GROUP_ABOUT, GROUP_STATUS);
+    let group = levelled_command(alloc, "group", GROUP_ABOUT, GROUP_STATUS)?;
     desk_alone(alloc)
         .subcommand(canon)?
         .subcommand(check)?
         .subcommand(group)
+}
+
+// A command that takes the option `--level` alone, what help says of it, and what it says last.
+fn levelled_command<'a>(
+    alloc: Global,
+    name: &'a str,
+    about: &'a str,
+    status: &'a str,
+) -> Result<Command<'a>, AllocError>
+    ensures shape { IfOk result (λ command. shape_of command ≡ levelled_shape name.entry.now) }
+    ensures globals { IfOk result (λ command. (fields_of command).has_globals ≡ false) }
+{
+    input_command(alloc, name, about, status).arg(level_argument(alloc))
 }
 
 // A command that takes no words, what help says of it, and what it says last.
@@ -111,7 +131,8 @@ fn same_command<'a>(alloc: Global) -> Result<Command<'a>, AllocError>
         .about("Compares two texts, and names the first part in which their CRSs differ")
         .after_help(SAME_STATUS)
         .arg(first)?
-        .arg(second)
+        .arg(second)?
+        .arg(level_argument(alloc))
 }
 
 // An operand that has to be given, what help calls it, and what help says of it.
@@ -123,6 +144,16 @@ fn needed_word<'a>(alloc: Global, id: &'a str, shown: &'a str, help: &'a str) ->
         .value_name(shown)
         .help(help)
         .required(true)
+}
+
+fn level_argument<'a>(alloc: Global) -> Arg<'a>
+    ensures rule { rule_of result ≡ level_option }
+    ensures local { result.global ≡ false }
+{
+    Arg::new(alloc, "level")
+        .long("level")
+        .value_name("LEVEL")
+        .help(LEVEL_HELP)
 }
 
 fn refusal(error: clap::Error) -> RequestFault
@@ -139,10 +170,14 @@ fn named(alloc: Global, matches: &ArgMatches) -> Result<Request, AllocError>
     ensures { IfOk result (λ found. option_and_then request_of (subcommand_rows_of matches.now) ≡ Some found) }
 {
     match matches.subcommand() {
-        Some(("canon", _)) => Ok(Request::Canon),
+        Some(("canon", options)) => Ok(Request::Canon {
+            level: level_word(alloc, options)?,
+        }),
         Some(("check", _)) => Ok(Request::Check),
         Some(("same", operands)) => same_request(alloc, operands),
-        Some(("group", _)) => Ok(Request::Group),
+        Some(("group", options)) => Ok(Request::Group {
+            level: level_word(alloc, options)?,
+        }),
         _ => unreachable!(),
     }
 }
@@ -153,10 +188,21 @@ fn same_request(alloc: Global, operands: &ArgMatches) -> Result<Request, AllocEr
 {
     match (operands.get_str("first"), operands.get_str("second")) {
         (Some(first), Some(second)) => {
+            let level = level_word(alloc, operands)?;
             let first = LineWord::new(alloc, first)?;
             let second = LineWord::new(alloc, second)?;
-            Ok(Request::Same(first, second))
+            Ok(Request::Same {
+                level,
+                first,
+                second,
+            })
         }
         _ => unreachable!(),
     }
+}
+
+fn level_word(alloc: Global, matches: &ArgMatches) -> Result<LineWord, AllocError>
+    ensures { IfOk result (λ level. level ≡ level_of (rows_of (found_of matches.now))) }
+{
+    LineWord::new(alloc, matches.get_str("level").unwrap_or(USUAL_LEVEL))
 }

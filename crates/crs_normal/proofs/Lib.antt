@@ -26,6 +26,7 @@ pub mod IdentLemmas
 pub mod IdentNormalLemmas
 pub mod ItemLemmas
 pub mod LeafLemmas
+pub mod LevelLemmas
 pub mod MadeAloneLemmas
 pub mod MadeAscendLemmas
 pub mod MadeAxisLemmas

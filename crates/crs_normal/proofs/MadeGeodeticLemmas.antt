@@ -14,7 +14,6 @@ use Rattle.crs_shape.specs.Slots.{class_named, geodetic_slots, one, one_of, opti
 use Rattle.crs_value.specs.BadSystem.{IsOneOf, geodetic_dimensions, geographic_dimensions}
 use Rattle.crs_value.specs.Checks.{OfCrs, Own as BreaksOwn}
 use Rattle.crs_value.specs.CrsValues.{GeodeticParts}
-use Rattle.crs_value.specs.declared.values.frame.Frame.TheVariants as frame
 use Rattle.crs_value.specs.declared.values.level.Level.{Level}
 use Rattle.crs_value.specs.declared.values.system_type.SystemType.{SystemType}
 use Rattle.crs_value.specs.declared.values.system_type.SystemType.TheVariants as types

@@ -1,5 +1,5 @@
 -- Deformation models and dynamic parts in their one form are read back from their items.
-use Rattle.std.proofs.Common.{◌≡◌, ℕ, ◌+◌, codes, IfSome, Option, Some, None, List, [], ◌∷◌, refl}
+use Rattle.std.proofs.Common.{◌≡◌, ◌+◌, codes, Option, Some, List, [], ◌∷◌, refl}
 use Rattle.std.specs.Option.{option_map}
 use Rattle.crs_text.specs.Items.{Item, End}
 use Rattle.crs_shape.specs.declared.class.Class.{Class}

@@ -1,12 +1,14 @@
 //! From the name of a call to its answer.
 use crate::texts::Column;
 use crate::{
-    canonical, catalogues, failures, lines, numbers, pieces, runs, sameness, shapes, texts, values,
+    canonical, catalogues, failures, levels, lines, nodes, numbers, pieces, runs, sameness, shapes,
+    texts, values,
 };
+use crs_value::Level;
 use std::alloc::{AllocError, Global};
 
 /// Appends the answer of a call to an input, as a row writes it, the lines of the input having these ends; behind a
-/// blank the call may have words.
+/// blank the call may have words, of which the last two may be `at definition`, its level.
 pub fn put_answer(
     out: &mut String,
     alloc: Global,
@@ -14,19 +16,29 @@ pub fn put_answer(
     input: &[u8],
     ends: &[usize],
 ) -> Result<(), AllocError> {
+    let (call, level) = split_level(call);
     match call.split_once(' ') {
         Some(("failed_reads", words)) => failures::put_failed_reads(out, alloc, words, input),
         Some(("failed_writes", words)) => failures::put_failed_writes(out, alloc, words, input),
-        Some(("run_same", words)) => runs::put_same(out, alloc, words, input),
-        Some(_) => runs::put_run(out, alloc, call, input),
+        Some(("run_same", words)) => runs::put_same(out, alloc, level, words, input),
+        Some(_) => runs::put_run(out, alloc, level, call, input),
         None if call == "feed" => pieces::put_fed(out, alloc, input, ends),
-        None => put_plain_answer(out, alloc, call, input),
+        None => put_plain_answer(out, alloc, level, call, input),
+    }
+}
+
+// A call and its level, which is Full where none stands behind it.
+fn split_level(call: &str) -> (&str, Level) {
+    match call.strip_suffix(" at definition") {
+        Some(call) => (call, Level::Definition),
+        None => (call, Level::Full),
     }
 }
 
 fn put_plain_answer(
     out: &mut String,
     alloc: Global,
+    level: Level,
     call: &str,
     input: &[u8],
 ) -> Result<(), AllocError> {
@@ -38,13 +50,14 @@ fn put_plain_answer(
         "Decimal::write" => numbers::put_appended(out, input),
         "NumberFault" => numbers::put_displayed(out, input),
         "Refusal::new" => numbers::put_name(out, input),
-        _ => put_text_answer(out, alloc, call, input),
+        _ => put_text_answer(out, alloc, level, call, input),
     }
 }
 
 fn put_text_answer(
     out: &mut String,
     alloc: Global,
+    level: Level,
     call: &str,
     input: &[u8],
 ) -> Result<(), AllocError> {
@@ -63,13 +76,14 @@ fn put_text_answer(
         "slots" => shapes::put_slots(out, input),
         "known" => shapes::put_known(out, input),
         "class_in" => shapes::put_classes(out, alloc, input),
-        _ => put_value_answer(out, alloc, call, input),
+        _ => put_value_answer(out, alloc, level, call, input),
     }
 }
 
 fn put_value_answer(
     out: &mut String,
     alloc: Global,
+    level: Level,
     call: &str,
     input: &[u8],
 ) -> Result<(), AllocError> {
@@ -77,19 +91,23 @@ fn put_value_answer(
         "read" => values::put_read(out, alloc, input),
         "value_of" => values::put_value_of(out, alloc, input),
         "first_axis" => values::put_axis(out, alloc, input),
-        "same" => sameness::put_same(out, alloc, input),
-        "same_axis" => sameness::put_same_axis(out, alloc, input),
-        "canon" => canonical::put_canon(out, alloc, input),
-        "Canon::same" => canonical::put_same(out, alloc, input),
-        "Axis::write" => canonical::put_axis(out, alloc, input),
-        "Dynamic::write" => canonical::put_dynamic(out, alloc, input),
-        "DeformationModel::write" => canonical::put_model(out, alloc, input),
-        "Set::write" => canonical::put_set(out, alloc, input),
-        "run_canon" => runs::put_canon(out, alloc, input),
+        "same" => sameness::put_same(out, alloc, level, input),
+        "same_axis" => sameness::put_same_axis(out, alloc, level, input),
+        "canon" => canonical::put_canon(out, alloc, level, input),
+        "Canon::same" => canonical::put_same(out, alloc, level, input),
+        "Axis::write" => nodes::put_axis(out, alloc, level, input),
+        "Dynamic::write" => nodes::put_dynamic(out, alloc, level, input),
+        "levels" => levels::put_levels(out, alloc, input),
+        "Ident::write" => nodes::put_ident(out, alloc, level, input),
+        "Usage::write" => nodes::put_usage(out, alloc, level, input),
+        "Extent::write" => nodes::put_extent(out, alloc, level, input),
+        "DeformationModel::write" => nodes::put_model(out, alloc, level, input),
+        "Set::write" => nodes::put_set(out, alloc, level, input),
+        "run_canon" => runs::put_canon(out, alloc, level, input),
         "run_check" => runs::put_check(out, alloc, input),
-        "run_same" => runs::put_same(out, alloc, "", input),
-        "Catalogue" => catalogues::put_catalogue(out, alloc, input),
-        "run_group" => runs::put_run(out, alloc, call, input),
+        "run_same" => runs::put_same(out, alloc, level, "", input),
+        "Catalogue" => catalogues::put_catalogue(out, alloc, level, input),
+        "run_group" => runs::put_run(out, alloc, level, call, input),
         "request" => lines::put_request(out, alloc, input),
         _ => out.push_str("no such call"),
     }

@@ -7,8 +7,13 @@ use std::alloc::{AllocError, Global};
 
 /// The answers of a catalogue's calls, one a line of the input, with `; ` between two: `add N TEXT`, `groups`,
 /// `lines N`, `text N` and `refused`.
-pub fn put_catalogue(out: &mut String, alloc: Global, input: &[u8]) -> Result<(), AllocError> {
-    let mut catalogue = Catalogue::new(alloc, Level::Full);
+pub fn put_catalogue(
+    out: &mut String,
+    alloc: Global,
+    level: Level,
+    input: &[u8],
+) -> Result<(), AllocError> {
+    let mut catalogue = Catalogue::new(alloc, level);
     for (index, line) in input.split(|byte| *byte == b'\n').enumerate() {
         if index > 0 {
             out.push_str("; ")?;

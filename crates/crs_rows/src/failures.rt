@@ -1,5 +1,6 @@
 //! Runs in which every read, or every write, fails in turn.
 use crate::runs::{Done, put_done, read_run, run};
+use crs_value::Level;
 use std::alloc::{AllocError, Global};
 
 // No row reads or writes more often.
@@ -18,7 +19,7 @@ pub fn put_failed_reads(
     };
     for nth in 1..MOST {
         manner.fails_at = nth;
-        let done = run(alloc, command, manner, input)?;
+        let done = run(alloc, Level::Full, command, manner, input)?;
         let failed = format!(in alloc; "fault ReadFailed, reads {nth}, source failed")?;
         if done.told.as_str() != failed.as_str() || !done.written.is_empty() {
             return put_behind(out, nth - 1, "reads", &done);
@@ -38,10 +39,10 @@ pub fn put_failed_writes(
     let Some((command, mut manner)) = read_run(words) else {
         return out.push_str("no such run");
     };
-    let whole = run(alloc, command, manner, input)?;
+    let whole = run(alloc, Level::Full, command, manner, input)?;
     for nth in 1..MOST {
         manner.stops_at = nth;
-        let done = run(alloc, command, manner, input)?;
+        let done = run(alloc, Level::Full, command, manner, input)?;
         let taken = manner.takes.saturating_mul(nth as usize - 1);
         if !is_failed_write(&done, whole.written.get(..taken)) {
             return put_behind(out, nth - 1, "writes", &done);

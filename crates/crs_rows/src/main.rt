@@ -7,7 +7,9 @@ mod canonical;
 mod catalogues;
 mod escapes;
 mod failures;
+mod levels;
 mod lines;
+mod nodes;
 mod numbers;
 mod pieces;
 mod rows;
@@ -20,7 +22,7 @@ mod values;
 
 use std::{fs, io};
 
-const FILES: [&str; 21] = [
+const FILES: [&str; 22] = [
     "decimals",
     "refusals",
     "tokens",
@@ -37,6 +39,7 @@ const FILES: [&str; 21] = [
     "streams",
     "checks",
     "same",
+    "levels",
     "long_sets",
     "same_runs",
     "lines",

@@ -43,6 +43,7 @@ pub struct Done {
 /// Runs a command over an input that is read, and whose answer is written, in this manner.
 pub fn run(
     alloc: Global,
+    level: Level,
     command: Command,
     manner: Manner,
     input: &[u8],
@@ -52,6 +53,7 @@ pub fn run(
     put_ended(
         &mut told,
         alloc,
+        level,
         command,
         Pieces::new(input, manner),
         &mut page,
@@ -65,6 +67,7 @@ pub fn run(
 fn put_ended(
     out: &mut String,
     alloc: Global,
+    level: Level,
     command: Command,
     reader: Pieces<'_>,
     page: &mut Page,
@@ -72,9 +75,9 @@ fn put_ended(
     let mut source = Source::new(reader);
     let mut sink = Sink::new(page);
     match command {
-        Command::Canon => put_outcome(out, run_canon(alloc, Level::Full, &mut source, &mut sink))?,
+        Command::Canon => put_outcome(out, run_canon(alloc, level, &mut source, &mut sink))?,
         Command::Check => put_outcome(out, run_check(alloc, &mut source, &mut sink))?,
-        Command::Group => match run_group(alloc, Level::Full, &mut source, &mut sink) {
+        Command::Group => match run_group(alloc, level, &mut source, &mut sink) {
             Ok(summary) => put_summary(out, summary)?,
             Err(fault) => put_fault(out, fault)?,
         },
@@ -124,13 +127,14 @@ fn put_fault(out: &mut String, fault: RunFault) -> Result<(), AllocError> {
 pub fn put_run(
     out: &mut String,
     alloc: Global,
+    level: Level,
     words: &str,
     input: &[u8],
 ) -> Result<(), AllocError> {
     let Some((command, manner)) = read_run(words) else {
         return out.push_str("no such run");
     };
-    let done = run(alloc, command, manner, input)?;
+    let done = run(alloc, level, command, manner, input)?;
     put_done(out, &done)
 }
 
@@ -150,12 +154,17 @@ fn put_written(out: &mut String, written: &[u8]) -> Result<(), AllocError> {
 }
 
 /// The status of `canon` over a reader and a writer of the library, or its fault, and what it has written.
-pub fn put_canon(out: &mut String, alloc: Global, input: &[u8]) -> Result<(), AllocError> {
+pub fn put_canon(
+    out: &mut String,
+    alloc: Global,
+    level: Level,
+    input: &[u8],
+) -> Result<(), AllocError> {
     let mut written = Vec::new(alloc);
     let mut sink = Sink::new(&mut written);
     put_outcome(
         out,
-        run_canon(alloc, Level::Full, &mut Source::new(input), &mut sink),
+        run_canon(alloc, level, &mut Source::new(input), &mut sink),
     )?;
     put_written(out, &written)
 }
@@ -172,6 +181,7 @@ pub fn put_check(out: &mut String, alloc: Global, input: &[u8]) -> Result<(), Al
 pub fn put_same(
     out: &mut String,
     alloc: Global,
+    level: Level,
     words: &str,
     input: &[u8],
 ) -> Result<(), AllocError> {
@@ -182,7 +192,7 @@ pub fn put_same(
     let (first, second) = split_line(input);
     put_outcome(
         out,
-        run_same(alloc, Level::Full, first, second, &mut Sink::new(&mut page)),
+        run_same(alloc, level, first, second, &mut Sink::new(&mut page)),
     )?;
     put_written(out, &page.written)
 }

@@ -9,10 +9,15 @@ use std::alloc::{AllocError, Global};
 
 /// `same` for the CRSs of two texts, one a line, or `different` and the first part that differs, or the refusal of the
 /// first text that has one; `one way` where the calls or the orders of the two disagree.
-pub fn put_same(out: &mut String, alloc: Global, input: &[u8]) -> Result<(), AllocError> {
+pub fn put_same(
+    out: &mut String,
+    alloc: Global,
+    level: Level,
+    input: &[u8],
+) -> Result<(), AllocError> {
     let (first, second) = split_line(input);
     match read(alloc, first) {
-        Ok(crs) => put_same_as(out, alloc, &crs, second),
+        Ok(crs) => put_same_as(out, alloc, level, &crs, second),
         Err(fault) => put_fault(out, fault),
     }
 }
@@ -20,20 +25,26 @@ pub fn put_same(out: &mut String, alloc: Global, input: &[u8]) -> Result<(), All
 fn put_same_as<'a>(
     out: &mut String,
     alloc: Global,
+    level: Level,
     first: &Crs<'a>,
     second: &'a [u8],
 ) -> Result<(), AllocError> {
     match read(alloc, second) {
-        Ok(crs) => put_outcome(out, alloc, told(first, &crs)),
+        Ok(crs) => put_outcome(out, alloc, told(first, &crs, level)),
         Err(fault) => put_fault(out, fault),
     }
 }
 
 /// The same of the first axes of two vertical CRSs by themselves, without the part; `no axes` for other texts.
-pub fn put_same_axis(out: &mut String, alloc: Global, input: &[u8]) -> Result<(), AllocError> {
+pub fn put_same_axis(
+    out: &mut String,
+    alloc: Global,
+    level: Level,
+    input: &[u8],
+) -> Result<(), AllocError> {
     let (first, second) = split_line(input);
     match read(alloc, first) {
-        Ok(crs) => put_same_axis_as(out, alloc, first_axis(&crs), second),
+        Ok(crs) => put_same_axis_as(out, alloc, level, first_axis(&crs), second),
         Err(fault) => put_fault(out, fault),
     }
 }
@@ -41,11 +52,12 @@ pub fn put_same_axis(out: &mut String, alloc: Global, input: &[u8]) -> Result<()
 fn put_same_axis_as<'a>(
     out: &mut String,
     alloc: Global,
+    level: Level,
     first: Option<&Axis<'a>>,
     second: &'a [u8],
 ) -> Result<(), AllocError> {
     match read(alloc, second) {
-        Ok(crs) => out.push_str(axes_told(first, first_axis(&crs))),
+        Ok(crs) => out.push_str(axes_told(first, first_axis(&crs), level)),
         Err(fault) => put_fault(out, fault),
     }
 }
@@ -58,11 +70,15 @@ pub fn first_axis<'b, 'a>(crs: &'b Crs<'a>) -> Option<&'b Axis<'a>> {
     }
 }
 
-fn axes_told<'a>(first: Option<&Axis<'a>>, second: Option<&Axis<'a>>) -> &'static str {
+fn axes_told<'a>(
+    first: Option<&Axis<'a>>,
+    second: Option<&Axis<'a>>,
+    level: Level,
+) -> &'static str {
     let (Some(x), Some(y)) = (first, second) else {
         return "no axes";
     };
-    match (same_axis(x, y, Level::Full), same_axis(y, x, Level::Full)) {
+    match (same_axis(x, y, level), same_axis(y, x, level)) {
         (true, true) => "same",
         (false, false) => "different",
         _ => "one way",
@@ -84,21 +100,21 @@ pub fn split_line(input: &[u8]) -> (&[u8], &[u8]) {
     }
 }
 
-fn told<'a>(a: &Crs<'a>, b: &Crs<'a>) -> Outcome {
-    if !agree(a, b) {
+fn told<'a>(a: &Crs<'a>, b: &Crs<'a>, level: Level) -> Outcome {
+    if !agree(a, b, level) {
         return Outcome::OneWay;
     }
-    match first_part(a, b, Level::Full) {
+    match first_part(a, b, level) {
         None => Outcome::Same,
         Some(path) => Outcome::Different(path),
     }
 }
 
-fn agree<'a>(a: &Crs<'a>, b: &Crs<'a>) -> bool {
-    let forth = first_part(a, b, Level::Full);
-    let back = first_part(b, a, Level::Full);
-    same(a, b, Level::Full) == forth.is_none()
-        && same(b, a, Level::Full) == back.is_none()
+fn agree<'a>(a: &Crs<'a>, b: &Crs<'a>, level: Level) -> bool {
+    let forth = first_part(a, b, level);
+    let back = first_part(b, a, level);
+    same(a, b, level) == forth.is_none()
+        && same(b, a, level) == back.is_none()
         && are_alike(forth.as_ref(), back.as_ref())
 }
 

@@ -1,5 +1,7 @@
 mod AxisLemmas
 mod CountLemmas
+mod DefinitionLemmas
+mod DefinitionPathLemmas
 mod FrontLemmas
 mod KeptLemmas
 mod NumberLemmas

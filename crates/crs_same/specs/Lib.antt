@@ -1,3 +1,4 @@
+pub mod Definition
 pub mod FirstInCrs
 pub mod FirstInFrames
 pub mod FirstInSystems

@@ -1,12 +1,18 @@
 //! Laws of the definitions, as contracts of functions that do nothing.
-ghost use Rattle.std.specs.Prelude.{◌≡◌, ◌≤◌, ℕ, ⊤, length};
+ghost use Rattle.std.specs.Prelude.{◌≡◌, ◌≤◌, ℕ, ⊤, List, Some, length};
+ghost use Rattle.crs_value.specs.declared.values.crs.Crs.{Crs};
 ghost use Rattle.crs_value.specs.declared.values.level.Level.{Level};
+ghost use Rattle.crs_value.specs.declared.values.level.Level.TheVariants as levels;
 ghost use Rattle.crs_value.specs.declared.values.unit_kind.UnitKind.{UnitKind};
 ghost use Rattle.crs_value.specs.SoundCompound.{IsHorizontal, IsCompound};
 ghost use Rattle.crs_value.specs.SoundCrs.{IsCrs};
 ghost use Rattle.crs_value.specs.SoundSingle.{IsGeodetic, IsProjected, IsVertical};
 ghost use Rattle.crs_value.specs.SoundSystem.{IsSystem};
+ghost use Rattle.crs_value.specs.Sound.{Each};
 ghost use Rattle.crs_value.specs.Values.{AxisParts, SystemParts};
+ghost use Rattle.crs_same.specs.declared.step.Step.{Step};
+ghost use Rattle.crs_same.specs.Definition.{IsOfDefinition};
+ghost use Rattle.crs_same.specs.FirstInCrs.{FirstInCrs};
 ghost use Rattle.crs_same.specs.Sameness.{IsSameness, IsSamenessOf};
 ghost use Rattle.crs_same.specs.SameConversions.{SameMethod, SameParameter, SameConversion, SameGeoidModel};
 ghost use Rattle.crs_same.specs.SameCrs.{SameGeodetic, SameBase, SameProjected, SameVertical, SameHorizontal};
@@ -309,3 +315,15 @@ pub fn same_crs_is_equivalence()
     same_vertical_is_equivalence();
     same_compound_is_equivalence();
 }
+
+// ---- the two levels
+
+/// CRSs that are the same with everything that counts are the same by definition.
+pub fn same_crs_is_same_by_definition()
+    ensures { (a b : Crs) → SameCrs levels.Full a b → SameCrs levels.Definition a b }
+{}
+
+/// The first part in which CRSs differ by definition is neither identifiers, usages nor a remark.
+pub fn first_part_is_of_definition()
+    ensures { (a b : Crs) (path : List Step) → FirstInCrs levels.Definition a b (Some path) → Each IsOfDefinition path }
+{}

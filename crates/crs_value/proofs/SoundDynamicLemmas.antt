@@ -1,5 +1,5 @@
 -- What sound dynamic parts say is sound, and none stands beside an ensemble.
-use Rattle.std.proofs.Common.{◌≡◌, ◌≢◌, inl, inr, Option, Some, None, List, [], ◌∷◌, refl}
+use Rattle.std.proofs.Common.{◌≢◌, inl, Option, Some, None, List, [], ◌∷◌, refl}
 use Rattle.std.specs.Prelude.{IfSome}
 use Rattle.crs_decimal.specs.Value.{IsNormal}
 use Rattle.crs_text.specs.Items.{Item, leaf, node, arguments}

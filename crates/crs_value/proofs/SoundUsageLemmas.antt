@@ -1,5 +1,5 @@
 -- What sound usages and ends of CRSs say is sound.
-use Rattle.std.proofs.Common.{◌≡◌, ℕ, ◌+◌, ◌≤◌, length, Bool, true, false, ◌||◌, not, IsTrue, inl, inr, drop, Option, Some, None, List, [], ◌∷◌, refl, ◌∙◌, ap, arith}
+use Rattle.std.proofs.Common.{◌≡◌, ℕ, ◌+◌, ◌≤◌, Bool, true, false, ◌||◌, not, IsTrue, inl, inr, drop, Option, Some, None, List, [], ◌∷◌, refl, ◌∙◌, ap, arith}
 use Rattle.std.specs.Prelude.{IfSome, IsSome}
 use Rattle.std.proofs.lemmas.Bool.{or_cases}
 use Rattle.crs_text.specs.Items.{Item, leaf, node, More, arguments}
@@ -9,7 +9,7 @@ use Rattle.crs_shape.specs.declared.class.Class.TheVariants as class
 use Rattle.crs_shape.specs.Counts.{one_if, how_many, most, is_bounded}
 use Rattle.crs_shape.specs.Shape.{Allowed}
 use Rattle.crs_shape.specs.Shaped.{Shaped}
-use Rattle.crs_shape.specs.Slots.{SlotParts, slots_of}
+use Rattle.crs_shape.specs.Slots.{slots_of}
 use Rattle.crs_value.specs.declared.values.unit_kind.UnitKind.TheVariants as kinds
 use Rattle.crs_value.specs.Reading.{is_same, those, ReadsOptional}
 use Rattle.crs_shape.specs.Slots.{is_class}
@@ -18,7 +18,7 @@ use Rattle.crs_value.specs.Sound.{IsUnitOf}
 use Rattle.crs_value.specs.Checks.{IsSound}
 use Rattle.crs_value.specs.SoundUsages.{IsBox, IsExtent, IsUsage, IsTail}
 use Rattle.crs_value.specs.Values.{UsageParts, SaysSome}
-use Rattle.crs_value.proofs.ArgumentLemmas.{SlotsBound, arguments-few, arguments-sound, nothing, those-first, those-many}
+use Rattle.crs_value.proofs.ArgumentLemmas.{SlotsBound, arguments-few, arguments-sound, nothing, those-first}
 use Rattle.crs_value.proofs.SoundLemmas.{Tells, tells-as, optional-tells, each-tells, optional-text-tells, number-first, identifiers-tell, length-tells}
 
 pub box-tells : (c : Class) → Tells c (ReadsBox c) IsBox

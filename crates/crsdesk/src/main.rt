@@ -47,22 +47,39 @@ fn answer_texts(rt: &HostRuntime, words: &[&str]) -> u8 {
 }
 
 fn answer(rt: &HostRuntime, wanted: &Request) -> u8 {
-    let outcome = match wanted {
-        Request::Canon => canon(rt),
-        Request::Check => check(rt),
-        Request::Same(first, second) => same(rt, first, second),
-        Request::Group => group(rt),
-    };
-    match &outcome {
-        Ok(status) => *status,
-        Err(fault) => report(rt, fault),
+    match &outcome(rt, wanted) {
+        Some(Ok(status)) => *status,
+        Some(Err(fault)) => report(rt, fault),
+        None => report_level(rt),
     }
 }
 
-fn canon(rt: &HostRuntime) -> Result<u8, RunFault> {
+// None where there is no such level, which is judged before anything is read.
+fn outcome(rt: &HostRuntime, wanted: &Request) -> Option<Result<u8, RunFault>> {
+    match wanted {
+        Request::Canon { level } => Some(canon(rt, level_of(level)?)),
+        Request::Check => Some(check(rt)),
+        Request::Same {
+            level,
+            first,
+            second,
+        } => Some(same(rt, level_of(level)?, first, second)),
+        Request::Group { level } => Some(group(rt, level_of(level)?)),
+    }
+}
+
+fn level_of(word: &LineWord) -> Option<Level> {
+    match word.as_str() {
+        "full" => Some(Level::Full),
+        "definition" => Some(Level::Definition),
+        _ => None,
+    }
+}
+
+fn canon(rt: &HostRuntime, level: Level) -> Result<u8, RunFault> {
     let mut source = Source::new(rt.stdin());
     let mut sink = Sink::new(rt.stdout());
-    run_canon(rt.alloc(), Level::Full, &mut source, &mut sink)
+    run_canon(rt.alloc(), level, &mut source, &mut sink)
 }
 
 fn check(rt: &HostRuntime) -> Result<u8, RunFault> {
@@ -71,23 +88,33 @@ fn check(rt: &HostRuntime) -> Result<u8, RunFault> {
     run_check(rt.alloc(), &mut source, &mut sink)
 }
 
-fn same(rt: &HostRuntime, first: &LineWord, second: &LineWord) -> Result<u8, RunFault> {
+fn same(
+    rt: &HostRuntime,
+    level: Level,
+    first: &LineWord,
+    second: &LineWord,
+) -> Result<u8, RunFault> {
     let a = first.as_str().as_bytes();
     let b = second.as_str().as_bytes();
-    run_same(rt.alloc(), Level::Full, a, b, &mut Sink::new(rt.stdout()))
+    run_same(rt.alloc(), level, a, b, &mut Sink::new(rt.stdout()))
 }
 
 // Status 1 where a line was refused.
-fn group(rt: &HostRuntime) -> Result<u8, RunFault> {
+fn group(rt: &HostRuntime, level: Level) -> Result<u8, RunFault> {
     let mut source = Source::new(rt.stdin());
     let mut sink = Sink::new(rt.stdout());
-    let summary = run_group(rt.alloc(), Level::Full, &mut source, &mut sink)?;
+    let summary = run_group(rt.alloc(), level, &mut source, &mut sink)?;
     Ok(u8::from(summary.refused > 0))
 }
 
 // A second failure, of standard error itself, can't be told to anyone.
 fn report(rt: &HostRuntime, fault: &RunFault) -> u8 {
     let _ = eprintln!(rt; "crsdesk: {fault}");
+    FAULT
+}
+
+fn report_level(rt: &HostRuntime) -> u8 {
+    let _ = eprintln!(rt; "crsdesk: no such level");
     FAULT
 }
 

@@ -4,6 +4,7 @@ ghost use Rattle.crs_value.specs.SoundCrs.{IsCrs};
 ghost use Rattle.crs_value.specs.SpellsText.{Spells};
 ghost use Rattle.crs_value.specs.declared.values.crs.Crs.{Crs};
 ghost use Rattle.crs_value.specs.declared.values.level.Level.{Level};
+ghost use Rattle.crs_value.specs.declared.values.level.Level.TheVariants as levels;
 ghost use Rattle.crs_same.specs.SameCrs.{SameCrs};
 ghost use Rattle.crs_text.specs.Written.{item_text};
 ghost use Rattle.crs_normal.specs.Normal.{IsNormalText};
@@ -71,3 +72,8 @@ pub fn written_forms_are_equal_where_same()
     same_crss_have_one_form();
     one_answer();
 }
+
+/// A text that is normal at some level is normal at the full one too. Profile.
+pub fn normal_text_is_normal_at_full()
+    ensures { (level : Level) (bytes : List ℕ) → IsNormalText level bytes → IsNormalText levels.Full bytes }
+{}

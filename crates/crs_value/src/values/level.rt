@@ -8,6 +8,8 @@ ghost use Rattle.crs_value.specs.Kept.{kept, kept_one};
 pub enum Level {
     /// Everything that the text says.
     Full,
+    /// The definition alone: everything but identifiers, usages and remarks.
+    Definition,
 }
 
 impl Level {
@@ -17,6 +19,7 @@ impl Level {
     {
         match self {
             Level::Full => members,
+            Level::Definition => &[],
         }
     }
 
@@ -26,6 +29,7 @@ impl Level {
     {
         match self {
             Level::Full => member,
+            Level::Definition => None,
         }
     }
 
@@ -35,6 +39,7 @@ impl Level {
     {
         match self {
             Level::Full => text,
+            Level::Definition => None,
         }
     }
 }

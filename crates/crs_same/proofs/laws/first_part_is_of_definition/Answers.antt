@@ -1,0 +1,5 @@
+use Rattle.crs_same.proofs.DefinitionPathLemmas.{first-of-definition}
+use Rattle.crs_same.proofs.laws.first_part_is_of_definition.Goals as goal
+
+pub returns : goal.returns
+returns c = first-of-definition
