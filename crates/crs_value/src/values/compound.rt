@@ -41,8 +41,9 @@ impl Drop for Horizontal<'_> {
 pub struct Compound<'a> {
     /// The name.
     pub name: &'a [u8],
-    /// The horizontal part, geographic or projected, of dimension 2.
-    pub horizontal: Horizontal<'a>,
+    /// The horizontal part, geographic or projected, of dimension 2; apart, so that a CRS of another kind needs no room
+    /// for two.
+    pub horizontal: Box<Horizontal<'a>>,
     /// The vertical part.
     pub vertical: Vertical<'a>,
     /// Usages, identifiers and remark.
@@ -55,7 +56,12 @@ impl<'a> Model for Compound<'a> {
 
     ghost Value = { CompoundParts };
 
-    ghost view = { λ c. record { name = c.name.now; horizontal = c.horizontal; vertical = c.vertical; tail = c.tail } };
+    ghost view = { λ c. record {
+      name = c.name.now;
+      horizontal = c.horizontal.value;
+      vertical = c.vertical;
+      tail = c.tail;
+    } };
 
     ghost invariant = { λ c. IsCompound (view c) };
 }
@@ -114,7 +120,7 @@ impl<'a> Node<'a> for Compound<'a> {
         let firsts = firsts_of(items, id, class);
         Ok(Compound {
             name: text(items, id, class),
-            horizontal: read_horizontal(alloc, items, id)?,
+            horizontal: Box::new(alloc, read_horizontal(alloc, items, id)?)?,
             vertical: one(alloc, items, id, class, Class::VerticalCrs)?,
             tail: read_tail(alloc, items, id, class, &firsts)?,
         })
