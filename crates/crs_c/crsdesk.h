@@ -1,0 +1,170 @@
+/* crsdesk: well-known text (WKT2, ISO 19162:2019) of coordinate reference systems, from C.
+
+   One CRS has many spellings. These calls tell whether two texts are one CRS, or which part differs first; write each
+   CRS in one canonical spelling; group a catalogue by CRS; and refuse anything else with a number, at the exact byte.
+
+       #include <crsdesk.h>
+       cc program.c -lcrsdesk          (or with pkg-config: cc program.c $(pkg-config --cflags --libs crsdesk))
+
+   TEXTS are bytes and a length, with no NUL byte behind them; a NUL byte inside is a byte like any other. They needn't
+   be UTF-8 to be judged. They are only read. They may be as long as memory allows.
+
+   ANSWERS go to places that the caller gives. A text that is answered goes into a buffer of the caller's, `out`, which
+   has room for `room` bytes, and its number of bytes into `*length`; no NUL byte is written behind it. Where it has
+   more bytes than there is room, the call answers CRSDESK_NO_ROOM, writes nothing into the buffer, and `*length` is the
+   room that is needed: make it and call again. Nothing that a call answers must be freed, but a catalogue.
+
+   CODES: each call that can fail returns CRSDESK_OK, or another code below. What stands at the pointers that it was
+   given is as before, but for what is said of the code that came back.
+
+   THE CALLER KEEPS to these, which nothing checks:
+   - no pointer is null, also where its length or room is 0;
+   - behind each text, and behind each buffer, there are as many bytes as are said, at most PTRDIFF_MAX;
+   - what a call writes to overlaps nothing else that it was given, and no other thread uses it during the call; a text
+     isn't changed during the call;
+   - each thread that calls has 128 kB of stack left;
+   - malloc, realloc, aligned_alloc and free are those of one allocator, such as the C library's;
+   - no call is made by a signal handler, nor by a child that a process of several threads has forked.
+
+   THREADS: there is no state but in catalogues, no lock and nothing to set up, so any number of threads may call at
+   once. A catalogue may go from thread to thread, and is in one call at a time.
+
+   What each call answers is proved of its code, for all texts; this header and the program around the calls are not. */
+#ifndef CRSDESK_H
+#define CRSDESK_H
+
+#include <stddef.h>
+#include <stdint.h>
+
+#ifdef __cplusplus
+extern "C" {
+#endif
+
+/* Levels: what counts when CRSs are compared, and what a canonical text says. Profile. */
+#define CRSDESK_FULL 0       /* everything that the text says */
+#define CRSDESK_DEFINITION 1 /* the definition alone: everything but identifiers, usages and remarks */
+
+/* Codes. */
+#define CRSDESK_OK 0             /* the call has its answer */
+#define CRSDESK_REFUSED 1        /* the text, or the first of two, spells no CRS */
+#define CRSDESK_SECOND_REFUSED 2 /* the second text spells none; the first spells one */
+#define CRSDESK_NO_MEMORY 3      /* memory was refused to the call; the same call may be made again */
+#define CRSDESK_NO_LEVEL 4       /* there is no such level; no text was looked at */
+#define CRSDESK_NO_ROOM 5        /* the buffer is too small for the answer */
+#define CRSDESK_NO_NUMBER 6      /* no refusal, or no group of the catalogue, has this number */
+
+/* Kinds of CRSs. ISO 19162:2019, "Coordinate reference systems". */
+#define CRSDESK_GEODETIC 1   /* geodetic, and not geographic */
+#define CRSDESK_GEOGRAPHIC 2 /* geodetic with an ellipsoidal coordinate system */
+#define CRSDESK_PROJECTED 3
+#define CRSDESK_VERTICAL 4
+#define CRSDESK_COMPOUND 5 /* horizontal and vertical */
+
+/* Why a text spells no CRS. Profile.
+   number: 1 to 8 a fault of the text, 11 to 13 of its shape, 21 to 29 of its values; crsdesk_refusal_name has its name.
+   place: where the fault is, in bytes from the text's first, which is 0; at most the text's length. */
+struct crsdesk_refusal {
+    size_t place;
+    uint32_t number;
+};
+
+/* Whether a text spells a CRS, and of which kind.
+
+   CRSDESK_OK: it does; *kind is CRSDESK_GEODETIC to CRSDESK_COMPOUND.
+   CRSDESK_REFUSED: it spells none; *refusal says why.
+   CRSDESK_NO_MEMORY. */
+int crsdesk_check(const char *text, size_t text_length, uint32_t *kind, struct crsdesk_refusal *refusal);
+
+/* The canonical text, at a level, of the CRS that a text spells. The canonical texts of two texts are equal, byte for
+   byte, exactly where their CRSs are the same at the level; so it serves as a key. It is itself accepted, spells the
+   same CRS as its source, and is its own canonical text. It is UTF-8, mostly about as long as its source, and can be
+   longer: room for twice the source and 1,000 bytes nearly always does.
+
+   CRSDESK_OK: the buffer begins with it; *length is its number of bytes.
+   CRSDESK_REFUSED: the text spells none; *refusal says why.
+   CRSDESK_NO_ROOM: it has more bytes than the buffer; *length is their number.
+   CRSDESK_NO_MEMORY, CRSDESK_NO_LEVEL. */
+int crsdesk_canon(const char *text, size_t text_length, uint32_t level, char *out, size_t room, size_t *length,
+                  struct crsdesk_refusal *refusal);
+
+/* Whether two texts spell the same CRS at a level.
+
+   CRSDESK_OK: each spells a CRS; *same is 1 where they are the same, else 0.
+   CRSDESK_REFUSED: the first spells none; *refusal says why. The second wasn't judged.
+   CRSDESK_SECOND_REFUSED: the first spells a CRS and the second none; *refusal says why the second doesn't.
+   CRSDESK_NO_MEMORY, CRSDESK_NO_LEVEL. */
+int crsdesk_same(const char *first, size_t first_length, const char *second, size_t second_length, uint32_t level,
+                 uint32_t *same, struct crsdesk_refusal *refusal);
+
+/* The first part in which the CRSs of two texts differ at a level, in the order of the canonical text: the words of its
+   path with `/` between them, at most five, as `datum/ellipsoid/flattening`. No words exactly where they are the same.
+   Room for 100 bytes does.
+
+   CRSDESK_OK: each text spells a CRS; the buffer begins with the path, *length is its number of bytes, and 0 where the
+       CRSs are the same.
+   CRSDESK_REFUSED: the first spells none; *refusal says why. The second wasn't judged.
+   CRSDESK_SECOND_REFUSED: the first spells a CRS and the second none; *refusal says why the second doesn't.
+   CRSDESK_NO_ROOM: the path has more bytes than the buffer; *length is their number.
+   CRSDESK_NO_MEMORY, CRSDESK_NO_LEVEL. */
+int crsdesk_first_part(const char *first, size_t first_length, const char *second, size_t second_length,
+                       uint32_t level, char *out, size_t room, size_t *length, struct crsdesk_refusal *refusal);
+
+/* The name of a refusal's number, as `UnknownKeyword`. Room for 16 bytes does.
+
+   CRSDESK_OK: the buffer begins with the name; *length is its number of bytes.
+   CRSDESK_NO_NUMBER: no refusal has this number.
+   CRSDESK_NO_ROOM: the name has more bytes than the buffer; *length is their number. */
+int crsdesk_refusal_name(uint32_t number, char *out, size_t room, size_t *length);
+
+/* The library's version, as `0.1.0`. Room for 16 bytes does.
+
+   CRSDESK_OK: the buffer begins with the version; *length is its number of bytes.
+   CRSDESK_NO_ROOM: the version has more bytes than the buffer; *length is their number. */
+int crsdesk_version(char *out, size_t room, size_t *length);
+
+/* A catalogue of texts: those that spell the same CRS stand in one group. Groups are numbered from 1, by the first text
+   of each. Who makes one by crsdesk_catalogue_new has it until crsdesk_catalogue_free. Profile. */
+struct crsdesk_catalogue;
+
+/* Makes a catalogue of no texts, which compares at a level.
+
+   CRSDESK_OK: *catalogue is it.
+   CRSDESK_NO_MEMORY, CRSDESK_NO_LEVEL. */
+int crsdesk_catalogue_new(uint32_t level, struct crsdesk_catalogue **catalogue);
+
+/* Adds a text to a catalogue, under a number of the caller's, such as that of its line; numbers may repeat. The text
+   isn't needed behind the call.
+
+   CRSDESK_OK: *group is the number of its group, a new one where no text before it spells the same CRS; 0 where the
+       text is white space alone, or nothing, and stands nowhere.
+   CRSDESK_REFUSED: it spells no CRS and stands in no group; *refusal says why.
+   CRSDESK_NO_MEMORY: the catalogue is as before. */
+int crsdesk_catalogue_add(struct crsdesk_catalogue *catalogue, uint64_t number, const char *text, size_t text_length,
+                          size_t *group, struct crsdesk_refusal *refusal);
+
+/* How many groups a catalogue has. */
+size_t crsdesk_catalogue_groups(struct crsdesk_catalogue *catalogue);
+
+/* The numbers under which the texts of a group were added, in that order. Room is counted in numbers, not in bytes.
+
+   CRSDESK_OK: the buffer begins with them; *length is how many there are.
+   CRSDESK_NO_NUMBER: there is no such group.
+   CRSDESK_NO_ROOM: there are more than there is room for; *length is how many. */
+int crsdesk_catalogue_lines(struct crsdesk_catalogue *catalogue, size_t group, uint64_t *out, size_t room,
+                            size_t *length);
+
+/* The canonical text of a group, which each text of it has.
+
+   CRSDESK_OK: the buffer begins with it; *length is its number of bytes.
+   CRSDESK_NO_NUMBER: there is no such group.
+   CRSDESK_NO_ROOM: it has more bytes than the buffer; *length is their number. */
+int crsdesk_catalogue_text(struct crsdesk_catalogue *catalogue, size_t group, char *out, size_t room, size_t *length);
+
+/* Gives back the memory of a catalogue, which is none any more. */
+void crsdesk_catalogue_free(struct crsdesk_catalogue *catalogue);
+
+#ifdef __cplusplus
+}
+#endif
+
+#endif
