@@ -73,7 +73,7 @@ struct crsdesk_refusal {
    CRSDESK_OK: it does; *kind is CRSDESK_GEODETIC to CRSDESK_COMPOUND.
    CRSDESK_REFUSED: it spells none; *refusal says why.
    CRSDESK_NO_MEMORY. */
-int crsdesk_check(const char *text, size_t text_length, uint32_t *kind, struct crsdesk_refusal *refusal);
+uint32_t crsdesk_check(const char *text, size_t text_length, uint32_t *kind, struct crsdesk_refusal *refusal);
 
 /* The canonical text, at a level, of the CRS that a text spells. The canonical texts of two texts are equal, byte for
    byte, exactly where their CRSs are the same at the level; so it serves as a key. It is itself accepted, spells the
@@ -84,7 +84,7 @@ int crsdesk_check(const char *text, size_t text_length, uint32_t *kind, struct c
    CRSDESK_REFUSED: the text spells none; *refusal says why.
    CRSDESK_NO_ROOM: it has more bytes than the buffer; *length is their number.
    CRSDESK_NO_MEMORY, CRSDESK_NO_LEVEL. */
-int crsdesk_canon(const char *text, size_t text_length, uint32_t level, char *out, size_t room, size_t *length,
+uint32_t crsdesk_canon(const char *text, size_t text_length, uint32_t level, char *out, size_t room, size_t *length,
                   struct crsdesk_refusal *refusal);
 
 /* Whether two texts spell the same CRS at a level.
@@ -93,7 +93,7 @@ int crsdesk_canon(const char *text, size_t text_length, uint32_t level, char *ou
    CRSDESK_REFUSED: the first spells none; *refusal says why. The second wasn't judged.
    CRSDESK_SECOND_REFUSED: the first spells a CRS and the second none; *refusal says why the second doesn't.
    CRSDESK_NO_MEMORY, CRSDESK_NO_LEVEL. */
-int crsdesk_same(const char *first, size_t first_length, const char *second, size_t second_length, uint32_t level,
+uint32_t crsdesk_same(const char *first, size_t first_length, const char *second, size_t second_length, uint32_t level,
                  uint32_t *same, struct crsdesk_refusal *refusal);
 
 /* The first part in which the CRSs of two texts differ at a level, in the order of the canonical text: the words of its
@@ -106,7 +106,7 @@ int crsdesk_same(const char *first, size_t first_length, const char *second, siz
    CRSDESK_SECOND_REFUSED: the first spells a CRS and the second none; *refusal says why the second doesn't.
    CRSDESK_NO_ROOM: the path has more bytes than the buffer; *length is their number.
    CRSDESK_NO_MEMORY, CRSDESK_NO_LEVEL. */
-int crsdesk_first_part(const char *first, size_t first_length, const char *second, size_t second_length,
+uint32_t crsdesk_first_part(const char *first, size_t first_length, const char *second, size_t second_length,
                        uint32_t level, char *out, size_t room, size_t *length, struct crsdesk_refusal *refusal);
 
 /* The name of a refusal's number, as `UnknownKeyword`. Room for 16 bytes does.
@@ -114,13 +114,13 @@ int crsdesk_first_part(const char *first, size_t first_length, const char *secon
    CRSDESK_OK: the buffer begins with the name; *length is its number of bytes.
    CRSDESK_NO_NUMBER: no refusal has this number.
    CRSDESK_NO_ROOM: the name has more bytes than the buffer; *length is their number. */
-int crsdesk_refusal_name(uint32_t number, char *out, size_t room, size_t *length);
+uint32_t crsdesk_refusal_name(uint32_t number, char *out, size_t room, size_t *length);
 
 /* The library's version, as `0.1.0`. Room for 16 bytes does.
 
    CRSDESK_OK: the buffer begins with the version; *length is its number of bytes.
    CRSDESK_NO_ROOM: the version has more bytes than the buffer; *length is their number. */
-int crsdesk_version(char *out, size_t room, size_t *length);
+uint32_t crsdesk_version(char *out, size_t room, size_t *length);
 
 /* A catalogue of texts: those that spell the same CRS stand in one group. Groups are numbered from 1, by the first text
    of each. Who makes one by crsdesk_catalogue_new has it until crsdesk_catalogue_free. Profile. */
@@ -130,7 +130,7 @@ struct crsdesk_catalogue;
 
    CRSDESK_OK: *catalogue is it.
    CRSDESK_NO_MEMORY, CRSDESK_NO_LEVEL. */
-int crsdesk_catalogue_new(uint32_t level, struct crsdesk_catalogue **catalogue);
+uint32_t crsdesk_catalogue_new(uint32_t level, struct crsdesk_catalogue **catalogue);
 
 /* Adds a text to a catalogue, under a number of the caller's, such as that of its line; numbers may repeat. The text
    isn't needed behind the call.
@@ -139,7 +139,7 @@ int crsdesk_catalogue_new(uint32_t level, struct crsdesk_catalogue **catalogue);
        text is white space alone, or nothing, and stands nowhere.
    CRSDESK_REFUSED: it spells no CRS and stands in no group; *refusal says why.
    CRSDESK_NO_MEMORY: the catalogue is as before. */
-int crsdesk_catalogue_add(struct crsdesk_catalogue *catalogue, uint64_t number, const char *text, size_t text_length,
+uint32_t crsdesk_catalogue_add(struct crsdesk_catalogue *catalogue, uint64_t number, const char *text, size_t text_length,
                           size_t *group, struct crsdesk_refusal *refusal);
 
 /* How many groups a catalogue has. */
@@ -150,7 +150,7 @@ size_t crsdesk_catalogue_groups(struct crsdesk_catalogue *catalogue);
    CRSDESK_OK: the buffer begins with them; *length is how many there are.
    CRSDESK_NO_NUMBER: there is no such group.
    CRSDESK_NO_ROOM: there are more than there is room for; *length is how many. */
-int crsdesk_catalogue_lines(struct crsdesk_catalogue *catalogue, size_t group, uint64_t *out, size_t room,
+uint32_t crsdesk_catalogue_lines(struct crsdesk_catalogue *catalogue, size_t group, uint64_t *out, size_t room,
                             size_t *length);
 
 /* The canonical text of a group, which each text of it has.
@@ -158,7 +158,7 @@ int crsdesk_catalogue_lines(struct crsdesk_catalogue *catalogue, size_t group, u
    CRSDESK_OK: the buffer begins with it; *length is its number of bytes.
    CRSDESK_NO_NUMBER: there is no such group.
    CRSDESK_NO_ROOM: it has more bytes than the buffer; *length is their number. */
-int crsdesk_catalogue_text(struct crsdesk_catalogue *catalogue, size_t group, char *out, size_t room, size_t *length);
+uint32_t crsdesk_catalogue_text(struct crsdesk_catalogue *catalogue, size_t group, char *out, size_t room, size_t *length);
 
 /* Gives back the memory of a catalogue, which is none any more. */
 void crsdesk_catalogue_free(struct crsdesk_catalogue *catalogue);

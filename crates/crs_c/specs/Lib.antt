@@ -1,0 +1,7 @@
+pub mod Buffers
+pub mod Check
+pub mod Codes
+pub mod FirstPart
+pub mod Names
+pub mod Refusals
+pub mod Same

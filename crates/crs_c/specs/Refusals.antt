@@ -1,0 +1,12 @@
+-- A refusal as C sees it.
+use Rattle.std.specs.Prelude.{◌≡◌, ℕ, Option, Some, None}
+use Rattle.crs_text.specs.Refusal.{RefusedAt}
+use Rattle.crs_c.specs.declared.refused.Refused.{Refused}
+
+abbrev pub shown : RefusedAt → Refused
+shown refusal = record { place = refusal.place; number = refusal.number }
+
+-- a refusal is told with this code; without one memory was wanting, and nothing is told
+abbrev pub IsTold : Option RefusedAt → ℕ → Refused → Refused → ℕ → Type 0
+IsTold (Some refusal) code old new result = (result ≡ code) × (new ≡ shown refusal)
+IsTold None code old new result = (result ≡ 3) × (new ≡ old)

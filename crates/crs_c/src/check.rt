@@ -1,0 +1,49 @@
+//! Whether a text spells a CRS.
+ghost use Rattle.std.specs.Prelude.{MatchResult};
+ghost use Rattle.crs_value.specs.SpellsText.{IsFaultOfText};
+ghost use Rattle.crs_c.specs.Check.{IsCheckAnswer, IsKindOf};
+
+use crate::codes::{OK, REFUSED, kind_number};
+use crate::refused::{Refused, tell};
+use crs_text::{Fault, read_items};
+use crs_value::{Kind, kind_of};
+use std::alloc::Global;
+
+/// Whether a text spells a CRS, and of which kind; no value is built.
+///
+/// 0: it does, and `kind` is the number of its kind. 1: it spells none, and `refused` says why. 3: memory was refused.
+/// What isn't said of a code is as before. ISO 19162:2019, "Coordinate reference systems"; the checks are the profile's.
+#[unsafe(no_mangle)]
+#[tactic(auto, unfolding(crate::specs::Check::IsCheckAnswer))]
+pub extern "C" fn crsdesk_check(
+    alloc: Global,
+    text: &[u8],
+    kind: &mut u32,
+    refused: &mut Refused,
+) -> u32
+    ensures { IsCheckAnswer text.now
+        (record { kind = kind.old; refused = refused.old })
+        (record { kind = kind.new; refused = refused.new })
+        result }
+{
+    match kind_of_text(alloc, text) {
+        Ok(found) => {
+            *kind = kind_number(found);
+            OK
+        }
+        Err(fault) => tell(fault, REFUSED, refused),
+    }
+}
+
+// The kind of the CRS that a text spells.
+fn kind_of_text(alloc: Global, text: &[u8]) -> Result<Kind, Fault>
+    ensures { MatchResult result (IsKindOf text.now) (IsFaultOfText text.now) }
+{
+    match read_items(alloc, text) {
+        Ok(items) => match kind_of(&items) {
+            Ok(kind) => Ok(kind),
+            Err(refusal) => Err(Fault::Refused(refusal)),
+        },
+        Err(fault) => Err(fault),
+    }
+}

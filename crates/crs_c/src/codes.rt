@@ -1,0 +1,36 @@
+//! Codes, kinds and levels as C has them.
+ghost use Rattle.std.specs.Prelude.{◌≡◌};
+ghost use Rattle.crs_c.specs.Codes.{kind_number, level_of};
+
+use crs_value::{Kind, Level};
+
+pub(crate) const OK: u32 = 0;
+pub(crate) const REFUSED: u32 = 1;
+pub(crate) const SECOND_REFUSED: u32 = 2;
+pub(crate) const NO_MEMORY: u32 = 3;
+pub(crate) const NO_LEVEL: u32 = 4;
+pub(crate) const NO_ROOM: u32 = 5;
+pub(crate) const NO_NUMBER: u32 = 6;
+
+pub(crate) fn kind_number(kind: Kind) -> u32
+    ensures { result ≡ kind_number kind }
+{
+    match kind {
+        Kind::Geodetic => 1,
+        Kind::Geographic => 2,
+        Kind::Projected => 3,
+        Kind::Vertical => 4,
+        Kind::Compound => 5,
+    }
+}
+
+// The level of this number.
+pub(crate) fn level_of(number: u32) -> Option<Level>
+    ensures { result ≡ level_of number }
+{
+    match number {
+        0 => Some(Level::Full),
+        1 => Some(Level::Definition),
+        _ => None,
+    }
+}

@@ -1,0 +1,108 @@
+//! The first part in which two texts differ.
+ghost use Rattle.std.specs.Prelude.{Some};
+ghost use Rattle.crs_c.specs.FirstPart.{IsPartAnswer, IsPartAt, IsPathGiven, IsSecondPartAt};
+
+use crate::buffer::give;
+use crate::codes::{NO_LEVEL, NO_MEMORY, REFUSED, SECOND_REFUSED, level_of};
+use crate::refused::{Refused, tell};
+use crs_same::{Path, first_part};
+use crs_value::{Crs, Level, read};
+use std::alloc::Global;
+
+/// The first part in which the CRSs of two texts differ at a level: the words of its path, with `/` between them, or no
+/// words where they are the same.
+///
+/// 0: each spells a CRS, and the path is at the front of `out`; `length` is its number of bytes. 1: the first spells
+/// none, and `refused` says why. 2: the first spells a CRS and the second none, and `refused` says why. 3: memory was
+/// refused. 4: there is no such level. 5: the path has more bytes than `out`; `length` is their number. What isn't said
+/// of a code is as before. Profile.
+#[unsafe(no_mangle)]
+pub extern "C" fn crsdesk_first_part(
+    alloc: Global,
+    first: &[u8],
+    second: &[u8],
+    level: u32,
+    out: &mut [u8],
+    length: &mut usize,
+    refused: &mut Refused,
+) -> u32
+    ensures { IsPartAnswer level first.now second.now
+        (record { path = record { items = out.old; told = length.old }; refused = refused.old })
+        (record { path = record { items = out.new; told = length.new }; refused = refused.new })
+        result }
+{
+    match level_of(level) {
+        Some(level) => part_at(alloc, first, second, level, out, length, refused),
+        None => NO_LEVEL,
+    }
+}
+
+#[tactic(auto, unfolding(crate::specs::FirstPart::IsPartAt))]
+fn part_at<'t>(
+    alloc: Global,
+    first: &'t [u8],
+    second: &'t [u8],
+    level: Level,
+    out: &mut [u8],
+    length: &mut usize,
+    refused: &mut Refused,
+) -> u32
+    ensures { IsPartAt first.now second.now
+        (record { path = record { items = out.old; told = length.old }; refused = refused.old })
+        (record { path = record { items = out.new; told = length.new }; refused = refused.new })
+        result level }
+{
+    match read(alloc, first) {
+        Ok(crs) => second_part(alloc, &crs, second, level, out, length, refused),
+        Err(fault) => tell(fault, REFUSED, refused),
+    }
+}
+
+// Behind a first text that spells a CRS.
+#[tactic(auto, unfolding(crate::specs::FirstPart::IsSecondPartAt, crate::specs::FirstPart::IsPathGiven))]
+fn second_part<'t>(
+    alloc: Global,
+    first: &Crs<'t>,
+    second: &'t [u8],
+    level: Level,
+    out: &mut [u8],
+    length: &mut usize,
+    refused: &mut Refused,
+) -> u32
+    ensures { IsSecondPartAt first.now second.now
+        (record { path = record { items = out.old; told = length.old }; refused = refused.old })
+        (record { path = record { items = out.new; told = length.new }; refused = refused.new })
+        result level }
+{
+    match read(alloc, second) {
+        Ok(crs) => give_path(alloc, first_part(first, &crs, level), out, length),
+        Err(fault) => tell(fault, SECOND_REFUSED, refused),
+    }
+}
+
+#[tactic(auto, unfolding(crate::specs::FirstPart::IsPathGiven))]
+fn give_path(alloc: Global, found: Option<Path>, out: &mut [u8], length: &mut usize) -> u32
+    ensures { IsPathGiven found
+        (record { items = out.old; told = length.old })
+        (record { items = out.new; told = length.new })
+        result }
+{
+    match found {
+        None => give(&[], out, length),
+        Some(path) => give_words(alloc, &path, out, length),
+    }
+}
+
+#[tactic(auto, unfolding(crate::specs::FirstPart::IsPathGiven))]
+fn give_words(alloc: Global, path: &Path, out: &mut [u8], length: &mut usize) -> u32
+    ensures { IsPathGiven (Some path.now)
+        (record { items = out.old; told = length.old })
+        (record { items = out.new; told = length.new })
+        result }
+{
+    let mut words = Vec::new(alloc);
+    match path.write(&mut words) {
+        Ok(()) => give(&words, out, length),
+        Err(_) => NO_MEMORY,
+    }
+}

@@ -1,0 +1,17 @@
+//! The library from C: each call of `crsdesk.h` as a function of a static library, which answers what the call of the
+//! crate below answers. Results stand at places of the caller's; a code tells which.
+#![tactic(auto)]
+
+mod buffer;
+mod check;
+mod codes;
+mod first_part;
+mod names;
+mod refused;
+mod same;
+
+pub use check::crsdesk_check;
+pub use first_part::crsdesk_first_part;
+pub use names::{crsdesk_refusal_name, crsdesk_version};
+pub use refused::Refused;
+pub use same::crsdesk_same;

@@ -1,0 +1,40 @@
+//! Refusals as C has them.
+ghost use Rattle.std.specs.Prelude.{◌≡◌};
+ghost use Rattle.crs_text.specs.Fault.{refusal_of};
+ghost use Rattle.crs_c.specs.Refusals.{IsTold, shown};
+
+use crate::codes::NO_MEMORY;
+use crs_text::{Fault, Refusal};
+
+/// A refusal: the place of the fault, in bytes from the text's first, which is 0, and the number. It is
+/// `struct crsdesk_refusal` of C. Profile.
+#[repr(C)]
+#[derive(Drop)]
+pub struct Refused {
+    /// The place.
+    pub place: usize,
+    /// The number: 1 to 8 of the text, 11 to 13 of a shape, 21 to 29 of a value.
+    pub number: u32,
+}
+
+fn shown(refusal: Refusal) -> Refused
+    ensures { result ≡ shown refusal }
+{
+    Refused {
+        place: refusal.place(),
+        number: u32::from(refusal.number()),
+    }
+}
+
+// Tells the refusal in a fault, with this code, or want of memory.
+pub(crate) fn tell(fault: Fault, code: u32, refused: &mut Refused) -> u32
+    ensures { IsTold (refusal_of fault) code refused.old refused.new result }
+{
+    match fault.refusal() {
+        Some(refusal) => {
+            *refused = shown(refusal);
+            code
+        }
+        None => NO_MEMORY,
+    }
+}

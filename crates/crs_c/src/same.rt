@@ -1,0 +1,77 @@
+//! Whether two texts spell the same CRS, and where they differ.
+ghost use Rattle.crs_c.specs.Same.{IsSameAnswer, IsSameAt, IsSecondAt};
+
+use crate::codes::{NO_LEVEL, OK, REFUSED, SECOND_REFUSED, level_of};
+use crate::refused::{Refused, tell};
+use crs_same::same;
+use crs_value::{Crs, Level, read};
+use std::alloc::Global;
+
+/// Whether two texts spell the same CRS at a level.
+///
+/// 0: each spells a CRS, and `is_same` is 1 where they are the same, else 0. 1: the first spells none, and `refused`
+/// says why. 2: the first spells a CRS and the second none, and `refused` says why. 3: memory was refused. 4: there is
+/// no such level. What isn't said of a code is as before. Profile.
+#[unsafe(no_mangle)]
+pub extern "C" fn crsdesk_same(
+    alloc: Global,
+    first: &[u8],
+    second: &[u8],
+    level: u32,
+    is_same: &mut u32,
+    refused: &mut Refused,
+) -> u32
+    ensures { IsSameAnswer level first.now second.now
+        (record { same = is_same.old; refused = refused.old })
+        (record { same = is_same.new; refused = refused.new })
+        result }
+{
+    match level_of(level) {
+        Some(level) => same_at(alloc, first, second, level, is_same, refused),
+        None => NO_LEVEL,
+    }
+}
+
+#[tactic(auto, unfolding(crate::specs::Same::IsSameAt))]
+fn same_at<'t>(
+    alloc: Global,
+    first: &'t [u8],
+    second: &'t [u8],
+    level: Level,
+    is_same: &mut u32,
+    refused: &mut Refused,
+) -> u32
+    ensures { IsSameAt first.now second.now
+        (record { same = is_same.old; refused = refused.old })
+        (record { same = is_same.new; refused = refused.new })
+        result level }
+{
+    match read(alloc, first) {
+        Ok(crs) => second_same(alloc, &crs, second, level, is_same, refused),
+        Err(fault) => tell(fault, REFUSED, refused),
+    }
+}
+
+// Behind a first text that spells a CRS.
+#[tactic(auto, unfolding(crate::specs::Same::IsSecondAt))]
+fn second_same<'t>(
+    alloc: Global,
+    first: &Crs<'t>,
+    second: &'t [u8],
+    level: Level,
+    is_same: &mut u32,
+    refused: &mut Refused,
+) -> u32
+    ensures { IsSecondAt first.now second.now
+        (record { same = is_same.old; refused = refused.old })
+        (record { same = is_same.new; refused = refused.new })
+        result level }
+{
+    match read(alloc, second) {
+        Ok(crs) => {
+            *is_same = u32::from(same(first, &crs, level));
+            OK
+        }
+        Err(fault) => tell(fault, SECOND_REFUSED, refused),
+    }
+}
