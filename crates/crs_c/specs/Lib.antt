@@ -1,4 +1,5 @@
 pub mod Buffers
+pub mod Canon
 pub mod Check
 pub mod Codes
 pub mod FirstPart

@@ -3,6 +3,7 @@
 #![tactic(auto)]
 
 mod buffer;
+mod canon;
 mod check;
 mod codes;
 mod first_part;
@@ -10,6 +11,7 @@ mod names;
 mod refused;
 mod same;
 
+pub use canon::crsdesk_canon;
 pub use check::crsdesk_check;
 pub use first_part::crsdesk_first_part;
 pub use names::{crsdesk_refusal_name, crsdesk_version};

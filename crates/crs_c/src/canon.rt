@@ -1,0 +1,54 @@
+//! The canonical text of a text.
+ghost use Rattle.crs_c.specs.Canon.{IsCanonAnswer, IsCanonAt};
+
+use crate::buffer::give;
+use crate::codes::{NO_LEVEL, REFUSED, level_of};
+use crate::refused::{Refused, tell};
+use crs_canon::canon;
+use crs_value::Level;
+use std::alloc::Global;
+
+/// The canonical text, at a level, of the CRS that a text spells.
+///
+/// 0: it is at the front of `out`; `length` is its number of bytes. 1: the text spells no CRS, and `refused` says why.
+/// 3: memory was refused. 4: there is no such level. 5: the canonical text has more bytes than `out`; `length` is their
+/// number. What isn't said of a code is as before. Profile.
+#[unsafe(no_mangle)]
+pub extern "C" fn crsdesk_canon(
+    alloc: Global,
+    text: &[u8],
+    level: u32,
+    out: &mut [u8],
+    length: &mut usize,
+    refused: &mut Refused,
+) -> u32
+    ensures { IsCanonAnswer level text.now
+        (record { text = record { items = out.old; told = length.old }; refused = refused.old })
+        (record { text = record { items = out.new; told = length.new }; refused = refused.new })
+        result }
+{
+    match level_of(level) {
+        Some(level) => canon_at(alloc, text, level, out, length, refused),
+        None => NO_LEVEL,
+    }
+}
+
+#[tactic(auto, unfolding(crate::specs::Canon::IsCanonAt))]
+fn canon_at(
+    alloc: Global,
+    text: &[u8],
+    level: Level,
+    out: &mut [u8],
+    length: &mut usize,
+    refused: &mut Refused,
+) -> u32
+    ensures { IsCanonAt text.now
+        (record { text = record { items = out.old; told = length.old }; refused = refused.old })
+        (record { text = record { items = out.new; told = length.new }; refused = refused.new })
+        result level }
+{
+    match canon(alloc, text, level) {
+        Ok(canonical) => give(canonical.bytes(), out, length),
+        Err(fault) => tell(fault, REFUSED, refused),
+    }
+}
