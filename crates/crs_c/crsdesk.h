@@ -122,7 +122,9 @@ uint32_t crsdesk_refusal_name(uint32_t number, char *out, size_t room, size_t *l
    CRSDESK_NO_ROOM: the version has more bytes than the buffer; *length is their number. */
 uint32_t crsdesk_version(char *out, size_t room, size_t *length);
 
-/* A catalogue of texts: those that spell the same CRS stand in one group. Groups are numbered from 1, by the first text
+/* NOT IN THE LIBRARY YET, from here to the end: the calls of a catalogue come last.
+
+   A catalogue of texts: those that spell the same CRS stand in one group. Groups are numbered from 1, by the first text
    of each. Who makes one by crsdesk_catalogue_new has it until crsdesk_catalogue_free. Profile. */
 struct crsdesk_catalogue;
 
