@@ -1,0 +1,190 @@
+/* Refuses each growth of memory in turn to each C call that takes memory.
+
+   A growth is a call of malloc, realloc or aligned_alloc, which this program has in the C library's place, so that the
+   library calls them here, linked in or as a shared object. Each call is made with ample memory, and then with its
+   first growth refused, its second, and so on until a call meets no refusal. Each must answer what it answers with
+   ample memory, or CRSDESK_NO_MEMORY with all that it was handed as before; and as many blocks must be in use behind
+   it as before. Each call has a line with its counts; the last line is 'N passed, M failed', and the status is 0 where
+   M is 0. glibc alone: the real calls are those that it keeps under other names. */
+#define _GNU_SOURCE
+#include <errno.h>
+#include <stdio.h>
+#include <stdlib.h>
+#include <string.h>
+
+#include <crsdesk.h>
+
+void *__libc_malloc(size_t size);
+void *__libc_realloc(void *old, size_t size);
+void *__libc_memalign(size_t alignment, size_t size);
+void __libc_free(void *old);
+
+static size_t asked, growths, refused;
+static long in_use;
+static int is_counting;
+
+static int is_refused(void)
+{
+    if (!is_counting || ++growths != asked)
+        return 0;
+    refused++;
+    errno = ENOMEM;
+    return 1;
+}
+
+static void *taken(void *new)
+{
+    if (is_counting && new)
+        in_use++;
+    return new;
+}
+
+void *malloc(size_t size)
+{
+    return is_refused() ? NULL : taken(__libc_malloc(size));
+}
+
+void *aligned_alloc(size_t alignment, size_t size)
+{
+    return is_refused() ? NULL : taken(__libc_memalign(alignment, size));
+}
+
+void *realloc(void *old, size_t size)
+{
+    if (is_refused())
+        return NULL;
+    return old ? __libc_realloc(old, size) : taken(__libc_realloc(old, size));
+}
+
+void free(void *old)
+{
+    if (is_counting && old)
+        in_use--;
+    __libc_free(old);
+}
+
+/* All that a call is handed to write to. */
+struct places {
+    char out[4096];
+    size_t length, group;
+    uint32_t number;
+    struct crsdesk_refusal why;
+};
+
+/* A call and its texts. */
+struct trial {
+    const char *name;
+    uint32_t (*call)(const struct trial *trial, struct places *to);
+    const char *first, *second;
+};
+
+#define VERTICAL "VERTCRS[\"H\",VDATUM[\"D\"],CS[vertical,1],AXIS[\"h\",up,LENGTHUNIT[\"metre\",1.0]]"
+#define GEOGRAPHIC                                                                                                     \
+    "GEOGCRS[\"A\",ENSEMBLE[\"E\",MEMBER[\"M\"],MEMBER[\"L\"],MEMBER[\"K\",ID[\"X\",2],ID[\"X\",1]],"                  \
+    "ELLIPSOID[\"S\",6378137,298.257223563],ENSEMBLEACCURACY[2]],CS[ellipsoidal,2],AXIS[\"lat\",north],"               \
+    "AXIS[\"lon\",east],ANGLEUNIT[\"degree\",0.0174532925199433],USAGE[SCOPE[\"s\"],AREA[\"a\"]],"                     \
+    "USAGE[SCOPE[\"r\"],AREA[\"b\"]],ID[\"EPSG\",4326],REMARK[\"m\"]]"
+
+static uint32_t check(const struct trial *it, struct places *to)
+{
+    return crsdesk_check(it->first, strlen(it->first), &to->number, &to->why);
+}
+
+static uint32_t canon(const struct trial *it, struct places *to)
+{
+    return crsdesk_canon(it->first, strlen(it->first), CRSDESK_FULL, to->out, sizeof to->out, &to->length, &to->why);
+}
+
+static uint32_t canon_by_definition(const struct trial *it, struct places *to)
+{
+    return crsdesk_canon(it->first, strlen(it->first), CRSDESK_DEFINITION, to->out, sizeof to->out, &to->length,
+                         &to->why);
+}
+
+static uint32_t canon_without_room(const struct trial *it, struct places *to)
+{
+    return crsdesk_canon(it->first, strlen(it->first), CRSDESK_FULL, to->out, 3, &to->length, &to->why);
+}
+
+static uint32_t same(const struct trial *it, struct places *to)
+{
+    return crsdesk_same(it->first, strlen(it->first), it->second, strlen(it->second), CRSDESK_FULL, &to->number,
+                        &to->why);
+}
+
+static uint32_t first_part(const struct trial *it, struct places *to)
+{
+    return crsdesk_first_part(it->first, strlen(it->first), it->second, strlen(it->second), CRSDESK_FULL, to->out,
+                              sizeof to->out, &to->length, &to->why);
+}
+
+static const struct trial trials[] = {
+    {"check", check, GEOGRAPHIC, ""},
+    {"check, refused", check, "VERTCRS[\"H\",VDATUM[\"D\"],CS[vertical,2],AXIS[\"h\",up,LENGTHUNIT[\"metre\",1]]]", ""},
+    {"canon", canon, GEOGRAPHIC, ""},
+    {"canon by definition", canon_by_definition, GEOGRAPHIC, ""},
+    {"canon without room", canon_without_room, VERTICAL "]", ""},
+    {"canon, refused", canon, VERTICAL "],FOO[1]]", ""},
+    {"same", same, GEOGRAPHIC, GEOGRAPHIC},
+    {"same, another", same, GEOGRAPHIC, VERTICAL "]"},
+    {"same, the first refused", same, VERTICAL, GEOGRAPHIC},
+    {"same, the second refused", same, GEOGRAPHIC, VERTICAL},
+    {"first_part", first_part, VERTICAL "]", VERTICAL ",ID[\"X\",1]]"},
+    {"first_part, the same", first_part, GEOGRAPHIC, GEOGRAPHIC},
+    {"first_part, the second refused", first_part, GEOGRAPHIC, VERTICAL},
+};
+
+static struct places fresh(void)
+{
+    struct places places;
+    memset(&places, 0xa5, sizeof places);
+    return places;
+}
+
+/* The call with the nth growth refused. */
+static uint32_t counted(const struct trial *trial, size_t nth, struct places *to)
+{
+    *to = fresh();
+    asked = nth;
+    growths = refused = 0;
+    is_counting = 1;
+    uint32_t code = trial->call(trial, to);
+    is_counting = 0;
+    return code;
+}
+
+static int is_right(const struct trial *trial)
+{
+    static struct places ample, found, before;
+    before = fresh();
+    uint32_t wanted = counted(trial, 0, &ample);
+    size_t all = growths, wants = 0, nth = 0;
+    if (wanted == CRSDESK_NO_MEMORY || in_use != 0 || all == 0) {
+        printf("%s: code %u with ample memory, %zu growths, %ld blocks left\n", trial->name, (unsigned)wanted, all,
+               in_use);
+        return 0;
+    }
+    do {
+        uint32_t code = counted(trial, ++nth, &found);
+        const struct places *right = code == CRSDESK_NO_MEMORY ? &before : &ample;
+        if ((code != wanted && !(refused && code == CRSDESK_NO_MEMORY)) || in_use != 0
+            || memcmp(&found, right, sizeof found) != 0) {
+            printf("%s: growth %zu refused: code %u, %ld blocks left\n", trial->name, nth, (unsigned)code, in_use);
+            return 0;
+        }
+        wants += code == CRSDESK_NO_MEMORY;
+    } while (refused && nth < 10000);
+    printf("%s: %zu growths, %zu wanted memory\n", trial->name, all, wants);
+    return nth < 10000;
+}
+
+int main(void)
+{
+    size_t passed = 0, count = sizeof trials / sizeof *trials;
+    /* Its buffer is taken before any count. */
+    printf("each growth refused in turn\n");
+    for (size_t i = 0; i < count; i++)
+        passed += (size_t)is_right(&trials[i]);
+    printf("%zu passed, %zu failed\n", passed, count - passed);
+    return passed == count ? 0 : 1;
+}

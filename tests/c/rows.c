@@ -1,0 +1,570 @@
+/* Runs the worked rows of the library's suite over its C calls.
+
+       rows FILE.rows ..
+
+   The rows that are run are those of the calls `canon`, `same`, `Canon::same`, `Refusal::new`, and `run_canon`,
+   `run_check` and `run_same` where they write a line. Each text lies in a block of just its size, and each buffer too:
+   first it has no room, then a byte too few, then the room that was asked for. Behind each call all that it doesn't
+   answer must be as before. All rows are run by one thread, and then by four at once, each in another order.
+
+   Each row that fails has a line; the last line is 'N passed, M failed', and the status is 0 where M is 0. */
+#include <pthread.h>
+#include <stdarg.h>
+#include <stdio.h>
+#include <stdlib.h>
+#include <string.h>
+
+#include <crsdesk.h>
+
+/* What stands at the caller's places before a call. */
+enum { UNTOLD = 0x5a5a5a5a, FILLER = 0xa5, THREADS = 4 };
+
+struct bytes {
+    char *at;
+    size_t length;
+};
+
+struct row {
+    const char *file;
+    size_t line;
+    struct bytes call, input, expect;
+    int is_definition;
+};
+
+struct rows {
+    struct row *at;
+    size_t count, room;
+};
+
+/* The answer of a row as a text, and what was wrong besides. */
+struct answer {
+    struct bytes text;
+    size_t room;
+    char wrong[200];
+};
+
+static void *grown(void *old, size_t size)
+{
+    void *new = realloc(old, size ? size : 1);
+    if (!new) {
+        fputs("out of memory\n", stderr);
+        exit(2);
+    }
+    return new;
+}
+
+/* A block of just these bytes, so that a byte read past its end is seen. */
+static char *copied(const char *at, size_t length)
+{
+    char *new = grown(NULL, length);
+    if (length)
+        memcpy(new, at, length);
+    return new;
+}
+
+static void append(struct answer *answer, const char *at, size_t length)
+{
+    if (answer->text.length + length + 1 > answer->room) {
+        answer->room = 2 * (answer->text.length + length + 1);
+        answer->text.at = grown(answer->text.at, answer->room);
+    }
+    memcpy(answer->text.at + answer->text.length, at, length);
+    answer->text.length += length;
+}
+
+static void appendf(struct answer *answer, const char *form, ...)
+{
+    char line[200];
+    va_list words;
+    va_start(words, form);
+    int length = vsnprintf(line, sizeof line, form, words);
+    va_end(words);
+    append(answer, line, (size_t)length);
+}
+
+static void wrong(struct answer *answer, const char *what)
+{
+    if (!answer->wrong[0])
+        snprintf(answer->wrong, sizeof answer->wrong, "%s", what);
+}
+
+/* What is handed to a call that answers a text, and the call. */
+struct asked {
+    uint32_t (*call)(const struct asked *asked, char *out, size_t room, size_t *length, struct crsdesk_refusal *why);
+    const char *first, *second;
+    size_t first_length, second_length;
+    uint32_t level, number;
+};
+
+static int is_untold(const struct crsdesk_refusal *why)
+{
+    return why->number == UNTOLD && why->place == UNTOLD;
+}
+
+/* The call with so much room; `*out` is the buffer, which the caller frees. */
+static uint32_t with_room(const struct asked *asked, size_t room, char **out, size_t *length,
+                          struct crsdesk_refusal *why, struct answer *answer)
+{
+    char *buffer = grown(NULL, room);
+    memset(buffer, FILLER, room);
+    *length = UNTOLD;
+    why->number = UNTOLD;
+    why->place = UNTOLD;
+    uint32_t code = asked->call(asked, buffer, room, length, why);
+    size_t written = code == CRSDESK_OK ? *length : 0;
+    for (size_t i = written; i < room; i++)
+        if ((unsigned char)buffer[i] != FILLER)
+            wrong(answer, "the buffer behind the answer was changed");
+    if (code != CRSDESK_OK && code != CRSDESK_NO_ROOM && *length != UNTOLD)
+        wrong(answer, "the length was changed");
+    int is_refused = code == CRSDESK_REFUSED || code == CRSDESK_SECOND_REFUSED;
+    if (is_untold(why) == is_refused)
+        wrong(answer, "the refusal was changed where none is told, or not where one is");
+    *out = buffer;
+    return code;
+}
+
+/* The call with no room, with a byte too few, with just the room, and with more. */
+static uint32_t in_each_room(const struct asked *asked, struct bytes *text, struct crsdesk_refusal *why,
+                             struct answer *answer)
+{
+    char *out;
+    size_t needed, length;
+    uint32_t code = with_room(asked, 0, &out, &needed, why, answer);
+    free(out);
+    text->at = NULL;
+    text->length = 0;
+    if (code != CRSDESK_OK && code != CRSDESK_NO_ROOM)
+        return code;
+    if ((code == CRSDESK_OK) != (needed == 0))
+        wrong(answer, "an answer fits no room, or an empty one doesn't");
+    if (needed > 0) {
+        code = with_room(asked, needed - 1, &out, &length, why, answer);
+        free(out);
+        if (code != CRSDESK_NO_ROOM || length != needed)
+            wrong(answer, "a byte too few wasn't told");
+    }
+    code = with_room(asked, needed, &text->at, &text->length, why, answer);
+    if (code != CRSDESK_OK || text->length != needed)
+        wrong(answer, "just the room wasn't enough");
+    code = with_room(asked, needed + 17, &out, &length, why, answer);
+    if (code != CRSDESK_OK || length != needed || memcmp(out, text->at, needed) != 0)
+        wrong(answer, "another answer in more room");
+    free(out);
+    return code;
+}
+
+static uint32_t call_canon(const struct asked *it, char *out, size_t room, size_t *length, struct crsdesk_refusal *why)
+{
+    return crsdesk_canon(it->first, it->first_length, it->level, out, room, length, why);
+}
+
+static uint32_t call_part(const struct asked *it, char *out, size_t room, size_t *length, struct crsdesk_refusal *why)
+{
+    return crsdesk_first_part(it->first, it->first_length, it->second, it->second_length, it->level, out, room, length,
+                              why);
+}
+
+/* This call has no refusal; none is told. */
+static uint32_t call_name(const struct asked *it, char *out, size_t room, size_t *length, struct crsdesk_refusal *why)
+{
+    (void)why;
+    return crsdesk_refusal_name(it->number, out, room, length);
+}
+
+static uint32_t call_version(const struct asked *it, char *out, size_t room, size_t *length, struct crsdesk_refusal *why)
+{
+    (void)why;
+    (void)it;
+    return crsdesk_version(out, room, length);
+}
+
+static void append_refusal(struct answer *answer, const struct crsdesk_refusal *why)
+{
+    struct asked asked = {call_name, NULL, NULL, 0, 0, 0, why->number};
+    struct bytes name;
+    struct crsdesk_refusal none;
+    if (in_each_room(&asked, &name, &none, answer) != CRSDESK_OK)
+        wrong(answer, "a refusal has no name");
+    appendf(answer, "refused %lu ", (unsigned long)why->number);
+    append(answer, name.at, name.length);
+    appendf(answer, " at %zu", why->place);
+    free(name.at);
+}
+
+/* A level that isn't one must be told, with nothing changed. */
+static void without_level(struct asked asked, struct answer *answer)
+{
+    char *out;
+    size_t length;
+    struct crsdesk_refusal why;
+    asked.level = 2;
+    if (with_room(&asked, 5, &out, &length, &why, answer) != CRSDESK_NO_LEVEL)
+        wrong(answer, "a level that isn't one was taken");
+    free(out);
+}
+
+static void answer_canon(const struct bytes *text, uint32_t level, struct answer *answer, const char *before)
+{
+    struct asked asked = {call_canon, copied(text->at, text->length), NULL, text->length, 0, level, 0};
+    struct bytes canonical;
+    struct crsdesk_refusal why;
+    uint32_t code = in_each_room(&asked, &canonical, &why, answer);
+    if (code == CRSDESK_OK) {
+        appendf(answer, "%s", before);
+        append(answer, canonical.at, canonical.length);
+    } else if (code == CRSDESK_REFUSED) {
+        append_refusal(answer, &why);
+    } else {
+        wrong(answer, "a code that canon doesn't have here");
+    }
+    without_level(asked, answer);
+    free(canonical.at);
+    free((char *)asked.first);
+}
+
+/* `same`, or `different` and the path; or the refusal behind `first` and `second`. */
+static void answer_same(const struct bytes *first, const struct bytes *second, uint32_t level, struct answer *answer,
+                        const char *const names[2])
+{
+    struct asked asked = {call_part, copied(first->at, first->length), copied(second->at, second->length),
+                          first->length, second->length, level, 0};
+    struct bytes path;
+    struct crsdesk_refusal why, same_why = {UNTOLD, UNTOLD};
+    uint32_t same = UNTOLD, code = in_each_room(&asked, &path, &why, answer);
+    uint32_t same_code = crsdesk_same(asked.first, asked.first_length, asked.second, asked.second_length, level, &same,
+                                      &same_why);
+    if (same_code != code || same_why.number != why.number || same_why.place != why.place)
+        wrong(answer, "same and first_part don't have the same code or refusal");
+    if (code == CRSDESK_OK) {
+        if (same != (path.length == 0))
+            wrong(answer, "same and first_part don't agree");
+        appendf(answer, path.length ? "different " : "same");
+        append(answer, path.at, path.length);
+    } else {
+        if (same != UNTOLD)
+            wrong(answer, "same was changed");
+        appendf(answer, "%s", names[code == CRSDESK_SECOND_REFUSED]);
+        append_refusal(answer, &why);
+    }
+    without_level(asked, answer);
+    if (crsdesk_same(asked.first, asked.first_length, asked.second, asked.second_length, 2, &same, &same_why)
+        != CRSDESK_NO_LEVEL)
+        wrong(answer, "a level that isn't one was taken by same");
+    free(path.at);
+    free((char *)asked.first);
+    free((char *)asked.second);
+}
+
+static void answer_check(const struct bytes *text, struct answer *answer)
+{
+    static const char *const kinds[] = {"", "geodetic", "geographic", "projected", "vertical", "compound"};
+    char *at = copied(text->at, text->length);
+    uint32_t kind = UNTOLD;
+    struct crsdesk_refusal why = {UNTOLD, UNTOLD};
+    uint32_t code = crsdesk_check(at, text->length, &kind, &why);
+    if (code == CRSDESK_OK && is_untold(&why) && kind >= CRSDESK_GEODETIC && kind <= CRSDESK_COMPOUND)
+        appendf(answer, "accepted %s", kinds[kind]);
+    else if (code == CRSDESK_REFUSED && kind == UNTOLD)
+        append_refusal(answer, &why);
+    else
+        wrong(answer, "a code that check doesn't have here, or something was changed");
+    free(at);
+}
+
+static void answer_name(const struct bytes *number, struct answer *answer)
+{
+    char digits[24] = "";
+    memcpy(digits, number->at, number->length < 20 ? number->length : 20);
+    struct asked asked = {call_name, NULL, NULL, 0, 0, 0, (uint32_t)strtoul(digits, NULL, 10)};
+    struct bytes name;
+    struct crsdesk_refusal why;
+    uint32_t code = in_each_room(&asked, &name, &why, answer);
+    if (code == CRSDESK_OK)
+        appendf(answer, "name %.*s", (int)name.length, name.at);
+    else if (code == CRSDESK_NO_NUMBER)
+        appendf(answer, "none");
+    free(name.at);
+}
+
+static int is(const struct bytes *bytes, const char *text)
+{
+    return bytes->length == strlen(text) && memcmp(bytes->at, text, bytes->length) == 0;
+}
+
+static int begins(const struct bytes *bytes, const char *text)
+{
+    size_t length = strlen(text);
+    return bytes->length >= length && memcmp(bytes->at, text, length) == 0;
+}
+
+/* What is before the first line end, and what is behind it. */
+static struct bytes split(const struct bytes *input, struct bytes *rest)
+{
+    const char *end = memchr(input->at, '\n', input->length);
+    size_t front = end ? (size_t)(end - input->at) : input->length;
+    struct bytes first = {input->at, front};
+    rest->at = input->at + front + (end ? 1 : 0);
+    rest->length = input->length - front - (end ? 1 : 0);
+    return first;
+}
+
+/* A line that a command writes, with its status, which is 1 unless the line begins with what is named. */
+static void answer_run(struct answer *line, const char *const good[], struct answer *answer)
+{
+    int status = 1;
+    for (; *good; good++)
+        if (begins(&line->text, *good) && !begins(&line->text, "refused "))
+            status = 0;
+    appendf(answer, "status %d, written ", status);
+    append(answer, line->text.at, line->text.length);
+    append(answer, "\n", 1);
+    if (line->wrong[0])
+        wrong(answer, line->wrong);
+    free(line->text.at);
+}
+
+static void answer_pair(const struct row *row, struct answer *answer, int is_swapped, const char *const names[2])
+{
+    struct bytes second, first = split(&row->input, &second);
+    uint32_t level = row->is_definition ? CRSDESK_DEFINITION : CRSDESK_FULL;
+    if (is_swapped)
+        answer_same(&second, &first, level, answer, names);
+    else
+        answer_same(&first, &second, level, answer, names);
+}
+
+static void answer_canons(const struct row *row, struct answer *answer)
+{
+    struct bytes second, first = split(&row->input, &second);
+    struct answer one = {{NULL, 0}, 0, ""}, two = one;
+    uint32_t level = row->is_definition ? CRSDESK_DEFINITION : CRSDESK_FULL;
+    answer_canon(&first, level, &one, "");
+    answer_canon(&second, level, &two, "");
+    int same = one.text.length == two.text.length && memcmp(one.text.at, two.text.at, one.text.length) == 0;
+    appendf(answer, same ? "same" : "different");
+    if (one.wrong[0] || two.wrong[0])
+        wrong(answer, one.wrong[0] ? one.wrong : two.wrong);
+    free(one.text.at);
+    free(two.text.at);
+}
+
+/* Whether the answer is the one that the row expects; a refusal may stand there without its name. */
+static int is_expected(const struct row *row, const struct answer *answer)
+{
+    if (answer->text.length == row->expect.length
+        && memcmp(answer->text.at, row->expect.at, answer->text.length) == 0)
+        return 1;
+    unsigned long number;
+    size_t place;
+    char line[100], name[40];
+    if (answer->text.length >= sizeof line || !begins(&answer->text, "refused "))
+        return 0;
+    memcpy(line, answer->text.at, answer->text.length);
+    line[answer->text.length] = 0;
+    if (sscanf(line, "refused %lu %39s at %zu", &number, name, &place) != 3)
+        return 0;
+    snprintf(line, sizeof line, "%lu at %zu", number, place);
+    return is(&row->expect, line);
+}
+
+/* Whether the row is one of the C calls. */
+static int is_taken(const struct row *row)
+{
+    static const char *const calls[] = {"canon", "same", "Canon::same", "Refusal::new"};
+    static const char *const runs[] = {"run_canon", "run_check", "run_same"};
+    for (size_t i = 0; i < sizeof calls / sizeof *calls; i++)
+        if (is(&row->call, calls[i]))
+            return 1;
+    for (size_t i = 0; i < sizeof runs / sizeof *runs; i++)
+        if (is(&row->call, runs[i]))
+            return begins(&row->expect, "status ");
+    return 0;
+}
+
+static int is_right(const struct row *row, int tells)
+{
+    static const char *const plain[2] = {"", ""}, *const named[2] = {"first ", "second "};
+    static const char *const written[] = {"VERTCRS", "GEO", "PROJCRS", "COMPOUNDCRS", NULL};
+    static const char *const accepted[] = {"accepted ", NULL}, *const same[] = {"same", NULL};
+    struct answer answer = {{NULL, 0}, 0, ""}, line = answer;
+    uint32_t level = row->is_definition ? CRSDESK_DEFINITION : CRSDESK_FULL;
+    if (is(&row->call, "canon")) {
+        answer_canon(&row->input, level, &answer, "text ");
+    } else if (is(&row->call, "same")) {
+        answer_pair(row, &answer, 0, plain);
+        answer_pair(row, &line, 1, plain);
+        if (answer.text.length != line.text.length || memcmp(answer.text.at, line.text.at, line.text.length) != 0)
+            wrong(&answer, "another answer where the texts stand the other way round");
+        free(line.text.at);
+    } else if (is(&row->call, "Canon::same")) {
+        answer_canons(row, &answer);
+    } else if (is(&row->call, "Refusal::new")) {
+        answer_name(&row->input, &answer);
+    } else if (is(&row->call, "run_canon")) {
+        answer_canon(&row->input, level, &line, "");
+        answer_run(&line, written, &answer);
+    } else if (is(&row->call, "run_check")) {
+        answer_check(&row->input, &line);
+        answer_run(&line, accepted, &answer);
+    } else {
+        answer_pair(row, &line, 0, named);
+        answer_run(&line, same, &answer);
+    }
+    int right = is_expected(row, &answer) && !answer.wrong[0];
+    if (!right && tells)
+        printf("%s:%zu: %.*s: %.*s, not %.*s; %s\n", row->file, row->line, (int)row->call.length, row->call.at,
+               (int)(answer.text.length < 300 ? answer.text.length : 300), answer.text.at ? answer.text.at : "",
+               (int)(row->expect.length < 300 ? row->expect.length : 300), row->expect.at, answer.wrong);
+    free(answer.text.at);
+    return right;
+}
+
+/* The bytes that a line of a row stands for: \n \r \t \\ and \xHH. */
+static void unescape(struct bytes *to, const char *at, size_t length)
+{
+    to->at = grown(to->at, to->length + length + 1);
+    for (size_t i = 0; i < length; i++) {
+        char byte = at[i];
+        if (byte == '\\' && i + 1 < length) {
+            byte = at[++i];
+            if (byte == 'x' && i + 2 < length) {
+                char digits[3] = {at[i + 1], at[i + 2], 0};
+                byte = (char)strtoul(digits, NULL, 16);
+                i += 2;
+            } else {
+                byte = byte == 'n' ? '\n' : byte == 'r' ? '\r' : byte == 't' ? '\t' : byte;
+            }
+        }
+        to->at[to->length++] = byte;
+    }
+}
+
+/* A line of input; one that is repeated has a count before its bytes. */
+static void add_input(struct row *row, const char *at, size_t length, int is_repeated)
+{
+    struct bytes part = {NULL, 0};
+    size_t times = 1;
+    if (is_repeated) {
+        char *end;
+        times = strtoul(at, &end, 10);
+        length -= (size_t)(end + 1 - at);
+        at = end + 1;
+    }
+    unescape(&part, at, length);
+    row->input.at = grown(row->input.at, row->input.length + times * part.length);
+    for (; times > 0; times--) {
+        memcpy(row->input.at + row->input.length, part.at, part.length);
+        row->input.length += part.length;
+    }
+    free(part.at);
+}
+
+static void end_row(struct rows *rows, struct row *row)
+{
+    static const char definition[] = " at definition";
+    size_t length = sizeof definition - 1;
+    if (row->call.length > length
+        && memcmp(row->call.at + row->call.length - length, definition, length) == 0) {
+        row->call.length -= length;
+        row->is_definition = 1;
+    }
+    if (is_taken(row)) {
+        if (rows->count == rows->room) {
+            rows->room = 2 * rows->room + 64;
+            rows->at = grown(rows->at, rows->room * sizeof *rows->at);
+        }
+        rows->at[rows->count++] = *row;
+    } else {
+        free(row->call.at);
+        free(row->input.at);
+        free(row->expect.at);
+    }
+}
+
+static void read_rows(const char *path, struct rows *rows)
+{
+    static const struct row none;
+    FILE *file = fopen(path, "rb");
+    char *line = NULL;
+    size_t room = 0, number = 0;
+    ssize_t length;
+    struct row row = none;
+    if (!file) {
+        fprintf(stderr, "%s can't be read\n", path);
+        exit(2);
+    }
+    while ((length = getline(&line, &room, file)) > 0) {
+        struct bytes text = {line, (size_t)length - (line[length - 1] == '\n')};
+        number++;
+        if (begins(&text, "call    ")) {
+            row = none;
+            row.file = strrchr(path, '/') ? strrchr(path, '/') + 1 : path;
+            row.line = number;
+            unescape(&row.call, line + 8, text.length - 8);
+            unescape(&row.input, "", 0);
+        } else if (begins(&text, "input   ")) {
+            add_input(&row, line + 8, text.length - 8, 0);
+        } else if (begins(&text, "input*  ")) {
+            add_input(&row, line + 8, text.length - 8, 1);
+        } else if (begins(&text, "expect  ")) {
+            unescape(&row.expect, line + 8, text.length - 8);
+            end_row(rows, &row);
+        }
+    }
+    free(line);
+    fclose(file);
+}
+
+struct turn {
+    const struct rows *rows;
+    size_t from, passed;
+};
+
+static void *run_all(void *at)
+{
+    struct turn *turn = at;
+    for (size_t i = 0; i < turn->rows->count; i++)
+        turn->passed += (size_t)is_right(&turn->rows->at[(turn->from + i) % turn->rows->count], turn->from == 0);
+    return NULL;
+}
+
+int main(int count, char **words)
+{
+    struct rows rows = {NULL, 0, 0};
+    struct turn turns[THREADS + 1];
+    pthread_t threads[THREADS];
+    struct answer answer = {{NULL, 0}, 0, ""};
+    struct asked asked = {call_version, NULL, NULL, 0, 0, 0, 0};
+    struct bytes version;
+    struct crsdesk_refusal why;
+    for (int i = 1; i < count; i++)
+        read_rows(words[i], &rows);
+    size_t passed = 0, all = (THREADS + 1) * rows.count;
+    for (size_t i = 0; i <= THREADS; i++) {
+        turns[i].rows = &rows;
+        turns[i].from = i * rows.count / (THREADS + 1);
+        turns[i].passed = 0;
+    }
+    run_all(&turns[0]);
+    for (size_t i = 0; i < THREADS; i++)
+        if (pthread_create(&threads[i], NULL, run_all, &turns[i + 1]) != 0)
+            return 2;
+    for (size_t i = 0; i < THREADS; i++)
+        pthread_join(threads[i], NULL);
+    for (size_t i = 0; i <= THREADS; i++)
+        passed += turns[i].passed;
+    if (in_each_room(&asked, &version, &why, &answer) != CRSDESK_OK || answer.wrong[0])
+        printf("version: %s\n", answer.wrong);
+    else
+        printf("version %.*s, %zu rows\n", (int)version.length, version.at, rows.count);
+    free(version.at);
+    for (size_t i = 0; i < rows.count; i++) {
+        free(rows.at[i].call.at);
+        free(rows.at[i].input.at);
+        free(rows.at[i].expect.at);
+    }
+    free(rows.at);
+    printf("%zu passed, %zu failed\n", passed, all - passed);
+    return passed == all && all > 0 ? 0 : 1;
+}

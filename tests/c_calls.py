@@ -1,0 +1,143 @@
+#!/usr/bin/env python3
+"""Tries the library for C as a C program takes it.
+
+    c_calls.py [FOLDER]
+
+FOLDER is what tools/build_library.py made, crates/crs_c/out/prefix where none is given. The programs of c/ are compiled
+against its header, and linked with the static library and with the shared object: rows.c, which runs the worked rows of
+crates/crs_rows/data by one thread and by four, with the caller's side under the address and undefined-behaviour
+sanitizers; and growths.c, which refuses each growth of memory in turn. The header must do for C99 and for C++ with every
+warning an error, the shared object must need the C library alone, both must show the header's calls and nothing else,
+and pkg-config must find them.
+
+Each try has a line; the last line is 'N passed, M failed', and the status is 0 where M is 0.
+"""
+import os
+import pathlib
+import re
+import shutil
+import subprocess
+import sys
+import tempfile
+
+HERE = pathlib.Path(__file__).resolve().parent
+ROOT = HERE.parent
+ROWS = sorted((ROOT / "crates" / "crs_rows" / "data").glob("*.rows"))
+WARNINGS = ["-Wall", "-Wextra", "-Wpedantic", "-Werror"]
+SANITIZERS = ["-g", "-O1", "-fsanitize=address,undefined", "-fno-sanitize-recover=all"]
+SECONDS = 300
+BARE = "#include <crsdesk.h>\nint main(void) { size_t n; char out[16]; return crsdesk_version(out, 16, &n) == CRSDESK_OK ? 0 : 1; }\n"
+
+
+class Wrong(Exception):
+    """What a try found."""
+
+
+def run(words, **more):
+    done = subprocess.run(
+        [str(it) for it in words], stdout=subprocess.PIPE, stderr=subprocess.STDOUT, timeout=SECONDS, check=False, **more
+    )
+    text = done.stdout.decode(errors="replace")
+    if done.returncode:
+        raise Wrong(f"{words[0]}: status {done.returncode}: {text[-1500:]}")
+    return text
+
+
+class Tries:
+    def __init__(self, prefix, scratch):
+        self.prefix = prefix
+        self.scratch = pathlib.Path(scratch)
+        self.include = f"-I{prefix}/include"
+        self.lib = prefix / "lib"
+        header = (prefix / "include" / "crsdesk.h").read_text(encoding="utf-8")
+        self.calls = set(re.findall(r"^\w[\w *]*\b(crsdesk_\w+)\(", header, re.MULTILINE))
+
+    def linked(self, source, kind, flags):
+        """The program of a file of c/ with one of the two libraries, and the environment that it is run in."""
+        made = self.scratch / f"{source}_{kind}"
+        libraries = [self.lib / "libcrsdesk.a"] if kind == "static" else [f"-L{self.lib}", "-lcrsdesk"]
+        words = ["cc", "-std=gnu99", *WARNINGS, *flags, self.include, "-o", made, HERE / "c" / f"{source}.c"]
+        run([*words, *libraries, "-lpthread"])
+        return made, {**os.environ, "LD_LIBRARY_PATH": str(self.lib)}
+
+    def last_line(self, text):
+        line = text.rstrip("\n").rpartition("\n")[2]
+        if not re.fullmatch(r"\d+ passed, 0 failed", line):
+            raise Wrong(text[-1500:])
+        return line
+
+    def rows(self, kind):
+        made, environment = self.linked("rows", kind, SANITIZERS)
+        return self.last_line(run([made, *ROWS], env=environment))
+
+    def growths(self, kind):
+        made, environment = self.linked("growths", kind, ["-O1"])
+        return self.last_line(run([made], env=environment))
+
+    def header(self, compiler, standard, ending):
+        file = self.scratch / f"bare.{ending}"
+        file.write_text(BARE if ending == "c" else BARE.replace("(void)", "()"), encoding="utf-8")
+        flags = [*WARNINGS, "-Wconversion", "-Wstrict-prototypes"] if ending == "c" else [*WARNINGS, "-Wold-style-cast"]
+        made = self.scratch / f"bare_{ending}"
+        run([compiler, f"-std={standard}", *flags, self.include, "-o", made, file, self.lib / "libcrsdesk.a"])
+        run([made])
+        return standard
+
+    def names(self):
+        shared = run(["nm", "-D", "--defined-only", self.lib / "libcrsdesk.so"])
+        static = run(["nm", "-g", "--defined-only", self.lib / "libcrsdesk.a"])
+        for text in (shared, static):
+            shown = {line.split()[-1] for line in text.splitlines() if len(line.split()) == 3}
+            if shown != self.calls:
+                raise Wrong(f"shown and not declared, or declared and not shown: {sorted(shown ^ self.calls)}")
+        return f"{len(self.calls)} calls"
+
+    def needs(self):
+        needed = re.findall(r"\(NEEDED\).*\[(.*)\]", run(["readelf", "-d", self.lib / "libcrsdesk.so"]))
+        if needed != ["libc.so.6"]:
+            raise Wrong(f"it needs {needed}")
+        return needed[0]
+
+    def pkg_config(self):
+        if not shutil.which("pkg-config"):
+            return "skipped: there is no pkg-config"
+        environment = {**os.environ, "PKG_CONFIG_PATH": str(self.lib / "pkgconfig")}
+        words = run(["pkg-config", "--cflags", "--libs", "crsdesk"], env=environment).split()
+        file = self.scratch / "found.c"
+        file.write_text(BARE, encoding="utf-8")
+        run(["cc", file, "-o", self.scratch / "found", *words])
+        run([self.scratch / "found"], env={**os.environ, "LD_LIBRARY_PATH": str(self.lib)})
+        return run(["pkg-config", "--modversion", "crsdesk"], env=environment).strip()
+
+
+def main(words):
+    if len(words) > 1:
+        sys.exit(__doc__)
+    prefix = pathlib.Path(words[0]).resolve() if words else ROOT / "crates" / "crs_c" / "out" / "prefix"
+    passed = failed = 0
+    with tempfile.TemporaryDirectory() as scratch:
+        tries = Tries(prefix, scratch)
+        plan = [
+            ("the names that the libraries show", tries.names),
+            ("what the shared object needs", tries.needs),
+            ("the header in C", lambda: tries.header("cc", "c99", "c")),
+            ("the header in C++", lambda: tries.header("c++", "c++11", "cc")),
+            ("pkg-config", tries.pkg_config),
+            ("rows, static library", lambda: tries.rows("static")),
+            ("rows, shared object", lambda: tries.rows("shared")),
+            ("refused growths, static library", lambda: tries.growths("static")),
+            ("refused growths, shared object", lambda: tries.growths("shared")),
+        ]
+        for name, work in plan:
+            try:
+                print(f"{name}: {work()}", flush=True)
+                passed += 1
+            except (Wrong, OSError, subprocess.TimeoutExpired) as error:
+                print(f"{name}: FAILED: {error}", flush=True)
+                failed += 1
+    print(f"{passed} passed, {failed} failed")
+    return 0 if passed and not failed else 1
+
+
+if __name__ == "__main__":
+    sys.exit(main(sys.argv[1:]))

@@ -1,0 +1,167 @@
+#!/usr/bin/env python3
+"""Proves the library for C, and makes what a C program takes.
+
+    build_library.py [FOLDER]
+
+Each crate that crs_c needs is proved as build_program.py does it, and kept. Then FOLDER, which is
+crates/crs_c/out/prefix where none is given, has
+
+    include/crsdesk.h           the header
+    lib/libcrsdesk.a            the static library, with the C functions of the toolchain's heap in it
+    lib/libcrsdesk.so.0         the shared object, which needs the C library alone; libcrsdesk.so leads to it
+    lib/pkgconfig/crsdesk.pc    what pkg-config tells, by where it lies itself
+
+Both libraries show the calls of the header, and no other name. It takes a C compiler, cc, and ld, objcopy and nm.
+
+The status is 0 where they stand there; else 2, with a line on standard error.
+"""
+import os
+import pathlib
+import re
+import shutil
+import subprocess
+import sys
+import tempfile
+
+# The import of the file beside this one leaves nothing in the repository.
+sys.dont_write_bytecode = True
+import build_program
+from build_program import ROOT, Crate, Stop, say
+
+NAME = "crs_c"
+FOLDER = ROOT / "crates" / NAME
+HEADER = FOLDER / "crsdesk.h"
+# The number of the interface: it rises where a program that was linked with the library before can't be run with it.
+INTERFACE = 0
+PC = """prefix=${{pcfiledir}}/../..
+libdir=${{prefix}}/lib
+includedir=${{prefix}}/include
+
+Name: crsdesk
+Description: well-known text of coordinate reference systems, compared and made canonical, proved
+Version: {version}
+Libs: -L${{libdir}} -lcrsdesk
+Cflags: -I${{includedir}}
+"""
+
+
+class Library(Crate):
+    """The crate of the library, of which a static library is built."""
+
+    def __init__(self, *words):
+        super().__init__(*words)
+        self.made = self.folder / "out" / f"lib{NAME}.a"
+
+    def words(self, jobs):
+        words = super().words(jobs)
+        words.remove("--statements")
+        return [*words, "--crate-type", "staticlib", "--toolchain", f"{self.kit}/toolchain", "--backend", "llvm"]
+
+
+def needed(kit):
+    """The crates below the library, each after those that it uses, and then the library."""
+    rows, found = build_program.listed(), {}
+
+    def below(name):
+        crates = []
+        for library in rows[name]:
+            if library in rows:
+                visit(library)
+                crates += [it for it in [*found[library].below, found[library]] if it not in crates]
+        return crates
+
+    def visit(name):
+        if name not in found:
+            crates = below(name)
+            found[name] = Crate(name, kit, rows[name], crates)
+
+    crates = below(NAME)
+    return [*found.values(), Library(NAME, kit, rows[NAME], crates)]
+
+
+def proved():
+    """The static library as the toolchain builds it, once all is proved, and the toolchain's folder."""
+    kit = build_program.toolchain()
+    crates = needed(kit)
+    with build_program.alone(crates):
+        for crate in crates:
+            crate.stamp_now = crate.stamp()
+        build_program.prove(crates)
+    return crates[-1].made, kit
+
+
+def run(*words):
+    try:
+        done = subprocess.run([str(it) for it in words], stdout=subprocess.PIPE, stderr=subprocess.STDOUT, check=False)
+    except FileNotFoundError as error:
+        raise Stop(f"the library was not linked: no command {error.filename}") from error
+    if done.returncode:
+        raise Stop(f"the library was not linked: {words[0]} says {done.stdout.decode(errors='replace')}")
+    return done.stdout.decode()
+
+
+def calls():
+    """The names of the calls, as the header declares them."""
+    return re.findall(r"^\w[\w *]*\b(crsdesk_\w+)\(", HEADER.read_text(encoding="utf-8"), re.MULTILINE)
+
+
+def version():
+    text = (FOLDER / "src" / "names.rt").read_text(encoding="utf-8")
+    return re.search(r'give\(b"([0-9.]+)"', text)[1]
+
+
+def link(made, kit, folder):
+    """Both libraries, of the toolchain's two."""
+    names = calls()
+    lib = folder / "lib"
+    lib.mkdir(parents=True, exist_ok=True)
+    with tempfile.TemporaryDirectory() as scratch:
+        whole, script = pathlib.Path(scratch, "crsdesk.o"), pathlib.Path(scratch, "names")
+        heap = f"{kit}/c/liblibc_c.a"
+        run("ld", "-r", "-o", whole, "--whole-archive", made, "--no-whole-archive", heap)
+        script.write_text("".join(f"{it}\n" for it in names), encoding="utf-8")
+        run("objcopy", f"--keep-global-symbols={script}", whole)
+        (lib / "libcrsdesk.a").unlink(missing_ok=True)
+        run("ar", "rcsD", lib / "libcrsdesk.a", whole)
+        script.write_text("{ global: " + "".join(f"{it}; " for it in names) + "local: *; };\n", encoding="utf-8")
+        shared = lib / f"libcrsdesk.so.{INTERFACE}"
+        linker = [f"-Wl,-soname,{shared.name}", f"-Wl,--version-script={script}", "-Wl,-z,defs", "-Wl,-z,relro,-z,now"]
+        run("cc", "-shared", "-o", shared, *linker, "-Wl,--gc-sections", whole)
+        run("strip", "--strip-unneeded", shared)
+    (lib / "libcrsdesk.so").unlink(missing_ok=True)
+    (lib / "libcrsdesk.so").symlink_to(shared.name)
+    shown = {line.split()[-1] for line in run("nm", "-D", "--defined-only", shared).splitlines()}
+    if shown != set(names):
+        raise Stop(f"the shared object and the header don't have the same names: {sorted(shown ^ set(names))}")
+
+
+def build(folder):
+    made, kit = proved()
+    link(made, kit, folder)
+    for place, file in (("include", HEADER),):
+        (folder / place).mkdir(parents=True, exist_ok=True)
+        shutil.copyfile(file, folder / place / file.name)
+    told = folder / "lib" / "pkgconfig" / "crsdesk.pc"
+    told.parent.mkdir(parents=True, exist_ok=True)
+    told.write_text(PC.format(version=version()), encoding="utf-8")
+
+
+def main(words):
+    if len(words) > 1 or words and words[0].startswith("-"):
+        sys.exit(__doc__)
+    try:
+        build(pathlib.Path(words[0]).resolve() if words else FOLDER / "out" / "prefix")
+    except Stop as why:
+        say(str(why))
+        return 2
+    except KeyboardInterrupt:
+        say("interrupted; the next call goes on from what is proved")
+        return 130
+    except OSError as error:
+        say(f"the library was not built: {error}")
+        return 2
+    return 0
+
+
+if __name__ == "__main__":
+    sys.exit(main(sys.argv[1:]))
