@@ -12,7 +12,8 @@
    ANSWERS go to places that the caller gives. A text that is answered goes into a buffer of the caller's, `out`, which
    has room for `room` bytes, and its number of bytes into `*length`; no NUL byte is written behind it. Where it has
    more bytes than there is room, the call answers CRSDESK_NO_ROOM, writes nothing into the buffer, and `*length` is the
-   room that is needed: make it and call again. Nothing that a call answers must be freed, but a catalogue.
+   room that is needed: make it and call again. Nothing that a call answers must be freed. A catalogue alone holds memory,
+   until crsdesk_catalogue_free.
 
    CODES: each call that can fail returns CRSDESK_OK, or another code below. What stands at the pointers that it was
    given is as before, but for what is said of the code that came back.
@@ -122,47 +123,54 @@ uint32_t crsdesk_refusal_name(uint32_t number, char *out, size_t room, size_t *l
    CRSDESK_NO_ROOM: the version has more bytes than the buffer; *length is their number. */
 uint32_t crsdesk_version(char *out, size_t room, size_t *length);
 
-/* NOT IN THE LIBRARY YET, from here to the end: the calls of a catalogue come last.
+/* A catalogue of texts: those that spell the same CRS stand in one group. Groups are numbered from 1, by the first text
+   of each. It lies in memory of the caller's, which holds a catalogue from crsdesk_catalogue_new until
+   crsdesk_catalogue_free; in between it is handed to the calls below alone, and isn't copied or moved. What it has
+   inside is the library's. Profile. */
+struct crsdesk_catalogue {
+    uint64_t hidden[32];
+};
 
-   A catalogue of texts: those that spell the same CRS stand in one group. Groups are numbered from 1, by the first text
-   of each. Who makes one by crsdesk_catalogue_new has it until crsdesk_catalogue_free. Profile. */
-struct crsdesk_catalogue;
+/* Where a text stands in a catalogue. */
+struct crsdesk_standing {
+    size_t group;                   /* the number of its group; 0 where it stands in none */
+    struct crsdesk_refusal refusal; /* why it spells no CRS, with CRSDESK_REFUSED; else zeros */
+    uint32_t code;
+};
 
-/* Makes a catalogue of no texts, which compares at a level.
+/* The number of a text in a group. */
+struct crsdesk_line {
+    uint64_t number; /* 0 with CRSDESK_NO_NUMBER */
+    uint32_t code;
+};
 
-   CRSDESK_OK: *catalogue is it.
-   CRSDESK_NO_MEMORY, CRSDESK_NO_LEVEL. */
-uint32_t crsdesk_catalogue_new(uint32_t level, struct crsdesk_catalogue **catalogue);
+/* Makes a catalogue of no texts, which compares at a level. It takes no memory.
+
+   CRSDESK_OK.
+   CRSDESK_NO_LEVEL: there is no such level; *catalogue is one that compares at CRSDESK_FULL. */
+uint32_t crsdesk_catalogue_new(struct crsdesk_catalogue *catalogue, uint32_t level);
 
 /* Adds a text to a catalogue, under a number of the caller's, such as that of its line; numbers may repeat. The text
-   isn't needed behind the call.
+   isn't needed behind the call. In what is returned the code is
 
-   CRSDESK_OK: *group is the number of its group, a new one where no text before it spells the same CRS; 0 where the
-       text is white space alone, or nothing, and stands nowhere.
-   CRSDESK_REFUSED: it spells no CRS and stands in no group; *refusal says why.
+   CRSDESK_OK: group is the number of its group, a new one where no text before it spells the same CRS; it is 0 where the
+       text is white space alone, or nothing, which stands nowhere.
+   CRSDESK_REFUSED: it spells no CRS and stands in no group; refusal says why.
    CRSDESK_NO_MEMORY: the catalogue is as before. */
-uint32_t crsdesk_catalogue_add(struct crsdesk_catalogue *catalogue, uint64_t number, const char *text, size_t text_length,
-                          size_t *group, struct crsdesk_refusal *refusal);
+struct crsdesk_standing crsdesk_catalogue_add(struct crsdesk_catalogue *catalogue, uint64_t number, const char *text,
+                                              size_t text_length);
 
 /* How many groups a catalogue has. */
 size_t crsdesk_catalogue_groups(struct crsdesk_catalogue *catalogue);
 
-/* The numbers under which the texts of a group were added, in that order. Room is counted in numbers, not in bytes.
+/* The number under which a text of a group was added; the group's texts are counted by index from 0, in the order in
+   which they were added.
 
-   CRSDESK_OK: the buffer begins with them; *length is how many there are.
-   CRSDESK_NO_NUMBER: there is no such group.
-   CRSDESK_NO_ROOM: there are more than there is room for; *length is how many. */
-uint32_t crsdesk_catalogue_lines(struct crsdesk_catalogue *catalogue, size_t group, uint64_t *out, size_t room,
-                            size_t *length);
+   CRSDESK_OK: number is it.
+   CRSDESK_NO_NUMBER: there is no such group, or it has no more texts. */
+struct crsdesk_line crsdesk_catalogue_line(struct crsdesk_catalogue *catalogue, size_t group, size_t index);
 
-/* The canonical text of a group, which each text of it has.
-
-   CRSDESK_OK: the buffer begins with it; *length is its number of bytes.
-   CRSDESK_NO_NUMBER: there is no such group.
-   CRSDESK_NO_ROOM: it has more bytes than the buffer; *length is their number. */
-uint32_t crsdesk_catalogue_text(struct crsdesk_catalogue *catalogue, size_t group, char *out, size_t room, size_t *length);
-
-/* Gives back the memory of a catalogue, which is none any more. */
+/* Gives back what a catalogue holds; its memory holds no catalogue then. */
 void crsdesk_catalogue_free(struct crsdesk_catalogue *catalogue);
 
 #ifdef __cplusplus

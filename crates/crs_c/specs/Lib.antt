@@ -1,8 +1,10 @@
 pub mod Buffers
 pub mod Canon
+pub mod Catalogues
 pub mod Check
 pub mod Codes
 pub mod FirstPart
 pub mod Names
+pub mod Places
 pub mod Refusals
 pub mod Same

@@ -4,16 +4,21 @@
 
 mod buffer;
 mod canon;
+mod catalogue;
 mod check;
 mod codes;
 mod first_part;
+mod holding;
 mod names;
 mod refused;
 mod same;
+mod standing;
 
 pub use canon::crsdesk_canon;
+pub use catalogue::{Room, crsdesk_catalogue_groups};
 pub use check::crsdesk_check;
 pub use first_part::crsdesk_first_part;
 pub use names::{crsdesk_refusal_name, crsdesk_version};
 pub use refused::Refused;
 pub use same::crsdesk_same;
+pub use standing::{Numbered, Standing};

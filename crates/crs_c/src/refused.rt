@@ -17,7 +17,7 @@ pub struct Refused {
     pub number: u32,
 }
 
-fn shown(refusal: Refusal) -> Refused
+pub(crate) fn shown(refusal: Refusal) -> Refused
     ensures { result ≡ shown refusal }
 {
     Refused {

@@ -1,0 +1,61 @@
+-- What the calls of a catalogue answer.
+use Rattle.std.specs.Prelude.{◌≡◌, ◌++◌, ◌∷◌, ◌⊎◌, [], ℕ, List, Option, Some, None, MatchOption, slice_get}
+use Rattle.std.specs.Option.{option_map}
+use Rattle.crs_value.specs.declared.values.level.Level.{Level}
+use Rattle.crs_value.specs.declared.values.level.Level.TheVariants as level
+use Rattle.crs_group.specs.Catalogue.{CatalogueParts, Line, line_of, nth}
+use Rattle.crs_group.specs.GroupTexts.{IsCatalogue, IsCatalogueOf, then_line}
+use Rattle.crs_group.specs.Partition.{PlacedLine}
+use Rattle.crs_group.specs.declared.placed.Placed.{Placed}
+use Rattle.crs_group.specs.declared.placed.Placed.TheVariants as placed
+use Rattle.crs_c.specs.declared.refused.Refused.{Refused}
+use Rattle.crs_c.specs.declared.standing.Numbered.{Numbered}
+use Rattle.crs_c.specs.declared.standing.Standing.{Standing}
+use Rattle.crs_c.specs.Codes.{level_of}
+use Rattle.crs_c.specs.Refusals.{shown}
+
+abbrev pub empty_at : Level → CatalogueParts
+empty_at level = record { level = level; groups = []; refused = [] }
+
+-- the catalogue of no lines, at the level of this number with code 0; at full with code 4 where it is no level's
+unfoldable pub IsNew : ℕ → CatalogueParts → ℕ → Type 0
+IsNew number made code =
+    IsCatalogueOf [] made
+    × MatchOption (level_of number) ((made ≡ empty_at level.Full) × (code ≡ 4)) (λ l. (made ≡ empty_at l) × (code ≡ 0))
+
+-- no refusal
+abbrev pub no_refusal : Refused
+no_refusal = record { place = 0; number = 0 }
+
+-- where a line stands, as C sees it; group 0 is none
+abbrev pub standing_of : Placed → Standing
+standing_of placed.Blank = record { group = 0; refused = no_refusal; code = 0 }
+standing_of (placed.Refused refusal) = record { group = 0; refused = shown refusal; code = 1 }
+standing_of (placed.Group n) = record { group = n; refused = no_refusal; code = 0 }
+
+abbrev pub without_memory : Standing
+without_memory = record { group = 0; refused = no_refusal; code = 3 }
+
+-- the line is added, and where it stands is told; or memory was wanting, with code 3, and the catalogue is as before
+unfoldable pub IsAdded : ℕ → List ℕ → CatalogueParts → CatalogueParts → Standing → Type 0
+IsAdded number text old new told =
+    ((place : Placed) × (told ≡ standing_of place)
+      × ((places : List PlacedLine) → IsCatalogue places old → IsCatalogue (then_line places number text place) new)
+      × ((lines : List Line) → IsCatalogueOf lines old → IsCatalogueOf (lines ++ line_of number text ∷ []) new)
+      × (new.level ≡ old.level))
+    ⊎ ((told ≡ without_memory) × (new ≡ old))
+
+-- the line at an index, from 0, of these lines
+abbrev pub line_of_some : Option (List ℕ) → ℕ → Option ℕ
+line_of_some None index = None
+line_of_some (Some lines) index = slice_get lines index
+
+-- a number with code 0, or none with code 6
+abbrev pub numbered : Option ℕ → Numbered
+numbered None = record { number = 0; code = 6 }
+numbered (Some n) = record { number = n; code = 0 }
+
+-- the number of a group's line
+abbrev pub line_at : CatalogueParts → ℕ → ℕ → Numbered
+line_at catalogue group index =
+    numbered (line_of_some (option_map (λ parts. parts.lines) (nth group catalogue.groups)) index)

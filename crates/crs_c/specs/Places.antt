@@ -1,0 +1,14 @@
+-- A catalogue at a place of the caller's.
+use base.Fml.{Fml}
+use base.Fraction.{full_share}
+use denote.RawPtr.{Ptr, lies_at, room_at}
+use Rattle.crs_group.specs.Catalogue.{CatalogueParts}
+use Rattle.crs_group.specs.contracts.catalogue.Catalogue as catalogue
+
+-- this catalogue lies there, and belongs to whoever has this
+unfoldable pub catalogue_at : Ptr → CatalogueParts → Fml
+catalogue_at place held = lies_at catalogue.the_row full_share place held
+
+-- there is room for a catalogue
+unfoldable pub has_room : Ptr → Fml
+has_room place = room_at catalogue.the_row place

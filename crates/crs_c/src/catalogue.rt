@@ -1,0 +1,31 @@
+//! A catalogue, which lies in memory of the caller's.
+ghost use Rattle.std.specs.Prelude.{◌≡◌, length};
+ghost use Rattle.std.specs.Borrow.{sem};
+ghost use Rattle.crs_group.specs.Catalogue.{CatalogueParts};
+ghost use Rattle.crs_c.specs.Catalogues.{IsAdded, IsNew, line_at};
+ghost use Rattle.crs_c.specs.Places.{catalogue_at, has_room};
+
+use crate::holding::{added, counted, let_go, looked_up, made};
+use crate::standing::{Numbered, Standing};
+use crs_group::Catalogue;
+use std::alloc::Global;
+
+/// Memory for a catalogue: `struct crsdesk_catalogue` of C. Profile.
+#[repr(C)]
+pub struct Room {
+    hidden: [u64; 32],
+}
+
+/// How many groups a catalogue has.
+#[unsafe(no_mangle)]
+pub unsafe extern "C" fn crsdesk_catalogue_groups(at: *mut Room) -> usize
+    ghost held: { CatalogueParts }
+    requires* { sem 𝓛 (catalogue_at at held) }
+    ensures* { sem 𝓛 (catalogue_at at held) ∗ ⌜ result ≡ length held.groups ⌝ }
+{
+    let place = at as *mut Catalogue;
+    let held = place.read();
+    let (held, count) = counted(held);
+    place.write(held);
+    count
+}

@@ -1,0 +1,77 @@
+//! What each call does to a catalogue that it takes by value, and hands back.
+ghost use Rattle.std.specs.Prelude.{◌≡◌, length};
+ghost use Rattle.crs_c.specs.Catalogues.{IsAdded, IsNew, line_at};
+
+use crate::codes::{NO_LEVEL, NO_MEMORY, NO_NUMBER, OK, level_of};
+use crate::standing::{Numbered, Standing, no_refusal, standing_of};
+use crs_group::Catalogue;
+use crs_value::Level;
+use std::alloc::Global;
+
+#[tactic(auto, unfolding(crate::specs::Catalogues::IsNew))]
+pub(crate) fn made(alloc: Global, level: u32) -> (Catalogue, u32)
+    ensures { IsNew level result.0 result.1 }
+{
+    match level_of(level) {
+        Some(level) => (Catalogue::new(alloc, level), OK),
+        None => (Catalogue::new(alloc, Level::Full), NO_LEVEL),
+    }
+}
+
+#[tactic(auto, unfolding(crate::specs::Catalogues::IsAdded))]
+pub(crate) fn added(held: Catalogue, number: u64, text: &[u8]) -> (Catalogue, Standing)
+    ensures { IsAdded number text.now held result.0 result.1 }
+{
+    let mut held = held;
+    match held.add(number, text) {
+        Ok(place) => (held, standing_of(place)),
+        Err(_) => {
+            let told = Standing {
+                group: 0,
+                refused: no_refusal(),
+                code: NO_MEMORY,
+            };
+            (held, told)
+        }
+    }
+}
+
+pub(crate) fn counted(held: Catalogue) -> (Catalogue, usize)
+    ensures same { result.0 ≡ held }
+    ensures count { result.1 ≡ length held.groups }
+{
+    let count = held.groups();
+    (held, count)
+}
+
+pub(crate) fn looked_up(held: Catalogue, group: usize, index: usize) -> (Catalogue, Numbered)
+    ensures same { result.0 ≡ held }
+    ensures found { result.1 ≡ line_at held group index }
+{
+    let found = line_of(&held, group, index);
+    (held, found)
+}
+
+fn line_of(catalogue: &Catalogue, group: usize, index: usize) -> Numbered
+    ensures { result ≡ line_at catalogue.now group index }
+{
+    let found = match catalogue.lines(group) {
+        Some(lines) => lines.get(index),
+        None => None,
+    };
+    match found {
+        Some(number) => Numbered {
+            number: *number,
+            code: OK,
+        },
+        None => Numbered {
+            number: 0,
+            code: NO_NUMBER,
+        },
+    }
+}
+
+// The end of a catalogue.
+pub(crate) fn let_go(held: Catalogue) {
+    drop(held);
+}

@@ -1,0 +1,62 @@
+//! Where a text stands in a catalogue, and numbers of its lines, as C has them.
+ghost use Rattle.std.specs.Prelude.{◌≡◌};
+ghost use Rattle.crs_c.specs.Catalogues.{no_refusal, standing_of};
+ghost use Rattle.crs_c.specs.Refusals.{shown};
+
+use crate::codes::{OK, REFUSED};
+use crate::refused::{Refused, shown};
+use crs_group::Placed;
+
+/// Where a text stands in a catalogue: `struct crsdesk_standing` of C. Profile.
+#[repr(C)]
+#[derive(Drop)]
+pub struct Standing {
+    /// The number of its group; 0 where it stands in none.
+    pub group: usize,
+    /// Why it spells no CRS, with code 1.
+    pub refused: Refused,
+    /// The code.
+    pub code: u32,
+}
+
+/// A line's number: `struct crsdesk_line` of C. Profile.
+#[repr(C)]
+#[derive(Drop)]
+pub struct Numbered {
+    /// The number under which it was added.
+    pub number: u64,
+    /// The code.
+    pub code: u32,
+}
+
+pub(crate) fn no_refusal() -> Refused
+    ensures { result ≡ no_refusal }
+{
+    Refused {
+        place: 0,
+        number: 0,
+    }
+}
+
+// What is told of a line that was added.
+pub(crate) fn standing_of(place: Placed) -> Standing
+    ensures { result ≡ standing_of place }
+{
+    match place {
+        Placed::Blank => Standing {
+            group: 0,
+            refused: no_refusal(),
+            code: OK,
+        },
+        Placed::Refused(refusal) => Standing {
+            group: 0,
+            refused: shown(refusal),
+            code: REFUSED,
+        },
+        Placed::Group(number) => Standing {
+            group: number,
+            refused: no_refusal(),
+            code: OK,
+        },
+    }
+}
