@@ -36,3 +36,7 @@ use mathlib.Core.Bool.{Bool, true, false, ◌&&◌}
 pub and_true : (x : Bool) → T x → T (x && true)
 and_true true t = tt
 and_true false t = absurd t
+
+pub both_true : (x y : Bool) → T x → T y → T (x && (y && true))
+both_true true y s t = and_true y t
+both_true false y s t = absurd s

@@ -29,3 +29,22 @@ pub unsafe extern "C" fn crsdesk_catalogue_groups(at: *mut Room) -> usize
     place.write(held);
     count
 }
+
+/// The number under which a text of a group was added; the group's texts are counted from 0, in the order in which they
+/// were added. Code 0, or 6: there is no such group, or it has no more texts.
+#[unsafe(no_mangle)]
+pub unsafe extern "C" fn crsdesk_catalogue_line(
+    at: *mut Room,
+    group: usize,
+    index: usize,
+) -> Numbered
+    ghost held: { CatalogueParts }
+    requires* { sem 𝓛 (catalogue_at at held) }
+    ensures* { sem 𝓛 (catalogue_at at held) ∗ ⌜ result ≡ line_at held group index ⌝ }
+{
+    let place = at as *mut Catalogue;
+    let held = place.read();
+    let (held, found) = looked_up(held, group, index);
+    place.write(held);
+    found
+}
