@@ -16,6 +16,23 @@ pub struct Room {
     hidden: [u64; 32],
 }
 
+/// Adds a text to a catalogue, under a number of the caller's. The code of what is answered is 0: it stands in the group of
+/// that number, or in none where it is white space alone; 1: it spells no CRS, and `refused` says why; 3: memory was
+/// refused, and the catalogue is as before. Profile.
+#[unsafe(no_mangle)]
+pub unsafe extern "C" fn crsdesk_catalogue_add(at: *mut Room, number: u64, text: &[u8]) -> Standing
+    ghost held: { CatalogueParts }
+    requires* { sem 𝓛 (catalogue_at at held) }
+    ensures* { ∃ₛ (λ (new : CatalogueParts).
+        sem 𝓛 (catalogue_at at new) ∗ ⌜ IsAdded number text.now held new result ⌝) }
+{
+    let place = at as *mut Catalogue;
+    let held = place.read();
+    let (held, told) = added(held, number, text);
+    place.write(held);
+    told
+}
+
 /// How many groups a catalogue has.
 #[unsafe(no_mangle)]
 pub unsafe extern "C" fn crsdesk_catalogue_groups(at: *mut Room) -> usize

@@ -15,7 +15,9 @@ mod same;
 mod standing;
 
 pub use canon::crsdesk_canon;
-pub use catalogue::{Room, crsdesk_catalogue_groups, crsdesk_catalogue_line};
+pub use catalogue::{
+    Room, crsdesk_catalogue_add, crsdesk_catalogue_groups, crsdesk_catalogue_line,
+};
 pub use check::crsdesk_check;
 pub use first_part::crsdesk_first_part;
 pub use names::{crsdesk_refusal_name, crsdesk_version};
