@@ -14,7 +14,7 @@ pub use contract.Monad.{fact}
 pub use contract.Running.{tables}
 pub use types.Kit.{show, ‵, raw, ◌⊛◌, some, later, prop, at_ret, Sq, ◌$◌, ◌∵◌, !, qed, done, move, keep, drop, use1, use2, use3, split, join, fsplit, fsplit3, fjoin, fpick, feq_i, feq_l, pick, await, rewrite, regoal, suffices, frame, group}
 pub use types.Part.{whole, sub}
-pub use types.Run.{enter, of_opd, lit, unit_lit, bin, addr, load, look, store, stop, fld, hop, no_more, and_then, assigns, assigns_last, first, blocks, branches, skips, exec, returns, returns_within, well_typed}
+pub use types.Run.{enter, of_opd, lit, unit_lit, forget, init, bin, addr, load, look, store, stop, fld, hop, no_more, and_then, assigns, assigns_last, first, blocks, branches, skips, exec, returns, returns_within, well_typed}
 pub use types.ByLocal.{alloc_all, pass_all, free_all, look_at, get, get_in, through, sets, lands_as, env}
 pub use denote.Memory.{part_at}
 pub use denote.Builtin.{SliceRefOf, u64, u8, usize, bool, unit}
@@ -22,7 +22,7 @@ pub use denote.Exit.{yes, no}
 pub use denote.Laws.{shows, Is}
 pub use denote.Param.{layout}
 pub use denote.Plain.{uint_in, uint_out, uint_Makes, uint_vals, uint_Tells, bool_vals, bool_Tells}
-pub use denote.RawPtr.{Ptr, RawPtr, block_ptr, lies_at, in_a_block, rawptr_vals, rawptr_Tells, rawptr_Lawful}
+pub use denote.RawPtr.{Ptr, RawPtr, block_ptr, room_at, lies_at, in_a_block, rawptr_vals, rawptr_Tells, rawptr_Lawful}
 pub use denote.Signature.{plain}
 pub use denote.Steps.{nothing, owned, opens, closes, tied, ties, heard, peeks, only}
 pub use denote.Struct.Tuple.{Tuple}

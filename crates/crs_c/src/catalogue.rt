@@ -65,3 +65,15 @@ pub unsafe extern "C" fn crsdesk_catalogue_line(
     place.write(held);
     found
 }
+
+/// Gives back what a catalogue holds. Its memory holds no catalogue then.
+#[unsafe(no_mangle)]
+pub unsafe extern "C" fn crsdesk_catalogue_free(at: *mut Room)
+    ghost held: { CatalogueParts }
+    requires* { sem 𝓛 (catalogue_at at held) }
+    ensures* { sem 𝓛 (has_room at) }
+{
+    let place = at as *mut Catalogue;
+    let held = place.read();
+    let_go(held);
+}
