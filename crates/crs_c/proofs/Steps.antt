@@ -1,13 +1,13 @@
-pub use Rattle.std.proofs.Common.{◌≡◌, ℕ, ◌≤◌, List, [], ◌∷◌, ◌++◌, refl, sym, ap, ◌∙◌, lit<, w8, w64, arith, length}
-pub use Rattle.std.proofs.raw_atomic.Walks.{proved}
+pub use Rattle.std.proofs.Common.{◌≡◌, ℕ, ◌≤◌, List, [], ◌∷◌, ◌++◌, refl, sym, ap, ◌∙◌, lit<, w8, w32, w64, arith, subst, length}
+pub use Rattle.std.proofs.raw_atomic.Walks.{proved, proved_at}
 pub use base.Fraction.{full_share}
-pub use base.Logic.{id⊢, sep}
+pub use base.Logic.{id⊢, sep, ent}
 pub use types.Logic.{sem}
 pub use denote.Slice.{shr_slice_vals, shr_slice_Tells}
 pub use denote.Signature.{types_at}
 pub use denote.RattleType.{owns}
 pub use denote.Triple.Clauses.{Lasts}
-pub use base.Fml.{ftrue, fat, flft, fres}
+pub use base.Fml.{ftrue, froom, fat, flft, fres}
 pub use mir.Syntax.{ty_int, named}
 pub use mir.Val.{has_ty, Val, vunit, vint, vptr, vstruct, of_list}
 pub use contract.Monad.{fact}
@@ -17,7 +17,7 @@ pub use types.Part.{whole, sub}
 pub use types.Run.{enter, of_opd, lit, unit_lit, forget, init, bin, addr, load, look, store, stop, fld, hop, no_more, and_then, assigns, assigns_last, first, blocks, branches, skips, exec, returns, returns_within, well_typed}
 pub use types.ByLocal.{alloc_all, pass_all, free_all, look_at, get, get_in, through, sets, lands_as, env}
 pub use denote.Memory.{part_at}
-pub use denote.Builtin.{SliceRefOf, u64, u8, usize, bool, unit}
+pub use denote.Builtin.{SliceRefOf, u64, u32, u8, usize, bool, unit}
 pub use denote.Exit.{yes, no}
 pub use denote.Laws.{shows, Is}
 pub use denote.Param.{layout}

@@ -16,6 +16,20 @@ pub struct Room {
     hidden: [u64; 32],
 }
 
+/// Makes a catalogue of no texts, at the level of this number. Code 0, or 4: no level has the number, and the catalogue is
+/// one at full. It takes no memory. Profile.
+#[unsafe(no_mangle)]
+pub unsafe extern "C" fn crsdesk_catalogue_new(alloc: Global, at: *mut Room, level: u32) -> u32
+    requires* { sem 𝓛 (has_room at) }
+    ensures* { ∃ₛ (λ (new : CatalogueParts).
+        sem 𝓛 (catalogue_at at new) ∗ ⌜ IsNew level new result ⌝) }
+{
+    let place = at as *mut Catalogue;
+    let (new, code) = made(alloc, level);
+    place.write(new);
+    code
+}
+
 /// Adds a text to a catalogue, under a number of the caller's. The code of what is answered is 0: it stands in the group of
 /// that number, or in none where it is white space alone; 1: it spells no CRS, and `refused` says why; 3: memory was
 /// refused, and the catalogue is as before. Profile.

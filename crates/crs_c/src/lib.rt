@@ -17,7 +17,7 @@ mod standing;
 pub use canon::crsdesk_canon;
 pub use catalogue::{
     Room, crsdesk_catalogue_add, crsdesk_catalogue_free, crsdesk_catalogue_groups,
-    crsdesk_catalogue_line,
+    crsdesk_catalogue_line, crsdesk_catalogue_new,
 };
 pub use check::crsdesk_check;
 pub use first_part::crsdesk_first_part;
