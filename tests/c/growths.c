@@ -19,7 +19,7 @@ void *__libc_realloc(void *old, size_t size);
 void *__libc_memalign(size_t alignment, size_t size);
 void __libc_free(void *old);
 
-static size_t asked, growths, refused;
+static size_t asked, growths, refused, retried;
 static long in_use;
 static int is_counting;
 
@@ -118,6 +118,43 @@ static uint32_t first_part(const struct trial *it, struct places *to)
                               sizeof to->out, &to->length, &to->why);
 }
 
+/* Adds a text, and once more where memory was refused, which must have changed nothing. */
+static struct crsdesk_standing added(struct crsdesk_catalogue *catalogue, uint64_t number, const char *text,
+                                     struct places *to)
+{
+    size_t groups = crsdesk_catalogue_groups(catalogue);
+    struct crsdesk_line last = crsdesk_catalogue_line(catalogue, groups, 0);
+    struct crsdesk_standing told = crsdesk_catalogue_add(catalogue, number, text, strlen(text));
+    if (told.code != CRSDESK_NO_MEMORY)
+        return told;
+    struct crsdesk_line still = crsdesk_catalogue_line(catalogue, groups, 0);
+    if (crsdesk_catalogue_groups(catalogue) != groups || still.number != last.number || still.code != last.code
+        || crsdesk_catalogue_line(catalogue, groups + 1, 0).code != CRSDESK_NO_NUMBER)
+        to->out[0] = 'X';
+    retried++;
+    return crsdesk_catalogue_add(catalogue, number, text, strlen(text));
+}
+
+/* A catalogue of four texts, of which one is refused; where each stands, and the lines of the first group. */
+static uint32_t catalogue(const struct trial *it, struct places *to)
+{
+    static const char refused_text[] = "GEOGCRS[\"A\"]";
+    struct crsdesk_catalogue made;
+    uint32_t code = crsdesk_catalogue_new(&made, CRSDESK_DEFINITION);
+    const char *texts[] = {it->first, it->second, refused_text, it->first};
+    for (size_t i = 0; i < 4; i++) {
+        struct crsdesk_standing told = added(&made, 10 + i, texts[i], to);
+        to->out[8 * i + 8] = (char)told.group;
+        to->out[8 * i + 9] = (char)told.code;
+        to->out[8 * i + 10] = (char)told.refusal.number;
+    }
+    to->group = crsdesk_catalogue_groups(&made);
+    to->length = (size_t)crsdesk_catalogue_line(&made, 1, 1).number;
+    to->number = crsdesk_catalogue_line(&made, 1, 2).code;
+    crsdesk_catalogue_free(&made);
+    return code;
+}
+
 static const struct trial trials[] = {
     {"check", check, GEOGRAPHIC, ""},
     {"check, refused", check, "VERTCRS[\"H\",VDATUM[\"D\"],CS[vertical,2],AXIS[\"h\",up,LENGTHUNIT[\"metre\",1]]]", ""},
@@ -132,6 +169,7 @@ static const struct trial trials[] = {
     {"first_part", first_part, VERTICAL "]", VERTICAL ",ID[\"X\",1]]"},
     {"first_part, the same", first_part, GEOGRAPHIC, GEOGRAPHIC},
     {"first_part, the second refused", first_part, GEOGRAPHIC, VERTICAL},
+    {"a catalogue", catalogue, GEOGRAPHIC, VERTICAL "]"},
 };
 
 static struct places fresh(void)
@@ -174,6 +212,8 @@ static int is_right(const struct trial *trial)
         }
         wants += code == CRSDESK_NO_MEMORY;
     } while (refused && nth < 10000);
+    wants += retried;
+    retried = 0;
     printf("%s: %zu growths, %zu wanted memory\n", trial->name, all, wants);
     return nth < 10000;
 }

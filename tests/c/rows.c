@@ -2,7 +2,7 @@
 
        rows FILE.rows ..
 
-   The rows that are run are those of the calls `canon`, `same`, `Canon::same`, `Refusal::new`, and `run_canon`,
+   The rows that are run are those of the calls `canon`, `same`, `Canon::same`, `Refusal::new`, `Catalogue`, and `run_canon`,
    `run_check` and `run_same` where they write a line. Each text lies in a block of just its size, and each buffer too:
    first it has no room, then a byte too few, then the room that was asked for. Behind each call all that it doesn't
    answer must be as before. All rows are run by one thread, and then by four at once, each in another order.
@@ -349,6 +349,103 @@ static void answer_canons(const struct row *row, struct answer *answer)
     free(two.text.at);
 }
 
+/* What the test remembers of a catalogue: the first text of each group, and what was refused. */
+struct known {
+    struct bytes *firsts;
+    size_t groups;
+    struct answer refused;
+};
+
+static void add_to(struct crsdesk_catalogue *catalogue, const struct bytes *rest, struct known *known,
+                   struct answer *answer)
+{
+    char *end, digits[24] = "";
+    memcpy(digits, rest->at, rest->length < 20 ? rest->length : 20);
+    uint64_t number = strtoull(digits, &end, 10);
+    size_t from = (size_t)(end - digits) + 1;
+    from = from < rest->length ? from : rest->length;
+    struct bytes text = {rest->at + from, rest->length - from};
+    char *at = copied(text.at, text.length);
+    struct crsdesk_standing told = crsdesk_catalogue_add(catalogue, number, at, text.length);
+    free(at);
+    if (told.code == CRSDESK_REFUSED) {
+        appendf(answer, "%lu at %zu", (unsigned long)told.refusal.number, told.refusal.place);
+        appendf(&known->refused, " %lu: %lu at %zu", (unsigned long)number, (unsigned long)told.refusal.number,
+                told.refusal.place);
+    } else if (told.refusal.number != 0 || told.refusal.place != 0) {
+        wrong(answer, "a refusal where none is told");
+    }
+    if (told.code == CRSDESK_OK)
+        appendf(answer, told.group ? "group %zu" : "blank", told.group);
+    else if (told.code != CRSDESK_REFUSED || told.group != 0)
+        wrong(answer, "a code that add doesn't have here, or a group beside a refusal");
+    if (told.group == known->groups + 1) {
+        known->firsts = grown(known->firsts, (known->groups + 1) * sizeof *known->firsts);
+        known->firsts[known->groups++] = text;
+    } else if (told.group > known->groups) {
+        wrong(answer, "a group was left out");
+    }
+}
+
+static void append_lines(struct crsdesk_catalogue *catalogue, size_t group, struct answer *answer)
+{
+    struct crsdesk_line line = crsdesk_catalogue_line(catalogue, group, 0);
+    appendf(answer, line.code == CRSDESK_OK ? "lines" : "none");
+    for (size_t i = 1; line.code == CRSDESK_OK; i++) {
+        appendf(answer, " %lu", (unsigned long)line.number);
+        line = crsdesk_catalogue_line(catalogue, group, i);
+    }
+    if (line.code != CRSDESK_NO_NUMBER || line.number != 0)
+        wrong(answer, "a code that line doesn't have");
+}
+
+static void answer_catalogue(const struct row *row, struct answer *answer)
+{
+    struct crsdesk_catalogue catalogue;
+    struct known known = {NULL, 0, {{NULL, 0}, 0, ""}};
+    struct bytes rest = row->input;
+    uint32_t level = row->is_definition ? CRSDESK_DEFINITION : CRSDESK_FULL;
+    memset(&catalogue, FILLER, sizeof catalogue);
+    if (crsdesk_catalogue_new(&catalogue, 2) != CRSDESK_NO_LEVEL || crsdesk_catalogue_groups(&catalogue) != 0)
+        wrong(answer, "a level that isn't one was taken by a catalogue");
+    crsdesk_catalogue_free(&catalogue);
+    if (crsdesk_catalogue_new(&catalogue, level) != CRSDESK_OK)
+        wrong(answer, "no catalogue was made");
+    while (rest.length > 0) {
+        struct bytes line = split(&rest, &rest), word = line, operand = {line.at, 0};
+        char *blank = memchr(line.at, ' ', line.length);
+        if (blank) {
+            word.length = (size_t)(blank - line.at);
+            operand.at = blank + 1;
+            operand.length = line.length - word.length - 1;
+        }
+        char digits[24] = "";
+        memcpy(digits, operand.at, operand.length < 20 ? operand.length : 20);
+        size_t group = strtoul(digits, NULL, 10);
+        if (answer->text.length)
+            appendf(answer, "; ");
+        if (is(&word, "add"))
+            add_to(&catalogue, &operand, &known, answer);
+        else if (is(&word, "groups"))
+            appendf(answer, "%zu", crsdesk_catalogue_groups(&catalogue));
+        else if (is(&word, "lines"))
+            append_lines(&catalogue, group, answer);
+        else if (is(&word, "text") && group > 0 && group <= known.groups)
+            answer_canon(&known.firsts[group - 1], level, answer, "");
+        else if (is(&word, "text"))
+            appendf(answer, "none");
+        else if (is(&word, "refused")) {
+            appendf(answer, "refused");
+            append(answer, known.refused.text.at ? known.refused.text.at : "", known.refused.text.length);
+        }
+    }
+    if (crsdesk_catalogue_groups(&catalogue) != known.groups)
+        wrong(answer, "not as many groups as were told");
+    crsdesk_catalogue_free(&catalogue);
+    free(known.firsts);
+    free(known.refused.text.at);
+}
+
 /* Whether the answer is the one that the row expects; a refusal may stand there without its name. */
 static int is_expected(const struct row *row, const struct answer *answer)
 {
@@ -371,7 +468,7 @@ static int is_expected(const struct row *row, const struct answer *answer)
 /* Whether the row is one of the C calls. */
 static int is_taken(const struct row *row)
 {
-    static const char *const calls[] = {"canon", "same", "Canon::same", "Refusal::new"};
+    static const char *const calls[] = {"canon", "same", "Canon::same", "Refusal::new", "Catalogue"};
     static const char *const runs[] = {"run_canon", "run_check", "run_same"};
     for (size_t i = 0; i < sizeof calls / sizeof *calls; i++)
         if (is(&row->call, calls[i]))
@@ -401,6 +498,8 @@ static int is_right(const struct row *row, int tells)
         answer_canons(row, &answer);
     } else if (is(&row->call, "Refusal::new")) {
         answer_name(&row->input, &answer);
+    } else if (is(&row->call, "Catalogue")) {
+        answer_catalogue(row, &answer);
     } else if (is(&row->call, "run_canon")) {
         answer_canon(&row->input, level, &line, "");
         answer_run(&line, written, &answer);
