@@ -3,7 +3,7 @@
 
     c_calls.py [FOLDER]
 
-FOLDER is what tools/build_library.py made, crates/crs_c/out/prefix where none is given. The programs of c/ are compiled
+FOLDER is what tools/build_library.py made, out/prefix where none is given. The programs of c/ are compiled
 against its header, and linked with the static library and with the shared object: rows.c, which runs the worked rows of
 crates/crs_rows/data by one thread and by four, with the caller's side under the address and undefined-behaviour
 sanitizers; and growths.c, which refuses each growth of memory in turn. The header must do for C99 and for C++ with every
@@ -113,7 +113,7 @@ class Tries:
 def main(words):
     if len(words) > 1:
         sys.exit(__doc__)
-    prefix = pathlib.Path(words[0]).resolve() if words else ROOT / "crates" / "crs_c" / "out" / "prefix"
+    prefix = pathlib.Path(words[0]).resolve() if words else ROOT / "out" / "prefix"
     passed = failed = 0
     with tempfile.TemporaryDirectory() as scratch:
         tries = Tries(prefix, scratch)

@@ -4,7 +4,7 @@
     build_library.py [FOLDER]
 
 Each crate that crs_c needs is proved as build_program.py does it, and kept. Then FOLDER, which is
-crates/crs_c/out/prefix where none is given, has
+out/prefix where none is given, has
 
     include/crsdesk.h           the header
     lib/libcrsdesk.a            the static library, with the C functions of the toolchain's heap in it
@@ -150,7 +150,7 @@ def main(words):
     if len(words) > 1 or words and words[0].startswith("-"):
         sys.exit(__doc__)
     try:
-        build(pathlib.Path(words[0]).resolve() if words else FOLDER / "out" / "prefix")
+        build(pathlib.Path(words[0]).resolve() if words else ROOT / "out" / "prefix")
     except Stop as why:
         say(str(why))
         return 2

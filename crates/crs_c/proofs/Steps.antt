@@ -34,7 +34,6 @@ pub use denote.Triple.Walked.{Stays, walk_of, says, stay_dropped, Goes-dropped, 
 pub use denote.Triple.Table.{framed}
 pub use borrow.Table.OneValue.{part_out, part_in}
 pub use Rattle.std.proofs.cell.Inside.{Good, one}
-
 use lib.Dec.{T}
 use mathlib.Core.Bool.{Bool, true, false, ◌&&◌}
 

@@ -11,5 +11,5 @@ pub record Buffer (A : Type 0) : Type 0 where
 unfoldable pub IsGiven : {A : Type 0} → List A → Buffer A → Buffer A → ℕ → Type 0
 IsGiven answer old new code =
     ((length answer ≤ length old.items) × (code ≡ 0)
-      × (new.items ≡ answer ++ drop (length answer) old.items) × (new.told ≡ length answer))
+    × (new.items ≡ answer ++ drop (length answer) old.items) × (new.told ≡ length answer))
     ⊎ ((length old.items < length answer) × (code ≡ 5) × (new.items ≡ old.items) × (new.told ≡ length answer))

@@ -18,7 +18,7 @@ pub record CanonPlaces : Type 0 where
 unfoldable pub IsCanonAt : List ℕ → CanonPlaces → CanonPlaces → ℕ → Level → Type 0
 IsCanonAt text old new code level =
     ((canonical : List ℕ) × IsCanonicalOf level text canonical × IsGiven canonical old.text new.text code
-      × (new.refused ≡ old.refused))
+    × (new.refused ≡ old.refused))
     ⊎ ((refusal : RefusedAt) × Refuses text refusal × (code ≡ 1) × (new ≡ record old { refused = shown refusal }))
     ⊎ ((code ≡ 3) × (new ≡ old))
 

@@ -40,9 +40,9 @@ without_memory = record { group = 0; refused = no_refusal; code = 3 }
 unfoldable pub IsAdded : ℕ → List ℕ → CatalogueParts → CatalogueParts → Standing → Type 0
 IsAdded number text old new told =
     ((place : Placed) × (told ≡ standing_of place)
-      × ((places : List PlacedLine) → IsCatalogue places old → IsCatalogue (then_line places number text place) new)
-      × ((lines : List Line) → IsCatalogueOf lines old → IsCatalogueOf (lines ++ line_of number text ∷ []) new)
-      × (new.level ≡ old.level))
+    × ((places : List PlacedLine) → IsCatalogue places old → IsCatalogue (then_line places number text place) new)
+    × ((lines : List Line) → IsCatalogueOf lines old → IsCatalogueOf (lines ++ line_of number text ∷ []) new)
+    × (new.level ≡ old.level))
     ⊎ ((told ≡ without_memory) × (new ≡ old))
 
 -- the line at an index, from 0, of these lines

@@ -32,8 +32,8 @@ IsPathGiven found old new code = IsGiven (words_of found) old new code ⊎ ((cod
 unfoldable pub IsSecondPartAt : Crs → List ℕ → PartPlaces → PartPlaces → ℕ → Level → Type 0
 IsSecondPartAt a second old new code level =
     ((b : Crs) × Spells second b × (found : Option (List Step)) × FirstInCrs level a b found
-      × ((found ≡ None) ↔ SameCrs level a b) × IsGiven (words_of found) old.path new.path code
-      × (new.refused ≡ old.refused))
+    × ((found ≡ None) ↔ SameCrs level a b) × IsGiven (words_of found) old.path new.path code
+    × (new.refused ≡ old.refused))
     ⊎ ((refusal : RefusedAt) × Refuses second refusal × (code ≡ 2) × (new ≡ record old { refused = shown refusal }))
     ⊎ ((code ≡ 3) × (new ≡ old))
 

@@ -20,7 +20,7 @@ pub record SamePlaces : Type 0 where
 unfoldable pub IsSecondAt : Crs → List ℕ → SamePlaces → SamePlaces → ℕ → Level → Type 0
 IsSecondAt a second old new code level =
     ((b : Crs) × Spells second b × (found : Bool) × (IsTrue found ↔ SameCrs level a b)
-      × (code ≡ 0) × (new ≡ record old { same = from_bool found }))
+    × (code ≡ 0) × (new ≡ record old { same = from_bool found }))
     ⊎ ((refusal : RefusedAt) × Refuses second refusal × (code ≡ 2) × (new ≡ record old { refused = shown refusal }))
     ⊎ ((code ≡ 3) × (new ≡ old))
 

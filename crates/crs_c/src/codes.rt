@@ -5,11 +5,17 @@ ghost use Rattle.crs_c.specs.Codes.{kind_number, level_of};
 use crs_value::{Kind, Level};
 
 pub(crate) const OK: u32 = 0;
+
 pub(crate) const REFUSED: u32 = 1;
+
 pub(crate) const SECOND_REFUSED: u32 = 2;
+
 pub(crate) const NO_MEMORY: u32 = 3;
+
 pub(crate) const NO_LEVEL: u32 = 4;
+
 pub(crate) const NO_ROOM: u32 = 5;
+
 pub(crate) const NO_NUMBER: u32 = 6;
 
 pub(crate) fn kind_number(kind: Kind) -> u32

@@ -1,4 +1,4 @@
-use Rattle.crs_c.proofs.Steps.{◌≡◌, ℕ, List, [], ◌∷◌, ◌++◌, refl, ap, ◌∙◌, w64, proved, full_share, id⊢, sep, sem, ftrue, fat, flft, named, Val, vint, vstruct, of_list, fact, tables, ‵, raw, ◌⊛◌, some, later, prop, ◌$◌, ◌∵◌, !, qed, done, move, drop, show, use1, use2, split, join, fsplit, fpick, feq_l, pick, await, rewrite, regoal, suffices, frame, group, whole, sub, enter, of_opd, load, look, store, stop, fld, no_more, and_then, assigns, returns, alloc_all, pass_all, free_all, look_at, get, get_in, through, sets, lands_as, u8, u64, yes, shows, Is, layout, uint_Makes, uint_vals, uint_Tells, Ptr, RawPtr, block_ptr, lies_at, in_a_block, rawptr_vals, rawptr_Tells, shr_slice_vals, shr_slice_Tells, SliceRefOf, types_at, owns, plain, nothing, owned, heard, peeks, only, Tuple, calls_at, lasts, Lasts, triple_of, Stays, walk_of, says, stay_dropped, Goes-dropped, ends_at, framed, part_out, part_in, Good, one, both_true, has_ty, part_at}
+use Rattle.crs_c.proofs.Steps.{List, [], ◌∷◌, ◌++◌, refl, ap, ◌∙◌, w64, proved, full_share, id⊢, sep, sem, ftrue, fat, flft, named, Val, vint, vstruct, of_list, fact, tables, ‵, raw, ◌⊛◌, some, later, prop, ◌$◌, ◌∵◌, !, qed, done, move, drop, show, use1, use2, split, join, fsplit, fpick, feq_l, pick, await, rewrite, regoal, suffices, frame, group, whole, sub, enter, of_opd, load, look, store, stop, fld, no_more, and_then, assigns, returns, alloc_all, pass_all, free_all, look_at, get, get_in, through, sets, lands_as, u8, u64, yes, shows, Is, layout, uint_Makes, uint_vals, uint_Tells, Ptr, RawPtr, block_ptr, lies_at, in_a_block, rawptr_vals, rawptr_Tells, shr_slice_vals, shr_slice_Tells, SliceRefOf, types_at, owns, plain, nothing, owned, heard, peeks, only, Tuple, calls_at, lasts, Lasts, triple_of, Stays, walk_of, says, stay_dropped, Goes-dropped, ends_at, framed, part_out, part_in, Good, one, both_true, has_ty, part_at}
 use prog.Wp.{WpFn}
 use Rattle.crs_c.specs.Places.{catalogue_at}
 use Rattle.crs_c.specs.Catalogues.{IsAdded}

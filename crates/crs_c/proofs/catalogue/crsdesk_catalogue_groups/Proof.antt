@@ -1,4 +1,4 @@
-use Rattle.crs_c.proofs.Steps.{◌≡◌, ℕ, List, [], ◌∷◌, ◌++◌, refl, sym, ap, ◌∙◌, lit<, w64, arith, length, proved, full_share, id⊢, ftrue, fat, Val, vint, vstruct, of_list, fact, tables, ‵, raw, ◌⊛◌, some, later, prop, ◌$◌, ◌∵◌, !, qed, done, move, keep, drop, use1, use2, split, join, fsplit, fjoin, fpick, feq_i, feq_l, pick, await, rewrite, regoal, suffices, frame, group, whole, sub, enter, of_opd, load, look, store, stop, fld, no_more, and_then, assigns, returns, alloc_all, pass_all, free_all, look_at, get, get_in, through, sets, lands_as, usize, yes, no, shows, Is, layout, uint_Makes, uint_Tells, Ptr, RawPtr, block_ptr, lies_at, in_a_block, rawptr_vals, rawptr_Tells, plain, nothing, owned, heard, peeks, only, Tuple, calls_at, lasts, on_entry, triple_of, Stays, walk_of, says, stay_dropped, Goes-dropped, ends_at, framed, part_out, part_in, Good, one, and_true, has_ty, part_at}
+use Rattle.crs_c.proofs.Steps.{◌≡◌, ℕ, List, [], ◌∷◌, ◌++◌, refl, ap, ◌∙◌, w64, length, proved, full_share, id⊢, ftrue, fat, Val, vint, vstruct, of_list, fact, tables, ‵, raw, ◌⊛◌, some, later, prop, ◌$◌, ◌∵◌, !, qed, done, move, drop, use1, use2, split, join, fsplit, fpick, feq_l, pick, await, rewrite, regoal, suffices, frame, group, whole, sub, enter, of_opd, load, look, store, stop, fld, no_more, and_then, assigns, returns, alloc_all, pass_all, free_all, look_at, get, get_in, through, sets, lands_as, usize, yes, shows, Is, layout, uint_Tells, Ptr, RawPtr, block_ptr, lies_at, in_a_block, rawptr_vals, rawptr_Tells, plain, nothing, heard, peeks, only, Tuple, calls_at, lasts, on_entry, triple_of, Stays, walk_of, says, stay_dropped, Goes-dropped, ends_at, framed, part_out, part_in, Good, one, and_true, has_ty, part_at}
 use prog.Wp.{WpFn}
 use denote.Triple.Clauses.{Lasts}
 use Rattle.crs_c.specs.Places.{catalogue_at}
@@ -63,4 +63,3 @@ crsdesk_catalogue_groups_spec 𝓤 𝓛 𝓜 𝓡 wired =
     rewrite ! 0 (λ (x : CatalogueParts). ‵ (lies_at R full_share (block_ptr b o) x)) same refl $
     suffices ! _ (ends_at 𝓛 f.ended stayed c (y (block_ptr b o)) (vint w64 r.1) r.1 (tt, tt) (tt, tt)) $
     move ! (1 ∷ []) $ nothing ! $ nothing ! $ join ! $ nothing ! $ group ! 3 $ frame ! $ says ! count $ done !))))))))))))))
-

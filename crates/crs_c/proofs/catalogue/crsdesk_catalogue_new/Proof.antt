@@ -1,4 +1,4 @@
-use Rattle.crs_c.proofs.Steps.{◌≡◌, ℕ, List, [], ◌∷◌, ◌++◌, refl, sym, ap, ◌∙◌, subst, w32, proved_at, full_share, id⊢, sep, ent, sem, ftrue, fat, froom, Val, vint, vstruct, of_list, fact, tables, ‵, raw, ◌⊛◌, some, later, prop, ◌$◌, ◌∵◌, !, qed, done, move, drop, show, use1, use2, split, join, fsplit, fpick, feq_l, pick, await, rewrite, regoal, suffices, frame, group, whole, sub, enter, of_opd, init, stop, fld, no_more, and_then, assigns, returns, alloc_all, pass_all, free_all, look_at, get, get_in, through, sets, lands_as, u32, yes, shows, Is, layout, uint_Makes, uint_Tells, Ptr, RawPtr, block_ptr, room_at, lies_at, in_a_block, rawptr_vals, rawptr_Tells, types_at, owns, plain, nothing, owned, heard, peeks, only, Tuple, calls_at, lasts, Lasts, triple_of, Stays, walk_of, says, stay_dropped, Goes-dropped, ends_at, framed, part_in, Good, one, and_true, has_ty, part_at}
+use Rattle.crs_c.proofs.Steps.{◌≡◌, ℕ, List, [], ◌∷◌, ◌++◌, refl, sym, ap, ◌∙◌, subst, w32, proved_at, full_share, id⊢, sep, ent, sem, ftrue, froom, Val, vint, vstruct, of_list, fact, tables, ‵, raw, ◌⊛◌, some, later, prop, ◌$◌, ◌∵◌, !, qed, done, move, drop, show, use1, use2, split, join, fsplit, fpick, feq_l, pick, await, rewrite, regoal, suffices, frame, group, whole, sub, enter, of_opd, init, stop, fld, no_more, and_then, assigns, returns, alloc_all, pass_all, free_all, look_at, get, get_in, through, sets, lands_as, u32, yes, shows, Is, layout, uint_Makes, uint_Tells, Ptr, RawPtr, block_ptr, room_at, lies_at, in_a_block, rawptr_vals, rawptr_Tells, types_at, owns, plain, nothing, owned, heard, peeks, only, Tuple, calls_at, lasts, Lasts, triple_of, Stays, walk_of, says, stay_dropped, Goes-dropped, ends_at, framed, part_in, one, and_true, has_ty, part_at}
 use prog.Wp.{WpFn}
 use Rattle.std.specs.contracts.alloc.Global as global
 use Rattle.std.proofs.alloc.Global.TheLaws as global_laws
