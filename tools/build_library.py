@@ -8,7 +8,7 @@ out/prefix where none is given, has
 
     include/crsdesk.h           the header
     lib/libcrsdesk.a            the static library, with the C functions of the toolchain's heap in it
-    lib/libcrsdesk.so.0         the shared object, which needs the C library alone; libcrsdesk.so leads to it
+    lib/libcrsdesk.so.0         the shared object, which needs the C library alone; libcrsdesk.so is the same file
     lib/pkgconfig/crsdesk.pc    what pkg-config tells, by where it lies itself
 
 Both libraries show the calls of the header, and no other name. It takes a C compiler, cc, and ld, objcopy and nm.
@@ -126,10 +126,12 @@ def link(made, kit, folder):
         script.write_text("{ global: " + "".join(f"{it}; " for it in names) + "local: *; };\n", encoding="utf-8")
         shared = lib / f"libcrsdesk.so.{INTERFACE}"
         linker = [f"-Wl,-soname,{shared.name}", f"-Wl,--version-script={script}", "-Wl,-z,defs", "-Wl,-z,relro,-z,now"]
+        shared.unlink(missing_ok=True)
         run("cc", "-shared", "-o", shared, *linker, "-Wl,--gc-sections", whole)
         run("strip", "--strip-unneeded", shared)
+    # Not a symbolic link, which the toolchain lets stand nowhere in the repository.
     (lib / "libcrsdesk.so").unlink(missing_ok=True)
-    (lib / "libcrsdesk.so").symlink_to(shared.name)
+    os.link(shared, lib / "libcrsdesk.so")
     shown = {line.split()[-1] for line in run("nm", "-D", "--defined-only", shared).splitlines()}
     if shown != set(names):
         raise Stop(f"the shared object and the header don't have the same names: {sorted(shown ^ set(names))}")
