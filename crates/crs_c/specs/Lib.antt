@@ -3,6 +3,7 @@ pub mod Canon
 pub mod Catalogues
 pub mod Check
 pub mod Codes
+pub mod Compared
 pub mod FirstPart
 pub mod Names
 pub mod Places

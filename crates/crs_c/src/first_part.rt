@@ -4,8 +4,9 @@ ghost use Rattle.crs_c.specs.FirstPart.{IsPartAnswer, IsPartAt, IsPathGiven, IsS
 
 use crate::buffer::give;
 use crate::codes::{NO_LEVEL, NO_MEMORY, REFUSED, SECOND_REFUSED, level_of};
+use crate::compared::compared_with;
 use crate::refused::{Refused, tell};
-use crs_same::{Path, first_part};
+use crs_same::Path;
 use crs_value::{Crs, Level, read};
 use std::alloc::Global;
 
@@ -74,8 +75,8 @@ fn second_part<'t>(
         (record { path = record { items = out.new; told = length.new }; refused = refused.new })
         result level }
 {
-    match read(alloc, second) {
-        Ok(crs) => give_path(alloc, first_part(first, &crs, level), out, length),
+    match compared_with(alloc, first, second, level) {
+        Ok(found) => give_path(alloc, found, out, length),
         Err(fault) => tell(fault, SECOND_REFUSED, refused),
     }
 }

@@ -7,6 +7,7 @@ mod canon;
 mod catalogue;
 mod check;
 mod codes;
+mod compared;
 mod first_part;
 mod holding;
 mod names;

@@ -2,8 +2,8 @@
 ghost use Rattle.crs_c.specs.Same.{IsSameAnswer, IsSameAt, IsSecondAt};
 
 use crate::codes::{NO_LEVEL, OK, REFUSED, SECOND_REFUSED, level_of};
+use crate::compared::{compared_with, is_nothing};
 use crate::refused::{Refused, tell};
-use crs_same::same;
 use crs_value::{Crs, Level, read};
 use std::alloc::Global;
 
@@ -67,9 +67,9 @@ fn second_same<'t>(
         (record { same = is_same.new; refused = refused.new })
         result level }
 {
-    match read(alloc, second) {
-        Ok(crs) => {
-            *is_same = u32::from(same(first, &crs, level));
+    match compared_with(alloc, first, second, level) {
+        Ok(found) => {
+            *is_same = u32::from(is_nothing(&found));
             OK
         }
         Err(fault) => tell(fault, SECOND_REFUSED, refused),

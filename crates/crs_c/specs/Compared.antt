@@ -1,0 +1,18 @@
+-- What is found of a text, compared with a CRS.
+use Rattle.std.specs.Prelude.{◌≡◌, ◌↔◌, List, ℕ, Option, None, Result, MatchResult}
+use Rattle.crs_text.specs.declared.fault.Fault.{Fault}
+use Rattle.crs_value.specs.declared.values.crs.Crs.{Crs}
+use Rattle.crs_value.specs.declared.values.level.Level.{Level}
+use Rattle.crs_value.specs.SpellsText.{Spells, IsFaultOfText}
+use Rattle.crs_same.specs.declared.step.Step.{Step}
+use Rattle.crs_same.specs.FirstInCrs.{FirstInCrs}
+use Rattle.crs_same.specs.SameCrs.{SameCrs}
+
+-- the text spells a CRS which differs from this one there first
+abbrev pub DiffersAt : Level → Crs → List ℕ → Option (List Step) → Type 0
+DiffersAt level a second path =
+    (b : Crs) × Spells second b × FirstInCrs level a b path × ((path ≡ None) ↔ SameCrs level a b)
+
+-- where it differs, or its fault
+abbrev pub IsFoundBehind : Level → List ℕ → Crs → Result (Option (List Step)) Fault → Type 0
+IsFoundBehind level second a found = MatchResult found (DiffersAt level a second) (IsFaultOfText second)
