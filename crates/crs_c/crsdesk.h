@@ -23,8 +23,8 @@
    - behind each text, and behind each buffer, there are as many bytes as are said, at most PTRDIFF_MAX;
    - what a call writes to overlaps nothing else that it was given, and no other thread uses it during the call; a text
      isn't changed during the call;
-   - each thread that calls has 128 kB of stack left;
-   - malloc, realloc, aligned_alloc and free are those of one allocator, such as the C library's;
+   - each thread that calls has 256 kB of stack left;
+   - malloc, realloc and free are the C library's, or those of one allocator that aligns as they do;
    - no call is made by a signal handler, nor by a child that a process of several threads has forked.
 
    THREADS: there is no state but in catalogues, no lock and nothing to set up, so any number of threads may call at

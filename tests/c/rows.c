@@ -5,7 +5,8 @@
    The rows that are run are those of the calls `canon`, `same`, `Canon::same`, `Refusal::new`, `Catalogue`, and `run_canon`,
    `run_check` and `run_same` where they write a line. Each text lies in a block of just its size, and each buffer too:
    first it has no room, then a byte too few, then the room that was asked for. Behind each call all that it doesn't
-   answer must be as before. All rows are run by one thread, and then by four at once, each in another order.
+   answer must be as before. All rows are run by one thread, and then by four at once, each in another order, whose
+   stacks have the 256 kB that the header asks for.
 
    Each row that fails has a line; the last line is 'N passed, M failed', and the status is 0 where M is 0. */
 #include <pthread.h>
@@ -17,7 +18,7 @@
 #include <crsdesk.h>
 
 /* What stands at the caller's places before a call. */
-enum { UNTOLD = 0x5a5a5a5a, FILLER = 0xa5, THREADS = 4 };
+enum { UNTOLD = 0x5a5a5a5a, FILLER = 0xa5, THREADS = 4, STACK = 256 * 1024 };
 
 struct bytes {
     char *at;
@@ -633,6 +634,7 @@ int main(int count, char **words)
     struct rows rows = {NULL, 0, 0};
     struct turn turns[THREADS + 1];
     pthread_t threads[THREADS];
+    pthread_attr_t attributes;
     struct answer answer = {{NULL, 0}, 0, ""};
     struct asked asked = {call_version, NULL, NULL, 0, 0, 0, 0};
     struct bytes version;
@@ -646,8 +648,10 @@ int main(int count, char **words)
         turns[i].passed = 0;
     }
     run_all(&turns[0]);
+    if (pthread_attr_init(&attributes) != 0 || pthread_attr_setstacksize(&attributes, STACK) != 0)
+        return 2;
     for (size_t i = 0; i < THREADS; i++)
-        if (pthread_create(&threads[i], NULL, run_all, &turns[i + 1]) != 0)
+        if (pthread_create(&threads[i], &attributes, run_all, &turns[i + 1]) != 0)
             return 2;
     for (size_t i = 0; i < THREADS; i++)
         pthread_join(threads[i], NULL);
