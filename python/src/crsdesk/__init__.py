@@ -1,0 +1,32 @@
+"""Well-known text (WKT2, ISO 19162:2019) of coordinate reference systems: whether two texts are the same CRS, and each
+CRS in one canonical spelling.
+
+    >>> from crsdesk import Crs
+    >>> height = Crs('VERTCRS["H",VDATUM["D"],CS[vertical,1],AXIS["h",up,LENGTHUNIT["metre",1]]]')
+    >>> height.kind
+    'vertical'
+    >>> height == Crs('VerticalCRS("H",VRF("D"),CS(vertical,1),AXIS("h",UP,LENGTHUNIT("metre",1.0)))')
+    True
+
+What the calls answer is that of a library whose answers are proved; this package around them is tested.
+"""
+
+from ._crs import Catalogue, Crs, Group, Text, canon, check, difference, differences, same
+from ._library import version
+from ._parts import Difference
+from ._refused import Refused
+
+__all__ = [
+    "Catalogue",
+    "Crs",
+    "Difference",
+    "Group",
+    "Refused",
+    "Text",
+    "canon",
+    "check",
+    "difference",
+    "differences",
+    "same",
+]
+__version__ = version()
