@@ -1,0 +1,622 @@
+#!/usr/bin/env python3
+"""Tries the package crsdesk that this Python imports.
+
+    python_package.py
+
+The rows of the .rows files beside it are asked of the package's calls; then come the package's own promises: how a
+refusal is told, hints, what no text is, hashing, threads, long texts, and the commands over files. run_python.py runs
+it with the package installed in a fresh environment. Each case that fails has a line; the last line is 'N passed, M
+failed', and the status is 0 where M is 0.
+"""
+from __future__ import annotations
+
+import copy
+import doctest
+import os
+import pathlib
+import pickle
+import subprocess
+import sys
+import tempfile
+import threading
+import time
+import traceback
+from concurrent.futures import ThreadPoolExecutor
+from typing import Callable, Iterator, List, Optional, Tuple
+
+# The import of the file beside this one leaves nothing in the repository.
+sys.dont_write_bytecode = True
+import run_cases
+
+import crsdesk
+from crsdesk import Catalogue, Crs, Difference, Refused, canon, check, difference, differences, same
+from crsdesk.__main__ import lines_of
+
+HERE = pathlib.Path(__file__).resolve().parent
+EXAMPLES = HERE.parent / "examples"
+HEIGHT = 'VERTCRS["H",VDATUM["D"],CS[vertical,1],AXIS["h",up,LENGTHUNIT["metre",1]]]'
+CANONICAL_HEIGHT = 'VERTCRS["H",VDATUM["D"],CS[vertical,1],AXIS["h",up,ORDER[1],LENGTHUNIT["metre",1]]]'
+LONG = 100_000_000
+
+
+# The rows.
+
+
+def level_of(words: List[bytes]) -> Tuple[str, List[bytes]]:
+    """A command line's level, and its other words."""
+    for index, word in enumerate(words):
+        if word == b"--":
+            break
+        if word == b"--level":
+            return words[index + 1].decode(), words[:index] + words[index + 2 :]
+        if word.startswith(b"--level="):
+            return word[8:].decode(), words[:index] + words[index + 1 :]
+    return "full", [word for word in words if word != b"--"]
+
+
+def is_asked(case: run_cases.Case) -> bool:
+    """Whether a case asks for an answer, and not for a fault or for help."""
+    if case.error is not None or case.output is None or case.is_unreadable or case.status == 2 or not case.words:
+        return False
+    words = level_of(case.words)[1]
+    return len(words) == {b"canon": 1, b"check": 1, b"group": 1, b"same": 3}.get(words[0], -1)
+
+
+def answer(case: run_cases.Case) -> bytes:
+    """What the command prints for a case, made of the package's answers."""
+    level, words = level_of(case.words)
+    try:
+        if words[0] == b"canon":
+            return canon(case.input, level).encode() + b"\n"
+        if words[0] == b"check":
+            return f"accepted {check(case.input)}\n".encode()
+        if words[0] == b"same":
+            path = difference(words[1], words[2], level)
+            return f"different {path}\n".encode() if path else b"same\n"
+    except Refused as refused:
+        return f"{refused.which + ' ' if refused.which else ''}{refused.summary}\n".encode()
+    return grouped(case.input, level)
+
+
+def grouped(text: bytes, level: str) -> bytes:
+    catalogue = Catalogue(level)
+    for line in lines_of(text):
+        try:
+            catalogue.add(line)
+        except Refused:
+            pass
+    told = [f"group {group.number}: {' '.join(map(str, group.names))}\n" for group in catalogue]
+    told += [f"line {line}: {refused.summary}\n" for line, refused in catalogue.refused]
+    return "".join(told).encode()
+
+
+def row_fault(case: run_cases.Case) -> Optional[str]:
+    """Why a row fails, or None."""
+    got = answer(case)
+    if got != case.output:
+        return f"answered {got[:300]!r}, wanted {case.output[:300]!r}"
+    level, words = level_of(case.words)
+    if words[0] == b"same" and b"refused" not in got:
+        return pair_fault(words[1], words[2], level)
+    if words[0] == b"canon" and not got.startswith(b"refused"):
+        return canon_fault(case.input, level)
+    return None
+
+
+def pair_fault(first: bytes, second: bytes, level: str) -> Optional[str]:
+    """Two accepted texts: all calls on them agree."""
+    path = difference(first, second, level)
+    parts = differences(first, second, level)
+    if (parts[0].path if parts else None) != path:
+        return f"the first part is {path}, the first of all {parts[:1]}"
+    if any(part.first == part.second for part in parts) or len({part.path for part in parts}) < len(parts):
+        return f"parts that don't differ, or stand twice: {parts}"
+    one, other = Crs(first), Crs(second)
+    for answered in (same(first, second, level), one.same(other, level), one.same(second, level)):
+        if answered != (path is None):
+            return f"same answers {answered}, and the first part that differs is {path}"
+    if (one.difference(other, level), one.differences(other, level)) != (path, parts):
+        return "a CRS answers otherwise than the texts"
+    if level == "full" and ((one == other) != (path is None) or len({one, other}) != 1 + (path is not None)):
+        return "== or the hash answers otherwise than same"
+    return None
+
+
+def canon_fault(text: bytes, level: str) -> Optional[str]:
+    """An accepted text: what a canonical text promises."""
+    written = canon(text, level)
+    crs = Crs(text)
+    if canon(written, level) != written or crs.canonical(level) != written:
+        return "the canonical text isn't its own, or not the CRS's"
+    if not same(text, written, level) or crs.differences(written, level):
+        return "the canonical text isn't the same CRS"
+    return None
+
+
+def rows() -> Iterator[Tuple[str, Callable[[], Optional[str]]]]:
+    for path in sorted(HERE.glob("*.rows")):
+        for case in filter(is_asked, run_cases.cases_of(path)):
+            yield f"{case.place}: {case.name}", lambda case=case: row_fault(case)
+
+
+# The package's own promises: each function raises where one fails.
+
+
+def refusal_of(text: object, call: Callable[..., object] = check) -> Refused:
+    try:
+        call(text)
+    except Refused as refused:
+        return refused
+    raise AssertionError(f"not refused: {text!r}")
+
+
+def wants(error: type, part: str, call: Callable[..., object], *words: object) -> None:
+    """A call raises an error, not a refusal, whose text has a part."""
+    try:
+        call(*words)
+    except error as found:
+        assert part in str(found) and not isinstance(found, Refused), found
+    else:
+        raise AssertionError(f"no {error.__name__}: {words!r}")
+
+
+def refusal_is_told() -> None:
+    refused = refusal_of('VERTCRS["H",\n  VDATUM["Dé"] #]')
+    assert isinstance(refused, ValueError)
+    assert (refused.number, refused.name, refused.place, refused.line, refused.column) == (1, "BadCharacter", 29, 2, 16)
+    lines = str(refused).split("\n")
+    assert lines[0] == "refused 1 BadCharacter at 29, line 2, column 16"
+    assert lines[1].index("#") == lines[2].index("^") and lines[2].strip() == "^"
+    assert refused.summary == "refused 1 BadCharacter at 29" and refused.which is None
+    assert repr(refused) == "Refused(number=1, name='BadCharacter', place=29)"
+
+
+def caret_stands_under_the_place() -> None:
+    front = 'VERTCRS["' + "é" * 60 + '"\t'
+    for text in (front + "#" + " " * 90, front + "#", front + '"open'):
+        shown, caret = str(refusal_of(text)).split("\n")[1:3]
+        assert len(shown) <= 80 and shown[caret.index("^")] in '#"', shown
+    shown, caret = str(refusal_of('VERTCRS["高さ" #]')).split("\n")[1:3]
+    assert caret.index("^") == shown.index("#") + 2, "two characters of double width"
+    shown, caret = str(refusal_of('VERTCRS["H"')).split("\n")[1:3]
+    assert caret.index("^") == len(shown), "at the end"
+    assert "\0" not in str(refusal_of("VERTCRS[\0\x1b[31m]"))
+
+
+def refusal_of_two_texts() -> None:
+    for call in (same, difference, differences):
+        try:
+            call(HEIGHT, "x")
+        except Refused as refused:
+            assert refused.which == "second" and str(refused).startswith("the second text: refused 7 ")
+        try:
+            call("x[", "y")
+        except Refused as refused:
+            assert refused.which == "first" and refused.text == b"x["
+
+
+def refusal_goes_to_another_process() -> None:
+    refused = refusal_of("x[")
+    again = pickle.loads(pickle.dumps(refused))
+    assert (str(again), again.text) == (str(refused), b"x[")
+
+
+def every_number_has_a_meaning() -> None:
+    seen = set()
+    for path in HERE.glob("*.rows"):
+        for case in filter(is_asked, run_cases.cases_of(path)):
+            if case.words == [b"check"] and case.output.startswith(b"refused"):
+                refused = refusal_of(case.input)
+                seen.add(refused.number)
+                assert refused.meaning.endswith(".") and refused.meaning in str(refused)
+                assert refused.meaning != Refused(b"", 99, "", 0).meaning, refused.number
+    assert seen == {*range(1, 9), *range(11, 14), *range(21, 30)}, seen
+
+
+HINTS = [
+    ('GEOGCS["WGS 84",DATUM["WGS_1984"]]', "WKT1"),
+    ("\n PROJCS[", "WKT1"),
+    ("COMPD_CS[", "WKT1"),
+    ("+proj=utm +zone=31 +type=crs", "PROJ string"),
+    ("proj=utm zone=31", "PROJ string"),
+    ("+init=epsg:4326", "PROJ string"),
+    ("EPSG:4326", "code"),
+    ("epsg:28992+5709\n", "code"),
+    ("4326", "code"),
+    ("urn:ogc:def:crs:EPSG::4326", "code"),
+    ("http://www.opengis.net/def/crs/EPSG/0/4326", "code"),
+    ('{"type":"GeographicCRS"}', "JSON"),
+    ("<gml:GeodeticCRS>", "XML"),
+    ("\ufeff" + HEIGHT, "byte order mark"),
+    (HEIGHT.encode("utf-16"), "UTF-16"),
+    (HEIGHT.encode("utf-16-le"), "UTF-16"),
+    ("/data/a.prj", "file's name"),
+    ("./a.wkt", "file's name"),
+    ("C:\\data\\a.prj", "file's name"),
+    ("wgs84.prj", "file's name"),
+    ("my tiles/tile_01.tif", "file's name"),
+    ("BOUNDCRS[SOURCECRS[", "BOUNDCRS isn't read"),
+    ('EngCRS["A"]', "ENGCRS isn't read"),
+    ('DERIVEDPROJCRS["A"]', "derived CRSs aren't read"),
+    ('TIMECRS["A"]', "temporal CRSs aren't read"),
+    ('DATUM["D"]', "part of a CRS"),
+    ('"VERTCRS[""H""]"', "quotes"),
+    ("", "Nothing stands here"),
+    (" \n", "Nothing stands here"),
+    ('GEOGCRS["A",BASEGEOGCRS["B"]]', "derived CRS"),
+    ('VERTCRS["H",VDATUM["D"],CS[vertical,1],AXIS["h",up,UNIT["metre",1]],AUTHORITY["E","1"]]', "AUTHORITY is WKT1's"),
+    ("VERTCRS[“H”]", "typographic"),
+    ("VERTCRS['H']", "double quotes"),
+    ('VERTCRS["H";', "commas"),
+    (b'VERTCRS["H\xe9"]', "Latin-1"),
+]
+
+
+def hints_are_given() -> None:
+    for text, part in HINTS:
+        refused = refusal_of(text)
+        assert part in (refused.hint or ""), (text, refused.hint)
+        assert str(refused).endswith(refused.hint or "?")
+
+
+def no_hint_is_given_where_nothing_can_be_told() -> None:
+    for text in ('VERTCRS["H"', "x", 'VERTCRS["H",VDATUM["D"],CS[vertical,2],AXIS["h",up,LENGTHUNIT["metre",1]]]'):
+        assert refusal_of(text).hint is None, text
+
+
+def what_is_no_text() -> None:
+    calls = (check, canon, Crs, lambda it: same(it, HEIGHT), lambda it: same(HEIGHT, it), Catalogue().add)
+    for call in calls:
+        wants(TypeError, "a text is str or bytes, not NoneType", call, None)
+        wants(TypeError, "not int", call, 4326)
+        wants(TypeError, "not float", call, 1.5)
+        wants(TypeError, "not list", call, [HEIGHT])
+        wants(TypeError, "read the file", call, EXAMPLES / "wgs84.wkt")
+        wants(ValueError, "U+D800 at character 1", call, "a\ud800")
+    with (EXAMPLES / "wgs84.wkt").open("rb") as file:
+        wants(TypeError, "read the file", check, file)
+
+
+def what_is_no_level() -> None:
+    calls = [
+        lambda level: canon(HEIGHT, level),
+        lambda level: same(HEIGHT, HEIGHT, level),
+        lambda level: difference(HEIGHT, HEIGHT, level),
+        lambda level: differences(HEIGHT, HEIGHT, level),
+        lambda level: Crs(HEIGHT).canonical(level),
+        lambda level: Crs(HEIGHT).same(HEIGHT, level),
+        Catalogue,
+    ]
+    for call in calls:
+        wants(ValueError, "no such level: 'Full'", call, "Full")
+        wants(TypeError, "a level is a str", call, 1)
+    wants(ValueError, "no such level", canon, "x", "")
+
+
+def bytes_of_any_kind() -> None:
+    for text in (HEIGHT, HEIGHT.encode(), bytearray(HEIGHT.encode()), memoryview(HEIGHT.encode())):
+        assert canon(text) == CANONICAL_HEIGHT and Crs(text).text == HEIGHT.encode()
+
+
+def a_crs_is_a_key() -> None:
+    crs, again = Crs(HEIGHT), Crs(CANONICAL_HEIGHT)
+    other = Crs(HEIGHT.replace('"H"', '"K"'))
+    assert crs == again and hash(crs) == hash(again) and crs != other
+    assert {crs: 1}[again] == 1 and {crs, again, other} == {again, other}
+    assert crs != CANONICAL_HEIGHT and crs != None  # noqa: E711
+    assert str(crs) == crs.canonical() == CANONICAL_HEIGHT and crs.kind == "vertical"
+    assert repr(crs) == "Crs(" + repr(CANONICAL_HEIGHT[:57] + "...") + ")"
+    for twin in (pickle.loads(pickle.dumps(crs)), copy.copy(crs), copy.deepcopy(crs)):
+        assert twin == crs and twin.text == crs.text
+    assert not hasattr(crs, "__dict__")
+
+
+def levels() -> None:
+    first = Crs(HEIGHT[:-1] + ',ID["A",1],REMARK["r"]]')
+    second = Crs(HEIGHT[:-1] + ',USAGE[SCOPE["s"]]]')
+    assert first.canonical("definition") == second.canonical("definition") == CANONICAL_HEIGHT
+    assert not first.same(second) and first.same(second, "definition") and first != second
+    assert first.difference(second) == "usage" and first.difference(second, "definition") is None
+    assert [part.path for part in first.differences(second)] == ["usage", "id", "remark"]
+    assert first.differences(second, "definition") == []
+    catalogue = Catalogue("definition")
+    assert [catalogue.add(crs.text) for crs in (first, second)] == [1, 1]
+    assert catalogue.group(1).text == CANONICAL_HEIGHT
+
+
+def all_parts() -> None:
+    ensemble = HEIGHT.replace('VDATUM["D"]', 'ENSEMBLE["D",MEMBER["m"],MEMBER["n"],ENSEMBLEACCURACY[2]]')
+    assert [str(part) for part in differences(ensemble, HEIGHT)] == [
+        "datum/kind: ENSEMBLE | VDATUM",
+        'datum/members: MEMBER["m"],MEMBER["n"] | none',
+        "datum/accuracy: 2 | none",
+    ]
+    other = ensemble.replace('MEMBER["n"]', 'MEMBER["o"]').replace("2.0", "2")
+    assert differences(ensemble, other) == [Difference("datum/members", 'MEMBER["n"]', 'MEMBER["o"]')]
+    dynamic = HEIGHT.replace("VDATUM", 'DYNAMIC[FRAMEEPOCH[2010],MODEL["g"]],VDATUM')
+    assert [str(part) for part in differences(HEIGHT, dynamic)] == [
+        "dynamic/epoch: none | 2010",
+        'dynamic/model: none | MODEL["g"]',
+    ]
+    odd = HEIGHT.replace('"H"', '"a],""b"""').replace("up", "down").replace("metre", "[,")
+    assert [(part.path, part.second) for part in differences(HEIGHT, odd)] == [
+        ("name", '"a],""b"""'),
+        ("system/axis1/direction", "down"),
+        ("system/axis1/unit", 'LENGTHUNIT["[,",1]'),
+    ]
+
+
+def all_parts_of_all_pairs() -> None:
+    """Of each pair of the examples and exports the first of all parts is the library's."""
+    names = [*EXAMPLES.glob("*.wkt"), *(EXAMPLES / "exports").glob("*")]
+    texts = [path.read_bytes() for path in sorted(names)]
+    texts = [text for text in texts if is_accepted(text)]
+    assert len(texts) > 30
+    for level in ("full", "definition"):
+        for first in texts:
+            for second in texts:
+                fault = pair_fault(first, second, level)
+                assert fault is None, (fault, first, second)
+
+
+def is_accepted(text: bytes) -> bool:
+    try:
+        check(text)
+    except Refused:
+        return False
+    return True
+
+
+def catalogue_of_names() -> None:
+    catalogue = Catalogue()
+    assert len(catalogue) == 0 and list(catalogue) == [] and catalogue.refused == []
+    assert catalogue.add(HEIGHT, "a.wkt") == 1
+    assert catalogue.add(" \n", "blank.wkt") is None
+    refused = refusal_of("x", lambda text: catalogue.add(text, "b.wkt"))
+    assert catalogue.add(CANONICAL_HEIGHT, ("c", 2)) == 1
+    assert catalogue.add(HEIGHT.replace('"H"', '"K"')) == 5 - 3
+    assert [tuple(group) for group in catalogue] == [
+        (1, CANONICAL_HEIGHT, ["a.wkt", ("c", 2)]),
+        (2, CANONICAL_HEIGHT.replace('"H"', '"K"'), [5]),
+    ]
+    assert catalogue.refused == [("b.wkt", refused)] or catalogue.refused[0][0] == "b.wkt"
+    wants(TypeError, "not NoneType", catalogue.add, None)
+    for number in (0, 3, -1):
+        wants(IndexError, "no such group", catalogue.group, number)
+    long = HEIGHT[:-1] + ',REMARK["' + "r" * 200_000 + '"]]'
+    assert len(catalogue.group(catalogue.add(long) or 0).text) > 200_000
+
+
+def many_lines_of_one_group() -> None:
+    catalogue = Catalogue()
+    for _ in range(3000):
+        catalogue.add(HEIGHT)
+    assert catalogue.group(1).names == list(range(1, 3001))
+
+
+def nul_bytes() -> None:
+    assert canon(HEIGHT.replace('"H"', '"a\0b"')) == CANONICAL_HEIGHT.replace('"H"', '"a\0b"')
+    refused = refusal_of(HEIGHT + "\0")
+    assert (refused.number, refused.place) == (1, len(HEIGHT))
+    assert not same(HEIGHT.replace('"H"', '"H\0"'), HEIGHT)
+
+
+def empty_texts() -> None:
+    for text in ("", b"", " \n"):
+        refused = refusal_of(text)
+        assert (refused.number, refused.name, refused.place) == (7, "UnexpectedEnd", len(text))
+        assert "Nothing stands here" in str(refused)
+
+
+def long_texts() -> None:
+    text = HEIGHT[:-1].encode() + b',REMARK["' + b"r" * LONG + b'"]]'
+    assert check(text) == "vertical"
+    assert len(canon(text)) == len(CANONICAL_HEIGHT) + len(',REMARK[""]') + LONG
+    assert same(text, text) and canon(text, "definition") == CANONICAL_HEIGHT
+    for long, number, place in ((b"\n" * LONG, 7, LONG), (b"x" * LONG, 7, LONG), (b'a["' + b"x" * LONG, 5, 2)):
+        refused = refusal_of(long)
+        assert (refused.number, refused.place) == (number, place) and len(str(refused)) < 1000
+    assert refusal_of(b"\n" * LONG).line == LONG + 1
+    # The canonical text is longer than the room that it is first given.
+    boxes = HEIGHT[:-1] + ",USAGE[BBOX[1E40,-1E40,1E-40,0]]" + "]"
+    many = HEIGHT[:-1] + "".join(f",USAGE[BBOX[1E40,-1E40,1E-40,{n}]]" for n in range(3000)) + "]"
+    assert len(canon(boxes)) > len(boxes) and len(canon(many)) > 3 * len(many)
+
+
+def lock_is_released() -> None:
+    text = HEIGHT[:-1].encode() + b',REMARK["' + b"r" * LONG + b'"]]'
+    worker = threading.Thread(target=lambda: [check(text) for _ in range(5)])
+    worker.start()
+    began, longest = time.monotonic(), 0.0
+    while worker.is_alive():
+        before = time.monotonic()
+        time.sleep(0.001)
+        longest = max(longest, time.monotonic() - before)
+    took = time.monotonic() - began
+    assert longest < took / 3, f"waited {longest:.3f} s of {took:.3f} s"
+
+
+def four_threads() -> None:
+    cases = [case for path in HERE.glob("*.rows") for case in run_cases.cases_of(path)]
+    cases = [case for case in cases if is_asked(case) and len(case.input) < 100_000]
+    wanted = [case.output for case in cases]
+    with ThreadPoolExecutor(4) as pool:
+        for got in pool.map(lambda _: [answer(case) for case in cases], range(8)):
+            assert got == wanted
+
+
+def four_threads_on_one_catalogue() -> None:
+    catalogue = Catalogue()
+    texts = [HEIGHT.replace('"H"', f'"{number % 50}"') for number in range(2000)]
+    with ThreadPoolExecutor(4) as pool:
+        groups = list(pool.map(catalogue.add, texts, range(2000)))
+    assert len(catalogue) == 50
+    assert [groups[name] for group in catalogue for name in group.names] == [
+        group.number for group in catalogue for _ in group.names
+    ]
+    assert sorted(name for group in catalogue for name in group.names) == list(range(2000))
+
+
+def examples_of_the_docstrings() -> None:
+    assert doctest.testmod(crsdesk).failed == 0
+
+
+# The commands over files.
+
+
+class Files:
+    """A folder with files, in which commands run."""
+
+    def __init__(self, folder: str) -> None:
+        self.folder = pathlib.Path(folder)
+        self.write("height.wkt", HEIGHT)
+        self.write("again.wkt", CANONICAL_HEIGHT)
+        self.write("other name.wkt", HEIGHT.replace('"H"', '"é"').replace("up", "down"))
+        self.write("old.prj", 'GEOGCS["WGS 84"]')
+        self.write("blank.wkt", "\n")
+        self.write("noted.wkt", HEIGHT[:-1] + ',REMARK["r"]]')
+        self.write("lines.txt", f'{HEIGHT}\r\n\nVERTCRS["H"\n{CANONICAL_HEIGHT}')
+
+    def write(self, name: str, text: str) -> None:
+        (self.folder / name).write_bytes(text.encode())
+
+    def run(self, *words: str, source: bytes = b"", **settings: object) -> Tuple[int, str, str]:
+        command = [sys.executable, "-m", "crsdesk", *words]
+        done = subprocess.run(command, cwd=self.folder, input=source, capture_output=True, timeout=60, **settings)
+        return done.returncode, done.stdout.decode(), done.stderr.decode()
+
+
+def commands() -> None:
+    with tempfile.TemporaryDirectory() as folder:
+        files = Files(folder)
+        command_check(files)
+        command_canon(files)
+        command_same(files)
+        command_group(files)
+        command_faults(files)
+
+
+def command_check(files: Files) -> None:
+    assert files.run("check", "height.wkt") == (0, "accepted vertical\n", "")
+    assert files.run("check", "-", source=HEIGHT.encode()) == (0, "accepted vertical\n", "")
+    status, output, error = files.run("check", "height.wkt", "old.prj")
+    assert (status, output) == (1, "height.wkt: accepted vertical\nold.prj: refused 11 UnknownKeyword at 0\n")
+    assert error.startswith("old.prj: refused 11 UnknownKeyword at 0, line 1, column 1\n") and "WKT1" in error
+
+
+def command_canon(files: Files) -> None:
+    assert files.run("canon", "height.wkt") == (0, CANONICAL_HEIGHT + "\n", "")
+    status, output, error = files.run("canon", "old.prj", "noted.wkt", "--level", "definition")
+    assert (status, output) == (1, "\n" + CANONICAL_HEIGHT + "\n") and "WKT1" in error
+    status, output, error = files.run("canon", "--lines", "lines.txt")
+    assert (status, output) == (1, f"{CANONICAL_HEIGHT}\n\n\n{CANONICAL_HEIGHT}\n")
+    assert error == "lines.txt:3: refused 7 UnexpectedEnd at 11\n"
+    assert files.run("canon", "other name.wkt", env={**os.environ, "LC_ALL": "C", "PYTHONUTF8": "0"})[0] == 0
+
+
+def command_same(files: Files) -> None:
+    assert files.run("same", "height.wkt", "again.wkt") == (0, "same\n", "")
+    assert files.run("same", "--all", "height.wkt", "again.wkt") == (0, "same\n", "")
+    assert files.run("same", "height.wkt", "other name.wkt") == (1, "different name\n", "")
+    parts = 'name: "H" | "é"\nsystem/axis1/direction: up | down\n'
+    assert files.run("same", "height.wkt", "other name.wkt", "--all") == (1, parts, "")
+    assert files.run("same", "height.wkt", "noted.wkt", "--all") == (1, 'remark: none | "r"\n', "")
+    assert files.run("same", "height.wkt", "noted.wkt", "--level", "definition") == (0, "same\n", "")
+    for words in (("height.wkt", "old.prj"), ("old.prj", "height.wkt")):
+        status, output, error = files.run("same", *words)
+        assert (status, output) == (2, "") and error.startswith("old.prj: the ") and "WKT1" in error, error
+
+
+def command_group(files: Files) -> None:
+    assert files.run("group", "height.wkt", "again.wkt", "other name.wkt", "blank.wkt", "old.prj") == (
+        1,
+        "group 1: height.wkt again.wkt\ngroup 2: 'other name.wkt'\nblank.wkt: blank\n"
+        "old.prj: refused 11 UnknownKeyword at 0\n",
+        "",
+    )
+    assert files.run("group", "height.wkt", "noted.wkt")[1] == "group 1: height.wkt\ngroup 2: noted.wkt\n"
+    assert files.run("group", "height.wkt", "noted.wkt", "--level=definition") == (
+        0,
+        "group 1: height.wkt noted.wkt\n",
+        "",
+    )
+
+
+def command_faults(files: Files) -> None:
+    status, output, error = files.run("check", "none.wkt", "height.wkt")
+    assert (status, output) == (2, "height.wkt: accepted vertical\n")
+    assert error == "crsdesk: none.wkt: No such file or directory\n"
+    assert files.run("check", ".")[2] == "crsdesk: .: Is a directory\n"
+    assert files.run("same", "none.wkt", "height.wkt")[0] == 2
+    for words in (
+        (),
+        ("frob",),
+        ("same", "a"),
+        ("check",),
+        ("check", "--level", "full", "a"),
+        ("canon", "--level=x", "a"),
+    ):
+        status, output, error = files.run(*words)
+        assert (status, output) == (2, "") and error.startswith("usage: python -m crsdesk"), words
+    assert files.run("--version") == (0, f"crsdesk {crsdesk.__version__}\n", "")
+    with open("/dev/full", "wb") as full:
+        command = [sys.executable, "-m", "crsdesk", "check", "height.wkt"]
+        done = subprocess.run(command, cwd=files.folder, stdout=full, stderr=subprocess.PIPE, timeout=60, check=False)
+    assert (done.returncode, done.stderr) == (2, b"crsdesk: write failed: No space left on device\n")
+
+
+PROMISES = [
+    refusal_is_told,
+    caret_stands_under_the_place,
+    refusal_of_two_texts,
+    refusal_goes_to_another_process,
+    every_number_has_a_meaning,
+    hints_are_given,
+    no_hint_is_given_where_nothing_can_be_told,
+    what_is_no_text,
+    what_is_no_level,
+    bytes_of_any_kind,
+    a_crs_is_a_key,
+    levels,
+    all_parts,
+    all_parts_of_all_pairs,
+    catalogue_of_names,
+    many_lines_of_one_group,
+    nul_bytes,
+    empty_texts,
+    long_texts,
+    lock_is_released,
+    four_threads,
+    four_threads_on_one_catalogue,
+    examples_of_the_docstrings,
+    commands,
+]
+
+
+def promise_fault(promise: Callable[[], None]) -> Optional[str]:
+    try:
+        promise()
+    except Exception:
+        return "".join(traceback.format_exc().splitlines(keepends=True)[-4:]).rstrip()
+    return None
+
+
+def main() -> int:
+    passed = failed = 0
+    cases = [*rows(), *((promise.__name__, lambda it=promise: promise_fault(it)) for promise in PROMISES)]
+    for name, fault_of in cases:
+        try:
+            fault = fault_of()
+        except Exception as error:
+            fault = f"{type(error).__name__}: {error}"
+        if fault is None:
+            passed += 1
+        else:
+            failed += 1
+            print(f"{name}: {fault}")
+    print(f"{passed} passed, {failed} failed")
+    return 0 if passed and not failed else 1
+
+
+if __name__ == "__main__":
+    sys.exit(main())
