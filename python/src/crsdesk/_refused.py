@@ -106,7 +106,8 @@ def whole_hint(front: bytes, text: bytes) -> Optional[str]:
     if PROJ_STRING.match(front):
         return f'This is a PROJ string: {WRITE_WKT2} "TEXT +type=crs").'
     if CODE.match(front) or front.isdigit() or WEB_ADDRESS.match(front):
-        return f"This is a code, and nothing is looked up here: {WRITE_WKT2} EPSG:4326)."
+        code = ("EPSG:" if front.isdigit() else "") + front.decode("utf-8", "replace")
+        return f"This is a code, and nothing is looked up here: {WRITE_WKT2} {code})."
     if PATH.match(front):
         return "This is a file's name, most likely: hand over what is in the file."
     return None

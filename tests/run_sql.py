@@ -1,0 +1,312 @@
+#!/usr/bin/env python3
+"""Tries the extension for SQLite.
+
+    run_sql.py [PREFIX]
+
+PREFIX has the header and the static library, as tools/build_library.py makes them (crates/crs_c/out/prefix where none
+is given). The extension is built anew, under all warnings; the rows of the .rows files beside it are asked of its
+functions by the program sqlite3, as TEXT and as BLOB; then come what no text is, levels, indexes, other encodings, long
+texts and, where GDAL is there, a GeoPackage. What isn't there is told as skipped, by name. Each case that fails has a
+line; the last line is 'N passed, M failed', and the status is 0 where M is 0.
+"""
+from __future__ import annotations
+
+import ctypes
+import ctypes.util
+import os
+import pathlib
+import shutil
+import subprocess
+import sys
+import tempfile
+from concurrent.futures import ThreadPoolExecutor
+from typing import Iterator, List, Tuple
+
+# The import of the file beside this one leaves nothing in the repository.
+sys.dont_write_bytecode = True
+import run_cases
+
+HERE = pathlib.Path(__file__).resolve().parent
+ROOT = HERE.parent
+SECONDS = 300
+HEIGHT = 'VERTCRS["H",VDATUM["D"],CS[vertical,1],AXIS["h",up,LENGTHUNIT["metre",1]]]'
+CANONICAL_HEIGHT = 'VERTCRS["H",VDATUM["D"],CS[vertical,1],AXIS["h",up,ORDER[1],LENGTHUNIT["metre",1]]]'
+NOTED = HEIGHT[:-1] + ',REMARK["r"]]'
+# A statement, and what it must print; an error is the line that begins with 'Error: '.
+Statement = Tuple[str, str, str]
+
+
+def literal(text: bytes, is_blob: bool) -> str:
+    """A text in SQL."""
+    blob = f"X'{text.hex()}'"
+    return blob if is_blob else f"CAST({blob} AS TEXT)"
+
+
+def level_of(words: List[bytes]) -> Tuple[List[str], List[bytes]]:
+    """A command line's level as arguments of SQL, and its other words."""
+    rest = [word for word in words if word != b"--"]
+    if b"--level" in rest[:-1]:
+        place = rest.index(b"--level")
+        return [f"'{rest[place + 1].decode()}'"], rest[:place] + rest[place + 2 :]
+    for word in rest:
+        if word.startswith(b"--level="):
+            return [f"'{word[8:].decode()}'"], [it for it in rest if it is not word]
+    return [], rest
+
+
+def of_case(case: run_cases.Case, is_blob: bool) -> Iterator[Statement]:
+    """The statements that ask a row, each with its answer."""
+    if case.error is not None or case.output is None or case.is_unreadable or case.status == 2 or not case.words:
+        return
+    level, words = level_of(case.words)
+    wanted = case.output[:-1]
+    refusal = wanted.decode(errors="replace") if b"refused" in wanted else ""
+    text = literal(case.input, is_blob)
+    if words == [b"canon"]:
+        canonical = "" if refusal else wanted.hex().upper()
+        call = f"crs_canon({', '.join([text, *level])})"
+        yield case.place, f"SELECT hex(coalesce({call}, '')), crs_refusal({text});", f"{canonical}|{refusal}"
+    elif words == [b"check"]:
+        kind = "" if refusal else wanted.decode().split()[1]
+        yield case.place, f"SELECT crs_kind({text}), crs_refusal({text});", f"{kind}|{refusal}"
+    elif len(words) == 3 and words[0] == b"same":
+        texts = [literal(word, is_blob) for word in words[1:]]
+        given = ", ".join([*texts, *level])
+        is_same = "" if refusal else str(int(wanted == b"same"))
+        path = "" if refusal else wanted.decode().split()[-1]
+        yield case.place, f"SELECT crs_same({given}), crs_difference({given});", f"{is_same}|{path}"
+        if refusal:
+            which, _, rest = refusal.partition(" ")
+            yield case.place, f"SELECT crs_refusal({texts[which == 'second']});", rest
+
+
+def rows() -> Iterator[Statement]:
+    for path in sorted(HERE.glob("*.rows")):
+        for case in run_cases.cases_of(path):
+            for is_blob in (False, True):
+                yield from of_case(case, is_blob)
+
+
+def promises() -> Iterator[Statement]:
+    """What the rows don't ask."""
+    height, noted = f"'{HEIGHT}'", f"'{NOTED}'"
+    for call in ("crs_canon(NULL)", "crs_kind(NULL)", "crs_refusal(NULL)", "crs_canon('x', NULL)"):
+        yield "NULL gives NULL", f"SELECT {call} IS NULL;", "1"
+    for call in ("crs_same", "crs_difference"):
+        for given in ("NULL, 'x'", "'x', NULL", "NULL, NULL", f"{height}, {height}, NULL"):
+            yield "NULL gives NULL", f"SELECT {call}({given}) IS NULL;", "1"
+    for call in (
+        f"crs_canon({height}, 'Full')",
+        f"crs_same({height}, {height}, 'Full')",
+        "crs_difference('', '', 'Full')",
+    ):
+        yield "a wrong level", f"SELECT {call};", "Error: no such level: 'Full'; there are 'full' and 'definition'"
+    yield "a wrong level", "SELECT crs_canon('x', 1);", "Error: no such level: '1'; there are 'full' and 'definition'"
+    yield "a level", f"SELECT crs_canon({noted}, 'definition');", CANONICAL_HEIGHT
+    yield "a level", f"SELECT crs_same({height}, {noted}, 'definition'), crs_same({height}, {noted}, 'full');", "1|0"
+    yield "a level", f"SELECT crs_difference({height}, {noted}), crs_difference({height}, {noted}, 'definition');", "remark|same"
+    yield "a number", "SELECT crs_kind(4326), crs_refusal(4326), crs_refusal(1.5);", "|refused 6 Unexpected at 0|refused 6 Unexpected at 0"
+    yield "nothing", "SELECT crs_kind(''), crs_refusal(''), crs_refusal(X'');", "|refused 7 UnexpectedEnd at 0|refused 7 UnexpectedEnd at 0"
+    nul = literal(HEIGHT.replace('"H"', '"a\0b"').encode(), False)
+    wanted = CANONICAL_HEIGHT.replace('"H"', '"a\0b"').encode().hex().upper()
+    yield "a NUL byte", f"SELECT hex(crs_canon({nul}));", wanted
+    yield "a NUL byte", f"SELECT crs_refusal({literal(HEIGHT.encode() + bytes(1), False)});", f"refused 1 BadCharacter at {len(HEIGHT)}"
+    yield "too few", "SELECT crs_canon();", "Error: wrong number of arguments to function crs_canon()"
+    yield "types", f"SELECT typeof(crs_canon({height})), typeof(crs_same({height}, {height}));", "text|integer"
+    yield from of_indexes()
+    yield from of_long_texts()
+
+
+def of_indexes() -> Iterator[Statement]:
+    twin = HEIGHT.replace("[", "(").replace("]", ")")
+    yield "a table", "PRAGMA trusted_schema = OFF;", ""
+    yield "a check", "CREATE TABLE t (n INTEGER PRIMARY KEY, wkt TEXT CHECK (crs_refusal(wkt) IS NULL), kind AS (crs_kind(wkt)));", ""
+    yield "an index", "CREATE INDEX t_by_crs ON t (crs_canon(wkt));", ""
+    yield "rows", f"INSERT INTO t (wkt) VALUES ('{HEIGHT}'), ('{NOTED}'), ('{twin}'), (NULL);", ""
+    yield "a check", "INSERT INTO t (wkt) VALUES ('EPSG:4326');", "Error: CHECK constraint failed: crs_refusal(wkt) IS NULL"
+    asked = f"SELECT group_concat(n) FROM t WHERE crs_canon(wkt) = crs_canon('{CANONICAL_HEIGHT}');"
+    yield "the index answers", asked, "1,3"
+    yield "the index is used", f"SELECT detail LIKE 'SEARCH t USING %INDEX t_by_crs%' FROM (SELECT 1 AS detail) WHERE 0; EXPLAIN QUERY PLAN {asked}", PLAN
+    yield "a generated column", "SELECT DISTINCT kind FROM t WHERE kind IS NOT NULL;", "vertical"
+    yield "groups", "SELECT count(*) FROM t GROUP BY crs_canon(wkt, 'definition') ORDER BY 1;", "1\n3"
+    yield "a view", "CREATE VIEW v AS SELECT n, crs_canon(wkt) AS canon FROM t; SELECT count(DISTINCT canon) FROM v;", "2"
+
+
+PLAN = "QUERY PLAN\n`--SEARCH t USING INDEX t_by_crs (<expr>=?)"
+
+
+def of_long_texts() -> Iterator[Statement]:
+    long = f"'{HEIGHT[:-1]},REMARK[\"' || hex(zeroblob(50000000)) || '\"]]'"
+    yield "100 MB", f"SELECT crs_kind({long}), length(crs_canon({long}));", f"vertical|{len(CANONICAL_HEIGHT) + 11 + 100_000_000}"
+    yield "100 MB", "SELECT crs_refusal(hex(zeroblob(50000000)));", "refused 3 NumberRange at 0"
+    many = "".join(f",USAGE[BBOX[1E40,-1E40,1E-40,{n}]]" for n in range(300))
+    text = f"'{HEIGHT[:-1]}{many}]'"
+    yield "a longer canonical text", f"SELECT length(crs_canon({text})) > 2 * length({text});", "1"
+    yield "a canonical text", f"SELECT crs_canon(crs_canon({text})) = crs_canon({text});", "1"
+
+
+def printed(extension: pathlib.Path, statements: List[Statement], first: str = "") -> List[str]:
+    """What the program sqlite3 prints for each statement."""
+    script = [f"{first}\n.load {extension}\n"]
+    for index, (_, statement, _) in enumerate(statements):
+        script.append(f"{statement}\n.print -- {index}\n")
+    done = subprocess.run(
+        ["sqlite3", "-batch", ":memory:"],
+        input="".join(script).encode(),
+        stdout=subprocess.PIPE,
+        stderr=subprocess.STDOUT,
+        timeout=SECONDS,
+        check=False,
+    )
+    lines, found = done.stdout.decode(errors="replace").split("\n"), []
+    begin = 0
+    for index in range(len(statements)):
+        end = lines.index(f"-- {index}", begin)
+        found.append("\n".join(lines[begin:end]))
+        begin = end + 1
+    return found
+
+
+def plain_error(text: str) -> str:
+    """An error without the place that sqlite3 puts before it and the piece that it puts behind."""
+    line = text.split("\n")[0]
+    for front in ("Runtime error near line ", "Parse error near line ", "Error: near line "):
+        if line.startswith(front):
+            return "Error: " + line.partition(": ")[2].rsplit(" (", 1)[0]
+    return text
+
+
+class Counts:
+    """How many cases passed and failed."""
+
+    def __init__(self) -> None:
+        self.passed = self.failed = 0
+
+    def add(self, name: str, fault: str) -> None:
+        if fault:
+            self.failed += 1
+            print(f"{name}: {fault[:1000]}")
+        else:
+            self.passed += 1
+
+    def compare(self, name: str, got: object, wanted: object) -> None:
+        self.add(name, "" if got == wanted else f"answered {str(got)[:300]!r}, wanted {str(wanted)[:300]!r}")
+
+
+def try_statements(counts: Counts, extension: pathlib.Path) -> None:
+    asked, promised = list(rows()), list(promises())
+    for name, statements, first in (
+        ("", asked, ""),
+        ("", promised, ""),
+        (
+            "UTF-16: ",
+            [it for it in promised if it[0] in ("a level", "a wrong level", "nothing", "types")],
+            "PRAGMA encoding='UTF-16';",
+        ),
+    ):
+        for (place, statement, wanted), got in zip(statements, printed(extension, statements, first)):
+            counts.compare(f"{name}{place}: {statement[:80]}", plain_error(got), wanted)
+
+
+def try_symbols(counts: Counts, extension: pathlib.Path) -> None:
+    """It shows one name, and needs the C library alone."""
+    shown = subprocess.run(["nm", "-D", "--defined-only", extension], capture_output=True, check=True).stdout.split()
+    counts.compare("its names", shown[2::3], [b"sqlite3_crsdesksqlite_init"])
+    needs = subprocess.run(["readelf", "-d", extension], capture_output=True, check=True).stdout.decode()
+    found = [line.split("[")[1] for line in needs.split("\n") if "(NEEDED)" in line]
+    counts.compare("what it needs", found, ["libc.so.6]"])
+
+
+class Connection:
+    """A connection by SQLite's own library, with the extension loaded; calls of it leave the interpreter's lock."""
+
+    def __init__(self, library: str, extension: pathlib.Path) -> None:
+        self.calls = ctypes.CDLL(library)
+        self.calls.sqlite3_column_text.restype = ctypes.c_char_p
+        self.db, error = ctypes.c_void_p(), ctypes.c_char_p()
+        self.must(self.calls.sqlite3_open(b":memory:", ctypes.byref(self.db)))
+        self.must(self.calls.sqlite3_enable_load_extension(self.db, 1))
+        code = self.calls.sqlite3_load_extension(self.db, os.fsencode(extension), None, ctypes.byref(error))
+        self.must(code, error.value)
+
+    def must(self, code: int, error: object = None) -> None:
+        if code not in (0, 100):
+            raise RuntimeError(f"SQLite answers {code} {error}")
+
+    def answers(self, texts: List[bytes]) -> List[bytes]:
+        """The canonical text or the refusal of each text."""
+        statement, found = ctypes.c_void_p(), []
+        asked = b"SELECT coalesce(crs_canon(?1), crs_refusal(?1))"
+        self.must(self.calls.sqlite3_prepare_v2(self.db, asked, -1, ctypes.byref(statement), None))
+        for text in texts:
+            self.must(self.calls.sqlite3_bind_blob(statement, 1, text, len(text), None))
+            self.must(self.calls.sqlite3_step(statement))
+            found.append(bytes(self.calls.sqlite3_column_text(statement, 0)))
+            self.must(self.calls.sqlite3_reset(statement))
+        self.calls.sqlite3_finalize(statement)
+        self.calls.sqlite3_close(self.db)
+        return found
+
+
+def try_threads(counts: Counts, extension: pathlib.Path) -> None:
+    """Four threads at once, each with a connection of its own, in one process."""
+    library = ctypes.util.find_library("sqlite3")
+    if library is None:
+        print("skipped: libsqlite3 isn't there: four threads")
+        return
+    cases = [it for path in HERE.glob("*.rows") for it in run_cases.cases_of(path)]
+    cases = [it for it in cases if it.words == [b"canon"] and it.output and it.error is None]
+    texts = [it.input for it in cases] * 5
+    with ThreadPoolExecutor(4) as pool:
+        wanted = [it.output[:-1] for it in cases] * 5
+        for found in pool.map(lambda _: Connection(library, extension).answers(texts), range(8)):
+            counts.compare("four threads", found, wanted)
+
+
+def try_geopackage(counts: Counts, extension: pathlib.Path, folder: pathlib.Path) -> None:
+    if shutil.which("ogr2ogr") is None:
+        print("skipped: ogr2ogr isn't there: a GeoPackage")
+        return
+    file = folder / "layers.gpkg"
+    subprocess.run(["sh", ROOT / "examples" / "layers.sh", file], check=True, timeout=SECONDS)
+    for level, wanted in (
+        ("definition", "heights\nwells\ntiles roads parcels"),
+        ("full", "heights\nparcels\nwells\ntiles roads"),
+    ):
+        statement = (
+            "SELECT group_concat(table_name, ' ') FROM gpkg_contents JOIN gpkg_spatial_ref_sys USING (srs_id) "
+            f"GROUP BY coalesce(crs_canon(definition_12_063, '{level}'), srs_id)"
+        )
+        words = ["sqlite3", file, "-cmd", f".load {extension}", statement]
+        done = subprocess.run(words, stdout=subprocess.PIPE, timeout=SECONDS, check=True).stdout.decode()
+        counts.compare(f"a GeoPackage at {level}", sorted(done.split("\n")), sorted([*wanted.split("\n"), ""]))
+
+
+def main(words: List[str]) -> int:
+    if len(words) > 1 or words and words[0].startswith("-"):
+        sys.exit(__doc__)
+    prefix = pathlib.Path(words[0]) if words else ROOT / "crates" / "crs_c" / "out" / "prefix"
+    if shutil.which("sqlite3") is None:
+        print("skipped: sqlite3 isn't there: the extension for SQLite")
+        print("0 passed, 0 failed")
+        return 0
+    counts = Counts()
+    with tempfile.TemporaryDirectory() as folder:
+        extension = pathlib.Path(folder, "crsdesk_sqlite.so")
+        done = subprocess.run([sys.executable, ROOT / "tools" / "build_sqlite.py", prefix, extension], check=False)
+        if done.returncode == 3:
+            print("skipped: sqlite3ext.h isn't there: the extension for SQLite")
+            print("0 passed, 0 failed")
+            return 0
+        counts.compare("it is built", done.returncode, 0)
+        if extension.exists():
+            try_symbols(counts, extension)
+            try_statements(counts, extension)
+            try_threads(counts, extension)
+            try_geopackage(counts, extension, pathlib.Path(folder))
+    print(f"{counts.passed} passed, {counts.failed} failed")
+    return 1 if counts.failed else 0
+
+
+if __name__ == "__main__":
+    sys.exit(main(sys.argv[1:]))
