@@ -4,8 +4,8 @@
     make_wheel.py FOLDER
 
 puts it into a folder, and prints its name. pip calls build_wheel (`pip wheel ./python`), which needs no network and
-writes nothing into the sources. The shared object is that of crates/crs_c/out, or the one that the environment variable
-CRSDESK_LIBRARY names. Equal sources make equal bytes.
+writes nothing into the sources. The shared object is that of crates/crs_c/out/prefix, as tools/build_library.py makes
+it, or the one that the environment variable CRSDESK_LIBRARY names. Equal files make equal bytes.
 """
 import base64
 import hashlib
@@ -19,7 +19,7 @@ from typing import Dict, Mapping, Optional
 
 HERE = pathlib.Path(__file__).resolve().parent
 PACKAGE = HERE / "src" / "crsdesk"
-LIBRARY = HERE.parent / "crates" / "crs_c" / "out" / "libcrsdesk.so"
+LIBRARY = HERE.parent / "crates" / "crs_c" / "out" / "prefix" / "lib" / "libcrsdesk.so"
 # The first moment that a zip file can name.
 MOMENT = (1980, 1, 1, 0, 0, 0)
 
@@ -28,7 +28,7 @@ def files(project: Mapping[str, str]) -> Dict[str, bytes]:
     """What stands in the wheel, but the list of it."""
     library = pathlib.Path(os.environ.get("CRSDESK_LIBRARY", LIBRARY))
     if not library.is_file():
-        raise SystemExit(f"crsdesk: there is no shared object {library}: ./install makes it")
+        raise SystemExit(f"crsdesk: there is no shared object {library}: tools/build_library.py makes it")
     found = {f"crsdesk/{it.name}": it.read_bytes() for it in sorted(PACKAGE.glob("*.py"))}
     found["crsdesk/py.typed"] = (PACKAGE / "py.typed").read_bytes()
     found["crsdesk/libcrsdesk.so"] = library.read_bytes()

@@ -1,0 +1,158 @@
+#!/usr/bin/env python3
+"""Makes the wheel of the package crsdesk as a user would, installs it into a fresh environment, and tries it there.
+
+    run_python.py [PREFIX]
+
+PREFIX has the shared object in lib/, as tools/build_library.py makes it (crates/crs_c/out/prefix where none is given).
+The wheel is built by pip with no network. python_package.py has what is tried of the package. mypy and black judge the
+code where they are there. What isn't there is told as skipped, by name. Each case that fails has a line; the last line
+is 'N passed, M failed', and the status is 0 where M is 0.
+"""
+from __future__ import annotations
+
+import ast
+import hashlib
+import os
+import pathlib
+import re
+import shutil
+import subprocess
+import sys
+import tempfile
+import zipfile
+from typing import Dict, List, Optional
+
+HERE = pathlib.Path(__file__).resolve().parent
+ROOT = HERE.parent
+PACKAGE = ROOT / "python"
+SECONDS = 600
+
+
+class Counts:
+    """How many cases passed and failed."""
+
+    def __init__(self) -> None:
+        self.passed = self.failed = 0
+
+    def add(self, name: str, is_right: bool, what: str = "") -> None:
+        self.passed += is_right
+        self.failed += not is_right
+        if not is_right:
+            print(f"{name}: {what}")
+
+
+def run(words: List[object], environment: Optional[Dict[str, str]] = None) -> "subprocess.CompletedProcess[str]":
+    """Runs a command outside the repository; what it writes comes back as one text."""
+    return subprocess.run(
+        [str(word) for word in words],
+        cwd="/",
+        env=environment,
+        stdin=subprocess.DEVNULL,
+        stdout=subprocess.PIPE,
+        stderr=subprocess.STDOUT,
+        text=True,
+        timeout=SECONDS,
+        check=False,
+    )
+
+
+def try_wheel(counts: Counts, library: pathlib.Path, folder: pathlib.Path) -> Optional[pathlib.Path]:
+    """The wheel by pip, which is the same bytes as by the script, and has all files."""
+    environment = {**os.environ, "CRSDESK_LIBRARY": str(library), "PIP_NO_INDEX": "1", "PYTHONDONTWRITEBYTECODE": "1"}
+    words = ["wheel", "-q", "--no-build-isolation", "--no-deps", "-w", folder, PACKAGE]
+    done = run([sys.executable, "-m", "pip", *words], environment)
+    wheels = list(folder.glob("crsdesk-*.whl"))
+    counts.add("pip wheel", done.returncode == 0 and len(wheels) == 1, done.stdout[-1000:])
+    if not wheels:
+        return None
+    again = folder / "again"
+    again.mkdir()
+    done = run([sys.executable, PACKAGE / "make_wheel.py", again], environment)
+    twin = again / wheels[0].name
+    is_equal = twin.exists() and twin.read_bytes() == wheels[0].read_bytes()
+    counts.add("make_wheel.py makes the same bytes", is_equal, done.stdout[-1000:])
+    with zipfile.ZipFile(wheels[0]) as archive:
+        names = {name for name in archive.namelist() if name.startswith("crsdesk/")}
+        inside = hashlib.sha256(archive.read("crsdesk/libcrsdesk.so")).digest()
+    sources = {f"crsdesk/{path.name}" for path in (PACKAGE / "src" / "crsdesk").glob("*.py")}
+    counts.add("its files", names == sources | {"crsdesk/py.typed", "crsdesk/libcrsdesk.so"}, str(names))
+    counts.add("its shared object", inside == hashlib.sha256(library.read_bytes()).digest(), str(library))
+    return wheels[0]
+
+
+def try_environment(counts: Counts, wheel: pathlib.Path, folder: pathlib.Path) -> Optional[pathlib.Path]:
+    """The wheel in a fresh environment, whose Python it is; the version is the library's."""
+    made = run([sys.executable, "-m", "venv", folder / "fresh"])
+    python = folder / "fresh" / "bin" / "python"
+    counts.add("a fresh environment", made.returncode == 0, made.stdout[-1000:])
+    if made.returncode:
+        return None
+    done = run([python, "-m", "pip", "install", "-q", "--no-index", "--disable-pip-version-check", wheel])
+    counts.add("pip install", done.returncode == 0, done.stdout[-1000:])
+    wanted = wheel.name.split("-")[1]
+    done = run([python, "-c", "import crsdesk; print(crsdesk.__version__)"])
+    counts.add("the library's version is the wheel's", done.stdout == wanted + "\n", f"{done.stdout}, not {wanted}")
+    text = (PACKAGE / "pyproject.toml").read_text(encoding="utf-8")
+    counts.add("the version of pyproject.toml", f'version = "{wanted}"' in text, wanted)
+    done = run([python, "-m", "pip", "check"])
+    counts.add("it depends on nothing", done.returncode == 0, done.stdout)
+    missing = {**os.environ, "CRSDESK_LIBRARY": "/missing/libcrsdesk.so"}
+    done = run([python, "-c", "import crsdesk"], missing)
+    is_told = "ImportError: crsdesk needs its shared object: /missing/libcrsdesk.so" in done.stdout
+    counts.add("a missing shared object is told", is_told, done.stdout)
+    return python
+
+
+def try_package(counts: Counts, python: pathlib.Path) -> None:
+    """What python_package.py tries, with the installed package."""
+    environment = {key: value for key, value in os.environ.items() if key not in ("CRSDESK_LIBRARY", "PYTHONPATH")}
+    done = run([python, HERE / "python_package.py"], environment)
+    *lines, last = done.stdout.rstrip("\n").split("\n")
+    print("".join(f"{line}\n" for line in lines), end="")
+    match = re.fullmatch(r"(\d+) passed, (\d+) failed", last)
+    counts.passed += int(match[1]) if match else 0
+    counts.failed += int(match[2]) if match else 1
+    if not match:
+        print(last)
+
+
+def try_code(counts: Counts) -> None:
+    """Types and form, where the tools are there; and that each public name has a docstring."""
+    sources = PACKAGE / "src" / "crsdesk"
+    tools = {
+        "mypy": ["--config-file", PACKAGE / "pyproject.toml", "--cache-dir", os.devnull, sources],
+        "black": ["--config", PACKAGE / "pyproject.toml", "--check", "-q", sources, PACKAGE / "make_wheel.py"],
+    }
+    for tool, words in tools.items():
+        if shutil.which(tool) is None:
+            print(f"skipped: {tool} isn't there: the code of the Python package")
+            continue
+        done = run([tool, *words])
+        counts.add(tool, done.returncode == 0, done.stdout[-2000:])
+    for name in ("_crs.py", "_parts.py", "_refused.py"):
+        tree = ast.parse((sources / name).read_text(encoding="utf-8"))
+        for node in tree.body:
+            if isinstance(node, (ast.ClassDef, ast.FunctionDef)) and not node.name.startswith("parts_of"):
+                has = ast.get_docstring(node) is not None
+                is_public = node.name in (sources / "__init__.py").read_text(encoding="utf-8")
+                counts.add(f"{name}: {node.name}", has or not is_public, "has no docstring")
+
+
+def main(words: List[str]) -> int:
+    if len(words) > 1 or words and words[0].startswith("-"):
+        sys.exit(__doc__)
+    prefix = pathlib.Path(words[0]).resolve() if words else ROOT / "crates" / "crs_c" / "out" / "prefix"
+    counts = Counts()
+    with tempfile.TemporaryDirectory() as name:
+        folder = pathlib.Path(name)
+        wheel = try_wheel(counts, prefix / "lib" / "libcrsdesk.so", folder)
+        python = try_environment(counts, wheel, folder) if wheel else None
+        if python:
+            try_package(counts, python)
+    try_code(counts)
+    print(f"{counts.passed} passed, {counts.failed} failed")
+    return 1 if counts.failed else 0
+
+
+if __name__ == "__main__":
+    sys.exit(main(sys.argv[1:]))
