@@ -1,0 +1,241 @@
+#!/usr/bin/env python3
+"""Installs crsdesk into fresh places as a user would, uses each part from there, and takes it away.
+
+    run_install.py
+
+What isn't there is told as skipped, by name. Each case that fails has a line; the last line is 'N passed, M failed',
+and the status is 0 where M is 0.
+"""
+from __future__ import annotations
+
+import os
+import pathlib
+import shutil
+import subprocess
+import sys
+import tempfile
+from typing import Dict, List, Set
+
+ROOT = pathlib.Path(__file__).resolve().parent.parent
+EXAMPLES = ROOT / "examples"
+SECONDS = 3600
+# A program as docs/INSTALL.md has the calls: it tells the kind of its first word.
+PROGRAM = r"""
+#include <crsdesk.h>
+#include <stdio.h>
+#include <string.h>
+
+int main(int count, char **words)
+{
+    struct crsdesk_refusal refusal;
+    uint32_t kind;
+
+    if (count != 2)
+        return 2;
+    if (crsdesk_check(words[1], strlen(words[1]), &kind, &refusal) != CRSDESK_OK) {
+        printf("refused %u at %zu\n", (unsigned)refusal.number, refusal.place);
+        return 1;
+    }
+    printf("kind %u\n", (unsigned)kind);
+    return 0;
+}
+"""
+FILES = {
+    "bin/crsdesk",
+    "include/crsdesk.h",
+    "lib/libcrsdesk.a",
+    "lib/libcrsdesk.so",
+    "lib/libcrsdesk.so.0",
+    "lib/pkgconfig/crsdesk.pc",
+    "lib/crsdesk_sqlite.so",
+    "share/crsdesk/installed",
+    "share/man/man1/crsdesk.1",
+}
+
+
+class Counts:
+    """How many cases passed and failed."""
+
+    def __init__(self) -> None:
+        self.passed = self.failed = 0
+
+    def compare(self, name: str, got: object, wanted: object) -> bool:
+        self.passed += got == wanted
+        self.failed += got != wanted
+        if got != wanted:
+            print(f"{name}: {str(got)[:1000]!r}, wanted {str(wanted)[:1000]!r}")
+        return got == wanted
+
+
+def run(words: List[object], **more: str) -> "subprocess.CompletedProcess[str]":
+    """Runs a command outside the repository, with more of an environment."""
+    environment = {key: value for key, value in os.environ.items() if key not in ("DESTDIR", "CRSDESK_LIBRARY")}
+    return subprocess.run(
+        [str(word) for word in words],
+        cwd="/",
+        env={**environment, **more},
+        stdin=subprocess.DEVNULL,
+        capture_output=True,
+        text=True,
+        timeout=SECONDS,
+        check=False,
+    )
+
+
+def is_there(tool: str, what: str) -> bool:
+    found = shutil.which(tool) is not None
+    if not found:
+        print(f"skipped: {tool} isn't there: {what}")
+    return found
+
+
+def files_below(folder: pathlib.Path) -> Set[str]:
+    """The files below a folder; of the wheel, whose name has the version and the system, its kind."""
+    found = {str(path.relative_to(folder)) for path in folder.rglob("*") if not path.is_dir() or path.is_symlink()}
+    return {"the wheel" if path.endswith(".whl") else path for path in found}
+
+
+def wanted_files(error: str) -> Set[str]:
+    """What an installation has; the extension is left out where SQLite's header isn't there, which it has told."""
+    lacks = "skipped: lib/crsdesk_sqlite.so" in error
+    if lacks:
+        print("skipped: sqlite3ext.h isn't there: lib/crsdesk_sqlite.so")
+    return FILES - ({"lib/crsdesk_sqlite.so"} if lacks else set()) | {"the wheel"}
+
+
+def try_install(counts: Counts, prefix: pathlib.Path) -> bool:
+    done = run([ROOT / "install", prefix])
+    if not counts.compare("./install", (done.returncode, "Traceback" in done.stderr), (0, False)):
+        print(done.stderr[-2000:])
+        return False
+    wanted = wanted_files(done.stderr)
+    counts.compare("what is installed", files_below(prefix), wanted)
+    printed = {line[len(str(prefix)) + 1 :] for line in done.stdout.split("\n")[:-1]}
+    counts.compare("what is printed", {"the wheel" if it.endswith(".whl") else it for it in printed}, wanted)
+    listed = (prefix / "share/crsdesk/installed").read_text(encoding="utf-8").split("\n")[:-1]
+    counts.compare("the list", {"the wheel" if it.endswith(".whl") else it for it in listed}, wanted)
+    return True
+
+
+def try_program(counts: Counts, prefix: pathlib.Path) -> None:
+    height = (EXAMPLES / "height.wkt").read_text(encoding="utf-8")
+    done = run([prefix / "bin" / "crsdesk", "same", height, height])
+    counts.compare("bin/crsdesk", (done.returncode, done.stdout), (0, "same\n"))
+    if is_there("groff", "the manual's page"):
+        page = prefix / "share/man/man1/crsdesk.1"
+        done = run(["groff", "-man", "-ww", "-z", page])
+        counts.compare("the manual's page", (done.returncode, done.stderr), (0, ""))
+        version = run([prefix / "bin" / "crsdesk", "--version"]).stdout.strip()
+        counts.compare("its version", f'"{version}"' in page.read_text(encoding="utf-8"), True)
+
+
+def try_libraries(counts: Counts, prefix: pathlib.Path, folder: pathlib.Path) -> None:
+    """A C program against each library."""
+    source = folder / "program.c"
+    source.write_text(PROGRAM, encoding="utf-8")
+    flags = ["-std=c99", "-Wall", "-Wextra", "-Werror", "-pedantic"]
+    libraries: Dict[str, List[str]] = {"libcrsdesk.a": [f"-I{prefix}/include", f"{prefix}/lib/libcrsdesk.a"]}
+    if is_there("pkg-config", "a C program with the shared object"):
+        done = run(["pkg-config", "--cflags", "--libs", "crsdesk"], PKG_CONFIG_PATH=f"{prefix}/lib/pkgconfig")
+        counts.compare("pkg-config", done.returncode, 0)
+        libraries["libcrsdesk.so"] = done.stdout.split()
+        done = run(["pkg-config", "--modversion", "crsdesk"], PKG_CONFIG_PATH=f"{prefix}/lib/pkgconfig")
+        version = run([prefix / "bin" / "crsdesk", "--version"]).stdout
+        counts.compare("the version of crsdesk.pc", f"crsdesk {done.stdout}", version)
+    for name, words in libraries.items():
+        program = folder / name
+        done = run(["cc", *flags, "-o", program, source, *words])
+        counts.compare(f"cc with {name}", (done.returncode, done.stderr), (0, ""))
+        height = (EXAMPLES / "height.wkt").read_text(encoding="utf-8")
+        for text, wanted in ((height, "kind 4\n"), ("x[", "refused 7 at 2\n")):
+            done = run([program, text], LD_LIBRARY_PATH=f"{prefix}/lib")
+            counts.compare(f"a C program with {name}", done.stdout, wanted)
+
+
+def try_python(counts: Counts, prefix: pathlib.Path, folder: pathlib.Path) -> None:
+    (wheel,) = (prefix / "share/crsdesk").glob("crsdesk-*.whl")
+    fresh = folder / "fresh"
+    counts.compare("a fresh environment", run([sys.executable, "-m", "venv", fresh]).returncode, 0)
+    done = run([fresh / "bin/pip", "install", "-q", "--no-index", "--disable-pip-version-check", wheel])
+    counts.compare("pip install", (done.returncode, done.stderr), (0, ""))
+    done = run([fresh / "bin/python", "-m", "crsdesk", "check", EXAMPLES / "wgs84.wkt"])
+    counts.compare("python -m crsdesk", (done.stdout, done.stderr), ("accepted geographic\n", ""))
+
+
+def try_sqlite(counts: Counts, prefix: pathlib.Path) -> None:
+    extension = prefix / "lib/crsdesk_sqlite.so"
+    if not extension.exists() or not is_there("sqlite3", "the installed extension"):
+        return
+    asked = f"SELECT crs_kind(readfile('{EXAMPLES / 'wgs84.wkt'}'))"
+    done = run(["sqlite3", ":memory:", f".load {extension.with_suffix('')}", asked])
+    counts.compare("lib/crsdesk_sqlite.so", (done.stdout, done.stderr), ("geographic\n", ""))
+
+
+def try_uninstall(counts: Counts, prefix: pathlib.Path) -> None:
+    """Again over what is there, with a file of an older version and one of the user's; then all but that goes."""
+    (prefix / "lib/libolder.so").write_text("", encoding="utf-8")
+    (prefix / "share/crsdesk/own.txt").write_text("", encoding="utf-8")
+    with (prefix / "share/crsdesk/installed").open("a", encoding="utf-8") as file:
+        file.write("lib/libolder.so\n")
+    done = run([ROOT / "install", prefix])
+    wanted = wanted_files(done.stderr) | {"share/crsdesk/own.txt"}
+    counts.compare("./install again", (done.returncode, files_below(prefix)), (0, wanted))
+    done = run([ROOT / "install", "--uninstall", prefix])
+    counts.compare("--uninstall", (done.returncode, done.stderr), (0, ""))
+    counts.compare("what is left", files_below(prefix), {"share/crsdesk/own.txt"})
+    done = run([ROOT / "install", prefix, "--uninstall"])
+    wanted_error = f"crsdesk: nothing is installed below {prefix}: there is no share/crsdesk/installed\n"
+    counts.compare("--uninstall again", (done.returncode, done.stderr), (2, wanted_error))
+
+
+def try_destdir(counts: Counts, folder: pathlib.Path) -> None:
+    stage = folder / "a stage"
+    done = run([ROOT / "install"], DESTDIR=str(stage))
+    counts.compare("DESTDIR", (done.returncode, files_below(stage / "usr/local")), (0, wanted_files(done.stderr)))
+    told = (stage / "usr/local/lib/pkgconfig/crsdesk.pc").read_text(encoding="utf-8")
+    counts.compare("crsdesk.pc doesn't name the stage", str(stage) in told, False)
+    done = run([ROOT / "install", "--uninstall"], DESTDIR=str(stage))
+    counts.compare("DESTDIR --uninstall", (done.returncode, files_below(stage)), (0, set()))
+    counts.compare("its folder", (stage / "usr/local/share/crsdesk").exists(), False)
+
+
+def try_faults(counts: Counts, folder: pathlib.Path) -> None:
+    usage = "crsdesk: usage: ./install [PREFIX] [--uninstall]\n"
+    for words in (["--frob"], ["a", "b"], [""], ["--uninstall", "--uninstall"]):
+        done = run([ROOT / "install", *words])
+        counts.compare(f"./install {words}", (done.returncode, done.stdout, done.stderr), (2, "", usage))
+    done = run([ROOT / "install", "--help"])
+    counts.compare("--help", (done.returncode, "--uninstall" in done.stdout, done.stderr), (0, True, ""))
+    file = folder / "a file"
+    file.write_text("", encoding="utf-8")
+    done = run([ROOT / "install", file])
+    is_told = done.stderr.endswith("Not a directory\n") and "Traceback" not in done.stderr
+    counts.compare("a file for a prefix", (done.returncode, is_told), (2, True))
+    wrong = folder / "wrong"
+    (wrong / "share/crsdesk").mkdir(parents=True)
+    (wrong / "share/crsdesk/installed").write_text("../a file\n", encoding="utf-8")
+    done = run([ROOT / "install", wrong, "--uninstall"])
+    counts.compare("a list of other paths", (done.returncode, file.exists()), (2, True))
+
+
+def main(words: List[str]) -> int:
+    if words:
+        sys.exit(__doc__)
+    counts = Counts()
+    with tempfile.TemporaryDirectory() as name:
+        folder = pathlib.Path(name)
+        prefix = folder / "prefix"
+        if try_install(counts, prefix):
+            try_program(counts, prefix)
+            try_libraries(counts, prefix, folder)
+            try_python(counts, prefix, folder)
+            try_sqlite(counts, prefix)
+            try_uninstall(counts, prefix)
+            try_destdir(counts, folder)
+            try_faults(counts, folder)
+    print(f"{counts.passed} passed, {counts.failed} failed")
+    return 1 if counts.failed else 0
+
+
+if __name__ == "__main__":
+    sys.exit(main(sys.argv[1:]))
