@@ -6,7 +6,7 @@
 PREFIX has the header and the static library, as build_library.py makes them (crates/crs_c/out/prefix where none is
 given). The table has ROWS rows (100,000), the lines of examples/catalogue.txt that spell a CRS again and again. A line
 is printed for each statement: its nanoseconds a row, the least of nine runs of the program sqlite3, by turns with the
-same call from C; and of reading the rows alone. It judges nothing.
+same call from C; and of reading the rows alone. Results are written to /dev/null, or counted. It judges nothing.
 """
 import pathlib
 import subprocess
@@ -51,10 +51,11 @@ def main(words: List[str]) -> int:
     prefix = pathlib.Path(words[0]).resolve() if words else ROOT / "crates" / "crs_c" / "out" / "prefix"
     rows = int(words[1]) if len(words) > 1 else 100_000
     statements = {
-        "reading them alone": "SELECT count(definition_12_063 || '') FROM texts;",
+        "reading": "SELECT count(definition_12_063 || '') FROM texts;",
         "crs_canon": "SELECT crs_canon(definition_12_063) FROM texts;",
-        "crs_kind": "SELECT crs_kind(definition_12_063) FROM texts;",
-        "crs_same": "SELECT crs_same(definition_12_063, definition_12_063) FROM texts;",
+        "crs_canon, counted": "SELECT count(crs_canon(definition_12_063)) FROM texts;",
+        "crs_kind, counted": "SELECT count(crs_kind(definition_12_063)) FROM texts;",
+        "crs_same, counted": "SELECT count(crs_same(definition_12_063, definition_12_063)) FROM texts;",
     }
     least = {name: float("inf") for name in statements}
     with tempfile.TemporaryDirectory() as folder:
@@ -71,8 +72,8 @@ def main(words: List[str]) -> int:
     print(f"{len(texts)} rows, {sum(map(len, texts)) // len(texts)} bytes on average")
     same_calls = {"crs_canon": base.least["canon"], "crs_kind": base.least["check"]}
     for name, took in least.items():
-        beside = f", from C {same_calls[name]:.0f}: {took / same_calls[name]:.2f} times" if name in same_calls else ""
-        print(f"{name}: {took:.0f} ns a row{beside}")
+        from_c = same_calls.get(name.split(",")[0])
+        print(f"{name}: {took:.0f} ns a row" + (f", from C {from_c:.0f}: {took / from_c:.2f} times" if from_c else ""))
     return 0
 
 
