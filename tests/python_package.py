@@ -24,9 +24,10 @@ import traceback
 from concurrent.futures import ThreadPoolExecutor
 from typing import Callable, Iterator, List, Optional, Tuple
 
-# The import of the file beside this one leaves nothing in the repository.
+# The import of the files beside this one leaves nothing in the repository.
 sys.dont_write_bytecode = True
 import run_cases
+import run_documents
 
 import crsdesk
 from crsdesk import Catalogue, Crs, Difference, Refused, canon, check, difference, differences, same
@@ -461,6 +462,19 @@ def examples_of_the_docstrings() -> None:
     assert doctest.testmod(crsdesk).failed == 0
 
 
+def examples_of_the_document() -> None:
+    """The blocks of docs/PYTHON.md that begin with ```pycon."""
+    blocks = run_documents.blocks_of(HERE.parent / "docs" / "PYTHON.md")
+    text = "\n".join("\n".join(lines) + "\n" for _, head, lines in blocks if head == "pycon")
+    before = os.getcwd()
+    os.chdir(HERE.parent)
+    try:
+        found = doctest.DocTestRunner().run(doctest.DocTestParser().get_doctest(text, {}, "PYTHON.md", None, 0))
+    finally:
+        os.chdir(before)
+    assert found.attempted > 10 and found.failed == 0, found
+
+
 # The commands over files.
 
 
@@ -589,6 +603,7 @@ PROMISES = [
     four_threads,
     four_threads_on_one_catalogue,
     examples_of_the_docstrings,
+    examples_of_the_document,
     commands,
 ]
 

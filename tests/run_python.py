@@ -104,16 +104,18 @@ def try_environment(counts: Counts, wheel: pathlib.Path, folder: pathlib.Path) -
 
 
 def try_package(counts: Counts, python: pathlib.Path) -> None:
-    """What python_package.py tries, with the installed package."""
+    """What python_package.py tries, with the installed package, and the command lines of docs/PYTHON.md."""
     environment = {key: value for key, value in os.environ.items() if key not in ("CRSDESK_LIBRARY", "PYTHONPATH")}
-    done = run([python, HERE / "python_package.py"], environment)
-    *lines, last = done.stdout.rstrip("\n").split("\n")
-    print("".join(f"{line}\n" for line in lines), end="")
-    match = re.fullmatch(r"(\d+) passed, (\d+) failed", last)
-    counts.passed += int(match[1]) if match else 0
-    counts.failed += int(match[2]) if match else 1
-    if not match:
-        print(last)
+    environment["PATH"] = f"{python.parent}{os.pathsep}{environment['PATH']}"
+    for words in ([HERE / "python_package.py"], [HERE / "run_documents.py", ROOT / "docs" / "PYTHON.md"]):
+        done = run([python, *words], environment)
+        *lines, last = done.stdout.rstrip("\n").split("\n")
+        print("".join(f"{line}\n" for line in lines), end="")
+        match = re.fullmatch(r"(\d+) passed, (\d+) failed", last)
+        counts.passed += int(match[1]) if match else 0
+        counts.failed += int(match[2]) if match else 1
+        if not match:
+            print(last)
 
 
 def try_code(counts: Counts) -> None:
