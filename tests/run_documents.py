@@ -3,10 +3,11 @@
 
     run_documents.py [FILE.md ..]
 
-In a block that begins with the line ```console, a line '$ COMMAND' is run by the shell in the repository's folder, and
-the lines up to the next command are what it must print on standard output. A block that begins with the line
-```console needs=TOOL[,TOOL..] is run where each TOOL is there, a program on the PATH or, as python3:MODULE, a module of
-that Python; elsewhere its commands are told as skipped, by the tool's name. A block that begins with ```rust is code
+In a block that begins with the line ```console, a line '$ COMMAND' is run by the shell in the repository's folder, with
+the lines '> MORE' directly below it, and the lines up to the next command are what it must print on standard output. A
+block that begins with the line ```console needs=TOOL[,TOOL..] is run where each TOOL is there, a program on the PATH,
+as python3:MODULE a module of that Python, or a file of the repository, whose path has a slash; elsewhere its commands
+are told as skipped, by the tool's name. A block that begins with ```rust is code
 that must stand, line by line, in a file of crates/crs_examples/src, which the gate proves and runs.
 
 Without files they are README.md and docs/*.md; README.md then has at most 1,500 words. Each command that prints
@@ -43,6 +44,8 @@ def commands_of(start, lines):
     for number, line in enumerate(lines, start):
         if line.startswith("$ "):
             commands.append((number, line[2:], []))
+        elif line.startswith("> ") and commands and not commands[-1][2]:
+            commands[-1] = (commands[-1][0], f"{commands[-1][1]}\n{line[2:]}", [])
         elif commands:
             commands[-1][2].append(line + "\n")
     return [(number, command, "".join(wanted)) for number, command, wanted in commands]
@@ -54,6 +57,8 @@ def printed(command):
 
 
 def is_there(tool):
+    if "/" in tool:
+        return (ROOT / tool).exists()
     program, _, module = tool.partition(":")
     if shutil.which(program) is None:
         return False

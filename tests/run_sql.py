@@ -4,10 +4,11 @@
     run_sql.py [PREFIX]
 
 PREFIX has the header and the static library, as tools/build_library.py makes them (crates/crs_c/out/prefix where none
-is given). The extension is built anew, under all warnings; the rows of the .rows files beside it are asked of its
-functions by the program sqlite3, as TEXT and as BLOB; then come what no text is, levels, indexes, other encodings, long
-texts and, where GDAL is there, a GeoPackage. What isn't there is told as skipped, by name. Each case that fails has a
-line; the last line is 'N passed, M failed', and the status is 0 where M is 0.
+is given). The extension is built anew as sql/out/crsdesk_sqlite.so, under all warnings. The rows of the .rows files
+beside it are asked of its functions by the program sqlite3, as TEXT and as BLOB; then come what no text is, levels,
+indexes, other encodings, long texts, threads and, where GDAL is there, a GeoPackage. What isn't there is told as
+skipped, by name. Each case that fails has a line; the last line is 'N passed, M failed', and the status is 0 where M
+is 0.
 """
 from __future__ import annotations
 
@@ -292,7 +293,8 @@ def main(words: List[str]) -> int:
         return 0
     counts = Counts()
     with tempfile.TemporaryDirectory() as folder:
-        extension = pathlib.Path(folder, "crsdesk_sqlite.so")
+        extension = ROOT / "sql" / "out" / "crsdesk_sqlite.so"
+        extension.unlink(missing_ok=True)
         done = subprocess.run([sys.executable, ROOT / "tools" / "build_sqlite.py", prefix, extension], check=False)
         if done.returncode == 3:
             print("skipped: sqlite3ext.h isn't there: the extension for SQLite")
