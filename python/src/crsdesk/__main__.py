@@ -15,11 +15,10 @@ import sys
 from typing import Callable, Iterator, List, Optional, Tuple
 
 from . import Catalogue, Refused, __version__, canon, check, difference, differences
-from ._crs import LEVELS
+from ._crs import BLANK, LEVELS
 
 DIFFERS = 1
 FAULT = 2
-BLANK = b" \t\r\n"
 LEVEL_HELP = "what counts: full, or definition, without identifiers, usages and remarks (default: full)"
 FILE_HELP = "a file with a text; - is standard input"
 

@@ -3,8 +3,7 @@
 from __future__ import annotations
 
 import threading
-import weakref
-from typing import Iterator, List, NamedTuple, Optional, Tuple, Union
+from typing import Dict, Iterator, List, NamedTuple, Optional, Tuple, Union
 
 from . import _library
 from ._parts import Difference, differences_of
@@ -12,6 +11,7 @@ from ._refused import Refused
 
 Text = Union[str, bytes, bytearray, memoryview]
 LEVELS = {"full": 0, "definition": 1}
+BLANK = b" \t\r\n"
 
 
 def bytes_of(text: Text) -> bytes:
@@ -180,15 +180,16 @@ class Group(NamedTuple):
 class Catalogue:
     """Texts by the CRS that they spell, at a level: the same CRS, the same group (docs/CATALOGUES.md).
 
-    A catalogue may be used by several threads: one call is made at a time.
-    ``ValueError`` for a level that isn't there, ``MemoryError`` where memory is refused.
+    Groups are found by canonical texts, which are equal exactly where the CRSs are the same. A catalogue may be used by
+    several threads. ``ValueError`` for a level that isn't there.
     """
 
     def __init__(self, level: str = "full") -> None:
-        self._address = _library.catalogue_new(number_of(level))
-        self._finalizer = weakref.finalize(self, _library.catalogue_free, self._address)
+        self._level = number_of(level)
         self._lock = threading.Lock()
-        self._names: List[object] = []
+        self._count = 0
+        self._groups: List[Group] = []
+        self._numbers: Dict[str, int] = {}
         self._refused: List[Tuple[object, Refused]] = []
 
     def add(self, text: Text, name: object = None) -> Optional[int]:
@@ -196,33 +197,40 @@ class Catalogue:
 
         The answer is the number of its group, a new one where no text before spells the same CRS; None where the text
         is blank (white space alone, or nothing) and stands nowhere. ``Refused`` where it spells no CRS: then it is
-        listed in ``refused``, and the catalogue goes on. After ``MemoryError`` the catalogue is as before.
+        listed in ``refused``, and the catalogue goes on. Where memory is refused to the library, it is as before.
         """
         found = bytes_of(text)
+        refusal: Optional[Refused] = None
+        spelling = ""
+        try:
+            spelling = _library.canon(found, self._level).decode() if found.strip(BLANK) else ""
+        except Refused as refused:
+            refusal = refused
         with self._lock:
-            number = len(self._names)
-            named = number + 1 if name is None else name
-            try:
-                group = _library.catalogue_add(self._address, number, found)
-            except Refused as refused:
-                self._names.append(named)
-                self._refused.append((named, refused))
-                raise
-            self._names.append(named)
-            return group or None
+            self._count += 1
+            named = self._count if name is None else name
+            if refusal is not None:
+                self._refused.append((named, refusal))
+                raise refusal
+            if not spelling:
+                return None
+            number = self._numbers.setdefault(spelling, len(self._groups) + 1)
+            if number > len(self._groups):
+                self._groups.append(Group(number, spelling, []))
+            self._groups[number - 1].names.append(named)
+            return number
 
     def __len__(self) -> int:
         """How many groups there are."""
-        with self._lock:
-            return _library.catalogue_groups(self._address)
+        return len(self._groups)
 
     def group(self, number: int) -> Group:
         """A group by its number, counted from 1. ``IndexError`` where there is none."""
+        if not 1 <= number <= len(self._groups):
+            raise IndexError(f"no such group: {number}")
         with self._lock:
-            if not 1 <= number <= _library.catalogue_groups(self._address):
-                raise IndexError(f"no such group: {number}")
-            names = [self._names[line] for line in _library.catalogue_lines(self._address, number)]
-            return Group(number, _library.catalogue_text(self._address, number).decode(), names)
+            found = self._groups[number - 1]
+            return found._replace(names=list(found.names))
 
     def __iter__(self) -> Iterator[Group]:
         """The groups, by their numbers; a group that comes while they are taken is among them."""

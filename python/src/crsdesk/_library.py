@@ -9,7 +9,7 @@ from __future__ import annotations
 import ctypes
 import os
 import pathlib
-from typing import Any, List, Optional, Tuple
+from typing import Any, Dict, List, Optional
 
 from ._refused import Refused
 
@@ -50,26 +50,19 @@ def load() -> ctypes.CDLL:
         library = ctypes.CDLL(path)
     except OSError as error:
         raise ImportError(f"crsdesk needs its shared object: {error}") from None
-    text, size, number = ctypes.c_char_p, ctypes.c_size_t, ctypes.c_uint32
-    place, catalogue = ctypes.c_void_p, ctypes.c_void_p
-    signatures: List[Tuple[str, Any, List[Any]]] = [
-        ("check", number, [text, size, place, place]),
-        ("canon", number, [text, size, number, place, size, place, place]),
-        ("same", number, [text, size, text, size, number, place, place]),
-        ("first_part", number, [text, size, text, size, number, place, size, place, place]),
-        ("refusal_name", number, [number, place, size, place]),
-        ("version", number, [place, size, place]),
-        ("catalogue_new", number, [number, place]),
-        ("catalogue_add", number, [catalogue, ctypes.c_uint64, text, size, place, place]),
-        ("catalogue_groups", size, [catalogue]),
-        ("catalogue_lines", number, [catalogue, size, place, size, place]),
-        ("catalogue_text", number, [catalogue, size, place, size, place]),
-        ("catalogue_free", None, [catalogue]),
-    ]
-    for name, result, arguments in signatures:
+    text, size, number, place = ctypes.c_char_p, ctypes.c_size_t, ctypes.c_uint32, ctypes.c_void_p
+    arguments: Dict[str, List[Any]] = {
+        "check": [text, size, place, place],
+        "canon": [text, size, number, place, size, place, place],
+        "same": [text, size, text, size, number, place, place],
+        "first_part": [text, size, text, size, number, place, size, place, place],
+        "refusal_name": [number, place, size, place],
+        "version": [place, size, place],
+    }
+    for name, types in arguments.items():
         function = getattr(library, f"crsdesk_{name}")
-        function.restype = result
-        function.argtypes = arguments
+        function.restype = number
+        function.argtypes = types
     return library
 
 
@@ -166,50 +159,3 @@ def version() -> str:
     name: bytes = found.out[: found.length.value]
     _kept.append(found)
     return name.decode("ascii")
-
-
-def catalogue_new(level: int) -> int:
-    """The address of a new catalogue, which has to be freed."""
-    made = ctypes.c_void_p()
-    if LOADED.crsdesk_catalogue_new(level, ctypes.byref(made)) or made.value is None:
-        raise MemoryError("crsdesk: memory was refused; the same call may be made again")
-    return made.value
-
-
-def catalogue_add(catalogue: int, number: int, text: bytes) -> int:
-    found = places()
-    code = LOADED.crsdesk_catalogue_add(catalogue, number, text, len(text), found.to_length, found.to_refusal)
-    if code:
-        raise fault(code, found, text)
-    group: int = found.length.value
-    _kept.append(found)
-    return group
-
-
-def catalogue_groups(catalogue: int) -> int:
-    groups: int = LOADED.crsdesk_catalogue_groups(catalogue)
-    return groups
-
-
-def catalogue_lines(catalogue: int, group: int) -> List[int]:
-    length, room = ctypes.c_size_t(), 0
-    while True:
-        out: Any = (ctypes.c_uint64 * max(room, 1))()
-        code = LOADED.crsdesk_catalogue_lines(catalogue, group, out, room, ctypes.byref(length))
-        if code != NO_ROOM:
-            return [] if code else list(out[: length.value])
-        room = length.value
-
-
-def catalogue_text(catalogue: int, group: int) -> bytes:
-    length, room = ctypes.c_size_t(), KEPT_ROOM
-    while True:
-        out: Any = ctypes.create_string_buffer(room)
-        code = LOADED.crsdesk_catalogue_text(catalogue, group, out, room, ctypes.byref(length))
-        if code != NO_ROOM:
-            return b"" if code else bytes(out[: length.value])
-        room = length.value
-
-
-def catalogue_free(catalogue: int) -> None:
-    LOADED.crsdesk_catalogue_free(catalogue)
