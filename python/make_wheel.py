@@ -11,9 +11,9 @@ import base64
 import hashlib
 import os
 import pathlib
+import re
 import sys
 import sysconfig
-import tomllib
 import zipfile
 from typing import Dict, Mapping, Optional
 
@@ -55,7 +55,9 @@ def build_wheel(
     wheel_directory: str, config_settings: Optional[object] = None, metadata_directory: Optional[str] = None
 ) -> str:
     """Makes the wheel in a folder and answers its name, as pip asks of a build backend."""
-    project = tomllib.loads((HERE / "pyproject.toml").read_text(encoding="utf-8"))["project"]
+    project = dict(
+        re.findall(r'^([a-z-]+) = "(.*)"$', (HERE / "pyproject.toml").read_text(encoding="utf-8"), re.MULTILINE)
+    )
     found = files(project)
     record = f"crsdesk-{project['version']}.dist-info/RECORD"
     found[record] = ("".join(row(*it) for it in found.items()) + f"{record},,\n").encode()

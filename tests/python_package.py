@@ -424,6 +424,31 @@ def long_texts() -> None:
     assert len(canon(boxes)) > len(boxes) and len(canon(many)) > 3 * len(many)
 
 
+SCARCE = """
+import resource, sys
+from crsdesk import canon, check
+text = b'VERTCRS["H",' + b"1," * 20_000_000 + b"1]"
+with open("/proc/self/statm") as file:
+    used = int(file.read().split()[0]) * resource.getpagesize()
+resource.setrlimit(resource.RLIMIT_AS, (used + 50_000_000, resource.RLIM_INFINITY))
+for call in (check, canon):
+    try:
+        call(text)
+    except MemoryError as error:
+        print(error)
+print(check(sys.argv[1]))
+"""
+
+
+def want_of_memory() -> None:
+    """A call to which memory is refused says so, and the next call is answered."""
+    done = subprocess.run(
+        [sys.executable, "-c", SCARCE, HEIGHT], capture_output=True, text=True, timeout=60, check=False
+    )
+    told = "crsdesk: memory was refused; the same call may be made again\n"
+    assert (done.stdout, done.stderr) == (2 * told + "vertical\n", ""), (done.stdout, done.stderr)
+
+
 def lock_is_released() -> None:
     text = HEIGHT[:-1].encode() + b',REMARK["' + b"r" * LONG + b'"]]'
     worker = threading.Thread(target=lambda: [check(text) for _ in range(5)])
@@ -599,6 +624,7 @@ PROMISES = [
     nul_bytes,
     empty_texts,
     long_texts,
+    want_of_memory,
     lock_is_released,
     four_threads,
     four_threads_on_one_catalogue,

@@ -8,6 +8,7 @@ and the status is 0 where M is 0.
 """
 from __future__ import annotations
 
+import importlib.util
 import os
 import pathlib
 import shutil
@@ -153,6 +154,9 @@ def try_libraries(counts: Counts, prefix: pathlib.Path, folder: pathlib.Path) ->
 
 
 def try_python(counts: Counts, prefix: pathlib.Path, folder: pathlib.Path) -> None:
+    if importlib.util.find_spec("pip") is None or importlib.util.find_spec("ensurepip") is None:
+        print("skipped: this Python's pip or venv isn't there: the installed wheel")
+        return
     (wheel,) = (prefix / "share/crsdesk").glob("crsdesk-*.whl")
     fresh = folder / "fresh"
     counts.compare("a fresh environment", run([sys.executable, "-m", "venv", fresh]).returncode, 0)

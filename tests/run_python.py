@@ -12,6 +12,7 @@ from __future__ import annotations
 
 import ast
 import hashlib
+import importlib.util
 import os
 import pathlib
 import re
@@ -57,7 +58,7 @@ def run(words: List[object], environment: Optional[Dict[str, str]] = None) -> "s
 
 
 def try_wheel(counts: Counts, library: pathlib.Path, folder: pathlib.Path) -> Optional[pathlib.Path]:
-    """The wheel by pip, which is the same bytes as by the script, and has all files."""
+    """The wheel by pip, which is the same bytes as by the script, and has all files; None where it can't be made."""
     environment = {**os.environ, "CRSDESK_LIBRARY": str(library), "PIP_NO_INDEX": "1", "PYTHONDONTWRITEBYTECODE": "1"}
     words = ["wheel", "-q", "--no-build-isolation", "--no-deps", "-w", folder, PACKAGE]
     done = run([sys.executable, "-m", "pip", *words], environment)
@@ -78,6 +79,15 @@ def try_wheel(counts: Counts, library: pathlib.Path, folder: pathlib.Path) -> Op
     counts.add("its files", names == sources | {"crsdesk/py.typed", "crsdesk/libcrsdesk.so"}, str(names))
     counts.add("its shared object", inside == hashlib.sha256(library.read_bytes()).digest(), str(library))
     return wheels[0]
+
+
+def lacks_tool() -> bool:
+    """Whether this Python has no pip or makes no environments, which is told."""
+    for module, package in (("pip", "pip"), ("ensurepip", "venv")):
+        if importlib.util.find_spec(module) is None:
+            print(f"skipped: this Python's {package} isn't there: the wheel in a fresh environment")
+            return True
+    return False
 
 
 def try_environment(counts: Counts, wheel: pathlib.Path, folder: pathlib.Path) -> Optional[pathlib.Path]:
@@ -103,10 +113,10 @@ def try_environment(counts: Counts, wheel: pathlib.Path, folder: pathlib.Path) -
     return python
 
 
-def try_package(counts: Counts, python: pathlib.Path) -> None:
-    """What python_package.py tries, with the installed package, and the command lines of docs/PYTHON.md."""
+def try_package(counts: Counts, python: pathlib.Path, **more: str) -> None:
+    """What python_package.py tries, with the package that a Python has, and the command lines of docs/PYTHON.md."""
     environment = {key: value for key, value in os.environ.items() if key not in ("CRSDESK_LIBRARY", "PYTHONPATH")}
-    environment["PATH"] = f"{python.parent}{os.pathsep}{environment['PATH']}"
+    environment |= {"PATH": f"{python.parent}{os.pathsep}{environment['PATH']}", **more}
     for words in ([HERE / "python_package.py"], [HERE / "run_documents.py", ROOT / "docs" / "PYTHON.md"]):
         done = run([python, *words], environment)
         *lines, last = done.stdout.rstrip("\n").split("\n")
@@ -144,13 +154,18 @@ def main(words: List[str]) -> int:
     if len(words) > 1 or words and words[0].startswith("-"):
         sys.exit(__doc__)
     prefix = pathlib.Path(words[0]).resolve() if words else ROOT / "crates" / "crs_c" / "out" / "prefix"
+    library = prefix / "lib" / "libcrsdesk.so"
     counts = Counts()
     with tempfile.TemporaryDirectory() as name:
         folder = pathlib.Path(name)
-        wheel = try_wheel(counts, prefix / "lib" / "libcrsdesk.so", folder)
-        python = try_environment(counts, wheel, folder) if wheel else None
-        if python:
-            try_package(counts, python)
+        if lacks_tool():
+            more = {"PYTHONPATH": str(PACKAGE / "src"), "PYTHONDONTWRITEBYTECODE": "1"}
+            try_package(counts, pathlib.Path(sys.executable), CRSDESK_LIBRARY=str(library), **more)
+        else:
+            wheel = try_wheel(counts, library, folder)
+            python = try_environment(counts, wheel, folder) if wheel else None
+            if python:
+                try_package(counts, python)
     try_code(counts)
     print(f"{counts.passed} passed, {counts.failed} failed")
     return 1 if counts.failed else 0
