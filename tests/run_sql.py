@@ -6,9 +6,9 @@
 PREFIX has the header and the static library, as tools/build_library.py makes them (crates/crs_c/out/prefix where none
 is given). The extension is built anew as sql/out/crsdesk_sqlite.so, under all warnings. The rows of the .rows files
 beside it are asked of its functions by the program sqlite3, as TEXT and as BLOB; then come what no text is, levels,
-indexes, other encodings, long texts, threads and, where GDAL is there, a GeoPackage. What isn't there is told as
-skipped, by name. Each case that fails has a line; the last line is 'N passed, M failed', and the status is 0 where M
-is 0.
+indexes, other encodings and long texts; all of it again under checks of memory; threads; and, where GDAL is there, a
+GeoPackage. What isn't there is told as skipped, by name. Each case that fails has a line; the last line is 'N passed, M
+failed', and the status is 0 where M is 0.
 """
 from __future__ import annotations
 
@@ -23,12 +23,15 @@ import tempfile
 from concurrent.futures import ThreadPoolExecutor
 from typing import Iterator, List, Tuple
 
-# The import of the file beside this one leaves nothing in the repository.
-sys.dont_write_bytecode = True
-import run_cases
-
 HERE = pathlib.Path(__file__).resolve().parent
 ROOT = HERE.parent
+
+# The imports of the repository's own files leave nothing in it.
+sys.dont_write_bytecode = True
+sys.path.append(str(ROOT / "tools"))
+import build_sqlite
+import run_cases
+
 SECONDS = 300
 HEIGHT = 'VERTCRS["H",VDATUM["D"],CS[vertical,1],AXIS["h",up,LENGTHUNIT["metre",1]]]'
 CANONICAL_HEIGHT = 'VERTCRS["H",VDATUM["D"],CS[vertical,1],AXIS["h",up,ORDER[1],LENGTHUNIT["metre",1]]]'
@@ -146,8 +149,8 @@ def of_long_texts() -> Iterator[Statement]:
     yield "a canonical text", f"SELECT crs_canon(crs_canon({text})) = crs_canon({text});", "1"
 
 
-def printed(extension: pathlib.Path, statements: List[Statement], first: str = "") -> List[str]:
-    """What the program sqlite3 prints for each statement."""
+def printed(extension: pathlib.Path, statements: List[Statement], first: str, preloaded: str) -> List[str]:
+    """What the program sqlite3 prints for each statement, and at last behind them."""
     script = [f"{first}\n.load {extension}\n"]
     for index, (_, statement, _) in enumerate(statements):
         script.append(f"{statement}\n.print -- {index}\n")
@@ -156,6 +159,7 @@ def printed(extension: pathlib.Path, statements: List[Statement], first: str = "
         input="".join(script).encode(),
         stdout=subprocess.PIPE,
         stderr=subprocess.STDOUT,
+        env={**os.environ, "LD_PRELOAD": preloaded, "ASAN_OPTIONS": "detect_leaks=1"},
         timeout=SECONDS,
         check=False,
     )
@@ -165,7 +169,7 @@ def printed(extension: pathlib.Path, statements: List[Statement], first: str = "
         end = lines.index(f"-- {index}", begin)
         found.append("\n".join(lines[begin:end]))
         begin = end + 1
-    return found
+    return [*found, "\n".join(lines[begin:])]
 
 
 def plain_error(text: str) -> str:
@@ -194,19 +198,29 @@ class Counts:
         self.add(name, "" if got == wanted else f"answered {str(got)[:300]!r}, wanted {str(wanted)[:300]!r}")
 
 
-def try_statements(counts: Counts, extension: pathlib.Path) -> None:
+def try_statements(counts: Counts, extension: pathlib.Path, preloaded: str = "") -> None:
     asked, promised = list(rows()), list(promises())
-    for name, statements, first in (
-        ("", asked, ""),
-        ("", promised, ""),
-        (
-            "UTF-16: ",
-            [it for it in promised if it[0] in ("a level", "a wrong level", "nothing", "types")],
-            "PRAGMA encoding='UTF-16';",
-        ),
-    ):
-        for (place, statement, wanted), got in zip(statements, printed(extension, statements, first)):
-            counts.compare(f"{name}{place}: {statement[:80]}", plain_error(got), wanted)
+    of_encoding = [it for it in promised if it[0] in ("a level", "a wrong level", "nothing", "types")]
+    for statements, first in ((asked, ""), (promised, ""), (of_encoding, "PRAGMA encoding='UTF-16';")):
+        *answers, rest = printed(extension, statements, first, preloaded)
+        for (place, statement, wanted), got in zip(statements, answers):
+            counts.compare(f"{place}: {first} {statement[:80]}", plain_error(got), wanted)
+        counts.compare("behind all statements", rest, "")
+
+
+def try_sanitized(counts: Counts, prefix: pathlib.Path, folder: pathlib.Path) -> None:
+    """The same of the extension built with checks of memory and of undefined behaviour, and a search for leaks."""
+    names = ["libasan.so", "libubsan.so"]
+    words = ["cc", *(f"-print-file-name={name}" for name in names)]
+    found = [
+        subprocess.run([words[0], it], capture_output=True, text=True, check=True).stdout.strip() for it in words[1:]
+    ]
+    if not all("/" in it for it in found):
+        print("skipped: libasan or libubsan isn't there: the extension under checks of memory")
+        return
+    extension = folder / "crsdesk_sqlite.so"
+    build_sqlite.build(prefix, extension, ["-g", "-fsanitize=address,undefined", "-fno-sanitize-recover=all"])
+    try_statements(counts, extension, " ".join(found))
 
 
 def try_symbols(counts: Counts, extension: pathlib.Path) -> None:
@@ -304,6 +318,7 @@ def main(words: List[str]) -> int:
         if extension.exists():
             try_symbols(counts, extension)
             try_statements(counts, extension)
+            try_sanitized(counts, prefix, pathlib.Path(folder))
             try_threads(counts, extension)
             try_geopackage(counts, extension, pathlib.Path(folder))
     print(f"{counts.passed} passed, {counts.failed} failed")
