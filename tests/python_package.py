@@ -237,19 +237,22 @@ HINTS = [
     ("wgs84.prj", "file's name"),
     ("my tiles/tile_01.tif", "file's name"),
     ("BOUNDCRS[SOURCECRS[", "BOUNDCRS isn't read"),
-    ('EngCRS["A"]', "ENGCRS isn't read"),
-    ('DERIVEDPROJCRS["A"]', "derived CRSs aren't read"),
-    ('TIMECRS["A"]', "temporal CRSs aren't read"),
+    ('EngCRS["A"]', "Engineering CRSs aren't read"),
+    ('DERIVEDPROJCRS["A"]', "Derived CRSs aren't read"),
+    ('TIMECRS["A"]', "Temporal CRSs aren't read"),
     ('DATUM["D"]', "part of a CRS"),
     ('"VERTCRS[""H""]"', "quotes"),
     ("", "Nothing stands here"),
     (" \n", "Nothing stands here"),
-    ('GEOGCRS["A",BASEGEOGCRS["B"]]', "derived CRS"),
+    ('GEOGCRS["A",BASEGEOGCRS["B"]]', "Derived CRSs aren't read"),
     ('VERTCRS["H",VDATUM["D"],CS[vertical,1],AXIS["h",up,UNIT["metre",1]],AUTHORITY["E","1"]]', "AUTHORITY is WKT1's"),
     ("VERTCRS[“H”]", "typographic"),
     ("VERTCRS['H']", "double quotes"),
     ('VERTCRS["H";', "commas"),
     (b'VERTCRS["H\xe9"]', "Latin-1"),
+    (HEIGHT + "\n" + HEIGHT, "A second text begins here"),
+    (HEIGHT.replace('"metre",1', '"metre",1m'), "a unit is a node of its own"),
+    ('VERTCRS["H",DYNAMIC[FRAMEEPOCH[2010-01-01]]]', "an epoch is a year"),
 ]
 
 
@@ -261,7 +264,13 @@ def hints_are_given() -> None:
 
 
 def no_hint_is_given_where_nothing_can_be_told() -> None:
-    for text in ('VERTCRS["H"', "x", 'VERTCRS["H",VDATUM["D"],CS[vertical,2],AXIS["h",up,LENGTHUNIT["metre",1]]]'):
+    for text in (
+        'VERTCRS["H"',
+        "x",
+        'VERTCRS["H" VDATUM["D"]]',
+        'VERTCRS["H",1E]',
+        'VERTCRS["H",VDATUM["D"],CS[vertical,2],AXIS["h",up,LENGTHUNIT["metre",1]]]',
+    ):
         assert refusal_of(text).hint is None, text
 
 

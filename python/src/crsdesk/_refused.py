@@ -45,17 +45,17 @@ MEANINGS = {
 
 OLD_CLASSES = "GEOGCS PROJCS GEOCCS VERT_CS COMPD_CS LOCAL_CS FITTED_CS".split()
 OTHER_CLASSES = {
-    "BOUNDCRS": "take its source CRS, as by pyproj: CRS(text).source_crs.to_wkt()",
-    "ENGCRS": "engineering CRSs aren't read",
-    "ENGINEERINGCRS": "engineering CRSs aren't read",
-    "PARAMETRICCRS": "parametric CRSs aren't read",
-    "TIMECRS": "temporal CRSs aren't read",
-    "DERIVEDPROJCRS": "derived CRSs aren't read",
-    "IMAGECRS": "image CRSs aren't read",
-    "COORDINATEOPERATION": "a coordinate operation is no CRS",
-    "CONCATENATEDOPERATION": "a coordinate operation is no CRS",
-    "POINTMOTIONOPERATION": "a coordinate operation is no CRS",
-    "COORDINATEMETADATA": "take the CRS in it; the epoch of coordinates is no part of a CRS",
+    "BOUNDCRS": "A BOUNDCRS isn't read: take its source CRS, as by pyproj: CRS(text).source_crs.to_wkt().",
+    "ENGCRS": "Engineering CRSs aren't read.",
+    "ENGINEERINGCRS": "Engineering CRSs aren't read.",
+    "PARAMETRICCRS": "Parametric CRSs aren't read.",
+    "TIMECRS": "Temporal CRSs aren't read.",
+    "DERIVEDPROJCRS": "Derived CRSs aren't read.",
+    "IMAGECRS": "Image CRSs aren't read.",
+    "COORDINATEOPERATION": "A coordinate operation is no CRS.",
+    "CONCATENATEDOPERATION": "A coordinate operation is no CRS.",
+    "POINTMOTIONOPERATION": "A coordinate operation is no CRS.",
+    "COORDINATEMETADATA": "Take the CRS in it: the epoch of coordinates is no part of a CRS.",
 }
 PARTS = (
     "DATUM TRF GEODETICDATUM VDATUM VRF VERTICALDATUM ENSEMBLE ELLIPSOID SPHEROID PRIMEM PRIMEMERIDIAN CS AXIS "
@@ -76,6 +76,9 @@ OTHER_KEYWORDS = {
 KEYWORD = re.compile(rb"\s*([A-Za-z][0-9A-Za-z_]*)\s*[\[(]")
 CODE = re.compile(rb"[A-Za-z][\w.-]*:{1,2}\d+(\+\d+)?\Z")
 WEB_ADDRESS = re.compile(rb"(?i)(urn:|https?://)")
+QUOTED = re.compile(rb'"[^"]*"')
+DATE = re.compile(rb"\d{4}-\d")
+WITH_UNIT = re.compile(rb"[-+]?[\d.]+[A-DF-Za-df-z]")
 PROJ_STRING = re.compile(rb"(?i)(\+?(proj|init)=|.*\s\+?proj=)", re.DOTALL)
 PATH = re.compile(rb"(?i)([~.]{0,2}/|[a-z]:\\|[^\[\]()\"\n]*\.(wkt2?|prj|txt|shp|gpkg|tiff?|json|gml|xml|csv)\Z)")
 
@@ -119,7 +122,7 @@ def class_hint(front: bytes) -> Optional[str]:
     if word in OLD_CLASSES:
         return f"This is WKT1, of a .prj file or an older tool: {WRITE_WKT2} TEXT)."
     if word in OTHER_CLASSES:
-        return f"{word} isn't read: {OTHER_CLASSES[word]}."
+        return OTHER_CLASSES[word]
     if word in PARTS:
         return f"{word} is a part of a CRS, and no CRS by itself."
     return None
@@ -132,7 +135,13 @@ def place_hint(text: bytes, number: int, place: int) -> Optional[str]:
     if number in (11, 12) and word in OTHER_KEYWORDS:
         return f"{OTHER_KEYWORDS[word]}: have the tool write WKT2:2019, or leave the node out where you don't need it."
     if number == 12 and word in ("BASEGEOGCRS", "BASEGEODCRS"):
-        return "This is a derived CRS; derived CRSs aren't read."
+        return "This is a derived CRS. Derived CRSs aren't read."
+    if number == 6 and word and is_complete(text[:place]):
+        return "A second text begins here: hand over one text at a time."
+    if number == 2 and DATE.match(rest):
+        return "A date is no number: an epoch is a year, with a fraction."
+    if number == 2 and WITH_UNIT.match(rest):
+        return "The number stands alone: a unit is a node of its own, behind it."
     if number == 1 and rest.startswith((b"\xe2\x80\x9c", b"\xe2\x80\x9d", b"\xe2\x80\x9e", b"\xc2\xab", b"\xc2\xbb")):
         return 'This is a typographic quote: write straight ones (").'
     if number == 1 and rest.startswith(b"'"):
@@ -142,6 +151,13 @@ def place_hint(text: bytes, number: int, place: int) -> Optional[str]:
     if number == 4:
         return "It is Latin-1, most likely, or another encoding: decode it by that one, and hand over the str."
     return None
+
+
+def is_complete(text: bytes) -> bool:
+    """Whether delimiters were opened, and all are closed again."""
+    outside = QUOTED.sub(b"", text)
+    opened = outside.count(b"[") + outside.count(b"(")
+    return 0 < opened == outside.count(b"]") + outside.count(b")")
 
 
 def keyword_at(text: bytes, place: int) -> Optional[str]:
