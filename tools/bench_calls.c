@@ -3,7 +3,7 @@
        bench_calls ROUNDS < CATALOGUE
 
    CATALOGUE has a text a line. For each of the calls check and canon a line is printed: its name, and the nanoseconds
-   that it takes a text, the least of ROUNDS rounds over all lines. */
+   of the processor that it takes a text, the least of ROUNDS rounds over all lines. */
 #define _POSIX_C_SOURCE 200809L
 #include <crsdesk.h>
 #include <stdio.h>
@@ -22,7 +22,7 @@ static double now(void)
 {
     struct timespec time;
 
-    clock_gettime(CLOCK_MONOTONIC, &time);
+    clock_gettime(CLOCK_PROCESS_CPUTIME_ID, &time);
     return (double)time.tv_sec * 1e9 + (double)time.tv_nsec;
 }
 

@@ -6,7 +6,7 @@
 PREFIX has the header and the libraries, as build_library.py makes them (crates/crs_c/out/prefix where none is given).
 The texts are the lines of examples/catalogue.txt that spell a CRS. Each call is timed over all of them, ROUNDS times
 (200), by turns with the others and with the same calls from C, and the least counts. A line is printed for each call:
-its nanoseconds a text, and those beyond the same call from C. It judges nothing.
+its nanoseconds of the processor a text, and those beyond the same call from C. It judges nothing.
 """
 import os
 import pathlib
@@ -71,9 +71,9 @@ def main(words: List[str]) -> int:
             if turn % 10 == 0:
                 base.run(10)
             for name, call in calls.items():
-                began = time.perf_counter_ns()
+                began = time.process_time_ns()
                 call()
-                least[name] = min(least[name], (time.perf_counter_ns() - began) / len(texts))
+                least[name] = min(least[name], (time.process_time_ns() - began) / len(texts))
     print(f"{len(texts)} texts, {sum(map(len, texts)) // len(texts)} bytes on average")
     for name, took in least.items():
         same_call = base.least.get(name.split()[0])

@@ -5,8 +5,9 @@
 
 PREFIX has the header and the static library, as build_library.py makes them (crates/crs_c/out/prefix where none is
 given). The table has ROWS rows (100,000), the lines of examples/catalogue.txt that spell a CRS again and again. A line
-is printed for each statement: its nanoseconds a row, the least of nine runs of the program sqlite3, by turns with the
-same call from C; and of reading the rows alone. Results are written to /dev/null, or counted. It judges nothing.
+is printed for each statement: its nanoseconds of the processor a row, the least of nine runs of the program sqlite3, by
+turns with the same call from C; and of reading the rows alone. Results are written to /dev/null, or counted. It judges
+nothing.
 """
 import pathlib
 import subprocess
@@ -23,10 +24,11 @@ RUNS = 9
 
 
 def seconds(words: List[str], script: str) -> float:
-    """What the program sqlite3 takes for the last statement of a script, as it tells by itself."""
+    """The processor's time that the program sqlite3 takes for the last statement of a script, as it tells by itself."""
     done = subprocess.run(words, input=script.encode(), stdout=subprocess.PIPE, check=True).stdout.decode()
     times = [line for line in done.split("\n") if line.startswith("Run Time:")]
-    return float(times[-1].split()[3])
+    _, _, _, _, _, user, _, system = times[-1].split()
+    return float(user) + float(system)
 
 
 def make_table(folder: str, rows: int) -> List[bytes]:
