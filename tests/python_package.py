@@ -15,6 +15,7 @@ import doctest
 import os
 import pathlib
 import pickle
+import re
 import subprocess
 import sys
 import tempfile
@@ -369,6 +370,57 @@ def all_parts_of_all_pairs() -> None:
                 assert fault is None, (fault, first, second)
 
 
+# Each part that a CRS can have stands in one of these.
+RICH = [
+    'COMPOUNDCRS["C",PROJCRS["P",BASEGEOGCRS["B",DYNAMIC[FRAMEEPOCH[2010],MODEL["g",ID["X",1]]],DATUM["D",ELLIPSOID["E",'
+    '6378137,298.25,LENGTHUNIT["metre",1,ID["X",2]],ID["X",3]],ANCHOR["a"],ANCHOREPOCH[2011],ID["X",4]],PRIMEM["Paris",'
+    '2.5,ANGLEUNIT["grad",0.0157],ID["X",5]],ANGLEUNIT["degree",0.0174],ID["X",6]],CONVERSION["V",METHOD["M",ID["X",7]],'
+    'PARAMETER["k",1,SCALEUNIT["unity",1],ID["X",8]],PARAMETER["a",2],ID["X",9]],CS[Cartesian,2,ID["X",10]],AXIS["(E)",'
+    'north,MERIDIAN[10,ANGLEUNIT["degree",0.0174]],LENGTHUNIT["metre",1],ID["X",11]],AXIS["(N)",south,LENGTHUNIT["metre"'
+    ',1]],USAGE[SCOPE["s"],AREA["r"],BBOX[1,2,3,4],VERTICALEXTENT[5,6]],ID["X",12],REMARK["q"]],VERTCRS["H",DYNAMIC['
+    'FRAMEEPOCH[2012]],VDATUM["W",ANCHOR["b"],ANCHOREPOCH[2013],ID["X",13]],CS[vertical,1],AXIS["h",up,LENGTHUNIT['
+    '"metre",1]],GEOIDMODEL["g",ID["X",14]],USAGE[SCOPE["t"]],ID["X",15],REMARK["r"]],USAGE[AREA["u"]],ID["X",16],'
+    'REMARK["s"]]',
+    'GEODCRS["A",ENSEMBLE["N",MEMBER["m",ID["X",1]],MEMBER["n"],ELLIPSOID["E",6378137,298.25],ENSEMBLEACCURACY[2],ID["X"'
+    ',2]],PRIMEM["Paris",2.5,ANGLEUNIT["grad",0.0157],ID["X",3]],CS[ellipsoidal,3,ID["X",4]],AXIS["lat",north,ANGLEUNIT['
+    '"degree",0.0174]],AXIS["lon",east,ANGLEUNIT["degree",0.0174],ID["X",5]],AXIS["h",up,LENGTHUNIT["metre",1]],SCOPE["s'
+    '"],ID["X",6],REMARK["r"]]',
+    'GEODCRS["A",DYNAMIC[FRAMEEPOCH[2010],MODEL["g"]],DATUM["D",ELLIPSOID["E",6378137,298.25],ANCHOR["a"]],CS[Cartesian,'
+    '3],AXIS["x",geocentricX],AXIS["y",geocentricY],AXIS["z",geocentricZ],LENGTHUNIT["metre",1]]',
+    'VERTCRS["H",ENSEMBLE["N",MEMBER["m"],MEMBER["n",ID["X",1]],ENSEMBLEACCURACY[2],ID["X",2]],CS[vertical,1,ID["X",3]],'
+    'AXIS["h",down,LENGTHUNIT["metre",1],ID["X",4]],GEOIDMODEL["g"],GEOIDMODEL["h"],ID["X",5]]',
+]
+VALUE = re.compile(r'"[^"]*"|[0-9.]+|north|south|up|down')
+NODE = re.compile(r",[A-Z]+\[[^][]*(\[[^][]*\][^][]*)*\]")
+
+
+def changed(text: str) -> Iterator[str]:
+    """The text, and each that has one value changed, or one node left out, and is accepted."""
+    yield text
+    for match in VALUE.finditer(text):
+        front, value, rest = text[: match.start()], match[0], text[match.end() :]
+        other = {"north": "south", "south": "north", "up": "down", "down": "up"}.get(value)
+        yield front + (other or (value[:-1] + 'x"' if value[0] == '"' else value + "1")) + rest
+    for match in NODE.finditer(text):
+        yield text[: match.start()] + text[match.end() :]
+
+
+def all_parts_of_changed_texts() -> None:
+    """Of a text with each part, and of each that differs from it in one, or from that in another, the first of all
+    parts is the library's."""
+    seen = set()
+    for text in RICH:
+        texts = [it.encode() for it in changed(text) if is_accepted(it.encode())]
+        assert len(texts) > 10
+        for index, first in enumerate(texts):
+            for second in (texts[0], texts[index - 1], texts[index // 2], texts[(index + 17) % len(texts)]):
+                for level in ("full", "definition"):
+                    fault = pair_fault(first, second, level)
+                    assert fault is None, (fault, first, second)
+                    seen.add(difference(first, second, level))
+    assert len(seen) == 80, len(seen)
+
+
 def is_accepted(text: bytes) -> bool:
     try:
         check(text)
@@ -628,6 +680,7 @@ PROMISES = [
     levels,
     all_parts,
     all_parts_of_all_pairs,
+    all_parts_of_changed_texts,
     catalogue_of_names,
     many_lines_of_one_group,
     nul_bytes,

@@ -309,18 +309,16 @@ def main(words: List[str]) -> int:
     with tempfile.TemporaryDirectory() as folder:
         extension = ROOT / "sql" / "out" / "crsdesk_sqlite.so"
         extension.unlink(missing_ok=True)
-        done = subprocess.run([sys.executable, ROOT / "tools" / "build_sqlite.py", prefix, extension], check=False)
-        if done.returncode == 3:
+        if not build_sqlite.has_header():
             print("skipped: sqlite3ext.h isn't there: the extension for SQLite")
             print("0 passed, 0 failed")
             return 0
-        counts.compare("it is built", done.returncode, 0)
-        if extension.exists():
-            try_symbols(counts, extension)
-            try_statements(counts, extension)
-            try_sanitized(counts, prefix, pathlib.Path(folder))
-            try_threads(counts, extension)
-            try_geopackage(counts, extension, pathlib.Path(folder))
+        build_sqlite.build(prefix, extension, ["-Werror"])
+        try_symbols(counts, extension)
+        try_statements(counts, extension)
+        try_sanitized(counts, prefix, pathlib.Path(folder))
+        try_threads(counts, extension)
+        try_geopackage(counts, extension, pathlib.Path(folder))
     print(f"{counts.passed} passed, {counts.failed} failed")
     return 1 if counts.failed else 0
 
