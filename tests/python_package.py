@@ -12,6 +12,7 @@ from __future__ import annotations
 
 import copy
 import doctest
+import functools
 import os
 import pathlib
 import pickle
@@ -23,7 +24,7 @@ import threading
 import time
 import traceback
 from concurrent.futures import ThreadPoolExecutor
-from typing import Callable, Iterator, List, Optional, Tuple
+from typing import Callable, Iterator, List, Optional, Tuple, Type
 
 # The import of the files beside this one leaves nothing in the repository.
 sys.dont_write_bytecode = True
@@ -138,7 +139,7 @@ def canon_fault(text: bytes, level: str) -> Optional[str]:
 def rows() -> Iterator[Tuple[str, Callable[[], Optional[str]]]]:
     for path in sorted(HERE.glob("*.rows")):
         for case in filter(is_asked, run_cases.cases_of(path)):
-            yield f"{case.place}: {case.name}", lambda case=case: row_fault(case)
+            yield f"{case.place}: {case.name}", functools.partial(row_fault, case)
 
 
 # The package's own promises: each function raises where one fails.
@@ -152,7 +153,7 @@ def refusal_of(text: object, call: Callable[..., object] = check) -> Refused:
     raise AssertionError(f"not refused: {text!r}")
 
 
-def wants(error: type, part: str, call: Callable[..., object], *words: object) -> None:
+def wants(error: Type[Exception], part: str, call: Callable[..., object], *words: object) -> None:
     """A call raises an error, not a refusal, whose text has a part."""
     try:
         call(*words)
@@ -276,7 +277,8 @@ def no_hint_is_given_where_nothing_can_be_told() -> None:
 
 
 def what_is_no_text() -> None:
-    calls = (check, canon, Crs, lambda it: same(it, HEIGHT), lambda it: same(HEIGHT, it), Catalogue().add)
+    calls: List[Callable[..., object]] = [check, canon, Crs, Catalogue().add]
+    calls += [lambda it: same(it, HEIGHT), lambda it: same(HEIGHT, it)]
     for call in calls:
         wants(TypeError, "a text is str or bytes, not NoneType", call, None)
         wants(TypeError, "not int", call, 4326)
@@ -289,7 +291,7 @@ def what_is_no_text() -> None:
 
 
 def what_is_no_level() -> None:
-    calls = [
+    calls: List[Callable[..., object]] = [
         lambda level: canon(HEIGHT, level),
         lambda level: same(HEIGHT, HEIGHT, level),
         lambda level: difference(HEIGHT, HEIGHT, level),
@@ -305,7 +307,8 @@ def what_is_no_level() -> None:
 
 
 def bytes_of_any_kind() -> None:
-    for text in (HEIGHT, HEIGHT.encode(), bytearray(HEIGHT.encode()), memoryview(HEIGHT.encode())):
+    texts: List[crsdesk.Text] = [HEIGHT, HEIGHT.encode(), bytearray(HEIGHT.encode()), memoryview(HEIGHT.encode())]
+    for text in texts:
         assert canon(text) == CANONICAL_HEIGHT and Crs(text).text == HEIGHT.encode()
 
 
@@ -580,9 +583,11 @@ class Files:
     def write(self, name: str, text: str) -> None:
         (self.folder / name).write_bytes(text.encode())
 
-    def run(self, *words: str, source: bytes = b"", **settings: object) -> Tuple[int, str, str]:
+    def run(self, *words: str, source: bytes = b"", **more: str) -> Tuple[int, str, str]:
+        """The status of a command, and what it writes; with more of an environment."""
         command = [sys.executable, "-m", "crsdesk", *words]
-        done = subprocess.run(command, cwd=self.folder, input=source, capture_output=True, timeout=60, **settings)
+        environment = {**os.environ, **more}
+        done = subprocess.run(command, cwd=self.folder, env=environment, input=source, capture_output=True, timeout=60)
         return done.returncode, done.stdout.decode(), done.stderr.decode()
 
 
@@ -611,7 +616,7 @@ def command_canon(files: Files) -> None:
     status, output, error = files.run("canon", "--lines", "lines.txt")
     assert (status, output) == (1, f"{CANONICAL_HEIGHT}\n\n\n{CANONICAL_HEIGHT}\n")
     assert error == "lines.txt:3: refused 7 UnexpectedEnd at 11\n"
-    assert files.run("canon", "other name.wkt", env={**os.environ, "LC_ALL": "C", "PYTHONUTF8": "0"})[0] == 0
+    assert files.run("canon", "other name.wkt", LC_ALL="C", PYTHONUTF8="0")[0] == 0
 
 
 def command_same(files: Files) -> None:
@@ -706,7 +711,8 @@ def promise_fault(promise: Callable[[], None]) -> Optional[str]:
 
 def main() -> int:
     passed = failed = 0
-    cases = [*rows(), *((promise.__name__, lambda it=promise: promise_fault(it)) for promise in PROMISES)]
+    cases = list(rows())
+    cases += [(promise.__name__, functools.partial(promise_fault, promise)) for promise in PROMISES]
     for name, fault_of in cases:
         try:
             fault = fault_of()

@@ -274,8 +274,9 @@ def try_threads(counts: Counts, extension: pathlib.Path) -> None:
     texts = [it.input for it in cases] * 5
     with ThreadPoolExecutor(4) as pool:
         wanted = [it.output[:-1] for it in cases] * 5
-        for found in pool.map(lambda _: Connection(library, extension).answers(texts), range(8)):
-            counts.compare("four threads", found, wanted)
+        calls = [pool.submit(lambda name: Connection(name, extension).answers(texts), library) for _ in range(8)]
+        for call in calls:
+            counts.compare("four threads", call.result(), wanted)
 
 
 def try_geopackage(counts: Counts, extension: pathlib.Path, folder: pathlib.Path) -> None:
@@ -292,7 +293,7 @@ def try_geopackage(counts: Counts, extension: pathlib.Path, folder: pathlib.Path
             "SELECT group_concat(table_name, ' ') FROM gpkg_contents JOIN gpkg_spatial_ref_sys USING (srs_id) "
             f"GROUP BY coalesce(crs_canon(definition_12_063, '{level}'), srs_id)"
         )
-        words = ["sqlite3", file, "-cmd", f".load {extension}", statement]
+        words = ["sqlite3", str(file), "-cmd", f".load {extension}", statement]
         done = subprocess.run(words, stdout=subprocess.PIPE, timeout=SECONDS, check=True).stdout.decode()
         counts.compare(f"a GeoPackage at {level}", sorted(done.split("\n")), sorted([*wanted.split("\n"), ""]))
 

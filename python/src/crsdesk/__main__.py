@@ -167,7 +167,9 @@ def parser() -> argparse.ArgumentParser:
     made = command("check", "tells what kind of CRS each file spells, or where it is refused", run_check)
     made.add_argument("files", nargs="+", metavar="FILE", help=FILE_HELP)
 
-    made = command("canon", "writes the canonical text of each file, and nothing for one that is refused", run_canon)
+    made = command(
+        "canon", "writes the canonical text of each file, and an empty line for one that is refused", run_canon
+    )
     made.add_argument("files", nargs="+", metavar="FILE", help=FILE_HELP)
     made.add_argument("--lines", action="store_true", help="a file has a text a line; a line is written for each")
     add_level(made)

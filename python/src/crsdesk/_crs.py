@@ -3,7 +3,7 @@
 from __future__ import annotations
 
 import threading
-from typing import Dict, Iterator, List, NamedTuple, Optional, Tuple, Union
+from typing import Any, Dict, Iterator, List, NamedTuple, Optional, Tuple, Union
 
 from . import _library
 from ._parts import Difference, differences_of
@@ -174,7 +174,7 @@ class Group(NamedTuple):
 
     number: int
     text: str
-    names: List[object]
+    names: List[Any]
 
 
 class Catalogue:
@@ -190,7 +190,7 @@ class Catalogue:
         self._count = 0
         self._groups: List[Group] = []
         self._numbers: Dict[str, int] = {}
-        self._refused: List[Tuple[object, Refused]] = []
+        self._refused: List[Tuple[Any, Refused]] = []
 
     def add(self, text: Text, name: object = None) -> Optional[int]:
         """Adds a text under a name of any kind; without one it is the text's number, counted from 1.
@@ -240,7 +240,7 @@ class Catalogue:
             number += 1
 
     @property
-    def refused(self) -> List[Tuple[object, Refused]]:
+    def refused(self) -> List[Tuple[Any, Refused]]:
         """The texts that spell no CRS: name and refusal of each, in the order in which they were added."""
         with self._lock:
             return list(self._refused)
