@@ -16,6 +16,7 @@ import functools
 import os
 import pathlib
 import pickle
+import random
 import re
 import subprocess
 import sys
@@ -263,6 +264,57 @@ def hints_are_given() -> None:
         refused = refusal_of(text)
         assert part in (refused.hint or ""), (text, refused.hint)
         assert str(refused).endswith(refused.hint or "?")
+
+
+def any_bytes_are_told() -> None:
+    """Texts with bytes changed, cut or put in by chance: each is accepted, or refused in words."""
+    chance = random.Random(30)
+    texts = [path.read_bytes() for path in sorted(EXAMPLES.glob("*.wkt"))]
+    refused_ones = 0
+    for _ in range(4000):
+        text = bytearray(chance.choice(texts))
+        for _ in range(chance.randint(1, 3)):
+            place = chance.randrange(len(text) + 1)
+            text[place : place + chance.randrange(3)] = chance.choice(PIECES)
+        try:
+            check(text[: chance.choice((len(text), place))])
+        except Refused as refused:
+            refused_ones += 1
+            assert 0 <= refused.place <= len(text) and refused.line >= 1 and refused.column >= 1
+            lines = str(refused).split("\n")
+            assert len(lines) in (4, 5) and lines[2].strip() == "^" and lines[1].isprintable(), lines
+    assert refused_ones > 2000
+
+
+PIECES = [
+    b"",
+    b"\xff",
+    b"\xe9",
+    "é高".encode(),
+    b"\0",
+    b'"',
+    b"[",
+    b"]",
+    b"(",
+    b")",
+    b",",
+    b"\r\n",
+    b"\t",
+    b"1E",
+    b"-",
+    b"ID[",
+]
+PIECES += [
+    b"\xe2\x80\x9c",
+    b"\xef\xbb\xbf",
+    b"\xf0\x9f\x98\x80",
+    b"\xcc\x81",
+    b"\x1b[31m",
+    b"x",
+    b"7",
+    b"GEOGCS[",
+    b"AUTHORITY[",
+]
 
 
 def no_hint_is_given_where_nothing_can_be_told() -> None:
@@ -677,6 +729,7 @@ PROMISES = [
     refusal_goes_to_another_process,
     every_number_has_a_meaning,
     hints_are_given,
+    any_bytes_are_told,
     no_hint_is_given_where_nothing_can_be_told,
     what_is_no_text,
     what_is_no_level,
