@@ -4,7 +4,7 @@
     make_wheel.py FOLDER
 
 puts it into a folder, and prints its name. pip calls build_wheel (`pip wheel ./python`), which needs no network and
-writes nothing into the sources. The shared object is that of crates/crs_c/out/prefix, as tools/build_library.py makes
+writes nothing into the sources. The shared object is that of out/prefix, as tools/build_library.py makes
 it, or the one that the environment variable CRSDESK_LIBRARY names. Equal files make equal bytes.
 """
 import base64
@@ -19,7 +19,7 @@ from typing import Dict, Mapping, Optional
 
 HERE = pathlib.Path(__file__).resolve().parent
 PACKAGE = HERE / "src" / "crsdesk"
-LIBRARY = HERE.parent / "crates" / "crs_c" / "out" / "prefix" / "lib" / "libcrsdesk.so"
+LIBRARY = HERE.parent / "out" / "prefix" / "lib" / "libcrsdesk.so"
 # The first moment that a zip file can name.
 MOMENT = (1980, 1, 1, 0, 0, 0)
 

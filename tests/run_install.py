@@ -114,6 +114,7 @@ def try_install(counts: Counts, prefix: pathlib.Path) -> bool:
     printed = {line[len(str(prefix)) + 1 :] for line in done.stdout.split("\n")[:-1]}
     counts.compare("what is printed", {"the wheel" if it.endswith(".whl") else it for it in printed}, wanted)
     listed = (prefix / "share/crsdesk/installed").read_text(encoding="utf-8").split("\n")[:-1]
+    counts.compare("libcrsdesk.so is a link", os.readlink(prefix / "lib/libcrsdesk.so"), "libcrsdesk.so.0")
     counts.compare("the list", {"the wheel" if it.endswith(".whl") else it for it in listed}, wanted)
     return True
 

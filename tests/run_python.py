@@ -3,7 +3,7 @@
 
     run_python.py [PREFIX]
 
-PREFIX has the shared object in lib/, as tools/build_library.py makes it (crates/crs_c/out/prefix where none is given).
+PREFIX has the shared object in lib/, as tools/build_library.py makes it (out/prefix where none is given).
 The wheel is built by pip with no network. python_package.py has what is tried of the package. mypy and black judge the
 code where they are there. What isn't there is told as skipped, by name. Each case that fails has a line; the last line
 is 'N passed, M failed', and the status is 0 where M is 0.
@@ -153,7 +153,7 @@ def try_code(counts: Counts) -> None:
 def main(words: List[str]) -> int:
     if len(words) > 1 or words and words[0].startswith("-"):
         sys.exit(__doc__)
-    prefix = pathlib.Path(words[0]).resolve() if words else ROOT / "crates" / "crs_c" / "out" / "prefix"
+    prefix = pathlib.Path(words[0]).resolve() if words else ROOT / "out" / "prefix"
     library = prefix / "lib" / "libcrsdesk.so"
     counts = Counts()
     with tempfile.TemporaryDirectory() as name:

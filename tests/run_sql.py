@@ -3,7 +3,7 @@
 
     run_sql.py [PREFIX]
 
-PREFIX has the header and the static library, as tools/build_library.py makes them (crates/crs_c/out/prefix where none
+PREFIX has the header and the static library, as tools/build_library.py makes them (out/prefix where none
 is given). The extension is built anew as sql/out/crsdesk_sqlite.so, under all warnings. The rows of the .rows files
 beside it are asked of its functions by the program sqlite3, as TEXT and as BLOB; then come what no text is, levels,
 indexes, other encodings and long texts; all of it again under checks of memory; threads; and, where GDAL is there, a
@@ -301,7 +301,7 @@ def try_geopackage(counts: Counts, extension: pathlib.Path, folder: pathlib.Path
 def main(words: List[str]) -> int:
     if len(words) > 1 or words and words[0].startswith("-"):
         sys.exit(__doc__)
-    prefix = pathlib.Path(words[0]) if words else ROOT / "crates" / "crs_c" / "out" / "prefix"
+    prefix = pathlib.Path(words[0]) if words else ROOT / "out" / "prefix"
     if shutil.which("sqlite3") is None:
         print("skipped: sqlite3 isn't there: the extension for SQLite")
         print("0 passed, 0 failed")

@@ -3,7 +3,7 @@
 
     bench_python.py [PREFIX [ROUNDS]]
 
-PREFIX has the header and the libraries, as build_library.py makes them (crates/crs_c/out/prefix where none is given).
+PREFIX has the header and the libraries, as build_library.py makes them (out/prefix where none is given).
 The texts are the lines of examples/catalogue.txt that spell a CRS. Each call is timed over all of them, ROUNDS times
 (200), by turns with the others and with the same calls from C, and the least counts. A line is printed for each call:
 its nanoseconds of the processor a text, and those beyond the same call from C. It judges nothing.
@@ -40,7 +40,7 @@ class FromC:
 def main(words: List[str]) -> int:
     if len(words) > 2 or words and words[0].startswith("-"):
         sys.exit(__doc__)
-    prefix = pathlib.Path(words[0]).resolve() if words else ROOT / "crates" / "crs_c" / "out" / "prefix"
+    prefix = pathlib.Path(words[0]).resolve() if words else ROOT / "out" / "prefix"
     rounds = int(words[1]) if len(words) > 1 else 200
     os.environ["CRSDESK_LIBRARY"] = str(prefix / "lib" / "libcrsdesk.so")
     sys.dont_write_bytecode = True

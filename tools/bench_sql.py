@@ -3,7 +3,7 @@
 
     bench_sql.py [PREFIX [ROWS]]
 
-PREFIX has the header and the static library, as build_library.py makes them (crates/crs_c/out/prefix where none is
+PREFIX has the header and the static library, as build_library.py makes them (out/prefix where none is
 given). The table has ROWS rows (100,000), the lines of examples/catalogue.txt that spell a CRS again and again. A line
 is printed for each statement: its nanoseconds of the processor a row, the least of nine runs of the program sqlite3, by
 turns with the same call from C; and of reading the rows alone. Results are written to /dev/null, or counted. It judges
@@ -50,7 +50,7 @@ def make_table(folder: str, rows: int) -> List[bytes]:
 def main(words: List[str]) -> int:
     if len(words) > 2 or words and words[0].startswith("-"):
         sys.exit(__doc__)
-    prefix = pathlib.Path(words[0]).resolve() if words else ROOT / "crates" / "crs_c" / "out" / "prefix"
+    prefix = pathlib.Path(words[0]).resolve() if words else ROOT / "out" / "prefix"
     rows = int(words[1]) if len(words) > 1 else 100_000
     statements = {
         "reading": "SELECT count(definition_12_063 || '') FROM texts;",

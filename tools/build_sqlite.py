@@ -3,7 +3,7 @@
 
     build_sqlite.py [PREFIX [FILE]]
 
-PREFIX has the header and the library, as build_library.py makes them (crates/crs_c/out/prefix where none is given).
+PREFIX has the header and the library, as build_library.py makes them (out/prefix where none is given).
 FILE, sql/out/crsdesk_sqlite.so where none is given, then stands alone: it needs the C library and nothing else. It
 takes a C compiler, cc, and SQLite's header sqlite3ext.h (Debian: libsqlite3-dev).
 
@@ -38,7 +38,7 @@ def build(prefix: pathlib.Path, file: pathlib.Path, more: List[str]) -> None:
 def main(words: List[str]) -> int:
     if len(words) > 2 or words and words[0].startswith("-"):
         sys.exit(__doc__)
-    prefix = pathlib.Path(words[0]) if words else ROOT / "crates" / "crs_c" / "out" / "prefix"
+    prefix = pathlib.Path(words[0]) if words else ROOT / "out" / "prefix"
     file = pathlib.Path(words[1]) if len(words) > 1 else SOURCES / "out" / "crsdesk_sqlite.so"
     try:
         if not has_header():
