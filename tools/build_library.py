@@ -1,10 +1,11 @@
 #!/usr/bin/env python3
 """Proves the library for C, and makes what a C program takes.
 
-    build_library.py [FOLDER]
+    build_library.py [--over-gate] [FOLDER]
 
-Each crate that crs_c needs is proved as build_program.py does it, and kept. Then FOLDER, which is
-out/prefix where none is given, has
+Each crate that crs_c needs is proved as build_program.py does it, and kept. With --over-gate those below crs_c are taken
+as rt ci has proved them and left them; so the gate proves them once. Then FOLDER, which is out/prefix where none is
+given, has
 
     include/crsdesk.h           the header
     lib/libcrsdesk.a            the static library, with the C functions of the toolchain's heap in it
@@ -79,14 +80,25 @@ def needed(kit):
     return [*found.values(), Library(NAME, kit, rows[NAME], crates)]
 
 
-def proved():
+def take_from_gate(crates):
+    """Has crates be what rt ci proved last, from nothing, which is as new as their sources."""
+    for crate in crates:
+        crate.kept = crate.folder / "out" / "rlib"
+        crate.made = crate.kept / f"{crate.name}.rlib"
+        if not crate.made.exists() or crate.made.stat().st_mtime < crate.changed():
+            raise Stop(f"the gate left nothing of {crate.name}: run rt ci, or leave --over-gate away")
+
+
+def proved(is_over_gate):
     """The static library as the toolchain builds it, once all is proved, and the toolchain's folder."""
     kit = build_program.toolchain()
     crates = needed(kit)
     with build_program.alone(crates):
+        if is_over_gate:
+            take_from_gate(crates[:-1])
         for crate in crates:
             crate.stamp_now = crate.stamp()
-        build_program.prove(crates)
+        build_program.prove(crates[-1:] if is_over_gate else crates)
     return crates[-1].made, kit
 
 
@@ -137,8 +149,8 @@ def link(made, kit, folder):
         raise Stop(f"the shared object and the header don't have the same names: {sorted(shown ^ set(names))}")
 
 
-def build(folder):
-    made, kit = proved()
+def build(folder, is_over_gate):
+    made, kit = proved(is_over_gate)
     link(made, kit, folder)
     for place, file in (("include", HEADER),):
         (folder / place).mkdir(parents=True, exist_ok=True)
@@ -149,10 +161,12 @@ def build(folder):
 
 
 def main(words):
-    if len(words) > 1 or words and words[0].startswith("-"):
+    is_over_gate = "--over-gate" in words[:1]
+    folders = words[1:] if is_over_gate else words
+    if len(folders) > 1 or folders and folders[0].startswith("-"):
         sys.exit(__doc__)
     try:
-        build(pathlib.Path(words[0]).resolve() if words else ROOT / "out" / "prefix")
+        build(pathlib.Path(folders[0]).resolve() if folders else ROOT / "out" / "prefix", is_over_gate)
     except Stop as why:
         say(str(why))
         return 2
