@@ -50,7 +50,7 @@ class Tries:
         self.include = f"-I{prefix}/include"
         self.lib = prefix / "lib"
         header = (prefix / "include" / "crsdesk.h").read_text(encoding="utf-8")
-        self.calls = set(re.findall(r"^\w[\w *]*\b(crsdesk_\w+)\(", header, re.MULTILINE))
+        self.calls = set(re.findall(r"^(?!static)\w[\w *]*\b(crsdesk_\w+)\(", header, re.MULTILINE))
 
     def linked(self, source, kind, flags):
         """The program of a file of c/ with one of the two libraries, and the environment that it is run in."""

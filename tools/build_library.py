@@ -114,7 +114,7 @@ def run(*words):
 
 def calls():
     """The names of the calls, as the header declares them."""
-    return re.findall(r"^\w[\w *]*\b(crsdesk_\w+)\(", HEADER.read_text(encoding="utf-8"), re.MULTILINE)
+    return re.findall(r"^(?!static)\w[\w *]*\b(crsdesk_\w+)\(", HEADER.read_text(encoding="utf-8"), re.MULTILINE)
 
 
 def version():

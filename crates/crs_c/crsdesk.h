@@ -36,6 +36,7 @@
 
 #include <stddef.h>
 #include <stdint.h>
+#include <string.h>
 
 #ifdef __cplusplus
 extern "C" {
@@ -169,6 +170,45 @@ size_t crsdesk_catalogue_groups(struct crsdesk_catalogue *catalogue);
    CRSDESK_OK: number is it.
    CRSDESK_NO_NUMBER: there is no such group, or it has no more texts. */
 struct crsdesk_line crsdesk_catalogue_line(struct crsdesk_catalogue *catalogue, size_t group, size_t index);
+
+/* A piece of a text. */
+struct crsdesk_piece {
+    char bytes[240]; /* those of the piece at the front */
+    size_t length;   /* how many; 0 where the text has no more */
+    uint32_t code;
+};
+
+/* A piece of the canonical text of a group, which each of its texts has: the bytes from an index on, 240 at most.
+
+   CRSDESK_OK, CRSDESK_NO_NUMBER: there is no such group. */
+struct crsdesk_piece crsdesk_catalogue_piece(struct crsdesk_catalogue *catalogue, size_t group, size_t from);
+
+/* The canonical text of a group, put together of its pieces.
+
+   CRSDESK_OK: the buffer begins with it; *length is its number of bytes.
+   CRSDESK_NO_NUMBER: there is no such group.
+   CRSDESK_NO_ROOM: it has more bytes than the buffer; *length is their number. */
+static inline uint32_t crsdesk_catalogue_text(struct crsdesk_catalogue *catalogue, size_t group, char *out, size_t room,
+                                              size_t *length)
+{
+    size_t whole = 0, from = 0;
+    struct crsdesk_piece piece = crsdesk_catalogue_piece(catalogue, group, 0);
+    if (piece.code != CRSDESK_OK)
+        return piece.code;
+    while (piece.length > 0) {
+        whole += piece.length;
+        piece = crsdesk_catalogue_piece(catalogue, group, whole);
+    }
+    *length = whole;
+    if (whole > room)
+        return CRSDESK_NO_ROOM;
+    while (from < whole) {
+        piece = crsdesk_catalogue_piece(catalogue, group, from);
+        memcpy(out + from, piece.bytes, piece.length);
+        from += piece.length;
+    }
+    return CRSDESK_OK;
+}
 
 /* Gives back what a catalogue holds; its memory holds no catalogue then. */
 void crsdesk_catalogue_free(struct crsdesk_catalogue *catalogue);

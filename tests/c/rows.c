@@ -400,6 +400,33 @@ static void append_lines(struct crsdesk_catalogue *catalogue, size_t group, stru
         wrong(answer, "a code that line doesn't have");
 }
 
+/* The canonical text of a group, asked with no room, a byte too few, and just the room. */
+static void append_text(struct crsdesk_catalogue *catalogue, size_t group, struct answer *answer)
+{
+    size_t needed = UNTOLD, length = UNTOLD;
+    char none[1] = {(char)FILLER};
+    uint32_t code = crsdesk_catalogue_text(catalogue, group, none, 0, &needed);
+    if (code == CRSDESK_NO_NUMBER) {
+        if (needed != UNTOLD)
+            wrong(answer, "the length was changed");
+        appendf(answer, "none");
+        return;
+    }
+    char *out = grown(NULL, needed);
+    memset(out, FILLER, needed);
+    if (code != CRSDESK_NO_ROOM || crsdesk_catalogue_text(catalogue, group, out, needed - 1, &length) != CRSDESK_NO_ROOM
+        || length != needed || (unsigned char)out[0] != FILLER || (unsigned char)none[0] != FILLER)
+        wrong(answer, "too little room wasn't told, or was written to");
+    if (crsdesk_catalogue_text(catalogue, group, out, needed, &length) != CRSDESK_OK || length != needed)
+        wrong(answer, "just the room wasn't enough");
+    append(answer, out, needed);
+    free(out);
+    if (crsdesk_catalogue_piece(catalogue, group, needed).length != 0
+        || crsdesk_catalogue_piece(catalogue, group, SIZE_MAX).length != 0
+        || crsdesk_catalogue_piece(catalogue, group, needed - 1).length != 1)
+        wrong(answer, "a piece at the text's end");
+}
+
 static void answer_catalogue(const struct row *row, struct answer *answer)
 {
     struct crsdesk_catalogue catalogue;
@@ -431,10 +458,8 @@ static void answer_catalogue(const struct row *row, struct answer *answer)
             appendf(answer, "%zu", crsdesk_catalogue_groups(&catalogue));
         else if (is(&word, "lines"))
             append_lines(&catalogue, group, answer);
-        else if (is(&word, "text") && group > 0 && group <= known.groups)
-            answer_canon(&known.firsts[group - 1], level, answer, "");
         else if (is(&word, "text"))
-            appendf(answer, "none");
+            append_text(&catalogue, group, answer);
         else if (is(&word, "refused")) {
             appendf(answer, "refused");
             append(answer, known.refused.text.at ? known.refused.text.at : "", known.refused.text.length);
@@ -442,6 +467,16 @@ static void answer_catalogue(const struct row *row, struct answer *answer)
     }
     if (crsdesk_catalogue_groups(&catalogue) != known.groups)
         wrong(answer, "not as many groups as were told");
+    for (size_t group = 1; group <= known.groups; group++) {
+        struct answer text = {{NULL, 0}, 0, ""}, canonical = text;
+        append_text(&catalogue, group, &text);
+        answer_canon(&known.firsts[group - 1], level, &canonical, "");
+        if (text.text.length != canonical.text.length
+            || memcmp(text.text.at, canonical.text.at, text.text.length) != 0 || text.wrong[0] || canonical.wrong[0])
+            wrong(answer, "a group's text isn't the canonical text of its first line");
+        free(text.text.at);
+        free(canonical.text.at);
+    }
     crsdesk_catalogue_free(&catalogue);
     free(known.firsts);
     free(known.refused.text.at);

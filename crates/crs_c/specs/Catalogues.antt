@@ -1,5 +1,5 @@
 -- What the calls of a catalogue answer.
-use Rattle.std.specs.Prelude.{◌≡◌, ◌++◌, ◌∷◌, ◌⊎◌, [], ℕ, List, Option, Some, None, MatchOption, slice_get}
+use Rattle.std.specs.Prelude.{◌≡◌, ◌++◌, ◌∷◌, ◌⊎◌, [], ℕ, List, Option, Some, None, MatchOption, slice_get, length, take, drop}
 use Rattle.std.specs.Option.{option_map}
 use Rattle.crs_value.specs.declared.values.level.Level.{Level}
 use Rattle.crs_value.specs.declared.values.level.Level.TheVariants as level
@@ -10,6 +10,7 @@ use Rattle.crs_group.specs.declared.placed.Placed.{Placed}
 use Rattle.crs_group.specs.declared.placed.Placed.TheVariants as placed
 use Rattle.crs_c.specs.declared.refused.Refused.{Refused}
 use Rattle.crs_c.specs.declared.standing.Numbered.{Numbered}
+use Rattle.crs_c.specs.declared.standing.Piece.{Piece}
 use Rattle.crs_c.specs.declared.standing.Standing.{Standing}
 use Rattle.crs_c.specs.Codes.{level_of}
 use Rattle.crs_c.specs.Refusals.{shown}
@@ -59,3 +60,19 @@ numbered (Some n) = record { number = n; code = 0 }
 abbrev pub line_at : CatalogueParts → ℕ → ℕ → Numbered
 line_at catalogue group index =
     numbered (line_of_some (option_map (λ parts. parts.lines) (nth group catalogue.groups)) index)
+
+-- the bytes of a text from an index on, 240 at most
+abbrev pub piece_of : List ℕ → ℕ → List ℕ
+piece_of text from = take 240 (drop from text)
+
+-- a piece of this text is told with code 0: its bytes at the front
+unfoldable pub IsPiece : ℕ → Piece → List ℕ → Type 0
+IsPiece from told text =
+    (rest : List ℕ) × (told.code ≡ 0) × (told.length ≡ length (piece_of text from))
+    × (told.bytes ≡ piece_of text from ++ rest)
+
+-- of a group's canonical text; where there is no such group, code 6
+abbrev pub IsPieceAt : CatalogueParts → ℕ → ℕ → Piece → Type 0
+IsPieceAt catalogue group from told =
+    MatchOption (option_map (λ parts. parts.canon.bytes) (nth group catalogue.groups))
+    ((told.code ≡ 6) × (told.length ≡ 0)) (IsPiece from told)

@@ -2,11 +2,11 @@
 ghost use Rattle.std.specs.Prelude.{◌≡◌, length};
 ghost use Rattle.std.specs.Borrow.{sem};
 ghost use Rattle.crs_group.specs.Catalogue.{CatalogueParts};
-ghost use Rattle.crs_c.specs.Catalogues.{IsAdded, IsNew, line_at};
+ghost use Rattle.crs_c.specs.Catalogues.{IsAdded, IsNew, IsPieceAt, line_at};
 ghost use Rattle.crs_c.specs.Places.{catalogue_at, has_room};
 
-use crate::holding::{added, counted, let_go, looked_up, made};
-use crate::standing::{Numbered, Standing};
+use crate::holding::{added, counted, cut, let_go, looked_up, made};
+use crate::standing::{Numbered, Piece, Standing};
 use crs_group::Catalogue;
 use std::alloc::Global;
 use std::mem::size_of;
@@ -82,6 +82,21 @@ pub unsafe extern "C" fn crsdesk_catalogue_line(
     let (held, found) = looked_up(held, group, index);
     place.write(held);
     found
+}
+
+/// A piece of a group's canonical text: its bytes from an index on, 240 at most, none behind its end. Code 0, or 6: there
+/// is no such group. Profile.
+#[unsafe(no_mangle)]
+pub unsafe extern "C" fn crsdesk_catalogue_piece(at: *mut Room, group: usize, from: usize) -> Piece
+    ghost held: { CatalogueParts }
+    requires* { sem 𝓛 (catalogue_at at held) }
+    ensures* { sem 𝓛 (catalogue_at at held) ∗ ⌜ IsPieceAt held group from result ⌝ }
+{
+    let place = at as *mut Catalogue;
+    let held = place.read();
+    let (held, piece) = cut(held, group, from);
+    place.write(held);
+    piece
 }
 
 /// Gives back what a catalogue holds. Its memory holds no catalogue then.

@@ -1,9 +1,9 @@
 //! What each call does to a catalogue that it takes by value, and hands back.
-ghost use Rattle.std.specs.Prelude.{◌≡◌, length};
-ghost use Rattle.crs_c.specs.Catalogues.{IsAdded, IsNew, line_at};
+ghost use Rattle.std.specs.Prelude.{◌≡◌, ◌≤◌, length, take, drop};
+ghost use Rattle.crs_c.specs.Catalogues.{IsAdded, IsNew, IsPiece, IsPieceAt, line_at};
 
 use crate::codes::{NO_LEVEL, NO_MEMORY, NO_NUMBER, OK, level_of};
-use crate::standing::{Numbered, Standing, no_refusal, standing_of};
+use crate::standing::{Numbered, Piece, Standing, no_refusal, standing_of};
 use crs_group::Catalogue;
 use crs_value::Level;
 use std::alloc::Global;
@@ -69,6 +69,63 @@ fn line_of(catalogue: &Catalogue, group: usize, index: usize) -> Numbered
             code: NO_NUMBER,
         },
     }
+}
+
+pub(crate) fn cut(held: Catalogue, group: usize, from: usize) -> (Catalogue, Piece)
+    ensures same { result.0 ≡ held }
+    ensures piece { IsPieceAt held group from result.1 }
+{
+    let piece = piece_at(&held, group, from);
+    (held, piece)
+}
+
+fn piece_at(catalogue: &Catalogue, group: usize, from: usize) -> Piece
+    ensures { IsPieceAt catalogue.now group from result }
+{
+    match catalogue.text(group) {
+        Some(text) => piece_of(text, from),
+        None => Piece {
+            bytes: [0; 240],
+            length: 0,
+            code: NO_NUMBER,
+        },
+    }
+}
+
+fn piece_of(text: &[u8], from: usize) -> Piece
+    ensures { IsPiece from result text.now }
+{
+    let piece = front_of(rest_of(text, from));
+    let mut bytes = [0; 240];
+    let (front, _) = bytes.split_at_mut(piece.len());
+    front.copy_from_slice(piece);
+    Piece {
+        bytes,
+        length: piece.len(),
+        code: OK,
+    }
+}
+
+#[tactic(auto, using(std::proofs::lemmas::List::drop_all))]
+fn rest_of(text: &[u8], from: usize) -> &[u8]
+    ensures { result.now ≡ drop from text.now }
+{
+    if from >= text.len() {
+        return &[];
+    }
+    let (_, rest) = text.split_at(from);
+    rest
+}
+
+fn front_of(text: &[u8]) -> &[u8]
+    ensures value { result.now ≡ take 240 text.now }
+    ensures at_most { length result.now ≤ 240 }
+{
+    if text.len() <= 240 {
+        return text;
+    }
+    let (front, _) = text.split_at(240);
+    front
 }
 
 // The end of a catalogue.

@@ -18,11 +18,11 @@ mod standing;
 pub use canon::crsdesk_canon;
 pub use catalogue::{
     Room, crsdesk_catalogue_add, crsdesk_catalogue_free, crsdesk_catalogue_groups,
-    crsdesk_catalogue_line, crsdesk_catalogue_new,
+    crsdesk_catalogue_line, crsdesk_catalogue_new, crsdesk_catalogue_piece,
 };
 pub use check::crsdesk_check;
 pub use first_part::crsdesk_first_part;
 pub use names::{crsdesk_refusal_name, crsdesk_version};
 pub use refused::Refused;
 pub use same::crsdesk_same;
-pub use standing::{Numbered, Standing};
+pub use standing::{Numbered, Piece, Standing};

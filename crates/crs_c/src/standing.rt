@@ -29,6 +29,18 @@ pub struct Numbered {
     pub code: u32,
 }
 
+/// A piece of a text: `struct crsdesk_piece` of C. Profile.
+#[repr(C)]
+#[derive(Drop)]
+pub struct Piece {
+    /// Its bytes at the front.
+    pub bytes: [u8; 240],
+    /// How many.
+    pub length: usize,
+    /// The code.
+    pub code: u32,
+}
+
 pub(crate) fn no_refusal() -> Refused
     ensures { result ≡ no_refusal }
 {
