@@ -1,4 +1,4 @@
-use Rattle.std.proofs.Common.{◌≡◌, ◌∙◌, ◌++◌, List, ℕ, length, take, drop, ap, refl}
+use Rattle.std.proofs.Common.{◌≡◌, ◌∙◌, ◌++◌, List, ℕ, length, take, ap, refl}
 use Rattle.crs_c.specs.Catalogues.{IsPiece, piece_of}
 use Rattle.crs_c.proofs.holding.piece_of.Goals as goal
 
