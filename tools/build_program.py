@@ -43,6 +43,7 @@ KNOWN_SECONDS = {
     "crs_group": 51,
     "crs_line": 58,
     "crs_desk": 40,
+    "crs_c": 40,
     "crsdesk": 58,
 }
 ANY_TOOLCHAIN = "CRSDESK_ANY_TOOLCHAIN"
