@@ -35,7 +35,12 @@ class Wrong(Exception):
 
 def run(words, **more):
     done = subprocess.run(
-        [str(it) for it in words], stdout=subprocess.PIPE, stderr=subprocess.STDOUT, timeout=SECONDS, check=False, **more
+        [str(it) for it in words],
+        stdout=subprocess.PIPE,
+        stderr=subprocess.STDOUT,
+        timeout=SECONDS,
+        check=False,
+        **more,
     )
     text = done.stdout.decode(errors="replace")
     if done.returncode:

@@ -171,6 +171,28 @@ size_t crsdesk_catalogue_groups(struct crsdesk_catalogue *catalogue);
    CRSDESK_NO_NUMBER: there is no such group, or it has no more texts. */
 struct crsdesk_line crsdesk_catalogue_line(struct crsdesk_catalogue *catalogue, size_t group, size_t index);
 
+/* The numbers of a group's texts, in the order in which they were added.
+
+   CRSDESK_OK: the buffer begins with them; *count is how many they are.
+   CRSDESK_NO_NUMBER: there is no such group.
+   CRSDESK_NO_ROOM: they are more than room; the buffer has the first of them, and *count is how many there are. */
+static inline uint32_t crsdesk_catalogue_lines(struct crsdesk_catalogue *catalogue, size_t group, uint64_t *numbers,
+                                               size_t room, size_t *count)
+{
+    size_t index = 0;
+    struct crsdesk_line line = crsdesk_catalogue_line(catalogue, group, 0);
+    if (line.code != CRSDESK_OK)
+        return line.code;
+    while (line.code == CRSDESK_OK) {
+        if (index < room)
+            numbers[index] = line.number;
+        index++;
+        line = crsdesk_catalogue_line(catalogue, group, index);
+    }
+    *count = index;
+    return index > room ? CRSDESK_NO_ROOM : CRSDESK_OK;
+}
+
 /* A piece of a text. */
 struct crsdesk_piece {
     char bytes[240]; /* those of the piece at the front */

@@ -388,14 +388,38 @@ static void add_to(struct crsdesk_catalogue *catalogue, const struct bytes *rest
     }
 }
 
+/* All lines of a group at once are the lines one by one: with room for one, and with just the room. */
+static void compare_lines(struct crsdesk_catalogue *catalogue, size_t group, size_t lines, struct answer *answer)
+{
+    size_t count = UNTOLD;
+    uint64_t first = 0;
+    uint32_t code = crsdesk_catalogue_lines(catalogue, group, &first, 1, &count);
+    if (lines == 0) {
+        if (code != CRSDESK_NO_NUMBER || count != UNTOLD)
+            wrong(answer, "a group that isn't there has lines");
+        return;
+    }
+    if (code != (lines > 1 ? CRSDESK_NO_ROOM : CRSDESK_OK) || count != lines)
+        wrong(answer, "lines with too little room");
+    uint64_t *numbers = grown(NULL, lines * sizeof *numbers);
+    if (crsdesk_catalogue_lines(catalogue, group, numbers, lines, &count) != CRSDESK_OK || count != lines)
+        wrong(answer, "lines with just the room");
+    for (size_t i = 0; i < lines; i++)
+        if (numbers[i] != crsdesk_catalogue_line(catalogue, group, i).number || (i == 0 && numbers[i] != first))
+            wrong(answer, "lines at once aren't the lines one by one");
+    free(numbers);
+}
+
 static void append_lines(struct crsdesk_catalogue *catalogue, size_t group, struct answer *answer)
 {
+    size_t lines = 0;
     struct crsdesk_line line = crsdesk_catalogue_line(catalogue, group, 0);
     appendf(answer, line.code == CRSDESK_OK ? "lines" : "none");
-    for (size_t i = 1; line.code == CRSDESK_OK; i++) {
+    while (line.code == CRSDESK_OK) {
         appendf(answer, " %lu", (unsigned long)line.number);
-        line = crsdesk_catalogue_line(catalogue, group, i);
+        line = crsdesk_catalogue_line(catalogue, group, ++lines);
     }
+    compare_lines(catalogue, group, lines, answer);
     if (line.code != CRSDESK_NO_NUMBER || line.number != 0)
         wrong(answer, "a code that line doesn't have");
 }
