@@ -11,8 +11,17 @@ import os
 import sys
 
 ROOT = os.path.dirname(os.path.dirname(os.path.abspath(__file__)))
-HEADS = (b"GEOGCRS", b"GEODCRS", b"GEODETICCRS", b"GEOGRAPHICCRS", b"PROJCRS", b"PROJECTEDCRS", b"VERTCRS",
-         b"VERTICALCRS", b"COMPOUNDCRS")
+HEADS = (
+    b"GEOGCRS",
+    b"GEODCRS",
+    b"GEODETICCRS",
+    b"GEOGRAPHICCRS",
+    b"PROJCRS",
+    b"PROJECTEDCRS",
+    b"VERTCRS",
+    b"VERTICALCRS",
+    b"COMPOUNDCRS",
+)
 # Lines of the catalogue that begin as a CRS does and are refused, counted from 1.
 REFUSED = (59, 78)
 
@@ -40,7 +49,7 @@ def texts():
         for number, line in enumerate(file.read().splitlines(), 1):
             if line.upper().startswith(HEADS) and number not in REFUSED:
                 end = line.index(b'"', line.index(b'"') + 1)
-                yield line[:end], line[end + 1:]
+                yield line[:end], line[end + 1 :]
 
 
 def main(crss, spellings):

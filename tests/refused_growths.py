@@ -3,12 +3,12 @@
 
     refused_growths.py PROGRAM CRSDESK
 
-PROGRAM is the built crates/crs_memory, which makes one call of the library; CRSDESK is the built program. Both are run
-with refuse_growth.c preloaded: with ample memory, then with the Nth growth refused, for N = 1, 2, .. until a run meets
-no refusal. A growth is a call of malloc, realloc or aligned_alloc; a program's are counted from its beginning, a
-call's while it is made. Each answer must be want of memory or the answer that comes with ample memory. Behind want of
-memory, in the same process, all that the call was handed must be as before, and the same call made again must give
-the answer that comes with ample memory.
+PROGRAM is the built crates/crs_rows, which with the word `trial` makes one call of the library; CRSDESK is the built
+program. Both are run with refuse_growth.c preloaded: with ample memory, then with the Nth growth refused, for N = 1,
+2, .. until a run meets no refusal. A growth is a call of malloc, realloc or aligned_alloc; a program's are counted
+from its beginning, a call's while it is made. Each answer must be want of memory or the answer that comes with ample
+memory. Behind want of memory, in the same process, all that the call was handed must be as before, and the same call
+made again must give the answer that comes with ample memory.
 
 growths/calls.rows has the calls. A row is a line 'case NAME', whose name stands once, a line '# REASON' or more, then
 
@@ -157,7 +157,8 @@ def tried_call(call, path, preloaded):
     head = b"call\nanswered\nanswer "
     ample = (0, head + call.answer + b"\n", b"")
     want = (0, head + b"memory\nkept yes\nagain " + call.answer + b"\n", b"")
-    tally = tried(Program([path], preloaded, False), call.words + b"\n" + b"\0".join(call.parts), ample, want)
+    given = call.words + b"\n" + b"\0".join(call.parts)
+    tally = tried(Program([path, "trial"], preloaded, False), given, ample, want)
     if call.grows != (tally.growths > 0):
         raise Wrong(f"{tally.growths} growths")
     return tally

@@ -12,7 +12,7 @@ MOST = 12
 
 
 def text_of(line, word):
-    text = line[len(word) + 1:]
+    text = line[len(word) + 1 :]
     return text[1:] if text.startswith(" ") else text
 
 

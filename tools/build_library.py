@@ -98,7 +98,7 @@ def proved(is_over_gate):
             take_from_gate(crates[:-1])
         for crate in crates:
             crate.stamp_now = crate.stamp()
-        build_program.prove(crates[-1:] if is_over_gate else crates)
+        build_program.prove(crates[-1:] if is_over_gate else crates, "the library")
     return crates[-1].made, kit
 
 

@@ -64,12 +64,13 @@ def minutes(seconds):
 
 
 def toolchain():
-    """The toolchain's folder, where it is the one that the README names."""
+    """The toolchain's folder, where its logic is that of the one that the README names."""
     if not shutil.which("rt"):
-        raise Stop("the Rattle toolchain isn't here: no command rt. README, \"Two commands\", says what is needed")
-    wanted = re.search(r"rattle-kit-\S+ logic [0-9a-f]+", (ROOT / "README.md").read_text(encoding="utf-8"))
+        raise Stop('the Rattle toolchain isn\'t here: no command rt. README, "Two commands", says what is needed')
+    wanted = re.search(r"rattle-kit-\S+ logic ([0-9a-f]+)", (ROOT / "README.md").read_text(encoding="utf-8"))
     found = subprocess.run(["rt", "version"], stdout=subprocess.PIPE, text=True, check=False).stdout.strip()
-    if not wanted or found != wanted[0] and not os.environ.get(ANY_TOOLCHAIN):
+    is_wanted = wanted and found.endswith(f" logic {wanted[1]}")
+    if not is_wanted and not os.environ.get(ANY_TOOLCHAIN):
         raise Stop(
             f"the toolchain is {found or 'unknown'}, and the proofs were made with {wanted and wanted[0]}: "
             f"install that one, or set {ANY_TOOLCHAIN}=1 to have this one try"
@@ -172,7 +173,7 @@ class Crate:
             self.start(1)
             return False
         if self.process.returncode:
-            raise Stop(f"{self.name} was not proved, and the program not built. What the prover says is in {self.log}")
+            raise Stop(f"{self.name} was not proved, and nothing was built. What the prover says is in {self.log}")
         if self.is_program:
             self.link()
         self.stamp_file.write_text(self.stamp_now, encoding="utf-8")
@@ -210,7 +211,7 @@ def needed(kit):
 class Progress:
     """Says how far the work is: on a terminal in one line that is rewritten, else in a line a crate."""
 
-    def __init__(self, crates):
+    def __init__(self, crates, what):
         self.crates = crates
         self.began = time.monotonic()
         self.proved = []
@@ -218,7 +219,8 @@ class Progress:
         # What the crates before were known to take, and what they took.
         self.known = self.spent = 0.0
         left = minutes(self.left(running=[]))
-        say(f"proving and building the program: {len(crates)} crates, about {left} on four cores")
+        noun = "crate" if len(crates) == 1 else "crates"
+        say(f"proving and building {what}: {len(crates)} {noun}, about {left} on four cores")
 
     def left(self, running):
         """Seconds that are left, by the known times and by how the crates before compare with theirs: a crate waits for
@@ -266,13 +268,14 @@ def jobs_of_this_machine():
     return max(min(cores, MOST_JOBS, memory // JOB_BYTES), 1)
 
 
-def prove(crates):
-    """Proves what isn't proved yet: the chain of crates with all jobs, a crate beside it with one."""
+def prove(crates, what):
+    """Proves what isn't proved yet for the program or the library, as it is called: the chain of crates with all jobs, a
+    crate beside it with one."""
     jobs = jobs_of_this_machine()
     left = [it for it in crates if not it.is_proved()]
     if not left:
         return
-    progress, running = Progress([*left]), []
+    progress, running = Progress([*left], what), []
     try:
         while left or running:
             ready = [it for it in left if not any(below in left or below in running for below in it.below)]
@@ -320,7 +323,7 @@ def build():
         if not program.exists() or program.stat().st_mtime < changed:
             for crate in crates:
                 crate.stamp_now = crate.stamp()
-            prove(crates)
+            prove(crates, "the program")
         # A source beside those that count may be newer: what stands here is as new as all of them.
         os.utime(program)
 

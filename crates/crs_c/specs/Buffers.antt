@@ -6,10 +6,11 @@ pub record Buffer (A : Type 0) : Type 0 where
   pub items : List A
   pub told : ℕ
 
--- the answer stands at the buffer's front and its length is told, with code 0; or there is too little room for it,
--- and its length alone is told, with code 5
+-- the answer stands at the buffer's front and its length is told, with code 0; or there is too
+-- little room for it, and its length alone is told, with code 5
 unfoldable pub IsGiven : {A : Type 0} → List A → Buffer A → Buffer A → ℕ → Type 0
 IsGiven answer old new code =
     ((length answer ≤ length old.items) × (code ≡ 0)
     × (new.items ≡ answer ++ drop (length answer) old.items) × (new.told ≡ length answer))
-    ⊎ ((length old.items < length answer) × (code ≡ 5) × (new.items ≡ old.items) × (new.told ≡ length answer))
+    ⊎ ((length old.items < length answer) × (code ≡ 5) × (new.items ≡ old.items)
+    × (new.told ≡ length answer))

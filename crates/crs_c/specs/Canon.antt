@@ -14,15 +14,18 @@ pub record CanonPlaces : Type 0 where
   pub text : Buffer ℕ
   pub refused : Refused
 
--- the canonical text is given, with its code; the refusal with code 1; or code 3; what isn't said is as before
+-- the canonical text is given, with its code; the refusal with code 1; or code 3; what isn't said
+-- is as before
 unfoldable pub IsCanonAt : List ℕ → CanonPlaces → CanonPlaces → ℕ → Level → Type 0
 IsCanonAt text old new code level =
-    ((canonical : List ℕ) × IsCanonicalOf level text canonical × IsGiven canonical old.text new.text code
+    ((canonical : List ℕ) × IsCanonicalOf level text canonical
+    × IsGiven canonical old.text new.text code
     × (new.refused ≡ old.refused))
-    ⊎ ((refusal : RefusedAt) × Refuses text refusal × (code ≡ 1) × (new ≡ record old { refused = shown refusal }))
+    ⊎ ((refusal : RefusedAt) × Refuses text refusal × (code ≡ 1)
+    × (new ≡ record old { refused = shown refusal }))
     ⊎ ((code ≡ 3) × (new ≡ old))
 
--- the same, with code 4 where there is no such level
+-- the answer at the level of this number; code 4, and all as before, where there is no such level
 abbrev pub IsCanonAnswer : ℕ → List ℕ → CanonPlaces → CanonPlaces → ℕ → Type 0
 IsCanonAnswer level text old new code =
     MatchOption (level_of level) ((code ≡ 4) × (new ≡ old)) (IsCanonAt text old new code)

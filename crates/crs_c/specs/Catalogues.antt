@@ -1,5 +1,6 @@
 -- What the calls of a catalogue answer.
-use Rattle.std.specs.Prelude.{◌≡◌, ◌++◌, ◌∷◌, ◌⊎◌, [], ℕ, List, Option, Some, None, MatchOption, slice_get, length, take, drop}
+use Rattle.std.specs.Prelude.{◌≡◌, ◌++◌, ◌∷◌, ◌⊎◌, [], ℕ, List, Option, Some, None, MatchOption}
+use Rattle.std.specs.Prelude.{slice_get, length, take, drop}
 use Rattle.std.specs.Option.{option_map}
 use Rattle.crs_value.specs.declared.values.level.Level.{Level}
 use Rattle.crs_value.specs.declared.values.level.Level.TheVariants as level
@@ -15,14 +16,17 @@ use Rattle.crs_c.specs.declared.standing.Standing.{Standing}
 use Rattle.crs_c.specs.Codes.{level_of}
 use Rattle.crs_c.specs.Refusals.{shown}
 
+-- the catalogue of no lines at a level
 abbrev pub empty_at : Level → CatalogueParts
 empty_at level = record { level = level; groups = []; refused = [] }
 
--- the catalogue of no lines, at the level of this number with code 0; at full with code 4 where it is no level's
+-- the catalogue of no lines, at the level of this number with code 0; at full with code 4 where it
+-- is no level's
 unfoldable pub IsNew : ℕ → CatalogueParts → ℕ → Type 0
 IsNew number made code =
     IsCatalogueOf [] made
-    × MatchOption (level_of number) ((made ≡ empty_at level.Full) × (code ≡ 4)) (λ l. (made ≡ empty_at l) × (code ≡ 0))
+    × MatchOption (level_of number) ((made ≡ empty_at level.Full) × (code ≡ 4))
+    (λ l. (made ≡ empty_at l) × (code ≡ 0))
 
 -- no refusal
 abbrev pub no_refusal : Refused
@@ -34,15 +38,19 @@ standing_of placed.Blank = record { group = 0; refused = no_refusal; code = 0 }
 standing_of (placed.Refused refusal) = record { group = 0; refused = shown refusal; code = 1 }
 standing_of (placed.Group n) = record { group = n; refused = no_refusal; code = 0 }
 
+-- where a line stands for which memory was wanting: nowhere, with code 3
 abbrev pub without_memory : Standing
 without_memory = record { group = 0; refused = no_refusal; code = 3 }
 
--- the line is added, and where it stands is told; or memory was wanting, with code 3, and the catalogue is as before
+-- the line is added, and where it stands is told; or memory was wanting, with code 3, and the
+-- catalogue is as before
 unfoldable pub IsAdded : ℕ → List ℕ → CatalogueParts → CatalogueParts → Standing → Type 0
 IsAdded number text old new told =
     ((place : Placed) × (told ≡ standing_of place)
-    × ((places : List PlacedLine) → IsCatalogue places old → IsCatalogue (then_line places number text place) new)
-    × ((lines : List Line) → IsCatalogueOf lines old → IsCatalogueOf (lines ++ line_of number text ∷ []) new)
+    × ((places : List PlacedLine) → IsCatalogue places old →
+    IsCatalogue (then_line places number text place) new)
+    × ((lines : List Line) → IsCatalogueOf lines old →
+    IsCatalogueOf (lines ++ line_of number text ∷ []) new)
     × (new.level ≡ old.level))
     ⊎ ((told ≡ without_memory) × (new ≡ old))
 

@@ -21,6 +21,8 @@ IsKindOf text found = (value : Crs) × Spells text value × (found ≡ kind_of v
 -- the kind with code 0, the refusal with code 1, or code 3; what isn't said is as before
 unfoldable pub IsCheckAnswer : List ℕ → CheckPlaces → CheckPlaces → ℕ → Type 0
 IsCheckAnswer text old new code =
-    ((found : Kind) × IsKindOf text found × (code ≡ 0) × (new ≡ record old { kind = kind_number found }))
-    ⊎ ((refusal : RefusedAt) × Refuses text refusal × (code ≡ 1) × (new ≡ record old { refused = shown refusal }))
+    ((found : Kind) × IsKindOf text found × (code ≡ 0)
+    × (new ≡ record old { kind = kind_number found }))
+    ⊎ ((refusal : RefusedAt) × Refuses text refusal × (code ≡ 1)
+    × (new ≡ record old { refused = shown refusal }))
     ⊎ ((code ≡ 3) × (new ≡ old))

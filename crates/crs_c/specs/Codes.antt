@@ -5,6 +5,7 @@ use Rattle.crs_value.specs.declared.values.crs.Kind.TheVariants as kind
 use Rattle.crs_value.specs.declared.values.level.Level.{Level}
 use Rattle.crs_value.specs.declared.values.level.Level.TheVariants as level
 
+-- the number by which C knows a kind of CRS
 abbrev pub kind_number : Kind → ℕ
 kind_number kind.Geodetic = 1
 kind_number kind.Geographic = 2

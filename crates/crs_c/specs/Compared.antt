@@ -15,4 +15,5 @@ DiffersAt level a second path =
 
 -- where it differs, or its fault
 abbrev pub IsFoundBehind : Level → List ℕ → Crs → Result (Option (List Step)) Fault → Type 0
-IsFoundBehind level second a found = MatchResult found (DiffersAt level a second) (IsFaultOfText second)
+IsFoundBehind level second a found =
+    MatchResult found (DiffersAt level a second) (IsFaultOfText second)

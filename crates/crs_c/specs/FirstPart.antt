@@ -27,24 +27,26 @@ words_of (Some path) = path_text path
 unfoldable pub IsPathGiven : Option (List Step) → Buffer ℕ → Buffer ℕ → ℕ → Type 0
 IsPathGiven found old new code = IsGiven (words_of found) old new code ⊎ ((code ≡ 3) × (new ≡ old))
 
--- of a second text, behind a first that spells this CRS: the first part that differs is given, with its code; the
--- text's refusal with code 2; or code 3; what isn't said is as before
+-- of a second text, behind a first that spells this CRS: the first part that differs is given, with
+-- its code; the text's refusal with code 2; or code 3; what isn't said is as before
 unfoldable pub IsSecondPartAt : Crs → List ℕ → PartPlaces → PartPlaces → ℕ → Level → Type 0
 IsSecondPartAt a second old new code level =
     ((b : Crs) × Spells second b × (found : Option (List Step)) × FirstInCrs level a b found
     × ((found ≡ None) ↔ SameCrs level a b) × IsGiven (words_of found) old.path new.path code
     × (new.refused ≡ old.refused))
-    ⊎ ((refusal : RefusedAt) × Refuses second refusal × (code ≡ 2) × (new ≡ record old { refused = shown refusal }))
+    ⊎ ((refusal : RefusedAt) × Refuses second refusal × (code ≡ 2)
+    × (new ≡ record old { refused = shown refusal }))
     ⊎ ((code ≡ 3) × (new ≡ old))
 
 -- of two texts: the refusal of the first with code 1; what is answered of the second; or code 3
 unfoldable pub IsPartAt : List ℕ → List ℕ → PartPlaces → PartPlaces → ℕ → Level → Type 0
 IsPartAt first second old new code level =
-    ((refusal : RefusedAt) × Refuses first refusal × (code ≡ 1) × (new ≡ record old { refused = shown refusal }))
+    ((refusal : RefusedAt) × Refuses first refusal × (code ≡ 1)
+    × (new ≡ record old { refused = shown refusal }))
     ⊎ ((a : Crs) × Spells first a × IsSecondPartAt a second old new code level)
     ⊎ ((code ≡ 3) × (new ≡ old))
 
--- the same, with code 4 where there is no such level
+-- the answer at the level of this number; code 4, and all as before, where there is no such level
 abbrev pub IsPartAnswer : ℕ → List ℕ → List ℕ → PartPlaces → PartPlaces → ℕ → Type 0
 IsPartAnswer level first second old new code =
     MatchOption (level_of level) ((code ≡ 4) × (new ≡ old)) (IsPartAt first second old new code)

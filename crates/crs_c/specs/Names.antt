@@ -3,6 +3,7 @@ use Rattle.std.specs.Prelude.{◌≡◌, ◌⊎◌, ℕ, List, IsTrue, codes}
 use Rattle.crs_text.specs.Refusal.{is_refusal, name_of}
 use Rattle.crs_c.specs.Buffers.{Buffer, IsGiven}
 
+-- the version of the library
 abbrev pub version : List ℕ
 version = codes "0.1.0"
 

@@ -3,6 +3,7 @@ use Rattle.std.specs.Prelude.{◌≡◌, ℕ, Option, Some, None}
 use Rattle.crs_text.specs.Refusal.{RefusedAt}
 use Rattle.crs_c.specs.declared.refused.Refused.{Refused}
 
+-- a refusal as C has it: its place and its number
 abbrev pub shown : RefusedAt → Refused
 shown refusal = record { place = refusal.place; number = refusal.number }
 

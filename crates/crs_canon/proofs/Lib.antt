@@ -6,6 +6,7 @@ pub mod PlainLemmas
 pub mod SetLemmas
 pub mod SetSameLemmas
 pub mod SetTextLemmas
+pub mod SpellingLemmas
 pub mod SystemLemmas
 pub mod TextLemmas
 pub mod WholeLemmas

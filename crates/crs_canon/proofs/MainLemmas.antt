@@ -1,5 +1,5 @@
 -- The main theorem from its parts.
-use Rattle.std.proofs.Common.{◌≡◌, ◌↔◌, ◌⊎◌, ℕ, List, subst, inl, inr}
+use Rattle.std.proofs.Common.{◌≡◌, ◌↔◌, ◌⊎◌, ℕ, List, ap, subst, sym, inl, inr}
 use Rattle.crs_text.specs.Refusal.{RefusedAt}
 use Rattle.crs_value.specs.SoundCrs.{IsCrs}
 use Rattle.crs_value.specs.SpellsText.{Spells, Refuses}
@@ -7,8 +7,8 @@ use Rattle.crs_value.specs.declared.values.crs.Crs.{Crs}
 use Rattle.crs_value.specs.declared.values.level.Level.{Level}
 use Rattle.crs_same.specs.SameCrs.{SameCrs}
 use Rattle.crs_same.specs.Sameness.{IsSamenessOf}
-use Rattle.crs_canon.specs.Canonical.{IsCanonicalOf, IsCanonicalText}
-use Rattle.crs_canon.specs.MainTheorem.{IsAccepted, IsItsRefusal, MainTheorem}
+use Rattle.crs_canon.specs.Canonical.{CanonicalText, IsCanonicalOf, IsCanonicalText}
+use Rattle.crs_canon.specs.MainTheorem.{IsAccepted, IsItsRefusal, MainTheorem, SpellSame}
 
 abbrev EqualWhereSame : Level → Type 0
 EqualWhereSame level =
@@ -59,3 +59,35 @@ main level there equal laws sound one refusal either = record {
 pub of_spelled : (level : Level) (text bytes : List ℕ) (crs : Crs) → Spells text crs → IsCanonicalText level crs bytes
     → IsCanonicalOf level text bytes
 of_spelled level text bytes crs spells canonical = (crs, spells, canonical)
+
+-- ---- what a caller knows of two answers
+
+pub answers-equal : (level : Level) → MainTheorem level → (first second a b : List ℕ) →
+    IsCanonicalOf level first a → IsCanonicalOf level second b → (a ≡ b) ↔ SpellSame level first second
+answers-equal level main first second a b (x, sx, cx) (y, sy, cy) = (
+  λ same. (x, y, sx, sy, (main.equal first second a b x y sx sy (x, sx, cx) (y, sy, cy)).0 same),
+  λ (p, q, sp, sq, same). (main.equal first second a b p q sp sq (x, sx, cx) (y, sy, cy)).1 same,
+)
+
+pub answer-own : (level : Level) → MainTheorem level → (text bytes again : List ℕ) →
+    IsCanonicalOf level text bytes → IsCanonicalOf level bytes again → again ≡ bytes
+answer-own level main text bytes again canonical other =
+    main.one bytes again bytes other (main.own text bytes canonical)
+
+pub canons-equal : ((level : Level) → MainTheorem level) → (first second : List ℕ) (a b : CanonicalText) →
+    IsCanonicalOf a.level first a.bytes → IsCanonicalOf b.level second b.bytes →
+    (a ≡ b) ↔ ((a.level ≡ b.level) × SpellSame a.level first second)
+canons-equal main first second a b ca cb = (
+  λ same.
+      let levels : a.level ≡ b.level = ap (λ canon. canon.level) same in
+      let of : IsCanonicalOf a.level second b.bytes = subst (λ l. IsCanonicalOf l second b.bytes) (sym levels) cb in (
+        levels,
+        (answers-equal a.level (main a.level) first second a.bytes b.bytes ca of).0
+            (ap (λ canon. canon.bytes) same),
+      ),
+  λ (levels, same).
+      let of : IsCanonicalOf a.level second b.bytes = subst (λ l. IsCanonicalOf l second b.bytes) (sym levels) cb in
+      let bytes : a.bytes ≡ b.bytes =
+      (answers-equal a.level (main a.level) first second a.bytes b.bytes ca of).1 same in
+      λ i. record { bytes = bytes i; level = levels i },
+)

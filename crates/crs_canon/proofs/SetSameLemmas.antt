@@ -1,12 +1,11 @@
 -- The text of a set tells its members, so that two sets have one text exactly where they are the same.
-use Rattle.std.proofs.Common.{◌≡◌, ◌↔◌, ◌⊎◌, ℕ, List, [], ◌∷◌, ◌++◌, map, inl, inr, refl, sym, ◌∙◌, ap, subst}
+use Rattle.std.proofs.Common.{◌≡◌, ◌↔◌, ◌⊎◌, ℕ, List, [], ◌∷◌, ◌++◌, inl, inr, refl, sym, ◌∙◌, ap, subst}
 use Rattle.crs_value.specs.Sound.{Each}
 use Rattle.crs_same.specs.Sets.{AllHaveSame, HasSame, SameSet}
-use Rattle.crs_normal.specs.Ascending.{Ascends, Has}
+use Rattle.crs_normal.specs.Ascending.{Ascends, IsIn}
+use Rattle.crs_normal.specs.CanonicalForm.{IsCanonicalForm}
 use Rattle.crs_normal.specs.Closed.{IsClosed}
-use Rattle.crs_normal.specs.Decides.{FormDecides}
-use Rattle.crs_canon.specs.Members.{commas, joined}
-use Rattle.crs_canon.specs.SetText.{HaveOneTextWhereSame, IsSetText}
+use Rattle.crs_canon.specs.SetText.{HaveOneTextWhereSame, IsSetText, SpellsOneOf, commas, joined}
 
 -- ---- closed texts behind one another
 
@@ -94,60 +93,62 @@ joined-tell law (x ∷ xs) (y ∷ ys) p q e =
 
 -- ---- members and their spellings
 
-each-of : {A : Type 0} (P : A → Type 0) (xs : List A) → ((z : A) → Has z xs → P z) → Each P xs
+each-of : {A : Type 0} (P : A → Type 0) (xs : List A) → ((z : A) → IsIn z xs → P z) → Each P xs
 each-of P [] f = tt
 each-of P (x ∷ xs) f = (f x (inl refl), each-of P xs (λ z h. f z (inr h)))
 
 -- lists that ascend and have the same members are equal
 abbrev pub IsOneList : Type 0
 IsOneList = (xs ys : List (List ℕ)) → Ascends (λ text. text) xs → Ascends (λ text. text) ys →
-    ((text : List ℕ) → Has text xs ↔ Has text ys) → xs ≡ ys
+    ((text : List ℕ) → IsIn text xs ↔ IsIn text ys) → xs ≡ ys
 
-module _ {V : Type 0} (Q : V → Type 0) (spell : V → List ℕ) (Same : V → V → Type 0) where
-  has-to : FormDecides Q spell Same → (x : V) (ys : List V) → Q x → Each Q ys → Has (spell x) (map spell ys) →
+module _ {V : Type 0} (Q : V → Type 0) (Spells : V → List ℕ → Type 0) (Same : V → V → Type 0) (form : IsCanonicalForm Q Same Spells) where
+  -- the spelling of a value is that of one of these exactly where one of these is the same
+  has-to : (x : V) (ys : List V) (text : List ℕ) → Q x → Spells x text → Each Q ys → SpellsOneOf Spells ys text →
       HasSame Same x ys
-  has-to decides x [] q h p = absurd p
-  has-to decides x (y ∷ ys) q h (inl e) = inl ((decides x y q h.0).0 e)
-  has-to decides x (y ∷ ys) q h (inr p) = inr (has-to decides x ys q h.1 p)
+  has-to x [] text q p h none = absurd none
+  has-to x (y ∷ ys) text q p h (inl s) = inl ((form.equal x y text text q h.0 p s).0 refl)
+  has-to x (y ∷ ys) text q p h (inr s) = inr (has-to x ys text q p h.1 s)
 
-  has-from : FormDecides Q spell Same → (x : V) (ys : List V) → Q x → Each Q ys → HasSame Same x ys →
-      Has (spell x) (map spell ys)
-  has-from decides x [] q h p = absurd p
-  has-from decides x (y ∷ ys) q h (inl s) = inl ((decides x y q h.0).1 s)
-  has-from decides x (y ∷ ys) q h (inr p) = inr (has-from decides x ys q h.1 p)
+  has-from : (x : V) (ys : List V) (text : List ℕ) → Q x → Spells x text → Each Q ys → HasSame Same x ys →
+      SpellsOneOf Spells ys text
+  has-from x [] text q p h none = absurd none
+  has-from x (y ∷ ys) text q p h (inl s) =
+      let own = form.there y h.0 in
+      let same : text ≡ own.0 = (form.equal x y text own.0 q h.0 p own.1).1 s in
+      inl (subst (Spells y) (sym same) own.1)
+  has-from x (y ∷ ys) text q p h (inr s) = inr (has-from x ys text q p h.1 s)
 
-  all-to : FormDecides Q spell Same → (xs ys : List V) → Each Q xs → Each Q ys →
-      ((text : List ℕ) → Has text (map spell xs) → Has text (map spell ys)) → AllHaveSame Same xs ys
-  all-to decides [] ys g h f = tt
-  all-to decides (x ∷ xs) ys g h f =
-      (has-to decides x ys g.0 h (f (spell x) (inl refl)), all-to decides xs ys g.1 h (λ text p. f text (inr p)))
+  all-to : (xs ys : List V) → Each Q xs → Each Q ys →
+      ((text : List ℕ) → SpellsOneOf Spells xs text → SpellsOneOf Spells ys text) → AllHaveSame Same xs ys
+  all-to [] ys g h f = tt
+  all-to (x ∷ xs) ys g h f =
+      let own = form.there x g.0 in
+      (has-to x ys own.0 g.0 own.1 h (f own.0 (inl own.1)), all-to xs ys g.1 h (λ text p. f text (inr p)))
 
-  all-from : FormDecides Q spell Same → (xs ys : List V) → Each Q xs → Each Q ys → AllHaveSame Same xs ys →
-      (text : List ℕ) → Has text (map spell xs) → Has text (map spell ys)
-  all-from decides [] ys g h s text p = absurd p
-  all-from decides (x ∷ xs) ys g h s text (inl e) =
-      subst (λ t. Has t (map spell ys)) (sym e) (has-from decides x ys g.0 h s.0)
-  all-from decides (x ∷ xs) ys g h s text (inr p) = all-from decides xs ys g.1 h s.1 text p
+  all-from : (xs ys : List V) → Each Q xs → Each Q ys → AllHaveSame Same xs ys → (text : List ℕ) →
+      SpellsOneOf Spells xs text → SpellsOneOf Spells ys text
+  all-from [] ys g h s text none = absurd none
+  all-from (x ∷ xs) ys g h s text (inl p) = has-from x ys text g.0 p h s.0
+  all-from (x ∷ xs) ys g h s text (inr p) = all-from xs ys g.1 h s.1 text p
 
-  closed-member : ((v : V) → Q v → IsClosed (spell v)) → (xs : List V) → Each Q xs → (text : List ℕ) →
-      Has text (map spell xs) → IsClosed text
-  closed-member closed [] h text p = absurd p
-  closed-member closed (x ∷ xs) h text (inl e) = subst IsClosed (sym e) (closed x h.0)
-  closed-member closed (x ∷ xs) h text (inr p) = closed-member closed xs h.1 text p
+  closed-member : (xs : List V) → Each Q xs → (text : List ℕ) → SpellsOneOf Spells xs text → IsClosed text
+  closed-member [] h text none = absurd none
+  closed-member (x ∷ xs) h text (inl p) = form.closed x text h.0 p
+  closed-member (x ∷ xs) h text (inr p) = closed-member xs h.1 text p
 
   -- the bytes of two sets are equal exactly where the sets are the same
-  pub set-decides : NoFront → IsOneList → FormDecides Q spell Same → ((v : V) → Q v → IsClosed (spell v)) → (a b : List V) → Each Q a → Each Q b → HaveOneTextWhereSame Same spell a b
-  set-decides law one decides closed a b g h first second s t = (to, from)
+  pub set-decides : NoFront → IsOneList → (a b : List V) → Each Q a → Each Q b → HaveOneTextWhereSame Same Spells a b
+  set-decides law one a b g h first second s t = (to, from)
     where
-      closed-in : (c : List V) → Each Q c → (bytes : List ℕ) → (u : IsSetText (map spell c) bytes) →
-          Each IsClosed u.members
+      closed-in : (c : List V) → Each Q c → (bytes : List ℕ) → (u : IsSetText Spells c bytes) → Each IsClosed u.members
       closed-in c k bytes u =
-          each-of IsClosed u.members (λ text p. closed-member closed c k text ((u.same text).0 p))
+          each-of IsClosed u.members (λ text p. closed-member c k text ((u.same text).0 p))
 
       to : first ≡ second → SameSet Same a b
       to e = (
-        all-to decides a b g h (λ text p. (t.same text).0 (subst (λ m. Has text m) members ((s.same text).1 p))),
-        all-to decides b a h g (λ text p. (s.same text).0 (subst (λ m. Has text m) (sym members) ((t.same text).1 p))),
+        all-to a b g h (λ text p. (t.same text).0 (subst (λ m. IsIn text m) members ((s.same text).1 p))),
+        all-to b a h g (λ text p. (s.same text).0 (subst (λ m. IsIn text m) (sym members) ((t.same text).1 p))),
       )
         where
           members : s.members ≡ t.members
@@ -159,17 +160,17 @@ module _ {V : Type 0} (Q : V → Type 0) (spell : V → List ℕ) (Same : V → 
         where
           members : s.members ≡ t.members
           members = one s.members t.members s.ascend t.ascend (λ text. (
-            λ p. (t.same text).1 (all-from decides a b g h same.0 text ((s.same text).0 p)),
-            λ p. (s.same text).1 (all-from decides b a h g same.1 text ((t.same text).0 p)),
+            λ p. (t.same text).1 (all-from a b g h same.0 text ((s.same text).0 p)),
+            λ p. (s.same text).1 (all-from b a h g same.1 text ((t.same text).0 p)),
           ))
 
 -- where a member of either set gives the law, they have it; two empty sets have one text
-pub by-members : {V : Type 0} (Same : V → V → Type 0) (spell : V → List ℕ) (a b : List V) → IsOneList →
-    ((v : V) → Has v a → HaveOneTextWhereSame Same spell a b) →
-    ((v : V) → Has v b → HaveOneTextWhereSame Same spell a b) → HaveOneTextWhereSame Same spell a b
-by-members Same spell (x ∷ a) b one f g = f x (inl refl)
-by-members Same spell [] (y ∷ b) one f g = g y (inl refl)
-by-members Same spell [] [] one f g = λ first second s t. (
+pub by-members : {V : Type 0} (Same : V → V → Type 0) (Spells : V → List ℕ → Type 0) (a b : List V) → IsOneList →
+    ((v : V) → IsIn v a → HaveOneTextWhereSame Same Spells a b) →
+    ((v : V) → IsIn v b → HaveOneTextWhereSame Same Spells a b) → HaveOneTextWhereSame Same Spells a b
+by-members Same Spells (x ∷ a) b one f g = f x (inl refl)
+by-members Same Spells [] (y ∷ b) one f g = g y (inl refl)
+by-members Same Spells [] [] one f g = λ first second s t. (
   λ e. (tt, tt),
   λ same.
       s.written

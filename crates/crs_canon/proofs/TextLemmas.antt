@@ -9,8 +9,9 @@ use Rattle.std.specs.Cmp.Lexicographic.{slice_cmp}
 use Rattle.std.specs.Ordering.{nat_cmp, match_ordering}
 use Rattle.std.specs.declared.cmp.Ordering.{Ordering}
 use Rattle.std.specs.declared.cmp.Ordering.TheVariants.{Less, Equal, Greater}
-use Rattle.crs_canon.specs.Members.{commas, set_text}
+use Rattle.crs_canon.specs.Members.{set_text}
 use Rattle.crs_canon.specs.Openings.{text_behind}
+use Rattle.crs_canon.specs.SetText.{commas}
 
 more-text : (item : Item) (rest : Siblings) → others_text (More item rest) ≡ others_text (More item End) ++ others_text rest
 more-text item rest =

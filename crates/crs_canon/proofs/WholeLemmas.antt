@@ -10,13 +10,13 @@ use Rattle.std.proofs.lemmas.Str.Parse.{IsNumeralModel, numerals_by_fold}
 use Rattle.crs_decimal.specs.Bounds.{Denotes, IsBounded, IsMeasured, digits_value, number_of}
 use Rattle.crs_decimal.specs.Number.{Number, SameNumber, whole_number}
 use Rattle.crs_decimal.specs.Plain.{IsPlain, IsTrim, plain}
-use Rattle.crs_decimal.specs.Spelling.{AreDigits, Parts, Spells, text, unsigned}
+use Rattle.crs_decimal.specs.Spelling.{AreDigits, Parts, SpellsNumber, parts_text, unsigned}
 use Rattle.crs_decimal.specs.Value.{Value, IsNormal, exact, is_power, is_zero_power, up_of, down_of}
 use Rattle.crs_normal.specs.SpelledSystems.{is_number}
 
 -- laws of decimals
 pub record Laws : Type 0 where
-  pub one_form : (bytes : List ℕ) (p q : Parts) → Spells bytes p → Spells bytes q → p ≡ q
+  pub one_form : (bytes : List ℕ) (p q : Parts) → SpellsNumber bytes p → SpellsNumber bytes q → p ≡ q
   pub denotes : (v : Value) → IsNormal v → Denotes (plain v) (exact v)
   pub only : (v : Value) (bytes : List ℕ) → IsNormal v → IsPlain bytes → Denotes bytes (exact v) → bytes ≡ plain v
   pub symmetric : (a b : Number) → SameNumber a b → SameNumber b a
@@ -43,10 +43,10 @@ decimal-trim n l = elim (cases_lt 0 n) [
 abbrev parts_of : ℕ → Parts
 parts_of n = record { sign = unsigned; whole = decimal n; fraction = None; exponent = None }
 
-text-is : (n : ℕ) → text (parts_of n) ≡ decimal n
+text-is : (n : ℕ) → parts_text (parts_of n) ≡ decimal n
 text-is n = simp append-nil
 
-decimal-spells : (n : ℕ) → n < 2 ^ 64 → Spells (decimal n) (parts_of n)
+decimal-spells : (n : ℕ) → n < 2 ^ 64 → SpellsNumber (decimal n) (parts_of n)
 decimal-spells n l = (
   sym (text-is n),
   record {

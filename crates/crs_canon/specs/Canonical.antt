@@ -1,5 +1,5 @@
 -- Canonical texts.
-use Rattle.std.specs.Prelude.{ℕ, List}
+use Rattle.std.specs.Prelude.{◌≡◌, ◌++◌, ℕ, List}
 use Rattle.crs_value.specs.SpellsText.{Spells}
 use Rattle.crs_value.specs.declared.values.crs.Crs.{Crs}
 use Rattle.crs_value.specs.declared.values.level.Level.{Level}
@@ -21,3 +21,9 @@ pub record IsCanonicalText (level : Level) (crs : Crs) (bytes : List ℕ) : Type
 -- the canonical text of a text: that of the CRS that it spells
 abbrev pub IsCanonicalOf : Level → List ℕ → List ℕ → Type 0
 IsCanonicalOf level text bytes = (crs : Crs) × Spells text crs × IsCanonicalText level crs bytes
+
+-- what stands behind the bytes from before is a spelling
+pub record AppendsSpelling (IsSpelling : List ℕ → Type 0) (before after : List ℕ) : Type 0 where
+  pub spelling : List ℕ
+  pub appended : after ≡ before ++ spelling
+  pub is_spelling : IsSpelling spelling

@@ -1,11 +1,8 @@
--- When two canonical texts are equal, as a test, and that it tells equal ones from others.
-use Rattle.std.specs.Prelude.{◌≡◌, ◌↔◌, ◌&&◌, Bool, true, [], ◌∷◌, nat_eq}
-use Rattle.std.proofs.Common.{ap, rules, ◌∙◌}
-use Rattle.std.specs.Cmp.{IsEquivalence, and_equiv, on_equiv, nat_eq_equiv, first_so, second_so}
-use Rattle.std.specs.Cmp.Lexicographic.{bytes_decides, nat_list_eq_equiv, pointwise}
+-- When two canonical texts are equal, as a test, and what one gives to a hash.
+use Rattle.std.specs.Prelude.{◌&&◌, Bool, [], ◌∷◌, nat_eq}
+use Rattle.std.specs.Cmp.Lexicographic.{pointwise}
 use Rattle.std.specs.Hash.{HashWrites}
-use denote.Enum.Bare.{sameb, same_true}
-use denote.Enum.Declared.{tag_of}
+use denote.Enum.Bare.{sameb}
 use Rattle.crs_value.specs.contracts.values.level.Level.{the_type}
 use Rattle.crs_canon.specs.Canonical.{CanonicalText}
 
@@ -16,24 +13,3 @@ canons_equal a b = sameb the_type a.level b.level && pointwise nat_eq a.bytes b.
 -- what a canonical text gives to a hash: its bytes, in one write
 abbrev pub canon_writes : CanonicalText → HashWrites
 canon_writes canon = canon.bytes ∷ []
-
-pub canons-equivalence : IsEquivalence canons_equal
-canons-equivalence =
-    and_equiv (on_equiv (λ canon. tag_of the_type canon.level) nat_eq_equiv)
-    (on_equiv (λ canon. canon.bytes) nat_list_eq_equiv)
-
-pub canons-decide : (a b : CanonicalText) → (canons_equal a b ≡ true) ↔ (a ≡ b)
-canons-decide a b = (equal, back)
-  where
-    equal : canons_equal a b ≡ true → a ≡ b
-    equal so =
-        let levels : a.level ≡ b.level = same_true the_type (search rules) a.level b.level (first_so _ _ so) in
-        let bytes : a.bytes ≡ b.bytes =
-        (bytes_decides a.bytes b.bytes).0 (second_so (sameb the_type a.level b.level) _ so) in
-        λ i. record { bytes = bytes i; level = levels i }
-
-    back : a ≡ b → canons_equal a b ≡ true
-    back one = ap (λ canon. canons_equal canon b) one ∙ canons-equivalence.refl b
-
-pub canons-hash : (a b : CanonicalText) → canons_equal a b ≡ true → canon_writes a ≡ canon_writes b
-canons-hash a b so = ap canon_writes ((canons-decide a b).0 so)

@@ -1,24 +1,42 @@
--- A bridge: sets as they are written: each spelling once, in ascending order, a comma before each.
-use Rattle.std.specs.Prelude.{ℕ, List, [], ◌∷◌, ◌++◌, map, Vec}
+-- A bridge: sets as they are written: each spelling once, in ascending order.
+use Rattle.std.specs.Prelude.{◌≡◌, ◌↔◌, ℕ, List, [], ◌∷◌, ◌++◌, map, Vec}
 use Rattle.std.specs.declared.alloc.Global.{Global}
-use Rattle.crs_normal.specs.Ordered.{in_order}
+use Rattle.crs_normal.specs.Ordered.{in_order, put_all}
+use Rattle.crs_canon.specs.SetText.{commas}
 
-abbrev pub commas : List (List ℕ) → List ℕ
-commas [] = []
-commas (bytes ∷ others) = 44 ∷ (bytes ++ commas others)
-
--- these texts, a comma between two
-abbrev pub joined : List (List ℕ) → List ℕ
-joined [] = []
-joined (bytes ∷ others) = bytes ++ commas others
-
--- a set by itself
-unfoldable pub set_spelling : List (List ℕ) → List ℕ
-set_spelling spellings = joined (in_order (λ bytes. bytes) spellings)
-
+-- a set behind other arguments
 unfoldable pub set_text : List (List ℕ) → List ℕ
 set_text spellings = commas (in_order (λ bytes. bytes) spellings)
 
 -- the bytes of vectors
 abbrev pub spellings : List (Vec ℕ Global) → List (List ℕ)
 spellings vectors = map (λ v. v.items) vectors
+
+-- ---- values of which each has one spelling
+
+-- the bytes of which this holds are these alone
+abbrev pub IsOnly : (List ℕ → Type 0) → List ℕ → Type 0
+IsOnly IsSpelling text = (bytes : List ℕ) → IsSpelling bytes ↔ (bytes ≡ text)
+
+-- each text is the one spelling of its value
+abbrev pub AreSpelled : {V : Type 0} → (V → List ℕ → Type 0) → List V → List (List ℕ) → Type 0
+AreSpelled IsSpelling [] [] = Unit {0}
+AreSpelled IsSpelling [] (text ∷ texts) = ⊥
+AreSpelled IsSpelling (value ∷ values) [] = ⊥
+AreSpelled IsSpelling (value ∷ values) (text ∷ texts) =
+    IsOnly (IsSpelling value) text × AreSpelled IsSpelling values texts
+
+-- the spellings of the values are put among those before
+pub record ArePut {V : Type 0} (IsSpelling : V → List ℕ → Type 0) (values : List V)
+    (before after : List (List ℕ)) : Type 0 where
+  pub texts : List (List ℕ)
+  pub spelled : AreSpelled IsSpelling values texts
+  pub all_put : after ≡ put_all (λ bytes. bytes) before texts
+
+-- the spellings of the values, each once and in order, are appended in this way
+pub record AppendsAll {V : Type 0} (write : List (List ℕ) → List ℕ)
+    (IsSpelling : V → List ℕ → Type 0)
+    (values : List V) (before after : List ℕ) : Type 0 where
+  pub texts : List (List ℕ)
+  pub spelled : AreSpelled IsSpelling values texts
+  pub appended : after ≡ before ++ write (in_order (λ bytes. bytes) texts)

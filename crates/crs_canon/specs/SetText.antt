@@ -1,17 +1,38 @@
--- The text of a set: texts in ascending order of their bytes, each once, a comma between two.
-use Rattle.std.specs.Prelude.{◌≡◌, ◌↔◌, ℕ, List, map}
+-- The text of a set: the spellings of its members, each once, in ascending order of their bytes, a
+-- comma between two.
+use Rattle.std.specs.Prelude.{◌≡◌, ◌↔◌, ◌⊎◌, ℕ, List, [], ◌∷◌, ◌++◌}
 use Rattle.crs_same.specs.Sets.{SameSet}
-use Rattle.crs_normal.specs.Ascending.{Ascends, Has}
-use Rattle.crs_canon.specs.Members.{joined}
+use Rattle.crs_normal.specs.Ascending.{Ascends, IsIn}
 
--- the bytes are just these texts, each once, in ascending order, a comma between two
-pub record IsSetText (texts : List (List ℕ)) (bytes : List ℕ) : Type 0 where
+-- the texts behind one another, a comma before each
+abbrev pub commas : List (List ℕ) → List ℕ
+commas [] = []
+commas (bytes ∷ others) = 44 ∷ (bytes ++ commas others)
+
+-- the texts behind one another, a comma between two
+abbrev pub joined : List (List ℕ) → List ℕ
+joined [] = []
+joined (bytes ∷ others) = bytes ++ commas others
+
+-- the text is a spelling of one of these values
+abbrev pub SpellsOneOf : {V : Type 0} → (V → List ℕ → Type 0) → List V → List ℕ → Type 0
+SpellsOneOf IsSpelling [] text = ⊥
+SpellsOneOf IsSpelling (value ∷ values) text =
+    IsSpelling value text ⊎ SpellsOneOf IsSpelling values text
+
+-- the bytes are just the spellings of these values, each once, in ascending order, a comma between
+-- two
+pub record IsSetText {V : Type 0} (IsSpelling : V → List ℕ → Type 0) (values : List V)
+    (bytes : List ℕ) : Type 0 where
   pub members : List (List ℕ)
   pub ascend : Ascends (λ text. text) members
-  pub same : (text : List ℕ) → Has text members ↔ Has text texts
+  pub same : (text : List ℕ) → IsIn text members ↔ SpellsOneOf IsSpelling values text
   pub written : bytes ≡ joined members
 
--- two sets, whose members are spelled so, have equal texts, byte for byte, exactly where they are the same
-abbrev pub HaveOneTextWhereSame : {V : Type 0} → (V → V → Type 0) → (V → List ℕ) → List V → List V → Type 0
-HaveOneTextWhereSame Same spelling a b = (first second : List ℕ) →
-    IsSetText (map spelling a) first → IsSetText (map spelling b) second → (first ≡ second) ↔ SameSet Same a b
+-- two sets, whose members are spelled so, have equal texts, byte for byte, exactly where they are
+-- the same
+abbrev pub HaveOneTextWhereSame : {V : Type 0} → (V → V → Type 0) → (V → List ℕ → Type 0) →
+    List V → List V → Type 0
+HaveOneTextWhereSame Same IsSpelling a b = (first second : List ℕ) →
+    IsSetText IsSpelling a first → IsSetText IsSpelling b second →
+    (first ≡ second) ↔ SameSet Same a b

@@ -7,10 +7,8 @@ ghost use Rattle.crs_canon.specs.Canonical.{IsCanonicalOf, IsCanonicalText};
 
 use crate::canon_text::Canon;
 use crate::spelling::crs::write_crs;
-use crs_normal::laws::made::made_text_is_normal;
-use crs_normal::laws::texts::{one_form_is_the_same, written_form_is_accepted};
+use crs_normal::laws::{made, texts};
 use crs_text::Fault;
-use crs_value::laws::crs_is_sound;
 use crs_value::{Crs, Level, read};
 use std::alloc::{AllocError, Global};
 
@@ -18,7 +16,8 @@ use std::alloc::{AllocError, Global};
 const ROOM: usize = 1024;
 
 /// The canonical text, at a level, of the CRS that a text spells: it is normal, accepted, and spells a CRS that is the
-/// same.
+/// same. Of two answers at one level the bytes are equal exactly where the two texts spell the same CRS
+/// (`laws::answers_are_equal_where_same`).
 ///
 /// `Refused`: the text spells no CRS; number and place are those of `read`. `Memory`: there is no memory for the value
 /// or for the canonical text. Profile.
@@ -60,10 +59,10 @@ fn written(alloc: Global, crs: &Crs<'_>, level: Level, room: usize) -> Result<Ca
     ensures text { IfOk result (λ canon. IsCanonicalText level crs.now canon.bytes) }
     ensures level { IfOk result (λ canon. canon.level ≡ level) }
 {
-    crs_is_sound(crs);
-    made_text_is_normal();
-    written_form_is_accepted();
-    one_form_is_the_same();
+    crs_value::laws::crs_is_sound(crs);
+    made::made_text_is_normal();
+    texts::written_form_is_accepted();
+    texts::one_form_is_the_same();
     let mut bytes = Vec::with_capacity(alloc, room)?;
     write_crs(&mut bytes, crs, level)?;
     // Whoever keeps many holds no room that none needs.

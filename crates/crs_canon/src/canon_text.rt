@@ -1,6 +1,7 @@
 ghost use Rattle.std.specs.Prelude.{◌≡◌, ◌↔◌, IsTrue};
 ghost use Rattle.std.specs.Cmp.{partial_equiv_from_equiv};
-ghost use Rattle.crs_canon.specs.Equality.{canon_writes, canons_equal, canons-equivalence, canons-hash};
+ghost use Rattle.crs_canon.specs.Equality.{canon_writes, canons_equal};
+ghost use Rattle.crs_canon.specs.EqualityLaws.{canons-equivalence, canons-hash};
 
 use crs_value::Level;
 use std::hash::{Hash, Hasher};
@@ -43,7 +44,8 @@ impl Canon {
         self.level
     }
 
-    /// Whether levels and texts are equal.
+    /// Whether levels and texts are equal: of two answers of `canon`, whether they are of one level and the two texts
+    /// spell the same CRS at it (`laws::answers_are_equal_where_same`).
     pub fn same(&self, other: &Canon) -> bool
         ensures { IsTrue result ↔ (self.now ≡ other.now) }
     {

@@ -2,6 +2,7 @@
 ghost use Rattle.std.specs.Prelude.{◌≡◌, ◌↔◌, ◌++◌, ◌∷◌, ℕ, IsTrue, List, MatchResult};
 ghost use Rattle.crs_value.specs.declared.values.level.Level.{Level};
 ghost use Rattle.crs_normal.specs.CanonicalForm.{IsCanonicalForm};
+ghost use Rattle.crs_canon.specs.Canonical.{AppendsSpelling};
 
 mod axes;
 mod conversions;
@@ -29,9 +30,6 @@ pub trait Canonical: Sized {
     /// the same.
     ghost IsSpelling: { Level → Self → List ℕ → Type 0 };
 
-    /// The spelling of a value.
-    ghost spelling: { Level → Self → List ℕ };
-
     /// Whether two values are the same.
     fn same(&self, other: &Self, level: Level) -> bool
         ensures { IsTrue result ↔ Same level self.now other.now };
@@ -41,14 +39,14 @@ pub trait Canonical: Sized {
     /// `AllocError`: there is no memory for it, and `out` is as before.
     fn write(&self, alloc: Global, level: Level, out: &mut Vec<u8>) -> Result<(), AllocError>
         ensures { MatchResult result
-            (λ _. out.new.items ≡ out.old.items ++ spelling level self.now)
+            (λ _. AppendsSpelling (IsSpelling level self.now) out.old.items out.new.items)
             (λ _. out.new.items ≡ out.old.items) };
 
     /// The law of the type: its spellings are normal and one, they are equal, byte for byte, exactly where the values
     /// are the same, and each is closed; and this is such a value. The call does nothing.
     fn laws(&self)
         ensures value { IsValue self.now }
-        ensures form { (level : Level) → IsCanonicalForm IsValue (Same level) (IsSpelling level) (spelling level) };
+        ensures form { (level : Level) → IsCanonicalForm IsValue (Same level) (IsSpelling level) };
 }
 
 // Appends a text that was written behind a comma, without the comma.

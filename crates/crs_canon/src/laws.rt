@@ -8,7 +8,7 @@ ghost use Rattle.crs_value.specs.declared.values.level.Level.TheVariants as leve
 ghost use Rattle.crs_same.specs.SameCrs.{SameCrs};
 ghost use Rattle.crs_canon.specs.Canonical.{CanonicalText, IsCanonicalOf, IsCanonicalText};
 ghost use Rattle.crs_canon.specs.Equality.{canon_writes, canons_equal};
-ghost use Rattle.crs_canon.specs.MainTheorem.{MainTheorem};
+ghost use Rattle.crs_canon.specs.MainTheorem.{MainTheorem, SpellSame};
 ghost use Rattle.crs_canon.specs.SetText.{HaveOneTextWhereSame};
 
 use crate::canonical::Canonical;
@@ -49,6 +49,21 @@ pub fn main_theorem()
     one_answer();
 }
 
+/// What a caller knows of two answers of `canon`. At one level their bytes are equal exactly where the two texts spell
+/// the same CRS; the answer for the bytes of an answer is those bytes; and two `Canon`s are equal, as `Canon::same`
+/// answers, exactly where their levels are equal and the two texts spell the same CRS at that level. Profile.
+pub fn answers_are_equal_where_same()
+    ensures equal { (level : Level) (first second a b : List ℕ) →
+        IsCanonicalOf level first a → IsCanonicalOf level second b → (a ≡ b) ↔ SpellSame level first second }
+    ensures own { (level : Level) (text bytes again : List ℕ) →
+        IsCanonicalOf level text bytes → IsCanonicalOf level bytes again → again ≡ bytes }
+    ensures canons { (first second : List ℕ) (a b : CanonicalText) →
+        IsCanonicalOf a.level first a.bytes → IsCanonicalOf b.level second b.bytes →
+        (a ≡ b) ↔ ((a.level ≡ b.level) × SpellSame a.level first second) }
+{
+    main_theorem();
+}
+
 /// The two levels. The canonical text by definition of a canonical text at the full level is that of its source, and of
 /// no other; a canonical text by definition is its own at both levels. Profile.
 pub fn levels_of_canonical_texts()
@@ -74,9 +89,10 @@ pub fn equal_canons_are_one()
 /// No spelling of a node is empty, and none is the front of another of its kind. The node stands for its kind.
 /// Profile.
 pub fn spellings_stand_alone<T: Canonical>(node: &T)
-    ensures some { (level : Level) (value : T) → T.IsValue value → ¬ (T.spelling level value ≡ []) }
-    ensures front { (level : Level) (a b : T) (more : List ℕ) → T.IsValue a → T.IsValue b →
-        T.spelling level b ≡ T.spelling level a ++ more → more ≡ [] }
+    ensures some { (level : Level) (value : T) (bytes : List ℕ) → T.IsValue value →
+        T.IsSpelling level value bytes → ¬ (bytes ≡ []) }
+    ensures front { (level : Level) (a b : T) (first second more : List ℕ) → T.IsValue a → T.IsValue b →
+        T.IsSpelling level a first → T.IsSpelling level b second → second ≡ first ++ more → more ≡ [] }
 {
     node.laws();
     closed_texts();
@@ -86,7 +102,7 @@ pub fn spellings_stand_alone<T: Canonical>(node: &T)
 /// stands for the kind. Profile.
 pub fn set_texts_are_equal_where_same<T: Canonical>(node: &T)
     ensures { (level : Level) (a b : List T) → Each T.IsValue a → Each T.IsValue b →
-        HaveOneTextWhereSame (T.Same level) (T.spelling level) a b }
+        HaveOneTextWhereSame (T.Same level) (T.IsSpelling level) a b }
 {
     node.laws();
     closed_texts();

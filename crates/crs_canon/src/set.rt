@@ -2,7 +2,8 @@
 ghost use Rattle.std.specs.Prelude.{◌≡◌, ◌∷◌, ◌++◌, [], ℕ, List, map, OnOk};
 ghost use Rattle.crs_value.specs.declared.values.level.Level.{Level};
 ghost use Rattle.crs_normal.specs.Ordered.{put, put_all};
-ghost use Rattle.crs_canon.specs.Members.{commas, set_text, spellings};
+ghost use Rattle.crs_canon.specs.Members.{set_text, spellings};
+ghost use Rattle.crs_canon.specs.SetText.{commas};
 
 use crate::spelling::texts::append;
 use crs_value::Level;

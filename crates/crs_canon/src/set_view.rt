@@ -1,17 +1,16 @@
 //! Sets of nodes, which are views of slices.
-ghost use Rattle.std.specs.Prelude.{◌≡◌, ◌↔◌, ◌++◌, ℕ, IsTrue, List, map, MatchResult, OnOk};
+ghost use Rattle.std.specs.Prelude.{◌≡◌, ◌↔◌, ◌∷◌, ◌++◌, [], ℕ, IsTrue, List, MatchResult, OnOk};
 ghost use Rattle.crs_value.specs.Sound.{Each};
 ghost use Rattle.crs_value.specs.declared.values.level.Level.{Level};
 ghost use Rattle.crs_same.specs.Sets.{AllHaveSame, HasSame, SameSet};
-ghost use Rattle.crs_normal.specs.Ascending.{Has};
-ghost use Rattle.crs_normal.specs.Ordered.{in_order, put, put_all};
-ghost use Rattle.crs_canon.specs.Members.{commas, joined, set_spelling, spellings};
-ghost use Rattle.crs_canon.specs.SetText.{HaveOneTextWhereSame, IsSetText};
+ghost use Rattle.crs_normal.specs.Ascending.{IsIn};
+ghost use Rattle.crs_canon.specs.Canonical.{AppendsSpelling};
+ghost use Rattle.crs_canon.specs.Members.{AppendsAll, ArePut, spellings};
+ghost use Rattle.crs_canon.specs.SetText.{HaveOneTextWhereSame, IsSetText, commas, joined};
 
 use crate::canonical::Canonical;
-use crate::laws::set_texts_are_equal_where_same;
 use crate::set::{MEMBER_ROOM, write_sorted};
-use crs_normal::laws::sets::texts_are_in_order;
+use crs_normal::laws::sets;
 use crs_value::Level;
 use std::alloc::{AllocError, Global};
 use std::collections::BTreeSet;
@@ -53,11 +52,10 @@ impl<'s, T: Canonical> Set<'s, T> {
     /// `AllocError`: there is no memory for it, and `out` is as before.
     pub fn write(&self, alloc: Global, level: Level, out: &mut Vec<u8>) -> Result<(), AllocError>
         ensures { MatchResult result
-            (λ _. (text : List ℕ) × (out.new.items ≡ out.old.items ++ text)
-            × IsSetText (map (T.spelling level) self.now) text)
+            (λ _. AppendsSpelling (IsSetText (T.IsSpelling level) self.now) out.old.items out.new.items)
             (λ _. out.new.items ≡ out.old.items) }
     {
-        texts_are_in_order();
+        sets::texts_are_in_order();
         append_set(alloc, out, self.members, level)
     }
 
@@ -65,9 +63,9 @@ impl<'s, T: Canonical> Set<'s, T> {
     /// byte for byte, exactly where they are the same. The call does nothing.
     pub fn laws(&self, other: &Set<'s, T>)
         ensures values { Each T.IsValue self.now }
-        ensures equal { (level : Level) → HaveOneTextWhereSame (T.Same level) (T.spelling level) self.now other.now }
+        ensures equal { (level : Level) → HaveOneTextWhereSame (T.Same level) (T.IsSpelling level) self.now other.now }
     {
-        texts_are_in_order();
+        sets::texts_are_in_order();
         are_values(self.members);
         are_values(other.members);
         kind_has_law(self.members);
@@ -85,11 +83,11 @@ fn are_values<T: Canonical>(members: &[T])
 
 // The law of all sets of a kind, where there is a node of it.
 fn kind_has_law<T: Canonical>(members: &[T])
-    ensures { (member : T) → Has member members.now → (level : Level) (a b : List T) →
-        Each T.IsValue a → Each T.IsValue b → HaveOneTextWhereSame (T.Same level) (T.spelling level) a b }
+    ensures { (member : T) → IsIn member members.now → (level : Level) (a b : List T) →
+        Each T.IsValue a → Each T.IsValue b → HaveOneTextWhereSame (T.Same level) (T.IsSpelling level) a b }
 {
     if let [member, ..] = members {
-        set_texts_are_equal_where_same(member);
+        crate::laws::set_texts_are_equal_where_same(member);
     }
 }
 
@@ -122,9 +120,10 @@ fn gather<T: Canonical>(
     member: &T,
     level: Level,
 ) -> Result<(), AllocError>
-    ensures { OnOk result (spellings sorted.new.keys
-        ≡ put (λ b. b) (T.spelling level member.now) (spellings sorted.old.keys)) }
+    ensures { OnOk result (ArePut (T.IsSpelling level) (member.now ∷ [])
+        (spellings sorted.old.keys) (spellings sorted.new.keys)) }
 {
+    member.laws();
     let mut bytes = Vec::with_capacity(alloc, MEMBER_ROOM)?;
     member.write(alloc, level, &mut bytes)?;
     sorted.insert(bytes)?;
@@ -137,8 +136,8 @@ fn gather_all<T: Canonical>(
     members: &[T],
     level: Level,
 ) -> Result<(), AllocError>
-    ensures { OnOk result (spellings sorted.new.keys
-        ≡ put_all (λ b. b) (spellings sorted.old.keys) (map (T.spelling level) members.now)) }
+    ensures { OnOk result (ArePut (T.IsSpelling level) members.now
+        (spellings sorted.old.keys) (spellings sorted.new.keys)) }
 {
     for member in members {
         gather(alloc, sorted, member, level)?;
@@ -153,8 +152,7 @@ fn write_members<T: Canonical>(
     members: &[T],
     level: Level,
 ) -> Result<(), AllocError>
-    ensures { OnOk result (out.new.items
-        ≡ out.old.items ++ commas (in_order (λ b. b) (map (T.spelling level) members.now))) }
+    ensures { OnOk result (AppendsAll commas (T.IsSpelling level) members.now out.old.items out.new.items) }
 {
     let mut sorted = BTreeSet::new(alloc);
     gather_all(alloc, &mut sorted, members, level)?;
@@ -174,7 +172,6 @@ fn append_members(out: &mut Vec<u8>, text: &[u8]) -> Result<(), AllocError>
 }
 
 // The members in order, where there is memory for them.
-#[tactic(auto, unfolding(crate::specs::Members::set_spelling))]
 fn append_set<T: Canonical>(
     alloc: Global,
     out: &mut Vec<u8>,
@@ -182,7 +179,7 @@ fn append_set<T: Canonical>(
     level: Level,
 ) -> Result<(), AllocError>
     ensures { MatchResult result
-        (λ _. out.new.items ≡ out.old.items ++ set_spelling (map (T.spelling level) members.now))
+        (λ _. AppendsAll joined (T.IsSpelling level) members.now out.old.items out.new.items)
         (λ _. out.new.items ≡ out.old.items) }
 {
     let mut text = Vec::new(alloc);

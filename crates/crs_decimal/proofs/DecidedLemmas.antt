@@ -5,7 +5,7 @@ use Rattle.std.proofs.Math.Nat.{mul-one}
 use Rattle.crs_decimal.specs.Bounds.{Strips, IsMeasured, IsBounded, IsInBounds, number_of, exponent_digits}
 use Rattle.crs_decimal.specs.Number.{Number}
 use Rattle.crs_decimal.specs.Spelling.{Exponent, Parts, mantissa, HasForm}
-use Rattle.crs_decimal.specs.Split.{parts_of, behind_parts, behind_mantissa, exponent_of, HasExponentDigits, IsWhole}
+use Rattle.crs_decimal.specs.Split.{parts_of, behind_parts, behind_mantissa, exponent_of, HasExponentDigits, IsCutWhole}
 use Rattle.crs_decimal.proofs.SplitLemmas.{spells_parts, parts_only, form_whole}
 use Rattle.crs_decimal.proofs.PowerLemmas.{strip_one, scaled_more}
 
@@ -29,7 +29,7 @@ decides_exponent : (e : Option Exponent) → IsDecided (HasExponentDigits e)
 decides_exponent None = inl tt
 decides_exponent (Some e) = decides_less 0 (length e.digits)
 
-decides_whole : (bytes : List ℕ) → IsDecided (IsWhole bytes)
+decides_whole : (bytes : List ℕ) → IsDecided (IsCutWhole bytes)
 decides_whole bytes =
     elim (decides_none (behind_parts bytes)) [
       | inr never ↦ inr (λ w. never w.all)

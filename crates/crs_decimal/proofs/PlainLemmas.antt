@@ -9,7 +9,7 @@ use Rattle.std.proofs.Math.Nat.{mul-one, mul-le-mul_right}
 use Rattle.crs_decimal.specs.Bounds.{digits_value, is_minus, power_up, power_down, number_of, Denotes}
 use Rattle.crs_decimal.specs.Number.{SameSize, SameNumber}
 use Rattle.crs_decimal.specs.Plain.{IsTrim, EndsTrim, IsSignNeeded, IsFractionNeeded, IsPlain}
-use Rattle.crs_decimal.specs.Spelling.{Parts, text, is_digit, AreDigits, fraction_digits, mantissa}
+use Rattle.crs_decimal.specs.Spelling.{Parts, parts_text, is_digit, AreDigits, fraction_digits, mantissa}
 use Rattle.crs_decimal.specs.Value.{Value, exact}
 use Rattle.crs_decimal.proofs.DigitLemmas.{value_after, value-append, value-cons, value-below, same_digits, digit_range}
 use Rattle.crs_decimal.proofs.MantissaLemmas.{last_digit}
@@ -142,7 +142,7 @@ plain_one b c g h same =
     let dq = digits_parts q.whole (fraction_digits q.fraction) h.spells.1.digits in
     let r = same_mantissa p.whole q.whole p.fraction q.fraction dp.0 dq.0 dp.1 dq.1 g.whole h.whole g.fraction h.fraction (same_size p q g.exponent h.exponent same.0) in
     let s = same_sign p q g.sign h.sign (minus_needed p.whole p.fraction dp.0 dp.1 g.whole g.fraction) (minus_needed q.whole q.fraction dq.0 dq.1 h.whole h.fraction) same.1 in
-    g.spells.0 ∙ ap text (same_parts p q s r.0 r.1 (g.exponent ∙ sym h.exponent)) ∙ sym h.spells.0
+    g.spells.0 ∙ ap parts_text (same_parts p q s r.0 r.1 (g.exponent ∙ sym h.exponent)) ∙ sym h.spells.0
 
 pub plain_denoted_one : (b c : List ℕ) (v : Value) → IsPlain b → IsPlain c → Denotes b (exact v) → Denotes c (exact v) → b ≡ c
 plain_denoted_one b c v g h d e =

@@ -4,7 +4,7 @@ use Rattle.std.specs.List.{list_all}
 use Rattle.std.proofs.lemmas.Bool.{and_parts, and_from, or_cases, eqb-true, false≢true}
 use Rattle.std.proofs.lemmas.List.Folds.{list_all-append}
 use Rattle.crs_decimal.specs.Plain.{IsSignNeeded, IsPlain, is_plain_byte}
-use Rattle.crs_decimal.specs.Spelling.{Sign, unsigned, plus, minus, sign_text, Exponent, Parts, fraction_text, exponent_text, text, is_digit, AreDigits, fraction_digits, IsExponent, IsForm, HasForm, is_run_byte, is_run_start, IsRun}
+use Rattle.crs_decimal.specs.Spelling.{Sign, unsigned, plus, minus, sign_text, Exponent, Parts, fraction_text, exponent_text, parts_text, is_digit, AreDigits, fraction_digits, IsExponent, IsForm, HasForm, is_run_byte, is_run_start, IsRun}
 use Rattle.crs_decimal.proofs.SplitLemmas.{digits_parts}
 
 all_append : (p : ℕ → Bool) (xs ys : List ℕ) → list_all p xs ≡ true → list_all p ys ≡ true → list_all p (xs ++ ys) ≡ true
@@ -38,7 +38,7 @@ exponent_run None h = refl
 exponent_run (Some e) h =
     and_from _ _ (letter_run e.letter h.0) (all_append is_run_byte (sign_text e.sign) e.digits (sign_run e.sign) (digits_pass is_run_byte digit_is_run_byte e.digits h.1))
 
-text_run : (p : Parts) → IsForm p → list_all is_run_byte (text p) ≡ true
+text_run : (p : Parts) → IsForm p → list_all is_run_byte (parts_text p) ≡ true
 text_run p h =
     let d = digits_parts p.whole (fraction_digits p.fraction) h.digits in
     let front = all_append is_run_byte (sign_text p.sign) p.whole (sign_run p.sign) (digits_pass is_run_byte digit_is_run_byte p.whole d.0) in
@@ -65,7 +65,7 @@ run_from (b ∷ bs) g h = (g, h)
 pub form_is_run : (bs : List ℕ) → HasForm bs → IsRun bs
 form_is_run bs (p, h) =
     let d = digits_parts p.whole (fraction_digits p.fraction) h.1.digits in
-    let r = run_from (text p) (text_starts p.sign p.whole p.fraction (exponent_text p.exponent) d.0 h.1.some) (text_run p h.1) in
+    let r = run_from (parts_text p) (text_starts p.sign p.whole p.fraction (exponent_text p.exponent) d.0 h.1.some) (text_run p h.1) in
     subst IsRun (sym h.0) r
 
 -- ---- plain spellings

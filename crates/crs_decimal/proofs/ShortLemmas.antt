@@ -10,9 +10,9 @@ use Rattle.crs_decimal.specs.declared.mantissa.Mantissa.{Mantissa}
 use Rattle.crs_decimal.specs.Bounds.{digits_value, is_minus, IsBounded, number_of, power_up, power_down, exponent_digits}
 use Rattle.crs_decimal.specs.Cut.{IsPowerBetween}
 use Rattle.crs_decimal.specs.Number.{SameNumber}
-use Rattle.crs_decimal.specs.Short.{IsShort, IsShortCut}
+use Rattle.crs_decimal.specs.Short.{IsReadShort, IsShortCut}
 use Rattle.crs_decimal.specs.Spelling.{Parts, fraction_digits, mantissa}
-use Rattle.crs_decimal.specs.Split.{front, behind, sign_of, behind_sign, fraction_of, behind_fraction, exponent_of, behind_exponent, behind_whole, behind_mantissa, parts_of, HasExponentDigits}
+use Rattle.crs_decimal.specs.Split.{leading_digits, behind_digits, sign_of, behind_sign, fraction_of, behind_fraction, exponent_of, behind_exponent, behind_whole, behind_mantissa, parts_of, HasExponentDigits}
 use Rattle.crs_decimal.specs.Value.{Value, IsNormal, exact}
 use Rattle.crs_decimal.proofs.BoundLemmas.{near_bounded, near_same}
 use Rattle.crs_decimal.proofs.PowerLemmas.{power_grows, power_more, scaled_grows, scaled_more}
@@ -21,15 +21,15 @@ use Rattle.crs_decimal.proofs.PowerLemmas.{power_grows, power_more, scaled_grows
 
 module _ (bytes : List ℕ) (s : Short) (negative : s.negative ≡ is_minus (sign_of bytes)) (small : s.value < 10 ^ 19) where
   -- digits, a period, digits
-  pub short_fraction : (rest : List ℕ) → behind_whole bytes ≡ 46 ∷ rest → behind rest ≡ [] → s.value ≡ digits_value (front (behind_sign bytes) ++ front rest) → 0 < length (front (behind_sign bytes)) + length (front rest) → length (front (behind_sign bytes)) + length (front rest) ≤ 19
-      → s.fraction ≡ length (front rest) → IsShort bytes s
+  pub short_fraction : (rest : List ℕ) → behind_whole bytes ≡ 46 ∷ rest → behind_digits rest ≡ [] → s.value ≡ digits_value (leading_digits (behind_sign bytes) ++ leading_digits rest) → 0 < length (leading_digits (behind_sign bytes)) + length (leading_digits rest) → length (leading_digits (behind_sign bytes)) + length (leading_digits rest) ≤ 19
+      → s.fraction ≡ length (leading_digits rest) → IsReadShort bytes s
   short_fraction rest period end value some few count =
-      let w = front (behind_sign bytes) in
+      let w = leading_digits (behind_sign bytes) in
       let behind_is : behind_mantissa bytes ≡ [] = ap behind_fraction period ∙ end in
-      let f : fraction_of (behind_whole bytes) ≡ Some (front rest) = ap fraction_of period in
+      let f : fraction_of (behind_whole bytes) ≡ Some (leading_digits rest) = ap fraction_of period in
       let e : exponent_of (behind_mantissa bytes) ≡ None = ap exponent_of behind_is in
-      let m : mantissa (parts_of bytes) ≡ w ++ front rest = ap (λ z. w ++ fraction_digits z) f in
-      let l : length (mantissa (parts_of bytes)) ≡ length w + length (front rest) = ap length m ∙ length-append w (front rest) in (
+      let m : mantissa (parts_of bytes) ≡ w ++ leading_digits rest = ap (λ z. w ++ fraction_digits z) f in
+      let l : length (mantissa (parts_of bytes)) ≡ length w + length (leading_digits rest) = ap length m ∙ length-append w (leading_digits rest) in (
         record {
           all = ap behind_exponent behind_is;
           some = omega (arith, l, some);

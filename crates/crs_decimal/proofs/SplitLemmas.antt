@@ -4,8 +4,8 @@ use Rattle.std.specs.List.{prefix_len, list_all}
 use Rattle.std.proofs.lemmas.Bool.{eqb-true, ne_eqb, leb-true, and_parts, and_from, or_cases, or_parts, or_from}
 use Rattle.std.proofs.lemmas.List.{take-append-drop, append-nil, take_at, drop_at}
 use Rattle.std.proofs.lemmas.List.Sums.{take_while-cons}
-use Rattle.crs_decimal.specs.Spelling.{Sign, unsigned, plus, minus, sign_text, Exponent, Parts, fraction_text, exponent_text, text, is_digit, AreDigits, fraction_digits, mantissa, IsExponent, IsForm, Spells, HasForm}
-use Rattle.crs_decimal.specs.Split.{front, behind, sign_of, behind_sign, fraction_of, behind_fraction, is_letter, exponent_of, behind_exponent, behind_whole, behind_mantissa, parts_of, behind_parts, HasExponentDigits, IsWhole}
+use Rattle.crs_decimal.specs.Spelling.{Sign, unsigned, plus, minus, sign_text, Exponent, Parts, fraction_text, exponent_text, parts_text, is_digit, AreDigits, fraction_digits, mantissa, IsExponent, IsForm, SpellsNumber, HasForm}
+use Rattle.crs_decimal.specs.Split.{leading_digits, behind_digits, sign_of, behind_sign, fraction_of, behind_fraction, is_exponent_letter, exponent_of, behind_exponent, behind_whole, behind_mantissa, parts_of, behind_parts, HasExponentDigits, IsCutWhole}
 
 -- ---- bytes are the text of their parts, and what is left
 
@@ -18,29 +18,29 @@ sign_joined : (bs : List ℕ) → sign_text (sign_of bs) ++ behind_sign bs ≡ b
 sign_joined [] = refl
 sign_joined (b ∷ bs) = sign_cut b bs (b == 43) (b == 45) (eqb-true b 43) (eqb-true b 45)
 
-front_joined : (bs : List ℕ) → front bs ++ behind bs ≡ bs
+front_joined : (bs : List ℕ) → leading_digits bs ++ behind_digits bs ≡ bs
 front_joined bs = take-append-drop (prefix_len is_digit bs) bs
 
-fraction_cut : (b : ℕ) (bs : List ℕ) (x : Bool) → (x ≡ true → b ≡ 46) → fraction_text (cond x (Some (front bs)) None) ++ cond x (behind bs) (b ∷ bs) ≡ b ∷ bs
-fraction_cut b bs true p = ap (λ c. c ∷ (front bs ++ behind bs)) (sym (p refl)) ∙ ap (λ r. b ∷ r) (front_joined bs)
+fraction_cut : (b : ℕ) (bs : List ℕ) (x : Bool) → (x ≡ true → b ≡ 46) → fraction_text (cond x (Some (leading_digits bs)) None) ++ cond x (behind_digits bs) (b ∷ bs) ≡ b ∷ bs
+fraction_cut b bs true p = ap (λ c. c ∷ (leading_digits bs ++ behind_digits bs)) (sym (p refl)) ∙ ap (λ r. b ∷ r) (front_joined bs)
 fraction_cut b bs false p = refl
 
 fraction_joined : (bs : List ℕ) → fraction_text (fraction_of bs) ++ behind_fraction bs ≡ bs
 fraction_joined [] = refl
 fraction_joined (b ∷ bs) = fraction_cut b bs (b == 46) (eqb-true b 46)
 
-exponent_cut : (b : ℕ) (bs : List ℕ) (x : Bool) → exponent_text (cond x (Some (record { letter = b; sign = sign_of bs; digits = front (behind_sign bs) })) None) ++ cond x (behind (behind_sign bs)) (b ∷ bs) ≡ b ∷ bs
-exponent_cut b bs true = ap (λ r. b ∷ r) (append_assoc (sign_text (sign_of bs)) (front (behind_sign bs)) (behind (behind_sign bs)) ∙ ap (λ r. sign_text (sign_of bs) ++ r) (front_joined (behind_sign bs)) ∙ sign_joined bs)
+exponent_cut : (b : ℕ) (bs : List ℕ) (x : Bool) → exponent_text (cond x (Some (record { letter = b; sign = sign_of bs; digits = leading_digits (behind_sign bs) })) None) ++ cond x (behind_digits (behind_sign bs)) (b ∷ bs) ≡ b ∷ bs
+exponent_cut b bs true = ap (λ r. b ∷ r) (append_assoc (sign_text (sign_of bs)) (leading_digits (behind_sign bs)) (behind_digits (behind_sign bs)) ∙ ap (λ r. sign_text (sign_of bs) ++ r) (front_joined (behind_sign bs)) ∙ sign_joined bs)
 exponent_cut b bs false = refl
 
 exponent_joined : (bs : List ℕ) → exponent_text (exponent_of bs) ++ behind_exponent bs ≡ bs
 exponent_joined [] = refl
-exponent_joined (b ∷ bs) = exponent_cut b bs (is_letter b)
+exponent_joined (b ∷ bs) = exponent_cut b bs (is_exponent_letter b)
 
-pub parts_joined : (bs : List ℕ) → text (parts_of bs) ++ behind_parts bs ≡ bs
+pub parts_joined : (bs : List ℕ) → parts_text (parts_of bs) ++ behind_parts bs ≡ bs
 parts_joined bs =
     let s = sign_text (sign_of bs) in
-    let w = front (behind_sign bs) in
+    let w = leading_digits (behind_sign bs) in
     let f = fraction_text (fraction_of (behind_whole bs)) in
     let e = exponent_text (exponent_of (behind_mantissa bs)) in
     append_assoc (s ++ w ++ f) e (behind_parts bs)
@@ -53,14 +53,14 @@ parts_joined bs =
 
 -- ---- the digits that are cut off are digits
 
-front-cons : (b : ℕ) (bs : List ℕ) → front (b ∷ bs) ≡ cond (is_digit b) (b ∷ front bs) []
+front-cons : (b : ℕ) (bs : List ℕ) → leading_digits (b ∷ bs) ≡ cond (is_digit b) (b ∷ leading_digits bs) []
 front-cons b bs = take_while-cons is_digit b bs
 
-front_digits_at : (b : ℕ) (bs : List ℕ) (x : Bool) → is_digit b ≡ x → AreDigits (front bs) → list_all is_digit (cond x (b ∷ front bs) []) ≡ true
+front_digits_at : (b : ℕ) (bs : List ℕ) (x : Bool) → is_digit b ≡ x → AreDigits (leading_digits bs) → list_all is_digit (cond x (b ∷ leading_digits bs) []) ≡ true
 front_digits_at b bs true e h = and_from _ _ e h
 front_digits_at b bs false e h = refl
 
-pub front_digits : (bs : List ℕ) → AreDigits (front bs)
+pub front_digits : (bs : List ℕ) → AreDigits (leading_digits bs)
 front_digits [] = refl
 front_digits (b ∷ bs) = ap (list_all is_digit) (front-cons b bs) ∙ front_digits_at b bs (is_digit b) refl (front_digits bs)
 
@@ -74,7 +74,7 @@ digits_parts (x ∷ xs) ys p =
     let h = and_parts (is_digit x) (list_all is_digit (xs ++ ys)) p in
     let r = digits_parts xs ys h.1 in (and_from _ _ h.0 r.0, r.1)
 
-fraction_digits_at : (bs : List ℕ) (x : Bool) → AreDigits (fraction_digits (cond x (Some (front bs)) None))
+fraction_digits_at : (bs : List ℕ) (x : Bool) → AreDigits (fraction_digits (cond x (Some (leading_digits bs)) None))
 fraction_digits_at bs true = front_digits bs
 fraction_digits_at bs false = refl
 
@@ -82,24 +82,24 @@ fraction_are_digits : (bs : List ℕ) → AreDigits (fraction_digits (fraction_o
 fraction_are_digits [] = refl
 fraction_are_digits (b ∷ bs) = fraction_digits_at bs (b == 46)
 
-exponent_form_at : (b : ℕ) (bs : List ℕ) (x : Bool) → is_letter b ≡ x → HasExponentDigits (cond x (Some (record { letter = b; sign = sign_of bs; digits = front (behind_sign bs) })) None) → IsExponent (cond x (Some (record { letter = b; sign = sign_of bs; digits = front (behind_sign bs) })) None)
+exponent_form_at : (b : ℕ) (bs : List ℕ) (x : Bool) → is_exponent_letter b ≡ x → HasExponentDigits (cond x (Some (record { letter = b; sign = sign_of bs; digits = leading_digits (behind_sign bs) })) None) → IsExponent (cond x (Some (record { letter = b; sign = sign_of bs; digits = leading_digits (behind_sign bs) })) None)
 exponent_form_at b bs true e h = (e, front_digits (behind_sign bs), h)
 exponent_form_at b bs false e h = tt
 
 exponent_form : (bs : List ℕ) → HasExponentDigits (exponent_of bs) → IsExponent (exponent_of bs)
 exponent_form [] h = tt
-exponent_form (b ∷ bs) h = exponent_form_at b bs (is_letter b) refl h
+exponent_form (b ∷ bs) h = exponent_form_at b bs (is_exponent_letter b) refl h
 
-pub parts_form : (bs : List ℕ) → IsWhole bs → IsForm (parts_of bs)
+pub parts_form : (bs : List ℕ) → IsCutWhole bs → IsForm (parts_of bs)
 parts_form bs h = record {
-  digits = digits-append (front (behind_sign bs)) (fraction_digits (fraction_of (behind_whole bs))) (front_digits (behind_sign bs)) (fraction_are_digits (behind_whole bs));
+  digits = digits-append (leading_digits (behind_sign bs)) (fraction_digits (fraction_of (behind_whole bs))) (front_digits (behind_sign bs)) (fraction_are_digits (behind_whole bs));
   some = h.some;
   exponent = exponent_form (behind_mantissa bs) h.exponent;
 }
 
-pub spells_parts : (bs : List ℕ) → IsWhole bs → Spells bs (parts_of bs)
+pub spells_parts : (bs : List ℕ) → IsCutWhole bs → SpellsNumber bs (parts_of bs)
 spells_parts bs h =
-    (sym (parts_joined bs) ∙ ap (λ r. text (parts_of bs) ++ r) h.all ∙ append-nil (text (parts_of bs)), parts_form bs h)
+    (sym (parts_joined bs) ∙ ap (λ r. parts_text (parts_of bs) ++ r) h.all ∙ append-nil (parts_text (parts_of bs)), parts_form bs h)
 
 -- ---- the text of parts is cut into those parts
 
@@ -111,7 +111,7 @@ starts_sign : List ℕ → Bool
 starts_sign [] = false
 starts_sign (b ∷ bs) = b == 43 || b == 45
 
-front_stops : (bs : List ℕ) → starts_digit bs ≡ false → (front bs ≡ []) × (behind bs ≡ bs)
+front_stops : (bs : List ℕ) → starts_digit bs ≡ false → (leading_digits bs ≡ []) × (behind_digits bs ≡ bs)
 unfolding starts_digit
 front_stops [] h = (refl, refl)
 front_stops (b ∷ bs) h = rw h (refl, refl)
@@ -124,7 +124,7 @@ front_all (d ∷ ds) r p q =
     let h = and_parts (is_digit d) (list_all is_digit ds) p in
     rw h.0 (omega (arith, front_all ds r h.1 q))
 
-front_cut : (ds r : List ℕ) → AreDigits ds → starts_digit r ≡ false → (front (ds ++ r) ≡ ds) × (behind (ds ++ r) ≡ r)
+front_cut : (ds r : List ℕ) → AreDigits ds → starts_digit r ≡ false → (leading_digits (ds ++ r) ≡ ds) × (behind_digits (ds ++ r) ≡ r)
 front_cut ds r p q =
     let n = front_all ds r p q in
     (ap (λ k. take k (ds ++ r)) n ∙ take_at ds r (length ds) refl, ap (λ k. drop k (ds ++ r)) n ∙ drop_at ds r (length ds) refl)
@@ -165,8 +165,8 @@ exponent_cut_off (Some e) h =
     let plain = append-nil e.digits in
     let s = sign_cut_off e.sign e.digits (subst (λ (r : List ℕ). starts_sign r ≡ false) plain (digits_no_sign e.digits [] h.1 h.2)) in
     let f = front_cut e.digits [] h.1 (unfold starts_digit in refl) in
-    let digits : front e.digits ≡ e.digits = ap front (sym plain) ∙ f.0 in
-    let rest : behind e.digits ≡ [] = ap behind (sym plain) ∙ f.1 in
+    let digits : leading_digits e.digits ≡ e.digits = ap leading_digits (sym plain) ∙ f.0 in
+    let rest : behind_digits e.digits ≡ [] = ap behind_digits (sym plain) ∙ f.1 in
     rw (h.0, s.0, s.1, digits, rest) (refl, refl)
 
 -- a fraction starts with no digit, and with a sign only if what follows it does
@@ -186,7 +186,7 @@ mantissa_start [] None r d h = absurd (omega arith)
 mantissa_start [] (Some fs) r d h = refl
 mantissa_start (x ∷ xs) f r d h = digit_no_sign x (and_parts (is_digit x) (list_all is_digit xs) d).0
 
-text_cut_off : (p : Parts) → IsForm p → (parts_of (text p) ≡ p) × (behind_parts (text p) ≡ [])
+text_cut_off : (p : Parts) → IsForm p → (parts_of (parts_text p) ≡ p) × (behind_parts (parts_text p) ≡ [])
 text_cut_off p h =
     let e = exponent_text p.exponent in
     let f = fraction_text p.fraction in
@@ -196,13 +196,13 @@ text_cut_off p h =
     let fc = fraction_cut_off p.fraction e d.1 es.0 es.1 es.2 in
     let wc = front_cut p.whole (f ++ e) d.0 (fraction_start p.fraction e es.0) in
     let sc = sign_cut_off p.sign (p.whole ++ (f ++ e)) (mantissa_start p.whole p.fraction e d.0 h.some) in
-    let t : text p ≡ sign_text p.sign ++ (p.whole ++ (f ++ e)) = simp append_assoc in
+    let t : parts_text p ≡ sign_text p.sign ++ (p.whole ++ (f ++ e)) = simp append_assoc in
     rw (t, sc.0, sc.1, wc.0, wc.1, fc.0, fc.1, ec.0, ec.1) (refl, refl)
 
-pub parts_only : (bs : List ℕ) (p : Parts) → Spells bs p → p ≡ parts_of bs
+pub parts_only : (bs : List ℕ) (p : Parts) → SpellsNumber bs p → p ≡ parts_of bs
 parts_only bs p h = sym (ap parts_of h.0 ∙ (text_cut_off p h.1).0)
 
-spelled_whole : (p : Parts) → IsForm p → IsWhole (text p)
+spelled_whole : (p : Parts) → IsForm p → IsCutWhole (parts_text p)
 spelled_whole p h =
     let c = text_cut_off p h in
     record {
@@ -215,8 +215,8 @@ spelled_whole p h =
     written None g = tt
     written (Some e) g = g.2
 
-pub form_whole : (bs : List ℕ) → HasForm bs → IsWhole bs
-form_whole bs h = subst IsWhole (sym h.1.0) (spelled_whole h.0 h.1.1)
+pub form_whole : (bs : List ℕ) → HasForm bs → IsCutWhole bs
+form_whole bs h = subst IsCutWhole (sym h.1.0) (spelled_whole h.0 h.1.1)
 
-pub parts_one : (bs : List ℕ) (p q : Parts) → Spells bs p → Spells bs q → p ≡ q
+pub parts_one : (bs : List ℕ) (p q : Parts) → SpellsNumber bs p → SpellsNumber bs q → p ≡ q
 parts_one bs p q g h = parts_only bs p g ∙ sym (parts_only bs q h)

@@ -7,7 +7,7 @@ use Rattle.std.proofs.Math.Nat.{mul-one}
 use Rattle.crs_decimal.specs.Bounds.{digits_value, is_minus, number_of, IsMeasured, IsBounded, Denotes}
 use Rattle.crs_decimal.specs.Number.{SameNumber}
 use Rattle.crs_decimal.specs.Plain.{IsTrim, IsSignNeeded, IsFractionNeeded, IsPlain, AppendsPlain, padded, with_period, scaled, plain}
-use Rattle.crs_decimal.specs.Spelling.{Sign, unsigned, minus, sign_text, Parts, AreDigits, mantissa, IsForm, Spells}
+use Rattle.crs_decimal.specs.Spelling.{Sign, unsigned, minus, sign_text, Parts, AreDigits, mantissa, IsForm, SpellsNumber}
 use Rattle.crs_decimal.specs.Value.{Value, zero as zero_value, IsNormal, exact, is_power, up_of, down_of}
 use Rattle.crs_decimal.proofs.BoundLemmas.{same_scaled}
 use Rattle.crs_decimal.proofs.DecimalLemmas.{StartsAbove, start-append, start_trim, AreDigitsOf, decimal_digits, padded_digits, padded_value, padded_length, whole_trim, fraction_trim, fraction_length}
@@ -49,7 +49,7 @@ pub record IsWritten (v : Value) (bs : List ℕ) : Type 0 where
   pub denotes : Denotes bs (exact v)
   pub short : length bs ≤ 79
 
-written_from : (v : Value) (bs : List ℕ) (p : Parts) → Spells bs p → IsSignNeeded p → IsTrim p.whole → IsFractionNeeded p.fraction → p.exponent ≡ None → IsBounded p → SameNumber (number_of p) (exact v) → length bs ≤ 79 → IsWritten v bs
+written_from : (v : Value) (bs : List ℕ) (p : Parts) → SpellsNumber bs p → IsSignNeeded p → IsTrim p.whole → IsFractionNeeded p.fraction → p.exponent ≡ None → IsBounded p → SameNumber (number_of p) (exact v) → length bs ≤ 79 → IsWritten v bs
 written_from v bs p a b c d e f g h = record {
   is_plain = record { parts = p; spells = a; sign = b; whole = c; fraction = d; exponent = e };
   denotes = (p, a, f, g);

@@ -25,7 +25,7 @@ pub record IsCut (p : Parts) (s : Spelled) : Type 0 where
   pub below : s.below ≡ is_below p.exponent
   pub exponent_digits : s.exponent.now ≡ exponent_digits p.exponent
 
--- more than 40 apart
+-- two powers are more than 40 apart
 abbrev pub IsFar : ℕ → ℕ → Type 0
 IsFar up down = (up + 40 < down) ⊎ (down + 40 < up)
 

@@ -1,5 +1,6 @@
 -- A bridge: the mantissa as it is read, digit by digit, with its closing zeros counted apart.
-use Rattle.std.specs.Prelude.{ℕ, ◌+◌, ◌-◌, ◌*◌, ◌^◌, ◌==◌, nat_lt, Bool, true, false, if◌then◌else◌, List, fold}
+use Rattle.std.specs.Prelude.{ℕ, ◌+◌, ◌-◌, ◌*◌, ◌^◌, ◌==◌, nat_lt, Bool, true, false, if◌then◌else◌}
+use Rattle.std.specs.Prelude.{List, fold}
 use Rattle.crs_decimal.specs.declared.mantissa.Mantissa.{Mantissa}
 
 -- the mantissa before its first digit
@@ -14,7 +15,8 @@ fits digits zeros = nat_lt (digits * 10 ^ zeros) (10 ^ 38)
 abbrev pub with_digit : Mantissa → ℕ → Mantissa
 with_digit m d =
     if d == 0 then (if m.digits == 0 then m else record m { zeros = m.zeros + 1 })
-    else (if fits m.digits (m.zeros + 1) then record m { digits = m.digits * 10 ^ (m.zeros + 1) + d; zeros = 0 }
+    else (if fits m.digits (m.zeros + 1)
+    then record m { digits = m.digits * 10 ^ (m.zeros + 1) + d; zeros = 0 }
     else record m { is_long = true })
 
 -- the digits behind the mantissa, one after another

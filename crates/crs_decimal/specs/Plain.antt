@@ -1,7 +1,9 @@
--- The plain spelling: no exponent, no plus sign, no needless zero, no closing period, a zero before a leading period.
-use Rattle.std.specs.Prelude.{◌≡◌, ◌≢◌, ℕ, suc, ◌-◌, ◌⊎◌, ◌==◌, ◌||◌, Bool, if◌then◌else◌, List, [], ◌∷◌, ◌++◌, length}
+-- The plain spelling: no exponent, no plus sign, no needless
+-- zero, no closing period, a zero before a leading period.
+use Rattle.std.specs.Prelude.{◌≡◌, ◌≢◌, ℕ, suc, ◌-◌, ◌⊎◌, ◌==◌, ◌||◌, Bool, if◌then◌else◌, List, []}
+use Rattle.std.specs.Prelude.{◌∷◌, ◌++◌, length}
 use Rattle.std.specs.Prelude.{take, drop, replicate, decimal, ℤ, pos, negsuc, Option, Some, None}
-use Rattle.crs_decimal.specs.Spelling.{unsigned, minus, Parts, Spells, is_digit}
+use Rattle.crs_decimal.specs.Spelling.{unsigned, minus, Parts, SpellsNumber, is_digit}
 use Rattle.crs_decimal.specs.Bounds.{Denotes}
 use Rattle.crs_decimal.specs.Value.{Value, exact}
 
@@ -18,8 +20,10 @@ EndsTrim (d ∷ e ∷ ds) = EndsTrim (e ∷ ds)
 
 -- a minus stands only where the number isn't zero
 abbrev pub IsSignNeeded : Parts → Type 0
-IsSignNeeded p = (p.sign ≡ unsigned) ⊎ ((p.sign ≡ minus) × ((p.whole ≢ 48 ∷ []) ⊎ (p.fraction ≢ None)))
+IsSignNeeded p =
+    (p.sign ≡ unsigned) ⊎ ((p.sign ≡ minus) × ((p.whole ≢ 48 ∷ []) ⊎ (p.fraction ≢ None)))
 
+-- a fraction, where one is written, has a digit and doesn't end in a zero
 abbrev pub IsFractionNeeded : Option (List ℕ) → Type 0
 IsFractionNeeded None = Unit {0}
 IsFractionNeeded (Some ds) = EndsTrim ds
@@ -27,7 +31,7 @@ IsFractionNeeded (Some ds) = EndsTrim ds
 -- the bytes are a plain spelling
 pub record IsPlain (bytes : List ℕ) : Type 0 where
   pub parts : Parts
-  pub spells : Spells bytes parts
+  pub spells : SpellsNumber bytes parts
   pub sign : IsSignNeeded parts
   pub whole : IsTrim parts.whole
   pub fraction : IsFractionNeeded parts.fraction

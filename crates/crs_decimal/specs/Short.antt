@@ -3,7 +3,7 @@ use Rattle.std.specs.Prelude.{◌≡◌, ℕ, ◌^◌, ◌<◌, ◌≤◌, List,
 use Rattle.crs_decimal.specs.declared.short.Short.{Short}
 use Rattle.crs_decimal.specs.Bounds.{digits_value, is_minus}
 use Rattle.crs_decimal.specs.Spelling.{Parts, fraction_digits, mantissa}
-use Rattle.crs_decimal.specs.Split.{parts_of, IsWhole}
+use Rattle.crs_decimal.specs.Split.{parts_of, IsCutWhole}
 
 -- the reader keeps this of the parts, which have no exponent
 pub record IsShortCut (p : Parts) (s : Short) : Type 0 where
@@ -16,5 +16,5 @@ pub record IsShortCut (p : Parts) (s : Short) : Type 0 where
   pub plain : p.exponent ≡ None
 
 -- the bytes spell a number, and this is kept of it
-abbrev pub IsShort : List ℕ → Short → Type 0
-IsShort bytes s = IsWhole bytes × IsShortCut (parts_of bytes) s
+abbrev pub IsReadShort : List ℕ → Short → Type 0
+IsReadShort bytes s = IsCutWhole bytes × IsShortCut (parts_of bytes) s

@@ -1,46 +1,56 @@
 -- How a number is spelled: [sign] (digits [. [digits]] | . digits) [E [sign] digits].
-use Rattle.std.specs.Prelude.{◌≡◌, ℕ, ◌<◌, ◌==◌, ◌&&◌, ◌||◌, nat_le, Bool, IsTrue, List, [], ◌∷◌, ◌++◌, length, Option}
+use Rattle.std.specs.Prelude.{◌≡◌, ℕ, ◌<◌, ◌==◌, ◌&&◌, ◌||◌, nat_le, Bool, IsTrue, List, [], ◌∷◌}
+use Rattle.std.specs.Prelude.{◌++◌, length, Option}
 use Rattle.std.specs.Prelude.{Some, None}
 use Rattle.std.specs.List.{list_all}
 
+-- a number's sign as it is written: none, a plus or a minus
 pub data Sign : Type 0 where
   unsigned plus minus : Sign
 
+-- the bytes of a sign
 abbrev pub sign_text : Sign → List ℕ
 sign_text unsigned = []
 sign_text plus = 43 ∷ []
 sign_text minus = 45 ∷ []
 
--- E or e, a sign, digits
+-- an exponent: its letter, E or e, its sign and its digits
 pub record Exponent : Type 0 where
   pub letter : ℕ
   pub sign : Sign
   pub digits : List ℕ
 
--- the fraction is what stands behind the period, if there is one
+-- the parts of a number as they are written; the fraction is
+-- what stands behind the period, if there is one
 pub record Parts : Type 0 where
   pub sign : Sign
   pub whole : List ℕ
   pub fraction : Option (List ℕ)
   pub exponent : Option Exponent
 
+-- the bytes of a fraction: a period and its digits
 abbrev pub fraction_text : Option (List ℕ) → List ℕ
 fraction_text None = []
 fraction_text (Some digits) = 46 ∷ digits
 
+-- the bytes of an exponent: its letter, its sign and its digits
 abbrev pub exponent_text : Option Exponent → List ℕ
 exponent_text None = []
 exponent_text (Some e) = e.letter ∷ sign_text e.sign ++ e.digits
 
-abbrev pub text : Parts → List ℕ
-text p = sign_text p.sign ++ p.whole ++ fraction_text p.fraction ++ exponent_text p.exponent
+-- the bytes of the parts, one behind another
+abbrev pub parts_text : Parts → List ℕ
+parts_text p = sign_text p.sign ++ p.whole ++ fraction_text p.fraction ++ exponent_text p.exponent
 
+-- a digit, 0-9
 abbrev pub is_digit : ℕ → Bool
 is_digit b = nat_le 48 b && nat_le b 57
 
+-- all bytes are digits
 abbrev pub AreDigits : List ℕ → Type 0
 AreDigits ds = IsTrue (list_all is_digit ds)
 
+-- the digits of a fraction, none where none is written
 abbrev pub fraction_digits : Option (List ℕ) → List ℕ
 fraction_digits None = []
 fraction_digits (Some ds) = ds
@@ -49,9 +59,11 @@ fraction_digits (Some ds) = ds
 abbrev pub mantissa : Parts → List ℕ
 mantissa p = p.whole ++ fraction_digits p.fraction
 
+-- an exponent, where one is written, has the letter E or e and at least one digit
 abbrev pub IsExponent : Option Exponent → Type 0
 IsExponent None = Unit {0}
-IsExponent (Some e) = IsTrue (e.letter == 69 || e.letter == 101) × AreDigits e.digits × (0 < length e.digits)
+IsExponent (Some e) =
+    IsTrue (e.letter == 69 || e.letter == 101) × AreDigits e.digits × (0 < length e.digits)
 
 -- the parts are of the number form: digits where digits stand, at least one in the mantissa
 pub record IsForm (p : Parts) : Type 0 where
@@ -60,17 +72,18 @@ pub record IsForm (p : Parts) : Type 0 where
   pub exponent : IsExponent p.exponent
 
 -- the bytes spell a number of these parts
-abbrev pub Spells : List ℕ → Parts → Type 0
-Spells bytes p = (bytes ≡ text p) × IsForm p
+abbrev pub SpellsNumber : List ℕ → Parts → Type 0
+SpellsNumber bytes p = (bytes ≡ parts_text p) × IsForm p
 
 -- the bytes have the number form
 abbrev pub HasForm : List ℕ → Type 0
-HasForm bytes = (p : Parts) × Spells bytes p
+HasForm bytes = (p : Parts) × SpellsNumber bytes p
 
 -- the bytes of which numbers and words consist: 0-9 A-Z a-z _ . + -
 abbrev pub is_run_byte : ℕ → Bool
 is_run_byte b =
-    is_digit b || (nat_le 65 b && nat_le b 90) || (nat_le 97 b && nat_le b 122) || b == 95 || b == 46 || b == 43
+    is_digit b || (nat_le 65 b && nat_le b 90) || (nat_le 97 b && nat_le b 122) || b == 95
+    || b == 46 || b == 43
     || b == 45
 
 -- the bytes that a number starts with: 0-9 . + -

@@ -4,9 +4,9 @@ ghost use Rattle.crs_decimal.specs.Bounds.{is_minus};
 ghost use Rattle.crs_decimal.specs.Cut.{IsExponentCut, IsCut};
 ghost use Rattle.crs_decimal.specs.Mantissa.{with_digits};
 ghost use Rattle.crs_decimal.specs.Spelling.{AreDigits, fraction_digits, is_digit};
-ghost use Rattle.crs_decimal.specs.Split.{front, behind, sign_of, behind_sign, fraction_of};
+ghost use Rattle.crs_decimal.specs.Split.{leading_digits, behind_digits, sign_of, behind_sign, fraction_of};
 ghost use Rattle.crs_decimal.specs.Split.{behind_fraction, exponent_of, HasExponentDigits, parts_of};
-ghost use Rattle.crs_decimal.specs.Split.{IsWhole};
+ghost use Rattle.crs_decimal.specs.Split.{IsCutWhole};
 
 use crate::mantissa::Mantissa;
 
@@ -37,8 +37,8 @@ struct Exponent<'a> {
 
 pub(crate) fn read(bytes: &[u8]) -> Option<Spelled>
     ensures cut { MatchOption result
-        (¬ (IsWhole bytes.now))
-        (λ s. IsWhole bytes.now × IsCut (parts_of bytes.now) s) }
+        (¬ (IsCutWhole bytes.now))
+        (λ s. IsCutWhole bytes.now × IsCut (parts_of bytes.now) s) }
     ensures counts { MatchOption result
         (Unit {0})
         (λ s. (s.mantissa.zeros ≤ s.count) × (s.fraction ≤ s.count) × AreDigits s.exponent.now) }
@@ -77,9 +77,9 @@ pub(crate) fn split_sign(bytes: &[u8]) -> (bool, &[u8])
 // the digits in front, taken behind the mantissa
 fn split_digits(bytes: &[u8], before: Mantissa) -> Run
     requires { before.zeros + length bytes.now < 2 ^ 64 }
-    ensures mantissa { result.mantissa ≡ with_digits before (front bytes.now) }
-    ensures count { result.count ≡ length (front bytes.now) }
-    ensures rest { result.rest.now ≡ behind bytes.now }
+    ensures mantissa { result.mantissa ≡ with_digits before (leading_digits bytes.now) }
+    ensures count { result.count ≡ length (leading_digits bytes.now) }
+    ensures rest { result.rest.now ≡ behind_digits bytes.now }
     ensures zeros { result.mantissa.zeros ≤ before.zeros + result.count }
     ensures len { result.count + length result.rest.now ≡ length bytes.now }
 {
@@ -147,9 +147,9 @@ fn split_exponent(bytes: &[u8]) -> Option<Exponent>
 
 // the digits in front, and what stands behind them
 fn cut_digits(bytes: &[u8]) -> (&[u8], &[u8])
-    ensures front { result.0.now ≡ front bytes.now }
+    ensures front { result.0.now ≡ leading_digits bytes.now }
     ensures digits { AreDigits result.0.now }
-    ensures rest { result.1.now ≡ behind bytes.now }
+    ensures rest { result.1.now ≡ behind_digits bytes.now }
 {
     let count = digits_len(bytes);
     (front_of(bytes, count), rest_of(bytes, count))

@@ -2,7 +2,7 @@ ghost use Rattle.std.specs.Prelude.{◌≡◌, ℕ, MatchOption, ◌≢◌, ◌=
 ghost use Rattle.crs_decimal.specs.Number.{SameNumber, whole_number};
 ghost use Rattle.crs_decimal.specs.Value.{IsNormal, exact, is_power, zero};
 
-use crate::laws::same_number_is_equivalence;
+use crate::laws;
 use crate::mantissa::scaled;
 use std::marker::Model;
 
@@ -65,7 +65,7 @@ impl Decimal {
         }
     }
 
-    // The same number, put together anew. Where one of two ways has its number in registers and the
+    // This number, put together anew. Where one of two ways has its number in registers and the
     // other in memory, the compiler merges them in memory, and a load there waits for the stores; of
     // a number that is put together anew it merges the fields.
     #[inline(always)]
@@ -138,7 +138,7 @@ impl Decimal {
     pub fn is_whole(&self, number: u64) -> bool
         ensures { IsTrue result ↔ SameNumber (exact self.now) (whole_number number) }
     {
-        same_number_is_equivalence();
+        laws::same_number_is_equivalence();
         match self.whole() {
             None => false,
             Some(whole) => whole == number,

@@ -6,12 +6,12 @@ ghost use Rattle.crs_decimal.specs.Bounds.{IsInBounds, Denotes};
 ghost use Rattle.crs_decimal.specs.Examples.{SpellingsDenote, SpellingsFail, ValuesArePlain};
 ghost use Rattle.crs_decimal.specs.Number.{Number, SameNumber};
 ghost use Rattle.crs_decimal.specs.Plain.{IsPlain, is_plain_byte, plain};
-ghost use Rattle.crs_decimal.specs.Spelling.{Parts, Spells, HasForm, IsRun, AreDigits};
+ghost use Rattle.crs_decimal.specs.Spelling.{Parts, SpellsNumber, HasForm, IsRun, AreDigits};
 ghost use Rattle.crs_decimal.specs.Value.{Value, IsNormal, exact};
 
 /// Bytes spell the parts of a number in one way at most.
 pub fn one_form()
-    ensures { (bytes : List ℕ) (p q : Parts) → Spells bytes p → Spells bytes q → p ≡ q }
+    ensures { (bytes : List ℕ) (p q : Parts) → SpellsNumber bytes p → SpellsNumber bytes q → p ≡ q }
 {}
 
 /// Two normal values are the same number exactly where they are equal.

@@ -3,9 +3,9 @@ ghost use Rattle.std.specs.Prelude.{◌≡◌, ◌≢◌, ◌+◌, ◌-◌, ◌*
 ghost use Rattle.crs_decimal.specs.Bounds.{IsBounded, number_of};
 ghost use Rattle.crs_decimal.specs.Cut.{IsPowerBetween};
 ghost use Rattle.crs_decimal.specs.Number.{SameNumber};
-ghost use Rattle.crs_decimal.specs.Short.{IsShort, IsShortCut};
+ghost use Rattle.crs_decimal.specs.Short.{IsReadShort, IsShortCut};
 ghost use Rattle.crs_decimal.specs.Spelling.{Parts};
-ghost use Rattle.crs_decimal.specs.Split.{front, behind};
+ghost use Rattle.crs_decimal.specs.Split.{leading_digits, behind_digits};
 ghost use Rattle.crs_decimal.specs.Value.{IsNormal, exact};
 
 use crate::cutting::{rest_of, split_sign};
@@ -33,7 +33,7 @@ struct Digits {
 // the number that the bytes spell, if it is a short one
 #[inline(always)]
 pub(crate) fn read_short(bytes: &[u8]) -> Option<Short>
-    ensures { IfSome result (IsShort bytes.now) }
+    ensures { IfSome result (IsReadShort bytes.now) }
 {
     if bytes.len() > LIMIT {
         return None;
@@ -75,10 +75,10 @@ fn some_digits(digits: Digits, fraction: usize, negative: bool) -> Option<Short>
 fn with_digits(before: Digits, bytes: &[u8]) -> (Digits, &[u8])
     requires few { before.count + length bytes.now ≤ 19 }
     requires small { before.value < 10 ^ before.count }
-    ensures value { result.0.value ≡ fold (λ n d. n * 10 + (d - 48)) before.value (front bytes.now) }
-    ensures count { result.0.count ≡ before.count + length (front bytes.now) }
+    ensures value { result.0.value ≡ fold (λ n d. n * 10 + (d - 48)) before.value (leading_digits bytes.now) }
+    ensures count { result.0.count ≡ before.count + length (leading_digits bytes.now) }
     ensures small { result.0.value < 10 ^ result.0.count }
-    ensures rest { result.1.now ≡ behind bytes.now }
+    ensures rest { result.1.now ≡ behind_digits bytes.now }
     ensures len { result.0.count + length result.1.now ≡ before.count + length bytes.now }
 {
     let mut value = before.value;

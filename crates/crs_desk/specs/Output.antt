@@ -10,6 +10,7 @@ use Rattle.crs_value.specs.declared.values.level.Level.{Level}
 use Rattle.crs_canon.specs.Canonical.{IsCanonicalOf}
 use Rattle.crs_group.specs.Output.{refused_text}
 
+-- the word for a kind of CRS
 abbrev pub kind_word : Kind → List ℕ
 kind_word kind.Geodetic = codes "geodetic"
 kind_word kind.Geographic = codes "geographic"
@@ -34,22 +35,28 @@ WritesCanonical level text written status =
 -- `accepted` and the kind of the CRS that the text spells, with status 0
 abbrev pub WritesAccepted : List ℕ → List ℕ → ℕ → Type 0
 WritesAccepted text written status =
-    (found : Kind) × IsKindOf text found × IsLine (codes "accepted " ++ kind_word found) 0 written status
+    (found : Kind) × IsKindOf text found
+    × IsLine (codes "accepted " ++ kind_word found) 0 written status
 
 -- the refusal of a text, with status 1
 abbrev pub WritesRefusal : List ℕ → List ℕ → ℕ → Type 0
 WritesRefusal text written status =
-    (refusal : RefusedAt) × Refuses text refusal × IsLine (refused_text refusal.number refusal.place) 1 written status
+    (refusal : RefusedAt) × Refuses text refusal
+    × IsLine (refused_text refusal.number refusal.place) 1 written status
 
 -- what `canon` writes for a text, and its status
 unfoldable pub IsCanonOutput : Level → List ℕ → List ℕ → ℕ → Type 0
-IsCanonOutput level text written status = WritesCanonical level text written status ⊎ WritesRefusal text written status
+IsCanonOutput level text written status =
+    WritesCanonical level text written status ⊎ WritesRefusal text written status
 
 -- what `check` writes for a text, and its status
 unfoldable pub IsCheckOutput : List ℕ → List ℕ → ℕ → Type 0
-IsCheckOutput text written status = WritesAccepted text written status ⊎ WritesRefusal text written status
+IsCheckOutput text written status =
+    WritesAccepted text written status ⊎ WritesRefusal text written status
 
 -- what is written of a kind or a refusal that was found
 abbrev pub WritesFound : Result Kind RefusedAt → List ℕ → ℕ → Type 0
-WritesFound (Ok found) written status = IsLine (codes "accepted " ++ kind_word found) 0 written status
-WritesFound (Err refusal) written status = IsLine (refused_text refusal.number refusal.place) 1 written status
+WritesFound (Ok found) written status =
+    IsLine (codes "accepted " ++ kind_word found) 0 written status
+WritesFound (Err refusal) written status =
+    IsLine (refused_text refusal.number refusal.place) 1 written status

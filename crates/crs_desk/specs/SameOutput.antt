@@ -17,16 +17,18 @@ WritesRefusalOf which text written status =
     (refusal : RefusedAt) × Refuses text refusal × IsLine (which
     ++ refused_text refusal.number refusal.place) 1 written status
 
--- what two CRSs have in common: `same` with status 0, or `different` and the first part that differs, with status 1
+-- two CRSs are the same: `same` is written, with status 0
 abbrev pub WritesSame : Level → Crs → Crs → List ℕ → ℕ → Type 0
 WritesSame level a b written status = SameCrs level a b × IsLine (codes "same") 0 written status
 
+-- two CRSs differ: `different` and the first part that differs are written, with status 1
 abbrev pub WritesDifferent : Level → Crs → Crs → List ℕ → ℕ → Type 0
 WritesDifferent level a b written status =
     (path : List Step) × FirstInCrs level a b (Some path)
     × IsLine (codes "different " ++ path_text path) 1 written status
 
--- the first text is refused; or it spells a CRS and the second is refused; or both do, the same or different ones
+-- the first text is refused; or it spells a CRS and the second is refused; or both do, the same or
+-- different ones
 unfoldable pub IsSameOutput : Level → List ℕ → List ℕ → List ℕ → ℕ → Type 0
 IsSameOutput level first second written status =
     WritesRefusalOf (codes "first ") first written status
@@ -38,9 +40,11 @@ IsSameOutput level first second written status =
 unfoldable pub IsSecondOutput : Level → Crs → List ℕ → List ℕ → ℕ → Type 0
 IsSecondOutput level a second written status =
     WritesRefusalOf (codes "second ") second written status
-    ⊎ ((b : Crs) × Spells second b × (WritesSame level a b written status ⊎ WritesDifferent level a b written status))
+    ⊎ ((b : Crs) × Spells second b
+    × (WritesSame level a b written status ⊎ WritesDifferent level a b written status))
 
 -- what is written of the first part that differs
 abbrev pub WritesPart : Option (List Step) → List ℕ → ℕ → Type 0
 WritesPart None written status = IsLine (codes "same") 0 written status
-WritesPart (Some path) written status = IsLine (codes "different " ++ path_text path) 1 written status
+WritesPart (Some path) written status =
+    IsLine (codes "different " ++ path_text path) 1 written status

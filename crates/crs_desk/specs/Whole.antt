@@ -2,7 +2,8 @@
 use Rattle.std.specs.Prelude.{◌≡◌, ◌≤◌, ◌<◌, ℕ, true, false, List, length, IfSome}
 use Rattle.crs_group.specs.Streams.{SourceState}
 use Rattle.crs_group.specs.declared.fault.RunFault.{RunFault}
-use Rattle.crs_group.specs.declared.fault.RunFault.TheVariants.{ReadFailed, WriteFailed, TooLong, TooManyReads, Memory}
+use Rattle.crs_group.specs.declared.fault.RunFault.TheVariants.{ReadFailed, WriteFailed, TooLong}
+use Rattle.crs_group.specs.declared.fault.RunFault.TheVariants.{TooManyReads, Memory}
 
 -- the source showed its end, and gave these bytes: all that it had, where it tells them
 pub record IsWhole (old new : SourceState) (text : List ℕ) : Type 0 where
@@ -18,5 +19,6 @@ IsReadFault source ReadFailed = (source.failed ≡ true) × (source.taken ≤ 10
 IsReadFault source WriteFailed = ⊥
 IsReadFault source (TooLong line) = (source.failed ≡ false) × (line ≡ 0) × (1048576 < source.taken)
 IsReadFault source TooManyReads =
-    (source.failed ≡ false) × (source.reads ≡ 1048576) × (source.ended ≡ false) × (source.taken ≤ 1048576)
+    (source.failed ≡ false) × (source.reads ≡ 1048576) × (source.ended ≡ false)
+    × (source.taken ≤ 1048576)
 IsReadFault source Memory = (source.failed ≡ false) × (source.taken ≤ 1048576)

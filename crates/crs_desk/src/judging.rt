@@ -5,8 +5,7 @@ ghost use Rattle.crs_value.specs.SpellsText.{Refuses};
 ghost use Rattle.crs_desk.specs.Output.{IsKindOf};
 ghost use Rattle.crs_desk.specs.Pieces.{IsWholeHeld};
 
-use crs_text::laws::{one_answer, settled_refusals};
-use crs_text::{Fault, Feeder, Refusal};
+use crs_text::{Fault, Feeder, Refusal, laws};
 use crs_value::{Kind, kind_of};
 use std::alloc::AllocError;
 
@@ -15,8 +14,8 @@ pub(crate) fn judged(feeder: &Feeder) -> Result<Result<Kind, Refusal>, AllocErro
     ensures { IfOk result (λ found. (text : List ℕ) → IsWholeHeld text feeder.now →
         MatchResult found (IsKindOf text) (Refuses text)) }
 {
-    one_answer();
-    settled_refusals();
+    laws::one_answer();
+    laws::settled_refusals();
     match feeder.finish() {
         Ok(items) => Ok(kind_of(&items)),
         Err(fault) => Ok(Err(refusal_in(fault)?)),

@@ -9,6 +9,7 @@ pub record Line : Type 0 where
   pub number : ℕ
   pub text : List ℕ
 
+-- a line of this number and this text
 abbrev pub line_of : ℕ → List ℕ → Line
 line_of number text = record { number = number; text = text }
 
@@ -17,7 +18,8 @@ pub record GroupParts : Type 0 where
   pub canon : CanonicalText
   pub lines : List ℕ
 
--- the level at which texts are compared, the groups in the order of their numbers, and the refused lines
+-- the level at which texts are compared, the groups in the order of their numbers, and the refused
+-- lines
 pub record CatalogueParts : Type 0 where
   pub level : Level
   pub groups : List GroupParts

@@ -7,7 +7,8 @@ use Rattle.crs_group.specs.LongLines.{HasShortLines, IsTooLong}
 use Rattle.crs_group.specs.declared.fault.RunFault.{RunFault}
 use Rattle.crs_group.specs.declared.placed.Placed.{Placed}
 use Rattle.crs_group.specs.declared.placed.Placed.TheVariants.{Blank, Refused, Group}
-use Rattle.crs_group.specs.declared.fault.RunFault.TheVariants.{ReadFailed, WriteFailed, TooLong, TooManyReads, Memory}
+use Rattle.crs_group.specs.declared.fault.RunFault.TheVariants.{ReadFailed, WriteFailed, TooLong}
+use Rattle.crs_group.specs.declared.fault.RunFault.TheVariants.{TooManyReads, Memory}
 
 -- a catalogue of numbered lines, and how many there are, and how many of them are blank
 pub record LedgerParts : Type 0 where

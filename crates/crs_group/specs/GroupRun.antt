@@ -6,7 +6,8 @@ use Rattle.crs_group.specs.LongLines.{HasShortLines, IsTooLong}
 use Rattle.crs_group.specs.Output.{IsGroupOutput}
 use Rattle.crs_group.specs.Streams.{IsAskedFor, SourceState, SinkState}
 use Rattle.crs_group.specs.declared.fault.RunFault.{RunFault}
-use Rattle.crs_group.specs.declared.fault.RunFault.TheVariants.{ReadFailed, WriteFailed, TooLong, TooManyReads, Memory}
+use Rattle.crs_group.specs.declared.fault.RunFault.TheVariants.{ReadFailed, WriteFailed, TooLong}
+use Rattle.crs_group.specs.declared.fault.RunFault.TheVariants.{TooManyReads, Memory}
 use Rattle.crs_group.specs.declared.summary.Summary.{Summary}
 
 -- the source gave these bytes, the first of all that it had, where it tells them
@@ -30,7 +31,8 @@ abbrev pub GivesLongLine : SourceState → SourceState → ℕ → Type 0
 GivesLongLine old new number = (bytes : List ℕ) × HasGiven old new bytes × IsTooLong bytes number
 
 -- the source gave bytes whole, and the sink got what is written for them
-pub record IsGrouped (level : Level) (old_source new_source : SourceState) (old_sink new_sink : SinkState)
+pub record IsGrouped (level : Level) (old_source new_source : SourceState)
+    (old_sink new_sink : SinkState)
     (summary : Summary) : Type 0 where
   pub bytes : List ℕ
   pub is_whole : HasGivenAll old_source new_source bytes
@@ -50,11 +52,14 @@ IsReadingFault old new TooManyReads =
     (new.failed ≡ false) × (new.reads ≡ 1048576) × (new.ended ≡ false) × GivesShortLines old new
 IsReadingFault old new Memory = new.failed ≡ false
 
--- what a run's fault says of its source and of its sink: before the whole was read nothing is written
+-- what a run's fault says of its source and of its sink: before the whole was read nothing is
+-- written
 abbrev pub IsGroupFault : SourceState → SourceState → SinkState → SinkState → RunFault → Type 0
 IsGroupFault old new before after ReadFailed = IsReadingFault old new ReadFailed × (after ≡ before)
 IsGroupFault old new before after WriteFailed =
     (new.failed ≡ false) × (new.ended ≡ true) × GivesShortLines old new × (after.failed ≡ true)
-IsGroupFault old new before after (TooLong number) = IsReadingFault old new (TooLong number) × (after ≡ before)
-IsGroupFault old new before after TooManyReads = IsReadingFault old new TooManyReads × (after ≡ before)
+IsGroupFault old new before after (TooLong number) =
+    IsReadingFault old new (TooLong number) × (after ≡ before)
+IsGroupFault old new before after TooManyReads =
+    IsReadingFault old new TooManyReads × (after ≡ before)
 IsGroupFault old new before after Memory = IsReadingFault old new Memory × (after ≡ before)

@@ -22,7 +22,8 @@ IsUnder level texts text (Group n) =
 
 -- the text of a group is the canonical text of each of its lines, and no two groups have the same
 pub record HasTexts (placed : List PlacedLine) (catalogue : CatalogueParts) : Type 0 where
-  pub texts : Each (λ p. IsUnder catalogue.level (canons catalogue.groups) p.line.text p.place) placed
+  pub texts : Each (λ p. IsUnder catalogue.level (canons catalogue.groups) p.line.text p.place)
+      placed
   pub apart : (m n : ℕ) (canon : CanonicalText) → nth m (canons catalogue.groups) ≡ Some canon
       → nth n (canons catalogue.groups) ≡ Some canon → m ≡ n
 
@@ -32,7 +33,8 @@ IsCatalogue placed catalogue = IsPartition placed catalogue × HasTexts placed c
 
 -- a further line at its place
 abbrev pub then_line : List PlacedLine → ℕ → List ℕ → Placed → List PlacedLine
-then_line placed number text place = placed ++ record { line = line_of number text; place = place } ∷ []
+then_line placed number text place =
+    placed ++ record { line = line_of number text; place = place } ∷ []
 
 -- the catalogue is that of these lines
 pub record IsCatalogueOf (lines : List Line) (catalogue : CatalogueParts) : Type 0 where

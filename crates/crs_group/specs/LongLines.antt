@@ -1,5 +1,6 @@
 -- How long the lines of some bytes are.
-use Rattle.std.specs.Prelude.{◌≡◌, ◌⊎◌, ◌+◌, ◌<◌, ◌≤◌, ◌==◌, ◌++◌, ◌∷◌, [], ℕ, List, count_by, length}
+use Rattle.std.specs.Prelude.{◌≡◌, ◌⊎◌, ◌+◌, ◌<◌, ◌≤◌, ◌==◌, ◌++◌, ◌∷◌, [], ℕ, List, count_by}
+use Rattle.std.specs.Prelude.{length}
 use Rattle.crs_group.specs.Lines.{HasNoFeed}
 
 -- no line has more than 1048576 bytes before its line feed, or before the end
@@ -7,10 +8,11 @@ unfoldable pub HasShortLines : List ℕ → Type 0
 HasShortLines bytes = (front line rest : List ℕ) → bytes ≡ front ++ (line ++ rest) → HasNoFeed line
     → length line ≤ 1048576
 
--- behind these bytes a line begins
+-- the last byte is a line feed
 abbrev pub EndsInFeed : List ℕ → Type 0
 EndsInFeed bytes = (front : List ℕ) × (bytes ≡ front ++ 10 ∷ [])
 
+-- how many line feeds are among the bytes
 abbrev pub feeds : List ℕ → ℕ
 feeds bytes = count_by (λ b. b == 10) bytes
 

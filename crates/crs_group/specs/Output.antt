@@ -20,12 +20,14 @@ group_line number group =
 -- `refused N NAME at P`
 abbrev pub refused_text : ℕ → ℕ → List ℕ
 refused_text number place =
-    codes "refused " ++ decimal number ++ codes " " ++ name_of number ++ codes " at " ++ decimal place
+    codes "refused " ++ decimal number ++ codes " " ++ name_of number ++ codes " at "
+    ++ decimal place
 
 -- `line L: refused N NAME at P`, and a line feed
 abbrev pub refused_line : ℕ × RefusedAt → List ℕ
 refused_line (line, refusal) =
-    codes "line " ++ decimal line ++ codes ": " ++ refused_text refusal.number refusal.place ++ 10 ∷ []
+    codes "line " ++ decimal line ++ codes ": " ++ refused_text refusal.number refusal.place
+    ++ 10 ∷ []
 
 -- the groups, from this number on
 abbrev pub group_lines : ℕ → List GroupParts → List ℕ
@@ -36,7 +38,8 @@ group_lines number (group ∷ groups) = group_line number group ++ group_lines (
 abbrev pub catalogue_text : CatalogueParts → List ℕ
 catalogue_text catalogue = group_lines 1 catalogue.groups ++ flat_map refused_line catalogue.refused
 
--- the bytes are written as the catalogue of their lines, which are numbered from 1, and this is its summary
+-- the bytes are written as the catalogue of their lines, which are numbered from 1, and this is its
+-- summary
 pub record IsGroupOutput (level : Level) (bytes written : List ℕ) (summary : Summary) : Type 0 where
   pub texts : List (List ℕ)
   pub are_texts : AreLines bytes texts

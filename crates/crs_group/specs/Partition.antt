@@ -1,5 +1,6 @@
 -- Which catalogue is that of some lines: it speaks of what texts spell, and of no canonical text.
-use Rattle.std.specs.Prelude.{◌≡◌, ◌↔◌, ◌⊎◌, ◌+◌, ◌≤◌, ◌==◌, ◌∷◌, [], ℕ, List, Some, if◌then◌else◌, length}
+use Rattle.std.specs.Prelude.{◌≡◌, ◌↔◌, ◌⊎◌, ◌+◌, ◌≤◌, ◌==◌, ◌∷◌, [], ℕ, List, Some, if◌then◌else◌}
+use Rattle.std.specs.Prelude.{length}
 use Rattle.std.specs.List.{flat_map}
 use Rattle.crs_text.specs.Refusal.{RefusedAt}
 use Rattle.crs_text.specs.Tokens.{IsWhite}
@@ -18,7 +19,8 @@ pub record PlacedLine : Type 0 where
   pub line : Line
   pub place : Placed
 
--- blank is a text of white space alone; any other is refused as what spells no CRS, or spells one and stands in a group
+-- blank is a text of white space alone; any other is refused as what spells no CRS, or spells one
+-- and stands in a group
 abbrev pub IsPlacedAs : List ℕ → Placed → Type 0
 IsPlacedAs text Blank = IsWhite text
 IsPlacedAs text (Refused refusal) = (¬ (IsWhite text)) × Refuses text refusal
@@ -29,16 +31,20 @@ abbrev pub ShareWhereSame : Level → PlacedLine → PlacedLine → Type 0
 ShareWhereSame level p q = (m n : ℕ) (a b : Crs) → p.place ≡ Group m → q.place ≡ Group n
     → Spells p.line.text a → Spells q.line.text b → (m ≡ n) ↔ SameCrs level a b
 
--- with so many groups before a line, there are so many behind it: it stands in one of them, or is the first of the next
+-- with so many groups before a line, there are so many behind it: it stands in one of them, or is
+-- the first of the next
 abbrev pub Counts : ℕ → Placed → ℕ → Type 0
 Counts before Blank behind = behind ≡ before
 Counts before (Refused refusal) behind = behind ≡ before
-Counts before (Group n) behind = ((1 ≤ n) × (n ≤ before) × (behind ≡ before)) ⊎ ((n ≡ before + 1) × (behind ≡ n))
+Counts before (Group n) behind =
+    ((1 ≤ n) × (n ≤ before) × (behind ≡ before)) ⊎ ((n ≡ before + 1) × (behind ≡ n))
 
--- groups are numbered by their first lines: with so many before these lines, there are so many behind them
+-- groups are numbered by their first lines: with so many before these lines, there are so many
+-- behind them
 abbrev pub AreNumbered : ℕ → List PlacedLine → ℕ → Type 0
 AreNumbered before [] behind = behind ≡ before
-AreNumbered before (p ∷ ps) behind = (next : ℕ) × Counts before p.place next × AreNumbered next ps behind
+AreNumbered before (p ∷ ps) behind =
+    (next : ℕ) × Counts before p.place next × AreNumbered next ps behind
 
 -- the line's number, where it stands in the group
 abbrev pub in_group : ℕ → ℕ → Placed → List ℕ
@@ -66,5 +72,6 @@ pub record IsPartition (placed : List PlacedLine) (catalogue : CatalogueParts) :
   pub same : Each (λ p. Each (ShareWhereSame catalogue.level p) placed) placed
   pub numbered : AreNumbered 0 placed (length catalogue.groups)
   -- each group has the numbers of its lines, and the refused lines stand with their refusals
-  pub lines : (n : ℕ) (group : GroupParts) → nth n catalogue.groups ≡ Some group → group.lines ≡ lines_in n placed
+  pub lines : (n : ℕ) (group : GroupParts) → nth n catalogue.groups ≡ Some group →
+      group.lines ≡ lines_in n placed
   pub refused : catalogue.refused ≡ refused_in placed

@@ -1,5 +1,6 @@
 -- A bridge: what becomes of the groups where a line with a canonical text is put among them.
-use Rattle.std.specs.Prelude.{◌≡◌, ◌⊎◌, ◌+◌, ◌++◌, ◌∷◌, [], ℕ, List, Some, length, slice_get, slice_set}
+use Rattle.std.specs.Prelude.{◌≡◌, ◌⊎◌, ◌+◌, ◌++◌, ◌∷◌, [], ℕ, List, Some, length, slice_get}
+use Rattle.std.specs.Prelude.{slice_set}
 use Rattle.crs_text.specs.Refusal.{RefusedAt}
 use Rattle.crs_text.specs.declared.fault.Fault.{Fault}
 use Rattle.crs_text.specs.declared.fault.Fault.TheVariants as faults
@@ -32,7 +33,8 @@ abbrev pub IsPut : CanonicalText → ℕ → List GroupParts → List GroupParts
 IsPut canon line before behind place =
     ((at : ℕ) × (place ≡ Group (at + 1)) ×
     (slice_get (canons before) at ≡ Some canon) × IsJoined at line before behind)
-    ⊎ (IsNew canon before × (place ≡ Group (length before + 1)) × (behind ≡ before ++ group_of canon line ∷ []))
+    ⊎ (IsNew canon before × (place ≡ Group (length before + 1))
+    × (behind ≡ before ++ group_of canon line ∷ []))
 
 -- the fault is a refusal, with which the line stands among the refused ones
 abbrev pub IsRefused : Fault → ℕ → List (ℕ × RefusedAt) → List (ℕ × RefusedAt) → Placed → Type 0

@@ -8,7 +8,8 @@ use Rattle.crs_group.specs.LongLines.{HasShortLines}
 use Rattle.crs_group.specs.Output.{catalogue_text}
 use Rattle.crs_group.specs.Streams.{IsAskedFor, SourceState, SinkState}
 use Rattle.crs_group.specs.declared.fault.RunFault.{RunFault}
-use Rattle.crs_group.specs.declared.fault.RunFault.TheVariants.{ReadFailed, WriteFailed, TooLong, TooManyReads, Memory}
+use Rattle.crs_group.specs.declared.fault.RunFault.TheVariants.{ReadFailed, WriteFailed, TooLong}
+use Rattle.crs_group.specs.declared.fault.RunFault.TheVariants.{TooManyReads, Memory}
 use Rattle.crs_group.specs.declared.summary.Summary.{Summary}
 
 -- all the bytes of the source are cut
@@ -19,7 +20,8 @@ pub record IsReadInto (old new : SourceState) (cutter : CutterParts) : Type 0 wh
   pub is_cut : IsCutTo bytes cutter
 
 -- the ledger is that of the lines of the source
-pub record IsLedgerWhole (level : Level) (old new : SourceState) (ledger : LedgerParts) : Type 0 where
+pub record IsLedgerWhole (level : Level) (old new : SourceState)
+    (ledger : LedgerParts) : Type 0 where
   pub bytes : List ℕ
   pub is_whole : HasGivenAll old new bytes
   pub are_short : HasShortLines bytes
@@ -27,7 +29,8 @@ pub record IsLedgerWhole (level : Level) (old new : SourceState) (ledger : Ledge
   pub is_level : ledger.catalogue.level ≡ level
 
 -- the sink got the text of the ledger's catalogue, and this is the summary
-pub record WritesLedger (ledger : LedgerParts) (old new : SinkState) (summary : Summary) : Type 0 where
+pub record WritesLedger (ledger : LedgerParts) (old new : SinkState)
+    (summary : Summary) : Type 0 where
   pub is_sent : Appends old.contents new.contents (catalogue_text ledger.catalogue)
   pub is_asked : IsAskedFor (catalogue_text ledger.catalogue) old new
   pub is_healthy : new.failed ≡ false

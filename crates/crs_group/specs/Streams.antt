@@ -1,9 +1,10 @@
 -- A counted reader and writer as callers see them.
-use Rattle.std.specs.Prelude.{◌≡◌, ◌+◌, ◌==◌, ◌||◌, ◌∷◌, [], ℕ, Bool, true, false, List, Option, Result, MatchResult}
+use Rattle.std.specs.Prelude.{◌≡◌, ◌+◌, ◌==◌, ◌||◌, ◌∷◌, [], ℕ, Bool, true, false, List, Option}
+use Rattle.std.specs.Prelude.{Result, MatchResult}
 
--- a reader: the bytes that it has left where it tells them, the reads made, the bytes that they gave,
--- whether a read gave no byte, which shows the end, whether a read was made past the end, and whether a read
--- answered a failure
+-- a reader: the bytes that it has left where it tells them, the reads made, the bytes that they
+-- gave, whether a read gave no byte, which shows the end, whether a read was made past the end, and
+-- whether a read answered a failure
 pub record SourceState : Type 0 where
   pub remaining : Option (List ℕ)
   pub reads : ℕ
@@ -21,7 +22,15 @@ pub record SinkState : Type 0 where
 
 -- a reader with these bytes left, of which nothing was read
 abbrev pub fresh_source : Option (List ℕ) → SourceState
-fresh_source remaining = record { remaining = remaining; reads = 0; taken = 0; ended = false; past_end = false; failed = false }
+fresh_source remaining =
+    record {
+      remaining = remaining;
+      reads = 0;
+      taken = 0;
+      ended = false;
+      past_end = false;
+      failed = false;
+    }
 
 -- a writer with these bytes, to which nothing was written
 abbrev pub fresh_sink : Option (List ℕ) → SinkState
@@ -32,15 +41,18 @@ abbrev pub IsAskedFor : List ℕ → SinkState → SinkState → Type 0
 IsAskedFor [] old new = new ≡ old
 IsAskedFor (byte ∷ bytes) old new = new.used ≡ true
 
--- one more read: whether the end was shown before, the bytes that it gave, whether there were none, or its failure
+-- one more read: whether the end was shown before, the bytes that it gave, whether there were none,
+-- or its failure
 pub record CountsRead {E : Type 0} (old new : SourceState) (answer : Result ℕ E) : Type 0 where
   pub one_more : new.reads ≡ old.reads + 1
   pub past_end : new.past_end ≡ (old.past_end || old.ended)
   pub bytes : MatchResult answer
-      (λ count. (new.taken ≡ old.taken + count) × (new.ended ≡ (old.ended || (count == 0))) × (new.failed ≡ old.failed))
+      (λ count. (new.taken ≡ old.taken + count) × (new.ended ≡ (old.ended || (count == 0)))
+      × (new.failed ≡ old.failed))
       (λ _. (new.taken ≡ old.taken) × (new.ended ≡ old.ended) × (new.failed ≡ true))
 
 -- one more write: it was used, and it failed where the answer is an error
-pub record CountsWrite {E : Type 0} (old new : SinkState) (answer : Result (Unit {0}) E) : Type 0 where
+pub record CountsWrite {E : Type 0} (old new : SinkState)
+    (answer : Result (Unit {0}) E) : Type 0 where
   pub is_used : new.used ≡ true
   pub failure : MatchResult answer (λ _. new.failed ≡ old.failed) (λ _. new.failed ≡ true)

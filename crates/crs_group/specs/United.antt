@@ -1,4 +1,5 @@
--- How the catalogues of the same lines at two levels lie: the groups of the one are unions of the groups of the other.
+-- How the catalogues of the same lines at two levels lie: the groups of the one are unions of the
+-- groups of the other.
 use Rattle.std.specs.Prelude.{◌≡◌, ℕ, List, Some, slice_get}
 use Rattle.crs_group.specs.Partition.{PlacedLine}
 use Rattle.crs_group.specs.declared.placed.Placed.TheVariants.{Group}

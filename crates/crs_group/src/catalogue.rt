@@ -11,8 +11,7 @@ ghost use Rattle.crs_group.specs.Putting.{IsJoined, IsNew, IsPut, IsRefused, gro
 
 use crate::groups::Groups;
 use crate::placed::Placed;
-use crs_canon::laws::main_theorem;
-use crs_canon::{Canon, canon};
+use crs_canon::{Canon, canon, laws};
 use crs_text::{Fault, Refusal};
 use crs_value::Level;
 use std::alloc::{AllocError, Global};
@@ -100,7 +99,7 @@ impl Catalogue {
         ensures level { self.new.level ≡ self.old.level }
         ensures unchanged { OnErr result (self.new ≡ self.old) }
     {
-        main_theorem();
+        laws::main_theorem();
         if is_blank(text) {
             return Ok(Placed::Blank);
         }

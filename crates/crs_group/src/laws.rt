@@ -8,10 +8,6 @@ ghost use Rattle.crs_group.specs.Lines.{AreLines};
 ghost use Rattle.crs_group.specs.Partition.{IsPartition, PlacedLine};
 ghost use Rattle.crs_group.specs.United.{AreUnited};
 
-use crs_canon::laws::main_theorem;
-use crs_same::laws::same_crs_is_same_by_definition;
-use crs_value::laws::one_answer;
-
 /// Bytes have one list of lines, and it is the one that `bstr` cuts. Profile.
 pub fn lines_are_one()
     ensures one { (bytes : List ℕ) (a b : List (List ℕ)) → AreLines bytes a → AreLines bytes b → a ≡ b }
@@ -23,8 +19,8 @@ pub fn catalogue_is_one()
     ensures { (lines : List Line) (a b : CatalogueParts) → IsCatalogueOf lines a → IsCatalogueOf lines b →
         a.level ≡ b.level → a ≡ b }
 {
-    main_theorem();
-    one_answer();
+    crs_canon::laws::main_theorem();
+    crs_value::laws::one_answer();
 }
 
 /// The groups of a catalogue by definition are unions of its groups at the full level. Profile.
@@ -34,6 +30,6 @@ pub fn groups_are_united_by_definition()
         map (λ p. p.line) placed ≡ map (λ p. p.line) united →
         full.level ≡ levels.Full → definition.level ≡ levels.Definition → AreUnited placed united }
 {
-    one_answer();
-    same_crs_is_same_by_definition();
+    crs_value::laws::one_answer();
+    crs_same::laws::same_crs_is_same_by_definition();
 }

@@ -1,8 +1,10 @@
 -- The command line: what `clap`'s definition of the commands gives for the words.
-use Rattle.std.specs.Prelude.{◌≡◌, ◌≢◌, ◌==◌, [], ◌∷◌, Bool, true, false, not, List, Option, Some, None, codes}
+use Rattle.std.specs.Prelude.{◌≡◌, ◌≢◌, ◌==◌, [], ◌∷◌, Bool, true, false, not, List, Option, Some}
+use Rattle.std.specs.Prelude.{None, codes}
 use Rattle.std.specs.Prelude.{option_and_then, unwrap_or, if◌then◌else◌}
 use Rattle.std.specs.Str.{bytes_eq}
-use Rattle.clap.specs.Words.{App, IsAmong, Row, Rule, Shape, Text, fault_of, first_of, kind_of, new_app, new_rule}
+use Rattle.clap.specs.Words.{App, IsAmong, Row, Rule, Shape, Text, fault_of, first_of, kind_of}
+use Rattle.clap.specs.Words.{new_app, new_rule}
 use Rattle.clap.specs.Words.{subcommand_of, takes, with_subcommand}
 use Rattle.clap.specs.Simple.{new_shape, on_top}
 use Rattle.crs_line.specs.declared.asked.Request.{Request}
@@ -32,7 +34,9 @@ same_shape = record (new_shape (codes "same")) {
 
 -- `crsdesk` alone; it has a version, and wants one of its commands
 abbrev pub lone_desk : App
-lone_desk = on_top (λ s. record s { has_version = true; subcommand_required = true }) (new_app (codes "crsdesk"))
+lone_desk =
+    on_top (λ s. record s { has_version = true; subcommand_required = true })
+    (new_app (codes "crsdesk"))
 
 -- `crsdesk` with `canon`, `check` and `group`, which read standard input; `check` takes no level
 abbrev pub input_desk : App
@@ -54,7 +58,8 @@ same_texts level first second = None
 
 -- the level and the texts of `same`, among its matches
 abbrev pub same_of : List Row → Option Request
-same_of rows = same_texts (level_of rows) (first_of (codes "first") rows) (first_of (codes "second") rows)
+same_of rows =
+    same_texts (level_of rows) (first_of (codes "first") rows) (first_of (codes "second") rows)
 
 -- the request of a command's name and of its matches
 abbrev pub request_of : Text × List Row → Option Request
@@ -65,7 +70,8 @@ request_of (name, rows) = if bytes_eq name (codes "canon") then Some (Canon (lev
 
 -- what the words ask for, where the command takes them; the first of them is the program's name
 abbrev pub asked : List Text → Option Request
-asked words = if takes desk words then option_and_then request_of (subcommand_of desk words) else None
+asked words =
+    if takes desk words then option_and_then request_of (subcommand_of desk words) else None
 
 -- a word that is no flag: it begins with no hyphen, or is one
 abbrev pub is_plain_word : Text → Bool
@@ -73,11 +79,12 @@ is_plain_word [] = true
 is_plain_word (byte ∷ []) = true
 is_plain_word (byte ∷ next ∷ rest) = not (byte == 45)
 
--- a line is refused only where the command doesn't take it, by an error that it gives for the words;
--- want of memory is told apart from that
+-- a line is refused only where the command doesn't take it, by an error that it gives for the
+-- words; want of memory is told apart from that
 abbrev pub IsRefusal : List Text → RequestFault → Type 0
 IsRefusal words (Line error) =
-    (kind_of error ≢ kind.OutOfMemory) × (takes desk words ≡ false) × IsAmong (kind_of error) (fault_of desk words)
+    (kind_of error ≢ kind.OutOfMemory) × (takes desk words ≡ false)
+    × IsAmong (kind_of error) (fault_of desk words)
 IsRefusal words (Memory error) = Unit {0}
 
 -- `clap`'s error is handed on, but for want of memory

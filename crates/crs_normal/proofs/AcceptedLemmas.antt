@@ -12,7 +12,8 @@ use Rattle.crs_value.specs.declared.values.level.Level.{Level}
 use Rattle.crs_value.specs.ReadsCrs.{ReadsCrs}
 use Rattle.crs_value.specs.Spells.{SpellsCrs}
 use Rattle.crs_value.specs.SpellsText.{Spells}
-use Rattle.crs_normal.specs.Made.{IsMade, crs_class}
+use Rattle.crs_normal.specs.CrsClass.{crs_class}
+use Rattle.crs_normal.specs.Made.{IsMade}
 use Rattle.crs_normal.specs.SpelledCrs.{item_crs, norm_crs}
 use Rattle.crs_normal.proofs.MadeCrsLemmas.{crs-root, placed-twice}
 use Rattle.crs_normal.proofs.MadePlaceLemmas.{text-at}

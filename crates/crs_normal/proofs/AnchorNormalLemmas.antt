@@ -8,7 +8,7 @@ use Rattle.crs_shape.specs.contracts.class.Class.{the_type}
 use Rattle.crs_shape.specs.declared.class.Class.{Class}
 use Rattle.crs_shape.specs.declared.class.Class.TheVariants as class
 use Rattle.crs_shape.specs.ShapeFault.{class_in}
-use Rattle.crs_shape.specs.Slots.{anchors}
+use Rattle.crs_shape.specs.Slots.{anchor_slot}
 use Rattle.crs_value.specs.Reading.{those, ReadsOptional}
 use Rattle.crs_value.specs.Reads.{ReadsNumberOf, ReadsTextOf}
 use Rattle.crs_value.specs.Sound.{Each}
@@ -26,7 +26,7 @@ use Rattle.crs_normal.proofs.ViewLemmas.{InSlot, each-so, flats_onto, onto, or-f
 abbrev IsEither : Class → Item → Type 0
 IsEither c item = (class_in c item ≡ Some class.Anchor) ⊎ (class_in c item ≡ Some class.AnchorEpoch)
 
-either-as : (c : Class) (item : Item) → InSlot c anchors item → IsEither c item
+either-as : (c : Class) (item : Item) → InSlot c anchor_slot item → IsEither c item
 either-as c item s = by (sameb the_type class.Anchor s.at) refl s.taken
   where
     by : (b : Bool) → sameb the_type class.Anchor s.at ≡ b →
@@ -96,7 +96,7 @@ pub record IsAnchorSlot (d : Class) (items : Siblings) (front : List Item) : Typ
   pub least : ℕ
   pub rest : Siblings
   pub rise : Rise d least (onto front rest)
-  pub inside : Each (InSlot d anchors) front
+  pub inside : Each (InSlot d anchor_slot) front
   pub found : those d class.Anchor items ≡ those d class.Anchor (onto front End)
   pub found_epochs : those d class.AnchorEpoch items ≡ those d class.AnchorEpoch (onto front End)
   pub single : length (those d class.Anchor items) ≤ 1
@@ -110,7 +110,7 @@ pub anchors-spelled : PlainIsOne → (level : Level) (d : Class) (items : Siblin
     flats_onto front rest ≡ opt (text_node (codes "ANCHOR")) anchor (opt (number_node (codes "ANCHOREPOCH")) epoch
     after)
 anchors-spelled law level d items k front a anchor epoch reads reads_epoch rest after same =
-    let s = anchored d a.least front a.rest a.rise (each-so (InSlot d anchors) (IsEither d) (either-as d) front a.inside)
+    let s = anchored d a.least front a.rest a.rise (each-so (InSlot d anchor_slot) (IsEither d) (either-as d) front a.inside)
     in
     let firsts = a.found ∙ found-firsts d a.least front s in
     let epochs = a.found_epochs ∙ found-epochs d a.least front s in

@@ -173,11 +173,11 @@ axis-alone-form law level (node place keyword square first others close) x shape
     (those d class.Word items) v1.0
     (each-good level class.Word (λ e. cc) (those d class.Word items) (fair class.Word))
     (those-looked d class.Word (slots_of d) items v) (v1.1.1.0.not_more refl) x.direction reads.direction _ _
-    (optional-spelled level d class.Meridian (ReadsAxisMeridian class.Meridian)
+    (optional-spelled level d class.AxisMeridian (ReadsAxisMeridian class.AxisMeridian)
     (λ m. item_axis_meridian (norm_axis_meridian level m)) (axis_meridian-form law level d)
-    (those d class.Meridian items) v2.0
-    (each-good level class.Meridian (λ e. cc) (those d class.Meridian items) (fair class.Meridian))
-    (those-looked d class.Meridian (slots_of d) items v) (v2.1.1.0.not_more refl) x.meridian reads.meridian _ _
+    (those d class.AxisMeridian items) v2.0
+    (each-good level class.AxisMeridian (λ e. cc) (those d class.AxisMeridian items) (fair class.AxisMeridian))
+    (those-looked d class.AxisMeridian (slots_of d) items v) (v2.1.1.0.not_more refl) x.meridian reads.meridian _ _
     (optional-spelled level d class.Order (ReadsNumberOf class.Order) (number_node (codes "ORDER"))
     (number-node-form law level d class.Order (codes "ORDER") refl (λ bytes h. h) (λ raw h. h))
     (those d class.Order items) v3.0

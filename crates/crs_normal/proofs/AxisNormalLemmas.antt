@@ -20,7 +20,7 @@ use Rattle.crs_value.specs.declared.values.unit_kind.UnitKind.TheVariants as kin
 use Rattle.crs_same.specs.SameSystems.{own_or}
 use Rattle.crs_normal.specs.Flat.{flat}
 use Rattle.crs_normal.specs.Normal.{IsNormalIn, IsWordIn}
-use Rattle.crs_normal.specs.NormalOwn.{Has, HasOrder, numbers_in}
+use Rattle.crs_normal.specs.NormalOwn.{Has, HasOneOrder, numbers_in}
 use Rattle.crs_value.specs.Sound.{Each}
 use Rattle.crs_normal.specs.SpelledItems.{number_item, number_node, opt, text_item, word_item}
 use Rattle.crs_normal.specs.SpelledSystems.{item_axis, item_axis_meridian, norm_axis, norm_axis_meridian, norm_axis_meridians}
@@ -64,11 +64,11 @@ type-form level item value good reads = flat-word-leaf item good.shaped
 -- ---- the meridian of an axis
 
 pub axis_meridian-form : PlainIsOne → (level : Level) (c : Class) →
-    Form level c class.Meridian (ReadsAxisMeridian class.Meridian)
+    Form level c class.AxisMeridian (ReadsAxisMeridian class.AxisMeridian)
     (λ m. item_axis_meridian (norm_axis_meridian level m))
 axis_meridian-form law level c (leaf kind place raw) x good reads = absurd reads.longitude
 axis_meridian-form law level c (node place keyword square first others close) x good reads =
-    let d = class.Meridian in
+    let d = class.AxisMeridian in
     let o = opened level c d place keyword square first others close good.shaped good.normal in
     let items = More first others in
     let v = o.slots in
@@ -161,7 +161,7 @@ opt-own level system asked (i ∷ is) (Some u) some reads rest = refl
 
 pub axis-form : PlainIsOne → (level : Level) (c : Class) (system : SystemParts) (k : ℕ) (item : Item) (x : AxisParts) →
     IsGood level c class.Axis item →
-    HasOrder k item → Has class.Axis class.AxisUnit item → ReadsAxis class.Axis item x →
+    HasOneOrder k item → Has class.Axis class.AxisUnit item → ReadsAxis class.Axis item x →
     (flat item ≡ item_axis (norm_axis level system k x)) × IsNumbered k x
 unfolding norm_axis
 axis-form law level c system k (leaf kind place raw) x good ordered own reads = absurd reads.name
@@ -187,10 +187,10 @@ axis-form law level c system k (node place keyword square first others close) x 
           (those d class.Word items) v1.0
           (kept-good level d class.Word items o.kept) (those-looked d class.Word (slots_of d) items v)
           (v1.1.1.0.not_more refl) x.direction reads.direction _ _
-          (optional-spelled level d class.Meridian (ReadsAxisMeridian class.Meridian)
+          (optional-spelled level d class.AxisMeridian (ReadsAxisMeridian class.AxisMeridian)
           (λ m. item_axis_meridian (norm_axis_meridian level m)) (axis_meridian-form law level d)
-          (those d class.Meridian items) v2.0 (kept-good level d class.Meridian items o.kept)
-          (those-looked d class.Meridian (slots_of d) items v)
+          (those d class.AxisMeridian items) v2.0 (kept-good level d class.AxisMeridian items o.kept)
+          (those-looked d class.AxisMeridian (slots_of d) items v)
           (v2.1.1.0.not_more refl) x.meridian reads.meridian _ _
           (optional-spelled level d class.Order (ReadsNumberOf class.Order) (number_node (codes "ORDER"))
           (number-node-form law level d class.Order (codes "ORDER") refl (λ bytes h. h) (λ raw h. h))

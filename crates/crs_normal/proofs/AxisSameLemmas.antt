@@ -11,7 +11,7 @@ use Rattle.crs_value.specs.declared.values.level.Level.{Level}
 use Rattle.crs_value.specs.declared.values.unit_kind.UnitKind.{UnitKind}
 use Rattle.crs_value.specs.declared.values.unit_kind.UnitKind.TheVariants as kinds
 use Rattle.crs_value.specs.declared.values.unit_kind.UnitKind.TheVariants as kinds
-use Rattle.crs_same.specs.SameSystems.{HasAt, IsAt, SameAxis, SameAxisAlone, SameAxisMeridian, own_or}
+use Rattle.crs_same.specs.SameSystems.{HasAt, IsPositionOf, SameAxis, SameAxisAlone, SameAxisMeridian, own_or}
 use Rattle.crs_same.specs.SameUnits.{SameUnit, SameValue}
 use Rattle.crs_same.specs.Sets.{BothOrNeither}
 use Rattle.crs_normal.specs.Decides.{FormDecides, Maybe, SetsDecide}
@@ -173,12 +173,12 @@ pub record Found (position place : ℕ) (axes : List AxisParts) : Type 0 where
   pub at : HasAt position (λ x. x ≡ axis) place axes
 
 place-tested : LowerLaws → (position place : ℕ) (order : Option Value) → position < 10 ^ 18 → Maybe IsNormal order →
-    (is_at position place order ≡ true) ↔ IsAt position place order
+    (is_at position place order ≡ true) ↔ IsPositionOf position place order
 place-tested laws position place None less normal = Decides-eqb place position
 place-tested laws position place (Some order) less normal = number-tested laws order position normal less
 
 found-here-or-behind : (P : AxisParts → Type 0) (position place : ℕ) (axis : AxisParts) (axes : List AxisParts) →
-    (is_at position place axis.order ≡ true) ↔ IsAt position place axis.order →
+    (is_at position place axis.order ≡ true) ↔ IsPositionOf position place axis.order →
     (HasAt position P (place + 1) axes → Found position (place + 1) axes) →
     HasAt position P place (axis ∷ axes) → Found position place (axis ∷ axes)
 found-here-or-behind P position place axis axes tested behind h = by (is_at position place axis.order) refl

@@ -14,8 +14,8 @@ use Rattle.crs_value.specs.Kept.{kept}
 use Rattle.crs_value.specs.KeptLaws.{kept-where_none}
 use Rattle.crs_value.specs.declared.values.level.Level.{Level}
 use Rattle.crs_normal.specs.Flat.{flat, flats}
-use Rattle.crs_normal.specs.Normal.{IsNormalIn, AreNormalIn, IsWritten, KeepsAll}
-use Rattle.crs_normal.specs.NormalOwn.{Ascend, HasSets, Own}
+use Rattle.crs_normal.specs.Normal.{IsNormalIn, AreNormalIn, IsFirstKeyword, KeepsAll}
+use Rattle.crs_normal.specs.NormalOwn.{Ascend, HasSets, HasOwnForm}
 use Rattle.crs_value.specs.Sound.{Each}
 use Rattle.crs_normal.specs.Ascending.{Ascends}
 use Rattle.crs_normal.specs.Ordered.{in_order}
@@ -87,8 +87,8 @@ kept-good level c d items k = those-good level c d k.classes items k.shaped k.no
 -- ---- a node, opened
 
 pub record Opened (level : Level) (c : Class) (item : Item) (keyword : List ℕ) : Type 0 where
-  pub written : IsWritten c keyword
-  pub own : Own c item
+  pub written : IsFirstKeyword c keyword
+  pub own : HasOwnForm c item
   pub sets : HasSets c item
   pub kept : Kept level c (arguments item)
   pub slots : View c (slots_of c) (arguments item)

@@ -14,7 +14,7 @@ use Rattle.crs_value.specs.Reading.{those}
 use Rattle.crs_value.specs.Reads.{ReadsText, ReadsNumber, ReadsTextOf, ReadsNumberOf}
 use Rattle.crs_value.specs.declared.values.level.Level.{Level}
 use Rattle.crs_normal.specs.Flat.{flat}
-use Rattle.crs_normal.specs.Normal.{IsNormalIn, IsNumberIn, IsWritten}
+use Rattle.crs_normal.specs.Normal.{IsNormalIn, IsNumberIn, IsFirstKeyword}
 use Rattle.crs_normal.specs.SpelledItems.{number_item, number_node, text_item, text_node}
 use Rattle.crs_normal.proofs.FormLemmas.{Form, kept-good, node-spelled, one-spelled, opened}
 use Rattle.crs_normal.proofs.ViewLemmas.{View, flats-spread, those-looked}
@@ -81,7 +81,7 @@ number-form law level c plains item value good reads =
 -- ---- a node of one text, and of one number
 
 pub text-node-form : (level : Level) (c d : Class) (keyword : List ℕ) → slots_of d ≡ one class.Text ∷ [] →
-    ((bytes : List ℕ) → IsWritten d bytes → bytes ≡ keyword) →
+    ((bytes : List ℕ) → IsFirstKeyword d bytes → bytes ≡ keyword) →
     Form level c d (ReadsTextOf d) (text_node keyword)
 text-node-form level c d keyword slots its (leaf kind place raw) value good reads = absurd reads
 text-node-form level c d keyword slots its (node place bytes square first others close) value good reads =
@@ -96,7 +96,7 @@ text-node-form level c d keyword slots its (node place bytes square first others
 
 pub number-node-form : PlainIsOne → (level : Level) (c d : Class) (keyword : List ℕ) →
     slots_of d ≡ one class.Number ∷ [] →
-    ((bytes : List ℕ) → IsWritten d bytes → bytes ≡ keyword) → ArePlain d →
+    ((bytes : List ℕ) → IsFirstKeyword d bytes → bytes ≡ keyword) → ArePlain d →
     Form level c d (ReadsNumberOf d) (number_node keyword)
 number-node-form law level c d keyword slots its plains (leaf kind place raw) value good reads = absurd reads
 number-node-form law level c d keyword slots its plains (node place bytes square first others close) value good reads =

@@ -17,6 +17,7 @@ pub mod DynamicNormalLemmas
 pub mod DynamicSameLemmas
 pub mod EllipsoidNormalLemmas
 pub mod EnsembleNormalLemmas
+pub mod ExampleLemmas
 pub mod ExtentLemmas
 pub mod FormLemmas
 pub mod FrameNormalLemmas
@@ -59,6 +60,7 @@ pub mod MadeWordLemmas
 pub mod MemberLemmas
 pub mod MemberUnitLemmas
 pub mod NamedNormalLemmas
+pub mod NormalVerdict
 pub mod PairLemmas
 pub mod ParameterLemmas
 pub mod PartFrameLemmas
@@ -78,13 +80,17 @@ pub mod ReadSystemLemmas
 pub mod ReadWalkLemmas
 pub mod SameItemLemmas
 pub mod SetLemmas
+pub mod SingleVerdict
 pub mod SortLemmas
 pub mod SystemNormalLemmas
+pub mod TextItem
 pub mod TailNormalLemmas
 pub mod TailSameLemmas
 pub mod TextNormalLemmas
 pub mod UnitNormalLemmas
 pub mod UsageLemmas
 pub mod UsageNormalLemmas
+pub mod Verdicts
 pub mod ViewLemmas
 pub mod WordFormLemmas
+pub mod WrittenFormLemmas

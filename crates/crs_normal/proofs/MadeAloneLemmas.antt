@@ -174,7 +174,7 @@ module _ (l : DecimalLaws) (level : Level) (x : AxisParts) (h : IsAxis x) where
   abbrev alone_runs : List Run
   alone_runs =
       alone class.Text (text_item x.name) ∷ alone class.Word (word_item (direction_word x.direction)) ∷
-      record { of = class.Meridian; items = given item_axis_meridian (norm_axis_meridians level x.meridian) } ∷
+      record { of = class.AxisMeridian; items = given item_axis_meridian (norm_axis_meridians level x.meridian) } ∷
       record { of = class.Order; items = given (number_node (codes "ORDER")) x.order } ∷
       record { of = class.AxisUnit; items = given item_unit (norm_units level kinds.Plain x.unit) } ∷
       ids_run level x.identifiers ∷ []
@@ -200,7 +200,7 @@ module _ (l : DecimalLaws) (level : Level) (x : AxisParts) (h : IsAxis x) where
         tt,
       ),
       (
-        each-alone level 4 class.Meridian (given item_axis_meridian (norm_axis_meridians level x.meridian))
+        each-alone level 4 class.AxisMeridian (given item_axis_meridian (norm_axis_meridians level x.meridian))
             (axis-meridians-made l level x.meridian h.meridian),
         (
           each-alone level 4 class.Order (given (number_node (codes "ORDER")) x.order)

@@ -63,27 +63,27 @@ axis_meridian_runs level m = alone class.Number (number_item m.longitude) ∷ al
     (item_unit (norm_unit level kinds.Angle m.unit)) ∷ []
 
 pub axis-meridian-made : DecimalLaws → (level : Level) (m : AxisMeridianParts) → IsAxisMeridian m → (p : ℕ) →
-    IsMade level class.Meridian 4 (at_place p (item_axis_meridian (norm_axis_meridian level m)))
+    IsMade level class.AxisMeridian 4 (at_place p (item_axis_meridian (norm_axis_meridian level m)))
 unfolding BreaksOwn class_named is_keyword
 axis-meridian-made l level m h =
-    node-made level 3 class.Meridian (codes "MERIDIAN") (number_item m.longitude)
+    node-made level 3 class.AxisMeridian (codes "MERIDIAN") (number_item m.longitude)
     (More (item_unit (norm_unit level kinds.Angle m.unit)) End)
     (axis_meridian_runs level m) refl (record {
       letters = (refl, refl);
       known = refl;
       written = refl;
       made = (
-        (number-made l level 3 class.Meridian m.longitude h.longitude, tt),
+        (number-made l level 3 class.AxisMeridian m.longitude h.longitude, tt),
         (
           (
-            unit-argument l level 3 class.Meridian class.AngleUnit kinds.Angle m.unit (omega arith) refl refl
+            unit-argument l level 3 class.AxisMeridian class.AngleUnit kinds.Angle m.unit (omega arith) refl refl
                 (suits-kind kinds.Angle m.unit.kind h.unit.1) h.unit.0,
             tt,
           ),
           tt,
         ),
       );
-      allowed = runs-fit (slots_of class.Meridian) (axis_meridian_runs level m) (fills-one refl, (fills-one refl, tt));
+      allowed = runs-fit (slots_of class.AxisMeridian) (axis_meridian_runs level m) (fills-one refl, (fills-one refl, tt));
       sets = (tt, (tt, (tt, (tt, (tt, tt)))));
       left = keeps-none level;
       own = λ item s. tt;
@@ -91,11 +91,11 @@ axis-meridian-made l level m h =
     })
 
 pub axis-meridians-made : DecimalLaws → (level : Level) (x : Option AxisMeridianParts) → IfSome x IsAxisMeridian →
-    Each (Made level 4 class.Axis class.Meridian) (given item_axis_meridian (norm_axis_meridians level x))
+    Each (Made level 4 class.Axis class.AxisMeridian) (given item_axis_meridian (norm_axis_meridians level x))
 unfolding class_named is_keyword
 axis-meridians-made l level None h = tt
 axis-meridians-made l level (Some m) h = (
-  as-argument level 4 4 class.Axis class.Meridian (item_axis_meridian (norm_axis_meridian level m)) (omega arith)
+  as-argument level 4 4 class.Axis class.AxisMeridian (item_axis_meridian (norm_axis_meridian level m)) (omega arith)
       refl (axis-meridian-made l level m h),
   tt,
 )
@@ -131,7 +131,7 @@ pub record Fits (system_type : SystemType) (shared : Option UnitParts) (x : Axis
 abbrev axis_runs : Level → UnitKind → ℕ → AxisParts → UnitParts → List Run
 axis_runs level asked k x u =
     alone class.Text (text_item x.name) ∷ alone class.Word (word_item (direction_word x.direction)) ∷
-    record { of = class.Meridian; items = given item_axis_meridian (norm_axis_meridians level x.meridian) } ∷
+    record { of = class.AxisMeridian; items = given item_axis_meridian (norm_axis_meridians level x.meridian) } ∷
     alone class.Order (number_node (codes "ORDER") (whole_value k)) ∷ alone class.AxisUnit
     (item_unit (norm_unit level asked u)) ∷ ids_run level x.identifiers ∷ []
 

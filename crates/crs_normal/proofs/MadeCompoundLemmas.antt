@@ -27,7 +27,8 @@ use Rattle.crs_value.specs.SoundUsages.{IsTail}
 use Rattle.crs_value.specs.Values.{TailParts}
 use Rattle.crs_same.specs.SameUsages.{usages_of}
 use Rattle.crs_normal.specs.DecimalLaws.{DecimalLaws}
-use Rattle.crs_normal.specs.Made.{IsMade, root_class}
+use Rattle.crs_normal.specs.CrsClass.{geodetic_class}
+use Rattle.crs_normal.specs.Made.{IsMade}
 use Rattle.crs_normal.specs.NormalOwn.{Ascend, set_classes}
 use Rattle.crs_normal.specs.SpelledCrs.{geodetic_keyword, item_compound, item_geodetic, item_projected, item_vertical, norm_compound, norm_geodetic, norm_projected, norm_vertical}
 use Rattle.crs_normal.specs.SpelledItems.{node_of, text_item}
@@ -78,11 +79,11 @@ geodetic-side l each_at level g h e plane = record {
   made = as-argument level 6 7 class.CompoundCrs class.GeographicCrs (item_geodetic (norm_geodetic level g))
       (omega arith)
       (subst (λ t. class_named class.CompoundCrs (geodetic_keyword t) ≡ Some class.GeographicCrs) (sym e) refl)
-      (λ p. subst (λ t. IsMade level (root_class t) 6 (at_place p (item_geodetic (norm_geodetic level g)))) e
+      (λ p. subst (λ t. IsMade level (geodetic_class t) 6 (at_place p (item_geodetic (norm_geodetic level g)))) e
       (geodetic-made l each_at level g h p));
   fine = λ p b.
       let s = geodetic-seen l each_at level g h p in
-      let are = subst (λ t. those (root_class t) class.CoordinateSystem
+      let are = subst (λ t. those (geodetic_class t) class.CoordinateSystem
       (arguments (at_place p (item_geodetic (norm_geodetic level g)))) ≡ s.head ∷ []) e s.systems_are in
       by s.head s.is_head (subst (λ cs. FirstIs (IsNotHorizontal class.GeographicCrs) cs) are b);
 }

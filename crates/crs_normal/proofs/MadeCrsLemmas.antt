@@ -13,7 +13,8 @@ use Rattle.crs_value.specs.declared.values.system_type.SystemType.{SystemType}
 use Rattle.crs_value.specs.declared.values.system_type.SystemType.TheVariants as types
 use Rattle.crs_value.specs.SoundCrs.{IsCrs}
 use Rattle.crs_normal.specs.DecimalLaws.{DecimalLaws}
-use Rattle.crs_normal.specs.Made.{IsMade, crs_class, root_class}
+use Rattle.crs_normal.specs.CrsClass.{crs_class, geodetic_class}
+use Rattle.crs_normal.specs.Made.{IsMade}
 use Rattle.crs_normal.specs.Normal.{IsNormalText}
 use Rattle.crs_normal.specs.SpelledCrs.{geodetic_keyword, item_crs, norm_crs}
 use Rattle.crs_normal.proofs.MadeBehindLemmas.{AxisEach}
@@ -38,7 +39,7 @@ deeper level c n item h m =
 pub crs-made : DecimalLaws → AxisEach → (level : Level) (c : Crs) → IsCrs c → (p : ℕ) →
     IsMade level (crs_class c) 8 (at_place p (item_crs (norm_crs level c)))
 crs-made l each_at level (crs.Geodetic g) h p =
-    deeper level (root_class g.system.system_type) 6 (at_place p (item_crs (norm_crs level (crs.Geodetic g))))
+    deeper level (geodetic_class g.system.system_type) 6 (at_place p (item_crs (norm_crs level (crs.Geodetic g))))
     (omega arith) (geodetic-made l each_at level g h p)
 crs-made l each_at level (crs.Projected g) h p =
     deeper level (crs_class (crs.Projected g)) 7 (at_place p (item_crs (norm_crs level (crs.Projected g))))
@@ -50,7 +51,7 @@ crs-made l each_at level (crs.Compound g) h p = compound-made l each_at level g 
 
 -- ---- a whole text
 
-geodetic-root : (t : SystemType) → root_named (geodetic_keyword t) ≡ Some (root_class t)
+geodetic-root : (t : SystemType) → root_named (geodetic_keyword t) ≡ Some (geodetic_class t)
 unfolding root_named is_keyword
 geodetic-root types.Cartesian = refl
 geodetic-root types.Ellipsoidal = refl

@@ -10,7 +10,7 @@ use Rattle.crs_shape.specs.declared.class.Class.{Class}
 use Rattle.crs_shape.specs.declared.class.Class.TheVariants as class
 use Rattle.crs_shape.specs.Keywords.{is_keyword}
 use Rattle.crs_shape.specs.Shape.{Allowed}
-use Rattle.crs_shape.specs.Slots.{any, anchors as anchor_slot, class_named, one, slots_of}
+use Rattle.crs_shape.specs.Slots.{any, anchor_slot, class_named, one, slots_of}
 use Rattle.crs_value.specs.Break.{AnyOf}
 use Rattle.crs_value.specs.Checks.{Own as BreaksOwn, anchors}
 use Rattle.crs_value.specs.declared.values.level.Level.{Level}
@@ -21,8 +21,8 @@ use Rattle.crs_value.specs.SoundFrames.{IsDatum, IsEllipsoid}
 use Rattle.crs_value.specs.Values.{DatumParts, EllipsoidParts}
 use Rattle.crs_normal.specs.DecimalLaws.{DecimalLaws}
 use Rattle.crs_normal.specs.Made.{IsMade}
-use Rattle.crs_normal.specs.Normal.{IsWritten}
-use Rattle.crs_normal.specs.NormalOwn.{Own}
+use Rattle.crs_normal.specs.Normal.{IsFirstKeyword}
+use Rattle.crs_normal.specs.NormalOwn.{HasOwnForm}
 use Rattle.crs_normal.specs.SpelledFrames.{item_ellipsoid, norm_ellipsoid}
 use Rattle.crs_normal.specs.SpelledItems.{each, node_of, number_item, number_node, opt, text_item, text_node}
 use Rattle.crs_normal.specs.SpelledUnits.{item_ident, set_idents}
@@ -38,7 +38,7 @@ use Rattle.crs_normal.proofs.MadeRiseLemmas.{has-rise}
 
 pub number-node-made : DecimalLaws → (level : Level) (c : Class) (keyword : List ℕ) (v : Value) → IsWord keyword →
     IsTrue (is_keyword c keyword) →
-    IsWritten c keyword → Allowed (slots_of c) (class.Number ∷ []) → ((item : Item) → Own c item) →
+    IsFirstKeyword c keyword → Allowed (slots_of c) (class.Number ∷ []) → ((item : Item) → HasOwnForm c item) →
     ((item : Item) (fault : RefusedAt) → ¬ (BreaksOwn c item fault)) → IsNormal v → (p : ℕ) →
     IsMade level c 1 (at_place p (number_node keyword v))
 number-node-made l level c keyword v letters known written allowed own unbroken h =

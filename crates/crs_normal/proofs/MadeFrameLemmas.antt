@@ -17,7 +17,7 @@ use Rattle.crs_value.specs.SoundFrames.{IsEllipsoid, IsEnsemble, IsMember}
 use Rattle.crs_value.specs.SoundSingle.{IsGeodeticFrame, IsVerticalFrame}
 use Rattle.crs_value.specs.Values.{EllipsoidParts, EnsembleParts, MemberParts}
 use Rattle.crs_normal.specs.DecimalLaws.{DecimalLaws}
-use Rattle.crs_normal.specs.Made.{IsMade, geodetic_class, vertical_class}
+use Rattle.crs_normal.specs.Made.{IsMade, geodetic_frame_class, vertical_frame_class}
 use Rattle.crs_normal.specs.NormalOwn.{Ascend}
 use Rattle.crs_normal.specs.SpelledFrames.{item_ellipsoid, item_frame, item_member, norm_ellipsoid, norm_frame, norm_member, set_members}
 use Rattle.crs_normal.specs.SpelledItems.{each, node_of, number_item, number_node, opt, text_item}
@@ -165,11 +165,11 @@ vertical-ensemble-made l level None e none h =
 -- ---- frames
 
 pub geodetic-frame-made : DecimalLaws → (level : Level) (f : Frame) → IsGeodeticFrame f → (p : ℕ) →
-    IsMade level (geodetic_class f) 5 (at_place p (item_frame (codes "DATUM") (norm_frame level f)))
+    IsMade level (geodetic_frame_class f) 5 (at_place p (item_frame (codes "DATUM") (norm_frame level f)))
 geodetic-frame-made l level (frame.Datum d) h = geodetic-datum-made l level d.ellipsoid d h.1 h.0.ellipsoid h.0
 geodetic-frame-made l level (frame.Ensemble e) h = geodetic-ensemble-made l level e.ellipsoid e h.1 h.0.ellipsoid h.0
 
 pub vertical-frame-made : DecimalLaws → (level : Level) (f : Frame) → IsVerticalFrame f → (p : ℕ) →
-    IsMade level (vertical_class f) 5 (at_place p (item_frame (codes "VDATUM") (norm_frame level f)))
+    IsMade level (vertical_frame_class f) 5 (at_place p (item_frame (codes "VDATUM") (norm_frame level f)))
 vertical-frame-made l level (frame.Datum d) h = vertical-datum-made l level d.ellipsoid d h.1 h.0
 vertical-frame-made l level (frame.Ensemble e) h = vertical-ensemble-made l level e.ellipsoid e h.1 h.0

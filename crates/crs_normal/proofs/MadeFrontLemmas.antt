@@ -14,7 +14,7 @@ use Rattle.crs_value.specs.Sound.{Each}
 use Rattle.crs_value.specs.SoundSingle.{IsDynamicOf, IsGeodeticFrame}
 use Rattle.crs_value.specs.Values.{MeridianParts}
 use Rattle.crs_normal.specs.DecimalLaws.{DecimalLaws}
-use Rattle.crs_normal.specs.Made.{geodetic_class}
+use Rattle.crs_normal.specs.Made.{geodetic_frame_class}
 use Rattle.crs_normal.specs.NormalOwn.{Ascend, rank, set_classes}
 use Rattle.crs_normal.specs.SpelledFrames.{item_frame, item_meridian, norm_frame, norm_meridian}
 use Rattle.crs_normal.proofs.MadeBehindLemmas.{Shows, crs_classes}
@@ -31,27 +31,27 @@ pub record NamesFrame (c : Class) : Type 0 where
   pub ensemble : class_named c (codes "ENSEMBLE") ≡ Some class.GeodeticEnsemble
 
 frame-named : (level : Level) (c : Class) (f : Frame) → NamesFrame c →
-    class_in c (item_frame (codes "DATUM") (norm_frame level f)) ≡ Some (geodetic_class f)
+    class_in c (item_frame (codes "DATUM") (norm_frame level f)) ≡ Some (geodetic_frame_class f)
 frame-named level c (frame.Datum d) n = n.datum
 frame-named level c (frame.Ensemble e) n = n.ensemble
 
 pub frame-argument : DecimalLaws → (level : Level) (most : ℕ) (c : Class) (f : Frame) → 5 ≤ most → NamesFrame c →
     IsGeodeticFrame f →
-    Made level most c (geodetic_class f) (item_frame (codes "DATUM") (norm_frame level f))
+    Made level most c (geodetic_frame_class f) (item_frame (codes "DATUM") (norm_frame level f))
 frame-argument l level most c f deep n h =
-    as-argument level 5 most c (geodetic_class f) (item_frame (codes "DATUM") (norm_frame level f)) deep
+    as-argument level 5 most c (geodetic_frame_class f) (item_frame (codes "DATUM") (norm_frame level f)) deep
     (frame-named level c f n) (geodetic-frame-made l level f h)
 
 pub frame-taken : (f : Frame) →
-    takes (one_of (class.GeodeticFrame ∷ class.GeodeticEnsemble ∷ [])) (geodetic_class f) ≡ true
+    takes (one_of (class.GeodeticFrame ∷ class.GeodeticEnsemble ∷ [])) (geodetic_frame_class f) ≡ true
 frame-taken (frame.Datum d) = refl
 frame-taken (frame.Ensemble e) = refl
 
 -- the name, the dynamic part and the frame of a CRS or base, and these
 abbrev pub framed_runs : Level → Item → Option DynamicParts → Frame → Item → List Run → List Run
-framed_runs level n x f j rest = alone class.Text n ∷ dynamic_run level x ∷ alone (geodetic_class f) j ∷ rest
+framed_runs level n x f j rest = alone class.Text n ∷ dynamic_run level x ∷ alone (geodetic_frame_class f) j ∷ rest
 
-pub frame-rank : (f : Frame) → rank (geodetic_class f) ≡ 0
+pub frame-rank : (f : Frame) → rank (geodetic_frame_class f) ≡ 0
 frame-rank (frame.Datum d) = refl
 frame-rank (frame.Ensemble e) = refl
 

@@ -23,9 +23,10 @@ use Rattle.crs_value.specs.SoundSingle.{IsGeodetic}
 use Rattle.crs_value.specs.Words.{system_word}
 use Rattle.crs_same.specs.SameUsages.{usages_of}
 use Rattle.crs_normal.specs.DecimalLaws.{DecimalLaws}
-use Rattle.crs_normal.specs.Made.{IsMade, geodetic_class, root_class}
-use Rattle.crs_normal.specs.Normal.{IsWritten}
-use Rattle.crs_normal.specs.NormalOwn.{Ascend, Has, HasAxes, HasTail, Own, rank, set_classes, words_in}
+use Rattle.crs_normal.specs.CrsClass.{geodetic_class}
+use Rattle.crs_normal.specs.Made.{IsMade, geodetic_frame_class}
+use Rattle.crs_normal.specs.Normal.{IsFirstKeyword}
+use Rattle.crs_normal.specs.NormalOwn.{Ascend, Has, HasAxes, HasTail, HasOwnForm, rank, set_classes, words_in}
 use Rattle.crs_normal.specs.SpelledCrs.{geodetic_keyword, item_geodetic, norm_geodetic}
 use Rattle.crs_normal.specs.SpelledDynamic.{item_dynamic, norm_dynamic}
 use Rattle.crs_normal.specs.SpelledFrames.{item_frame, item_meridian, norm_frame, norm_meridian}
@@ -52,7 +53,7 @@ use Rattle.crs_normal.proofs.MadeTailLemmas.{IsTailSeen, NamesTail, has-tail, no
 record IsRootClass (t : SystemType) (c : Class) (keyword : List ℕ) : Type 0 where
   letters : IsWord keyword
   known : IsTrue (is_keyword c keyword)
-  written : IsWritten c keyword
+  written : IsFirstKeyword c keyword
   slots : slots_of c ≡ geodetic_slots
   frames : NamesFrame c
   systems : NamesSystem c
@@ -64,7 +65,7 @@ record IsRootClass (t : SystemType) (c : Class) (keyword : List ℕ) : Type 0 wh
   breaks : (item : Item) (fault : RefusedAt) → BreaksOwn c item fault → OfCrs dimensions c item fault
   own : (item : Item) → Each (λ cs. words_in class.CoordinateSystem cs ≡ system_word t ∷ [])
       (those c class.CoordinateSystem (arguments item)) →
-      Has c class.PrimeMeridian item → HasAxes c item → HasTail c item → Own c item
+      Has c class.PrimeMeridian item → HasAxes c item → HasTail c item → HasOwnForm c item
 
 other-words : (w : List ℕ) (items : List Item) → w ≢ codes "ellipsoidal" →
     Each (λ cs. words_in class.CoordinateSystem cs ≡ w ∷ []) items →
@@ -117,7 +118,7 @@ geographic-root = record {
   own = λ item words meridian axes end. (meridian, axes, end);
 }
 
-is-root : (t : SystemType) → IsRootClass t (root_class t) (geodetic_keyword t)
+is-root : (t : SystemType) → IsRootClass t (geodetic_class t) (geodetic_keyword t)
 is-root types.Cartesian = geodetic-root types.Cartesian (λ e. cc)
 is-root types.Ellipsoidal = geographic-root
 is-root types.Spherical = geodetic-root types.Spherical (λ e. cc)
@@ -199,7 +200,7 @@ geodetic-runs-made l level c keyword g r few h = (
 
 geodetic-rise : (level : Level) (g : GeodeticParts) → RunsRise 0 (geodetic_runs level g)
 geodetic-rise level g =
-    let e : rank (geodetic_class g.frame) ≡ 0 = frame-rank g.frame in (
+    let e : rank (geodetic_frame_class g.frame) ≡ 0 = frame-rank g.frame in (
       omega arith,
       (
         omega arith,
@@ -290,25 +291,25 @@ geodetic_others level g =
     (tail_items (norm_tail level g.tail)))))
 
 pub geodetic-made : DecimalLaws → AxisEach → (level : Level) (g : GeodeticParts) → IsGeodetic g → (p : ℕ) →
-    IsMade level (root_class g.system.system_type) 6 (at_place p (item_geodetic (norm_geodetic level g)))
+    IsMade level (geodetic_class g.system.system_type) 6 (at_place p (item_geodetic (norm_geodetic level g)))
 geodetic-made l each_at level g h =
-    node-made level 5 (root_class g.system.system_type) (geodetic_keyword g.system.system_type) (text_item g.name)
+    node-made level 5 (geodetic_class g.system.system_type) (geodetic_keyword g.system.system_type) (text_item g.name)
     (geodetic_others level g) (geodetic_runs level g) (simp (opt-line, each-line))
-    (geodetic-kept l level (root_class g.system.system_type) (geodetic_keyword g.system.system_type) g
+    (geodetic-kept l level (geodetic_class g.system.system_type) (geodetic_keyword g.system.system_type) g
     (is-root g.system.system_type)
     (few-system l each_at geodetic_dimensions geodetic-small g.system h.system h.dimension) h)
 
 -- the system of a CRS, as the checks of a compound see it
 pub geodetic-seen : DecimalLaws → AxisEach → (level : Level) (g : GeodeticParts) → IsGeodetic g → (p : ℕ) →
     IsSystemSeen g.system.system_type g.system.dimension
-    (those (root_class g.system.system_type) class.CoordinateSystem
+    (those (geodetic_class g.system.system_type) class.CoordinateSystem
     (arguments (at_place p (item_geodetic (norm_geodetic level g)))))
-    (those (root_class g.system.system_type) class.Axis
+    (those (geodetic_class g.system.system_type) class.Axis
     (arguments (at_place p (item_geodetic (norm_geodetic level g)))))
-    (those (root_class g.system.system_type) class.AxisUnit
+    (those (geodetic_class g.system.system_type) class.AxisUnit
     (arguments (at_place p (item_geodetic (norm_geodetic level g)))))
 geodetic-seen l each_at level g h p =
-    let c : Class = root_class g.system.system_type in
+    let c : Class = geodetic_class g.system.system_type in
     let item : Item = at_place p (item_geodetic (norm_geodetic level g)) in
     let few : IsFew g.system = few-system l each_at geodetic_dimensions geodetic-small g.system h.system h.dimension in
     let s : Sees c (geodetic_runs level g) item =

@@ -19,8 +19,8 @@ use Rattle.crs_value.specs.Sound.{Each, IsIdent, IsText}
 use Rattle.crs_value.specs.Values.{IdentParts}
 use Rattle.crs_normal.specs.DecimalLaws.{DecimalLaws}
 use Rattle.crs_normal.specs.Made.{IsMade}
-use Rattle.crs_normal.specs.Normal.{IsWritten}
-use Rattle.crs_normal.specs.NormalOwn.{Ascend, IsCode, Own, set_classes}
+use Rattle.crs_normal.specs.Normal.{IsFirstKeyword}
+use Rattle.crs_normal.specs.NormalOwn.{Ascend, IsCode, HasOwnForm, set_classes}
 use Rattle.crs_normal.specs.Ordered.{in_order}
 use Rattle.crs_normal.specs.SpelledItems.{code_item, opt, text_item, text_node}
 use Rattle.crs_normal.specs.SpelledUnits.{item_ident, set_idents}
@@ -33,8 +33,8 @@ use Rattle.crs_normal.proofs.MadeLemmas.{IsKept, Keeps, KeepsRuns, Made, Run, al
 -- ---- nodes of one text
 
 pub text-node-made : (level : Level) (c : Class) (keyword raw : List ℕ) → IsWord keyword →
-    IsTrue (is_keyword c keyword) → IsWritten c keyword →
-    Allowed (slots_of c) (class.Text ∷ []) → ((item : Item) → Own c item) →
+    IsTrue (is_keyword c keyword) → IsFirstKeyword c keyword →
+    Allowed (slots_of c) (class.Text ∷ []) → ((item : Item) → HasOwnForm c item) →
     ((item : Item) (fault : RefusedAt) → ¬ (BreaksOwn c item fault)) → IsText raw →
     (p : ℕ) → IsMade level c 1 (at_place p (text_node keyword raw))
 text-node-made level c keyword raw letters known written allowed own unbroken h =

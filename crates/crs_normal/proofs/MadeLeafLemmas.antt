@@ -39,7 +39,7 @@ number-in : (c : Class) (raw : List ℕ) → IsPlain raw → IsNumberIn c raw
 number-in class.Identifier raw h = tt
 number-in c raw h = h
 
-run-single : (raw : List ℕ) → IsRun raw → IsInBounds raw → IsSingle number raw
+pub run-single : (raw : List ℕ) → IsRun raw → IsInBounds raw → IsSingle number raw
 run-single [] h b = absurd h
 run-single (d ∷ ds) h b = (h.0, h.1, b)
 
@@ -74,13 +74,13 @@ right : (a b : Bool) → (a && b) ≡ true → b ≡ true
 right true b h = h
 right false b h = cc
 
-short-true : (raw : List ℕ) → IsShort raw → is_short raw ≡ true
+pub short-true : (raw : List ℕ) → IsShort raw → is_short raw ≡ true
 short-true raw h =
     both (list_all is_digit raw && nat_le 1 (length raw)) (nat_le (length raw) 18)
     (both (list_all is_digit raw) (nat_le 1 (length raw)) h.digits (le-leb 1 (length raw) h.some))
     (le-leb (length raw) 18 h.few)
 
-true-short : (raw : List ℕ) → is_short raw ≡ true → IsShort raw
+pub true-short : (raw : List ℕ) → is_short raw ≡ true → IsShort raw
 true-short raw h =
     let l = left (list_all is_digit raw && nat_le 1 (length raw)) (nat_le (length raw) 18) h in
     record {

@@ -18,8 +18,8 @@ use Rattle.crs_value.specs.KeptLaws.{kept-none, kept-where_none}
 use Rattle.crs_value.specs.declared.values.level.Level.{Level}
 use Rattle.crs_value.specs.Reading.{is_same, those}
 use Rattle.crs_normal.specs.Made.{IsMade}
-use Rattle.crs_normal.specs.Normal.{AreNormalIn, AtLevel, IsNormalIn, IsWritten}
-use Rattle.crs_normal.specs.NormalOwn.{Ascend, Own, set_classes}
+use Rattle.crs_normal.specs.Normal.{AreNormalIn, AtLevel, IsNormalIn, IsFirstKeyword}
+use Rattle.crs_normal.specs.NormalOwn.{Ascend, HasOwnForm, set_classes}
 use Rattle.crs_value.specs.Sound.{Each}
 use Rattle.crs_normal.specs.SpelledItems.{each, node_of, opt}
 use Rattle.crs_normal.proofs.MadePlaceLemmas.{ArePlaced, class-at, placed-ascend, those-placed}
@@ -222,12 +222,12 @@ KeepsRuns level runs =
 pub record IsKept (level : Level) (most : ℕ) (c : Class) (keyword : List ℕ) (runs : List Run) : Type 0 where
   pub letters : IsWord keyword
   pub known : IsTrue (is_keyword c keyword)
-  pub written : IsWritten c keyword
+  pub written : IsFirstKeyword c keyword
   pub made : RunsMade level most c runs
   pub allowed : Allowed (slots_of c) (classes runs)
   pub sets : Each (λ d. Ascend (items_in d runs)) set_classes
   pub left : KeepsRuns level runs
-  pub own : (item : Item) → Sees c runs item → Own c item
+  pub own : (item : Item) → Sees c runs item → HasOwnForm c item
   pub unbroken : (item : Item) (fault : RefusedAt) → Sees c runs item → ¬ (BreaksOwn c item fault)
 
 none-placed : (items js : List Item) → ArePlaced items js → js ≡ [] → items ≡ []

@@ -21,7 +21,7 @@ use Rattle.crs_value.specs.SoundFrames.{IsMeridian}
 use Rattle.crs_value.specs.Values.{IdentParts, MeridianParts, UnitParts}
 use Rattle.crs_normal.specs.DecimalLaws.{DecimalLaws}
 use Rattle.crs_normal.specs.Made.{IsMade}
-use Rattle.crs_normal.specs.NormalOwn.{HasUnitIfAny}
+use Rattle.crs_normal.specs.NormalOwn.{HasNoUnitAtZero}
 use Rattle.crs_normal.specs.SpelledFrames.{greenwich, is_zero, item_meridian, norm_given, norm_meridian}
 use Rattle.crs_normal.specs.SpelledItems.{each, node_of, number_item, opt, text_item}
 use Rattle.crs_normal.specs.SpelledUnits.{item_ident, item_unit, norm_units, set_idents, whole_value}
@@ -59,7 +59,7 @@ meridian_runs level name longitude unit identifiers =
 unit-if-any : DecimalLaws → (level : Level) (name : List ℕ) (v : Value) (unit : Option UnitParts)
     (identifiers : List IdentParts) (item : Item) → IsNormal v →
     (is_zero v ≡ true → unit ≡ None) → Sees class.PrimeMeridian (meridian_runs level name v unit identifiers) item →
-    HasUnitIfAny item
+    HasNoUnitAtZero item
 unit-if-any l level name v unit identifiers item n none s e =
     let p : plain v ∷ [] ≡ codes "0" ∷ [] =
     sym (placed-raw v (those class.PrimeMeridian class.Number (arguments item)) (s.view class.Number)) ∙ e in

@@ -20,8 +20,8 @@ use Rattle.crs_value.specs.SoundFrames.{IsMember}
 use Rattle.crs_value.specs.Values.{IdentParts, MemberParts}
 use Rattle.crs_normal.specs.DecimalLaws.{DecimalLaws}
 use Rattle.crs_normal.specs.Made.{IsMade}
-use Rattle.crs_normal.specs.Normal.{IsWritten}
-use Rattle.crs_normal.specs.NormalOwn.{Own}
+use Rattle.crs_normal.specs.Normal.{IsFirstKeyword}
+use Rattle.crs_normal.specs.NormalOwn.{HasOwnForm}
 use Rattle.crs_normal.specs.SpelledConversions.{item_geoid_model, item_method, norm_geoid_model, norm_method}
 use Rattle.crs_normal.specs.SpelledDynamic.{item_deformation_model, norm_deformation_model}
 use Rattle.crs_normal.specs.SpelledFrames.{item_member, norm_member}
@@ -36,9 +36,9 @@ use Rattle.crs_normal.proofs.MadeLemmas.{Run, alone, classes, each-line, node-ma
 record IsNamed (c : Class) (keyword : List ℕ) : Type 0 where
   letters : IsWord keyword
   known : IsTrue (is_keyword c keyword)
-  written : IsWritten c keyword
+  written : IsFirstKeyword c keyword
   slots : slots_of c ≡ named_slots
-  own : (item : Item) → Own c item
+  own : (item : Item) → HasOwnForm c item
   unbroken : (item : Item) (fault : RefusedAt) → ¬ (BreaksOwn c item fault)
   names_id : class_named c (codes "ID") ≡ Some class.Identifier
 

@@ -28,7 +28,7 @@ use Rattle.crs_value.specs.Sound.{Each, IsAxis, IsAxisUnit, Suits}
 use Rattle.crs_value.specs.SoundSystem.{HasUnits, IsSystem, SuitsAxis}
 use Rattle.crs_value.specs.Values.{AxisParts, SystemParts, UnitParts}
 use Rattle.crs_value.specs.Words.{system_word}
-use Rattle.crs_same.specs.SameSystems.{HasAt, IsAt, own_or}
+use Rattle.crs_same.specs.SameSystems.{HasAt, IsPositionOf, own_or}
 use Rattle.crs_normal.specs.DecimalLaws.{DecimalLaws}
 use Rattle.crs_normal.specs.Made.{IsMade}
 use Rattle.crs_normal.specs.SpelledItems.{each, number_item, word_item}
@@ -79,7 +79,7 @@ fits t xs (Some shared) a h u = shared-fits t shared u.1.0 xs h u.1.1.1 a u.0 u.
 -- ---- the axis at a position
 
 at-true : DecimalLaws → (k place : ℕ) (order : Option Value) → IsNormal (whole_value k) → IfSome order IsNormal →
-    IsAt k place order →
+    IsPositionOf k place order →
     is_at k place order ≡ true
 at-true l k place None n h e = (Decides-eqb place k).1 e
 at-true l k place (Some v) n h e =

@@ -24,8 +24,8 @@ use Rattle.crs_value.specs.Values.{UnitParts}
 use Rattle.crs_value.specs.Words.{unit_word}
 use Rattle.crs_normal.specs.DecimalLaws.{DecimalLaws}
 use Rattle.crs_normal.specs.Made.{IsKindIn, IsMade}
-use Rattle.crs_normal.specs.Normal.{IsWritten}
-use Rattle.crs_normal.specs.NormalOwn.{Own}
+use Rattle.crs_normal.specs.Normal.{IsFirstKeyword}
+use Rattle.crs_normal.specs.NormalOwn.{HasOwnForm}
 use Rattle.crs_normal.specs.SpelledItems.{each, number_item, text_item}
 use Rattle.crs_normal.specs.SpelledUnits.{item_ident, item_unit, set_idents}
 use Rattle.crs_normal.proofs.MadeFitLemmas.{fills-any, fills-one, runs-fit}
@@ -72,7 +72,7 @@ unit-known class.AxisUnit kind (inl h) = subst (λ k. is_keyword class.AxisUnit 
 unit-known class.AxisUnit kind (inr h) = subst (λ k. is_keyword class.AxisUnit (unit_word k) ≡ true) (sym h) refl
 unit-known other kind h = absurd h
 
-unit-written : (c : Class) (kind : UnitKind) → IsKindIn c kind → IsWritten c (unit_word kind)
+unit-written : (c : Class) (kind : UnitKind) → IsKindIn c kind → IsFirstKeyword c (unit_word kind)
 unit-written class.LengthUnit kind h = ap unit_word h
 unit-written class.AngleUnit kind h = ap unit_word h
 unit-written class.ScaleUnit kind h = ap unit_word h
@@ -87,7 +87,7 @@ unit-letters kinds.Angle = (refl, refl)
 unit-letters kinds.Scale = (refl, refl)
 unit-letters kinds.Plain = (refl, refl)
 
-unit-own : (c : Class) (kind : UnitKind) (item : Item) → IsKindIn c kind → Own c item
+unit-own : (c : Class) (kind : UnitKind) (item : Item) → IsKindIn c kind → HasOwnForm c item
 unit-own class.LengthUnit kind item h = tt
 unit-own class.AngleUnit kind item h = tt
 unit-own class.ScaleUnit kind item h = tt

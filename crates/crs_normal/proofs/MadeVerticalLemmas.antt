@@ -26,7 +26,7 @@ use Rattle.crs_value.specs.SoundConversion.{IsGeoidModel}
 use Rattle.crs_value.specs.SoundSingle.{IsDynamicOf, IsVertical}
 use Rattle.crs_same.specs.SameUsages.{usages_of}
 use Rattle.crs_normal.specs.DecimalLaws.{DecimalLaws}
-use Rattle.crs_normal.specs.Made.{IsMade, vertical_class}
+use Rattle.crs_normal.specs.Made.{IsMade, vertical_frame_class}
 use Rattle.crs_normal.specs.NormalOwn.{Ascend, rank, set_classes}
 use Rattle.crs_normal.specs.SpelledConversions.{item_geoid_model, norm_geoid_model, set_geoid_models}
 use Rattle.crs_normal.specs.SpelledCrs.{item_vertical, norm_vertical}
@@ -53,23 +53,23 @@ use Rattle.crs_normal.proofs.MadeTailLemmas.{IsTailSeen, has-tail, no-repeats, t
 -- ---- the frame, of one class or the other
 
 vertical-named : (level : Level) (f : Frame) →
-    class_in class.VerticalCrs (item_frame (codes "VDATUM") (norm_frame level f)) ≡ Some (vertical_class f)
+    class_in class.VerticalCrs (item_frame (codes "VDATUM") (norm_frame level f)) ≡ Some (vertical_frame_class f)
 unfolding class_named is_keyword
 vertical-named level (frame.Datum d) = refl
 vertical-named level (frame.Ensemble e) = refl
 
-vertical-taken : (f : Frame) → takes (one_of (class.VerticalFrame ∷ class.VerticalEnsemble ∷ [])) (vertical_class f)
+vertical-taken : (f : Frame) → takes (one_of (class.VerticalFrame ∷ class.VerticalEnsemble ∷ [])) (vertical_frame_class f)
     ≡ true
 vertical-taken (frame.Datum d) = refl
 vertical-taken (frame.Ensemble e) = refl
 
-vertical-rank : (f : Frame) → rank (vertical_class f) ≡ 0
+vertical-rank : (f : Frame) → rank (vertical_frame_class f) ≡ 0
 vertical-rank (frame.Datum d) = refl
 vertical-rank (frame.Ensemble e) = refl
 
 -- the name, the dynamic part and the frame of a vertical CRS, and these
 abbrev framed_runs : Level → Item → Option DynamicParts → Frame → Item → List Run → List Run
-framed_runs level n x f j rest = alone class.Text n ∷ dynamic_run level x ∷ alone (vertical_class f) j ∷ rest
+framed_runs level n x f j rest = alone class.Text n ∷ dynamic_run level x ∷ alone (vertical_frame_class f) j ∷ rest
 
 vertical-sets : (level : Level) (n : Item) (x : Option DynamicParts) (f : Frame) (j : Item) (rest : List Run) →
     Each (λ d. Ascend (items_in d rest)) set_classes →
@@ -189,7 +189,7 @@ vertical-runs-made l level g few h =
         dynamic-argument l level 5 class.VerticalCrs g.dynamic g.frame (omega arith) refl h.dynamic,
         (
           (
-            as-argument level 5 5 class.VerticalCrs (vertical_class g.frame) (frame_item level g) (omega arith)
+            as-argument level 5 5 class.VerticalCrs (vertical_frame_class g.frame) (frame_item level g) (omega arith)
                 (vertical-named level g.frame) (vertical-frame-made l level g.frame h.frame),
             tt,
           ),
@@ -213,7 +213,7 @@ vertical-runs-made l level g few h =
 
 vertical-rise : (level : Level) (g : VerticalParts) → RunsRise 0 (vertical_runs level g)
 vertical-rise level g =
-    let e : rank (vertical_class g.frame) ≡ 0 = vertical-rank g.frame in (
+    let e : rank (vertical_frame_class g.frame) ≡ 0 = vertical-rank g.frame in (
       omega arith,
       (
         omega arith,

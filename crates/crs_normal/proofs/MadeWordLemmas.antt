@@ -47,13 +47,13 @@ abbrev types : List SystemType
 types = Cartesian ∷ Ellipsoidal ∷ Spherical ∷ Vertical ∷ []
 
 -- the direction whose word these small letters spell
-abbrev direction_of : List ℕ → Option Direction
+abbrev pub direction_of : List ℕ → Option Direction
 direction_of small = find (λ d. bytes_eq (str_to_ascii_lowercase (direction_word d)) small) directions
 
-abbrev type_of : List ℕ → Option SystemType
+abbrev pub type_of : List ℕ → Option SystemType
 type_of small = find (λ t. bytes_eq (str_to_ascii_lowercase (system_word t)) small) types
 
-direction-known : (d : Direction) → direction_of (str_to_ascii_lowercase (direction_word d)) ≡ Some d
+pub direction-known : (d : Direction) → direction_of (str_to_ascii_lowercase (direction_word d)) ≡ Some d
 direction-known North = refl
 direction-known NorthNorthEast = refl
 direction-known NorthEast = refl
@@ -77,7 +77,7 @@ direction-known Up = refl
 direction-known Down = refl
 direction-known Unspecified = refl
 
-type-known : (t : SystemType) → type_of (str_to_ascii_lowercase (system_word t)) ≡ Some t
+pub type-known : (t : SystemType) → type_of (str_to_ascii_lowercase (system_word t)) ≡ Some t
 type-known Cartesian = refl
 type-known Ellipsoidal = refl
 type-known Spherical = refl

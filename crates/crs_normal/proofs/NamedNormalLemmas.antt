@@ -17,7 +17,7 @@ use Rattle.crs_value.specs.Values.{IdentParts, UnitParts}
 use Rattle.crs_value.specs.declared.values.level.Level.{Level}
 use Rattle.crs_value.specs.declared.values.unit_kind.UnitKind.TheVariants as kinds
 use Rattle.crs_normal.specs.Flat.{flat}
-use Rattle.crs_normal.specs.Normal.{IsWritten}
+use Rattle.crs_normal.specs.Normal.{IsFirstKeyword}
 use Rattle.crs_value.specs.Sound.{Each}
 use Rattle.crs_normal.specs.SpelledConversions.{item_conversion, item_geoid_model, item_method, item_parameter, norm_conversion, norm_geoid_model, norm_method, norm_parameter, set_parameters}
 use Rattle.crs_normal.specs.SpelledDynamic.{item_deformation_model, norm_deformation_model}
@@ -31,7 +31,7 @@ use Rattle.crs_normal.proofs.ViewLemmas.{View, each-so, flats_onto, flats-spread
 
 -- a node of a name and identifiers
 named-flat : (level : Level) (c d : Class) (keyword : List ℕ) → slots_of d ≡ named_slots →
-    ((bytes : List ℕ) → IsWritten d bytes → bytes ≡ keyword) →
+    ((bytes : List ℕ) → IsFirstKeyword d bytes → bytes ≡ keyword) →
     (item : Item) → IsGood level c d item → (name : List ℕ) (identifiers : List IdentParts) → ReadsTextOf d item name →
     ReadsIds d item identifiers →
     flat item ≡ node_of keyword (text_item name) (each item_ident (set_idents level identifiers) End)

@@ -13,8 +13,8 @@ use Rattle.crs_value.specs.declared.values.frame.Frame.{Frame}
 use Rattle.crs_value.specs.declared.values.frame.Frame.TheVariants as frame
 use Rattle.crs_value.specs.declared.values.level.Level.{Level}
 use Rattle.crs_same.specs.SameFrames.{SameDatum, SameEnsemble, SameFrame}
-use Rattle.crs_normal.specs.CanonicalForm.{IsCanonicalForm}
-use Rattle.crs_normal.specs.Made.{IsMade, geodetic_class, vertical_class}
+use Rattle.crs_normal.specs.WrittenForm.{IsWrittenForm}
+use Rattle.crs_normal.specs.Made.{IsMade, geodetic_frame_class, vertical_frame_class}
 use Rattle.crs_normal.specs.OneForm.{IsItsForm, IsItsFormUnbroken}
 use Rattle.crs_normal.specs.PartSpellings.{IsFrame, IsSpelledDatum, IsSpelledEnsemble, IsSpelledFrame, datum_class, ensemble_class}
 use Rattle.crs_normal.specs.PartTexts.{datum_keyword, datum_text, ensemble_text, frame_text, item_own_datum}
@@ -43,11 +43,11 @@ by-ellipsoid P (Some x) none some = some x refl
 
 abbrev pub GeodeticMade : Type 0
 GeodeticMade = (level : Level) (f : Frame) (place : ℕ) → IsGeodeticFrame f →
-    IsMade level (geodetic_class f) 5 (at_place place (item_frame (codes "DATUM") (norm_frame level f)))
+    IsMade level (geodetic_frame_class f) 5 (at_place place (item_frame (codes "DATUM") (norm_frame level f)))
 
 abbrev pub VerticalMade : Type 0
 VerticalMade = (level : Level) (f : Frame) (place : ℕ) → IsVerticalFrame f →
-    IsMade level (vertical_class f) 5 (at_place place (item_frame (codes "VDATUM") (norm_frame level f)))
+    IsMade level (vertical_frame_class f) 5 (at_place place (item_frame (codes "VDATUM") (norm_frame level f)))
 
 -- ---- reference frames
 
@@ -173,14 +173,14 @@ keywords-apart (Some z) x y e = let k : ◌≡◌ {A = ℕ} 68 69 = ap first-byt
 texts-apart : (level : Level) (d : DatumParts) (e : EnsembleParts) → datum_text level d ≡ ensemble_text level e → ⊥
 texts-apart level d e same = keywords-apart (option_map (norm_ellipsoid level) d.ellipsoid) _ _ same
 
-module _ (level : Level) (datums : IsCanonicalForm IsDatum (SameDatum level) (IsSpelledDatum level) (datum_text level)) (ensembles : IsCanonicalForm IsEnsemble (SameEnsemble level) (IsSpelledEnsemble level) (ensemble_text level)) where
+module _ (level : Level) (datums : IsWrittenForm IsDatum (SameDatum level) (IsSpelledDatum level) (datum_text level)) (ensembles : IsWrittenForm IsEnsemble (SameEnsemble level) (IsSpelledEnsemble level) (ensemble_text level)) where
   frames-equal : (a b : Frame) → IsFrame a → IsFrame b → (frame_text level a ≡ frame_text level b) ↔ SameFrame level a b
   frames-equal (frame.Datum a) (frame.Datum b) p q = datums.equal_bytes a b p q
   frames-equal (frame.Datum a) (frame.Ensemble b) p q = (λ e. texts-apart level a b e, λ none. absurd none)
   frames-equal (frame.Ensemble a) (frame.Datum b) p q = (λ e. texts-apart level b a (sym e), λ none. absurd none)
   frames-equal (frame.Ensemble a) (frame.Ensemble b) p q = ensembles.equal_bytes a b p q
 
-  pub frames-canonical : IsCanonicalForm IsFrame (SameFrame level) (IsSpelledFrame level) (frame_text level)
+  pub frames-canonical : IsWrittenForm IsFrame (SameFrame level) (IsSpelledFrame level) (frame_text level)
   frames-canonical = record {
     spelled = elim [ frame.Datum d ↦ λ s. datums.spelled d s | frame.Ensemble e ↦ λ s. ensembles.spelled e s ];
     one = elim [ frame.Datum d ↦ λ bytes s h. datums.one d bytes s h | frame.Ensemble e ↦ λ bytes s h. ensembles.one e bytes s h ];

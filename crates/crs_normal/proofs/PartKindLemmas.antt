@@ -15,15 +15,15 @@ use Rattle.crs_value.specs.declared.values.level.Level.{Level}
 use Rattle.crs_value.specs.declared.values.system_type.SystemType.{SystemType}
 use Rattle.crs_value.specs.declared.values.system_type.SystemType.TheVariants as types
 use Rattle.crs_same.specs.SameCrs.{SameCrs, SameGeodetic, SameHorizontal, SameProjected}
-use Rattle.crs_normal.specs.CanonicalForm.{IsCanonicalForm}
+use Rattle.crs_normal.specs.WrittenForm.{IsWrittenForm}
 use Rattle.crs_normal.specs.Decides.{FormDecides}
-use Rattle.crs_normal.specs.Made.{root_class}
+use Rattle.crs_normal.specs.CrsClass.{geodetic_class}
 use Rattle.crs_normal.specs.OneForm.{IsItsFormUnbroken}
 use Rattle.crs_normal.specs.PartSpellings.{IsHorizontalPart, IsSpelledGeodetic, IsSpelledHorizontal, IsSpelledProjected}
 use Rattle.crs_normal.specs.PartTexts.{geodetic_text, horizontal_text, projected_text}
 use Rattle.crs_normal.specs.SpelledCrs.{item_crs, item_geodetic, norm_crs, norm_geodetic}
 
-pub is-geodetic : (t : SystemType) → IsGeodeticClass (root_class t)
+pub is-geodetic : (t : SystemType) → IsGeodeticClass (geodetic_class t)
 is-geodetic types.Cartesian = tt
 is-geodetic types.Ellipsoidal = tt
 is-geodetic types.Spherical = tt
@@ -33,7 +33,7 @@ abbrev IsOwnGeodetic : Level → Class → Type 0
 IsOwnGeodetic level c = IsItsFormUnbroken level c ReadsGeodetic (λ g. item_geodetic (norm_geodetic level g))
 
 pub own-geodetic : (level : Level) → IsOwnGeodetic level class.GeodeticCrs → IsOwnGeodetic level class.GeographicCrs →
-    (t : SystemType) → IsOwnGeodetic level (root_class t)
+    (t : SystemType) → IsOwnGeodetic level (geodetic_class t)
 own-geodetic level geodetic geographic types.Cartesian = geodetic
 own-geodetic level geodetic geographic types.Ellipsoidal = geographic
 own-geodetic level geodetic geographic types.Spherical = geodetic
@@ -51,7 +51,7 @@ pub geodetic-told : (level : Level) → TextsDecide level →
 geodetic-told level decide forms a b p q e =
     (forms a b p q).1 (((decide (crs.Geodetic a) (crs.Geodetic b) p q).0 e).parts)
 
-module _ (level : Level) (decide : TextsDecide level) (geodetics : IsCanonicalForm IsGeodetic (SameGeodetic level) (IsSpelledGeodetic level) (geodetic_text level)) (projecteds : IsCanonicalForm IsProjected (SameProjected level) (IsSpelledProjected level) (projected_text level)) where
+module _ (level : Level) (decide : TextsDecide level) (geodetics : IsWrittenForm IsGeodetic (SameGeodetic level) (IsSpelledGeodetic level) (geodetic_text level)) (projecteds : IsWrittenForm IsProjected (SameProjected level) (IsSpelledProjected level) (projected_text level)) where
   horizontals-equal : (a b : Horizontal) → IsHorizontalPart a → IsHorizontalPart b →
       (horizontal_text level a ≡ horizontal_text level b) ↔ SameHorizontal level a b
   horizontals-equal (horizontal.Geodetic a) (horizontal.Geodetic b) p q = geodetics.equal_bytes a b p q
@@ -61,7 +61,7 @@ module _ (level : Level) (decide : TextsDecide level) (geodetics : IsCanonicalFo
       (λ e. ((decide (crs.Projected a) (crs.Geodetic b) p q).0 e).parts, λ none. absurd none)
   horizontals-equal (horizontal.Projected a) (horizontal.Projected b) p q = projecteds.equal_bytes a b p q
 
-  pub horizontals-canonical : IsCanonicalForm IsHorizontalPart (SameHorizontal level) (IsSpelledHorizontal level) (horizontal_text level)
+  pub horizontals-canonical : IsWrittenForm IsHorizontalPart (SameHorizontal level) (IsSpelledHorizontal level) (horizontal_text level)
   horizontals-canonical = record {
     spelled = elim [ horizontal.Geodetic g ↦ λ s. geodetics.spelled g s | horizontal.Projected p ↦ λ s. projecteds.spelled p s ];
     one = elim [ horizontal.Geodetic g ↦ λ bytes s h. geodetics.one g bytes s h | horizontal.Projected p ↦ λ bytes s h. projecteds.one p bytes s h ];

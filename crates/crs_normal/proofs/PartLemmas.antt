@@ -9,7 +9,7 @@ use Rattle.crs_shape.specs.Shaped.{Shaped}
 use Rattle.crs_value.specs.Checks.{Breaks, IsSound}
 use Rattle.crs_value.specs.declared.values.level.Level.{Level}
 use Rattle.crs_value.specs.Told.{IsReadAs, IsReadOnce}
-use Rattle.crs_normal.specs.CanonicalForm.{IsCanonicalForm}
+use Rattle.crs_normal.specs.WrittenForm.{IsWrittenForm}
 use Rattle.crs_normal.specs.Closed.{IsClosed}
 use Rattle.crs_normal.specs.Decides.{FormDecides}
 use Rattle.crs_normal.specs.Flat.{flat}
@@ -152,7 +152,7 @@ module _ {V : Type 0} (laws : TextLaws) (formed : SpelledFormed) (c : V → Clas
       h.written ∙ sym (flat-text h.item) ∙ ap item_text f
       ∙ ap (λ y. item_text (item y)) (sym ((known.decides x v s k).1 h.same))
 
-  pub canonical-by : IsCanonicalForm Is Same (λ x. IsSpelledBy (c x) (N x) Reads Same x) (λ x. item_text (item (form x)))
+  pub canonical-by : IsWrittenForm Is Same (λ x. IsSpelledBy (c x) (N x) Reads Same x) (λ x. item_text (item (form x)))
   canonical-by = record {
     spelled = form-spelled;
     one = form-one;
@@ -167,7 +167,7 @@ module _ {V : Type 0} (laws : TextLaws) (formed : SpelledFormed) (c : V → Clas
 
 pub canonical-form : {V : Type 0} → TextLaws → SpelledFormed → (level : Level) (c : V → Class) (Reads : Class → Item → V → Type 0) (Is : V → Type 0) (Same : V → V → Type 0) (form : V → V) (item : V → Item) →
     IsKnownBy c (λ x. IsNormalIn level (c x) (c x)) Reads Is Same form item →
-    IsCanonicalForm Is Same (λ x. IsSpelledAs level (c x) Reads Same x) (λ x. item_text (item (form x)))
+    IsWrittenForm Is Same (λ x. IsSpelledAs level (c x) Reads Same x) (λ x. item_text (item (form x)))
 canonical-form laws formed level c Reads Is Same form item known =
     canonical-by laws formed c (λ x. IsNormalIn level (c x) (c x)) Reads Is Same form item known
 
@@ -184,7 +184,7 @@ pub record IsKnownOf {V : Type 0} (level : Level) (c : Class) (most : ℕ) (Read
 
 pub canonical-of : {V : Type 0} → TextLaws → SpelledFormed → (level : Level) (c : Class) (most : ℕ) (Reads : Class → Item → V → Type 0) (Is : V → Type 0) (Same : V → V → Type 0) (form : V → V) (item : V → Item) →
     IsKnownOf level c most Reads Is Same form item →
-    IsCanonicalForm Is Same (λ x. IsSpelledAs level c Reads Same x) (λ x. item_text (item (form x)))
+    IsWrittenForm Is Same (λ x. IsSpelledAs level c Reads Same x) (λ x. item_text (item (form x)))
 canonical-of laws formed level c most Reads Is Same form item k =
     canonical-form laws formed level (λ x. c) Reads Is Same form item (record {
       decides = k.decides;

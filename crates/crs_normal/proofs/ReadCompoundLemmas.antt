@@ -21,7 +21,7 @@ use Rattle.crs_value.specs.ReadsCrs.{IsGeodeticClass, ReadsAsHorizontal, ReadsCo
 use Rattle.crs_value.specs.SoundCompound.{IsCompound, IsHorizontal}
 use Rattle.crs_value.specs.SoundCrs.{IsCrs}
 use Rattle.crs_normal.specs.LowerLaws.{LowerLaws}
-use Rattle.crs_normal.specs.ReadBack.{crs_class, geodetic_class}
+use Rattle.crs_normal.specs.CrsClass.{crs_class, geodetic_class}
 use Rattle.crs_normal.specs.SpelledCrs.{geodetic_keyword, item_compound, item_crs, item_geodetic, item_horizontal, item_projected, item_vertical, norm_compound, norm_crs, norm_geodetic, norm_horizontal, norm_projected, norm_vertical}
 use Rattle.crs_normal.specs.TextLaws.{TextLaws}
 use Rattle.crs_normal.proofs.ReadCrsLemmas.{GeodeticNames, geodetic-read, projected-read, vertical-read}

@@ -272,7 +272,7 @@ pub prime-meridian-angleunit : class_named class.PrimeMeridian (codes "ANGLEUNIT
 unfolding class_named is_keyword
 prime-meridian-angleunit = refl
 
-pub meridian-angleunit : class_named class.Meridian (codes "ANGLEUNIT") ≡ Some class.AngleUnit
+pub meridian-angleunit : class_named class.AxisMeridian (codes "ANGLEUNIT") ≡ Some class.AngleUnit
 unfolding class_named is_keyword
 meridian-angleunit = refl
 
@@ -316,7 +316,7 @@ pub vertical-ensemble-ensembleaccuracy : class_named class.VerticalEnsemble (cod
 unfolding class_named is_keyword
 vertical-ensemble-ensembleaccuracy = refl
 
-pub axis-meridian : class_named class.Axis (codes "MERIDIAN") ≡ Some class.Meridian
+pub axis-meridian : class_named class.Axis (codes "MERIDIAN") ≡ Some class.AxisMeridian
 unfolding class_named is_keyword
 axis-meridian = refl
 

@@ -32,20 +32,20 @@ use Rattle.crs_normal.proofs.ReadWalkLemmas.{IsIn, MayIn, ReadsBack, Segment, fi
 -- ---- the meridian of an axis
 
 pub axis-meridian-read : TextLaws → (level : Level) (m : AxisMeridianParts) → IsAxisMeridian m →
-    ReadsBack item_axis_meridian (ReadsAxisMeridian class.Meridian) (norm_axis_meridian level m)
+    ReadsBack item_axis_meridian (ReadsAxisMeridian class.AxisMeridian) (norm_axis_meridian level m)
 axis-meridian-read laws level m s place =
     let unit = norm_unit level kinds.Angle m.unit in
     let kept = angle-kept level m.unit s.unit in record {
       longitude = number-read laws m.longitude s.longitude 0;
       unit =
-          first-field class.Meridian class.AngleUnit (number-segment class.Meridian m.longitude ∷ []) [] refl
+          first-field class.AxisMeridian class.AngleUnit (number-segment class.AxisMeridian m.longitude ∷ []) [] refl
           (λ l. ReadsFirst (ReadsUnit class.AngleUnit) l unit) (item_unit unit)
-          (unit-in class.Meridian class.AngleUnit kinds.Angle ReadNameLemmas.meridian-angleunit unit kept.1) refl
+          (unit-in class.AxisMeridian class.AngleUnit kinds.Angle ReadNameLemmas.meridian-angleunit unit kept.1) refl
           (λ p others. unit-read laws class.AngleUnit ReadNameLemmas.angle-unit-id unit kept.0 p) (place + 8);
     }
 
 axis-meridians-read : TextLaws → (level : Level) (o : Option AxisMeridianParts) → IfSome o IsAxisMeridian →
-    IfSome (norm_axis_meridians level o) (ReadsBack item_axis_meridian (ReadsAxisMeridian class.Meridian))
+    IfSome (norm_axis_meridians level o) (ReadsBack item_axis_meridian (ReadsAxisMeridian class.AxisMeridian))
 axis-meridians-read laws level None s = tt
 axis-meridians-read laws level (Some m) s = axis-meridian-read laws level m s
 
@@ -112,14 +112,14 @@ module _ (laws : TextLaws) (level : Level) (system : SystemParts) (shared : IfSo
   abbrev axis-word : Segment class.Axis
   axis-word = one-segment class.Axis class.Word (word_item (direction_word x.direction)) (λ place. refl)
 
-  meridian-in : MayIn class.Axis class.Meridian item_axis_meridian (norm_axis_meridians level x.meridian)
+  meridian-in : MayIn class.Axis class.AxisMeridian item_axis_meridian (norm_axis_meridians level x.meridian)
   meridian-in =
-      some-all (λ m. IsIn class.Axis class.Meridian (item_axis_meridian m)) (λ m place. ReadNameLemmas.axis-meridian)
+      some-all (λ m. IsIn class.Axis class.AxisMeridian (item_axis_meridian m)) (λ m place. ReadNameLemmas.axis-meridian)
       (norm_axis_meridians level x.meridian)
 
   abbrev axis-along : Segment class.Axis
   axis-along =
-      opt-segment class.Axis class.Meridian item_axis_meridian (norm_axis_meridians level x.meridian) meridian-in
+      opt-segment class.Axis class.AxisMeridian item_axis_meridian (norm_axis_meridians level x.meridian) meridian-in
 
   order-in : MayIn class.Axis class.Order (number_node (codes "ORDER")) (Some (whole_value k))
   order-in place = ReadNameLemmas.axis-order
@@ -151,8 +151,8 @@ module _ (laws : TextLaws) (level : Level) (system : SystemParts) (shared : IfSo
     name = refl;
     direction = refl;
     meridian =
-        opt-field class.Axis class.Meridian (axis-name ∷ axis-word ∷ [])
-        (axis-order ∷ axis-unit-segment ∷ axis-identifiers ∷ []) refl item_axis_meridian (ReadsAxisMeridian class.Meridian)
+        opt-field class.Axis class.AxisMeridian (axis-name ∷ axis-word ∷ [])
+        (axis-order ∷ axis-unit-segment ∷ axis-identifiers ∷ []) refl item_axis_meridian (ReadsAxisMeridian class.AxisMeridian)
         refl refl (norm_axis_meridians level x.meridian) meridian-in
         (axis-meridians-read laws level x.meridian s.meridian) (place + 4);
     order =
@@ -184,14 +184,14 @@ module _ (laws : TextLaws) (level : Level) (x : AxisParts) (s : IsAxis x) where
   abbrev own-word : Segment class.Axis
   own-word = one-segment class.Axis class.Word (word_item (direction_word x.direction)) (λ place. refl)
 
-  own-meridian-in : MayIn class.Axis class.Meridian item_axis_meridian (norm_axis_meridians level x.meridian)
+  own-meridian-in : MayIn class.Axis class.AxisMeridian item_axis_meridian (norm_axis_meridians level x.meridian)
   own-meridian-in =
-      some-all (λ m. IsIn class.Axis class.Meridian (item_axis_meridian m)) (λ m place. ReadNameLemmas.axis-meridian)
+      some-all (λ m. IsIn class.Axis class.AxisMeridian (item_axis_meridian m)) (λ m place. ReadNameLemmas.axis-meridian)
       (norm_axis_meridians level x.meridian)
 
   abbrev own-along : Segment class.Axis
   own-along =
-      opt-segment class.Axis class.Meridian item_axis_meridian (norm_axis_meridians level x.meridian) own-meridian-in
+      opt-segment class.Axis class.AxisMeridian item_axis_meridian (norm_axis_meridians level x.meridian) own-meridian-in
 
   own-order-in : MayIn class.Axis class.Order (number_node (codes "ORDER")) x.order
   own-order-in =
@@ -222,8 +222,8 @@ module _ (laws : TextLaws) (level : Level) (x : AxisParts) (s : IsAxis x) where
     name = refl;
     direction = refl;
     meridian =
-        opt-field class.Axis class.Meridian (own-name ∷ own-word ∷ []) (own-order ∷ own-unit-segment ∷ own-identifiers ∷ [])
-        refl item_axis_meridian (ReadsAxisMeridian class.Meridian) refl refl (norm_axis_meridians level x.meridian)
+        opt-field class.Axis class.AxisMeridian (own-name ∷ own-word ∷ []) (own-order ∷ own-unit-segment ∷ own-identifiers ∷ [])
+        refl item_axis_meridian (ReadsAxisMeridian class.AxisMeridian) refl refl (norm_axis_meridians level x.meridian)
         own-meridian-in (axis-meridians-read laws level x.meridian s.meridian) (place + 4);
     order =
         opt-field class.Axis class.Order (own-name ∷ own-word ∷ own-along ∷ []) (own-unit-segment ∷ own-identifiers ∷ []) refl

@@ -6,7 +6,7 @@ use Rattle.std.proofs.lemmas.Cmp.{nat_list_cmp_total}
 use Rattle.std.proofs.lemmas.Map.Lookups.{exact_bytes}
 use Rattle.crs_value.specs.Sound.{Each}
 use Rattle.crs_same.specs.Sets.{HasSame, AllHaveSame, SameSet}
-use Rattle.crs_normal.specs.Ascending.{Ascends, Below, Has}
+use Rattle.crs_normal.specs.Ascending.{Ascends, Below, IsIn}
 use Rattle.crs_normal.specs.Ordered.{put, put_all, in_order}
 
 -- ---- the order of bytes
@@ -36,35 +36,35 @@ IsBelow bytes x y = Below (bytes x) (bytes y)
 
 -- ---- members
 
-pub each-has : {A : Type 0} (P : A → Type 0) (xs : List A) (z : A) → Each P xs → Has z xs → P z
+pub each-has : {A : Type 0} (P : A → Type 0) (xs : List A) (z : A) → Each P xs → IsIn z xs → P z
 each-has P [] z h q = absurd q
 each-has P (x ∷ xs) z h (inl e) = subst P (sym e) h.0
 each-has P (x ∷ xs) z h (inr q) = each-has P xs z h.1 q
 
-pub each-of : {A : Type 0} (P : A → Type 0) (xs : List A) → ((z : A) → Has z xs → P z) → Each P xs
+pub each-of : {A : Type 0} (P : A → Type 0) (xs : List A) → ((z : A) → IsIn z xs → P z) → Each P xs
 each-of P [] f = tt
 each-of P (x ∷ xs) f = (f x (inl refl), each-of P xs (λ z h. f z (inr h)))
 
 module _ {A : Type 0} (bytes : A → List ℕ) where
-  has-old : (x z : A) (ys : List A) → Has z ys → Has z (put bytes x ys)
+  has-old : (x z : A) (ys : List A) → IsIn z ys → IsIn z (put bytes x ys)
   has-old x z [] h = absurd h
   has-old x z (y ∷ ys) h =
-      by-order (Has z) (x ∷ y ∷ ys) (y ∷ ys) (y ∷ put bytes x ys) (slice_cmp nat_cmp (bytes x) (bytes y)) (λ e. inr h)
+      by-order (IsIn z) (x ∷ y ∷ ys) (y ∷ ys) (y ∷ put bytes x ys) (slice_cmp nat_cmp (bytes x) (bytes y)) (λ e. inr h)
       (λ e. h)
       (λ e. ⊎_elim (λ q. inl q) (λ t. inr (has-old x z ys t)) h)
 
-  has-back : (x z : A) (ys : List A) → Has z (put bytes x ys) → (z ≡ x) ⊎ Has z ys
+  has-back : (x z : A) (ys : List A) → IsIn z (put bytes x ys) → (z ≡ x) ⊎ IsIn z ys
   has-back x z [] h = h
   has-back x z (y ∷ ys) h =
-      by-order (λ l. Has z l → (z ≡ x) ⊎ Has z (y ∷ ys)) (x ∷ y ∷ ys) (y ∷ ys) (y ∷ put bytes x ys)
+      by-order (λ l. IsIn z l → (z ≡ x) ⊎ IsIn z (y ∷ ys)) (x ∷ y ∷ ys) (y ∷ ys) (y ∷ put bytes x ys)
       (slice_cmp nat_cmp (bytes x) (bytes y))
       (λ e p. p) (λ e p. inr p)
       (λ e p. ⊎_elim (λ q. inr (inl q)) (λ t. ⊎_elim (λ q. inl q) (λ u. inr (inr u)) (has-back x z ys t)) p) h
 
-  has-new : (x : A) (ys : List A) → ((y : A) → Has y ys → bytes x ≡ bytes y → x ≡ y) → Has x (put bytes x ys)
+  has-new : (x : A) (ys : List A) → ((y : A) → IsIn y ys → bytes x ≡ bytes y → x ≡ y) → IsIn x (put bytes x ys)
   has-new x [] tells = inl refl
   has-new x (y ∷ ys) tells =
-      by-order (Has x) (x ∷ y ∷ ys) (y ∷ ys) (y ∷ put bytes x ys) (slice_cmp nat_cmp (bytes x) (bytes y))
+      by-order (IsIn x) (x ∷ y ∷ ys) (y ∷ ys) (y ∷ put bytes x ys) (slice_cmp nat_cmp (bytes x) (bytes y))
       (λ e. inl refl)
       (λ e. inl (tells y (inl refl) (exact_bytes (bytes x) (bytes y) e)))
       (λ e. inr (has-new x ys (λ z h. tells z (inr h))))
@@ -92,11 +92,11 @@ module _ {A : Type 0} (bytes : A → List ℕ) where
   all-ascend sorted [] h = h
   all-ascend sorted (x ∷ xs) h = all-ascend (put bytes x sorted) xs (put-ascends x sorted h)
 
-  all-old : (z : A) (sorted xs : List A) → Has z sorted → Has z (put_all bytes sorted xs)
+  all-old : (z : A) (sorted xs : List A) → IsIn z sorted → IsIn z (put_all bytes sorted xs)
   all-old z sorted [] h = h
   all-old z sorted (x ∷ xs) h = all-old z (put bytes x sorted) xs (has-old x z sorted h)
 
-  all-back : (z : A) (sorted xs : List A) → Has z (put_all bytes sorted xs) → Has z sorted ⊎ Has z xs
+  all-back : (z : A) (sorted xs : List A) → IsIn z (put_all bytes sorted xs) → IsIn z sorted ⊎ IsIn z xs
   all-back z sorted [] h = inl h
   all-back z sorted (x ∷ xs) h =
       ⊎_elim (λ q. ⊎_elim (λ e. inr (inl e)) (λ t. inl t) (has-back x z sorted q)) (λ t. inr (inr t))
@@ -106,12 +106,12 @@ module _ {A : Type 0} (bytes : A → List ℕ) where
   abbrev pub Tells : (A → Type 0) → Type 0
   Tells P = (a b : A) → P a → P b → bytes a ≡ bytes b → a ≡ b
 
-  all-new : (P : A → Type 0) → Tells P → (z : A) (sorted xs : List A) → Each P sorted → Each P xs → Has z xs →
-      Has z (put_all bytes sorted xs)
+  all-new : (P : A → Type 0) → Tells P → (z : A) (sorted xs : List A) → Each P sorted → Each P xs → IsIn z xs →
+      IsIn z (put_all bytes sorted xs)
   all-new P tells z sorted [] s h q = absurd q
   all-new P tells z sorted (x ∷ xs) s h (inl e) =
       all-old z (put bytes x sorted) xs
-      (subst (λ w. Has w (put bytes x sorted)) (sym e)
+      (subst (λ w. IsIn w (put bytes x sorted)) (sym e)
       (has-new x sorted (λ y q. tells x y h.0 (each-has P sorted y s q))))
   all-new P tells z sorted (x ∷ xs) s h (inr q) =
       all-new P tells z (put bytes x sorted) xs (each-put P x sorted h.0 s) h.1 q
@@ -121,19 +121,19 @@ module _ {A : Type 0} (bytes : A → List ℕ) where
   pub in_order-ascends : (xs : List A) → Ascends bytes (in_order bytes xs)
   in_order-ascends xs = all-ascend [] xs tt
 
-  pub in_order-back : (z : A) (xs : List A) → Has z (in_order bytes xs) → Has z xs
+  pub in_order-back : (z : A) (xs : List A) → IsIn z (in_order bytes xs) → IsIn z xs
   in_order-back z xs h = ⊎_elim (λ q. absurd q) (λ t. t) (all-back z [] xs h)
 
-  pub in_order-has : (P : A → Type 0) → Tells P → (z : A) (xs : List A) → Each P xs → Has z xs →
-      Has z (in_order bytes xs)
+  pub in_order-has : (P : A → Type 0) → Tells P → (z : A) (xs : List A) → Each P xs → IsIn z xs →
+      IsIn z (in_order bytes xs)
   in_order-has P tells z xs h q = all-new P tells z [] xs tt h q
 
   pub each-in_order : (P : A → Type 0) (xs : List A) → Each P xs → Each P (in_order bytes xs)
   each-in_order P xs h = each-of P (in_order bytes xs) (λ z q. each-has P xs z h (in_order-back z xs q))
 
   -- lists that ascend and have the same members are equal
-  pub ascending-one : (xs ys : List A) → Ascends bytes xs → Ascends bytes ys → ((z : A) → Has z xs → Has z ys) →
-      ((z : A) → Has z ys → Has z xs) →
+  pub ascending-one : (xs ys : List A) → Ascends bytes xs → Ascends bytes ys → ((z : A) → IsIn z xs → IsIn z ys) →
+      ((z : A) → IsIn z ys → IsIn z xs) →
       xs ≡ ys
   ascending-one [] [] a b f g = refl
   ascending-one [] (y ∷ ys) a b f g = absurd (g y (inl refl))
@@ -144,7 +144,7 @@ module _ {A : Type 0} (bytes : A → List ℕ) where
       (λ z q. later y x ys xs z b.0 (sym h) q (g z (inr q))) in
       λ i. h i ∷ t i
     where
-      head : Has x (y ∷ ys) → Has y (x ∷ xs) → x ≡ y
+      head : IsIn x (y ∷ ys) → IsIn y (x ∷ xs) → x ≡ y
       head (inl e) q = e
       head (inr p) (inl e) = sym e
       head (inr p) (inr q) =
@@ -152,15 +152,15 @@ module _ {A : Type 0} (bytes : A → List ℕ) where
           (below-both (bytes x) (bytes y) (each-has (λ z. Below (bytes x) (bytes z)) xs y a.0 q)
           (each-has (λ z. Below (bytes y) (bytes z)) ys x b.0 p))
 
-      later : (v w : A) (vs ws : List A) (z : A) → Each (λ u. Below (bytes v) (bytes u)) vs → v ≡ w → Has z vs →
-          Has z (w ∷ ws) → Has z ws
+      later : (v w : A) (vs ws : List A) (z : A) → Each (λ u. Below (bytes v) (bytes u)) vs → v ≡ w → IsIn z vs →
+          IsIn z (w ∷ ws) → IsIn z ws
       later v w vs ws z s e q (inl p) =
           absurd
           (below-self (bytes v)
           (subst (λ u. Below (bytes v) (bytes u)) (p ∙ sym e) (each-has (λ u. Below (bytes v) (bytes u)) vs z s q)))
       later v w vs ws z s e q (inr p) = p
 
-  ascending-tells : (xs : List A) → Ascends bytes xs → Tells (λ z. Has z xs)
+  ascending-tells : (xs : List A) → Ascends bytes xs → Tells (λ z. IsIn z xs)
   ascending-tells [] s a b p q e = absurd p
   ascending-tells (x ∷ xs) s a b (inl p) (inl q) e = p ∙ sym q
   ascending-tells (x ∷ xs) s a b (inl p) (inr q) e =
@@ -177,7 +177,7 @@ module _ {A : Type 0} (bytes : A → List ℕ) where
   pub in_order-of : (xs : List A) → Ascends bytes xs → in_order bytes xs ≡ xs
   in_order-of xs s =
       ascending-one (in_order bytes xs) xs (in_order-ascends xs) s (λ z h. in_order-back z xs h)
-      (λ z h. in_order-has (λ w. Has w xs) (ascending-tells xs s) z xs (each-of (λ w. Has w xs) xs (λ w q. q)) h)
+      (λ z h. in_order-has (λ w. IsIn w xs) (ascending-tells xs s) z xs (each-of (λ w. IsIn w xs) xs (λ w q. q)) h)
 
 -- ---- sets: in order, the normal members are the same list exactly where the sets are the same
 
@@ -190,26 +190,26 @@ module _ {V A : Type 0} (norm : V → A) (bytes : A → List ℕ) (Q : V → Typ
   abbrev pub NormTells : Type 0
   NormTells = (a b : V) → Q a → Q b → bytes (norm a) ≡ bytes (norm b) → norm a ≡ norm b
 
-  has-to : Agrees → (x : V) (ys : List V) → Q x → Each Q ys → Has (norm x) (map norm ys) → HasSame Same x ys
+  has-to : Agrees → (x : V) (ys : List V) → Q x → Each Q ys → IsIn (norm x) (map norm ys) → HasSame Same x ys
   has-to agree x [] q h p = absurd p
   has-to agree x (y ∷ ys) q h (inl e) = inl ((agree x y q h.0).0 e)
   has-to agree x (y ∷ ys) q h (inr p) = inr (has-to agree x ys q h.1 p)
 
-  has-from : Agrees → (x : V) (ys : List V) → Q x → Each Q ys → HasSame Same x ys → Has (norm x) (map norm ys)
+  has-from : Agrees → (x : V) (ys : List V) → Q x → Each Q ys → HasSame Same x ys → IsIn (norm x) (map norm ys)
   has-from agree x [] q h p = absurd p
   has-from agree x (y ∷ ys) q h (inl s) = inl ((agree x y q h.0).1 s)
   has-from agree x (y ∷ ys) q h (inr p) = inr (has-from agree x ys q h.1 p)
 
-  all-to : Agrees → (xs ys : List V) → Each Q xs → Each Q ys → ((z : A) → Has z (map norm xs) → Has z (map norm ys)) →
+  all-to : Agrees → (xs ys : List V) → Each Q xs → Each Q ys → ((z : A) → IsIn z (map norm xs) → IsIn z (map norm ys)) →
       AllHaveSame Same xs ys
   all-to agree [] ys g h f = tt
   all-to agree (x ∷ xs) ys g h f =
       (has-to agree x ys g.0 h (f (norm x) (inl refl)), all-to agree xs ys g.1 h (λ z p. f z (inr p)))
 
   all-from : Agrees → (xs ys : List V) → Each Q xs → Each Q ys → AllHaveSame Same xs ys → (z : A) →
-      Has z (map norm xs) → Has z (map norm ys)
+      IsIn z (map norm xs) → IsIn z (map norm ys)
   all-from agree [] ys g h s z p = absurd p
-  all-from agree (x ∷ xs) ys g h s z (inl e) = subst (λ w. Has w (map norm ys)) (sym e) (has-from agree x ys g.0 h s.0)
+  all-from agree (x ∷ xs) ys g h s z (inl e) = subst (λ w. IsIn w (map norm ys)) (sym e) (has-from agree x ys g.0 h s.0)
   all-from agree (x ∷ xs) ys g h s z (inr p) = all-from agree xs ys g.1 h s.1 z p
 
   -- the normal value of one of this kind
@@ -224,13 +224,13 @@ module _ {V A : Type 0} (norm : V → A) (bytes : A → List ℕ) (Q : V → Typ
   norm-tells tells a b p q e = sym p.2 ∙ tells p.0 q.0 p.1 q.1 (ap bytes p.2 ∙ e ∙ sym (ap bytes q.2)) ∙ q.2
 
   moved : NormTells → (xs ys : List V) → Each Q xs → in_order bytes (map norm xs) ≡ in_order bytes (map norm ys) →
-      (z : A) → Has z (map norm xs) → Has z (map norm ys)
+      (z : A) → IsIn z (map norm xs) → IsIn z (map norm ys)
   moved tells xs ys g e z p =
       in_order-back bytes z (map norm ys)
-      (subst (λ l. Has z l) e (in_order-has bytes IsNormOf (norm-tells tells) z (map norm xs) (norms xs g) p))
+      (subst (λ l. IsIn z l) e (in_order-has bytes IsNormOf (norm-tells tells) z (map norm xs) (norms xs g) p))
 
   kept : Agrees → NormTells → (xs ys : List V) → Each Q xs → Each Q ys → AllHaveSame Same xs ys →
-      (z : A) → Has z (in_order bytes (map norm xs)) → Has z (in_order bytes (map norm ys))
+      (z : A) → IsIn z (in_order bytes (map norm xs)) → IsIn z (in_order bytes (map norm ys))
   kept agree tells xs ys g h s z p =
       in_order-has bytes IsNormOf (norm-tells tells) z (map norm ys) (norms ys h)
       (all-from agree xs ys g h s z (in_order-back bytes z (map norm xs) p))

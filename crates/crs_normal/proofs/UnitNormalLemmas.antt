@@ -16,7 +16,7 @@ use Rattle.crs_value.specs.declared.values.level.Level.{Level}
 use Rattle.crs_value.specs.declared.values.unit_kind.UnitKind.{UnitKind}
 use Rattle.crs_value.specs.declared.values.unit_kind.UnitKind.TheVariants as kinds
 use Rattle.crs_same.specs.SameUnits.{kind_as}
-use Rattle.crs_normal.specs.Normal.{IsNormalIn, IsWritten}
+use Rattle.crs_normal.specs.Normal.{IsNormalIn, IsFirstKeyword}
 use Rattle.crs_normal.specs.NormalOwn.{Ascend}
 use Rattle.crs_value.specs.Sound.{Each}
 use Rattle.crs_normal.specs.Ordered.{in_order}
@@ -77,7 +77,7 @@ idents-ordered level parent c (node place keyword square first others close) ide
 
 -- a keyword of the class is a kind's word, and that kind stays as it is where this one is asked
 abbrev pub KindIn : UnitKind → Class → Type 0
-KindIn asked d = (keyword : List ℕ) → IsWritten d keyword →
+KindIn asked d = (keyword : List ℕ) → IsFirstKeyword d keyword →
     (k : UnitKind) × ((keyword ≡ unit_word k) × (kind_as asked k ≡ k))
 
 pub in-length : (asked : UnitKind) → KindIn asked class.LengthUnit

@@ -10,7 +10,7 @@ use Rattle.std.proofs.lemmas.Str.Parse.{IsNumeralModel, numerals_by_fold}
 use Rattle.crs_decimal.specs.Bounds.{Denotes, digits_value, number_of}
 use Rattle.crs_decimal.specs.Number.{SameNumber, whole_number}
 use Rattle.crs_decimal.specs.Plain.{IsPlain, IsTrim, plain}
-use Rattle.crs_decimal.specs.Spelling.{AreDigits, Parts, Spells, text, unsigned}
+use Rattle.crs_decimal.specs.Spelling.{AreDigits, Parts, SpellsNumber, parts_text, unsigned}
 use Rattle.crs_decimal.specs.Value.{Value, IsNormal, exact}
 use Rattle.crs_normal.specs.LowerLaws.{LowerLaws}
 use Rattle.crs_normal.specs.SpelledSystems.{is_number}
@@ -37,10 +37,10 @@ decimal-trim n l = elim (cases_lt 0 n) [
 abbrev parts_of : ℕ → Parts
 parts_of n = record { sign = unsigned; whole = decimal n; fraction = None; exponent = None }
 
-text-is : (n : ℕ) → text (parts_of n) ≡ decimal n
+text-is : (n : ℕ) → parts_text (parts_of n) ≡ decimal n
 text-is n = simp append-nil
 
-decimal-spells : (n : ℕ) → n < 10 ^ 18 → Spells (decimal n) (parts_of n)
+decimal-spells : (n : ℕ) → n < 10 ^ 18 → SpellsNumber (decimal n) (parts_of n)
 decimal-spells n l = (
   sym (text-is n),
   record {

@@ -6,9 +6,9 @@ use Rattle.std.specs.declared.cmp.Ordering.TheVariants.{Less}
 use Rattle.crs_value.specs.Sound.{Each}
 
 -- x is one of these
-abbrev pub Has : {A : Type 0} → A → List A → Type 0
-Has x [] = ⊥
-Has x (y ∷ ys) = (x ≡ y) ⊎ Has x ys
+abbrev pub IsIn : {A : Type 0} → A → List A → Type 0
+IsIn x [] = ⊥
+IsIn x (y ∷ ys) = (x ≡ y) ⊎ IsIn x ys
 
 -- the one bytes are below the others
 abbrev pub Below : List ℕ → List ℕ → Type 0

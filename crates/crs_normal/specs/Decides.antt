@@ -1,4 +1,5 @@
--- A bridge: that one form decides sameness: two values have the same form exactly where they are the same.
+-- A bridge: that one form decides sameness: two values have the same form exactly where they are
+-- the same.
 use Rattle.std.specs.Prelude.{◌≡◌, ◌↔◌, ◌<◌, ◌^◌, length, Option, IfSome}
 use Rattle.crs_value.specs.Sound.{Each, IsIdent}
 use Rattle.crs_value.specs.SoundConversion.{IsGeoidModel, IsParameter}
@@ -28,13 +29,15 @@ FormDecides Is form Same = (a b : _) → Is a → Is b → (form a ≡ form b) �
 -- the forms of the sets decide which sets are the same
 pub record SetsDecide : Type 0 where
   pub idents : (level : Level) → FormDecides (Each IsIdent) (set_idents level) (SameIdents level)
-  pub members : (level : Level) → FormDecides (Each IsMember) (set_members level) (SameSet (SameMember level))
+  pub members : (level : Level) →
+      FormDecides (Each IsMember) (set_members level) (SameSet (SameMember level))
   pub parameters : (level : Level) →
       FormDecides (Each IsParameter) (set_parameters level) (SameSet (SameParameter level))
   pub geoid_models : (level : Level) →
       FormDecides (Each IsGeoidModel) (set_geoid_models level) (SameSet (SameGeoidModel level))
   pub usages : (level : Level) →
-      FormDecides (Each IsUsage) (set_usages level) (λ xs ys. SameSet SameUsage (kept level xs) (kept level ys))
+      FormDecides (Each IsUsage) (set_usages level)
+      (λ xs ys. SameSet SameUsage (kept level xs) (kept level ys))
 
 -- a part that may be missing, with what is asked of it where it is there
 abbrev pub Maybe : {A : Type 0} → (A → Type 0) → Option A → Type 0

@@ -12,7 +12,9 @@ pub record DecimalLaws : Type 0 where
   pub denotes_one : (bytes : List ℕ) (a b : Value) → IsNormal a → IsNormal b →
       Denotes bytes (exact a) → Denotes bytes (exact b) → a ≡ b
   pub as_run : (bytes : List ℕ) → HasForm bytes → IsRun bytes
-  pub digits_alone : (bytes : List ℕ) → AreDigits bytes → 0 < length bytes → length bytes ≤ 18 → IsInBounds bytes
-  pub normal_one : (a b : Value) → IsNormal a → IsNormal b → SameNumber (exact a) (exact b) ↔ (a ≡ b)
+  pub digits_alone : (bytes : List ℕ) → AreDigits bytes → 0 < length bytes → length bytes ≤ 18 →
+      IsInBounds bytes
+  pub normal_one : (a b : Value) → IsNormal a → IsNormal b →
+      SameNumber (exact a) (exact b) ↔ (a ≡ b)
   pub symmetric : (a b : Number) → SameNumber a b → SameNumber b a
   pub transitive : (a b c : Number) → SameNumber a b → SameNumber b c → SameNumber a c

@@ -1,58 +1,264 @@
--- What is normal, on the height VERTCRS["H",VDATUM["D"],CS[vertical,1],AXIS["h",up,ORDER[1],LENGTHUNIT["metre",1]]]
--- and on items that differ from it in one point each.
-use Rattle.std.specs.Prelude.{ℕ, List, codes}
-use Rattle.crs_text.specs.Items.{Item, leaf, Siblings, End, More}
-use Rattle.crs_text.specs.Tokens.{number}
-use Rattle.crs_shape.specs.declared.class.Class.TheVariants as class
+-- Texts that are normal, and texts that differ from one of these in one point each and aren't.
+use Rattle.std.specs.Prelude.{◌≡◌, ℕ, List, ◌++◌, codes}
+use Rattle.crs_text.specs.Items.{Item}
+use Rattle.crs_text.specs.TextFault.{SpellsNode}
+use Rattle.crs_text.specs.Written.{item_text}
+use Rattle.crs_value.specs.SpellsText.{Spells}
+use Rattle.crs_value.specs.declared.values.crs.Crs.{Crs}
 use Rattle.crs_value.specs.declared.values.level.Level.TheVariants as levels
-use Rattle.crs_normal.specs.Normal.{IsNormalIn}
-use Rattle.crs_normal.specs.SpelledItems.{node_of, text_item, text_node, word_item}
+use Rattle.crs_normal.specs.Normal.{IsNormalText}
 
-abbrev pub number_leaf : List ℕ → Item
-number_leaf raw = leaf number 0 raw
+-- the text is normal where everything counts
+abbrev pub IsNormal : List ℕ → Type 0
+IsNormal text = IsNormalText levels.Full text
 
-abbrev pub unit : List ℕ → List ℕ → Item
-unit keyword factor = node_of keyword (text_item (codes "metre")) (More (number_leaf factor) End)
+-- the text is a node without white space and in square delimiters, and isn't normal
+pub record IsWrittenOtherwise (text : List ℕ) : Type 0 where
+  pub item : Item
+  pub spells : SpellsNode text item
+  pub written : text ≡ item_text item
+  pub otherwise : ¬ (IsNormal text)
 
--- an axis with these further arguments
-abbrev pub axis : Siblings → Item
-axis others = node_of (codes "AXIS") (text_item (codes "h")) (More (word_item (codes "up")) others)
+-- ---- normal texts
 
-abbrev pub order : List ℕ → Item
-order raw = node_of (codes "ORDER") (number_leaf raw) End
+-- a height
+abbrev pub height : List ℕ
+height =
+    codes "VERTCRS[\"H\",VDATUM[\"D\"],CS[vertical,1],"
+    ++ codes "AXIS[\"h\",up,ORDER[1],LENGTHUNIT[\"metre\",1]]]"
 
-abbrev pub system : Item
-system = node_of (codes "CS") (word_item (codes "vertical")) (More (number_leaf (codes "1")) End)
+-- latitude and longitude on a sphere
+abbrev pub geographic : List ℕ
+geographic =
+    codes "GEOGCRS[\"A\",DATUM[\"D\",ELLIPSOID[\"E\",6378137,0,LENGTHUNIT[\"metre\",1]]],"
+    ++ codes "PRIMEM[\"Greenwich\",0],CS[ellipsoidal,2],"
+    ++ codes "AXIS[\"lat\",north,ORDER[1],ANGLEUNIT[\"degree\",0.0174532925199433]],"
+    ++ codes "AXIS[\"lon\",east,ORDER[2],ANGLEUNIT[\"degree\",0.0174532925199433]]]"
 
-abbrev pub ident : Item → Item
-ident code = node_of (codes "ID") (text_item (codes "A")) (More code End)
+-- WGS 84 with its ensemble
+abbrev pub wgs_84 : List ℕ
+wgs_84 =
+    codes "GEOGCRS[\"WGS 84\",ENSEMBLE[\"World Geodetic System 1984 ensemble\","
+    ++ codes "MEMBER[\"World Geodetic System 1984 (G1150)\"],"
+    ++ codes "MEMBER[\"World Geodetic System 1984 (G1674)\"],"
+    ++ codes "MEMBER[\"World Geodetic System 1984 (G1762)\"],"
+    ++ codes "MEMBER[\"World Geodetic System 1984 (G2139)\"],"
+    ++ codes "MEMBER[\"World Geodetic System 1984 (G730)\"],"
+    ++ codes "MEMBER[\"World Geodetic System 1984 (G873)\"],"
+    ++ codes "MEMBER[\"World Geodetic System 1984 (Transit)\"],"
+    ++ codes "ELLIPSOID[\"WGS 84\",6378137,298.257223563,LENGTHUNIT[\"metre\",1]],"
+    ++ codes "ENSEMBLEACCURACY[2]],"
+    ++ codes "PRIMEM[\"Greenwich\",0],CS[ellipsoidal,2],"
+    ++ codes "AXIS[\"Geodetic latitude (Lat)\",north,"
+    ++ codes "ORDER[1],ANGLEUNIT[\"degree\",0.0174532925199433]],"
+    ++ codes "AXIS[\"Geodetic longitude (Lon)\",east,"
+    ++ codes "ORDER[2],ANGLEUNIT[\"degree\",0.0174532925199433]],"
+    ++ codes "USAGE[SCOPE[\"Horizontal component of 3D system.\"],AREA[\"World.\"],"
+    ++ codes "BBOX[-90,-180,90,180]],ID[\"EPSG\",4326]]"
 
--- a vertical CRS of this keyword, this axis, and what stands behind it
-abbrev pub height : List ℕ → Item → Siblings → Item
-height keyword axis tail =
-    node_of keyword (text_item (codes "H")) (More (text_node (codes "VDATUM") (codes "D"))
-    (More system (More axis tail)))
+-- a zone of UTM
+abbrev pub utm_zone : List ℕ
+utm_zone =
+    codes "PROJCRS[\"ETRS89 / UTM zone 32N\",BASEGEOGCRS[\"ETRS89\","
+    ++ codes "DATUM[\"European Terrestrial Reference System 1989\","
+    ++ codes "ELLIPSOID[\"GRS 1980\",6378137,298.257222101,LENGTHUNIT[\"metre\",1]]],"
+    ++ codes "PRIMEM[\"Greenwich\",0],ID[\"EPSG\",4258]],"
+    ++ codes "CONVERSION[\"UTM zone 32N\",METHOD[\"Transverse Mercator\",ID[\"EPSG\",9807]],"
+    ++ codes "PARAMETER[\"False easting\",500000,LENGTHUNIT[\"metre\",1]],"
+    ++ codes "PARAMETER[\"False northing\",0,LENGTHUNIT[\"metre\",1]],"
+    ++ codes "PARAMETER[\"Latitude of natural origin\",0,ANGLEUNIT[\"degree\",0.0174532925199433]],"
+    ++ codes "PARAMETER[\"Longitude of natural origin\",9,"
+    ++ codes "ANGLEUNIT[\"degree\",0.0174532925199433]],"
+    ++ codes "PARAMETER[\"Scale factor at natural origin\",0.9996,SCALEUNIT[\"unity\",1]]],"
+    ++ codes "CS[Cartesian,2],AXIS[\"Easting (E)\",east,ORDER[1],LENGTHUNIT[\"metre\",1]],"
+    ++ codes "AXIS[\"Northing (N)\",north,ORDER[2],LENGTHUNIT[\"metre\",1]],ID[\"EPSG\",25832]]"
 
-abbrev pub full_axis : Item
-full_axis = axis (More (order (codes "1")) (More (unit (codes "LENGTHUNIT") (codes "1")) End))
+-- latitude and longitude with a height
+abbrev pub with_height : List ℕ
+with_height =
+    codes "COMPOUNDCRS[\"ETRS89 + DHHN2016 height\",GEOGCRS[\"ETRS89\","
+    ++ codes "DATUM[\"European Terrestrial Reference System 1989\","
+    ++ codes "ELLIPSOID[\"GRS 1980\",6378137,298.257222101,LENGTHUNIT[\"metre\",1]]],"
+    ++ codes "PRIMEM[\"Greenwich\",0],CS[ellipsoidal,2],"
+    ++ codes "AXIS[\"Geodetic latitude (Lat)\",north,"
+    ++ codes "ORDER[1],ANGLEUNIT[\"degree\",0.0174532925199433]],"
+    ++ codes "AXIS[\"Geodetic longitude (Lon)\",east,"
+    ++ codes "ORDER[2],ANGLEUNIT[\"degree\",0.0174532925199433]]],"
+    ++ codes "VERTCRS[\"DHHN2016 height\",VDATUM[\"Deutsches Haupthoehennetz 2016\"],"
+    ++ codes "CS[vertical,1],"
+    ++ codes "AXIS[\"Gravity-related height (H)\",up,ORDER[1],LENGTHUNIT[\"metre\",1]]],"
+    ++ codes "REMARK[\"Heights are normal heights.\"]]"
 
-abbrev pub IsNormal : Item → Type 0
-IsNormal item = IsNormalIn levels.Full class.VerticalCrs class.VerticalCrs item
+-- these are normal
+abbrev pub AreNormal : Type 0
+AreNormal =
+    IsNormal height
+    × IsNormal geographic
+    × IsNormal wgs_84
+    × IsNormal utm_zone
+    × IsNormal with_height
 
--- the canonical text of the height
-abbrev pub HeightIsNormal : Type 0
-HeightIsNormal = IsNormal (height (codes "VERTCRS") full_axis End)
+-- a vertical CRS with its name alone
+abbrev pub name_alone : List ℕ
+name_alone = codes "VERTCRS[\"H\"]"
 
--- with a second keyword; without the order; with the shared keyword of a unit; with a factor that isn't plain; with a
--- short code in quotes; with two identifiers in the wrong order, and with one twice
-abbrev pub OthersAreNot : Type 0
-OthersAreNot =
-    ¬ (IsNormal (height (codes "VERTICALCRS") full_axis End))
-    × ¬ (IsNormal (height (codes "VERTCRS") (axis (More (unit (codes "LENGTHUNIT") (codes "1")) End)) End))
-    × ¬ (IsNormal (height (codes "VERTCRS")
-    (axis (More (order (codes "1")) (More (unit (codes "UNIT") (codes "1")) End))) End))
-    × ¬ (IsNormal (height (codes "VERTCRS") full_axis (More (ident (text_item (codes "1"))) End)))
-    × ¬ (IsNormal (height (codes "VERTCRS") full_axis
-    (More (ident (number_leaf (codes "2"))) (More (ident (number_leaf (codes "1"))) End))))
-    × ¬ (IsNormal (height (codes "VERTCRS") full_axis
-    (More (ident (number_leaf (codes "1"))) (More (ident (number_leaf (codes "1"))) End))))
+-- it is normal, and spells no CRS, for normal is what is asked beyond acceptance
+abbrev pub NameAloneIsNormal : Type 0
+NameAloneIsNormal = IsNormal name_alone × ((crs : Crs) → ¬ (Spells name_alone crs))
+
+-- ---- texts that differ from the height above in one point each
+
+-- the second keyword of a vertical CRS
+abbrev pub second_keyword : List ℕ
+second_keyword =
+    codes "VERTICALCRS[\"H\",VDATUM[\"D\"],CS[vertical,1],"
+    ++ codes "AXIS[\"h\",up,ORDER[1],LENGTHUNIT[\"metre\",1]]]"
+
+-- an axis without its order
+abbrev pub no_order : List ℕ
+no_order =
+    codes "VERTCRS[\"H\",VDATUM[\"D\"],CS[vertical,1],"
+    ++ codes "AXIS[\"h\",up,LENGTHUNIT[\"metre\",1]]]"
+
+-- the keyword of a unit that doesn't say its kind
+abbrev pub unit_of_no_kind : List ℕ
+unit_of_no_kind =
+    codes "VERTCRS[\"H\",VDATUM[\"D\"],CS[vertical,1],"
+    ++ codes "AXIS[\"h\",up,ORDER[1],UNIT[\"metre\",1]]]"
+
+-- a unit behind the axes
+abbrev pub shared_unit : List ℕ
+shared_unit =
+    codes "VERTCRS[\"H\",VDATUM[\"D\"],CS[vertical,1],"
+    ++ codes "AXIS[\"h\",up,ORDER[1]],LENGTHUNIT[\"metre\",1]]"
+
+-- a factor that isn't plain
+abbrev pub factor_with_zero : List ℕ
+factor_with_zero =
+    codes "VERTCRS[\"H\",VDATUM[\"D\"],CS[vertical,1],"
+    ++ codes "AXIS[\"h\",up,ORDER[1],LENGTHUNIT[\"metre\",1.0]]]"
+
+-- a direction in capitals
+abbrev pub capital_direction : List ℕ
+capital_direction =
+    codes "VERTCRS[\"H\",VDATUM[\"D\"],CS[vertical,1],"
+    ++ codes "AXIS[\"h\",UP,ORDER[1],LENGTHUNIT[\"metre\",1]]]"
+
+-- a short code in quotes
+abbrev pub quoted_code : List ℕ
+quoted_code =
+    codes "VERTCRS[\"H\",VDATUM[\"D\"],CS[vertical,1],"
+    ++ codes "AXIS[\"h\",up,ORDER[1],LENGTHUNIT[\"metre\",1]],ID[\"A\",\"1\"]]"
+
+-- 19 digits without quotes as a code
+abbrev pub long_code : List ℕ
+long_code =
+    codes "VERTCRS[\"H\",VDATUM[\"D\"],CS[vertical,1],"
+    ++ codes "AXIS[\"h\",up,ORDER[1],LENGTHUNIT[\"metre\",1]],ID[\"A\",1234567890123456789]]"
+
+-- two identifiers in the wrong order
+abbrev pub identifiers_fall : List ℕ
+identifiers_fall =
+    codes "VERTCRS[\"H\",VDATUM[\"D\"],CS[vertical,1],"
+    ++ codes "AXIS[\"h\",up,ORDER[1],LENGTHUNIT[\"metre\",1]],ID[\"A\",2],ID[\"A\",1]]"
+
+-- one identifier twice
+abbrev pub identifier_twice : List ℕ
+identifier_twice =
+    codes "VERTCRS[\"H\",VDATUM[\"D\"],CS[vertical,1],"
+    ++ codes "AXIS[\"h\",up,ORDER[1],LENGTHUNIT[\"metre\",1]],ID[\"A\",1],ID[\"A\",1]]"
+
+-- a part of a usage outside of one
+abbrev pub bare_scope : List ℕ
+bare_scope =
+    codes "VERTCRS[\"H\",VDATUM[\"D\"],CS[vertical,1],"
+    ++ codes "AXIS[\"h\",up,ORDER[1],LENGTHUNIT[\"metre\",1]],SCOPE[\"s\"]]"
+
+-- two usages in the wrong order
+abbrev pub usages_fall : List ℕ
+usages_fall =
+    codes "VERTCRS[\"H\",VDATUM[\"D\"],CS[vertical,1],"
+    ++ codes "AXIS[\"h\",up,ORDER[1],LENGTHUNIT[\"metre\",1]],"
+    ++ codes "USAGE[SCOPE[\"t\"]],USAGE[SCOPE[\"s\"]]]"
+
+-- one usage twice
+abbrev pub usage_twice : List ℕ
+usage_twice =
+    codes "VERTCRS[\"H\",VDATUM[\"D\"],CS[vertical,1],"
+    ++ codes "AXIS[\"h\",up,ORDER[1],LENGTHUNIT[\"metre\",1]],"
+    ++ codes "USAGE[SCOPE[\"s\"]],USAGE[SCOPE[\"s\"]]]"
+
+-- a remark before an identifier
+abbrev pub remark_first : List ℕ
+remark_first =
+    codes "VERTCRS[\"H\",VDATUM[\"D\"],CS[vertical,1],"
+    ++ codes "AXIS[\"h\",up,ORDER[1],LENGTHUNIT[\"metre\",1]],REMARK[\"r\"],ID[\"A\",1]]"
+
+-- each of these spells a node, and none is normal
+abbrev pub HeightsWrittenOtherwise : Type 0
+HeightsWrittenOtherwise =
+    IsWrittenOtherwise second_keyword
+    × IsWrittenOtherwise no_order
+    × IsWrittenOtherwise unit_of_no_kind
+    × IsWrittenOtherwise shared_unit
+    × IsWrittenOtherwise factor_with_zero
+    × IsWrittenOtherwise capital_direction
+    × IsWrittenOtherwise quoted_code
+    × IsWrittenOtherwise long_code
+    × IsWrittenOtherwise identifiers_fall
+    × IsWrittenOtherwise identifier_twice
+    × IsWrittenOtherwise bare_scope
+    × IsWrittenOtherwise usages_fall
+    × IsWrittenOtherwise usage_twice
+    × IsWrittenOtherwise remark_first
+
+-- ---- texts that differ from the geographic CRS above in one point each
+
+-- a prime meridian at longitude 0 with a unit
+abbrev pub meridian_with_unit : List ℕ
+meridian_with_unit =
+    codes "GEOGCRS[\"A\",DATUM[\"D\",ELLIPSOID[\"E\",6378137,0,LENGTHUNIT[\"metre\",1]]],"
+    ++ codes "PRIMEM[\"Greenwich\",0,ANGLEUNIT[\"degree\",0.0174532925199433]],CS[ellipsoidal,2],"
+    ++ codes "AXIS[\"lat\",north,ORDER[1],ANGLEUNIT[\"degree\",0.0174532925199433]],"
+    ++ codes "AXIS[\"lon\",east,ORDER[2],ANGLEUNIT[\"degree\",0.0174532925199433]]]"
+
+-- no prime meridian
+abbrev pub no_meridian : List ℕ
+no_meridian =
+    codes "GEOGCRS[\"A\",DATUM[\"D\",ELLIPSOID[\"E\",6378137,0,LENGTHUNIT[\"metre\",1]]],"
+    ++ codes "CS[ellipsoidal,2],"
+    ++ codes "AXIS[\"lat\",north,ORDER[1],ANGLEUNIT[\"degree\",0.0174532925199433]],"
+    ++ codes "AXIS[\"lon\",east,ORDER[2],ANGLEUNIT[\"degree\",0.0174532925199433]]]"
+
+-- the keyword of a geodetic CRS for a geographic one
+abbrev pub geodetic_keyword : List ℕ
+geodetic_keyword =
+    codes "GEODCRS[\"A\",DATUM[\"D\",ELLIPSOID[\"E\",6378137,0,LENGTHUNIT[\"metre\",1]]],"
+    ++ codes "PRIMEM[\"Greenwich\",0],CS[ellipsoidal,2],"
+    ++ codes "AXIS[\"lat\",north,ORDER[1],ANGLEUNIT[\"degree\",0.0174532925199433]],"
+    ++ codes "AXIS[\"lon\",east,ORDER[2],ANGLEUNIT[\"degree\",0.0174532925199433]]]"
+
+-- an ellipsoid without its unit
+abbrev pub no_unit_of_ellipsoid : List ℕ
+no_unit_of_ellipsoid =
+    codes "GEOGCRS[\"A\",DATUM[\"D\",ELLIPSOID[\"E\",6378137,0]],"
+    ++ codes "PRIMEM[\"Greenwich\",0],CS[ellipsoidal,2],"
+    ++ codes "AXIS[\"lat\",north,ORDER[1],ANGLEUNIT[\"degree\",0.0174532925199433]],"
+    ++ codes "AXIS[\"lon\",east,ORDER[2],ANGLEUNIT[\"degree\",0.0174532925199433]]]"
+
+-- the second axis before the first
+abbrev pub orders_fall : List ℕ
+orders_fall =
+    codes "GEOGCRS[\"A\",DATUM[\"D\",ELLIPSOID[\"E\",6378137,0,LENGTHUNIT[\"metre\",1]]],"
+    ++ codes "PRIMEM[\"Greenwich\",0],CS[ellipsoidal,2],"
+    ++ codes "AXIS[\"lon\",east,ORDER[2],ANGLEUNIT[\"degree\",0.0174532925199433]],"
+    ++ codes "AXIS[\"lat\",north,ORDER[1],ANGLEUNIT[\"degree\",0.0174532925199433]]]"
+
+-- each of these spells a node, and none is normal
+abbrev pub GeographicsWrittenOtherwise : Type 0
+GeographicsWrittenOtherwise =
+    IsWrittenOtherwise meridian_with_unit
+    × IsWrittenOtherwise no_meridian
+    × IsWrittenOtherwise geodetic_keyword
+    × IsWrittenOtherwise no_unit_of_ellipsoid
+    × IsWrittenOtherwise orders_fall

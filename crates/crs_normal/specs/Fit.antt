@@ -1,4 +1,5 @@
--- A bridge: items that can be written: well formed, and nested no deeper than some number of delimiters.
+-- A bridge: items that can be written: well formed, and nested no deeper than some number of
+-- delimiters.
 use Rattle.std.specs.Prelude.{◌≤◌, ℕ}
 use Rattle.crs_text.specs.Items.{Item, depth}
 use Rattle.crs_text.specs.Written.{AreFormed}

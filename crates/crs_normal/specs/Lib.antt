@@ -2,6 +2,7 @@ pub mod Ascending
 pub mod AxisAlone
 pub mod CanonicalForm
 pub mod Closed
+pub mod CrsClass
 pub mod Decides
 pub mod DecimalLaws
 pub mod Examples
@@ -15,7 +16,6 @@ pub mod OneForm
 pub mod Ordered
 pub mod PartSpellings
 pub mod PartTexts
-pub mod ReadBack
 pub mod SpelledAs
 pub mod SpelledConversions
 pub mod SpelledCrs
@@ -26,3 +26,4 @@ pub mod SpelledSystems
 pub mod SpelledUnits
 pub mod SpelledUsages
 pub mod TextLaws
+pub mod WrittenForm

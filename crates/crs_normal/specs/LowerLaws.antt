@@ -1,10 +1,10 @@
--- A bridge: what is taken from the lower crates: laws of numbers, of their spellings, and of the axes of coordinate
--- systems.
+-- A bridge: what is taken from the lower crates: laws of numbers, of their spellings, and of the
+-- axes of coordinate systems.
 use Rattle.std.specs.Prelude.{◌≡◌, ◌↔◌, ◌<◌, ◌≤◌, ℕ, ⊤, List, length}
 use Rattle.crs_decimal.specs.Bounds.{IsInBounds, Denotes}
 use Rattle.crs_decimal.specs.Number.{Number, SameNumber}
 use Rattle.crs_decimal.specs.Plain.{IsPlain, plain}
-use Rattle.crs_decimal.specs.Spelling.{Parts, Spells, AreDigits}
+use Rattle.crs_decimal.specs.Spelling.{Parts, SpellsNumber, AreDigits}
 use Rattle.crs_decimal.specs.Value.{Value, IsNormal, exact}
 use Rattle.crs_value.specs.SoundSystem.{IsSystem}
 use Rattle.crs_value.specs.Values.{AxisParts, SystemParts}
@@ -12,13 +12,17 @@ use Rattle.crs_same.specs.SameSystems.{HasAt}
 use Rattle.crs_same.specs.SameUnits.{SameValue}
 
 pub record LowerLaws : Type 0 where
-  pub one_form : (bytes : List ℕ) (p q : Parts) → Spells bytes p → Spells bytes q → p ≡ q
-  pub normal_is_one : (a b : Value) → IsNormal a → IsNormal b → SameNumber (exact a) (exact b) ↔ (a ≡ b)
+  pub one_form : (bytes : List ℕ) (p q : Parts) → SpellsNumber bytes p → SpellsNumber bytes q →
+      p ≡ q
+  pub normal_is_one : (a b : Value) → IsNormal a → IsNormal b →
+      SameNumber (exact a) (exact b) ↔ (a ≡ b)
   pub symmetric : (a b : Number) → SameNumber a b → SameNumber b a
   pub transitive : (a b c : Number) → SameNumber a b → SameNumber b c → SameNumber a c
-  pub digits_alone : (bytes : List ℕ) → AreDigits bytes → 0 < length bytes → length bytes ≤ 18 → IsInBounds bytes
+  pub digits_alone : (bytes : List ℕ) → AreDigits bytes → 0 < length bytes → length bytes ≤ 18 →
+      IsInBounds bytes
   pub denotes : (v : Value) → IsNormal v → Denotes (plain v) (exact v)
-  pub only : (v : Value) (bytes : List ℕ) → IsNormal v → IsPlain bytes → Denotes bytes (exact v) → bytes ≡ plain v
+  pub only : (v : Value) (bytes : List ℕ) → IsNormal v → IsPlain bytes → Denotes bytes (exact v) →
+      bytes ≡ plain v
   pub some_axis : (system : SystemParts) → IsSystem system → (position : ℕ) → 1 ≤ position →
       position ≤ length system.axes →
       HasAt position (λ axis. ⊤) 1 system.axes

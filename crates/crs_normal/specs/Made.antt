@@ -7,13 +7,9 @@ use Rattle.crs_shape.specs.declared.class.Class.{Class}
 use Rattle.crs_shape.specs.declared.class.Class.TheVariants as class
 use Rattle.crs_shape.specs.Shaped.{Shaped}
 use Rattle.crs_value.specs.Checks.{Breaks}
-use Rattle.crs_value.specs.declared.values.crs.Crs.{Crs}
-use Rattle.crs_value.specs.declared.values.crs.Crs.TheVariants as crs
 use Rattle.crs_value.specs.declared.values.frame.Frame.{Frame}
 use Rattle.crs_value.specs.declared.values.frame.Frame.TheVariants as frame
 use Rattle.crs_value.specs.declared.values.level.Level.{Level}
-use Rattle.crs_value.specs.declared.values.system_type.SystemType.{SystemType}
-use Rattle.crs_value.specs.declared.values.system_type.SystemType.TheVariants as types
 use Rattle.crs_value.specs.declared.values.unit_kind.UnitKind.{UnitKind}
 use Rattle.crs_value.specs.declared.values.unit_kind.UnitKind.TheVariants as kinds
 use Rattle.crs_normal.specs.Normal.{IsNormalIn}
@@ -36,25 +32,11 @@ IsKindIn class.PlainUnit kind = kind ≡ kinds.Plain
 IsKindIn class.AxisUnit kind = (kind ≡ kinds.Length) ⊎ (kind ≡ kinds.Angle)
 IsKindIn other kind = ⊥
 
--- the class of a geodetic or geographic CRS, by the type of its system
-abbrev pub root_class : SystemType → Class
-root_class types.Cartesian = class.GeodeticCrs
-root_class types.Ellipsoidal = class.GeographicCrs
-root_class types.Spherical = class.GeodeticCrs
-root_class types.Vertical = class.GeodeticCrs
-
--- the class of a CRS
-abbrev pub crs_class : Crs → Class
-crs_class (crs.Geodetic geodetic) = root_class geodetic.system.system_type
-crs_class (crs.Projected projected) = class.ProjectedCrs
-crs_class (crs.Vertical vertical) = class.VerticalCrs
-crs_class (crs.Compound compound) = class.CompoundCrs
-
 -- the classes of a reference frame, which is geodetic or vertical
-abbrev pub geodetic_class : Frame → Class
-geodetic_class (frame.Datum datum) = class.GeodeticFrame
-geodetic_class (frame.Ensemble ensemble) = class.GeodeticEnsemble
+abbrev pub geodetic_frame_class : Frame → Class
+geodetic_frame_class (frame.Datum datum) = class.GeodeticFrame
+geodetic_frame_class (frame.Ensemble ensemble) = class.GeodeticEnsemble
 
-abbrev pub vertical_class : Frame → Class
-vertical_class (frame.Datum datum) = class.VerticalFrame
-vertical_class (frame.Ensemble ensemble) = class.VerticalEnsemble
+abbrev pub vertical_frame_class : Frame → Class
+vertical_frame_class (frame.Datum datum) = class.VerticalFrame
+vertical_frame_class (frame.Ensemble ensemble) = class.VerticalEnsemble

@@ -1,5 +1,5 @@
--- Normal texts: the one spelling of a CRS, as a property of a text. It says what is asked beyond acceptance; which
--- arguments a node has and in which order they stand is the shape's.
+-- Normal texts: the one spelling of a CRS, as a property of a text. It says what is asked beyond
+-- acceptance; which arguments a node has and in which order they stand is the shape's.
 use Rattle.std.specs.Prelude.{◌≡◌, ◌⊎◌, ℕ, Some, List, [], ◌∷◌, codes}
 use Rattle.crs_decimal.specs.Plain.{IsPlain}
 use Rattle.crs_text.specs.declared.keyword.Keyword.{Keyword}
@@ -20,65 +20,71 @@ use Rattle.crs_value.specs.Sound.{Each}
 use Rattle.crs_value.specs.declared.values.level.Level.{Level}
 use Rattle.crs_value.specs.declared.values.system_type.SystemType.{SystemType}
 use Rattle.crs_value.specs.Words.{direction_word, system_word}
-use Rattle.crs_normal.specs.NormalOwn.{HasSets, Own}
+use Rattle.crs_normal.specs.NormalOwn.{HasSets, HasOwnForm}
 
 -- the keyword is spelled as the first of these
 abbrev pub IsFirst : List ℕ → List Keyword → Type 0
 IsFirst keyword [] = ⊥
 IsFirst keyword (first ∷ others) = keyword ≡ spelling_of first
 
--- the first keyword of each class; a unit on an axis by its kind
-abbrev pub IsWritten : Class → List ℕ → Type 0
-IsWritten class.AxisUnit keyword = (keyword ≡ codes "LENGTHUNIT") ⊎ (keyword ≡ codes "ANGLEUNIT")
-IsWritten c keyword = IsFirst keyword (keywords_of c)
+-- the keyword is the first of those of this class; of a unit on an axis the one that says its kind
+abbrev pub IsFirstKeyword : Class → List ℕ → Type 0
+IsFirstKeyword class.AxisUnit keyword =
+    (keyword ≡ codes "LENGTHUNIT") ⊎ (keyword ≡ codes "ANGLEUNIT")
+IsFirstKeyword c keyword = IsFirst keyword (keywords_of c)
 
--- every number but a code or version is plain
+-- a number in a node of this class is plain, but for a code or version
 abbrev pub IsNumberIn : Class → List ℕ → Type 0
 IsNumberIn class.Identifier raw = Unit {0}
 IsNumberIn c raw = IsPlain raw
 
--- types and directions in their own letters
+-- a type of coordinate system or a direction in a node of this class is in its own letters
 abbrev pub IsWordIn : Class → List ℕ → Type 0
 IsWordIn class.CoordinateSystem raw = (system_type : SystemType) × (raw ≡ system_word system_type)
 IsWordIn class.Axis raw = (direction : Direction) × (raw ≡ direction_word direction)
 IsWordIn c raw = Unit {0}
 
--- a single item in a node of this class
+-- a number, text or word stands so in a node of this class
 abbrev pub IsSingleIn : Class → Kind → List ℕ → Type 0
 IsSingleIn parent number raw = IsNumberIn parent raw
 IsSingleIn parent text raw = Unit {0}
 IsSingleIn parent word raw = IsWordIn parent raw
 
--- what a level may leave out of a node
+-- the classes of which a level may leave out some or all
 abbrev pub left_out : List Class
 left_out = class.Identifier ∷ class.Usage ∷ class.Remark ∷ []
 
--- among these arguments of a node, of what may be left out, the level keeps all
+-- the level keeps all of these arguments of a node of class `c`
 abbrev pub KeepsAll : Level → Class → Siblings → Type 0
 KeepsAll level c items = Each (λ d. kept level (those c d items) ≡ those c d items) left_out
 
--- what the level asks of a node
+-- there is nothing in a node of class `c` that the level leaves out
 abbrev pub AtLevel : Level → Class → Item → Type 0
 AtLevel level c item = KeepsAll level c (arguments item)
 
 abbrev mutual
-  -- an item of a class in a node of another
+  -- an item of class `c` in a node of class `parent`, or as a whole text where both are one: a
+  -- single item is written as such a node asks; a node has the first keyword of its class, nothing
+  -- that the level leaves out, what its class asks by itself, its sets in order, and normal
+  -- arguments
   pub IsNormalIn : Level → Class → Class → Item → Type 0
   IsNormalIn level parent c (leaf kind place raw) = IsSingleIn parent kind raw
   IsNormalIn level parent c (node place keyword square first others close) =
-      IsWritten c keyword
+      IsFirstKeyword c keyword
       × AtLevel level c (node place keyword square first others close)
-      × Own c (node place keyword square first others close)
+      × HasOwnForm c (node place keyword square first others close)
       × HasSets c (node place keyword square first others close)
       × AtClass (class_in c first) (λ d. IsNormalIn level c d first)
       × AreNormalIn level c others
 
+  -- each of these arguments of a node of class `c` is normal there
   pub AreNormalIn : Level → Class → Siblings → Type 0
   AreNormalIn level c End = Unit {0}
   AreNormalIn level c (More item items) =
       AtClass (class_in c item) (λ d. IsNormalIn level c d item) × AreNormalIn level c items
 
--- a text that is its item written without white space and in square delimiters, and normal within
+-- a text that is its item written without white space and in square delimiters, and normal within;
+-- that it is accepted, which `VERTCRS["H"]` isn't, is asked beside it
 pub record IsNormalText (level : Level) (bytes : List ℕ) : Type 0 where
   pub item : Item
   pub class_read : Class

@@ -1,8 +1,9 @@
 -- What a canonical text asks of a node by itself, beyond what is asked of every accepted text.
-use Rattle.std.specs.Prelude.{◌≡◌, ◌≢◌, ◌≤◌, ◌⊎◌, ◌+◌, ℕ, true, List, [], ◌∷◌, ◌++◌, map, length, codes, decimal}
+use Rattle.std.specs.Prelude.{◌≡◌, ◌≢◌, ◌≤◌, ◌⊎◌, ◌+◌, ℕ, true, List, [], ◌∷◌, ◌++◌, map, length}
+use Rattle.std.specs.Prelude.{codes, decimal}
 use Rattle.std.specs.List.{list_all}
 use Rattle.crs_decimal.specs.Spelling.{is_digit}
-use Rattle.crs_text.specs.Items.{Item, Siblings, End, More, arguments, kind_of, raw_of, skip}
+use Rattle.crs_text.specs.Items.{Item, Siblings, End, More, arguments, kind_of_item, raw_of, skip}
 use Rattle.crs_text.specs.Written.{item_text}
 use Rattle.crs_text.specs.declared.items.ItemKind.TheVariants as kinds
 use Rattle.crs_shape.specs.declared.class.Class.{Class}
@@ -20,14 +21,15 @@ use Rattle.crs_normal.specs.Ascending.{Ascends}
 abbrev pub Has : Class → Class → Item → Type 0
 Has c d item = those c d (arguments item) ≢ []
 
--- none does
+-- no argument of class `d` stands in the node, which is of class `c`
 abbrev pub Lacks : Class → Class → Item → Type 0
 Lacks c d item = those c d (arguments item) ≡ []
 
--- the bytes of a node's numbers, and of its words
+-- the bytes of each number in the node, which is of class `c`
 abbrev pub numbers_in : Class → Item → List (List ℕ)
 numbers_in c item = map raw_of (those c class.Number (arguments item))
 
+-- the bytes of each word in the node, which is of class `c`
 abbrev pub words_in : Class → Item → List (List ℕ)
 words_in c item = map raw_of (those c class.Word (arguments item))
 
@@ -39,7 +41,8 @@ Ascend items = Ascends item_text items
 
 -- the nodes that are members of sets
 abbrev pub set_classes : List Class
-set_classes = class.Identifier ∷ class.Usage ∷ class.Member ∷ class.Parameter ∷ class.GeoidModel ∷ []
+set_classes =
+    class.Identifier ∷ class.Usage ∷ class.Member ∷ class.Parameter ∷ class.GeoidModel ∷ []
 
 -- the members of each set ascend
 abbrev pub HasSets : Class → Item → Type 0
@@ -47,22 +50,27 @@ HasSets c item = Each (λ d. Ascend (those c d (arguments item))) set_classes
 
 -- ---- axes: by position, each with its order and its own unit; none is shared
 
--- the axis has this order
-abbrev pub HasOrder : ℕ → Item → Type 0
-HasOrder k axis = map (numbers_in class.Order) (those class.Axis class.Order (arguments axis)) ≡ (decimal k ∷ []) ∷ []
+-- the axis has one order, which is this number, plainly written
+abbrev pub HasOneOrder : ℕ → Item → Type 0
+HasOneOrder k axis =
+    map (numbers_in class.Order) (those class.Axis class.Order (arguments axis))
+    ≡ (decimal k ∷ []) ∷ []
 
--- the axes have the orders from k on
+-- the axes have one order each: the first has k, the next k + 1, and so on
 abbrev pub AreOrdered : ℕ → List Item → Type 0
 AreOrdered k [] = Unit {0}
-AreOrdered k (axis ∷ axes) = HasOrder k axis × AreOrdered (k + 1) axes
+AreOrdered k (axis ∷ axes) = HasOneOrder k axis × AreOrdered (k + 1) axes
 
+-- the axes stand in the order of their positions, each has its own unit, and the node, of class
+-- `c`, has none that they share
 pub record HasAxes (c : Class) (item : Item) : Type 0 where
   pub ordered : AreOrdered 1 (those c class.Axis (arguments item))
   pub own_units : Each (Has class.Axis class.AxisUnit) (those c class.Axis (arguments item))
   pub none_shared : Lacks c class.AxisUnit item
 
--- ---- the order of what may stand in any: at a CRS's end geoid models, usages, identifiers, remark, and no part of a
--- usage stands bare; in a reference frame the anchor, its epoch, identifiers
+-- ---- the order of what may stand in any: at a CRS's end geoid models, usages, identifiers, a
+-- remark, and no part of a usage stands bare; in a reference frame the anchor, its epoch,
+-- identifiers
 
 -- where an argument of this class stands among those, what stands before them at 0
 abbrev pub rank : Class → ℕ
@@ -77,37 +85,44 @@ rank other = 0
 -- the ranks of the arguments never fall, from this one on
 abbrev pub Rise : Class → ℕ → Siblings → Type 0
 Rise c least End = Unit {0}
-Rise c least (More item items) = AtClass (class_in c item) (λ d. (least ≤ rank d) × Rise c (rank d) items)
+Rise c least (More item items) =
+    AtClass (class_in c item) (λ d. (least ≤ rank d) × Rise c (rank d) items)
 
 -- the parts of a usage
 abbrev pub bare_classes : List Class
 bare_classes = class.Scope ∷ class.Area ∷ class.BoundingBox ∷ class.VerticalExtent ∷ []
 
+-- what ends the node, of class `c`, stands in order, and no part of a usage stands bare there
 pub record HasTail (c : Class) (item : Item) : Type 0 where
   pub in_order : Rise c 0 (arguments item)
   pub none_bare : Each (λ d. Lacks c d item) bare_classes
 
 -- ---- codes: 1 to 18 digits stand without quotes, everything else in quotes
 
+-- 1 to 18 digits
 pub record IsShort (raw : List ℕ) : Type 0 where
   pub digits : list_all is_digit raw ≡ true
   pub some : 1 ≤ length raw
   pub few : length raw ≤ 18
 
+-- a code or version is a number where it is 1 to 18 digits, else a text in quotes
 abbrev pub IsCode : Item → Type 0
 IsCode item =
-    (IsShort (raw_of item) × (kind_of item ≡ kinds.Number)) ⊎ (¬ (IsShort (raw_of item)) × (kind_of item ≡ kinds.Text))
+    (IsShort (raw_of item) × (kind_of_item item ≡ kinds.Number))
+    ⊎ (¬ (IsShort (raw_of item)) × (kind_of_item item ≡ kinds.Text))
 
--- the code and the version of an identifier
+-- the code and the version of an identifier, each written as such
 abbrev pub HasCodes : Item → Type 0
-HasCodes item = Each IsCode (single_of (skip 1 (arguments item)) ++ single_of (skip 2 (arguments item)))
+HasCodes item =
+    Each IsCode (single_of (skip 1 (arguments item)) ++ single_of (skip 2 (arguments item)))
 
 -- ---- each class
 
 -- at longitude 0 a prime meridian has no unit
-abbrev pub HasUnitIfAny : Item → Type 0
-HasUnitIfAny item =
-    numbers_in class.PrimeMeridian item ≡ codes "0" ∷ [] → Lacks class.PrimeMeridian class.AngleUnit item
+abbrev pub HasNoUnitAtZero : Item → Type 0
+HasNoUnitAtZero item =
+    numbers_in class.PrimeMeridian item ≡ codes "0" ∷ [] →
+    Lacks class.PrimeMeridian class.AngleUnit item
 
 -- a geographic CRS is written as one
 abbrev pub IsNotEllipsoidal : Class → Item → Type 0
@@ -115,22 +130,24 @@ IsNotEllipsoidal c item =
     Each (λ cs. words_in class.CoordinateSystem cs ≢ codes "ellipsoidal" ∷ [])
     (those c class.CoordinateSystem (arguments item))
 
--- what a node of this class has: the defaults are written
-abbrev pub Own : Class → Item → Type 0
-Own class.GeodeticCrs item =
+-- what is asked of a node of this class by itself: what has a usual value is written all the same,
+-- and the arguments that may stand in several orders stand in one
+abbrev pub HasOwnForm : Class → Item → Type 0
+HasOwnForm class.GeodeticCrs item =
     IsNotEllipsoidal class.GeodeticCrs item × Has class.GeodeticCrs class.PrimeMeridian item
     × HasAxes class.GeodeticCrs item × HasTail class.GeodeticCrs item
-Own class.GeographicCrs item =
+HasOwnForm class.GeographicCrs item =
     Has class.GeographicCrs class.PrimeMeridian item × HasAxes class.GeographicCrs item
     × HasTail class.GeographicCrs item
-Own class.ProjectedCrs item = HasAxes class.ProjectedCrs item × HasTail class.ProjectedCrs item
-Own class.VerticalCrs item = HasAxes class.VerticalCrs item × HasTail class.VerticalCrs item
-Own class.CompoundCrs item = HasTail class.CompoundCrs item
-Own class.BaseCrs item = Has class.BaseCrs class.PrimeMeridian item
-Own class.GeodeticFrame item = Rise class.GeodeticFrame 0 (arguments item)
-Own class.VerticalFrame item = Rise class.VerticalFrame 0 (arguments item)
-Own class.Ellipsoid item = Has class.Ellipsoid class.LengthUnit item
-Own class.VerticalExtent item = Has class.VerticalExtent class.LengthUnit item
-Own class.PrimeMeridian item = HasUnitIfAny item
-Own class.Identifier item = HasCodes item
-Own other item = Unit {0}
+HasOwnForm class.ProjectedCrs item =
+    HasAxes class.ProjectedCrs item × HasTail class.ProjectedCrs item
+HasOwnForm class.VerticalCrs item = HasAxes class.VerticalCrs item × HasTail class.VerticalCrs item
+HasOwnForm class.CompoundCrs item = HasTail class.CompoundCrs item
+HasOwnForm class.BaseCrs item = Has class.BaseCrs class.PrimeMeridian item
+HasOwnForm class.GeodeticFrame item = Rise class.GeodeticFrame 0 (arguments item)
+HasOwnForm class.VerticalFrame item = Rise class.VerticalFrame 0 (arguments item)
+HasOwnForm class.Ellipsoid item = Has class.Ellipsoid class.LengthUnit item
+HasOwnForm class.VerticalExtent item = Has class.VerticalExtent class.LengthUnit item
+HasOwnForm class.PrimeMeridian item = HasNoUnitAtZero item
+HasOwnForm class.Identifier item = HasCodes item
+HasOwnForm other item = Unit {0}

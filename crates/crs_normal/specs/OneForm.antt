@@ -1,5 +1,5 @@
--- A bridge: normal items and their values: a normal item, without its places and kinds of delimiters, is the item of
--- its value's one form.
+-- A bridge: normal items and their values: a normal item, without its places and kinds of
+-- delimiters, is the item of its value's one form.
 use Rattle.std.specs.Prelude.{◌≡◌}
 use Rattle.crs_text.specs.Items.{Item}
 use Rattle.crs_text.specs.Refusal.{RefusedAt}
@@ -10,14 +10,18 @@ use Rattle.crs_value.specs.declared.values.level.Level.{Level}
 use Rattle.crs_normal.specs.Flat.{flat}
 use Rattle.crs_normal.specs.Normal.{IsNormalIn}
 
--- a normal item of this class, in a node of any class, is what is written for the value that it says
-abbrev pub IsItsForm : {V : Type 0} → Level → Class → (Class → Item → V → Type 0) → (V → Item) → Type 0
+-- a normal item of this class, in a node of any class, is what is written for the value that it
+-- says
+abbrev pub IsItsForm : {V : Type 0} → Level → Class → (Class → Item → V → Type 0) → (V → Item) →
+    Type 0
 IsItsForm {V = V} level c Reads form =
-    (parent : Class) (item : Item) (value : V) → Shaped c item → IsNormalIn level parent c item → Reads c item value →
+    (parent : Class) (item : Item) (value : V) → Shaped c item → IsNormalIn level parent c item →
+    Reads c item value →
     flat item ≡ form value
 
 -- likewise of an item that breaks no check
-abbrev pub IsItsFormUnbroken : {V : Type 0} → Level → Class → (Class → Item → V → Type 0) → (V → Item) → Type 0
+abbrev pub IsItsFormUnbroken : {V : Type 0} → Level → Class → (Class → Item → V → Type 0) →
+    (V → Item) → Type 0
 IsItsFormUnbroken {V = V} level c Reads form =
     (parent : Class) (item : Item) (value : V) → Shaped c item → IsNormalIn level parent c item →
     ((fault : RefusedAt) → ¬ (Breaks c item fault)) →

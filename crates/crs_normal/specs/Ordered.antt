@@ -6,7 +6,9 @@ use Rattle.std.specs.Ordering.{nat_cmp, match_ordering}
 -- one more member, where none has its bytes
 abbrev pub put : {A : Type 0} → (A → List ℕ) → A → List A → List A
 put bytes x [] = x ∷ []
-put bytes x (y ∷ ys) = match_ordering (slice_cmp nat_cmp (bytes x) (bytes y)) (x ∷ y ∷ ys) (y ∷ ys) (y ∷ put bytes x ys)
+put bytes x (y ∷ ys) =
+    match_ordering (slice_cmp nat_cmp (bytes x) (bytes y)) (x ∷ y ∷ ys) (y ∷ ys)
+    (y ∷ put bytes x ys)
 
 -- these members put among those that are in order, one by one from the first
 abbrev pub put_all : {A : Type 0} → (A → List ℕ) → List A → List A → List A

@@ -3,27 +3,39 @@ use Rattle.std.specs.Prelude.{ℕ, List, Option, Some, None, codes}
 use Rattle.crs_text.specs.Items.{Item}
 use Rattle.crs_text.specs.Written.{item_text}
 use Rattle.crs_value.specs.CompoundValues.{CompoundParts}
-use Rattle.crs_value.specs.ConversionValues.{ConversionParts, GeoidModelParts, MethodParts, ParameterParts}
+use Rattle.crs_value.specs.ConversionValues.{ConversionParts, GeoidModelParts, MethodParts}
+use Rattle.crs_value.specs.ConversionValues.{ParameterParts}
 use Rattle.crs_value.specs.CrsValues.{BaseParts, GeodeticParts, ProjectedParts, VerticalParts}
 use Rattle.crs_value.specs.DynamicValues.{DeformationModelParts, DynamicParts}
-use Rattle.crs_value.specs.Values.{AxisMeridianParts, AxisParts, BoxParts, DatumParts, EllipsoidParts, EnsembleParts}
-use Rattle.crs_value.specs.Values.{ExtentParts, IdentParts, MemberParts, MeridianParts, UnitParts, UsageParts}
+use Rattle.crs_value.specs.Values.{AxisMeridianParts, AxisParts, BoxParts, DatumParts}
+use Rattle.crs_value.specs.Values.{EllipsoidParts, EnsembleParts}
+use Rattle.crs_value.specs.Values.{ExtentParts, IdentParts, MemberParts, MeridianParts, UnitParts}
+use Rattle.crs_value.specs.Values.{UsageParts}
 use Rattle.crs_value.specs.declared.values.compound.Horizontal.{Horizontal}
 use Rattle.crs_value.specs.declared.values.frame.Frame.{Frame}
 use Rattle.crs_value.specs.declared.values.frame.Frame.TheVariants as frame
 use Rattle.crs_value.specs.declared.values.level.Level.{Level}
 use Rattle.crs_value.specs.declared.values.unit_kind.UnitKind.TheVariants as kinds
-use Rattle.crs_normal.specs.SpelledConversions.{item_conversion, item_geoid_model, item_method, item_parameter}
-use Rattle.crs_normal.specs.SpelledConversions.{norm_conversion, norm_geoid_model, norm_method, norm_parameter}
-use Rattle.crs_normal.specs.SpelledCrs.{item_base, item_compound, item_geodetic, item_horizontal, item_projected}
-use Rattle.crs_normal.specs.SpelledCrs.{item_vertical, norm_base, norm_compound, norm_geodetic, norm_horizontal}
+use Rattle.crs_normal.specs.SpelledConversions.{item_conversion, item_geoid_model, item_method}
+use Rattle.crs_normal.specs.SpelledConversions.{item_parameter}
+use Rattle.crs_normal.specs.SpelledConversions.{norm_conversion, norm_geoid_model, norm_method}
+use Rattle.crs_normal.specs.SpelledConversions.{norm_parameter}
+use Rattle.crs_normal.specs.SpelledCrs.{item_base, item_compound, item_geodetic, item_horizontal}
+use Rattle.crs_normal.specs.SpelledCrs.{item_projected}
+use Rattle.crs_normal.specs.SpelledCrs.{item_vertical, norm_base, norm_compound, norm_geodetic}
+use Rattle.crs_normal.specs.SpelledCrs.{norm_horizontal}
 use Rattle.crs_normal.specs.SpelledCrs.{norm_projected, norm_vertical}
-use Rattle.crs_normal.specs.SpelledDynamic.{item_deformation_model, item_dynamic, norm_deformation_model, norm_dynamic}
-use Rattle.crs_normal.specs.SpelledFrames.{item_datum, item_ellipsoid, item_ensemble, item_member, item_meridian}
-use Rattle.crs_normal.specs.SpelledFrames.{norm_datum, norm_ellipsoid, norm_ensemble, norm_given, norm_member}
-use Rattle.crs_normal.specs.SpelledSystems.{item_axis, item_axis_meridian, norm_axis_meridian, norm_axis_meridians}
+use Rattle.crs_normal.specs.SpelledDynamic.{item_deformation_model, item_dynamic}
+use Rattle.crs_normal.specs.SpelledDynamic.{norm_deformation_model, norm_dynamic}
+use Rattle.crs_normal.specs.SpelledFrames.{item_datum, item_ellipsoid, item_ensemble, item_member}
+use Rattle.crs_normal.specs.SpelledFrames.{item_meridian}
+use Rattle.crs_normal.specs.SpelledFrames.{norm_datum, norm_ellipsoid, norm_ensemble, norm_given}
+use Rattle.crs_normal.specs.SpelledFrames.{norm_member}
+use Rattle.crs_normal.specs.SpelledSystems.{item_axis, item_axis_meridian, norm_axis_meridian}
+use Rattle.crs_normal.specs.SpelledSystems.{norm_axis_meridians}
 use Rattle.crs_normal.specs.SpelledUnits.{item_ident, item_unit, norm_unit, norm_units, set_idents}
-use Rattle.crs_normal.specs.SpelledUsages.{item_box, item_extent, item_usage, norm_extent, norm_usage}
+use Rattle.crs_normal.specs.SpelledUsages.{item_box, item_extent, item_usage, norm_extent}
+use Rattle.crs_normal.specs.SpelledUsages.{norm_usage}
 
 -- an identifier by itself is written alike at every level
 abbrev pub ident_text : Level → IdentParts → List ℕ

@@ -2,7 +2,8 @@
 use Rattle.std.specs.Prelude.{List, codes, map}
 use Rattle.crs_text.specs.Items.{Item, End, More}
 use Rattle.crs_text.specs.Written.{item_text}
-use Rattle.crs_value.specs.ConversionValues.{MethodParts, ParameterParts, ConversionParts, GeoidModelParts}
+use Rattle.crs_value.specs.ConversionValues.{MethodParts, ParameterParts, ConversionParts}
+use Rattle.crs_value.specs.ConversionValues.{GeoidModelParts}
 use Rattle.crs_value.specs.declared.values.level.Level.{Level}
 use Rattle.crs_value.specs.declared.values.unit_kind.UnitKind.TheVariants as kinds
 use Rattle.crs_normal.specs.Ordered.{in_order}
@@ -31,7 +32,8 @@ item_parameter p =
     (More (number_item p.value) (opt item_unit p.unit (each item_ident p.identifiers End)))
 
 unfoldable pub set_parameters : Level → List ParameterParts → List ParameterParts
-set_parameters level parameters = in_order (λ p. item_text (item_parameter p)) (map (norm_parameter level) parameters)
+set_parameters level parameters =
+    in_order (λ p. item_text (item_parameter p)) (map (norm_parameter level) parameters)
 
 abbrev pub norm_conversion : Level → ConversionParts → ConversionParts
 norm_conversion level c = record {
@@ -44,7 +46,8 @@ norm_conversion level c = record {
 abbrev pub item_conversion : ConversionParts → Item
 item_conversion c =
     node_of (codes "CONVERSION") (text_item c.name)
-    (More (item_method c.method) (each item_parameter c.parameters (each item_ident c.identifiers End)))
+    (More (item_method c.method)
+    (each item_parameter c.parameters (each item_ident c.identifiers End)))
 
 -- ---- geoid models: a set
 
@@ -52,7 +55,9 @@ abbrev pub norm_geoid_model : Level → GeoidModelParts → GeoidModelParts
 norm_geoid_model level g = record { name = g.name; identifiers = set_idents level g.identifiers }
 
 abbrev pub item_geoid_model : GeoidModelParts → Item
-item_geoid_model g = node_of (codes "GEOIDMODEL") (text_item g.name) (each item_ident g.identifiers End)
+item_geoid_model g =
+    node_of (codes "GEOIDMODEL") (text_item g.name) (each item_ident g.identifiers End)
 
 unfoldable pub set_geoid_models : Level → List GeoidModelParts → List GeoidModelParts
-set_geoid_models level models = in_order (λ g. item_text (item_geoid_model g)) (map (norm_geoid_model level) models)
+set_geoid_models level models =
+    in_order (λ g. item_text (item_geoid_model g)) (map (norm_geoid_model level) models)

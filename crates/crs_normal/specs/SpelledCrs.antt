@@ -12,7 +12,8 @@ use Rattle.crs_value.specs.declared.values.level.Level.{Level}
 use Rattle.crs_value.specs.declared.values.system_type.SystemType.{SystemType}
 use Rattle.crs_value.specs.declared.values.system_type.SystemType.TheVariants as types
 use Rattle.crs_value.specs.declared.values.unit_kind.UnitKind.TheVariants as kinds
-use Rattle.crs_normal.specs.SpelledConversions.{item_conversion, item_geoid_model, norm_conversion, set_geoid_models}
+use Rattle.crs_normal.specs.SpelledConversions.{item_conversion, item_geoid_model, norm_conversion}
+use Rattle.crs_normal.specs.SpelledConversions.{set_geoid_models}
 use Rattle.crs_normal.specs.SpelledDynamic.{item_dynamic, norm_dynamic}
 use Rattle.crs_normal.specs.SpelledFrames.{item_frame, item_meridian, norm_frame, norm_meridian}
 use Rattle.crs_normal.specs.SpelledItems.{each, node_of, opt, text_item}
@@ -40,7 +41,8 @@ geodetic_keyword types.Vertical = codes "GEODCRS"
 
 abbrev pub item_geodetic : GeodeticParts → Item
 item_geodetic g =
-    node_of (geodetic_keyword g.system.system_type) (text_item g.name) (opt item_dynamic g.dynamic (More (item_frame (codes "DATUM") g.frame)
+    node_of (geodetic_keyword g.system.system_type) (text_item g.name)
+    (opt item_dynamic g.dynamic (More (item_frame (codes "DATUM") g.frame)
     (opt item_meridian g.meridian (system_items g.system (tail_items g.tail)))))
 
 -- ---- projected CRSs
@@ -57,7 +59,8 @@ norm_base level b = record {
 
 abbrev pub item_base : BaseParts → Item
 item_base b =
-    node_of (codes "BASEGEOGCRS") (text_item b.name) (opt item_dynamic b.dynamic (More (item_frame (codes "DATUM") b.frame)
+    node_of (codes "BASEGEOGCRS") (text_item b.name)
+    (opt item_dynamic b.dynamic (More (item_frame (codes "DATUM") b.frame)
     (opt item_meridian b.meridian (opt item_unit b.unit (each item_ident b.identifiers End)))))
 
 abbrev pub norm_projected : Level → ProjectedParts → ProjectedParts
@@ -71,7 +74,8 @@ norm_projected level p = record {
 
 abbrev pub item_projected : ProjectedParts → Item
 item_projected p =
-    node_of (codes "PROJCRS") (text_item p.name) (More (item_base p.base) (More (item_conversion p.conversion)
+    node_of (codes "PROJCRS") (text_item p.name)
+    (More (item_base p.base) (More (item_conversion p.conversion)
     (system_items p.system (tail_items p.tail))))
 
 -- ---- vertical CRSs
@@ -88,7 +92,8 @@ norm_vertical level v = record {
 
 abbrev pub item_vertical : VerticalParts → Item
 item_vertical v =
-    node_of (codes "VERTCRS") (text_item v.name) (opt item_dynamic v.dynamic (More (item_frame (codes "VDATUM") v.frame)
+    node_of (codes "VERTCRS") (text_item v.name)
+    (opt item_dynamic v.dynamic (More (item_frame (codes "VDATUM") v.frame)
     (system_items v.system (each item_geoid_model v.geoid_models (tail_items v.tail)))))
 
 -- ---- compound CRSs

@@ -8,14 +8,18 @@ use Rattle.crs_normal.specs.SpelledItems.{each, node_of, number_node, opt, text_
 use Rattle.crs_normal.specs.SpelledUnits.{item_ident, set_idents}
 
 abbrev pub norm_deformation_model : Level → DeformationModelParts → DeformationModelParts
-norm_deformation_model level m = record { name = m.name; identifiers = set_idents level m.identifiers }
+norm_deformation_model level m =
+    record { name = m.name; identifiers = set_idents level m.identifiers }
 
 abbrev pub item_deformation_model : DeformationModelParts → Item
-item_deformation_model m = node_of (codes "MODEL") (text_item m.name) (each item_ident m.identifiers End)
+item_deformation_model m =
+    node_of (codes "MODEL") (text_item m.name) (each item_ident m.identifiers End)
 
 abbrev pub norm_dynamic : Level → DynamicParts → DynamicParts
-norm_dynamic level d = record { epoch = d.epoch; model = option_map (norm_deformation_model level) d.model }
+norm_dynamic level d =
+    record { epoch = d.epoch; model = option_map (norm_deformation_model level) d.model }
 
 abbrev pub item_dynamic : DynamicParts → Item
 item_dynamic d =
-    node_of (codes "DYNAMIC") (number_node (codes "FRAMEEPOCH") d.epoch) (opt item_deformation_model d.model End)
+    node_of (codes "DYNAMIC") (number_node (codes "FRAMEEPOCH") d.epoch)
+    (opt item_deformation_model d.model End)

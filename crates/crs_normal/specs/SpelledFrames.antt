@@ -1,17 +1,22 @@
--- A bridge: ellipsoids, prime meridians, reference frames and ensembles in their one form, and as items.
-use Rattle.std.specs.Prelude.{ℕ, ◌==◌, Bool, List, [], Option, Some, None, codes, map, if◌then◌else◌}
+-- A bridge: ellipsoids, prime meridians, reference frames and ensembles in their one form, and as
+-- items.
+use Rattle.std.specs.Prelude.{ℕ, ◌==◌, Bool, List, [], Option, Some, None, codes, map}
+use Rattle.std.specs.Prelude.{if◌then◌else◌}
 use Rattle.std.specs.Option.{option_map}
 use Rattle.crs_decimal.specs.Value.{Value}
 use Rattle.crs_text.specs.Items.{Item, End, More}
 use Rattle.crs_text.specs.Written.{item_text}
-use Rattle.crs_value.specs.Values.{EllipsoidParts, MeridianParts, MemberParts, DatumParts, EnsembleParts}
+use Rattle.crs_value.specs.Values.{EllipsoidParts, MeridianParts, MemberParts, DatumParts}
+use Rattle.crs_value.specs.Values.{EnsembleParts}
 use Rattle.crs_value.specs.declared.values.frame.Frame.{Frame}
 use Rattle.crs_value.specs.declared.values.frame.Frame.TheVariants as frame
 use Rattle.crs_value.specs.declared.values.level.Level.{Level}
 use Rattle.crs_value.specs.declared.values.unit_kind.UnitKind.TheVariants as kinds
 use Rattle.crs_normal.specs.Ordered.{in_order}
-use Rattle.crs_normal.specs.SpelledItems.{each, node_of, number_item, number_node, opt, text_item, text_node}
-use Rattle.crs_normal.specs.SpelledUnits.{item_ident, item_unit, norm_length, norm_units, set_idents, whole_value}
+use Rattle.crs_normal.specs.SpelledItems.{each, node_of, number_item, number_node, opt, text_item}
+use Rattle.crs_normal.specs.SpelledItems.{text_node}
+use Rattle.crs_normal.specs.SpelledUnits.{item_ident, item_unit, norm_length, norm_units}
+use Rattle.crs_normal.specs.SpelledUnits.{set_idents, whole_value}
 
 -- ---- ellipsoids: the unit is written
 
@@ -27,7 +32,8 @@ norm_ellipsoid level e = record {
 abbrev pub item_ellipsoid : EllipsoidParts → Item
 item_ellipsoid e =
     node_of (codes "ELLIPSOID") (text_item e.name) (More (number_item e.semi_major_axis)
-    (More (number_item e.inverse_flattening) (opt item_unit e.unit (each item_ident e.identifiers End))))
+    (More (number_item e.inverse_flattening)
+    (opt item_unit e.unit (each item_ident e.identifiers End))))
 
 -- ---- prime meridians: a missing one is Greenwich, and at longitude 0 there is no unit
 
@@ -35,7 +41,8 @@ abbrev pub is_zero : Value → Bool
 is_zero value = value.digits == 0
 
 abbrev pub greenwich : MeridianParts
-greenwich = record { name = codes "Greenwich"; longitude = whole_value 0; unit = None; identifiers = [] }
+greenwich =
+    record { name = codes "Greenwich"; longitude = whole_value 0; unit = None; identifiers = [] }
 
 abbrev pub norm_given : Level → MeridianParts → MeridianParts
 norm_given level m = record {
@@ -63,7 +70,8 @@ abbrev pub item_member : MemberParts → Item
 item_member m = node_of (codes "MEMBER") (text_item m.name) (each item_ident m.identifiers End)
 
 unfoldable pub set_members : Level → List MemberParts → List MemberParts
-set_members level members = in_order (λ m. item_text (item_member m)) (map (norm_member level) members)
+set_members level members =
+    in_order (λ m. item_text (item_member m)) (map (norm_member level) members)
 
 -- ---- frames
 
@@ -93,12 +101,14 @@ norm_frame level (frame.Ensemble e) = frame.Ensemble (norm_ensemble level e)
 abbrev pub item_datum : List ℕ → DatumParts → Item
 item_datum keyword d =
     node_of keyword (text_item d.name) (opt item_ellipsoid d.ellipsoid
-    (opt (text_node (codes "ANCHOR")) d.anchor (opt (number_node (codes "ANCHOREPOCH")) d.anchor_epoch
+    (opt (text_node (codes "ANCHOR")) d.anchor
+    (opt (number_node (codes "ANCHOREPOCH")) d.anchor_epoch
     (each item_ident d.identifiers End))))
 
 abbrev pub item_ensemble : EnsembleParts → Item
 item_ensemble e =
-    node_of (codes "ENSEMBLE") (text_item e.name) (each item_member e.members (opt item_ellipsoid e.ellipsoid
+    node_of (codes "ENSEMBLE") (text_item e.name)
+    (each item_member e.members (opt item_ellipsoid e.ellipsoid
     (More (number_node (codes "ENSEMBLEACCURACY") e.accuracy) (each item_ident e.identifiers End))))
 
 abbrev pub item_frame : List ℕ → Frame → Item

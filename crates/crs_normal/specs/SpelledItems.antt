@@ -1,5 +1,7 @@
--- A bridge: the pieces of which canonical items are made. All places are 0; a written text shows none.
-use Rattle.std.specs.Prelude.{ℕ, true, ◌&&◌, nat_le, Bool, List, [], ◌∷◌, Option, Some, None, length, if◌then◌else◌}
+-- A bridge: the pieces of which canonical items are made. All places are 0; a written text shows
+-- none.
+use Rattle.std.specs.Prelude.{ℕ, true, ◌&&◌, nat_le, Bool, List, [], ◌∷◌, Option, Some, None}
+use Rattle.std.specs.Prelude.{length, if◌then◌else◌}
 use Rattle.std.specs.List.{list_all}
 use Rattle.crs_decimal.specs.Plain.{plain}
 use Rattle.crs_decimal.specs.Spelling.{is_digit}

@@ -1,5 +1,6 @@
 -- A bridge: coordinate systems in their one form, their axes by position, and as items.
-use Rattle.std.specs.Prelude.{ℕ, zero, suc, ◌+◌, ◌==◌, Bool, List, [], ◌∷◌, Option, Some, None, length, decimal, codes}
+use Rattle.std.specs.Prelude.{ℕ, zero, suc, ◌+◌, ◌==◌, Bool, List, [], ◌∷◌, Option, Some, None}
+use Rattle.std.specs.Prelude.{length, decimal, codes}
 use Rattle.std.specs.Prelude.{if◌then◌else◌}
 use Rattle.std.specs.Str.{bytes_eq}
 use Rattle.crs_decimal.specs.Plain.{plain}
@@ -11,24 +12,30 @@ use Rattle.crs_value.specs.Words.{direction_word, system_word}
 use Rattle.crs_value.specs.declared.values.level.Level.{Level}
 use Rattle.crs_value.specs.declared.values.unit_kind.UnitKind.TheVariants as kinds
 use Rattle.crs_same.specs.SameSystems.{own_or}
-use Rattle.crs_normal.specs.SpelledItems.{each, node_of, number_item, number_node, opt, text_item, word_item}
-use Rattle.crs_normal.specs.SpelledUnits.{item_ident, item_unit, norm_unit, norm_units, set_idents, whole_value}
+use Rattle.crs_normal.specs.SpelledItems.{each, node_of, number_item, number_node, opt, text_item}
+use Rattle.crs_normal.specs.SpelledItems.{word_item}
+use Rattle.crs_normal.specs.SpelledUnits.{item_ident, item_unit, norm_unit, norm_units, set_idents}
+use Rattle.crs_normal.specs.SpelledUnits.{whole_value}
 
 abbrev pub norm_axis_meridian : Level → AxisMeridianParts → AxisMeridianParts
-norm_axis_meridian level m = record { longitude = m.longitude; unit = norm_unit level kinds.Angle m.unit }
+norm_axis_meridian level m =
+    record { longitude = m.longitude; unit = norm_unit level kinds.Angle m.unit }
 
 abbrev pub norm_axis_meridians : Level → Option AxisMeridianParts → Option AxisMeridianParts
 norm_axis_meridians level None = None
 norm_axis_meridians level (Some m) = Some (norm_axis_meridian level m)
 
--- the axis at a position of a system: with its position as order, and its own unit or the shared one
+-- the axis at a position of a system: with its position as order, and its own unit or the shared
+-- one
 unfoldable pub norm_axis : Level → SystemParts → ℕ → AxisParts → AxisParts
 norm_axis level system k axis = record {
   name = axis.name;
   direction = axis.direction;
   meridian = norm_axis_meridians level axis.meridian;
   order = Some (whole_value k);
-  unit = norm_units level (asked_kind system.system_type axis.direction) (own_or axis.unit system.unit);
+  unit =
+      norm_units level (asked_kind system.system_type axis.direction)
+      (own_or axis.unit system.unit);
   identifiers = set_idents level axis.identifiers;
 }
 
@@ -54,7 +61,8 @@ with_axis level system k (Some axis) rest = norm_axis level system k axis ∷ re
 -- the axes at `n` positions from k on
 abbrev pub axes_from : Level → SystemParts → ℕ → ℕ → List AxisParts
 axes_from level system k zero = []
-axes_from level system k (suc n) = with_axis level system k (axis_at k 1 system.axes) (axes_from level system (k + 1) n)
+axes_from level system k (suc n) =
+    with_axis level system k (axis_at k 1 system.axes) (axes_from level system (k + 1) n)
 
 abbrev pub norm_system : Level → SystemParts → SystemParts
 norm_system level s = record {
@@ -66,7 +74,8 @@ norm_system level s = record {
 }
 
 abbrev pub item_axis_meridian : AxisMeridianParts → Item
-item_axis_meridian m = node_of (codes "MERIDIAN") (number_item m.longitude) (More (item_unit m.unit) End)
+item_axis_meridian m =
+    node_of (codes "MERIDIAN") (number_item m.longitude) (More (item_unit m.unit) End)
 
 abbrev pub item_axis : AxisParts → Item
 item_axis axis =

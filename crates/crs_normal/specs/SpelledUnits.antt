@@ -11,12 +11,14 @@ use Rattle.crs_value.specs.declared.values.unit_kind.UnitKind.{UnitKind}
 use Rattle.crs_value.specs.declared.values.unit_kind.UnitKind.TheVariants as kinds
 use Rattle.crs_same.specs.SameUnits.{kind_as}
 use Rattle.crs_normal.specs.Ordered.{in_order}
-use Rattle.crs_normal.specs.SpelledItems.{code_item, each, node_of, number_item, opt, text_item, text_node}
+use Rattle.crs_normal.specs.SpelledItems.{code_item, each, node_of, number_item, opt, text_item}
+use Rattle.crs_normal.specs.SpelledItems.{text_node}
 
 abbrev pub item_ident : IdentParts → Item
 item_ident i =
     node_of (codes "ID") (text_item i.authority) (More (code_item i.code)
-    (opt code_item i.version (opt (text_node (codes "CITATION")) i.citation (opt (text_node (codes "URI")) i.uri End))))
+    (opt code_item i.version
+    (opt (text_node (codes "CITATION")) i.citation (opt (text_node (codes "URI")) i.uri End))))
 
 -- the identifiers that the level keeps, as a set
 unfoldable pub set_idents : Level → List IdentParts → List IdentParts
@@ -29,7 +31,12 @@ whole_value k = record { negative = false; digits = k; power = pos 0 }
 -- a unit where this kind is asked
 abbrev pub norm_unit : Level → UnitKind → UnitParts → UnitParts
 norm_unit level asked u =
-    record { kind = kind_as asked u.kind; name = u.name; factor = u.factor; identifiers = set_idents level u.identifiers }
+    record {
+      kind = kind_as asked u.kind;
+      name = u.name;
+      factor = u.factor;
+      identifiers = set_idents level u.identifiers;
+    }
 
 abbrev pub norm_units : Level → UnitKind → Option UnitParts → Option UnitParts
 norm_units level asked None = None
@@ -37,11 +44,14 @@ norm_units level asked (Some u) = Some (norm_unit level asked u)
 
 -- what a missing unit of length is
 abbrev pub metre : UnitParts
-metre = record { kind = kinds.Length; name = codes "metre"; factor = whole_value 1; identifiers = [] }
+metre =
+    record { kind = kinds.Length; name = codes "metre"; factor = whole_value 1; identifiers = [] }
 
 abbrev pub norm_length : Level → Option UnitParts → UnitParts
 norm_length level None = metre
 norm_length level (Some u) = norm_unit level kinds.Length u
 
 abbrev pub item_unit : UnitParts → Item
-item_unit u = node_of (unit_word u.kind) (text_item u.name) (More (number_item u.factor) (each item_ident u.identifiers End))
+item_unit u =
+    node_of (unit_word u.kind) (text_item u.name)
+    (More (number_item u.factor) (each item_ident u.identifiers End))

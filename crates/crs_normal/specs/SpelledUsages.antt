@@ -14,11 +14,17 @@ use Rattle.crs_normal.specs.SpelledUnits.{item_ident, item_unit, norm_length, se
 
 -- the unit is written; an extent in a usage keeps the identifiers of its unit at each level
 abbrev pub norm_extent : Level → ExtentParts → ExtentParts
-norm_extent level e = record { minimum = e.minimum; maximum = e.maximum; unit = Some (norm_length level e.unit) }
+norm_extent level e =
+    record { minimum = e.minimum; maximum = e.maximum; unit = Some (norm_length level e.unit) }
 
 abbrev pub norm_usage : UsageParts → UsageParts
 norm_usage u =
-    record { scope = u.scope; area = u.area; bbox = u.bbox; extent = option_map (norm_extent levels.Full) u.extent }
+    record {
+      scope = u.scope;
+      area = u.area;
+      bbox = u.bbox;
+      extent = option_map (norm_extent levels.Full) u.extent;
+    }
 
 abbrev pub item_box : BoxParts → Item
 item_box b =
@@ -27,16 +33,19 @@ item_box b =
 
 abbrev pub item_extent : ExtentParts → Item
 item_extent e =
-    node_of (codes "VERTICALEXTENT") (number_item e.minimum) (More (number_item e.maximum) (opt item_unit e.unit End))
+    node_of (codes "VERTICALEXTENT") (number_item e.minimum)
+    (More (number_item e.maximum) (opt item_unit e.unit End))
 
 abbrev pub item_usage : UsageParts → Item
 item_usage u =
-    node_from (codes "USAGE") (opt (text_node (codes "SCOPE")) u.scope (opt (text_node (codes "AREA")) u.area
+    node_from (codes "USAGE")
+    (opt (text_node (codes "SCOPE")) u.scope (opt (text_node (codes "AREA")) u.area
     (opt item_box u.bbox (opt item_extent u.extent End))))
 
 -- the usages that the level keeps, as a set
 unfoldable pub set_usages : Level → List UsageParts → List UsageParts
-set_usages level usages = in_order (λ u. item_text (item_usage u)) (map norm_usage (kept level usages))
+set_usages level usages =
+    in_order (λ u. item_text (item_usage u)) (map norm_usage (kept level usages))
 
 -- the bare parts are a usage like the others
 abbrev pub norm_tail : Level → TailParts → TailParts
@@ -48,4 +57,6 @@ norm_tail level t = record {
 }
 
 abbrev pub tail_items : TailParts → Siblings
-tail_items t = each item_usage t.usages (each item_ident t.identifiers (opt (text_node (codes "REMARK")) t.remark End))
+tail_items t =
+    each item_usage t.usages
+    (each item_ident t.identifiers (opt (text_node (codes "REMARK")) t.remark End))

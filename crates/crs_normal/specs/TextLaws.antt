@@ -15,4 +15,5 @@ pub record TextLaws : Type 0 where
   pub one_value : (a b : Value) → IsNormal a → IsNormal b → SameNumber (exact a) (exact b) ↔ (a ≡ b)
   pub denotes : (v : Value) → IsNormal v → Denotes (plain v) (exact v)
   pub run : (bytes : List ℕ) → HasForm bytes → IsRun bytes
-  pub digits : (bytes : List ℕ) → AreDigits bytes → 0 < length bytes → length bytes ≤ 18 → IsInBounds bytes
+  pub digits : (bytes : List ℕ) → AreDigits bytes → 0 < length bytes → length bytes ≤ 18 →
+      IsInBounds bytes

@@ -33,10 +33,7 @@ fn put_call(out: &mut String, catalogue: &mut Catalogue, line: &[u8]) -> Result<
         }
         b"groups" => write!(out, "{}", catalogue.groups()),
         b"lines" => put_lines(out, catalogue.lines(number_of(rest))),
-        b"text" => match catalogue.text(number_of(rest)) {
-            Some(text) => put_text(out, text),
-            None => out.push_str("none"),
-        },
+        b"text" => put_group_text(out, catalogue.text(number_of(rest))),
         b"refused" => put_refused(out, catalogue.refused()),
         _ => out.push_str("no such call"),
     }
@@ -60,7 +57,8 @@ fn number_of(digits: &[u8]) -> usize {
     number
 }
 
-fn put_placed(out: &mut String, placed: Placed) -> Result<(), AllocError> {
+/// Where a line was put.
+pub fn put_placed(out: &mut String, placed: Placed) -> Result<(), AllocError> {
     match placed {
         Placed::Blank => out.push_str("blank"),
         Placed::Refused(refusal) => put_refusal(out, refusal),
@@ -74,7 +72,8 @@ fn put_refusal(out: &mut String, refusal: Refusal) -> Result<(), AllocError> {
     write!(out, "{number} at {place}")
 }
 
-fn put_lines(out: &mut String, lines: Option<&[u64]>) -> Result<(), AllocError> {
+/// The lines of a group; `none` where there is no such group.
+pub fn put_lines(out: &mut String, lines: Option<&[u64]>) -> Result<(), AllocError> {
     let Some(lines) = lines else {
         return out.push_str("none");
     };
@@ -85,7 +84,16 @@ fn put_lines(out: &mut String, lines: Option<&[u64]>) -> Result<(), AllocError> 
     Ok(())
 }
 
-fn put_refused(out: &mut String, refused: &[(u64, Refusal)]) -> Result<(), AllocError> {
+/// The text of a group; `none` where there is no such group.
+pub fn put_group_text(out: &mut String, text: Option<&[u8]>) -> Result<(), AllocError> {
+    match text {
+        Some(text) => put_text(out, text),
+        None => out.push_str("none"),
+    }
+}
+
+/// The lines that were refused.
+pub fn put_refused(out: &mut String, refused: &[(u64, Refusal)]) -> Result<(), AllocError> {
     out.push_str("refused")?;
     for (line, refusal) in refused {
         write!(out, " {line}: ")?;

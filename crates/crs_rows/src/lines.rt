@@ -11,18 +11,23 @@ pub fn put_request(out: &mut String, alloc: Global, input: &[u8]) -> Result<(), 
     };
     let words: Vec<&str> = line.split('\n').collect(alloc)?;
     match &request(alloc, &words) {
-        Ok(Request::Canon { level }) => put_levelled(out, "canon", level),
-        Ok(Request::Check) => out.push_str("check"),
-        Ok(
-            Request::Same {
-                level,
-                first,
-                second,
-            },
-        ) => put_texts(out, level, first, second),
-        Ok(Request::Group { level }) => put_levelled(out, "group", level),
+        Ok(asked) => put_asked(out, asked),
         Err(RequestFault::Line(_)) => out.push_str("no command"),
         Err(RequestFault::Memory(error)) => Err(*error),
+    }
+}
+
+/// A command and its words, each in brackets.
+pub fn put_asked(out: &mut String, asked: &Request) -> Result<(), AllocError> {
+    match asked {
+        Request::Canon { level } => put_levelled(out, "canon", level),
+        Request::Check => out.push_str("check"),
+        Request::Same {
+            level,
+            first,
+            second,
+        } => put_texts(out, level, first, second),
+        Request::Group { level } => put_levelled(out, "group", level),
     }
 }
 

@@ -1,5 +1,5 @@
 //! The worked rows of the public calls: each file of rows is run, the rows that differ are printed, and
-//! then a count for the file.
+//! then a count for the file. With the word `trial` it makes one call that takes memory, which standard input names.
 #![tactic(auto)]
 
 mod answers;
@@ -18,9 +18,10 @@ mod sameness;
 mod shapes;
 mod streams;
 mod texts;
+mod trials;
 mod values;
 
-use std::{fs, io};
+use std::{env, fs, io};
 
 const FILES: [&str; 22] = [
     "decimals",
@@ -48,8 +49,16 @@ const FILES: [&str; 22] = [
 ];
 
 fn main(rt: HostRuntime) -> io::Result<()> {
+    match env::args(&rt)?.nth(1).as_deref() {
+        None => run_files(&rt),
+        Some("trial") => trials::try_one(&rt),
+        Some(_) => Err(io::Error::from(io::ErrorKind::InvalidInput)),
+    }
+}
+
+fn run_files(rt: &HostRuntime) -> io::Result<()> {
     for name in FILES {
-        run_file(&rt, name)?;
+        run_file(rt, name)?;
     }
     Ok(())
 }

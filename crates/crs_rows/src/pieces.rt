@@ -1,6 +1,6 @@
 //! Texts in pieces.
-use crate::texts::{put_fault, put_read};
-use crs_text::{Fault, Feeder, read_items};
+use crate::texts::{answered, put_read, put_refusal};
+use crs_text::{Fault, Feeder, Refusal, read_items};
 use std::alloc::{AllocError, Global};
 
 // The longest text of which every cut is tried.
@@ -18,14 +18,20 @@ pub fn put_fed(
     let mut from = 0;
     for end in ends {
         let piece = input.get(from..*end).unwrap_or(&[]);
-        match feeder.feed(piece) {
-            Ok(()) => out.push_str("ok")?,
-            Err(fault) => put_fault(out, fault)?,
-        }
+        let taken = answered(feeder.feed(piece))?;
+        put_taken(out, &taken)?;
         out.push_str("; ")?;
         from = *end;
     }
     put_read(out, feeder.finish())
+}
+
+/// What `feed` answers: `ok`, or the refusal.
+pub fn put_taken(out: &mut String, taken: &Result<(), Refusal>) -> Result<(), AllocError> {
+    match taken {
+        Ok(()) => out.push_str("ok"),
+        Err(refusal) => put_refusal(out, *refusal),
+    }
 }
 
 /// Whether a text that isn't long gives the same answer as a whole, in any two pieces, and in pieces of 1 to 7 bytes.
@@ -71,8 +77,8 @@ fn answer(alloc: Global, text: &[u8]) -> Result<String, AllocError> {
     Ok(answer)
 }
 
-// A refusal is told by `finish` again.
-fn feed(feeder: &mut Feeder, piece: &[u8]) -> Result<(), AllocError> {
+/// Feeds a piece; a refusal is told by `finish` again.
+pub fn feed(feeder: &mut Feeder, piece: &[u8]) -> Result<(), AllocError> {
     match feeder.feed(piece) {
         Ok(()) | Err(Fault::Refused(_)) => Ok(()),
         Err(Fault::Memory(error)) => Err(error),
@@ -80,7 +86,13 @@ fn feed(feeder: &mut Feeder, piece: &[u8]) -> Result<(), AllocError> {
 }
 
 fn answers(alloc: Global, feeder: &Feeder, whole: &str) -> Result<bool, AllocError> {
+    let answer = finished(alloc, feeder)?;
+    Ok(answer.as_str() == whole)
+}
+
+/// What `finish` answers, which shows the bytes that the feeder holds.
+pub fn finished(alloc: Global, feeder: &Feeder) -> Result<String, AllocError> {
     let mut answer = String::new(alloc);
     put_read(&mut answer, feeder.finish())?;
-    Ok(answer.as_str() == whole)
+    Ok(answer)
 }

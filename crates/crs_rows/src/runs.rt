@@ -75,12 +75,9 @@ fn put_ended(
     let mut source = Source::new(reader);
     let mut sink = Sink::new(page);
     match command {
-        Command::Canon => put_outcome(out, run_canon(alloc, level, &mut source, &mut sink))?,
-        Command::Check => put_outcome(out, run_check(alloc, &mut source, &mut sink))?,
-        Command::Group => match run_group(alloc, level, &mut source, &mut sink) {
-            Ok(summary) => put_summary(out, summary)?,
-            Err(fault) => put_fault(out, fault)?,
-        },
+        Command::Canon => put_outcome(out, &run_canon(alloc, level, &mut source, &mut sink))?,
+        Command::Check => put_outcome(out, &run_check(alloc, &mut source, &mut sink))?,
+        Command::Group => put_grouped(out, &run_group(alloc, level, &mut source, &mut sink))?,
     }
     write!(out, ", reads {}", source.reads())?;
     if source.failed() {
@@ -92,13 +89,26 @@ fn put_ended(
     Ok(())
 }
 
-fn put_outcome(out: &mut String, outcome: Result<u8, RunFault>) -> Result<(), AllocError> {
+/// How a run ended.
+pub fn put_outcome(out: &mut String, outcome: &Result<u8, RunFault>) -> Result<(), AllocError> {
     match outcome {
         Ok(status) => write!(out, "status {status}"),
         Err(fault) => put_fault(out, fault),
     }
 }
 
+/// How a run of `group` ended.
+pub fn put_grouped(
+    out: &mut String,
+    outcome: &Result<Summary, RunFault>,
+) -> Result<(), AllocError> {
+    match outcome {
+        Ok(summary) => put_summary(out, *summary),
+        Err(fault) => put_fault(out, fault),
+    }
+}
+
+// What a catalogue has come to.
 fn put_summary(out: &mut String, summary: Summary) -> Result<(), AllocError> {
     let Summary {
         lines,
@@ -113,7 +123,7 @@ fn put_summary(out: &mut String, summary: Summary) -> Result<(), AllocError> {
 }
 
 // The fault of a run; want of memory is the error.
-fn put_fault(out: &mut String, fault: RunFault) -> Result<(), AllocError> {
+fn put_fault(out: &mut String, fault: &RunFault) -> Result<(), AllocError> {
     match fault {
         RunFault::ReadFailed => out.push_str("fault ReadFailed"),
         RunFault::WriteFailed => out.push_str("fault WriteFailed"),
@@ -144,8 +154,8 @@ pub fn put_done(out: &mut String, done: &Done) -> Result<(), AllocError> {
     put_written(out, &done.written)
 }
 
-// `, written` and what was written, or that nothing was.
-fn put_written(out: &mut String, written: &[u8]) -> Result<(), AllocError> {
+/// `, written` and what was written, or that nothing was.
+pub fn put_written(out: &mut String, written: &[u8]) -> Result<(), AllocError> {
     if written.is_empty() {
         return out.push_str(", nothing written");
     }
@@ -164,7 +174,7 @@ pub fn put_canon(
     let mut sink = Sink::new(&mut written);
     put_outcome(
         out,
-        run_canon(alloc, level, &mut Source::new(input), &mut sink),
+        &run_canon(alloc, level, &mut Source::new(input), &mut sink),
     )?;
     put_written(out, &written)
 }
@@ -173,7 +183,7 @@ pub fn put_canon(
 pub fn put_check(out: &mut String, alloc: Global, input: &[u8]) -> Result<(), AllocError> {
     let mut written = Vec::new(alloc);
     let mut sink = Sink::new(&mut written);
-    put_outcome(out, run_check(alloc, &mut Source::new(input), &mut sink))?;
+    put_outcome(out, &run_check(alloc, &mut Source::new(input), &mut sink))?;
     put_written(out, &written)
 }
 
@@ -192,7 +202,7 @@ pub fn put_same(
     let (first, second) = split_line(input);
     put_outcome(
         out,
-        run_same(alloc, level, first, second, &mut Sink::new(&mut page)),
+        &run_same(alloc, level, first, second, &mut Sink::new(&mut page)),
     )?;
     put_written(out, &page.written)
 }

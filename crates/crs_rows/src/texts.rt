@@ -51,12 +51,29 @@ pub fn put_tree(out: &mut String, alloc: Global, input: &[u8]) -> Result<(), All
 
 /// The items that were read, node by node, or the refusal.
 pub fn put_read(out: &mut String, read: Result<Items<'_>, Fault>) -> Result<(), AllocError> {
-    match read {
+    let answer = answered(read)?;
+    put_answered(out, &answer)
+}
+
+/// What was found, or the refusal; want of memory is the error.
+pub fn answered<T>(found: Result<T, Fault>) -> Result<Result<T, Refusal>, AllocError> {
+    match found {
+        Ok(value) => Ok(Ok(value)),
+        Err(fault) => Ok(Err(fault.refusal().ok_or(AllocError)?)),
+    }
+}
+
+/// `tree` and the items, node by node, or the refusal.
+pub fn put_answered(
+    out: &mut String,
+    answer: &Result<Items<'_>, Refusal>,
+) -> Result<(), AllocError> {
+    match answer {
         Ok(items) => {
             out.push_str("tree ")?;
-            put_item(out, &items, items.root(), DEPTH)
+            put_item(out, items, items.root(), DEPTH)
         }
-        Err(fault) => put_fault(out, fault),
+        Err(refusal) => put_refusal(out, *refusal),
     }
 }
 

@@ -43,7 +43,8 @@ fn put_kind(out: &mut String, kind: Kind) -> Result<(), AllocError> {
     out.push_str(kind_word(kind))
 }
 
-fn kind_word(kind: Kind) -> &'static str {
+/// The word of a kind.
+pub fn kind_word(kind: Kind) -> &'static str {
     match kind {
         Kind::Geodetic => "geodetic",
         Kind::Geographic => "geographic",

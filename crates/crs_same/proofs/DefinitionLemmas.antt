@@ -1,5 +1,5 @@
 -- What is the same with everything that counts is the same by definition.
-use Rattle.std.proofs.Common.{◌≡◌, ℕ, ◌≤◌, ◌+◌, inl, inr, ◌⊎◌, Option, Some, None, List, [], ◌∷◌, refl}
+use Rattle.std.proofs.Common.{ℕ, ◌+◌, inl, inr, ◌⊎◌, Option, Some, None, List, [], ◌∷◌, refl}
 use Rattle.crs_value.specs.declared.values.compound.Horizontal.{Horizontal}
 use Rattle.crs_value.specs.declared.values.compound.Horizontal.TheVariants as horizontal
 use Rattle.crs_value.specs.declared.values.crs.Crs.{Crs}
@@ -18,7 +18,7 @@ use Rattle.crs_same.specs.SameConversions.{SameMethod, SameParameter, SameConver
 use Rattle.crs_same.specs.SameCrs.{SameGeodetic, SameBase, SameProjected, SameVertical, SameHorizontal, SameCompound, SameParts, SameCrs}
 use Rattle.crs_same.specs.SameDynamic.{SameDeformationModel, SameDynamic}
 use Rattle.crs_same.specs.SameFrames.{SameEllipsoid, SameGiven, SameMeridian, SameMember, SameDatum, SameEnsemble, SameFrame, IsZero}
-use Rattle.crs_same.specs.SameSystems.{SameAxisMeridian, SameAxisIn, SameAxis, HasAt, IsAt, SameSystem}
+use Rattle.crs_same.specs.SameSystems.{SameAxisMeridian, SameAxisIn, SameAxis, HasAt, SameSystem}
 use Rattle.crs_same.specs.SameUnits.{SameUnit, SameLength}
 use Rattle.crs_same.specs.SameUsages.{SameTail}
 use Rattle.crs_same.specs.Sets.{BothOrNeither, HasSame, AllHaveSame, SameSet}

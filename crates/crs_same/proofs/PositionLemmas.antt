@@ -6,7 +6,7 @@ use Rattle.crs_value.specs.BadOrder.{IsPosition}
 use Rattle.crs_value.specs.Sound.{Each, IsAxis}
 use Rattle.crs_value.specs.SoundSystem.{AreOrders, AreDistinct, IsSystem}
 use Rattle.crs_value.specs.Values.{AxisParts, SystemParts}
-use Rattle.crs_same.specs.SameSystems.{IsAt, HasAt}
+use Rattle.crs_same.specs.SameSystems.{IsPositionOf, HasAt}
 use Rattle.crs_same.specs.SameUnits.{SameValue}
 use Rattle.crs_same.proofs.CountLemmas.{Within, Among, Lacks, Apart, among-or-lacks, each-stands}
 use Rattle.crs_same.proofs.NumberLemmas.{wholes-same}
@@ -16,7 +16,7 @@ abbrev Stand : ℕ → List AxisParts → List ℕ → Type 0
 Stand place [] [] = Unit {0}
 Stand place [] (k ∷ ks) = ⊥
 Stand place (axis ∷ axes) [] = ⊥
-Stand place (axis ∷ axes) (k ∷ ks) = ((j : ℕ) → IsAt j place axis.order ↔ (k ≡ j)) × Stand (place + 1) axes ks
+Stand place (axis ∷ axes) (k ∷ ks) = ((j : ℕ) → IsPositionOf j place axis.order ↔ (k ≡ j)) × Stand (place + 1) axes ks
 
 record Positions (place n : ℕ) (axes : List AxisParts) : Type 0 where
   ks : List ℕ
@@ -34,7 +34,7 @@ places place n (axis ∷ axes) first last none =
     let r = places (place + 1) n axes (omega (arith, first)) (omega (arith, last)) none.1 in (
       record {
         ks = place ∷ r.0.ks;
-        stand = (λ j. subst (λ o. IsAt j place o ↔ (place ≡ j)) (sym none.0) (λ e. e, λ e. e), r.0.stand);
+        stand = (λ j. subst (λ o. IsPositionOf j place o ↔ (place ≡ j)) (sym none.0) (λ e. e, λ e. e), r.0.stand);
         within = (first, omega (arith, last), r.0.within);
         apart = (r.1 place (omega arith), r.0.apart);
         long = ap suc r.0.long;
@@ -47,7 +47,7 @@ places place n (axis ∷ axes) first last none =
 module _ (symmetric : (a b : Number) → SameNumber a b → SameNumber b a)
     (transitive : (a b c : Number) → SameNumber a b → SameNumber b c → SameNumber a c)
     (normal-is-one : (a b : Value) → IsNormal a → IsNormal b → SameNumber (exact a) (exact b) ↔ (a ≡ b)) where
-  at-order : (o : Value) (k place j : ℕ) → SameNumber (exact o) (whole_number k) → IsAt j place (Some o) ↔ (k ≡ j)
+  at-order : (o : Value) (k place j : ℕ) → SameNumber (exact o) (whole_number k) → IsPositionOf j place (Some o) ↔ (k ≡ j)
   at-order o k place j s = (
     λ t. wholes-same k j (transitive (whole_number k) (exact o) (whole_number j) (symmetric (exact o) (whole_number k) s) t),
     λ e. let P : ℕ → Type 0 = λ n. SameNumber (exact o) (whole_number n) in subst P e s,
@@ -75,7 +75,7 @@ module _ (symmetric : (a b : Number) → SameNumber a b → SameNumber b a)
       let r = ordered (place + 1) n axes os tail sound.1 whole.1 apart.1 in (
         record {
           ks = k ∷ r.0.ks;
-          stand = (λ j. subst (λ order. IsAt j place order ↔ (k ≡ j)) (sym head) (at-order o k place j here), r.0.stand);
+          stand = (λ j. subst (λ order. IsPositionOf j place order ↔ (k ≡ j)) (sym head) (at-order o k place j here), r.0.stand);
           within = (whole.0.1.0, whole.0.1.1, r.0.within);
           apart = (r.1 o k normal here apart.0, r.0.apart);
           long = ap suc r.0.long;

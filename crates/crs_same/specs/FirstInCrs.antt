@@ -24,21 +24,26 @@ use Rattle.crs_same.specs.SameUnits.{SameUnit, SameValue}
 use Rattle.crs_same.specs.SameUsages.{SameUsages, SameRemark}
 use Rattle.crs_same.specs.Sets.{SameSet, BothOrNeither}
 
-abbrev pub FirstInMethod : List Step → Level → MethodParts → MethodParts → Option (List Step) → Type 0
+-- the first part in which two methods differ: name, identifiers
+abbrev pub FirstInMethod : List Step → Level → MethodParts → MethodParts → Option (List Step) →
+    Type 0
 FirstInMethod at level a b =
     Part (at ▸ step.Name) (a.name ≡ b.name)
     ⨾ Part (at ▸ step.Id) (SameIdents level a.identifiers b.identifiers)
 
-unfoldable pub FirstInConversion : List Step → Level → ConversionParts → ConversionParts → Option (List Step) → Type 0
+-- the first part in which two conversions differ: name, method, parameters, identifiers
+unfoldable pub FirstInConversion : List Step → Level → ConversionParts → ConversionParts →
+    Option (List Step) → Type 0
 FirstInConversion at level a b =
     Part (at ▸ step.Name) (a.name ≡ b.name)
     ⨾ FirstInMethod (at ▸ step.Method) level a.method b.method
     ⨾ Part (at ▸ step.Parameters) (SameSet (SameParameter level) a.parameters b.parameters)
     ⨾ Part (at ▸ step.Id) (SameIdents level a.identifiers b.identifiers)
 
--- where only one side has a dynamic part, its epoch is the first part that is on one side alone
-unfoldable pub FirstInDynamic : List Step → Level → Option DynamicParts → Option DynamicParts → Option (List Step) →
-    Type 0
+-- the first part in which two dynamic parts differ: epoch, model; where only one side has a dynamic
+-- part, its epoch is the first part that is on one side alone
+unfoldable pub FirstInDynamic : List Step → Level → Option DynamicParts → Option DynamicParts →
+    Option (List Step) → Type 0
 FirstInDynamic at level None None = Nothing
 FirstInDynamic at level None (Some b) = Part (at ▸ step.Epoch) ⊥
 FirstInDynamic at level (Some a) None = Part (at ▸ step.Epoch) ⊥
@@ -46,15 +51,17 @@ FirstInDynamic at level (Some a) (Some b) =
     Part (at ▸ step.Epoch) (SameValue a.epoch b.epoch)
     ⨾ Part (at ▸ step.Model) (BothOrNeither (SameDeformationModel level) a.model b.model)
 
--- the end of a CRS
+-- the first part in which the ends of two CRSs differ: usages, identifiers, remark
 unfoldable pub FirstInTail : List Step → Level → TailParts → TailParts → Option (List Step) → Type 0
 FirstInTail at level a b =
     Part (at ▸ step.Usage) (SameUsages level a b)
     ⨾ Part (at ▸ step.Id) (SameIdents level a.identifiers b.identifiers)
     ⨾ Part (at ▸ step.Remark) (SameRemark level a b)
 
--- the kind is geodetic or geographic
-unfoldable pub FirstInGeodetic : List Step → Level → GeodeticParts → GeodeticParts → Option (List Step) → Type 0
+-- the first part in which two geodetic CRSs differ: kind, which is geodetic or geographic, name,
+-- dynamic part, frame, prime meridian, coordinate system, end
+unfoldable pub FirstInGeodetic : List Step → Level → GeodeticParts → GeodeticParts →
+    Option (List Step) → Type 0
 FirstInGeodetic at level a b =
     Part (at ▸ step.Kind) (kind_by a.system.system_type ≡ kind_by b.system.system_type)
     ⨾ Part (at ▸ step.Name) (a.name ≡ b.name)
@@ -64,6 +71,8 @@ FirstInGeodetic at level a b =
     ⨾ FirstInSystem (at ▸ step.System) level a.system b.system
     ⨾ FirstInTail at level a.tail b.tail
 
+-- the first part in which two base CRSs differ: name, dynamic
+-- part, frame, prime meridian, unit, identifiers
 unfoldable pub FirstInBase : List Step → Level → BaseParts → BaseParts → Option (List Step) → Type 0
 FirstInBase at level a b =
     Part (at ▸ step.Name) (a.name ≡ b.name)
@@ -73,7 +82,10 @@ FirstInBase at level a b =
     ⨾ Part (at ▸ step.Unit) (BothOrNeither (SameUnit kinds.Angle level) a.unit b.unit)
     ⨾ Part (at ▸ step.Id) (SameIdents level a.identifiers b.identifiers)
 
-unfoldable pub FirstInProjected : List Step → Level → ProjectedParts → ProjectedParts → Option (List Step) → Type 0
+-- the first part in which two projected CRSs differ: name,
+-- base CRS, conversion, coordinate system, end
+unfoldable pub FirstInProjected : List Step → Level → ProjectedParts → ProjectedParts →
+    Option (List Step) → Type 0
 FirstInProjected at level a b =
     Part (at ▸ step.Name) (a.name ≡ b.name)
     ⨾ FirstInBase (at ▸ step.Base) level a.base b.base
@@ -81,7 +93,10 @@ FirstInProjected at level a b =
     ⨾ FirstInSystem (at ▸ step.System) level a.system b.system
     ⨾ FirstInTail at level a.tail b.tail
 
-unfoldable pub FirstInVertical : List Step → Level → VerticalParts → VerticalParts → Option (List Step) → Type 0
+-- the first part in which two vertical CRSs differ: name,
+-- dynamic part, frame, coordinate system, geoid models, end
+unfoldable pub FirstInVertical : List Step → Level → VerticalParts → VerticalParts →
+    Option (List Step) → Type 0
 FirstInVertical at level a b =
     Part (at ▸ step.Name) (a.name ≡ b.name)
     ⨾ FirstInDynamic (at ▸ step.Dynamic) level a.dynamic b.dynamic
@@ -90,20 +105,30 @@ FirstInVertical at level a b =
     ⨾ Part (at ▸ step.Geoid) (SameSet (SameGeoidModel level) a.geoid_models b.geoid_models)
     ⨾ FirstInTail at level a.tail b.tail
 
-unfoldable pub FirstInHorizontal : List Step → Level → Horizontal → Horizontal → Option (List Step) → Type 0
-FirstInHorizontal at level (horizontal.Geodetic a) (horizontal.Geodetic b) = FirstInGeodetic at level a b
-FirstInHorizontal at level (horizontal.Geodetic a) (horizontal.Projected b) = Part (at ▸ step.Kind) ⊥
-FirstInHorizontal at level (horizontal.Projected a) (horizontal.Geodetic b) = Part (at ▸ step.Kind) ⊥
-FirstInHorizontal at level (horizontal.Projected a) (horizontal.Projected b) = FirstInProjected at level a b
+-- the first part in which the horizontal parts of two compound
+-- CRSs differ; a geodetic and a projected one differ in kind
+unfoldable pub FirstInHorizontal : List Step → Level → Horizontal → Horizontal →
+    Option (List Step) → Type 0
+FirstInHorizontal at level (horizontal.Geodetic a) (horizontal.Geodetic b) =
+    FirstInGeodetic at level a b
+FirstInHorizontal at level (horizontal.Geodetic a) (horizontal.Projected b) =
+    Part (at ▸ step.Kind) ⊥
+FirstInHorizontal at level (horizontal.Projected a) (horizontal.Geodetic b) =
+    Part (at ▸ step.Kind) ⊥
+FirstInHorizontal at level (horizontal.Projected a) (horizontal.Projected b) =
+    FirstInProjected at level a b
 
-unfoldable pub FirstInCompound : List Step → Level → CompoundParts → CompoundParts → Option (List Step) → Type 0
+-- the first part in which two compound CRSs differ: name, horizontal part, vertical part, end
+unfoldable pub FirstInCompound : List Step → Level → CompoundParts → CompoundParts →
+    Option (List Step) → Type 0
 FirstInCompound at level a b =
     Part (at ▸ step.Name) (a.name ≡ b.name)
     ⨾ FirstInHorizontal (at ▸ step.Horizontal) level a.horizontal b.horizontal
     ⨾ FirstInVertical (at ▸ step.Vertical) level a.vertical b.vertical
     ⨾ FirstInTail at level a.tail b.tail
 
--- two CRSs of different kinds differ in that
+-- the first part in which two CRSs differ; where they aren't both
+-- geodetic, projected, vertical or compound, they differ in kind
 abbrev pub FirstInCrs : Level → Crs → Crs → Option (List Step) → Type 0
 FirstInCrs level (crs.Geodetic a) (crs.Geodetic b) = FirstInGeodetic [] level a b
 FirstInCrs level (crs.Projected a) (crs.Projected b) = FirstInProjected [] level a b

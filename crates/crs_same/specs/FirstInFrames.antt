@@ -13,7 +13,10 @@ use Rattle.crs_same.specs.SameIdents.{SameIdents}
 use Rattle.crs_same.specs.SameUnits.{SameValue, SameUnit, SameLength, HasNoIdents}
 use Rattle.crs_same.specs.Sets.{SameSet, BothOrNeither}
 
-abbrev pub FirstInEllipsoid : List Step → Level → EllipsoidParts → EllipsoidParts → Option (List Step) → Type 0
+-- the first part in which two ellipsoids differ: name,
+-- semi-major axis, inverse flattening, unit, identifiers
+abbrev pub FirstInEllipsoid : List Step → Level → EllipsoidParts → EllipsoidParts →
+    Option (List Step) → Type 0
 FirstInEllipsoid at level a b =
     Part (at ▸ step.Name) (a.name ≡ b.name)
     ⨾ Part (at ▸ step.SemiMajor) (SameValue a.semi_major_axis b.semi_major_axis)
@@ -21,9 +24,10 @@ FirstInEllipsoid at level a b =
     ⨾ Part (at ▸ step.Unit) (SameLength level a.unit b.unit)
     ⨾ Part (at ▸ step.Id) (SameIdents level a.identifiers b.identifiers)
 
--- where only one side has an ellipsoid, its name is the first part that is on one side alone
-abbrev pub FirstInEllipsoids : List Step → Level → Option EllipsoidParts → Option EllipsoidParts → Option (List Step) →
-    Type 0
+-- the first part in which two ellipsoids that may be missing differ; where only one side has an
+-- ellipsoid, its name is the first part that is on one side alone
+abbrev pub FirstInEllipsoids : List Step → Level → Option EllipsoidParts → Option EllipsoidParts →
+    Option (List Step) → Type 0
 FirstInEllipsoids at level None None = Nothing
 FirstInEllipsoids at level None (Some b) = Part (at ▸ step.Name) ⊥
 FirstInEllipsoids at level (Some a) None = Part (at ▸ step.Name) ⊥
@@ -31,23 +35,28 @@ FirstInEllipsoids at level (Some a) (Some b) = FirstInEllipsoid at level a b
 
 -- ---- prime meridians
 
--- at longitude 0 there is no unit
-abbrev pub FirstInGiven : List Step → Level → MeridianParts → MeridianParts → Option (List Step) → Type 0
+-- the first part in which two written prime meridians differ: name,
+-- longitude, unit, which doesn't count at longitude 0, identifiers
+abbrev pub FirstInGiven : List Step → Level → MeridianParts → MeridianParts → Option (List Step) →
+    Type 0
 FirstInGiven at level a b =
     Part (at ▸ step.Name) (a.name ≡ b.name)
     ⨾ Part (at ▸ step.Longitude) (SameValue a.longitude b.longitude)
-    ⨾ Part (at ▸ step.Unit) (IsZero a.longitude ⊎ BothOrNeither (SameUnit kinds.Angle level) a.unit b.unit)
+    ⨾ Part (at ▸ step.Unit)
+    (IsZero a.longitude ⊎ BothOrNeither (SameUnit kinds.Angle level) a.unit b.unit)
     ⨾ Part (at ▸ step.Id) (SameIdents level a.identifiers b.identifiers)
 
--- beside a missing one, which is Greenwich
+-- the first part in which a written prime meridian differs from a
+-- missing one, which is Greenwich: name, longitude, identifiers
 abbrev pub FirstBesideGreenwich : List Step → Level → MeridianParts → Option (List Step) → Type 0
 FirstBesideGreenwich at level meridian =
     Part (at ▸ step.Name) (meridian.name ≡ codes "Greenwich")
     ⨾ Part (at ▸ step.Longitude) (IsZero meridian.longitude)
     ⨾ Part (at ▸ step.Id) (HasNoIdents level meridian.identifiers)
 
-unfoldable pub FirstInMeridian : List Step → Level → Option MeridianParts → Option MeridianParts → Option (List Step) →
-    Type 0
+-- the first part in which two prime meridians differ, of which each may be missing
+unfoldable pub FirstInMeridian : List Step → Level → Option MeridianParts → Option MeridianParts →
+    Option (List Step) → Type 0
 FirstInMeridian at level None None = Nothing
 FirstInMeridian at level None (Some b) = FirstBesideGreenwich at level b
 FirstInMeridian at level (Some a) None = FirstBesideGreenwich at level a
@@ -55,6 +64,8 @@ FirstInMeridian at level (Some a) (Some b) = FirstInGiven at level a b
 
 -- ---- frames
 
+-- the first part in which two reference frames differ: name,
+-- ellipsoid, anchor, the anchor's epoch, identifiers
 abbrev pub FirstInDatum : List Step → Level → DatumParts → DatumParts → Option (List Step) → Type 0
 FirstInDatum at level a b =
     Part (at ▸ step.Name) (a.name ≡ b.name)
@@ -63,7 +74,10 @@ FirstInDatum at level a b =
     ⨾ Part (at ▸ step.AnchorEpoch) (BothOrNeither SameValue a.anchor_epoch b.anchor_epoch)
     ⨾ Part (at ▸ step.Id) (SameIdents level a.identifiers b.identifiers)
 
-abbrev pub FirstInEnsemble : List Step → Level → EnsembleParts → EnsembleParts → Option (List Step) → Type 0
+-- the first part in which two datum ensembles differ: name,
+-- members, ellipsoid, accuracy, identifiers
+abbrev pub FirstInEnsemble : List Step → Level → EnsembleParts → EnsembleParts →
+    Option (List Step) → Type 0
 FirstInEnsemble at level a b =
     Part (at ▸ step.Name) (a.name ≡ b.name)
     ⨾ Part (at ▸ step.Members) (SameSet (SameMember level) a.members b.members)
@@ -71,7 +85,7 @@ FirstInEnsemble at level a b =
     ⨾ Part (at ▸ step.Accuracy) (SameValue a.accuracy b.accuracy)
     ⨾ Part (at ▸ step.Id) (SameIdents level a.identifiers b.identifiers)
 
--- a reference frame and an ensemble differ in their kind
+-- the first part in which two frames differ; a reference frame and an ensemble differ in kind
 unfoldable pub FirstInFrame : List Step → Level → Frame → Frame → Option (List Step) → Type 0
 FirstInFrame at level (frame.Datum a) (frame.Datum b) = FirstInDatum at level a b
 FirstInFrame at level (frame.Datum a) (frame.Ensemble b) = Part (at ▸ step.Kind) ⊥

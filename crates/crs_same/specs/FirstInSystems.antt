@@ -11,7 +11,8 @@ use Rattle.crs_same.specs.SameSystems.{SameAxisMeridian, own_or, HasAt}
 use Rattle.crs_same.specs.SameUnits.{SameValue, SameUnit}
 use Rattle.crs_same.specs.Sets.{BothOrNeither}
 
--- two axes of two systems
+-- the first part in which two axes of two coordinate systems
+-- differ: name, direction, meridian, unit, identifiers
 unfoldable pub FirstInAxis : List Step → Level → SystemParts → SystemParts → AxisParts → AxisParts →
     Option (List Step) → Type 0
 FirstInAxis at level a b x y =
@@ -22,7 +23,7 @@ FirstInAxis at level a b x y =
     (own_or x.unit a.unit) (own_or y.unit b.unit))
     ⨾ Part (at ▸ step.Id) (SameIdents level x.identifiers y.identifiers)
 
--- the axes at this position
+-- the first part in which the axes at this position differ
 abbrev pub FirstAt : List Step → Level → SystemParts → SystemParts → ℕ → Option (List Step) → Type 0
 FirstAt at level a b position found =
     HasAt position (λ x. HasAt position
@@ -30,16 +31,19 @@ FirstAt at level a b position found =
 
 -- nothing differs at the positions below this one
 abbrev pub NoneBelow : List Step → Level → SystemParts → SystemParts → ℕ → Type 0
-NoneBelow at level a b end = (position : ℕ) → 1 ≤ position → position < end → FirstAt at level a b position None
+NoneBelow at level a b end =
+    (position : ℕ) → 1 ≤ position → position < end → FirstAt at level a b position None
 
--- the axes by position, from the first to the last
+-- the first part in which the axes differ, position by position from the first to the last
 abbrev pub FirstInAxes : List Step → Level → SystemParts → SystemParts → Option (List Step) → Type 0
 FirstInAxes at level a b None = NoneBelow at level a b (suc (length a.axes))
 FirstInAxes at level a b (Some found) =
     (position : ℕ) × (1 ≤ position) × (position ≤ length a.axes) × NoneBelow at level a b position
     × FirstAt at level a b position (Some found)
 
-unfoldable pub FirstInSystem : List Step → Level → SystemParts → SystemParts → Option (List Step) → Type 0
+-- the first part in which two coordinate systems differ: type, dimension, identifiers, axes
+unfoldable pub FirstInSystem : List Step → Level → SystemParts → SystemParts → Option (List Step) →
+    Type 0
 FirstInSystem at level a b =
     Part (at ▸ step.SystemType) (a.system_type ≡ b.system_type)
     ⨾ Part (at ▸ step.Dimension) (SameValue a.dimension b.dimension)

@@ -18,6 +18,7 @@ Part path Same None = Same
 Part path Same (Some found) = (¬ Same) × (found ≡ path)
 
 -- what is found in the first place, and, where that is nothing, what is found in the second
-abbrev pub ◌⨾◌ : (Option (List Step) → Type 0) → (Option (List Step) → Type 0) → Option (List Step) → Type 0
+abbrev pub ◌⨾◌ : (Option (List Step) → Type 0) → (Option (List Step) → Type 0) →
+    Option (List Step) → Type 0
 (First ⨾ Second) None = First None × Second None
 (First ⨾ Second) (Some found) = First (Some found) ⊎ (First None × Second (Some found))

@@ -3,6 +3,7 @@ use Rattle.std.specs.Prelude.{List, [], ◌∷◌, ◌++◌, ℕ, codes, decimal
 use Rattle.crs_same.specs.declared.step.Step.{Step}
 use Rattle.crs_same.specs.declared.step.Step.TheVariants as step
 
+-- the word of a step
 abbrev pub step_word : Step → List ℕ
 step_word step.Kind = codes "kind"
 step_word step.Name = codes "name"
@@ -36,11 +37,12 @@ step_word step.Direction = codes "direction"
 step_word step.Method = codes "method"
 step_word step.Parameters = codes "parameters"
 
--- an axis is told by its position
+-- the number of a step: of an axis its position, of any other none
 abbrev pub step_number : Step → List ℕ
 step_number (step.Axis position) = decimal position
 step_number other = []
 
+-- the text of a step: its word, and its number if it has one
 abbrev pub step_text : Step → List ℕ
 step_text step = step_word step ++ step_number step
 

@@ -18,7 +18,8 @@ use Rattle.crs_same.specs.SameSystems.{SameSystem}
 use Rattle.crs_same.specs.SameUnits.{SameUnit}
 use Rattle.crs_same.specs.SameUsages.{SameTail}
 
--- both are geographic, or neither is
+-- two geodetic CRSs are the same: both are geographic or
+-- neither is, and all their parts are the same
 pub record SameGeodetic (level : Level) (a b : GeodeticParts) : Type 0 where
   pub kind : kind_by a.system.system_type ≡ kind_by b.system.system_type
   pub name : a.name ≡ b.name
@@ -28,7 +29,8 @@ pub record SameGeodetic (level : Level) (a b : GeodeticParts) : Type 0 where
   pub system : SameSystem level a.system b.system
   pub tail : SameTail level a.tail b.tail
 
--- a missing unit differs from each that is there
+-- two base CRSs are the same: all their parts are, and a
+-- missing unit differs from each that is there
 pub record SameBase (level : Level) (a b : BaseParts) : Type 0 where
   pub name : a.name ≡ b.name
   pub dynamic : BothOrNeither (SameDynamic level) a.dynamic b.dynamic
@@ -37,6 +39,7 @@ pub record SameBase (level : Level) (a b : BaseParts) : Type 0 where
   pub unit : BothOrNeither (SameUnit kinds.Angle level) a.unit b.unit
   pub identifiers : SameIdents level a.identifiers b.identifiers
 
+-- two projected CRSs are the same: all their parts are
 pub record SameProjected (level : Level) (a b : ProjectedParts) : Type 0 where
   pub name : a.name ≡ b.name
   pub base : SameBase level a.base b.base
@@ -44,6 +47,7 @@ pub record SameProjected (level : Level) (a b : ProjectedParts) : Type 0 where
   pub system : SameSystem level a.system b.system
   pub tail : SameTail level a.tail b.tail
 
+-- two vertical CRSs are the same: all their parts are, the geoid models as a set
 pub record SameVertical (level : Level) (a b : VerticalParts) : Type 0 where
   pub name : a.name ≡ b.name
   pub dynamic : BothOrNeither (SameDynamic level) a.dynamic b.dynamic
@@ -52,19 +56,23 @@ pub record SameVertical (level : Level) (a b : VerticalParts) : Type 0 where
   pub geoid_models : SameSet (SameGeoidModel level) a.geoid_models b.geoid_models
   pub tail : SameTail level a.tail b.tail
 
+-- the horizontal parts of two compound CRSs are the same: both
+-- are geodetic or both projected, and the same
 abbrev pub SameHorizontal : Level → Horizontal → Horizontal → Type 0
 SameHorizontal level (horizontal.Geodetic a) (horizontal.Geodetic b) = SameGeodetic level a b
 SameHorizontal level (horizontal.Geodetic a) (horizontal.Projected b) = ⊥
 SameHorizontal level (horizontal.Projected a) (horizontal.Geodetic b) = ⊥
 SameHorizontal level (horizontal.Projected a) (horizontal.Projected b) = SameProjected level a b
 
+-- two compound CRSs are the same: all their parts are
 pub record SameCompound (level : Level) (a b : CompoundParts) : Type 0 where
   pub name : a.name ≡ b.name
   pub horizontal : SameHorizontal level a.horizontal b.horizontal
   pub vertical : SameVertical level a.vertical b.vertical
   pub tail : SameTail level a.tail b.tail
 
--- the same parts
+-- two CRSs have the same parts: both are geodetic, projected,
+-- vertical or compound, and the same as such
 abbrev pub SameParts : Level → Crs → Crs → Type 0
 SameParts level (crs.Geodetic a) (crs.Geodetic b) = SameGeodetic level a b
 SameParts level (crs.Projected a) (crs.Projected b) = SameProjected level a b
@@ -72,7 +80,7 @@ SameParts level (crs.Vertical a) (crs.Vertical b) = SameVertical level a b
 SameParts level (crs.Compound a) (crs.Compound b) = SameCompound level a b
 SameParts level a b = ⊥
 
--- the same kind, of five, and the same parts
+-- two CRSs are the same: they are of one kind, of five, and have the same parts
 pub record SameCrs (level : Level) (a b : Crs) : Type 0 where
   pub kind : kind_of a ≡ kind_of b
   pub parts : SameParts level a b

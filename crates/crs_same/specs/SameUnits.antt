@@ -14,14 +14,15 @@ use Rattle.crs_same.specs.SameIdents.{SameIdents}
 unfoldable pub SameValue : Value → Value → Type 0
 SameValue a b = SameNumber (exact a) (exact b)
 
--- the same unit, where this kind is asked
+-- two units are the same where this kind is asked: `UNIT` stands for
+-- that kind, and kind, name, factor and identifiers are the same
 pub record SameUnit (asked : UnitKind) (level : Level) (a b : UnitParts) : Type 0 where
   pub kind : kind_as asked a.kind ≡ kind_as asked b.kind
   pub name : a.name ≡ b.name
   pub factor : SameValue a.factor b.factor
   pub identifiers : SameIdents level a.identifiers b.identifiers
 
--- no identifier counts
+-- the level keeps no identifier of the part
 abbrev pub HasNoIdents : Level → List IdentParts → Type 0
 HasNoIdents level identifiers = kept level identifiers ≡ []
 
@@ -32,7 +33,7 @@ pub record IsMetre (level : Level) (unit : UnitParts) : Type 0 where
   pub factor : SameNumber (exact unit.factor) (whole_number 1)
   pub identifiers : HasNoIdents level unit.identifiers
 
--- the same unit of length, where a missing one is the metre
+-- two units of length are the same, a missing one being the metre
 abbrev pub SameLength : Level → Option UnitParts → Option UnitParts → Type 0
 SameLength level None None = Unit {0}
 SameLength level None (Some b) = IsMetre level b

@@ -8,19 +8,21 @@ use Rattle.crs_same.specs.Sets.{SameSet, BothOrNeither}
 use Rattle.crs_same.specs.SameIdents.{SameIdents}
 use Rattle.crs_same.specs.SameUnits.{SameValue, SameLength}
 
+-- two bounding boxes are the same: south, west, north and east
 pub record SameBox (a b : BoxParts) : Type 0 where
   pub south : SameValue a.south b.south
   pub west : SameValue a.west b.west
   pub north : SameValue a.north b.north
   pub east : SameValue a.east b.east
 
--- a missing unit is the metre
+-- two extents in height are the same: minimum, maximum and unit, a missing unit being the metre
 pub record SameExtent (level : Level) (a b : ExtentParts) : Type 0 where
   pub minimum : SameValue a.minimum b.minimum
   pub maximum : SameValue a.maximum b.maximum
   pub unit : SameLength level a.unit b.unit
 
--- with all that it holds, at each level
+-- two usages are the same: scope, area, box and extent in
+-- height, with all that these hold, at each level
 pub record SameUsage (a b : UsageParts) : Type 0 where
   pub scope : a.scope ≡ b.scope
   pub area : a.area ≡ b.area
@@ -38,13 +40,15 @@ with_bare (Some bare) usages = bare ∷ usages
 abbrev pub usages_of : TailParts → List UsageParts
 usages_of tail = with_bare tail.bare_parts tail.usages
 
--- those that the level keeps, as a set
+-- the usages that the level keeps of the ends of two CRSs are the same set
 abbrev pub SameUsages : Level → TailParts → TailParts → Type 0
 SameUsages level a b = SameSet SameUsage (kept level (usages_of a)) (kept level (usages_of b))
 
+-- the remarks that the level keeps of two ends are equal, or both are missing
 abbrev pub SameRemark : Level → TailParts → TailParts → Type 0
 SameRemark level a b = kept_one level a.remark ≡ kept_one level b.remark
 
+-- the ends of two CRSs are the same: usages, identifiers and remark
 pub record SameTail (level : Level) (a b : TailParts) : Type 0 where
   pub usages : SameUsages level a b
   pub identifiers : SameIdents level a.identifiers b.identifiers

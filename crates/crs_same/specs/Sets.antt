@@ -11,7 +11,7 @@ abbrev pub AllHaveSame : {V : Type 0} → (V → V → Type 0) → List V → Li
 AllHaveSame Same [] ys = Unit {0}
 AllHaveSame Same (x ∷ xs) ys = HasSame Same x ys × AllHaveSame Same xs ys
 
--- the same set: each member of either list has a same member in the other
+-- two lists are the same set: each member of either has a same member in the other
 abbrev pub SameSet : {V : Type 0} → (V → V → Type 0) → List V → List V → Type 0
 SameSet Same xs ys = AllHaveSame Same xs ys × AllHaveSame Same ys xs
 

@@ -6,7 +6,7 @@ ghost use Rattle.crs_same.specs.SameConversions.{SameMethod, SameParameter, Same
 
 use crate::idents::same_idents;
 use crate::keys::{Key, key_of_named};
-use crate::laws::{same_geoid_model_is_equivalence, same_parameter_is_equivalence};
+use crate::laws;
 use crate::numbers::same_value;
 use crate::path::Path;
 use crate::sets::{Member, same_set};
@@ -55,7 +55,7 @@ impl Member for Parameter<'_> {
     }
 
     fn same_is_equivalence(&self) {
-        same_parameter_is_equivalence();
+        laws::same_parameter_is_equivalence();
     }
 }
 
@@ -84,7 +84,7 @@ impl Member for GeoidModel<'_> {
     }
 
     fn same_is_equivalence(&self) {
-        same_geoid_model_is_equivalence();
+        laws::same_geoid_model_is_equivalence();
     }
 }
 

@@ -10,7 +10,7 @@ ghost use Rattle.crs_same.specs.SameFrames.{SameDatum, SameEnsemble, SameFrame};
 
 use crate::idents::same_idents;
 use crate::keys::key_of_named;
-use crate::laws::same_member_is_equivalence;
+use crate::laws;
 use crate::numbers::{same_optional_value, same_value};
 use crate::path::Path;
 use crate::sets::{Member as SetMember, same_set};
@@ -162,7 +162,7 @@ impl SetMember for Member<'_> {
     }
 
     fn same_is_equivalence(&self) {
-        same_member_is_equivalence();
+        laws::same_member_is_equivalence();
     }
 }
 

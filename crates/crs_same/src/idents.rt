@@ -4,7 +4,7 @@ ghost use Rattle.crs_same.specs.SameIdents.{SameIdent, SameIdents};
 ghost use Rattle.crs_same.specs.Sets.{SameSet};
 
 use crate::keys::key_of_ident;
-use crate::laws::same_ident_is_equivalence;
+use crate::laws;
 use crate::sets::{Member, same_set};
 use crate::texts::{same_optional_text, same_text};
 use crs_value::{Ident, Level, List};
@@ -35,7 +35,7 @@ impl Member for Ident<'_> {
     }
 
     fn same_is_equivalence(&self) {
-        same_ident_is_equivalence();
+        laws::same_ident_is_equivalence();
     }
 }
 

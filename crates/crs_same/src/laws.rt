@@ -25,7 +25,7 @@ ghost use Rattle.crs_same.specs.SameSystems.{SameAxisMeridian, SameAxisAlone, Ha
 ghost use Rattle.crs_same.specs.SameUnits.{SameValue, SameUnit, SameLength};
 ghost use Rattle.crs_same.specs.SameUsages.{SameBox, SameExtent, SameUsage, SameTail};
 
-use crs_decimal::laws::{normal_is_one, same_number_is_equivalence};
+use crs_decimal::laws;
 
 /// Each position of a coordinate system, from 1 to the number of its axes, has one axis.
 pub fn one_axis_each()
@@ -35,8 +35,8 @@ pub fn one_axis_each()
     ensures one { (system : SystemParts) → IsSystem system → (position : ℕ) (x y : AxisParts) →
         HasAt position (λ axis. axis ≡ x) 1 system.axes → HasAt position (λ axis. axis ≡ y) 1 system.axes → x ≡ y }
 {
-    same_number_is_equivalence();
-    normal_is_one();
+    laws::same_number_is_equivalence();
+    laws::normal_is_one();
 }
 
 /// Coordinate systems of one dimension have as many axes.
@@ -45,7 +45,7 @@ pub fn as_many_axes()
     ensures { (a b : SystemParts) → IsSystem a → IsSystem b → SameValue a.dimension b.dimension →
         length a.axes ≡ length b.axes }
 {
-    same_number_is_equivalence();
+    laws::same_number_is_equivalence();
 }
 
 // ---- sameness is an equivalence
@@ -54,7 +54,7 @@ pub fn as_many_axes()
 pub fn same_value_is_equivalence()
     ensures { IsSameness SameValue }
 {
-    same_number_is_equivalence();
+    laws::same_number_is_equivalence();
 }
 
 /// Sameness of identifiers is an equivalence.

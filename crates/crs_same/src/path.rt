@@ -38,7 +38,7 @@ impl Path {
         }
     }
 
-    // The same path once more.
+    // A path equal to this one.
     pub(crate) fn copied(&self) -> Path
         ensures { result ≡ self.now }
     {

@@ -48,7 +48,8 @@ fn all_have_same<T: Member>(members: &[T], others: &[T], level: Level) -> bool
     true
 }
 
-// The same of many, in time that grows with the sum of their lengths as long as keys tell members apart.
+// Whether each of many members has a same one among many others, in time that grows with the sum of their lengths as
+// long as keys tell members apart.
 fn all_of_many_have_same<T: Member>(members: &[T], others: &[T], level: Level) -> bool
     ensures { IsTrue result ↔ AllHaveSame (T.Same level) members.now others.now }
 {

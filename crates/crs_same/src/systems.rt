@@ -3,12 +3,12 @@ ghost use Rattle.std.specs.Prelude.{◌≡◌, ◌↔◌, ◌≤◌, None, lengt
 ghost use Rattle.std.specs.Option.{option_copied};
 ghost use Rattle.crs_same.specs.Sets.{BothOrNeither};
 ghost use Rattle.crs_same.specs.FirstInSystems.{FirstInAxis, FirstAt, FirstInAxes, FirstInSystem};
-ghost use Rattle.crs_same.specs.SameSystems.{SameAxisMeridian, SameAxis, SameAxisAlone, IsAt, HasAt, SameAt};
+ghost use Rattle.crs_same.specs.SameSystems.{SameAxisMeridian, SameAxis, SameAxisAlone, IsPositionOf, HasAt, SameAt};
 ghost use Rattle.crs_same.specs.SameSystems.{SameAxes, SameSystem};
 ghost use Rattle.crs_same.specs.SameUnits.{SameValue};
 
 use crate::idents::same_idents;
-use crate::laws::{as_many_axes, one_axis_each};
+use crate::laws;
 use crate::numbers::{same_optional_value, same_value};
 use crate::path::Path;
 use crate::step::Step;
@@ -85,7 +85,7 @@ fn first_in_axis<'a>(
 
 // Whether an axis that is written at this place, from 1 on, has this position.
 fn is_at(position: u64, place: u64, order: Option<Decimal>) -> bool
-    ensures { IsTrue result ↔ IsAt position place order }
+    ensures { IsTrue result ↔ IsPositionOf position place order }
 {
     match order {
         None => place == position,
@@ -123,7 +123,7 @@ fn first_at<'a>(
     ensures first { FirstAt at level a.now b.now position result }
     ensures same { (result ≡ None) ↔ SameAt level a.now b.now position }
 {
-    one_axis_each();
+    laws::one_axis_each();
     let x = axis_at(a.axes.as_slice(), position);
     let y = axis_at(b.axes.as_slice(), position);
     match (x, y) {
@@ -167,7 +167,7 @@ pub(crate) fn first_in_system<'a>(
     if !same_idents(&a.identifiers, &b.identifiers, level) {
         return Some(at.then(Step::Id));
     }
-    as_many_axes();
+    laws::as_many_axes();
     first_in_axes(at, a, b, level)
 }
 

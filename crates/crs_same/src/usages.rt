@@ -10,7 +10,7 @@ ghost use Rattle.crs_same.specs.SameUsages.{SameTail};
 use crate::guesses::Guesses;
 use crate::idents::same_idents;
 use crate::keys::Key;
-use crate::laws::same_usage_is_equivalence;
+use crate::laws;
 use crate::numbers::same_value;
 use crate::path::Path;
 use crate::sets::{FEW, Member, has_same, is_found, is_same_at};
@@ -90,7 +90,7 @@ impl Member for Usage<'_> {
     }
 
     fn same_is_equivalence(&self) {
-        same_usage_is_equivalence();
+        laws::same_usage_is_equivalence();
     }
 }
 
@@ -124,7 +124,7 @@ fn all_have_same<'a>(usages: &[Usage<'a>], bare: Option<&Usage<'a>>, others: &[U
     true
 }
 
-// The same of many.
+// Whether each of many usages has a same one among many others.
 fn all_of_many_have_same<'a>(
     usages: &[Usage<'a>],
     bare: Option<&Usage<'a>>,
@@ -159,7 +159,7 @@ fn is_met_in<'a>(
     if is_same_in(usage, bare, others, at) {
         return true;
     }
-    same_usage_is_equivalence();
+    laws::same_usage_is_equivalence();
     let guess = guesses.of(at, usages, others, Level::Full);
     is_same_usage_at(usage, &usages[..at], guess.before)
         || is_found_in(usage, bare, others, guess.other)

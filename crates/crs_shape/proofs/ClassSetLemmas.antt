@@ -10,7 +10,7 @@ use denote.Enum.Bare.{sameb}
 use Rattle.crs_shape.specs.contracts.class.Class.{the_type}
 use Rattle.crs_shape.specs.declared.class.Class.{Class}
 use Rattle.crs_shape.specs.ClassSet.{word_of, has_bit, bit_of, set_of}
-use Rattle.crs_shape.specs.KeywordTable.{is_among, is_part, parts_of}
+use Rattle.crs_shape.specs.KeywordTable.{is_among, is_part, argument_classes}
 use Rattle.crs_shape.specs.Slots.{SlotParts, slots_of, takes}
 use Rattle.crs_shape.proofs.ListLemmas.{list_any-map}
 
@@ -52,5 +52,5 @@ among-parts c (s ∷ ss) =
     list_any-append (λ d. sameb the_type d c) s.classes (flat_map (λ t. t.classes) ss)
     ∙ ap (λ b. takes s c || b) (among-parts c ss)
 
-pub has_bit-parts : (parent c : Class) → has_bit (set_of (parts_of parent)) (bit_of c) ≡ is_part parent c
-has_bit-parts parent c = has_bit-set_of c (parts_of parent) ∙ among-parts c (slots_of parent)
+pub has_bit-parts : (parent c : Class) → has_bit (set_of (argument_classes parent)) (bit_of c) ≡ is_part parent c
+has_bit-parts parent c = has_bit-set_of c (argument_classes parent) ∙ among-parts c (slots_of parent)

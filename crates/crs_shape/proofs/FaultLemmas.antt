@@ -8,7 +8,7 @@ use Rattle.crs_shape.specs.Slots.{SlotParts, slots_of}
 use Rattle.crs_shape.specs.Shape.{Fit, joined, Allowed, Begins, is_apart}
 use Rattle.crs_shape.specs.Walk.{after, may_end}
 use Rattle.crs_shape.specs.ShapeFault.{class_in, is_of, misplaced, missing, IsFree, IsOnly, Stands, ArgumentFault, Inside, Among, class_of_root, AtRoot}
-use Rattle.crs_shape.specs.FirstFault.{or_later, step_to, step_as, fault_by, fault_from, first_inside, first_among}
+use Rattle.crs_shape.specs.FirstFault.{or_later, step_to, step_as, fault_by, fault_from, first_inside, first_in_arguments}
 use Rattle.crs_shape.proofs.SlotLemmas.{Goes, after-apart, goes-along, goes-back, allows-some, end-allowed, allowed-end}
 
 -- the fault, if there is one, is the only one
@@ -216,24 +216,24 @@ by-keyword true item Arguments found h = keyword-rest item Arguments found h
 by-keyword false item Arguments found h = keyword-missing item Arguments
 
 mutual
-  unfolding first_inside first_among
+  unfolding first_inside first_in_arguments
 
   pub exact_inside : ((c : Class) → is_apart (slots_of c) ≡ true) → (c : Class) (item : Item) → IsExact (Inside c item) (first_inside c item)
   exact_inside apart c (leaf kind place raw) = exact-leaf c (leaf kind place raw)
   exact_inside apart c (node place keyword square first others close) =
       by-keyword (is_keyword c keyword) (node place keyword square first others close)
       (λ fault. ArgumentFault c [] first (λ d f. Inside d first f) (λ before f. Among c close before others f) fault)
-      (fault_from c (slots_of c) first (λ d. first_inside d first) (λ next. first_among c close next others))
+      (fault_from c (slots_of c) first (λ d. first_inside d first) (λ next. first_in_arguments c close next others))
       (exact-argument c [] (slots_of c) first (λ d f. Inside d first f) (λ before f. Among c close before others f)
-      (λ d. first_inside d first) (λ next. first_among c close next others) (reached-start (slots_of c) (apart c))
+      (λ d. first_inside d first) (λ next. first_in_arguments c close next others) (reached-start (slots_of c) (apart c))
       (λ d. exact_inside apart d first) (λ b next r. exact_among apart c close b next others r))
 
   pub exact_among : ((c : Class) → is_apart (slots_of c) ≡ true) → (c : Class) (close : ℕ) (before : List Class) (slots : List SlotParts) (items : Siblings) →
-      Reached (slots_of c) before slots → IsExact (Among c close before items) (first_among c close slots items)
+      Reached (slots_of c) before slots → IsExact (Among c close before items) (first_in_arguments c close slots items)
   exact_among apart c close before slots End r = exact-end c close before slots r
   exact_among apart c close before slots (More item items) r =
       exact-argument c before slots item (λ d f. Inside d item f) (λ b f. Among c close b items f)
-      (λ d. first_inside d item) (λ next. first_among c close next items) r
+      (λ d. first_inside d item) (λ next. first_in_arguments c close next items) r
       (λ d. exact_inside apart d item) (λ b next q. exact_among apart c close b next items q)
 
 pub exact-ok : ((c : Class) → is_apart (slots_of c) ≡ true) → (c : Class) (item : Item) → None ≡ first_inside c item → IsFree (Inside c item)

@@ -9,7 +9,7 @@ use Rattle.crs_shape.specs.Keywords.{is_keyword, first_named}
 use Rattle.crs_shape.specs.Slots.{SlotParts, slots_of, named_in, class_named, is_class}
 use Rattle.crs_shape.specs.Walk.{after, may_end}
 use Rattle.crs_shape.specs.ShapeFault.{class_of_kind, class_in, is_of, misplaced, missing}
-use Rattle.crs_shape.specs.FirstFault.{or_later, step_to, step_of, fault_by, fault_from, first_inside, first_among}
+use Rattle.crs_shape.specs.FirstFault.{or_later, step_to, step_of, fault_by, fault_from, first_inside, first_in_arguments}
 
 -- the items from one on, where there is one
 abbrev pub from : Item → Option ℕ → Siblings
@@ -22,7 +22,7 @@ HasNext tree (Some id) = HasId tree id
 
 -- what the loop keeps: the fault from the next argument on is that of the item
 pub record Going (tree : Item) (class : Class) (item : Item) (close : ℕ) (slots : List SlotParts) (next : Option ℕ) : Type 0 where
-  pub same : first_among class close slots (from tree next) ≡ first_inside class item
+  pub same : first_in_arguments class close slots (from tree next) ≡ first_inside class item
   pub has : HasNext tree next
   pub less : sizes (from tree next) < size_of item
 
@@ -53,8 +53,8 @@ no_arguments c (leaf kind place raw) e f = rw e refl
 no_arguments c (node place keyword square first others close) e f = cc
 
 of_arguments : (c : Class) (item : Item) (close : ℕ) → is_of c item ≡ true → close_of item ≡ Some close →
-    first_among c close (slots_of c) (arguments item) ≡ first_inside c item
-unfolding first_inside first_among
+    first_in_arguments c close (slots_of c) (arguments item) ≡ first_inside c item
+unfolding first_inside first_in_arguments
 of_arguments c (leaf kind place raw) close e f = cc
 of_arguments c (node place keyword square first others end) close e f =
     let same : end ≡ close = cc in
@@ -63,14 +63,14 @@ of_arguments c (node place keyword square first others end) close e f =
 pub going_first : (tree : Item) (c : Class) (item : Item) (close : ℕ) (next : Option ℕ) → is_of c item ≡ true → close_of item ≡ Some close →
     IsAt tree (arguments item) next → Going tree c item close (slots_of c) next
 going_first tree c item close next e f at = record {
-  same = ap (first_among c close (slots_of c)) (from_at tree (arguments item) next at) ∙ of_arguments c item close e f;
+  same = ap (first_in_arguments c close (slots_of c)) (from_at tree (arguments item) next at) ∙ of_arguments c item close e f;
   has = has_at tree (arguments item) next at;
   less = let same : sizes (from tree next) ≡ sizes (arguments item) = ap sizes (from_at tree (arguments item) next at) in omega (arith, arguments-less item);
 }
 
 by_items : (c : Class) (close : ℕ) (slots : List SlotParts) (items : Siblings) → items ≢ End →
-    first_among c close slots items ≡ fault_from c slots (first_of items) (λ d. first_inside d (first_of items)) (λ next. first_among c close next (rest_of items))
-unfolding first_inside first_among
+    first_in_arguments c close slots items ≡ fault_from c slots (first_of items) (λ d. first_inside d (first_of items)) (λ next. first_in_arguments c close next (rest_of items))
+unfolding first_inside first_in_arguments
 by_items c close slots End some = absurd (some refl)
 by_items c close slots (More item items) some = refl
 
@@ -90,42 +90,42 @@ rest-less tree id next has at =
 pub going_wrong : (tree : Item) (c : Class) (item : Item) (close : ℕ) (slots : List SlotParts) (id : ℕ) → Going tree c item close slots (Some id) →
     None ≡ step_of c slots (first_of (here tree id)) → Some (misplaced (first_of (here tree id))) ≡ first_inside c item
 going_wrong tree c item close slots id going e =
-    ap (fault_by (first_of (here tree id)) (λ d. first_inside d (first_of (here tree id))) (λ next. first_among c close next (rest_of (here tree id)))) e
+    ap (fault_by (first_of (here tree id)) (λ d. first_inside d (first_of (here tree id))) (λ next. first_in_arguments c close next (rest_of (here tree id)))) e
     ∙ sym (by_items c close slots (here tree id) going.has) ∙ going.same
 
 -- an argument with a fault inside, or with none
 pub going_by : (tree : Item) (c : Class) (item : Item) (close : ℕ) (slots left : List SlotParts) (named : Class) (id : ℕ) → Going tree c item close slots (Some id) →
     Some (named, left) ≡ step_of c slots (first_of (here tree id)) →
-    or_later (first_inside named (first_of (here tree id))) (first_among c close left (rest_of (here tree id))) ≡ first_inside c item
+    or_later (first_inside named (first_of (here tree id))) (first_in_arguments c close left (rest_of (here tree id))) ≡ first_inside c item
 going_by tree c item close slots left named id going e =
-    ap (fault_by (first_of (here tree id)) (λ d. first_inside d (first_of (here tree id))) (λ next. first_among c close next (rest_of (here tree id)))) e
+    ap (fault_by (first_of (here tree id)) (λ d. first_inside d (first_of (here tree id))) (λ next. first_in_arguments c close next (rest_of (here tree id)))) e
     ∙ sym (by_items c close slots (here tree id) going.has) ∙ going.same
 
 pub going_inside : (tree : Item) (c : Class) (item : Item) (close : ℕ) (slots left : List SlotParts) (named : Class) (id : ℕ) (g : RefusedAt) →
     Going tree c item close slots (Some id) → Some (named, left) ≡ step_of c slots (first_of (here tree id)) →
     Some g ≡ first_inside named (first_of (here tree id)) → Some g ≡ first_inside c item
 going_inside tree c item close slots left named id g going e is =
-    ap (λ o. or_later o (first_among c close left (rest_of (here tree id)))) is ∙ going_by tree c item close slots left named id going e
+    ap (λ o. or_later o (first_in_arguments c close left (rest_of (here tree id)))) is ∙ going_by tree c item close slots left named id going e
 
 pub going_on : (tree : Item) (c : Class) (item : Item) (close : ℕ) (slots left : List SlotParts) (named : Class) (id : ℕ) (next : Option ℕ) →
     Going tree c item close slots (Some id) → Some (named, left) ≡ step_of c slots (first_of (here tree id)) →
     None ≡ first_inside named (first_of (here tree id)) → IsAt tree (rest_of (here tree id)) next → Going tree c item close left next
 going_on tree c item close slots left named id next going e is at = record {
   same =
-      ap (first_among c close left) (from_at tree (rest_of (here tree id)) next at)
-      ∙ ap (λ o. or_later o (first_among c close left (rest_of (here tree id)))) is ∙ going_by tree c item close slots left named id going e;
+      ap (first_in_arguments c close left) (from_at tree (rest_of (here tree id)) next at)
+      ∙ ap (λ o. or_later o (first_in_arguments c close left (rest_of (here tree id)))) is ∙ going_by tree c item close slots left named id going e;
   has = has_at tree (rest_of (here tree id)) next at;
   less = omega (arith, rest-less tree id next going.has at, going.less);
 }
 
 pub going_end : (tree : Item) (c : Class) (item : Item) (close : ℕ) (slots : List SlotParts) (b : Bool) → Going tree c item close slots None → b ≡ may_end slots → b ≡ true →
     None ≡ first_inside c item
-unfolding first_among
+unfolding first_in_arguments
 going_end tree c item close slots b going e t = rw (sym e ∙ t) at going.same
 
 pub going_short : (tree : Item) (c : Class) (item : Item) (close : ℕ) (slots : List SlotParts) (b : Bool) → Going tree c item close slots None → b ≡ may_end slots → b ≡ false →
     Some (missing close) ≡ first_inside c item
-unfolding first_among
+unfolding first_in_arguments
 going_short tree c item close slots b going e t = rw (sym e ∙ t) at going.same
 
 pub going_at : (tree : Item) (c : Class) (item : Item) (close : ℕ) (slots : List SlotParts) (next other : Option ℕ) → Going tree c item close slots next → next ≡ other →

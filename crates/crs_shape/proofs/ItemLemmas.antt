@@ -3,7 +3,7 @@ use Rattle.std.proofs.Common.{◌≡◌, Bool, true, false, List, [], ◌∷◌,
 use Rattle.std.specs.List.{find}
 use denote.Enum.Bare.{sameb}
 use Rattle.crs_text.specs.Tokens.{number, text, word}
-use Rattle.crs_text.specs.Items.{Item, leaf, node, kind_of, raw_of, keyword_in}
+use Rattle.crs_text.specs.Items.{Item, leaf, node, kind_of_item, raw_of, keyword_in}
 use Rattle.crs_text.specs.Keywords.{AreSpelled}
 use Rattle.crs_text.specs.declared.items.ItemKind.TheVariants.{Node}
 use Rattle.crs_shape.specs.contracts.class.Class.{the_type}
@@ -16,26 +16,26 @@ use Rattle.crs_shape.specs.Slots.{is_class}
 use Rattle.crs_shape.proofs.BoolLemmas.{or-none-left, or-none-right}
 use Rattle.crs_shape.proofs.KeywordLemmas.{class_named-table, root_named-table, is_known-table, is_keyword-table}
 
-pub class_in-node : AreSpelled → (parent : Class) (item : Item) → Node ≡ kind_of item →
+pub class_in-node : AreSpelled → (parent : Class) (item : Item) → Node ≡ kind_of_item item →
     find (is_part parent) (classes_by (keyword_in item)) ≡ class_in parent item
 class_in-node law parent (leaf number place raw) e = cc
 class_in-node law parent (leaf text place raw) e = cc
 class_in-node law parent (leaf word place raw) e = cc
 class_in-node law parent (node place keyword square first others close) e = class_named-table law parent keyword
 
-pub class_of_root-node : AreSpelled → (item : Item) → Node ≡ kind_of item → find is_root (classes_by (keyword_in item)) ≡ class_of_root item
+pub class_of_root-node : AreSpelled → (item : Item) → Node ≡ kind_of_item item → find is_root (classes_by (keyword_in item)) ≡ class_of_root item
 class_of_root-node law (leaf number place raw) e = cc
 class_of_root-node law (leaf text place raw) e = cc
 class_of_root-node law (leaf word place raw) e = cc
 class_of_root-node law (node place keyword square first others close) e = root_named-table law keyword
 
-pub is_of-node : AreSpelled → (c : Class) (item : Item) → Node ≡ kind_of item → is_among c (classes_by (keyword_in item)) ≡ is_of c item
+pub is_of-node : AreSpelled → (c : Class) (item : Item) → Node ≡ kind_of_item item → is_among c (classes_by (keyword_in item)) ≡ is_of c item
 is_of-node law c (leaf number place raw) e = cc
 is_of-node law c (leaf text place raw) e = cc
 is_of-node law c (leaf word place raw) e = cc
 is_of-node law c (node place keyword square first others close) e = is_keyword-table law c keyword
 
-pub is_known-node : AreSpelled → (item : Item) → Node ≡ kind_of item → has_class (classes_by (keyword_in item)) ≡ is_known (raw_of item)
+pub is_known-node : AreSpelled → (item : Item) → Node ≡ kind_of_item item → has_class (classes_by (keyword_in item)) ≡ is_known (raw_of item)
 is_known-node law (leaf number place raw) e = cc
 is_known-node law (leaf text place raw) e = cc
 is_known-node law (leaf word place raw) e = cc

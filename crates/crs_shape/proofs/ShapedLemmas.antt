@@ -9,7 +9,7 @@ use Rattle.crs_shape.specs.Shape.{Allowed}
 use Rattle.crs_shape.specs.Shaped.{Shaped, AreShaped}
 use Rattle.crs_shape.specs.Walk.{after, may_end}
 use Rattle.crs_shape.specs.ShapeFault.{class_in, is_of, misplaced, missing, IsFree, Stands, ArgumentFault, Inside, Among}
-use Rattle.crs_shape.specs.FirstFault.{or_later, step_to, step_as, fault_by, fault_from, first_inside, first_among}
+use Rattle.crs_shape.specs.FirstFault.{or_later, step_to, step_as, fault_by, fault_from, first_inside, first_in_arguments}
 use Rattle.crs_shape.proofs.TableLemmas.{apart_tables}
 use Rattle.crs_shape.proofs.SlotLemmas.{end-allowed}
 use Rattle.crs_shape.proofs.FaultLemmas.{IsExact, Reached, reached-start, reached-more, exact_inside, append-none, same_class}
@@ -53,15 +53,15 @@ leaf-test true item e = refl
 leaf-test false item e = cc
 
 mutual
-  unfolding first_inside first_among
+  unfolding first_inside first_in_arguments
 
   shaped-none : (c : Class) (item : Item) → first_inside c item ≡ None → Shaped c item
   shaped-none c (leaf kind place raw) e = leaf-test (is_of c (leaf kind place raw)) (leaf kind place raw) e
   shaped-none c (node place keyword square first others close) e =
       let h = by-test (is_keyword c keyword) (node place keyword square first others close)
-      (fault_from c (slots_of c) first (λ d. first_inside d first) (λ next. first_among c close next others)) e in (
+      (fault_from c (slots_of c) first (λ d. first_inside d first) (λ next. first_in_arguments c close next others)) e in (
         h.0,
-        by-step first _ (λ d. first_inside d first) (λ next. first_among c close next others) (slots_of c) (class_in c first)
+        by-step first _ (λ d. first_inside d first) (λ next. first_in_arguments c close next others) (slots_of c) (class_in c first)
             (λ d next named f w l.
             let rest : Left c (d ∷ []) others =
             left-none c close (d ∷ []) next others (reached-more (slots_of c) [] (slots_of c) next d (reached-start (slots_of c) (apart_tables c)) f) l in
@@ -70,10 +70,10 @@ mutual
       )
 
   left-none : (c : Class) (close : ℕ) (before : List Class) (slots : List SlotParts) (items : Siblings) → Reached (slots_of c) before slots →
-      first_among c close slots items ≡ None → Left c before items
+      first_in_arguments c close slots items ≡ None → Left c before items
   left-none c close before slots End r e = left-end c close before slots r e
   left-none c close before slots (More item items) r e =
-      by-step item _ (λ d. first_inside d item) (λ next. first_among c close next items) slots (class_in c item)
+      by-step item _ (λ d. first_inside d item) (λ next. first_in_arguments c close next items) slots (class_in c item)
       (λ d next named f w l.
       let rest : Left c (before ++ d ∷ []) items =
       left-none c close (before ++ d ∷ []) next items (reached-more (slots_of c) before slots next d r f) l in

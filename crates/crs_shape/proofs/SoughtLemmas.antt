@@ -6,7 +6,7 @@ use Rattle.crs_text.specs.contracts.items.ItemKind as kinds
 use Rattle.crs_text.specs.declared.items.ItemKind.{ItemKind}
 use Rattle.crs_text.specs.declared.items.ItemKind.TheVariants as kind
 use Rattle.crs_text.specs.declared.keyword.Keyword.{Keyword}
-use Rattle.crs_text.specs.Items.{Item, leaf, node, kind_of, keyword_in}
+use Rattle.crs_text.specs.Items.{Item, leaf, node, kind_of_item, keyword_in}
 use Rattle.crs_text.specs.Keywords.{keyword_of, AreSpelled}
 use Rattle.crs_text.specs.Tokens.{number, text, word}
 use Rattle.crs_shape.specs.contracts.class.Class.{the_type}
@@ -64,7 +64,7 @@ leaf-other c d k right other =
 node-other : (c : Class) (k : ItemKind) → k ≡ kind_for c → sameb kinds.the_type kind.Node k ≡ false → kind_for c ≢ kind.Node
 node-other c k right other e = true-false (ap (sameb kinds.the_type kind.Node) (sym (right ∙ e)) ∙ other)
 
-pub other_kind : AreSpelled → (parent c : Class) (k : ItemKind) (item : Item) → k ≡ kind_for c → sameb kinds.the_type (kind_of item) k ≡ false →
+pub other_kind : AreSpelled → (parent c : Class) (k : ItemKind) (item : Item) → k ≡ kind_for c → sameb kinds.the_type (kind_of_item item) k ≡ false →
     false ≡ is_class c (class_in parent item)
 other_kind law parent c k (leaf number place raw) right other = leaf-other c class.Number k right other
 other_kind law parent c k (leaf text place raw) right other = leaf-other c class.Text k right other
@@ -79,7 +79,7 @@ other_kind law parent c k (node place spelled square first others close) right o
 pub is_node : (a b k : ItemKind) → a ≡ k → sameb kinds.the_type a b ≡ true → sameb kinds.the_type b kind.Node ≡ true → kind.Node ≡ k
 is_node a b k e f g = sym (same_true kinds.the_type (search rules) b kind.Node g) ∙ sym (same_true kinds.the_type (search rules) a b f) ∙ e
 
-pub node_named : AreSpelled → (parent c : Class) (item : Item) (k : Option Keyword) → kind.Node ≡ kind_of item → k ≡ keyword_in item →
+pub node_named : AreSpelled → (parent c : Class) (item : Item) (k : Option Keyword) → kind.Node ≡ kind_of_item item → k ≡ keyword_in item →
     is_class c (find (is_part parent) (classes_by k)) ≡ is_class c (class_in parent item)
 node_named law parent c item k is e =
     ap (λ o. is_class c (find (is_part parent) (classes_by o))) e ∙ ap (is_class c) (class_in-node law parent item is)
@@ -91,7 +91,7 @@ has_bit-keyword_set c k =
     ∙ list_any-map (λ i. i == keyword_bit k) keyword_bit (keywords_of c)
     ∙ sym (among-classes_of c k)
 
-pub other_keyword : AreSpelled → (parent c : Class) (item : Item) (k : Keyword) → kind.Node ≡ kind_of item → Some k ≡ keyword_in item →
+pub other_keyword : AreSpelled → (parent c : Class) (item : Item) (k : Keyword) → kind.Node ≡ kind_of_item item → Some k ≡ keyword_in item →
     has_bit (keyword_set c) (keyword_bit k) ≡ false → false ≡ is_class c (class_in parent item)
 other_keyword law parent c (leaf number place raw) k is e none = cc
 other_keyword law parent c (leaf text place raw) k is e none = cc

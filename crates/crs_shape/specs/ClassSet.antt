@@ -23,6 +23,7 @@ has_bit word i = bit_at word i == 1
 abbrev pub bit_of : Class → ℕ
 bit_of c = tag_of classes.the_type c
 
+-- the word with the bits of these classes
 abbrev pub set_of : List Class → ℕ
 set_of cs = word_of (map bit_of cs)
 

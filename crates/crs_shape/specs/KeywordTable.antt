@@ -12,6 +12,7 @@ use Rattle.crs_shape.specs.Slots.{slots_of, takes}
 abbrev pub classes_of : Keyword → List Class
 classes_of k = filter (λ c. has_keyword c k) every_class
 
+-- the classes that have a keyword, none where there is no keyword
 abbrev pub classes_by : Option Keyword → List Class
 classes_by None = []
 classes_by (Some k) = classes_of k
@@ -25,8 +26,8 @@ abbrev pub is_part : Class → Class → Bool
 is_part parent c = list_any (λ s. takes s c) (slots_of parent)
 
 -- the classes of the arguments that may stand in a parent
-abbrev pub parts_of : Class → List Class
-parts_of parent = flat_map (λ s. s.classes) (slots_of parent)
+abbrev pub argument_classes : Class → List Class
+argument_classes parent = flat_map (λ s. s.classes) (slots_of parent)
 
 -- whether it is a class of a whole text
 abbrev pub is_root : Class → Bool

@@ -1,6 +1,6 @@
--- Keywords: a node begins with a keyword of its class. A class's first keyword is the one that is written, but a
--- geodetic CRS with an ellipsoidal system is written as a geographic one, and a unit on an axis by its kind. All are
--- read without regard to case.
+-- Keywords: a node begins with a keyword of its class. A class's first keyword is the one that is
+-- written, but a geodetic CRS with an ellipsoidal system is written as a geographic one, and a unit
+-- on an axis by its kind. All are read without regard to case.
 use Rattle.std.specs.Prelude.{ℕ, Bool, Option, Some, None, List, [], ◌∷◌, if◌then◌else◌}
 use Rattle.std.specs.List.{list_any}
 use Rattle.std.specs.Str.{str_eq_ignore_ascii_case}
@@ -12,7 +12,7 @@ use Rattle.crs_text.specs.Keywords.{spelling_of}
 use Rattle.crs_shape.specs.declared.class.Class.{Class}
 use Rattle.crs_shape.specs.declared.class.Class.TheVariants as class
 
--- an item that isn't a node has no keyword
+-- the keywords of each class; an item that isn't a node has none
 abbrev pub keywords_of : Class → List Keyword
 keywords_of class.Number = []
 keywords_of class.Text = []
@@ -43,7 +43,7 @@ keywords_of class.ScaleUnit = keyword.ScaleUnit ∷ []
 keywords_of class.AxisUnit = keyword.LengthUnit ∷ keyword.AngleUnit ∷ keyword.PlainUnit ∷ []
 keywords_of class.CoordinateSystem = keyword.Cs ∷ []
 keywords_of class.Axis = keyword.Axis ∷ []
-keywords_of class.Meridian = keyword.Meridian ∷ []
+keywords_of class.AxisMeridian = keyword.Meridian ∷ []
 keywords_of class.Order = keyword.Order ∷ []
 keywords_of class.Conversion = keyword.Conversion ∷ []
 keywords_of class.Method = keyword.Method ∷ keyword.Projection ∷ []
@@ -63,21 +63,25 @@ keywords_of class.Remark = keyword.Remark ∷ []
 abbrev pub has_keyword : Class → Keyword → Bool
 has_keyword c k = list_any (λ j. sameb the_type j k) (keywords_of c)
 
--- All classes. Where several of those that have a keyword may stand in one parent, it names the first there: so a unit
--- that doesn't say its kind goes before those that do.
+-- All classes. Where several of those that have a keyword may stand in one parent, it names the
+-- first there: so a unit that doesn't say its kind goes before those that do.
 abbrev pub every_class : List Class
 every_class =
-    class.Number ∷ class.Text ∷ class.Word ∷ class.GeodeticCrs ∷ class.GeographicCrs ∷ class.ProjectedCrs ∷
-    class.VerticalCrs ∷ class.CompoundCrs ∷ class.BaseCrs ∷ class.Dynamic ∷ class.FrameEpoch ∷ class.DeformationModel ∷ class.GeodeticFrame ∷ class.VerticalFrame ∷
-    class.GeodeticEnsemble ∷ class.VerticalEnsemble ∷ class.Member ∷ class.EnsembleAccuracy ∷ class.Anchor ∷
-    class.AnchorEpoch ∷ class.Ellipsoid ∷ class.PrimeMeridian ∷ class.PlainUnit ∷ class.LengthUnit ∷ class.AngleUnit ∷ class.ScaleUnit ∷
-    class.AxisUnit ∷ class.CoordinateSystem ∷ class.Axis ∷ class.Meridian ∷ class.Order ∷ class.Conversion ∷
-    class.Method ∷ class.Parameter ∷ class.GeoidModel ∷ class.Usage ∷ class.Scope ∷ class.Area ∷
-    class.BoundingBox ∷ class.VerticalExtent ∷ class.Identifier ∷ class.Citation ∷ class.Uri ∷ class.Remark ∷ []
+    class.Number ∷ class.Text ∷ class.Word ∷ class.GeodeticCrs ∷ class.GeographicCrs ∷
+    class.ProjectedCrs ∷ class.VerticalCrs ∷ class.CompoundCrs ∷ class.BaseCrs ∷ class.Dynamic ∷
+    class.FrameEpoch ∷ class.DeformationModel ∷ class.GeodeticFrame ∷ class.VerticalFrame ∷
+    class.GeodeticEnsemble ∷ class.VerticalEnsemble ∷ class.Member ∷ class.EnsembleAccuracy ∷
+    class.Anchor ∷ class.AnchorEpoch ∷ class.Ellipsoid ∷ class.PrimeMeridian ∷ class.PlainUnit ∷
+    class.LengthUnit ∷ class.AngleUnit ∷ class.ScaleUnit ∷ class.AxisUnit ∷ class.CoordinateSystem ∷
+    class.Axis ∷ class.AxisMeridian ∷ class.Order ∷ class.Conversion ∷ class.Method ∷
+    class.Parameter ∷ class.GeoidModel ∷ class.Usage ∷ class.Scope ∷ class.Area ∷ class.BoundingBox
+    ∷ class.VerticalExtent ∷ class.Identifier ∷ class.Citation ∷ class.Uri ∷ class.Remark ∷ []
 
 -- the classes of a whole text
 abbrev pub root_classes : List Class
-root_classes = class.GeodeticCrs ∷ class.GeographicCrs ∷ class.ProjectedCrs ∷ class.VerticalCrs ∷ class.CompoundCrs ∷ []
+root_classes =
+    class.GeodeticCrs ∷ class.GeographicCrs ∷ class.ProjectedCrs ∷ class.VerticalCrs
+    ∷ class.CompoundCrs ∷ []
 
 -- whether a word is one of these keywords
 abbrev pub is_one_of : List Keyword → List ℕ → Bool

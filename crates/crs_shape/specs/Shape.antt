@@ -1,5 +1,6 @@
 -- Shapes: the lists of arguments that a class allows are the product of its slots.
-use Rattle.std.specs.Prelude.{◌≡◌, ◌≤◌, ◌||◌, ◌&&◌, not, Bool, true, false, IsTrue, IsFalse, List, [], ◌∷◌, ◌++◌}
+use Rattle.std.specs.Prelude.{◌≡◌, ◌≤◌, ◌||◌, ◌&&◌, not, Bool, true, false, IsTrue, IsFalse, List}
+use Rattle.std.specs.Prelude.{[], ◌∷◌, ◌++◌}
 use Rattle.std.specs.Prelude.{length}
 use Rattle.std.specs.List.{list_any}
 use Rattle.crs_shape.specs.declared.class.Class.{Class}
@@ -16,14 +17,14 @@ pub record Fills (slot : SlotParts) (run : List Class) : Type 0 where
   pub enough : IsTrue slot.required → 1 ≤ length run
   pub not_more : IsFalse slot.many → length run ≤ 1
 
--- a run of classes for each slot, in order
+-- for each slot, in order, a list of classes that fills it
 abbrev pub Fit : List SlotParts → List (List Class) → Type 0
 Fit [] [] = Unit {0}
 Fit [] (run ∷ runs) = ⊥
 Fit (slot ∷ slots) [] = ⊥
 Fit (slot ∷ slots) (run ∷ runs) = Fills slot run × Fit slots runs
 
--- the runs one after another
+-- these lists of classes, one after another
 abbrev pub joined : List (List Class) → List Class
 joined [] = []
 joined (run ∷ runs) = run ++ joined runs
@@ -46,10 +47,11 @@ abbrev pub has_class : List Class → Bool
 has_class [] = false
 has_class (c ∷ cs) = true
 
--- Every slot has a class, and no class of an optional or repeated slot stands in a later slot that can be
--- reached over optional slots alone.
+-- Every slot has a class, and no class of an optional or repeated slot
+-- stands in a later slot that can be reached over optional slots alone.
 abbrev pub is_apart : List SlotParts → Bool
 is_apart [] = true
 is_apart (slot ∷ slots) =
-    has_class slot.classes && ((slot.required && not slot.many) || not (list_any (λ c. reaches slots c) slot.classes))
+    has_class slot.classes
+    && ((slot.required && not slot.many) || not (list_any (λ c. reaches slots c) slot.classes))
     && is_apart slots

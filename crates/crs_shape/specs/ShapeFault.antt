@@ -1,5 +1,7 @@
--- Faults of shape: where an item isn't what it is asked to be, with the number and place of the refusal.
-use Rattle.std.specs.Prelude.{◌≡◌, ℕ, ◌⊎◌, Bool, IsTrue, IsFalse, Option, Some, None, List, [], ◌∷◌, ◌++◌}
+-- Faults of shape: where an item isn't what it is asked to be,
+-- with the number and place of the refusal.
+use Rattle.std.specs.Prelude.{◌≡◌, ℕ, ◌⊎◌, Bool, IsTrue, IsFalse, Option, Some, None, List, [], ◌∷◌}
+use Rattle.std.specs.Prelude.{◌++◌}
 use Rattle.std.specs.Prelude.{if◌then◌else◌}
 use denote.Enum.Bare.{sameb}
 use Rattle.crs_text.specs.Tokens.{Kind, number, text, word}
@@ -12,6 +14,7 @@ use Rattle.crs_shape.specs.Keywords.{is_keyword, is_known, root_named}
 use Rattle.crs_shape.specs.Slots.{slots_of, class_named}
 use Rattle.crs_shape.specs.Shape.{Allowed, Begins}
 
+-- the class of a number, a text or a word
 abbrev pub class_of_kind : Kind → Class
 class_of_kind number = class.Number
 class_of_kind text = class.Text
@@ -27,8 +30,8 @@ abbrev pub is_of : Class → Item → Bool
 is_of c (leaf kind place raw) = sameb the_type (class_of_kind kind) c
 is_of c (node place keyword square first others close) = is_keyword c keyword
 
--- an item that may not stand where it does is refused at its first byte: 11 if it is a node whose keyword no
--- class has, else 12
+-- an item that may not stand where it does is refused at its first
+-- byte: 11 if it is a node whose keyword no class has, else 12
 abbrev pub misplaced : Item → RefusedAt
 misplaced (leaf kind place raw) = record { number = 12; place = place }
 misplaced (node place keyword square first others close) =
@@ -38,22 +41,22 @@ misplaced (node place keyword square first others close) =
 abbrev pub missing : ℕ → RefusedAt
 missing close = record { number = 13; place = close }
 
--- there is no such fault
+-- there is no fault of this kind
 abbrev pub IsFree : (RefusedAt → Type 0) → Type 0
 IsFree Fault = (fault : RefusedAt) → Fault fault → ⊥
 
--- this is such a fault, and there is no other
+-- this is a fault of this kind, and there is no other
 abbrev pub IsOnly : (RefusedAt → Type 0) → RefusedAt → Type 0
 IsOnly Fault fault = Fault fault × ((other : RefusedAt) → Fault other → other ≡ fault)
 
--- an argument, after others of the classes `before`, may stand there as this class: it is of the class in its
--- parent, and an allowed list begins so
+-- an argument, after others of the classes `before`, may stand there as this class: it is of the
+-- class in its parent, and an allowed list begins so
 pub record Stands (parent : Class) (before : List Class) (item : Item) (c : Class) : Type 0 where
   pub named : class_in parent item ≡ Some c
   pub begins : Begins (slots_of parent) (before ++ c ∷ [])
 
--- The fault of an argument and of those after it: its own, if it may not stand there; else the fault inside it;
--- else, if there is none, the fault of those after it.
+-- The fault of an argument and of those after it: its own, if it may not stand there; else the
+-- fault inside it; else, if there is none, the fault of those after it.
 abbrev pub ArgumentFault : Class → List Class → Item → (Class → RefusedAt → Type 0) →
     (List Class → RefusedAt → Type 0) → RefusedAt → Type 0
 ArgumentFault parent before item Within Later fault =
@@ -67,9 +70,11 @@ abbrev mutual
   Inside c (leaf kind place raw) fault =
       IsFalse (is_of c (leaf kind place raw)) × (fault ≡ misplaced (leaf kind place raw))
   Inside c (node place keyword square first others close) fault =
-      (IsFalse (is_keyword c keyword) × (fault ≡ misplaced (node place keyword square first others close)))
+      (IsFalse (is_keyword c keyword)
+      × (fault ≡ misplaced (node place keyword square first others close)))
       ⊎ (IsTrue (is_keyword c keyword)
-      × ArgumentFault c [] first (λ d f. Inside d first f) (λ before f. Among c close before others f) fault)
+      × ArgumentFault c [] first (λ d f. Inside d first f)
+      (λ before f. Among c close before others f) fault)
 
   -- the fault of a node's arguments that stand after others of the classes `before`
   pub Among : Class → ℕ → List Class → Siblings → RefusedAt → Type 0

@@ -62,7 +62,7 @@ pub enum Class {
     /// An axis.
     Axis,
     /// The meridian that an axis at a pole goes along.
-    Meridian,
+    AxisMeridian,
     /// An axis's place in the order of the axes.
     Order,
     /// A map projection.

@@ -1,7 +1,7 @@
 //! Whether items have the shape of a class.
 ghost use Rattle.std.specs.Prelude.{◌≡◌, ◌+◌, ◌^◌, ◌<◌, ◌&&◌, not, true, false, Some, IsTrue, IsFalse, MatchResult, All};
 ghost use Rattle.std.specs.Prelude.{option_map};
-ghost use Rattle.crs_text.specs.Items.{first_of, close_of, kind_of, raw_of, here, HasId};
+ghost use Rattle.crs_text.specs.Items.{first_of, close_of, kind_of_item, raw_of, here, HasId};
 ghost use Rattle.crs_shape.specs.Keywords.{is_known};
 ghost use Rattle.crs_text.specs.Refusal.{is_refusal};
 ghost use Rattle.crs_shape.specs.ClassSet.{HasSet};
@@ -15,8 +15,7 @@ use crate::class::Class;
 use crate::keyword::{has_keyword, known_by, root_by};
 use crate::slot::Slot;
 use crate::table::{class_by, row};
-use crs_text::laws::keywords_are_spelled;
-use crs_text::{ItemId, ItemKind, Items, Refusal};
+use crs_text::{ItemId, ItemKind, Items, Refusal, laws};
 
 /// Whether an item has the shape of a class. Takes no memory; the time is linear in the item.
 ///
@@ -59,7 +58,7 @@ fn class_at_root(items: &Items<'_>, id: ItemId) -> Option<Class>
     requires { HasId items.now id }
     ensures { result ≡ class_of_root (first_of (here items.now id)) }
 {
-    keywords_are_spelled();
+    laws::keywords_are_spelled();
     match items.kind(id) {
         ItemKind::Number | ItemKind::Text | ItemKind::Word => None,
         ItemKind::Node => root_by(items.keyword(id)),
@@ -136,7 +135,7 @@ pub fn class_in(items: &Items<'_>, id: ItemId, parent: Class) -> Option<Class>
     requires { HasId items.now id }
     ensures { result ≡ class_in parent (first_of (here items.now id)) }
 {
-    keywords_are_spelled();
+    laws::keywords_are_spelled();
     match items.kind(id) {
         ItemKind::Number => Some(Class::Number),
         ItemKind::Text => Some(Class::Text),
@@ -149,7 +148,7 @@ fn is_of(items: &Items<'_>, id: ItemId, class: Class) -> bool
     requires { HasId items.now id }
     ensures { result ≡ is_of class (first_of (here items.now id)) }
 {
-    keywords_are_spelled();
+    laws::keywords_are_spelled();
     match items.kind(id) {
         ItemKind::Number => Class::Number == class,
         ItemKind::Text => Class::Text == class,
@@ -161,10 +160,10 @@ fn is_of(items: &Items<'_>, id: ItemId, class: Class) -> bool
 // Whether a node's keyword is one of any class.
 fn is_known(items: &Items<'_>, id: ItemId) -> bool
     requires has { HasId items.now id }
-    requires node { kind_of (first_of (here items.now id)) ≡ ItemKind.Node }
+    requires node { kind_of_item (first_of (here items.now id)) ≡ ItemKind.Node }
     ensures { result ≡ is_known (raw_of (first_of (here items.now id))) }
 {
-    keywords_are_spelled();
+    laws::keywords_are_spelled();
     known_by(items.keyword(id))
 }
 

@@ -9,8 +9,7 @@ use crate::class::Class;
 use crate::naming::classes_by;
 use crate::rows::rows;
 use crate::slot::has;
-use crs_text::Keyword;
-use crs_text::laws::keywords_are_spelled;
+use crs_text::{Keyword, laws};
 
 // the keywords of a class
 macro_rules! keywords_of {
@@ -34,7 +33,7 @@ pub fn keywords(class: Class) -> &'static [Keyword]
 pub fn root_class(keyword: &[u8]) -> Option<Class>
     ensures { result ≡ root_named keyword.now }
 {
-    keywords_are_spelled();
+    laws::keywords_are_spelled();
     root_by(Keyword::of(keyword))
 }
 
@@ -73,7 +72,7 @@ fn is_root(class: Class) -> bool
 pub fn known(keyword: &[u8]) -> bool
     ensures { result ≡ is_known keyword.now }
 {
-    keywords_are_spelled();
+    laws::keywords_are_spelled();
     known_by(Keyword::of(keyword))
 }
 

@@ -18,4 +18,4 @@ pub use fitting::{class_in, fit, fit_root};
 pub use keyword::{keywords, known, root_class};
 pub use seeking::{Sought, stands_as};
 pub use slot::Slot;
-pub use table::{class_of, names, slots};
+pub use table::{class_of, keyword_names, slots};

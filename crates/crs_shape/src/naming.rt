@@ -12,6 +12,7 @@ macro_rules! classes {
 
 // The classes that have this keyword. Where several of them may stand in one parent, that which the keyword
 // names there goes first.
+#[inline(always)]
 fn classes_of(keyword: Keyword) -> &'static [Class]
     ensures { result.now ≡ classes_of keyword }
 {
@@ -42,7 +43,7 @@ fn classes_of(keyword: Keyword) -> &'static [Class]
         Keyword::GeodCrs | Keyword::GeodeticCrs => classes!(GeodeticCrs),
         Keyword::VertCrs | Keyword::VerticalCrs => classes!(VerticalCrs),
         Keyword::Ensemble => classes!(GeodeticEnsemble, VerticalEnsemble),
-        Keyword::Meridian => classes!(Meridian),
+        Keyword::Meridian => classes!(AxisMeridian),
         Keyword::Spheroid | Keyword::Ellipsoid => classes!(Ellipsoid),
         Keyword::Citation => classes!(Citation),
         Keyword::AngleUnit => classes!(AngleUnit, AxisUnit),
@@ -59,6 +60,7 @@ fn classes_of(keyword: Keyword) -> &'static [Class]
 }
 
 // The classes that have this keyword; none where there is no keyword.
+#[inline(always)]
 pub(crate) fn classes_by(keyword: Option<Keyword>) -> &'static [Class]
     ensures { result.now ≡ classes_by keyword }
 {

@@ -2,7 +2,7 @@
 //! keyword.
 ghost use Rattle.std.specs.Prelude.{◌≡◌};
 ghost use Rattle.crs_shape.specs.ClassSet.{set_of};
-ghost use Rattle.crs_shape.specs.KeywordTable.{is_part, parts_of};
+ghost use Rattle.crs_shape.specs.KeywordTable.{is_part, argument_classes};
 
 use crate::class::Class;
 use crate::class_set::{ClassSet, set};
@@ -26,7 +26,7 @@ pub(crate) fn is_part(parent: Class, class: Class) -> bool
 
 // The classes of the arguments that may stand in a parent of this class.
 fn parts(parent: Class) -> ClassSet
-    ensures { result.bits ≡ set_of (parts_of parent) }
+    ensures { result.bits ≡ set_of (argument_classes parent) }
 {
     rows!(parts_of, parent)
 }

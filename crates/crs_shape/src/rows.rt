@@ -107,12 +107,12 @@ macro_rules! rows {
             Axis[Axis] {
                 one(Text)
                 one(Word)
-                optional(Meridian)
+                optional(AxisMeridian)
                 optional(Order)
                 optional(AxisUnit)
                 any(Identifier)
             }
-            Meridian[Meridian] { one(Number) one(AngleUnit) }
+            AxisMeridian[Meridian] { one(Number) one(AngleUnit) }
 
             // Map projection
             Conversion[Conversion] { one(Text) one(Method) any(Parameter) any(Identifier) }

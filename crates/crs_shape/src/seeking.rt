@@ -9,8 +9,7 @@ ghost use Rattle.crs_shape.specs.Sought.{kind_for};
 use crate::class::Class;
 use crate::rows::rows;
 use crate::table::{class_by, is_class};
-use crs_text::laws::keywords_are_spelled;
-use crs_text::{ItemId, ItemKind, Items, Keyword};
+use crs_text::{ItemId, ItemKind, Items, Keyword, laws};
 use std::marker::Model;
 
 /// What is sought among arguments: one of a class, in a parent of a class. What each argument is asked first
@@ -61,7 +60,7 @@ impl Sought {
         requires { HasId items.now id }
         ensures { result ≡ is_class self.now.class (class_in self.now.parent (first_of (here items.now id))) }
     {
-        keywords_are_spelled();
+        laws::keywords_are_spelled();
         if items.kind(id) != self.kind {
             return false;
         }

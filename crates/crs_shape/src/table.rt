@@ -12,8 +12,7 @@ use crate::naming::classes_by;
 use crate::part::is_part;
 use crate::rows::rows;
 use crate::slot::Slot;
-use crs_text::Keyword;
-use crs_text::laws::keywords_are_spelled;
+use crs_text::{Keyword, laws};
 
 // a slot for arguments of these classes
 macro_rules! slot {
@@ -62,7 +61,7 @@ pub(crate) fn row(class: Class) -> &'static [Slot]
 pub fn class_of(parent: Class, keyword: &[u8]) -> Option<Class>
     ensures { result ≡ class_named parent keyword.now }
 {
-    keywords_are_spelled();
+    laws::keywords_are_spelled();
     class_by(parent, Keyword::of(keyword))
 }
 
@@ -86,15 +85,15 @@ fn first_part(parent: Class, classes: &[Class]) -> Option<Class>
 
 /// Whether this keyword names that class in a parent of this class; it asks for less than `class_of`
 /// where the keyword is none of that class. Profile.
-pub fn names(parent: Class, keyword: &[u8], class: Class) -> bool
+pub fn keyword_names(parent: Class, keyword: &[u8], class: Class) -> bool
     ensures { result ≡ is_class class (class_named parent keyword.now) }
 {
-    keywords_are_spelled();
-    names_by(parent, Keyword::of(keyword), class)
+    laws::keywords_are_spelled();
+    keyword_by_names(parent, Keyword::of(keyword), class)
 }
 
 // Whether a keyword names that class in a parent of this class.
-fn names_by(parent: Class, keyword: Option<Keyword>, class: Class) -> bool
+fn keyword_by_names(parent: Class, keyword: Option<Keyword>, class: Class) -> bool
     ensures { result ≡ is_class class (find (is_part parent) (classes_by keyword)) }
 {
     has_keyword(class, keyword) && is_class(class_by(parent, keyword), class)

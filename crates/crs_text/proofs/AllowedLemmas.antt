@@ -6,32 +6,32 @@ use Rattle.std.proofs.lemmas.List.{append-nil}
 use Rattle.std.proofs.lemmas.List.Sums.{fold-append}
 use Rattle.crs_text.specs.Tokens.{number, text, word, Token, single, comma, opening, closing}
 use Rattle.crs_text.specs.Items.{Item, leaf, node, Siblings, End, More, tokens, others_tokens, depth}
-use Rattle.crs_text.specs.Viable.{IsViable, IsViableAtAnyDepth, opened, opens, last_of, GoesOn, IsOpening, MayFollow, Allows, IsFull}
-use Rattle.crs_text.specs.State.{Frame, State, wants, worded, after, start, gather, only_if, behind_leaf, behind, step, run, before_tokens, frames_tokens, unread}
+use Rattle.crs_text.specs.Viable.{IsViable, IsViableAtAnyDepth, open_after, opens, last_of, GoesOn, IsOpening, MayFollow, Allows, IsFull}
+use Rattle.crs_text.specs.State.{Frame, State, wants, worded, after, start, gather, only_if, behind_leaf, behind_item, step, run, before_tokens, frames_tokens, unread}
 use Rattle.crs_text.proofs.StateLemmas.{only_if-some, same_square-true, same_square-refl, unread-run}
 use Rattle.crs_text.proofs.SoundLemmas.{AreSound, IsSound, run-cons, run-some, sound-run}
 use Rattle.crs_text.proofs.ViableLemmas.{node_tokens, step-opening, run-append, taken, completed, viable_from_run, run_from_viable}
 
 mutual
-  opens-item : (item : Item) (held : List Bool) (more : List Token) → fold opened held (tokens item ++ more) ≡ fold opened held more
+  opens-item : (item : Item) (held : List Bool) (more : List Token) → fold open_after held (tokens item ++ more) ≡ fold open_after held more
   opens-item (leaf kind place raw) held more = refl
   opens-item (node place keyword square first others close) held more =
-      ap (λ ts. fold opened (square ∷ held) ts) (node_tokens (tokens first) (others_tokens others) (closing close square) more)
+      ap (λ ts. fold open_after (square ∷ held) ts) (node_tokens (tokens first) (others_tokens others) (closing close square) more)
       ∙ opens-item first (square ∷ held) (others_tokens others ++ closing close square ∷ more)
       ∙ opens-others others (square ∷ held) (closing close square ∷ more)
 
-  opens-others : (items : Siblings) (held : List Bool) (more : List Token) → fold opened held (others_tokens items ++ more) ≡ fold opened held more
+  opens-others : (items : Siblings) (held : List Bool) (more : List Token) → fold open_after held (others_tokens items ++ more) ≡ fold open_after held more
   opens-others End held more = refl
   opens-others (More item items) held more =
-      ap (λ ts. fold opened held ts) (append_assoc (tokens item) (others_tokens items) more)
+      ap (λ ts. fold open_after held ts) (append_assoc (tokens item) (others_tokens items) more)
       ∙ opens-item item held (others_tokens items ++ more)
       ∙ opens-others items held more
 
-opens-before : (before : List Item) (held : List Bool) → fold opened held (before_tokens before) ≡ held
+opens-before : (before : List Item) (held : List Bool) → fold open_after held (before_tokens before) ≡ held
 opens-before [] held = refl
 opens-before (item ∷ before) held =
-    fold-append opened held (before_tokens before) (tokens item ++ comma ∷ [])
-    ∙ ap (λ h. fold opened h (tokens item ++ comma ∷ [])) (opens-before before held)
+    fold-append open_after held (before_tokens before) (tokens item ++ comma ∷ [])
+    ∙ ap (λ h. fold open_after h (tokens item ++ comma ∷ [])) (opens-before before held)
     ∙ opens-item item held (comma ∷ [])
 
 abbrev pub squares : List Frame → List Bool
@@ -42,11 +42,11 @@ pub length-squares : (fs : List Frame) → length (squares fs) ≡ length fs
 length-squares [] = refl
 length-squares (f ∷ fs) = ap (λ n. suc n) (length-squares fs)
 
-opens-frames : (fs : List Frame) → fold opened [] (frames_tokens fs) ≡ squares fs
+opens-frames : (fs : List Frame) → fold open_after [] (frames_tokens fs) ≡ squares fs
 opens-frames [] = refl
 opens-frames (f ∷ fs) =
-    fold-append opened [] (frames_tokens fs) (single word f.place f.keyword ∷ opening f.square ∷ before_tokens f.before)
-    ∙ ap (λ h. fold opened (f.square ∷ h) (before_tokens f.before)) (opens-frames fs)
+    fold-append open_after [] (frames_tokens fs) (single word f.place f.keyword ∷ opening f.square ∷ before_tokens f.before)
+    ∙ ap (λ h. fold open_after (f.square ∷ h) (before_tokens f.before)) (opens-frames fs)
     ∙ opens-before f.before (f.square ∷ squares fs)
 
 abbrev pub frames_of : State → List Frame
@@ -56,11 +56,11 @@ frames_of (after item fs) = fs
 
 pub opens-unread : (s : State) → opens (unread s) ≡ squares (frames_of s)
 opens-unread (wants fs) = opens-frames fs
-opens-unread (worded place raw fs) = fold-append opened [] (frames_tokens fs) (single word place raw ∷ []) ∙ opens-frames fs
+opens-unread (worded place raw fs) = fold-append open_after [] (frames_tokens fs) (single word place raw ∷ []) ∙ opens-frames fs
 opens-unread (after item fs) =
-    fold-append opened [] (frames_tokens fs) (tokens item)
-    ∙ ap (λ h. fold opened h (tokens item)) (opens-frames fs)
-    ∙ ap (λ ts. fold opened (squares fs) ts) (sym (append-nil (tokens item)))
+    fold-append open_after [] (frames_tokens fs) (tokens item)
+    ∙ ap (λ h. fold open_after h (tokens item)) (opens-frames fs)
+    ∙ ap (λ ts. fold open_after (squares fs) ts) (sym (append-nil (tokens item)))
     ∙ opens-item item (squares fs) []
 
 last-append : (o : Option Token) (xs ys : List Token) → last_or o (xs ++ ys) ≡ last_or (last_or o xs) ys
@@ -103,13 +103,13 @@ last-unread (after item fs) = last-append None (frames_tokens fs) (tokens item) 
 abbrev pub Takes : ℕ → State → Token → Type 0
 Takes limit s t = (n : State) × (step limit s t ≡ Some n)
 
-goes_on_from_behind : (item : Item) (f : Frame) (fs : List Frame) (t : Token) (n : State) → behind item (f ∷ fs) t ≡ Some n → GoesOn f.square t
+goes_on_from_behind : (item : Item) (f : Frame) (fs : List Frame) (t : Token) (n : State) → behind_item item (f ∷ fs) t ≡ Some n → GoesOn f.square t
 goes_on_from_behind item f fs (single kind place raw) n e = cc
 goes_on_from_behind item f fs comma n e = tt
 goes_on_from_behind item f fs (opening square) n e = cc
 goes_on_from_behind item f fs (closing place square) n e = same_square-true square f.square (only_if-some _ _ n e).0
 
-behind_from_goes_on : (item : Item) (f : Frame) (fs : List Frame) (t : Token) → GoesOn f.square t → (n : State) × (behind item (f ∷ fs) t ≡ Some n)
+behind_from_goes_on : (item : Item) (f : Frame) (fs : List Frame) (t : Token) → GoesOn f.square t → (n : State) × (behind_item item (f ∷ fs) t ≡ Some n)
 behind_from_goes_on item f fs (single kind place raw) h = absurd h
 behind_from_goes_on item f fs comma h = (wants (record f { before = item ∷ f.before } ∷ fs), refl)
 behind_from_goes_on item f fs (opening square) h = absurd h

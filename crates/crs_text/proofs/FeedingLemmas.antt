@@ -14,7 +14,7 @@ use Rattle.crs_text.specs.Quoted.{StopsAt, BeginsWith, doubled, is_quote, IsInsi
 use Rattle.crs_text.specs.Utf8.{IsUtf8Front}
 use Rattle.crs_text.specs.TextFault.{begins_token, is_delimiter, BeginsNoToken, IsFlaw, IsStop, IsTextFault}
 use Rattle.crs_text.specs.Settled.{IsSettled, FormsSettled, SettledFronts, IsRunSettled, IsSettledStop, IsSettledRefusal, IsTakenSoFar, IsPieceFault}
-use Rattle.crs_text.specs.Feeding.{IsFlawSettled, IsLexedSettled, IsHeld, IsSettledTo, IsHeldAt, IsSettledFault, IsPendingIn, IsPendingBefore, StaysPending, IsHeldIn, IsInsideTo, IsOpenTo, IsValidTo, IsFedTo, IsFed, IsRefusalOf}
+use Rattle.crs_text.specs.Feeding.{IsFlawSettled, IsLexedSettled, IsUnsettled, IsSettledTo, IsUnsettledAt, IsSettledFault, IsPendingIn, IsPendingBefore, StaysPending, IsUnsettledIn, IsInsideTo, IsOpenTo, IsValidTo, IsFedTo, IsFed, IsRefusalOf}
 use Rattle.crs_text.specs.declared.feeding.Held.{Held}
 use Rattle.crs_text.specs.declared.feeding.Pending.{Pending}
 use Rattle.crs_text.specs.declared.feeding.Pending.TheVariants as pending
@@ -105,15 +105,15 @@ module _ (total : ℕ) (left : List ℕ) where
   no_stop_without ts none flaw UnexpectedEnd k s = s
   no_stop_without ts none flaw TooDeep k s = none s.0 s.1 s.2
 
-  pub held_without : (ts : List Token) → ((t : Token) (rest : List ℕ) → ¬ (FormsSettled total t left rest)) → ((r : Reason) (k : ℕ) → IsFlaw r left k → ¬ (IsFlawSettled r left)) → IsHeld total ts left
+  pub held_without : (ts : List Token) → ((t : Token) (rest : List ℕ) → ¬ (FormsSettled total t left rest)) → ((r : Reason) (k : ℕ) → IsFlaw r left k → ¬ (IsFlawSettled r left)) → IsUnsettled total ts left
   held_without ts none flaw = record { no_token = none; no_stop = no_stop_without ts none flaw }
 
-  pub token_held : (ts : List Token) (t : Token) (rest : List ℕ) → Forms total t left rest → ¬ (IsSettled t rest) → IsHeld total ts left
+  pub token_held : (ts : List Token) (t : Token) (rest : List ℕ) → Forms total t left rest → ¬ (IsSettled t rest) → IsUnsettled total ts left
   token_held ts t rest f not =
       held_without ts (λ u tail g. let e = Forms-one total u t left tail rest g.forms f in not (subst (λ z. IsSettled z rest) e.0 (subst (IsSettled u) e.1 g.settled)))
       (λ r k g. absurd (flaw_no_token r total t left rest k g f))
 
-  pub flaw_held : (ts : List Token) (r : Reason) (k : ℕ) → IsFlaw r left k → ¬ (IsFlawSettled r left) → IsHeld total ts left
+  pub flaw_held : (ts : List Token) (r : Reason) (k : ℕ) → IsFlaw r left k → ¬ (IsFlawSettled r left) → IsUnsettled total ts left
   flaw_held ts r k f not =
       held_without ts (λ u tail g. flaw_no_token r total u left tail k f g.forms)
       (λ q m g s. not (subst (λ z. IsFlawSettled z left) (flaw_one q r left m k g f).0 s))
@@ -145,7 +145,7 @@ module _ (text : List ℕ) (at : ℕ) (lt : at < length text) where
   all_from_lexed (lexed.Closing square) l s = token_all (length text) (drop at text) (closing at square) (drop (at + 1) text) (closing_at text at lt square l) tt
   all_from_lexed (lexed.Flaw r k) l s = flaw_all (length text) (drop at text) r k l s
 
-  pub held_from_lexed : (l : Lexed) → IsLexed (drop at text) l → ¬ (IsLexedSettled (drop at text) l) → IsHeldAt text at
+  pub held_from_lexed : (l : Lexed) → IsLexed (drop at text) l → ¬ (IsLexedSettled (drop at text) l) → IsUnsettledAt text at
   held_from_lexed (lexed.Number n) l s ts =
       let a = number_at text at lt n l in token_held (length text) (drop at text) ts (single a.of_kind at (take n (drop at text))) (drop (at + n) text) a.forms (λ some. some (rest_none n s))
   held_from_lexed (lexed.Text n) l s ts =
@@ -198,13 +198,13 @@ reached_from_settled text table at r = record {
 }
 
 -- at the end of the text nothing is settled
-pub nothing_held : (total : ℕ) (ts : List Token) (left : List ℕ) → left ≡ [] → IsHeld total ts left
+pub nothing_held : (total : ℕ) (ts : List Token) (left : List ℕ) → left ≡ [] → IsUnsettled total ts left
 nothing_held total ts left e = record {
   no_token = λ t rest f. forms_some total t left rest f.forms e;
   no_stop = λ r k s. stop_some r total ts left k s e;
 }
 
-pub held_at_end : (text : List ℕ) (at : ℕ) → length text ≤ at → IsHeldAt text at
+pub held_at_end : (text : List ℕ) (at : ℕ) → length text ≤ at → IsUnsettledAt text at
 held_at_end text at le ts = nothing_held (length text) ts (drop at text) (drop_all at text le)
 
 -- ---- what stays pending
@@ -221,7 +221,7 @@ word_from_all : (left : List ℕ) → BeginsWith is_letter left → list_all is_
 word_from_all [] b e = absurd b
 word_from_all (x ∷ xs) b e = (b, and_right (is_word_byte x) (list_all is_word_byte xs) e)
 
-pub word_held : (left : List ℕ) → IsPendingIn left pending.Word → IsHeldIn left
+pub word_held : (left : List ℕ) → IsPendingIn left pending.Word → IsUnsettledIn left
 word_held left p total within ts =
     token_held total left ts (single word (total - length left) left) []
     (record { spelled = sym (append-nil left); formed = word_from_all left p.0 p.1; ends = tt; placed = omega arith })
@@ -253,12 +253,12 @@ module _ (left : List ℕ) (begins : BeginsWith is_run_start left) (taken : list
   run_no_flaw NotUtf8 k f s = let e : Some (a_single number) ≡ Some (a_single tokens.text) = sym run_shape ∙ ap shape_at f.2 in absurd cc
   run_no_flaw r k f s = s
 
-  run_held_in : IsHeldIn left
+  run_held_in : IsUnsettledIn left
   run_held_in total within ts =
       held_without total left ts
       (λ t rest f. run_no_token total t rest f (some_shape (shape_of t) (a_single number) (sym (Forms-shape total t left rest f.forms) ∙ run_shape))) run_no_flaw
 
-pub run_held : (left : List ℕ) → IsPendingIn left pending.Run → IsHeldIn left
+pub run_held : (left : List ℕ) → IsPendingIn left pending.Run → IsUnsettledIn left
 run_held left p = run_held_in left p.0 p.1
 
 module _ (left : List ℕ) (quote : left ≡ 34 ∷ drop 1 left) (n : ℕ) (o : IsOpenTo (drop 1 left) n) (front : IsUtf8Front (drop 1 left)) where
@@ -291,7 +291,7 @@ module _ (left : List ℕ) (quote : left ≡ 34 ∷ drop 1 left) (n : ℕ) (o : 
       f.4 (IsUtf8Front-shorter f.1 t.0 (subst IsUtf8Front (sym e ∙ t.1) front))
   text_no_flaw r k f s = s
 
-  pub text_held : IsHeldIn left
+  pub text_held : IsUnsettledIn left
   text_held total within ts =
       held_without total left ts
       (λ t rest f. text_no_token total t rest f (same_shape (shape_of t) (sym (Forms-shape total t left rest f.forms) ∙ text_shape))) text_no_flaw
@@ -416,11 +416,11 @@ settled_still text before piece table at e s dark =
 pub pending_before : (text before piece left : List ℕ) (at : ℕ) (p : Pending) → text ≡ before ++ piece → left ≡ drop at text → at ≤ length before → IsPendingIn (drop at before) p → IsPendingBefore left piece p
 pending_before text before piece left at p e f le is = (drop at before, f ∙ ap (drop at) e ∙ drop-append-le at before piece le, is)
 
-pub so_far_from : (text : List ℕ) (table : Flat) (at : ℕ) → IsSettledTo text table at → IsHeldAt text at → IsTakenSoFar text
+pub so_far_from : (text : List ℕ) (table : Flat) (at : ℕ) → IsSettledTo text table at → IsUnsettledAt text at → IsTakenSoFar text
 so_far_from text table at s held = taken_so_far text s.tokens (drop at text) s.fronts (viable_from_shows s.tokens table s.shows) (held s.tokens)
 
-pub held_at_place : (text left : List ℕ) (at : ℕ) → left ≡ drop at text → IsHeldIn left → IsHeldAt text at
-held_at_place text left at e held ts = subst (IsHeld (length text) ts) e (held (length text) (omega (arith, ap length e, length-drop at text)) ts)
+pub held_at_place : (text left : List ℕ) (at : ℕ) → left ≡ drop at text → IsUnsettledIn left → IsUnsettledAt text at
+held_at_place text left at e held ts = subst (IsUnsettled (length text) ts) e (held (length text) (omega (arith, ap length e, length-drop at text)) ts)
 
 pub settled_start : (text : List ℕ) (table : Flat) (at : ℕ) → table ≡ flat start → at ≡ prefix_len is_white text → IsSettledTo text table at
 settled_start text table at t e =

@@ -6,7 +6,7 @@ use Rattle.std.proofs.Math.Seq.{get_or-append_seam, set-append_seam}
 use Rattle.std.proofs.lemmas.List.{append-nil}
 use Rattle.crs_text.specs.Tokens.{Kind, number, text, word, Token, single, comma, opening, closing}
 use Rattle.crs_text.specs.Items.{Item, leaf, Siblings, End, More, count}
-use Rattle.crs_text.specs.State.{Frame, State, wants, worded, after, gather, only_if, same_square, behind_leaf, behind, step}
+use Rattle.crs_text.specs.State.{Frame, State, wants, worded, after, gather, only_if, same_square, behind_leaf, behind_item, step}
 use Rattle.crs_text.specs.Table.{Flat, item_kind, leaf_row, no_row, flat_step, flat_comma, flat_open, flat_close, with_leaf, with_open, with_close}
 use Rattle.crs_text.specs.Rows.{node_rows, rows, rows_of_items, rows_before, open_row, rows_of_frames, opens_of, flat}
 use Rattle.crs_text.specs.declared.items.ItemKind.TheVariants.{Word, Node}
@@ -80,7 +80,7 @@ leaf-rows kind place raw f fs = go kind
 abbrev flat_behind : Item → List Frame → Position → Flat
 flat_behind item fs position = record { rows = rows_of_frames fs ++ rows (length fs) item; opens = opens_of fs; position = position }
 
-flat-comma : (item : Item) (fs : List Frame) (position : Position) → position ≢ BeforeItem → flat_comma (flat_behind item fs position) ≡ option_map flat (behind item fs comma)
+flat-comma : (item : Item) (fs : List Frame) (position : Position) → position ≢ BeforeItem → flat_comma (flat_behind item fs position) ≡ option_map flat (behind_item item fs comma)
 flat-comma item fs BeforeItem h = absurd (h refl)
 flat-comma item [] AfterWord h = refl
 flat-comma item [] AfterItem h = refl
@@ -95,7 +95,7 @@ close-flat f fs item place square position false e = refl
 close-flat f fs item place square position true e = ap (λ rs. Some (record { rows = rs; opens = opens_of fs; position = AfterItem })) (close-rows f fs item place)
 
 flat-close : (item : Item) (fs : List Frame) (position : Position) (place : ℕ) (square : Bool) → position ≢ BeforeItem →
-    flat_close (flat_behind item fs position) place square ≡ option_map flat (behind item fs (closing place square))
+    flat_close (flat_behind item fs position) place square ≡ option_map flat (behind_item item fs (closing place square))
 flat-close item fs BeforeItem place square h = absurd (h refl)
 flat-close item [] AfterWord place square h = refl
 flat-close item [] AfterItem place square h = refl

@@ -11,7 +11,7 @@ use Rattle.crs_text.specs.declared.refusal.Reason.{Reason}
 use Rattle.crs_text.specs.declared.refusal.Reason.TheVariants.{BadCharacter, BadNumber, NumberRange, NotUtf8, OpenText, Unexpected, UnexpectedEnd, TooDeep}
 use Rattle.crs_text.specs.TextFault.{reason_number, IsFlaw}
 use Rattle.crs_text.specs.Settled.{IsSettled, SettledFronts, IsSettledStop, IsSettledRefusal, IsTakenSoFar}
-use Rattle.crs_text.specs.Feeding.{IsFlawSettled, IsHeld}
+use Rattle.crs_text.specs.Feeding.{IsFlawSettled, IsUnsettled}
 use Rattle.crs_text.proofs.QuotedLemmas.{true_not_false}
 use Rattle.crs_text.proofs.FrontsLemmas.{forms_shorter}
 use Rattle.crs_text.proofs.ShowsLemmas.{shows_start, viable_from_shows, shows_more}
@@ -61,7 +61,7 @@ module _ (bytes : List ℕ) where
     },
   )
 
-  held : (ts : List Token) (left : List ℕ) (table : Flat) → SettledFronts (length bytes) bytes ts left → Shows ts table → IsHeld (length bytes) ts left → IsSettledEither bytes
+  held : (ts : List Token) (left : List ℕ) (table : Flat) → SettledFronts (length bytes) bytes ts left → Shows ts table → IsUnsettled (length bytes) ts left → IsSettledEither bytes
   held ts left table fronts shows h = inr (taken_so_far bytes ts left fronts (viable_from_shows ts table shows) h)
 
   at_misplaced : (ts : List Token) (b : ℕ) (bs : List ℕ) (table : Flat) → length (b ∷ bs) ≤ length bytes → SettledFronts (length bytes) bytes ts (b ∷ bs) → Shows ts table

@@ -8,13 +8,13 @@ use Rattle.std.proofs.lemmas.Bool.{cases_lt}
 use Rattle.crs_decimal.specs.Spelling.{is_run_byte}
 use Rattle.crs_text.specs.Quoted.{StopsAt, is_quote, IsShut, Through}
 use Rattle.crs_text.specs.Utf8.{IsUtf8Front}
-use Rattle.crs_text.specs.Tokens.{Token, single, comma, opening, closing, is_white, takes, Ends, IsPlaced, spelling, Forms, IsAfterWhite, Fronts}
+use Rattle.crs_text.specs.Tokens.{Token, single, comma, opening, closing, is_white, takes_byte, Ends, IsPlaced, spelling, Forms, IsAfterWhite, Fronts}
 use Rattle.crs_text.specs.Viable.{IsViable}
 use Rattle.crs_text.specs.declared.refusal.Reason.{Reason}
 use Rattle.crs_text.specs.declared.refusal.Reason.TheVariants.{BadCharacter, BadNumber, NumberRange, NotUtf8, OpenText, Unexpected, UnexpectedEnd, TooDeep}
 use Rattle.crs_text.specs.TextFault.{BeginsNoToken, IsFirstRun, IsFlaw, IsStop, RefusesText}
 use Rattle.crs_text.specs.Settled.{IsSettled, FormsSettled, SettledFronts, IsRunSettled, IsSettledStop, IsSettledRefusal, IsTakenSoFar}
-use Rattle.crs_text.specs.Feeding.{IsHeld}
+use Rattle.crs_text.specs.Feeding.{IsUnsettled}
 use Rattle.crs_text.proofs.TokenLemmas.{Forms-one}
 use Rattle.crs_text.proofs.FlawLemmas.{flaw_some}
 use Rattle.crs_text.proofs.QuotedLemmas.{same_head, same_tail, shut_one, shut_not_open}
@@ -64,7 +64,7 @@ stops_more test [] more some s = absurd (some refl)
 stops_more test (b ∷ bs) more some s = s
 
 ends_more : (t : Token) (rest more : List ℕ) → IsSettled t rest → Ends t rest → Ends t (rest ++ more)
-ends_more (single kind place raw) rest more some e = stops_more (takes kind) rest more some e
+ends_more (single kind place raw) rest more some e = stops_more (takes_byte kind) rest more some e
 ends_more comma rest more some e = tt
 ends_more (opening square) rest more some e = tt
 ends_more (closing place square) rest more some e = tt
@@ -291,7 +291,7 @@ front_token total t ts left b ends p =
     let h : p.0 ≡ left = after_white_one left p.0 left p.2 (at_once left ends) in
     (p.1, subst (λ z. FormsSettled total t z p.1) h p.3)
 
-module _ (bytes : List ℕ) (ts : List Token) (left : List ℕ) (fronts : SettledFronts (length bytes) bytes ts left) (viable : IsViable ts) (held : IsHeld (length bytes) ts left) where
+module _ (bytes : List ℕ) (ts : List Token) (left : List ℕ) (fronts : SettledFronts (length bytes) bytes ts left) (viable : IsViable ts) (held : IsUnsettled (length bytes) ts left) where
   dark : StopsAt is_white left
   dark = fronts_dark (length bytes) ts bytes left fronts
 

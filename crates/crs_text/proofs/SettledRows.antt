@@ -6,7 +6,7 @@ use Rattle.crs_text.specs.Tokens as tokens
 use Rattle.crs_text.specs.Tokens.{Token, single, comma, opening, closing, is_white, IsSingle, Forms}
 use Rattle.crs_text.specs.declared.refusal.Reason.TheVariants.{BadCharacter, Unexpected}
 use Rattle.crs_text.specs.Settled.{FormsSettled, SettledFronts, IsSettledRefusal, IsTakenSoFar}
-use Rattle.crs_text.specs.SettledExamples.{named}
+use Rattle.crs_text.specs.SettledExamples.{begun}
 use Rattle.crs_text.proofs.FrontsLemmas.{at_once}
 use Rattle.crs_text.proofs.ViableLemmas.{viable_from_run}
 use Rattle.crs_text.proofs.AllowedLemmas.{not_viable_from_none}
@@ -40,46 +40,46 @@ opened_fronts bs = (
   ),
 )
 
-name_forms : (b : ℕ) (bs : List ℕ) → is_quote b ≡ false → FormsSettled (length (named ++ b ∷ bs)) (single tokens.text 8 (codes "H")) (34 ∷ 72 ∷ 34 ∷ b ∷ bs) (b ∷ bs)
+name_forms : (b : ℕ) (bs : List ℕ) → is_quote b ≡ false → FormsSettled (length (begun ++ b ∷ bs)) (single tokens.text 8 (codes "H")) (34 ∷ 72 ∷ 34 ∷ b ∷ bs) (b ∷ bs)
 name_forms b bs other = record {
   forms = record { spelled = refl; formed = ((codes "H", refl), name_utf8); ends = other; placed = omega arith };
   settled = λ e. absurd cc;
 }
 
-named_fronts : (b : ℕ) (bs : List ℕ) → is_white b ≡ false → is_quote b ≡ false → SettledFronts (length (named ++ b ∷ bs)) (named ++ b ∷ bs) with_name (b ∷ bs)
+named_fronts : (b : ℕ) (bs : List ℕ) → is_white b ≡ false → is_quote b ≡ false → SettledFronts (length (begun ++ b ∷ bs)) (begun ++ b ∷ bs) with_name (b ∷ bs)
 named_fronts b bs dark other =
-    fronts_more (length (named ++ b ∷ bs)) opened (named ++ b ∷ bs) (34 ∷ 72 ∷ 34 ∷ b ∷ bs) (b ∷ bs) (b ∷ bs) (single tokens.text 8 (codes "H")) (opened_fronts (72 ∷ 34 ∷ b ∷ bs)) (name_forms b bs other) (at_once (b ∷ bs) dark)
+    fronts_more (length (begun ++ b ∷ bs)) opened (begun ++ b ∷ bs) (34 ∷ 72 ∷ 34 ∷ b ∷ bs) (b ∷ bs) (b ∷ bs) (single tokens.text 8 (codes "H")) (opened_fronts (72 ∷ 34 ∷ b ∷ bs)) (name_forms b bs other) (at_once (b ∷ bs) dark)
 
 -- VERTCRS["H"]
-closed_fronts : (b : ℕ) (bs : List ℕ) → is_white b ≡ false → SettledFronts (length (named ++ 93 ∷ b ∷ bs)) (named ++ 93 ∷ b ∷ bs) (with_name ++ closing 11 true ∷ []) (b ∷ bs)
+closed_fronts : (b : ℕ) (bs : List ℕ) → is_white b ≡ false → SettledFronts (length (begun ++ 93 ∷ b ∷ bs)) (begun ++ 93 ∷ b ∷ bs) (with_name ++ closing 11 true ∷ []) (b ∷ bs)
 closed_fronts b bs dark =
-    fronts_more (length (named ++ 93 ∷ b ∷ bs)) with_name (named ++ 93 ∷ b ∷ bs) (93 ∷ b ∷ bs) (b ∷ bs) (b ∷ bs) (closing 11 true) (named_fronts 93 (b ∷ bs) refl refl)
+    fronts_more (length (begun ++ 93 ∷ b ∷ bs)) with_name (begun ++ 93 ∷ b ∷ bs) (93 ∷ b ∷ bs) (b ∷ bs) (b ∷ bs) (closing 11 true) (named_fronts 93 (b ∷ bs) refl refl)
     (record { forms = record { spelled = refl; formed = tt; ends = tt; placed = omega arith }; settled = tt }) (at_once (b ∷ bs) dark)
 
 -- VERTCRS["H",
-listed_fronts : (b : ℕ) (bs : List ℕ) → is_white b ≡ false → SettledFronts (length (named ++ 44 ∷ b ∷ bs)) (named ++ 44 ∷ b ∷ bs) (with_name ++ comma ∷ []) (b ∷ bs)
+listed_fronts : (b : ℕ) (bs : List ℕ) → is_white b ≡ false → SettledFronts (length (begun ++ 44 ∷ b ∷ bs)) (begun ++ 44 ∷ b ∷ bs) (with_name ++ comma ∷ []) (b ∷ bs)
 listed_fronts b bs dark =
-    fronts_more (length (named ++ 44 ∷ b ∷ bs)) with_name (named ++ 44 ∷ b ∷ bs) (44 ∷ b ∷ bs) (b ∷ bs) (b ∷ bs) comma (named_fronts 44 (b ∷ bs) refl refl)
+    fronts_more (length (begun ++ 44 ∷ b ∷ bs)) with_name (begun ++ 44 ∷ b ∷ bs) (44 ∷ b ∷ bs) (b ∷ bs) (b ∷ bs) comma (named_fronts 44 (b ∷ bs) refl refl)
     (record { forms = record { spelled = refl; formed = tt; ends = tt; placed = tt }; settled = tt }) (at_once (b ∷ bs) dark)
 
-pub name_so_far : IsTakenSoFar named
+pub name_so_far : IsTakenSoFar begun
 name_so_far =
-    taken_so_far named opened (34 ∷ 72 ∷ 34 ∷ []) (opened_fronts (72 ∷ 34 ∷ [])) (viable_from_run opened _ refl)
+    taken_so_far begun opened (34 ∷ 72 ∷ 34 ∷ []) (opened_fronts (72 ∷ 34 ∷ [])) (viable_from_run opened _ refl)
     (token_held 11 (34 ∷ 72 ∷ 34 ∷ []) opened (single tokens.text 8 (codes "H")) []
     (record { spelled = refl; formed = ((codes "H", refl), name_utf8); ends = tt; placed = refl }) (λ some. some refl))
 
-pub word_so_far : IsTakenSoFar (named ++ codes "]x")
+pub word_so_far : IsTakenSoFar (begun ++ codes "]x")
 word_so_far =
-    taken_so_far (named ++ codes "]x") (with_name ++ closing 11 true ∷ []) (codes "x") (closed_fronts 120 [] refl) (viable_from_run (with_name ++ closing 11 true ∷ []) _ refl)
+    taken_so_far (begun ++ codes "]x") (with_name ++ closing 11 true ∷ []) (codes "x") (closed_fronts 120 [] refl) (viable_from_run (with_name ++ closing 11 true ∷ []) _ refl)
     (token_held 13 (codes "x") (with_name ++ closing 11 true ∷ []) (single tokens.word 12 (codes "x")) []
     (record { spelled = refl; formed = (refl, refl); ends = tt; placed = refl }) (λ some. some refl))
 
-pub run_so_far : IsTakenSoFar (named ++ codes ",1")
+pub run_so_far : IsTakenSoFar (begun ++ codes ",1")
 run_so_far =
-    taken_so_far (named ++ codes ",1") (with_name ++ comma ∷ []) (codes "1") (listed_fronts 49 [] refl) (viable_from_run (with_name ++ comma ∷ []) _ refl)
+    taken_so_far (begun ++ codes ",1") (with_name ++ comma ∷ []) (codes "1") (listed_fronts 49 [] refl) (viable_from_run (with_name ++ comma ∷ []) _ refl)
     (run_held (codes "1") (refl, refl) 13 (omega arith) (with_name ++ comma ∷ []))
 
-pub word_refused : IsSettledRefusal (named ++ codes "]x ") 6 12
+pub word_refused : IsSettledRefusal (begun ++ codes "]x ") 6 12
 word_refused = record {
   reason = Unexpected;
   before = with_name ++ closing 11 true ∷ [];
@@ -99,7 +99,7 @@ word_refused = record {
   is_place = refl;
 }
 
-pub closing_refused : IsSettledRefusal (named ++ codes ",]") 6 12
+pub closing_refused : IsSettledRefusal (begun ++ codes ",]") 6 12
 closing_refused = record {
   reason = Unexpected;
   before = with_name ++ comma ∷ [];
@@ -119,7 +119,7 @@ closing_refused = record {
   is_place = refl;
 }
 
-pub character_refused : IsSettledRefusal (named ++ codes "#") 1 11
+pub character_refused : IsSettledRefusal (begun ++ codes "#") 1 11
 character_refused = record {
   reason = BadCharacter;
   before = with_name;

@@ -4,7 +4,7 @@ use Rattle.std.specs.List.{fold}
 use Rattle.std.proofs.lemmas.Bool.{ltb-true}
 use Rattle.crs_text.specs.Tokens.{Kind, number, text, word, Token, single, comma, opening, closing}
 use Rattle.crs_text.specs.Items.{Item, leaf, node, Siblings, End, More, depth, depths, IsNode}
-use Rattle.crs_text.specs.State.{Frame, State, wants, worded, after, gather, behind_leaf, behind, step, move, run}
+use Rattle.crs_text.specs.State.{Frame, State, wants, worded, after, gather, behind_leaf, behind_item, step, move, run}
 use Rattle.crs_text.proofs.StateLemmas.{only_if-some, fold-none}
 
 abbrev pub EachFits : ℕ → ℕ → List Item → Type 0
@@ -45,7 +45,7 @@ depth-gather place keyword square (b ∷ before) item later close limit n each h
     depth-gather place keyword square before b (More item later) close limit n each.1 each.0 (omega arith)
 
 sound-behind : (limit : ℕ) (item : Item) (fs : List Frame) (t : Token) (n : State) → AreSound limit fs → depth item + length fs ≤ limit →
-    behind item fs t ≡ Some n → IsSound limit n
+    behind_item item fs t ≡ Some n → IsSound limit n
 sound-behind limit item [] t n s d e = cc
 sound-behind limit item (f ∷ fs) (single kind place raw) n s d e = cc
 sound-behind limit item (f ∷ fs) comma n s d e =

@@ -4,7 +4,7 @@ use Rattle.std.specs.List.{fold}
 use Rattle.std.proofs.lemmas.List.{append-nil}
 use Rattle.crs_text.specs.Tokens.{Kind, number, text, word, Token, single, comma, opening, closing}
 use Rattle.crs_text.specs.Items.{Item, leaf, Siblings, More, tokens, others_tokens}
-use Rattle.crs_text.specs.State.{Frame, State, wants, worded, after, gather, only_if, same_square, behind_leaf, behind, step, move, run, before_tokens, frames_tokens, unread}
+use Rattle.crs_text.specs.State.{Frame, State, wants, worded, after, gather, only_if, same_square, behind_leaf, behind_item, step, move, run, before_tokens, frames_tokens, unread}
 
 pub only_if-some : (b : Bool) (s n : State) → only_if b s ≡ Some n → (b ≡ true) × (s ≡ n)
 only_if-some true s n e = (refl, cc)
@@ -28,7 +28,7 @@ tokens-gather place keyword square [] item later close = simp append_assoc
 tokens-gather place keyword square (b ∷ before) item later close =
     tokens-gather place keyword square before b (More item later) close ∙ simp append_assoc
 
-unread-behind : (item : Item) (fs : List Frame) (t : Token) (n : State) → behind item fs t ≡ Some n → unread n ≡ (frames_tokens fs ++ tokens item) ++ t ∷ []
+unread-behind : (item : Item) (fs : List Frame) (t : Token) (n : State) → behind_item item fs t ≡ Some n → unread n ≡ (frames_tokens fs ++ tokens item) ++ t ∷ []
 unread-behind item [] t n e = cc
 unread-behind item (f ∷ fs) (single kind place raw) n e = cc
 unread-behind item (f ∷ fs) comma n e =

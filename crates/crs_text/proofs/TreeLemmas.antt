@@ -6,7 +6,7 @@ use Rattle.crs_decimal.specs.Fault.{IsFault}
 use Rattle.crs_decimal.specs.declared.fault.NumberFault.{NumberFault}
 use Rattle.crs_decimal.specs.declared.fault.NumberFault.TheVariants.{Malformed, Range}
 use Rattle.crs_text.specs.Tokens.{Kind, number, text, word, Token, single, closing, IsFormed}
-use Rattle.crs_text.specs.Items.{Item, leaf, node, Siblings, End, More, tokens, others_tokens, first_of, kind_of, raw_of, place_of, here, HasId}
+use Rattle.crs_text.specs.Items.{Item, leaf, node, Siblings, End, More, tokens, others_tokens, first_of, kind_of_item, raw_of, place_of, here, HasId}
 use Rattle.crs_text.specs.Table.{item_kind, leaf_row}
 use Rattle.crs_text.specs.Rows.{rows, rows_of_items, row_of}
 use Rattle.crs_text.specs.Tree.{part_of, parts, parts_of_items, tree, tree-parts, raw_place, part, tree_of, StandsAt, TokenStands, Each, AllStand, IsTable}
@@ -110,7 +110,7 @@ each_item P Q own tree id h lt =
     subst Q (sym (ap first_of items)) (all-get Q (heres tree) id none (all-heres P Q own tree h) inner)
 
 abbrev pub StandsHere : List ℕ → Item → Type 0
-StandsHere source item = StandsAt source (raw_place (kind_of item) (place_of item)) (raw_of item)
+StandsHere source item = StandsAt source (raw_place (kind_of_item item) (place_of item)) (raw_of item)
 
 pub stands_here : (source : List ℕ) (item : Item) → AllStand source (tokens item) → StandsHere source item
 stands_here source (leaf number place raw) h = h.0
@@ -131,7 +131,7 @@ module _ (source : List ℕ) (tree : Item) (id : ℕ) (row : Row) (stand : AllSt
   pub raw-within : raw_place row.kind row.place + row.length ≤ length source
   raw-within =
       let h = item-stands in
-      let e : raw_place row.kind row.place + row.length ≡ raw_place (kind_of (first_of (here tree id))) (place_of (first_of (here tree id))) + length (raw_of (first_of (here tree id))) =
+      let e : raw_place row.kind row.place + row.length ≡ raw_place (kind_of_item (first_of (here tree id))) (place_of (first_of (here tree id))) + length (raw_of (first_of (here tree id))) =
       ap (λ r. raw_place r.kind r.place + r.length) is in
       omega (arith, e, h.within)
 
@@ -139,7 +139,7 @@ module _ (source : List ℕ) (tree : Item) (id : ℕ) (row : Row) (stand : AllSt
   raw-is = ap (λ r. take r.length (drop (raw_place r.kind r.place) source)) is ∙ sym item-stands.bytes
 
 abbrev pub IsBoundedHere : Item → Type 0
-IsBoundedHere item = kind_of item ≡ Number → IsInBounds (raw_of item)
+IsBoundedHere item = kind_of_item item ≡ Number → IsInBounds (raw_of item)
 
 bounded_here : (item : Item) → Each IsFormed (tokens item) → IsBoundedHere item
 bounded_here (leaf number place raw) h = λ e. h.0.2

@@ -2,7 +2,7 @@
 use Rattle.std.proofs.Common.{◌≡◌, ℕ, suc, ◌+◌, ◌≤◌, max, true, List, [], ◌∷◌, ◌++◌, length, refl, sym, ap, subst, ◌∙◌, append_assoc, arith}
 use Rattle.std.proofs.lemmas.List.{append-nil, length-append}
 use Rattle.crs_text.specs.Quoted.{StopsAt}
-use Rattle.crs_text.specs.Tokens.{Kind, number, text, word, Token, single, comma, opening, closing, is_white, IsWord, IsSingle, single_spelling, takes, IsFormed, Forms, Fronts}
+use Rattle.crs_text.specs.Tokens.{Kind, number, text, word, Token, single, comma, opening, closing, is_white, IsWord, IsSingle, single_spelling, takes_byte, IsFormed, Forms, Fronts}
 use Rattle.crs_text.specs.Items.{Item, leaf, node, Siblings, End, More, tokens, others_tokens, depth, depths, IsNode}
 use Rattle.crs_text.specs.TextFault.{SpellsNode}
 use Rattle.crs_text.specs.Tree.{Each}
@@ -11,7 +11,7 @@ use Rattle.crs_text.proofs.FrontsLemmas.{dark_start, dark_word, at_once}
 
 -- no token goes on into these bytes
 abbrev IsApart : List ℕ → Type 0
-IsApart rest = (kind : Kind) → StopsAt (takes kind) rest
+IsApart rest = (kind : Kind) → StopsAt (takes_byte kind) rest
 
 apart_none : IsApart []
 apart_none kind = tt

@@ -1,32 +1,46 @@
--- The definitions on VERTCRS["H",VDATUM["D"],CS[vertical,1],AXIS["h",up,LENGTHUNIT["metre",1]]] and on words nested
--- deeply.
+-- The definitions on VERTCRS["H",VDATUM["D"],CS[vertical,1],AXIS["h",up,LENGTHUNIT["metre",1]]]
+-- and on words nested deeply.
 use Rattle.std.specs.Prelude.{◌≡◌, ℕ, zero, suc, codes, true, List, [], ◌∷◌, ◌++◌}
 use Rattle.crs_text.specs.Tokens.{number, text, word, Token, single, opening}
-use Rattle.crs_text.specs.Items.{Item, leaf, node, End, More, arguments, rest_of, skip, size_of, here}
+use Rattle.crs_text.specs.Items.{Item, leaf, node, End, More, arguments, rest_of, skip, size_of}
+use Rattle.crs_text.specs.Items.{here}
 use Rattle.crs_text.specs.Viable.{IsFull}
 
+-- the item `VDATUM["D"]`
 abbrev pub datum : Item
 datum = node 12 (codes "VDATUM") true (leaf text 19 (codes "D")) End 22
 
+-- the item `CS[vertical,1]`
 abbrev pub system : Item
-system = node 24 (codes "CS") true (leaf word 27 (codes "vertical")) (More (leaf number 36 (codes "1")) End) 37
+system =
+    node 24 (codes "CS") true (leaf word 27 (codes "vertical"))
+    (More (leaf number 36 (codes "1")) End) 37
 
+-- the item `LENGTHUNIT["metre",1]`
 abbrev pub unit : Item
-unit = node 51 (codes "LENGTHUNIT") true (leaf text 62 (codes "metre")) (More (leaf number 70 (codes "1")) End) 71
+unit =
+    node 51 (codes "LENGTHUNIT") true (leaf text 62 (codes "metre"))
+    (More (leaf number 70 (codes "1")) End) 71
 
+-- the item `AXIS["h",up,LENGTHUNIT["metre",1]]`
 abbrev pub axis : Item
-axis = node 39 (codes "AXIS") true (leaf text 44 (codes "h")) (More (leaf word 48 (codes "up")) (More unit End)) 72
+axis =
+    node 39 (codes "AXIS") true (leaf text 44 (codes "h"))
+    (More (leaf word 48 (codes "up")) (More unit End)) 72
 
+-- the item of the whole text
 abbrev pub vertical : Item
-vertical = node 0 (codes "VERTCRS") true (leaf text 8 (codes "H")) (More datum (More system (More axis End))) 73
+vertical =
+    node 0 (codes "VERTCRS") true (leaf text 8 (codes "H"))
+    (More datum (More system (More axis End))) 73
 
--- the items' sizes
+-- how many items are in some of these, each itself included
 abbrev pub AreSized : Type 0
 AreSized = (size_of vertical ≡ 13) × (size_of datum ≡ 2) × (size_of system ≡ 3) × (size_of axis ≡ 6)
 
--- the second argument is item 2; behind it come items 4 and 7, and then none
-abbrev pub AreNumbered : Type 0
-AreNumbered =
+-- the second argument is item 2; behind it come items 4 and 7, and then none; item 12 is the last
+abbrev pub AreFoundByNumber : Type 0
+AreFoundByNumber =
     (here vertical 2 ≡ skip 1 (arguments vertical))
     × (here vertical 4 ≡ rest_of (here vertical 2))
     × (here vertical 7 ≡ rest_of (here vertical 4))
@@ -42,4 +56,5 @@ nested (suc n) = single word 0 (codes "a") ∷ opening true ∷ nested n
 -- behind 12 open delimiters a word has no room for one more, behind 11 it has
 abbrev pub AreLimited : Type 0
 AreLimited =
-    IsFull (nested 12 ++ single word 24 (codes "a") ∷ []) × ¬ (IsFull (nested 11 ++ single word 22 (codes "a") ∷ []))
+    IsFull (nested 12 ++ single word 24 (codes "a") ∷ [])
+    × ¬ (IsFull (nested 11 ++ single word 22 (codes "a") ∷ []))

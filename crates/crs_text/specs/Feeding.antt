@@ -1,17 +1,20 @@
 -- A bridge: how far the front of a text is settled, and what is known of the token that isn't.
-use Rattle.std.specs.Prelude.{◌≡◌, ℕ, ◌+◌, ◌≤◌, ◌<◌, IsTrue, IsUtf8, ◌⊎◌, Option, Some, None, List, ◌∷◌, ◌++◌}
+use Rattle.std.specs.Prelude.{◌≡◌, ℕ, ◌+◌, ◌≤◌, ◌<◌, IsTrue, IsUtf8, ◌⊎◌, Option, Some, None, List}
+use Rattle.std.specs.Prelude.{◌∷◌, ◌++◌}
 use Rattle.std.specs.Prelude.{[], length, take, drop}
 use Rattle.std.specs.List.{list_all}
 use Rattle.crs_decimal.specs.Spelling.{is_run_byte, is_run_start}
 use Rattle.crs_text.specs.Quoted.{BeginsWith, StopsAt, IsInside}
 use Rattle.crs_text.specs.Tokens.{Token, is_white, is_letter, is_word_byte}
-use Rattle.crs_text.specs.Settled.{FormsSettled, SettledFronts, IsRunSettled, IsSettledStop, IsSettledRefusal}
+use Rattle.crs_text.specs.Settled.{FormsSettled, SettledFronts, IsRunSettled, IsSettledStop}
+use Rattle.crs_text.specs.Settled.{IsSettledRefusal}
 use Rattle.crs_text.specs.Settled.{IsTakenSoFar}
 use Rattle.crs_text.specs.Table.{Flat}
 use Rattle.crs_text.specs.Rows.{Shows}
 use Rattle.crs_text.specs.Refusal.{RefusedAt}
 use Rattle.crs_text.specs.declared.refusal.Reason.{Reason}
-use Rattle.crs_text.specs.declared.refusal.Reason.TheVariants.{BadCharacter, BadNumber, NumberRange, NotUtf8, OpenText}
+use Rattle.crs_text.specs.declared.refusal.Reason.TheVariants.{BadCharacter, BadNumber, NumberRange}
+use Rattle.crs_text.specs.declared.refusal.Reason.TheVariants.{NotUtf8, OpenText}
 use Rattle.crs_text.specs.declared.refusal.Reason.TheVariants.{Unexpected, UnexpectedEnd, TooDeep}
 use Rattle.crs_text.specs.declared.lexing.Lexed.{Lexed}
 use Rattle.crs_text.specs.declared.lexing.Lexed.TheVariants as lexed
@@ -32,7 +35,7 @@ IsFlawSettled Unexpected left = ⊥
 IsFlawSettled UnexpectedEnd left = ⊥
 IsFlawSettled TooDeep left = ⊥
 
--- so is what stands there, a token or a flaw
+-- what stands in front of what is left, a token or a flaw, is settled
 abbrev pub IsLexedSettled : List ℕ → Lexed → Type 0
 IsLexedSettled left (lexed.Number n) = n < length left
 IsLexedSettled left (lexed.Text n) = n + 2 < length left
@@ -43,7 +46,7 @@ IsLexedSettled left (lexed.Closing square) = Unit {0}
 IsLexedSettled left (lexed.Flaw reason skip) = IsFlawSettled reason left
 
 -- nothing settled stands in front of what is left of a text of this length, behind these tokens
-pub record IsHeld (total : ℕ) (ts : List Token) (left : List ℕ) : Type 0 where
+pub record IsUnsettled (total : ℕ) (ts : List Token) (left : List ℕ) : Type 0 where
   pub no_token : (t : Token) (rest : List ℕ) → ¬ (FormsSettled total t left rest)
   pub no_stop : (r : Reason) (k : ℕ) → ¬ (IsSettledStop r total ts left k)
 
@@ -58,6 +61,7 @@ pub record IsSettledTo (text : List ℕ) (table : Flat) (at : ℕ) : Type 0 wher
 abbrev pub IsInsideTo : List ℕ → ℕ → Type 0
 IsInsideTo after n = (n ≤ length after) × IsInside (take n after)
 
+-- so many of the bytes behind an opening quote are inside the text,
 -- and no more stand behind them than a quote that may be doubled yet
 abbrev pub IsOpenTo : List ℕ → ℕ → Type 0
 IsOpenTo after n = IsInsideTo after n × ((drop n after ≡ []) ⊎ (drop n after ≡ 34 ∷ []))
@@ -66,8 +70,8 @@ IsOpenTo after n = IsInsideTo after n × ((drop n after ≡ []) ⊎ (drop n afte
 abbrev pub IsValidTo : List ℕ → ℕ → Type 0
 IsValidTo after n = (n ≤ length after) × IsUtf8 (take n after)
 
--- what is left and isn't settled: nothing is known; a word or a run to the end; a quote, behind which so many bytes are
--- inside the text, and so many are well-formed
+-- what is left and isn't settled: nothing is known; a word or a run to the end; a quote, behind
+-- which so many bytes are inside the text, and so many are well-formed
 abbrev pub IsPendingIn : List ℕ → Pending → Type 0
 IsPendingIn left pending.Unknown = Unit {0}
 IsPendingIn left pending.Word = BeginsWith is_letter left × IsTrue (list_all is_word_byte left)
@@ -75,21 +79,22 @@ IsPendingIn left pending.Run = BeginsWith is_run_start left × IsTrue (list_all 
 IsPendingIn left (pending.Text inside valid) =
     (left ≡ 34 ∷ drop 1 left) × IsInsideTo (drop 1 left) inside × IsValidTo (drop 1 left) valid
 
--- the same of the bytes before this piece, the last of what is left
+-- what is left, without this piece at its end, is pending so
 abbrev pub IsPendingBefore : List ℕ → List ℕ → Pending → Type 0
 IsPendingBefore left piece p = (before : List ℕ) × (left ≡ before ++ piece) × IsPendingIn before p
 
 -- nothing settled stands in front of what is left, whatever the text and the tokens before
-abbrev pub IsHeldIn : List ℕ → Type 0
-IsHeldIn left = (total : ℕ) → length left ≤ total → (ts : List Token) → IsHeld total ts left
+abbrev pub IsUnsettledIn : List ℕ → Type 0
+IsUnsettledIn left =
+    (total : ℕ) → length left ≤ total → (ts : List Token) → IsUnsettled total ts left
 
 -- what is left stays pending, and begins with no white space
 abbrev pub StaysPending : List ℕ → Pending → Type 0
-StaysPending left p = IsPendingIn left p × IsHeldIn left × StopsAt is_white left
+StaysPending left p = IsPendingIn left p × IsUnsettledIn left × StopsAt is_white left
 
 -- nothing settled stands at this place, whatever tokens stand before it
-abbrev pub IsHeldAt : List ℕ → ℕ → Type 0
-IsHeldAt text at = (ts : List Token) → IsHeld (length text) ts (drop at text)
+abbrev pub IsUnsettledAt : List ℕ → ℕ → Type 0
+IsUnsettledAt text at = (ts : List Token) → IsUnsettled (length text) ts (drop at text)
 
 -- what is settled of the text is taken
 pub record IsFedTo (text : List ℕ) (table : Flat) (held : Held) : Type 0 where
@@ -97,13 +102,14 @@ pub record IsFedTo (text : List ℕ) (table : Flat) (held : Held) : Type 0 where
   pub pending : IsPendingIn (drop held.at text) held.pending
   pub so_far : IsTakenSoFar text
 
--- the same of the bytes before this piece, the last of the text
+-- what is settled of the text, without this piece at its end, is taken
 abbrev pub IsFedBefore : List ℕ → List ℕ → Flat → Held → Type 0
-IsFedBefore text piece table held = (before : List ℕ) × (text ≡ before ++ piece) × IsFedTo before table held
+IsFedBefore text piece table held =
+    (before : List ℕ) × (text ≡ before ++ piece) × IsFedTo before table held
 
 -- where a settled token stands the next place, else what is pending here
 abbrev pub IsStepFrom : List ℕ → ℕ → Flat → Flat → Option ℕ → Type 0
-IsStepFrom text at before behind None = (behind ≡ before) × IsHeldAt text at
+IsStepFrom text at before behind None = (behind ≡ before) × IsUnsettledAt text at
 IsStepFrom text at before behind (Some next) = IsSettledTo text behind next × (at < next)
 
 -- a fault that is a refusal is settled

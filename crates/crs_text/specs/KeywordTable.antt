@@ -1,5 +1,6 @@
 -- A bridge: the keywords by the length of their spelling, for a quick look-up.
-use Rattle.std.specs.Prelude.{◌≡◌, ◌≤◌, ◌<◌, ◌==◌, ◌&&◌, nat_le, slice_index, ℕ, Bool, IsTrue, length, filter}
+use Rattle.std.specs.Prelude.{◌≡◌, ◌≤◌, ◌<◌, ◌==◌, ◌&&◌, nat_le, slice_index, ℕ, Bool, IsTrue}
+use Rattle.std.specs.Prelude.{length, filter}
 use Rattle.std.specs.Prelude.{Option, Some, None, List, [], ◌∷◌, if◌then◌else◌}
 use Rattle.std.specs.Char.{to_ascii_lowercase}
 use Rattle.std.specs.Str.{str_eq_ignore_ascii_case}
@@ -26,7 +27,8 @@ of_length n = filter (λ k. length (spelling_of k) == n) every_keyword
 -- the keyword among these that a word is, letter case aside
 abbrev pub first_among : List Spelled → List ℕ → Option Keyword
 first_among [] word = None
-first_among (s ∷ ss) word = if str_eq_ignore_ascii_case s.word word then Some s.named else first_among ss word
+first_among (s ∷ ss) word =
+    if str_eq_ignore_ascii_case s.word word then Some s.named else first_among ss word
 
 -- a capital
 abbrev pub is_capital : ℕ → Bool

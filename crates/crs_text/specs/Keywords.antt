@@ -1,6 +1,7 @@
--- Keywords: the words that the grammar gives a meaning, each under its name, and how they are written. Letter case
--- doesn't count.
-use Rattle.std.specs.Prelude.{◌≡◌, ◌↔◌, IsTrue, ℕ, Option, Some, None, List, [], ◌∷◌, codes, if◌then◌else◌}
+-- Keywords: the words that the grammar gives a meaning, each under
+-- its name, and how they are written. Letter case doesn't count.
+use Rattle.std.specs.Prelude.{◌≡◌, ◌↔◌, IsTrue, ℕ, Option, Some, None, List, [], ◌∷◌, codes}
+use Rattle.std.specs.Prelude.{if◌then◌else◌}
 use Rattle.std.specs.Str.{str_eq_ignore_ascii_case}
 use Rattle.crs_text.specs.declared.keyword.Keyword.{Keyword}
 use Rattle.crs_text.specs.declared.keyword.Keyword.TheVariants as keyword
@@ -60,9 +61,21 @@ spelling_of keyword.GeographicCrs = codes "GEOGRAPHICCRS"
 spelling_of keyword.VerticalExtent = codes "VERTICALEXTENT"
 spelling_of keyword.EnsembleAccuracy = codes "ENSEMBLEACCURACY"
 
+-- all keywords, the shorter ones first
 abbrev pub every_keyword : List Keyword
 every_keyword =
-    keyword.Id ∷ keyword.Cs ∷ keyword.Trf ∷ keyword.Vrf ∷ keyword.Uri ∷ keyword.Axis ∷ keyword.BBox ∷ keyword.Area ∷ keyword.PlainUnit ∷ keyword.Order ∷ keyword.Scope ∷ keyword.Usage ∷ keyword.Datum ∷ keyword.Model ∷ keyword.Member ∷ keyword.PrimeM ∷ keyword.Method ∷ keyword.VDatum ∷ keyword.Remark ∷ keyword.Anchor ∷ keyword.GeogCrs ∷ keyword.ProjCrs ∷ keyword.GeodCrs ∷ keyword.VertCrs ∷ keyword.Dynamic ∷ keyword.Ensemble ∷ keyword.Meridian ∷ keyword.Spheroid ∷ keyword.Citation ∷ keyword.AngleUnit ∷ keyword.Parameter ∷ keyword.Ellipsoid ∷ keyword.ScaleUnit ∷ keyword.LengthUnit ∷ keyword.Conversion ∷ keyword.Projection ∷ keyword.GeoidModel ∷ keyword.FrameEpoch ∷ keyword.BaseGeogCrs ∷ keyword.BaseGeodCrs ∷ keyword.CompoundCrs ∷ keyword.GeodeticCrs ∷ keyword.VerticalCrs ∷ keyword.AnchorEpoch ∷ keyword.ProjectedCrs ∷ keyword.VelocityGrid ∷ keyword.PrimeMeridian ∷ keyword.GeodeticDatum ∷ keyword.VerticalDatum ∷ keyword.GeographicCrs ∷ keyword.VerticalExtent ∷ keyword.EnsembleAccuracy ∷ []
+    keyword.Id ∷ keyword.Cs ∷ keyword.Trf ∷ keyword.Vrf ∷ keyword.Uri ∷ keyword.Axis ∷ keyword.BBox
+    ∷ keyword.Area ∷ keyword.PlainUnit ∷ keyword.Order ∷ keyword.Scope ∷ keyword.Usage
+    ∷ keyword.Datum ∷ keyword.Model ∷ keyword.Member ∷ keyword.PrimeM ∷ keyword.Method
+    ∷ keyword.VDatum ∷ keyword.Remark ∷ keyword.Anchor ∷ keyword.GeogCrs ∷ keyword.ProjCrs
+    ∷ keyword.GeodCrs ∷ keyword.VertCrs ∷ keyword.Dynamic ∷ keyword.Ensemble ∷ keyword.Meridian
+    ∷ keyword.Spheroid ∷ keyword.Citation ∷ keyword.AngleUnit ∷ keyword.Parameter
+    ∷ keyword.Ellipsoid ∷ keyword.ScaleUnit ∷ keyword.LengthUnit ∷ keyword.Conversion
+    ∷ keyword.Projection ∷ keyword.GeoidModel ∷ keyword.FrameEpoch ∷ keyword.BaseGeogCrs
+    ∷ keyword.BaseGeodCrs ∷ keyword.CompoundCrs ∷ keyword.GeodeticCrs ∷ keyword.VerticalCrs
+    ∷ keyword.AnchorEpoch ∷ keyword.ProjectedCrs ∷ keyword.VelocityGrid ∷ keyword.PrimeMeridian
+    ∷ keyword.GeodeticDatum ∷ keyword.VerticalDatum ∷ keyword.GeographicCrs ∷ keyword.VerticalExtent
+    ∷ keyword.EnsembleAccuracy ∷ []
 
 -- the first of these keywords whose spelling the word is, letter case aside
 abbrev pub first_spelled : List Keyword → List ℕ → Option Keyword

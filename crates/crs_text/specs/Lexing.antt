@@ -1,22 +1,25 @@
 -- A bridge: what stands in front of what is left of a text: a token, or a flaw.
 use Rattle.std.specs.Prelude.{◌≡◌, ℕ, ◌+◌, ◌≤◌, List, ◌∷◌, ◌++◌, length, take, drop}
 use Rattle.crs_text.specs.Quoted.{StopsAt}
-use Rattle.crs_text.specs.Tokens.{Kind, number, text, word, IsSingle, single_spelling, opening_byte, closing_byte}
-use Rattle.crs_text.specs.Tokens.{takes}
+use Rattle.crs_text.specs.Tokens.{Kind, number, text, word, IsSingle, single_spelling, opening_byte}
+use Rattle.crs_text.specs.Tokens.{closing_byte}
+use Rattle.crs_text.specs.Tokens.{takes_byte}
 use Rattle.crs_text.specs.TextFault.{IsFlaw}
 use Rattle.crs_text.specs.declared.lexing.Lexed.{Lexed}
-use Rattle.crs_text.specs.declared.lexing.Lexed.TheVariants.{Number, Text, Word, Comma, Opening, Closing, Flaw}
+use Rattle.crs_text.specs.declared.lexing.Lexed.TheVariants.{Number, Text, Word, Comma, Opening}
+use Rattle.crs_text.specs.declared.lexing.Lexed.TheVariants.{Closing, Flaw}
 
 -- a single token with these raw bytes stands in front of the rest
 pub record StandsBefore (kind : Kind) (raw left rest : List ℕ) : Type 0 where
   pub spelled : left ≡ single_spelling kind raw ++ rest
   pub formed : IsSingle kind raw
-  pub ends : StopsAt (takes kind) rest
+  pub ends : StopsAt (takes_byte kind) rest
 
 -- the bytes begin with this token, whose raw bytes have this length, or with this flaw
 abbrev pub IsLexed : List ℕ → Lexed → Type 0
 IsLexed left (Number n) = StandsBefore number (take n left) left (drop n left) × (n ≤ length left)
-IsLexed left (Text n) = StandsBefore text (take n (drop 1 left)) left (drop (n + 2) left) × (n + 2 ≤ length left)
+IsLexed left (Text n) =
+    StandsBefore text (take n (drop 1 left)) left (drop (n + 2) left) × (n + 2 ≤ length left)
 IsLexed left (Word n) = StandsBefore word (take n left) left (drop n left) × (n ≤ length left)
 IsLexed left Comma = left ≡ 44 ∷ drop 1 left
 IsLexed left (Opening square) = left ≡ opening_byte square ∷ drop 1 left

@@ -1,5 +1,6 @@
 -- Quoted texts: from a quote to the next one that isn't doubled.
-use Rattle.std.specs.Prelude.{◌≡◌, ℕ, ◌+◌, ◌<◌, length, take, drop, ◌==◌, not, Bool, IsTrue, IsFalse, List, [], ◌∷◌}
+use Rattle.std.specs.Prelude.{◌≡◌, ℕ, ◌+◌, ◌<◌, length, take, drop, ◌==◌, not, Bool, IsTrue}
+use Rattle.std.specs.Prelude.{IsFalse, List, [], ◌∷◌}
 use Rattle.std.specs.Prelude.{◌++◌, if◌then◌else◌, ◌⊎◌}
 
 -- characters with each quote among them written twice
@@ -21,6 +22,7 @@ abbrev pub BeginsWith : (ℕ → Bool) → List ℕ → Type 0
 BeginsWith test [] = ⊥
 BeginsWith test (b ∷ bs) = IsTrue (test b)
 
+-- a quote
 abbrev pub is_quote : ℕ → Bool
 is_quote b = b == 34
 
@@ -41,4 +43,5 @@ IsShutAt after n = IsShut after (take n after) (drop (n + 1) after) × (n < leng
 -- the bytes after an opening quote, through the closing quote or, where there is none, to the end
 abbrev pub Through : List ℕ → List ℕ → Type 0
 Through after inside =
-    ((raw rest : List ℕ) × IsShut after raw rest × (inside ≡ raw ++ 34 ∷ [])) ⊎ (IsInside after × (inside ≡ after))
+    ((raw rest : List ℕ) × IsShut after raw rest × (inside ≡ raw ++ 34 ∷ []))
+    ⊎ (IsInside after × (inside ≡ after))

@@ -1,34 +1,46 @@
 -- Refusals: a number, a place and a name.
 use Rattle.std.specs.Prelude.{ℕ, ◌&&◌, ◌||◌, ◌==◌, nat_le, Bool, List, codes, if◌then◌else◌}
 
--- the place counts bytes of the text from 0
+-- a refusal: its number, and its place, which counts bytes of the text from 0
 pub record RefusedAt : Type 0 where
   pub number : ℕ
   pub place : ℕ
 
 -- the numbers that refusals have: of the text, of a shape, of a value
 abbrev pub is_refusal : ℕ → Bool
-is_refusal n = (nat_le 1 n && nat_le n 8) || (nat_le 11 n && nat_le n 13) || (nat_le 21 n && nat_le n 29)
+is_refusal n =
+    (nat_le 1 n && nat_le n 8) || (nat_le 11 n && nat_le n 13) || (nat_le 21 n && nat_le n 29)
 
--- the refusals of the text itself
+-- the names of the refusals of the text itself
 abbrev pub text_name : ℕ → List ℕ
 text_name n =
-    if n == 1 then codes "BadCharacter" else (if n == 2 then codes "BadNumber" else (if n == 3 then codes "NumberRange"
-    else (if n == 4 then codes "NotUtf8" else (if n == 5 then codes "OpenText" else (if n == 6 then codes "Unexpected"
-    else (if n == 7 then codes "UnexpectedEnd" else codes "TooDeep"))))))
+    if n == 1 then codes "BadCharacter"
+    else (if n == 2 then codes "BadNumber"
+    else (if n == 3 then codes "NumberRange"
+    else (if n == 4 then codes "NotUtf8"
+    else (if n == 5 then codes "OpenText"
+    else (if n == 6 then codes "Unexpected"
+    else (if n == 7 then codes "UnexpectedEnd"
+    else codes "TooDeep"))))))
 
--- those of a shape
+-- the names of the refusals of a shape
 abbrev pub shape_name : ℕ → List ℕ
-shape_name n = if n == 11 then codes "UnknownKeyword" else (if n == 12 then codes "NotHere" else codes "Missing")
+shape_name n =
+    if n == 11 then codes "UnknownKeyword"
+    else (if n == 12 then codes "NotHere" else codes "Missing")
 
--- those of a value
+-- the names of the refusals of a value
 abbrev pub value_name : ℕ → List ℕ
 value_name n =
-    if n == 21 then codes "UnknownWord" else (if n == 22 then codes "RepeatedPart"
+    if n == 21 then codes "UnknownWord"
+    else (if n == 22 then codes "RepeatedPart"
     else (if n == 23 then codes "BadSystem"
-    else (if n == 24 then codes "BadComponent" else (if n == 25 then codes "AxisCount"
+    else (if n == 24 then codes "BadComponent"
+    else (if n == 25 then codes "AxisCount"
     else (if n == 26 then codes "BadOrder"
-    else (if n == 27 then codes "BadUnit" else (if n == 28 then codes "BadValue" else codes "BadDynamic")))))))
+    else (if n == 27 then codes "BadUnit"
+    else (if n == 28 then codes "BadValue"
+    else codes "BadDynamic")))))))
 
 -- the name of a refusal's number
 abbrev pub name_of : ℕ → List ℕ

@@ -34,12 +34,15 @@ pub record IsStopped (text : List ℕ) (at : ℕ) (table : Flat) (refusal : Refu
   pub is_place : refusal.place ≡ at + skip
   pub stop : (ts : List Token) → Shows ts table → IsStop reason (length text) ts (drop at text) skip
 
+-- a fault that is a refusal stops the scan at this place
 abbrev pub IsStoppedBy : List ℕ → ℕ → Flat → Fault → Type 0
 IsStoppedBy text at table (faults.Refused refusal) = IsStopped text at table refusal
 IsStoppedBy text at table (faults.Memory e) = Unit {0}
 
--- a single token of this kind stands here, with these raw bytes and as many bytes in all as `size` says
-pub record IsSingleAt (text : List ℕ) (at : ℕ) (kind : ItemKind) (raw : List ℕ) (size : ℕ) : Type 0 where
+-- a single token of this kind stands here, with these raw
+-- bytes and as many bytes in all as `size` says
+pub record IsSingleAt (text : List ℕ) (at : ℕ) (kind : ItemKind) (raw : List ℕ)
+    (size : ℕ) : Type 0 where
   pub of_kind : Kind
   pub is_kind : kind ≡ item_kind of_kind
   pub forms : Forms (length text) (single of_kind at raw) (drop at text) (drop (at + size) text)

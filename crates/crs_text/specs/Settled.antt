@@ -1,5 +1,5 @@
--- What is settled at the front of a text while more of it may come: the tokens, and the first refusal, which no
--- further byte can change.
+-- What is settled at the front of a text while more of it may come:
+-- the tokens, and the first refusal, which no further byte can change.
 use Rattle.std.specs.Prelude.{◌≡◌, ◌≢◌, ℕ, ◌+◌, ◌⊎◌, IsFalse, List, [], ◌∷◌, ◌++◌, length}
 use Rattle.std.specs.List.{list_all}
 use Rattle.crs_decimal.specs.Spelling.{is_run_byte}
@@ -9,7 +9,8 @@ use Rattle.crs_text.specs.TextFault.{reason_number, IsFlaw, IsTooDeep}
 use Rattle.crs_text.specs.declared.fault.Fault.{Fault}
 use Rattle.crs_text.specs.declared.fault.Fault.TheVariants as faults
 use Rattle.crs_text.specs.declared.refusal.Reason.{Reason}
-use Rattle.crs_text.specs.declared.refusal.Reason.TheVariants.{BadCharacter, BadNumber, NumberRange, NotUtf8, OpenText}
+use Rattle.crs_text.specs.declared.refusal.Reason.TheVariants.{BadCharacter, BadNumber, NumberRange}
+use Rattle.crs_text.specs.declared.refusal.Reason.TheVariants.{NotUtf8, OpenText}
 use Rattle.crs_text.specs.declared.refusal.Reason.TheVariants.{Unexpected, UnexpectedEnd, TooDeep}
 
 -- a number, text or word is settled once a byte stands behind it, a comma or delimiter at once
@@ -19,22 +20,26 @@ IsSettled comma rest = Unit {0}
 IsSettled (opening square) rest = Unit {0}
 IsSettled (closing place square) rest = Unit {0}
 
--- a settled token stands in front of what is left of a text of this length, and the rest comes after it
+-- a settled token stands in front of what is left of a text of
+-- this length, and the rest comes after it
 pub record FormsSettled (total : ℕ) (t : Token) (left rest : List ℕ) : Type 0 where
   pub forms : Forms total t left rest
   pub settled : IsSettled t rest
 
--- the bytes are settled tokens with white space before, between and after them, and then what is left
+-- the bytes are settled tokens with white space before,
+-- between and after them, and then what is left
 abbrev pub SettledFronts : ℕ → List ℕ → List Token → List ℕ → Type 0
 SettledFronts total bytes [] left = IsAfterWhite bytes left
 SettledFronts total bytes (t ∷ ts) left =
-    (at rest : List ℕ) × IsAfterWhite bytes at × FormsSettled total t at rest × SettledFronts total rest ts left
+    (at rest : List ℕ) × IsAfterWhite bytes at × FormsSettled total t at rest
+    × SettledFronts total rest ts left
 
 -- a run is settled once a byte stands in what is left that it doesn't take
 abbrev pub IsRunSettled : List ℕ → Type 0
 IsRunSettled left = IsFalse (list_all is_run_byte left)
 
--- why nothing goes on after these tokens, whatever comes behind what is left of a text of this length
+-- why nothing goes on after these tokens, whatever comes
+-- behind what is left of a text of this length
 abbrev pub IsSettledStop : Reason → ℕ → List Token → List ℕ → ℕ → Type 0
 IsSettledStop BadCharacter total ts left skip = IsFlaw BadCharacter left skip
 IsSettledStop BadNumber total ts left skip = IsFlaw BadNumber left skip × IsRunSettled left
@@ -44,15 +49,15 @@ IsSettledStop NotUtf8 total ts left skip = IsFlaw NotUtf8 left skip
 -- an open text may still be closed
 IsSettledStop OpenText total ts left skip = ⊥
 IsSettledStop Unexpected total ts left skip =
-    (t : Token) × (rest : List ℕ) × FormsSettled total t left rest × ¬ (IsViable (ts ++ t ∷ [])) × ¬ (IsTooDeep ts t)
-    × (skip ≡ 0)
+    (t : Token) × (rest : List ℕ) × FormsSettled total t left rest × ¬ (IsViable (ts ++ t ∷ []))
+    × ¬ (IsTooDeep ts t) × (skip ≡ 0)
 -- more may come
 IsSettledStop UnexpectedEnd total ts left skip = ⊥
 IsSettledStop TooDeep total ts left skip =
     (t : Token) × (rest : List ℕ) × FormsSettled total t left rest × IsTooDeep ts t × (skip ≡ 0)
 
--- the bytes are refused with this number at this place, whatever comes behind them: the settled tokens before are
--- viable, and there it stops
+-- the bytes are refused with this number at this place, whatever comes
+-- behind them: the settled tokens before are viable, and there it stops
 pub record IsSettledRefusal (bytes : List ℕ) (number place : ℕ) : Type 0 where
   pub reason : Reason
   pub before : List Token
@@ -64,13 +69,16 @@ pub record IsSettledRefusal (bytes : List ℕ) (number place : ℕ) : Type 0 whe
   pub is_number : number ≡ reason_number reason
   pub is_place : place + length left ≡ length bytes + skip
 
--- nothing that is settled refuses the bytes: the settled tokens in front of them are viable, and no refusal is settled
+-- nothing that is settled refuses the bytes: the settled tokens
+-- in front of them are viable, and no refusal is settled
 pub record IsTakenSoFar (bytes : List ℕ) : Type 0 where
-  pub viable : (ts : List Token) (left : List ℕ) → SettledFronts (length bytes) bytes ts left → IsViable ts
+  pub viable : (ts : List Token) (left : List ℕ) → SettledFronts (length bytes) bytes ts left →
+      IsViable ts
   pub unrefused : (number place : ℕ) → ¬ (IsSettledRefusal bytes number place)
 
--- why a piece behind these bytes isn't taken, and which bytes are held then: the refusal is settled, and was so before
--- where the piece isn't held; want of memory leaves the bytes, which nothing settled refuses
+-- why a piece behind these bytes isn't taken, and which bytes are held
+-- then: the refusal is settled, and was so before where the piece isn't
+-- held; want of memory leaves the bytes, which nothing settled refuses
 abbrev pub IsPieceFault : List ℕ → List ℕ → List ℕ → Fault → Type 0
 IsPieceFault bytes piece held (faults.Refused refusal) =
     IsSettledRefusal held refusal.number refusal.place × ((held ≡ bytes ++ piece) ⊎ (held ≡ bytes))

@@ -1,5 +1,7 @@
--- A bridge: the table of items under construction: a row for each item that has begun, and the nodes that are open.
-use Rattle.std.specs.Prelude.{◌≡◌, ℕ, zero, suc, ◌+◌, ◌-◌, ◌<◌, nat_lt, ◌&&◌, Bool, true, false, if◌then◌else◌, Option}
+-- A bridge: the table of items under construction: a row for
+-- each item that has begun, and the nodes that are open.
+use Rattle.std.specs.Prelude.{◌≡◌, ℕ, zero, suc, ◌+◌, ◌-◌, ◌<◌, nat_lt, ◌&&◌, Bool, true, false}
+use Rattle.std.specs.Prelude.{if◌then◌else◌, Option}
 use Rattle.std.specs.Prelude.{Some, None, List, [], ◌∷◌, ◌++◌, length, slice_index_or, slice_set}
 use Rattle.crs_text.specs.Tokens.{Kind, number, text, word, Token, single, comma, opening, closing}
 use Rattle.crs_text.specs.Items.{keyword_at}
@@ -19,10 +21,11 @@ pub record Flat : Type 0 where
   pub opens : List Open
   pub position : Position
 
--- what stands where there is none
+-- an open node that stands where there is none
 abbrev pub no_open : Open
 no_open = record { row = 0; square = false; count = 0 }
 
+-- a row that stands where there is none
 abbrev pub no_row : Row
 no_row = record {
   kind = Node;
@@ -55,11 +58,13 @@ leaf_row kind place raw depth = record {
   keyword = keyword_at kind raw;
 }
 
+-- the kind of item that a single token is
 abbrev pub item_kind : Kind → ItemKind
 item_kind number = Number
 item_kind text = Text
 item_kind word = Word
 
+-- whether an item of this kind is a word alone
 abbrev pub is_word : ItemKind → Bool
 is_word Number = false
 is_word Text = false
@@ -73,6 +78,7 @@ may_begin BeforeItem (o ∷ os) kind = true
 may_begin AfterWord os kind = false
 may_begin AfterItem os kind = false
 
+-- where an item of this kind leads: a word may begin a node yet, the others are complete
 abbrev pub position_after : ItemKind → Position
 position_after Number = AfterItem
 position_after Text = AfterItem
@@ -84,9 +90,11 @@ abbrev pub counted : List Open → List Open
 counted [] = []
 counted (o ∷ os) = record o { count = o.count + 1 } ∷ os
 
+-- the table with one argument more in the last opened node
 abbrev pub counted_in : Flat → Flat
 counted_in f = record { rows = f.rows; opens = counted f.opens; position = f.position }
 
+-- the table with a row for a single item, as one argument more
 abbrev pub with_leaf : Flat → ItemKind → ℕ → List ℕ → Flat
 with_leaf f kind place raw = record {
   rows = f.rows ++ leaf_row kind place raw (length f.opens) ∷ [];
@@ -94,8 +102,10 @@ with_leaf f kind place raw = record {
   position = position_after kind;
 }
 
+-- the table after a number, a text or a word; none where it may not stand there
 abbrev pub flat_single : Flat → ItemKind → ℕ → List ℕ → Option Flat
-flat_single f kind place raw = if may_begin f.position f.opens kind then Some (with_leaf f kind place raw) else None
+flat_single f kind place raw =
+    if may_begin f.position f.opens kind then Some (with_leaf f kind place raw) else None
 
 -- an item has come within an open node
 abbrev pub may_go_on : Position → List Open → Bool
@@ -105,11 +115,14 @@ may_go_on AfterWord (o ∷ os) = true
 may_go_on AfterItem [] = false
 may_go_on AfterItem (o ∷ os) = true
 
+-- the table after a comma; none where it may not stand there
 abbrev pub flat_comma : Flat → Option Flat
 flat_comma f =
-    if may_go_on f.position f.opens then Some (record { rows = f.rows; opens = f.opens; position = BeforeItem })
+    if may_go_on f.position f.opens
+    then Some (record { rows = f.rows; opens = f.opens; position = BeforeItem })
     else None
 
+-- whether a word has come, which may begin a node
 abbrev pub is_after_word : Position → Bool
 is_after_word BeforeItem = false
 is_after_word AfterWord = true
@@ -125,9 +138,13 @@ with_open f square = record {
   position = BeforeItem;
 }
 
+-- the table after an opening delimiter; none where it may not stand there, or is one too many
 abbrev pub flat_open : Flat → Bool → Option Flat
-flat_open f square = if is_after_word f.position && nat_lt (length f.opens) 12 then Some (with_open f square) else None
+flat_open f square =
+    if is_after_word f.position && nat_lt (length f.opens) 12 then Some (with_open f square)
+    else None
 
+-- whether the last opened delimiter is of this kind
 abbrev pub has_square : List Open → Bool → Bool
 has_square [] square = false
 has_square (o ∷ os) square = same_square square o.square
@@ -150,11 +167,13 @@ with_close f place = closed f.opens
       position = AfterItem;
     }
 
+-- the table after a closing delimiter; none where it may not stand there
 abbrev pub flat_close : Flat → ℕ → Bool → Option Flat
 flat_close f place square =
-    if may_go_on f.position f.opens && has_square f.opens square then Some (with_close f place) else None
+    if may_go_on f.position f.opens && has_square f.opens square then Some (with_close f place)
+    else None
 
--- one token more
+-- the table after one token more; none where it may not stand there
 abbrev pub flat_step : Flat → Token → Option Flat
 flat_step f (single kind place raw) = flat_single f (item_kind kind) place raw
 flat_step f comma = flat_comma f
@@ -169,7 +188,8 @@ IsStep (Some next) taken before behind = (taken ≡ true) × (behind ≡ next)
 -- how an opening delimiter is met: too deep where it stands after a word and 12 are open
 abbrev pub IsOpened : Flat → Bool → Opened → Flat → Type 0
 IsOpened before square Taken behind = flat_open before square ≡ Some behind
-IsOpened before square TooDeep behind = (before.position ≡ AfterWord) × (length before.opens ≡ 12) × (behind ≡ before)
+IsOpened before square TooDeep behind =
+    (before.position ≡ AfterWord) × (length before.opens ≡ 12) × (behind ≡ before)
 IsOpened before square Refused behind = (before.position ≡ AfterWord → ⊥) × (behind ≡ before)
 
 -- the tokens are those of one whole node
@@ -187,6 +207,8 @@ abbrev pub AreRoomy : ℕ → List Open → Type 0
 AreRoomy n [] = Unit {0}
 AreRoomy n (o ∷ os) = (o.row + o.count < n) × AreRoomy n os
 
+-- each open node has its row and below it as many as it has
+-- arguments, and behind a word there is a row
 pub record IsRoomy (f : Flat) : Type 0 where
   pub opens : AreRoomy (length f.rows) f.opens
   pub word : f.position ≡ AfterWord → 0 < length f.rows

@@ -1,18 +1,21 @@
--- The refusals of a text that is no node: the first token, from left to right, that can't be formed or after
--- which no text can follow.
-use Rattle.std.specs.Prelude.{◌≡◌, ℕ, ◌+◌, ◌||◌, ◌==◌, Bool, IsTrue, IsFalse, List, [], ◌∷◌, ◌++◌, length}
+-- The refusals of a text that is no node: the first token, from left
+-- to right, that can't be formed or after which no text can follow.
+use Rattle.std.specs.Prelude.{◌≡◌, ℕ, ◌+◌, ◌||◌, ◌==◌, Bool, IsTrue, IsFalse, List, [], ◌∷◌, ◌++◌}
+use Rattle.std.specs.Prelude.{length}
 use Rattle.std.specs.List.{list_all}
 use Rattle.crs_decimal.specs.Spelling.{is_run_byte, is_run_start, HasForm}
 use Rattle.crs_decimal.specs.Bounds.{IsInBounds}
 use Rattle.crs_text.specs.Quoted.{StopsAt, BeginsWith, is_quote, IsInside, Through}
 use Rattle.crs_text.specs.Utf8.{IsUtf8Front, IsLongestUtf8}
-use Rattle.crs_text.specs.Tokens.{Token, single, comma, opening, closing, is_letter, Forms, Fronts, AreTokens}
+use Rattle.crs_text.specs.Tokens.{Token, single, comma, opening, closing, is_letter, Forms, Fronts}
+use Rattle.crs_text.specs.Tokens.{AreTokens}
 use Rattle.crs_text.specs.Items.{Item, AreNode}
 use Rattle.crs_text.specs.Viable.{IsViable, IsViableAtAnyDepth}
 use Rattle.crs_text.specs.declared.fault.Fault.{Fault}
 use Rattle.crs_text.specs.declared.fault.Fault.TheVariants as faults
 use Rattle.crs_text.specs.declared.refusal.Reason.{Reason}
-use Rattle.crs_text.specs.declared.refusal.Reason.TheVariants.{BadCharacter, BadNumber, NumberRange, NotUtf8, OpenText}
+use Rattle.crs_text.specs.declared.refusal.Reason.TheVariants.{BadCharacter, BadNumber, NumberRange}
+use Rattle.crs_text.specs.declared.refusal.Reason.TheVariants.{NotUtf8, OpenText}
 use Rattle.crs_text.specs.declared.refusal.Reason.TheVariants.{Unexpected, UnexpectedEnd, TooDeep}
 
 -- the text is this node
@@ -30,18 +33,21 @@ reason_number Unexpected = 6
 reason_number UnexpectedEnd = 7
 reason_number TooDeep = 8
 
+-- a comma, or an opening or closing delimiter
 abbrev pub is_delimiter : ℕ → Bool
 is_delimiter b = b == 44 || b == 91 || b == 40 || b == 93 || b == 41
 
+-- a byte that a token may begin with
 abbrev pub begins_token : ℕ → Bool
 begins_token b = is_letter b || is_run_start b || is_quote b || is_delimiter b
 
--- a byte that begins no token
+-- the bytes begin with one that begins no token
 abbrev pub BeginsNoToken : List ℕ → Type 0
 BeginsNoToken [] = ⊥
 BeginsNoToken (b ∷ bs) = IsFalse (begins_token b)
 
--- the bytes begin with a run: a digit, a sign or a period, and all bytes after it that a number could take
+-- the bytes begin with a run: a digit, a sign or a period, and
+-- all bytes after it that a number could take
 pub record IsFirstRun (left run rest : List ℕ) : Type 0 where
   pub parts : left ≡ run ++ rest
   pub starts : BeginsWith is_run_start run
@@ -51,13 +57,15 @@ pub record IsFirstRun (left run rest : List ℕ) : Type 0 where
 -- no token can be formed in front of what is left; the fault lies `skip` bytes further on
 abbrev pub IsFlaw : Reason → List ℕ → ℕ → Type 0
 IsFlaw BadCharacter left skip = BeginsNoToken left × (skip ≡ 0)
-IsFlaw BadNumber left skip = (run rest : List ℕ) × IsFirstRun left run rest × ¬ (HasForm run) × (skip ≡ 0)
+IsFlaw BadNumber left skip =
+    (run rest : List ℕ) × IsFirstRun left run rest × ¬ (HasForm run) × (skip ≡ 0)
 IsFlaw NumberRange left skip =
     (run rest : List ℕ) × IsFirstRun left run rest × HasForm run × ¬ (IsInBounds run) × (skip ≡ 0)
 IsFlaw NotUtf8 left skip =
-    (after inside : List ℕ) × (left ≡ 34 ∷ after) × Through after inside × ¬ (IsUtf8Front inside) × (n : ℕ)
-    × IsLongestUtf8 after n × (skip ≡ 1 + n)
-IsFlaw OpenText left skip = (after : List ℕ) × (left ≡ 34 ∷ after) × IsInside after × IsUtf8Front after × (skip ≡ 0)
+    (after inside : List ℕ) × (left ≡ 34 ∷ after) × Through after inside × ¬ (IsUtf8Front inside)
+    × (n : ℕ) × IsLongestUtf8 after n × (skip ≡ 1 + n)
+IsFlaw OpenText left skip =
+    (after : List ℕ) × (left ≡ 34 ∷ after) × IsInside after × IsUtf8Front after × (skip ≡ 0)
 IsFlaw Unexpected left skip = ⊥
 IsFlaw UnexpectedEnd left skip = ⊥
 IsFlaw TooDeep left skip = ⊥
@@ -82,13 +90,14 @@ IsStop NumberRange total ts left skip = IsFlaw NumberRange left skip
 IsStop NotUtf8 total ts left skip = IsFlaw NotUtf8 left skip
 IsStop OpenText total ts left skip = IsFlaw OpenText left skip
 IsStop Unexpected total ts left skip =
-    (t : Token) × (rest : List ℕ) × Forms total t left rest × ¬ (IsViable (ts ++ t ∷ [])) × ¬ (IsTooDeep ts t)
-    × (skip ≡ 0)
+    (t : Token) × (rest : List ℕ) × Forms total t left rest × ¬ (IsViable (ts ++ t ∷ []))
+    × ¬ (IsTooDeep ts t) × (skip ≡ 0)
 IsStop UnexpectedEnd total ts left skip = (left ≡ []) × IsNoNode ts × (skip ≡ 0)
 IsStop TooDeep total ts left skip =
     (t : Token) × (rest : List ℕ) × Forms total t left rest × IsTooDeep ts t × (skip ≡ 0)
 
--- the text is refused with this number at this place: the tokens before are viable, and there it stops
+-- the text is refused with this number at this place: the
+-- tokens before are viable, and there it stops
 pub record RefusesText (bytes : List ℕ) (number place : ℕ) : Type 0 where
   pub reason : Reason
   pub before : List Token

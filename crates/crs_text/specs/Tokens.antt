@@ -1,33 +1,40 @@
--- Tokens: single ones (numbers, quoted texts and words), commas and the two kinds of delimiters; and the
--- tokens of a text, with white space before, between and after them.
-use Rattle.std.specs.Prelude.{◌≡◌, ℕ, ◌+◌, ◌&&◌, ◌||◌, ◌==◌, nat_le, Bool, true, false, IsTrue, List, [], ◌∷◌, ◌++◌}
+-- Tokens: single ones (numbers, quoted texts and words), commas and the two kinds of delimiters;
+-- and the tokens of a text, with white space before, between and after them.
+use Rattle.std.specs.Prelude.{◌≡◌, ℕ, ◌+◌, ◌&&◌, ◌||◌, ◌==◌, nat_le, Bool, true, false, IsTrue}
+use Rattle.std.specs.Prelude.{List, [], ◌∷◌, ◌++◌}
 use Rattle.std.specs.Prelude.{length, IsUtf8}
 use Rattle.std.specs.List.{list_all}
 use Rattle.crs_decimal.specs.Spelling.{is_digit, is_run_byte, is_run_start}
 use Rattle.crs_decimal.specs.Bounds.{IsInBounds}
 use Rattle.crs_text.specs.Quoted.{IsInside, StopsAt, BeginsWith, is_quote}
 
+-- the kinds of single tokens: numbers, quoted texts and words
 pub data Kind : Type 0 where
   number text word : Kind
 
--- A place counts bytes from the text's first, which is 0. The raw bytes of a quoted text are those between
--- its quotes, each quote inside still doubled; those of a number or word are the bytes themselves.
+-- A token: a single one with its raw bytes, a comma, or an opening or closing
+-- delimiter, square or round. A place counts bytes from the text's first, which
+-- is 0. The raw bytes of a quoted text are those between its quotes, each quote
+-- inside still doubled; those of a number or word are the bytes themselves.
 pub data Token : Type 0 where
   single : (kind : Kind) (place : ℕ) (raw : List ℕ) → Token
   comma : Token
   opening : (square : Bool) → Token
   closing : (place : ℕ) (square : Bool) → Token
 
--- space, tab, CR and LF
+-- white space: space, tab, CR and LF
 abbrev pub is_white : ℕ → Bool
 is_white b = b == 32 || b == 9 || b == 10 || b == 13
 
+-- all bytes are white space
 abbrev pub IsWhite : List ℕ → Type 0
 IsWhite bytes = IsTrue (list_all is_white bytes)
 
+-- a letter, A-Z or a-z
 abbrev pub is_letter : ℕ → Bool
 is_letter b = (nat_le 65 b && nat_le b 90) || (nat_le 97 b && nat_le b 122)
 
+-- a byte that a word goes on with: a letter, a digit or an underscore
 abbrev pub is_word_byte : ℕ → Bool
 is_word_byte b = is_letter b || is_digit b || b == 95
 
@@ -36,9 +43,11 @@ abbrev pub IsWord : List ℕ → Type 0
 IsWord [] = ⊥
 IsWord (b ∷ bs) = IsTrue (is_letter b) × IsTrue (list_all is_word_byte bs)
 
--- the raw bytes of a single token: a run that is a number within the bounds, the inside of a text in UTF-8, a word
+-- the raw bytes of a single token: a run that is a number
+-- within the bounds, the inside of a text in UTF-8, a word
 abbrev pub IsSingle : Kind → List ℕ → Type 0
-IsSingle number raw = BeginsWith is_run_start raw × IsTrue (list_all is_run_byte raw) × IsInBounds raw
+IsSingle number raw =
+    BeginsWith is_run_start raw × IsTrue (list_all is_run_byte raw) × IsInBounds raw
 IsSingle text raw = IsInside raw × IsUtf8 raw
 IsSingle word raw = IsWord raw
 
@@ -48,10 +57,12 @@ single_spelling number raw = raw
 single_spelling text raw = 34 ∷ raw ++ 34 ∷ []
 single_spelling word raw = raw
 
+-- the byte of an opening delimiter, [ or (
 abbrev pub opening_byte : Bool → ℕ
 opening_byte true = 91
 opening_byte false = 40
 
+-- the byte of a closing delimiter, ] or )
 abbrev pub closing_byte : Bool → ℕ
 closing_byte true = 93
 closing_byte false = 41
@@ -70,15 +81,16 @@ IsFormed comma = Unit {0}
 IsFormed (opening square) = Unit {0}
 IsFormed (closing place square) = Unit {0}
 
--- a byte that the token would take if it stood behind it
-abbrev pub takes : Kind → ℕ → Bool
-takes number = is_run_byte
-takes text = is_quote
-takes word = is_word_byte
+-- a byte that a token of this kind would take if it stood
+-- behind it; of a text the quote, which would be doubled
+abbrev pub takes_byte : Kind → ℕ → Bool
+takes_byte number = is_run_byte
+takes_byte text = is_quote
+takes_byte word = is_word_byte
 
 -- the rest begins with no byte that the token would take
 abbrev pub Ends : Token → List ℕ → Type 0
-Ends (single kind place raw) rest = StopsAt (takes kind) rest
+Ends (single kind place raw) rest = StopsAt (takes_byte kind) rest
 Ends comma rest = Unit {0}
 Ends (opening square) rest = Unit {0}
 Ends (closing place square) rest = Unit {0}

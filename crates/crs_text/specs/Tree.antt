@@ -1,17 +1,20 @@
 -- A bridge: the tree that rows give: how a table of rows over its source is seen as an item.
-use Rattle.std.specs.Prelude.{◌≡◌, ℕ, zero, suc, ◌+◌, ◌≤◌, Bool, List, [], ◌∷◌, ◌++◌, length, take, drop, map, refl}
+use Rattle.std.specs.Prelude.{◌≡◌, ℕ, zero, suc, ◌+◌, ◌≤◌, Bool, List, [], ◌∷◌, ◌++◌, length, take}
+use Rattle.std.specs.Prelude.{drop, map, refl}
 use Rattle.std.specs.Coded.{Coded, coded_ℕ, coded_bool, coded_list, coded×, code_by}
 use Rattle.std.proofs.Common.{◌∙◌, ap, sym, append_assoc}
-use Rattle.crs_text.specs.Tokens.{number, text, word, Token, single, comma, opening, closing, IsFormed}
-use Rattle.crs_text.specs.Items.{Item, leaf, node, Siblings, End, More, tokens, arguments, count, first_of, skip, only}
-use Rattle.crs_text.specs.Items.{kind_of, raw_of, place_of, IsNode}
+use Rattle.crs_text.specs.Tokens.{number, text, word, Token, single, comma, opening, closing}
+use Rattle.crs_text.specs.Tokens.{IsFormed}
+use Rattle.crs_text.specs.Items.{Item, leaf, node, Siblings, End, More, tokens, arguments, count}
+use Rattle.crs_text.specs.Items.{first_of, skip, only}
+use Rattle.crs_text.specs.Items.{kind_of_item, raw_of, place_of, IsNode}
 use Rattle.crs_text.specs.Rows.{rows, square_of, close_place}
 use Rattle.crs_text.specs.declared.items.ItemKind.{ItemKind}
 use Rattle.crs_text.specs.declared.items.ItemKind.TheVariants.{Number, Text, Word, Node}
 use Rattle.crs_text.specs.declared.table.Row.{Row}
 
 -- an item apart from its arguments, of which it has `count`
-pub record Part : Type 0 where
+pub record ItemPart : Type 0 where
   pub kind : ItemKind
   pub square : Bool
   pub place : ℕ
@@ -19,9 +22,10 @@ pub record Part : Type 0 where
   pub close : ℕ
   pub count : ℕ
 
-abbrev pub part_of : Item → Part
+-- an item apart from its arguments
+abbrev pub part_of : Item → ItemPart
 part_of item = record {
-  kind = kind_of item;
+  kind = kind_of_item item;
   square = square_of item;
   place = place_of item;
   raw = raw_of item;
@@ -31,17 +35,19 @@ part_of item = record {
 
 abbrev mutual
   -- an item's parts in the order in which the items begin
-  pub parts : Item → List Part
+  pub parts : Item → List ItemPart
   parts (leaf kind place raw) = part_of (leaf kind place raw) ∷ []
   parts (node place keyword square first others close) =
-      part_of (node place keyword square first others close) ∷ (parts first ++ parts_of_items others)
+      part_of (node place keyword square first others close)
+      ∷ (parts first ++ parts_of_items others)
 
-  pub parts_of_items : Siblings → List Part
+  -- the parts of some items, in the order in which the items begin
+  pub parts_of_items : Siblings → List ItemPart
   parts_of_items End = []
   parts_of_items (More item items) = parts item ++ parts_of_items items
 
 -- an item of a part and its arguments
-abbrev pub made : Part → Siblings → Item
+abbrev pub made : ItemPart → Siblings → Item
 made p items = by_kind p.kind items
   where
     by_kind : ItemKind → Siblings → Item
@@ -52,37 +58,45 @@ made p items = by_kind p.kind items
     by_kind Node (More first others) = node p.place p.raw p.square first others p.close
 
 -- the items that parts give, from the last to the first: each takes as many as it has arguments
-abbrev pub forest : List Part → Siblings
+abbrev pub forest : List ItemPart → Siblings
 forest [] = End
 forest (p ∷ ps) = More (made p (only p.count (forest ps))) (skip p.count (forest ps))
 
-abbrev pub tree : List Part → Item
+-- the item that parts give, which is the first of those that they give
+abbrev pub tree : List ItemPart → Item
 tree ps = first_of (forest ps)
 
+-- some items, and others after them
 abbrev pub join : Siblings → Siblings → Siblings
 join End later = later
 join (More item items) later = More item (join items later)
 
+-- of joined items the first ones, as many as the former are, are the former
 only-join : (items later : Siblings) → only (count items) (join items later) ≡ items
 only-join End later = refl
 only-join (More item items) later = ap (λ is. More item is) (only-join items later)
 
+-- of joined items those behind the first ones, as many as the former are, are the later
 skip-join : (items later : Siblings) → skip (count items) (join items later) ≡ later
 skip-join End later = refl
 skip-join (More item items) later = skip-join items later
 
 mutual
-  forest-parts : (item : Item) (ps : List Part) → forest (parts item ++ ps) ≡ More item (forest ps)
+  -- the parts of an item, before others, give the item and then what the others give
+  forest-parts : (item : Item) (ps : List ItemPart) → forest (parts item ++ ps)
+      ≡ More item (forest ps)
   forest-parts (leaf number place raw) ps = refl
   forest-parts (leaf text place raw) ps = refl
   forest-parts (leaf word place raw) ps = refl
   forest-parts (node place keyword square first others close) ps =
-      let inner : forest ((parts first ++ parts_of_items others) ++ ps) ≡ More first (join others (forest ps)) =
+      let inner : forest ((parts first ++ parts_of_items others) ++ ps)
+      ≡ More first (join others (forest ps)) =
       ap forest (append_assoc (parts first) (parts_of_items others) ps)
       ∙ forest-parts first (parts_of_items others ++ ps)
       ∙ ap (λ is. More first is) (forest-parts_of_items others ps) in
       let p = part_of (node place keyword square first others close) in
-      let whole : More (made p (only p.count (forest ((parts first ++ parts_of_items others) ++ ps))))
+      let whole : More
+      (made p (only p.count (forest ((parts first ++ parts_of_items others) ++ ps))))
       (skip p.count (forest ((parts first ++ parts_of_items others) ++ ps))) ≡
       More (made p (More first (only (count others) (join others (forest ps)))))
       (skip (count others) (join others (forest ps))) =
@@ -90,48 +104,62 @@ mutual
       whole
       ∙ ap (λ is. More (made p (More first is)) (skip (count others) (join others (forest ps))))
       (only-join others (forest ps))
-      ∙ ap (λ is. More (node place keyword square first others close) is) (skip-join others (forest ps))
+      ∙ ap (λ is. More (node place keyword square first others close) is)
+      (skip-join others (forest ps))
 
-  forest-parts_of_items : (items : Siblings) (ps : List Part) → forest (parts_of_items items ++ ps)
+  -- the parts of some items, before others, give the items and then what the others give
+  forest-parts_of_items : (items : Siblings) (ps : List ItemPart) →
+      forest (parts_of_items items ++ ps)
       ≡ join items (forest ps)
   forest-parts_of_items End ps = refl
   forest-parts_of_items (More item items) ps =
       ap forest (append_assoc (parts item) (parts_of_items items) ps)
-      ∙ forest-parts item (parts_of_items items ++ ps) ∙ ap (λ is. More item is) (forest-parts_of_items items ps)
+      ∙ forest-parts item (parts_of_items items ++ ps)
+      ∙ ap (λ is. More item is) (forest-parts_of_items items ps)
 
-append-none : (ps : List Part) → ps ++ [] ≡ ps
+-- parts with none behind them are the parts
+append-none : (ps : List ItemPart) → ps ++ [] ≡ ps
 append-none [] = refl
 append-none (p ∷ ps) = ap (λ qs. p ∷ qs) (append-none ps)
 
 -- parts give their item back
 pub tree-parts : (item : Item) → tree (parts item) ≡ item
-tree-parts item = ap (λ ps. first_of (forest ps)) (sym (append-none (parts item))) ∙ ap first_of (forest-parts item [])
+tree-parts item =
+    ap (λ ps. first_of (forest ps)) (sym (append-none (parts item)))
+    ∙ ap first_of (forest-parts item [])
 
-abbrev pub kind_number : ItemKind → ℕ
-kind_number Number = 0
-kind_number Text = 1
-kind_number Word = 2
-kind_number Node = 3
+-- the number by which an item's kind is stored
+abbrev pub item_kind_number : ItemKind → ℕ
+item_kind_number Number = 0
+item_kind_number Text = 1
+item_kind_number Word = 2
+item_kind_number Node = 3
 
-abbrev pub kind_numbered : ℕ → ItemKind
-kind_numbered zero = Number
-kind_numbered (suc zero) = Text
-kind_numbered (suc (suc zero)) = Word
-kind_numbered (suc (suc (suc n))) = Node
+-- the kind of an item that a stored number means
+abbrev pub item_kind_numbered : ℕ → ItemKind
+item_kind_numbered zero = Number
+item_kind_numbered (suc zero) = Text
+item_kind_numbered (suc (suc zero)) = Word
+item_kind_numbered (suc (suc (suc n))) = Node
 
-pub kind_numbered-number : (kind : ItemKind) → kind_numbered (kind_number kind) ≡ kind
-kind_numbered-number Number = refl
-kind_numbered-number Text = refl
-kind_numbered-number Word = refl
-kind_numbered-number Node = refl
+-- a kind's stored number means that kind
+pub item_kind_numbered-number : (kind : ItemKind) → item_kind_numbered (item_kind_number kind)
+    ≡ kind
+item_kind_numbered-number Number = refl
+item_kind_numbered-number Text = refl
+item_kind_numbered-number Word = refl
+item_kind_numbered-number Node = refl
 
+-- an item's kind is stored as its number
 abbrev pub kind_code : Coded ItemKind
-kind_code = code_by ℕ coded_ℕ kind_number kind_numbered kind_numbered-number
+kind_code = code_by ℕ coded_ℕ item_kind_number item_kind_numbered item_kind_numbered-number
 
-abbrev pub part_code : Coded Part
+-- a part is stored as its fields, one after another
+abbrev pub part_code : Coded ItemPart
 part_code =
     code_by (ItemKind × (Bool × (ℕ × (List ℕ × (ℕ × ℕ)))))
-    (coded× kind_code (coded× coded_bool (coded× coded_ℕ (coded× (coded_list coded_ℕ) (coded× coded_ℕ coded_ℕ)))))
+    (coded× kind_code
+    (coded× coded_bool (coded× coded_ℕ (coded× (coded_list coded_ℕ) (coded× coded_ℕ coded_ℕ)))))
     (λ p. (p.kind, (p.square, (p.place, (p.raw, (p.close, p.count))))))
     (λ t. record {
       kind = t.0;
@@ -145,7 +173,7 @@ part_code =
 
 -- an item is stored as its parts
 abbrev pub item_code : Coded Item
-item_code = code_by (List Part) (coded_list part_code) parts tree tree-parts
+item_code = code_by (List ItemPart) (coded_list part_code) parts tree tree-parts
 
 -- where the raw bytes of an item begin: those of a quoted text behind its quote
 abbrev pub raw_place : ItemKind → ℕ → ℕ
@@ -155,7 +183,7 @@ raw_place Word place = place
 raw_place Node place = place
 
 -- the part that a row gives over its source
-abbrev pub part : List ℕ → Row → Part
+abbrev pub part : List ℕ → Row → ItemPart
 part source r = record {
   kind = r.kind;
   square = r.square;
@@ -174,7 +202,8 @@ pub record StandsAt (source : List ℕ) (place : ℕ) (raw : List ℕ) : Type 0 
   pub within : place + length raw ≤ length source
   pub bytes : raw ≡ take (length raw) (drop place source)
 
--- the raw bytes of a token stand in the source at its place, those of a quoted text behind its quote
+-- the raw bytes of a token stand in the source at its place,
+-- those of a quoted text behind its quote
 abbrev pub TokenStands : List ℕ → Token → Type 0
 TokenStands source (single number place raw) = StandsAt source place raw
 TokenStands source (single text place raw) = StandsAt source (suc place) raw
@@ -183,6 +212,7 @@ TokenStands source comma = Unit {0}
 TokenStands source (opening square) = Unit {0}
 TokenStands source (closing place square) = Unit {0}
 
+-- each of these tokens is so
 abbrev pub Each : (Token → Type 0) → List Token → Type 0
 Each P [] = Unit {0}
 Each P (t ∷ ts) = P t × Each P ts

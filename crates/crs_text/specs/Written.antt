@@ -20,8 +20,10 @@ abbrev mutual
   -- each single token and each keyword in the item is well formed
   pub AreFormed : Item → Type 0
   AreFormed (leaf kind place raw) = IsSingle kind raw
-  AreFormed (node place keyword square first others close) = IsWord keyword × AreFormed first × AreAllFormed others
+  AreFormed (node place keyword square first others close) =
+      IsWord keyword × AreFormed first × AreAllFormed others
 
+  -- each single token and each keyword in these items is well formed
   pub AreAllFormed : Siblings → Type 0
   AreAllFormed End = Unit {0}
   AreAllFormed (More item items) = AreFormed item × AreAllFormed items
@@ -29,13 +31,17 @@ abbrev mutual
 abbrev mutual
   -- the items are equal but for places and the kind of delimiters
   pub SameItem : Item → Item → Type 0
-  SameItem (leaf kind place raw) (leaf other_kind other_place other_raw) = (kind ≡ other_kind) × (raw ≡ other_raw)
-  SameItem (leaf kind place raw) (node other_place other_keyword other_square other_first rest other_close) = ⊥
-  SameItem (node place keyword square first others close) (leaf other_kind other_place other_raw) = ⊥
+  SameItem (leaf kind place raw) (leaf other_kind other_place other_raw) =
+      (kind ≡ other_kind) × (raw ≡ other_raw)
+  SameItem (leaf kind place raw)
+      (node other_place other_keyword other_square other_first rest other_close) = ⊥
+  SameItem (node place keyword square first others close) (leaf other_kind other_place other_raw) =
+      ⊥
   SameItem (node place keyword square first others close)
       (node other_place other_keyword other_square other_first rest other_close) =
       (keyword ≡ other_keyword) × SameItem first other_first × SameItems others rest
 
+  -- the items are equal one by one, but for places and the kind of delimiters
   pub SameItems : Siblings → Siblings → Type 0
   SameItems End End = Unit {0}
   SameItems End (More other rest) = ⊥
@@ -43,7 +49,7 @@ abbrev mutual
   SameItems (More item items) (More other rest) = SameItem item other × SameItems items rest
 
 abbrev mutual
-  -- the same item as its written text has it from this place on, all delimiters square
+  -- the item as its written text has it from this place on, all delimiters square
   pub at_place : ℕ → Item → Item
   at_place start (leaf kind place raw) = leaf kind start raw
   at_place start (node place keyword square first others close) =
@@ -51,6 +57,7 @@ abbrev mutual
       (at_places (start + length keyword + 1 + length (item_text first)) others)
       (start + length keyword + 1 + length (item_text first) + length (others_text others))
 
+  -- the items as their written text has them, a comma before each, the first of these at this place
   pub at_places : ℕ → Siblings → Siblings
   at_places start End = End
   at_places start (More item items) =
@@ -59,4 +66,5 @@ abbrev mutual
 -- the written text of a well-formed node spells just this node
 abbrev pub WrittenSpells : Type 0
 WrittenSpells =
-    (item : Item) → AreFormed item → IsNode item → depth item ≤ 12 → SpellsNode (item_text item) (at_place 0 item)
+    (item : Item) → AreFormed item → IsNode item → depth item ≤ 12 →
+    SpellsNode (item_text item) (at_place 0 item)

@@ -5,7 +5,7 @@ ghost use Rattle.crs_text.specs.Quoted.{BeginsWith, IsShutAt};
 ghost use Rattle.crs_text.specs.Utf8.{IsUtf8Front};
 ghost use Rattle.crs_text.specs.Settled.{IsRunSettled};
 ghost use Rattle.crs_text.specs.Lexing.{IsLexed};
-ghost use Rattle.crs_text.specs.Feeding.{IsFlawSettled, IsLexedSettled, IsSettledTo, IsHeldAt, IsFedTo};
+ghost use Rattle.crs_text.specs.Feeding.{IsFlawSettled, IsLexedSettled, IsSettledTo, IsUnsettledAt, IsFedTo};
 ghost use Rattle.crs_text.specs.Feeding.{IsFedBefore, IsStepFrom, IsSettledFault, IsPendingIn, IsPendingBefore};
 ghost use Rattle.crs_text.specs.Feeding.{StaysPending, IsInsideTo, IsOpenTo, IsValidTo};
 ghost use Rattle.crs_text.specs.Tokens as tokens;
@@ -91,7 +91,7 @@ fn settle(table: &mut Table, text: &[u8], at: usize) -> Result<Option<usize>, Fa
 fn settle_all(table: &mut Table, text: &[u8], from: usize) -> Result<usize, Fault>
     requires { IsSettledTo text.now table.old from }
     ensures { MatchResult result
-        (λ at. IsSettledTo text.now table.new at × IsHeldAt text.now at)
+        (λ at. IsSettledTo text.now table.new at × IsUnsettledAt text.now at)
         (IsSettledFault text.now) }
 {
     let mut at = from;
@@ -117,7 +117,8 @@ fn valid_length(bytes: &[u8]) -> Option<usize>
     }
 }
 
-// The same, where so many are known to be.
+// How many of the bytes are well-formed UTF-8, of which so many are known to be; None where no more bytes complete
+// the others.
 fn valid_to(after: &[u8], known: usize) -> Option<usize>
     requires { IsValidTo after.now known }
     ensures { IfSome result (λ n. IsValidTo after.now n × IsUtf8Front after.now) }

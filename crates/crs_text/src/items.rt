@@ -1,6 +1,6 @@
 ghost use Rattle.std.specs.Prelude.{◌≡◌, ℕ, ◌+◌, ◌^◌, ◌<◌, ◌≤◌, ◌↔◌, IsTrue, Option, length, take, drop};
 ghost use Rattle.std.specs.Prelude.{slice_index_or};
-ghost use Rattle.crs_text.specs.Items.{More, End, arguments, count, first_of, rest_of, skip, kind_of, raw_of, place_of};
+ghost use Rattle.crs_text.specs.Items.{More, End, arguments, count, first_of, rest_of, skip, kind_of_item, raw_of, place_of};
 ghost use Rattle.crs_text.specs.Items.{keyword_in, close_of, size_of, here, HasId, IsAt, IsNumberOf};
 ghost use Rattle.crs_text.specs.Table.{no_row};
 ghost use Rattle.crs_text.specs.Rows.{rows, row_of};
@@ -108,7 +108,7 @@ impl<'a> Items<'a> {
     /// What the item is.
     pub fn kind(&self, id: ItemId) -> ItemKind
         requires { HasId self.now id }
-        ensures { result ≡ kind_of (first_of (here self.now id)) }
+        ensures { result ≡ kind_of_item (first_of (here self.now id)) }
     {
         self.row(id).kind
     }

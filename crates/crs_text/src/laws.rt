@@ -5,7 +5,7 @@ ghost use Rattle.crs_text.specs.Items.{Item, tokens, AreNode, BeginsNoNode};
 ghost use Rattle.crs_text.specs.Keywords.{AreSpelled};
 ghost use Rattle.crs_text.specs.TextFault.{SpellsNode, RefusesText};
 ghost use Rattle.crs_text.specs.Written.{WrittenSpells, AreFormed, item_text, at_place};
-ghost use Rattle.crs_text.specs.Examples.{AreSized, AreNumbered, AreLimited};
+ghost use Rattle.crs_text.specs.Examples.{AreSized, AreFoundByNumber, AreLimited};
 ghost use Rattle.crs_text.specs.Viable.{IsViable, IsViableAtAnyDepth, Allows, IsFull};
 ghost use Rattle.crs_text.specs.Settled.{IsSettledRefusal, IsTakenSoFar};
 ghost use Rattle.crs_text.specs.SettledExamples.{AreSettledRows};
@@ -67,7 +67,7 @@ pub fn written_items()
 /// The definitions on one coordinate reference system, and on nested words.
 pub fn worked_examples()
     ensures sizes { AreSized }
-    ensures numbers { AreNumbered }
+    ensures numbers { AreFoundByNumber }
     ensures limit { AreLimited }
     ensures settled { AreSettledRows }
 {}

@@ -304,7 +304,7 @@ impl Table {
         matches!(self.position, Position::AfterItem) && self.depth == 0
     }
 
-    /// The same table again.
+    /// A table equal to this one.
     pub(crate) fn copied(&self, alloc: Global) -> Result<Table, AllocError>
         ensures { IfOk result (λ table. table ≡ self.now) }
     {

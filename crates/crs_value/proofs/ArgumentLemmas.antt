@@ -1,7 +1,7 @@
 -- Arguments: those of a class, one after another, are sound where their node is, and as many as its slots require.
 use Rattle.std.proofs.Common.{◌≡◌, ◌≢◌, ℕ, suc, ◌+◌, ◌<◌, ◌≤◌, length, Bool, true, false, IsTrue, inl, inr, Option, Some, None, List, [], ◌∷◌, if◌then◌else◌, refl, sym, ◌∙◌, ap, subst, arith, rules}
 use denote.Enum.Bare.{sameb, same_true}
-use Rattle.crs_text.specs.Items.{Item, leaf, node, Siblings, End, More, arguments, count, first_of, rest_of, kind_of, here, HasId, IsAt}
+use Rattle.crs_text.specs.Items.{Item, leaf, node, Siblings, End, More, arguments, count, first_of, rest_of, kind_of_item, here, HasId, IsAt}
 use Rattle.crs_text.specs.Refusal.{RefusedAt}
 use Rattle.crs_text.specs.Tokens.{Kind, number, text, word}
 use Rattle.crs_text.specs.Written.{AreFormed, AreAllFormed}
@@ -182,7 +182,7 @@ no-keyword : (keyword : List ℕ) → is_keyword class.Number keyword ≡ false
 unfolding is_keyword
 no-keyword keyword = refl
 
-pub shaped-number : (item : Item) → Shaped class.Number item → kind_of item ≡ kinds.Number
+pub shaped-number : (item : Item) → Shaped class.Number item → kind_of_item item ≡ kinds.Number
 shaped-number (leaf number place raw) shaped = refl
 shaped-number (leaf text place raw) shaped = cc
 shaped-number (leaf word place raw) shaped = cc

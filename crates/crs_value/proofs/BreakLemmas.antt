@@ -1,6 +1,6 @@
 -- The first check that an item breaks, as the loop over its arguments finds it.
 use Rattle.std.proofs.Common.{◌≡◌, ◌≢◌, ℕ, ◌+◌, ◌<◌, inl, inr, ◌⊎◌, Option, Some, None, List, [], ◌∷◌, refl, sym, ◌∙◌, ap, subst, arith}
-use Rattle.crs_text.specs.Items.{Item, leaf, node, Siblings, End, More, arguments, first_of, rest_of, kind_of, size_of, sizes, here, HasId, IsAt}
+use Rattle.crs_text.specs.Items.{Item, leaf, node, Siblings, End, More, arguments, first_of, rest_of, kind_of_item, size_of, sizes, here, HasId, IsAt}
 use Rattle.crs_text.specs.Refusal.{RefusedAt}
 use Rattle.crs_text.specs.Tree.{join}
 use Rattle.crs_text.specs.Tokens.{number, text, word}
@@ -161,7 +161,7 @@ breaking-on tree c item least one next id named at so is within e is_at =
     back : (f : RefusedAt) → BreaksAmong c (join so.done (More (item_at tree id) End)) f → BreaksAmong c so.done f ⊎ Breaks named (item_at tree id) f
     back f h = split f (among-split c so.done (More (item_at tree id) End) f h)
 
-pub leaf-unbroken : (c : Class) (item : Item) → (kind_of item ≡ kinds.Node → ⊥) → IsLeast (Breaks c item) None
+pub leaf-unbroken : (c : Class) (item : Item) → (kind_of_item item ≡ kinds.Node → ⊥) → IsLeast (Breaks c item) None
 leaf-unbroken c (leaf kind place raw) other = λ f h. h
 leaf-unbroken c (node place keyword square first others close) other = absurd (other refl)
 
@@ -176,7 +176,7 @@ breaking-quiet tree c item least id named at so is none is_at = breaking-on tree
 
 -- an argument that is no node breaks nothing
 pub breaking-past : (tree : Item) (c : Class) (item : Item) (least : Option RefusedAt) (id : ℕ) (at : Option ℕ) → Breaking tree c item least (Some id) →
-    (kind_of (item_at tree id) ≡ kinds.Node → ⊥) → IsAt tree (rest_of (here tree id)) at → Breaking tree c item least at
+    (kind_of_item (item_at tree id) ≡ kinds.Node → ⊥) → IsAt tree (rest_of (here tree id)) at → Breaking tree c item least at
 breaking-past tree c item least id at so other is_at =
     let h = argument-class c so.classes (here tree id) so.holds so.shaped in
     breaking-quiet tree c item least id h.0 at so h.1.1.0 (leaf-unbroken h.0 (item_at tree id) other) is_at
@@ -194,7 +194,7 @@ breaking-end tree c item least at so none =
     subst P (sym e) so.is_least
 
 -- what stands in a node and its own checks are all
-pub breaks-whole : (c : Class) (item : Item) (least : Option RefusedAt) → kind_of item ≡ kinds.Node → IsLeast (λ f. BreaksAmong c (arguments item) f ⊎ Own c item f) least →
+pub breaks-whole : (c : Class) (item : Item) (least : Option RefusedAt) → kind_of_item item ≡ kinds.Node → IsLeast (λ f. BreaksAmong c (arguments item) f ⊎ Own c item f) least →
     IsLeast (Breaks c item) least
 breaks-whole c (leaf number place raw) least is h = cc
 breaks-whole c (leaf text place raw) least is h = cc

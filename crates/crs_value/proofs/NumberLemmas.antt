@@ -19,7 +19,7 @@ use Rattle.crs_value.specs.BadDynamic.{BadDynamic, IsUnsteady}
 use Rattle.crs_value.specs.Checks.{anchors, once, OfHead, OfAxes, OfCrs, OfCompound, OfUnit, OfEllipsoid, Own, AtClass, Breaks, BreaksAmong, horizontal_classes}
 use Rattle.crs_value.specs.RepeatedPart.{IsRepeated, Repeats, RepeatsAny}
 use Rattle.crs_value.specs.Reading.{is_a, those}
-use Rattle.crs_value.specs.SpellsText.{IsFrom, IsRefusal, Refuses}
+use Rattle.crs_value.specs.SpellsText.{IsFrom, IsRefusalNumber, Refuses}
 use Rattle.crs_value.proofs.PlaceLemmas.{Within, AreWithin, Fine, fine-as, node-within, place-within, arguments-within}
 
 module _ (total : ℕ) where
@@ -194,7 +194,7 @@ shape-number n (inr (inl e)) = (omega (arith, e), omega (arith, e))
 shape-number n (inr (inr e)) = (omega (arith, e), omega (arith, e))
 
 pub refused-within : TextWithin → ShapeWithin → PlacesBelow → (bytes : List ℕ) (fault : RefusedAt) →
-    Refuses bytes fault → IsRefusal fault.number × (fault.place ≤ length bytes)
+    Refuses bytes fault → IsRefusalNumber fault.number × (fault.place ≤ length bytes)
 refused-within law shape below bytes fault (inl x) =
     let h = law bytes fault.number fault.place x in (inl (h.0, h.1), h.2)
 refused-within law shape below bytes fault (inr (item, (spells, inl x))) =

@@ -123,7 +123,7 @@ axis-one law c item a b p q =
     axis-equal a.name b.name a.direction b.direction a.meridian b.meridian a.order b.order a.unit b.unit a.identifiers b.identifiers
     (text-of-one c item a.name b.name p.name q.name)
     (one-first ReadsDirection direction-one (those c class.Word (arguments item)) a.direction b.direction p.direction q.direction)
-    (one-optional (ReadsAxisMeridian class.Meridian) (axis_meridian-one law class.Meridian) (those c class.Meridian (arguments item)) a.meridian b.meridian p.meridian q.meridian)
+    (one-optional (ReadsAxisMeridian class.AxisMeridian) (axis_meridian-one law class.AxisMeridian) (those c class.AxisMeridian (arguments item)) a.meridian b.meridian p.meridian q.meridian)
     (one-optional (ReadsNumberOf class.Order) (number-of-one law class.Order) (those c class.Order (arguments item)) a.order b.order p.order q.order)
     (one-optional (ReadsUnit class.AxisUnit) (unit-one law class.AxisUnit) (those c class.AxisUnit (arguments item)) a.unit b.unit p.unit q.unit)
     (one-each (ReadsIdent class.Identifier) (ident-one class.Identifier) (those c class.Identifier (arguments item)) a.identifiers b.identifiers p.identifiers q.identifiers)

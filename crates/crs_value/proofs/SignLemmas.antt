@@ -5,7 +5,7 @@ use Rattle.std.proofs.Math.Nat.{mul_assoc, pow-suc}
 use Rattle.std.proofs.lemmas.Bool.Decides.{nat_tests}
 use Rattle.std.proofs.lemmas.List.Sums.{fold-append}
 use Rattle.crs_decimal.specs.Bounds.{number_of, is_minus, digits_value}
-use Rattle.crs_decimal.specs.Spelling.{Sign, unsigned, plus, minus, Exponent, sign_text, fraction_text, fraction_digits, exponent_text, text, mantissa, IsExponent}
+use Rattle.crs_decimal.specs.Spelling.{Sign, unsigned, plus, minus, Exponent, sign_text, fraction_text, fraction_digits, exponent_text, parts_text, mantissa, IsExponent}
 use Rattle.crs_decimal.specs.Value.{Value, IsNormal, is_normal, is_power, exact}
 use Rattle.crs_text.specs.Items.{Item, raw_of}
 use Rattle.crs_value.specs.BadValue.{IsAboveZero, NotAbove, IsNegative}
@@ -120,7 +120,7 @@ above-sure item b e within = λ f h. h.1.1.1 (above h.1.0 h.1.1.0)
     above : (v : Value) → ReadsNumber item v → IsAboveZero v
     above v (normal, (p, spells, bounded, same)) = (sign same.1, size)
       where
-        in_turn : text p ≡ sign_text p.sign ++ (p.whole ++ (fraction_text p.fraction ++ exponent_text p.exponent))
+        in_turn : parts_text p ≡ sign_text p.sign ++ (p.whole ++ (fraction_text p.fraction ++ exponent_text p.exponent))
         in_turn =
             append_assoc (sign_text p.sign ++ p.whole) (fraction_text p.fraction) (exponent_text p.exponent)
             ∙ append_assoc (sign_text p.sign) p.whole (fraction_text p.fraction ++ exponent_text p.exponent)

@@ -137,10 +137,10 @@ module _ (numbers : Numbers) (slots : SlotsCount) where
       let identifiers = identifiers-some c item g in
       (record { kind = kind.0; name = name.0; factor = factor.0; identifiers = identifiers.0 }, record { kind = kind.1; name = name.1; factor = factor.1; identifiers = identifiers.1 })
 
-  axis_meridian-some : (item : Item) → IsSound class.Meridian item → Exists (ReadsAxisMeridian class.Meridian item)
+  axis_meridian-some : (item : Item) → IsSound class.AxisMeridian item → Exists (ReadsAxisMeridian class.AxisMeridian item)
   axis_meridian-some item g =
-      let longitude = number-of-some class.Meridian item g (omega arith) in
-      let unit = first-some (ReadsUnit class.AngleUnit) class.Meridian class.AngleUnit item g (omega arith) (unit-some class.AngleUnit tt) in
+      let longitude = number-of-some class.AxisMeridian item g (omega arith) in
+      let unit = first-some (ReadsUnit class.AngleUnit) class.AxisMeridian class.AngleUnit item g (omega arith) (unit-some class.AngleUnit tt) in
       (record { longitude = longitude.0; unit = unit.0 }, record { longitude = longitude.1; unit = unit.1 })
 
   direction-some : (item : Item) → IsSound class.Axis item → Exists (ReadsFirst ReadsDirection (those class.Axis class.Word (arguments item)))
@@ -158,7 +158,7 @@ module _ (numbers : Numbers) (slots : SlotsCount) where
   axis-some item g =
       let name = text-some class.Axis item g (omega arith) in
       let direction = direction-some item g in
-      let meridian = optional-some (ReadsAxisMeridian class.Meridian) class.Axis class.Meridian item g (axis_meridian-some) in
+      let meridian = optional-some (ReadsAxisMeridian class.AxisMeridian) class.Axis class.AxisMeridian item g (axis_meridian-some) in
       let order = optional-some (ReadsNumberOf class.Order) class.Axis class.Order item g (λ i h. number-of-some class.Order i h (omega arith)) in
       let unit = optional-some (ReadsUnit class.AxisUnit) class.Axis class.AxisUnit item g (unit-some class.AxisUnit tt) in
       let identifiers = identifiers-some class.Axis item g in

@@ -22,8 +22,8 @@ pub axis-tells : (c : Class) → Tells c (ReadsAxis c) IsAxis
 axis-tells c item value sound reads = record {
   name = text-of-tells c item value.name sound reads.name;
   meridian =
-      optional-tells (ReadsAxisMeridian class.Meridian) IsAxisMeridian class.Meridian (axis-meridian-tells class.Meridian) (those c class.Meridian (arguments item)) value.meridian
-      (arguments-sound c class.Meridian item sound) reads.meridian;
+      optional-tells (ReadsAxisMeridian class.AxisMeridian) IsAxisMeridian class.AxisMeridian (axis-meridian-tells class.AxisMeridian) (those c class.AxisMeridian (arguments item)) value.meridian
+      (arguments-sound c class.AxisMeridian item sound) reads.meridian;
   order =
       optional-tells (ReadsNumberOf class.Order) IsNormal class.Order (number-of-tells class.Order) (those c class.Order (arguments item)) value.order
       (arguments-sound c class.Order item sound) reads.order;

@@ -7,7 +7,7 @@ use Rattle.crs_text.specs.Refusal.{RefusedAt}
 use Rattle.crs_value.specs.BadSystem.{HasDimension}
 use Rattle.crs_value.specs.Break.{at}
 
--- these axes and the node `CS`
+-- the node `CS` says a dimension that isn't the number of these axes
 abbrev pub AxisCount : List Item → Item → RefusedAt → Type 0
 AxisCount axes cs fault =
     (fault ≡ at 25 cs) × ((dimension : Value)

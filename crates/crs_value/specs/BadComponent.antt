@@ -14,11 +14,14 @@ use Rattle.crs_value.specs.BadSystem.{HasType, HasDimension}
 
 -- the CRS's node `CS` has a known type that isn't ellipsoidal
 abbrev pub IsNotEllipsoidal : Item → Type 0
-IsNotEllipsoidal cs = (type_read : SystemType) × (HasType cs type_read × (type_read ≢ types.Ellipsoidal))
+IsNotEllipsoidal cs =
+    (type_read : SystemType) × (HasType cs type_read × (type_read ≢ types.Ellipsoidal))
 
 -- the dimension of the node `CS` isn't 2
 abbrev pub IsNotPlane : Item → Type 0
-IsNotPlane cs = (dimension : Value) × (HasDimension cs dimension × ¬ (SameNumber (exact dimension) (whole_number 2)))
+IsNotPlane cs =
+    (dimension : Value)
+    × (HasDimension cs dimension × ¬ (SameNumber (exact dimension) (whole_number 2)))
 
 -- a node `CS` that a horizontal part of this class may not have
 abbrev pub IsNotHorizontal : Class → Item → Type 0
@@ -26,12 +29,14 @@ IsNotHorizontal class.GeodeticCrs cs = IsNotEllipsoidal cs ⊎ IsNotPlane cs
 IsNotHorizontal class.GeographicCrs cs = IsNotEllipsoidal cs ⊎ IsNotPlane cs
 IsNotHorizontal other cs = IsNotPlane cs
 
--- a part of this class, by its node `CS`
+-- a compound's part of this class, refused where its node `CS`
+-- is one that a horizontal part may not have
 abbrev pub BadComponent : Class → Item → RefusedAt → Type 0
 BadComponent c part fault =
-    (fault ≡ at 24 part) × FirstIs (IsNotHorizontal c) (those c class.CoordinateSystem (arguments part))
+    (fault ≡ at 24 part)
+    × FirstIs (IsNotHorizontal c) (those c class.CoordinateSystem (arguments part))
 
--- the horizontal parts among a compound's arguments
+-- a part of one of these classes among a compound's arguments is refused
 abbrev pub BadComponents : List Class → Siblings → RefusedAt → Type 0
 BadComponents [] items fault = ⊥
 BadComponents (c ∷ cs) items fault =

@@ -10,11 +10,14 @@ use Rattle.crs_value.specs.Break.{at, AnyOf}
 -- an ensemble stands among the arguments
 abbrev pub HasEnsemble : Class → Item → Type 0
 HasEnsemble c item =
-    (those c class.GeodeticEnsemble (arguments item) ≢ []) ⊎ (those c class.VerticalEnsemble (arguments item) ≢ [])
+    (those c class.GeodeticEnsemble (arguments item) ≢ [])
+    ⊎ (those c class.VerticalEnsemble (arguments item) ≢ [])
 
+-- a dynamic part beside an ensemble is refused at its first byte
 abbrev pub IsUnsteady : Item → RefusedAt → Type 0
 IsUnsteady part fault = fault ≡ at 29 part
 
--- each dynamic part beside an ensemble
+-- an ensemble stands among the arguments, and beside it a dynamic part, which is refused
 abbrev pub BadDynamic : Class → Item → RefusedAt → Type 0
-BadDynamic c item fault = HasEnsemble c item × AnyOf IsUnsteady (those c class.Dynamic (arguments item)) fault
+BadDynamic c item fault =
+    HasEnsemble c item × AnyOf IsUnsteady (those c class.Dynamic (arguments item)) fault

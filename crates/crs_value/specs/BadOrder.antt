@@ -1,4 +1,5 @@
--- 26: an order on some axes and not on all, or orders that aren't the whole numbers from 1 on, each once.
+-- 26: an order on some axes and not on all, or orders that
+-- aren't the whole numbers from 1 on, each once.
 use Rattle.std.specs.Prelude.{◌≡◌, ◌≢◌, ℕ, ◌≤◌, length, List, [], ◌∷◌, ◌++◌, ◌⊎◌}
 use Rattle.crs_decimal.specs.Number.{SameNumber, whole_number}
 use Rattle.crs_decimal.specs.Value.{Value, exact}
@@ -49,7 +50,8 @@ abbrev pub IsWrongOrder : ℕ → List Item → Item → Type 0
 IsWrongOrder n before order =
     (value : Value) × (ReadsOrder order value × (¬ (IsPosition n value) ⊎ OneHas value before))
 
--- such an order is refused at its first byte
+-- an order that is no position among n axes, or that an axis
+-- before has, is refused at its first byte
 abbrev pub IsBadOrder : ℕ → List Item → Item → RefusedAt → Type 0
 IsBadOrder n before order fault = (fault ≡ at 26 order) × IsWrongOrder n before order
 
@@ -57,9 +59,12 @@ IsBadOrder n before order fault = (fault ≡ at 26 order) × IsWrongOrder n befo
 abbrev pub BadOrders : ℕ → List Item → List Item → RefusedAt → Type 0
 BadOrders n before [] fault = ⊥
 BadOrders n before (axis ∷ axes) fault =
-    AnyOf (IsBadOrder n before) (orders_in axis) fault ⊎ BadOrders n (before ++ axis ∷ []) axes fault
+    AnyOf (IsBadOrder n before) (orders_in axis) fault
+    ⊎ BadOrders n (before ++ axis ∷ []) axes fault
 
--- some axes have an order, and this one lacks it; or all have one, and this is no position or stands twice
+-- some axes have an order, and this one lacks it; or all have
+-- one, and this is no position or stands twice
 abbrev pub BadOrder : List Item → RefusedAt → Type 0
 BadOrder axes fault =
-    (SomeHasOrder axes × AnyOf LacksOrder axes fault) ⊎ (AllHaveOrder axes × BadOrders (length axes) [] axes fault)
+    (SomeHasOrder axes × AnyOf LacksOrder axes fault)
+    ⊎ (AllHaveOrder axes × BadOrders (length axes) [] axes fault)

@@ -14,34 +14,35 @@ use Rattle.crs_value.specs.Break.{at}
 
 -- the node `CS` has this type
 abbrev pub HasType : Item → SystemType → Type 0
-HasType cs value = ReadsFirst ReadsType (those class.CoordinateSystem class.Word (arguments cs)) value
+HasType cs value =
+    ReadsFirst ReadsType (those class.CoordinateSystem class.Word (arguments cs)) value
 
--- and this dimension
+-- the node `CS` has this dimension
 abbrev pub HasDimension : Item → Value → Type 0
 HasDimension cs value = ReadsNumberOf class.CoordinateSystem cs value
 
--- the dimensions of a geodetic CRS's system
+-- the dimensions that a geodetic CRS may have with each type of coordinate system
 abbrev pub geodetic_dimensions : SystemType → List ℕ
 geodetic_dimensions types.Cartesian = 3 ∷ []
 geodetic_dimensions types.Ellipsoidal = 2 ∷ 3 ∷ []
 geodetic_dimensions types.Spherical = 2 ∷ 3 ∷ []
 geodetic_dimensions types.Vertical = []
 
--- those of a CRS that is called geographic
+-- the dimensions that a CRS which is called geographic may have with each type of coordinate system
 abbrev pub geographic_dimensions : SystemType → List ℕ
 geographic_dimensions types.Cartesian = []
 geographic_dimensions types.Ellipsoidal = 2 ∷ 3 ∷ []
 geographic_dimensions types.Spherical = []
 geographic_dimensions types.Vertical = []
 
--- those of a projected CRS
+-- the dimensions that a projected CRS may have with each type of coordinate system
 abbrev pub projected_dimensions : SystemType → List ℕ
 projected_dimensions types.Cartesian = 2 ∷ 3 ∷ []
 projected_dimensions types.Ellipsoidal = []
 projected_dimensions types.Spherical = []
 projected_dimensions types.Vertical = []
 
--- those of a vertical CRS
+-- the dimensions that a vertical CRS may have with each type of coordinate system
 abbrev pub vertical_dimensions : SystemType → List ℕ
 vertical_dimensions types.Cartesian = []
 vertical_dimensions types.Ellipsoidal = []
@@ -66,4 +67,5 @@ abbrev pub BadSystem : (SystemType → List ℕ) → Item → RefusedAt → Type
 BadSystem dimensions cs fault =
     (fault ≡ at 23 cs)
     × ((type_read : SystemType) × ((dimension : Value)
-    × (HasType cs type_read × HasDimension cs dimension × ¬ (IsOneOf dimension (dimensions type_read)))))
+    × (HasType cs type_read × HasDimension cs dimension
+    × ¬ (IsOneOf dimension (dimensions type_read)))))

@@ -20,7 +20,8 @@ kind_by_direction direction.Up = kinds.Length
 kind_by_direction direction.Down = kinds.Length
 kind_by_direction other = kinds.Angle
 
--- the kind of unit that an axis asks for, by the type of its system and its own direction
+-- the kind of unit that an axis asks for, by the type of its
+-- coordinate system and its own direction
 abbrev pub asked_kind : SystemType → Direction → UnitKind
 asked_kind types.Cartesian d = kinds.Length
 asked_kind types.Ellipsoidal d = kind_by_direction d
@@ -48,7 +49,8 @@ LacksUnit axis fault = (fault ≡ at 27 axis) × (units_in axis ≡ [])
 
 -- a unit on an axis that isn't of the kind that the axis asks for
 abbrev pub Misfits : Item → Item → Item → RefusedAt → Type 0
-Misfits cs axis unit fault = (fault ≡ at 27 unit) × ((kind : UnitKind) × (Asks cs axis kind × ¬ (Fits unit kind)))
+Misfits cs axis unit fault =
+    (fault ≡ at 27 unit) × ((kind : UnitKind) × (Asks cs axis kind × ¬ (Fits unit kind)))
 
 -- with no shared unit: an axis without a unit, or a unit that doesn't fit
 abbrev pub BadOwnUnit : Item → Item → RefusedAt → Type 0

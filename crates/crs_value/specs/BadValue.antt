@@ -12,8 +12,10 @@ IsAboveZero value = (value.negative ≡ false) × (value.digits ≢ 0)
 
 -- a number that isn't above zero
 abbrev pub NotAbove : Item → RefusedAt → Type 0
-NotAbove item fault = (fault ≡ at 28 item) × ((value : Value) × (ReadsNumber item value × ¬ (IsAboveZero value)))
+NotAbove item fault =
+    (fault ≡ at 28 item) × ((value : Value) × (ReadsNumber item value × ¬ (IsAboveZero value)))
 
 -- a number below zero
 abbrev pub IsNegative : Item → RefusedAt → Type 0
-IsNegative item fault = (fault ≡ at 28 item) × ((value : Value) × (ReadsNumber item value × (value.negative ≡ true)))
+IsNegative item fault =
+    (fault ≡ at 28 item) × ((value : Value) × (ReadsNumber item value × (value.negative ≡ true)))

@@ -17,11 +17,13 @@ abbrev pub FirstIs : (Item → Type 0) → List Item → Type 0
 FirstIs Is [] = ⊥
 FirstIs Is (item ∷ items) = Is item
 
--- of a lower number, or of the same number and at no later place
+-- one fault goes before another: it has a lower number, or the same number and no later place
 abbrev pub IsBefore : RefusedAt → RefusedAt → Type 0
 IsBefore a b = (a.number < b.number) ⊎ ((a.number ≡ b.number) × (a.place ≤ b.place))
 
--- the first of the faults: the lowest number, and of these the least place; none where there is no fault
+-- the first of the faults: the lowest number, and of these the
+-- least place; none where there is no fault
 abbrev pub IsLeast : (RefusedAt → Type 0) → Option RefusedAt → Type 0
 IsLeast Fault None = (fault : RefusedAt) → ¬ (Fault fault)
-IsLeast Fault (Some least) = Fault least × ((fault : RefusedAt) → Fault fault → IsBefore least fault)
+IsLeast Fault (Some least) =
+    Fault least × ((fault : RefusedAt) → Fault fault → IsBefore least fault)

@@ -12,7 +12,8 @@ use Rattle.crs_value.specs.Reading.{those}
 use Rattle.crs_value.specs.Break.{AnyOf}
 use Rattle.crs_value.specs.UnknownWord.{UnknownType, UnknownDirection}
 use Rattle.crs_value.specs.RepeatedPart.{RepeatsAny}
-use Rattle.crs_value.specs.BadSystem.{geodetic_dimensions, geographic_dimensions, projected_dimensions}
+use Rattle.crs_value.specs.BadSystem.{geodetic_dimensions, geographic_dimensions}
+use Rattle.crs_value.specs.BadSystem.{projected_dimensions}
 use Rattle.crs_value.specs.BadSystem.{vertical_dimensions, BadSystem}
 use Rattle.crs_value.specs.BadComponent.{BadComponents}
 use Rattle.crs_value.specs.BadDynamic.{BadDynamic}
@@ -38,7 +39,8 @@ abbrev pub OfAxes : List Item → List Item → List Item → RefusedAt → Type
 OfAxes systems axes units fault = BadOrder axes fault ⊎ AnyOf (BadUnit axes units) systems fault
 
 -- the checks of a coordinate system: the nodes `CS`, the axes and the shared units
-abbrev pub BadSystems : (SystemType → List ℕ) → List Item → List Item → List Item → RefusedAt → Type 0
+abbrev pub BadSystems : (SystemType → List ℕ) → List Item → List Item → List Item → RefusedAt →
+    Type 0
 BadSystems dimensions systems axes units fault =
     AnyOf (OfHead dimensions axes) systems fault ⊎ OfAxes systems axes units fault
 
@@ -54,7 +56,8 @@ HasSystem other = ⊥
 abbrev pub OfCrs : (SystemType → List ℕ) → Class → Item → RefusedAt → Type 0
 OfCrs dimensions c item fault =
     RepeatsAny c (arguments item) once fault
-    ⊎ (BadSystems dimensions (those c class.CoordinateSystem (arguments item)) (those c class.Axis (arguments item))
+    ⊎ (BadSystems dimensions (those c class.CoordinateSystem (arguments item))
+    (those c class.Axis (arguments item))
     (those c class.AxisUnit (arguments item)) fault ⊎ BadDynamic c item fault)
 
 -- the classes of a compound's horizontal part
@@ -63,15 +66,18 @@ horizontal_classes = class.GeodeticCrs ∷ class.GeographicCrs ∷ class.Project
 
 -- the checks of a compound CRS
 abbrev pub OfCompound : Siblings → RefusedAt → Type 0
-OfCompound items fault = RepeatsAny class.CompoundCrs items once fault ⊎ BadComponents horizontal_classes items fault
+OfCompound items fault =
+    RepeatsAny class.CompoundCrs items once fault ⊎ BadComponents horizontal_classes items fault
 
 -- the check of a unit: its factor is above zero
 abbrev pub OfUnit : Class → Item → RefusedAt → Type 0
 OfUnit c item fault = AnyOf NotAbove (those c class.Number (arguments item)) fault
 
--- the checks of an ellipsoid: its semi-major axis is above zero, and its inverse flattening isn't below
+-- the checks of an ellipsoid: its semi-major axis is above
+-- zero, and its inverse flattening isn't below
 abbrev pub OfEllipsoid : List Item → RefusedAt → Type 0
-OfEllipsoid numbers fault = AnyOf NotAbove (take 1 numbers) fault ⊎ AnyOf IsNegative (drop 1 numbers) fault
+OfEllipsoid numbers fault =
+    AnyOf NotAbove (take 1 numbers) fault ⊎ AnyOf IsNegative (drop 1 numbers) fault
 
 -- the checks that a node of this class breaks by itself
 unfoldable pub Own : Class → Item → RefusedAt → Type 0
@@ -83,7 +89,8 @@ Own class.BaseCrs item fault = BadDynamic class.BaseCrs item fault
 Own class.CompoundCrs item fault = OfCompound (arguments item) fault
 Own class.GeodeticFrame item fault = RepeatsAny class.GeodeticFrame (arguments item) anchors fault
 Own class.VerticalFrame item fault = RepeatsAny class.VerticalFrame (arguments item) anchors fault
-Own class.Ellipsoid item fault = OfEllipsoid (those class.Ellipsoid class.Number (arguments item)) fault
+Own class.Ellipsoid item fault =
+    OfEllipsoid (those class.Ellipsoid class.Number (arguments item)) fault
 Own class.LengthUnit item fault = OfUnit class.LengthUnit item fault
 Own class.AngleUnit item fault = OfUnit class.AngleUnit item fault
 Own class.ScaleUnit item fault = OfUnit class.ScaleUnit item fault
@@ -91,7 +98,8 @@ Own class.PlainUnit item fault = OfUnit class.PlainUnit item fault
 Own class.AxisUnit item fault = OfUnit class.AxisUnit item fault
 Own class.CoordinateSystem item fault =
     AnyOf UnknownType (those class.CoordinateSystem class.Word (arguments item)) fault
-Own class.Axis item fault = AnyOf UnknownDirection (those class.Axis class.Word (arguments item)) fault
+Own class.Axis item fault =
+    AnyOf UnknownDirection (those class.Axis class.Word (arguments item)) fault
 Own other item fault = ⊥
 
 -- what holds at an item's class, where it has one
@@ -107,6 +115,7 @@ abbrev mutual
       Own c (node place keyword square first others close) fault
       ⊎ (AtClass (class_in c first) (λ d. Breaks d first fault) ⊎ BreaksAmong c others fault)
 
+  -- one of these arguments of a node breaks a check
   pub BreaksAmong : Class → Siblings → RefusedAt → Type 0
   BreaksAmong c End fault = ⊥
   BreaksAmong c (More item items) fault =

@@ -1,11 +1,12 @@
--- A bridge: arguments of one class from one on, as the program goes through them, and classes of which one is read.
+-- A bridge: arguments of one class from one on, as the program
+-- goes through them, and classes of which one is read.
 use Rattle.std.specs.Prelude.{◌≡◌, ℕ, List, [], ◌∷◌, Option, Some, None, ◌⊎◌}
 use Rattle.crs_text.specs.Items.{Item, rest_of, here}
 use Rattle.crs_shape.specs.declared.class.Class.{Class}
 use Rattle.crs_shape.specs.Shaped.{Shaped}
 use Rattle.crs_value.specs.Reading.{item_at, those}
 
--- those from a found one on
+-- the arguments of a class from a found one on; none where none is found
 abbrev pub from_found : Item → Class → Class → Option ℕ → List Item
 from_found tree parent c None = []
 from_found tree parent c (Some id) = item_at tree id ∷ those parent c (rest_of (here tree id))

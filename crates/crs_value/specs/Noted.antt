@@ -13,16 +13,21 @@ noted true None id = Some id
 noted true (Some old) id = Some old
 
 -- each is the first of its class among these arguments, and so many axes are among them
-pub record AreFirsts (tree : Item) (parent : Class) (items : Siblings) (firsts : Firsts) : Type 0 where
-  pub system : IsFound tree parent class.CoordinateSystem (those parent class.CoordinateSystem items) firsts.system
+pub record AreFirsts (tree : Item) (parent : Class) (items : Siblings)
+    (firsts : Firsts) : Type 0 where
+  pub system : IsFound tree parent class.CoordinateSystem
+      (those parent class.CoordinateSystem items) firsts.system
   pub axis : IsFound tree parent class.Axis (those parent class.Axis items) firsts.axis
   pub axes : firsts.axes ≡ length (those parent class.Axis items)
   pub unit : IsFound tree parent class.AxisUnit (those parent class.AxisUnit items) firsts.unit
   pub scope : IsFound tree parent class.Scope (those parent class.Scope items) firsts.scope
   pub area : IsFound tree parent class.Area (those parent class.Area items) firsts.area
-  pub bbox : IsFound tree parent class.BoundingBox (those parent class.BoundingBox items) firsts.bbox
-  pub extent : IsFound tree parent class.VerticalExtent (those parent class.VerticalExtent items) firsts.extent
+  pub bbox : IsFound tree parent class.BoundingBox
+      (those parent class.BoundingBox items) firsts.bbox
+  pub extent : IsFound tree parent class.VerticalExtent
+      (those parent class.VerticalExtent items) firsts.extent
   pub remark : IsFound tree parent class.Remark (those parent class.Remark items) firsts.remark
   pub usage : IsFound tree parent class.Usage (those parent class.Usage items) firsts.usage
-  pub identifier : IsFound tree parent class.Identifier (those parent class.Identifier items) firsts.identifier
+  pub identifier : IsFound tree parent class.Identifier
+      (those parent class.Identifier items) firsts.identifier
   pub dynamic : IsFound tree parent class.Dynamic (those parent class.Dynamic items) firsts.dynamic

@@ -1,5 +1,6 @@
 -- Readings: what is read from an item, or from the arguments of one class.
-use Rattle.std.specs.Prelude.{◌≡◌, ℕ, ◌<◌, ◌≤◌, Bool, IsTrue, List, [], ◌∷◌, Option, Some, None, if◌then◌else◌}
+use Rattle.std.specs.Prelude.{◌≡◌, ℕ, ◌<◌, ◌≤◌, Bool, IsTrue, List, [], ◌∷◌, Option, Some, None}
+use Rattle.std.specs.Prelude.{if◌then◌else◌}
 use Rattle.std.specs.List.{list_any}
 use denote.Enum.Bare.{sameb}
 use Rattle.crs_text.specs.Items.{Item, Siblings, End, More, first_of, rest_of, here, HasId}
@@ -39,7 +40,8 @@ is_a parent c item = is_class c (class_in parent item)
 -- the arguments that are of this class in their parent, in order
 abbrev pub those : Class → Class → Siblings → List Item
 those parent c End = []
-those parent c (More item items) = if is_a parent c item then item ∷ those parent c items else those parent c items
+those parent c (More item items) =
+    if is_a parent c item then item ∷ those parent c items else those parent c items
 
 -- the slots of a class require more than `n` arguments of class `d`
 abbrev pub Requires : Class → Class → ℕ → Type 0
@@ -53,7 +55,8 @@ TakesOne c d = IsTrue (is_bounded (is_same d) (slots_of c)) × (most (is_same d)
 abbrev pub RequiresOneOf : Class → List Class → Type 0
 RequiresOneOf c ds = 0 < least (λ d. list_any (λ e. is_same e d) ds) (slots_of c)
 
--- the number of the first of these arguments, behind which the later ones stand; none where there are none
+-- the number of the first of these arguments, behind which the
+-- later ones stand; none where there are none
 abbrev pub IsFound : Item → Class → Class → List Item → Option ℕ → Type 0
 IsFound tree parent c items None = items ≡ []
 IsFound tree parent c items (Some id) =

@@ -2,7 +2,7 @@
 use Rattle.std.specs.Prelude.{◌≡◌, ℕ, List, [], ◌∷◌, Option, Some, None, drop}
 use Rattle.crs_decimal.specs.Bounds.{Denotes}
 use Rattle.crs_decimal.specs.Value.{Value, IsNormal, exact}
-use Rattle.crs_text.specs.Items.{Item, Siblings, End, More, arguments, raw_of, kind_of, skip}
+use Rattle.crs_text.specs.Items.{Item, Siblings, End, More, arguments, raw_of, kind_of_item, skip}
 use Rattle.crs_text.specs.declared.items.ItemKind.{ItemKind}
 use Rattle.crs_text.specs.declared.items.ItemKind.TheVariants as kinds
 use Rattle.crs_shape.specs.declared.class.Class.{Class}
@@ -11,14 +11,16 @@ use Rattle.crs_value.specs.declared.values.direction.Direction.{Direction}
 use Rattle.crs_value.specs.declared.values.system_type.SystemType.{SystemType}
 use Rattle.crs_value.specs.declared.values.unit_kind.UnitKind.{UnitKind}
 use Rattle.crs_value.specs.Reading.{those, ReadsFirst, ReadsOptional, ReadsEach}
-use Rattle.crs_value.specs.Values.{IdentParts, UnitParts, AxisMeridianParts, AxisParts, SystemParts, EllipsoidParts}
-use Rattle.crs_value.specs.Values.{MeridianParts, MemberParts, DatumParts, EnsembleParts, BoxParts, ExtentParts}
+use Rattle.crs_value.specs.Values.{IdentParts, UnitParts, AxisMeridianParts, AxisParts, SystemParts}
+use Rattle.crs_value.specs.Values.{EllipsoidParts}
+use Rattle.crs_value.specs.Values.{MeridianParts, MemberParts, DatumParts, EnsembleParts, BoxParts}
+use Rattle.crs_value.specs.Values.{ExtentParts}
 use Rattle.crs_value.specs.Values.{UsageParts, SaysSome, TailParts}
 use Rattle.crs_value.specs.Words.{SpellsWord, direction_word, system_word, unit_word}
 
 -- ---- single items
 
--- a quoted text is its characters; a code or version too, quoted or not
+-- a text is its characters, and so is a code or a version, quoted or not
 abbrev pub ReadsText : Item → List ℕ → Type 0
 ReadsText item characters = raw_of item ≡ characters
 
@@ -26,13 +28,15 @@ ReadsText item characters = raw_of item ≡ characters
 abbrev pub ReadsNumber : Item → Value → Type 0
 ReadsNumber item value = IsNormal value × Denotes (raw_of item) (exact value)
 
+-- the type of a coordinate system is the one whose word is spelled
 abbrev pub ReadsType : Item → SystemType → Type 0
 ReadsType item value = SpellsWord (raw_of item) (system_word value)
 
+-- the direction of an axis is the one whose word is spelled
 abbrev pub ReadsDirection : Item → Direction → Type 0
 ReadsDirection item value = SpellsWord (raw_of item) (direction_word value)
 
--- a unit's kind is that of its keyword
+-- the kind of a unit is the one whose keyword is spelled
 abbrev pub ReadsKind : Item → UnitKind → Type 0
 ReadsKind item value = SpellsWord (raw_of item) (unit_word value)
 
@@ -40,7 +44,8 @@ ReadsKind item value = SpellsWord (raw_of item) (unit_word value)
 
 -- the node's text
 abbrev pub ReadsTextOf : Class → Item → List ℕ → Type 0
-ReadsTextOf c item characters = ReadsFirst ReadsText (those c class.Text (arguments item)) characters
+ReadsTextOf c item characters =
+    ReadsFirst ReadsText (those c class.Text (arguments item)) characters
 
 -- the node's number
 abbrev pub ReadsNumberOf : Class → Item → Value → Type 0
@@ -48,14 +53,15 @@ ReadsNumberOf c item value = ReadsFirst ReadsNumber (those c class.Number (argum
 
 -- the number at this place among the node's numbers, the first at 0
 abbrev pub ReadsNumberAt : ℕ → Class → Item → Value → Type 0
-ReadsNumberAt k c item value = ReadsFirst ReadsNumber (drop k (those c class.Number (arguments item))) value
+ReadsNumberAt k c item value =
+    ReadsFirst ReadsNumber (drop k (those c class.Number (arguments item))) value
 
 -- ---- nodes
 
 -- an item that is no node, as a list of one; any other gives none
 abbrev pub single_of : Siblings → List Item
 single_of End = []
-single_of (More item items) = by (kind_of item)
+single_of (More item items) = by (kind_of_item item)
   where
     by : ItemKind → List Item
     by kinds.Number = item ∷ []
@@ -63,17 +69,20 @@ single_of (More item items) = by (kind_of item)
     by kinds.Word = item ∷ []
     by kinds.Node = []
 
--- the code is the second argument, and the version the third, if that is no node
+-- an identifier: its authority; its code, which is the second argument; its version, which is the
+-- third, if that is no node; its citation and URI, where they are written
 pub record ReadsIdent (c : Class) (item : Item) (parts : IdentParts) : Type 0 where
   pub authority : ReadsTextOf c item parts.authority
   pub code : ReadsFirst ReadsText (single_of (skip 1 (arguments item))) parts.code
   pub version : ReadsOptional ReadsText (single_of (skip 2 (arguments item))) parts.version
-  pub citation : ReadsOptional (ReadsTextOf class.Citation) (those c class.Citation (arguments item)) parts.citation
+  pub citation : ReadsOptional (ReadsTextOf class.Citation)
+      (those c class.Citation (arguments item)) parts.citation
   pub uri : ReadsOptional (ReadsTextOf class.Uri) (those c class.Uri (arguments item)) parts.uri
 
 -- the identifiers of a node
 abbrev pub ReadsIds : Class → Item → List IdentParts → Type 0
-ReadsIds c item identifiers = ReadsEach (ReadsIdent class.Identifier) (those c class.Identifier (arguments item)) identifiers
+ReadsIds c item identifiers =
+    ReadsEach (ReadsIdent class.Identifier) (those c class.Identifier (arguments item)) identifiers
 
 -- the classes of units
 abbrev pub IsUnitClass : Class → Type 0
@@ -84,89 +93,117 @@ IsUnitClass class.PlainUnit = Unit {0}
 IsUnitClass class.AxisUnit = Unit {0}
 IsUnitClass other = ⊥
 
+-- a unit: its kind, its name, its factor and its identifiers
 pub record ReadsUnit (c : Class) (item : Item) (parts : UnitParts) : Type 0 where
   pub kind : ReadsKind item parts.kind
   pub name : ReadsTextOf c item parts.name
   pub factor : ReadsNumberOf c item parts.factor
   pub identifiers : ReadsIds c item parts.identifiers
 
+-- the meridian that an axis goes along: its longitude, and the unit of that
 pub record ReadsAxisMeridian (c : Class) (item : Item) (parts : AxisMeridianParts) : Type 0 where
   pub longitude : ReadsNumberOf c item parts.longitude
-  pub unit : ReadsFirst (ReadsUnit class.AngleUnit) (those c class.AngleUnit (arguments item)) parts.unit
+  pub unit : ReadsFirst (ReadsUnit class.AngleUnit)
+      (those c class.AngleUnit (arguments item)) parts.unit
 
+-- an axis: its name and direction, its meridian, order and
+-- unit, where they are written, and its identifiers
 pub record ReadsAxis (c : Class) (item : Item) (parts : AxisParts) : Type 0 where
   pub name : ReadsTextOf c item parts.name
   pub direction : ReadsFirst ReadsDirection (those c class.Word (arguments item)) parts.direction
-  pub meridian : ReadsOptional (ReadsAxisMeridian class.Meridian)
-      (those c class.Meridian (arguments item)) parts.meridian
-  pub order : ReadsOptional (ReadsNumberOf class.Order) (those c class.Order (arguments item)) parts.order
-  pub unit : ReadsOptional (ReadsUnit class.AxisUnit) (those c class.AxisUnit (arguments item)) parts.unit
+  pub meridian : ReadsOptional (ReadsAxisMeridian class.AxisMeridian)
+      (those c class.AxisMeridian (arguments item)) parts.meridian
+  pub order : ReadsOptional (ReadsNumberOf class.Order)
+      (those c class.Order (arguments item)) parts.order
+  pub unit : ReadsOptional (ReadsUnit class.AxisUnit)
+      (those c class.AxisUnit (arguments item)) parts.unit
   pub identifiers : ReadsIds c item parts.identifiers
 
--- what a node `CS` says of a system
+-- what a node `CS` says of a coordinate system: its type, its dimension and its identifiers
 pub record ReadsHead (item : Item) (parts : SystemParts) : Type 0 where
-  pub system_type : ReadsFirst ReadsType (those class.CoordinateSystem class.Word (arguments item)) parts.system_type
+  pub system_type : ReadsFirst ReadsType
+      (those class.CoordinateSystem class.Word (arguments item)) parts.system_type
   pub dimension : ReadsNumberOf class.CoordinateSystem item parts.dimension
   pub identifiers : ReadsIds class.CoordinateSystem item parts.identifiers
 
--- the system of a CRS: its node `CS`, and the axes and the shared unit beside that
+-- the coordinate system of a CRS: its node `CS`, and the axes and the shared unit beside that
 pub record ReadsSystem (c : Class) (item : Item) (parts : SystemParts) : Type 0 where
   pub head : ReadsFirst ReadsHead (those c class.CoordinateSystem (arguments item)) parts
   pub axes : ReadsEach (ReadsAxis class.Axis) (those c class.Axis (arguments item)) parts.axes
-  pub unit : ReadsOptional (ReadsUnit class.AxisUnit) (those c class.AxisUnit (arguments item)) parts.unit
+  pub unit : ReadsOptional (ReadsUnit class.AxisUnit)
+      (those c class.AxisUnit (arguments item)) parts.unit
 
+-- an ellipsoid: its name, its semi-major axis, its inverse
+-- flattening, its unit, if one is written, and its identifiers
 pub record ReadsEllipsoid (c : Class) (item : Item) (parts : EllipsoidParts) : Type 0 where
   pub name : ReadsTextOf c item parts.name
   pub semi_major_axis : ReadsNumberAt 0 c item parts.semi_major_axis
   pub inverse_flattening : ReadsNumberAt 1 c item parts.inverse_flattening
-  pub unit : ReadsOptional (ReadsUnit class.LengthUnit) (those c class.LengthUnit (arguments item)) parts.unit
+  pub unit : ReadsOptional (ReadsUnit class.LengthUnit)
+      (those c class.LengthUnit (arguments item)) parts.unit
   pub identifiers : ReadsIds c item parts.identifiers
 
+-- a prime meridian: its name, its longitude, the unit of that,
+-- if one is written, and its identifiers
 pub record ReadsMeridian (c : Class) (item : Item) (parts : MeridianParts) : Type 0 where
   pub name : ReadsTextOf c item parts.name
   pub longitude : ReadsNumberOf c item parts.longitude
-  pub unit : ReadsOptional (ReadsUnit class.AngleUnit) (those c class.AngleUnit (arguments item)) parts.unit
+  pub unit : ReadsOptional (ReadsUnit class.AngleUnit)
+      (those c class.AngleUnit (arguments item)) parts.unit
   pub identifiers : ReadsIds c item parts.identifiers
 
+-- a member of a datum ensemble: its name and its identifiers
 pub record ReadsMember (c : Class) (item : Item) (parts : MemberParts) : Type 0 where
   pub name : ReadsTextOf c item parts.name
   pub identifiers : ReadsIds c item parts.identifiers
 
--- a frame's anchor and its anchor's epoch are its first; a second is a repeated part
+-- a reference frame: its name, its ellipsoid, its anchor and its anchor's epoch, where they are
+-- written, and its identifiers; a second anchor or epoch is a repeated part
 pub record ReadsDatum (c : Class) (item : Item) (parts : DatumParts) : Type 0 where
   pub name : ReadsTextOf c item parts.name
   pub ellipsoid : ReadsOptional (ReadsEllipsoid class.Ellipsoid)
       (those c class.Ellipsoid (arguments item)) parts.ellipsoid
-  pub anchor : ReadsOptional (ReadsTextOf class.Anchor) (those c class.Anchor (arguments item)) parts.anchor
+  pub anchor : ReadsOptional (ReadsTextOf class.Anchor)
+      (those c class.Anchor (arguments item)) parts.anchor
   pub anchor_epoch : ReadsOptional (ReadsNumberOf class.AnchorEpoch)
       (those c class.AnchorEpoch (arguments item)) parts.anchor_epoch
   pub identifiers : ReadsIds c item parts.identifiers
 
+-- a datum ensemble: its name, its members in order, its
+-- ellipsoid, if one is written, its accuracy and its identifiers
 pub record ReadsEnsemble (c : Class) (item : Item) (parts : EnsembleParts) : Type 0 where
   pub name : ReadsTextOf c item parts.name
-  pub members : ReadsEach (ReadsMember class.Member) (those c class.Member (arguments item)) parts.members
+  pub members : ReadsEach (ReadsMember class.Member)
+      (those c class.Member (arguments item)) parts.members
   pub ellipsoid : ReadsOptional (ReadsEllipsoid class.Ellipsoid)
       (those c class.Ellipsoid (arguments item)) parts.ellipsoid
   pub accuracy : ReadsFirst (ReadsNumberOf class.EnsembleAccuracy)
       (those c class.EnsembleAccuracy (arguments item)) parts.accuracy
   pub identifiers : ReadsIds c item parts.identifiers
 
+-- a bounding box: its southern latitude, western longitude,
+-- northern latitude and eastern longitude, in this order
 pub record ReadsBox (c : Class) (item : Item) (parts : BoxParts) : Type 0 where
   pub south : ReadsNumberAt 0 c item parts.south
   pub west : ReadsNumberAt 1 c item parts.west
   pub north : ReadsNumberAt 2 c item parts.north
   pub east : ReadsNumberAt 3 c item parts.east
 
+-- an extent in height: its minimum, its maximum, and their unit, if one is written
 pub record ReadsExtent (c : Class) (item : Item) (parts : ExtentParts) : Type 0 where
   pub minimum : ReadsNumberAt 0 c item parts.minimum
   pub maximum : ReadsNumberAt 1 c item parts.maximum
-  pub unit : ReadsOptional (ReadsUnit class.LengthUnit) (those c class.LengthUnit (arguments item)) parts.unit
+  pub unit : ReadsOptional (ReadsUnit class.LengthUnit)
+      (those c class.LengthUnit (arguments item)) parts.unit
 
--- the parts of a usage in a node `USAGE`, or bare at a CRS's end
+-- a usage, whose parts stand in a node `USAGE` or bare at a CRS's end:
+-- its scope, area, box and extent in height, where they are written
 pub record ReadsUsage (c : Class) (item : Item) (parts : UsageParts) : Type 0 where
-  pub scope : ReadsOptional (ReadsTextOf class.Scope) (those c class.Scope (arguments item)) parts.scope
+  pub scope : ReadsOptional (ReadsTextOf class.Scope)
+      (those c class.Scope (arguments item)) parts.scope
   pub area : ReadsOptional (ReadsTextOf class.Area) (those c class.Area (arguments item)) parts.area
-  pub bbox : ReadsOptional (ReadsBox class.BoundingBox) (those c class.BoundingBox (arguments item)) parts.bbox
+  pub bbox : ReadsOptional (ReadsBox class.BoundingBox)
+      (those c class.BoundingBox (arguments item)) parts.bbox
   pub extent : ReadsOptional (ReadsExtent class.VerticalExtent)
       (those c class.VerticalExtent (arguments item)) parts.extent
 
@@ -182,9 +219,12 @@ abbrev pub ReadsBare : Class → Item → Option UsageParts → Type 0
 ReadsBare c item None = LacksUsage c item
 ReadsBare c item (Some parts) = ReadsUsage c item parts × SaysSome parts
 
--- the end of a CRS
+-- the end of a CRS: its usages, the one whose parts stand bare,
+-- if any does, its identifiers, and its remark, if one is written
 pub record ReadsTail (c : Class) (item : Item) (parts : TailParts) : Type 0 where
-  pub usages : ReadsEach (ReadsUsage class.Usage) (those c class.Usage (arguments item)) parts.usages
+  pub usages : ReadsEach (ReadsUsage class.Usage)
+      (those c class.Usage (arguments item)) parts.usages
   pub bare_parts : ReadsBare c item parts.bare_parts
   pub identifiers : ReadsIds c item parts.identifiers
-  pub remark : ReadsOptional (ReadsTextOf class.Remark) (those c class.Remark (arguments item)) parts.remark
+  pub remark : ReadsOptional (ReadsTextOf class.Remark)
+      (those c class.Remark (arguments item)) parts.remark

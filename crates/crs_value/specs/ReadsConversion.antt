@@ -3,11 +3,13 @@ use Rattle.std.specs.Prelude.{List, [], ◌∷◌, Option, Some, None}
 use Rattle.crs_text.specs.Items.{Item, arguments}
 use Rattle.crs_shape.specs.declared.class.Class.{Class}
 use Rattle.crs_shape.specs.declared.class.Class.TheVariants as class
-use Rattle.crs_value.specs.ConversionValues.{MethodParts, ParameterParts, ConversionParts, GeoidModelParts}
+use Rattle.crs_value.specs.ConversionValues.{MethodParts, ParameterParts, ConversionParts}
+use Rattle.crs_value.specs.ConversionValues.{GeoidModelParts}
 use Rattle.crs_value.specs.Reading.{those, ReadsFirst, ReadsEach, ReadsElse}
 use Rattle.crs_value.specs.Reads.{ReadsTextOf, ReadsNumberOf, ReadsIds, ReadsUnit}
 use Rattle.crs_value.specs.Values.{UnitParts}
 
+-- the method of a conversion: its name and its identifiers
 pub record ReadsMethod (c : Class) (item : Item) (parts : MethodParts) : Type 0 where
   pub name : ReadsTextOf c item parts.name
   pub identifiers : ReadsIds c item parts.identifiers
@@ -21,25 +23,32 @@ abbrev pub ReadsAsUnit : Class → Item → Option UnitParts → Type 0
 ReadsAsUnit d item None = ⊥
 ReadsAsUnit d item (Some unit) = ReadsUnit d item unit
 
--- the unit is the argument of one of these classes, if there is one; a node of the right shape has one at most
+-- the unit is the argument of one of these classes, if there
+-- is one; a node of the right shape has one at most
 abbrev pub ReadsUnitOf : List Class → Class → Item → Option UnitParts → Type 0
 ReadsUnitOf [] c item None = Unit {0}
 ReadsUnitOf [] c item (Some unit) = ⊥
-ReadsUnitOf (d ∷ ds) c item unit = ReadsElse (ReadsAsUnit d) (those c d (arguments item)) (ReadsUnitOf ds c item) unit
+ReadsUnitOf (d ∷ ds) c item unit =
+    ReadsElse (ReadsAsUnit d) (those c d (arguments item)) (ReadsUnitOf ds c item) unit
 
+-- a parameter of a conversion: its name, its number, the unit
+-- of that, if one is written, and its identifiers
 pub record ReadsParameter (c : Class) (item : Item) (parts : ParameterParts) : Type 0 where
   pub name : ReadsTextOf c item parts.name
   pub value : ReadsNumberOf c item parts.value
   pub unit : ReadsUnitOf parameter_units c item parts.unit
   pub identifiers : ReadsIds c item parts.identifiers
 
+-- a conversion: its name, its method, its parameters in order and its identifiers
 pub record ReadsConversion (c : Class) (item : Item) (parts : ConversionParts) : Type 0 where
   pub name : ReadsTextOf c item parts.name
-  pub method : ReadsFirst (ReadsMethod class.Method) (those c class.Method (arguments item)) parts.method
+  pub method : ReadsFirst (ReadsMethod class.Method)
+      (those c class.Method (arguments item)) parts.method
   pub parameters : ReadsEach (ReadsParameter class.Parameter)
       (those c class.Parameter (arguments item)) parts.parameters
   pub identifiers : ReadsIds c item parts.identifiers
 
+-- a geoid model: its name and its identifiers
 pub record ReadsGeoidModel (c : Class) (item : Item) (parts : GeoidModelParts) : Type 0 where
   pub name : ReadsTextOf c item parts.name
   pub identifiers : ReadsIds c item parts.identifiers

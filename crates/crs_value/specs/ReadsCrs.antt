@@ -16,7 +16,8 @@ use Rattle.crs_value.specs.declared.values.system_type.SystemType.TheVariants as
 use Rattle.crs_value.specs.CompoundValues.{CompoundParts}
 use Rattle.crs_value.specs.CrsValues.{GeodeticParts, BaseParts, ProjectedParts, VerticalParts}
 use Rattle.crs_value.specs.Reading.{those, ReadsFirst, ReadsOptional, ReadsEach, ReadsElse}
-use Rattle.crs_value.specs.Reads.{ReadsTextOf, ReadsIds, ReadsUnit, ReadsDatum, ReadsEnsemble, ReadsMeridian}
+use Rattle.crs_value.specs.Reads.{ReadsTextOf, ReadsIds, ReadsUnit, ReadsDatum, ReadsEnsemble}
+use Rattle.crs_value.specs.Reads.{ReadsMeridian}
 use Rattle.crs_value.specs.Reads.{ReadsSystem, ReadsTail}
 use Rattle.crs_value.specs.ReadsConversion.{ReadsConversion, ReadsGeoidModel}
 use Rattle.crs_value.specs.ReadsDynamic.{ReadsDynamic}
@@ -31,15 +32,19 @@ abbrev pub ReadsAsEnsemble : Class → Item → Frame → Type 0
 ReadsAsEnsemble e item (frame.Datum datum) = ⊥
 ReadsAsEnsemble e item (frame.Ensemble ensemble) = ReadsEnsemble e item ensemble
 
--- the frame of a CRS: its reference frame, of the one class, or where there is none its ensemble, of the other
+-- the frame of a CRS: its reference frame, of the one class,
+-- or where there is none its ensemble, of the other
 abbrev pub ReadsFrame : Class → Class → Class → Item → Frame → Type 0
 ReadsFrame d e c item value =
     ReadsElse (ReadsAsDatum d) (those c d (arguments item))
     (ReadsFirst (ReadsAsEnsemble e) (those c e (arguments item))) value
 
+-- the frame of a geodetic CRS or of a base CRS: its geodetic
+-- reference frame, or else its datum ensemble
 abbrev pub ReadsGeodeticFrame : Class → Item → Frame → Type 0
 ReadsGeodeticFrame = ReadsFrame class.GeodeticFrame class.GeodeticEnsemble
 
+-- the frame of a vertical CRS: its vertical reference frame, or else its datum ensemble
 abbrev pub ReadsVerticalFrame : Class → Item → Frame → Type 0
 ReadsVerticalFrame = ReadsFrame class.VerticalFrame class.VerticalEnsemble
 
@@ -49,35 +54,46 @@ IsGeodeticClass class.GeodeticCrs = Unit {0}
 IsGeodeticClass class.GeographicCrs = Unit {0}
 IsGeodeticClass other = ⊥
 
+-- a geodetic or geographic CRS: its name, dynamic part, frame,
+-- prime meridian, coordinate system and end
 pub record ReadsGeodetic (c : Class) (item : Item) (parts : GeodeticParts) : Type 0 where
   pub name : ReadsTextOf c item parts.name
-  pub dynamic : ReadsOptional (ReadsDynamic class.Dynamic) (those c class.Dynamic (arguments item)) parts.dynamic
+  pub dynamic : ReadsOptional (ReadsDynamic class.Dynamic)
+      (those c class.Dynamic (arguments item)) parts.dynamic
   pub frame : ReadsGeodeticFrame c item parts.frame
   pub meridian : ReadsOptional (ReadsMeridian class.PrimeMeridian)
       (those c class.PrimeMeridian (arguments item)) parts.meridian
   pub system : ReadsSystem c item parts.system
   pub tail : ReadsTail c item parts.tail
 
+-- the base CRS of a projected one: its name, dynamic part, frame and prime meridian, the unit of
+-- its angles, if one is written, and its identifiers
 pub record ReadsBase (c : Class) (item : Item) (parts : BaseParts) : Type 0 where
   pub name : ReadsTextOf c item parts.name
-  pub dynamic : ReadsOptional (ReadsDynamic class.Dynamic) (those c class.Dynamic (arguments item)) parts.dynamic
+  pub dynamic : ReadsOptional (ReadsDynamic class.Dynamic)
+      (those c class.Dynamic (arguments item)) parts.dynamic
   pub frame : ReadsGeodeticFrame c item parts.frame
   pub meridian : ReadsOptional (ReadsMeridian class.PrimeMeridian)
       (those c class.PrimeMeridian (arguments item)) parts.meridian
-  pub unit : ReadsOptional (ReadsUnit class.AngleUnit) (those c class.AngleUnit (arguments item)) parts.unit
+  pub unit : ReadsOptional (ReadsUnit class.AngleUnit)
+      (those c class.AngleUnit (arguments item)) parts.unit
   pub identifiers : ReadsIds c item parts.identifiers
 
+-- a projected CRS: its name, base CRS, conversion, coordinate system and end
 pub record ReadsProjected (c : Class) (item : Item) (parts : ProjectedParts) : Type 0 where
   pub name : ReadsTextOf c item parts.name
-  pub base : ReadsFirst (ReadsBase class.BaseCrs) (those c class.BaseCrs (arguments item)) parts.base
+  pub base : ReadsFirst (ReadsBase class.BaseCrs)
+      (those c class.BaseCrs (arguments item)) parts.base
   pub conversion : ReadsFirst (ReadsConversion class.Conversion)
       (those c class.Conversion (arguments item)) parts.conversion
   pub system : ReadsSystem c item parts.system
   pub tail : ReadsTail c item parts.tail
 
+-- a vertical CRS: its name, dynamic part, frame, coordinate system, geoid models in order, and end
 pub record ReadsVertical (c : Class) (item : Item) (parts : VerticalParts) : Type 0 where
   pub name : ReadsTextOf c item parts.name
-  pub dynamic : ReadsOptional (ReadsDynamic class.Dynamic) (those c class.Dynamic (arguments item)) parts.dynamic
+  pub dynamic : ReadsOptional (ReadsDynamic class.Dynamic)
+      (those c class.Dynamic (arguments item)) parts.dynamic
   pub frame : ReadsVerticalFrame c item parts.frame
   pub system : ReadsSystem c item parts.system
   pub geoid_models : ReadsEach (ReadsGeoidModel class.GeoidModel)
@@ -86,16 +102,21 @@ pub record ReadsVertical (c : Class) (item : Item) (parts : VerticalParts) : Typ
 
 -- the item is a horizontal CRS of this class, and this is its value
 abbrev pub ReadsAsHorizontal : Class → Item → Horizontal → Type 0
-ReadsAsHorizontal c item (horizontal.Geodetic geodetic) = IsGeodeticClass c × ReadsGeodetic c item geodetic
-ReadsAsHorizontal c item (horizontal.Projected projected) = (c ≡ class.ProjectedCrs) × ReadsProjected c item projected
+ReadsAsHorizontal c item (horizontal.Geodetic geodetic) =
+    IsGeodeticClass c × ReadsGeodetic c item geodetic
+ReadsAsHorizontal c item (horizontal.Projected projected) =
+    (c ≡ class.ProjectedCrs) × ReadsProjected c item projected
 
 -- a compound's horizontal part: its geodetic, geographic or projected CRS
 abbrev pub ReadsHorizontal : Class → Item → Horizontal → Type 0
 ReadsHorizontal c item value =
     ReadsElse (ReadsAsHorizontal class.GeodeticCrs) (those c class.GeodeticCrs (arguments item))
-    (ReadsElse (ReadsAsHorizontal class.GeographicCrs) (those c class.GeographicCrs (arguments item))
-    (ReadsFirst (ReadsAsHorizontal class.ProjectedCrs) (those c class.ProjectedCrs (arguments item)))) value
+    (ReadsElse (ReadsAsHorizontal class.GeographicCrs)
+    (those c class.GeographicCrs (arguments item))
+    (ReadsFirst (ReadsAsHorizontal class.ProjectedCrs)
+    (those c class.ProjectedCrs (arguments item)))) value
 
+-- a compound CRS: its name, its horizontal part, its vertical part and its end
 pub record ReadsCompound (c : Class) (item : Item) (parts : CompoundParts) : Type 0 where
   pub name : ReadsTextOf c item parts.name
   pub horizontal : ReadsHorizontal c item parts.horizontal
@@ -106,17 +127,19 @@ pub record ReadsCompound (c : Class) (item : Item) (parts : CompoundParts) : Typ
 -- the value of a whole text of this class
 abbrev pub ReadsCrs : Class → Item → Crs → Type 0
 ReadsCrs c item (crs.Geodetic geodetic) = IsGeodeticClass c × ReadsGeodetic c item geodetic
-ReadsCrs c item (crs.Projected projected) = (c ≡ class.ProjectedCrs) × ReadsProjected c item projected
+ReadsCrs c item (crs.Projected projected) =
+    (c ≡ class.ProjectedCrs) × ReadsProjected c item projected
 ReadsCrs c item (crs.Vertical vertical) = (c ≡ class.VerticalCrs) × ReadsVertical c item vertical
 ReadsCrs c item (crs.Compound compound) = (c ≡ class.CompoundCrs) × ReadsCompound c item compound
 
--- a geodetic CRS is geographic exactly if its system is ellipsoidal
+-- a geodetic CRS is geographic exactly if its coordinate system is ellipsoidal
 abbrev pub kind_by : SystemType → Kind
 kind_by types.Cartesian = kind.Geodetic
 kind_by types.Ellipsoidal = kind.Geographic
 kind_by types.Spherical = kind.Geodetic
 kind_by types.Vertical = kind.Geodetic
 
+-- the kind of a CRS; whether a geodetic one is geographic is told by its coordinate system
 abbrev pub kind_of : Crs → Kind
 kind_of (crs.Geodetic geodetic) = kind_by geodetic.system.system_type
 kind_of (crs.Projected projected) = kind.Projected

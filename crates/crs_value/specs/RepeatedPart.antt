@@ -6,15 +6,16 @@ use Rattle.crs_shape.specs.declared.class.Class.{Class}
 use Rattle.crs_value.specs.Reading.{those}
 use Rattle.crs_value.specs.Break.{at, AnyOf}
 
--- a part that stands behind another of its class
+-- a part that stands behind another of its class is refused at its first byte
 abbrev pub IsRepeated : Item → RefusedAt → Type 0
 IsRepeated item fault = fault ≡ at 22 item
 
--- those of one class among the arguments of a node
+-- a part of this class among the arguments of a node is repeated
 abbrev pub Repeats : Class → Siblings → Class → RefusedAt → Type 0
 Repeats parent items c fault = AnyOf IsRepeated (drop 1 (those parent c items)) fault
 
--- those of each of these classes
+-- a part of one of these classes among the arguments of a node is repeated
 abbrev pub RepeatsAny : Class → Siblings → List Class → RefusedAt → Type 0
 RepeatsAny parent items [] fault = ⊥
-RepeatsAny parent items (c ∷ cs) fault = Repeats parent items c fault ⊎ RepeatsAny parent items cs fault
+RepeatsAny parent items (c ∷ cs) fault =
+    Repeats parent items c fault ⊎ RepeatsAny parent items cs fault

@@ -1,5 +1,5 @@
--- What is asked of identifiers, units and axes by themselves: well-formed texts, decimals in their normal form, and
--- units of a kind that fits.
+-- What is asked of identifiers, units and axes by themselves: well-formed
+-- texts, decimals in their normal form, and units of a kind that fits.
 use Rattle.std.specs.Prelude.{◌≡◌, ◌≢◌, ℕ, List, [], ◌∷◌, ◌⊎◌, IsUtf8, IfSome}
 use Rattle.crs_decimal.specs.Value.{IsNormal}
 use Rattle.crs_text.specs.Quoted.{IsInside}
@@ -8,7 +8,7 @@ use Rattle.crs_value.specs.declared.values.unit_kind.UnitKind.TheVariants as kin
 use Rattle.crs_value.specs.BadValue.{IsAboveZero}
 use Rattle.crs_value.specs.Values.{IdentParts, UnitParts, AxisMeridianParts, AxisParts}
 
--- each of these is so
+-- each of these values is so
 abbrev pub Each : {V : Type 0} → (V → Type 0) → List V → Type 0
 Each P [] = Unit {0}
 Each P (value ∷ values) = P value × Each P values
@@ -17,7 +17,8 @@ Each P (value ∷ values) = P value × Each P values
 abbrev pub IsText : List ℕ → Type 0
 IsText text = IsInside text × IsUtf8 text
 
--- an identifier; a code or a version is a text, quoted or not
+-- what is asked of an identifier: authority, code and what else
+-- it has are texts; a code or a version is one, quoted or not
 pub record IsIdent (ident : IdentParts) : Type 0 where
   pub authority : IsText ident.authority
   pub code : IsText ident.code
@@ -27,7 +28,7 @@ pub record IsIdent (ident : IdentParts) : Type 0 where
 
 -- ---- units
 
--- a unit's factor is above zero
+-- what is asked of a unit: its factor is above zero
 pub record IsUnit (unit : UnitParts) : Type 0 where
   pub name : IsText unit.name
   pub factor : IsNormal unit.factor
@@ -55,10 +56,12 @@ IsAxisUnit unit = IsUnit unit × (unit.kind ≢ kinds.Scale)
 
 -- ---- axes
 
+-- what is asked of the meridian of an axis: its unit stands for one of angle
 pub record IsAxisMeridian (meridian : AxisMeridianParts) : Type 0 where
   pub longitude : IsNormal meridian.longitude
   pub unit : IsUnitOf kinds.Angle meridian.unit
 
+-- what is asked of an axis by itself: what it has is as asked, and its unit isn't one of scale
 pub record IsAxis (axis : AxisParts) : Type 0 where
   pub name : IsText axis.name
   pub meridian : IfSome axis.meridian IsAxisMeridian

@@ -11,16 +11,18 @@ use Rattle.crs_value.specs.SoundSingle.{IsGeodetic, IsProjected, IsVertical}
 use Rattle.crs_value.specs.SoundUsages.{IsTail}
 use Rattle.crs_value.specs.Values.{SystemParts}
 
--- a system of dimension 2
+-- a coordinate system of dimension 2
 abbrev pub IsPlane : SystemParts → Type 0
 IsPlane system = SameNumber (exact system.dimension) (whole_number 2)
 
 -- the horizontal part is a geographic or a projected CRS of dimension 2
 abbrev pub IsHorizontal : Horizontal → Type 0
 IsHorizontal (horizontal.Geodetic geodetic) =
-    IsGeodetic geodetic × (geodetic.system.system_type ≡ types.Ellipsoidal) × IsPlane geodetic.system
+    IsGeodetic geodetic × (geodetic.system.system_type ≡ types.Ellipsoidal)
+    × IsPlane geodetic.system
 IsHorizontal (horizontal.Projected projected) = IsProjected projected × IsPlane projected.system
 
+-- what is asked of a compound CRS: its name is a text, and its parts are as asked of them
 pub record IsCompound (compound : CompoundParts) : Type 0 where
   pub name : IsText compound.name
   pub horizontal : IsHorizontal compound.horizontal

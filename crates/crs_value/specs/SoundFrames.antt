@@ -4,9 +4,11 @@ use Rattle.crs_decimal.specs.Value.{IsNormal}
 use Rattle.crs_value.specs.declared.values.unit_kind.UnitKind.TheVariants as kinds
 use Rattle.crs_value.specs.BadValue.{IsAboveZero}
 use Rattle.crs_value.specs.Sound.{Each, IsText, IsIdent, IsUnitOf}
-use Rattle.crs_value.specs.Values.{EllipsoidParts, MeridianParts, MemberParts, DatumParts, EnsembleParts}
+use Rattle.crs_value.specs.Values.{EllipsoidParts, MeridianParts, MemberParts, DatumParts}
+use Rattle.crs_value.specs.Values.{EnsembleParts}
 
--- an ellipsoid's semi-major axis is above zero, its inverse flattening isn't negative
+-- what is asked of an ellipsoid: its semi-major axis is above zero, its inverse flattening isn't
+-- negative, and its unit, if it has one, stands for one of length
 pub record IsEllipsoid (ellipsoid : EllipsoidParts) : Type 0 where
   pub name : IsText ellipsoid.name
   pub semi_major_axis : IsNormal ellipsoid.semi_major_axis
@@ -16,16 +18,21 @@ pub record IsEllipsoid (ellipsoid : EllipsoidParts) : Type 0 where
   pub unit : IfSome ellipsoid.unit (IsUnitOf kinds.Length)
   pub identifiers : Each IsIdent ellipsoid.identifiers
 
+-- what is asked of a prime meridian: its unit, if it has one, stands for one of angle
 pub record IsMeridian (meridian : MeridianParts) : Type 0 where
   pub name : IsText meridian.name
   pub longitude : IsNormal meridian.longitude
   pub unit : IfSome meridian.unit (IsUnitOf kinds.Angle)
   pub identifiers : Each IsIdent meridian.identifiers
 
+-- what is asked of a member of a datum ensemble: its name is a
+-- text, and its identifiers are as asked
 pub record IsMember (member : MemberParts) : Type 0 where
   pub name : IsText member.name
   pub identifiers : Each IsIdent member.identifiers
 
+-- what is asked of a reference frame: what it has of an
+-- ellipsoid, an anchor and its epoch is as asked
 pub record IsDatum (datum : DatumParts) : Type 0 where
   pub name : IsText datum.name
   pub ellipsoid : IfSome datum.ellipsoid IsEllipsoid
@@ -33,7 +40,7 @@ pub record IsDatum (datum : DatumParts) : Type 0 where
   pub anchor_epoch : IfSome datum.anchor_epoch IsNormal
   pub identifiers : Each IsIdent datum.identifiers
 
--- a datum ensemble has at least one member
+-- what is asked of a datum ensemble: it has at least one member
 pub record IsEnsemble (ensemble : EnsembleParts) : Type 0 where
   pub name : IsText ensemble.name
   pub some : ensemble.members ≢ []

@@ -3,7 +3,8 @@ use Rattle.std.specs.Prelude.{IfSome, IsSome, IsNone, Option, Some, None}
 use Rattle.crs_value.specs.declared.values.frame.Frame.{Frame}
 use Rattle.crs_value.specs.declared.values.frame.Frame.TheVariants as frame
 use Rattle.crs_value.specs.declared.values.unit_kind.UnitKind.TheVariants as kinds
-use Rattle.crs_value.specs.BadSystem.{IsOneOf, geodetic_dimensions, projected_dimensions, vertical_dimensions}
+use Rattle.crs_value.specs.BadSystem.{IsOneOf, geodetic_dimensions, projected_dimensions}
+use Rattle.crs_value.specs.BadSystem.{vertical_dimensions}
 use Rattle.crs_value.specs.CrsValues.{GeodeticParts, BaseParts, ProjectedParts, VerticalParts}
 use Rattle.crs_value.specs.DynamicValues.{DynamicParts}
 use Rattle.crs_value.specs.Sound.{Each, IsText, IsIdent, IsUnitOf}
@@ -13,12 +14,12 @@ use Rattle.crs_value.specs.SoundFrames.{IsMeridian, IsDatum, IsEnsemble}
 use Rattle.crs_value.specs.SoundSystem.{IsSystem}
 use Rattle.crs_value.specs.SoundUsages.{IsTail}
 
--- a geodetic frame or ensemble has an ellipsoid
+-- what is asked of a geodetic frame or ensemble: it has an ellipsoid
 abbrev pub IsGeodeticFrame : Frame → Type 0
 IsGeodeticFrame (frame.Datum datum) = IsDatum datum × IsSome datum.ellipsoid
 IsGeodeticFrame (frame.Ensemble ensemble) = IsEnsemble ensemble × IsSome ensemble.ellipsoid
 
--- a vertical one has none
+-- what is asked of a vertical frame or ensemble: it has no ellipsoid
 abbrev pub IsVerticalFrame : Frame → Type 0
 IsVerticalFrame (frame.Datum datum) = IsDatum datum × IsNone datum.ellipsoid
 IsVerticalFrame (frame.Ensemble ensemble) = IsEnsemble ensemble × IsNone ensemble.ellipsoid
@@ -29,16 +30,20 @@ IsDynamicOf None held = Unit {0}
 IsDynamicOf (Some dynamic) (frame.Datum datum) = IsDynamic dynamic
 IsDynamicOf (Some dynamic) (frame.Ensemble ensemble) = ⊥
 
--- the dimension is one that a geodetic CRS allows for the type of its system
+-- what is asked of a geodetic CRS: its dimension is one that
+-- it may have with the type of its coordinate system
 pub record IsGeodetic (geodetic : GeodeticParts) : Type 0 where
   pub name : IsText geodetic.name
   pub dynamic : IsDynamicOf geodetic.dynamic geodetic.frame
   pub frame : IsGeodeticFrame geodetic.frame
   pub meridian : IfSome geodetic.meridian IsMeridian
   pub system : IsSystem geodetic.system
-  pub dimension : IsOneOf geodetic.system.dimension (geodetic_dimensions geodetic.system.system_type)
+  pub dimension : IsOneOf geodetic.system.dimension
+      (geodetic_dimensions geodetic.system.system_type)
   pub tail : IsTail geodetic.tail
 
+-- what is asked of the base CRS of a projected one: its unit,
+-- if it has one, stands for one of angle
 pub record IsBase (base : BaseParts) : Type 0 where
   pub name : IsText base.name
   pub dynamic : IsDynamicOf base.dynamic base.frame
@@ -47,21 +52,25 @@ pub record IsBase (base : BaseParts) : Type 0 where
   pub unit : IfSome base.unit (IsUnitOf kinds.Angle)
   pub identifiers : Each IsIdent base.identifiers
 
--- likewise of a projected CRS
+-- what is asked of a projected CRS: its dimension is one that
+-- it may have with the type of its coordinate system
 pub record IsProjected (projected : ProjectedParts) : Type 0 where
   pub name : IsText projected.name
   pub base : IsBase projected.base
   pub conversion : IsConversion projected.conversion
   pub system : IsSystem projected.system
-  pub dimension : IsOneOf projected.system.dimension (projected_dimensions projected.system.system_type)
+  pub dimension : IsOneOf projected.system.dimension
+      (projected_dimensions projected.system.system_type)
   pub tail : IsTail projected.tail
 
--- and of a vertical one
+-- what is asked of a vertical CRS: its dimension is one that
+-- it may have with the type of its coordinate system
 pub record IsVertical (vertical : VerticalParts) : Type 0 where
   pub name : IsText vertical.name
   pub dynamic : IsDynamicOf vertical.dynamic vertical.frame
   pub frame : IsVerticalFrame vertical.frame
   pub system : IsSystem vertical.system
-  pub dimension : IsOneOf vertical.system.dimension (vertical_dimensions vertical.system.system_type)
+  pub dimension : IsOneOf vertical.system.dimension
+      (vertical_dimensions vertical.system.system_type)
   pub geoid_models : Each IsGeoidModel vertical.geoid_models
   pub tail : IsTail vertical.tail

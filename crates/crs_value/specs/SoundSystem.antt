@@ -1,6 +1,7 @@
--- What is asked of a coordinate system by itself: as many axes as its dimension says, orders on all or on none, and
--- units that fit.
-use Rattle.std.specs.Prelude.{◌≡◌, ◌≢◌, Option, Some, None, List, [], ◌∷◌, ◌⊎◌, length, map, IfSome, IsSomeAnd}
+-- What is asked of a coordinate system by itself: as many axes as
+-- its dimension says, orders on all or on none, and units that fit.
+use Rattle.std.specs.Prelude.{◌≡◌, ◌≢◌, Option, Some, None, List, [], ◌∷◌, ◌⊎◌, length, map, IfSome}
+use Rattle.std.specs.Prelude.{IsSomeAnd}
 use Rattle.crs_decimal.specs.Number.{SameNumber, whole_number}
 use Rattle.crs_decimal.specs.Value.{Value, IsNormal, exact}
 use Rattle.crs_value.specs.declared.values.system_type.SystemType.{SystemType}
@@ -16,16 +17,18 @@ use Rattle.crs_value.specs.Values.{UnitParts, AxisParts, SystemParts}
 abbrev pub AreOrders : List AxisParts → List Value → Type 0
 AreOrders axes orders = map (λ axis. axis.order) axes ≡ map (λ order. Some order) orders
 
--- no two are equal
+-- no two of these orders are equal
 abbrev pub AreDistinct : List Value → Type 0
 AreDistinct [] = Unit {0}
 AreDistinct (order ∷ orders) = Each (λ other. order ≢ other) orders × AreDistinct orders
 
--- no axis has an order; or all have one, and these are whole numbers from 1 to the number of axes, each once
+-- no axis has an order; or all have one, and these are whole
+-- numbers from 1 to the number of axes, each once
 abbrev pub HasOrders : List AxisParts → Type 0
 HasOrders axes =
     Each (λ axis. axis.order ≡ None) axes
-    ⊎ ((orders : List Value) × (AreOrders axes orders × (Each (IsPosition (length axes)) orders × AreDistinct orders)))
+    ⊎ ((orders : List Value)
+    × (AreOrders axes orders × (Each (IsPosition (length axes)) orders × AreDistinct orders)))
 
 -- ---- units
 
@@ -41,16 +44,21 @@ SuitsAxis system_type axis unit = Suits (asked_kind system_type axis.direction) 
 -- a shared unit stands for the one kind that all axes ask for
 abbrev pub SuitsAll : SystemType → List AxisParts → UnitParts → Type 0
 SuitsAll system_type axes unit =
-    (kind : UnitKind) × (Each (λ axis. asked_kind system_type axis.direction ≡ kind) axes × Suits kind unit.kind)
+    (kind : UnitKind)
+    × (Each (λ axis. asked_kind system_type axis.direction ≡ kind) axes × Suits kind unit.kind)
 
--- with no shared unit each axis has one of its own that fits; else none has one, and the shared one fits all
+-- with no shared unit each axis has one of its own that fits;
+-- else none has one, and the shared one fits all
 abbrev pub HasUnits : SystemType → List AxisParts → Option UnitParts → Type 0
-HasUnits system_type axes None = Each (λ axis. IsSomeAnd axis.unit (SuitsAxis system_type axis)) axes
-HasUnits system_type axes (Some shared) = Each (λ axis. axis.unit ≡ None) axes × SuitsAll system_type axes shared
+HasUnits system_type axes None =
+    Each (λ axis. IsSomeAnd axis.unit (SuitsAxis system_type axis)) axes
+HasUnits system_type axes (Some shared) =
+    Each (λ axis. axis.unit ≡ None) axes × SuitsAll system_type axes shared
 
 -- ---- a coordinate system
 
--- it has an axis, and as many as its dimension says
+-- what is asked of a coordinate system: it has an axis, and as
+-- many as its dimension says; its orders and units fit
 pub record IsSystem (system : SystemParts) : Type 0 where
   pub dimension : IsNormal system.dimension
   pub identifiers : Each IsIdent system.identifiers

@@ -19,14 +19,14 @@ pub record SpellsCrs (item : Item) (value : Crs) : Type 0 where
   pub unbroken : (fault : RefusedAt) → ¬ (Breaks class_read item fault)
   pub reads : ReadsCrs class_read item value
 
--- the item's class, where it has its shape, and the check that it breaks first
+-- the item has its shape, and this is the check that it breaks first
 pub record BreaksFirst (item : Item) (fault : RefusedAt) : Type 0 where
   pub class_read : Class
   pub root : class_of_root item ≡ Some class_read
   pub shaped : IsFree (AtRoot item)
   pub first : IsLeast (Breaks class_read item) (Some fault)
 
--- the fault of its shape, or else the check that it breaks first
+-- the item is refused with the fault of its shape, or else with the check that it breaks first
 abbrev pub RefusesCrs : Item → RefusedAt → Type 0
 RefusesCrs item fault = AtRoot item fault ⊎ BreaksFirst item fault
 

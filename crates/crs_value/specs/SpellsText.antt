@@ -12,10 +12,12 @@ use Rattle.crs_value.specs.Spells.{SpellsCrs, RefusesCrs}
 abbrev pub Spells : List ℕ → Crs → Type 0
 Spells text value = (item : Item) × (SpellsNode text item × SpellsCrs item value)
 
--- the fault of the text; or else of its node: the fault of its shape, or else the check that it breaks first
+-- the text is refused with the fault of the text itself; or else, where it is a node, with the
+-- fault of its shape or the check that it breaks first
 abbrev pub Refuses : List ℕ → RefusedAt → Type 0
 Refuses text fault =
-    RefusesText text fault.number fault.place ⊎ ((item : Item) × (SpellsNode text item × RefusesCrs item fault))
+    RefusesText text fault.number fault.place
+    ⊎ ((item : Item) × (SpellsNode text item × RefusesCrs item fault))
 
 -- a fault that is a refusal is that of the text
 abbrev pub IsFaultOfText : List ℕ → Fault → Type 0
@@ -27,5 +29,5 @@ abbrev pub IsFrom : ℕ → ℕ → ℕ → Type 0
 IsFrom low high n = (low ≤ n) × (n ≤ high)
 
 -- the numbers of refusals: of a text, of its shape, of its value
-abbrev pub IsRefusal : ℕ → Type 0
-IsRefusal n = IsFrom 1 8 n ⊎ (IsFrom 11 13 n ⊎ IsFrom 21 29 n)
+abbrev pub IsRefusalNumber : ℕ → Type 0
+IsRefusalNumber n = IsFrom 1 8 n ⊎ (IsFrom 11 13 n ⊎ IsFrom 21 29 n)

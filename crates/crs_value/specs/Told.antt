@@ -1,4 +1,5 @@
--- What items of one kind of node tell: one value at most, and of well-formed accepted items only what is asked of it.
+-- What items of one kind of node tell: one value at most, and
+-- of well-formed accepted items only what is asked of it.
 use Rattle.std.specs.Prelude.{◌≡◌}
 use Rattle.crs_text.specs.Items.{Item}
 use Rattle.crs_shape.specs.declared.class.Class.{Class}
@@ -6,8 +7,10 @@ use Rattle.crs_value.specs.Checks.{IsSound}
 
 -- an item of a class is read as one value at most
 abbrev pub IsReadOnce : {V : Type 0} → (Class → Item → V → Type 0) → Type 0
-IsReadOnce {V = V} Reads = (c : Class) (item : Item) (a b : V) → Reads c item a → Reads c item b → a ≡ b
+IsReadOnce {V = V} Reads =
+    (c : Class) (item : Item) (a b : V) → Reads c item a → Reads c item b → a ≡ b
 
 -- what is read from a sound item of this class is so
 abbrev pub IsReadAs : {V : Type 0} → (Class → Item → V → Type 0) → (V → Type 0) → Class → Type 0
-IsReadAs {V = V} Reads Is c = (item : Item) (value : V) → IsSound c item → Reads c item value → Is value
+IsReadAs {V = V} Reads Is c =
+    (item : Item) (value : V) → IsSound c item → Reads c item value → Is value

@@ -7,10 +7,11 @@ use Rattle.crs_value.specs.declared.values.system_type.SystemType.{SystemType}
 use Rattle.crs_value.specs.Reads.{ReadsType, ReadsDirection}
 use Rattle.crs_value.specs.Break.{at}
 
--- the type of a node `CS`
+-- the word for the type of a coordinate system is none, and is refused at its first byte
 abbrev pub UnknownType : Item → RefusedAt → Type 0
 UnknownType item fault = (fault ≡ at 21 item) × ((value : SystemType) → ¬ (ReadsType item value))
 
--- the direction of an axis
+-- the word for the direction of an axis is none, and is refused at its first byte
 abbrev pub UnknownDirection : Item → RefusedAt → Type 0
-UnknownDirection item fault = (fault ≡ at 21 item) × ((value : Direction) → ¬ (ReadsDirection item value))
+UnknownDirection item fault =
+    (fault ≡ at 21 item) × ((value : Direction) → ¬ (ReadsDirection item value))

@@ -1,6 +1,6 @@
--- Values as they are written: nothing filled in, converted or sorted. A text is the bytes between its quotes, each
--- quote among them doubled; two texts are equal where their characters are. A code or version is its characters,
--- quoted or not.
+-- Values as they are written: nothing filled in, converted or sorted. A text is
+-- the bytes between its quotes, each quote among them doubled; two texts are equal
+-- where their characters are. A code or version is its characters, quoted or not.
 use Rattle.std.specs.Prelude.{◌⊎◌, ℕ, List, Option, IsSome}
 use Rattle.crs_decimal.specs.Value.{Value}
 use Rattle.crs_value.specs.declared.values.direction.Direction.{Direction}
@@ -36,7 +36,8 @@ pub record AxisParts : Type 0 where
   pub unit : Option UnitParts
   pub identifiers : List IdentParts
 
--- a coordinate system: its axes as they are written, and the unit that they share, if they share one
+-- a coordinate system: its axes as they are written, and the
+-- unit that they share, if they share one
 pub record SystemParts : Type 0 where
   pub system_type : SystemType
   pub dimension : Value
@@ -102,9 +103,11 @@ pub record UsageParts : Type 0 where
 
 -- a usage has one of its parts at least
 abbrev pub SaysSome : UsageParts → Type 0
-SaysSome usage = IsSome usage.scope ⊎ (IsSome usage.area ⊎ (IsSome usage.bbox ⊎ IsSome usage.extent))
+SaysSome usage =
+    IsSome usage.scope ⊎ (IsSome usage.area ⊎ (IsSome usage.bbox ⊎ IsSome usage.extent))
 
--- a CRS's end: its usages, the one whose parts stand bare, if any does, its identifiers and its remark
+-- a CRS's end: its usages, the one whose parts stand bare, if
+-- any does, its identifiers and its remark
 pub record TailParts : Type 0 where
   pub usages : List UsageParts
   pub bare_parts : Option UsageParts

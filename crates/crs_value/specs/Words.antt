@@ -1,15 +1,28 @@
--- Words: those of coordinate system types, axis directions and units, and how bytes spell a word in either case.
+-- Words: those of coordinate system types, axis directions and
+-- units, and how bytes spell a word in either case.
 use Rattle.std.specs.Prelude.{◌≡◌, ℕ, List, codes}
 use Rattle.std.specs.Str.{str_to_ascii_lowercase}
 use Rattle.crs_value.specs.declared.values.direction.Direction.{Direction}
-use Rattle.crs_value.specs.declared.values.direction.Direction.TheVariants.{North, NorthNorthEast, NorthEast, EastNorthEast}
-use Rattle.crs_value.specs.declared.values.direction.Direction.TheVariants.{East, EastSouthEast, SouthEast, SouthSouthEast}
-use Rattle.crs_value.specs.declared.values.direction.Direction.TheVariants.{South, SouthSouthWest, SouthWest, WestSouthWest}
-use Rattle.crs_value.specs.declared.values.direction.Direction.TheVariants.{West, WestNorthWest, NorthWest, NorthNorthWest}
-use Rattle.crs_value.specs.declared.values.direction.Direction.TheVariants.{GeocentricX, GeocentricY, GeocentricZ, Up, Down}
+use Rattle.crs_value.specs.declared.values.direction.Direction.TheVariants.{North, NorthNorthEast}
+use Rattle.crs_value.specs.declared.values.direction.Direction.TheVariants.{NorthEast}
+use Rattle.crs_value.specs.declared.values.direction.Direction.TheVariants.{EastNorthEast}
+use Rattle.crs_value.specs.declared.values.direction.Direction.TheVariants.{East, EastSouthEast}
+use Rattle.crs_value.specs.declared.values.direction.Direction.TheVariants.{SouthEast}
+use Rattle.crs_value.specs.declared.values.direction.Direction.TheVariants.{SouthSouthEast}
+use Rattle.crs_value.specs.declared.values.direction.Direction.TheVariants.{South, SouthSouthWest}
+use Rattle.crs_value.specs.declared.values.direction.Direction.TheVariants.{SouthWest}
+use Rattle.crs_value.specs.declared.values.direction.Direction.TheVariants.{WestSouthWest}
+use Rattle.crs_value.specs.declared.values.direction.Direction.TheVariants.{West, WestNorthWest}
+use Rattle.crs_value.specs.declared.values.direction.Direction.TheVariants.{NorthWest}
+use Rattle.crs_value.specs.declared.values.direction.Direction.TheVariants.{NorthNorthWest}
+use Rattle.crs_value.specs.declared.values.direction.Direction.TheVariants.{GeocentricX}
+use Rattle.crs_value.specs.declared.values.direction.Direction.TheVariants.{GeocentricY}
+use Rattle.crs_value.specs.declared.values.direction.Direction.TheVariants.{GeocentricZ, Up, Down}
 use Rattle.crs_value.specs.declared.values.direction.Direction.TheVariants.{Unspecified}
 use Rattle.crs_value.specs.declared.values.system_type.SystemType.{SystemType}
-use Rattle.crs_value.specs.declared.values.system_type.SystemType.TheVariants.{Cartesian, Ellipsoidal, Spherical, Vertical}
+use Rattle.crs_value.specs.declared.values.system_type.SystemType.TheVariants.{Cartesian}
+use Rattle.crs_value.specs.declared.values.system_type.SystemType.TheVariants.{Ellipsoidal}
+use Rattle.crs_value.specs.declared.values.system_type.SystemType.TheVariants.{Spherical, Vertical}
 use Rattle.crs_value.specs.declared.values.unit_kind.UnitKind.{UnitKind}
 use Rattle.crs_value.specs.declared.values.unit_kind.UnitKind.TheVariants as kinds
 

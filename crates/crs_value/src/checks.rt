@@ -20,8 +20,7 @@ ghost use Rattle.crs_value.specs.Least.{is_before, lesser};
 ghost use Rattle.crs_value.specs.Reading.{item_at, Holds, IsFound, TakesOne, those};
 
 use crate::reading::arguments::{first, later};
-use crs_shape::Class;
-use crs_shape::laws::slots_count;
+use crs_shape::{Class, laws};
 use crs_text::{ItemId, Items, Refusal};
 
 fn is_before(a: Refusal, b: Refusal) -> bool
@@ -101,14 +100,14 @@ pub(crate) fn only_from<C: Check>(
     ensures { IsLeast (AnyOf (C.Broken check.now items.now) (those parent class (arguments
         (item_at items.now _id)))) result }
 {
-    slots_count();
+    laws::slots_count();
     match found {
         None => None,
         Some(found) => check.check(items, found, class),
     }
 }
 
-// The same where it is to be found.
+// The break of a node's argument of a class that may stand in it once, which is looked for here.
 pub(crate) fn only_of<C: Check>(
     check: &C,
     items: &Items<'_>,

@@ -10,20 +10,18 @@ ghost use Rattle.crs_value.specs.Reads.{ReadsIdent, ReadsUnit, ReadsMember, Read
 ghost use Rattle.crs_value.specs.ReadsConversion.{ReadsParameter, ReadsGeoidModel};
 ghost use Rattle.crs_value.specs.SoundCrs.{IsCrs};
 ghost use Rattle.crs_value.specs.Spells.{SpellsCrs, RefusesCrs};
-ghost use Rattle.crs_value.specs.SpellsText.{Spells, Refuses, IsRefusal};
+ghost use Rattle.crs_value.specs.SpellsText.{Spells, Refuses, IsRefusalNumber};
 ghost use Rattle.crs_value.specs.Values.{IdentParts, UnitParts, MemberParts, ExtentParts, UsageParts};
 
 pub mod parts;
 
 use crate::values::crs::Crs;
-use crs_decimal::laws::{denotes_one, denotes_some};
-use crs_shape::laws::{fault_at_root_is_one, fault_is_within, no_fault_is_shape, slots_count};
 
 /// An item spells one value at most. Profile.
 pub fn spells_one()
     ensures { (item : Item) (a b : Crs) → SpellsCrs item a → SpellsCrs item b → a ≡ b }
 {
-    denotes_one();
+    crs_decimal::laws::denotes_one();
 }
 
 /// An item is read as one identifier at most, of whatever class it is; likewise the other members of sets, and the
@@ -44,7 +42,7 @@ pub fn members_read_once()
     ensures usage { (class : Class) (item : Item) (a b : UsageParts) →
         ReadsUsage class item a → ReadsUsage class item b → a ≡ b }
 {
-    denotes_one();
+    crs_decimal::laws::denotes_one();
 }
 
 /// An item that spells a value isn't refused. Profile.
@@ -57,7 +55,7 @@ pub fn spelled_or_refused()
 pub fn refused_once()
     ensures { (item : Item) (a b : RefusedAt) → RefusesCrs item a → RefusesCrs item b → a ≡ b }
 {
-    fault_at_root_is_one();
+    crs_shape::laws::fault_at_root_is_one();
 }
 
 /// A text spells one value at most, or is refused with one number at one place at most, and never both.
@@ -69,7 +67,7 @@ pub fn one_answer()
         (Refuses text fault) }
 
     // A refusal has a number from 1 to 8, 11 to 13 or 21 to 29, and a place in the text or at its end.
-    ensures within { (text : List ℕ) (fault : RefusedAt) → Refuses text fault → IsRefusal fault.number ×
+    ensures within { (text : List ℕ) (fault : RefusedAt) → Refuses text fault → IsRefusalNumber fault.number ×
         (fault.place ≤ length text) }
 
     // Each list of bytes is one or the other.
@@ -78,12 +76,12 @@ pub fn one_answer()
 {
     crs_text::laws::one_answer();
     crs_text::laws::written_items();
-    denotes_one();
-    denotes_some();
-    fault_at_root_is_one();
-    fault_is_within();
-    no_fault_is_shape();
-    slots_count();
+    crs_decimal::laws::denotes_one();
+    crs_decimal::laws::denotes_some();
+    crs_shape::laws::fault_at_root_is_one();
+    crs_shape::laws::fault_is_within();
+    crs_shape::laws::no_fault_is_shape();
+    crs_shape::laws::slots_count();
 }
 
 /// A value that a well-formed item spells is all that is asked of a CRS: its texts are well formed, its
@@ -91,11 +89,11 @@ pub fn one_answer()
 pub fn spelled_is_sound()
     ensures { (item : Item) (value : Crs) → AreFormed item → SpellsCrs item value → IsCrs value }
 {
-    no_fault_is_shape();
-    slots_count();
+    crs_shape::laws::no_fault_is_shape();
+    crs_shape::laws::slots_count();
 }
 
-/// So is every CRS, whoever made it. Profile.
+/// Every CRS, whoever made it, is all that is asked of one. Profile.
 pub fn crs_is_sound(crs: &Crs<'_>)
     ensures { IsCrs crs.now }
 {

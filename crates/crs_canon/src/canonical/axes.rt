@@ -1,7 +1,7 @@
 //! Axes, and the meridians that they go along, by themselves.
 use crate::canonical::{Canonical, append_argument};
 use crate::spelling::axis::{write_axis_meridian, write_own_axis};
-use crs_normal::laws::parts::{axes_are_canonical, frame_parts_are_canonical};
+use crs_normal::laws::{parts, written};
 use crs_same::parts::{same_axis, same_axis_meridian};
 use crs_value::{Axis, AxisMeridian, Level};
 use std::alloc::{AllocError, Global};
@@ -10,7 +10,6 @@ impl Canonical for Axis<'_> {
     ghost use Rattle.crs_value.specs.Sound.{IsAxis};
     ghost use Rattle.crs_same.specs.SameSystems.{SameAxisAlone};
     ghost use Rattle.crs_normal.specs.AxisAlone.{IsSpelledAxis};
-    ghost use Rattle.crs_normal.specs.PartTexts.{axis_text};
 
     ghost IsValue = { IsAxis };
 
@@ -18,13 +17,13 @@ impl Canonical for Axis<'_> {
 
     ghost IsSpelling = { IsSpelledAxis };
 
-    ghost spelling = { axis_text };
-
     fn same(&self, other: &Self, level: Level) -> bool {
         same_axis(self, other, level)
     }
 
     fn write(&self, alloc: Global, level: Level, out: &mut Vec<u8>) -> Result<(), AllocError> {
+        let _name = self.name;
+        written::axes_are_written();
         let mut text = Vec::new(alloc);
         write_own_axis(&mut text, self, level)?;
         out.extend_from_slice(text.as_slice())
@@ -32,7 +31,7 @@ impl Canonical for Axis<'_> {
 
     fn laws(&self) {
         let _name = self.name;
-        axes_are_canonical();
+        parts::axes_are_canonical();
     }
 }
 
@@ -40,7 +39,6 @@ impl Canonical for AxisMeridian<'_> {
     ghost use Rattle.crs_value.specs.Sound.{IsAxisMeridian};
     ghost use Rattle.crs_same.specs.SameSystems.{SameAxisMeridian};
     ghost use Rattle.crs_normal.specs.PartSpellings.{IsSpelledAxisMeridian};
-    ghost use Rattle.crs_normal.specs.PartTexts.{axis_meridian_text};
 
     ghost IsValue = { IsAxisMeridian };
 
@@ -48,13 +46,13 @@ impl Canonical for AxisMeridian<'_> {
 
     ghost IsSpelling = { IsSpelledAxisMeridian };
 
-    ghost spelling = { axis_meridian_text };
-
     fn same(&self, other: &Self, level: Level) -> bool {
         same_axis_meridian(self, other, level)
     }
 
     fn write(&self, alloc: Global, level: Level, out: &mut Vec<u8>) -> Result<(), AllocError> {
+        let _longitude = self.longitude;
+        written::frame_parts_are_written();
         let mut text = Vec::new(alloc);
         write_axis_meridian(&mut text, self, level)?;
         append_argument(out, text.as_slice())
@@ -62,6 +60,6 @@ impl Canonical for AxisMeridian<'_> {
 
     fn laws(&self) {
         let _longitude = self.longitude;
-        frame_parts_are_canonical();
+        parts::frame_parts_are_canonical();
     }
 }

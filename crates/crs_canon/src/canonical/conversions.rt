@@ -2,7 +2,7 @@
 use crate::canonical::{Canonical, append_argument};
 use crate::spelling::conversion::{write_conversion, write_method, write_parameter};
 use crate::spelling::ident::write_named;
-use crs_normal::laws::parts::conversions_are_canonical;
+use crs_normal::laws::{parts, written};
 use crs_same::parts::{same_conversion, same_geoid_model, same_method, same_parameter};
 use crs_value::{Conversion, GeoidModel, Level, Method, Parameter};
 use std::alloc::{AllocError, Global};
@@ -11,7 +11,6 @@ impl Canonical for Method<'_> {
     ghost use Rattle.crs_value.specs.SoundConversion.{IsMethod};
     ghost use Rattle.crs_same.specs.SameConversions.{SameMethod};
     ghost use Rattle.crs_normal.specs.PartSpellings.{IsSpelledMethod};
-    ghost use Rattle.crs_normal.specs.PartTexts.{method_text};
 
     ghost IsValue = { IsMethod };
 
@@ -19,13 +18,13 @@ impl Canonical for Method<'_> {
 
     ghost IsSpelling = { IsSpelledMethod };
 
-    ghost spelling = { method_text };
-
     fn same(&self, other: &Self, level: Level) -> bool {
         same_method(self, other, level)
     }
 
     fn write(&self, alloc: Global, level: Level, out: &mut Vec<u8>) -> Result<(), AllocError> {
+        let _name = self.name;
+        written::conversions_are_written();
         let mut text = Vec::new(alloc);
         write_method(&mut text, self, level)?;
         append_argument(out, text.as_slice())
@@ -33,7 +32,7 @@ impl Canonical for Method<'_> {
 
     fn laws(&self) {
         let _name = self.name;
-        conversions_are_canonical();
+        parts::conversions_are_canonical();
     }
 }
 
@@ -41,7 +40,6 @@ impl Canonical for Parameter<'_> {
     ghost use Rattle.crs_value.specs.SoundConversion.{IsParameter};
     ghost use Rattle.crs_same.specs.SameConversions.{SameParameter};
     ghost use Rattle.crs_normal.specs.PartSpellings.{IsSpelledParameter};
-    ghost use Rattle.crs_normal.specs.PartTexts.{parameter_text};
 
     ghost IsValue = { IsParameter };
 
@@ -49,13 +47,13 @@ impl Canonical for Parameter<'_> {
 
     ghost IsSpelling = { IsSpelledParameter };
 
-    ghost spelling = { parameter_text };
-
     fn same(&self, other: &Self, level: Level) -> bool {
         same_parameter(self, other, level)
     }
 
     fn write(&self, alloc: Global, level: Level, out: &mut Vec<u8>) -> Result<(), AllocError> {
+        let _name = self.name;
+        written::conversions_are_written();
         let mut text = Vec::new(alloc);
         write_parameter(&mut text, self, level)?;
         out.extend_from_slice(text.as_slice())
@@ -63,7 +61,7 @@ impl Canonical for Parameter<'_> {
 
     fn laws(&self) {
         let _name = self.name;
-        conversions_are_canonical();
+        parts::conversions_are_canonical();
     }
 }
 
@@ -71,7 +69,6 @@ impl Canonical for Conversion<'_> {
     ghost use Rattle.crs_value.specs.SoundConversion.{IsConversion};
     ghost use Rattle.crs_same.specs.SameConversions.{SameConversion};
     ghost use Rattle.crs_normal.specs.PartSpellings.{IsSpelledConversion};
-    ghost use Rattle.crs_normal.specs.PartTexts.{conversion_text};
 
     ghost IsValue = { IsConversion };
 
@@ -79,13 +76,13 @@ impl Canonical for Conversion<'_> {
 
     ghost IsSpelling = { IsSpelledConversion };
 
-    ghost spelling = { conversion_text };
-
     fn same(&self, other: &Self, level: Level) -> bool {
         same_conversion(self, other, level)
     }
 
     fn write(&self, alloc: Global, level: Level, out: &mut Vec<u8>) -> Result<(), AllocError> {
+        let _name = self.name;
+        written::conversions_are_written();
         let mut text = Vec::new(alloc);
         write_conversion(&mut text, self, level)?;
         append_argument(out, text.as_slice())
@@ -93,7 +90,7 @@ impl Canonical for Conversion<'_> {
 
     fn laws(&self) {
         let _name = self.name;
-        conversions_are_canonical();
+        parts::conversions_are_canonical();
     }
 }
 
@@ -101,7 +98,6 @@ impl Canonical for GeoidModel<'_> {
     ghost use Rattle.crs_value.specs.SoundConversion.{IsGeoidModel};
     ghost use Rattle.crs_same.specs.SameConversions.{SameGeoidModel};
     ghost use Rattle.crs_normal.specs.PartSpellings.{IsSpelledGeoidModel};
-    ghost use Rattle.crs_normal.specs.PartTexts.{geoid_model_text};
 
     ghost IsValue = { IsGeoidModel };
 
@@ -109,13 +105,13 @@ impl Canonical for GeoidModel<'_> {
 
     ghost IsSpelling = { IsSpelledGeoidModel };
 
-    ghost spelling = { geoid_model_text };
-
     fn same(&self, other: &Self, level: Level) -> bool {
         same_geoid_model(self, other, level)
     }
 
     fn write(&self, alloc: Global, level: Level, out: &mut Vec<u8>) -> Result<(), AllocError> {
+        let _name = self.name;
+        written::conversions_are_written();
         let mut text = Vec::new(alloc);
         write_named(
             &mut text,
@@ -129,6 +125,6 @@ impl Canonical for GeoidModel<'_> {
 
     fn laws(&self) {
         let _name = self.name;
-        conversions_are_canonical();
+        parts::conversions_are_canonical();
     }
 }

@@ -1,7 +1,7 @@
 //! Dynamic parts and deformation models by themselves.
 use crate::canonical::{Canonical, append_argument};
 use crate::spelling::dynamic::{write_deformation_model, write_dynamic};
-use crs_normal::laws::parts::dynamic_parts_are_canonical;
+use crs_normal::laws::{parts, written};
 use crs_same::parts::{same_deformation_model, same_dynamic};
 use crs_value::{DeformationModel, Dynamic, Level};
 use std::alloc::{AllocError, Global};
@@ -10,7 +10,6 @@ impl Canonical for Dynamic<'_> {
     ghost use Rattle.crs_value.specs.SoundDynamic.{IsDynamic};
     ghost use Rattle.crs_same.specs.SameDynamic.{SameDynamic};
     ghost use Rattle.crs_normal.specs.PartSpellings.{IsSpelledDynamic};
-    ghost use Rattle.crs_normal.specs.PartTexts.{dynamic_text};
 
     ghost IsValue = { IsDynamic };
 
@@ -18,13 +17,13 @@ impl Canonical for Dynamic<'_> {
 
     ghost IsSpelling = { IsSpelledDynamic };
 
-    ghost spelling = { dynamic_text };
-
     fn same(&self, other: &Self, level: Level) -> bool {
         same_dynamic(self, other, level)
     }
 
     fn write(&self, alloc: Global, level: Level, out: &mut Vec<u8>) -> Result<(), AllocError> {
+        let _model = &self.model;
+        written::dynamic_parts_are_written();
         let mut text = Vec::new(alloc);
         write_dynamic(&mut text, self, level)?;
         append_argument(out, text.as_slice())
@@ -32,7 +31,7 @@ impl Canonical for Dynamic<'_> {
 
     fn laws(&self) {
         let _model = &self.model;
-        dynamic_parts_are_canonical();
+        parts::dynamic_parts_are_canonical();
     }
 }
 
@@ -40,7 +39,6 @@ impl Canonical for DeformationModel<'_> {
     ghost use Rattle.crs_value.specs.SoundDynamic.{IsDeformationModel};
     ghost use Rattle.crs_same.specs.SameDynamic.{SameDeformationModel};
     ghost use Rattle.crs_normal.specs.PartSpellings.{IsSpelledDeformationModel};
-    ghost use Rattle.crs_normal.specs.PartTexts.{deformation_model_text};
 
     ghost IsValue = { IsDeformationModel };
 
@@ -48,13 +46,13 @@ impl Canonical for DeformationModel<'_> {
 
     ghost IsSpelling = { IsSpelledDeformationModel };
 
-    ghost spelling = { deformation_model_text };
-
     fn same(&self, other: &Self, level: Level) -> bool {
         same_deformation_model(self, other, level)
     }
 
     fn write(&self, alloc: Global, level: Level, out: &mut Vec<u8>) -> Result<(), AllocError> {
+        let _name = self.name;
+        written::dynamic_parts_are_written();
         let mut text = Vec::new(alloc);
         write_deformation_model(&mut text, self, level)?;
         append_argument(out, text.as_slice())
@@ -62,6 +60,6 @@ impl Canonical for DeformationModel<'_> {
 
     fn laws(&self) {
         let _name = self.name;
-        dynamic_parts_are_canonical();
+        parts::dynamic_parts_are_canonical();
     }
 }

@@ -4,9 +4,7 @@ use crate::spelling::ellipsoid::write_ellipsoid;
 use crate::spelling::frame::{write_ensemble, write_own_datum};
 use crate::spelling::ident::write_named;
 use crate::spelling::meridian::write_given;
-use crs_normal::laws::parts::{
-    datums_are_canonical, frame_parts_are_canonical, frames_are_canonical,
-};
+use crs_normal::laws::{parts, written};
 use crs_same::parts::{
     same_datum, same_ellipsoid, same_ensemble, same_frame, same_member, same_meridian,
 };
@@ -17,7 +15,6 @@ impl Canonical for Ellipsoid<'_> {
     ghost use Rattle.crs_value.specs.SoundFrames.{IsEllipsoid};
     ghost use Rattle.crs_same.specs.SameFrames.{SameEllipsoid};
     ghost use Rattle.crs_normal.specs.PartSpellings.{IsSpelledEllipsoid};
-    ghost use Rattle.crs_normal.specs.PartTexts.{ellipsoid_text};
 
     ghost IsValue = { IsEllipsoid };
 
@@ -25,13 +22,13 @@ impl Canonical for Ellipsoid<'_> {
 
     ghost IsSpelling = { IsSpelledEllipsoid };
 
-    ghost spelling = { ellipsoid_text };
-
     fn same(&self, other: &Self, level: Level) -> bool {
         same_ellipsoid(self, other, level)
     }
 
     fn write(&self, alloc: Global, level: Level, out: &mut Vec<u8>) -> Result<(), AllocError> {
+        let _name = self.name;
+        written::frame_parts_are_written();
         let mut text = Vec::new(alloc);
         write_ellipsoid(&mut text, self, level)?;
         append_argument(out, text.as_slice())
@@ -39,7 +36,7 @@ impl Canonical for Ellipsoid<'_> {
 
     fn laws(&self) {
         let _name = self.name;
-        frame_parts_are_canonical();
+        parts::frame_parts_are_canonical();
     }
 }
 
@@ -47,7 +44,6 @@ impl Canonical for Meridian<'_> {
     ghost use Rattle.crs_value.specs.SoundFrames.{IsMeridian};
     ghost use Rattle.crs_same.specs.SameFrames.{SameGiven};
     ghost use Rattle.crs_normal.specs.PartSpellings.{IsSpelledMeridian};
-    ghost use Rattle.crs_normal.specs.PartTexts.{meridian_text};
 
     ghost IsValue = { IsMeridian };
 
@@ -55,13 +51,13 @@ impl Canonical for Meridian<'_> {
 
     ghost IsSpelling = { IsSpelledMeridian };
 
-    ghost spelling = { meridian_text };
-
     fn same(&self, other: &Self, level: Level) -> bool {
         same_meridian(self, other, level)
     }
 
     fn write(&self, alloc: Global, level: Level, out: &mut Vec<u8>) -> Result<(), AllocError> {
+        let _name = self.name;
+        written::frame_parts_are_written();
         let mut text = Vec::new(alloc);
         write_given(&mut text, self, level)?;
         append_argument(out, text.as_slice())
@@ -69,7 +65,7 @@ impl Canonical for Meridian<'_> {
 
     fn laws(&self) {
         let _name = self.name;
-        frame_parts_are_canonical();
+        parts::frame_parts_are_canonical();
     }
 }
 
@@ -77,7 +73,6 @@ impl Canonical for Member<'_> {
     ghost use Rattle.crs_value.specs.SoundFrames.{IsMember};
     ghost use Rattle.crs_same.specs.SameFrames.{SameMember};
     ghost use Rattle.crs_normal.specs.PartSpellings.{IsSpelledMember};
-    ghost use Rattle.crs_normal.specs.PartTexts.{member_text};
 
     ghost IsValue = { IsMember };
 
@@ -85,13 +80,13 @@ impl Canonical for Member<'_> {
 
     ghost IsSpelling = { IsSpelledMember };
 
-    ghost spelling = { member_text };
-
     fn same(&self, other: &Self, level: Level) -> bool {
         same_member(self, other, level)
     }
 
     fn write(&self, alloc: Global, level: Level, out: &mut Vec<u8>) -> Result<(), AllocError> {
+        let _name = self.name;
+        written::frame_parts_are_written();
         let mut text = Vec::new(alloc);
         write_named(&mut text, b"MEMBER[\"", self.name, &self.identifiers, level)?;
         out.extend_from_slice(text.as_slice())
@@ -99,7 +94,7 @@ impl Canonical for Member<'_> {
 
     fn laws(&self) {
         let _name = self.name;
-        frame_parts_are_canonical();
+        parts::frame_parts_are_canonical();
     }
 }
 
@@ -107,7 +102,6 @@ impl Canonical for Datum<'_> {
     ghost use Rattle.crs_value.specs.SoundFrames.{IsDatum};
     ghost use Rattle.crs_same.specs.SameFrames.{SameDatum};
     ghost use Rattle.crs_normal.specs.PartSpellings.{IsSpelledDatum};
-    ghost use Rattle.crs_normal.specs.PartTexts.{datum_text};
 
     ghost IsValue = { IsDatum };
 
@@ -115,13 +109,13 @@ impl Canonical for Datum<'_> {
 
     ghost IsSpelling = { IsSpelledDatum };
 
-    ghost spelling = { datum_text };
-
     fn same(&self, other: &Self, level: Level) -> bool {
         same_datum(self, other, level)
     }
 
     fn write(&self, alloc: Global, level: Level, out: &mut Vec<u8>) -> Result<(), AllocError> {
+        let _name = self.name;
+        written::datums_are_written();
         let mut text = Vec::new(alloc);
         write_own_datum(&mut text, self, level)?;
         out.extend_from_slice(text.as_slice())
@@ -129,7 +123,7 @@ impl Canonical for Datum<'_> {
 
     fn laws(&self) {
         let _name = self.name;
-        datums_are_canonical();
+        parts::datums_are_canonical();
     }
 }
 
@@ -137,7 +131,6 @@ impl Canonical for Ensemble<'_> {
     ghost use Rattle.crs_value.specs.SoundFrames.{IsEnsemble};
     ghost use Rattle.crs_same.specs.SameFrames.{SameEnsemble};
     ghost use Rattle.crs_normal.specs.PartSpellings.{IsSpelledEnsemble};
-    ghost use Rattle.crs_normal.specs.PartTexts.{ensemble_text};
 
     ghost IsValue = { IsEnsemble };
 
@@ -145,13 +138,13 @@ impl Canonical for Ensemble<'_> {
 
     ghost IsSpelling = { IsSpelledEnsemble };
 
-    ghost spelling = { ensemble_text };
-
     fn same(&self, other: &Self, level: Level) -> bool {
         same_ensemble(self, other, level)
     }
 
     fn write(&self, alloc: Global, level: Level, out: &mut Vec<u8>) -> Result<(), AllocError> {
+        let _name = self.name;
+        written::datums_are_written();
         let mut text = Vec::new(alloc);
         write_ensemble(&mut text, self, level)?;
         append_argument(out, text.as_slice())
@@ -159,22 +152,19 @@ impl Canonical for Ensemble<'_> {
 
     fn laws(&self) {
         let _name = self.name;
-        datums_are_canonical();
+        parts::datums_are_canonical();
     }
 }
 
 impl Canonical for Frame<'_> {
     ghost use Rattle.crs_same.specs.SameFrames.{SameFrame};
     ghost use Rattle.crs_normal.specs.PartSpellings.{IsFrame, IsSpelledFrame};
-    ghost use Rattle.crs_normal.specs.PartTexts.{frame_text};
 
     ghost IsValue = { IsFrame };
 
     ghost Same = { SameFrame };
 
     ghost IsSpelling = { IsSpelledFrame };
-
-    ghost spelling = { frame_text };
 
     fn same(&self, other: &Self, level: Level) -> bool {
         same_frame(self, other, level)
@@ -192,6 +182,6 @@ impl Canonical for Frame<'_> {
             Frame::Datum(datum) => datum.laws(),
             Frame::Ensemble(ensemble) => ensemble.laws(),
         }
-        frames_are_canonical();
+        parts::frames_are_canonical();
     }
 }

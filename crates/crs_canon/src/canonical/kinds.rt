@@ -3,7 +3,7 @@ use crate::canonical::{Canonical, append_argument};
 use crate::spelling::crs::{
     write_base, write_compound, write_geodetic, write_projected, write_vertical,
 };
-use crs_normal::laws::parts::{horizontals_are_canonical, kinds_are_canonical};
+use crs_normal::laws::{parts, written};
 use crs_same::parts::{
     same_base, same_compound, same_geodetic, same_horizontal, same_projected, same_vertical,
 };
@@ -14,7 +14,6 @@ impl Canonical for Base<'_> {
     ghost use Rattle.crs_value.specs.SoundSingle.{IsBase};
     ghost use Rattle.crs_same.specs.SameCrs.{SameBase};
     ghost use Rattle.crs_normal.specs.PartSpellings.{IsSpelledBase};
-    ghost use Rattle.crs_normal.specs.PartTexts.{base_text};
 
     ghost IsValue = { IsBase };
 
@@ -22,13 +21,13 @@ impl Canonical for Base<'_> {
 
     ghost IsSpelling = { IsSpelledBase };
 
-    ghost spelling = { base_text };
-
     fn same(&self, other: &Self, level: Level) -> bool {
         same_base(self, other, level)
     }
 
     fn write(&self, alloc: Global, level: Level, out: &mut Vec<u8>) -> Result<(), AllocError> {
+        let _name = self.name;
+        written::kinds_are_written();
         let mut text = Vec::new(alloc);
         write_base(&mut text, self, level)?;
         append_argument(out, text.as_slice())
@@ -36,7 +35,7 @@ impl Canonical for Base<'_> {
 
     fn laws(&self) {
         let _name = self.name;
-        kinds_are_canonical();
+        parts::kinds_are_canonical();
     }
 }
 
@@ -44,7 +43,6 @@ impl Canonical for Geodetic<'_> {
     ghost use Rattle.crs_value.specs.SoundSingle.{IsGeodetic};
     ghost use Rattle.crs_same.specs.SameCrs.{SameGeodetic};
     ghost use Rattle.crs_normal.specs.PartSpellings.{IsSpelledGeodetic};
-    ghost use Rattle.crs_normal.specs.PartTexts.{geodetic_text};
 
     ghost IsValue = { IsGeodetic };
 
@@ -52,13 +50,13 @@ impl Canonical for Geodetic<'_> {
 
     ghost IsSpelling = { IsSpelledGeodetic };
 
-    ghost spelling = { geodetic_text };
-
     fn same(&self, other: &Self, level: Level) -> bool {
         same_geodetic(self, other, level)
     }
 
     fn write(&self, alloc: Global, level: Level, out: &mut Vec<u8>) -> Result<(), AllocError> {
+        let _name = self.name;
+        written::kinds_are_written();
         let mut text = Vec::new(alloc);
         write_geodetic(&mut text, self, level)?;
         out.extend_from_slice(text.as_slice())
@@ -66,7 +64,7 @@ impl Canonical for Geodetic<'_> {
 
     fn laws(&self) {
         let _name = self.name;
-        kinds_are_canonical();
+        parts::kinds_are_canonical();
     }
 }
 
@@ -74,7 +72,6 @@ impl Canonical for Projected<'_> {
     ghost use Rattle.crs_value.specs.SoundSingle.{IsProjected};
     ghost use Rattle.crs_same.specs.SameCrs.{SameProjected};
     ghost use Rattle.crs_normal.specs.PartSpellings.{IsSpelledProjected};
-    ghost use Rattle.crs_normal.specs.PartTexts.{projected_text};
 
     ghost IsValue = { IsProjected };
 
@@ -82,13 +79,13 @@ impl Canonical for Projected<'_> {
 
     ghost IsSpelling = { IsSpelledProjected };
 
-    ghost spelling = { projected_text };
-
     fn same(&self, other: &Self, level: Level) -> bool {
         same_projected(self, other, level)
     }
 
     fn write(&self, alloc: Global, level: Level, out: &mut Vec<u8>) -> Result<(), AllocError> {
+        let _name = self.name;
+        written::kinds_are_written();
         let mut text = Vec::new(alloc);
         write_projected(&mut text, self, level)?;
         out.extend_from_slice(text.as_slice())
@@ -96,7 +93,7 @@ impl Canonical for Projected<'_> {
 
     fn laws(&self) {
         let _name = self.name;
-        kinds_are_canonical();
+        parts::kinds_are_canonical();
     }
 }
 
@@ -104,7 +101,6 @@ impl Canonical for Vertical<'_> {
     ghost use Rattle.crs_value.specs.SoundSingle.{IsVertical};
     ghost use Rattle.crs_same.specs.SameCrs.{SameVertical};
     ghost use Rattle.crs_normal.specs.PartSpellings.{IsSpelledVertical};
-    ghost use Rattle.crs_normal.specs.PartTexts.{vertical_text};
 
     ghost IsValue = { IsVertical };
 
@@ -112,13 +108,13 @@ impl Canonical for Vertical<'_> {
 
     ghost IsSpelling = { IsSpelledVertical };
 
-    ghost spelling = { vertical_text };
-
     fn same(&self, other: &Self, level: Level) -> bool {
         same_vertical(self, other, level)
     }
 
     fn write(&self, alloc: Global, level: Level, out: &mut Vec<u8>) -> Result<(), AllocError> {
+        let _name = self.name;
+        written::kinds_are_written();
         let mut text = Vec::new(alloc);
         write_vertical(&mut text, self, level)?;
         out.extend_from_slice(text.as_slice())
@@ -126,7 +122,7 @@ impl Canonical for Vertical<'_> {
 
     fn laws(&self) {
         let _name = self.name;
-        kinds_are_canonical();
+        parts::kinds_are_canonical();
     }
 }
 
@@ -134,7 +130,6 @@ impl Canonical for Compound<'_> {
     ghost use Rattle.crs_value.specs.SoundCompound.{IsCompound};
     ghost use Rattle.crs_same.specs.SameCrs.{SameCompound};
     ghost use Rattle.crs_normal.specs.PartSpellings.{IsSpelledCompound};
-    ghost use Rattle.crs_normal.specs.PartTexts.{compound_text};
 
     ghost IsValue = { IsCompound };
 
@@ -142,13 +137,13 @@ impl Canonical for Compound<'_> {
 
     ghost IsSpelling = { IsSpelledCompound };
 
-    ghost spelling = { compound_text };
-
     fn same(&self, other: &Self, level: Level) -> bool {
         same_compound(self, other, level)
     }
 
     fn write(&self, alloc: Global, level: Level, out: &mut Vec<u8>) -> Result<(), AllocError> {
+        let _name = self.name;
+        written::kinds_are_written();
         let mut text = Vec::new(alloc);
         write_compound(&mut text, self, level)?;
         out.extend_from_slice(text.as_slice())
@@ -156,22 +151,19 @@ impl Canonical for Compound<'_> {
 
     fn laws(&self) {
         let _name = self.name;
-        kinds_are_canonical();
+        parts::kinds_are_canonical();
     }
 }
 
 impl Canonical for Horizontal<'_> {
     ghost use Rattle.crs_same.specs.SameCrs.{SameHorizontal};
     ghost use Rattle.crs_normal.specs.PartSpellings.{IsHorizontalPart, IsSpelledHorizontal};
-    ghost use Rattle.crs_normal.specs.PartTexts.{horizontal_text};
 
     ghost IsValue = { IsHorizontalPart };
 
     ghost Same = { SameHorizontal };
 
     ghost IsSpelling = { IsSpelledHorizontal };
-
-    ghost spelling = { horizontal_text };
 
     fn same(&self, other: &Self, level: Level) -> bool {
         same_horizontal(self, other, level)
@@ -189,6 +181,6 @@ impl Canonical for Horizontal<'_> {
             Horizontal::Geodetic(geodetic) => geodetic.laws(),
             Horizontal::Projected(projected) => projected.laws(),
         }
-        horizontals_are_canonical();
+        parts::horizontals_are_canonical();
     }
 }

@@ -2,7 +2,7 @@
 use crate::canonical::{Canonical, append_argument};
 use crate::spelling::ident::write_ident;
 use crate::spelling::unit::write_unit;
-use crs_normal::laws::parts::{identifiers_are_canonical, units_are_canonical};
+use crs_normal::laws::{parts, written};
 use crs_same::parts::{same_ident, same_unit};
 use crs_value::{Ident, Level, Unit, UnitKind};
 use std::alloc::{AllocError, Global};
@@ -11,7 +11,6 @@ impl Canonical for Ident<'_> {
     ghost use Rattle.crs_value.specs.Sound.{IsIdent};
     ghost use Rattle.crs_same.specs.SameIdents.{SameIdent};
     ghost use Rattle.crs_normal.specs.PartSpellings.{IsSpelledIdent};
-    ghost use Rattle.crs_normal.specs.PartTexts.{ident_text};
 
     ghost IsValue = { IsIdent };
 
@@ -19,13 +18,13 @@ impl Canonical for Ident<'_> {
 
     ghost IsSpelling = { IsSpelledIdent };
 
-    ghost spelling = { ident_text };
-
     fn same(&self, other: &Self, level: Level) -> bool {
         same_ident(self, other, level)
     }
 
     fn write(&self, alloc: Global, _level: Level, out: &mut Vec<u8>) -> Result<(), AllocError> {
+        let _authority = self.authority;
+        written::identifiers_are_written();
         let mut text = Vec::new(alloc);
         write_ident(&mut text, self)?;
         out.extend_from_slice(text.as_slice())
@@ -33,7 +32,7 @@ impl Canonical for Ident<'_> {
 
     fn laws(&self) {
         let _authority = self.authority;
-        identifiers_are_canonical();
+        parts::identifiers_are_canonical();
     }
 }
 
@@ -42,7 +41,6 @@ impl Canonical for Unit<'_> {
     ghost use Rattle.crs_value.specs.declared.values.unit_kind.UnitKind.TheVariants as kinds;
     ghost use Rattle.crs_same.specs.SameUnits.{SameUnit};
     ghost use Rattle.crs_normal.specs.PartSpellings.{IsSpelledUnit};
-    ghost use Rattle.crs_normal.specs.PartTexts.{unit_text};
 
     ghost IsValue = { IsUnit };
 
@@ -50,13 +48,13 @@ impl Canonical for Unit<'_> {
 
     ghost IsSpelling = { IsSpelledUnit };
 
-    ghost spelling = { unit_text };
-
     fn same(&self, other: &Self, level: Level) -> bool {
         same_unit(self, other, level)
     }
 
     fn write(&self, alloc: Global, level: Level, out: &mut Vec<u8>) -> Result<(), AllocError> {
+        let _name = self.name;
+        written::units_are_written();
         let mut text = Vec::new(alloc);
         write_unit(&mut text, UnitKind::Plain, self, level)?;
         append_argument(out, text.as_slice())
@@ -64,6 +62,6 @@ impl Canonical for Unit<'_> {
 
     fn laws(&self) {
         let _name = self.name;
-        units_are_canonical();
+        parts::units_are_canonical();
     }
 }

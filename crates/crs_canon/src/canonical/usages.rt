@@ -1,7 +1,7 @@
 //! Usages, and the boxes and extents in them, by themselves.
 use crate::canonical::{Canonical, append_argument};
 use crate::spelling::usage::{write_box, write_extent, write_usage};
-use crs_normal::laws::parts::{extents_are_canonical, usages_are_canonical};
+use crs_normal::laws::{parts, written};
 use crs_same::parts::{same_box, same_extent, same_usage};
 use crs_value::{BoundingBox, Extent, Level, Usage};
 use std::alloc::{AllocError, Global};
@@ -10,7 +10,6 @@ impl Canonical for BoundingBox {
     ghost use Rattle.crs_value.specs.SoundUsages.{IsBox};
     ghost use Rattle.crs_same.specs.SameUsages.{SameBox};
     ghost use Rattle.crs_normal.specs.PartSpellings.{IsSpelledBox};
-    ghost use Rattle.crs_normal.specs.PartTexts.{box_text};
 
     ghost IsValue = { IsBox };
 
@@ -18,13 +17,13 @@ impl Canonical for BoundingBox {
 
     ghost IsSpelling = { IsSpelledBox };
 
-    ghost spelling = { box_text };
-
     fn same(&self, other: &Self, _level: Level) -> bool {
         same_box(self, other)
     }
 
     fn write(&self, alloc: Global, _level: Level, out: &mut Vec<u8>) -> Result<(), AllocError> {
+        let _south = self.south;
+        written::extents_are_written();
         let mut text = Vec::new(alloc);
         write_box(&mut text, self)?;
         append_argument(out, text.as_slice())
@@ -32,7 +31,7 @@ impl Canonical for BoundingBox {
 
     fn laws(&self) {
         let _south = self.south;
-        extents_are_canonical();
+        parts::extents_are_canonical();
     }
 }
 
@@ -40,7 +39,6 @@ impl Canonical for Extent<'_> {
     ghost use Rattle.crs_value.specs.SoundUsages.{IsExtent};
     ghost use Rattle.crs_same.specs.SameUsages.{SameExtent};
     ghost use Rattle.crs_normal.specs.PartSpellings.{IsSpelledExtent};
-    ghost use Rattle.crs_normal.specs.PartTexts.{extent_text};
 
     ghost IsValue = { IsExtent };
 
@@ -48,13 +46,13 @@ impl Canonical for Extent<'_> {
 
     ghost IsSpelling = { IsSpelledExtent };
 
-    ghost spelling = { extent_text };
-
     fn same(&self, other: &Self, level: Level) -> bool {
         same_extent(self, other, level)
     }
 
     fn write(&self, alloc: Global, level: Level, out: &mut Vec<u8>) -> Result<(), AllocError> {
+        let _minimum = self.minimum;
+        written::extents_are_written();
         let mut text = Vec::new(alloc);
         write_extent(&mut text, self, level)?;
         append_argument(out, text.as_slice())
@@ -62,7 +60,7 @@ impl Canonical for Extent<'_> {
 
     fn laws(&self) {
         let _minimum = self.minimum;
-        extents_are_canonical();
+        parts::extents_are_canonical();
     }
 }
 
@@ -70,7 +68,6 @@ impl Canonical for Usage<'_> {
     ghost use Rattle.crs_same.specs.SameUsages.{SameUsage};
     ghost use Rattle.crs_value.specs.SoundUsages.{IsUsage};
     ghost use Rattle.crs_normal.specs.PartSpellings.{IsSpelledUsage};
-    ghost use Rattle.crs_normal.specs.PartTexts.{usage_text};
 
     ghost IsValue = { IsUsage };
 
@@ -78,13 +75,13 @@ impl Canonical for Usage<'_> {
 
     ghost IsSpelling = { IsSpelledUsage };
 
-    ghost spelling = { usage_text };
-
     fn same(&self, other: &Self, level: Level) -> bool {
         same_usage(self, other, level)
     }
 
     fn write(&self, alloc: Global, _level: Level, out: &mut Vec<u8>) -> Result<(), AllocError> {
+        let _scope = self.scope;
+        written::usages_are_written();
         let mut text = Vec::new(alloc);
         write_usage(&mut text, self)?;
         out.extend_from_slice(text.as_slice())
@@ -92,6 +89,6 @@ impl Canonical for Usage<'_> {
 
     fn laws(&self) {
         let _scope = self.scope;
-        usages_are_canonical();
+        parts::usages_are_canonical();
     }
 }

@@ -13,16 +13,15 @@ use crate::spelling::axis::write_axis;
 use crate::spelling::ident::write_idents;
 use crate::spelling::texts::{append, write_number};
 use crs_decimal::Decimal;
-use crs_decimal::laws::{one_form, plain_is_the_one, same_number_is_equivalence};
 use crs_value::{Axis, Level, System};
 use std::alloc::AllocError;
 
 fn is_number(value: &Decimal, number: u64) -> bool
     ensures { result ≡ is_number value.now number }
 {
-    one_form();
-    plain_is_the_one();
-    same_number_is_equivalence();
+    crs_decimal::laws::one_form();
+    crs_decimal::laws::plain_is_the_one();
+    crs_decimal::laws::same_number_is_equivalence();
     let _normal = value.is_negative();
     value.is_whole(number)
 }

@@ -10,7 +10,6 @@ ghost use Rattle.crs_normal.specs.SpelledItems.{code_item, is_short, number_item
 ghost use Rattle.crs_canon.specs.Openings.{opened, text_behind};
 
 use crs_decimal::Decimal;
-use crs_decimal::laws::plain_is_the_one;
 use itoa::Buffer;
 use std::alloc::AllocError;
 
@@ -49,7 +48,7 @@ pub(crate) fn write_optional_text(
 fn write_decimal(out: &mut Vec<u8>, value: &Decimal) -> Result<(), AllocError>
     ensures { OnOk result (out.new.items ≡ out.old.items ++ plain value.now) }
 {
-    plain_is_the_one();
+    crs_decimal::laws::plain_is_the_one();
     value.write(out)
 }
 

@@ -26,7 +26,8 @@ ghost use Rattle.crs_value.specs.Values.{AxisMeridianParts, BoxParts, EllipsoidP
 ghost use Rattle.crs_value.specs.Values.{MemberParts, MeridianParts, SystemParts, UnitParts, UsageParts};
 ghost use Rattle.crs_same.specs.SameUnits.{kind_as};
 ghost use Rattle.crs_normal.specs.DecimalLaws.{DecimalLaws};
-ghost use Rattle.crs_normal.specs.Made.{IsKindIn, IsMade, crs_class, geodetic_class, root_class, vertical_class};
+ghost use Rattle.crs_normal.specs.CrsClass.{crs_class, geodetic_class};
+ghost use Rattle.crs_normal.specs.Made.{IsKindIn, IsMade, geodetic_frame_class, vertical_frame_class};
 ghost use Rattle.crs_normal.specs.Normal.{IsNormalText};
 ghost use Rattle.crs_normal.specs.SpelledConversions.{item_conversion, item_geoid_model, item_method, item_parameter};
 ghost use Rattle.crs_normal.specs.SpelledConversions.{norm_conversion, norm_geoid_model, norm_method, norm_parameter};
@@ -186,7 +187,7 @@ pub fn made_usage_is_normal()
 /// The item of a geodetic frame or ensemble.
 pub fn made_geodetic_frame_is_normal()
     ensures { (level : Level) (frame : Frame) (place : ℕ) → IsGeodeticFrame frame →
-        IsMade level (geodetic_class frame) 5 (at_place place (item_frame (codes "DATUM") (norm_frame level frame))) }
+        IsMade level (geodetic_frame_class frame) 5 (at_place place (item_frame (codes "DATUM") (norm_frame level frame))) }
 {
     decimal_laws();
 }
@@ -194,7 +195,7 @@ pub fn made_geodetic_frame_is_normal()
 /// The item of a vertical frame or ensemble.
 pub fn made_vertical_frame_is_normal()
     ensures { (level : Level) (frame : Frame) (place : ℕ) → IsVerticalFrame frame →
-        IsMade level (vertical_class frame) 5 (at_place place (item_frame (codes "VDATUM") (norm_frame level frame))) }
+        IsMade level (vertical_frame_class frame) 5 (at_place place (item_frame (codes "VDATUM") (norm_frame level frame))) }
 {
     decimal_laws();
 }
@@ -210,7 +211,7 @@ pub fn made_head_is_normal()
 /// The item of the meridian of an axis.
 pub fn made_axis_meridian_is_normal()
     ensures { (level : Level) (meridian : AxisMeridianParts) (place : ℕ) → IsAxisMeridian meridian →
-        IsMade level class.Meridian 4 (at_place place (item_axis_meridian (norm_axis_meridian level meridian))) }
+        IsMade level class.AxisMeridian 4 (at_place place (item_axis_meridian (norm_axis_meridian level meridian))) }
 {
     decimal_laws();
 }
@@ -235,7 +236,7 @@ pub fn made_base_is_normal()
 /// The item of a geodetic or geographic CRS.
 pub fn made_geodetic_is_normal()
     ensures { (level : Level) (geodetic : GeodeticParts) (place : ℕ) → IsGeodetic geodetic →
-        IsMade level (root_class geodetic.system.system_type) 6
+        IsMade level (geodetic_class geodetic.system.system_type) 6
         (at_place place (item_geodetic (norm_geodetic level geodetic))) }
 {
     decimal_laws();

@@ -20,7 +20,7 @@ ghost use Rattle.crs_value.specs.declared.values.unit_kind.UnitKind.TheVariants 
 ghost use Rattle.crs_normal.specs.AxisAlone.{IsNormalAxis};
 ghost use Rattle.crs_normal.specs.Flat.{flat};
 ghost use Rattle.crs_normal.specs.Normal.{IsNormalIn, IsNormalText};
-ghost use Rattle.crs_normal.specs.NormalOwn.{Has, HasOrder};
+ghost use Rattle.crs_normal.specs.NormalOwn.{Has, HasOneOrder};
 ghost use Rattle.crs_normal.specs.OneForm.{IsItsForm, IsItsFormUnbroken};
 ghost use Rattle.crs_normal.specs.PartTexts.{norm_axis_alone};
 ghost use Rattle.crs_normal.specs.SpelledCrs.{item_base, norm_base, item_geodetic, norm_geodetic, item_projected};
@@ -170,10 +170,10 @@ pub fn normal_frame_is_its_form()
 /// meridian of an axis.
 pub fn normal_axis_is_its_form()
     ensures meridian { (level : Level) →
-        IsItsForm level class.Meridian ReadsAxisMeridian (λ m. item_axis_meridian (norm_axis_meridian level m)) }
+        IsItsForm level class.AxisMeridian ReadsAxisMeridian (λ m. item_axis_meridian (norm_axis_meridian level m)) }
     ensures axis { (level : Level) (system : SystemParts) (parent : Class) (position : ℕ) (item : Item)
         (value : AxisParts) → Shaped class.Axis item → IsNormalIn level parent class.Axis item →
-        HasOrder position item → Has class.Axis class.AxisUnit item → ReadsAxis class.Axis item value →
+        HasOneOrder position item → Has class.Axis class.AxisUnit item → ReadsAxis class.Axis item value →
         flat item ≡ item_axis (norm_axis level system position value) }
 
     // By itself an axis may have a unit that is `UNIT`.

@@ -21,7 +21,7 @@ ghost use Rattle.crs_value.specs.SoundSingle.{IsBase};
 ghost use Rattle.crs_value.specs.SoundSystem.{IsSystem};
 ghost use Rattle.crs_value.specs.Values.{AxisMeridianParts, AxisParts, EllipsoidParts, MeridianParts, SystemParts};
 ghost use Rattle.crs_normal.specs.PartTexts.{norm_axis_alone};
-ghost use Rattle.crs_normal.specs.ReadBack.{crs_class};
+ghost use Rattle.crs_normal.specs.CrsClass.{crs_class};
 ghost use Rattle.crs_normal.specs.SpelledConversions.{item_conversion, item_method, norm_conversion, norm_method};
 ghost use Rattle.crs_normal.specs.SpelledCrs.{item_base, item_crs, norm_base, norm_crs};
 ghost use Rattle.crs_normal.specs.SpelledDynamic.{item_deformation_model, item_dynamic};
@@ -51,7 +51,7 @@ pub fn frame_parts_are_read_back()
 /// models, dynamic parts and base CRSs. Profile.
 pub fn crs_parts_are_read_back()
     ensures along { (level : Level) (meridian : AxisMeridianParts) (place : ℕ) → IsAxisMeridian meridian →
-        ReadsAxisMeridian class.Meridian (at_place place (item_axis_meridian (norm_axis_meridian level meridian)))
+        ReadsAxisMeridian class.AxisMeridian (at_place place (item_axis_meridian (norm_axis_meridian level meridian)))
         (norm_axis_meridian level meridian) }
     ensures axis { (level : Level) (axis : AxisParts) (place : ℕ) → IsAxis axis →
         ReadsAxis class.Axis (at_place place (item_axis (norm_axis_alone level axis))) (norm_axis_alone level axis) }

@@ -21,7 +21,7 @@ ghost use Rattle.crs_same.specs.SameFrames.{SameMember};
 ghost use Rattle.crs_same.specs.SameIdents.{SameIdents};
 ghost use Rattle.crs_same.specs.SameUsages.{SameUsage};
 ghost use Rattle.crs_same.specs.Sets.{SameSet};
-ghost use Rattle.crs_normal.specs.Ascending.{Ascends, Has};
+ghost use Rattle.crs_normal.specs.Ascending.{Ascends, IsIn};
 ghost use Rattle.crs_normal.specs.Fit.{IsFit};
 ghost use Rattle.crs_normal.specs.Flat.{flat};
 ghost use Rattle.crs_normal.specs.Ordered.{in_order};
@@ -177,7 +177,7 @@ pub fn member_texts_tell_members()
 pub fn texts_are_in_order()
     ensures ascend { (texts : List (List ℕ)) → Ascends (λ text. text) (in_order (λ text. text) texts) }
     ensures members { (texts : List (List ℕ)) (text : List ℕ) →
-        Has text (in_order (λ text. text) texts) ↔ Has text texts }
+        IsIn text (in_order (λ text. text) texts) ↔ IsIn text texts }
     ensures one { (xs ys : List (List ℕ)) → Ascends (λ text. text) xs → Ascends (λ text. text) ys →
-        ((text : List ℕ) → Has text xs ↔ Has text ys) → xs ≡ ys }
+        ((text : List ℕ) → IsIn text xs ↔ IsIn text ys) → xs ≡ ys }
 {}

@@ -13,7 +13,7 @@ use crate::checks::{Check, lesser, only_of, refusal_at};
 use crate::reading::firsts::firsts_of;
 use crate::reading::node::{number, required};
 use crate::values::system_type::SystemType;
-use crs_decimal::laws::denotes_one;
+use crs_decimal::laws;
 use crs_shape::Class;
 use crs_text::{ItemId, Items, Refusal};
 
@@ -34,7 +34,7 @@ fn is_not_plane(items: &Items<'_>, cs: ItemId) -> bool
     requires shaped { Shaped Class.CoordinateSystem (item_at items.now cs) }
     ensures { IsTrue result ↔ IsNotPlane (item_at items.now cs) }
 {
-    denotes_one();
+    laws::denotes_one();
     !number(items, cs, Class::CoordinateSystem).is_whole(2)
 }
 

@@ -12,15 +12,14 @@ use crate::checks::{Check, any_from, lesser, only_of, refusal_at};
 use crate::reading::arguments::{first, later};
 use crate::reading::firsts::Firsts;
 use crate::reading::node::number;
-use crs_decimal::Decimal;
-use crs_decimal::laws::{denotes_one, same_number_is_equivalence};
+use crs_decimal::{Decimal, laws};
 use crs_shape::Class;
 use crs_text::{ItemId, Items, Refusal};
 
 fn is_position(value: &Decimal, n: usize) -> bool
     ensures { IsTrue result ↔ IsPosition n value.now }
 {
-    same_number_is_equivalence();
+    laws::same_number_is_equivalence();
     match value.whole() {
         None => false,
         Some(whole) => is_within(whole, n),
@@ -45,7 +44,7 @@ fn has_this(items: &Items<'_>, axis: ItemId, value: &Decimal) -> bool
     requires shaped { Shaped Class.Axis (item_at items.now axis) }
     ensures { IsTrue result ↔ HasThis value.now (item_at items.now axis) }
 {
-    denotes_one();
+    laws::denotes_one();
     match first(items, axis, Class::Axis, Class::Order) {
         None => false,
         Some(order) => same_value(&number(items, order, Class::Order), value),
@@ -106,7 +105,7 @@ impl Check for Position {
         (take s.before (those s.class classes.Axis (arguments (item_at tree s.crs)))) item f };
 
     fn check(&self, items: &Items<'_>, id: ItemId, _class: Class) -> Option<Refusal> {
-        denotes_one();
+        laws::denotes_one();
         let value = number(items, id, Class::Order);
         if !is_position(&value, self.count) {
             return Some(refusal_at(items, id, 26));

@@ -11,8 +11,7 @@ use crate::checks::{Check, refusal_at};
 use crate::reading::node::decimal_of;
 use crate::values::direction::Direction;
 use crate::values::system_type::SystemType;
-use crs_decimal::Decimal;
-use crs_decimal::laws::denotes_one;
+use crs_decimal::{Decimal, laws};
 use crs_shape::Class;
 use crs_text::{ItemId, Items, Refusal};
 
@@ -148,7 +147,7 @@ impl Check for AboveZero {
         if begins_above_zero(items, id) {
             return None;
         }
-        denotes_one();
+        laws::denotes_one();
         let value = decimal_of(items, id);
         if is_above_zero(value) {
             None
@@ -174,7 +173,7 @@ impl Check for NotNegative {
         if begins_without_minus(items, id) {
             return None;
         }
-        denotes_one();
+        laws::denotes_one();
         let value = decimal_of(items, id);
         if value.is_negative() {
             Some(refusal_at(items, id, 28))

@@ -12,8 +12,7 @@ ghost use Rattle.crs_value.specs.Reading.{item_at, those, IsFound, IsReading};
 use crate::checks::refusal_at;
 use crate::reading::node::required;
 use crate::values::system_type::SystemType;
-use crs_decimal::Decimal;
-use crs_decimal::laws::denotes_one;
+use crs_decimal::{Decimal, laws};
 use crs_shape::Class;
 use crs_text::{ItemId, Items, Refusal};
 
@@ -60,7 +59,7 @@ pub(crate) fn bad_system(
     requires dimension { HasDimension (item_at items.now cs) dimension.now }
     ensures { IsLeast (BadSystem (dimensions_of class) (item_at items.now cs)) result }
 {
-    denotes_one();
+    laws::denotes_one();
     let system_type = type_of(items, cs)?;
     if is_allowed(class, system_type, dimension) {
         None
@@ -85,7 +84,7 @@ pub(crate) fn bad_count(
     ensures { IsLeast (AxisCount (those _class Class.Axis (arguments (item_at items.now _crs)))
         (item_at items.now cs)) result }
 {
-    denotes_one();
+    laws::denotes_one();
     if dimension.is_whole(axes as u64) {
         None
     } else {

@@ -20,9 +20,6 @@ ghost use Rattle.crs_value.specs.SoundUsages.{IsBox, IsExtent, IsUsage};
 ghost use Rattle.crs_value.specs.declared.values.frame.Frame.TheVariants as frame;
 ghost use Rattle.crs_value.specs.Told.{IsReadAs, IsReadOnce};
 
-use crs_decimal::laws::denotes_one;
-use crs_shape::laws::slots_count;
-
 /// An item is read as one axis at most, of whatever class it is; likewise the other nodes that aren't members of sets.
 /// Profile.
 pub fn parts_read_once()
@@ -43,7 +40,7 @@ pub fn parts_read_once()
     ensures vertical { IsReadOnce ReadsVertical }
     ensures compound { IsReadOnce ReadsCompound }
 {
-    denotes_one();
+    crs_decimal::laws::denotes_one();
 }
 
 /// What is read from a well-formed identifier of the right shape that breaks no check is all that is asked of an
@@ -72,15 +69,15 @@ pub fn parts_are_sound()
     ensures dynamic { (c : Class) → IsReadAs ReadsDynamic IsDynamic c }
     ensures base { IsReadAs ReadsBase IsBase class.BaseCrs }
 {
-    slots_count();
+    crs_shape::laws::slots_count();
 }
 
-/// Likewise a geodetic, projected, vertical or compound CRS. Profile.
+/// A geodetic, projected, vertical or compound CRS that is read from a sound item is what is asked of one. Profile.
 pub fn kinds_are_sound()
     ensures geodetic { (c : Class) → IsGeodeticClass c → IsReadAs ReadsGeodetic IsGeodetic c }
     ensures projected { IsReadAs ReadsProjected IsProjected class.ProjectedCrs }
     ensures vertical { IsReadAs ReadsVertical IsVertical class.VerticalCrs }
     ensures compound { IsReadAs ReadsCompound IsCompound class.CompoundCrs }
 {
-    slots_count();
+    crs_shape::laws::slots_count();
 }

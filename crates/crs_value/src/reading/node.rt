@@ -11,8 +11,7 @@ ghost use Rattle.crs_value.specs.Reads.{ReadsNumber, ReadsTextOf, ReadsNumberOf,
 use crate::reading::arguments::{first, later};
 use crate::values::list::List;
 use crs_decimal::Decimal;
-use crs_shape::Class;
-use crs_shape::laws::slots_count;
+use crs_shape::{Class, laws};
 use crs_text::{ItemId, Items};
 use std::alloc::{AllocError, Global};
 
@@ -39,7 +38,7 @@ pub(crate) fn required(items: &Items<'_>, id: ItemId, parent: Class, class: Clas
     ensures shaped { Shaped class (item_at items.now result) }
     ensures sound { IsSound parent (item_at items.now id) → IsSound class (item_at items.now result) }
 {
-    slots_count();
+    laws::slots_count();
     match first(items, id, parent, class) {
         Some(found) => found,
         None => unreachable!(),
@@ -86,7 +85,7 @@ pub(crate) fn optional<'a, T: Node<'a>>(
     )
 }
 
-// The same where the first argument of the class was found.
+// The value of an argument of this class that may be missing, the first of the class having been looked for.
 pub(crate) fn optional_from<'a, T: Node<'a>>(
     alloc: Global,
     items: &Items<'a>,
@@ -131,7 +130,7 @@ pub(crate) fn many<'a, T: Node<'a>>(
     )
 }
 
-// The same where the first argument of the class was found.
+// The values of all arguments of this class, the first of them having been looked for.
 pub(crate) fn many_from<'a, T: Node<'a>>(
     alloc: Global,
     items: &Items<'a>,
@@ -182,7 +181,7 @@ pub(crate) fn optional_text<'a>(
     optional_text_from(items, id, parent, class, first(items, id, parent, class))
 }
 
-// The same where the first argument of the class was found.
+// The text of a node that may stand in another, the first of its class having been looked for.
 pub(crate) fn optional_text_from<'a>(
     items: &Items<'a>,
     _id: ItemId,
@@ -210,7 +209,7 @@ pub(crate) fn number_at(items: &Items<'_>, id: ItemId, class: Class, k: usize) -
     requires enough { Requires class Class.Number k }
     ensures { ReadsNumberAt k class (item_at items.now id) result }
 {
-    slots_count();
+    laws::slots_count();
     let mut at = first(items, id, class, Class::Number);
     for _step in 0..k {
         let Some(found) = at else { unreachable!() };

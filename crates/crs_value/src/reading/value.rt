@@ -9,8 +9,6 @@ ghost use Rattle.crs_value.specs.SpellsText.{Spells, IsFaultOfText};
 use crate::checks::own::first_break;
 use crate::reading::whole::{kind_of_root, read_crs};
 use crate::values::crs::{Crs, Kind};
-use crs_decimal::laws::denotes_some;
-use crs_shape::laws::{no_fault_is_shape, slots_count};
 use crs_shape::{Class, fit_root};
 use crs_text::{Fault, Items, Refusal, read_items};
 use std::alloc::Global;
@@ -23,9 +21,9 @@ pub fn judge(items: &Items<'_>) -> Result<Class, Refusal>
     ensures answer { MatchResult result (λ _. (value : Crs) × SpellsCrs items.now value) (RefusesCrs items.now) }
     ensures class { IfOk result (λ class. class_of_root items.now ≡ Some class) }
 {
-    no_fault_is_shape();
-    slots_count();
-    denotes_some();
+    crs_shape::laws::no_fault_is_shape();
+    crs_shape::laws::slots_count();
+    crs_decimal::laws::denotes_some();
     let root = items.root();
     items.formed(root);
     let class = fit_root(items)?;
@@ -44,7 +42,7 @@ pub fn kind_of(items: &Items<'_>) -> Result<Kind, Refusal>
         (λ kind. (value : Crs) × SpellsCrs items.now value × (kind ≡ kind_of value))
         (RefusesCrs items.now) }
 {
-    no_fault_is_shape();
+    crs_shape::laws::no_fault_is_shape();
     let root = items.root();
     items.formed(root);
     let class = judge(items)?;
@@ -60,7 +58,7 @@ pub fn kind_of(items: &Items<'_>) -> Result<Kind, Refusal>
 pub fn value_of<'a>(alloc: Global, items: &Items<'a>) -> Result<Crs<'a>, Fault>
     ensures { MatchResult result (SpellsCrs items.now) (IsFaultOf items.now) }
 {
-    no_fault_is_shape();
+    crs_shape::laws::no_fault_is_shape();
     let root = items.root();
     items.formed(root);
     match judge(items) {

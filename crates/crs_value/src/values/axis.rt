@@ -136,7 +136,7 @@ impl<'a> Node<'a> for Axis<'a> {
         Ok(Axis {
             name: text(items, id, class),
             direction: direction(items, id),
-            meridian: optional(alloc, items, id, class, Class::Meridian)?,
+            meridian: optional(alloc, items, id, class, Class::AxisMeridian)?,
             order: optional_number(items, id, class, Class::Order),
             unit: optional(alloc, items, id, class, Class::AxisUnit)?,
             identifiers: many(alloc, items, id, class, Class::Identifier)?,

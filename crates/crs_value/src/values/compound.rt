@@ -12,8 +12,7 @@ use crate::values::geodetic::{Geodetic, read_geodetic};
 use crate::values::projected::Projected;
 use crate::values::usage::{Tail, read_tail};
 use crate::values::vertical::Vertical;
-use crs_shape::Class;
-use crs_shape::laws::slots_count;
+use crs_shape::{Class, laws};
 use crs_text::{ItemId, Items};
 use std::alloc::{AllocError, Global};
 use std::marker::Model;
@@ -88,7 +87,7 @@ fn read_horizontal<'a>(
     requires sound { IsSound Class.CompoundCrs (item_at items.now id) }
     ensures { IfOk result (λ value. ReadsHorizontal Class.CompoundCrs (item_at items.now id) value) }
 {
-    slots_count();
+    laws::slots_count();
     if let Some(found) = first(items, id, Class::CompoundCrs, Class::GeodeticCrs) {
         return read_geodetic(alloc, items, found, Class::GeodeticCrs).map(Horizontal::Geodetic);
     }
@@ -116,7 +115,7 @@ impl<'a> Node<'a> for Compound<'a> {
         id: ItemId,
         class: Class,
     ) -> Result<Self, AllocError> {
-        slots_count();
+        laws::slots_count();
         let firsts = firsts_of(items, id, class);
         Ok(Compound {
             name: text(items, id, class),

@@ -8,8 +8,7 @@ ghost use Rattle.crs_value.specs.ReadsCrs.{ReadsFrame, ReadsGeodeticFrame, Reads
 use crate::reading::arguments::first;
 use crate::reading::node::Node;
 use crate::values::frame::{Datum, Ensemble, Frame};
-use crs_shape::Class;
-use crs_shape::laws::slots_count;
+use crs_shape::{Class, laws};
 use crs_text::{ItemId, Items};
 use std::alloc::{AllocError, Global};
 
@@ -31,7 +30,7 @@ fn read_frame<'a>(
         × Requires ensemble Class.EnsembleAccuracy 0 }
     ensures { IfOk result (λ value. ReadsFrame frame ensemble class (item_at items.now id) value) }
 {
-    slots_count();
+    laws::slots_count();
     if let Some(found) = first(items, id, class, frame) {
         return Datum::read(alloc, items, found, frame).map(Frame::Datum);
     }

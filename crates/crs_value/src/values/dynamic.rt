@@ -4,8 +4,7 @@ use crate::reading::node::{Node, many, one_number, optional, text};
 use crate::values::ident::Ident;
 use crate::values::list::List;
 use crs_decimal::Decimal;
-use crs_shape::Class;
-use crs_shape::laws::slots_count;
+use crs_shape::{Class, laws};
 use crs_text::{ItemId, Items};
 use std::alloc::{AllocError, Global};
 use std::marker::Model;
@@ -80,7 +79,7 @@ impl<'a> Node<'a> for Dynamic<'a> {
         id: ItemId,
         class: Class,
     ) -> Result<Self, AllocError> {
-        slots_count();
+        laws::slots_count();
         Ok(Dynamic {
             epoch: one_number(items, id, class, Class::FrameEpoch),
             model: optional(alloc, items, id, class, Class::DeformationModel)?,

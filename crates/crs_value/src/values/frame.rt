@@ -7,8 +7,7 @@ use crate::values::ellipsoid::Ellipsoid;
 use crate::values::ident::Ident;
 use crate::values::list::List;
 use crs_decimal::Decimal;
-use crs_shape::Class;
-use crs_shape::laws::slots_count;
+use crs_shape::{Class, laws};
 use crs_text::{ItemId, Items};
 use std::alloc::{AllocError, Global};
 use std::marker::Model;
@@ -194,7 +193,7 @@ impl<'a> Node<'a> for Ensemble<'a> {
         id: ItemId,
         class: Class,
     ) -> Result<Self, AllocError> {
-        slots_count();
+        laws::slots_count();
         Ok(Ensemble {
             name: text(items, id, class),
             members: many(alloc, items, id, class, Class::Member)?,

@@ -13,8 +13,7 @@ use crate::values::frame::Frame;
 use crate::values::meridian::Meridian;
 use crate::values::system::{System, read_system};
 use crate::values::usage::{Tail, read_tail};
-use crs_shape::Class;
-use crs_shape::laws::slots_count;
+use crs_shape::{Class, laws};
 use crs_text::{ItemId, Items};
 use std::alloc::{AllocError, Global};
 use std::marker::Model;
@@ -80,7 +79,7 @@ pub(crate) fn read_geodetic<'a>(
     requires class { IsGeodeticClass class }
     ensures { IfOk result (λ value. ReadsGeodetic class (item_at items.now id) value) }
 {
-    slots_count();
+    laws::slots_count();
     let firsts = firsts_of(items, id, class);
     Ok(Geodetic {
         name: text(items, id, class),

@@ -3,7 +3,7 @@ ghost use Rattle.std.specs.Prelude.{◌≡◌};
 ghost use Rattle.std.specs.Option.{option_copied};
 ghost use Rattle.crs_value.specs.Kept.{kept, kept_one};
 
-/// What counts when two systems are compared, and what a canonical text says. Profile.
+/// What counts when two CRSs are compared, and what a canonical text says. Profile.
 #[derive(Clone, Copy, Debug, PartialEq, Eq)]
 pub enum Level {
     /// Everything that the text says.

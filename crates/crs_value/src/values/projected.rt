@@ -12,8 +12,7 @@ use crate::values::meridian::Meridian;
 use crate::values::system::{System, read_system};
 use crate::values::unit::Unit;
 use crate::values::usage::{Tail, read_tail};
-use crs_shape::Class;
-use crs_shape::laws::slots_count;
+use crs_shape::{Class, laws};
 use crs_text::{ItemId, Items};
 use std::alloc::{AllocError, Global};
 use std::marker::Model;
@@ -127,7 +126,7 @@ impl<'a> Node<'a> for Projected<'a> {
         id: ItemId,
         class: Class,
     ) -> Result<Self, AllocError> {
-        slots_count();
+        laws::slots_count();
         let firsts = firsts_of(items, id, class);
         Ok(Projected {
             name: text(items, id, class),
@@ -154,7 +153,7 @@ impl<'a> Node<'a> for Base<'a> {
         id: ItemId,
         class: Class,
     ) -> Result<Self, AllocError> {
-        slots_count();
+        laws::slots_count();
         Ok(Base {
             name: text(items, id, class),
             dynamic: optional(alloc, items, id, class, Class::Dynamic)?,

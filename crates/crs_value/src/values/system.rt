@@ -17,8 +17,7 @@ use crate::values::list::List;
 use crate::values::system_type::SystemType;
 use crate::values::unit::Unit;
 use crs_decimal::Decimal;
-use crs_shape::Class;
-use crs_shape::laws::slots_count;
+use crs_shape::{Class, laws};
 use crs_text::{ItemId, Items};
 use std::alloc::{AllocError, Global};
 use std::marker::Model;
@@ -118,7 +117,7 @@ pub(crate) fn read_system<'a>(
     requires firsts { AreFirsts items.now class (arguments (item_at items.now id)) firsts.now }
     ensures { IfOk result (λ system. ReadsSystem class (item_at items.now id) system) }
 {
-    slots_count();
+    laws::slots_count();
     let head = required(items, id, class, Class::CoordinateSystem);
     Ok(System {
         system_type: system_type(items, head),

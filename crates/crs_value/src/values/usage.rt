@@ -16,8 +16,7 @@ use crate::values::ident::Ident;
 use crate::values::list::List;
 use crate::values::unit::Unit;
 use crs_decimal::Decimal;
-use crs_shape::Class;
-use crs_shape::laws::slots_count;
+use crs_shape::{Class, laws};
 use crs_text::{ItemId, Items};
 use std::alloc::{AllocError, Global};
 use std::marker::Model;
@@ -223,7 +222,7 @@ impl<'a> Node<'a> for Usage<'a> {
         id: ItemId,
         class: Class,
     ) -> Result<Self, AllocError> {
-        slots_count();
+        laws::slots_count();
         Ok(Usage {
             scope: optional_text(items, id, class, Class::Scope),
             area: optional_text(items, id, class, Class::Area),
@@ -298,7 +297,7 @@ pub(crate) fn read_tail<'a>(
     requires firsts { AreFirsts items.now class (arguments (item_at items.now id)) firsts.now }
     ensures { IfOk result (λ tail. ReadsTail class (item_at items.now id) tail) }
 {
-    slots_count();
+    laws::slots_count();
     Ok(Tail {
         usages: many_from(alloc, items, id, class, Class::Usage, firsts.usage)?,
         bare_parts: bare_usage(alloc, items, id, class, firsts)?,

@@ -9,8 +9,7 @@ use crate::values::ident::Ident;
 use crate::values::list::List;
 use crate::values::system::{System, read_system};
 use crate::values::usage::{Tail, read_tail};
-use crs_shape::Class;
-use crs_shape::laws::slots_count;
+use crs_shape::{Class, laws};
 use crs_text::{ItemId, Items};
 use std::alloc::{AllocError, Global};
 use std::marker::Model;
@@ -108,7 +107,7 @@ impl<'a> Node<'a> for Vertical<'a> {
         id: ItemId,
         class: Class,
     ) -> Result<Self, AllocError> {
-        slots_count();
+        laws::slots_count();
         let firsts = firsts_of(items, id, class);
         Ok(Vertical {
             name: text(items, id, class),

@@ -1,5 +1,6 @@
 use Rattle.std.proofs.Common.{◌≡◌, ◌++◌}
-use Rattle.crs_canon.specs.Members.{commas, spellings}
+use Rattle.crs_canon.specs.Members.{spellings}
+use Rattle.crs_canon.specs.SetText.{commas}
 use Rattle.crs_canon.proofs.set.write_sorted.Given as goal
 
 abbrev pub invariant-loop-bytes : goal.invariant-loop-bytes

@@ -1,9 +1,9 @@
-use Rattle.std.proofs.Common.{◌≡◌, map, drop}
-use Rattle.crs_normal.specs.Ordered.{put_all}
-use Rattle.crs_canon.specs.Members.{spellings}
+use Rattle.std.proofs.Common.{ℕ, List, drop}
+use Rattle.crs_canon.specs.Members.{ArePut, spellings}
 use Rattle.crs_canon.proofs.set_view.gather_all.Given as goal
 
 abbrev pub invariant-loop-member : goal.invariant-loop-member
 invariant-loop-member g l =
-    put_all (λ bytes. bytes) (spellings l.sorted.keys) (map (g.T.Canonical.spelling l.level) (drop l.member-index l.members))
-    ≡ put_all (λ bytes. bytes) (spellings l.fn.sorted.keys) (map (g.T.Canonical.spelling l.level) l.members)
+    (after : List (List ℕ)) →
+    ArePut (g.T.Canonical.IsSpelling l.level) (drop l.member-index l.members) (spellings l.sorted.keys) after →
+    ArePut (g.T.Canonical.IsSpelling l.level) l.members (spellings l.fn.sorted.keys) after

@@ -3,7 +3,7 @@ use Rattle.std.specs.Fmt.{digits}
 use Rattle.crs_decimal.specs.Bounds.{IsBounded, IsInBounds, number_of, Denotes}
 use Rattle.crs_decimal.specs.Number.{SameNumber}
 use Rattle.crs_decimal.specs.Spelling.{HasForm}
-use Rattle.crs_decimal.specs.Split.{IsWhole, parts_of}
+use Rattle.crs_decimal.specs.Split.{IsCutWhole, parts_of}
 use Rattle.crs_decimal.specs.Value.{Value, exact, zero}
 use Rattle.crs_decimal.specs.Examples.{value}
 use Rattle.crs_decimal.specs.declared.mantissa.Mantissa.{Mantissa}
@@ -11,7 +11,7 @@ use Rattle.crs_decimal.proofs.BoundLemmas.{far_unbounded}
 use Rattle.crs_decimal.proofs.SplitLemmas.{spells_parts, parts_only, form_whole}
 use Rattle.crs_decimal.proofs.laws.worked_examples.Goals as goal
 
-denoted : (bs : List ℕ) (v : Value) → IsWhole bs → IsBounded (parts_of bs) → SameNumber (number_of (parts_of bs)) (exact v) → Denotes bs (exact v)
+denoted : (bs : List ℕ) (v : Value) → IsCutWhole bs → IsBounded (parts_of bs) → SameNumber (number_of (parts_of bs)) (exact v) → Denotes bs (exact v)
 denoted bs v w b s = (parts_of bs, spells_parts bs w, b, s)
 
 pub returns-clause-spellings : goal.returns-clause-spellings
@@ -30,7 +30,7 @@ returns-clause-spellings c = (
       (refl, inr (refl, refl)),
 )
 
-large : IsWhole (codes "1E41")
+large : IsCutWhole (codes "1E41")
 large = record { all = refl; some = omega arith; exponent = omega arith }
 
 abbrev one : Mantissa

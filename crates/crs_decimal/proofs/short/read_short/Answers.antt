@@ -1,7 +1,7 @@
 use Rattle.std.proofs.Common.{◌≡◌, ℕ, ◌+◌, ◌-◌, ◌*◌, ◌^◌, ◌<◌, ◌≤◌, [], ◌∷◌, ◌++◌, length, drop, fold, sym, ap, subst, ◌∙◌, arith, rules}
 use Rattle.crs_decimal.specs.Bounds.{digits_value}
-use Rattle.crs_decimal.specs.Split.{front, behind, behind_sign}
-use Rattle.crs_decimal.specs.Short.{IsShort}
+use Rattle.crs_decimal.specs.Split.{leading_digits, behind_digits, behind_sign}
+use Rattle.crs_decimal.specs.Short.{IsReadShort}
 use Rattle.crs_decimal.proofs.ShortLemmas.{short_fraction, value_joined, small_below, some_short, none_left}
 use Rattle.crs_decimal.proofs.short.read_short.Goals as goal
 
@@ -18,18 +18,18 @@ returns-else-not-is_empty c =
     let empty : c.with_digits-in-46.result.1.now ≡ [] = none_left _ (search rules) in
     let room : length c.split_sign-negative.result.1.now ≤ 19 = search rules in
     let fraction = c.rest_of-fraction.ensures in
-    let begins : front c.split_sign-negative.result.1.now ≡ front (behind_sign bytes) = ap front sign.rest in
-    let lengths : length (front c.split_sign-negative.result.1.now) ≡ length (front (behind_sign bytes)) = ap length begins in
-    let more : length (front c.rest_of-fraction.result.now) ≡ length (front rest) = ap (λ z. length (front z)) fraction in
-    let value : c.with_digits-in-46.result.0.value ≡ digits_value (front (behind_sign bytes) ++ front rest) =
-    all.value ∙ ap (λ z. fold step c.with_digits.result.0.value (front z)) fraction
-    ∙ ap (λ z. fold step z (front rest)) (whole.value ∙ ap digits_value begins) ∙ value_joined (front (behind_sign bytes)) (front rest) in
+    let begins : leading_digits c.split_sign-negative.result.1.now ≡ leading_digits (behind_sign bytes) = ap leading_digits sign.rest in
+    let lengths : length (leading_digits c.split_sign-negative.result.1.now) ≡ length (leading_digits (behind_sign bytes)) = ap length begins in
+    let more : length (leading_digits c.rest_of-fraction.result.now) ≡ length (leading_digits rest) = ap (λ z. length (leading_digits z)) fraction in
+    let value : c.with_digits-in-46.result.0.value ≡ digits_value (leading_digits (behind_sign bytes) ++ leading_digits rest) =
+    all.value ∙ ap (λ z. fold step c.with_digits.result.0.value (leading_digits z)) fraction
+    ∙ ap (λ z. fold step z (leading_digits rest)) (whole.value ∙ ap digits_value begins) ∙ value_joined (leading_digits (behind_sign bytes)) (leading_digits rest) in
     let few : c.with_digits-in-46.result.0.count ≤ 19 = omega (arith, all.len, whole.len, room, ap length fraction, ap length period) in
     let small : c.with_digits-in-46.result.0.value < 10 ^ 19 = small_below _ _ all.small few in
-    some_short _ (IsShort bytes) c.some_digits-in-46.result (λ s h.
+    some_short _ (IsReadShort bytes) c.some_digits-in-46.result (λ s h.
     short_fraction bytes s (h.2 ∙ sign.sign) (subst (λ v. v < 10 ^ 19) (sym h.0) small) rest
-    (ap behind (sym sign.rest) ∙ sym whole.rest ∙ period)
-    (ap behind (sym fraction) ∙ sym all.rest ∙ empty)
+    (ap behind_digits (sym sign.rest) ∙ sym whole.rest ∙ period)
+    (ap behind_digits (sym fraction) ∙ sym all.rest ∙ empty)
     (h.0 ∙ value)
     (omega (arith, h.3, all.count, whole.count, lengths, more))
     (omega (arith, few, all.count, whole.count, lengths, more))

@@ -6,11 +6,11 @@ use Rattle.crs_canon.proofs.set_view.Set.laws.Goals as goal
 pub returns-clause-equal : goal.returns-clause-equal
 returns-clause-equal g c level =
     let Same = g.T.Canonical.Same level in
-    let spell = g.T.Canonical.spelling level in
+    let Spells = g.T.Canonical.IsSpelling level in
     let first = c.self.inside.members.now in
     let second = c.other.inside.members.now in
-    subst (λ a. HaveOneTextWhereSame Same spell a c.args.other.now) c.self.view_is
-    (subst (λ b. HaveOneTextWhereSame Same spell first b) c.other.view_is
-    (by-members Same spell first second c.texts_are_in_order.ensures.one
+    subst (λ a. HaveOneTextWhereSame Same Spells a c.args.other.now) c.self.view_is
+    (subst (λ b. HaveOneTextWhereSame Same Spells first b) c.other.view_is
+    (by-members Same Spells first second c.texts_are_in_order.ensures.one
     (λ member has. c.kind_has_law.ensures member has level first second c.are_values.ensures c.are_values-2.ensures)
     (λ member has. c.kind_has_law-2.ensures member has level first second c.are_values.ensures c.are_values-2.ensures)))

@@ -1,4 +1,4 @@
-use Rattle.crs_normal.specs.Ascending.{Has}
+use Rattle.crs_normal.specs.Ascending.{IsIn}
 use Rattle.crs_normal.proofs.SetLemmas.{ascending-one, each-of, in_order-ascends, in_order-back, in_order-has}
 use Rattle.crs_normal.proofs.laws.sets.texts_are_in_order.Goals as goal
 
@@ -9,8 +9,8 @@ pub returns-clause-members : goal.returns-clause-members
 returns-clause-members c texts text = (
   λ h. in_order-back (λ text. text) text texts h,
   λ h.
-      in_order-has (λ text. text) (λ t. Has t texts) (λ a b p q e. e) text texts
-      (each-of (λ t. Has t texts) texts (λ t q. q)) h,
+      in_order-has (λ text. text) (λ t. IsIn t texts) (λ a b p q e. e) text texts
+      (each-of (λ t. IsIn t texts) texts (λ t q. q)) h,
 )
 
 pub returns-clause-one : goal.returns-clause-one

@@ -4,7 +4,7 @@ use Rattle.crs_value.specs.BadDynamic.{IsUnsteady}
 use Rattle.crs_value.specs.Reading.{item_at, those}
 use Rattle.crs_value.proofs.ArgumentLemmas.{found-shaped}
 use Rattle.crs_value.proofs.CheckLemmas.{found-any}
-use Rattle.crs_value.proofs.DynamicLemmas.{bad-without, bad-beside-none, bad-beside}
+use Rattle.crs_value.proofs.DynamicLemmas.{bad-beside}
 use Rattle.crs_value.proofs.checks.dynamic.bad_dynamic.Goals as goal
 
 pub any_from-requires-clause-shaped : goal.any_from-requires-clause-shaped

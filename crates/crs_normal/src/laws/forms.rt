@@ -1,0 +1,276 @@
+//! Nodes that stand by themselves: the text of each is its one spelling, and tells which nodes are the same.
+ghost use Rattle.crs_value.specs.Sound.{IsAxis, IsAxisMeridian, IsIdent, IsUnit};
+ghost use Rattle.crs_value.specs.SoundCompound.{IsCompound};
+ghost use Rattle.crs_value.specs.SoundConversion.{IsConversion, IsGeoidModel, IsMethod, IsParameter};
+ghost use Rattle.crs_value.specs.SoundDynamic.{IsDeformationModel, IsDynamic};
+ghost use Rattle.crs_value.specs.SoundFrames.{IsDatum, IsEllipsoid, IsEnsemble, IsMember, IsMeridian};
+ghost use Rattle.crs_value.specs.SoundSingle.{IsBase, IsGeodetic, IsProjected, IsVertical};
+ghost use Rattle.crs_value.specs.SoundUsages.{IsBox, IsExtent, IsUsage};
+ghost use Rattle.crs_value.specs.declared.values.level.Level.{Level};
+ghost use Rattle.crs_value.specs.declared.values.unit_kind.UnitKind.TheVariants as kinds;
+ghost use Rattle.crs_same.specs.SameConversions.{SameConversion, SameGeoidModel, SameMethod, SameParameter};
+ghost use Rattle.crs_same.specs.SameCrs.{SameBase, SameCompound, SameGeodetic, SameHorizontal, SameProjected};
+ghost use Rattle.crs_same.specs.SameCrs.{SameVertical};
+ghost use Rattle.crs_same.specs.SameDynamic.{SameDeformationModel, SameDynamic};
+ghost use Rattle.crs_same.specs.SameFrames.{SameDatum, SameEllipsoid, SameEnsemble, SameFrame, SameGiven, SameMember};
+ghost use Rattle.crs_same.specs.SameIdents.{SameIdent};
+ghost use Rattle.crs_same.specs.SameSystems.{SameAxisAlone, SameAxisMeridian};
+ghost use Rattle.crs_same.specs.SameUnits.{SameUnit};
+ghost use Rattle.crs_same.specs.SameUsages.{SameBox, SameExtent, SameUsage};
+ghost use Rattle.crs_normal.specs.AxisAlone.{IsSpelledAxis};
+ghost use Rattle.crs_normal.specs.PartSpellings.{IsFrame, IsHorizontalPart, IsSpelledAxisMeridian, IsSpelledBase};
+ghost use Rattle.crs_normal.specs.PartSpellings.{IsSpelledBox, IsSpelledCompound, IsSpelledConversion};
+ghost use Rattle.crs_normal.specs.PartSpellings.{IsSpelledDatum, IsSpelledDeformationModel, IsSpelledDynamic};
+ghost use Rattle.crs_normal.specs.PartSpellings.{IsSpelledEllipsoid, IsSpelledEnsemble};
+ghost use Rattle.crs_normal.specs.PartSpellings.{IsSpelledExtent, IsSpelledFrame, IsSpelledGeodetic};
+ghost use Rattle.crs_normal.specs.PartSpellings.{IsSpelledGeoidModel, IsSpelledHorizontal, IsSpelledIdent};
+ghost use Rattle.crs_normal.specs.PartSpellings.{IsSpelledMember, IsSpelledMeridian, IsSpelledMethod};
+ghost use Rattle.crs_normal.specs.PartSpellings.{IsSpelledParameter, IsSpelledProjected, IsSpelledUnit};
+ghost use Rattle.crs_normal.specs.PartSpellings.{IsSpelledUsage, IsSpelledVertical};
+ghost use Rattle.crs_normal.specs.PartTexts.{axis_meridian_text, axis_text, base_text, box_text, compound_text};
+ghost use Rattle.crs_normal.specs.PartTexts.{conversion_text, datum_text, deformation_model_text, dynamic_text};
+ghost use Rattle.crs_normal.specs.PartTexts.{ellipsoid_text, ensemble_text, extent_text};
+ghost use Rattle.crs_normal.specs.PartTexts.{frame_text, geodetic_text, geoid_model_text, horizontal_text};
+ghost use Rattle.crs_normal.specs.PartTexts.{ident_text, member_text, meridian_text, method_text, parameter_text};
+ghost use Rattle.crs_normal.specs.PartTexts.{projected_text, unit_text, usage_text, vertical_text};
+ghost use Rattle.crs_normal.specs.WrittenForm.{IsWrittenForm};
+
+use crate::laws::made::{
+    decimal_laws, made_axis_meridian_is_normal, made_base_is_normal, made_box_is_normal,
+    made_compound_is_normal, made_conversion_is_normal, made_deformation_model_is_normal,
+    made_dynamic_is_normal, made_ellipsoid_is_normal, made_extent_is_normal,
+    made_geodetic_frame_is_normal, made_geodetic_is_normal, made_geoid_model_is_normal,
+    made_identifier_is_normal, made_member_is_normal, made_meridian_is_normal,
+    made_method_is_normal, made_parameter_is_normal, made_projected_is_normal, made_unit_is_normal,
+    made_usage_is_normal, made_vertical_frame_is_normal, made_vertical_is_normal,
+};
+use crate::laws::normal::{
+    normal_axis_is_its_form, normal_base_is_its_form, normal_conversion_is_its_form,
+    normal_crs_is_its_form, normal_deformation_model_is_its_form, normal_dynamic_is_its_form,
+    normal_ellipsoid_is_its_form, normal_frame_is_its_form, normal_geoid_model_is_its_form,
+    normal_identifier_is_its_form, normal_member_is_its_form, normal_meridian_is_its_form,
+    normal_method_is_its_form, normal_parameter_is_its_form, normal_unit_is_its_form,
+    normal_usage_is_its_form,
+};
+use crate::laws::read::{crs_is_read_back, crs_parts_are_read_back, frame_parts_are_read_back};
+use crate::laws::sets::{member_texts_tell_members, members_are_read_back, text_laws};
+use crate::laws::texts::written_forms_are_equal_where_same;
+use crate::laws::values::{
+    same_conversions_have_one_form, same_dynamic_parts_have_one_form, same_frames_have_one_form,
+    same_kinds_have_one_form, same_systems_have_one_form, same_tails_have_one_form,
+    same_units_have_one_form,
+};
+use crs_text::laws::written_items;
+use crs_value::laws::members_read_once;
+use crs_value::laws::parts::{kinds_are_sound, parts_are_sound, parts_read_once};
+
+pub(super) fn identifiers_have_texts()
+    ensures { (level : Level) → IsWrittenForm IsIdent SameIdent (IsSpelledIdent level) (ident_text level) }
+{
+    made_identifier_is_normal();
+    normal_identifier_is_its_form();
+    members_are_read_back();
+    member_texts_tell_members();
+    text_laws();
+    written_items();
+    parts_are_sound();
+}
+
+pub(super) fn units_have_texts()
+    ensures { (level : Level) → IsWrittenForm IsUnit (SameUnit kinds.Plain level) (IsSpelledUnit level)
+        (unit_text level) }
+{
+    made_unit_is_normal();
+    normal_unit_is_its_form();
+    members_are_read_back();
+    member_texts_tell_members();
+    same_units_have_one_form();
+    text_laws();
+    written_items();
+    parts_are_sound();
+}
+
+pub(super) fn frame_parts_have_texts()
+    ensures ellipsoid { (level : Level) →
+        IsWrittenForm IsEllipsoid (SameEllipsoid level) (IsSpelledEllipsoid level) (ellipsoid_text level) }
+    ensures meridian { (level : Level) →
+        IsWrittenForm IsMeridian (SameGiven level) (IsSpelledMeridian level) (meridian_text level) }
+    ensures member { (level : Level) →
+        IsWrittenForm IsMember (SameMember level) (IsSpelledMember level) (member_text level) }
+    ensures along { (level : Level) →
+        IsWrittenForm IsAxisMeridian (SameAxisMeridian level) (IsSpelledAxisMeridian level)
+        (axis_meridian_text level) }
+{
+    made_ellipsoid_is_normal();
+    made_meridian_is_normal();
+    made_member_is_normal();
+    made_axis_meridian_is_normal();
+    frame_parts_are_read_back();
+    crs_parts_are_read_back();
+    members_are_read_back();
+    normal_ellipsoid_is_its_form();
+    normal_meridian_is_its_form();
+    normal_member_is_its_form();
+    normal_axis_is_its_form();
+    same_frames_have_one_form();
+    same_systems_have_one_form();
+    members_read_once();
+    parts_read_once();
+    parts_are_sound();
+    text_laws();
+    written_items();
+}
+
+pub(super) fn axes_have_texts()
+    ensures { (level : Level) →
+        IsWrittenForm IsAxis (SameAxisAlone level) (IsSpelledAxis level) (axis_text level) }
+{
+    decimal_laws();
+    crs_parts_are_read_back();
+    normal_axis_is_its_form();
+    same_systems_have_one_form();
+    parts_read_once();
+    parts_are_sound();
+    text_laws();
+    written_items();
+}
+
+pub(super) fn conversions_have_texts()
+    ensures method { (level : Level) →
+        IsWrittenForm IsMethod (SameMethod level) (IsSpelledMethod level) (method_text level) }
+    ensures parameter { (level : Level) →
+        IsWrittenForm IsParameter (SameParameter level) (IsSpelledParameter level) (parameter_text level) }
+    ensures conversion { (level : Level) →
+        IsWrittenForm IsConversion (SameConversion level) (IsSpelledConversion level) (conversion_text level) }
+    ensures geoid_model { (level : Level) →
+        IsWrittenForm IsGeoidModel (SameGeoidModel level) (IsSpelledGeoidModel level) (geoid_model_text level) }
+{
+    made_method_is_normal();
+    made_parameter_is_normal();
+    made_conversion_is_normal();
+    made_geoid_model_is_normal();
+    crs_parts_are_read_back();
+    members_are_read_back();
+    normal_method_is_its_form();
+    normal_parameter_is_its_form();
+    normal_conversion_is_its_form();
+    normal_geoid_model_is_its_form();
+    same_conversions_have_one_form();
+    members_read_once();
+    parts_read_once();
+    parts_are_sound();
+    text_laws();
+    written_items();
+}
+
+pub(super) fn dynamic_parts_have_texts()
+    ensures deformation_model { (level : Level) →
+        IsWrittenForm IsDeformationModel (SameDeformationModel level) (IsSpelledDeformationModel level)
+        (deformation_model_text level) }
+    ensures dynamic { (level : Level) →
+        IsWrittenForm IsDynamic (SameDynamic level) (IsSpelledDynamic level) (dynamic_text level) }
+{
+    made_deformation_model_is_normal();
+    made_dynamic_is_normal();
+    crs_parts_are_read_back();
+    normal_deformation_model_is_its_form();
+    normal_dynamic_is_its_form();
+    same_dynamic_parts_have_one_form();
+    parts_read_once();
+    parts_are_sound();
+    text_laws();
+    written_items();
+}
+
+pub(super) fn extents_have_texts()
+    ensures bounding_box { (level : Level) →
+        IsWrittenForm IsBox SameBox (IsSpelledBox level) (box_text level) }
+    ensures extent { (level : Level) →
+        IsWrittenForm IsExtent (SameExtent level) (IsSpelledExtent level) (extent_text level) }
+{
+    made_box_is_normal();
+    made_extent_is_normal();
+    members_are_read_back();
+    normal_usage_is_its_form();
+    same_tails_have_one_form();
+    members_read_once();
+    parts_read_once();
+    parts_are_sound();
+    text_laws();
+    written_items();
+}
+
+pub(super) fn usages_have_texts()
+    ensures { (level : Level) →
+        IsWrittenForm IsUsage SameUsage (IsSpelledUsage level) (usage_text level) }
+{
+    made_usage_is_normal();
+    members_are_read_back();
+    normal_usage_is_its_form();
+    same_tails_have_one_form();
+    members_read_once();
+    parts_are_sound();
+    text_laws();
+    written_items();
+}
+
+pub(super) fn datums_have_texts()
+    ensures datum { (level : Level) →
+        IsWrittenForm IsDatum (SameDatum level) (IsSpelledDatum level) (datum_text level) }
+    ensures ensemble { (level : Level) →
+        IsWrittenForm IsEnsemble (SameEnsemble level) (IsSpelledEnsemble level) (ensemble_text level) }
+{
+    made_geodetic_frame_is_normal();
+    made_vertical_frame_is_normal();
+    normal_frame_is_its_form();
+    same_frames_have_one_form();
+    parts_read_once();
+    parts_are_sound();
+    text_laws();
+    written_items();
+}
+
+pub(super) fn frames_have_texts()
+    ensures { (level : Level) →
+        IsWrittenForm IsFrame (SameFrame level) (IsSpelledFrame level) (frame_text level) }
+{
+    datums_have_texts();
+}
+
+pub(super) fn kinds_have_texts()
+    ensures base { (level : Level) →
+        IsWrittenForm IsBase (SameBase level) (IsSpelledBase level) (base_text level) }
+    ensures geodetic { (level : Level) →
+        IsWrittenForm IsGeodetic (SameGeodetic level) (IsSpelledGeodetic level) (geodetic_text level) }
+    ensures projected { (level : Level) →
+        IsWrittenForm IsProjected (SameProjected level) (IsSpelledProjected level) (projected_text level) }
+    ensures vertical { (level : Level) →
+        IsWrittenForm IsVertical (SameVertical level) (IsSpelledVertical level) (vertical_text level) }
+    ensures compound { (level : Level) →
+        IsWrittenForm IsCompound (SameCompound level) (IsSpelledCompound level) (compound_text level) }
+{
+    made_base_is_normal();
+    made_geodetic_is_normal();
+    made_projected_is_normal();
+    made_vertical_is_normal();
+    made_compound_is_normal();
+    crs_parts_are_read_back();
+    crs_is_read_back();
+    normal_base_is_its_form();
+    normal_crs_is_its_form();
+    same_kinds_have_one_form();
+    written_forms_are_equal_where_same();
+    parts_read_once();
+    parts_are_sound();
+    kinds_are_sound();
+    text_laws();
+    written_items();
+}
+
+pub(super) fn horizontals_have_texts()
+    ensures { (level : Level) →
+        IsWrittenForm IsHorizontalPart (SameHorizontal level) (IsSpelledHorizontal level) (horizontal_text level) }
+{
+    kinds_have_texts();
+    written_forms_are_equal_where_same();
+}

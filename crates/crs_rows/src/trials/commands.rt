@@ -1,0 +1,137 @@
+//! The reading of a command line, and the runs of commands.
+use crate::escapes::put_text;
+use crate::lines::put_asked;
+use crate::runs::{put_outcome, put_written};
+use crate::trials::trial::{Trial, run};
+use crate::trials::unusable;
+use crs_desk::{
+    Level, Request, RequestFault, RunFault, Sink, Source, request, run_canon, run_check, run_same,
+};
+use std::alloc::{AllocError, Global};
+use std::{io, str};
+
+// No row writes more bytes.
+const ROOM: usize = 65_536;
+
+// A command with its text or texts.
+#[derive(Clone, Copy)]
+enum Command<'t> {
+    Canon(&'t [u8]),
+    Check(&'t [u8]),
+    Same(&'t [u8], &'t [u8]),
+}
+
+// The run of a command, into a vector that has room for what is written.
+#[derive(Drop)]
+struct Run<'t> {
+    command: Command<'t>,
+    written: Vec<u8>,
+}
+
+impl Trial for Run<'_> {
+    type Answer = Result<u8, RunFault>;
+
+    fn call(&mut self, alloc: Global) -> Result<Self::Answer, AllocError> {
+        let command = self.command;
+        let mut sink = Sink::new(&mut self.written);
+        let outcome = match command {
+            Command::Canon(text) => {
+                run_canon(alloc, Level::Full, &mut Source::new(text), &mut sink)
+            }
+            Command::Check(text) => run_check(alloc, &mut Source::new(text), &mut sink),
+            Command::Same(a, b) => run_same(alloc, Level::Full, a, b, &mut sink),
+        };
+        ended(outcome)
+    }
+
+    fn is_kept(&self, _alloc: Global) -> Result<bool, AllocError> {
+        Ok(self.written.is_empty())
+    }
+
+    fn put_answer(&self, out: &mut String, answer: &Self::Answer) -> Result<(), AllocError> {
+        put_outcome(out, answer)?;
+        put_written(out, &self.written)
+    }
+}
+
+/// How a run ended; want of memory is the error.
+pub fn ended<T: Drop>(outcome: Result<T, RunFault>) -> Result<Result<T, RunFault>, AllocError> {
+    match &outcome {
+        Err(RunFault::Memory) => Err(AllocError),
+        _ => Ok(outcome),
+    }
+}
+
+/// A vector for what is written, with room for it.
+pub fn make_page(alloc: Global) -> Result<Vec<u8>, AllocError> {
+    Vec::with_capacity(alloc, ROOM)
+}
+
+fn run_command(rt: &(impl Print + AllocGlobal), command: Command<'_>) -> io::Result<()> {
+    let written = make_page(rt.alloc())?;
+    run(rt, &mut Run { command, written })
+}
+
+/// `run_canon` over a text.
+pub fn try_canon(rt: &(impl Print + AllocGlobal), text: &[u8]) -> io::Result<()> {
+    run_command(rt, Command::Canon(text))
+}
+
+/// `run_check` over a text.
+pub fn try_check(rt: &(impl Print + AllocGlobal), text: &[u8]) -> io::Result<()> {
+    run_command(rt, Command::Check(text))
+}
+
+/// `run_same` of two texts.
+pub fn try_same(rt: &(impl Print + AllocGlobal), first: &[u8], second: &[u8]) -> io::Result<()> {
+    run_command(rt, Command::Same(first, second))
+}
+
+// `request` of words, of which the first is the program's name.
+#[derive(Drop)]
+struct Words<'t> {
+    words: Vec<&'t str>,
+}
+
+impl Trial for Words<'_> {
+    type Answer = Result<Request, RequestFault>;
+
+    fn call(&mut self, alloc: Global) -> Result<Self::Answer, AllocError> {
+        let asked = request(alloc, &self.words);
+        match &asked {
+            Err(RequestFault::Memory(error)) => Err(*error),
+            _ => Ok(asked),
+        }
+    }
+
+    // Words that are only read can't change.
+    fn is_kept(&self, _alloc: Global) -> Result<bool, AllocError> {
+        Ok(true)
+    }
+
+    fn put_answer(&self, out: &mut String, answer: &Self::Answer) -> Result<(), AllocError> {
+        match answer {
+            Ok(asked) => put_asked(out, asked),
+            Err(fault) => put_message(out, fault),
+        }
+    }
+}
+
+// What the user is told.
+fn put_message(out: &mut String, fault: &RequestFault) -> Result<(), AllocError> {
+    let message = format!(in *out.allocator(); "{fault}")?;
+    out.push_str("message ")?;
+    put_text(out, message.as_bytes())
+}
+
+/// `request` of words, of which the first is the program's name.
+pub fn try_request(rt: &(impl Print + AllocGlobal), parts: &[&[u8]]) -> io::Result<()> {
+    let mut words = Vec::new(rt.alloc());
+    for part in parts {
+        match str::from_utf8(part) {
+            Ok(word) => words.push(word)?,
+            Err(_) => return Err(unusable()),
+        }
+    }
+    run(rt, &mut Words { words })
+}

@@ -1,0 +1,116 @@
+//! Calls that make the value of a text, or its canonical text.
+use crate::escapes::put_text;
+use crate::texts::{answered, put_refusal};
+use crate::trials::trial::{Trial, run};
+use crate::trials::unusable;
+use crate::values::kind_word;
+use crs_canon::{Canon, canon, canon_of};
+use crs_text::{Fault, Items, Refusal, read_items};
+use crs_value::{Crs, Level, read, value_of};
+use std::alloc::{AllocError, Global};
+use std::io;
+
+// What makes a value: `read` of a text, or `value_of` of items.
+#[derive(Clone, Copy)]
+enum Reading<'i, 't> {
+    Text(&'t [u8]),
+    Items(&'i Items<'t>),
+}
+
+impl<'t> Trial for Reading<'_, 't> {
+    type Answer = Result<Crs<'t>, Refusal>;
+
+    fn call(&mut self, alloc: Global) -> Result<Self::Answer, AllocError> {
+        match self {
+            Reading::Text(text) => answered(read(alloc, text)),
+            Reading::Items(items) => answered(value_of(alloc, items)),
+        }
+    }
+
+    // Bytes and items that are only read can't change.
+    fn is_kept(&self, _alloc: Global) -> Result<bool, AllocError> {
+        Ok(true)
+    }
+
+    // A value by its kind and its canonical text.
+    fn put_answer(&self, out: &mut String, answer: &Self::Answer) -> Result<(), AllocError> {
+        match answer {
+            Ok(crs) => {
+                out.push_str(kind_word(crs.kind()))?;
+                out.push(' ')?;
+                let text = canon_of(*out.allocator(), crs, Level::Full)?;
+                put_text(out, text.bytes())
+            }
+            Err(refusal) => put_refusal(out, *refusal),
+        }
+    }
+}
+
+// What is spelled: by `canon` the CRS of a text, by `canon_of` a CRS.
+#[derive(Clone, Copy)]
+enum Spelling<'v, 't> {
+    Text(&'t [u8]),
+    Crs(&'v Crs<'t>),
+}
+
+impl Trial for Spelling<'_, '_> {
+    type Answer = Result<Canon, Refusal>;
+
+    fn call(&mut self, alloc: Global) -> Result<Self::Answer, AllocError> {
+        match self {
+            Spelling::Text(text) => answered(canon(alloc, text, Level::Full)),
+            Spelling::Crs(crs) => Ok(Ok(canon_of(alloc, crs, Level::Full)?)),
+        }
+    }
+
+    // Bytes and values that are only read can't change.
+    fn is_kept(&self, _alloc: Global) -> Result<bool, AllocError> {
+        Ok(true)
+    }
+
+    fn put_answer(&self, out: &mut String, answer: &Self::Answer) -> Result<(), AllocError> {
+        match answer {
+            Ok(text) => {
+                out.push_str("text ")?;
+                put_text(out, text.bytes())
+            }
+            Err(refusal) => put_refusal(out, *refusal),
+        }
+    }
+}
+
+/// `read` of a text.
+pub fn try_read(rt: &(impl Print + AllocGlobal), text: &[u8]) -> io::Result<()> {
+    run(rt, &mut Reading::Text(text))
+}
+
+/// `value_of` of the items of a text.
+pub fn try_value_of(rt: &(impl Print + AllocGlobal), text: &[u8]) -> io::Result<()> {
+    match read_items(rt.alloc(), text) {
+        Ok(items) => run(rt, &mut Reading::Items(&items)),
+        Err(_) => Err(unusable()),
+    }
+}
+
+/// `canon` of a text.
+pub fn try_canon(rt: &(impl Print + AllocGlobal), text: &[u8]) -> io::Result<()> {
+    run(rt, &mut Spelling::Text(text))
+}
+
+/// `canon_of` the CRS that a text spells.
+pub fn try_canon_of(rt: &(impl Print + AllocGlobal), text: &[u8]) -> io::Result<()> {
+    let crs = crs_of(rt.alloc(), text)?;
+    run(rt, &mut Spelling::Crs(&crs))
+}
+
+/// The CRS that a text spells, for a call that is handed one.
+pub fn crs_of(alloc: Global, text: &[u8]) -> io::Result<Crs<'_>> {
+    read(alloc, text).map_err(fault_of)
+}
+
+fn fault_of(fault: Fault) -> io::Error {
+    match fault {
+        Fault::Refused(_) => unusable(),
+        Fault::Memory(error) => io::Error::from(error),
+    }
+}
