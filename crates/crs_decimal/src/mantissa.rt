@@ -1,4 +1,4 @@
-ghost use Rattle.std.specs.Prelude.{◌≡◌, ℕ, ◌+◌, ◌<◌, ◌≤◌, ◌*◌, ◌^◌, if◌then◌else◌, Option, Some, None};
+ghost use Rattle.std.specs.Prelude.{◌≡◌, ◌+◌, ◌<◌, ◌≤◌, ◌*◌, ◌^◌, if◌then◌else◌, Option, Some, None};
 ghost use Rattle.crs_decimal.specs.Mantissa.{no_digits, with_digit, fits};
 
 /// Digits read so far, `digits * 10^zeros`; where they don't fit 38 digits only that is known.

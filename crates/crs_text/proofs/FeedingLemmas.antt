@@ -9,7 +9,7 @@ use Rattle.std.proofs.lemmas.List.Folds.{list_all-append}
 use Rattle.std.proofs.lemmas.List.Sums.{prefix_len-le-length}
 use Rattle.crs_decimal.specs.Spelling.{is_run_byte, is_run_start}
 use Rattle.crs_text.specs.Tokens as tokens
-use Rattle.crs_text.specs.Tokens.{Kind, number, word, Token, single, comma, opening, closing, is_white, is_letter, is_word_byte, IsWord, Forms, IsAfterWhite}
+use Rattle.crs_text.specs.Tokens.{number, word, Token, single, comma, opening, closing, is_white, is_letter, is_word_byte, IsWord, Forms, IsAfterWhite}
 use Rattle.crs_text.specs.Quoted.{StopsAt, BeginsWith, doubled, is_quote, IsInside, IsShut, IsShutAt}
 use Rattle.crs_text.specs.Utf8.{IsUtf8Front}
 use Rattle.crs_text.specs.TextFault.{begins_token, is_delimiter, BeginsNoToken, IsFlaw, IsStop, IsTextFault}

@@ -3,7 +3,7 @@ use Rattle.std.proofs.Common.{◌≡◌, ℕ, true, false, codes, List, [], ◌�
 use Rattle.std.specs.Prelude.{IsUtf8}
 use Rattle.crs_text.specs.Quoted.{is_quote}
 use Rattle.crs_text.specs.Tokens as tokens
-use Rattle.crs_text.specs.Tokens.{Token, single, comma, opening, closing, is_white, IsSingle, Forms}
+use Rattle.crs_text.specs.Tokens.{Token, single, comma, opening, closing, is_white}
 use Rattle.crs_text.specs.declared.refusal.Reason.TheVariants.{BadCharacter, Unexpected}
 use Rattle.crs_text.specs.Settled.{FormsSettled, SettledFronts, IsSettledRefusal, IsTakenSoFar}
 use Rattle.crs_text.specs.SettledExamples.{begun}

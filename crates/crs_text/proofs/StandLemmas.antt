@@ -3,7 +3,7 @@ use Rattle.std.proofs.Common.{◌≡◌, ℕ, suc, List, [], ◌∷◌, ◌++◌
 use Rattle.std.proofs.lemmas.List.{length-append, drop_at}
 use Rattle.std.proofs.Math.Seq.{take-append_seam}
 use Rattle.crs_text.specs.Tokens as tokens
-use Rattle.crs_text.specs.Tokens.{Token, single, comma, opening, closing, spelling, IsFormed, Forms, IsAfterWhite, Fronts, AreTokens}
+use Rattle.crs_text.specs.Tokens.{Token, single, comma, opening, closing, spelling, IsFormed, Forms, Fronts}
 use Rattle.crs_text.specs.Items.{Item}
 use Rattle.crs_text.specs.Rows.{rows}
 use Rattle.crs_text.specs.Tree.{StandsAt, TokenStands, AllStand, Each, IsTable}

@@ -1,6 +1,6 @@
 //! How far the front of a text is settled while more of it may come. What is pending at its end is scanned
 //! from where the last piece left it.
-ghost use Rattle.std.specs.Prelude.{◌<◌, length, drop, IfSome, MatchBool, MatchResult};
+ghost use Rattle.std.specs.Prelude.{◌<◌, length, IfSome, MatchBool, MatchResult};
 ghost use Rattle.crs_text.specs.Quoted.{BeginsWith, IsShutAt};
 ghost use Rattle.crs_text.specs.Utf8.{IsUtf8Front};
 ghost use Rattle.crs_text.specs.Settled.{IsRunSettled};

@@ -1,7 +1,7 @@
-ghost use Rattle.std.specs.Prelude.{◌≡◌, ℕ, ◌+◌, ◌-◌, ◌<◌, ◌≤◌, ◌&&◌, true, IsTrue, IsSome, IfOk, OnOk, OnErr, List};
-ghost use Rattle.std.specs.Prelude.{[], ◌∷◌, length};
+ghost use Rattle.std.specs.Prelude.{◌≡◌, ◌+◌, ◌-◌, ◌<◌, ◌≤◌, ◌&&◌, true, IsSome, IfOk, OnOk, OnErr};
+ghost use Rattle.std.specs.Prelude.{[], length};
 ghost use Rattle.crs_text.specs.Table.{AreRoomy, counted, counted_in, position_after, may_begin, with_leaf};
-ghost use Rattle.crs_text.specs.Table.{flat_single, may_go_on, flat_comma, is_after_word, with_open, has_square};
+ghost use Rattle.crs_text.specs.Table.{flat_single, may_go_on, flat_comma, with_open, has_square};
 ghost use Rattle.crs_text.specs.Table.{with_close, flat_close, IsStep, IsOpened, is_whole};
 ghost use Rattle.crs_text.specs.Items.{keyword_at};
 ghost use Rattle.crs_text.specs.State.{start};
