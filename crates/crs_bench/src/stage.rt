@@ -18,7 +18,7 @@ use std::io;
 pub enum Stage {
     /// From the text: tokens and items.
     Items,
-    /// The same of a text that comes in pieces of at most so many bytes.
+    /// From a text that comes in pieces of at most so many bytes: tokens and items.
     Feed(usize),
     /// From the items: their shape.
     Shape,

@@ -37,7 +37,7 @@ impl Tally {
         }
     }
 
-    /// So many counted, and so many refused, over all texts.
+    /// What was counted, and how many texts were refused, over all texts.
     pub fn set(&mut self, counted: u64, refused: u64) {
         self.counted = counted;
         self.refused = refused;

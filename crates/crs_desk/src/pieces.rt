@@ -4,8 +4,9 @@ ghost use Rattle.crs_group.specs.Streams.{fresh_source};
 ghost use Rattle.crs_desk.specs.Pieces.{IsHeld, IsHeldOf};
 ghost use Rattle.crs_desk.specs.Whole.{IsReadFault};
 
-use crate::text::{MAX_BYTES, MAX_READS, make_room};
+use crate::text::MAX_BYTES;
 use crate::{RunFault, Source};
+use crs_group::{MAX_READS, make_room};
 use crs_text::{Fault, Feeder};
 use std::alloc::Global;
 use std::io::Read;

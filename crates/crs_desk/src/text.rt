@@ -3,14 +3,11 @@ ghost use Rattle.crs_group.specs.Streams.{fresh_source};
 ghost use Rattle.crs_desk.specs.Whole.{IsWhole, IsReadFault};
 
 use crate::{RunFault, Source};
-use std::alloc::{AllocError, Global};
+use crs_group::{MAX_READS, make_room};
+use std::alloc::Global;
 use std::io::Read;
 
-pub(crate) const MAX_READS: u32 = 1_048_576;
-
 pub(crate) const MAX_BYTES: usize = 1_048_576;
-
-const ROOM: usize = 65_536;
 
 // The whole text of a source, at most 1,048,576 bytes.
 pub(crate) fn read_text<R: Read>(alloc: Global, source: &mut Source<R>) -> Result<Vec<u8>, RunFault>
@@ -53,10 +50,4 @@ fn read_into<R: Read>(
             .map_err(|_| RunFault::Memory)?;
     }
     Err(RunFault::TooManyReads)
-}
-
-pub(crate) fn make_room(alloc: Global) -> Result<Vec<u8>, AllocError>
-    ensures { IfOk result (λ room. vec_len room ≡ 65536) }
-{
-    vec![in alloc; 0u8; ROOM]
 }

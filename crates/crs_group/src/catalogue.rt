@@ -1,13 +1,13 @@
 //! The catalogue: groups by their canonical texts, and the refused lines.
-ghost use Rattle.std.specs.Prelude.{◌≡◌, ◌+◌, ◌^◌, ◌<◌, [], ◌∷◌, ◌++◌, List, Some, length, slice_get};
-ghost use Rattle.std.specs.Prelude.{MatchOption, IfOk, IfSome, OnErr, OnOk};
+ghost use Rattle.std.specs.Prelude.{◌≡◌, ◌+◌, ◌<◌, [], ◌∷◌, ◌++◌, List, Some, length};
+ghost use Rattle.std.specs.Prelude.{IfOk, OnErr, OnOk};
 ghost use Rattle.std.specs.Option.{option_copied, option_map};
 ghost use Rattle.std.specs.List.{list_all};
 ghost use Rattle.crs_text.specs.Tokens.{is_white};
 ghost use Rattle.crs_group.specs.Catalogue.{Line, line_of, nth};
-ghost use Rattle.crs_group.specs.GroupTexts.{IsCatalogue, IsCatalogueOf, canons, then_line};
+ghost use Rattle.crs_group.specs.GroupTexts.{IsCatalogue, IsCatalogueOf, then_line};
 ghost use Rattle.crs_group.specs.Partition.{PlacedLine};
-ghost use Rattle.crs_group.specs.Putting.{IsJoined, IsNew, IsPut, IsRefused, group_of};
+ghost use Rattle.crs_group.specs.Putting.{IsPut, IsRefused};
 
 use crate::groups::Groups;
 use crate::placed::Placed;

@@ -1,5 +1,5 @@
 //! How a catalogue is written.
-ghost use Rattle.std.specs.Prelude.{◌≡◌, ◌++◌, ℕ, OnOk};
+ghost use Rattle.std.specs.Prelude.{◌≡◌, ◌++◌, OnOk};
 ghost use Rattle.std.specs.List.{flat_map};
 ghost use Rattle.crs_group.specs.Catalogue.{GroupParts};
 ghost use Rattle.crs_group.specs.Output.{catalogue_text, group_line, group_lines, numbers_text};

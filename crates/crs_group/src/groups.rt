@@ -53,7 +53,7 @@ impl Groups {
         }
     }
 
-    // The same, where there is such a group.
+    // The lines of a group that is there.
     pub(crate) fn lines_at(&self, at: usize) -> &[u64]
         requires { at < length self.now }
         ensures { slice_get (map (λ group. group.lines) self.now) at ≡ Some result.now }

@@ -20,5 +20,5 @@ pub use fault::RunFault;
 pub use placed::Placed;
 pub use run::run_group;
 pub use sink::Sink;
-pub use source::Source;
+pub use source::{MAX_READS, Source, make_room};
 pub use summary::Summary;

@@ -1,4 +1,4 @@
-ghost use Rattle.std.specs.Prelude.{◌≡◌, ◌≤◌, ◌↔◌, [], IfErr, IfOk, IsErrOf, OnOk, false, length, true, vec_len};
+ghost use Rattle.std.specs.Prelude.{◌≡◌, ◌≤◌, ◌↔◌, [], IfErr, IfOk, IsErrOf, OnOk, false, length, true};
 ghost use Rattle.crs_group.specs.Cutting.{IsCutTo};
 ghost use Rattle.crs_group.specs.GroupRun.{IsGroupFault, IsGrouped, IsReadingFault};
 ghost use Rattle.crs_group.specs.Reading.{IsLedgerWhole, IsReadInto, WritesLedger, IsWritingFault};
@@ -9,15 +9,11 @@ use crate::fault::RunFault;
 use crate::group_text::write_catalogue;
 use crate::ledger::Ledger;
 use crate::sink::Sink;
-use crate::source::Source;
+use crate::source::{MAX_READS, Source, make_room};
 use crate::summary::Summary;
 use crs_value::Level;
-use std::alloc::{AllocError, Global};
+use std::alloc::Global;
 use std::io::{Read, Write};
-
-const MAX_READS: u32 = 1_048_576;
-
-const ROOM: usize = 65_536;
 
 /// Reads lines of texts to the end, and writes their catalogue at a level: for each group `group N:` and the numbers
 /// of its lines, and then for each refused line `line L:` and the refusal. Lines are numbered from 1, blank ones
@@ -101,10 +97,4 @@ fn write_ledger<W: Write>(
         sink.write_all(&text).map_err(|_| RunFault::WriteFailed)?;
     }
     Ok(ledger.summary())
-}
-
-fn make_room(alloc: Global) -> Result<Vec<u8>, AllocError>
-    ensures { IfOk result (λ room. vec_len room ≡ 65536) }
-{
-    vec![in alloc; 0u8; ROOM]
 }

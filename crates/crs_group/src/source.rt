@@ -1,11 +1,18 @@
-ghost use Rattle.std.specs.Prelude.{◌≡◌, ◌≤◌, ◌<◌, length, true, IsTrue};
+ghost use Rattle.std.specs.Prelude.{◌≡◌, ◌≤◌, ◌<◌, IfOk, length, true, vec_len};
 ghost use Rattle.std.specs.Io.{ReadsAtMost};
 ghost use Rattle.std.specs.Io.KnownBytes.{ReadConsumes};
 ghost use Rattle.crs_group.specs.Streams.{CountsRead, fresh_source};
 
+use std::alloc::{AllocError, Global};
 use std::io;
 use std::io::Read;
 use std::marker::Model;
+
+/// The reads that a run makes at most. Profile.
+pub const MAX_READS: u32 = 1_048_576;
+
+// The bytes of a read at most.
+const ROOM: usize = 65_536;
 
 /// A reader that counts its reads and remembers a failure.
 #[derive(Drop)]
@@ -90,4 +97,11 @@ impl<R: Read> Source<R> {
     {
         self.failed
     }
+}
+
+/// Room for a read of a run, 65,536 bytes. `AllocError` where there is no memory for it. Profile.
+pub fn make_room(alloc: Global) -> Result<Vec<u8>, AllocError>
+    ensures { IfOk result (λ room. vec_len room ≡ 65536) }
+{
+    vec![in alloc; 0u8; ROOM]
 }

@@ -1,4 +1,5 @@
 //! From the name of a call to its answer.
+use crate::nodes::Part;
 use crate::texts::Column;
 use crate::{
     canonical, catalogues, failures, levels, lines, nodes, numbers, pieces, runs, sameness, shapes,
@@ -95,14 +96,14 @@ fn put_value_answer(
         "same_axis" => sameness::put_same_axis(out, alloc, level, input),
         "canon" => canonical::put_canon(out, alloc, level, input),
         "Canon::same" => canonical::put_same(out, alloc, level, input),
-        "Axis::write" => nodes::put_axis(out, alloc, level, input),
-        "Dynamic::write" => nodes::put_dynamic(out, alloc, level, input),
         "levels" => levels::put_levels(out, alloc, input),
-        "Ident::write" => nodes::put_ident(out, alloc, level, input),
-        "Usage::write" => nodes::put_usage(out, alloc, level, input),
-        "Extent::write" => nodes::put_extent(out, alloc, level, input),
-        "DeformationModel::write" => nodes::put_model(out, alloc, level, input),
-        "Set::write" => nodes::put_set(out, alloc, level, input),
+        "Axis::write" => nodes::put_part(out, alloc, level, Part::Axis, input),
+        "Dynamic::write" => nodes::put_part(out, alloc, level, Part::Dynamic, input),
+        "DeformationModel::write" => nodes::put_part(out, alloc, level, Part::Model, input),
+        "Usage::write" => nodes::put_part(out, alloc, level, Part::Usage, input),
+        "Extent::write" => nodes::put_part(out, alloc, level, Part::Extent, input),
+        "Ident::write" => nodes::put_part(out, alloc, level, Part::Ident, input),
+        "Set::write" => nodes::put_part(out, alloc, level, Part::Idents, input),
         "run_canon" => runs::put_canon(out, alloc, level, input),
         "run_check" => runs::put_check(out, alloc, input),
         "run_same" => runs::put_same(out, alloc, level, "", input),

@@ -20,6 +20,7 @@ mod streams;
 mod texts;
 mod trials;
 mod values;
+mod verticals;
 
 use std::{env, fs, io};
 

@@ -179,7 +179,7 @@ pub fn put_canon(
     put_written(out, &written)
 }
 
-/// The same of `check`.
+/// The status of `check` over a reader and a writer of the library, or its fault, and what it has written.
 pub fn put_check(out: &mut String, alloc: Global, input: &[u8]) -> Result<(), AllocError> {
     let mut written = Vec::new(alloc);
     let mut sink = Sink::new(&mut written);
@@ -187,7 +187,7 @@ pub fn put_check(out: &mut String, alloc: Global, input: &[u8]) -> Result<(), Al
     put_written(out, &written)
 }
 
-/// The same of `same` for two texts, one a line, whose answer is written in the manner of the words.
+/// The status of `same` for two texts, one a line, or its fault, and what it has written in the manner of the words.
 pub fn put_same(
     out: &mut String,
     alloc: Global,

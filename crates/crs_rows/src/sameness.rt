@@ -1,6 +1,7 @@
 //! The calls that compare CRSs.
 use crate::escapes::put_text;
 use crate::texts::put_fault;
+use crate::verticals::first_axis;
 use bstr::ByteSlice;
 use crs_same::parts::same_axis;
 use crs_same::{Path, first_part, same};
@@ -35,7 +36,7 @@ fn put_same_as<'a>(
     }
 }
 
-/// The same of the first axes of two vertical CRSs by themselves, without the part; `no axes` for other texts.
+/// Whether the first axes of two vertical CRSs are the same by themselves; `no axes` for other texts.
 pub fn put_same_axis(
     out: &mut String,
     alloc: Global,
@@ -59,14 +60,6 @@ fn put_same_axis_as<'a>(
     match read(alloc, second) {
         Ok(crs) => out.push_str(axes_told(first, first_axis(&crs), level)),
         Err(fault) => put_fault(out, fault),
-    }
-}
-
-/// The first axis of a vertical CRS.
-pub fn first_axis<'b, 'a>(crs: &'b Crs<'a>) -> Option<&'b Axis<'a>> {
-    match crs {
-        Crs::Vertical(vertical) => vertical.system.axes.as_slice().first(),
-        Crs::Geodetic(_) | Crs::Projected(_) | Crs::Compound(_) => None,
     }
 }
 

@@ -2,8 +2,8 @@
 use crate::escapes::put_text;
 use crate::numbers::put_spelling;
 use crate::pieces::agree;
-use crate::sameness::first_axis;
 use crate::texts::put_fault;
+use crate::verticals::first_axis;
 use crs_text::{Fault, read_items};
 use crs_value::{Axis, Crs, Kind, read, value_of};
 use std::alloc::{AllocError, Global};
@@ -13,7 +13,7 @@ pub fn put_read(out: &mut String, alloc: Global, input: &[u8]) -> Result<(), All
     put_value(out, read(alloc, input))
 }
 
-/// The same by the text's items; `another answer in pieces` where a cut into pieces gives one.
+/// The kind of the CRS that a text's items spell, or the refusal; `another answer in pieces` where a cut into pieces gives one.
 pub fn put_value_of(out: &mut String, alloc: Global, input: &[u8]) -> Result<(), AllocError> {
     if !agree(alloc, input)? {
         return out.push_str("another answer in pieces");

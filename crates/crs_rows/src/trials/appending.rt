@@ -3,6 +3,7 @@ use crate::escapes::put_text;
 use crate::trials::trial::{Trial, run};
 use crate::trials::unusable;
 use crate::trials::values::crs_of;
+use crate::verticals::{first_axis, first_ident, first_usage, idents_of, vertical_of};
 use crs_canon::{Canonical, Set};
 use crs_decimal::Decimal;
 use crs_same::{Path, first_part};
@@ -121,20 +122,14 @@ pub fn try_part(rt: &(impl Print + AllocGlobal), word: &str, text: &[u8]) -> io:
 }
 
 fn part_of<'v, 'a>(crs: &'v Crs<'a>, word: &str) -> Option<Part<'v, 'a>> {
-    if word == "crs" {
-        return Some(Part::Crs(crs));
-    }
-    let Crs::Vertical(vertical) = crs else {
-        return None;
-    };
-    let axis = vertical.system.axes.as_slice().first()?;
     match word {
-        "axis" => Some(Part::Axis(axis)),
-        "unit" => Some(Part::Unit(axis.unit.as_ref()?)),
-        "frame" => Some(Part::Frame(&vertical.frame)),
-        "usage" => Some(Part::Usage(vertical.tail.usages.as_slice().first()?)),
-        "identifier" => Some(Part::Ident(vertical.tail.identifiers.as_slice().first()?)),
-        "identifiers" => Some(Part::Idents(vertical.tail.identifiers.as_slice())),
+        "crs" => Some(Part::Crs(crs)),
+        "axis" => Some(Part::Axis(first_axis(crs)?)),
+        "unit" => Some(Part::Unit(first_axis(crs)?.unit.as_ref()?)),
+        "frame" => Some(Part::Frame(&vertical_of(crs)?.frame)),
+        "usage" => Some(Part::Usage(first_usage(crs)?)),
+        "identifier" => Some(Part::Ident(first_ident(crs)?)),
+        "identifiers" => Some(Part::Idents(idents_of(crs)?)),
         _ => None,
     }
 }
