@@ -19,9 +19,9 @@ use crate::texts::same_optional_text;
 use crate::units::same_length;
 use crs_value::{BoundingBox, Extent, Level, Tail, Usage};
 
-/// Whether two bounding boxes are the same: south, west, north and east. Boxes say no level.
+/// Whether two bounding boxes are the same: south, west, north and east. A box is compared alike at every level.
 /// ISO 19162:2019, "Geographic bounding box".
-pub fn same_box(a: &BoundingBox, b: &BoundingBox) -> bool
+pub fn same_box(a: &BoundingBox, b: &BoundingBox, _level: Level) -> bool
     ensures { IsTrue result ↔ SameBox a.now b.now }
 {
     same_value(&a.south, &b.south)
@@ -35,7 +35,7 @@ fn same_boxes(a: &Option<BoundingBox>, b: &Option<BoundingBox>) -> bool
 {
     match (a, b) {
         (None, None) => true,
-        (Some(x), Some(y)) => same_box(x, y),
+        (Some(x), Some(y)) => same_box(x, y, Level::Full),
         (None, Some(_)) | (Some(_), None) => false,
     }
 }

@@ -6,7 +6,7 @@ use Rattle.crs_text.specs.Tokens as tokens
 use Rattle.crs_text.specs.Tokens.{Token, single, comma, opening, closing, spelling, IsFormed, Forms, Fronts}
 use Rattle.crs_text.specs.Items.{Item}
 use Rattle.crs_text.specs.Rows.{rows}
-use Rattle.crs_text.specs.Tree.{StandsAt, TokenStands, AllStand, Each, IsTable}
+use Rattle.crs_text.specs.Tree.{StandsAt, TokenStands, AllStand, EachToken, IsTable}
 use Rattle.crs_text.specs.TextFault.{SpellsNode}
 use Rattle.crs_text.specs.declared.table.Row.{Row}
 use Rattle.crs_text.proofs.WrittenLemmas.{fronts_formed}
@@ -47,6 +47,6 @@ pub table_of_spelled : (source : List ℕ) (table : List Row) (item : Item) → 
 table_of_spelled source table item s e = record {
   rows = e;
   stand = subst (AllStand source) s.2.are (all_stand source s.0 source [] ([], refl) s.1);
-  formed = subst (Each IsFormed) s.2.are (fronts_formed (length source) source [] s.0 s.1);
+  formed = subst (EachToken IsFormed) s.2.are (fronts_formed (length source) source [] s.0 s.1);
   node = s.2.is_node;
 }

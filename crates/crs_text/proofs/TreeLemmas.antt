@@ -9,7 +9,7 @@ use Rattle.crs_text.specs.Tokens.{Kind, number, text, word, Token, single, closi
 use Rattle.crs_text.specs.Items.{Item, leaf, node, Siblings, End, More, tokens, others_tokens, first_of, kind_of_item, raw_of, place_of, here, HasId}
 use Rattle.crs_text.specs.Table.{item_kind, leaf_row}
 use Rattle.crs_text.specs.Rows.{rows, rows_of_items, row_of}
-use Rattle.crs_text.specs.Tree.{part_of, parts, parts_of_items, tree, tree-parts, raw_place, part, tree_of, StandsAt, TokenStands, Each, AllStand, IsTable}
+use Rattle.crs_text.specs.Tree.{part_of, parts, parts_of_items, tree, tree-parts, raw_place, part, tree_of, StandsAt, TokenStands, EachToken, AllStand, IsTable}
 use Rattle.crs_text.specs.declared.items.ItemKind.TheVariants.{Number}
 use Rattle.crs_text.specs.declared.table.Row.{Row}
 use Rattle.crs_text.proofs.HereLemmas.{Here, items_at, heres, heres_in, heres_of}
@@ -17,15 +17,15 @@ use Rattle.crs_text.specs.Written.{AreFormed}
 use Rattle.crs_text.proofs.IdLemmas.{length-heres, items-at, lt_from_has}
 use Rattle.crs_text.proofs.WrittenLemmas.{formed_of}
 
-pub each_left : (P : Token → Type 0) (a b : List Token) → Each P (a ++ b) → Each P a
+pub each_left : (P : Token → Type 0) (a b : List Token) → EachToken P (a ++ b) → EachToken P a
 each_left P [] b h = tt
 each_left P (t ∷ a) b h = (h.0, each_left P a b h.1)
 
-pub each_right : (P : Token → Type 0) (a b : List Token) → Each P (a ++ b) → Each P b
+pub each_right : (P : Token → Type 0) (a b : List Token) → EachToken P (a ++ b) → EachToken P b
 each_right P [] b h = h
 each_right P (t ∷ a) b h = each_right P a b h.1
 
-pub each_both : (P : Token → Type 0) (a b : List Token) → Each P a → Each P b → Each P (a ++ b)
+pub each_both : (P : Token → Type 0) (a b : List Token) → EachToken P a → EachToken P b → EachToken P (a ++ b)
 each_both P [] b h k = k
 each_both P (t ∷ a) b h k = (h.0, each_both P a b h.1 k)
 
@@ -73,9 +73,9 @@ all-append Q [] b h k = k
 all-append Q (x ∷ a) b h k = (h.0, all-append Q a b h.1 k)
 
 -- what each token of a tree has, and so each item whose tokens have it, each item in the tree has
-module _ (P : Token → Type 0) (Q : Item → Type 0) (own : (item : Item) → Each P (tokens item) → Q item) where
+module _ (P : Token → Type 0) (Q : Item → Type 0) (own : (item : Item) → EachToken P (tokens item) → Q item) where
   mutual
-    all-heres_in : (item : Item) (depth : ℕ) → Each P (tokens item) → AllHere Q (heres_in depth item)
+    all-heres_in : (item : Item) (depth : ℕ) → EachToken P (tokens item) → AllHere Q (heres_in depth item)
     all-heres_in (leaf kind place raw) depth h = tt
     all-heres_in (node place keyword square first others close) depth h =
         let left = each_left P (tokens first ++ others_tokens others) (closing close square ∷ []) h.1.1 in
@@ -84,7 +84,7 @@ module _ (P : Token → Type 0) (Q : Item → Type 0) (own : (item : Item) → E
         let b = all-heres_of others (suc depth) (each_right P (tokens first) (others_tokens others) left) in
         (own first one, all-append Q (heres_in (suc depth) first) (heres_of (suc depth) others) a b)
 
-    all-heres_of : (items : Siblings) (depth : ℕ) → Each P (others_tokens items) → AllHere Q (heres_of depth items)
+    all-heres_of : (items : Siblings) (depth : ℕ) → EachToken P (others_tokens items) → AllHere Q (heres_of depth items)
     all-heres_of End depth h = tt
     all-heres_of (More item items) depth h =
         let one = each_left P (tokens item) (others_tokens items) h.1 in
@@ -92,7 +92,7 @@ module _ (P : Token → Type 0) (Q : Item → Type 0) (own : (item : Item) → E
         let b = all-heres_of items depth (each_right P (tokens item) (others_tokens items) h.1) in
         (own item one, all-append Q (heres_in depth item) (heres_of depth items) a b)
 
-  all-heres : (tree : Item) → Each P (tokens tree) → AllHere Q (heres tree)
+  all-heres : (tree : Item) → EachToken P (tokens tree) → AllHere Q (heres tree)
   all-heres tree h = (own tree h, all-heres_in tree 0 h)
 
 all-get : (Q : Item → Type 0) (hs : List Here) (i : ℕ) (d : Here) → AllHere Q hs → i < length hs → Q (get_or hs i d).item
@@ -100,7 +100,7 @@ all-get Q [] i d h lt = absurd (omega arith)
 all-get Q (x ∷ hs) zero d h lt = h.0
 all-get Q (x ∷ hs) (suc i) d h lt = all-get Q hs i d h.1 (omega arith)
 
-pub each_item : (P : Token → Type 0) (Q : Item → Type 0) → ((item : Item) → Each P (tokens item) → Q item) → (tree : Item) (id : ℕ) → Each P (tokens tree) →
+pub each_item : (P : Token → Type 0) (Q : Item → Type 0) → ((item : Item) → EachToken P (tokens item) → Q item) → (tree : Item) (id : ℕ) → EachToken P (tokens tree) →
     id < length (rows 0 tree) → Q (first_of (here tree id))
 each_item P Q own tree id h lt =
     let none : Here = record { depth = 0; item = tree; later = End } in
@@ -141,18 +141,18 @@ module _ (source : List ℕ) (tree : Item) (id : ℕ) (row : Row) (stand : AllSt
 abbrev pub IsBoundedHere : Item → Type 0
 IsBoundedHere item = kind_of_item item ≡ Number → IsInBounds (raw_of item)
 
-bounded_here : (item : Item) → Each IsFormed (tokens item) → IsBoundedHere item
+bounded_here : (item : Item) → EachToken IsFormed (tokens item) → IsBoundedHere item
 bounded_here (leaf number place raw) h = λ e. h.0.2
 bounded_here (leaf text place raw) h = λ e. cc
 bounded_here (leaf word place raw) h = λ e. cc
 bounded_here (node place keyword square first others close) h = λ e. cc
 
 -- each number of a tree is within the bounds
-pub bounded : (tree : Item) (id : ℕ) → Each IsFormed (tokens tree) → HasId tree id → IsBoundedHere (first_of (here tree id))
+pub bounded : (tree : Item) (id : ℕ) → EachToken IsFormed (tokens tree) → HasId tree id → IsBoundedHere (first_of (here tree id))
 bounded tree id h has = each_item IsFormed IsBoundedHere bounded_here tree id h (lt_from_has tree id has)
 
 -- each item of a tree is well formed
-pub formed : (tree : Item) (id : ℕ) → Each IsFormed (tokens tree) → HasId tree id → AreFormed (first_of (here tree id))
+pub formed : (tree : Item) (id : ℕ) → EachToken IsFormed (tokens tree) → HasId tree id → AreFormed (first_of (here tree id))
 formed tree id h has = each_item IsFormed AreFormed formed_of tree id h (lt_from_has tree id has)
 
 -- what is within the bounds has no fault

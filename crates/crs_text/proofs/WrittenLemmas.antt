@@ -5,7 +5,7 @@ use Rattle.crs_text.specs.Quoted.{StopsAt}
 use Rattle.crs_text.specs.Tokens.{Kind, number, text, word, Token, single, comma, opening, closing, is_white, IsWord, IsSingle, single_spelling, takes_byte, IsFormed, Forms, Fronts}
 use Rattle.crs_text.specs.Items.{Item, leaf, node, Siblings, End, More, tokens, others_tokens, depth, depths, IsNode}
 use Rattle.crs_text.specs.TextFault.{SpellsNode}
-use Rattle.crs_text.specs.Tree.{Each}
+use Rattle.crs_text.specs.Tree.{EachToken}
 use Rattle.crs_text.specs.Written.{item_text, others_text, AreFormed, AreAllFormed, SameItem, SameItems, at_place, at_places, WrittenSpells}
 use Rattle.crs_text.proofs.FrontsLemmas.{dark_start, dark_word, at_once}
 
@@ -110,7 +110,7 @@ mutual
 -- ---- what a text spells is formed
 
 abbrev AllFormed : List Token → Type 0
-AllFormed ts = Each IsFormed ts
+AllFormed ts = EachToken IsFormed ts
 
 pub fronts_formed : (total : ℕ) (bytes left : List ℕ) (ts : List Token) → Fronts total bytes ts left → AllFormed ts
 fronts_formed total bytes left [] p = tt
@@ -134,7 +134,7 @@ mutual
       let g = formed_items items rest f.1 in
       ((f.0, g.0), g.1)
 
-pub formed_of : (item : Item) → Each IsFormed (tokens item) → AreFormed item
+pub formed_of : (item : Item) → EachToken IsFormed (tokens item) → AreFormed item
 formed_of item all = (formed_item item [] (subst AllFormed (sym (append-nil (tokens item))) all)).0
 
 -- the tokens of an item that a text spells are formed

@@ -14,8 +14,8 @@ pub record Spelled : Type 0 where
   pub named : Keyword
 
 -- a spelling of the program, as such a record
-abbrev pub shown : Spelling → Spelled
-shown s = record { word = s.word.now; named = s.keyword }
+abbrev pub as_spelled : Spelling → Spelled
+as_spelled s = record { word = s.word.now; named = s.keyword }
 
 abbrev pub spelled : Keyword → Spelled
 spelled k = record { word = spelling_of k; named = k }

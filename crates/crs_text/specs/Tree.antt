@@ -213,17 +213,17 @@ TokenStands source (opening square) = Unit {0}
 TokenStands source (closing place square) = Unit {0}
 
 -- each of these tokens is so
-abbrev pub Each : (Token → Type 0) → List Token → Type 0
-Each P [] = Unit {0}
-Each P (t ∷ ts) = P t × Each P ts
+abbrev pub EachToken : (Token → Type 0) → List Token → Type 0
+EachToken P [] = Unit {0}
+EachToken P (t ∷ ts) = P t × EachToken P ts
 
 -- all these tokens stand in the source
 abbrev pub AllStand : List ℕ → List Token → Type 0
-AllStand source ts = Each (TokenStands source) ts
+AllStand source ts = EachToken (TokenStands source) ts
 
 -- the rows are those of a node whose tokens are well formed and stand in the source
 pub record IsTable (source : List ℕ) (table : List Row) (item : Item) : Type 0 where
   pub rows : table ≡ rows 0 item
   pub stand : AllStand source (tokens item)
-  pub formed : Each IsFormed (tokens item)
+  pub formed : EachToken IsFormed (tokens item)
   pub node : IsNode item

@@ -3,7 +3,7 @@ ghost use Rattle.std.specs.Prelude.{◌≡◌, ◌+◌, ◌≤◌, ◌↔◌, Is
 ghost use Rattle.std.specs.Char.{to_ascii_lowercase};
 ghost use Rattle.std.specs.Str.{str_eq_ignore_ascii_case};
 ghost use Rattle.crs_text.specs.Keywords.{keyword_of, spelling_of};
-ghost use Rattle.crs_text.specs.KeywordTable.{shown, spelled, of_length, first_among, is_capital, AreCapitals};
+ghost use Rattle.crs_text.specs.KeywordTable.{as_spelled, spelled, of_length, first_among, is_capital, AreCapitals};
 ghost use Rattle.crs_text.specs.KeywordTable.{AreSpellings, AreSameWithin};
 
 /// A keyword, under its spelling: letter case doesn't count, and one thing may have several keywords.
@@ -213,7 +213,7 @@ macro_rules! by_keyword {
 }
 
 fn of_length(length: usize) -> &'static [Spelling]
-    ensures { map shown result.now ≡ map spelled (of_length length) }
+    ensures { map as_spelled result.now ≡ map spelled (of_length length) }
 {
     keywords!(by_length, length)
 }
@@ -235,8 +235,8 @@ impl Keyword {
 }
 
 fn first_among(spellings: &[Spelling], word: &[u8]) -> Option<Keyword>
-    requires { AreSpellings (map shown spellings.now) }
-    ensures { result ≡ first_among (map shown spellings.now) word.now }
+    requires { AreSpellings (map as_spelled spellings.now) }
+    ensures { result ≡ first_among (map as_spelled spellings.now) word.now }
 {
     for spelling in spellings {
         if same_word(spelling.word, word) {

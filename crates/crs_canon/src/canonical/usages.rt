@@ -17,8 +17,8 @@ impl Canonical for BoundingBox {
 
     ghost IsSpelling = { IsSpelledBox };
 
-    fn same(&self, other: &Self, _level: Level) -> bool {
-        same_box(self, other)
+    fn same(&self, other: &Self, level: Level) -> bool {
+        same_box(self, other, level)
     }
 
     fn write(&self, alloc: Global, _level: Level, out: &mut Vec<u8>) -> Result<(), AllocError> {
