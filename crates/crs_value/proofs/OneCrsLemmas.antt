@@ -10,35 +10,24 @@ use Rattle.crs_value.specs.declared.values.crs.Crs.TheVariants as crs
 use Rattle.crs_value.specs.declared.values.frame.Frame.{Frame}
 use Rattle.crs_value.specs.declared.values.frame.Frame.TheVariants as frames
 use Rattle.crs_value.specs.CompoundValues.{CompoundParts}
-use Rattle.crs_value.specs.ConversionValues.{MethodParts, ParameterParts, ConversionParts, GeoidModelParts}
+use Rattle.crs_value.specs.ConversionValues.{ParameterParts, ConversionParts}
 use Rattle.crs_value.specs.CrsValues.{GeodeticParts, BaseParts, ProjectedParts, VerticalParts}
 use Rattle.crs_value.specs.Reading.{those, ReadsFirst, ReadsElse}
-use Rattle.crs_value.specs.Reads.{ReadsIdent, ReadsNumberOf, ReadsUnit, ReadsMeridian}
-use Rattle.crs_value.specs.ReadsConversion.{ReadsMethod, ReadsAsUnit, ReadsUnitOf, parameter_units, ReadsParameter, ReadsConversion, ReadsGeoidModel}
-use Rattle.crs_value.specs.DynamicValues.{DeformationModelParts, DynamicParts}
-use Rattle.crs_value.specs.ReadsDynamic.{ReadsDeformationModel, ReadsDynamic}
+use Rattle.crs_value.specs.Reads.{ReadsNumberOf, ReadsUnit, ReadsMeridian}
+use Rattle.crs_value.specs.ReadsNamed.{ReadsIdent, ReadsNamed}
+use Rattle.crs_value.specs.NamedValues.{IdentParts, NamedParts}
+use Rattle.crs_value.specs.ReadsConversion.{ReadsAsUnit, ReadsUnitOf, parameter_units, ReadsParameter, ReadsConversion}
+use Rattle.crs_value.specs.DynamicValues.{DynamicParts}
+use Rattle.crs_value.specs.ReadsDynamic.{ReadsDynamic}
 use Rattle.crs_value.specs.ReadsCrs.{IsGeodeticClass, ReadsAsDatum, ReadsAsEnsemble, ReadsFrame, ReadsGeodetic, ReadsBase, ReadsProjected, ReadsVertical, ReadsAsHorizontal, ReadsHorizontal, ReadsCompound, ReadsCrs}
-use Rattle.crs_value.specs.Values.{IdentParts, UnitParts, MeridianParts, SystemParts, TailParts}
+use Rattle.crs_value.specs.Values.{UnitParts, MeridianParts, SystemParts, TailParts}
 use Rattle.crs_value.proofs.CheckLemmas.{DenotesOne}
-use Rattle.crs_value.proofs.OneLemmas.{IsOne, one-first, one-optional, one-each, text-of-one, number-of-one, ident-one, unit-one, meridian-one, datum-one, ensemble-one, tail-one, system-one}
+use Rattle.crs_value.proofs.OneLemmas.{IsOne, one-first, one-optional, one-each, text-of-one, number-of-one, ident-one, named-one, unit-one, meridian-one, datum-one, ensemble-one, tail-one, system-one}
 
 one-else : {V : Type 0} (R : Item → V → Type 0) (Other : V → Type 0) → IsOne R → ((a b : V) → Other a → Other b → a ≡ b) → (items : List Item) (a b : V) →
     ReadsElse R items Other a → ReadsElse R items Other b → a ≡ b
 one-else R Other one other [] a b p q = other a b p q
 one-else R Other one other (i ∷ items) a b p q = one i a b p q
-
-abbrev method-made : List ℕ → List IdentParts → MethodParts
-method-made x0 x1 = record { name = x0; identifiers = x1 }
-
-method-equal : (x0 y0 : List ℕ) (x1 y1 : List IdentParts) → x0 ≡ y0 → x1 ≡ y1 →
-    method-made x0 x1 ≡ method-made y0 y1
-method-equal x0 y0 x1 y1 e0 e1 = cc
-
-pub method-one : (c : Class) → IsOne (ReadsMethod c)
-method-one c item a b p q =
-    method-equal a.name b.name a.identifiers b.identifiers
-    (text-of-one c item a.name b.name p.name q.name)
-    (one-each (ReadsIdent class.Identifier) (ident-one class.Identifier) (those c class.Identifier (arguments item)) a.identifiers b.identifiers p.identifiers q.identifiers)
 
 as_unit-one : DenotesOne → (d : Class) → IsOne (ReadsAsUnit d)
 as_unit-one law d item None b p q = absurd p
@@ -67,10 +56,10 @@ parameter-one law c item a b p q =
     (unit_of-one law parameter_units c item a.unit b.unit p.unit q.unit)
     (one-each (ReadsIdent class.Identifier) (ident-one class.Identifier) (those c class.Identifier (arguments item)) a.identifiers b.identifiers p.identifiers q.identifiers)
 
-abbrev conversion-made : List ℕ → MethodParts → List ParameterParts → List IdentParts → ConversionParts
+abbrev conversion-made : List ℕ → NamedParts → List ParameterParts → List IdentParts → ConversionParts
 conversion-made x0 x1 x2 x3 = record { name = x0; method = x1; parameters = x2; identifiers = x3 }
 
-conversion-equal : (x0 y0 : List ℕ) (x1 y1 : MethodParts) (x2 y2 : List ParameterParts) (x3 y3 : List IdentParts) → x0 ≡ y0 → x1 ≡ y1 → x2 ≡ y2 → x3 ≡ y3 →
+conversion-equal : (x0 y0 : List ℕ) (x1 y1 : NamedParts) (x2 y2 : List ParameterParts) (x3 y3 : List IdentParts) → x0 ≡ y0 → x1 ≡ y1 → x2 ≡ y2 → x3 ≡ y3 →
     conversion-made x0 x1 x2 x3 ≡ conversion-made y0 y1 y2 y3
 conversion-equal x0 y0 x1 y1 x2 y2 x3 y3 e0 e1 e2 e3 = cc
 
@@ -78,21 +67,8 @@ pub conversion-one : DenotesOne → (c : Class) → IsOne (ReadsConversion c)
 conversion-one law c item a b p q =
     conversion-equal a.name b.name a.method b.method a.parameters b.parameters a.identifiers b.identifiers
     (text-of-one c item a.name b.name p.name q.name)
-    (one-first (ReadsMethod class.Method) (method-one class.Method) (those c class.Method (arguments item)) a.method b.method p.method q.method)
+    (one-first (ReadsNamed class.Method) (named-one class.Method) (those c class.Method (arguments item)) a.method b.method p.method q.method)
     (one-each (ReadsParameter class.Parameter) (parameter-one law class.Parameter) (those c class.Parameter (arguments item)) a.parameters b.parameters p.parameters q.parameters)
-    (one-each (ReadsIdent class.Identifier) (ident-one class.Identifier) (those c class.Identifier (arguments item)) a.identifiers b.identifiers p.identifiers q.identifiers)
-
-abbrev geoid_model-made : List ℕ → List IdentParts → GeoidModelParts
-geoid_model-made x0 x1 = record { name = x0; identifiers = x1 }
-
-geoid_model-equal : (x0 y0 : List ℕ) (x1 y1 : List IdentParts) → x0 ≡ y0 → x1 ≡ y1 →
-    geoid_model-made x0 x1 ≡ geoid_model-made y0 y1
-geoid_model-equal x0 y0 x1 y1 e0 e1 = cc
-
-pub geoid_model-one : (c : Class) → IsOne (ReadsGeoidModel c)
-geoid_model-one c item a b p q =
-    geoid_model-equal a.name b.name a.identifiers b.identifiers
-    (text-of-one c item a.name b.name p.name q.name)
     (one-each (ReadsIdent class.Identifier) (ident-one class.Identifier) (those c class.Identifier (arguments item)) a.identifiers b.identifiers p.identifiers q.identifiers)
 
 as_datum-one : DenotesOne → (d : Class) → IsOne (ReadsAsDatum d)
@@ -110,30 +86,17 @@ frame-one law d e c item a b p q =
     one-else (ReadsAsDatum d) (ReadsFirst (ReadsAsEnsemble e) (those c e (arguments item))) (as_datum-one law d)
     (one-first (ReadsAsEnsemble e) (as_ensemble-one law e) (those c e (arguments item))) (those c d (arguments item)) a b p q
 
-abbrev deformation_model-made : List ℕ → List IdentParts → DeformationModelParts
-deformation_model-made x0 x1 = record { name = x0; identifiers = x1 }
-
-deformation_model-equal : (x0 y0 : List ℕ) (x1 y1 : List IdentParts) → x0 ≡ y0 → x1 ≡ y1 →
-    deformation_model-made x0 x1 ≡ deformation_model-made y0 y1
-deformation_model-equal x0 y0 x1 y1 e0 e1 = cc
-
-pub deformation_model-one : (c : Class) → IsOne (ReadsDeformationModel c)
-deformation_model-one c item a b p q =
-    deformation_model-equal a.name b.name a.identifiers b.identifiers
-    (text-of-one c item a.name b.name p.name q.name)
-    (one-each (ReadsIdent class.Identifier) (ident-one class.Identifier) (those c class.Identifier (arguments item)) a.identifiers b.identifiers p.identifiers q.identifiers)
-
-abbrev dynamic-made : Value → Option DeformationModelParts → DynamicParts
+abbrev dynamic-made : Value → Option NamedParts → DynamicParts
 dynamic-made x0 x1 = record { epoch = x0; model = x1 }
 
-dynamic-equal : (x0 y0 : Value) (x1 y1 : Option DeformationModelParts) → x0 ≡ y0 → x1 ≡ y1 → dynamic-made x0 x1 ≡ dynamic-made y0 y1
+dynamic-equal : (x0 y0 : Value) (x1 y1 : Option NamedParts) → x0 ≡ y0 → x1 ≡ y1 → dynamic-made x0 x1 ≡ dynamic-made y0 y1
 dynamic-equal x0 y0 x1 y1 e0 e1 = cc
 
 pub dynamic-one : DenotesOne → (c : Class) → IsOne (ReadsDynamic c)
 dynamic-one law c item a b p q =
     dynamic-equal a.epoch b.epoch a.model b.model
     (one-first (ReadsNumberOf class.FrameEpoch) (number-of-one law class.FrameEpoch) (those c class.FrameEpoch (arguments item)) a.epoch b.epoch p.epoch q.epoch)
-    (one-optional (ReadsDeformationModel class.DeformationModel) (deformation_model-one class.DeformationModel) (those c class.DeformationModel (arguments item)) a.model b.model p.model q.model)
+    (one-optional (ReadsNamed class.DeformationModel) (named-one class.DeformationModel) (those c class.DeformationModel (arguments item)) a.model b.model p.model q.model)
 
 abbrev geodetic-made : List ℕ → Option DynamicParts → Frame → Option MeridianParts → SystemParts → TailParts → GeodeticParts
 geodetic-made x0 x1 x2 x3 x4 x5 = record { name = x0; dynamic = x1; frame = x2; meridian = x3; system = x4; tail = x5 }
@@ -185,10 +148,10 @@ projected-one law c item a b p q =
     (system-one law c item a.system b.system p.system q.system)
     (tail-one law c item a.tail b.tail p.tail q.tail)
 
-abbrev vertical-made : List ℕ → Option DynamicParts → Frame → SystemParts → List GeoidModelParts → TailParts → VerticalParts
+abbrev vertical-made : List ℕ → Option DynamicParts → Frame → SystemParts → List NamedParts → TailParts → VerticalParts
 vertical-made x0 x1 x2 x3 x4 x5 = record { name = x0; dynamic = x1; frame = x2; system = x3; geoid_models = x4; tail = x5 }
 
-vertical-equal : (x0 y0 : List ℕ) (x1 y1 : Option DynamicParts) (x2 y2 : Frame) (x3 y3 : SystemParts) (x4 y4 : List GeoidModelParts) (x5 y5 : TailParts) → x0 ≡ y0 → x1 ≡ y1 → x2 ≡ y2 → x3 ≡ y3 → x4 ≡ y4 → x5 ≡ y5 →
+vertical-equal : (x0 y0 : List ℕ) (x1 y1 : Option DynamicParts) (x2 y2 : Frame) (x3 y3 : SystemParts) (x4 y4 : List NamedParts) (x5 y5 : TailParts) → x0 ≡ y0 → x1 ≡ y1 → x2 ≡ y2 → x3 ≡ y3 → x4 ≡ y4 → x5 ≡ y5 →
     vertical-made x0 x1 x2 x3 x4 x5 ≡ vertical-made y0 y1 y2 y3 y4 y5
 vertical-equal x0 y0 x1 y1 x2 y2 x3 y3 x4 y4 x5 y5 e0 e1 e2 e3 e4 e5 = cc
 
@@ -199,7 +162,7 @@ vertical-one law c item a b p q =
     (one-optional (ReadsDynamic class.Dynamic) (dynamic-one law class.Dynamic) (those c class.Dynamic (arguments item)) a.dynamic b.dynamic p.dynamic q.dynamic)
     (frame-one law class.VerticalFrame class.VerticalEnsemble c item a.frame b.frame p.frame q.frame)
     (system-one law c item a.system b.system p.system q.system)
-    (one-each (ReadsGeoidModel class.GeoidModel) (geoid_model-one class.GeoidModel) (those c class.GeoidModel (arguments item)) a.geoid_models b.geoid_models p.geoid_models q.geoid_models)
+    (one-each (ReadsNamed class.GeoidModel) (named-one class.GeoidModel) (those c class.GeoidModel (arguments item)) a.geoid_models b.geoid_models p.geoid_models q.geoid_models)
     (tail-one law c item a.tail b.tail p.tail q.tail)
 
 -- a geodetic class is no other

@@ -11,8 +11,10 @@ use Rattle.crs_value.specs.declared.values.system_type.SystemType.{SystemType}
 use Rattle.crs_value.specs.declared.values.unit_kind.UnitKind.{UnitKind}
 use Rattle.crs_value.specs.Break.{IsBefore, IsLeast}
 use Rattle.crs_value.specs.Reading.{those, ReadsFirst, ReadsOptional, ReadsEach}
-use Rattle.crs_value.specs.Reads.{ReadsText, ReadsNumber, ReadsType, ReadsDirection, ReadsKind, ReadsTextOf, ReadsNumberOf, ReadsNumberAt, single_of, ReadsIdent, ReadsUnit, ReadsAxisMeridian, ReadsAxis, ReadsHead, ReadsSystem, ReadsEllipsoid, ReadsMeridian, ReadsMember, ReadsDatum, ReadsEnsemble, ReadsBox, ReadsExtent, ReadsUsage, LacksUsage, ReadsBare, ReadsTail}
-use Rattle.crs_value.specs.Values.{IdentParts, UnitParts, AxisMeridianParts, AxisParts, SystemParts, EllipsoidParts, MeridianParts, MemberParts, DatumParts, EnsembleParts, BoxParts, ExtentParts, UsageParts, SaysSome, TailParts}
+use Rattle.crs_value.specs.Reads.{ReadsNumber, ReadsType, ReadsDirection, ReadsKind, ReadsNumberOf, ReadsNumberAt, ReadsUnit, ReadsAxisMeridian, ReadsAxis, ReadsHead, ReadsSystem, ReadsEllipsoid, ReadsMeridian, ReadsDatum, ReadsEnsemble, ReadsBox, ReadsExtent, ReadsUsage, LacksUsage, ReadsBare, ReadsTail}
+use Rattle.crs_value.specs.ReadsNamed.{ReadsText, ReadsTextOf, single_of, ReadsIdent, ReadsNamed}
+use Rattle.crs_value.specs.NamedValues.{IdentParts, NamedParts}
+use Rattle.crs_value.specs.Values.{UnitParts, AxisMeridianParts, AxisParts, SystemParts, EllipsoidParts, MeridianParts, DatumParts, EnsembleParts, BoxParts, ExtentParts, UsageParts, SaysSome, TailParts}
 use Rattle.crs_value.proofs.CheckLemmas.{DenotesOne, number-one}
 use Rattle.crs_value.proofs.WordLemmas.{direction_one, type_one, kind_one}
 
@@ -159,16 +161,16 @@ meridian-one law c item a b p q =
     (one-optional (ReadsUnit class.AngleUnit) (unit-one law class.AngleUnit) (those c class.AngleUnit (arguments item)) a.unit b.unit p.unit q.unit)
     (one-each (ReadsIdent class.Identifier) (ident-one class.Identifier) (those c class.Identifier (arguments item)) a.identifiers b.identifiers p.identifiers q.identifiers)
 
-abbrev member-made : List ℕ → List IdentParts → MemberParts
-member-made x0 x1 = record { name = x0; identifiers = x1 }
+abbrev named-made : List ℕ → List IdentParts → NamedParts
+named-made x0 x1 = record { name = x0; identifiers = x1 }
 
-member-equal : (x0 y0 : List ℕ) (x1 y1 : List IdentParts) → x0 ≡ y0 → x1 ≡ y1 →
-    member-made x0 x1 ≡ member-made y0 y1
-member-equal x0 y0 x1 y1 e0 e1 = cc
+named-equal : (x0 y0 : List ℕ) (x1 y1 : List IdentParts) → x0 ≡ y0 → x1 ≡ y1 →
+    named-made x0 x1 ≡ named-made y0 y1
+named-equal x0 y0 x1 y1 e0 e1 = cc
 
-pub member-one : (c : Class) → IsOne (ReadsMember c)
-member-one c item a b p q =
-    member-equal a.name b.name a.identifiers b.identifiers
+pub named-one : (c : Class) → IsOne (ReadsNamed c)
+named-one c item a b p q =
+    named-equal a.name b.name a.identifiers b.identifiers
     (text-of-one c item a.name b.name p.name q.name)
     (one-each (ReadsIdent class.Identifier) (ident-one class.Identifier) (those c class.Identifier (arguments item)) a.identifiers b.identifiers p.identifiers q.identifiers)
 
@@ -188,10 +190,10 @@ datum-one law c item a b p q =
     (one-optional (ReadsNumberOf class.AnchorEpoch) (number-of-one law class.AnchorEpoch) (those c class.AnchorEpoch (arguments item)) a.anchor_epoch b.anchor_epoch p.anchor_epoch q.anchor_epoch)
     (one-each (ReadsIdent class.Identifier) (ident-one class.Identifier) (those c class.Identifier (arguments item)) a.identifiers b.identifiers p.identifiers q.identifiers)
 
-abbrev ensemble-made : List ℕ → List MemberParts → Option EllipsoidParts → Value → List IdentParts → EnsembleParts
+abbrev ensemble-made : List ℕ → List NamedParts → Option EllipsoidParts → Value → List IdentParts → EnsembleParts
 ensemble-made x0 x1 x2 x3 x4 = record { name = x0; members = x1; ellipsoid = x2; accuracy = x3; identifiers = x4 }
 
-ensemble-equal : (x0 y0 : List ℕ) (x1 y1 : List MemberParts) (x2 y2 : Option EllipsoidParts) (x3 y3 : Value) (x4 y4 : List IdentParts) → x0 ≡ y0 → x1 ≡ y1 → x2 ≡ y2 → x3 ≡ y3 → x4 ≡ y4 →
+ensemble-equal : (x0 y0 : List ℕ) (x1 y1 : List NamedParts) (x2 y2 : Option EllipsoidParts) (x3 y3 : Value) (x4 y4 : List IdentParts) → x0 ≡ y0 → x1 ≡ y1 → x2 ≡ y2 → x3 ≡ y3 → x4 ≡ y4 →
     ensemble-made x0 x1 x2 x3 x4 ≡ ensemble-made y0 y1 y2 y3 y4
 ensemble-equal x0 y0 x1 y1 x2 y2 x3 y3 x4 y4 e0 e1 e2 e3 e4 = cc
 
@@ -199,7 +201,7 @@ pub ensemble-one : DenotesOne → (c : Class) → IsOne (ReadsEnsemble c)
 ensemble-one law c item a b p q =
     ensemble-equal a.name b.name a.members b.members a.ellipsoid b.ellipsoid a.accuracy b.accuracy a.identifiers b.identifiers
     (text-of-one c item a.name b.name p.name q.name)
-    (one-each (ReadsMember class.Member) (member-one class.Member) (those c class.Member (arguments item)) a.members b.members p.members q.members)
+    (one-each (ReadsNamed class.Member) (named-one class.Member) (those c class.Member (arguments item)) a.members b.members p.members q.members)
     (one-optional (ReadsEllipsoid class.Ellipsoid) (ellipsoid-one law class.Ellipsoid) (those c class.Ellipsoid (arguments item)) a.ellipsoid b.ellipsoid p.ellipsoid q.ellipsoid)
     (one-first (ReadsNumberOf class.EnsembleAccuracy) (number-of-one law class.EnsembleAccuracy) (those c class.EnsembleAccuracy (arguments item)) a.accuracy b.accuracy p.accuracy q.accuracy)
     (one-each (ReadsIdent class.Identifier) (ident-one class.Identifier) (those c class.Identifier (arguments item)) a.identifiers b.identifiers p.identifiers q.identifiers)

@@ -12,22 +12,17 @@ use Rattle.crs_value.specs.Checks.{IsSound}
 use Rattle.crs_value.specs.Found.{IsAmong}
 use Rattle.crs_value.specs.Reading.{those, Requires, RequiresOneOf, ReadsFirst, ReadsElse}
 use Rattle.crs_value.specs.Reads.{IsUnitClass, ReadsNumberOf, ReadsUnit, ReadsMeridian}
-use Rattle.crs_value.specs.ReadsConversion.{ReadsMethod, ReadsAsUnit, ReadsUnitOf, parameter_units, ReadsParameter, ReadsConversion, ReadsGeoidModel}
-use Rattle.crs_value.specs.ReadsDynamic.{ReadsDeformationModel, ReadsDynamic}
+use Rattle.crs_value.specs.ReadsConversion.{ReadsAsUnit, ReadsUnitOf, parameter_units, ReadsParameter, ReadsConversion}
+use Rattle.crs_value.specs.ReadsDynamic.{ReadsDynamic}
+use Rattle.crs_value.specs.ReadsNamed.{ReadsNamed}
 use Rattle.crs_value.specs.ReadsCrs.{IsGeodeticClass, ReadsAsDatum, ReadsAsEnsemble, ReadsFrame, ReadsGeodetic, ReadsBase, ReadsProjected, ReadsVertical, ReadsAsHorizontal, ReadsHorizontal, ReadsCompound, ReadsCrs}
 use Rattle.crs_value.proofs.ArgumentLemmas.{SlotsCount, arguments-sound}
 use Rattle.crs_value.proofs.FrameLemmas.{one-there}
 use Rattle.crs_value.proofs.ReadyLemmas.{Numbers}
-use Rattle.crs_value.proofs.SomeValueLemmas.{Exists, first-of, else-of, text-some, number-of-some, identifiers-some, unit-some, first-some, optional-some, each-some, system-some, meridian-some, datum-some, ensemble-some, tail-some}
+use Rattle.crs_value.proofs.SomeValueLemmas.{Exists, first-of, else-of, text-some, number-of-some, identifiers-some, named-some, unit-some, first-some, optional-some, each-some, system-some, meridian-some, datum-some, ensemble-some, tail-some}
 
 module _ (numbers : Numbers) (slots : SlotsCount) where
   -- ---- conversions
-
-  method-some : (item : Item) → IsSound class.Method item → Exists (ReadsMethod class.Method item)
-  method-some item g =
-      let name = text-some numbers slots class.Method item g (omega arith) in
-      let identifiers = identifiers-some numbers slots class.Method item g in
-      (record { name = name.0; identifiers = identifiers.0 }, record { name = name.1; identifiers = identifiers.1 })
 
   abbrev AreUnitClasses : List Class → Type 0
   AreUnitClasses [] = Unit {0}
@@ -52,29 +47,17 @@ module _ (numbers : Numbers) (slots : SlotsCount) where
   conversion-some : (item : Item) → IsSound class.Conversion item → Exists (ReadsConversion class.Conversion item)
   conversion-some item g =
       let name = text-some numbers slots class.Conversion item g (omega arith) in
-      let method = first-some numbers slots (ReadsMethod class.Method) class.Conversion class.Method item g (omega arith) (method-some) in
+      let method = first-some numbers slots (ReadsNamed class.Method) class.Conversion class.Method item g (omega arith) (named-some numbers slots class.Method (omega arith)) in
       let parameters = each-some numbers slots (ReadsParameter class.Parameter) class.Conversion class.Parameter item g (parameter-some) in
       let identifiers = identifiers-some numbers slots class.Conversion item g in
       (record { name = name.0; method = method.0; parameters = parameters.0; identifiers = identifiers.0 }, record { name = name.1; method = method.1; parameters = parameters.1; identifiers = identifiers.1 })
 
-  geoid_model-some : (item : Item) → IsSound class.GeoidModel item → Exists (ReadsGeoidModel class.GeoidModel item)
-  geoid_model-some item g =
-      let name = text-some numbers slots class.GeoidModel item g (omega arith) in
-      let identifiers = identifiers-some numbers slots class.GeoidModel item g in
-      (record { name = name.0; identifiers = identifiers.0 }, record { name = name.1; identifiers = identifiers.1 })
-
   -- ---- dynamic parts
-
-  deformation_model-some : (item : Item) → IsSound class.DeformationModel item → Exists (ReadsDeformationModel class.DeformationModel item)
-  deformation_model-some item g =
-      let name = text-some numbers slots class.DeformationModel item g (omega arith) in
-      let identifiers = identifiers-some numbers slots class.DeformationModel item g in
-      (record { name = name.0; identifiers = identifiers.0 }, record { name = name.1; identifiers = identifiers.1 })
 
   dynamic-some : (item : Item) → IsSound class.Dynamic item → Exists (ReadsDynamic class.Dynamic item)
   dynamic-some item g =
       let epoch = first-some numbers slots (ReadsNumberOf class.FrameEpoch) class.Dynamic class.FrameEpoch item g (omega arith) (λ i h. number-of-some numbers slots class.FrameEpoch i h (omega arith)) in
-      let model = optional-some numbers slots (ReadsDeformationModel class.DeformationModel) class.Dynamic class.DeformationModel item g (deformation_model-some) in
+      let model = optional-some numbers slots (ReadsNamed class.DeformationModel) class.Dynamic class.DeformationModel item g (named-some numbers slots class.DeformationModel (omega arith)) in
       (record { epoch = epoch.0; model = model.0 }, record { epoch = epoch.1; model = model.1 })
 
   -- ---- coordinate reference systems
@@ -133,7 +116,7 @@ module _ (numbers : Numbers) (slots : SlotsCount) where
       let dynamic = optional-some numbers slots (ReadsDynamic class.Dynamic) class.VerticalCrs class.Dynamic item g (dynamic-some) in
       let frame = frame-some class.VerticalFrame class.VerticalEnsemble class.VerticalCrs item g (omega arith) (omega arith) (omega arith) (omega arith) in
       let system = system-some numbers slots class.VerticalCrs item g (omega arith) in
-      let geoid_models = each-some numbers slots (ReadsGeoidModel class.GeoidModel) class.VerticalCrs class.GeoidModel item g (geoid_model-some) in
+      let geoid_models = each-some numbers slots (ReadsNamed class.GeoidModel) class.VerticalCrs class.GeoidModel item g (named-some numbers slots class.GeoidModel (omega arith)) in
       let tail = tail-some numbers slots class.VerticalCrs item g in
       (record { name = name.0; dynamic = dynamic.0; frame = frame.0; system = system.0; geoid_models = geoid_models.0; tail = tail.0 }, record { name = name.1; dynamic = dynamic.1; frame = frame.1; system = system.1; geoid_models = geoid_models.1; tail = tail.1 })
 

@@ -8,8 +8,10 @@ use Rattle.crs_value.specs.declared.values.system_type.SystemType.{SystemType}
 use Rattle.crs_value.specs.declared.values.unit_kind.UnitKind.{UnitKind}
 use Rattle.crs_value.specs.Checks.{IsSound}
 use Rattle.crs_value.specs.Reading.{those, Requires, ReadsFirst, ReadsOptional, ReadsEach, ReadsElse}
-use Rattle.crs_value.specs.Reads.{ReadsText, ReadsNumber, ReadsType, ReadsDirection, ReadsKind, ReadsTextOf, ReadsNumberOf, ReadsNumberAt, single_of, IsUnitClass, ReadsIdent, ReadsIds, ReadsUnit, ReadsAxisMeridian, ReadsAxis, ReadsHead, ReadsSystem, ReadsEllipsoid, ReadsMeridian, ReadsMember, ReadsDatum, ReadsEnsemble, ReadsBox, ReadsExtent, ReadsUsage, ReadsBare, ReadsTail}
-use Rattle.crs_value.specs.Values.{IdentParts, AxisParts, UnitParts, SystemParts, BoxParts, ExtentParts}
+use Rattle.crs_value.specs.Reads.{ReadsNumber, ReadsType, ReadsDirection, ReadsKind, ReadsNumberOf, ReadsNumberAt, IsUnitClass, ReadsUnit, ReadsAxisMeridian, ReadsAxis, ReadsHead, ReadsSystem, ReadsEllipsoid, ReadsMeridian, ReadsDatum, ReadsEnsemble, ReadsBox, ReadsExtent, ReadsUsage, ReadsBare, ReadsTail}
+use Rattle.crs_value.specs.ReadsNamed.{ReadsText, ReadsTextOf, single_of, ReadsIdent, ReadsIds, ReadsNamed}
+use Rattle.crs_value.specs.NamedValues.{IdentParts}
+use Rattle.crs_value.specs.Values.{AxisParts, UnitParts, SystemParts, BoxParts, ExtentParts}
 use Rattle.crs_value.specs.Words.{SpellsWord, unit_word}
 use Rattle.crs_value.proofs.ArgumentLemmas.{AllSound, SlotsCount, arguments-sound, not-none}
 use Rattle.crs_value.proofs.WhetherLemmas.{Decided, Known, decided-word, decided-kinds, type-known, direction-known}
@@ -111,6 +113,12 @@ module _ (numbers : Numbers) (slots : SlotsCount) where
 
   pub identifiers-some : (c : Class) (item : Item) → IsSound c item → Exists (ReadsIds c item)
   identifiers-some c item g = each-some (ReadsIdent class.Identifier) c class.Identifier item g ident-some
+
+  pub named-some : (c : Class) → Requires c class.Text 0 → (item : Item) → IsSound c item → Exists (ReadsNamed c item)
+  named-some c named item g =
+      let name = text-some c item g named in
+      let identifiers = identifiers-some c item g in
+      (record { name = name.0; identifiers = identifiers.0 }, record { name = name.1; identifiers = identifiers.1 })
 
   -- ---- units and systems
 
@@ -217,12 +225,6 @@ module _ (numbers : Numbers) (slots : SlotsCount) where
       let identifiers = identifiers-some class.PrimeMeridian item g in
       (record { name = name.0; longitude = longitude.0; unit = unit.0; identifiers = identifiers.0 }, record { name = name.1; longitude = longitude.1; unit = unit.1; identifiers = identifiers.1 })
 
-  member-some : (item : Item) → IsSound class.Member item → Exists (ReadsMember class.Member item)
-  member-some item g =
-      let name = text-some class.Member item g (omega arith) in
-      let identifiers = identifiers-some class.Member item g in
-      (record { name = name.0; identifiers = identifiers.0 }, record { name = name.1; identifiers = identifiers.1 })
-
   pub datum-some : (c : Class) → Requires c class.Text 0 → (item : Item) → IsSound c item → Exists (ReadsDatum c item)
   datum-some c named item g =
       let name = text-some c item g named in
@@ -235,7 +237,7 @@ module _ (numbers : Numbers) (slots : SlotsCount) where
   pub ensemble-some : (c : Class) → Requires c class.Text 0 → Requires c class.EnsembleAccuracy 0 → (item : Item) → IsSound c item → Exists (ReadsEnsemble c item)
   ensemble-some c named exact item g =
       let name = text-some c item g named in
-      let members = each-some (ReadsMember class.Member) c class.Member item g (member-some) in
+      let members = each-some (ReadsNamed class.Member) c class.Member item g (named-some class.Member (omega arith)) in
       let ellipsoid = optional-some (ReadsEllipsoid class.Ellipsoid) c class.Ellipsoid item g (ellipsoid-some) in
       let accuracy = first-some (ReadsNumberOf class.EnsembleAccuracy) c class.EnsembleAccuracy item g exact (λ i h. number-of-some class.EnsembleAccuracy i h (omega arith)) in
       let identifiers = identifiers-some c item g in

@@ -1,4 +1,4 @@
--- What sound conversions and geoid models say is sound.
+-- What sound conversions say is sound.
 use Rattle.std.proofs.Common.{Option, Some, None, List, [], ◌∷◌}
 use Rattle.std.specs.Prelude.{IfSome}
 use Rattle.crs_text.specs.Items.{Item, arguments}
@@ -7,24 +7,13 @@ use Rattle.crs_shape.specs.declared.class.Class.TheVariants as class
 use Rattle.crs_value.specs.Checks.{IsSound}
 use Rattle.crs_value.specs.Reading.{those, ReadsElse}
 use Rattle.crs_value.specs.Reads.{IsUnitClass}
-use Rattle.crs_value.specs.ReadsConversion.{ReadsMethod, ReadsAsUnit, ReadsUnitOf, ReadsParameter, ReadsConversion, ReadsGeoidModel}
-use Rattle.crs_value.specs.Sound.{IsUnit}
-use Rattle.crs_value.specs.SoundConversion.{IsMethod, IsParameter, IsConversion, IsGeoidModel}
+use Rattle.crs_value.specs.ReadsConversion.{ReadsAsUnit, ReadsUnitOf, ReadsParameter, ReadsConversion}
+use Rattle.crs_value.specs.ReadsNamed.{ReadsNamed}
+use Rattle.crs_value.specs.Sound.{IsNamed, IsUnit}
+use Rattle.crs_value.specs.SoundConversion.{IsParameter, IsConversion}
 use Rattle.crs_value.specs.Values.{UnitParts}
 use Rattle.crs_value.proofs.ArgumentLemmas.{AllSound, arguments-sound}
-use Rattle.crs_value.proofs.SoundLemmas.{Tells, first-tells, each-tells, text-of-tells, number-of-tells, identifiers-tell, unit-tells}
-
-pub method-tells : (c : Class) → Tells c (ReadsMethod c) IsMethod
-method-tells c item value sound reads = record {
-  name = text-of-tells c item value.name sound reads.name;
-  identifiers = identifiers-tell c item value.identifiers sound reads.identifiers;
-}
-
-pub geoid-model-tells : (c : Class) → Tells c (ReadsGeoidModel c) IsGeoidModel
-geoid-model-tells c item value sound reads = record {
-  name = text-of-tells c item value.name sound reads.name;
-  identifiers = identifiers-tell c item value.identifiers sound reads.identifiers;
-}
+use Rattle.crs_value.proofs.SoundLemmas.{Tells, first-tells, each-tells, text-of-tells, number-of-tells, identifiers-tell, named-tells, unit-tells}
 
 -- ---- the unit of a parameter
 
@@ -56,7 +45,7 @@ pub conversion-tells : (c : Class) → Tells c (ReadsConversion c) IsConversion
 conversion-tells c item value sound reads = record {
   name = text-of-tells c item value.name sound reads.name;
   method =
-      first-tells (ReadsMethod class.Method) IsMethod class.Method (method-tells class.Method) (those c class.Method (arguments item)) value.method
+      first-tells (ReadsNamed class.Method) IsNamed class.Method (named-tells class.Method) (those c class.Method (arguments item)) value.method
       (arguments-sound c class.Method item sound) reads.method;
   parameters =
       each-tells (ReadsParameter class.Parameter) IsParameter class.Parameter (parameter-tells class.Parameter) (those c class.Parameter (arguments item)) value.parameters

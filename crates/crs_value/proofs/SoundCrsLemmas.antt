@@ -18,18 +18,20 @@ use Rattle.crs_value.specs.BadDynamic.{BadDynamic}
 use Rattle.crs_value.specs.Checks.{HasSystem, IsSound, Own}
 use Rattle.crs_value.specs.Reading.{is_same, those, Requires, ReadsFirst, ReadsOptional, ReadsElse}
 use Rattle.crs_value.specs.Reads.{ReadsUnit, ReadsEllipsoid, ReadsMeridian, ReadsDatum, ReadsEnsemble, ReadsSystem}
-use Rattle.crs_value.specs.ReadsConversion.{ReadsConversion, ReadsGeoidModel}
+use Rattle.crs_value.specs.ReadsConversion.{ReadsConversion}
+use Rattle.crs_value.specs.ReadsNamed.{ReadsNamed}
 use Rattle.crs_value.specs.ReadsCrs.{ReadsAsDatum, ReadsAsEnsemble, ReadsGeodeticFrame, ReadsVerticalFrame, IsGeodeticClass, ReadsGeodetic, ReadsBase, ReadsProjected, ReadsVertical}
 use Rattle.crs_value.specs.Sound.{IsUnitOf}
-use Rattle.crs_value.specs.SoundConversion.{IsConversion, IsGeoidModel}
+use Rattle.crs_value.specs.Sound.{IsNamed}
+use Rattle.crs_value.specs.SoundConversion.{IsConversion}
 use Rattle.crs_value.specs.SoundFrames.{IsMeridian}
 use Rattle.crs_value.specs.SoundSingle.{IsGeodeticFrame, IsVerticalFrame, IsGeodetic, IsBase, IsProjected, IsVertical}
 use Rattle.crs_value.specs.Values.{SystemParts, EllipsoidParts, DatumParts, EnsembleParts}
 use Rattle.crs_value.proofs.ArgumentLemmas.{SlotsBound, AllSound, SlotsCount, arguments-sound, not-none}
-use Rattle.crs_value.proofs.SoundConversionLemmas.{conversion-tells, geoid-model-tells}
+use Rattle.crs_value.proofs.SoundConversionLemmas.{conversion-tells}
 use Rattle.crs_value.proofs.SoundDynamicLemmas.{dynamic-of-tells}
 use Rattle.crs_value.proofs.SoundFrameLemmas.{datum-tells, ensemble-tells, meridian-tells}
-use Rattle.crs_value.proofs.SoundLemmas.{Tells, first-tells, optional-tells, each-tells, text-of-tells, identifiers-tell, angle-tells}
+use Rattle.crs_value.proofs.SoundLemmas.{Tells, first-tells, optional-tells, each-tells, text-of-tells, identifiers-tell, angle-tells, named-tells}
 use Rattle.crs_value.proofs.SoundSystemLemmas.{own-of-crs, read-none, read-there, system-allowed, system-free, system-tells}
 use Rattle.crs_value.proofs.SoundUsageLemmas.{arguments-none, tail-tells}
 
@@ -172,7 +174,7 @@ vertical-tells law bound item value sound reads = record {
   system = system-tells law class.VerticalCrs tt (omega arith) item value.system sound reads.system;
   dimension = allowed-by class.VerticalCrs item value.system tt sound reads.system;
   geoid_models =
-      each-tells (ReadsGeoidModel class.GeoidModel) IsGeoidModel class.GeoidModel (geoid-model-tells class.GeoidModel) (those class.VerticalCrs class.GeoidModel (arguments item)) value.geoid_models
+      each-tells (ReadsNamed class.GeoidModel) IsNamed class.GeoidModel (named-tells class.GeoidModel) (those class.VerticalCrs class.GeoidModel (arguments item)) value.geoid_models
       (arguments-sound class.VerticalCrs class.GeoidModel item sound) reads.geoid_models;
   tail = tail-tells bound class.VerticalCrs item value.tail sound reads.tail;
 }

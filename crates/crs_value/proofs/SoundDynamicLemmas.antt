@@ -15,17 +15,13 @@ use Rattle.crs_value.specs.DynamicValues.{DynamicParts}
 use Rattle.crs_value.specs.Reading.{those, ReadsElse, ReadsFirst, ReadsOptional}
 use Rattle.crs_value.specs.Reads.{ReadsNumberOf}
 use Rattle.crs_value.specs.ReadsCrs.{ReadsAsDatum, ReadsAsEnsemble, ReadsFrame}
-use Rattle.crs_value.specs.ReadsDynamic.{ReadsDeformationModel, ReadsDynamic}
-use Rattle.crs_value.specs.SoundDynamic.{IsDeformationModel, IsDynamic}
+use Rattle.crs_value.specs.ReadsDynamic.{ReadsDynamic}
+use Rattle.crs_value.specs.ReadsNamed.{ReadsNamed}
+use Rattle.crs_value.specs.Sound.{IsNamed}
+use Rattle.crs_value.specs.SoundDynamic.{IsDynamic}
 use Rattle.crs_value.specs.SoundSingle.{IsDynamicOf}
 use Rattle.crs_value.proofs.ArgumentLemmas.{arguments-sound}
-use Rattle.crs_value.proofs.SoundLemmas.{Tells, first-tells, optional-tells, text-of-tells, number-of-tells, identifiers-tell}
-
-pub model-tells : (c : Class) → Tells c (ReadsDeformationModel c) IsDeformationModel
-model-tells c item value sound reads = record {
-  name = text-of-tells c item value.name sound reads.name;
-  identifiers = identifiers-tell c item value.identifiers sound reads.identifiers;
-}
+use Rattle.crs_value.proofs.SoundLemmas.{Tells, first-tells, optional-tells, number-of-tells, named-tells}
 
 pub dynamic-tells : (c : Class) → Tells c (ReadsDynamic c) IsDynamic
 dynamic-tells c item value sound reads = record {
@@ -33,7 +29,7 @@ dynamic-tells c item value sound reads = record {
       first-tells (ReadsNumberOf class.FrameEpoch) IsNormal class.FrameEpoch (number-of-tells class.FrameEpoch) (those c class.FrameEpoch (arguments item)) value.epoch
       (arguments-sound c class.FrameEpoch item sound) reads.epoch;
   model =
-      optional-tells (ReadsDeformationModel class.DeformationModel) IsDeformationModel class.DeformationModel (model-tells class.DeformationModel)
+      optional-tells (ReadsNamed class.DeformationModel) IsNamed class.DeformationModel (named-tells class.DeformationModel)
       (those c class.DeformationModel (arguments item)) value.model (arguments-sound c class.DeformationModel item sound) reads.model;
 }
 

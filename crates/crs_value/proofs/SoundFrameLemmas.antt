@@ -11,11 +11,12 @@ use Rattle.crs_value.specs.BadValue.{IsAboveZero, NotAbove, IsNegative}
 use Rattle.crs_value.specs.Break.{at, AnyOf}
 use Rattle.crs_value.specs.Checks.{OfEllipsoid, Own, IsSound}
 use Rattle.crs_value.specs.Reading.{those, Requires, ReadsFirst, ReadsEach}
-use Rattle.crs_value.specs.Reads.{ReadsNumber, ReadsNumberAt, ReadsNumberOf, ReadsUnit, ReadsEllipsoid, ReadsMeridian, ReadsMember, ReadsDatum, ReadsEnsemble}
-use Rattle.crs_value.specs.Sound.{IsUnitOf}
-use Rattle.crs_value.specs.SoundFrames.{IsEllipsoid, IsMeridian, IsMember, IsDatum, IsEnsemble}
+use Rattle.crs_value.specs.Reads.{ReadsNumber, ReadsNumberAt, ReadsNumberOf, ReadsUnit, ReadsEllipsoid, ReadsMeridian, ReadsDatum, ReadsEnsemble}
+use Rattle.crs_value.specs.ReadsNamed.{ReadsNamed}
+use Rattle.crs_value.specs.Sound.{IsNamed, IsUnitOf}
+use Rattle.crs_value.specs.SoundFrames.{IsEllipsoid, IsMeridian, IsDatum, IsEnsemble}
 use Rattle.crs_value.proofs.ArgumentLemmas.{SlotsCount, arguments-sound, not-none}
-use Rattle.crs_value.proofs.SoundLemmas.{Tells, first-tells, optional-tells, each-tells, text-of-tells, optional-text-tells, number-first, number-of-tells, identifiers-tell, above-not-not, length-tells, angle-tells}
+use Rattle.crs_value.proofs.SoundLemmas.{Tells, first-tells, optional-tells, each-tells, text-of-tells, optional-text-tells, number-first, number-of-tells, identifiers-tell, named-tells, above-not-not, length-tells, angle-tells}
 
 -- ---- ellipsoids
 
@@ -72,12 +73,6 @@ meridian-tells c item value sound reads = record {
   identifiers = identifiers-tell c item value.identifiers sound reads.identifiers;
 }
 
-pub member-tells : (c : Class) → Tells c (ReadsMember c) IsMember
-member-tells c item value sound reads = record {
-  name = text-of-tells c item value.name sound reads.name;
-  identifiers = identifiers-tell c item value.identifiers sound reads.identifiers;
-}
-
 -- ---- frames
 
 pub datum-tells : (c : Class) → Tells c (ReadsDatum c) IsDatum
@@ -102,9 +97,9 @@ pub ensemble-tells : SlotsCount → (c : Class) → Requires c class.Member 0 �
 ensemble-tells law c enough item value sound reads = record {
   name = text-of-tells c item value.name sound reads.name;
   some = λ none.
-      not-none law c class.Member item sound.shaped enough (none-read (ReadsMember class.Member) (those c class.Member (arguments item)) value.members reads.members none);
+      not-none law c class.Member item sound.shaped enough (none-read (ReadsNamed class.Member) (those c class.Member (arguments item)) value.members reads.members none);
   members =
-      each-tells (ReadsMember class.Member) IsMember class.Member (member-tells class.Member) (those c class.Member (arguments item)) value.members
+      each-tells (ReadsNamed class.Member) IsNamed class.Member (named-tells class.Member) (those c class.Member (arguments item)) value.members
       (arguments-sound c class.Member item sound) reads.members;
   ellipsoid =
       optional-tells (ReadsEllipsoid class.Ellipsoid) IsEllipsoid class.Ellipsoid (ellipsoid-tells class.Ellipsoid refl) (those c class.Ellipsoid (arguments item)) value.ellipsoid

@@ -22,9 +22,10 @@ use Rattle.crs_value.specs.BadValue.{IsAboveZero, NotAbove}
 use Rattle.crs_value.specs.Break.{at, AnyOf}
 use Rattle.crs_value.specs.Checks.{OfUnit, Own, IsSound}
 use Rattle.crs_value.specs.Reading.{those, ReadsFirst, ReadsOptional, ReadsEach}
-use Rattle.crs_value.specs.Reads.{ReadsText, ReadsNumber, ReadsKind, ReadsTextOf, ReadsNumberOf, single_of, ReadsIdent, ReadsIds, IsUnitClass, ReadsUnit}
-use Rattle.crs_value.specs.Sound.{Each, IsText, IsIdent, IsUnit, Suits, IsUnitOf, IsAxisUnit}
-use Rattle.crs_value.specs.Values.{IdentParts}
+use Rattle.crs_value.specs.Reads.{ReadsNumber, ReadsKind, ReadsNumberOf, IsUnitClass, ReadsUnit}
+use Rattle.crs_value.specs.ReadsNamed.{ReadsText, ReadsTextOf, single_of, ReadsIdent, ReadsIds, ReadsNamed}
+use Rattle.crs_value.specs.Sound.{Each, IsText, IsIdent, IsNamed, IsUnit, Suits, IsUnitOf, IsAxisUnit}
+use Rattle.crs_value.specs.NamedValues.{IdentParts}
 use Rattle.crs_value.specs.Words.{SpellsWord, unit_word}
 use Rattle.crs_value.proofs.ArgumentLemmas.{AllSound, arguments-sound}
 use Rattle.crs_value.proofs.KnownLemmas.{NoneOf, none-of, unit-no-leaf}
@@ -211,6 +212,12 @@ ident-tells c item value sound reads =
 pub identifiers-tell : (c : Class) (item : Item) (identifiers : List IdentParts) → IsSound c item → ReadsIds c item identifiers → Each IsIdent identifiers
 identifiers-tell c item identifiers sound reads =
     each-tells (ReadsIdent class.Identifier) IsIdent class.Identifier (ident-tells class.Identifier) (those c class.Identifier (arguments item)) identifiers (arguments-sound c class.Identifier item sound) reads
+
+pub named-tells : (c : Class) → Tells c (ReadsNamed c) IsNamed
+named-tells c item value sound reads = record {
+  name = text-of-tells c item value.name sound reads.name;
+  identifiers = identifiers-tell c item value.identifiers sound reads.identifiers;
+}
 
 -- ---- units
 

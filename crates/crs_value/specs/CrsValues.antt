@@ -1,8 +1,9 @@
 -- Geodetic, projected and vertical CRSs as they are written.
 use Rattle.std.specs.Prelude.{ℕ, List, Option}
-use Rattle.crs_value.specs.ConversionValues.{ConversionParts, GeoidModelParts}
+use Rattle.crs_value.specs.ConversionValues.{ConversionParts}
 use Rattle.crs_value.specs.DynamicValues.{DynamicParts}
-use Rattle.crs_value.specs.Values.{IdentParts, UnitParts, MeridianParts, SystemParts, TailParts}
+use Rattle.crs_value.specs.NamedValues.{IdentParts, NamedParts}
+use Rattle.crs_value.specs.Values.{UnitParts, MeridianParts, SystemParts, TailParts}
 use Rattle.crs_value.specs.declared.values.frame.Frame.{Frame}
 
 -- a geodetic or geographic CRS
@@ -37,5 +38,5 @@ pub record VerticalParts : Type 0 where
   pub dynamic : Option DynamicParts
   pub frame : Frame
   pub system : SystemParts
-  pub geoid_models : List GeoidModelParts
+  pub geoid_models : List NamedParts
   pub tail : TailParts

@@ -16,12 +16,14 @@ pub mod Found
 pub mod Kept
 pub mod KeptLaws
 pub mod Least
+pub mod NamedValues
 pub mod Noted
 pub mod Reading
 pub mod Reads
 pub mod ReadsConversion
 pub mod ReadsCrs
 pub mod ReadsDynamic
+pub mod ReadsNamed
 pub mod RepeatedPart
 pub mod Sound
 pub mod SoundCompound

@@ -3,7 +3,8 @@ use Rattle.std.specs.Prelude.{◌≡◌, ℕ, ◌<◌, ◌≤◌, Bool, IsTrue, 
 use Rattle.std.specs.Prelude.{if◌then◌else◌}
 use Rattle.std.specs.List.{list_any}
 use denote.Enum.Bare.{sameb}
-use Rattle.crs_text.specs.Items.{Item, Siblings, End, More, first_of, rest_of, here, HasId}
+use Rattle.crs_text.specs.Items.{Item, Siblings, End, More, arguments, first_of, rest_of, here}
+use Rattle.crs_text.specs.Items.{HasId}
 use Rattle.crs_shape.specs.contracts.class.Class.{the_type}
 use Rattle.crs_shape.specs.declared.class.Class.{Class}
 use Rattle.crs_shape.specs.Counts.{is_bounded, least, most}
@@ -85,3 +86,25 @@ ReadsEach Reads [] [] = Unit {0}
 ReadsEach Reads [] (value ∷ values) = ⊥
 ReadsEach Reads (item ∷ items) [] = ⊥
 ReadsEach Reads (item ∷ items) (value ∷ values) = Reads item value × ReadsEach Reads items values
+
+-- the value is read from the first argument of class `d` of an item of class `c`
+abbrev pub ReadsOne : {V : Type 0} → (Class → Item → V → Type 0) → Class → Class → Item → V → Type 0
+ReadsOne Reads d c item value = ReadsFirst (Reads d) (those c d (arguments item)) value
+
+-- the value is read from the first argument of class `d` of an item
+-- of class `c`, and there is none where there is no such argument
+abbrev pub ReadsIfAny : {V : Type 0} → (Class → Item → V → Type 0) → Class → Class → Item →
+    Option V → Type 0
+ReadsIfAny Reads d c item value = ReadsOptional (Reads d) (those c d (arguments item)) value
+
+-- a value is read from each argument of class `d` of an item of class `c`, in order
+abbrev pub ReadsAll : {V : Type 0} → (Class → Item → V → Type 0) → Class → Class → Item →
+    List V → Type 0
+ReadsAll Reads d c item values = ReadsEach (Reads d) (those c d (arguments item)) values
+
+-- the value is read from the first argument of class `d` of an item
+-- of class `c`, and where there is none as the rest says of the item
+abbrev pub ReadsOneElse : {V : Type 0} → (Class → Item → V → Type 0) → Class →
+    (Class → Item → V → Type 0) → Class → Item → V → Type 0
+ReadsOneElse Reads d Otherwise c item value =
+    ReadsElse (Reads d) (those c d (arguments item)) (Otherwise c item) value

@@ -1,28 +1,23 @@
 -- What the nodes say, field by field. Each field is read from the arguments of its class.
-use Rattle.std.specs.Prelude.{◌≡◌, ℕ, List, [], ◌∷◌, Option, Some, None, drop}
+use Rattle.std.specs.Prelude.{◌≡◌, ℕ, [], Option, Some, None, drop}
 use Rattle.crs_decimal.specs.Bounds.{Denotes}
 use Rattle.crs_decimal.specs.Value.{Value, IsNormal, exact}
-use Rattle.crs_text.specs.Items.{Item, Siblings, End, More, arguments, raw_of, kind_of_item, skip}
-use Rattle.crs_text.specs.declared.items.ItemKind.{ItemKind}
-use Rattle.crs_text.specs.declared.items.ItemKind.TheVariants as kinds
+use Rattle.crs_text.specs.Items.{Item, arguments, raw_of}
 use Rattle.crs_shape.specs.declared.class.Class.{Class}
 use Rattle.crs_shape.specs.declared.class.Class.TheVariants as class
 use Rattle.crs_value.specs.declared.values.direction.Direction.{Direction}
 use Rattle.crs_value.specs.declared.values.system_type.SystemType.{SystemType}
 use Rattle.crs_value.specs.declared.values.unit_kind.UnitKind.{UnitKind}
-use Rattle.crs_value.specs.Reading.{those, ReadsFirst, ReadsOptional, ReadsEach}
-use Rattle.crs_value.specs.Values.{IdentParts, UnitParts, AxisMeridianParts, AxisParts, SystemParts}
-use Rattle.crs_value.specs.Values.{EllipsoidParts}
-use Rattle.crs_value.specs.Values.{MeridianParts, MemberParts, DatumParts, EnsembleParts, BoxParts}
-use Rattle.crs_value.specs.Values.{ExtentParts}
-use Rattle.crs_value.specs.Values.{UsageParts, SaysSome, TailParts}
+use Rattle.crs_value.specs.Reading.{those, ReadsFirst, ReadsOne, ReadsIfAny, ReadsAll}
+use Rattle.crs_value.specs.ReadsNamed.{ReadsTextOf, ReadsIds, ReadsNamed}
+use Rattle.crs_value.specs.Values.{UnitParts, AxisMeridianParts, AxisParts, SystemParts}
+use Rattle.crs_value.specs.Values.{EllipsoidParts, MeridianParts, DatumParts, EnsembleParts}
+use Rattle.crs_value.specs.Values.{BoxParts, ExtentParts, UsageParts, SaysSome, TailParts}
 use Rattle.crs_value.specs.Words.{SpellsWord, direction_word, system_word, unit_word}
+pub use Rattle.crs_value.specs.ReadsNamed.{ReadsText, single_of, ReadsIdent}
+pub use Rattle.crs_value.specs.ReadsNamed.{ReadsTextOf, ReadsIds, ReadsNamed as ReadsMember}
 
 -- ---- single items
-
--- a text is its characters, and so is a code or a version, quoted or not
-abbrev pub ReadsText : Item → List ℕ → Type 0
-ReadsText item characters = raw_of item ≡ characters
 
 -- a number is the decimal of the number that it spells
 abbrev pub ReadsNumber : Item → Value → Type 0
@@ -42,11 +37,6 @@ ReadsKind item value = SpellsWord (raw_of item) (unit_word value)
 
 -- ---- nodes of one text or one number
 
--- the node's text
-abbrev pub ReadsTextOf : Class → Item → List ℕ → Type 0
-ReadsTextOf c item characters =
-    ReadsFirst ReadsText (those c class.Text (arguments item)) characters
-
 -- the node's number
 abbrev pub ReadsNumberOf : Class → Item → Value → Type 0
 ReadsNumberOf c item value = ReadsFirst ReadsNumber (those c class.Number (arguments item)) value
@@ -57,32 +47,6 @@ ReadsNumberAt k c item value =
     ReadsFirst ReadsNumber (drop k (those c class.Number (arguments item))) value
 
 -- ---- nodes
-
--- an item that is no node, as a list of one; any other gives none
-abbrev pub single_of : Siblings → List Item
-single_of End = []
-single_of (More item items) = by (kind_of_item item)
-  where
-    by : ItemKind → List Item
-    by kinds.Number = item ∷ []
-    by kinds.Text = item ∷ []
-    by kinds.Word = item ∷ []
-    by kinds.Node = []
-
--- an identifier: its authority; its code, which is the second argument; its version, which is the
--- third, if that is no node; its citation and URI, where they are written
-pub record ReadsIdent (c : Class) (item : Item) (parts : IdentParts) : Type 0 where
-  pub authority : ReadsTextOf c item parts.authority
-  pub code : ReadsFirst ReadsText (single_of (skip 1 (arguments item))) parts.code
-  pub version : ReadsOptional ReadsText (single_of (skip 2 (arguments item))) parts.version
-  pub citation : ReadsOptional (ReadsTextOf class.Citation)
-      (those c class.Citation (arguments item)) parts.citation
-  pub uri : ReadsOptional (ReadsTextOf class.Uri) (those c class.Uri (arguments item)) parts.uri
-
--- the identifiers of a node
-abbrev pub ReadsIds : Class → Item → List IdentParts → Type 0
-ReadsIds c item identifiers =
-    ReadsEach (ReadsIdent class.Identifier) (those c class.Identifier (arguments item)) identifiers
 
 -- the classes of units
 abbrev pub IsUnitClass : Class → Type 0
@@ -103,20 +67,16 @@ pub record ReadsUnit (c : Class) (item : Item) (parts : UnitParts) : Type 0 wher
 -- the meridian that an axis goes along: its longitude, and the unit of that
 pub record ReadsAxisMeridian (c : Class) (item : Item) (parts : AxisMeridianParts) : Type 0 where
   pub longitude : ReadsNumberOf c item parts.longitude
-  pub unit : ReadsFirst (ReadsUnit class.AngleUnit)
-      (those c class.AngleUnit (arguments item)) parts.unit
+  pub unit : ReadsOne ReadsUnit class.AngleUnit c item parts.unit
 
 -- an axis: its name and direction, its meridian, order and
 -- unit, where they are written, and its identifiers
 pub record ReadsAxis (c : Class) (item : Item) (parts : AxisParts) : Type 0 where
   pub name : ReadsTextOf c item parts.name
   pub direction : ReadsFirst ReadsDirection (those c class.Word (arguments item)) parts.direction
-  pub meridian : ReadsOptional (ReadsAxisMeridian class.AxisMeridian)
-      (those c class.AxisMeridian (arguments item)) parts.meridian
-  pub order : ReadsOptional (ReadsNumberOf class.Order)
-      (those c class.Order (arguments item)) parts.order
-  pub unit : ReadsOptional (ReadsUnit class.AxisUnit)
-      (those c class.AxisUnit (arguments item)) parts.unit
+  pub meridian : ReadsIfAny ReadsAxisMeridian class.AxisMeridian c item parts.meridian
+  pub order : ReadsIfAny ReadsNumberOf class.Order c item parts.order
+  pub unit : ReadsIfAny ReadsUnit class.AxisUnit c item parts.unit
   pub identifiers : ReadsIds c item parts.identifiers
 
 -- what a node `CS` says of a coordinate system: its type, its dimension and its identifiers
@@ -129,9 +89,8 @@ pub record ReadsHead (item : Item) (parts : SystemParts) : Type 0 where
 -- the coordinate system of a CRS: its node `CS`, and the axes and the shared unit beside that
 pub record ReadsSystem (c : Class) (item : Item) (parts : SystemParts) : Type 0 where
   pub head : ReadsFirst ReadsHead (those c class.CoordinateSystem (arguments item)) parts
-  pub axes : ReadsEach (ReadsAxis class.Axis) (those c class.Axis (arguments item)) parts.axes
-  pub unit : ReadsOptional (ReadsUnit class.AxisUnit)
-      (those c class.AxisUnit (arguments item)) parts.unit
+  pub axes : ReadsAll ReadsAxis class.Axis c item parts.axes
+  pub unit : ReadsIfAny ReadsUnit class.AxisUnit c item parts.unit
 
 -- an ellipsoid: its name, its semi-major axis, its inverse
 -- flattening, its unit, if one is written, and its identifiers
@@ -139,8 +98,7 @@ pub record ReadsEllipsoid (c : Class) (item : Item) (parts : EllipsoidParts) : T
   pub name : ReadsTextOf c item parts.name
   pub semi_major_axis : ReadsNumberAt 0 c item parts.semi_major_axis
   pub inverse_flattening : ReadsNumberAt 1 c item parts.inverse_flattening
-  pub unit : ReadsOptional (ReadsUnit class.LengthUnit)
-      (those c class.LengthUnit (arguments item)) parts.unit
+  pub unit : ReadsIfAny ReadsUnit class.LengthUnit c item parts.unit
   pub identifiers : ReadsIds c item parts.identifiers
 
 -- a prime meridian: its name, its longitude, the unit of that,
@@ -148,37 +106,25 @@ pub record ReadsEllipsoid (c : Class) (item : Item) (parts : EllipsoidParts) : T
 pub record ReadsMeridian (c : Class) (item : Item) (parts : MeridianParts) : Type 0 where
   pub name : ReadsTextOf c item parts.name
   pub longitude : ReadsNumberOf c item parts.longitude
-  pub unit : ReadsOptional (ReadsUnit class.AngleUnit)
-      (those c class.AngleUnit (arguments item)) parts.unit
-  pub identifiers : ReadsIds c item parts.identifiers
-
--- a member of a datum ensemble: its name and its identifiers
-pub record ReadsMember (c : Class) (item : Item) (parts : MemberParts) : Type 0 where
-  pub name : ReadsTextOf c item parts.name
+  pub unit : ReadsIfAny ReadsUnit class.AngleUnit c item parts.unit
   pub identifiers : ReadsIds c item parts.identifiers
 
 -- a reference frame: its name, its ellipsoid, its anchor and its anchor's epoch, where they are
 -- written, and its identifiers; a second anchor or epoch is a repeated part
 pub record ReadsDatum (c : Class) (item : Item) (parts : DatumParts) : Type 0 where
   pub name : ReadsTextOf c item parts.name
-  pub ellipsoid : ReadsOptional (ReadsEllipsoid class.Ellipsoid)
-      (those c class.Ellipsoid (arguments item)) parts.ellipsoid
-  pub anchor : ReadsOptional (ReadsTextOf class.Anchor)
-      (those c class.Anchor (arguments item)) parts.anchor
-  pub anchor_epoch : ReadsOptional (ReadsNumberOf class.AnchorEpoch)
-      (those c class.AnchorEpoch (arguments item)) parts.anchor_epoch
+  pub ellipsoid : ReadsIfAny ReadsEllipsoid class.Ellipsoid c item parts.ellipsoid
+  pub anchor : ReadsIfAny ReadsTextOf class.Anchor c item parts.anchor
+  pub anchor_epoch : ReadsIfAny ReadsNumberOf class.AnchorEpoch c item parts.anchor_epoch
   pub identifiers : ReadsIds c item parts.identifiers
 
 -- a datum ensemble: its name, its members in order, its
 -- ellipsoid, if one is written, its accuracy and its identifiers
 pub record ReadsEnsemble (c : Class) (item : Item) (parts : EnsembleParts) : Type 0 where
   pub name : ReadsTextOf c item parts.name
-  pub members : ReadsEach (ReadsMember class.Member)
-      (those c class.Member (arguments item)) parts.members
-  pub ellipsoid : ReadsOptional (ReadsEllipsoid class.Ellipsoid)
-      (those c class.Ellipsoid (arguments item)) parts.ellipsoid
-  pub accuracy : ReadsFirst (ReadsNumberOf class.EnsembleAccuracy)
-      (those c class.EnsembleAccuracy (arguments item)) parts.accuracy
+  pub members : ReadsAll ReadsNamed class.Member c item parts.members
+  pub ellipsoid : ReadsIfAny ReadsEllipsoid class.Ellipsoid c item parts.ellipsoid
+  pub accuracy : ReadsOne ReadsNumberOf class.EnsembleAccuracy c item parts.accuracy
   pub identifiers : ReadsIds c item parts.identifiers
 
 -- a bounding box: its southern latitude, western longitude,
@@ -193,19 +139,15 @@ pub record ReadsBox (c : Class) (item : Item) (parts : BoxParts) : Type 0 where
 pub record ReadsExtent (c : Class) (item : Item) (parts : ExtentParts) : Type 0 where
   pub minimum : ReadsNumberAt 0 c item parts.minimum
   pub maximum : ReadsNumberAt 1 c item parts.maximum
-  pub unit : ReadsOptional (ReadsUnit class.LengthUnit)
-      (those c class.LengthUnit (arguments item)) parts.unit
+  pub unit : ReadsIfAny ReadsUnit class.LengthUnit c item parts.unit
 
 -- a usage, whose parts stand in a node `USAGE` or bare at a CRS's end:
 -- its scope, area, box and extent in height, where they are written
 pub record ReadsUsage (c : Class) (item : Item) (parts : UsageParts) : Type 0 where
-  pub scope : ReadsOptional (ReadsTextOf class.Scope)
-      (those c class.Scope (arguments item)) parts.scope
-  pub area : ReadsOptional (ReadsTextOf class.Area) (those c class.Area (arguments item)) parts.area
-  pub bbox : ReadsOptional (ReadsBox class.BoundingBox)
-      (those c class.BoundingBox (arguments item)) parts.bbox
-  pub extent : ReadsOptional (ReadsExtent class.VerticalExtent)
-      (those c class.VerticalExtent (arguments item)) parts.extent
+  pub scope : ReadsIfAny ReadsTextOf class.Scope c item parts.scope
+  pub area : ReadsIfAny ReadsTextOf class.Area c item parts.area
+  pub bbox : ReadsIfAny ReadsBox class.BoundingBox c item parts.bbox
+  pub extent : ReadsIfAny ReadsExtent class.VerticalExtent c item parts.extent
 
 -- no part of a usage is among the arguments
 pub record LacksUsage (c : Class) (item : Item) : Type 0 where
@@ -222,9 +164,7 @@ ReadsBare c item (Some parts) = ReadsUsage c item parts × SaysSome parts
 -- the end of a CRS: its usages, the one whose parts stand bare,
 -- if any does, its identifiers, and its remark, if one is written
 pub record ReadsTail (c : Class) (item : Item) (parts : TailParts) : Type 0 where
-  pub usages : ReadsEach (ReadsUsage class.Usage)
-      (those c class.Usage (arguments item)) parts.usages
+  pub usages : ReadsAll ReadsUsage class.Usage c item parts.usages
   pub bare_parts : ReadsBare c item parts.bare_parts
   pub identifiers : ReadsIds c item parts.identifiers
-  pub remark : ReadsOptional (ReadsTextOf class.Remark)
-      (those c class.Remark (arguments item)) parts.remark
+  pub remark : ReadsIfAny ReadsTextOf class.Remark c item parts.remark

@@ -1,18 +1,15 @@
--- What conversions and geoid models say.
+-- What conversions say.
 use Rattle.std.specs.Prelude.{List, [], ◌∷◌, Option, Some, None}
-use Rattle.crs_text.specs.Items.{Item, arguments}
+use Rattle.crs_text.specs.Items.{Item}
 use Rattle.crs_shape.specs.declared.class.Class.{Class}
 use Rattle.crs_shape.specs.declared.class.Class.TheVariants as class
-use Rattle.crs_value.specs.ConversionValues.{MethodParts, ParameterParts, ConversionParts}
-use Rattle.crs_value.specs.ConversionValues.{GeoidModelParts}
-use Rattle.crs_value.specs.Reading.{those, ReadsFirst, ReadsEach, ReadsElse}
-use Rattle.crs_value.specs.Reads.{ReadsTextOf, ReadsNumberOf, ReadsIds, ReadsUnit}
+use Rattle.crs_value.specs.ConversionValues.{ParameterParts, ConversionParts}
+use Rattle.crs_value.specs.Reading.{ReadsOne, ReadsAll, ReadsOneElse}
+use Rattle.crs_value.specs.Reads.{ReadsNumberOf, ReadsUnit}
+use Rattle.crs_value.specs.ReadsNamed.{ReadsTextOf, ReadsIds, ReadsNamed}
 use Rattle.crs_value.specs.Values.{UnitParts}
-
--- the method of a conversion: its name and its identifiers
-pub record ReadsMethod (c : Class) (item : Item) (parts : MethodParts) : Type 0 where
-  pub name : ReadsTextOf c item parts.name
-  pub identifiers : ReadsIds c item parts.identifiers
+pub use Rattle.crs_value.specs.ReadsNamed.{ReadsNamed as ReadsMethod}
+pub use Rattle.crs_value.specs.ReadsNamed.{ReadsNamed as ReadsGeoidModel}
 
 -- the classes of a parameter's unit; in a parameter the keyword `UNIT` names the plain one alone
 abbrev pub parameter_units : List Class
@@ -28,8 +25,7 @@ ReadsAsUnit d item (Some unit) = ReadsUnit d item unit
 abbrev pub ReadsUnitOf : List Class → Class → Item → Option UnitParts → Type 0
 ReadsUnitOf [] c item None = Unit {0}
 ReadsUnitOf [] c item (Some unit) = ⊥
-ReadsUnitOf (d ∷ ds) c item unit =
-    ReadsElse (ReadsAsUnit d) (those c d (arguments item)) (ReadsUnitOf ds c item) unit
+ReadsUnitOf (d ∷ ds) c item unit = ReadsOneElse ReadsAsUnit d (ReadsUnitOf ds) c item unit
 
 -- a parameter of a conversion: its name, its number, the unit
 -- of that, if one is written, and its identifiers
@@ -42,13 +38,6 @@ pub record ReadsParameter (c : Class) (item : Item) (parts : ParameterParts) : T
 -- a conversion: its name, its method, its parameters in order and its identifiers
 pub record ReadsConversion (c : Class) (item : Item) (parts : ConversionParts) : Type 0 where
   pub name : ReadsTextOf c item parts.name
-  pub method : ReadsFirst (ReadsMethod class.Method)
-      (those c class.Method (arguments item)) parts.method
-  pub parameters : ReadsEach (ReadsParameter class.Parameter)
-      (those c class.Parameter (arguments item)) parts.parameters
-  pub identifiers : ReadsIds c item parts.identifiers
-
--- a geoid model: its name and its identifiers
-pub record ReadsGeoidModel (c : Class) (item : Item) (parts : GeoidModelParts) : Type 0 where
-  pub name : ReadsTextOf c item parts.name
+  pub method : ReadsOne ReadsNamed class.Method c item parts.method
+  pub parameters : ReadsAll ReadsParameter class.Parameter c item parts.parameters
   pub identifiers : ReadsIds c item parts.identifiers

@@ -1,6 +1,6 @@
 -- What coordinate reference systems say.
 use Rattle.std.specs.Prelude.{◌≡◌}
-use Rattle.crs_text.specs.Items.{Item, arguments}
+use Rattle.crs_text.specs.Items.{Item}
 use Rattle.crs_shape.specs.declared.class.Class.{Class}
 use Rattle.crs_shape.specs.declared.class.Class.TheVariants as class
 use Rattle.crs_value.specs.declared.values.compound.Horizontal.{Horizontal}
@@ -15,12 +15,12 @@ use Rattle.crs_value.specs.declared.values.system_type.SystemType.{SystemType}
 use Rattle.crs_value.specs.declared.values.system_type.SystemType.TheVariants as types
 use Rattle.crs_value.specs.CompoundValues.{CompoundParts}
 use Rattle.crs_value.specs.CrsValues.{GeodeticParts, BaseParts, ProjectedParts, VerticalParts}
-use Rattle.crs_value.specs.Reading.{those, ReadsFirst, ReadsOptional, ReadsEach, ReadsElse}
-use Rattle.crs_value.specs.Reads.{ReadsTextOf, ReadsIds, ReadsUnit, ReadsDatum, ReadsEnsemble}
-use Rattle.crs_value.specs.Reads.{ReadsMeridian}
-use Rattle.crs_value.specs.Reads.{ReadsSystem, ReadsTail}
-use Rattle.crs_value.specs.ReadsConversion.{ReadsConversion, ReadsGeoidModel}
+use Rattle.crs_value.specs.Reading.{ReadsOne, ReadsIfAny, ReadsAll, ReadsOneElse}
+use Rattle.crs_value.specs.Reads.{ReadsUnit, ReadsDatum, ReadsEnsemble, ReadsMeridian, ReadsSystem}
+use Rattle.crs_value.specs.Reads.{ReadsTail}
+use Rattle.crs_value.specs.ReadsConversion.{ReadsConversion}
 use Rattle.crs_value.specs.ReadsDynamic.{ReadsDynamic}
+use Rattle.crs_value.specs.ReadsNamed.{ReadsTextOf, ReadsIds, ReadsNamed}
 
 -- the item is a reference frame of this class, and this is its value
 abbrev pub ReadsAsDatum : Class → Item → Frame → Type 0
@@ -35,9 +35,7 @@ ReadsAsEnsemble e item (frame.Ensemble ensemble) = ReadsEnsemble e item ensemble
 -- the frame of a CRS: its reference frame, of the one class,
 -- or where there is none its ensemble, of the other
 abbrev pub ReadsFrame : Class → Class → Class → Item → Frame → Type 0
-ReadsFrame d e c item value =
-    ReadsElse (ReadsAsDatum d) (those c d (arguments item))
-    (ReadsFirst (ReadsAsEnsemble e) (those c e (arguments item))) value
+ReadsFrame d e = ReadsOneElse ReadsAsDatum d (ReadsOne ReadsAsEnsemble e)
 
 -- the frame of a geodetic CRS or of a base CRS: its geodetic
 -- reference frame, or else its datum ensemble
@@ -58,11 +56,9 @@ IsGeodeticClass other = ⊥
 -- prime meridian, coordinate system and end
 pub record ReadsGeodetic (c : Class) (item : Item) (parts : GeodeticParts) : Type 0 where
   pub name : ReadsTextOf c item parts.name
-  pub dynamic : ReadsOptional (ReadsDynamic class.Dynamic)
-      (those c class.Dynamic (arguments item)) parts.dynamic
+  pub dynamic : ReadsIfAny ReadsDynamic class.Dynamic c item parts.dynamic
   pub frame : ReadsGeodeticFrame c item parts.frame
-  pub meridian : ReadsOptional (ReadsMeridian class.PrimeMeridian)
-      (those c class.PrimeMeridian (arguments item)) parts.meridian
+  pub meridian : ReadsIfAny ReadsMeridian class.PrimeMeridian c item parts.meridian
   pub system : ReadsSystem c item parts.system
   pub tail : ReadsTail c item parts.tail
 
@@ -70,34 +66,27 @@ pub record ReadsGeodetic (c : Class) (item : Item) (parts : GeodeticParts) : Typ
 -- its angles, if one is written, and its identifiers
 pub record ReadsBase (c : Class) (item : Item) (parts : BaseParts) : Type 0 where
   pub name : ReadsTextOf c item parts.name
-  pub dynamic : ReadsOptional (ReadsDynamic class.Dynamic)
-      (those c class.Dynamic (arguments item)) parts.dynamic
+  pub dynamic : ReadsIfAny ReadsDynamic class.Dynamic c item parts.dynamic
   pub frame : ReadsGeodeticFrame c item parts.frame
-  pub meridian : ReadsOptional (ReadsMeridian class.PrimeMeridian)
-      (those c class.PrimeMeridian (arguments item)) parts.meridian
-  pub unit : ReadsOptional (ReadsUnit class.AngleUnit)
-      (those c class.AngleUnit (arguments item)) parts.unit
+  pub meridian : ReadsIfAny ReadsMeridian class.PrimeMeridian c item parts.meridian
+  pub unit : ReadsIfAny ReadsUnit class.AngleUnit c item parts.unit
   pub identifiers : ReadsIds c item parts.identifiers
 
 -- a projected CRS: its name, base CRS, conversion, coordinate system and end
 pub record ReadsProjected (c : Class) (item : Item) (parts : ProjectedParts) : Type 0 where
   pub name : ReadsTextOf c item parts.name
-  pub base : ReadsFirst (ReadsBase class.BaseCrs)
-      (those c class.BaseCrs (arguments item)) parts.base
-  pub conversion : ReadsFirst (ReadsConversion class.Conversion)
-      (those c class.Conversion (arguments item)) parts.conversion
+  pub base : ReadsOne ReadsBase class.BaseCrs c item parts.base
+  pub conversion : ReadsOne ReadsConversion class.Conversion c item parts.conversion
   pub system : ReadsSystem c item parts.system
   pub tail : ReadsTail c item parts.tail
 
 -- a vertical CRS: its name, dynamic part, frame, coordinate system, geoid models in order, and end
 pub record ReadsVertical (c : Class) (item : Item) (parts : VerticalParts) : Type 0 where
   pub name : ReadsTextOf c item parts.name
-  pub dynamic : ReadsOptional (ReadsDynamic class.Dynamic)
-      (those c class.Dynamic (arguments item)) parts.dynamic
+  pub dynamic : ReadsIfAny ReadsDynamic class.Dynamic c item parts.dynamic
   pub frame : ReadsVerticalFrame c item parts.frame
   pub system : ReadsSystem c item parts.system
-  pub geoid_models : ReadsEach (ReadsGeoidModel class.GeoidModel)
-      (those c class.GeoidModel (arguments item)) parts.geoid_models
+  pub geoid_models : ReadsAll ReadsNamed class.GeoidModel c item parts.geoid_models
   pub tail : ReadsTail c item parts.tail
 
 -- the item is a horizontal CRS of this class, and this is its value
@@ -109,19 +98,16 @@ ReadsAsHorizontal c item (horizontal.Projected projected) =
 
 -- a compound's horizontal part: its geodetic, geographic or projected CRS
 abbrev pub ReadsHorizontal : Class → Item → Horizontal → Type 0
-ReadsHorizontal c item value =
-    ReadsElse (ReadsAsHorizontal class.GeodeticCrs) (those c class.GeodeticCrs (arguments item))
-    (ReadsElse (ReadsAsHorizontal class.GeographicCrs)
-    (those c class.GeographicCrs (arguments item))
-    (ReadsFirst (ReadsAsHorizontal class.ProjectedCrs)
-    (those c class.ProjectedCrs (arguments item)))) value
+ReadsHorizontal =
+    ReadsOneElse ReadsAsHorizontal class.GeodeticCrs
+    (ReadsOneElse ReadsAsHorizontal class.GeographicCrs
+    (ReadsOne ReadsAsHorizontal class.ProjectedCrs))
 
 -- a compound CRS: its name, its horizontal part, its vertical part and its end
 pub record ReadsCompound (c : Class) (item : Item) (parts : CompoundParts) : Type 0 where
   pub name : ReadsTextOf c item parts.name
   pub horizontal : ReadsHorizontal c item parts.horizontal
-  pub vertical : ReadsFirst (ReadsVertical class.VerticalCrs)
-      (those c class.VerticalCrs (arguments item)) parts.vertical
+  pub vertical : ReadsOne ReadsVertical class.VerticalCrs c item parts.vertical
   pub tail : ReadsTail c item parts.tail
 
 -- the value of a whole text of this class

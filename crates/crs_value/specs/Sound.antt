@@ -1,4 +1,4 @@
--- What is asked of identifiers, units and axes by themselves: well-formed
+-- What is asked of identifiers, named values, units and axes by themselves: well-formed
 -- texts, decimals in their normal form, and units of a kind that fits.
 use Rattle.std.specs.Prelude.{◌≡◌, ◌≢◌, ℕ, List, [], ◌∷◌, ◌⊎◌, IsUtf8, IfSome}
 use Rattle.crs_decimal.specs.Value.{IsNormal}
@@ -6,7 +6,8 @@ use Rattle.crs_text.specs.Quoted.{IsInside}
 use Rattle.crs_value.specs.declared.values.unit_kind.UnitKind.{UnitKind}
 use Rattle.crs_value.specs.declared.values.unit_kind.UnitKind.TheVariants as kinds
 use Rattle.crs_value.specs.BadValue.{IsAboveZero}
-use Rattle.crs_value.specs.Values.{IdentParts, UnitParts, AxisMeridianParts, AxisParts}
+use Rattle.crs_value.specs.NamedValues.{IdentParts, NamedParts}
+use Rattle.crs_value.specs.Values.{UnitParts, AxisMeridianParts, AxisParts}
 
 -- each of these values is so
 abbrev pub Each : {V : Type 0} → (V → Type 0) → List V → Type 0
@@ -25,6 +26,12 @@ pub record IsIdent (ident : IdentParts) : Type 0 where
   pub version : IfSome ident.version IsText
   pub citation : IfSome ident.citation IsText
   pub uri : IfSome ident.uri IsText
+
+-- what is asked of a value that has a name and identifiers alone:
+-- its name is a text, and its identifiers are as asked
+pub record IsNamed (named : NamedParts) : Type 0 where
+  pub name : IsText named.name
+  pub identifiers : Each IsIdent named.identifiers
 
 -- ---- units
 

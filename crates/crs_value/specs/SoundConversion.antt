@@ -1,14 +1,10 @@
--- What is asked of conversions and of geoid models by themselves.
+-- What is asked of conversions by themselves.
 use Rattle.std.specs.Prelude.{IfSome}
 use Rattle.crs_decimal.specs.Value.{IsNormal}
-use Rattle.crs_value.specs.ConversionValues.{MethodParts, ParameterParts, ConversionParts}
-use Rattle.crs_value.specs.ConversionValues.{GeoidModelParts}
-use Rattle.crs_value.specs.Sound.{Each, IsText, IsIdent, IsUnit}
-
--- what is asked of the method of a conversion: its name is a text, and its identifiers are as asked
-pub record IsMethod (method : MethodParts) : Type 0 where
-  pub name : IsText method.name
-  pub identifiers : Each IsIdent method.identifiers
+use Rattle.crs_value.specs.ConversionValues.{ParameterParts, ConversionParts}
+use Rattle.crs_value.specs.Sound.{Each, IsText, IsIdent, IsNamed, IsUnit}
+pub use Rattle.crs_value.specs.Sound.{IsNamed as IsMethod}
+pub use Rattle.crs_value.specs.Sound.{IsNamed as IsGeoidModel}
 
 -- what is asked of a parameter of a conversion: its unit, if it has one, may be of each kind
 pub record IsParameter (parameter : ParameterParts) : Type 0 where
@@ -20,11 +16,6 @@ pub record IsParameter (parameter : ParameterParts) : Type 0 where
 -- what is asked of a conversion: its name is a text, and its parts are as asked of them
 pub record IsConversion (conversion : ConversionParts) : Type 0 where
   pub name : IsText conversion.name
-  pub method : IsMethod conversion.method
+  pub method : IsNamed conversion.method
   pub parameters : Each IsParameter conversion.parameters
   pub identifiers : Each IsIdent conversion.identifiers
-
--- what is asked of a geoid model: its name is a text, and its identifiers are as asked
-pub record IsGeoidModel (model : GeoidModelParts) : Type 0 where
-  pub name : IsText model.name
-  pub identifiers : Each IsIdent model.identifiers

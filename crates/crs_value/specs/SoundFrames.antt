@@ -3,9 +3,9 @@ use Rattle.std.specs.Prelude.{◌≡◌, ◌≢◌, false, [], IfSome}
 use Rattle.crs_decimal.specs.Value.{IsNormal}
 use Rattle.crs_value.specs.declared.values.unit_kind.UnitKind.TheVariants as kinds
 use Rattle.crs_value.specs.BadValue.{IsAboveZero}
-use Rattle.crs_value.specs.Sound.{Each, IsText, IsIdent, IsUnitOf}
-use Rattle.crs_value.specs.Values.{EllipsoidParts, MeridianParts, MemberParts, DatumParts}
-use Rattle.crs_value.specs.Values.{EnsembleParts}
+use Rattle.crs_value.specs.Sound.{Each, IsText, IsIdent, IsNamed, IsUnitOf}
+use Rattle.crs_value.specs.Values.{EllipsoidParts, MeridianParts, DatumParts, EnsembleParts}
+pub use Rattle.crs_value.specs.Sound.{IsNamed as IsMember}
 
 -- what is asked of an ellipsoid: its semi-major axis is above zero, its inverse flattening isn't
 -- negative, and its unit, if it has one, stands for one of length
@@ -25,12 +25,6 @@ pub record IsMeridian (meridian : MeridianParts) : Type 0 where
   pub unit : IfSome meridian.unit (IsUnitOf kinds.Angle)
   pub identifiers : Each IsIdent meridian.identifiers
 
--- what is asked of a member of a datum ensemble: its name is a
--- text, and its identifiers are as asked
-pub record IsMember (member : MemberParts) : Type 0 where
-  pub name : IsText member.name
-  pub identifiers : Each IsIdent member.identifiers
-
 -- what is asked of a reference frame: what it has of an
 -- ellipsoid, an anchor and its epoch is as asked
 pub record IsDatum (datum : DatumParts) : Type 0 where
@@ -44,7 +38,7 @@ pub record IsDatum (datum : DatumParts) : Type 0 where
 pub record IsEnsemble (ensemble : EnsembleParts) : Type 0 where
   pub name : IsText ensemble.name
   pub some : ensemble.members ≢ []
-  pub members : Each IsMember ensemble.members
+  pub members : Each IsNamed ensemble.members
   pub ellipsoid : IfSome ensemble.ellipsoid IsEllipsoid
   pub accuracy : IsNormal ensemble.accuracy
   pub identifiers : Each IsIdent ensemble.identifiers

@@ -7,8 +7,8 @@ use Rattle.crs_value.specs.BadSystem.{IsOneOf, geodetic_dimensions, projected_di
 use Rattle.crs_value.specs.BadSystem.{vertical_dimensions}
 use Rattle.crs_value.specs.CrsValues.{GeodeticParts, BaseParts, ProjectedParts, VerticalParts}
 use Rattle.crs_value.specs.DynamicValues.{DynamicParts}
-use Rattle.crs_value.specs.Sound.{Each, IsText, IsIdent, IsUnitOf}
-use Rattle.crs_value.specs.SoundConversion.{IsConversion, IsGeoidModel}
+use Rattle.crs_value.specs.Sound.{Each, IsText, IsIdent, IsNamed, IsUnitOf}
+use Rattle.crs_value.specs.SoundConversion.{IsConversion}
 use Rattle.crs_value.specs.SoundDynamic.{IsDynamic}
 use Rattle.crs_value.specs.SoundFrames.{IsMeridian, IsDatum, IsEnsemble}
 use Rattle.crs_value.specs.SoundSystem.{IsSystem}
@@ -72,5 +72,5 @@ pub record IsVertical (vertical : VerticalParts) : Type 0 where
   pub system : IsSystem vertical.system
   pub dimension : IsOneOf vertical.system.dimension
       (vertical_dimensions vertical.system.system_type)
-  pub geoid_models : Each IsGeoidModel vertical.geoid_models
+  pub geoid_models : Each IsNamed vertical.geoid_models
   pub tail : IsTail vertical.tail

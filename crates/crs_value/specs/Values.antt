@@ -6,14 +6,8 @@ use Rattle.crs_decimal.specs.Value.{Value}
 use Rattle.crs_value.specs.declared.values.direction.Direction.{Direction}
 use Rattle.crs_value.specs.declared.values.system_type.SystemType.{SystemType}
 use Rattle.crs_value.specs.declared.values.unit_kind.UnitKind.{UnitKind}
-
--- an identifier
-pub record IdentParts : Type 0 where
-  pub authority : List ℕ
-  pub code : List ℕ
-  pub version : Option (List ℕ)
-  pub citation : Option (List ℕ)
-  pub uri : Option (List ℕ)
+use Rattle.crs_value.specs.NamedValues.{NamedParts}
+pub use Rattle.crs_value.specs.NamedValues.{IdentParts, NamedParts as MemberParts}
 
 -- a unit: its kind by its keyword, its name, and how many metres, radians or ones it has
 pub record UnitParts : Type 0 where
@@ -60,11 +54,6 @@ pub record MeridianParts : Type 0 where
   pub unit : Option UnitParts
   pub identifiers : List IdentParts
 
--- a member of a datum ensemble
-pub record MemberParts : Type 0 where
-  pub name : List ℕ
-  pub identifiers : List IdentParts
-
 -- a reference frame, with its ellipsoid if it is geodetic
 pub record DatumParts : Type 0 where
   pub name : List ℕ
@@ -76,7 +65,7 @@ pub record DatumParts : Type 0 where
 -- a datum ensemble, with its ellipsoid if it is geodetic
 pub record EnsembleParts : Type 0 where
   pub name : List ℕ
-  pub members : List MemberParts
+  pub members : List NamedParts
   pub ellipsoid : Option EllipsoidParts
   pub accuracy : Value
   pub identifiers : List IdentParts

@@ -5,7 +5,7 @@ ghost use Rattle.crs_text.specs.Items.{Item, arguments, HasId};
 ghost use Rattle.crs_shape.specs.declared.class.Class.{Class};
 ghost use Rattle.crs_shape.specs.Shaped.{Shaped};
 ghost use Rattle.crs_value.specs.Checks.{IsSound};
-ghost use Rattle.crs_value.specs.Reading.{item_at, Requires, those, IsFound, ReadsFirst, ReadsOptional, ReadsEach};
+ghost use Rattle.crs_value.specs.Reading.{item_at, Requires, those, IsFound, ReadsOne, ReadsIfAny, ReadsAll};
 ghost use Rattle.crs_value.specs.Reads.{ReadsNumber, ReadsTextOf, ReadsNumberOf, ReadsNumberAt};
 
 use crate::reading::arguments::{first, later};
@@ -56,8 +56,7 @@ pub(crate) fn one<'a, T: Node<'a>>(
     requires sound { IsSound parent (item_at items.now id) }
     requires suits { T.Suits class }
     requires enough { Requires parent class 0 }
-    ensures { IfOk result (λ value. ReadsFirst (T.Reads class) (those parent class (arguments
-        (item_at items.now id))) value) }
+    ensures { IfOk result (λ value. ReadsOne T.Reads class parent (item_at items.now id) value) }
 {
     T::read(alloc, items, required(items, id, parent, class), class)
 }
@@ -72,8 +71,7 @@ pub(crate) fn optional<'a, T: Node<'a>>(
     requires has { HasId items.now id }
     requires sound { IsSound parent (item_at items.now id) }
     requires suits { T.Suits class }
-    ensures { IfOk result (λ value. ReadsOptional (T.Reads class) (those parent class (arguments
-        (item_at items.now id))) value) }
+    ensures { IfOk result (λ value. ReadsIfAny T.Reads class parent (item_at items.now id) value) }
 {
     optional_from(
         alloc,
@@ -98,8 +96,7 @@ pub(crate) fn optional_from<'a, T: Node<'a>>(
     requires sound { IsSound parent (item_at items.now _id) }
     requires suits { T.Suits class }
     requires found { IsFound items.now parent class (those parent class (arguments (item_at items.now _id))) found }
-    ensures { IfOk result (λ value. ReadsOptional (T.Reads class) (those parent class (arguments
-        (item_at items.now _id))) value) }
+    ensures { IfOk result (λ value. ReadsIfAny T.Reads class parent (item_at items.now _id) value) }
 {
     match found {
         None => Ok(None),
@@ -117,8 +114,7 @@ pub(crate) fn many<'a, T: Node<'a>>(
     requires has { HasId items.now id }
     requires sound { IsSound parent (item_at items.now id) }
     requires suits { T.Suits class }
-    ensures { IfOk result (λ values. ReadsEach (T.Reads class) (those parent class (arguments
-        (item_at items.now id))) values) }
+    ensures { IfOk result (λ values. ReadsAll T.Reads class parent (item_at items.now id) values) }
 {
     many_from(
         alloc,
@@ -143,8 +139,7 @@ pub(crate) fn many_from<'a, T: Node<'a>>(
     requires sound { IsSound parent (item_at items.now _id) }
     requires suits { T.Suits class }
     requires found { IsFound items.now parent class (those parent class (arguments (item_at items.now _id))) found }
-    ensures { IfOk result (λ values. ReadsEach (T.Reads class) (those parent class (arguments
-        (item_at items.now _id))) values) }
+    ensures { IfOk result (λ values. ReadsAll T.Reads class parent (item_at items.now _id) values) }
 {
     let mut list = List::new(alloc);
     let mut at = found;
@@ -175,8 +170,7 @@ pub(crate) fn optional_text<'a>(
     requires has { HasId items.now id }
     requires sound { IsSound parent (item_at items.now id) }
     requires enough { Requires class Class.Text 0 }
-    ensures { ReadsOptional (ReadsTextOf class) (those parent class (arguments (item_at items.now id)))
-        (option_copied result) }
+    ensures { ReadsIfAny ReadsTextOf class parent (item_at items.now id) (option_copied result) }
 {
     optional_text_from(items, id, parent, class, first(items, id, parent, class))
 }
@@ -193,8 +187,7 @@ pub(crate) fn optional_text_from<'a>(
     requires sound { IsSound parent (item_at items.now _id) }
     requires enough { Requires class Class.Text 0 }
     requires found { IsFound items.now parent class (those parent class (arguments (item_at items.now _id))) found }
-    ensures { ReadsOptional (ReadsTextOf class) (those parent class (arguments (item_at items.now _id)))
-        (option_copied result) }
+    ensures { ReadsIfAny ReadsTextOf class parent (item_at items.now _id) (option_copied result) }
 {
     match found {
         None => None,
@@ -239,8 +232,7 @@ pub(crate) fn optional_number(
     requires has { HasId items.now id }
     requires sound { IsSound parent (item_at items.now id) }
     requires enough { Requires class Class.Number 0 }
-    ensures { ReadsOptional (ReadsNumberOf class) (those parent class (arguments
-        (item_at items.now id))) result }
+    ensures { ReadsIfAny ReadsNumberOf class parent (item_at items.now id) result }
 {
     let found = first(items, id, parent, class)?;
     Some(number(items, found, class))
@@ -252,8 +244,7 @@ pub(crate) fn one_number(items: &Items<'_>, id: ItemId, parent: Class, class: Cl
     requires shaped { Shaped parent (item_at items.now id) }
     requires there { Requires parent class 0 }
     requires enough { Requires class Class.Number 0 }
-    ensures { ReadsFirst (ReadsNumberOf class) (those parent class (arguments
-        (item_at items.now id))) result }
+    ensures { ReadsOne ReadsNumberOf class parent (item_at items.now id) result }
 {
     number(items, required(items, id, parent, class), class)
 }

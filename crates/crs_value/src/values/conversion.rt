@@ -62,14 +62,14 @@ pub struct Method<'a> {
 }
 
 impl<'a> Model for Method<'a> {
-    ghost use Rattle.crs_value.specs.ConversionValues.{MethodParts};
-    ghost use Rattle.crs_value.specs.SoundConversion.{IsMethod};
+    ghost use Rattle.crs_value.specs.NamedValues.{NamedParts};
+    ghost use Rattle.crs_value.specs.Sound.{IsNamed};
 
-    ghost Value = { MethodParts };
+    ghost Value = { NamedParts };
 
     ghost view = { λ m. record { name = m.name.now; identifiers = m.identifiers } };
 
-    ghost invariant = { λ m. IsMethod (view m) };
+    ghost invariant = { λ m. IsNamed (view m) };
 }
 
 // By hand, so that whoever drops one calls this, and proves nothing of its parts.
@@ -171,11 +171,11 @@ impl<'a> Node<'a> for Method<'a> {
     ghost use Rattle.std.specs.Prelude.{◌≡◌};
     ghost use Rattle.crs_shape.specs.declared.class.Class.TheVariants as classes;
     ghost use Rattle.crs_value.specs.Reading.{Requires};
-    ghost use Rattle.crs_value.specs.ReadsConversion.{ReadsMethod};
+    ghost use Rattle.crs_value.specs.ReadsNamed.{ReadsNamed};
 
     ghost Suits = { λ c. Requires c classes.Text 0 };
 
-    ghost Reads = { λ c item parts. ReadsMethod c item parts };
+    ghost Reads = { λ c item parts. ReadsNamed c item parts };
 
     fn read(
         alloc: Global,

@@ -44,14 +44,14 @@ pub struct DeformationModel<'a> {
 }
 
 impl<'a> Model for DeformationModel<'a> {
-    ghost use Rattle.crs_value.specs.DynamicValues.{DeformationModelParts};
-    ghost use Rattle.crs_value.specs.SoundDynamic.{IsDeformationModel};
+    ghost use Rattle.crs_value.specs.NamedValues.{NamedParts};
+    ghost use Rattle.crs_value.specs.Sound.{IsNamed};
 
-    ghost Value = { DeformationModelParts };
+    ghost Value = { NamedParts };
 
     ghost view = { λ m. record { name = m.name.now; identifiers = m.identifiers } };
 
-    ghost invariant = { λ m. IsDeformationModel (view m) };
+    ghost invariant = { λ m. IsNamed (view m) };
 }
 
 // By hand, so that whoever drops one calls this, and proves nothing of its parts.
@@ -91,11 +91,11 @@ impl<'a> Node<'a> for DeformationModel<'a> {
     ghost use Rattle.std.specs.Prelude.{◌≡◌};
     ghost use Rattle.crs_shape.specs.declared.class.Class.TheVariants as classes;
     ghost use Rattle.crs_value.specs.Reading.{Requires};
-    ghost use Rattle.crs_value.specs.ReadsDynamic.{ReadsDeformationModel};
+    ghost use Rattle.crs_value.specs.ReadsNamed.{ReadsNamed};
 
     ghost Suits = { λ c. Requires c classes.Text 0 };
 
-    ghost Reads = { λ c item parts. ReadsDeformationModel c item parts };
+    ghost Reads = { λ c item parts. ReadsNamed c item parts };
 
     fn read(
         alloc: Global,

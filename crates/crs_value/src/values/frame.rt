@@ -130,14 +130,14 @@ pub struct Member<'a> {
 }
 
 impl<'a> Model for Member<'a> {
-    ghost use Rattle.crs_value.specs.SoundFrames.{IsMember};
-    ghost use Rattle.crs_value.specs.Values.{MemberParts};
+    ghost use Rattle.crs_value.specs.NamedValues.{NamedParts};
+    ghost use Rattle.crs_value.specs.Sound.{IsNamed};
 
-    ghost Value = { MemberParts };
+    ghost Value = { NamedParts };
 
     ghost view = { λ m. record { name = m.name.now; identifiers = m.identifiers } };
 
-    ghost invariant = { λ m. IsMember (view m) };
+    ghost invariant = { λ m. IsNamed (view m) };
 }
 
 // By hand, so that whoever drops one calls this, and proves nothing of its parts.
@@ -208,11 +208,11 @@ impl<'a> Node<'a> for Member<'a> {
     ghost use Rattle.std.specs.Prelude.{◌≡◌};
     ghost use Rattle.crs_shape.specs.declared.class.Class.TheVariants as classes;
     ghost use Rattle.crs_value.specs.Reading.{Requires};
-    ghost use Rattle.crs_value.specs.Reads.{ReadsMember};
+    ghost use Rattle.crs_value.specs.ReadsNamed.{ReadsNamed};
 
     ghost Suits = { λ c. Requires c classes.Text 0 };
 
-    ghost Reads = { λ c item parts. ReadsMember c item parts };
+    ghost Reads = { λ c item parts. ReadsNamed c item parts };
 
     fn read(
         alloc: Global,

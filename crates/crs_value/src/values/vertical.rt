@@ -72,14 +72,14 @@ pub struct GeoidModel<'a> {
 }
 
 impl<'a> Model for GeoidModel<'a> {
-    ghost use Rattle.crs_value.specs.ConversionValues.{GeoidModelParts};
-    ghost use Rattle.crs_value.specs.SoundConversion.{IsGeoidModel};
+    ghost use Rattle.crs_value.specs.NamedValues.{NamedParts};
+    ghost use Rattle.crs_value.specs.Sound.{IsNamed};
 
-    ghost Value = { GeoidModelParts };
+    ghost Value = { NamedParts };
 
     ghost view = { λ g. record { name = g.name.now; identifiers = g.identifiers } };
 
-    ghost invariant = { λ g. IsGeoidModel (view g) };
+    ghost invariant = { λ g. IsNamed (view g) };
 }
 
 // By hand, so that whoever drops one calls this, and proves nothing of its parts.
@@ -124,11 +124,11 @@ impl<'a> Node<'a> for GeoidModel<'a> {
     ghost use Rattle.std.specs.Prelude.{◌≡◌};
     ghost use Rattle.crs_shape.specs.declared.class.Class.TheVariants as classes;
     ghost use Rattle.crs_value.specs.Reading.{Requires};
-    ghost use Rattle.crs_value.specs.ReadsConversion.{ReadsGeoidModel};
+    ghost use Rattle.crs_value.specs.ReadsNamed.{ReadsNamed};
 
     ghost Suits = { λ c. Requires c classes.Text 0 };
 
-    ghost Reads = { λ c item parts. ReadsGeoidModel c item parts };
+    ghost Reads = { λ c item parts. ReadsNamed c item parts };
 
     fn read(
         alloc: Global,

@@ -1,11 +1,11 @@
 use Rattle.std.proofs.Common.{refl, arith}
 use Rattle.crs_shape.specs.declared.class.Class.TheVariants as class
 use Rattle.crs_value.proofs.SoundAxisLemmas.{axis-meridian-tells, axis-tells}
-use Rattle.crs_value.proofs.SoundConversionLemmas.{conversion-tells, geoid-model-tells, method-tells, parameter-tells}
+use Rattle.crs_value.proofs.SoundConversionLemmas.{conversion-tells, parameter-tells}
 use Rattle.crs_value.proofs.SoundCrsLemmas.{base-tells, has-ellipsoid, no-ellipsoid}
-use Rattle.crs_value.proofs.SoundDynamicLemmas.{dynamic-tells, model-tells}
-use Rattle.crs_value.proofs.SoundFrameLemmas.{datum-tells, ellipsoid-tells, ensemble-tells, member-tells, meridian-tells}
-use Rattle.crs_value.proofs.SoundLemmas.{ident-tells, unit-tells}
+use Rattle.crs_value.proofs.SoundDynamicLemmas.{dynamic-tells}
+use Rattle.crs_value.proofs.SoundFrameLemmas.{datum-tells, ellipsoid-tells, ensemble-tells, meridian-tells}
+use Rattle.crs_value.proofs.SoundLemmas.{ident-tells, named-tells, unit-tells}
 use Rattle.crs_value.proofs.SoundUsageLemmas.{box-tells, extent-tells, says-some, usage-tells}
 use Rattle.crs_value.proofs.laws.parts.parts_are_sound.Goals as goal
 
@@ -28,7 +28,7 @@ pub returns-clause-meridian : goal.returns-clause-meridian
 returns-clause-meridian c = meridian-tells
 
 pub returns-clause-member : goal.returns-clause-member
-returns-clause-member c = member-tells
+returns-clause-member c = named-tells
 
 pub returns-clause-datum : goal.returns-clause-datum
 returns-clause-datum c item value s r = (
@@ -61,7 +61,7 @@ pub returns-clause-extent : goal.returns-clause-extent
 returns-clause-extent c = extent-tells
 
 pub returns-clause-method : goal.returns-clause-method
-returns-clause-method c = method-tells
+returns-clause-method c = named-tells
 
 pub returns-clause-parameter : goal.returns-clause-parameter
 returns-clause-parameter c = parameter-tells
@@ -70,10 +70,10 @@ pub returns-clause-conversion : goal.returns-clause-conversion
 returns-clause-conversion c = conversion-tells
 
 pub returns-clause-geoid_model : goal.returns-clause-geoid_model
-returns-clause-geoid_model c = geoid-model-tells
+returns-clause-geoid_model c = named-tells
 
 pub returns-clause-deformation_model : goal.returns-clause-deformation_model
-returns-clause-deformation_model c = model-tells
+returns-clause-deformation_model c = named-tells
 
 pub returns-clause-dynamic : goal.returns-clause-dynamic
 returns-clause-dynamic c = dynamic-tells

@@ -1,5 +1,5 @@
-use Rattle.crs_value.proofs.OneLemmas.{axis-one, axis_meridian-one, box-one, datum-one, ellipsoid-one, ensemble-one, meridian-one}
-use Rattle.crs_value.proofs.OneCrsLemmas.{base-one, compound-one, conversion-one, deformation_model-one, dynamic-one, geodetic-one, method-one, projected-one, vertical-one}
+use Rattle.crs_value.proofs.OneLemmas.{axis-one, axis_meridian-one, box-one, datum-one, ellipsoid-one, ensemble-one, meridian-one, named-one}
+use Rattle.crs_value.proofs.OneCrsLemmas.{base-one, compound-one, conversion-one, dynamic-one, geodetic-one, projected-one, vertical-one}
 use Rattle.crs_value.proofs.laws.parts.parts_read_once.Goals as goal
 
 pub returns-clause-along : goal.returns-clause-along
@@ -24,7 +24,7 @@ pub returns-clause-bounding_box : goal.returns-clause-bounding_box
 returns-clause-bounding_box c = box-one c.denotes_one.ensures
 
 pub returns-clause-method : goal.returns-clause-method
-returns-clause-method c = method-one
+returns-clause-method c = named-one
 
 pub returns-clause-conversion : goal.returns-clause-conversion
 returns-clause-conversion c = conversion-one c.denotes_one.ensures
@@ -45,7 +45,7 @@ pub returns-clause-compound : goal.returns-clause-compound
 returns-clause-compound c = compound-one c.denotes_one.ensures
 
 pub returns-clause-deformation_model : goal.returns-clause-deformation_model
-returns-clause-deformation_model c = deformation_model-one
+returns-clause-deformation_model c = named-one
 
 pub returns-clause-dynamic : goal.returns-clause-dynamic
 returns-clause-dynamic c = dynamic-one c.denotes_one.ensures
