@@ -4,7 +4,7 @@ use Rattle.crs_decimal.specs.Number.{SameNumber, whole_number}
 use Rattle.crs_decimal.specs.Value.{Value, exact}
 use Rattle.crs_text.specs.Items.{Item}
 use Rattle.crs_value.specs.BadComponent.{IsNotPlane}
-use Rattle.crs_value.specs.BadSystem.{HasDimension}
+use Rattle.crs_value.specs.Reads.{HasDimension}
 use Rattle.crs_value.proofs.CheckLemmas.{DenotesOne}
 use Rattle.crs_value.proofs.SystemLemmas.{dimension-is-one}
 

@@ -6,9 +6,8 @@ use Rattle.crs_shape.specs.declared.class.Class.TheVariants as class
 use Rattle.crs_value.specs.declared.values.crs.Crs.{Crs}
 use Rattle.crs_value.specs.declared.values.crs.Crs.TheVariants as crs
 use Rattle.crs_value.specs.declared.values.system_type.SystemType.{SystemType}
-use Rattle.crs_value.specs.BadSystem.{HasType}
 use Rattle.crs_value.specs.Reading.{those, ReadsFirst}
-use Rattle.crs_value.specs.Reads.{ReadsHead}
+use Rattle.crs_value.specs.Reads.{HasType, ReadsHead}
 use Rattle.crs_value.specs.ReadsCrs.{IsGeodeticClass, ReadsCrs, kind_by, kind_of}
 use Rattle.crs_value.specs.Values.{SystemParts}
 use Rattle.crs_value.proofs.SystemLemmas.{type-is-one}

@@ -96,14 +96,9 @@ pub record Seeking (tree : Item) (parent : Class) (whole : List Item) (v : Value
   pub shaped : AllShaped class.Axis (from_found tree parent class.Axis at)
   pub none : OneHas v (take i whole) → ⊥
 
-pub seek-first : (tree : Item) (parent : Class) (item : Item) (v : Value) (at : Option ℕ) → Shaped parent item → IsFound tree parent class.Axis (those parent class.Axis (arguments item)) at →
-    Seeking tree parent (those parent class.Axis (arguments item)) v 0 at
-seek-first tree parent item v at shaped found = record {
-  rest = found-is tree parent class.Axis (those parent class.Axis (arguments item)) at found;
-  holds = found-holds tree parent class.Axis _ at found;
-  shaped = found-shaped tree parent class.Axis item at shaped found;
-  none = λ h. h;
-}
+pub seek-first : (tree : Item) (parent : Class) (v : Value) (at : Option ℕ) → Holds tree at → AllShaped class.Axis (from_found tree parent class.Axis at) →
+    Seeking tree parent (from_found tree parent class.Axis at) v 0 at
+seek-first tree parent v at holds shaped = record { rest = refl; holds = holds; shaped = shaped; none = λ h. h }
 
 pub seek-on : (tree : Item) (parent : Class) (whole : List Item) (v : Value) (i id : ℕ) (at : Option ℕ) → Seeking tree parent whole v i (Some id) → (HasThis v (item_at tree id) → ⊥) →
     IsFound tree parent class.Axis (those parent class.Axis (rest_of (here tree id))) at → Seeking tree parent whole v (i + 1) at
@@ -138,14 +133,8 @@ pub record Some-left (tree : Item) (parent : Class) (whole : List Item) (at : Op
   pub back : SomeHasOrder whole → SomeHasOrder (from_found tree parent class.Axis at)
   pub holds : Holds tree at
 
-pub some-first : (tree : Item) (parent : Class) (whole : List Item) (at : Option ℕ) → IsFound tree parent class.Axis whole at → Some-left tree parent whole at
-some-first tree parent whole at found =
-    let e = found-is tree parent class.Axis whole at found in
-    record {
-      forth = λ h. subst SomeHasOrder (sym e) h;
-      back = λ h. subst SomeHasOrder e h;
-      holds = found-holds tree parent class.Axis _ at found;
-    }
+pub some-first : (tree : Item) (parent : Class) (at : Option ℕ) → Holds tree at → Some-left tree parent (from_found tree parent class.Axis at) at
+some-first tree parent at holds = record { forth = λ h. h; back = λ h. h; holds = holds }
 
 pub some-on : (tree : Item) (parent : Class) (whole : List Item) (id : ℕ) (at : Option ℕ) → Some-left tree parent whole (Some id) → ((orders_in (item_at tree id) ≢ []) → ⊥) →
     IsFound tree parent class.Axis (those parent class.Axis (rest_of (here tree id))) at → Some-left tree parent whole at

@@ -17,7 +17,7 @@ use Rattle.crs_value.specs.BadValue.{IsAboveZero, NotAbove, IsNegative}
 use Rattle.crs_value.specs.AxisCount.{AxisCount}
 use Rattle.crs_value.specs.BadOrder.{orders_in, SomeHasOrder, AllHaveOrder, LacksOrder, ReadsOrder, IsPosition, HasThis, OneHas, IsWrongOrder, IsBadOrder, BadOrders, BadOrder}
 use Rattle.crs_value.specs.BadComponent.{IsNotEllipsoidal, IsNotPlane, IsNotHorizontal, BadComponent, BadComponents}
-use Rattle.crs_value.specs.BadSystem.{HasType, HasDimension, IsOneOf, BadSystem, dimensions_of}
+use Rattle.crs_value.specs.BadSystem.{IsOneOf, BadSystem, dimensions_of}
 use Rattle.crs_value.specs.BadUnit.{asked_kind, Asks, Fits, units_in, LacksUnit, Misfits, BadOwnUnit, IsSuperfluous, HasOwnUnit, AllAsk, SharedFits, BadShared, BadUnit}
 use Rattle.crs_value.specs.UnknownWord.{UnknownType, UnknownDirection}
 use Rattle.crs_value.specs.Break.{at, AnyOf, FirstIs, IsLeast}
@@ -26,7 +26,7 @@ use Rattle.crs_value.specs.Checks.{anchors, once, OfHead, OfAxes, OfCrs, OfCompo
 use Rattle.crs_value.specs.RepeatedPart.{IsRepeated, Repeats, RepeatsAny}
 use Rattle.crs_value.specs.Least.{lesser}
 use Rattle.crs_value.specs.Reading.{those, ReadsFirst}
-use Rattle.crs_value.specs.Reads.{ReadsNumber, ReadsType, ReadsDirection}
+use Rattle.crs_value.specs.Reads.{HasType, HasDimension, ReadsNumber, ReadsType, ReadsDirection}
 use Rattle.crs_value.specs.Words.{unit_word}
 use Rattle.crs_value.proofs.CheckLemmas.{DenotesOne, number-one}
 use Rattle.crs_value.proofs.WhetherLemmas.{Decided, Known, decided-as, decided-both, decided-either, decided-not, decided-some, decided-this, decided-word, type-known, direction-known, decided-kind, decided-kinds, not-ellipsoidal, decided-bool, decided-same, decided-value, decided-one-of, decided-position, decided-above}
@@ -114,11 +114,11 @@ module _ (numbers : Numbers) (one : DenotesOne) where
       (decided-some (HasType cs) (λ t. (v : Value) × (HasDimension cs v × ¬ (IsOneOf v (dims t)))) (type-is-one cs) (system-type cs h)
       (λ t r. decided-some (HasDimension cs) (λ v. ¬ (IsOneOf v (dims t))) (dimension-is-one one cs) (dimension cs h) (λ v x. decided-not (decided-one-of v (dims t))))))
 
-  count-least : (axes : List Item) (cs : Item) → Ready class.CoordinateSystem cs → HasLeast (AxisCount axes cs)
+  count-least : (axes : ℕ) (cs : Item) → Ready class.CoordinateSystem cs → HasLeast (AxisCount axes cs)
   count-least axes cs h =
-      at-least (at 25 cs) ((v : Value) × (HasDimension cs v × ¬ (SameNumber (exact v) (whole_number (length axes)))))
-      (decided-some (HasDimension cs) (λ v. ¬ (SameNumber (exact v) (whole_number (length axes)))) (dimension-is-one one cs) (dimension cs h)
-      (λ v x. decided-not (decided-same (exact v) (whole_number (length axes)))))
+      at-least (at 25 cs) ((v : Value) × (HasDimension cs v × ¬ (SameNumber (exact v) (whole_number axes))))
+      (decided-some (HasDimension cs) (λ v. ¬ (SameNumber (exact v) (whole_number axes))) (dimension-is-one one cs) (dimension cs h)
+      (λ v x. decided-not (decided-same (exact v) (whole_number axes))))
 
   -- ---- a compound's parts
 
@@ -248,7 +248,7 @@ module _ (numbers : Numbers) (one : DenotesOne) where
   -- ---- all of them
 
   head-least : (dims : SystemType → List ℕ) (axes : List Item) (cs : Item) → Ready class.CoordinateSystem cs → HasLeast (OfHead dims axes cs)
-  head-least dims axes cs h = either-least (BadSystem dims cs) (AxisCount axes cs) (system-least dims cs h) (count-least axes cs h)
+  head-least dims axes cs h = either-least (BadSystem dims cs) (AxisCount (length axes) cs) (system-least dims cs h) (count-least (length axes) cs h)
 
   unsteady : (items : List Item) → HasLeast (AnyOf IsUnsteady items)
   unsteady [] = nothing (AnyOf IsUnsteady []) (λ f x. x)

@@ -8,10 +8,10 @@ use Rattle.crs_shape.specs.declared.class.Class.{Class}
 use Rattle.crs_shape.specs.declared.class.Class.TheVariants as class
 use Rattle.crs_value.specs.declared.values.system_type.SystemType.{SystemType}
 use Rattle.crs_value.specs.AxisCount.{AxisCount}
-use Rattle.crs_value.specs.BadSystem.{HasType, HasDimension, IsOneOf, BadSystem}
+use Rattle.crs_value.specs.BadSystem.{IsOneOf, BadSystem}
 use Rattle.crs_value.specs.Break.{at, IsLeast}
 use Rattle.crs_value.specs.Reading.{is_a, those, IsReading, ReadsFirst}
-use Rattle.crs_value.specs.Reads.{ReadsNumber, ReadsType}
+use Rattle.crs_value.specs.Reads.{HasType, HasDimension, ReadsNumber, ReadsType}
 use Rattle.crs_value.proofs.CheckLemmas.{DenotesOne, number-one}
 use Rattle.crs_value.proofs.LeastLemmas.{least-at}
 use Rattle.crs_value.proofs.WordLemmas.{type_one}
@@ -42,13 +42,13 @@ system-some dims cs t v r ht hv wrong e = least-at (at 23 cs) r _ e (t, (v, (ht,
 pub system-unknown : (dims : SystemType → List ℕ) (cs : Item) → ((t : SystemType) → ¬ (HasType cs t)) → IsLeast (BadSystem dims cs) None
 system-unknown dims cs none = λ f h. none h.1.0 h.1.1.1.0
 
-pub count-none : DenotesOne → (axes : List Item) (cs : Item) (v : Value) → HasDimension cs v → SameNumber (exact v) (whole_number (length axes)) → IsLeast (AxisCount axes cs) None
+pub count-none : DenotesOne → (axes : ℕ) (cs : Item) (v : Value) → HasDimension cs v → SameNumber (exact v) (whole_number axes) → IsLeast (AxisCount axes cs) None
 count-none law axes cs v hv same = λ f h.
     let d = dimension-is-one law cs v h.1.0 hv h.1.1.0 in
-    let Q : Value → Type 0 = λ x. SameNumber (exact x) (whole_number (length axes)) in
+    let Q : Value → Type 0 = λ x. SameNumber (exact x) (whole_number axes) in
     h.1.1.1 (subst Q d same)
 
-pub count-some : (axes : List Item) (cs : Item) (v : Value) (r : RefusedAt) → HasDimension cs v → ¬ (SameNumber (exact v) (whole_number (length axes))) → r ≡ at 25 cs →
+pub count-some : (axes : ℕ) (cs : Item) (v : Value) (r : RefusedAt) → HasDimension cs v → ¬ (SameNumber (exact v) (whole_number axes)) → r ≡ at 25 cs →
     IsLeast (AxisCount axes cs) (Some r)
 count-some axes cs v r hv wrong e = least-at (at 25 cs) r _ e (v, (hv, wrong))
 

@@ -24,33 +24,11 @@ type_of small = find (λ t. bytes_eq (str_to_ascii_lowercase (system_word t)) sm
 
 pub direction_known : (d : Direction) → direction_of (str_to_ascii_lowercase (direction_word d)) ≡ Some d
 direction_known North = refl
-direction_known NorthNorthEast = refl
-direction_known NorthEast = refl
-direction_known EastNorthEast = refl
-direction_known East = refl
-direction_known EastSouthEast = refl
-direction_known SouthEast = refl
-direction_known SouthSouthEast = refl
-direction_known South = refl
-direction_known SouthSouthWest = refl
-direction_known SouthWest = refl
-direction_known WestSouthWest = refl
-direction_known West = refl
-direction_known WestNorthWest = refl
-direction_known NorthWest = refl
-direction_known NorthNorthWest = refl
-direction_known GeocentricX = refl
-direction_known GeocentricY = refl
-direction_known GeocentricZ = refl
-direction_known Up = refl
-direction_known Down = refl
-direction_known Unspecified = refl
+direction_known other = refl
 
 pub type_known : (t : SystemType) → type_of (str_to_ascii_lowercase (system_word t)) ≡ Some t
 type_known Cartesian = refl
-type_known Ellipsoidal = refl
-type_known Spherical = refl
-type_known Vertical = refl
+type_known other = refl
 
 pub direction_one : (raw : List ℕ) (d e : Direction) → SpellsWord raw (direction_word d) → SpellsWord raw (direction_word e) → d ≡ e
 direction_one raw d e p q =
@@ -90,51 +68,11 @@ direction_place Unspecified = 21
 
 pub direction_placed : (d : Direction) → get_or directions (direction_place d) d ≡ d
 direction_placed North = refl
-direction_placed NorthNorthEast = refl
-direction_placed NorthEast = refl
-direction_placed EastNorthEast = refl
-direction_placed East = refl
-direction_placed EastSouthEast = refl
-direction_placed SouthEast = refl
-direction_placed SouthSouthEast = refl
-direction_placed South = refl
-direction_placed SouthSouthWest = refl
-direction_placed SouthWest = refl
-direction_placed WestSouthWest = refl
-direction_placed West = refl
-direction_placed WestNorthWest = refl
-direction_placed NorthWest = refl
-direction_placed NorthNorthWest = refl
-direction_placed GeocentricX = refl
-direction_placed GeocentricY = refl
-direction_placed GeocentricZ = refl
-direction_placed Up = refl
-direction_placed Down = refl
-direction_placed Unspecified = refl
+direction_placed other = refl
 
 pub direction_within : (d : Direction) → direction_place d < 22
 direction_within North = lit< tt
-direction_within NorthNorthEast = lit< tt
-direction_within NorthEast = lit< tt
-direction_within EastNorthEast = lit< tt
-direction_within East = lit< tt
-direction_within EastSouthEast = lit< tt
-direction_within SouthEast = lit< tt
-direction_within SouthSouthEast = lit< tt
-direction_within South = lit< tt
-direction_within SouthSouthWest = lit< tt
-direction_within SouthWest = lit< tt
-direction_within WestSouthWest = lit< tt
-direction_within West = lit< tt
-direction_within WestNorthWest = lit< tt
-direction_within NorthWest = lit< tt
-direction_within NorthNorthWest = lit< tt
-direction_within GeocentricX = lit< tt
-direction_within GeocentricY = lit< tt
-direction_within GeocentricZ = lit< tt
-direction_within Up = lit< tt
-direction_within Down = lit< tt
-direction_within Unspecified = lit< tt
+direction_within other = lit< tt
 
 abbrev pub type_place : SystemType → ℕ
 type_place Cartesian = 0
@@ -144,15 +82,11 @@ type_place Vertical = 3
 
 pub type_placed : (t : SystemType) → get_or types (type_place t) t ≡ t
 type_placed Cartesian = refl
-type_placed Ellipsoidal = refl
-type_placed Spherical = refl
-type_placed Vertical = refl
+type_placed other = refl
 
 pub type_within : (t : SystemType) → type_place t < 4
 type_within Cartesian = lit< tt
-type_within Ellipsoidal = lit< tt
-type_within Spherical = lit< tt
-type_within Vertical = lit< tt
+type_within other = lit< tt
 
 abbrev pub kind_place : UnitKind → ℕ
 kind_place kinds.Length = 0
@@ -168,9 +102,7 @@ kind_of_word small = find (λ k. bytes_eq (str_to_ascii_lowercase (unit_word k))
 
 pub kind_known : (k : UnitKind) → kind_of_word (str_to_ascii_lowercase (unit_word k)) ≡ Some k
 kind_known kinds.Length = refl
-kind_known kinds.Angle = refl
-kind_known kinds.Scale = refl
-kind_known kinds.Plain = refl
+kind_known other = refl
 
 pub kind_one : (raw : List ℕ) (k j : UnitKind) → SpellsWord raw (unit_word k) → SpellsWord raw (unit_word j) → k ≡ j
 kind_one raw k j p q =
@@ -179,12 +111,8 @@ kind_one raw k j p q =
 
 pub kind_placed : (k : UnitKind) → get_or kinds_list (kind_place k) k ≡ k
 kind_placed kinds.Length = refl
-kind_placed kinds.Angle = refl
-kind_placed kinds.Scale = refl
-kind_placed kinds.Plain = refl
+kind_placed other = refl
 
 pub kind_within : (k : UnitKind) → kind_place k < 4
 kind_within kinds.Length = lit< tt
-kind_within kinds.Angle = lit< tt
-kind_within kinds.Scale = lit< tt
-kind_within kinds.Plain = lit< tt
+kind_within other = lit< tt

@@ -1,5 +1,5 @@
 -- 24: a compound's horizontal part that is geodetic and not geographic, or whose dimension isn't 2.
-use Rattle.std.specs.Prelude.{◌≡◌, ◌≢◌, List, [], ◌∷◌, ◌⊎◌}
+use Rattle.std.specs.Prelude.{◌≡◌, ◌≢◌, List, ◌⊎◌}
 use Rattle.crs_decimal.specs.Number.{SameNumber, whole_number}
 use Rattle.crs_decimal.specs.Value.{Value, exact}
 use Rattle.crs_text.specs.Items.{Item, Siblings, arguments}
@@ -8,9 +8,9 @@ use Rattle.crs_shape.specs.declared.class.Class.{Class}
 use Rattle.crs_shape.specs.declared.class.Class.TheVariants as class
 use Rattle.crs_value.specs.declared.values.system_type.SystemType.{SystemType}
 use Rattle.crs_value.specs.declared.values.system_type.SystemType.TheVariants as types
-use Rattle.crs_value.specs.Reading.{those}
+use Rattle.crs_value.specs.Reading.{OneIs, those}
 use Rattle.crs_value.specs.Break.{at, AnyOf, FirstIs}
-use Rattle.crs_value.specs.BadSystem.{HasType, HasDimension}
+use Rattle.crs_value.specs.Reads.{HasType, HasDimension}
 
 -- the CRS's node `CS` has a known type that isn't ellipsoidal
 abbrev pub IsNotEllipsoidal : Item → Type 0
@@ -38,6 +38,5 @@ BadComponent c part fault =
 
 -- a part of one of these classes among a compound's arguments is refused
 abbrev pub BadComponents : List Class → Siblings → RefusedAt → Type 0
-BadComponents [] items fault = ⊥
-BadComponents (c ∷ cs) items fault =
-    AnyOf (BadComponent c) (those class.CompoundCrs c items) fault ⊎ BadComponents cs items fault
+BadComponents cs items fault =
+    OneIs (λ c. AnyOf (BadComponent c) (those class.CompoundCrs c items) fault) cs

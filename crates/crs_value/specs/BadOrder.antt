@@ -6,7 +6,7 @@ use Rattle.crs_decimal.specs.Value.{Value, exact}
 use Rattle.crs_text.specs.Items.{Item, arguments}
 use Rattle.crs_text.specs.Refusal.{RefusedAt}
 use Rattle.crs_shape.specs.declared.class.Class.TheVariants as class
-use Rattle.crs_value.specs.Reading.{those, ReadsFirst}
+use Rattle.crs_value.specs.Reading.{Each, OneIs, those, ReadsFirst}
 use Rattle.crs_value.specs.Reads.{ReadsNumberOf}
 use Rattle.crs_value.specs.Break.{at, AnyOf}
 
@@ -16,13 +16,11 @@ orders_in axis = those class.Axis class.Order (arguments axis)
 
 -- one of these axes has an order
 abbrev pub SomeHasOrder : List Item → Type 0
-SomeHasOrder [] = ⊥
-SomeHasOrder (axis ∷ axes) = (orders_in axis ≢ []) ⊎ SomeHasOrder axes
+SomeHasOrder axes = OneIs (λ axis. orders_in axis ≢ []) axes
 
 -- each of these axes has an order
 abbrev pub AllHaveOrder : List Item → Type 0
-AllHaveOrder [] = Unit {0}
-AllHaveOrder (axis ∷ axes) = (orders_in axis ≢ []) × AllHaveOrder axes
+AllHaveOrder axes = Each (λ axis. orders_in axis ≢ []) axes
 
 -- an axis without an order
 abbrev pub LacksOrder : Item → RefusedAt → Type 0
@@ -42,8 +40,7 @@ HasThis value axis = ReadsFirst ReadsOrder (orders_in axis) value
 
 -- one of these axes has this order
 abbrev pub OneHas : Value → List Item → Type 0
-OneHas value [] = ⊥
-OneHas value (axis ∷ axes) = HasThis value axis ⊎ OneHas value axes
+OneHas value axes = OneIs (HasThis value) axes
 
 -- an order that is no position among n axes, or that one of the axes before has
 abbrev pub IsWrongOrder : ℕ → List Item → Item → Type 0

@@ -10,9 +10,8 @@ use Rattle.crs_value.specs.declared.values.system_type.SystemType.TheVariants as
 use Rattle.crs_value.specs.declared.values.unit_kind.UnitKind.{UnitKind}
 use Rattle.crs_value.specs.declared.values.unit_kind.UnitKind.TheVariants as kinds
 use Rattle.crs_value.specs.Reading.{those, ReadsFirst}
-use Rattle.crs_value.specs.Reads.{ReadsDirection, ReadsKind}
+use Rattle.crs_value.specs.Reads.{HasType, ReadsDirection, ReadsKind}
 use Rattle.crs_value.specs.Break.{at, AnyOf}
-use Rattle.crs_value.specs.BadSystem.{HasType}
 
 -- a length for what goes up or down, else an angle
 abbrev pub kind_by_direction : Direction → UnitKind

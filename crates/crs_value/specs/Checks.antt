@@ -1,5 +1,5 @@
 -- Checks: what a node of each class may break by itself, and what an item breaks within.
-use Rattle.std.specs.Prelude.{ℕ, take, drop, List, [], ◌∷◌, Option, Some, None, ◌⊎◌}
+use Rattle.std.specs.Prelude.{ℕ, length, take, drop, List, [], ◌∷◌, Option, Some, None, ◌⊎◌}
 use Rattle.crs_text.specs.Items.{Item, leaf, node, Siblings, End, More, arguments}
 use Rattle.crs_text.specs.Refusal.{RefusedAt}
 use Rattle.crs_text.specs.Written.{AreFormed}
@@ -32,7 +32,7 @@ anchors = class.Anchor ∷ class.AnchorEpoch ∷ []
 
 -- the checks of a node `CS` with the axes beside it
 abbrev pub OfHead : (SystemType → List ℕ) → List Item → Item → RefusedAt → Type 0
-OfHead dimensions axes cs fault = BadSystem dimensions cs fault ⊎ AxisCount axes cs fault
+OfHead dimensions axes cs fault = BadSystem dimensions cs fault ⊎ AxisCount (length axes) cs fault
 
 -- the checks of axes and their units, as the nodes `CS` ask for them
 abbrev pub OfAxes : List Item → List Item → List Item → RefusedAt → Type 0

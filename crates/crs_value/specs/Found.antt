@@ -1,10 +1,10 @@
 -- A bridge: arguments of one class from one on, as the program
 -- goes through them, and classes of which one is read.
-use Rattle.std.specs.Prelude.{◌≡◌, ℕ, List, [], ◌∷◌, Option, Some, None, ◌⊎◌}
+use Rattle.std.specs.Prelude.{◌≡◌, ℕ, List, [], ◌∷◌, Option, Some, None}
 use Rattle.crs_text.specs.Items.{Item, rest_of, here}
 use Rattle.crs_shape.specs.declared.class.Class.{Class}
 use Rattle.crs_shape.specs.Shaped.{Shaped}
-use Rattle.crs_value.specs.Reading.{item_at, those}
+use Rattle.crs_value.specs.Reading.{Each, OneIs, item_at, those}
 
 -- the arguments of a class from a found one on; none where none is found
 abbrev pub from_found : Item → Class → Class → Option ℕ → List Item
@@ -13,10 +13,8 @@ from_found tree parent c (Some id) = item_at tree id ∷ those parent c (rest_of
 
 -- each of these items has the shape of the class
 abbrev pub AllShaped : Class → List Item → Type 0
-AllShaped c [] = Unit {0}
-AllShaped c (item ∷ items) = Shaped c item × AllShaped c items
+AllShaped c items = Each (Shaped c) items
 
 -- the class is one of these
 abbrev pub IsAmong : List Class → Class → Type 0
-IsAmong [] c = ⊥
-IsAmong (d ∷ ds) c = (c ≡ d) ⊎ IsAmong ds c
+IsAmong ds c = OneIs (λ d. c ≡ d) ds

@@ -12,22 +12,22 @@ noted false old id = old
 noted true None id = Some id
 noted true (Some old) id = Some old
 
+-- the first one of a class among these arguments; none where there is none
+abbrev pub IsFirst : Item → Class → Siblings → Class → Option ℕ → Type 0
+IsFirst tree parent items c found = IsFound tree parent c (those parent c items) found
+
 -- each is the first of its class among these arguments, and so many axes are among them
 pub record AreFirsts (tree : Item) (parent : Class) (items : Siblings)
     (firsts : Firsts) : Type 0 where
-  pub system : IsFound tree parent class.CoordinateSystem
-      (those parent class.CoordinateSystem items) firsts.system
-  pub axis : IsFound tree parent class.Axis (those parent class.Axis items) firsts.axis
+  pub system : IsFirst tree parent items class.CoordinateSystem firsts.system
+  pub axis : IsFirst tree parent items class.Axis firsts.axis
   pub axes : firsts.axes ≡ length (those parent class.Axis items)
-  pub unit : IsFound tree parent class.AxisUnit (those parent class.AxisUnit items) firsts.unit
-  pub scope : IsFound tree parent class.Scope (those parent class.Scope items) firsts.scope
-  pub area : IsFound tree parent class.Area (those parent class.Area items) firsts.area
-  pub bbox : IsFound tree parent class.BoundingBox
-      (those parent class.BoundingBox items) firsts.bbox
-  pub extent : IsFound tree parent class.VerticalExtent
-      (those parent class.VerticalExtent items) firsts.extent
-  pub remark : IsFound tree parent class.Remark (those parent class.Remark items) firsts.remark
-  pub usage : IsFound tree parent class.Usage (those parent class.Usage items) firsts.usage
-  pub identifier : IsFound tree parent class.Identifier
-      (those parent class.Identifier items) firsts.identifier
-  pub dynamic : IsFound tree parent class.Dynamic (those parent class.Dynamic items) firsts.dynamic
+  pub unit : IsFirst tree parent items class.AxisUnit firsts.unit
+  pub scope : IsFirst tree parent items class.Scope firsts.scope
+  pub area : IsFirst tree parent items class.Area firsts.area
+  pub bbox : IsFirst tree parent items class.BoundingBox firsts.bbox
+  pub extent : IsFirst tree parent items class.VerticalExtent firsts.extent
+  pub remark : IsFirst tree parent items class.Remark firsts.remark
+  pub usage : IsFirst tree parent items class.Usage firsts.usage
+  pub identifier : IsFirst tree parent items class.Identifier firsts.identifier
+  pub dynamic : IsFirst tree parent items class.Dynamic firsts.dynamic

@@ -1,6 +1,7 @@
--- Readings: what is read from an item, or from the arguments of one class.
+-- Readings: what is read from an item, or from the arguments of one class;
+-- and what holds of each of some values, or of one.
 use Rattle.std.specs.Prelude.{◌≡◌, ℕ, ◌<◌, ◌≤◌, Bool, IsTrue, List, [], ◌∷◌, Option, Some, None}
-use Rattle.std.specs.Prelude.{if◌then◌else◌}
+use Rattle.std.specs.Prelude.{◌⊎◌, if◌then◌else◌}
 use Rattle.std.specs.List.{list_any}
 use denote.Enum.Bare.{sameb}
 use Rattle.crs_text.specs.Items.{Item, Siblings, End, More, arguments, first_of, rest_of, here}
@@ -10,6 +11,16 @@ use Rattle.crs_shape.specs.declared.class.Class.{Class}
 use Rattle.crs_shape.specs.Counts.{is_bounded, least, most}
 use Rattle.crs_shape.specs.ShapeFault.{class_in}
 use Rattle.crs_shape.specs.Slots.{slots_of, is_class}
+
+-- each of these values is so
+abbrev pub Each : {V : Type 0} → (V → Type 0) → List V → Type 0
+Each P [] = Unit {0}
+Each P (value ∷ values) = P value × Each P values
+
+-- one of these values is so
+abbrev pub OneIs : {V : Type 0} → (V → Type 0) → List V → Type 0
+OneIs P [] = ⊥
+OneIs P (value ∷ values) = P value ⊎ OneIs P values
 
 -- the item of this number in a tree
 abbrev pub item_at : Item → ℕ → Item

@@ -79,11 +79,19 @@ pub record ReadsAxis (c : Class) (item : Item) (parts : AxisParts) : Type 0 wher
   pub unit : ReadsIfAny ReadsUnit class.AxisUnit c item parts.unit
   pub identifiers : ReadsIds c item parts.identifiers
 
+-- the node `CS` has this type
+abbrev pub HasType : Item → SystemType → Type 0
+HasType cs value =
+    ReadsFirst ReadsType (those class.CoordinateSystem class.Word (arguments cs)) value
+
+-- the node `CS` has this dimension
+abbrev pub HasDimension : Item → Value → Type 0
+HasDimension cs value = ReadsNumberOf class.CoordinateSystem cs value
+
 -- what a node `CS` says of a coordinate system: its type, its dimension and its identifiers
 pub record ReadsHead (item : Item) (parts : SystemParts) : Type 0 where
-  pub system_type : ReadsFirst ReadsType
-      (those class.CoordinateSystem class.Word (arguments item)) parts.system_type
-  pub dimension : ReadsNumberOf class.CoordinateSystem item parts.dimension
+  pub system_type : HasType item parts.system_type
+  pub dimension : HasDimension item parts.dimension
   pub identifiers : ReadsIds class.CoordinateSystem item parts.identifiers
 
 -- the coordinate system of a CRS: its node `CS`, and the axes and the shared unit beside that

@@ -120,10 +120,8 @@ ReadsCrs c item (crs.Compound compound) = (c ≡ class.CompoundCrs) × ReadsComp
 
 -- a geodetic CRS is geographic exactly if its coordinate system is ellipsoidal
 abbrev pub kind_by : SystemType → Kind
-kind_by types.Cartesian = kind.Geodetic
 kind_by types.Ellipsoidal = kind.Geographic
-kind_by types.Spherical = kind.Geodetic
-kind_by types.Vertical = kind.Geodetic
+kind_by other = kind.Geodetic
 
 -- the kind of a CRS; whether a geodetic one is geographic is told by its coordinate system
 abbrev pub kind_of : Crs → Kind

@@ -23,10 +23,8 @@ single_of End = []
 single_of (More item items) = by (kind_of_item item)
   where
     by : ItemKind → List Item
-    by kinds.Number = item ∷ []
-    by kinds.Text = item ∷ []
-    by kinds.Word = item ∷ []
     by kinds.Node = []
+    by other = item ∷ []
 
 -- an identifier: its authority; its code, which is the second argument; its version, which is the
 -- third, if that is no node; its citation and URI, where they are written

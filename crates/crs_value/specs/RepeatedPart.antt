@@ -1,9 +1,9 @@
 -- 22: each node of some classes after the first of its class.
-use Rattle.std.specs.Prelude.{◌≡◌, drop, List, [], ◌∷◌, ◌⊎◌}
+use Rattle.std.specs.Prelude.{◌≡◌, drop, List}
 use Rattle.crs_text.specs.Items.{Item, Siblings}
 use Rattle.crs_text.specs.Refusal.{RefusedAt}
 use Rattle.crs_shape.specs.declared.class.Class.{Class}
-use Rattle.crs_value.specs.Reading.{those}
+use Rattle.crs_value.specs.Reading.{OneIs, those}
 use Rattle.crs_value.specs.Break.{at, AnyOf}
 
 -- a part that stands behind another of its class is refused at its first byte
@@ -16,6 +16,4 @@ Repeats parent items c fault = AnyOf IsRepeated (drop 1 (those parent c items)) 
 
 -- a part of one of these classes among the arguments of a node is repeated
 abbrev pub RepeatsAny : Class → Siblings → List Class → RefusedAt → Type 0
-RepeatsAny parent items [] fault = ⊥
-RepeatsAny parent items (c ∷ cs) fault =
-    Repeats parent items c fault ⊎ RepeatsAny parent items cs fault
+RepeatsAny parent items cs fault = OneIs (λ c. Repeats parent items c fault) cs

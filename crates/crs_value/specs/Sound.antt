@@ -1,6 +1,6 @@
 -- What is asked of identifiers, named values, units and axes by themselves: well-formed
 -- texts, decimals in their normal form, and units of a kind that fits.
-use Rattle.std.specs.Prelude.{◌≡◌, ◌≢◌, ℕ, List, [], ◌∷◌, ◌⊎◌, IsUtf8, IfSome}
+use Rattle.std.specs.Prelude.{◌≡◌, ◌≢◌, ℕ, List, ◌⊎◌, IsUtf8, IfSome}
 use Rattle.crs_decimal.specs.Value.{IsNormal}
 use Rattle.crs_text.specs.Quoted.{IsInside}
 use Rattle.crs_value.specs.declared.values.unit_kind.UnitKind.{UnitKind}
@@ -8,11 +8,7 @@ use Rattle.crs_value.specs.declared.values.unit_kind.UnitKind.TheVariants as kin
 use Rattle.crs_value.specs.BadValue.{IsAboveZero}
 use Rattle.crs_value.specs.NamedValues.{IdentParts, NamedParts}
 use Rattle.crs_value.specs.Values.{UnitParts, AxisMeridianParts, AxisParts}
-
--- each of these values is so
-abbrev pub Each : {V : Type 0} → (V → Type 0) → List V → Type 0
-Each P [] = Unit {0}
-Each P (value ∷ values) = P value × Each P values
+pub use Rattle.crs_value.specs.Reading.{Each}
 
 -- what may stand between the quotes of a text: characters in UTF-8, each quote among them doubled
 abbrev pub IsText : List ℕ → Type 0

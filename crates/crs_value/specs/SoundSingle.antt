@@ -3,7 +3,7 @@ use Rattle.std.specs.Prelude.{IfSome, IsSome, IsNone, Option, Some, None}
 use Rattle.crs_value.specs.declared.values.frame.Frame.{Frame}
 use Rattle.crs_value.specs.declared.values.frame.Frame.TheVariants as frame
 use Rattle.crs_value.specs.declared.values.unit_kind.UnitKind.TheVariants as kinds
-use Rattle.crs_value.specs.BadSystem.{IsOneOf, geodetic_dimensions, projected_dimensions}
+use Rattle.crs_value.specs.BadSystem.{geodetic_dimensions, projected_dimensions}
 use Rattle.crs_value.specs.BadSystem.{vertical_dimensions}
 use Rattle.crs_value.specs.CrsValues.{GeodeticParts, BaseParts, ProjectedParts, VerticalParts}
 use Rattle.crs_value.specs.DynamicValues.{DynamicParts}
@@ -11,7 +11,7 @@ use Rattle.crs_value.specs.Sound.{Each, IsText, IsIdent, IsNamed, IsUnitOf}
 use Rattle.crs_value.specs.SoundConversion.{IsConversion}
 use Rattle.crs_value.specs.SoundDynamic.{IsDynamic}
 use Rattle.crs_value.specs.SoundFrames.{IsMeridian, IsDatum, IsEnsemble}
-use Rattle.crs_value.specs.SoundSystem.{IsSystem}
+use Rattle.crs_value.specs.SoundSystem.{IsSystem, IsAllowed}
 use Rattle.crs_value.specs.SoundUsages.{IsTail}
 
 -- what is asked of a geodetic frame or ensemble: it has an ellipsoid
@@ -38,8 +38,7 @@ pub record IsGeodetic (geodetic : GeodeticParts) : Type 0 where
   pub frame : IsGeodeticFrame geodetic.frame
   pub meridian : IfSome geodetic.meridian IsMeridian
   pub system : IsSystem geodetic.system
-  pub dimension : IsOneOf geodetic.system.dimension
-      (geodetic_dimensions geodetic.system.system_type)
+  pub dimension : IsAllowed geodetic_dimensions geodetic.system
   pub tail : IsTail geodetic.tail
 
 -- what is asked of the base CRS of a projected one: its unit,
@@ -59,8 +58,7 @@ pub record IsProjected (projected : ProjectedParts) : Type 0 where
   pub base : IsBase projected.base
   pub conversion : IsConversion projected.conversion
   pub system : IsSystem projected.system
-  pub dimension : IsOneOf projected.system.dimension
-      (projected_dimensions projected.system.system_type)
+  pub dimension : IsAllowed projected_dimensions projected.system
   pub tail : IsTail projected.tail
 
 -- what is asked of a vertical CRS: its dimension is one that
@@ -70,7 +68,6 @@ pub record IsVertical (vertical : VerticalParts) : Type 0 where
   pub dynamic : IsDynamicOf vertical.dynamic vertical.frame
   pub frame : IsVerticalFrame vertical.frame
   pub system : IsSystem vertical.system
-  pub dimension : IsOneOf vertical.system.dimension
-      (vertical_dimensions vertical.system.system_type)
+  pub dimension : IsAllowed vertical_dimensions vertical.system
   pub geoid_models : Each IsNamed vertical.geoid_models
   pub tail : IsTail vertical.tail

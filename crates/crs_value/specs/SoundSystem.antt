@@ -1,12 +1,13 @@
 -- What is asked of a coordinate system by itself: as many axes as
 -- its dimension says, orders on all or on none, and units that fit.
-use Rattle.std.specs.Prelude.{◌≡◌, ◌≢◌, Option, Some, None, List, [], ◌∷◌, ◌⊎◌, length, map, IfSome}
-use Rattle.std.specs.Prelude.{IsSomeAnd}
+use Rattle.std.specs.Prelude.{◌≡◌, ◌≢◌, ℕ, Option, Some, None, List, [], ◌∷◌, ◌⊎◌, length, map}
+use Rattle.std.specs.Prelude.{IfSome, IsSomeAnd}
 use Rattle.crs_decimal.specs.Number.{SameNumber, whole_number}
 use Rattle.crs_decimal.specs.Value.{Value, IsNormal, exact}
 use Rattle.crs_value.specs.declared.values.system_type.SystemType.{SystemType}
 use Rattle.crs_value.specs.declared.values.unit_kind.UnitKind.{UnitKind}
 use Rattle.crs_value.specs.BadOrder.{IsPosition}
+use Rattle.crs_value.specs.BadSystem.{IsOneOf}
 use Rattle.crs_value.specs.BadUnit.{asked_kind}
 use Rattle.crs_value.specs.Sound.{Each, IsIdent, Suits, IsAxisUnit, IsAxis}
 use Rattle.crs_value.specs.Values.{UnitParts, AxisParts, SystemParts}
@@ -56,6 +57,10 @@ HasUnits system_type axes (Some shared) =
     Each (λ axis. axis.unit ≡ None) axes × SuitsAll system_type axes shared
 
 -- ---- a coordinate system
+
+-- the dimension is one of those that are allowed with the type
+abbrev pub IsAllowed : (SystemType → List ℕ) → SystemParts → Type 0
+IsAllowed dimensions system = IsOneOf system.dimension (dimensions system.system_type)
 
 -- what is asked of a coordinate system: it has an axis, and as
 -- many as its dimension says; its orders and units fit

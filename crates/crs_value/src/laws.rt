@@ -3,15 +3,13 @@ ghost use Rattle.std.specs.Prelude.{◌≡◌, ◌≤◌, ◌⊎◌, ℕ, List, 
 ghost use Rattle.crs_text.specs.Items.{Item};
 ghost use Rattle.crs_text.specs.Refusal.{RefusedAt};
 ghost use Rattle.crs_text.specs.Written.{AreFormed};
-ghost use Rattle.crs_shape.specs.declared.class.Class.{Class};
-ghost use Rattle.crs_value.specs.ConversionValues.{ParameterParts, GeoidModelParts};
 ghost use Rattle.crs_value.specs.declared.values.crs.Crs.{Crs};
 ghost use Rattle.crs_value.specs.Reads.{ReadsIdent, ReadsUnit, ReadsMember, ReadsExtent, ReadsUsage};
 ghost use Rattle.crs_value.specs.ReadsConversion.{ReadsParameter, ReadsGeoidModel};
 ghost use Rattle.crs_value.specs.SoundCrs.{IsCrs};
 ghost use Rattle.crs_value.specs.Spells.{SpellsCrs, RefusesCrs};
 ghost use Rattle.crs_value.specs.SpellsText.{Spells, Refuses, IsRefusalNumber};
-ghost use Rattle.crs_value.specs.Values.{IdentParts, UnitParts, MemberParts, ExtentParts, UsageParts};
+ghost use Rattle.crs_value.specs.Told.{IsReadOnce};
 
 pub mod parts;
 
@@ -27,20 +25,13 @@ pub fn spells_one()
 /// An item is read as one identifier at most, of whatever class it is; likewise the other members of sets, and the
 /// units and extents in them. Profile.
 pub fn members_read_once()
-    ensures ident { (class : Class) (item : Item) (a b : IdentParts) →
-        ReadsIdent class item a → ReadsIdent class item b → a ≡ b }
-    ensures unit { (class : Class) (item : Item) (a b : UnitParts) →
-        ReadsUnit class item a → ReadsUnit class item b → a ≡ b }
-    ensures member { (class : Class) (item : Item) (a b : MemberParts) →
-        ReadsMember class item a → ReadsMember class item b → a ≡ b }
-    ensures parameter { (class : Class) (item : Item) (a b : ParameterParts) →
-        ReadsParameter class item a → ReadsParameter class item b → a ≡ b }
-    ensures geoid_model { (class : Class) (item : Item) (a b : GeoidModelParts) →
-        ReadsGeoidModel class item a → ReadsGeoidModel class item b → a ≡ b }
-    ensures extent { (class : Class) (item : Item) (a b : ExtentParts) →
-        ReadsExtent class item a → ReadsExtent class item b → a ≡ b }
-    ensures usage { (class : Class) (item : Item) (a b : UsageParts) →
-        ReadsUsage class item a → ReadsUsage class item b → a ≡ b }
+    ensures ident { IsReadOnce ReadsIdent }
+    ensures unit { IsReadOnce ReadsUnit }
+    ensures member { IsReadOnce ReadsMember }
+    ensures parameter { IsReadOnce ReadsParameter }
+    ensures geoid_model { IsReadOnce ReadsGeoidModel }
+    ensures extent { IsReadOnce ReadsExtent }
+    ensures usage { IsReadOnce ReadsUsage }
 {
     crs_decimal::laws::denotes_one();
 }

@@ -24,33 +24,28 @@ use crs_text::{ItemId, Items, Refusal};
 // The least number of a check of axes, their units and dynamic parts.
 const ORDER: u8 = 26;
 
-// 23 and 25: a node `CS`, with the axes beside it.
+// 23 and 25: a node `CS` of a CRS of this class, with so many axes beside it.
 #[derive(Drop)]
 struct HeadOf {
-    crs: ItemId,
     class: Class,
     axes: usize,
 }
 
 impl Check for HeadOf {
-    ghost use Rattle.std.specs.Prelude.{◌≡◌, length};
-    ghost use Rattle.crs_text.specs.Items.{HasId, arguments};
+    ghost use Rattle.std.specs.Prelude.{◌≡◌, ◌⊎◌};
     ghost use Rattle.crs_shape.specs.declared.class.Class.TheVariants as classes;
-    ghost use Rattle.crs_value.specs.BadSystem.{dimensions_of};
-    ghost use Rattle.crs_value.specs.Checks.{OfHead};
-    ghost use Rattle.crs_value.specs.Reading.{item_at, those};
+    ghost use Rattle.crs_value.specs.AxisCount.{AxisCount};
+    ghost use Rattle.crs_value.specs.BadSystem.{BadSystem, dimensions_of};
 
-    ghost Fits = { λ s tree class. HasId tree s.crs × (class ≡ classes.CoordinateSystem)
-        × (s.axes ≡ length (those s.class classes.Axis (arguments (item_at tree s.crs)))) };
+    ghost Fits = { λ s tree class. class ≡ classes.CoordinateSystem };
 
-    ghost Broken = { λ s tree item f. OfHead (dimensions_of s.class)
-        (those s.class classes.Axis (arguments (item_at tree s.crs))) item f };
+    ghost Broken = { λ s tree item f. BadSystem (dimensions_of s.class) item f ⊎ AxisCount s.axes item f };
 
     fn check(&self, items: &Items<'_>, id: ItemId, _class: Class) -> Option<Refusal> {
         let dimension = number(items, id, Class::CoordinateSystem);
         lesser(
             bad_system(items, id, self.class, &dimension),
-            bad_count(items, self.crs, self.class, id, self.axes, &dimension),
+            bad_count(items, id, self.axes, &dimension),
         )
     }
 }
@@ -97,7 +92,6 @@ fn of_head(items: &Items<'_>, id: ItemId, class: Class, firsts: &Firsts) -> Opti
         (those class Class.CoordinateSystem (arguments (item_at items.now id))) f) result }
 {
     let head = HeadOf {
-        crs: id,
         class,
         axes: firsts.axes,
     };

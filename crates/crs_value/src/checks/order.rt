@@ -5,8 +5,9 @@ ghost use Rattle.crs_shape.specs.Shaped.{Shaped};
 ghost use Rattle.crs_value.specs.BadOrder.{IsPosition, HasThis, OneHas, LacksOrder, orders_in, SomeHasOrder, BadOrders};
 ghost use Rattle.crs_value.specs.BadOrder.{BadOrder};
 ghost use Rattle.crs_value.specs.Break.{AnyOf, IsLeast};
+ghost use Rattle.crs_value.specs.Found.{from_found, AllShaped};
 ghost use Rattle.crs_value.specs.Noted.{AreFirsts};
-ghost use Rattle.crs_value.specs.Reading.{item_at, those, IsFound};
+ghost use Rattle.crs_value.specs.Reading.{item_at, Holds, those};
 
 use crate::checks::{Check, any_from, lesser, only_of, refusal_at};
 use crate::reading::arguments::{first, later};
@@ -51,22 +52,12 @@ fn has_this(items: &Items<'_>, axis: ItemId, value: &Decimal) -> bool
     }
 }
 
-// Whether one of the first `k` axes has this order.
-fn one_has(
-    items: &Items<'_>,
-    _crs: ItemId,
-    class: Class,
-    axis: Option<ItemId>,
-    k: usize,
-    value: &Decimal,
-) -> bool
-    requires crs { HasId items.now _crs }
-    requires shaped { Shaped class (item_at items.now _crs) }
-    requires axis { IsFound items.now class Class.Axis (those class Class.Axis (arguments (item_at items.now _crs)))
-        axis }
-    requires within { k ≤ length (those class Class.Axis (arguments (item_at items.now _crs))) }
-    ensures { IsTrue result ↔ OneHas value.now (take k (those class Class.Axis (arguments
-        (item_at items.now _crs)))) }
+// Whether one of the first `k` axes, from this one on, has this order.
+fn one_has(items: &Items<'_>, class: Class, axis: Option<ItemId>, k: usize, value: &Decimal) -> bool
+    requires holds { Holds items.now axis }
+    requires shaped { AllShaped Class.Axis (from_found items.now class Class.Axis axis) }
+    requires within { k ≤ length (from_found items.now class Class.Axis axis) }
+    ensures { IsTrue result ↔ OneHas value.now (take k (from_found items.now class Class.Axis axis)) }
 {
     let mut at = axis;
     for _step in 0..k {
@@ -110,7 +101,7 @@ impl Check for Position {
         if !is_position(&value, self.count) {
             return Some(refusal_at(items, id, 26));
         }
-        if one_has(items, self.crs, self.class, self.axis, self.before, &value) {
+        if one_has(items, self.class, self.axis, self.before, &value) {
             return Some(refusal_at(items, id, 26));
         }
         None
@@ -147,12 +138,10 @@ fn has_order(items: &Items<'_>, axis: ItemId) -> bool
     }
 }
 
-// Whether some axis has an order.
-fn some_has_order(items: &Items<'_>, _crs: ItemId, class: Class, axis: Option<ItemId>) -> bool
-    requires crs { HasId items.now _crs }
-    requires axis { IsFound items.now class Class.Axis (those class Class.Axis (arguments (item_at items.now _crs)))
-        axis }
-    ensures { IsTrue result ↔ SomeHasOrder (those class Class.Axis (arguments (item_at items.now _crs))) }
+// Whether some axis, from this one on, has an order.
+fn some_has_order(items: &Items<'_>, class: Class, axis: Option<ItemId>) -> bool
+    requires { Holds items.now axis }
+    ensures { IsTrue result ↔ SomeHasOrder (from_found items.now class Class.Axis axis) }
 {
     let mut at = axis;
     while let Some(axis) = at {
@@ -210,25 +199,17 @@ pub(crate) fn bad_order(
 {
     match any_from(&Orderless, items, firsts.axis, class, Class::Axis) {
         None => bad_orders(items, crs, class, firsts),
-        Some(lacks) => beside(items, crs, class, firsts, lacks),
+        Some(lacks) => beside(items, class, firsts.axis, lacks),
     }
 }
 
-// An axis that lacks an order counts beside one that has it.
-fn beside(
-    items: &Items<'_>,
-    crs: ItemId,
-    class: Class,
-    firsts: &Firsts,
-    lacks: Refusal,
-) -> Option<Refusal>
-    requires crs { HasId items.now crs }
-    requires firsts { AreFirsts items.now class (arguments (item_at items.now crs)) firsts.now }
-    requires lacks { IsLeast (AnyOf LacksOrder (those class Class.Axis (arguments (item_at items.now crs))))
-        (Some lacks) }
-    ensures { IsLeast (BadOrder (those class Class.Axis (arguments (item_at items.now crs)))) result }
+// An axis, from this one on, that lacks an order counts beside one that has it.
+fn beside(items: &Items<'_>, class: Class, axis: Option<ItemId>, lacks: Refusal) -> Option<Refusal>
+    requires holds { Holds items.now axis }
+    requires lacks { IsLeast (AnyOf LacksOrder (from_found items.now class Class.Axis axis)) (Some lacks) }
+    ensures { IsLeast (BadOrder (from_found items.now class Class.Axis axis)) result }
 {
-    if some_has_order(items, crs, class, firsts.axis) {
+    if some_has_order(items, class, axis) {
         Some(lacks)
     } else {
         None

@@ -1,13 +1,12 @@
 //! The checks of a coordinate system's type, dimension and number of axes.
-ghost use Rattle.std.specs.Prelude.{◌≡◌, ◌+◌, ◌<◌, ◌↔◌, IsTrue, [], ◌∷◌, length};
-ghost use Rattle.crs_decimal.specs.Number.{SameNumber, whole_number};
-ghost use Rattle.crs_decimal.specs.Value.{exact};
-ghost use Rattle.crs_text.specs.Items.{HasId, arguments};
+ghost use Rattle.std.specs.Prelude.{◌↔◌, IsTrue, [], ◌∷◌};
+ghost use Rattle.crs_text.specs.Items.{HasId};
 ghost use Rattle.crs_shape.specs.Shaped.{Shaped};
 ghost use Rattle.crs_value.specs.AxisCount.{AxisCount};
-ghost use Rattle.crs_value.specs.BadSystem.{HasType, HasDimension, IsOneOf, dimensions_of, BadSystem};
+ghost use Rattle.crs_value.specs.BadSystem.{IsOneOf, dimensions_of, BadSystem};
 ghost use Rattle.crs_value.specs.Break.{IsLeast};
-ghost use Rattle.crs_value.specs.Reading.{item_at, those, IsFound, IsReading};
+ghost use Rattle.crs_value.specs.Reading.{item_at, IsReading};
+ghost use Rattle.crs_value.specs.Reads.{HasType, HasDimension};
 
 use crate::checks::refusal_at;
 use crate::reading::node::required;
@@ -71,18 +70,13 @@ pub(crate) fn bad_system(
 // 25: a number of axes that isn't the dimension.
 pub(crate) fn bad_count(
     items: &Items<'_>,
-    _crs: ItemId,
-    _class: Class,
     cs: ItemId,
     axes: usize,
     dimension: &Decimal,
 ) -> Option<Refusal>
     requires has { HasId items.now cs }
-    requires crs { HasId items.now _crs }
     requires dimension { HasDimension (item_at items.now cs) dimension.now }
-    requires axes { axes ≡ length (those _class Class.Axis (arguments (item_at items.now _crs))) }
-    ensures { IsLeast (AxisCount (those _class Class.Axis (arguments (item_at items.now _crs)))
-        (item_at items.now cs)) result }
+    ensures { IsLeast (AxisCount axes (item_at items.now cs)) result }
 {
     laws::denotes_one();
     if dimension.is_whole(axes as u64) {

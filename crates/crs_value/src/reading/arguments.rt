@@ -1,5 +1,4 @@
 //! The arguments of a node, by their class.
-ghost use Rattle.std.specs.Prelude.{◌≡◌, ◌<◌};
 ghost use Rattle.crs_text.specs.Items.{arguments, rest_of, here, HasId};
 ghost use Rattle.crs_value.specs.Reading.{item_at, ahead, Holds, those, IsFound};
 

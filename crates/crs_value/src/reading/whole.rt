@@ -1,5 +1,5 @@
 //! Reading whole texts, by their class.
-ghost use Rattle.std.specs.Prelude.{◌≡◌, IfOk, MatchResult};
+ghost use Rattle.std.specs.Prelude.{◌≡◌, MatchResult};
 ghost use Rattle.crs_text.specs.Items.{HasId};
 ghost use Rattle.crs_shape.specs.Keywords.{root_classes};
 ghost use Rattle.crs_value.specs.Checks.{IsSound};

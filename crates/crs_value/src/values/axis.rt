@@ -95,7 +95,6 @@ impl Drop for AxisMeridian<'_> {
 }
 
 impl<'a> Node<'a> for AxisMeridian<'a> {
-    ghost use Rattle.std.specs.Prelude.{◌≡◌};
     ghost use Rattle.crs_shape.specs.declared.class.Class.TheVariants as classes;
     ghost use Rattle.crs_value.specs.Reading.{Requires};
     ghost use Rattle.crs_value.specs.Reads.{ReadsAxisMeridian};
@@ -120,7 +119,6 @@ impl<'a> Node<'a> for AxisMeridian<'a> {
 impl<'a> Node<'a> for Axis<'a> {
     ghost use Rattle.std.specs.Prelude.{◌≡◌};
     ghost use Rattle.crs_shape.specs.declared.class.Class.TheVariants as classes;
-    ghost use Rattle.crs_value.specs.Reading.{Requires};
     ghost use Rattle.crs_value.specs.Reads.{ReadsAxis};
 
     ghost Suits = { λ c. c ≡ classes.Axis };

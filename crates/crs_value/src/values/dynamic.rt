@@ -88,7 +88,6 @@ impl<'a> Node<'a> for Dynamic<'a> {
 }
 
 impl<'a> Node<'a> for DeformationModel<'a> {
-    ghost use Rattle.std.specs.Prelude.{◌≡◌};
     ghost use Rattle.crs_shape.specs.declared.class.Class.TheVariants as classes;
     ghost use Rattle.crs_value.specs.Reading.{Requires};
     ghost use Rattle.crs_value.specs.ReadsNamed.{ReadsNamed};

@@ -151,7 +151,6 @@ impl Drop for Member<'_> {
 }
 
 impl<'a> Node<'a> for Datum<'a> {
-    ghost use Rattle.std.specs.Prelude.{◌≡◌};
     ghost use Rattle.crs_shape.specs.declared.class.Class.TheVariants as classes;
     ghost use Rattle.crs_value.specs.Reading.{Requires};
     ghost use Rattle.crs_value.specs.Reads.{ReadsDatum};
@@ -177,7 +176,6 @@ impl<'a> Node<'a> for Datum<'a> {
 }
 
 impl<'a> Node<'a> for Ensemble<'a> {
-    ghost use Rattle.std.specs.Prelude.{◌≡◌};
     ghost use Rattle.crs_shape.specs.declared.class.Class.TheVariants as classes;
     ghost use Rattle.crs_value.specs.Reading.{Requires};
     ghost use Rattle.crs_value.specs.Reads.{ReadsEnsemble};
@@ -205,7 +203,6 @@ impl<'a> Node<'a> for Ensemble<'a> {
 }
 
 impl<'a> Node<'a> for Member<'a> {
-    ghost use Rattle.std.specs.Prelude.{◌≡◌};
     ghost use Rattle.crs_shape.specs.declared.class.Class.TheVariants as classes;
     ghost use Rattle.crs_value.specs.Reading.{Requires};
     ghost use Rattle.crs_value.specs.ReadsNamed.{ReadsNamed};

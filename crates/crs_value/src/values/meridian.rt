@@ -47,7 +47,6 @@ impl Drop for Meridian<'_> {
 }
 
 impl<'a> Node<'a> for Meridian<'a> {
-    ghost use Rattle.std.specs.Prelude.{◌≡◌};
     ghost use Rattle.crs_shape.specs.declared.class.Class.TheVariants as classes;
     ghost use Rattle.crs_value.specs.Reading.{Requires};
     ghost use Rattle.crs_value.specs.Reads.{ReadsMeridian};

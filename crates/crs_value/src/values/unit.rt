@@ -63,7 +63,6 @@ fn kind(items: &Items<'_>, id: ItemId, class: Class) -> UnitKind
 }
 
 impl<'a> Node<'a> for Unit<'a> {
-    ghost use Rattle.std.specs.Prelude.{◌≡◌};
     ghost use Rattle.crs_shape.specs.declared.class.Class.TheVariants as classes;
     ghost use Rattle.crs_value.specs.Reading.{Requires};
     ghost use Rattle.crs_value.specs.Reads.{ReadsUnit, IsUnitClass};

@@ -158,7 +158,6 @@ impl Drop for Tail<'_> {
 }
 
 impl<'a> Node<'a> for BoundingBox {
-    ghost use Rattle.std.specs.Prelude.{◌≡◌};
     ghost use Rattle.crs_shape.specs.declared.class.Class.TheVariants as classes;
     ghost use Rattle.crs_value.specs.Reading.{Requires};
     ghost use Rattle.crs_value.specs.Reads.{ReadsBox};
@@ -183,7 +182,6 @@ impl<'a> Node<'a> for BoundingBox {
 }
 
 impl<'a> Node<'a> for Extent<'a> {
-    ghost use Rattle.std.specs.Prelude.{◌≡◌};
     ghost use Rattle.crs_shape.specs.declared.class.Class.TheVariants as classes;
     ghost use Rattle.crs_value.specs.Reading.{Requires};
     ghost use Rattle.crs_value.specs.Reads.{ReadsExtent};
@@ -209,7 +207,6 @@ impl<'a> Node<'a> for Extent<'a> {
 impl<'a> Node<'a> for Usage<'a> {
     ghost use Rattle.std.specs.Prelude.{◌≡◌};
     ghost use Rattle.crs_shape.specs.declared.class.Class.TheVariants as classes;
-    ghost use Rattle.crs_value.specs.Reading.{Requires};
     ghost use Rattle.crs_value.specs.Reads.{ReadsUsage};
 
     ghost Suits = { λ c. c ≡ classes.Usage };

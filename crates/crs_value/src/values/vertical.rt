@@ -121,7 +121,6 @@ impl<'a> Node<'a> for Vertical<'a> {
 }
 
 impl<'a> Node<'a> for GeoidModel<'a> {
-    ghost use Rattle.std.specs.Prelude.{◌≡◌};
     ghost use Rattle.crs_shape.specs.declared.class.Class.TheVariants as classes;
     ghost use Rattle.crs_value.specs.Reading.{Requires};
     ghost use Rattle.crs_value.specs.ReadsNamed.{ReadsNamed};

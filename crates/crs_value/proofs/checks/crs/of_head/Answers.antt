@@ -1,8 +1,10 @@
+use Rattle.std.proofs.Common.{ℕ, ◌⊎◌, subst}
 use Rattle.crs_text.specs.Items.{arguments}
 use Rattle.crs_text.specs.Refusal.{RefusedAt}
 use Rattle.crs_shape.specs.declared.class.Class.TheVariants as class
-use Rattle.crs_value.specs.BadSystem.{dimensions_of}
-use Rattle.crs_value.specs.Break.{AnyOf}
+use Rattle.crs_value.specs.AxisCount.{AxisCount}
+use Rattle.crs_value.specs.BadSystem.{BadSystem, dimensions_of}
+use Rattle.crs_value.specs.Break.{AnyOf, IsLeast}
 use Rattle.crs_value.specs.Checks.{OfHead, once}
 use Rattle.crs_value.specs.RepeatedPart.{RepeatsAny}
 use Rattle.crs_value.specs.Reading.{item_at, those}
@@ -14,7 +16,8 @@ returns c =
     let items = arguments (item_at c.args.items.now c.args.id) in
     let systems = those c.args.class class.CoordinateSystem items in
     let axes = those c.args.class class.Axis items in
+    let Head : ℕ → Type 0 = λ n. IsLeast (AnyOf (λ cs f. BadSystem (dimensions_of c.args.class) cs f ⊎ AxisCount n cs f) systems) c.only_from.result in
     let Repeated : RefusedAt → Type 0 = λ f. RepeatsAny c.args.class items once f in
     either-is Repeated (AnyOf (OfHead (dimensions_of c.args.class) axes) systems) c.repeats_once.result c.only_from.result c.lesser.result c.lesser.ensures
     c.repeats_once.ensures
-    c.only_from.ensures
+    (subst Head c.requires.firsts.axes c.only_from.ensures)

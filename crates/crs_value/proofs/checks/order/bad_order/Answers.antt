@@ -1,9 +1,10 @@
-use Rattle.std.proofs.Common.{None, Some}
-use Rattle.crs_text.specs.Items.{arguments}
+use Rattle.std.proofs.Common.{None, List, subst, sym}
+use Rattle.crs_text.specs.Items.{Item, arguments}
 use Rattle.crs_shape.specs.declared.class.Class.TheVariants as class
-use Rattle.crs_value.specs.BadOrder.{LacksOrder}
+use Rattle.crs_value.specs.BadOrder.{LacksOrder, BadOrder}
+use Rattle.crs_value.specs.Break.{IsLeast}
 use Rattle.crs_value.specs.Reading.{item_at, those}
-use Rattle.crs_value.proofs.ArgumentLemmas.{found-shaped}
+use Rattle.crs_value.proofs.ArgumentLemmas.{found-is, found-shaped}
 use Rattle.crs_value.proofs.CheckLemmas.{found-any}
 use Rattle.crs_value.proofs.OrderLemmas.{order-all}
 use Rattle.crs_value.proofs.checks.order.bad_order.Goals as goal
@@ -12,11 +13,12 @@ pub any_from-requires-clause-shaped : goal.any_from-requires-clause-shaped
 any_from-requires-clause-shaped c =
     found-shaped c.args.items.now c.args.class class.Axis (item_at c.args.items.now c.args.crs) c.args.firsts.now.axis c.requires.shaped c.requires.firsts.axis
 
-pub beside-requires-clause-lacks : goal.beside-requires-clause-lacks
-beside-requires-clause-lacks c =
+pub returns-in-Some : goal.returns-in-Some
+returns-in-Some c =
     let tree = c.args.items.now in
     let axes = those c.args.class class.Axis (arguments (item_at tree c.args.crs)) in
-    found-any LacksOrder tree c.args.class class.Axis axes c.args.firsts.now.axis (Some c.in-Some.lacks) c.requires.firsts.axis c.in-Some.ensures
+    let P : List Item → Type 0 = λ xs. IsLeast (BadOrder xs) c.beside.result in
+    subst P (sym (found-is tree c.args.class class.Axis axes c.args.firsts.now.axis c.requires.firsts.axis)) c.beside.ensures
 
 pub returns-in-None : goal.returns-in-None
 returns-in-None c =

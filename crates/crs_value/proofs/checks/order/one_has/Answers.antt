@@ -1,23 +1,21 @@
 use Rattle.std.proofs.Common.{ℕ, Option, refl, subst}
-use Rattle.crs_text.specs.Items.{arguments}
 use Rattle.crs_shape.specs.declared.class.Class.TheVariants as class
-use Rattle.crs_value.specs.Reading.{item_at, those}
+use Rattle.crs_value.specs.Found.{from_found}
 use Rattle.crs_value.proofs.OrderLemmas.{Seeking, seek-first, seek-on, seek-here, seek-there}
 use Rattle.crs_value.proofs.checks.order.one_has.Goals as goal
 
 pub loop-step-init : goal.loop-step-init
-loop-step-init c =
-    seek-first c.args.items.now c.args.class (item_at c.args.items.now c.args._crs) c.args.value.now c.args.axis c.requires.shaped c.requires.axis
+loop-step-init c = seek-first c.args.items.now c.args.class c.args.value.now c.args.axis c.requires.holds c.requires.shaped
 
 pub unreachable-requires : goal.unreachable-requires
 unreachable-requires c =
-    seek-there c.args.items.now c.args.class (those c.args.class class.Axis (arguments (item_at c.args.items.now c.args._crs))) c.args.value.now c.loop-step._step c.args.k c.loop-step.at
+    seek-there c.args.items.now c.args.class (from_found c.args.items.now c.args.class class.Axis c.args.axis) c.args.value.now c.loop-step._step c.args.k c.loop-step.at
     c.loop-step.invariant c.in_default.is c.loop-step-test.true c.requires.within
 
 pub returns-then-has_this : goal.returns-then-has_this
 returns-then-has_this c =
     let tree = c.args.items.now in
-    let whole = those c.args.class class.Axis (arguments (item_at tree c.args._crs)) in
+    let whole = from_found tree c.args.class class.Axis c.args.axis in
     let P : Option ℕ → Type 0 = λ at. Seeking tree c.args.class whole c.args.value.now c.loop-step._step at in (
       λ e. seek-here tree c.args.class whole c.args.value.now c.loop-step._step c.args.k c.in-Some.axis (subst P c.in-Some.is c.loop-step.invariant) c.loop-step-test.true
           (c.if-has_this.ensures.0 refl),
@@ -27,7 +25,7 @@ returns-then-has_this c =
 pub loop-step-preserved : goal.loop-step-preserved
 loop-step-preserved c =
     let tree = c.args.items.now in
-    let whole = those c.args.class class.Axis (arguments (item_at tree c.args._crs)) in
+    let whole = from_found tree c.args.class class.Axis c.args.axis in
     let P : Option ℕ → Type 0 = λ at. Seeking tree c.args.class whole c.args.value.now c.loop-step._step at in
     seek-on tree c.args.class whole c.args.value.now c.loop-step._step c.in-Some.axis c.later-at.result (subst P c.in-Some.is c.loop-step.invariant)
     (λ h. let e = c.has_this.ensures.1 h in let f = c.if-has_this.false in cc) c.later-at.ensures
