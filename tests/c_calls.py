@@ -8,7 +8,7 @@ against its header, and linked with the static library and with the shared objec
 crates/crs_rows/data by one thread and by four, with the caller's side under the address and undefined-behaviour
 sanitizers; and growths.c, which refuses each growth of memory in turn. The header must do for C99 and for C++ with every
 warning an error, the shared object must need the C library alone, both must show the header's calls and nothing else,
-and pkg-config must find them.
+pkg-config must find them, and both must answer the version that the program crsdesk prints, where that is built.
 
 Each try has a line; the last line is 'N passed, M failed', and the status is 0 where M is 0.
 """
@@ -22,11 +22,23 @@ import tempfile
 
 HERE = pathlib.Path(__file__).resolve().parent
 ROOT = HERE.parent
+PROGRAM = ROOT / "crates" / "crsdesk" / "out" / "crsdesk"
 ROWS = sorted((ROOT / "crates" / "crs_rows" / "data").glob("*.rows"))
 WARNINGS = ["-Wall", "-Wextra", "-Wpedantic", "-Werror"]
 SANITIZERS = ["-g", "-O1", "-fsanitize=address,undefined", "-fno-sanitize-recover=all"]
 SECONDS = 300
 BARE = "#include <crsdesk.h>\nint main(void) { size_t n; char out[16]; return crsdesk_version(out, 16, &n) == CRSDESK_OK ? 0 : 1; }\n"
+VERSION = """#include <crsdesk.h>
+#include <stdio.h>
+int main(void)
+{
+    char out[16];
+    size_t n;
+    if (crsdesk_version(out, sizeof out, &n) != CRSDESK_OK)
+        return 1;
+    return printf("%.*s\\n", (int)n, out) < 0;
+}
+"""
 
 
 class Wrong(Exception):
@@ -58,10 +70,10 @@ class Tries:
         self.calls = set(re.findall(r"^(?!static)\w[\w *]*\b(crsdesk_\w+)\(", header, re.MULTILINE))
 
     def linked(self, source, kind, flags):
-        """The program of a file of c/ with one of the two libraries, and the environment that it is run in."""
-        made = self.scratch / f"{source}_{kind}"
+        """The program of a C file with one of the two libraries, and the environment that it is run in."""
+        made = self.scratch / f"{source.stem}_{kind}"
         libraries = [self.lib / "libcrsdesk.a"] if kind == "static" else [f"-L{self.lib}", "-lcrsdesk"]
-        words = ["cc", "-std=gnu99", *WARNINGS, *flags, self.include, "-o", made, HERE / "c" / f"{source}.c"]
+        words = ["cc", "-std=gnu99", *WARNINGS, *flags, self.include, "-o", made, source]
         run([*words, *libraries, "-lpthread"])
         return made, {**os.environ, "LD_LIBRARY_PATH": str(self.lib)}
 
@@ -72,12 +84,25 @@ class Tries:
         return line
 
     def rows(self, kind):
-        made, environment = self.linked("rows", kind, SANITIZERS)
+        made, environment = self.linked(HERE / "c" / "rows.c", kind, SANITIZERS)
         return self.last_line(run([made, *ROWS], env=environment))
 
     def growths(self, kind):
-        made, environment = self.linked("growths", kind, ["-O1"])
+        made, environment = self.linked(HERE / "c" / "growths.c", kind, ["-O1"])
         return self.last_line(run([made], env=environment))
+
+    def version(self):
+        if not PROGRAM.exists():
+            return f"skipped: there is no {PROGRAM.relative_to(ROOT)}"
+        wanted = run([PROGRAM, "--version"])
+        file = self.scratch / "version.c"
+        file.write_text(VERSION, encoding="utf-8")
+        for kind in ("static", "shared"):
+            made, environment = self.linked(file, kind, [])
+            told = f"crsdesk {run([made], env=environment)}"
+            if told != wanted:
+                raise Wrong(f"the program prints {wanted!r}, and the {kind} library answers {told!r}")
+        return wanted.strip()
 
     def header(self, compiler, standard, ending):
         file = self.scratch / f"bare.{ending}"
@@ -128,6 +153,7 @@ def main(words):
             ("the header in C", lambda: tries.header("cc", "c99", "c")),
             ("the header in C++", lambda: tries.header("c++", "c++11", "cc")),
             ("pkg-config", tries.pkg_config),
+            ("the version of the program and of the library", tries.version),
             ("rows, static library", lambda: tries.rows("static")),
             ("rows, shared object", lambda: tries.rows("shared")),
             ("refused growths, static library", lambda: tries.growths("static")),

@@ -50,7 +50,7 @@ ANY_TOOLCHAIN = "CRSDESK_ANY_TOOLCHAIN"
 
 
 class Stop(Exception):
-    """Why there is no program, in a line for the user."""
+    """Why there is no program, or no library, in a line for the user."""
 
 
 def say(text, end="\n"):
@@ -90,7 +90,7 @@ def listed():
 
 
 class Crate:
-    """A crate that the program needs."""
+    """A crate that the program or the library needs."""
 
     def __init__(self, name, kit, libraries, below):
         self.name = name
