@@ -1,7 +1,7 @@
 mod AxisLemmas
 mod CountLemmas
 mod DefinitionLemmas
-mod DefinitionPathLemmas
+mod FirstPartLemmas
 mod FrontLemmas
 mod KeptLemmas
 mod NumberLemmas
@@ -13,3 +13,4 @@ mod SamenessOfFramesLemmas
 mod SamenessOfPartsLemmas
 mod SamenessOfSystemsLemmas
 mod SetLemmas
+mod WordLemmas

@@ -1,5 +1,5 @@
 //! Coordinate reference systems.
-ghost use Rattle.std.specs.Prelude.{◌≡◌, ◌≤◌, ◌↔◌, IsTrue, None, [], length};
+ghost use Rattle.std.specs.Prelude.{◌≡◌, ◌≤◌, ◌↔◌, IfSome, IsTrue, None, [], length};
 ghost use Rattle.crs_value.specs.ReadsCrs.{kind_by};
 ghost use Rattle.crs_same.specs.FirstInCrs.{FirstInGeodetic, FirstInBase, FirstInProjected, FirstInVertical};
 ghost use Rattle.crs_same.specs.FirstInCrs.{FirstInHorizontal, FirstInCompound, FirstInCrs};
@@ -10,6 +10,7 @@ use crate::conversions::{first_in_conversion, same_geoid_models};
 use crate::dynamic::first_in_dynamic;
 use crate::frames::{first_in_frame, first_in_meridian};
 use crate::idents::same_idents;
+use crate::laws;
 use crate::path::Path;
 use crate::step::Step;
 use crate::systems::first_in_system;
@@ -220,9 +221,7 @@ pub fn same_compound<'a>(a: &Compound<'a>, b: &Compound<'a>, level: Level) -> bo
     first_in_compound(Path::start(), a, b, level).is_none()
 }
 
-/// The first part in which two CRSs differ, in the order of the canonical text, `kind` before all; None exactly where
-/// they are the same. Profile.
-pub fn first_part<'a>(a: &Crs<'a>, b: &Crs<'a>, level: Level) -> Option<Path>
+fn first_in_crs<'a>(a: &Crs<'a>, b: &Crs<'a>, level: Level) -> Option<Path>
     ensures first { FirstInCrs level a.now b.now result }
     ensures same { (result ≡ None) ↔ SameCrs level a.now b.now }
 {
@@ -233,6 +232,17 @@ pub fn first_part<'a>(a: &Crs<'a>, b: &Crs<'a>, level: Level) -> Option<Path>
         (Crs::Compound(x), Crs::Compound(y)) => first_in_compound(Path::start(), x, y, level),
         _ => Some(Path::start().then(Step::Kind)),
     }
+}
+
+/// The first part in which two CRSs differ, in the order of the canonical text, `kind` before all; None exactly where
+/// they are the same. The path to a part has a step at least. Profile.
+pub fn first_part<'a>(a: &Crs<'a>, b: &Crs<'a>, level: Level) -> Option<Path>
+    ensures first { FirstInCrs level a.now b.now result }
+    ensures same { (result ≡ None) ↔ SameCrs level a.now b.now }
+    ensures step { IfSome result (λ path. 1 ≤ length path) }
+{
+    laws::first_part_has_a_step();
+    first_in_crs(a, b, level)
 }
 
 /// Whether two CRSs are the same at a level: of one kind, and with the same parts. Profile; the defaults of an

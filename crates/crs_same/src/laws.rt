@@ -13,6 +13,7 @@ ghost use Rattle.crs_value.specs.Values.{AxisParts, SystemParts};
 ghost use Rattle.crs_same.specs.declared.step.Step.{Step};
 ghost use Rattle.crs_same.specs.Definition.{IsOfDefinition};
 ghost use Rattle.crs_same.specs.FirstInCrs.{FirstInCrs};
+ghost use Rattle.crs_same.specs.Paths.{path_text};
 ghost use Rattle.crs_same.specs.Sameness.{IsSameness, IsSamenessOf};
 ghost use Rattle.crs_same.specs.SameConversions.{SameMethod, SameParameter, SameConversion, SameGeoidModel};
 ghost use Rattle.crs_same.specs.SameCrs.{SameGeodetic, SameBase, SameProjected, SameVertical, SameHorizontal};
@@ -315,6 +316,18 @@ pub fn same_crs_is_equivalence()
     same_vertical_is_equivalence();
     same_compound_is_equivalence();
 }
+
+// ---- the first part that differs
+
+/// A path to a first part that differs has a step.
+pub fn first_part_has_a_step()
+    ensures { (level : Level) (a b : Crs) (path : List Step) → FirstInCrs level a b (Some path) → 1 ≤ length path }
+{}
+
+/// A path that has a step writes at least one byte.
+pub fn paths_have_words()
+    ensures { (path : List Step) → 1 ≤ length path → 1 ≤ length (path_text path) }
+{}
 
 // ---- the two levels
 

@@ -1,0 +1,56 @@
+-- A path with a step writes a word.
+use Rattle.std.proofs.Common.{ℕ, ◌≤◌, ◌++◌, List, [], ◌∷◌, length, arith}
+use Rattle.crs_same.specs.declared.step.Step.{Step}
+use Rattle.crs_same.specs.declared.step.Step.TheVariants as step
+use Rattle.crs_same.specs.Paths.{step_word, step_number, further_text, path_text}
+
+abbrev IsSomeText : List ℕ → Type 0
+IsSomeText [] = ⊥
+IsSomeText (byte ∷ bytes) = Unit {0}
+
+front-of : (xs ys : List ℕ) → IsSomeText xs → IsSomeText (xs ++ ys)
+front-of [] ys is = absurd is
+front-of (x ∷ xs) ys is = tt
+
+some-byte : (xs : List ℕ) → IsSomeText xs → 1 ≤ length xs
+some-byte [] is = absurd is
+some-byte (x ∷ xs) is = omega arith
+
+word : (s : Step) → IsSomeText (step_word s)
+word step.Kind = tt
+word step.Name = tt
+word step.Datum = tt
+word step.Meridian = tt
+word step.System = tt
+word step.Usage = tt
+word step.Id = tt
+word step.Remark = tt
+word step.Base = tt
+word step.Conversion = tt
+word step.Geoid = tt
+word step.Horizontal = tt
+word step.Vertical = tt
+word step.Unit = tt
+word step.Ellipsoid = tt
+word step.Anchor = tt
+word step.Dynamic = tt
+word step.Epoch = tt
+word step.Model = tt
+word step.AnchorEpoch = tt
+word step.Members = tt
+word step.Accuracy = tt
+word step.SemiMajor = tt
+word step.Flattening = tt
+word step.Longitude = tt
+word step.SystemType = tt
+word step.Dimension = tt
+word (step.Axis position) = tt
+word step.Direction = tt
+word step.Method = tt
+word step.Parameters = tt
+
+pub path-has-words : (path : List Step) → 1 ≤ length path → 1 ≤ length (path_text path)
+path-has-words [] some = absurd (omega (arith, some))
+path-has-words (s ∷ steps) some =
+    some-byte ((step_word s ++ step_number s) ++ further_text steps)
+    (front-of (step_word s ++ step_number s) (further_text steps) (front-of (step_word s) (step_number s) (word s)))
