@@ -28,9 +28,8 @@ use Rattle.crs_same.specs.Sets.{BothOrNeither, HasSame, AllHaveSame, SameSet}
 module _ {V : Type 0} (P Q : V → V → Type 0) (f : (a b : V) → P a b → Q a b) where
   optional : (a b : Option V) → BothOrNeither P a b → BothOrNeither Q a b
   optional None None s = tt
-  optional None (Some b) s = absurd s
-  optional (Some a) None s = absurd s
   optional (Some a) (Some b) s = f a b s
+  optional a b s = absurd s
 
   has : (x : V) (ys : List V) → HasSame P x ys → HasSame Q x ys
   has x [] h = absurd h
@@ -144,9 +143,8 @@ ensemble a b s = record {
 
 frame-of : (a b : Frame) → SameFrame levels.Full a b → SameFrame levels.Definition a b
 frame-of (frame.Datum a) (frame.Datum b) s = datum a b s
-frame-of (frame.Datum a) (frame.Ensemble b) s = absurd s
-frame-of (frame.Ensemble a) (frame.Datum b) s = absurd s
 frame-of (frame.Ensemble a) (frame.Ensemble b) s = ensemble a b s
+frame-of a b s = absurd s
 
 -- ---- coordinate systems
 
@@ -231,9 +229,8 @@ vertical a b s = record {
 
 horizontal-of : (a b : Horizontal) → SameHorizontal levels.Full a b → SameHorizontal levels.Definition a b
 horizontal-of (horizontal.Geodetic a) (horizontal.Geodetic b) s = geodetic a b s
-horizontal-of (horizontal.Geodetic a) (horizontal.Projected b) s = absurd s
-horizontal-of (horizontal.Projected a) (horizontal.Geodetic b) s = absurd s
 horizontal-of (horizontal.Projected a) (horizontal.Projected b) s = projected a b s
+horizontal-of a b s = absurd s
 
 compound : (a b : CompoundParts) → SameCompound levels.Full a b → SameCompound levels.Definition a b
 compound a b s = record {
@@ -245,21 +242,10 @@ compound a b s = record {
 
 parts : (a b : Crs) → SameParts levels.Full a b → SameParts levels.Definition a b
 parts (crs.Geodetic a) (crs.Geodetic b) s = geodetic a b s
-parts (crs.Geodetic a) (crs.Projected b) s = absurd s
-parts (crs.Geodetic a) (crs.Vertical b) s = absurd s
-parts (crs.Geodetic a) (crs.Compound b) s = absurd s
-parts (crs.Projected a) (crs.Geodetic b) s = absurd s
 parts (crs.Projected a) (crs.Projected b) s = projected a b s
-parts (crs.Projected a) (crs.Vertical b) s = absurd s
-parts (crs.Projected a) (crs.Compound b) s = absurd s
-parts (crs.Vertical a) (crs.Geodetic b) s = absurd s
-parts (crs.Vertical a) (crs.Projected b) s = absurd s
 parts (crs.Vertical a) (crs.Vertical b) s = vertical a b s
-parts (crs.Vertical a) (crs.Compound b) s = absurd s
-parts (crs.Compound a) (crs.Geodetic b) s = absurd s
-parts (crs.Compound a) (crs.Projected b) s = absurd s
-parts (crs.Compound a) (crs.Vertical b) s = absurd s
 parts (crs.Compound a) (crs.Compound b) s = compound a b s
+parts a b s = absurd s
 
 pub same-by-definition : (a b : Crs) → SameCrs levels.Full a b → SameCrs levels.Definition a b
 same-by-definition a b s = record { kind = s.kind; parts = parts a b s.parts }

@@ -117,8 +117,7 @@ module _ (level : Level) (Is P : List Step → Type 0)
   unfolding FirstInFrame
   frame-of at (frame.Datum a) (frame.Datum b) is = datum at a b is
   frame-of at (frame.Ensemble a) (frame.Ensemble b) is = ensemble at a b is
-  frame-of at (frame.Datum a) (frame.Ensemble b) is = one at step.Kind tt is
-  frame-of at (frame.Ensemble a) (frame.Datum b) is = one at step.Kind tt is
+  frame-of at a b is = one at step.Kind tt is
 
   -- ---- coordinate systems
 
@@ -199,8 +198,7 @@ module _ (level : Level) (Is P : List Step → Type 0)
   unfolding FirstInHorizontal
   horizontal-of at (horizontal.Geodetic a) (horizontal.Geodetic b) is = geodetic at a b is
   horizontal-of at (horizontal.Projected a) (horizontal.Projected b) is = projected at a b is
-  horizontal-of at (horizontal.Geodetic a) (horizontal.Projected b) is = one at step.Kind tt is
-  horizontal-of at (horizontal.Projected a) (horizontal.Geodetic b) is = one at step.Kind tt is
+  horizontal-of at a b is = one at step.Kind tt is
 
   compound : (at : List Step) (a b : CompoundParts) → Is at → Finds P (FirstInCompound at level a b)
   unfolding FirstInCompound

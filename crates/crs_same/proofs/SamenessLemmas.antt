@@ -62,16 +62,14 @@ optional {A} {R} s = record { reflexive = itself; symmetric = swapped; transitiv
 
     swapped : (a b : Option A) → BothOrNeither R a b → BothOrNeither R b a
     swapped None None r = tt
-    swapped None (Some b) r = absurd r
-    swapped (Some a) None r = absurd r
     swapped (Some a) (Some b) r = s.symmetric a b r
+    swapped a b r = absurd r
 
     joined : (a b c : Option A) → BothOrNeither R a b → BothOrNeither R b c → BothOrNeither R a c
     joined None None c p q = q
-    joined None (Some b) c p q = absurd p
-    joined (Some a) None c p q = absurd p
-    joined (Some a) (Some b) None p q = absurd q
     joined (Some a) (Some b) (Some c) p q = s.transitive a b c p q
+    joined (Some a) (Some b) None p q = absurd q
+    joined a b c p q = absurd p
 
 -- where a missing one stands for each that is D
 pub with-default : {A : Type 0} {R : A → A → Type 0} (D : A → Type 0) (S : Option A → Option A → Type 0) →

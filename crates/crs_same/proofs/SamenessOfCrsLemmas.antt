@@ -13,7 +13,7 @@ use Rattle.crs_value.specs.SoundSystem.{IsSystem}
 use Rattle.crs_same.specs.Sameness.{IsSameness, IsSamenessOf}
 use Rattle.crs_same.specs.SameConversions.{SameConversion, SameGeoidModel}
 use Rattle.crs_same.specs.SameCrs.{SameGeodetic, SameBase, SameProjected, SameVertical, SameHorizontal, SameCompound}
-use Rattle.crs_same.specs.SameCrs.{SameParts, SameCrs}
+use Rattle.crs_same.specs.SameCrs.{IsHorizontalPart, SameParts, SameCrs}
 use Rattle.crs_same.specs.SameDynamic.{SameDynamic}
 use Rattle.crs_same.specs.SameFrames.{SameMeridian, SameFrame}
 use Rattle.crs_same.specs.SameIdents.{SameIdents}
@@ -87,37 +87,40 @@ module _ (level : Level) (systems : IsSamenessOf IsSystem (SameSystem level)) (e
 
 pub horizontal-of : (level : Level) → IsSamenessOf IsGeodetic (SameGeodetic level) →
     IsSamenessOf IsProjected (SameProjected level) →
-    IsSamenessOf IsHorizontal (SameHorizontal level)
+    IsSamenessOf IsHorizontalPart (SameHorizontal level)
 horizontal-of level g p = record { reflexive = itself; symmetric = swapped; transitive = joined }
   where
-    itself : (a : Horizontal) → IsHorizontal a → SameHorizontal level a a
-    itself (horizontal.Geodetic a) is = g.reflexive a is.0
-    itself (horizontal.Projected a) is = p.reflexive a is.0
+    itself : (a : Horizontal) → IsHorizontalPart a → SameHorizontal level a a
+    itself (horizontal.Geodetic a) is = g.reflexive a is
+    itself (horizontal.Projected a) is = p.reflexive a is
 
-    swapped : (a b : Horizontal) → IsHorizontal a → IsHorizontal b → SameHorizontal level a b → SameHorizontal level b a
-    swapped (horizontal.Geodetic a) (horizontal.Geodetic b) x y s = g.symmetric a b x.0 y.0 s
-    swapped (horizontal.Projected a) (horizontal.Projected b) x y s = p.symmetric a b x.0 y.0 s
-    swapped (horizontal.Geodetic a) (horizontal.Projected b) x y s = absurd s
-    swapped (horizontal.Projected a) (horizontal.Geodetic b) x y s = absurd s
+    swapped : (a b : Horizontal) → IsHorizontalPart a → IsHorizontalPart b → SameHorizontal level a b →
+        SameHorizontal level b a
+    swapped (horizontal.Geodetic a) (horizontal.Geodetic b) x y s = g.symmetric a b x y s
+    swapped (horizontal.Projected a) (horizontal.Projected b) x y s = p.symmetric a b x y s
+    swapped a b x y s = absurd s
 
-    joined : (a b c : Horizontal) → IsHorizontal a → IsHorizontal b → IsHorizontal c → SameHorizontal level a b →
-        SameHorizontal level b c →
-        SameHorizontal level a c
+    joined : (a b c : Horizontal) → IsHorizontalPart a → IsHorizontalPart b → IsHorizontalPart c →
+        SameHorizontal level a b → SameHorizontal level b c → SameHorizontal level a c
     joined (horizontal.Geodetic a) (horizontal.Geodetic b) (horizontal.Geodetic c) x y z s t =
-        g.transitive a b c x.0 y.0 z.0 s t
-    joined (horizontal.Geodetic a) (horizontal.Geodetic b) (horizontal.Projected c) x y z s t = absurd t
-    joined (horizontal.Geodetic a) (horizontal.Projected b) c x y z s t = absurd s
-    joined (horizontal.Projected a) (horizontal.Geodetic b) c x y z s t = absurd s
-    joined (horizontal.Projected a) (horizontal.Projected b) (horizontal.Geodetic c) x y z s t = absurd t
+        g.transitive a b c x y z s t
     joined (horizontal.Projected a) (horizontal.Projected b) (horizontal.Projected c) x y z s t =
-        p.transitive a b c x.0 y.0 z.0 s t
+        p.transitive a b c x y z s t
+    joined (horizontal.Geodetic a) (horizontal.Geodetic b) c x y z s t = absurd t
+    joined (horizontal.Projected a) (horizontal.Projected b) c x y z s t = absurd t
+    joined a b c x y z s t = absurd s
 
-pub compound : (level : Level) → IsSamenessOf IsHorizontal (SameHorizontal level) →
+horizontal-part : (a : Horizontal) → IsHorizontal a → IsHorizontalPart a
+horizontal-part (horizontal.Geodetic a) is = is.0
+horizontal-part (horizontal.Projected a) is = is.0
+
+pub compound : (level : Level) → IsSamenessOf IsHorizontalPart (SameHorizontal level) →
     IsSamenessOf IsVertical (SameVertical level) →
     IsSameness (SameTail level) → IsSamenessOf IsCompound (SameCompound level)
 compound level horizontals verticals ends =
     over (in-words
-    (equal-by (λ x. x.0.name) ⊗ by (λ x. (x.0.horizontal, x.1.horizontal)) (of horizontals)
+    (equal-by (λ x. x.0.name)
+    ⊗ by (λ x. (x.0.horizontal, horizontal-part x.0.horizontal x.1.horizontal)) (of horizontals)
     ⊗ by (λ x. (x.0.vertical, x.1.vertical)) (of verticals) ⊗ by (λ x. x.0.tail) ends)
     (λ x y s. (s.name, (s.horizontal, (s.vertical, s.tail))))
     (λ x y p. record { name = p.0; horizontal = p.1.0; vertical = p.1.1.0; tail = p.1.1.1 }))

@@ -136,14 +136,12 @@ frame-of level d e = record { reflexive = itself; symmetric = swapped; transitiv
 
     swapped : (a b : Frame) → SameFrame level a b → SameFrame level b a
     swapped (frame.Datum a) (frame.Datum b) s = d.symmetric a b s
-    swapped (frame.Datum a) (frame.Ensemble b) s = absurd s
-    swapped (frame.Ensemble a) (frame.Datum b) s = absurd s
     swapped (frame.Ensemble a) (frame.Ensemble b) s = e.symmetric a b s
+    swapped a b s = absurd s
 
     joined : (a b c : Frame) → SameFrame level a b → SameFrame level b c → SameFrame level a c
     joined (frame.Datum a) (frame.Datum b) (frame.Datum c) s t = d.transitive a b c s t
-    joined (frame.Datum a) (frame.Datum b) (frame.Ensemble c) s t = absurd t
-    joined (frame.Datum a) (frame.Ensemble b) c s t = absurd s
-    joined (frame.Ensemble a) (frame.Datum b) c s t = absurd s
-    joined (frame.Ensemble a) (frame.Ensemble b) (frame.Datum c) s t = absurd t
     joined (frame.Ensemble a) (frame.Ensemble b) (frame.Ensemble c) s t = e.transitive a b c s t
+    joined (frame.Datum a) (frame.Datum b) c s t = absurd t
+    joined (frame.Ensemble a) (frame.Ensemble b) c s t = absurd t
+    joined a b c s t = absurd s

@@ -16,7 +16,7 @@ use Rattle.crs_same.specs.declared.step.Step.{Step}
 use Rattle.crs_same.specs.declared.step.Step.TheVariants as step
 use Rattle.crs_same.specs.FirstInFrames.{FirstInMeridian, FirstInFrame}
 use Rattle.crs_same.specs.FirstInSystems.{FirstInSystem}
-use Rattle.crs_same.specs.FirstPart.{◌▸◌, ◌⨾◌, Nothing, Part}
+use Rattle.crs_same.specs.FirstPart.{◌▸◌, ◌⨾◌, FirstIn, Nothing, Part}
 use Rattle.crs_same.specs.SameConversions.{SameParameter, SameGeoidModel}
 use Rattle.crs_same.specs.SameDynamic.{SameDeformationModel}
 use Rattle.crs_same.specs.SameIdents.{SameIdents}
@@ -25,15 +25,13 @@ use Rattle.crs_same.specs.SameUsages.{SameUsages, SameRemark}
 use Rattle.crs_same.specs.Sets.{SameSet, BothOrNeither}
 
 -- the first part in which two methods differ: name, identifiers
-abbrev pub FirstInMethod : List Step → Level → MethodParts → MethodParts → Option (List Step) →
-    Type 0
+abbrev pub FirstInMethod : FirstIn MethodParts
 FirstInMethod at level a b =
     Part (at ▸ step.Name) (a.name ≡ b.name)
     ⨾ Part (at ▸ step.Id) (SameIdents level a.identifiers b.identifiers)
 
 -- the first part in which two conversions differ: name, method, parameters, identifiers
-unfoldable pub FirstInConversion : List Step → Level → ConversionParts → ConversionParts →
-    Option (List Step) → Type 0
+unfoldable pub FirstInConversion : FirstIn ConversionParts
 FirstInConversion at level a b =
     Part (at ▸ step.Name) (a.name ≡ b.name)
     ⨾ FirstInMethod (at ▸ step.Method) level a.method b.method
@@ -42,8 +40,7 @@ FirstInConversion at level a b =
 
 -- the first part in which two dynamic parts differ: epoch, model; where only one side has a dynamic
 -- part, its epoch is the first part that is on one side alone
-unfoldable pub FirstInDynamic : List Step → Level → Option DynamicParts → Option DynamicParts →
-    Option (List Step) → Type 0
+unfoldable pub FirstInDynamic : FirstIn (Option DynamicParts)
 FirstInDynamic at level None None = Nothing
 FirstInDynamic at level None (Some b) = Part (at ▸ step.Epoch) ⊥
 FirstInDynamic at level (Some a) None = Part (at ▸ step.Epoch) ⊥
@@ -52,7 +49,7 @@ FirstInDynamic at level (Some a) (Some b) =
     ⨾ Part (at ▸ step.Model) (BothOrNeither (SameDeformationModel level) a.model b.model)
 
 -- the first part in which the ends of two CRSs differ: usages, identifiers, remark
-unfoldable pub FirstInTail : List Step → Level → TailParts → TailParts → Option (List Step) → Type 0
+unfoldable pub FirstInTail : FirstIn TailParts
 FirstInTail at level a b =
     Part (at ▸ step.Usage) (SameUsages level a b)
     ⨾ Part (at ▸ step.Id) (SameIdents level a.identifiers b.identifiers)
@@ -60,8 +57,7 @@ FirstInTail at level a b =
 
 -- the first part in which two geodetic CRSs differ: kind, which is geodetic or geographic, name,
 -- dynamic part, frame, prime meridian, coordinate system, end
-unfoldable pub FirstInGeodetic : List Step → Level → GeodeticParts → GeodeticParts →
-    Option (List Step) → Type 0
+unfoldable pub FirstInGeodetic : FirstIn GeodeticParts
 FirstInGeodetic at level a b =
     Part (at ▸ step.Kind) (kind_by a.system.system_type ≡ kind_by b.system.system_type)
     ⨾ Part (at ▸ step.Name) (a.name ≡ b.name)
@@ -73,7 +69,7 @@ FirstInGeodetic at level a b =
 
 -- the first part in which two base CRSs differ: name, dynamic
 -- part, frame, prime meridian, unit, identifiers
-unfoldable pub FirstInBase : List Step → Level → BaseParts → BaseParts → Option (List Step) → Type 0
+unfoldable pub FirstInBase : FirstIn BaseParts
 FirstInBase at level a b =
     Part (at ▸ step.Name) (a.name ≡ b.name)
     ⨾ FirstInDynamic (at ▸ step.Dynamic) level a.dynamic b.dynamic
@@ -84,8 +80,7 @@ FirstInBase at level a b =
 
 -- the first part in which two projected CRSs differ: name,
 -- base CRS, conversion, coordinate system, end
-unfoldable pub FirstInProjected : List Step → Level → ProjectedParts → ProjectedParts →
-    Option (List Step) → Type 0
+unfoldable pub FirstInProjected : FirstIn ProjectedParts
 FirstInProjected at level a b =
     Part (at ▸ step.Name) (a.name ≡ b.name)
     ⨾ FirstInBase (at ▸ step.Base) level a.base b.base
@@ -95,8 +90,7 @@ FirstInProjected at level a b =
 
 -- the first part in which two vertical CRSs differ: name,
 -- dynamic part, frame, coordinate system, geoid models, end
-unfoldable pub FirstInVertical : List Step → Level → VerticalParts → VerticalParts →
-    Option (List Step) → Type 0
+unfoldable pub FirstInVertical : FirstIn VerticalParts
 FirstInVertical at level a b =
     Part (at ▸ step.Name) (a.name ≡ b.name)
     ⨾ FirstInDynamic (at ▸ step.Dynamic) level a.dynamic b.dynamic
@@ -107,20 +101,15 @@ FirstInVertical at level a b =
 
 -- the first part in which the horizontal parts of two compound
 -- CRSs differ; a geodetic and a projected one differ in kind
-unfoldable pub FirstInHorizontal : List Step → Level → Horizontal → Horizontal →
-    Option (List Step) → Type 0
+unfoldable pub FirstInHorizontal : FirstIn Horizontal
 FirstInHorizontal at level (horizontal.Geodetic a) (horizontal.Geodetic b) =
     FirstInGeodetic at level a b
-FirstInHorizontal at level (horizontal.Geodetic a) (horizontal.Projected b) =
-    Part (at ▸ step.Kind) ⊥
-FirstInHorizontal at level (horizontal.Projected a) (horizontal.Geodetic b) =
-    Part (at ▸ step.Kind) ⊥
 FirstInHorizontal at level (horizontal.Projected a) (horizontal.Projected b) =
     FirstInProjected at level a b
+FirstInHorizontal at level a b = Part (at ▸ step.Kind) ⊥
 
 -- the first part in which two compound CRSs differ: name, horizontal part, vertical part, end
-unfoldable pub FirstInCompound : List Step → Level → CompoundParts → CompoundParts →
-    Option (List Step) → Type 0
+unfoldable pub FirstInCompound : FirstIn CompoundParts
 FirstInCompound at level a b =
     Part (at ▸ step.Name) (a.name ≡ b.name)
     ⨾ FirstInHorizontal (at ▸ step.Horizontal) level a.horizontal b.horizontal

@@ -7,7 +7,7 @@ use Rattle.crs_value.specs.declared.values.unit_kind.UnitKind.TheVariants as kin
 use Rattle.crs_value.specs.Values.{EllipsoidParts, MeridianParts, DatumParts, EnsembleParts}
 use Rattle.crs_same.specs.declared.step.Step.{Step}
 use Rattle.crs_same.specs.declared.step.Step.TheVariants as step
-use Rattle.crs_same.specs.FirstPart.{◌▸◌, ◌⨾◌, Nothing, Part}
+use Rattle.crs_same.specs.FirstPart.{◌▸◌, ◌⨾◌, FirstIn, Nothing, Part}
 use Rattle.crs_same.specs.SameFrames.{IsZero, SameMember}
 use Rattle.crs_same.specs.SameIdents.{SameIdents}
 use Rattle.crs_same.specs.SameUnits.{SameValue, SameUnit, SameLength, HasNoIdents}
@@ -15,8 +15,7 @@ use Rattle.crs_same.specs.Sets.{SameSet, BothOrNeither}
 
 -- the first part in which two ellipsoids differ: name,
 -- semi-major axis, inverse flattening, unit, identifiers
-abbrev pub FirstInEllipsoid : List Step → Level → EllipsoidParts → EllipsoidParts →
-    Option (List Step) → Type 0
+abbrev pub FirstInEllipsoid : FirstIn EllipsoidParts
 FirstInEllipsoid at level a b =
     Part (at ▸ step.Name) (a.name ≡ b.name)
     ⨾ Part (at ▸ step.SemiMajor) (SameValue a.semi_major_axis b.semi_major_axis)
@@ -26,8 +25,7 @@ FirstInEllipsoid at level a b =
 
 -- the first part in which two ellipsoids that may be missing differ; where only one side has an
 -- ellipsoid, its name is the first part that is on one side alone
-abbrev pub FirstInEllipsoids : List Step → Level → Option EllipsoidParts → Option EllipsoidParts →
-    Option (List Step) → Type 0
+abbrev pub FirstInEllipsoids : FirstIn (Option EllipsoidParts)
 FirstInEllipsoids at level None None = Nothing
 FirstInEllipsoids at level None (Some b) = Part (at ▸ step.Name) ⊥
 FirstInEllipsoids at level (Some a) None = Part (at ▸ step.Name) ⊥
@@ -37,8 +35,7 @@ FirstInEllipsoids at level (Some a) (Some b) = FirstInEllipsoid at level a b
 
 -- the first part in which two written prime meridians differ: name,
 -- longitude, unit, which doesn't count at longitude 0, identifiers
-abbrev pub FirstInGiven : List Step → Level → MeridianParts → MeridianParts → Option (List Step) →
-    Type 0
+abbrev pub FirstInGiven : FirstIn MeridianParts
 FirstInGiven at level a b =
     Part (at ▸ step.Name) (a.name ≡ b.name)
     ⨾ Part (at ▸ step.Longitude) (SameValue a.longitude b.longitude)
@@ -55,8 +52,7 @@ FirstBesideGreenwich at level meridian =
     ⨾ Part (at ▸ step.Id) (HasNoIdents level meridian.identifiers)
 
 -- the first part in which two prime meridians differ, of which each may be missing
-unfoldable pub FirstInMeridian : List Step → Level → Option MeridianParts → Option MeridianParts →
-    Option (List Step) → Type 0
+unfoldable pub FirstInMeridian : FirstIn (Option MeridianParts)
 FirstInMeridian at level None None = Nothing
 FirstInMeridian at level None (Some b) = FirstBesideGreenwich at level b
 FirstInMeridian at level (Some a) None = FirstBesideGreenwich at level a
@@ -66,7 +62,7 @@ FirstInMeridian at level (Some a) (Some b) = FirstInGiven at level a b
 
 -- the first part in which two reference frames differ: name,
 -- ellipsoid, anchor, the anchor's epoch, identifiers
-abbrev pub FirstInDatum : List Step → Level → DatumParts → DatumParts → Option (List Step) → Type 0
+abbrev pub FirstInDatum : FirstIn DatumParts
 FirstInDatum at level a b =
     Part (at ▸ step.Name) (a.name ≡ b.name)
     ⨾ FirstInEllipsoids (at ▸ step.Ellipsoid) level a.ellipsoid b.ellipsoid
@@ -76,8 +72,7 @@ FirstInDatum at level a b =
 
 -- the first part in which two datum ensembles differ: name,
 -- members, ellipsoid, accuracy, identifiers
-abbrev pub FirstInEnsemble : List Step → Level → EnsembleParts → EnsembleParts →
-    Option (List Step) → Type 0
+abbrev pub FirstInEnsemble : FirstIn EnsembleParts
 FirstInEnsemble at level a b =
     Part (at ▸ step.Name) (a.name ≡ b.name)
     ⨾ Part (at ▸ step.Members) (SameSet (SameMember level) a.members b.members)
@@ -86,8 +81,7 @@ FirstInEnsemble at level a b =
     ⨾ Part (at ▸ step.Id) (SameIdents level a.identifiers b.identifiers)
 
 -- the first part in which two frames differ; a reference frame and an ensemble differ in kind
-unfoldable pub FirstInFrame : List Step → Level → Frame → Frame → Option (List Step) → Type 0
+unfoldable pub FirstInFrame : FirstIn Frame
 FirstInFrame at level (frame.Datum a) (frame.Datum b) = FirstInDatum at level a b
-FirstInFrame at level (frame.Datum a) (frame.Ensemble b) = Part (at ▸ step.Kind) ⊥
-FirstInFrame at level (frame.Ensemble a) (frame.Datum b) = Part (at ▸ step.Kind) ⊥
 FirstInFrame at level (frame.Ensemble a) (frame.Ensemble b) = FirstInEnsemble at level a b
+FirstInFrame at level a b = Part (at ▸ step.Kind) ⊥

@@ -5,7 +5,7 @@ use Rattle.crs_value.specs.BadUnit.{asked_kind}
 use Rattle.crs_value.specs.Values.{AxisParts, SystemParts}
 use Rattle.crs_same.specs.declared.step.Step.{Step}
 use Rattle.crs_same.specs.declared.step.Step.TheVariants as step
-use Rattle.crs_same.specs.FirstPart.{◌▸◌, ◌⨾◌, Part}
+use Rattle.crs_same.specs.FirstPart.{◌▸◌, ◌⨾◌, FirstIn, Part}
 use Rattle.crs_same.specs.SameIdents.{SameIdents}
 use Rattle.crs_same.specs.SameSystems.{SameAxisMeridian, own_or, HasAt}
 use Rattle.crs_same.specs.SameUnits.{SameValue, SameUnit}
@@ -35,15 +35,14 @@ NoneBelow at level a b end =
     (position : ℕ) → 1 ≤ position → position < end → FirstAt at level a b position None
 
 -- the first part in which the axes differ, position by position from the first to the last
-abbrev pub FirstInAxes : List Step → Level → SystemParts → SystemParts → Option (List Step) → Type 0
+abbrev pub FirstInAxes : FirstIn SystemParts
 FirstInAxes at level a b None = NoneBelow at level a b (suc (length a.axes))
 FirstInAxes at level a b (Some found) =
     (position : ℕ) × (1 ≤ position) × (position ≤ length a.axes) × NoneBelow at level a b position
     × FirstAt at level a b position (Some found)
 
 -- the first part in which two coordinate systems differ: type, dimension, identifiers, axes
-unfoldable pub FirstInSystem : List Step → Level → SystemParts → SystemParts → Option (List Step) →
-    Type 0
+unfoldable pub FirstInSystem : FirstIn SystemParts
 FirstInSystem at level a b =
     Part (at ▸ step.SystemType) (a.system_type ≡ b.system_type)
     ⨾ Part (at ▸ step.Dimension) (SameValue a.dimension b.dimension)

@@ -1,5 +1,6 @@
 -- The first part in which two values differ: their parts are taken in order, each with its path.
 use Rattle.std.specs.Prelude.{◌≡◌, Option, Some, None, List, [], ◌∷◌, ◌++◌, ◌⊎◌}
+use Rattle.crs_value.specs.declared.values.level.Level.{Level}
 use Rattle.crs_same.specs.declared.step.Step.{Step}
 
 infixl 60 ◌▸◌
@@ -22,3 +23,8 @@ abbrev pub ◌⨾◌ : (Option (List Step) → Type 0) → (Option (List Step) �
     Option (List Step) → Type 0
 (First ⨾ Second) None = First None × Second None
 (First ⨾ Second) (Some found) = First (Some found) ⊎ (First None × Second (Some found))
+
+-- the path to the first part in which two values differ at a level, where the path to the two is
+-- given; none where nothing differs
+abbrev pub FirstIn : Type 0 → Type 1
+FirstIn V = List Step → Level → V → V → Option (List Step) → Type 0

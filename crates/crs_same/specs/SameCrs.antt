@@ -9,6 +9,7 @@ use Rattle.crs_value.specs.declared.values.unit_kind.UnitKind.TheVariants as kin
 use Rattle.crs_value.specs.CompoundValues.{CompoundParts}
 use Rattle.crs_value.specs.CrsValues.{GeodeticParts, BaseParts, ProjectedParts, VerticalParts}
 use Rattle.crs_value.specs.ReadsCrs.{kind_by, kind_of}
+use Rattle.crs_value.specs.SoundSingle.{IsGeodetic, IsProjected}
 use Rattle.crs_same.specs.Sets.{SameSet, BothOrNeither}
 use Rattle.crs_same.specs.SameConversions.{SameConversion, SameGeoidModel}
 use Rattle.crs_same.specs.SameDynamic.{SameDynamic}
@@ -56,13 +57,17 @@ pub record SameVertical (level : Level) (a b : VerticalParts) : Type 0 where
   pub geoid_models : SameSet (SameGeoidModel level) a.geoid_models b.geoid_models
   pub tail : SameTail level a.tail b.tail
 
+-- what is asked of the horizontal part of a compound CRS by itself: what is asked of it as a CRS
+abbrev pub IsHorizontalPart : Horizontal → Type 0
+IsHorizontalPart (horizontal.Geodetic geodetic) = IsGeodetic geodetic
+IsHorizontalPart (horizontal.Projected projected) = IsProjected projected
+
 -- the horizontal parts of two compound CRSs are the same: both
 -- are geodetic or both projected, and the same
 abbrev pub SameHorizontal : Level → Horizontal → Horizontal → Type 0
 SameHorizontal level (horizontal.Geodetic a) (horizontal.Geodetic b) = SameGeodetic level a b
-SameHorizontal level (horizontal.Geodetic a) (horizontal.Projected b) = ⊥
-SameHorizontal level (horizontal.Projected a) (horizontal.Geodetic b) = ⊥
 SameHorizontal level (horizontal.Projected a) (horizontal.Projected b) = SameProjected level a b
+SameHorizontal level a b = ⊥
 
 -- two compound CRSs are the same: all their parts are
 pub record SameCompound (level : Level) (a b : CompoundParts) : Type 0 where

@@ -74,6 +74,5 @@ pub record SameEnsemble (level : Level) (a b : EnsembleParts) : Type 0 where
 -- a reference frame and an ensemble are never the same
 abbrev pub SameFrame : Level → Frame → Frame → Type 0
 SameFrame level (frame.Datum a) (frame.Datum b) = SameDatum level a b
-SameFrame level (frame.Datum a) (frame.Ensemble b) = ⊥
-SameFrame level (frame.Ensemble a) (frame.Datum b) = ⊥
 SameFrame level (frame.Ensemble a) (frame.Ensemble b) = SameEnsemble level a b
+SameFrame level a b = ⊥

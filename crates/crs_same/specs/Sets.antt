@@ -18,6 +18,5 @@ SameSet Same xs ys = AllHaveSame Same xs ys × AllHaveSame Same ys xs
 -- both are missing, or both are there and the same
 abbrev pub BothOrNeither : {V : Type 0} → (V → V → Type 0) → Option V → Option V → Type 0
 BothOrNeither Same None None = Unit {0}
-BothOrNeither Same None (Some y) = ⊥
-BothOrNeither Same (Some x) None = ⊥
 BothOrNeither Same (Some x) (Some y) = Same x y
+BothOrNeither Same a b = ⊥

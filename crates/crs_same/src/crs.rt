@@ -1,5 +1,5 @@
 //! Coordinate reference systems.
-ghost use Rattle.std.specs.Prelude.{◌≡◌, ◌≤◌, ◌↔◌, IfSome, IsTrue, None, [], length};
+ghost use Rattle.std.specs.Prelude.{◌≡◌, ◌≤◌, ◌↔◌, IfSome, IsTrue, None, length};
 ghost use Rattle.crs_value.specs.ReadsCrs.{kind_by};
 ghost use Rattle.crs_same.specs.FirstInCrs.{FirstInGeodetic, FirstInBase, FirstInProjected, FirstInVertical};
 ghost use Rattle.crs_same.specs.FirstInCrs.{FirstInHorizontal, FirstInCompound, FirstInCrs};

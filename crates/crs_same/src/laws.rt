@@ -4,7 +4,7 @@ ghost use Rattle.crs_value.specs.declared.values.crs.Crs.{Crs};
 ghost use Rattle.crs_value.specs.declared.values.level.Level.{Level};
 ghost use Rattle.crs_value.specs.declared.values.level.Level.TheVariants as levels;
 ghost use Rattle.crs_value.specs.declared.values.unit_kind.UnitKind.{UnitKind};
-ghost use Rattle.crs_value.specs.SoundCompound.{IsHorizontal, IsCompound};
+ghost use Rattle.crs_value.specs.SoundCompound.{IsCompound};
 ghost use Rattle.crs_value.specs.SoundCrs.{IsCrs};
 ghost use Rattle.crs_value.specs.SoundSingle.{IsGeodetic, IsProjected, IsVertical};
 ghost use Rattle.crs_value.specs.SoundSystem.{IsSystem};
@@ -17,7 +17,7 @@ ghost use Rattle.crs_same.specs.Paths.{path_text};
 ghost use Rattle.crs_same.specs.Sameness.{IsSameness, IsSamenessOf};
 ghost use Rattle.crs_same.specs.SameConversions.{SameMethod, SameParameter, SameConversion, SameGeoidModel};
 ghost use Rattle.crs_same.specs.SameCrs.{SameGeodetic, SameBase, SameProjected, SameVertical, SameHorizontal};
-ghost use Rattle.crs_same.specs.SameCrs.{SameCompound, SameCrs};
+ghost use Rattle.crs_same.specs.SameCrs.{IsHorizontalPart, SameCompound, SameCrs};
 ghost use Rattle.crs_same.specs.SameDynamic.{SameDeformationModel, SameDynamic};
 ghost use Rattle.crs_same.specs.SameFrames.{SameEllipsoid, SameGiven, SameMeridian, SameMember, SameDatum};
 ghost use Rattle.crs_same.specs.SameFrames.{SameEnsemble, SameFrame};
@@ -290,9 +290,9 @@ pub fn same_vertical_is_equivalence()
     same_tail_is_equivalence();
 }
 
-/// Sameness of the horizontal parts of compound CRSs is an equivalence.
+/// Sameness of the horizontal parts of compound CRSs, by themselves, is an equivalence.
 pub fn same_horizontal_is_equivalence()
-    ensures { (level : Level) → IsSamenessOf IsHorizontal (SameHorizontal level) }
+    ensures { (level : Level) → IsSamenessOf IsHorizontalPart (SameHorizontal level) }
 {
     same_geodetic_is_equivalence();
     same_projected_is_equivalence();

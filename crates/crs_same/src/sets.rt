@@ -1,6 +1,5 @@
 //! Lists that are taken as sets.
 ghost use Rattle.std.specs.Prelude.{◌≤◌, ◌↔◌, IsTrue, length, take};
-ghost use Rattle.std.specs.Option.{option_copied};
 ghost use Rattle.crs_value.specs.declared.values.level.Level.{Level};
 ghost use Rattle.crs_same.specs.Sameness.{IsSameness};
 ghost use Rattle.crs_same.specs.Sets.{HasSame, AllHaveSame, SameSet};

@@ -5,7 +5,6 @@ ghost use Rattle.crs_same.specs.Sets.{BothOrNeither};
 ghost use Rattle.crs_same.specs.FirstInSystems.{FirstInAxis, FirstAt, FirstInAxes, FirstInSystem};
 ghost use Rattle.crs_same.specs.SameSystems.{SameAxisMeridian, SameAxis, SameAxisAlone, IsPositionOf, HasAt, SameAt};
 ghost use Rattle.crs_same.specs.SameSystems.{SameAxes, SameSystem};
-ghost use Rattle.crs_same.specs.SameUnits.{SameValue};
 
 use crate::idents::same_idents;
 use crate::laws;
