@@ -102,8 +102,8 @@ uint32_t crsdesk_same(const char *first, size_t first_length, const char *second
    path with `/` between them, at most five, as `datum/ellipsoid/flattening`. No words exactly where they are the same.
    Room for 100 bytes does.
 
-   CRSDESK_OK: each text spells a CRS; the buffer begins with the path, *length is its number of bytes, and 0 where the
-       CRSs are the same.
+   CRSDESK_OK: each text spells a CRS; the buffer begins with the path, *length is its number of bytes, and 0 exactly
+       where the CRSs are the same.
    CRSDESK_REFUSED: the first spells none; *refusal says why. The second wasn't judged.
    CRSDESK_SECOND_REFUSED: the first spells a CRS and the second none; *refusal says why the second doesn't.
    CRSDESK_NO_ROOM: the path has more bytes than the buffer; *length is their number.

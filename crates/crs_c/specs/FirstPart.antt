@@ -28,11 +28,13 @@ unfoldable pub IsPathGiven : Option (List Step) → Buffer ℕ → Buffer ℕ �
 IsPathGiven found old new code = IsGiven (words_of found) old new code ⊎ ((code ≡ 3) × (new ≡ old))
 
 -- of a second text, behind a first that spells this CRS: the first part that differs is given, with
--- its code; the text's refusal with code 2; or code 3; what isn't said is as before
+-- its code, by no words exactly where the CRSs are the same; the text's refusal with code 2; or
+-- code 3; what isn't said is as before
 unfoldable pub IsSecondPartAt : Crs → List ℕ → PartPlaces → PartPlaces → ℕ → Level → Type 0
 IsSecondPartAt a second old new code level =
     ((b : Crs) × Spells second b × (found : Option (List Step)) × FirstInCrs level a b found
-    × ((found ≡ None) ↔ SameCrs level a b) × IsGiven (words_of found) old.path new.path code
+    × ((found ≡ None) ↔ SameCrs level a b) × ((words_of found ≡ []) ↔ SameCrs level a b)
+    × IsGiven (words_of found) old.path new.path code
     × (new.refused ≡ old.refused))
     ⊎ ((refusal : RefusedAt) × Refuses second refusal × (code ≡ 2)
     × (new ≡ record old { refused = shown refusal }))

@@ -1,8 +1,11 @@
 //! A text, compared with a CRS.
-ghost use Rattle.std.specs.Prelude.{◌≡◌, ◌↔◌, None, IsTrue};
+ghost use Rattle.std.specs.Prelude.{◌≡◌, ◌↔◌, [], None, IsTrue};
+ghost use Rattle.crs_same.specs.FirstInCrs.{FirstInCrs};
+ghost use Rattle.crs_same.specs.SameCrs.{SameCrs};
 ghost use Rattle.crs_c.specs.Compared.{IsFoundBehind};
+ghost use Rattle.crs_c.specs.FirstPart.{words_of};
 
-use crs_same::{Path, first_part};
+use crs_same::{Path, first_part, laws};
 use crs_text::Fault;
 use crs_value::{Crs, Level, read};
 use std::alloc::Global;
@@ -17,9 +20,19 @@ pub(crate) fn compared_with<'t>(
     ensures { IsFoundBehind level second.now first.now result }
 {
     match read(alloc, second) {
-        Ok(crs) => Ok(first_part(first, &crs, level)),
+        Ok(crs) => Ok(part_of(first, &crs, level)),
         Err(fault) => Err(fault),
     }
+}
+
+// The first part that differs: no words exactly where nothing does.
+fn part_of<'t>(first: &Crs<'t>, second: &Crs<'t>, level: Level) -> Option<Path>
+    ensures first { FirstInCrs level first.now second.now result }
+    ensures same { (result ≡ None) ↔ SameCrs level first.now second.now }
+    ensures words { (words_of result ≡ []) ↔ SameCrs level first.now second.now }
+{
+    laws::paths_have_words();
+    first_part(first, second, level)
 }
 
 // Whether nothing differs.

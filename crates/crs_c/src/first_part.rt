@@ -10,8 +10,8 @@ use crs_same::Path;
 use crs_value::{Crs, Level, read};
 use std::alloc::Global;
 
-/// The first part in which the CRSs of two texts differ at a level: the words of its path, with `/` between them, or no
-/// words where they are the same.
+/// The first part in which the CRSs of two texts differ at a level: the words of its path, with `/` between them; no
+/// words exactly where they are the same.
 ///
 /// 0: each spells a CRS, and the path is at the front of `out`; `length` is its number of bytes. 1: the first spells
 /// none, and `refused` says why. 2: the first spells a CRS and the second none, and `refused` says why. 3: memory was
