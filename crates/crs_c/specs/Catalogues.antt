@@ -13,7 +13,7 @@ use Rattle.crs_c.specs.declared.refused.Refused.{Refused}
 use Rattle.crs_c.specs.declared.standing.Numbered.{Numbered}
 use Rattle.crs_c.specs.declared.standing.Piece.{Piece}
 use Rattle.crs_c.specs.declared.standing.Standing.{Standing}
-use Rattle.crs_c.specs.Codes.{level_of}
+use Rattle.crs_c.specs.Codes.{level_numbered}
 use Rattle.crs_c.specs.Refusals.{shown}
 
 -- the catalogue of no lines at a level
@@ -22,10 +22,10 @@ empty_at level = record { level = level; groups = []; refused = [] }
 
 -- the catalogue of no lines, at the level of this number with code 0; at full with code 4 where it
 -- is no level's
-unfoldable pub IsNew : ℕ → CatalogueParts → ℕ → Type 0
-IsNew number made code =
+unfoldable pub IsMadeEmpty : ℕ → CatalogueParts → ℕ → Type 0
+IsMadeEmpty number made code =
     IsCatalogueOf [] made
-    × MatchOption (level_of number) ((made ≡ empty_at level.Full) × (code ≡ 4))
+    × MatchOption (level_numbered number) ((made ≡ empty_at level.Full) × (code ≡ 4))
     (λ l. (made ≡ empty_at l) × (code ≡ 0))
 
 -- no refusal
@@ -60,14 +60,15 @@ line_of_some None index = None
 line_of_some (Some lines) index = slice_get lines index
 
 -- a number with code 0, or none with code 6
-abbrev pub numbered : Option ℕ → Numbered
-numbered None = record { number = 0; code = 6 }
-numbered (Some n) = record { number = n; code = 0 }
+abbrev pub number_or_none : Option ℕ → Numbered
+number_or_none None = record { number = 0; code = 6 }
+number_or_none (Some n) = record { number = n; code = 0 }
 
 -- the number of a group's line
 abbrev pub line_at : CatalogueParts → ℕ → ℕ → Numbered
 line_at catalogue group index =
-    numbered (line_of_some (option_map (λ parts. parts.lines) (nth group catalogue.groups)) index)
+    number_or_none
+    (line_of_some (option_map (λ parts. parts.lines) (nth group catalogue.groups)) index)
 
 -- the bytes of a text from an index on, 240 at most
 abbrev pub piece_of : List ℕ → ℕ → List ℕ

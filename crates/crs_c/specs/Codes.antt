@@ -14,5 +14,6 @@ kind_number kind.Vertical = 4
 kind_number kind.Compound = 5
 
 -- the level of this number
-abbrev pub level_of : ℕ → Option Level
-level_of n = if n == 0 then Some level.Full else (if n == 1 then Some level.Definition else None)
+abbrev pub level_numbered : ℕ → Option Level
+level_numbered n =
+    if n == 0 then Some level.Full else (if n == 1 then Some level.Definition else None)

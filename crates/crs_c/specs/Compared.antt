@@ -1,20 +1,17 @@
 -- What is found of a text, compared with a CRS.
-use Rattle.std.specs.Prelude.{◌≡◌, ◌↔◌, List, [], ℕ, Option, None, Result, MatchResult}
+use Rattle.std.specs.Prelude.{List, ℕ, Option, Result, MatchResult}
 use Rattle.crs_text.specs.declared.fault.Fault.{Fault}
 use Rattle.crs_value.specs.declared.values.crs.Crs.{Crs}
 use Rattle.crs_value.specs.declared.values.level.Level.{Level}
 use Rattle.crs_value.specs.SpellsText.{Spells, IsFaultOfText}
 use Rattle.crs_same.specs.declared.step.Step.{Step}
-use Rattle.crs_same.specs.FirstInCrs.{FirstInCrs}
-use Rattle.crs_same.specs.SameCrs.{SameCrs}
-use Rattle.crs_c.specs.FirstPart.{words_of}
+use Rattle.crs_c.specs.FirstPart.{DiffersFirst}
 
 -- the text spells a CRS which differs from this one there first, by no words exactly where the CRSs
 -- are the same
 abbrev pub DiffersAt : Level → Crs → List ℕ → Option (List Step) → Type 0
 DiffersAt level a second path =
-    (b : Crs) × Spells second b × FirstInCrs level a b path × ((path ≡ None) ↔ SameCrs level a b)
-    × ((words_of path ≡ []) ↔ SameCrs level a b)
+    (b : Crs) × Spells second b × DiffersFirst level a b path
 
 -- where it differs, or its fault
 abbrev pub IsFoundBehind : Level → List ℕ → Crs → Result (Option (List Step)) Fault → Type 0

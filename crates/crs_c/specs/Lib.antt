@@ -1,3 +1,4 @@
+pub mod Answers
 pub mod Buffers
 pub mod Canon
 pub mod Catalogues
@@ -6,6 +7,7 @@ pub mod Codes
 pub mod Compared
 pub mod FirstPart
 pub mod Names
+pub mod Pairs
 pub mod Places
 pub mod Refusals
 pub mod Same

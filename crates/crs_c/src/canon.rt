@@ -2,7 +2,7 @@
 ghost use Rattle.crs_c.specs.Canon.{IsCanonAnswer, IsCanonAt};
 
 use crate::buffer::give;
-use crate::codes::{NO_LEVEL, REFUSED, level_of};
+use crate::codes::{NO_LEVEL, REFUSED, level_numbered};
 use crate::refused::{Refused, tell};
 use crs_canon::canon;
 use crs_value::Level;
@@ -23,11 +23,11 @@ pub extern "C" fn crsdesk_canon(
     refused: &mut Refused,
 ) -> u32
     ensures { IsCanonAnswer level text.now
-        (record { text = record { items = out.old; told = length.old }; refused = refused.old })
-        (record { text = record { items = out.new; told = length.new }; refused = refused.new })
+        (record { answer = record { items = out.old; told = length.old }; refused = refused.old })
+        (record { answer = record { items = out.new; told = length.new }; refused = refused.new })
         result }
 {
-    match level_of(level) {
+    match level_numbered(level) {
         Some(level) => canon_at(alloc, text, level, out, length, refused),
         None => NO_LEVEL,
     }
@@ -42,10 +42,10 @@ fn canon_at(
     length: &mut usize,
     refused: &mut Refused,
 ) -> u32
-    ensures { IsCanonAt text.now
-        (record { text = record { items = out.old; told = length.old }; refused = refused.old })
-        (record { text = record { items = out.new; told = length.new }; refused = refused.new })
-        result level }
+    ensures { IsCanonAt level text.now
+        (record { answer = record { items = out.old; told = length.old }; refused = refused.old })
+        (record { answer = record { items = out.new; told = length.new }; refused = refused.new })
+        result }
 {
     match canon(alloc, text, level) {
         Ok(canonical) => give(canonical.bytes(), out, length),

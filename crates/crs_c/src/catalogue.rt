@@ -2,7 +2,7 @@
 ghost use Rattle.std.specs.Prelude.{◌≡◌, length};
 ghost use Rattle.std.specs.Borrow.{sem};
 ghost use Rattle.crs_group.specs.Catalogue.{CatalogueParts};
-ghost use Rattle.crs_c.specs.Catalogues.{IsAdded, IsNew, IsPieceAt, line_at};
+ghost use Rattle.crs_c.specs.Catalogues.{IsAdded, IsMadeEmpty, IsPieceAt, line_at};
 ghost use Rattle.crs_c.specs.Places.{catalogue_at, has_room};
 
 use crate::holding::{added, counted, cut, let_go, looked_up, made};
@@ -26,7 +26,7 @@ const _: () = prove!(size_of::<Catalogue>() <= size_of::<Room>());
 pub unsafe extern "C" fn crsdesk_catalogue_new(alloc: Global, at: *mut Room, level: u32) -> u32
     requires* { sem 𝓛 (has_room at) }
     ensures* { ∃ₛ (λ (new : CatalogueParts).
-        sem 𝓛 (catalogue_at at new) ∗ ⌜ IsNew level new result ⌝) }
+        sem 𝓛 (catalogue_at at new) ∗ ⌜ IsMadeEmpty level new result ⌝) }
 {
     let place = at as *mut Catalogue;
     let (new, code) = made(alloc, level);

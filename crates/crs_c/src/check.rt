@@ -1,7 +1,7 @@
 //! Whether a text spells a CRS.
 ghost use Rattle.std.specs.Prelude.{MatchResult};
 ghost use Rattle.crs_value.specs.SpellsText.{IsFaultOfText};
-ghost use Rattle.crs_c.specs.Check.{IsCheckAnswer, IsKindOf};
+ghost use Rattle.crs_c.specs.Check.{IsCheckAnswer, SpellsKind};
 
 use crate::codes::{OK, REFUSED, kind_number};
 use crate::refused::{Refused, tell};
@@ -22,8 +22,8 @@ pub extern "C" fn crsdesk_check(
     refused: &mut Refused,
 ) -> u32
     ensures { IsCheckAnswer text.now
-        (record { kind = kind.old; refused = refused.old })
-        (record { kind = kind.new; refused = refused.new })
+        (record { answer = kind.old; refused = refused.old })
+        (record { answer = kind.new; refused = refused.new })
         result }
 {
     match kind_of_text(alloc, text) {
@@ -37,7 +37,7 @@ pub extern "C" fn crsdesk_check(
 
 // The kind of the CRS that a text spells.
 fn kind_of_text(alloc: Global, text: &[u8]) -> Result<Kind, Fault>
-    ensures { MatchResult result (IsKindOf text.now) (IsFaultOfText text.now) }
+    ensures { MatchResult result (SpellsKind text.now) (IsFaultOfText text.now) }
 {
     match read_items(alloc, text) {
         Ok(items) => match kind_of(&items) {

@@ -1,6 +1,6 @@
 //! Codes, kinds and levels as C has them.
 ghost use Rattle.std.specs.Prelude.{◌≡◌};
-ghost use Rattle.crs_c.specs.Codes.{kind_number, level_of};
+ghost use Rattle.crs_c.specs.Codes.{kind_number, level_numbered};
 
 use crs_value::{Kind, Level};
 
@@ -31,8 +31,8 @@ pub(crate) fn kind_number(kind: Kind) -> u32
 }
 
 // The level of this number.
-pub(crate) fn level_of(number: u32) -> Option<Level>
-    ensures { result ≡ level_of number }
+pub(crate) fn level_numbered(number: u32) -> Option<Level>
+    ensures { result ≡ level_numbered number }
 {
     match number {
         0 => Some(Level::Full),

@@ -1,9 +1,10 @@
 //! The first part in which two texts differ.
 ghost use Rattle.std.specs.Prelude.{Some};
-ghost use Rattle.crs_c.specs.FirstPart.{IsPartAnswer, IsPartAt, IsPathGiven, IsSecondPartAt};
+ghost use Rattle.crs_c.specs.FirstPart.{GivesPart, IsPartAnswer, IsPathGiven};
+ghost use Rattle.crs_c.specs.Pairs.{IsPairAnswer, IsSecondAnswer};
 
 use crate::buffer::give;
-use crate::codes::{NO_LEVEL, NO_MEMORY, REFUSED, SECOND_REFUSED, level_of};
+use crate::codes::{NO_LEVEL, NO_MEMORY, REFUSED, SECOND_REFUSED, level_numbered};
 use crate::compared::compared_with;
 use crate::refused::{Refused, tell};
 use crs_same::Path;
@@ -28,17 +29,17 @@ pub extern "C" fn crsdesk_first_part(
     refused: &mut Refused,
 ) -> u32
     ensures { IsPartAnswer level first.now second.now
-        (record { path = record { items = out.old; told = length.old }; refused = refused.old })
-        (record { path = record { items = out.new; told = length.new }; refused = refused.new })
+        (record { answer = record { items = out.old; told = length.old }; refused = refused.old })
+        (record { answer = record { items = out.new; told = length.new }; refused = refused.new })
         result }
 {
-    match level_of(level) {
+    match level_numbered(level) {
         Some(level) => part_at(alloc, first, second, level, out, length, refused),
         None => NO_LEVEL,
     }
 }
 
-#[tactic(auto, unfolding(crate::specs::FirstPart::IsPartAt))]
+#[tactic(auto, unfolding(crate::specs::Pairs::IsPairAnswer))]
 fn part_at<'t>(
     alloc: Global,
     first: &'t [u8],
@@ -48,10 +49,10 @@ fn part_at<'t>(
     length: &mut usize,
     refused: &mut Refused,
 ) -> u32
-    ensures { IsPartAt first.now second.now
-        (record { path = record { items = out.old; told = length.old }; refused = refused.old })
-        (record { path = record { items = out.new; told = length.new }; refused = refused.new })
-        result level }
+    ensures { IsPairAnswer (GivesPart level) first.now second.now
+        (record { answer = record { items = out.old; told = length.old }; refused = refused.old })
+        (record { answer = record { items = out.new; told = length.new }; refused = refused.new })
+        result }
 {
     match read(alloc, first) {
         Ok(crs) => second_part(alloc, &crs, second, level, out, length, refused),
@@ -60,7 +61,7 @@ fn part_at<'t>(
 }
 
 // Behind a first text that spells a CRS.
-#[tactic(auto, unfolding(crate::specs::FirstPart::IsSecondPartAt, crate::specs::FirstPart::IsPathGiven))]
+#[tactic(auto, unfolding(crate::specs::Pairs::IsSecondAnswer, crate::specs::FirstPart::IsPathGiven))]
 fn second_part<'t>(
     alloc: Global,
     first: &Crs<'t>,
@@ -70,10 +71,10 @@ fn second_part<'t>(
     length: &mut usize,
     refused: &mut Refused,
 ) -> u32
-    ensures { IsSecondPartAt first.now second.now
-        (record { path = record { items = out.old; told = length.old }; refused = refused.old })
-        (record { path = record { items = out.new; told = length.new }; refused = refused.new })
-        result level }
+    ensures { IsSecondAnswer (GivesPart level first.now) second.now
+        (record { answer = record { items = out.old; told = length.old }; refused = refused.old })
+        (record { answer = record { items = out.new; told = length.new }; refused = refused.new })
+        result }
 {
     match compared_with(alloc, first, second, level) {
         Ok(found) => give_path(alloc, found, out, length),

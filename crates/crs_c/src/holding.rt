@@ -1,18 +1,18 @@
 //! What each call does to a catalogue that it takes by value, and hands back.
 ghost use Rattle.std.specs.Prelude.{◌≡◌, ◌≤◌, length, take, drop};
-ghost use Rattle.crs_c.specs.Catalogues.{IsAdded, IsNew, IsPiece, IsPieceAt, line_at};
+ghost use Rattle.crs_c.specs.Catalogues.{IsAdded, IsMadeEmpty, IsPiece, IsPieceAt, line_at};
 
-use crate::codes::{NO_LEVEL, NO_MEMORY, NO_NUMBER, OK, level_of};
+use crate::codes::{NO_LEVEL, NO_MEMORY, NO_NUMBER, OK, level_numbered};
 use crate::standing::{Numbered, Piece, Standing, no_refusal, standing_of};
 use crs_group::Catalogue;
 use crs_value::Level;
 use std::alloc::Global;
 
-#[tactic(auto, unfolding(crate::specs::Catalogues::IsNew))]
+#[tactic(auto, unfolding(crate::specs::Catalogues::IsMadeEmpty))]
 pub(crate) fn made(alloc: Global, level: u32) -> (Catalogue, u32)
-    ensures { IsNew level result.0 result.1 }
+    ensures { IsMadeEmpty level result.0 result.1 }
 {
-    match level_of(level) {
+    match level_numbered(level) {
         Some(level) => (Catalogue::new(alloc, level), OK),
         None => (Catalogue::new(alloc, Level::Full), NO_LEVEL),
     }

@@ -1,7 +1,8 @@
 //! Whether two texts spell the same CRS, and where they differ.
-ghost use Rattle.crs_c.specs.Same.{IsSameAnswer, IsSameAt, IsSecondAt};
+ghost use Rattle.crs_c.specs.Pairs.{IsPairAnswer, IsSecondAnswer};
+ghost use Rattle.crs_c.specs.Same.{IsSameAnswer, TellsSame};
 
-use crate::codes::{NO_LEVEL, OK, REFUSED, SECOND_REFUSED, level_of};
+use crate::codes::{NO_LEVEL, OK, REFUSED, SECOND_REFUSED, level_numbered};
 use crate::compared::{compared_with, is_nothing};
 use crate::refused::{Refused, tell};
 use crs_value::{Crs, Level, read};
@@ -22,17 +23,17 @@ pub extern "C" fn crsdesk_same(
     refused: &mut Refused,
 ) -> u32
     ensures { IsSameAnswer level first.now second.now
-        (record { same = is_same.old; refused = refused.old })
-        (record { same = is_same.new; refused = refused.new })
+        (record { answer = is_same.old; refused = refused.old })
+        (record { answer = is_same.new; refused = refused.new })
         result }
 {
-    match level_of(level) {
+    match level_numbered(level) {
         Some(level) => same_at(alloc, first, second, level, is_same, refused),
         None => NO_LEVEL,
     }
 }
 
-#[tactic(auto, unfolding(crate::specs::Same::IsSameAt))]
+#[tactic(auto, unfolding(crate::specs::Pairs::IsPairAnswer))]
 fn same_at<'t>(
     alloc: Global,
     first: &'t [u8],
@@ -41,10 +42,10 @@ fn same_at<'t>(
     is_same: &mut u32,
     refused: &mut Refused,
 ) -> u32
-    ensures { IsSameAt first.now second.now
-        (record { same = is_same.old; refused = refused.old })
-        (record { same = is_same.new; refused = refused.new })
-        result level }
+    ensures { IsPairAnswer (TellsSame level) first.now second.now
+        (record { answer = is_same.old; refused = refused.old })
+        (record { answer = is_same.new; refused = refused.new })
+        result }
 {
     match read(alloc, first) {
         Ok(crs) => second_same(alloc, &crs, second, level, is_same, refused),
@@ -53,7 +54,7 @@ fn same_at<'t>(
 }
 
 // Behind a first text that spells a CRS.
-#[tactic(auto, unfolding(crate::specs::Same::IsSecondAt))]
+#[tactic(auto, unfolding(crate::specs::Pairs::IsSecondAnswer))]
 fn second_same<'t>(
     alloc: Global,
     first: &Crs<'t>,
@@ -62,10 +63,10 @@ fn second_same<'t>(
     is_same: &mut u32,
     refused: &mut Refused,
 ) -> u32
-    ensures { IsSecondAt first.now second.now
-        (record { same = is_same.old; refused = refused.old })
-        (record { same = is_same.new; refused = refused.new })
-        result level }
+    ensures { IsSecondAnswer (TellsSame level first.now) second.now
+        (record { answer = is_same.old; refused = refused.old })
+        (record { answer = is_same.new; refused = refused.new })
+        result }
 {
     match compared_with(alloc, first, second, level) {
         Ok(found) => {

@@ -3,7 +3,7 @@ use prog.Wp.{WpFn}
 use Rattle.std.specs.contracts.alloc.Global as global
 use Rattle.std.proofs.alloc.Global.TheLaws as global_laws
 use Rattle.crs_c.specs.Places.{catalogue_at, has_room}
-use Rattle.crs_c.specs.Catalogues.{IsNew}
+use Rattle.crs_c.specs.Catalogues.{IsMadeEmpty}
 use Rattle.crs_group.specs.Catalogue.{CatalogueParts}
 use Rattle.crs_group.specs.contracts.catalogue.Catalogue as catalogue
 use Rattle.crs_group.proofs.catalogue.Catalogue.TheLaws.{the_row_laws}
@@ -46,7 +46,7 @@ crsdesk_catalogue_new_spec 𝓤 𝓛 𝓜 𝓡 wired =
     calls_at ! (framed 𝓤 𝓛.H 𝓜 (tables 𝓤 𝓛.H 𝓜 𝓡 𝓡.env)) G (met 𝓤 𝓛 𝓜 𝓡 (code.calls-crs_c::holding::made 𝓡.env wired)) z
     (and_then ! (get ! refl) (and_then ! (get ! refl) (no_more !))) (λ u.
     use1 𝓛 (later (some (λ (r : CatalogueParts × ℕ). (‵ ftrue ⊛ ‵ ((Tuple (R ∷ u32 ∷ [])).own_val r (u ∷ []))) ⊛
-    some (λ (ws : Lasts g.ended κs (a, (k, tt))). ‵ (lasts g.ended κs (a, (k, tt)) ws) ⊛ raw (fact 𝓤 (IsNew k r.0 r.1)))))) (id⊢ 𝓤 _) $
+    some (λ (ws : Lasts g.ended κs (a, (k, tt))). ‵ (lasts g.ended κs (a, (k, tt)) ws) ⊛ raw (fact 𝓤 (IsMadeEmpty k r.0 r.1)))))) (id⊢ 𝓤 _) $
     await ! tt $ pick ! (λ r. split ! $ split ! $ drop ! $ move ! (1 ∷ []) $ pick ! (λ ws. split ! $ drop ! $
     heard ! _ (λ told.
     fpick ! (λ vss. fsplit ! $ feq_l ! (λ eu. fsplit ! $
@@ -68,7 +68,7 @@ crsdesk_catalogue_new_spec 𝓤 𝓛 𝓜 𝓡 wired =
     move ! (2 ∷ 1 ∷ []) $ use2 𝓛 (‵ (part_at R full_share r.0 b o)) (part_in 𝓛 R refl full_share r.0 b o g₀.0) $
     suffices ! _ (ends_at 𝓛 f.ended stayed c (y (block_ptr b o)) (vint w32 r.1) r.1 (tt, (tt, (tt, tt))) (tt, (tt, (tt, tt)))) $
     move ! (1 ∷ []) $ nothing ! $ nothing ! $ join ! $ nothing ! $ join ! $ nothing ! $ join ! $ nothing ! $ group ! 3 $ frame ! $
-    show ! (λ (new : CatalogueParts). sep 𝓤 (sem 𝓛 (lies_at R full_share (block_ptr b o) new)) (fact 𝓤 (IsNew k new r.1))) r.0 $ says ! told $ done !)))))))))) in
+    show ! (λ (new : CatalogueParts). sep 𝓤 (sem 𝓛 (lies_at R full_share (block_ptr b o) new)) (fact 𝓤 (IsMadeEmpty k new r.1))) r.0 $ says ! told $ done !)))))))))) in
     subst (λ (us : List Val). Goes us x.0.4.1.0 x.0.4.1.1.0) (sym h.1)
     (subst (λ (vs : List Val). Goes (h.0 ∷ []) vs x.0.4.1.1.0) (sym (rawptr_Tells x.0.3.1.0 x.0.4.1.0 are.1.0))
     (subst (λ (ws : List Val). Goes (h.0 ∷ []) (rawptr_vals x.0.3.1.0) ws) (sym (uint_Tells w32 k x.0.4.1.1.0 are.1.1.0)) walk)))
