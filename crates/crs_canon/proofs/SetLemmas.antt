@@ -5,7 +5,7 @@ use Rattle.std.specs.Cmp.Lexicographic.{slice_cmp}
 use Rattle.std.specs.Ordering.{nat_cmp, match_ordering}
 use Rattle.std.specs.declared.alloc.Global.{Global}
 use Rattle.std.specs.declared.cmp.Ordering.{Ordering}
-use Rattle.std.specs.declared.cmp.Ordering.TheVariants.{Less, Equal, Greater}
+use Rattle.std.specs.declared.cmp.Ordering.TheVariants.{Less}
 use Rattle.crs_normal.specs.Ordered.{put}
 use Rattle.crs_canon.specs.Members.{spellings}
 
@@ -15,8 +15,7 @@ compared a b = slice_cmp nat_cmp a.items b.items
 spellings-match : (o : Ordering) (a b c : List (Vec ℕ Global)) →
     spellings (match_ordering o a b c) ≡ match_ordering o (spellings a) (spellings b) (spellings c)
 spellings-match Less a b c = refl
-spellings-match Equal a b c = refl
-spellings-match Greater a b c = refl
+spellings-match other a b c = refl
 
 pub spellings-insert : (keys : List (Vec ℕ Global)) (key : Vec ℕ Global) →
     spellings (insert_key compared keys key) ≡ put (λ bytes. bytes) key.items (spellings keys)

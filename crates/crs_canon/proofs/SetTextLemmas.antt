@@ -1,12 +1,12 @@
 -- Spellings of values that are put in order and appended are the text of their set.
-use Rattle.std.proofs.Common.{◌≡◌, ◌↔◌, ◌⊎◌, ◌++◌, ◌∙◌, ℕ, List, [], ◌∷◌, Vec, inl, inr, refl, sym, ap, subst}
+use Rattle.std.proofs.Common.{◌≡◌, ◌↔◌, ◌++◌, ◌∙◌, ℕ, List, [], ◌∷◌, Vec, inl, inr, refl, sym, ap, subst}
 use Rattle.std.specs.BTreeSet.{insert_key}
 use Rattle.std.specs.declared.alloc.Global.{Global}
 use Rattle.crs_normal.specs.Ascending.{Ascends, IsIn}
 use Rattle.crs_normal.specs.Ordered.{in_order, put_all}
 use Rattle.crs_canon.specs.Canonical.{AppendsSpelling}
 use Rattle.crs_canon.specs.Members.{AppendsAll, AreSpelled, ArePut, spellings}
-use Rattle.crs_canon.specs.SetText.{IsSetText, SpellsOneOf, commas, joined}
+use Rattle.crs_canon.specs.SetText.{IsSetText, SpellsOneOf, joined}
 use Rattle.crs_canon.proofs.SetLemmas.{compared, gathered}
 
 module _ {V : Type 0} (IsSpelling : V → List ℕ → Type 0) where

@@ -8,7 +8,7 @@ use Rattle.crs_normal.specs.SpelledItems.{each, opt, text_node}
 use Rattle.std.specs.Cmp.Lexicographic.{slice_cmp}
 use Rattle.std.specs.Ordering.{nat_cmp, match_ordering}
 use Rattle.std.specs.declared.cmp.Ordering.{Ordering}
-use Rattle.std.specs.declared.cmp.Ordering.TheVariants.{Less, Equal, Greater}
+use Rattle.std.specs.declared.cmp.Ordering.TheVariants.{Less}
 use Rattle.crs_canon.specs.Members.{set_text}
 use Rattle.crs_canon.specs.Openings.{text_behind}
 use Rattle.crs_canon.specs.SetText.{commas}
@@ -46,8 +46,7 @@ each-commas spell (value ∷ values) =
 map-match : {A : Type 0} (f : A → List ℕ) (o : Ordering) (a b c : List A) →
     map f (match_ordering o a b c) ≡ match_ordering o (map f a) (map f b) (map f c)
 map-match f Less a b c = refl
-map-match f Equal a b c = refl
-map-match f Greater a b c = refl
+map-match f other a b c = refl
 
 map-put : {A : Type 0} (f : A → List ℕ) (x : A) (ys : List A) → map f (put f x ys) ≡ put (λ b. b) (f x) (map f ys)
 map-put f x [] = refl

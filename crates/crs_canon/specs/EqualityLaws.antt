@@ -1,9 +1,9 @@
 -- A bridge: the test of equality tells equal canonical texts from others, and equal ones give a
 -- hash the same.
-use Rattle.std.specs.Prelude.{◌≡◌, ◌↔◌, true, nat_eq}
+use Rattle.std.specs.Prelude.{◌≡◌, ◌↔◌, true}
 use Rattle.std.proofs.Common.{ap, rules, ◌∙◌}
 use Rattle.std.specs.Cmp.{IsEquivalence, and_equiv, on_equiv, nat_eq_equiv, first_so, second_so}
-use Rattle.std.specs.Cmp.Lexicographic.{bytes_decides, nat_list_eq_equiv, pointwise}
+use Rattle.std.specs.Cmp.Lexicographic.{bytes_decides, nat_list_eq_equiv}
 use denote.Enum.Bare.{sameb, same_true}
 use denote.Enum.Declared.{tag_of}
 use Rattle.crs_value.specs.contracts.values.level.Level.{the_type}

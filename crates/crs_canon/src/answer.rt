@@ -1,14 +1,13 @@
 //! The canonical text of a CRS, and of a text that spells one.
 ghost use Rattle.std.specs.Prelude.{◌≡◌, IfOk, MatchResult};
-ghost use Rattle.crs_text.specs.Written.{item_text};
 ghost use Rattle.crs_value.specs.SpellsText.{IsFaultOfText, Spells};
-ghost use Rattle.crs_normal.specs.SpelledCrs.{item_crs, norm_crs};
 ghost use Rattle.crs_canon.specs.Canonical.{IsCanonicalOf, IsCanonicalText};
 
 use crate::canon_text::Canon;
+use crate::canonical::crss_are_canonical;
 use crate::spelling::crs::write_crs;
-use crs_normal::laws::{made, texts};
 use crs_text::Fault;
+use crs_value::laws::crs_is_sound;
 use crs_value::{Crs, Level, read};
 use std::alloc::{AllocError, Global};
 
@@ -59,10 +58,8 @@ fn written(alloc: Global, crs: &Crs<'_>, level: Level, room: usize) -> Result<Ca
     ensures text { IfOk result (λ canon. IsCanonicalText level crs.now canon.bytes) }
     ensures level { IfOk result (λ canon. canon.level ≡ level) }
 {
-    crs_value::laws::crs_is_sound(crs);
-    made::made_text_is_normal();
-    texts::written_form_is_accepted();
-    texts::one_form_is_the_same();
+    crs_is_sound(crs);
+    crss_are_canonical();
     let mut bytes = Vec::with_capacity(alloc, room)?;
     write_crs(&mut bytes, crs, level)?;
     // Whoever keeps many holds no room that none needs.

@@ -13,6 +13,7 @@ mod kinds;
 mod units;
 mod usages;
 
+pub(crate) use crs::crss_are_canonical;
 use crs_value::Level;
 use std::alloc::{AllocError, Global};
 

@@ -11,14 +11,10 @@ ghost use Rattle.crs_canon.specs.Equality.{canon_writes, canons_equal};
 ghost use Rattle.crs_canon.specs.MainTheorem.{MainTheorem, SpellSame};
 ghost use Rattle.crs_canon.specs.SetText.{HaveOneTextWhereSame};
 
-use crate::canonical::Canonical;
-use crs_normal::laws::made::made_text_is_normal;
+use crate::canonical::{Canonical, crss_are_canonical};
 use crs_normal::laws::parts::closed_texts;
 use crs_normal::laws::sets::texts_are_in_order;
-use crs_normal::laws::texts::{
-    normal_text_is_normal_at_full, normal_texts_are_equal_where_same, one_form_is_the_same,
-    spelled_crs_is_sound, written_form_is_accepted,
-};
+use crs_normal::laws::texts::{normal_text_is_normal_at_full, spelled_crs_is_sound};
 use crs_same::laws::{same_crs_is_equivalence, same_crs_is_same_by_definition};
 use crs_value::laws::one_answer;
 
@@ -29,12 +25,7 @@ pub fn canonical_texts_are_equal_where_same()
     ensures equal { (level : Level) (a b : Crs) (first second : List ℕ) → IsCrs a → IsCrs b →
         IsCanonicalText level a first → IsCanonicalText level b second → (first ≡ second) ↔ SameCrs level a b }
 {
-    made_text_is_normal();
-    written_form_is_accepted();
-    one_form_is_the_same();
-    normal_texts_are_equal_where_same();
-    same_crs_is_equivalence();
-    spelled_crs_is_sound();
+    crss_are_canonical();
 }
 
 /// The main theorem: two accepted texts have equal canonical bytes exactly when the CRSs that they spell are the same;

@@ -24,6 +24,7 @@ use Rattle.crs_normal.proofs.PartLemmas.{IsItsFormSound}
 use Rattle.crs_normal.proofs.ReadDatumLemmas.{ellipsoid-in, geodetic-back, vertical-back}
 use Rattle.crs_normal.proofs.ReadFrameLemmas.{datum-read, ensemble-read}
 use Rattle.crs_normal.proofs.ReadNameLemmas
+use Rattle.crs_normal.proofs.WrittenFormLemmas.{IsOneText, one-text, written-form}
 
 -- ---- with an ellipsoid or without
 
@@ -173,7 +174,13 @@ keywords-apart (Some z) x y e = let k : ◌≡◌ {A = ℕ} 68 69 = ap first-byt
 texts-apart : (level : Level) (d : DatumParts) (e : EnsembleParts) → datum_text level d ≡ ensemble_text level e → ⊥
 texts-apart level d e same = keywords-apart (option_map (norm_ellipsoid level) d.ellipsoid) _ _ same
 
-module _ (level : Level) (datums : IsWrittenForm IsDatum (SameDatum level) (IsSpelledDatum level) (datum_text level)) (ensembles : IsWrittenForm IsEnsemble (SameEnsemble level) (IsSpelledEnsemble level) (ensemble_text level)) where
+module _ (level : Level) (datum_texts : IsWrittenForm IsDatum (SameDatum level) (IsSpelledDatum level) (datum_text level)) (ensemble_texts : IsWrittenForm IsEnsemble (SameEnsemble level) (IsSpelledEnsemble level) (ensemble_text level)) where
+  datums : IsOneText IsDatum (SameDatum level) (IsSpelledDatum level) (datum_text level)
+  datums = one-text IsDatum (SameDatum level) (IsSpelledDatum level) (datum_text level) datum_texts
+
+  ensembles : IsOneText IsEnsemble (SameEnsemble level) (IsSpelledEnsemble level) (ensemble_text level)
+  ensembles = one-text IsEnsemble (SameEnsemble level) (IsSpelledEnsemble level) (ensemble_text level) ensemble_texts
+
   frames-equal : (a b : Frame) → IsFrame a → IsFrame b → (frame_text level a ≡ frame_text level b) ↔ SameFrame level a b
   frames-equal (frame.Datum a) (frame.Datum b) p q = datums.equal_bytes a b p q
   frames-equal (frame.Datum a) (frame.Ensemble b) p q = (λ e. texts-apart level a b e, λ none. absurd none)
@@ -181,9 +188,9 @@ module _ (level : Level) (datums : IsWrittenForm IsDatum (SameDatum level) (IsSp
   frames-equal (frame.Ensemble a) (frame.Ensemble b) p q = ensembles.equal_bytes a b p q
 
   pub frames-canonical : IsWrittenForm IsFrame (SameFrame level) (IsSpelledFrame level) (frame_text level)
-  frames-canonical = record {
+  frames-canonical = written-form IsFrame (SameFrame level) (IsSpelledFrame level) (frame_text level) (record {
     spelled = elim [ frame.Datum d ↦ λ s. datums.spelled d s | frame.Ensemble e ↦ λ s. ensembles.spelled e s ];
     one = elim [ frame.Datum d ↦ λ bytes s h. datums.one d bytes s h | frame.Ensemble e ↦ λ bytes s h. ensembles.one e bytes s h ];
     equal_bytes = frames-equal;
     closed = elim [ frame.Datum d ↦ λ s. datums.closed d s | frame.Ensemble e ↦ λ s. ensembles.closed e s ];
-  }
+  })

@@ -22,6 +22,7 @@ use Rattle.crs_normal.specs.OneForm.{IsItsFormUnbroken}
 use Rattle.crs_normal.specs.PartSpellings.{IsHorizontalPart, IsSpelledGeodetic, IsSpelledHorizontal, IsSpelledProjected}
 use Rattle.crs_normal.specs.PartTexts.{geodetic_text, horizontal_text, projected_text}
 use Rattle.crs_normal.specs.SpelledCrs.{item_crs, item_geodetic, norm_crs, norm_geodetic}
+use Rattle.crs_normal.proofs.WrittenFormLemmas.{IsOneText, one-text, written-form}
 
 pub is-geodetic : (t : SystemType) → IsGeodeticClass (geodetic_class t)
 is-geodetic types.Cartesian = tt
@@ -51,7 +52,13 @@ pub geodetic-told : (level : Level) → TextsDecide level →
 geodetic-told level decide forms a b p q e =
     (forms a b p q).1 (((decide (crs.Geodetic a) (crs.Geodetic b) p q).0 e).parts)
 
-module _ (level : Level) (decide : TextsDecide level) (geodetics : IsWrittenForm IsGeodetic (SameGeodetic level) (IsSpelledGeodetic level) (geodetic_text level)) (projecteds : IsWrittenForm IsProjected (SameProjected level) (IsSpelledProjected level) (projected_text level)) where
+module _ (level : Level) (decide : TextsDecide level) (geodetic_texts : IsWrittenForm IsGeodetic (SameGeodetic level) (IsSpelledGeodetic level) (geodetic_text level)) (projected_texts : IsWrittenForm IsProjected (SameProjected level) (IsSpelledProjected level) (projected_text level)) where
+  geodetics : IsOneText IsGeodetic (SameGeodetic level) (IsSpelledGeodetic level) (geodetic_text level)
+  geodetics = one-text IsGeodetic (SameGeodetic level) (IsSpelledGeodetic level) (geodetic_text level) geodetic_texts
+
+  projecteds : IsOneText IsProjected (SameProjected level) (IsSpelledProjected level) (projected_text level)
+  projecteds = one-text IsProjected (SameProjected level) (IsSpelledProjected level) (projected_text level) projected_texts
+
   horizontals-equal : (a b : Horizontal) → IsHorizontalPart a → IsHorizontalPart b →
       (horizontal_text level a ≡ horizontal_text level b) ↔ SameHorizontal level a b
   horizontals-equal (horizontal.Geodetic a) (horizontal.Geodetic b) p q = geodetics.equal_bytes a b p q
@@ -62,9 +69,9 @@ module _ (level : Level) (decide : TextsDecide level) (geodetics : IsWrittenForm
   horizontals-equal (horizontal.Projected a) (horizontal.Projected b) p q = projecteds.equal_bytes a b p q
 
   pub horizontals-canonical : IsWrittenForm IsHorizontalPart (SameHorizontal level) (IsSpelledHorizontal level) (horizontal_text level)
-  horizontals-canonical = record {
+  horizontals-canonical = written-form IsHorizontalPart (SameHorizontal level) (IsSpelledHorizontal level) (horizontal_text level) (record {
     spelled = elim [ horizontal.Geodetic g ↦ λ s. geodetics.spelled g s | horizontal.Projected p ↦ λ s. projecteds.spelled p s ];
     one = elim [ horizontal.Geodetic g ↦ λ bytes s h. geodetics.one g bytes s h | horizontal.Projected p ↦ λ bytes s h. projecteds.one p bytes s h ];
     equal_bytes = horizontals-equal;
     closed = elim [ horizontal.Geodetic g ↦ λ s. geodetics.closed g s | horizontal.Projected p ↦ λ s. projecteds.closed p s ];
-  }
+  })

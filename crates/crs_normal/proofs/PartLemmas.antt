@@ -23,6 +23,7 @@ use Rattle.crs_normal.proofs.FormLemmas.{flat-text}
 use Rattle.crs_normal.proofs.ItemLemmas.{IsWritable, one-by-text}
 use Rattle.crs_normal.proofs.MadeCrsLemmas.{placed-twice}
 use Rattle.crs_normal.proofs.MadePlaceLemmas.{text-at}
+use Rattle.crs_normal.proofs.WrittenFormLemmas.{written-form}
 
 -- items are formed where a text spells them
 abbrev pub SpelledFormed : Type 0
@@ -153,17 +154,18 @@ module _ {V : Type 0} (laws : TextLaws) (formed : SpelledFormed) (c : V → Clas
       ∙ ap (λ y. item_text (item y)) (sym ((known.decides x v s k).1 h.same))
 
   pub canonical-by : IsWrittenForm Is Same (λ x. IsSpelledBy (c x) (N x) Reads Same x) (λ x. item_text (item (form x)))
-  canonical-by = record {
-    spelled = form-spelled;
-    one = form-one;
-    equal_bytes = λ a b p q. (
-      λ e. (known.decides a b p q).0 (known.told a b p q e),
-      λ same. ap (λ y. item_text (item y)) ((known.decides a b p q).1 same),
-    );
-    closed = λ x s.
-        let m = known.made x s in
-        subst IsClosed (text-at 0 (item (form x))) (node-closed (at-start x) m.formed m.is_node);
-  }
+  canonical-by =
+      written-form Is Same (λ x. IsSpelledBy (c x) (N x) Reads Same x) (λ x. item_text (item (form x))) (record {
+        spelled = form-spelled;
+        one = form-one;
+        equal_bytes = λ a b p q. (
+          λ e. (known.decides a b p q).0 (known.told a b p q e),
+          λ same. ap (λ y. item_text (item y)) ((known.decides a b p q).1 same),
+        );
+        closed = λ x s.
+            let m = known.made x s in
+            subst IsClosed (text-at 0 (item (form x))) (node-closed (at-start x) m.formed m.is_node);
+      })
 
 pub canonical-form : {V : Type 0} → TextLaws → SpelledFormed → (level : Level) (c : V → Class) (Reads : Class → Item → V → Type 0) (Is : V → Type 0) (Same : V → V → Type 0) (form : V → V) (item : V → Item) →
     IsKnownBy c (λ x. IsNormalIn level (c x) (c x)) Reads Is Same form item →

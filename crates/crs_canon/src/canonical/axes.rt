@@ -1,7 +1,7 @@
 //! Axes, and the meridians that they go along, by themselves.
 use crate::canonical::{Canonical, append_argument};
 use crate::spelling::axis::{write_axis_meridian, write_own_axis};
-use crs_normal::laws::{parts, written};
+use crs_normal::laws::parts;
 use crs_same::parts::{same_axis, same_axis_meridian};
 use crs_value::{Axis, AxisMeridian, Level};
 use std::alloc::{AllocError, Global};
@@ -23,7 +23,7 @@ impl Canonical for Axis<'_> {
 
     fn write(&self, alloc: Global, level: Level, out: &mut Vec<u8>) -> Result<(), AllocError> {
         let _name = self.name;
-        written::axes_are_written();
+        parts::axes_are_canonical();
         let mut text = Vec::new(alloc);
         write_own_axis(&mut text, self, level)?;
         out.extend_from_slice(text.as_slice())
@@ -52,7 +52,7 @@ impl Canonical for AxisMeridian<'_> {
 
     fn write(&self, alloc: Global, level: Level, out: &mut Vec<u8>) -> Result<(), AllocError> {
         let _longitude = self.longitude;
-        written::frame_parts_are_written();
+        parts::frame_parts_are_canonical();
         let mut text = Vec::new(alloc);
         write_axis_meridian(&mut text, self, level)?;
         append_argument(out, text.as_slice())

@@ -2,7 +2,7 @@
 use crate::canonical::{Canonical, append_argument};
 use crate::spelling::conversion::{write_conversion, write_method, write_parameter};
 use crate::spelling::ident::write_named;
-use crs_normal::laws::{parts, written};
+use crs_normal::laws::parts;
 use crs_same::parts::{same_conversion, same_geoid_model, same_method, same_parameter};
 use crs_value::{Conversion, GeoidModel, Level, Method, Parameter};
 use std::alloc::{AllocError, Global};
@@ -24,7 +24,7 @@ impl Canonical for Method<'_> {
 
     fn write(&self, alloc: Global, level: Level, out: &mut Vec<u8>) -> Result<(), AllocError> {
         let _name = self.name;
-        written::conversions_are_written();
+        parts::conversions_are_canonical();
         let mut text = Vec::new(alloc);
         write_method(&mut text, self, level)?;
         append_argument(out, text.as_slice())
@@ -53,7 +53,7 @@ impl Canonical for Parameter<'_> {
 
     fn write(&self, alloc: Global, level: Level, out: &mut Vec<u8>) -> Result<(), AllocError> {
         let _name = self.name;
-        written::conversions_are_written();
+        parts::conversions_are_canonical();
         let mut text = Vec::new(alloc);
         write_parameter(&mut text, self, level)?;
         out.extend_from_slice(text.as_slice())
@@ -82,7 +82,7 @@ impl Canonical for Conversion<'_> {
 
     fn write(&self, alloc: Global, level: Level, out: &mut Vec<u8>) -> Result<(), AllocError> {
         let _name = self.name;
-        written::conversions_are_written();
+        parts::conversions_are_canonical();
         let mut text = Vec::new(alloc);
         write_conversion(&mut text, self, level)?;
         append_argument(out, text.as_slice())
@@ -111,7 +111,7 @@ impl Canonical for GeoidModel<'_> {
 
     fn write(&self, alloc: Global, level: Level, out: &mut Vec<u8>) -> Result<(), AllocError> {
         let _name = self.name;
-        written::conversions_are_written();
+        parts::conversions_are_canonical();
         let mut text = Vec::new(alloc);
         write_named(
             &mut text,

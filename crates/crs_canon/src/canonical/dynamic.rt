@@ -1,7 +1,7 @@
 //! Dynamic parts and deformation models by themselves.
 use crate::canonical::{Canonical, append_argument};
 use crate::spelling::dynamic::{write_deformation_model, write_dynamic};
-use crs_normal::laws::{parts, written};
+use crs_normal::laws::parts;
 use crs_same::parts::{same_deformation_model, same_dynamic};
 use crs_value::{DeformationModel, Dynamic, Level};
 use std::alloc::{AllocError, Global};
@@ -23,7 +23,7 @@ impl Canonical for Dynamic<'_> {
 
     fn write(&self, alloc: Global, level: Level, out: &mut Vec<u8>) -> Result<(), AllocError> {
         let _model = &self.model;
-        written::dynamic_parts_are_written();
+        parts::dynamic_parts_are_canonical();
         let mut text = Vec::new(alloc);
         write_dynamic(&mut text, self, level)?;
         append_argument(out, text.as_slice())
@@ -52,7 +52,7 @@ impl Canonical for DeformationModel<'_> {
 
     fn write(&self, alloc: Global, level: Level, out: &mut Vec<u8>) -> Result<(), AllocError> {
         let _name = self.name;
-        written::dynamic_parts_are_written();
+        parts::dynamic_parts_are_canonical();
         let mut text = Vec::new(alloc);
         write_deformation_model(&mut text, self, level)?;
         append_argument(out, text.as_slice())

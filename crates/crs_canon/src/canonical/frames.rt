@@ -4,7 +4,7 @@ use crate::spelling::ellipsoid::write_ellipsoid;
 use crate::spelling::frame::{write_ensemble, write_own_datum};
 use crate::spelling::ident::write_named;
 use crate::spelling::meridian::write_given;
-use crs_normal::laws::{parts, written};
+use crs_normal::laws::parts;
 use crs_same::parts::{
     same_datum, same_ellipsoid, same_ensemble, same_frame, same_member, same_meridian,
 };
@@ -28,7 +28,7 @@ impl Canonical for Ellipsoid<'_> {
 
     fn write(&self, alloc: Global, level: Level, out: &mut Vec<u8>) -> Result<(), AllocError> {
         let _name = self.name;
-        written::frame_parts_are_written();
+        parts::frame_parts_are_canonical();
         let mut text = Vec::new(alloc);
         write_ellipsoid(&mut text, self, level)?;
         append_argument(out, text.as_slice())
@@ -57,7 +57,7 @@ impl Canonical for Meridian<'_> {
 
     fn write(&self, alloc: Global, level: Level, out: &mut Vec<u8>) -> Result<(), AllocError> {
         let _name = self.name;
-        written::frame_parts_are_written();
+        parts::frame_parts_are_canonical();
         let mut text = Vec::new(alloc);
         write_given(&mut text, self, level)?;
         append_argument(out, text.as_slice())
@@ -86,7 +86,7 @@ impl Canonical for Member<'_> {
 
     fn write(&self, alloc: Global, level: Level, out: &mut Vec<u8>) -> Result<(), AllocError> {
         let _name = self.name;
-        written::frame_parts_are_written();
+        parts::frame_parts_are_canonical();
         let mut text = Vec::new(alloc);
         write_named(&mut text, b"MEMBER[\"", self.name, &self.identifiers, level)?;
         out.extend_from_slice(text.as_slice())
@@ -115,7 +115,7 @@ impl Canonical for Datum<'_> {
 
     fn write(&self, alloc: Global, level: Level, out: &mut Vec<u8>) -> Result<(), AllocError> {
         let _name = self.name;
-        written::datums_are_written();
+        parts::datums_are_canonical();
         let mut text = Vec::new(alloc);
         write_own_datum(&mut text, self, level)?;
         out.extend_from_slice(text.as_slice())
@@ -144,7 +144,7 @@ impl Canonical for Ensemble<'_> {
 
     fn write(&self, alloc: Global, level: Level, out: &mut Vec<u8>) -> Result<(), AllocError> {
         let _name = self.name;
-        written::datums_are_written();
+        parts::datums_are_canonical();
         let mut text = Vec::new(alloc);
         write_ensemble(&mut text, self, level)?;
         append_argument(out, text.as_slice())

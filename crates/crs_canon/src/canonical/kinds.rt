@@ -3,7 +3,7 @@ use crate::canonical::{Canonical, append_argument};
 use crate::spelling::crs::{
     write_base, write_compound, write_geodetic, write_projected, write_vertical,
 };
-use crs_normal::laws::{parts, written};
+use crs_normal::laws::parts;
 use crs_same::parts::{
     same_base, same_compound, same_geodetic, same_horizontal, same_projected, same_vertical,
 };
@@ -27,7 +27,7 @@ impl Canonical for Base<'_> {
 
     fn write(&self, alloc: Global, level: Level, out: &mut Vec<u8>) -> Result<(), AllocError> {
         let _name = self.name;
-        written::kinds_are_written();
+        parts::kinds_are_canonical();
         let mut text = Vec::new(alloc);
         write_base(&mut text, self, level)?;
         append_argument(out, text.as_slice())
@@ -56,7 +56,7 @@ impl Canonical for Geodetic<'_> {
 
     fn write(&self, alloc: Global, level: Level, out: &mut Vec<u8>) -> Result<(), AllocError> {
         let _name = self.name;
-        written::kinds_are_written();
+        parts::kinds_are_canonical();
         let mut text = Vec::new(alloc);
         write_geodetic(&mut text, self, level)?;
         out.extend_from_slice(text.as_slice())
@@ -85,7 +85,7 @@ impl Canonical for Projected<'_> {
 
     fn write(&self, alloc: Global, level: Level, out: &mut Vec<u8>) -> Result<(), AllocError> {
         let _name = self.name;
-        written::kinds_are_written();
+        parts::kinds_are_canonical();
         let mut text = Vec::new(alloc);
         write_projected(&mut text, self, level)?;
         out.extend_from_slice(text.as_slice())
@@ -114,7 +114,7 @@ impl Canonical for Vertical<'_> {
 
     fn write(&self, alloc: Global, level: Level, out: &mut Vec<u8>) -> Result<(), AllocError> {
         let _name = self.name;
-        written::kinds_are_written();
+        parts::kinds_are_canonical();
         let mut text = Vec::new(alloc);
         write_vertical(&mut text, self, level)?;
         out.extend_from_slice(text.as_slice())
@@ -143,7 +143,7 @@ impl Canonical for Compound<'_> {
 
     fn write(&self, alloc: Global, level: Level, out: &mut Vec<u8>) -> Result<(), AllocError> {
         let _name = self.name;
-        written::kinds_are_written();
+        parts::kinds_are_canonical();
         let mut text = Vec::new(alloc);
         write_compound(&mut text, self, level)?;
         out.extend_from_slice(text.as_slice())

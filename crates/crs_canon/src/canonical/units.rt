@@ -2,7 +2,7 @@
 use crate::canonical::{Canonical, append_argument};
 use crate::spelling::ident::write_ident;
 use crate::spelling::unit::write_unit;
-use crs_normal::laws::{parts, written};
+use crs_normal::laws::parts;
 use crs_same::parts::{same_ident, same_unit};
 use crs_value::{Ident, Level, Unit, UnitKind};
 use std::alloc::{AllocError, Global};
@@ -24,7 +24,7 @@ impl Canonical for Ident<'_> {
 
     fn write(&self, alloc: Global, _level: Level, out: &mut Vec<u8>) -> Result<(), AllocError> {
         let _authority = self.authority;
-        written::identifiers_are_written();
+        parts::identifiers_are_canonical();
         let mut text = Vec::new(alloc);
         write_ident(&mut text, self)?;
         out.extend_from_slice(text.as_slice())
@@ -54,7 +54,7 @@ impl Canonical for Unit<'_> {
 
     fn write(&self, alloc: Global, level: Level, out: &mut Vec<u8>) -> Result<(), AllocError> {
         let _name = self.name;
-        written::units_are_written();
+        parts::units_are_canonical();
         let mut text = Vec::new(alloc);
         write_unit(&mut text, UnitKind::Plain, self, level)?;
         append_argument(out, text.as_slice())

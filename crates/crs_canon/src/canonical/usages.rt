@@ -1,7 +1,7 @@
 //! Usages, and the boxes and extents in them, by themselves.
 use crate::canonical::{Canonical, append_argument};
 use crate::spelling::usage::{write_box, write_extent, write_usage};
-use crs_normal::laws::{parts, written};
+use crs_normal::laws::parts;
 use crs_same::parts::{same_box, same_extent, same_usage};
 use crs_value::{BoundingBox, Extent, Level, Usage};
 use std::alloc::{AllocError, Global};
@@ -23,7 +23,7 @@ impl Canonical for BoundingBox {
 
     fn write(&self, alloc: Global, _level: Level, out: &mut Vec<u8>) -> Result<(), AllocError> {
         let _south = self.south;
-        written::extents_are_written();
+        parts::extents_are_canonical();
         let mut text = Vec::new(alloc);
         write_box(&mut text, self)?;
         append_argument(out, text.as_slice())
@@ -52,7 +52,7 @@ impl Canonical for Extent<'_> {
 
     fn write(&self, alloc: Global, level: Level, out: &mut Vec<u8>) -> Result<(), AllocError> {
         let _minimum = self.minimum;
-        written::extents_are_written();
+        parts::extents_are_canonical();
         let mut text = Vec::new(alloc);
         write_extent(&mut text, self, level)?;
         append_argument(out, text.as_slice())
@@ -81,7 +81,7 @@ impl Canonical for Usage<'_> {
 
     fn write(&self, alloc: Global, _level: Level, out: &mut Vec<u8>) -> Result<(), AllocError> {
         let _scope = self.scope;
-        written::usages_are_written();
+        parts::usages_are_canonical();
         let mut text = Vec::new(alloc);
         write_usage(&mut text, self)?;
         out.extend_from_slice(text.as_slice())

@@ -1,9 +1,8 @@
 //! Reference frames, ensembles and their members.
-ghost use Rattle.std.specs.Prelude.{◌≡◌, ◌∷◌, ◌++◌, List, OnOk, codes, map};
+ghost use Rattle.std.specs.Prelude.{◌≡◌, ◌∷◌, ◌++◌, List, OnOk, codes};
 ghost use Rattle.std.specs.Option.{option_copied, option_map};
 ghost use Rattle.crs_text.specs.Items.{End, More};
 ghost use Rattle.crs_text.specs.Written.{item_text, others_text};
-ghost use Rattle.crs_value.specs.Values.{EnsembleParts};
 ghost use Rattle.crs_normal.specs.PartTexts.{datum_text};
 ghost use Rattle.crs_normal.specs.SpelledFrames.{item_ellipsoid, item_ensemble, item_frame, item_member};
 ghost use Rattle.crs_normal.specs.SpelledFrames.{norm_ellipsoid, norm_ensemble, norm_frame, set_members};

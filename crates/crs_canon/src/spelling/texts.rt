@@ -1,12 +1,12 @@
 //! Bytes, and items of one token or of one argument.
-ghost use Rattle.std.specs.Prelude.{◌≡◌, ◌∷◌, ◌++◌, [], OnOk};
+ghost use Rattle.std.specs.Prelude.{◌≡◌, ◌∷◌, ◌++◌, OnOk};
 ghost use Rattle.std.specs.List.{list_all};
 ghost use Rattle.std.specs.Option.{option_copied};
 ghost use Rattle.crs_decimal.specs.Plain.{plain};
 ghost use Rattle.crs_decimal.specs.Spelling.{is_digit};
 ghost use Rattle.crs_text.specs.Items.{End, More};
 ghost use Rattle.crs_text.specs.Written.{item_text, others_text};
-ghost use Rattle.crs_normal.specs.SpelledItems.{code_item, is_short, number_item, opt};
+ghost use Rattle.crs_normal.specs.SpelledItems.{code_item, is_short, number_item};
 ghost use Rattle.crs_canon.specs.Openings.{opened, text_behind};
 
 use crs_decimal::Decimal;

@@ -1,8 +1,8 @@
 //! The item of a value's one form is accepted and normal, wherever it stands in a text.
-ghost use Rattle.std.specs.Prelude.{◌≤◌, ℕ, length, codes};
+ghost use Rattle.std.specs.Prelude.{ℕ, codes};
 ghost use Rattle.crs_shape.specs.declared.class.Class.{Class};
 ghost use Rattle.crs_shape.specs.declared.class.Class.TheVariants as class;
-ghost use Rattle.crs_text.specs.Written.{at_place, item_text};
+ghost use Rattle.crs_text.specs.Written.{at_place};
 ghost use Rattle.crs_value.specs.ConversionValues.{ConversionParts, GeoidModelParts, MethodParts, ParameterParts};
 ghost use Rattle.crs_value.specs.CrsValues.{BaseParts, GeodeticParts, ProjectedParts, VerticalParts};
 ghost use Rattle.crs_value.specs.CompoundValues.{CompoundParts};
@@ -12,7 +12,7 @@ ghost use Rattle.crs_value.specs.declared.values.frame.Frame.{Frame};
 ghost use Rattle.crs_value.specs.declared.values.level.Level.{Level};
 ghost use Rattle.crs_value.specs.declared.values.level.Level.TheVariants as levels;
 ghost use Rattle.crs_value.specs.declared.values.unit_kind.UnitKind.{UnitKind};
-ghost use Rattle.crs_value.specs.Sound.{Each, IsAxisMeridian, IsIdent, IsUnit};
+ghost use Rattle.crs_value.specs.Sound.{IsAxisMeridian, IsIdent, IsUnit};
 ghost use Rattle.crs_value.specs.SoundConversion.{IsConversion, IsGeoidModel, IsMethod, IsParameter};
 ghost use Rattle.crs_value.specs.SoundCompound.{IsCompound};
 ghost use Rattle.crs_value.specs.SoundCrs.{IsCrs};
@@ -20,15 +20,13 @@ ghost use Rattle.crs_value.specs.SoundDynamic.{IsDeformationModel, IsDynamic};
 ghost use Rattle.crs_value.specs.SoundFrames.{IsEllipsoid, IsMember, IsMeridian};
 ghost use Rattle.crs_value.specs.SoundSingle.{IsBase, IsGeodetic, IsGeodeticFrame, IsProjected, IsVertical};
 ghost use Rattle.crs_value.specs.SoundSingle.{IsVerticalFrame};
-ghost use Rattle.crs_value.specs.SoundSystem.{IsSystem};
 ghost use Rattle.crs_value.specs.SoundUsages.{IsBox, IsExtent, IsUsage};
 ghost use Rattle.crs_value.specs.Values.{AxisMeridianParts, BoxParts, EllipsoidParts, ExtentParts, IdentParts};
-ghost use Rattle.crs_value.specs.Values.{MemberParts, MeridianParts, SystemParts, UnitParts, UsageParts};
+ghost use Rattle.crs_value.specs.Values.{MemberParts, MeridianParts, UnitParts, UsageParts};
 ghost use Rattle.crs_same.specs.SameUnits.{kind_as};
 ghost use Rattle.crs_normal.specs.DecimalLaws.{DecimalLaws};
 ghost use Rattle.crs_normal.specs.CrsClass.{crs_class, geodetic_class};
 ghost use Rattle.crs_normal.specs.Made.{IsKindIn, IsMade, geodetic_frame_class, vertical_frame_class};
-ghost use Rattle.crs_normal.specs.Normal.{IsNormalText};
 ghost use Rattle.crs_normal.specs.SpelledConversions.{item_conversion, item_geoid_model, item_method, item_parameter};
 ghost use Rattle.crs_normal.specs.SpelledConversions.{norm_conversion, norm_geoid_model, norm_method, norm_parameter};
 ghost use Rattle.crs_normal.specs.SpelledCrs.{item_base, item_compound, item_crs, item_geodetic, item_projected};
@@ -36,10 +34,9 @@ ghost use Rattle.crs_normal.specs.SpelledCrs.{item_vertical, norm_base, norm_com
 ghost use Rattle.crs_normal.specs.SpelledCrs.{norm_projected, norm_vertical};
 ghost use Rattle.crs_normal.specs.SpelledDynamic.{item_deformation_model, item_dynamic};
 ghost use Rattle.crs_normal.specs.SpelledDynamic.{norm_deformation_model, norm_dynamic};
-ghost use Rattle.crs_normal.specs.SpelledFrames.{greenwich, item_ellipsoid, item_frame, item_member, item_meridian};
+ghost use Rattle.crs_normal.specs.SpelledFrames.{item_ellipsoid, item_frame, item_member, item_meridian};
 ghost use Rattle.crs_normal.specs.SpelledFrames.{norm_ellipsoid, norm_frame, norm_given, norm_member};
-ghost use Rattle.crs_normal.specs.SpelledSystems.{item_axis, item_axis_meridian, item_head, norm_axis_meridian};
-ghost use Rattle.crs_normal.specs.SpelledSystems.{norm_system};
+ghost use Rattle.crs_normal.specs.SpelledSystems.{item_axis_meridian, norm_axis_meridian};
 ghost use Rattle.crs_normal.specs.SpelledUnits.{item_ident, item_unit, norm_unit};
 ghost use Rattle.crs_normal.specs.SpelledUsages.{item_box, item_extent, item_usage, norm_extent, norm_usage};
 
@@ -48,7 +45,6 @@ use crs_decimal::laws::{
     spelled_as_a_run,
 };
 use crs_same::laws::one_axis_each;
-use crs_text::laws::written_items;
 
 // The laws of decimals, as one fact.
 pub(super) fn decimal_laws()
@@ -62,16 +58,16 @@ pub(super) fn decimal_laws()
     spelled_as_a_run();
 }
 
-/// The item of an identifier.
-pub fn made_identifier_is_normal()
+// The item of an identifier.
+pub(super) fn made_identifier_is_normal()
     ensures { (level : Level) (ident : IdentParts) (place : ℕ) → IsIdent ident →
         IsMade level class.Identifier 2 (at_place place (item_ident ident)) }
 {
     decimal_laws();
 }
 
-/// The item of a unit, where its keyword names this class.
-pub fn made_unit_is_normal()
+// The item of a unit, where its keyword names this class.
+pub(super) fn made_unit_is_normal()
     ensures { (level : Level) (c : Class) (asked : UnitKind) (unit : UnitParts) (place : ℕ) →
         IsKindIn c (kind_as asked unit.kind) → IsUnit unit →
         IsMade level c 3 (at_place place (item_unit (norm_unit level asked unit))) }
@@ -79,56 +75,48 @@ pub fn made_unit_is_normal()
     decimal_laws();
 }
 
-/// The item of an ellipsoid.
-pub fn made_ellipsoid_is_normal()
+// The item of an ellipsoid.
+pub(super) fn made_ellipsoid_is_normal()
     ensures { (level : Level) (ellipsoid : EllipsoidParts) (place : ℕ) → IsEllipsoid ellipsoid →
         IsMade level class.Ellipsoid 4 (at_place place (item_ellipsoid (norm_ellipsoid level ellipsoid))) }
 {
     decimal_laws();
 }
 
-/// The item of a prime meridian.
-pub fn made_meridian_is_normal()
+// The item of a prime meridian.
+pub(super) fn made_meridian_is_normal()
     ensures { (level : Level) (meridian : MeridianParts) (place : ℕ) → IsMeridian meridian →
         IsMade level class.PrimeMeridian 4 (at_place place (item_meridian (norm_given level meridian))) }
 {
     decimal_laws();
 }
 
-/// The item of the prime meridian that a missing one stands for.
-pub fn made_greenwich_is_normal()
-    ensures { (level : Level) (place : ℕ) →
-        IsMade level class.PrimeMeridian 4 (at_place place (item_meridian greenwich)) }
-{
-    decimal_laws();
-}
-
-/// The item of a member of an ensemble.
-pub fn made_member_is_normal()
+// The item of a member of an ensemble.
+pub(super) fn made_member_is_normal()
     ensures { (level : Level) (member : MemberParts) (place : ℕ) → IsMember member →
         IsMade level class.Member 3 (at_place place (item_member (norm_member level member))) }
 {
     decimal_laws();
 }
 
-/// The item of a method.
-pub fn made_method_is_normal()
+// The item of a method.
+pub(super) fn made_method_is_normal()
     ensures { (level : Level) (method : MethodParts) (place : ℕ) → IsMethod method →
         IsMade level class.Method 3 (at_place place (item_method (norm_method level method))) }
 {
     decimal_laws();
 }
 
-/// The item of a geoid model.
-pub fn made_geoid_model_is_normal()
+// The item of a geoid model.
+pub(super) fn made_geoid_model_is_normal()
     ensures { (level : Level) (model : GeoidModelParts) (place : ℕ) → IsGeoidModel model →
         IsMade level class.GeoidModel 3 (at_place place (item_geoid_model (norm_geoid_model level model))) }
 {
     decimal_laws();
 }
 
-/// The item of a deformation model.
-pub fn made_deformation_model_is_normal()
+// The item of a deformation model.
+pub(super) fn made_deformation_model_is_normal()
     ensures { (level : Level) (model : DeformationModelParts) (place : ℕ) → IsDeformationModel model →
         IsMade level class.DeformationModel 3
         (at_place place (item_deformation_model (norm_deformation_model level model))) }
@@ -136,105 +124,88 @@ pub fn made_deformation_model_is_normal()
     decimal_laws();
 }
 
-/// The item of a dynamic part.
-pub fn made_dynamic_is_normal()
+// The item of a dynamic part.
+pub(super) fn made_dynamic_is_normal()
     ensures { (level : Level) (dynamic : DynamicParts) (place : ℕ) → IsDynamic dynamic →
         IsMade level class.Dynamic 4 (at_place place (item_dynamic (norm_dynamic level dynamic))) }
 {
     decimal_laws();
 }
 
-/// The item of a parameter.
-pub fn made_parameter_is_normal()
+// The item of a parameter.
+pub(super) fn made_parameter_is_normal()
     ensures { (level : Level) (parameter : ParameterParts) (place : ℕ) → IsParameter parameter →
         IsMade level class.Parameter 4 (at_place place (item_parameter (norm_parameter level parameter))) }
 {
     decimal_laws();
 }
 
-/// The item of a conversion.
-pub fn made_conversion_is_normal()
+// The item of a conversion.
+pub(super) fn made_conversion_is_normal()
     ensures { (level : Level) (conversion : ConversionParts) (place : ℕ) → IsConversion conversion →
         IsMade level class.Conversion 5 (at_place place (item_conversion (norm_conversion level conversion))) }
 {
     decimal_laws();
 }
 
-/// The item of a box of latitudes and longitudes.
-pub fn made_box_is_normal()
+// The item of a box of latitudes and longitudes.
+pub(super) fn made_box_is_normal()
     ensures { (level : Level) (bbox : BoxParts) (place : ℕ) → IsBox bbox →
         IsMade level class.BoundingBox 1 (at_place place (item_box bbox)) }
 {
     decimal_laws();
 }
 
-/// The item of an extent in height.
-pub fn made_extent_is_normal()
+// The item of an extent in height.
+pub(super) fn made_extent_is_normal()
     ensures { (level : Level) (extent : ExtentParts) (place : ℕ) → IsExtent extent →
         IsMade level class.VerticalExtent 4 (at_place place (item_extent (norm_extent level extent))) }
 {
     decimal_laws();
 }
 
-/// The item of a usage by itself, of which every level keeps all.
-pub fn made_usage_is_normal()
+// The item of a usage by itself, of which every level keeps all.
+pub(super) fn made_usage_is_normal()
     ensures { (usage : UsageParts) (place : ℕ) → IsUsage usage →
         IsMade levels.Full class.Usage 5 (at_place place (item_usage (norm_usage usage))) }
 {
     decimal_laws();
 }
 
-/// The item of a geodetic frame or ensemble.
-pub fn made_geodetic_frame_is_normal()
+// The item of a geodetic frame or ensemble.
+pub(super) fn made_geodetic_frame_is_normal()
     ensures { (level : Level) (frame : Frame) (place : ℕ) → IsGeodeticFrame frame →
         IsMade level (geodetic_frame_class frame) 5 (at_place place (item_frame (codes "DATUM") (norm_frame level frame))) }
 {
     decimal_laws();
 }
 
-/// The item of a vertical frame or ensemble.
-pub fn made_vertical_frame_is_normal()
+// The item of a vertical frame or ensemble.
+pub(super) fn made_vertical_frame_is_normal()
     ensures { (level : Level) (frame : Frame) (place : ℕ) → IsVerticalFrame frame →
         IsMade level (vertical_frame_class frame) 5 (at_place place (item_frame (codes "VDATUM") (norm_frame level frame))) }
 {
     decimal_laws();
 }
 
-/// The item of the node `CS`.
-pub fn made_head_is_normal()
-    ensures { (level : Level) (system : SystemParts) (place : ℕ) → IsSystem system →
-        IsMade level class.CoordinateSystem 3 (at_place place (item_head (norm_system level system))) }
-{
-    decimal_laws();
-}
-
-/// The item of the meridian of an axis.
-pub fn made_axis_meridian_is_normal()
+// The item of the meridian of an axis.
+pub(super) fn made_axis_meridian_is_normal()
     ensures { (level : Level) (meridian : AxisMeridianParts) (place : ℕ) → IsAxisMeridian meridian →
         IsMade level class.AxisMeridian 4 (at_place place (item_axis_meridian (norm_axis_meridian level meridian))) }
 {
     decimal_laws();
 }
 
-/// The items of a system's axes, of which there are three at most.
-pub fn made_axes_are_normal()
-    ensures { (level : Level) (system : SystemParts) (place : ℕ) → IsSystem system → length system.axes ≤ 3 →
-        Each (λ axis. IsMade level class.Axis 5 (at_place place (item_axis axis))) ((norm_system level system).axes) }
-{
-    decimal_laws();
-    one_axis_each();
-}
-
-/// The item of a base CRS.
-pub fn made_base_is_normal()
+// The item of a base CRS.
+pub(super) fn made_base_is_normal()
     ensures { (level : Level) (base : BaseParts) (place : ℕ) → IsBase base →
         IsMade level class.BaseCrs 6 (at_place place (item_base (norm_base level base))) }
 {
     decimal_laws();
 }
 
-/// The item of a geodetic or geographic CRS.
-pub fn made_geodetic_is_normal()
+// The item of a geodetic or geographic CRS.
+pub(super) fn made_geodetic_is_normal()
     ensures { (level : Level) (geodetic : GeodeticParts) (place : ℕ) → IsGeodetic geodetic →
         IsMade level (geodetic_class geodetic.system.system_type) 6
         (at_place place (item_geodetic (norm_geodetic level geodetic))) }
@@ -243,8 +214,8 @@ pub fn made_geodetic_is_normal()
     one_axis_each();
 }
 
-/// The item of a projected CRS.
-pub fn made_projected_is_normal()
+// The item of a projected CRS.
+pub(super) fn made_projected_is_normal()
     ensures { (level : Level) (projected : ProjectedParts) (place : ℕ) → IsProjected projected →
         IsMade level class.ProjectedCrs 7 (at_place place (item_projected (norm_projected level projected))) }
 {
@@ -252,8 +223,8 @@ pub fn made_projected_is_normal()
     one_axis_each();
 }
 
-/// The item of a vertical CRS.
-pub fn made_vertical_is_normal()
+// The item of a vertical CRS.
+pub(super) fn made_vertical_is_normal()
     ensures { (level : Level) (vertical : VerticalParts) (place : ℕ) → IsVertical vertical →
         IsMade level class.VerticalCrs 6 (at_place place (item_vertical (norm_vertical level vertical))) }
 {
@@ -261,8 +232,8 @@ pub fn made_vertical_is_normal()
     one_axis_each();
 }
 
-/// The item of a compound CRS.
-pub fn made_compound_is_normal()
+// The item of a compound CRS.
+pub(super) fn made_compound_is_normal()
     ensures { (level : Level) (compound : CompoundParts) (place : ℕ) → IsCompound compound →
         IsMade level class.CompoundCrs 8 (at_place place (item_compound (norm_compound level compound))) }
 {
@@ -270,20 +241,11 @@ pub fn made_compound_is_normal()
     one_axis_each();
 }
 
-/// The item of a CRS.
-pub fn made_crs_is_normal()
+// The item of a CRS.
+pub(super) fn made_crs_is_normal()
     ensures { (level : Level) (crs : Crs) (place : ℕ) → IsCrs crs →
         IsMade level (crs_class crs) 8 (at_place place (item_crs (norm_crs level crs))) }
 {
     decimal_laws();
     one_axis_each();
-}
-
-/// The text of a CRS's item is normal.
-pub fn made_text_is_normal()
-    ensures { (level : Level) (crs : Crs) → IsCrs crs → IsNormalText level (item_text (item_crs (norm_crs level crs))) }
-{
-    decimal_laws();
-    one_axis_each();
-    written_items();
 }

@@ -4,7 +4,7 @@ ghost use Rattle.crs_shape.specs.declared.class.Class.{Class};
 ghost use Rattle.crs_shape.specs.declared.class.Class.TheVariants as class;
 ghost use Rattle.crs_text.specs.Items.{Item};
 ghost use Rattle.crs_text.specs.Written.{item_text};
-ghost use Rattle.crs_value.specs.Reads.{ReadsIdent, ReadsIds, ReadsUnit, ReadsAxisMeridian, ReadsAxis, ReadsEllipsoid};
+ghost use Rattle.crs_value.specs.Reads.{ReadsIdent, ReadsUnit, ReadsAxisMeridian, ReadsAxis, ReadsEllipsoid};
 ghost use Rattle.crs_value.specs.Reads.{ReadsMeridian, ReadsMember, ReadsDatum, ReadsEnsemble, ReadsBox, ReadsExtent};
 ghost use Rattle.crs_value.specs.Reads.{ReadsUsage};
 ghost use Rattle.crs_value.specs.ReadsConversion.{ReadsMethod, ReadsParameter, ReadsConversion, ReadsGeoidModel};
@@ -12,7 +12,7 @@ ghost use Rattle.crs_value.specs.ReadsCrs.{ReadsBase, ReadsGeodetic, ReadsProjec
 ghost use Rattle.crs_value.specs.ReadsCrs.{ReadsCrs};
 ghost use Rattle.crs_value.specs.ReadsDynamic.{ReadsDeformationModel, ReadsDynamic};
 ghost use Rattle.crs_value.specs.SpellsText.{Spells};
-ghost use Rattle.crs_value.specs.Values.{IdentParts, AxisParts, SystemParts};
+ghost use Rattle.crs_value.specs.Values.{AxisParts, SystemParts};
 ghost use Rattle.crs_value.specs.declared.values.crs.Crs.{Crs};
 ghost use Rattle.crs_value.specs.declared.values.level.Level.{Level};
 ghost use Rattle.crs_value.specs.declared.values.unit_kind.UnitKind.{UnitKind};
@@ -36,31 +36,20 @@ ghost use Rattle.crs_normal.specs.SpelledDynamic.{item_dynamic, norm_dynamic};
 ghost use Rattle.crs_normal.specs.SpelledFrames.{item_ellipsoid, norm_ellipsoid, item_meridian, norm_given};
 ghost use Rattle.crs_normal.specs.SpelledFrames.{item_member, norm_member, item_datum, norm_datum, item_ensemble};
 ghost use Rattle.crs_normal.specs.SpelledFrames.{norm_ensemble};
-ghost use Rattle.crs_normal.specs.SpelledUnits.{item_ident, set_idents, item_unit, norm_unit};
+ghost use Rattle.crs_normal.specs.SpelledUnits.{item_ident, item_unit, norm_unit};
 ghost use Rattle.crs_normal.specs.SpelledUsages.{item_box, item_extent, norm_extent, item_usage, norm_usage};
 
 use crs_decimal::laws::{plain_is_the_one, same_number_is_equivalence, worked_examples};
 use crs_shape::laws::no_fault_is_shape;
 use crs_text::laws::one_answer;
 
-/// The text of an item tells neither its places nor its kinds of delimiters.
-pub fn flat_item_has_its_text()
-    ensures { (item : Item) → item_text (flat item) ≡ item_text item }
-{}
-
-/// A normal identifier is the one form of its value.
-pub fn normal_identifier_is_its_form()
+// A normal identifier is the one form of its value.
+pub(super) fn normal_identifier_is_its_form()
     ensures { (level : Level) → IsItsForm level class.Identifier ReadsIdent item_ident }
 {}
 
-/// The identifiers of a normal node are in order already, each once.
-pub fn normal_identifiers_are_in_order()
-    ensures { (level : Level) (parent c : Class) (item : Item) (identifiers : List IdentParts) → Shaped c item →
-        IsNormalIn level parent c item → ReadsIds c item identifiers → set_idents level identifiers ≡ identifiers }
-{}
-
-/// A normal unit is the one form of its value, whichever kind is asked, and a plain one where none is.
-pub fn normal_unit_is_its_form()
+// A normal unit is the one form of its value, whichever kind is asked, and a plain one where none is.
+pub(super) fn normal_unit_is_its_form()
     ensures length { (level : Level) (asked : UnitKind) →
         IsItsForm level class.LengthUnit ReadsUnit (λ u. item_unit (norm_unit level asked u)) }
     ensures angle { (level : Level) (asked : UnitKind) →
@@ -75,16 +64,16 @@ pub fn normal_unit_is_its_form()
     plain_is_the_one();
 }
 
-/// A normal ellipsoid is the one form of its value.
-pub fn normal_ellipsoid_is_its_form()
+// A normal ellipsoid is the one form of its value.
+pub(super) fn normal_ellipsoid_is_its_form()
     ensures { (level : Level) →
         IsItsForm level class.Ellipsoid ReadsEllipsoid (λ e. item_ellipsoid (norm_ellipsoid level e)) }
 {
     plain_is_the_one();
 }
 
-/// A normal prime meridian is the one form of its value.
-pub fn normal_meridian_is_its_form()
+// A normal prime meridian is the one form of its value.
+pub(super) fn normal_meridian_is_its_form()
     ensures { (level : Level) →
         IsItsForm level class.PrimeMeridian ReadsMeridian (λ m. item_meridian (norm_given level m)) }
 {
@@ -92,57 +81,57 @@ pub fn normal_meridian_is_its_form()
     worked_examples();
 }
 
-/// A normal member of an ensemble is the one form of its value.
-pub fn normal_member_is_its_form()
+// A normal member of an ensemble is the one form of its value.
+pub(super) fn normal_member_is_its_form()
     ensures { (level : Level) →
         IsItsForm level class.Member ReadsMember (λ m. item_member (norm_member level m)) }
 {}
 
-/// A normal method is the one form of its value.
-pub fn normal_method_is_its_form()
+// A normal method is the one form of its value.
+pub(super) fn normal_method_is_its_form()
     ensures { (level : Level) →
         IsItsForm level class.Method ReadsMethod (λ m. item_method (norm_method level m)) }
 {}
 
-/// A normal geoid model is the one form of its value.
-pub fn normal_geoid_model_is_its_form()
+// A normal geoid model is the one form of its value.
+pub(super) fn normal_geoid_model_is_its_form()
     ensures { (level : Level) →
         IsItsForm level class.GeoidModel ReadsGeoidModel (λ g. item_geoid_model (norm_geoid_model level g)) }
 {}
 
-/// A normal deformation model is the one form of its value.
-pub fn normal_deformation_model_is_its_form()
+// A normal deformation model is the one form of its value.
+pub(super) fn normal_deformation_model_is_its_form()
     ensures { (level : Level) →
         IsItsForm level class.DeformationModel ReadsDeformationModel
         (λ m. item_deformation_model (norm_deformation_model level m)) }
 {}
 
-/// A normal dynamic part is the one form of its value.
-pub fn normal_dynamic_is_its_form()
+// A normal dynamic part is the one form of its value.
+pub(super) fn normal_dynamic_is_its_form()
     ensures { (level : Level) →
         IsItsForm level class.Dynamic ReadsDynamic (λ d. item_dynamic (norm_dynamic level d)) }
 {
     plain_is_the_one();
 }
 
-/// A normal parameter is the one form of its value.
-pub fn normal_parameter_is_its_form()
+// A normal parameter is the one form of its value.
+pub(super) fn normal_parameter_is_its_form()
     ensures { (level : Level) →
         IsItsForm level class.Parameter ReadsParameter (λ p. item_parameter (norm_parameter level p)) }
 {
     plain_is_the_one();
 }
 
-/// A normal conversion is the one form of its value.
-pub fn normal_conversion_is_its_form()
+// A normal conversion is the one form of its value.
+pub(super) fn normal_conversion_is_its_form()
     ensures { (level : Level) →
         IsItsForm level class.Conversion ReadsConversion (λ c. item_conversion (norm_conversion level c)) }
 {
     plain_is_the_one();
 }
 
-/// A normal box, a normal extent and a normal usage are the one form of their values.
-pub fn normal_usage_is_its_form()
+// A normal box, a normal extent and a normal usage are the one form of their values.
+pub(super) fn normal_usage_is_its_form()
     ensures bbox { (level : Level) → IsItsForm level class.BoundingBox ReadsBox item_box }
     ensures extent { (level : Level) →
         IsItsForm level class.VerticalExtent ReadsExtent (λ e. item_extent (norm_extent level e)) }
@@ -152,8 +141,8 @@ pub fn normal_usage_is_its_form()
     plain_is_the_one();
 }
 
-/// A normal ensemble is the one form of its value, and so is a normal reference frame that breaks no check.
-pub fn normal_frame_is_its_form()
+// A normal ensemble is the one form of its value, and so is a normal reference frame that breaks no check.
+pub(super) fn normal_frame_is_its_form()
     ensures datum { (level : Level) →
         IsItsFormUnbroken level class.GeodeticFrame ReadsDatum (λ d. item_datum (codes "DATUM") (norm_datum level d)) }
     ensures vertical_datum { (level : Level) →
@@ -166,9 +155,9 @@ pub fn normal_frame_is_its_form()
     plain_is_the_one();
 }
 
-/// A normal axis with its own unit is the one form of its value at its position, in each system, and so is the normal
-/// meridian of an axis.
-pub fn normal_axis_is_its_form()
+// A normal axis with its own unit is the one form of its value at its position, in each system, and so is the normal
+// meridian of an axis.
+pub(super) fn normal_axis_is_its_form()
     ensures meridian { (level : Level) →
         IsItsForm level class.AxisMeridian ReadsAxisMeridian (λ m. item_axis_meridian (norm_axis_meridian level m)) }
     ensures axis { (level : Level) (system : SystemParts) (parent : Class) (position : ℕ) (item : Item)
@@ -184,8 +173,8 @@ pub fn normal_axis_is_its_form()
     plain_is_the_one();
 }
 
-/// A normal base CRS that breaks no check is the one form of its value.
-pub fn normal_base_is_its_form()
+// A normal base CRS that breaks no check is the one form of its value.
+pub(super) fn normal_base_is_its_form()
     ensures { (level : Level) →
         IsItsFormUnbroken level class.BaseCrs ReadsBase (λ b. item_base (norm_base level b)) }
 {
@@ -193,8 +182,8 @@ pub fn normal_base_is_its_form()
     worked_examples();
 }
 
-/// A normal CRS that breaks no check is the one form of its value.
-pub fn normal_crs_is_its_form()
+// A normal CRS that breaks no check is the one form of its value.
+pub(super) fn normal_crs_is_its_form()
     ensures geodetic { (level : Level) →
         IsItsFormUnbroken level class.GeodeticCrs ReadsGeodetic (λ g. item_geodetic (norm_geodetic level g)) }
     ensures geographic { (level : Level) →
@@ -213,8 +202,8 @@ pub fn normal_crs_is_its_form()
     same_number_is_equivalence();
 }
 
-/// A normal text that spells a CRS is the text of the one form of that CRS.
-pub fn normal_text_is_its_form()
+// A normal text that spells a CRS is the text of the one form of that CRS.
+pub(super) fn normal_text_is_its_form()
     ensures { (level : Level) (bytes : List ℕ) (crs : Crs) → IsNormalText level bytes → Spells bytes crs →
         bytes ≡ item_text (item_crs (norm_crs level crs)) }
 {

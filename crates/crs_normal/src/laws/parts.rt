@@ -21,7 +21,6 @@ ghost use Rattle.crs_same.specs.SameSystems.{SameAxisAlone, SameAxisMeridian};
 ghost use Rattle.crs_same.specs.SameUnits.{SameUnit};
 ghost use Rattle.crs_same.specs.SameUsages.{SameBox, SameExtent, SameUsage};
 ghost use Rattle.crs_normal.specs.AxisAlone.{IsSpelledAxis};
-ghost use Rattle.crs_normal.specs.CanonicalForm.{IsCanonicalForm};
 ghost use Rattle.crs_normal.specs.Closed.{IsClosed};
 ghost use Rattle.crs_normal.specs.PartSpellings.{IsFrame, IsHorizontalPart, IsSpelledAxisMeridian, IsSpelledBase};
 ghost use Rattle.crs_normal.specs.PartSpellings.{IsSpelledBox, IsSpelledCompound, IsSpelledConversion};
@@ -32,12 +31,42 @@ ghost use Rattle.crs_normal.specs.PartSpellings.{IsSpelledGeoidModel, IsSpelledH
 ghost use Rattle.crs_normal.specs.PartSpellings.{IsSpelledMember, IsSpelledMeridian, IsSpelledMethod};
 ghost use Rattle.crs_normal.specs.PartSpellings.{IsSpelledParameter, IsSpelledProjected, IsSpelledUnit};
 ghost use Rattle.crs_normal.specs.PartSpellings.{IsSpelledUsage, IsSpelledVertical};
+ghost use Rattle.crs_normal.specs.PartTexts.{axis_meridian_text, axis_text, base_text, box_text, compound_text};
+ghost use Rattle.crs_normal.specs.PartTexts.{conversion_text, datum_text, deformation_model_text, dynamic_text};
+ghost use Rattle.crs_normal.specs.PartTexts.{ellipsoid_text, ensemble_text, extent_text};
+ghost use Rattle.crs_normal.specs.PartTexts.{frame_text, geodetic_text, geoid_model_text, horizontal_text};
+ghost use Rattle.crs_normal.specs.PartTexts.{ident_text, member_text, meridian_text, method_text, parameter_text};
+ghost use Rattle.crs_normal.specs.PartTexts.{projected_text, unit_text, usage_text, vertical_text};
+ghost use Rattle.crs_normal.specs.WrittenForm.{IsWrittenForm};
 
-use crate::laws::forms::{
-    axes_have_texts, conversions_have_texts, datums_have_texts, dynamic_parts_have_texts,
-    extents_have_texts, frame_parts_have_texts, frames_have_texts, horizontals_have_texts,
-    identifiers_have_texts, kinds_have_texts, units_have_texts, usages_have_texts,
+use crate::laws::made::{
+    decimal_laws, made_axis_meridian_is_normal, made_base_is_normal, made_box_is_normal,
+    made_compound_is_normal, made_conversion_is_normal, made_deformation_model_is_normal,
+    made_dynamic_is_normal, made_ellipsoid_is_normal, made_extent_is_normal,
+    made_geodetic_frame_is_normal, made_geodetic_is_normal, made_geoid_model_is_normal,
+    made_identifier_is_normal, made_member_is_normal, made_meridian_is_normal,
+    made_method_is_normal, made_parameter_is_normal, made_projected_is_normal, made_unit_is_normal,
+    made_usage_is_normal, made_vertical_frame_is_normal, made_vertical_is_normal,
 };
+use crate::laws::normal::{
+    normal_axis_is_its_form, normal_base_is_its_form, normal_conversion_is_its_form,
+    normal_crs_is_its_form, normal_deformation_model_is_its_form, normal_dynamic_is_its_form,
+    normal_ellipsoid_is_its_form, normal_frame_is_its_form, normal_geoid_model_is_its_form,
+    normal_identifier_is_its_form, normal_member_is_its_form, normal_meridian_is_its_form,
+    normal_method_is_its_form, normal_parameter_is_its_form, normal_unit_is_its_form,
+    normal_usage_is_its_form,
+};
+use crate::laws::read::{crs_is_read_back, crs_parts_are_read_back, frame_parts_are_read_back};
+use crate::laws::sets::{member_texts_tell_members, members_are_read_back, text_laws};
+use crate::laws::texts::written_forms_are_equal_where_same;
+use crate::laws::values::{
+    same_conversions_have_one_form, same_dynamic_parts_have_one_form, same_frames_have_one_form,
+    same_kinds_have_one_form, same_systems_have_one_form, same_tails_have_one_form,
+    same_units_have_one_form,
+};
+use crs_text::laws::written_items;
+use crs_value::laws::members_read_once;
+use crs_value::laws::parts::{kinds_are_sound, parts_are_sound, parts_read_once};
 
 /// The written text of a well-formed node is closed, and no closed text is the front of another. Profile.
 pub fn closed_texts()
@@ -47,97 +76,223 @@ pub fn closed_texts()
 
 /// The spellings of identifiers that stand by themselves. Profile.
 pub fn identifiers_are_canonical()
-    ensures { (level : Level) → IsCanonicalForm IsIdent SameIdent (IsSpelledIdent level) }
+    ensures { (level : Level) → IsWrittenForm IsIdent SameIdent (IsSpelledIdent level) (ident_text level) }
 {
-    identifiers_have_texts();
+    made_identifier_is_normal();
+    normal_identifier_is_its_form();
+    members_are_read_back();
+    member_texts_tell_members();
+    text_laws();
+    written_items();
+    parts_are_sound();
 }
 
 /// The spellings of units, of which `UNIT` is a kind of its own. Profile.
 pub fn units_are_canonical()
-    ensures { (level : Level) → IsCanonicalForm IsUnit (SameUnit kinds.Plain level) (IsSpelledUnit level) }
+    ensures { (level : Level) → IsWrittenForm IsUnit (SameUnit kinds.Plain level) (IsSpelledUnit level)
+        (unit_text level) }
 {
-    units_have_texts();
+    made_unit_is_normal();
+    normal_unit_is_its_form();
+    members_are_read_back();
+    member_texts_tell_members();
+    same_units_have_one_form();
+    text_laws();
+    written_items();
+    parts_are_sound();
 }
 
 /// The spellings of ellipsoids, prime meridians, members of ensembles and the meridians of axes. Profile.
 pub fn frame_parts_are_canonical()
-    ensures ellipsoid { (level : Level) → IsCanonicalForm IsEllipsoid (SameEllipsoid level) (IsSpelledEllipsoid level) }
-    ensures meridian { (level : Level) → IsCanonicalForm IsMeridian (SameGiven level) (IsSpelledMeridian level) }
-    ensures member { (level : Level) → IsCanonicalForm IsMember (SameMember level) (IsSpelledMember level) }
-    ensures along { (level : Level) → IsCanonicalForm IsAxisMeridian (SameAxisMeridian level) (IsSpelledAxisMeridian level) }
+    ensures ellipsoid { (level : Level) →
+        IsWrittenForm IsEllipsoid (SameEllipsoid level) (IsSpelledEllipsoid level) (ellipsoid_text level) }
+    ensures meridian { (level : Level) →
+        IsWrittenForm IsMeridian (SameGiven level) (IsSpelledMeridian level) (meridian_text level) }
+    ensures member { (level : Level) →
+        IsWrittenForm IsMember (SameMember level) (IsSpelledMember level) (member_text level) }
+    ensures along { (level : Level) →
+        IsWrittenForm IsAxisMeridian (SameAxisMeridian level) (IsSpelledAxisMeridian level)
+        (axis_meridian_text level) }
 {
-    frame_parts_have_texts();
+    made_ellipsoid_is_normal();
+    made_meridian_is_normal();
+    made_member_is_normal();
+    made_axis_meridian_is_normal();
+    frame_parts_are_read_back();
+    crs_parts_are_read_back();
+    members_are_read_back();
+    normal_ellipsoid_is_its_form();
+    normal_meridian_is_its_form();
+    normal_member_is_its_form();
+    normal_axis_is_its_form();
+    same_frames_have_one_form();
+    same_systems_have_one_form();
+    members_read_once();
+    parts_read_once();
+    parts_are_sound();
+    text_laws();
+    written_items();
 }
 
 /// The spellings of axes with their own orders and units, of which `UNIT` is a kind of its own. Profile.
 pub fn axes_are_canonical()
-    ensures { (level : Level) → IsCanonicalForm IsAxis (SameAxisAlone level) (IsSpelledAxis level) }
+    ensures { (level : Level) →
+        IsWrittenForm IsAxis (SameAxisAlone level) (IsSpelledAxis level) (axis_text level) }
 {
-    axes_have_texts();
+    decimal_laws();
+    crs_parts_are_read_back();
+    normal_axis_is_its_form();
+    same_systems_have_one_form();
+    parts_read_once();
+    parts_are_sound();
+    text_laws();
+    written_items();
 }
 
 /// The spellings of conversions, their methods and parameters, and geoid models. Profile.
 pub fn conversions_are_canonical()
-    ensures method { (level : Level) → IsCanonicalForm IsMethod (SameMethod level) (IsSpelledMethod level) }
-    ensures parameter { (level : Level) → IsCanonicalForm IsParameter (SameParameter level) (IsSpelledParameter level) }
-    ensures conversion { (level : Level) → IsCanonicalForm IsConversion (SameConversion level) (IsSpelledConversion level) }
-    ensures geoid_model { (level : Level) → IsCanonicalForm IsGeoidModel (SameGeoidModel level) (IsSpelledGeoidModel level) }
+    ensures method { (level : Level) →
+        IsWrittenForm IsMethod (SameMethod level) (IsSpelledMethod level) (method_text level) }
+    ensures parameter { (level : Level) →
+        IsWrittenForm IsParameter (SameParameter level) (IsSpelledParameter level) (parameter_text level) }
+    ensures conversion { (level : Level) →
+        IsWrittenForm IsConversion (SameConversion level) (IsSpelledConversion level) (conversion_text level) }
+    ensures geoid_model { (level : Level) →
+        IsWrittenForm IsGeoidModel (SameGeoidModel level) (IsSpelledGeoidModel level) (geoid_model_text level) }
 {
-    conversions_have_texts();
+    made_method_is_normal();
+    made_parameter_is_normal();
+    made_conversion_is_normal();
+    made_geoid_model_is_normal();
+    crs_parts_are_read_back();
+    members_are_read_back();
+    normal_method_is_its_form();
+    normal_parameter_is_its_form();
+    normal_conversion_is_its_form();
+    normal_geoid_model_is_its_form();
+    same_conversions_have_one_form();
+    members_read_once();
+    parts_read_once();
+    parts_are_sound();
+    text_laws();
+    written_items();
 }
 
 /// The spellings of deformation models and dynamic parts. Profile.
 pub fn dynamic_parts_are_canonical()
-    ensures deformation_model { (level : Level) → IsCanonicalForm IsDeformationModel (SameDeformationModel level) (IsSpelledDeformationModel level) }
-    ensures dynamic { (level : Level) → IsCanonicalForm IsDynamic (SameDynamic level) (IsSpelledDynamic level) }
+    ensures deformation_model { (level : Level) →
+        IsWrittenForm IsDeformationModel (SameDeformationModel level) (IsSpelledDeformationModel level)
+        (deformation_model_text level) }
+    ensures dynamic { (level : Level) →
+        IsWrittenForm IsDynamic (SameDynamic level) (IsSpelledDynamic level) (dynamic_text level) }
 {
-    dynamic_parts_have_texts();
+    made_deformation_model_is_normal();
+    made_dynamic_is_normal();
+    crs_parts_are_read_back();
+    normal_deformation_model_is_its_form();
+    normal_dynamic_is_its_form();
+    same_dynamic_parts_have_one_form();
+    parts_read_once();
+    parts_are_sound();
+    text_laws();
+    written_items();
 }
 
 /// The spellings of boxes and extents. Profile.
 pub fn extents_are_canonical()
-    ensures bounding_box { (level : Level) → IsCanonicalForm IsBox SameBox (IsSpelledBox level) }
-    ensures extent { (level : Level) → IsCanonicalForm IsExtent (SameExtent level) (IsSpelledExtent level) }
+    ensures bounding_box { (level : Level) →
+        IsWrittenForm IsBox SameBox (IsSpelledBox level) (box_text level) }
+    ensures extent { (level : Level) →
+        IsWrittenForm IsExtent (SameExtent level) (IsSpelledExtent level) (extent_text level) }
 {
-    extents_have_texts();
+    made_box_is_normal();
+    made_extent_is_normal();
+    members_are_read_back();
+    normal_usage_is_its_form();
+    same_tails_have_one_form();
+    members_read_once();
+    parts_read_once();
+    parts_are_sound();
+    text_laws();
+    written_items();
 }
 
 /// The spellings of usages, which are written alike at every level. Profile.
 pub fn usages_are_canonical()
-    ensures { (level : Level) → IsCanonicalForm IsUsage SameUsage (IsSpelledUsage level) }
+    ensures { (level : Level) →
+        IsWrittenForm IsUsage SameUsage (IsSpelledUsage level) (usage_text level) }
 {
-    usages_have_texts();
+    made_usage_is_normal();
+    members_are_read_back();
+    normal_usage_is_its_form();
+    same_tails_have_one_form();
+    members_read_once();
+    parts_are_sound();
+    text_laws();
+    written_items();
 }
 
 /// The spellings of reference frames and ensembles: geodetic ones where they have an ellipsoid, else vertical ones. Profile.
 pub fn datums_are_canonical()
-    ensures datum { (level : Level) → IsCanonicalForm IsDatum (SameDatum level) (IsSpelledDatum level) }
-    ensures ensemble { (level : Level) → IsCanonicalForm IsEnsemble (SameEnsemble level) (IsSpelledEnsemble level) }
+    ensures datum { (level : Level) →
+        IsWrittenForm IsDatum (SameDatum level) (IsSpelledDatum level) (datum_text level) }
+    ensures ensemble { (level : Level) →
+        IsWrittenForm IsEnsemble (SameEnsemble level) (IsSpelledEnsemble level) (ensemble_text level) }
 {
-    datums_have_texts();
+    made_geodetic_frame_is_normal();
+    made_vertical_frame_is_normal();
+    normal_frame_is_its_form();
+    same_frames_have_one_form();
+    parts_read_once();
+    parts_are_sound();
+    text_laws();
+    written_items();
 }
 
 /// The spellings of frames of either kind. Profile.
 pub fn frames_are_canonical()
-    ensures { (level : Level) → IsCanonicalForm IsFrame (SameFrame level) (IsSpelledFrame level) }
+    ensures { (level : Level) →
+        IsWrittenForm IsFrame (SameFrame level) (IsSpelledFrame level) (frame_text level) }
 {
-    frames_have_texts();
+    datums_are_canonical();
 }
 
 /// The spellings of geodetic, projected, vertical and compound CRSs, and of base CRSs. Profile.
 pub fn kinds_are_canonical()
-    ensures base { (level : Level) → IsCanonicalForm IsBase (SameBase level) (IsSpelledBase level) }
-    ensures geodetic { (level : Level) → IsCanonicalForm IsGeodetic (SameGeodetic level) (IsSpelledGeodetic level) }
-    ensures projected { (level : Level) → IsCanonicalForm IsProjected (SameProjected level) (IsSpelledProjected level) }
-    ensures vertical { (level : Level) → IsCanonicalForm IsVertical (SameVertical level) (IsSpelledVertical level) }
-    ensures compound { (level : Level) → IsCanonicalForm IsCompound (SameCompound level) (IsSpelledCompound level) }
+    ensures base { (level : Level) →
+        IsWrittenForm IsBase (SameBase level) (IsSpelledBase level) (base_text level) }
+    ensures geodetic { (level : Level) →
+        IsWrittenForm IsGeodetic (SameGeodetic level) (IsSpelledGeodetic level) (geodetic_text level) }
+    ensures projected { (level : Level) →
+        IsWrittenForm IsProjected (SameProjected level) (IsSpelledProjected level) (projected_text level) }
+    ensures vertical { (level : Level) →
+        IsWrittenForm IsVertical (SameVertical level) (IsSpelledVertical level) (vertical_text level) }
+    ensures compound { (level : Level) →
+        IsWrittenForm IsCompound (SameCompound level) (IsSpelledCompound level) (compound_text level) }
 {
-    kinds_have_texts();
+    made_base_is_normal();
+    made_geodetic_is_normal();
+    made_projected_is_normal();
+    made_vertical_is_normal();
+    made_compound_is_normal();
+    crs_parts_are_read_back();
+    crs_is_read_back();
+    normal_base_is_its_form();
+    normal_crs_is_its_form();
+    same_kinds_have_one_form();
+    written_forms_are_equal_where_same();
+    parts_read_once();
+    parts_are_sound();
+    kinds_are_sound();
+    text_laws();
+    written_items();
 }
 
 /// The spellings of the horizontal parts of compound CRSs. Profile.
 pub fn horizontals_are_canonical()
-    ensures { (level : Level) → IsCanonicalForm IsHorizontalPart (SameHorizontal level) (IsSpelledHorizontal level) }
+    ensures { (level : Level) →
+        IsWrittenForm IsHorizontalPart (SameHorizontal level) (IsSpelledHorizontal level) (horizontal_text level) }
 {
-    horizontals_have_texts();
+    kinds_are_canonical();
+    written_forms_are_equal_where_same();
 }

@@ -1,5 +1,5 @@
 //! The one form of a value is read back from its item, wherever that stands in a text.
-ghost use Rattle.std.specs.Prelude.{◌≡◌, ℕ, Some, codes};
+ghost use Rattle.std.specs.Prelude.{◌≡◌, ℕ, Some};
 ghost use Rattle.crs_text.specs.Written.{at_place};
 ghost use Rattle.crs_shape.specs.declared.class.Class.TheVariants as class;
 ghost use Rattle.crs_shape.specs.ShapeFault.{class_of_root};
@@ -33,8 +33,8 @@ ghost use Rattle.crs_normal.specs.SpelledSystems.{norm_system};
 use crate::laws::sets::text_laws;
 use crate::laws::values::lower_laws;
 
-/// Ellipsoids and prime meridians are read back from their items; Greenwich is where none is given. Profile.
-pub fn frame_parts_are_read_back()
+// Ellipsoids and prime meridians are read back from their items; Greenwich is where none is given.
+pub(super) fn frame_parts_are_read_back()
     ensures ellipsoid { (level : Level) (ellipsoid : EllipsoidParts) (place : ℕ) → IsEllipsoid ellipsoid →
         ReadsEllipsoid class.Ellipsoid (at_place place (item_ellipsoid (norm_ellipsoid level ellipsoid)))
         (norm_ellipsoid level ellipsoid) }
@@ -47,9 +47,9 @@ pub fn frame_parts_are_read_back()
     text_laws();
 }
 
-/// So are the meridians of axes and the nodes of coordinate systems, conversions and their methods, deformation
-/// models, dynamic parts and base CRSs. Profile.
-pub fn crs_parts_are_read_back()
+// Axes and their meridians, the nodes of coordinate systems, conversions and their methods, deformation models, dynamic
+// parts and base CRSs are read back from their items.
+pub(super) fn crs_parts_are_read_back()
     ensures along { (level : Level) (meridian : AxisMeridianParts) (place : ℕ) → IsAxisMeridian meridian →
         ReadsAxisMeridian class.AxisMeridian (at_place place (item_axis_meridian (norm_axis_meridian level meridian)))
         (norm_axis_meridian level meridian) }
@@ -76,8 +76,8 @@ pub fn crs_parts_are_read_back()
     text_laws();
 }
 
-/// A CRS of each kind is, and the keyword of its item is that of its class. Profile.
-pub fn crs_is_read_back()
+// A CRS of each kind is read back from its item, of which the keyword is that of its class.
+pub(super) fn crs_is_read_back()
     ensures root { (level : Level) (crs : Crs) (place : ℕ) →
         class_of_root (at_place place (item_crs (norm_crs level crs))) ≡ Some (crs_class crs) }
     ensures reads { (level : Level) (crs : Crs) (place : ℕ) → IsCrs crs →

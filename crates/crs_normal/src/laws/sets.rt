@@ -1,7 +1,6 @@
 //! Sets: put in order, the one forms of the members are one list exactly where the sets are the same.
-ghost use Rattle.std.specs.Prelude.{◌≡◌, ◌≤◌, ◌↔◌, ℕ, List, Some, codes};
-ghost use Rattle.crs_text.specs.Items.{Item, IsNode, depth};
-ghost use Rattle.crs_text.specs.Written.{AreFormed, SameItem, at_place, item_text};
+ghost use Rattle.std.specs.Prelude.{◌≡◌, ◌↔◌, ℕ, List, Some, codes};
+ghost use Rattle.crs_text.specs.Written.{at_place, item_text};
 ghost use Rattle.crs_shape.specs.declared.class.Class.{Class};
 ghost use Rattle.crs_shape.specs.declared.class.Class.TheVariants as class;
 ghost use Rattle.crs_shape.specs.Slots.{class_named};
@@ -22,8 +21,6 @@ ghost use Rattle.crs_same.specs.SameIdents.{SameIdents};
 ghost use Rattle.crs_same.specs.SameUsages.{SameUsage};
 ghost use Rattle.crs_same.specs.Sets.{SameSet};
 ghost use Rattle.crs_normal.specs.Ascending.{Ascends, IsIn};
-ghost use Rattle.crs_normal.specs.Fit.{IsFit};
-ghost use Rattle.crs_normal.specs.Flat.{flat};
 ghost use Rattle.crs_normal.specs.Ordered.{in_order};
 ghost use Rattle.crs_normal.specs.SpelledConversions.{item_geoid_model, item_parameter, norm_geoid_model};
 ghost use Rattle.crs_normal.specs.SpelledConversions.{norm_parameter, set_geoid_models, set_parameters};
@@ -49,8 +46,8 @@ pub(super) fn text_laws()
     digits_alone();
 }
 
-/// Identifiers are the same set exactly where their one form is the same list. Profile.
-pub fn same_identifiers_have_one_form()
+// Identifiers are the same set exactly where their one form is the same list.
+pub(super) fn same_identifiers_have_one_form()
     ensures { (level : Level) (xs ys : List IdentParts) → Each IsIdent xs → Each IsIdent ys →
         (set_idents level xs ≡ set_idents level ys) ↔ SameIdents level xs ys }
 {
@@ -58,8 +55,8 @@ pub fn same_identifiers_have_one_form()
     members_read_once();
 }
 
-/// Likewise members of a datum ensemble. Profile.
-pub fn same_members_have_one_form()
+// Members of datum ensembles are the same set exactly where their one form is the same list.
+pub(super) fn same_members_have_one_form()
     ensures { (level : Level) (xs ys : List MemberParts) → Each IsMember xs → Each IsMember ys →
         (set_members level xs ≡ set_members level ys) ↔ SameSet (SameMember level) xs ys }
 {
@@ -67,8 +64,8 @@ pub fn same_members_have_one_form()
     members_read_once();
 }
 
-/// Likewise parameters of a conversion. Profile.
-pub fn same_parameters_have_one_form()
+// Parameters of conversions are the same set exactly where their one form is the same list.
+pub(super) fn same_parameters_have_one_form()
     ensures { (level : Level) (xs ys : List ParameterParts) → Each IsParameter xs → Each IsParameter ys →
         (set_parameters level xs ≡ set_parameters level ys) ↔ SameSet (SameParameter level) xs ys }
 {
@@ -76,8 +73,8 @@ pub fn same_parameters_have_one_form()
     members_read_once();
 }
 
-/// Likewise geoid models. Profile.
-pub fn same_geoid_models_have_one_form()
+// Geoid models are the same set exactly where their one form is the same list.
+pub(super) fn same_geoid_models_have_one_form()
     ensures { (level : Level) (xs ys : List GeoidModelParts) → Each IsGeoidModel xs → Each IsGeoidModel ys →
         (set_geoid_models level xs ≡ set_geoid_models level ys) ↔ SameSet (SameGeoidModel level) xs ys }
 {
@@ -85,8 +82,8 @@ pub fn same_geoid_models_have_one_form()
     members_read_once();
 }
 
-/// Likewise usages, of which the level may leave some out. Profile.
-pub fn same_usages_have_one_form()
+// Usages, of which the level may leave some out, are the same set exactly where their one form is the same list.
+pub(super) fn same_usages_have_one_form()
     ensures { (level : Level) (xs ys : List UsageParts) → Each IsUsage xs → Each IsUsage ys →
         (set_usages level xs ≡ set_usages level ys) ↔ SameSet SameUsage (kept level xs) (kept level ys) }
 {
@@ -94,20 +91,12 @@ pub fn same_usages_have_one_form()
     members_read_once();
 }
 
-/// Nodes that can be written, and whose written texts are equal, are equal but for places and delimiters. Profile.
-pub fn written_text_tells_the_item()
-    ensures { (i j : Item) → AreFormed i → IsNode i → depth i ≤ 12 → AreFormed j → IsNode j → depth j ≤ 12 →
-        item_text i ≡ item_text j → (at_place 0 i ≡ at_place 0 j) × SameItem i j × (flat i ≡ flat j) }
-{
-    text_laws();
-}
-
-/// The item of a member's one form reads as that form, wherever it stands in a text. Profile.
-pub fn members_are_read_back()
+// The item of a member's one form reads as that form, wherever it stands in a text.
+pub(super) fn members_are_read_back()
     ensures identifier { (ident : IdentParts) (place : ℕ) → IsIdent ident →
         ReadsIdent class.Identifier (at_place place (item_ident ident)) ident }
 
-    // A unit does in each class in which `ID` is an identifier.
+    // A unit is read back in each class in which `ID` is an identifier.
     ensures unit { (level : Level) (c : Class) (asked : UnitKind) (unit : UnitParts) (place : ℕ) →
         class_named c (codes "ID") ≡ Some class.Identifier → IsUnit unit →
         ReadsUnit c (at_place place (item_unit (norm_unit level asked unit))) (norm_unit level asked unit) }
@@ -130,27 +119,8 @@ pub fn members_are_read_back()
     text_laws();
 }
 
-/// The item of a member's one form can be written: it is well formed, and nests no deeper than this. Profile.
-pub fn members_can_be_written()
-    ensures identifier { (ident : IdentParts) → IsIdent ident → IsFit 2 (item_ident ident) }
-    ensures unit { (level : Level) (asked : UnitKind) (unit : UnitParts) → IsUnit unit →
-        IsFit 3 (item_unit (norm_unit level asked unit)) }
-    ensures member { (level : Level) (member : MemberParts) → IsMember member →
-        IsFit 3 (item_member (norm_member level member)) }
-    ensures parameter { (level : Level) (parameter : ParameterParts) → IsParameter parameter →
-        IsFit 4 (item_parameter (norm_parameter level parameter)) }
-    ensures geoid_model { (level : Level) (model : GeoidModelParts) → IsGeoidModel model →
-        IsFit 3 (item_geoid_model (norm_geoid_model level model)) }
-    ensures extent { (level : Level) (extent : ExtentParts) → IsExtent extent →
-        IsFit 4 (item_extent (norm_extent level extent)) }
-    ensures usage { (usage : UsageParts) → IsUsage usage →
-        IsFit 5 (item_usage (norm_usage usage)) × IsNode (item_usage (norm_usage usage)) }
-{
-    text_laws();
-}
-
-/// Members of which the one forms have equal texts have equal forms. Profile.
-pub fn member_texts_tell_members()
+// Members of which the one forms have equal texts have equal forms.
+pub(super) fn member_texts_tell_members()
     ensures identifier { (a b : IdentParts) → IsIdent a → IsIdent b →
         item_text (item_ident a) ≡ item_text (item_ident b) → a ≡ b }
     ensures unit { (level : Level) (asked : UnitKind) (a b : UnitParts) → IsUnit a → IsUnit b →

@@ -6,15 +6,18 @@ ghost use Rattle.crs_value.specs.declared.values.crs.Crs.{Crs};
 ghost use Rattle.crs_value.specs.declared.values.level.Level.{Level};
 ghost use Rattle.crs_value.specs.declared.values.level.Level.TheVariants as levels;
 ghost use Rattle.crs_same.specs.SameCrs.{SameCrs};
+ghost use Rattle.crs_text.specs.Items.{Item};
+ghost use Rattle.crs_text.specs.TextFault.{SpellsNode};
 ghost use Rattle.crs_text.specs.Written.{item_text};
+ghost use Rattle.crs_normal.specs.Closed.{IsClosed};
 ghost use Rattle.crs_normal.specs.Normal.{IsNormalText};
 ghost use Rattle.crs_normal.specs.SpelledCrs.{item_crs, norm_crs};
 
-use crate::laws::made::{made_crs_is_normal, made_text_is_normal};
+use crate::laws::made::{decimal_laws, made_crs_is_normal};
 use crate::laws::normal::normal_text_is_its_form;
 use crate::laws::read::crs_is_read_back;
 use crate::laws::values::same_crss_have_one_form;
-use crs_same::laws::same_crs_is_equivalence;
+use crs_same::laws::{one_axis_each, same_crs_is_equivalence};
 use crs_shape::laws::no_fault_is_shape;
 use crs_text::laws::written_items;
 use crs_value::laws::{one_answer, spelled_is_sound};
@@ -40,6 +43,15 @@ pub fn normal_texts_are_equal_where_same()
     one_answer();
 }
 
+/// The written form of a CRS is normal. Profile.
+pub fn written_form_is_normal()
+    ensures { (level : Level) (crs : Crs) → IsCrs crs → IsNormalText level (item_text (item_crs (norm_crs level crs))) }
+{
+    decimal_laws();
+    one_axis_each();
+    written_items();
+}
+
 /// The written form of a CRS is an accepted text, which spells the CRS's one form. Profile.
 pub fn written_form_is_accepted()
     ensures { (level : Level) (crs : Crs) → IsCrs crs →
@@ -57,7 +69,7 @@ pub fn one_form_is_the_same()
 {
     written_form_is_accepted();
     spelled_crs_is_sound();
-    made_text_is_normal();
+    written_form_is_normal();
     normal_text_is_its_form();
     same_crss_have_one_form();
     one_answer();
@@ -77,3 +89,11 @@ pub fn written_forms_are_equal_where_same()
 pub fn normal_text_is_normal_at_full()
     ensures { (level : Level) (bytes : List ℕ) → IsNormalText level bytes → IsNormalText levels.Full bytes }
 {}
+
+/// A normal text is a node, and closed. Profile.
+pub fn normal_text_is_closed_node()
+    ensures node { (level : Level) (bytes : List ℕ) → IsNormalText level bytes → (item : Item) × SpellsNode bytes item }
+    ensures closed { (level : Level) (bytes : List ℕ) → IsNormalText level bytes → IsClosed bytes }
+{
+    written_items();
+}

@@ -1,7 +1,5 @@
 //! The one form of a value decides whether it is the same as another.
-ghost use Rattle.std.specs.Prelude.{◌≡◌, ◌↔◌, ℕ, List};
-ghost use Rattle.crs_text.specs.TextFault.{SpellsNode};
-ghost use Rattle.crs_text.specs.Items.{Item};
+ghost use Rattle.std.specs.Prelude.{◌≡◌, ◌↔◌, ℕ};
 ghost use Rattle.crs_value.specs.Sound.{IsAxis, IsAxisMeridian, IsAxisUnit, IsUnit, IsUnitOf};
 ghost use Rattle.crs_value.specs.SoundCompound.{IsCompound, IsHorizontal};
 ghost use Rattle.crs_value.specs.SoundConversion.{IsConversion, IsGeoidModel, IsMethod, IsParameter};
@@ -26,7 +24,6 @@ ghost use Rattle.crs_same.specs.SameUsages.{SameBox, SameExtent, SameTail, SameU
 ghost use Rattle.crs_same.specs.Sets.{BothOrNeither};
 ghost use Rattle.crs_normal.specs.Decides.{DecidesSameness, FormDecides, IsNumbered, Maybe, SetsDecide};
 ghost use Rattle.crs_normal.specs.LowerLaws.{LowerLaws};
-ghost use Rattle.crs_normal.specs.Normal.{IsNormalText};
 ghost use Rattle.crs_normal.specs.PartTexts.{norm_axis_alone};
 ghost use Rattle.crs_normal.specs.SpelledConversions.{norm_conversion, norm_geoid_model};
 ghost use Rattle.crs_normal.specs.SpelledConversions.{norm_method, norm_parameter};
@@ -47,11 +44,6 @@ use crs_decimal::laws::{
     digits_alone, normal_is_one, one_form, plain_is_the_one, same_number_is_equivalence,
 };
 use crs_same::laws::{as_many_axes, one_axis_each};
-
-/// A normal text is a node.
-pub fn normal_is_node()
-    ensures { (level : Level) (bytes : List ℕ) → IsNormalText level bytes → (item : Item) × SpellsNode bytes item }
-{}
 
 // What is taken from the lower crates.
 pub(super) fn lower_laws()
@@ -77,9 +69,8 @@ fn sets_decide()
     same_usages_have_one_form();
 }
 
-/// Units have one form exactly where they are the same, whatever kind is asked; a missing unit of
-/// length is the metre. Profile.
-pub fn same_units_have_one_form()
+// Units have one form exactly where they are the same, whatever kind is asked; a missing unit of length is the metre.
+pub(super) fn same_units_have_one_form()
     ensures one { (level : Level) (asked : UnitKind) →
         FormDecides IsUnit (norm_unit level asked) (SameUnit asked level) }
     ensures optional { (level : Level) (asked : UnitKind) →
@@ -91,9 +82,9 @@ pub fn same_units_have_one_form()
     sets_decide();
 }
 
-/// So have ellipsoids, prime meridians, members, reference frames and ensembles; a missing prime
-/// meridian is Greenwich. Profile.
-pub fn same_frames_have_one_form()
+// Ellipsoids, prime meridians, members, reference frames and ensembles have one form exactly where they are the same; a
+// missing prime meridian is Greenwich.
+pub(super) fn same_frames_have_one_form()
     ensures ellipsoid { (level : Level) →
         FormDecides IsEllipsoid (norm_ellipsoid level) (SameEllipsoid level) }
     ensures meridian { (level : Level) →
@@ -113,9 +104,9 @@ pub fn same_frames_have_one_form()
     sets_decide();
 }
 
-/// So have coordinate systems, and the axes at one position of two. The number of axes has at most
-/// 18 digits. Profile.
-pub fn same_systems_have_one_form()
+// Coordinate systems, and the axes at one position of two, have one form exactly where they are the same. The number of
+// axes has at most 18 digits.
+pub(super) fn same_systems_have_one_form()
     ensures meridian { (level : Level) →
         FormDecides (Maybe IsAxisMeridian) (norm_axis_meridians level)
         (BothOrNeither (SameAxisMeridian level)) }
@@ -134,8 +125,8 @@ pub fn same_systems_have_one_form()
     sets_decide();
 }
 
-/// So have conversions, with their methods and parameters, and geoid models. Profile.
-pub fn same_conversions_have_one_form()
+// Conversions, methods, parameters and geoid models have one form exactly where they are the same.
+pub(super) fn same_conversions_have_one_form()
     ensures method { (level : Level) →
         FormDecides IsMethod (norm_method level) (SameMethod level) }
     ensures parameter { (level : Level) →
@@ -149,8 +140,8 @@ pub fn same_conversions_have_one_form()
     sets_decide();
 }
 
-/// So have deformation models and dynamic parts. Profile.
-pub fn same_dynamic_parts_have_one_form()
+// Deformation models and dynamic parts have one form exactly where they are the same.
+pub(super) fn same_dynamic_parts_have_one_form()
     ensures deformation_model { (level : Level) →
         FormDecides IsDeformationModel (norm_deformation_model level) (SameDeformationModel level) }
     ensures dynamic { (level : Level) →
@@ -160,8 +151,9 @@ pub fn same_dynamic_parts_have_one_form()
     sets_decide();
 }
 
-/// So have boxes, extents, usages and the ends of CRSs; what stands bare there is a usage. Profile.
-pub fn same_tails_have_one_form()
+// Boxes, extents, usages and the ends of CRSs have one form exactly where they are the same; what stands bare at an end
+// is a usage.
+pub(super) fn same_tails_have_one_form()
     ensures bounding_box { FormDecides IsBox (λ bounds. bounds) SameBox }
     ensures extent { (level : Level) →
         FormDecides IsExtent (norm_extent level) (SameExtent level) }
@@ -173,8 +165,8 @@ pub fn same_tails_have_one_form()
     sets_decide();
 }
 
-/// So have CRSs of each kind, base CRSs and the horizontal parts of compound CRSs. Profile.
-pub fn same_kinds_have_one_form()
+// CRSs of each kind, base CRSs and the horizontal parts of compound CRSs have one form exactly where they are the same.
+pub(super) fn same_kinds_have_one_form()
     ensures geodetic { (level : Level) →
         FormDecides IsGeodetic (norm_geodetic level) (SameGeodetic level) }
     ensures base { (level : Level) →
@@ -192,8 +184,8 @@ pub fn same_kinds_have_one_form()
     sets_decide();
 }
 
-/// CRSs have one form exactly where they are the same. Profile.
-pub fn same_crss_have_one_form()
+// CRSs have one form exactly where they are the same.
+pub(super) fn same_crss_have_one_form()
     ensures { DecidesSameness }
 {
     lower_laws();

@@ -1,5 +1,6 @@
-use Rattle.crs_normal.proofs.WrittenFormLemmas.{canonical}
+use Rattle.crs_normal.proofs.PartFrameLemmas.{frames-canonical}
 use Rattle.crs_normal.proofs.laws.parts.frames_are_canonical.Goals as goal
 
 pub returns : goal.returns
-returns c level = canonical _ _ _ _ (c.frames_have_texts.ensures level)
+returns c level =
+    frames-canonical level (c.datums_are_canonical.ensures.datum level) (c.datums_are_canonical.ensures.ensemble level)

@@ -1,5 +1,7 @@
-use Rattle.crs_normal.proofs.WrittenFormLemmas.{canonical}
+use Rattle.crs_normal.proofs.PartKindLemmas.{horizontals-canonical}
 use Rattle.crs_normal.proofs.laws.parts.horizontals_are_canonical.Goals as goal
 
 pub returns : goal.returns
-returns c level = canonical _ _ _ _ (c.horizontals_have_texts.ensures level)
+returns c level =
+    horizontals-canonical level (c.written_forms_are_equal_where_same.ensures level)
+    (c.kinds_are_canonical.ensures.geodetic level) (c.kinds_are_canonical.ensures.projected level)

@@ -1,5 +1,23 @@
-use Rattle.crs_normal.proofs.WrittenFormLemmas.{canonical}
+use Rattle.std.proofs.Common.{arith}
+use Rattle.crs_shape.specs.declared.class.Class.TheVariants as class
+use Rattle.crs_value.specs.Reads.{ReadsIdent}
+use Rattle.crs_value.specs.Sound.{IsIdent}
+use Rattle.crs_value.specs.declared.values.level.Level.TheVariants as levels
+use Rattle.crs_same.specs.SameIdents.{SameIdent}
+use Rattle.crs_normal.specs.SpelledUnits.{item_ident}
+use Rattle.crs_normal.proofs.IdentLemmas.{ident-agrees}
+use Rattle.crs_normal.proofs.PartLemmas.{canonical-form, made-stands, sound-form, unbroken-form}
 use Rattle.crs_normal.proofs.laws.parts.identifiers_are_canonical.Goals as goal
 
 pub returns : goal.returns
-returns c level = canonical _ _ _ _ (c.identifiers_have_texts.ensures level)
+returns c level =
+    canonical-form c.text_laws.ensures c.written_items.ensures.formed levels.Full (λ x. class.Identifier) ReadsIdent IsIdent
+    SameIdent (λ x. x) item_ident (record {
+      decides = λ a b p q. ident-agrees a b;
+      made = λ x s. made-stands levels.Full class.Identifier 2 _ (omega arith) (c.made_identifier_is_normal.ensures levels.Full x 0 s);
+      reads = λ x s. c.members_are_read_back.ensures.identifier x 0 s;
+      told = c.member_texts_tell_members.ensures.identifier;
+      sound = λ x s. c.parts_are_sound.ensures.ident class.Identifier;
+      own = λ x s. sound-form levels.Full class.Identifier ReadsIdent item_ident
+          (unbroken-form levels.Full class.Identifier ReadsIdent item_ident (c.normal_identifier_is_its_form.ensures levels.Full));
+    })

@@ -1,17 +1,89 @@
-use Rattle.crs_normal.proofs.WrittenFormLemmas.{canonical}
+use Rattle.std.proofs.Common.{arith}
+use Rattle.crs_text.specs.Written.{at_place}
+use Rattle.crs_shape.specs.declared.class.Class.TheVariants as class
+use Rattle.crs_value.specs.ReadsCrs.{ReadsBase, ReadsCompound, ReadsGeodetic, ReadsProjected, ReadsVertical}
+use Rattle.crs_value.specs.SoundCompound.{IsCompound}
+use Rattle.crs_value.specs.SoundSingle.{IsBase, IsGeodetic, IsProjected, IsVertical}
+use Rattle.crs_value.specs.declared.values.crs.Crs.TheVariants as crs
+use Rattle.crs_same.specs.SameCrs.{SameBase, SameCompound, SameGeodetic, SameProjected, SameVertical}
+use Rattle.crs_normal.specs.CrsClass.{geodetic_class}
+use Rattle.crs_normal.specs.SpelledCrs.{item_base, item_compound, item_geodetic, item_projected, item_vertical, norm_base, norm_compound, norm_geodetic, norm_projected, norm_vertical}
+use Rattle.crs_normal.proofs.PartKindLemmas.{geodetic-told, is-geodetic, own-geodetic}
+use Rattle.crs_normal.proofs.PartLemmas.{canonical-form, canonical-of, made-stands, sound-form}
 use Rattle.crs_normal.proofs.laws.parts.kinds_are_canonical.Goals as goal
 
 pub returns-clause-base : goal.returns-clause-base
-returns-clause-base c level = canonical _ _ _ _ (c.kinds_have_texts.ensures.base level)
+returns-clause-base c level =
+    canonical-of c.text_laws.ensures c.written_items.ensures.formed level class.BaseCrs 6 ReadsBase IsBase (SameBase level)
+    (norm_base level) item_base
+    (record {
+      few = omega arith;
+      decides = c.same_kinds_have_one_form.ensures.base level;
+      made = c.made_base_is_normal.ensures level;
+      reads = c.crs_parts_are_read_back.ensures.base level;
+      once = c.parts_read_once.ensures.base;
+      sound = c.parts_are_sound.ensures.base;
+      own = c.normal_base_is_its_form.ensures level;
+    })
 
 pub returns-clause-geodetic : goal.returns-clause-geodetic
-returns-clause-geodetic c level = canonical _ _ _ _ (c.kinds_have_texts.ensures.geodetic level)
+returns-clause-geodetic c level =
+    let own = c.normal_crs_is_its_form.ensures in
+    canonical-form c.text_laws.ensures c.written_items.ensures.formed level (λ x. geodetic_class x.system.system_type)
+    ReadsGeodetic IsGeodetic (SameGeodetic level) (norm_geodetic level) item_geodetic
+    (record {
+      decides = c.same_kinds_have_one_form.ensures.geodetic level;
+      made = λ x s. made-stands level (geodetic_class x.system.system_type) 6
+          (at_place 0 (item_geodetic (norm_geodetic level x))) (omega arith)
+          (c.made_geodetic_is_normal.ensures level x 0 s);
+      reads = λ x s. (c.crs_is_read_back.ensures.reads level (crs.Geodetic x) 0 s).1;
+      told = geodetic-told level (c.written_forms_are_equal_where_same.ensures level)
+          (c.same_kinds_have_one_form.ensures.geodetic level);
+      sound = λ x s. c.kinds_are_sound.ensures.geodetic (geodetic_class x.system.system_type)
+          (is-geodetic x.system.system_type);
+      own = λ x s. sound-form level (geodetic_class x.system.system_type) ReadsGeodetic
+          (λ v. item_geodetic (norm_geodetic level v))
+          (own-geodetic level (own.geodetic level) (own.geographic level) x.system.system_type);
+    })
 
 pub returns-clause-projected : goal.returns-clause-projected
-returns-clause-projected c level = canonical _ _ _ _ (c.kinds_have_texts.ensures.projected level)
+returns-clause-projected c level =
+    canonical-of c.text_laws.ensures c.written_items.ensures.formed level class.ProjectedCrs 7 ReadsProjected IsProjected (SameProjected level)
+    (norm_projected level) item_projected
+    (record {
+      few = omega arith;
+      decides = c.same_kinds_have_one_form.ensures.projected level;
+      made = c.made_projected_is_normal.ensures level;
+      reads = λ x place s. (c.crs_is_read_back.ensures.reads level (crs.Projected x) place s).1;
+      once = c.parts_read_once.ensures.projected;
+      sound = c.kinds_are_sound.ensures.projected;
+      own = c.normal_crs_is_its_form.ensures.projected level;
+    })
 
 pub returns-clause-vertical : goal.returns-clause-vertical
-returns-clause-vertical c level = canonical _ _ _ _ (c.kinds_have_texts.ensures.vertical level)
+returns-clause-vertical c level =
+    canonical-of c.text_laws.ensures c.written_items.ensures.formed level class.VerticalCrs 6 ReadsVertical IsVertical (SameVertical level)
+    (norm_vertical level) item_vertical
+    (record {
+      few = omega arith;
+      decides = c.same_kinds_have_one_form.ensures.vertical level;
+      made = c.made_vertical_is_normal.ensures level;
+      reads = λ x place s. (c.crs_is_read_back.ensures.reads level (crs.Vertical x) place s).1;
+      once = c.parts_read_once.ensures.vertical;
+      sound = c.kinds_are_sound.ensures.vertical;
+      own = c.normal_crs_is_its_form.ensures.vertical level;
+    })
 
 pub returns-clause-compound : goal.returns-clause-compound
-returns-clause-compound c level = canonical _ _ _ _ (c.kinds_have_texts.ensures.compound level)
+returns-clause-compound c level =
+    canonical-of c.text_laws.ensures c.written_items.ensures.formed level class.CompoundCrs 8 ReadsCompound IsCompound (SameCompound level)
+    (norm_compound level) item_compound
+    (record {
+      few = omega arith;
+      decides = c.same_kinds_have_one_form.ensures.compound level;
+      made = c.made_compound_is_normal.ensures level;
+      reads = λ x place s. (c.crs_is_read_back.ensures.reads level (crs.Compound x) place s).1;
+      once = c.parts_read_once.ensures.compound;
+      sound = c.kinds_are_sound.ensures.compound;
+      own = c.normal_crs_is_its_form.ensures.compound level;
+    })

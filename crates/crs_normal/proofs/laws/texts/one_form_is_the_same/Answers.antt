@@ -12,7 +12,7 @@ returns c level crs sound =
     let sound_n = c.spelled_crs_is_sound.ensures (item_text (item_crs n)) n once in
     let twice = c.written_form_is_accepted.ensures level n sound_n in
     let text : item_text (item_crs n) ≡ item_text (item_crs (norm_crs level n)) =
-    c.normal_text_is_its_form.ensures level (item_text (item_crs n)) n (c.made_text_is_normal.ensures level crs sound) once in
+    c.normal_text_is_its_form.ensures level (item_text (item_crs n)) n (c.written_form_is_normal.ensures level crs sound) once in
     let same : n ≡ norm_crs level n =
     c.one_answer.ensures.value (item_text (item_crs n)) n (norm_crs level n) once
     (subst (λ t. Spells t (norm_crs level n)) (sym text) twice) in

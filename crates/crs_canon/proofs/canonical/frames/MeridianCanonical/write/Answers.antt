@@ -1,17 +1,6 @@
-use Rattle.std.proofs.Common.{◌≡◌, ◌++◌, MatchResult, refl, rules}
-use Rattle.crs_value.specs.SoundFrames.{IsMeridian}
-use Rattle.crs_normal.specs.PartSpellings.{IsSpelledMeridian}
-use Rattle.crs_normal.specs.PartTexts.{meridian_text}
-use Rattle.crs_canon.proofs.SpellingLemmas.{appended}
+use Rattle.std.proofs.Common.{rules}
+use Rattle.crs_canon.proofs.SpellingLemmas.{spelled}
 use Rattle.crs_canon.proofs.canonical.frames.MeridianCanonical.write.Goals as goal
 
 pub returns : goal.returns
-returns c =
-    let value = c.args.self.now in
-    let before = c.args.out.now.items in
-    let after = c.append_argument.new.out.items in
-    let wrote : MatchResult c.append_argument.result (λ _. after ≡ before ++ meridian_text c.args.level value) (λ _. after ≡ before) =
-    search rules in
-    let is : IsMeridian value = search rules in
-    appended (IsSpelledMeridian c.args.level value) before after (meridian_text c.args.level value) c.append_argument.result wrote
-    (c.frame_parts_are_written.ensures.meridian c.args.level value (meridian_text c.args.level value) is refl)
+returns c = spelled _ _ _ (c.frame_parts_are_canonical.ensures.meridian c.args.level) (search rules) (search rules)

@@ -1,5 +1,0 @@
-use Rattle.crs_normal.proofs.WrittenFormLemmas.{written}
-use Rattle.crs_normal.proofs.laws.written.units_are_written.Goals as goal
-
-pub returns : goal.returns
-returns c level = written _ _ _ _ (c.units_have_texts.ensures level)
