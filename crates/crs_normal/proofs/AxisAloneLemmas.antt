@@ -53,7 +53,7 @@ unfolding is_keyword
 as-plain level (leaf kind place raw) shaped normal u reads = absurd reads.name
 as-plain level (node place keyword square first others close) shaped normal u reads =
     let s = shaped.1 in (
-      subst (λ w. IsTrue (is_keyword class.PlainUnit w)) (sym normal.0) refl,
+      subst (λ w. IsTrue (is_keyword class.PlainUnit w)) (sym normal.first_keyword) refl,
       (s.0, (s.1.0, (sym (named-alike first) ∙ s.1.1.0, (s.1.1.1.0, (shaped-alike s.1.0 others s.1.1.1.1.0, s.1.1.1.1.1))))),
     )
 
@@ -163,8 +163,8 @@ axis-alone-form law level (node place keyword square first others close) x shape
     let v4 = v3.1.1.1.1 in
     let v5 = v4.1.1.1.1 in
     let fair : (e : Class) → Each (IsFair level e) (those d e items) =
-    λ e. those-fair level e (s.0 ∷ s.1.0) items are normal.3 in
-    node-spelled place keyword _ square first others close _ normal.0
+    λ e. those-fair level e (s.0 ∷ s.1.0) items are normal.normal_arguments in
+    node-spelled place keyword _ square first others close _ normal.first_keyword
     (flats-spread d (slots_of d) items v
     ∙ one-spelled level d class.Text ReadsText text_item (text-form level d) (those d class.Text items) v.0
     (each-good level class.Text (λ e. cc) (those d class.Text items) (fair class.Text))
@@ -187,6 +187,6 @@ axis-alone-form law level (node place keyword square first others close) x shape
     (those-looked d class.AxisUnit (slots_of d) items v) (v4.1.1.0.not_more refl) x.unit reads.unit _ _
     (idents-found-spelled level d items v5.0
     (each-good level class.Identifier (λ e. cc) (those d class.Identifier items) (fair class.Identifier))
-    (those-looked d class.Identifier (slots_of d) items v) normal.2.0 normal.1.0 x.identifiers reads.identifiers End End refl)
+    (those-looked d class.Identifier (slots_of d) items v) normal.ascending_sets.0 normal.at_level.0 x.identifiers reads.identifiers End End refl)
     ∙ opt-plain level x.unit _))
     ∙ opt-meridians level x.meridian _)))

@@ -102,10 +102,15 @@ opened level parent c place keyword square first others close shaped normal =
     let s = shaped.1 in
     let are : AreShaped c (s.0 ∷ s.1.0) (More first others) = (s.1.1.0, (s.1.1.1.0, s.1.1.1.1.0)) in
     record {
-      written = normal.0;
-      own = normal.2;
-      sets = normal.3;
-      kept = record { classes = s.0 ∷ s.1.0; shaped = are; normal = (normal.4, normal.5); left = normal.1 };
+      written = normal.first_keyword;
+      own = normal.own_form;
+      sets = normal.ascending_sets;
+      kept = record {
+        classes = s.0 ∷ s.1.0;
+        shaped = are;
+        normal = normal.normal_arguments;
+        left = normal.at_level;
+      };
       slots = view c (s.0 ∷ s.1.0) (More first others) s.1.1.1.1.1 are;
     }
 

@@ -16,17 +16,19 @@ at-class P Q None f h = absurd h
 at-class P Q (Some d) f h = f d h
 
 mutual
-  normal-in : (level : Level) (parent c : Class) (item : Item) → IsNormalIn level parent c item → IsNormalIn levels.Full parent c item
+  pub normal-in : (level : Level) (parent c : Class) (item : Item) → IsNormalIn level parent c item → IsNormalIn levels.Full parent c item
   normal-in level parent c (leaf kind place raw) h = h
-  normal-in level parent c (node place keyword square first others close) h = (
-    h.0,
-    keeps-all c (node place keyword square first others close),
-    h.2,
-    h.3,
-    at-class (λ d. IsNormalIn level c d first) (λ d. IsNormalIn levels.Full c d first) (class_in c first)
-        (λ d n. normal-in level c d first n) h.4,
-    normal-all level c others h.5,
-  )
+  normal-in level parent c (node place keyword square first others close) h = record {
+    first_keyword = h.first_keyword;
+    at_level = keeps-all c (node place keyword square first others close);
+    own_form = h.own_form;
+    ascending_sets = h.ascending_sets;
+    normal_arguments = (
+      at-class (λ d. IsNormalIn level c d first) (λ d. IsNormalIn levels.Full c d first) (class_in c first)
+          (λ d n. normal-in level c d first n) h.normal_arguments.0,
+      normal-all level c others h.normal_arguments.1,
+    );
+  }
 
   normal-all : (level : Level) (c : Class) (items : Siblings) → AreNormalIn level c items → AreNormalIn levels.Full c items
   normal-all level c End h = h

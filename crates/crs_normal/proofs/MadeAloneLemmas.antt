@@ -254,12 +254,14 @@ module _ (l : DecimalLaws) (level : Level) (x : AxisParts) (h : IsAxis x) where
         within = omega arith;
         shaped = s.shaped;
         unbroken = s.unbroken;
-        normal = (
-          refl,
-          at-level level class.Axis alone_runs i look (identifiers-left level x.identifiers),
-          each-set class.Axis alone_runs i set_classes look (identifiers-ascend level x.identifiers, (tt, (tt, (tt, (tt, tt))))),
-          all-normal-alone level 4 4 (classes alone_runs) (More (text_item x.name) alone_others)
+        normal = record {
+          first_keyword = refl;
+          at_level = at-level level class.Axis alone_runs i look (identifiers-left level x.identifiers);
+          own_form = tt;
+          ascending_sets = each-set class.Axis alone_runs i set_classes look
+              (identifiers-ascend level x.identifiers, (tt, (tt, (tt, (tt, tt)))));
+          normal_arguments = all-normal-alone level 4 4 (classes alone_runs) (More (text_item x.name) alone_others)
               (subst (AreMade (AsArgument level) 4 class.Axis (classes alone_runs)) (sym alone-lines)
-              (made-lines (AsArgument level) 4 class.Axis alone_runs alone-made)),
-        );
+              (made-lines (AsArgument level) 4 class.Axis alone_runs alone-made));
+        };
       }

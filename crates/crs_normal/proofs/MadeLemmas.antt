@@ -318,15 +318,17 @@ node-at level most c keyword first others runs (d ∷ ds) p same q h k =
       );
       unbroken = λ fault b. unbroken-node c fault d (at_place (p + length keyword + 1) first) f.unbroken n
           (all-unbroken (IsNormalIn level) most c fault s ds others h.1) (k.unbroken i fault look) b;
-      normal = λ parent. (
-        k.written,
-        at-level level c runs i look k.left,
-        k.own i look,
-        each-set c runs i set_classes look k.sets,
-        at-class (λ e. IsNormalIn level c e (at_place (p + length keyword + 1) first))
-            (class_in c (at_place (p + length keyword + 1) first)) d n f.normal,
-        all-normal level most c s ds others h.1,
-      );
+      normal = λ parent. record {
+        first_keyword = k.written;
+        at_level = at-level level c runs i look k.left;
+        own_form = k.own i look;
+        ascending_sets = each-set c runs i set_classes look k.sets;
+        normal_arguments = (
+          at-class (λ e. IsNormalIn level c e (at_place (p + length keyword + 1) first))
+              (class_in c (at_place (p + length keyword + 1) first)) d n f.normal,
+          all-normal level most c s ds others h.1,
+        );
+      };
     }
 
 -- a node whose arguments are these runs is made
@@ -350,8 +352,7 @@ as-argument level n most parent c j h named made = record {
         within = omega arith;
         shaped = m.shaped;
         unbroken = m.unbroken;
-        normal =
-            m.normal parent;
+        normal = m.normal parent;
       };
 }
 

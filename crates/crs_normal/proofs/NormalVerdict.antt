@@ -211,8 +211,14 @@ abbrev mutual
   normal_in l parent c (leaf kind place raw) = single_in l parent kind raw
   normal_in l parent c (node place keyword square first others close) =
       via
-      (λ h. (h.0, all-kept c (node place keyword square first others close), h.1.0, h.1.1.0, h.1.1.1.0, h.1.1.1.1))
-      (λ h. (h.0, (h.2, (h.3, (h.4, h.5)))))
+      (λ h. record {
+        first_keyword = h.0;
+        at_level = all-kept c (node place keyword square first others close);
+        own_form = h.1.0;
+        ascending_sets = h.1.1.0;
+        normal_arguments = (h.1.1.1.0, h.1.1.1.1);
+      })
+      (λ r. (r.first_keyword, (r.own_form, (r.ascending_sets, (r.normal_arguments.0, r.normal_arguments.1)))))
       (both (written c keyword) (both (own c (node place keyword square first others close))
       (both (has_sets c (node place keyword square first others close))
       (both (at_class (class_in c first) (λ d. IsNormalIn levels.Full c d first) (λ d. normal_in l c d first))

@@ -1,23 +1,21 @@
 -- Normal boxes, extents and usages are the one form of their values.
-use Rattle.std.proofs.Common.{◌≡◌, true, false, codes, Option, Some, None, refl, ◌∙◌}
-use Rattle.crs_text.specs.Items.{Item, leaf, node, Siblings, End, More}
+use Rattle.std.proofs.Common.{◌≡◌, true, false, codes, refl, ◌∙◌}
+use Rattle.crs_text.specs.Items.{leaf, node, End, More}
 use Rattle.crs_text.specs.Tokens.{number, text, word}
 use Rattle.crs_shape.specs.declared.class.Class.{Class}
 use Rattle.crs_shape.specs.declared.class.Class.TheVariants as class
 use Rattle.crs_shape.specs.Slots.{slots_of}
-use Rattle.crs_shape.specs.ShapeFault.{class_in}
-use Rattle.crs_value.specs.Checks.{AtClass}
 use Rattle.crs_value.specs.Reading.{those}
 use Rattle.crs_value.specs.Reads.{ReadsBox, ReadsExtent, ReadsTextOf, ReadsUnit, ReadsUsage}
 use Rattle.crs_value.specs.declared.values.level.Level.{Level}
 use Rattle.crs_value.specs.declared.values.level.Level.TheVariants as levels
 use Rattle.crs_value.specs.declared.values.unit_kind.UnitKind.TheVariants as kinds
-use Rattle.crs_normal.specs.Normal.{AreNormalIn, IsNormalIn}
 use Rattle.crs_normal.specs.SpelledItems.{text_node}
 use Rattle.crs_normal.specs.SpelledUnits.{item_unit, norm_unit}
 use Rattle.crs_normal.specs.SpelledUsages.{item_box, item_extent, item_usage, norm_extent, norm_usage}
 use Rattle.crs_normal.proofs.FormLemmas.{Form, kept-good, node-spelled, opened, optional-spelled}
 use Rattle.crs_normal.proofs.LeafLemmas.{PlainIsOne, text-node-form}
+use Rattle.crs_normal.proofs.LevelLemmas.{normal-in}
 use Rattle.crs_normal.proofs.PairLemmas.{four-spelled, opt-length, opt-mapped, two-spelled}
 use Rattle.crs_normal.proofs.UnitNormalLemmas.{in-length, unit-form}
 use Rattle.crs_normal.proofs.ViewLemmas.{alone, flats-spread, those-looked}
@@ -65,30 +63,6 @@ extent-form law level c (node place keyword square first others close) x good re
     (those-looked d class.LengthUnit (slots_of d) items v) (v2.1.1.0.not_more refl) x.unit reads.unit End End refl
     ∙ opt-length (ReadsUnit class.LengthUnit) level (those d class.LengthUnit items) x.unit o.own reads.unit End))
 
--- what is normal at a level is normal where everything is kept
-at-each : {P Q : Class → Type 0} (o : Option Class) → ((d : Class) → P d → Q d) → AtClass o P → AtClass o Q
-at-each None f h = h
-at-each (Some d) f h = f d h
-
-mutual
-  full-normal : (level : Level) (parent c : Class) (item : Item) → IsNormalIn level parent c item →
-      IsNormalIn levels.Full parent c item
-  full-normal level parent c (leaf kind place raw) n = n
-  full-normal level parent c (node place keyword square first others close) n = (
-    n.0,
-    (refl, (refl, (refl, tt))),
-    n.2,
-    n.3,
-    at-each (class_in c first) (λ d. full-normal level c d first) n.4,
-    full-normals level c others n.5,
-  )
-
-  full-normals : (level : Level) (c : Class) (items : Siblings) → AreNormalIn level c items →
-      AreNormalIn levels.Full c items
-  full-normals level c End n = tt
-  full-normals level c (More item items) n =
-      (at-each (class_in c item) (λ d. full-normal level c d item) n.0, full-normals level c items n.1)
-
 full-usage-form : PlainIsOne → (c : Class) →
     Form levels.Full c class.Usage (ReadsUsage class.Usage) (λ u. item_usage (norm_usage u))
 full-usage-form law c (leaf number place raw) x good reads = let h : false ≡ true = good.shaped in cc
@@ -131,4 +105,4 @@ pub usage-form : PlainIsOne → (level : Level) (c : Class) →
     Form level c class.Usage (ReadsUsage class.Usage) (λ u. item_usage (norm_usage u))
 usage-form law level c item x good reads =
     full-usage-form law c item x
-    (record { shaped = good.shaped; normal = full-normal level c class.Usage item good.normal }) reads
+    (record { shaped = good.shaped; normal = normal-in level c class.Usage item good.normal }) reads

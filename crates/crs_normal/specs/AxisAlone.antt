@@ -10,8 +10,7 @@ use Rattle.crs_value.specs.Reads.{ReadsAxis}
 use Rattle.crs_value.specs.Values.{AxisParts}
 use Rattle.crs_value.specs.declared.values.level.Level.{Level}
 use Rattle.crs_same.specs.SameSystems.{SameAxisAlone}
-use Rattle.crs_normal.specs.Normal.{AtLevel, IsNormalIn, IsFirstKeyword}
-use Rattle.crs_normal.specs.NormalOwn.{HasSets}
+use Rattle.crs_normal.specs.Normal.{IsNormalIn, IsNormalNode}
 use Rattle.crs_normal.specs.SpelledAs.{IsSpelledBy}
 
 -- an argument of this class is normal in an axis, or is a unit that is a normal `UNIT`
@@ -27,15 +26,12 @@ AreNormalArguments level (More item items) =
     AtClass (class_in class.Axis item) (λ d. IsNormalArgument level d item)
     × AreNormalArguments level items
 
--- a node that is written as an axis, with nothing that the level leaves out, its sets in order and
--- normal arguments; its order and its unit are as it holds them
+-- a normal node that is written as an axis; its order and its unit are as it holds them
 abbrev pub IsNormalAxis : Level → Item → Type 0
 IsNormalAxis level (leaf kind place raw) = ⊥
 IsNormalAxis level (node place keyword square first others close) =
-    IsFirstKeyword class.Axis keyword
-    × AtLevel level class.Axis (node place keyword square first others close)
-    × HasSets class.Axis (node place keyword square first others close)
-    × AreNormalArguments level (More first others)
+    IsNormalNode level class.Axis keyword (node place keyword square first others close)
+    (AreNormalArguments level (More first others))
 
 -- the bytes are the one spelling of an axis by itself, with the order and the unit that it holds
 abbrev pub IsSpelledAxis : Level → AxisParts → List ℕ → Type 0

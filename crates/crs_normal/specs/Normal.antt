@@ -62,20 +62,25 @@ KeepsAll level c items = Each (λ d. kept level (those c d items) ≡ those c d 
 abbrev pub AtLevel : Level → Class → Item → Type 0
 AtLevel level c item = KeepsAll level c (arguments item)
 
+-- a node of class `c` with this keyword has the first keyword of its class, nothing that the level
+-- leaves out, what its class asks by itself, ascending sets, and arguments that are normal in this
+-- sense
+pub record IsNormalNode (level : Level) (c : Class) (keyword : List ℕ) (item : Item)
+    (AreNormal : Type 0) : Type 0 where
+  pub first_keyword : IsFirstKeyword c keyword
+  pub at_level : AtLevel level c item
+  pub own_form : HasOwnForm c item
+  pub ascending_sets : HasSets c item
+  pub normal_arguments : AreNormal
+
 abbrev mutual
   -- an item of class `c` in a node of class `parent`, or as a whole text where both are one: a
-  -- single item is written as such a node asks; a node has the first keyword of its class, nothing
-  -- that the level leaves out, what its class asks by itself, its sets in order, and normal
-  -- arguments
+  -- single item is written as such a node asks, a node is normal by itself and in its arguments
   pub IsNormalIn : Level → Class → Class → Item → Type 0
   IsNormalIn level parent c (leaf kind place raw) = IsSingleIn parent kind raw
   IsNormalIn level parent c (node place keyword square first others close) =
-      IsFirstKeyword c keyword
-      × AtLevel level c (node place keyword square first others close)
-      × HasOwnForm c (node place keyword square first others close)
-      × HasSets c (node place keyword square first others close)
-      × AtClass (class_in c first) (λ d. IsNormalIn level c d first)
-      × AreNormalIn level c others
+      IsNormalNode level c keyword (node place keyword square first others close)
+      (AtClass (class_in c first) (λ d. IsNormalIn level c d first) × AreNormalIn level c others)
 
   -- each of these arguments of a node of class `c` is normal there
   pub AreNormalIn : Level → Class → Siblings → Type 0
