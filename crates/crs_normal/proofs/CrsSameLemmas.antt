@@ -58,9 +58,7 @@ geodetic-small types.Vertical = tt
 
 projected-small : (t : SystemType) → Each IsSmall (projected_dimensions t)
 projected-small types.Cartesian = (omega arith, (omega arith, tt))
-projected-small types.Ellipsoidal = tt
-projected-small types.Spherical = tt
-projected-small types.Vertical = tt
+projected-small other = tt
 
 vertical-small : (t : SystemType) → Each IsSmall (vertical_dimensions t)
 vertical-small types.Cartesian = tt
@@ -253,15 +251,7 @@ module _ (laws : LowerLaws) (sets : SetsDecide) (level : Level) where
     λ e. record { kind = refl; parts = (compound-agrees a b in-a in-b).0 cc },
     λ s. ap (λ x. crs.Compound x) ((compound-agrees a b in-a in-b).1 s.parts),
   )
-  crs-agrees (crs.Geodetic a) (crs.Projected b) in-a in-b = (λ e. cc, λ s. absurd s.parts)
-  crs-agrees (crs.Geodetic a) (crs.Vertical b) in-a in-b = (λ e. cc, λ s. absurd s.parts)
-  crs-agrees (crs.Geodetic a) (crs.Compound b) in-a in-b = (λ e. cc, λ s. absurd s.parts)
-  crs-agrees (crs.Projected a) (crs.Geodetic b) in-a in-b = (λ e. cc, λ s. absurd s.parts)
-  crs-agrees (crs.Projected a) (crs.Vertical b) in-a in-b = (λ e. cc, λ s. absurd s.parts)
-  crs-agrees (crs.Projected a) (crs.Compound b) in-a in-b = (λ e. cc, λ s. absurd s.parts)
-  crs-agrees (crs.Vertical a) (crs.Geodetic b) in-a in-b = (λ e. cc, λ s. absurd s.parts)
-  crs-agrees (crs.Vertical a) (crs.Projected b) in-a in-b = (λ e. cc, λ s. absurd s.parts)
-  crs-agrees (crs.Vertical a) (crs.Compound b) in-a in-b = (λ e. cc, λ s. absurd s.parts)
-  crs-agrees (crs.Compound a) (crs.Geodetic b) in-a in-b = (λ e. cc, λ s. absurd s.parts)
-  crs-agrees (crs.Compound a) (crs.Projected b) in-a in-b = (λ e. cc, λ s. absurd s.parts)
-  crs-agrees (crs.Compound a) (crs.Vertical b) in-a in-b = (λ e. cc, λ s. absurd s.parts)
+  crs-agrees (crs.Geodetic a) other in-a in-b = (λ e. cc, λ s. absurd s.parts)
+  crs-agrees (crs.Projected a) other in-a in-b = (λ e. cc, λ s. absurd s.parts)
+  crs-agrees (crs.Vertical a) other in-a in-b = (λ e. cc, λ s. absurd s.parts)
+  crs-agrees (crs.Compound a) other in-a in-b = (λ e. cc, λ s. absurd s.parts)

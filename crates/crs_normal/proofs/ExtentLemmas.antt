@@ -4,7 +4,6 @@ use Rattle.crs_decimal.specs.Value.{Value, IsNormal}
 use Rattle.crs_text.specs.Items.{End, More}
 use Rattle.crs_text.specs.Written.{at_place}
 use Rattle.crs_shape.specs.declared.class.Class.TheVariants as class
-use Rattle.crs_shape.specs.Keywords.{is_keyword}
 use Rattle.crs_shape.specs.Slots.{class_named, is_class}
 use Rattle.crs_value.specs.KeptLaws.{kept-none}
 use Rattle.crs_value.specs.declared.values.level.Level.{Level}
@@ -25,7 +24,8 @@ use Rattle.crs_normal.specs.SpelledUsages.{item_box, item_extent, norm_extent}
 use Rattle.crs_normal.specs.TextLaws.{TextLaws}
 use Rattle.crs_normal.proofs.IdentLemmas.{ReadsIdentOnce, idents-agree, none-form, none-same}
 use Rattle.crs_normal.proofs.ItemLemmas.{Gives, IsOf, fit-end, fit-more, fit-node, fit-opt, gives-over, lacks-end, opt-read, value-fit}
-use Rattle.crs_normal.proofs.MemberUnitLemmas.{NamesId, number-read, unit-agrees, unit-fit, unit-kept, unit-read, values-agree}
+use Rattle.crs_normal.proofs.MemberUnitLemmas.{number-read, unit-agrees, unit-fit, unit-kept, unit-read, values-agree}
+use Rattle.crs_normal.proofs.ReadNameLemmas.{keyword-names}
 
 -- ---- units of length, where a missing one is the metre
 
@@ -132,18 +132,10 @@ pub record IsWrittenExtent (e : ExtentParts) : Type 0 where
   pub maximum : IsNormal e.maximum
   pub unit : IfSome e.unit IsLength
 
-length-names : NamesId class.LengthUnit
-unfolding class_named is_keyword
-length-names = refl
-
-named-length : class_named class.VerticalExtent (codes "LENGTHUNIT") ≡ Some class.LengthUnit
-unfolding class_named is_keyword
-named-length = refl
-
 length-is : (u : UnitParts) → IsLength u → IsOf true class.VerticalExtent class.LengthUnit (item_unit u)
 length-is u s place =
     ap (λ k. is_class class.LengthUnit (class_named class.VerticalExtent (unit_word k))) s.1 ∙
-    ap (is_class class.LengthUnit) named-length
+    ap (is_class class.LengthUnit) (keyword-names class.VerticalExtent (codes "LENGTHUNIT"))
 
 extent-unit : TextLaws → (e : ExtentParts) → IsWrittenExtent e →
     Gives class.VerticalExtent class.LengthUnit (λ l. ReadsOptional (ReadsUnit class.LengthUnit) l e.unit)
@@ -156,7 +148,7 @@ extent-unit laws e s =
     (number_item e.maximum)
     (opt item_unit e.unit End) (λ place. refl)
     (opt-read class.VerticalExtent class.LengthUnit item_unit IsLength (ReadsUnit class.LengthUnit) length-is
-    (λ u q. unit-read laws class.LengthUnit length-names u q.0) e.unit End s.unit
+    (λ u q. unit-read laws class.LengthUnit (keyword-names class.LengthUnit (codes "ID")) u q.0) e.unit End s.unit
     (lacks-end class.VerticalExtent class.LengthUnit)))
 
 pub extent-read : TextLaws → (e : ExtentParts) → IsWrittenExtent e → (place : ℕ) →

@@ -126,10 +126,8 @@ geodetic-args laws level c item k sets has_meridian has_axes has_tail v free few
     reads.meridian _)))
 
 plain-keyword : (t : SystemType) → t ≢ types.Ellipsoidal → codes "GEODCRS" ≡ geodetic_keyword t
-plain-keyword types.Ellipsoidal other = absurd (other refl)
-plain-keyword types.Cartesian other = refl
-plain-keyword types.Spherical other = refl
-plain-keyword types.Vertical other = refl
+plain-keyword types.Ellipsoidal n = absurd (n refl)
+plain-keyword other n = refl
 
 pub geodetic-form : Laws → (level : Level) (c : Class) →
     Form level c class.GeodeticCrs (Checked class.GeodeticCrs (ReadsGeodetic class.GeodeticCrs))

@@ -120,9 +120,7 @@ small-geographic types.Vertical = tt
 
 pub small-projected : (t : SystemType) → AreSmall (projected_dimensions t)
 small-projected types.Cartesian = (omega arith, (omega arith, tt))
-small-projected types.Ellipsoidal = tt
-small-projected types.Spherical = tt
-small-projected types.Vertical = tt
+small-projected other = tt
 
 pub small-vertical : (t : SystemType) → AreSmall (vertical_dimensions t)
 small-vertical types.Cartesian = tt

@@ -38,7 +38,7 @@ use Rattle.crs_normal.proofs.MadePlaceLemmas.{class-at}
 use Rattle.crs_normal.proofs.MadeUnitLemmas.{unit-kept, unit-made, unit_as, unit_runs}
 use Rattle.crs_normal.proofs.MadeWordLemmas.{direction-letters}
 use Rattle.crs_normal.proofs.PartLemmas.{IsStanding}
-use Rattle.crs_normal.proofs.ReadNameLemmas
+use Rattle.crs_normal.proofs.ReadNameLemmas.{keyword-names}
 
 -- ---- nodes that are accepted
 
@@ -127,7 +127,7 @@ module _ (l : DecimalLaws) (level : Level) (u : UnitParts) (h : IsUnit u) where
 
   plain-alone : MadeBy (AsArgument level) 4 class.Axis class.AxisUnit (item_unit (unit_as level kinds.Plain u))
   plain-alone = record {
-    named = ReadNameLemmas.axis-unit;
+    named = keyword-names class.Axis (codes "UNIT");
     fine = λ p.
         let s = plain-stands p in
         let w : depth (at_place p (item_unit (unit_as level kinds.Plain u))) ≤ 3 = s.within in
@@ -145,11 +145,11 @@ module _ (l : DecimalLaws) (level : Level) (u : UnitParts) (h : IsUnit u) where
   unit-alone kinds.Length n =
       made-alone level 4 class.AxisUnit (item_unit (unit_as level kinds.Length u))
       (as-argument level 3 4 class.Axis class.AxisUnit (item_unit (unit_as level kinds.Length u)) (omega arith)
-      ReadNameLemmas.axis-lengthunit (unit-made l level class.AxisUnit kinds.Length u (inl refl) h))
+      (keyword-names class.Axis (codes "LENGTHUNIT")) (unit-made l level class.AxisUnit kinds.Length u (inl refl) h))
   unit-alone kinds.Angle n =
       made-alone level 4 class.AxisUnit (item_unit (unit_as level kinds.Angle u))
       (as-argument level 3 4 class.Axis class.AxisUnit (item_unit (unit_as level kinds.Angle u)) (omega arith)
-      ReadNameLemmas.axis-angleunit (unit-made l level class.AxisUnit kinds.Angle u (inr refl) h))
+      (keyword-names class.Axis (codes "ANGLEUNIT")) (unit-made l level class.AxisUnit kinds.Angle u (inr refl) h))
   unit-alone kinds.Scale n = absurd (n refl)
   unit-alone kinds.Plain n = plain-alone
 

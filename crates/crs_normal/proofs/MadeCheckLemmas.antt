@@ -28,19 +28,19 @@ use Rattle.crs_normal.proofs.MadeEllipsoidLemmas.{placed-some}
 use Rattle.crs_normal.proofs.MadePlaceLemmas.{ArePlaced}
 use Rattle.crs_normal.proofs.MadeSystemLemmas.{AreAxisItems, IsHeadItem}
 use Rattle.crs_normal.proofs.MadeUnitLemmas.{reads-one}
-use Rattle.crs_normal.proofs.MadeWordLemmas.{one-direction, one-type}
+use Rattle.crs_normal.proofs.WordFormLemmas.{direction-one, type-one}
 
 -- ---- what is read is what was written
 
 pub word-type : (t v : SystemType) (words : List Item) → ArePlaced words (word_item (system_word t) ∷ []) →
     ReadsFirst ReadsType words v → t ≡ v
 word-type t v [] p r = absurd p
-word-type t v (x ∷ words) p r = one-type t v (subst (λ i. ReadsType i v) p.0.1 r)
+word-type t v (x ∷ words) p r = type-one t v (subst (λ i. ReadsType i v) p.0.1 r)
 
 word-direction : (d v : Direction) (words : List Item) → ArePlaced words (word_item (direction_word d) ∷ []) →
     ReadsFirst ReadsDirection words v → d ≡ v
 word-direction d v [] p r = absurd p
-word-direction d v (x ∷ words) p r = one-direction d v (subst (λ i. ReadsDirection i v) p.0.1 r)
+word-direction d v (x ∷ words) p r = direction-one d v (subst (λ i. ReadsDirection i v) p.0.1 r)
 
 pub first-number : DecimalLaws → (v value : Value) (numbers : List Item) → IsNormal v →
     ArePlaced numbers (number_item v ∷ []) →

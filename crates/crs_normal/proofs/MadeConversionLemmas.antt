@@ -44,16 +44,12 @@ given_class (Some u) = kind_class (kind_as kinds.Plain u.kind)
 
 kind-in : (k : UnitKind) → IsKindIn (kind_class k) k
 kind-in kinds.Length = refl
-kind-in kinds.Angle = refl
-kind-in kinds.Scale = refl
-kind-in kinds.Plain = refl
+kind-in other = refl
 
 kind-named : (k : UnitKind) → class_named class.Parameter (unit_word k) ≡ Some (kind_class k)
 unfolding class_named is_keyword
 kind-named kinds.Length = refl
-kind-named kinds.Angle = refl
-kind-named kinds.Scale = refl
-kind-named kinds.Plain = refl
+kind-named other = refl
 
 parameter-unit : DecimalLaws → (level : Level) (x : Option UnitParts) → IfSome x IsUnit →
     Each (Made level 3 class.Parameter (given_class x)) (given item_unit (norm_units level kinds.Plain x))
@@ -74,9 +70,7 @@ parameter_runs level c p =
 kind-sets : (level : Level) (k : UnitKind) (p : ParameterParts) →
     Each (λ d. Ascend (items_in d (parameter_runs level (kind_class k) p))) set_classes
 kind-sets level kinds.Length p = (identifiers-ascend level p.identifiers, (tt, (tt, (tt, (tt, tt)))))
-kind-sets level kinds.Angle p = (identifiers-ascend level p.identifiers, (tt, (tt, (tt, (tt, tt)))))
-kind-sets level kinds.Scale p = (identifiers-ascend level p.identifiers, (tt, (tt, (tt, (tt, tt)))))
-kind-sets level kinds.Plain p = (identifiers-ascend level p.identifiers, (tt, (tt, (tt, (tt, tt)))))
+kind-sets level other p = (identifiers-ascend level p.identifiers, (tt, (tt, (tt, (tt, tt)))))
 
 parameter-sets : (level : Level) (x : Option UnitParts) (p : ParameterParts) →
     Each (λ d. Ascend (items_in d (parameter_runs level (given_class x) p))) set_classes
@@ -86,9 +80,7 @@ parameter-sets level (Some u) p = kind-sets level (kind_as kinds.Plain u.kind) p
 kind-left : (level : Level) (k : UnitKind) (p : ParameterParts) →
     KeepsRuns level (parameter_runs level (kind_class k) p)
 kind-left level kinds.Length p = identifiers-left level p.identifiers
-kind-left level kinds.Angle p = identifiers-left level p.identifiers
-kind-left level kinds.Scale p = identifiers-left level p.identifiers
-kind-left level kinds.Plain p = identifiers-left level p.identifiers
+kind-left level other p = identifiers-left level p.identifiers
 
 parameter-left : (level : Level) (x : Option UnitParts) (p : ParameterParts) →
     KeepsRuns level (parameter_runs level (given_class x) p)
@@ -100,9 +92,7 @@ unit_classes = class.PlainUnit ∷ class.LengthUnit ∷ class.AngleUnit ∷ clas
 
 kind-taken : (k : UnitKind) → takes (optional_of unit_classes) (kind_class k) ≡ true
 kind-taken kinds.Length = refl
-kind-taken kinds.Angle = refl
-kind-taken kinds.Scale = refl
-kind-taken kinds.Plain = refl
+kind-taken other = refl
 
 given-taken : (x : Option UnitParts) → takes (optional_of unit_classes) (given_class x) ≡ true
 given-taken None = refl

@@ -54,17 +54,13 @@ crs-made l each_at level (crs.Compound g) h p = compound-made l each_at level g 
 geodetic-root : (t : SystemType) → root_named (geodetic_keyword t) ≡ Some (geodetic_class t)
 unfolding root_named is_keyword
 geodetic-root types.Cartesian = refl
-geodetic-root types.Ellipsoidal = refl
-geodetic-root types.Spherical = refl
-geodetic-root types.Vertical = refl
+geodetic-root other = refl
 
 pub crs-root : (level : Level) (c : Crs) (p : ℕ) →
     class_of_root (at_place p (item_crs (norm_crs level c))) ≡ Some (crs_class c)
 unfolding root_named is_keyword
 crs-root level (crs.Geodetic g) p = geodetic-root g.system.system_type
-crs-root level (crs.Projected g) p = refl
-crs-root level (crs.Vertical g) p = refl
-crs-root level (crs.Compound g) p = refl
+crs-root level other p = refl
 
 -- a text's item stands at the text's places
 mutual

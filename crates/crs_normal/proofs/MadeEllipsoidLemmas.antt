@@ -42,9 +42,7 @@ suits-kind asked kind (inl e) = ap (kind_as asked) e ∙ itself asked
   where
     itself : (k : UnitKind) → kind_as k k ≡ k
     itself kinds.Length = refl
-    itself kinds.Angle = refl
-    itself kinds.Scale = refl
-    itself kinds.Plain = refl
+    itself other = refl
 
 -- a unit of the asked kind as an argument
 pub unit-argument : DecimalLaws → (level : Level) (most : ℕ) (parent c : Class) (asked : UnitKind) (u : UnitParts) →

@@ -131,9 +131,7 @@ projected_runs level g =
 
 projected-small : (t : SystemType) → Each (λ m. m ≤ 3) (projected_dimensions t)
 projected-small types.Cartesian = (omega arith, (omega arith, tt))
-projected-small types.Ellipsoidal = tt
-projected-small types.Spherical = tt
-projected-small types.Vertical = tt
+projected-small other = tt
 
 projected-few : DecimalLaws → AxisEach → (g : ProjectedParts) → IsProjected g → IsFew g.system
 projected-few l each_at g h = few-system l each_at projected_dimensions projected-small g.system h.system h.dimension

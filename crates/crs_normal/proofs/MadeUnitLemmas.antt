@@ -83,9 +83,7 @@ unit-written other kind h = absurd h
 
 unit-letters : (kind : UnitKind) → IsWord (unit_word kind)
 unit-letters kinds.Length = (refl, refl)
-unit-letters kinds.Angle = (refl, refl)
-unit-letters kinds.Scale = (refl, refl)
-unit-letters kinds.Plain = (refl, refl)
+unit-letters other = (refl, refl)
 
 unit-own : (c : Class) (kind : UnitKind) (item : Item) → IsKindIn c kind → HasOwnForm c item
 unit-own class.LengthUnit kind item h = tt

@@ -5,8 +5,6 @@ use Rattle.crs_text.specs.Items.{Item, End, More}
 use Rattle.crs_text.specs.Written.{at_place, item_text}
 use Rattle.crs_shape.specs.declared.class.Class.{Class}
 use Rattle.crs_shape.specs.declared.class.Class.TheVariants as class
-use Rattle.crs_shape.specs.Keywords.{is_keyword}
-use Rattle.crs_shape.specs.Slots.{class_named}
 use Rattle.crs_value.specs.ConversionValues.{GeoidModelParts}
 use Rattle.crs_value.specs.declared.values.level.Level.{Level}
 use Rattle.crs_value.specs.Reading.{ReadsEach}
@@ -29,6 +27,7 @@ use Rattle.crs_normal.proofs.IdentLemmas.{ReadsIdentOnce, idents-agree, idents-k
 use Rattle.crs_normal.proofs.ItemLemmas.{Gives, fit-node, gives-over, told}
 use Rattle.crs_normal.proofs.MemberUnitLemmas.{NamesId, identifiers-fit, identifiers-read}
 use Rattle.crs_normal.proofs.SetLemmas.{set-agrees}
+use Rattle.crs_normal.proofs.ReadNameLemmas.{keyword-names}
 
 abbrev ReadsIds : List IdentParts → List Item → Type 0
 ReadsIds identifiers l = ReadsEach (ReadsIdent class.Identifier) l identifiers
@@ -41,19 +40,11 @@ named-identifiers c e name identifiers s =
     gives-over c class.Identifier (ReadsIds identifiers) (text_item name) (each item_ident identifiers End) (λ p. refl)
     (identifiers-read c e identifiers s)
 
-member-names : NamesId class.Member
-unfolding class_named is_keyword
-member-names = refl
-
-geoid-names : NamesId class.GeoidModel
-unfolding class_named is_keyword
-geoid-names = refl
-
 -- ---- members of an ensemble
 
 pub member-read : (m : MemberParts) → IsMember m → (place : ℕ) →
     ReadsMember class.Member (at_place place (item_member m)) m
-member-read m s place = record { name = refl; identifiers = named-identifiers class.Member member-names m.name m.identifiers s.identifiers (place + 6) }
+member-read m s place = record { name = refl; identifiers = named-identifiers class.Member (keyword-names class.Member (codes "ID")) m.name m.identifiers s.identifiers (place + 6) }
 
 pub member-fit : TextLaws → (m : MemberParts) → IsMember m → IsFit 3 (item_member m)
 member-fit laws m s =
@@ -98,7 +89,7 @@ members-agree laws idents once level xs ys p q =
 pub geoid-read : (g : GeoidModelParts) → IsGeoidModel g → (place : ℕ) →
     ReadsGeoidModel class.GeoidModel (at_place place (item_geoid_model g)) g
 geoid-read g s place =
-    record { name = refl; identifiers = named-identifiers class.GeoidModel geoid-names g.name g.identifiers s.identifiers (place + 10) }
+    record { name = refl; identifiers = named-identifiers class.GeoidModel (keyword-names class.GeoidModel (codes "ID")) g.name g.identifiers s.identifiers (place + 10) }
 
 pub geoid-fit : TextLaws → (g : GeoidModelParts) → IsGeoidModel g → IsFit 3 (item_geoid_model g)
 geoid-fit laws g s =

@@ -7,7 +7,6 @@ use Rattle.crs_text.specs.Tokens.{IsWord}
 use Rattle.crs_text.specs.Written.{at_place, item_text}
 use Rattle.crs_shape.specs.declared.class.Class.{Class}
 use Rattle.crs_shape.specs.declared.class.Class.TheVariants as class
-use Rattle.crs_shape.specs.Keywords.{is_keyword}
 use Rattle.crs_shape.specs.Slots.{class_named, is_class}
 use Rattle.crs_value.specs.declared.values.level.Level.{Level}
 use Rattle.crs_value.specs.declared.values.unit_kind.UnitKind.{UnitKind}
@@ -25,6 +24,7 @@ use Rattle.crs_normal.specs.SpelledUnits.{item_ident, item_unit, norm_unit, norm
 use Rattle.crs_normal.specs.TextLaws.{TextLaws}
 use Rattle.crs_normal.proofs.IdentLemmas.{ReadsIdentOnce, ident-fit, ident-read, idents-agree, idents-kept, text-fit, writable}
 use Rattle.crs_normal.proofs.ItemLemmas.{AreFit, IsOf, Gives, each-over, each-read, fit-deeper, fit-each, fit-end, fit-more, fit-node, gives-over, lacks-end, told, value-fit}
+use Rattle.crs_normal.proofs.ReadNameLemmas.{keyword-names}
 
 -- ---- the identifiers of a node
 
@@ -80,9 +80,7 @@ unit-read laws c e u s place = record {
 
 unit-is-word : (k : UnitKind) → IsWord (unit_word k)
 unit-is-word kinds.Length = (refl, refl)
-unit-is-word kinds.Angle = (refl, refl)
-unit-is-word kinds.Scale = (refl, refl)
-unit-is-word kinds.Plain = (refl, refl)
+unit-is-word other = (refl, refl)
 
 pub unit-fit : TextLaws → (u : UnitParts) → IsUnit u → IsFit 3 (item_unit u)
 unit-fit laws u s =
@@ -90,10 +88,6 @@ unit-fit laws u s =
     (unit-is-word u.kind) (text-fit 2 u.name s.name)
     (fit-more 2 (number_item u.factor) (each item_ident u.identifiers End) (value-fit laws 2 u.factor s.factor)
     (identifiers-fit laws 2 (omega arith) u.identifiers s.identifiers))
-
-length-names : NamesId class.LengthUnit
-unfolding class_named is_keyword
-length-names = refl
 
 abbrev pub ReadsUnitOnce : Type 0
 ReadsUnitOnce = (c : Class) (item : Item) (a b : UnitParts) → ReadsUnit c item a → ReadsUnit c item b → a ≡ b
@@ -104,7 +98,7 @@ pub unit-told : TextLaws → ReadsUnitOnce → (a b : UnitParts) → IsUnit a �
 unit-told laws once =
     told item_unit (ReadsUnit class.LengthUnit) IsUnit laws (once class.LengthUnit)
     (λ x s. writable 3 (item_unit x) (omega arith) (unit-fit laws x s) tt)
-    (unit-read laws class.LengthUnit length-names)
+    (unit-read laws class.LengthUnit (keyword-names class.LengthUnit (codes "ID")))
 
 pub unit-kept : (level : Level) (asked : UnitKind) (u : UnitParts) → IsUnit u → IsUnit (norm_unit level asked u)
 unit-kept level asked u s = record {

@@ -31,10 +31,7 @@ use Rattle.crs_normal.proofs.IdentLemmas.{ReadsIdentOnce, idents-agree, idents-k
 use Rattle.crs_normal.proofs.ItemLemmas.{IsOf, Gives, Lacks, fit-more, fit-node, fit-opt, gives-first, gives-over, opt-over, told, value-fit}
 use Rattle.crs_normal.proofs.MemberUnitLemmas.{NamesId, identifiers-fit, identifiers-over, identifiers-read, number-read, unit-fit, unit-kept, unit-read, units-agree, values-agree}
 use Rattle.crs_normal.proofs.SetLemmas.{set-agrees}
-
-parameter-names : NamesId class.Parameter
-unfolding class_named is_keyword
-parameter-names = refl
+use Rattle.crs_normal.proofs.ReadNameLemmas.{keyword-names}
 
 abbrev parameter-items : List ℕ → Value → Siblings → Siblings
 parameter-items name value rest = More (text_item name) (More (number_item value) rest)
@@ -60,9 +57,7 @@ class-as kinds.Plain = class.PlainUnit
 named-as : (k : UnitKind) → class_named class.Parameter (unit_word k) ≡ Some (class-as k)
 unfolding class_named is_keyword
 named-as kinds.Length = refl
-named-as kinds.Angle = refl
-named-as kinds.Scale = refl
-named-as kinds.Plain = refl
+named-as other = refl
 
 unit-is : (d : Class) (b : Bool) (u : UnitParts) (k : UnitKind) → u.kind ≡ k → is_class d (Some (class-as k)) ≡ b →
     IsOf b class.Parameter d (item_unit u)
@@ -86,7 +81,7 @@ parameter-identifiers p s =
     (opt item_unit p.unit (each item_ident p.identifiers End))
     (opt-over class.Parameter class.Identifier item_unit unit-no-id
     (λ l. ReadsEach (ReadsIdent class.Identifier) l p.identifiers) p.unit
-    (each item_ident p.identifiers End) (identifiers-read class.Parameter parameter-names p.identifiers s))
+    (each item_ident p.identifiers End) (identifiers-read class.Parameter (keyword-names class.Parameter (codes "ID")) p.identifiers s))
 
 else-over : (d : Class) (Other : Option UnitParts → Type 0) (o : Option UnitParts) (items : Siblings) →
     Lacks class.Parameter d items → Other o →
@@ -102,7 +97,7 @@ module _ (laws : TextLaws) (name : List ℕ) (value : Value) (identifiers : List
       Lacks class.Parameter d (with-unit None)
   no-unit d t n i =
       behind-value d t n (λ l. l ≡ []) name value (each item_ident identifiers End)
-      (identifiers-over class.Parameter d parameter-names i (λ l. l ≡ []) identifiers refl)
+      (identifiers-over class.Parameter d (keyword-names class.Parameter (codes "ID")) i (λ l. l ≡ []) identifiers refl)
 
   other-unit : (d : Class) → is_class d (Some class.Text) ≡ false → is_class d (Some class.Number) ≡ false →
       is_class d (Some class.Identifier) ≡ false →
@@ -111,7 +106,7 @@ module _ (laws : TextLaws) (name : List ℕ) (value : Value) (identifiers : List
   other-unit d t n i u k e h =
       behind-value d t n (λ l. l ≡ []) name value (More (item_unit u) (each item_ident identifiers End))
       (gives-over class.Parameter d (λ l. l ≡ []) (item_unit u) (each item_ident identifiers End) (unit-is d false u k e h)
-      (identifiers-over class.Parameter d parameter-names i (λ l. l ≡ []) identifiers refl))
+      (identifiers-over class.Parameter d (keyword-names class.Parameter (codes "ID")) i (λ l. l ≡ []) identifiers refl))
 
   this-unit : (d : Class) (Other : Option UnitParts → Type 0) → is_class d (Some class.Text) ≡ false →
       is_class d (Some class.Number) ≡ false → NamesId d →
@@ -134,33 +129,17 @@ module _ (laws : TextLaws) (name : List ℕ) (value : Value) (identifiers : List
   abbrev From : List Class → Option UnitParts → ℕ → Option UnitParts → Type 0
   From ds o place = ReadsUnitOf ds class.Parameter (whole o place)
 
-  plain-names : NamesId class.PlainUnit
-  unfolding class_named is_keyword
-  plain-names = refl
-
-  length-names : NamesId class.LengthUnit
-  unfolding class_named is_keyword
-  length-names = refl
-
-  angle-names : NamesId class.AngleUnit
-  unfolding class_named is_keyword
-  angle-names = refl
-
-  scale-names : NamesId class.ScaleUnit
-  unfolding class_named is_keyword
-  scale-names = refl
-
   some-read : (u : UnitParts) → IsUnit u → (place : ℕ) (k : UnitKind) → u.kind ≡ k →
       ReadsUnitOf parameter_units class.Parameter (whole (Some u) place) (Some u)
   some-read u s place kinds.Plain e =
       this-unit class.PlainUnit (From (class.LengthUnit ∷ class.AngleUnit ∷ class.ScaleUnit ∷ []) (Some u) place) refl
-      refl plain-names u s kinds.Plain e refl
+      refl (keyword-names class.PlainUnit (codes "ID")) u s kinds.Plain e refl
       (place + 9)
   some-read u s place kinds.Length e =
       else-over class.PlainUnit (From (class.LengthUnit ∷ class.AngleUnit ∷ class.ScaleUnit ∷ []) (Some u) place)
       (Some u) (with-unit (Some u))
       (other-unit class.PlainUnit refl refl refl u kinds.Length e refl)
-      (this-unit class.LengthUnit (From (class.AngleUnit ∷ class.ScaleUnit ∷ []) (Some u) place) refl refl length-names
+      (this-unit class.LengthUnit (From (class.AngleUnit ∷ class.ScaleUnit ∷ []) (Some u) place) refl refl (keyword-names class.LengthUnit (codes "ID"))
       u s kinds.Length e refl (place + 9))
       (place + 9)
   some-read u s place kinds.Angle e =
@@ -170,7 +149,7 @@ module _ (laws : TextLaws) (name : List ℕ) (value : Value) (identifiers : List
       (else-over class.LengthUnit (From (class.AngleUnit ∷ class.ScaleUnit ∷ []) (Some u) place) (Some u)
       (with-unit (Some u))
       (other-unit class.LengthUnit refl refl refl u kinds.Angle e refl)
-      (this-unit class.AngleUnit (From (class.ScaleUnit ∷ []) (Some u) place) refl refl angle-names u s kinds.Angle e
+      (this-unit class.AngleUnit (From (class.ScaleUnit ∷ []) (Some u) place) refl refl (keyword-names class.AngleUnit (codes "ID")) u s kinds.Angle e
       refl (place + 9)) (place + 9))
       (place + 9)
   some-read u s place kinds.Scale e =
@@ -182,7 +161,7 @@ module _ (laws : TextLaws) (name : List ℕ) (value : Value) (identifiers : List
       (other-unit class.LengthUnit refl refl refl u kinds.Scale e refl)
       (else-over class.AngleUnit (From (class.ScaleUnit ∷ []) (Some u) place) (Some u) (with-unit (Some u))
       (other-unit class.AngleUnit refl refl refl u kinds.Scale e refl)
-      (this-unit class.ScaleUnit (From [] (Some u) place) refl refl scale-names u s kinds.Scale e refl (place + 9))
+      (this-unit class.ScaleUnit (From [] (Some u) place) refl refl (keyword-names class.ScaleUnit (codes "ID")) u s kinds.Scale e refl (place + 9))
       (place + 9)) (place + 9)) (place + 9)
 
   unit-of : (o : Option UnitParts) → IfSome o IsUnit → (place : ℕ) →

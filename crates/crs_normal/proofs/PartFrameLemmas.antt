@@ -23,8 +23,8 @@ use Rattle.crs_normal.specs.TextLaws.{TextLaws}
 use Rattle.crs_normal.proofs.PartLemmas.{IsItsFormSound}
 use Rattle.crs_normal.proofs.ReadDatumLemmas.{ellipsoid-in, geodetic-back, vertical-back}
 use Rattle.crs_normal.proofs.ReadFrameLemmas.{datum-read, ensemble-read}
-use Rattle.crs_normal.proofs.ReadNameLemmas
 use Rattle.crs_normal.proofs.WrittenFormLemmas.{IsOneText, one-text, written-form}
+use Rattle.crs_normal.proofs.ReadNameLemmas.{keyword-names}
 
 -- ---- with an ellipsoid or without
 
@@ -75,9 +75,9 @@ pub datum-in-one : TextLaws → (level : Level) (d : DatumParts) → IsDatum d �
     ReadsDatum class.GeodeticFrame (at_place p (item_own_datum (norm_datum level d))) (norm_datum level d)
 datum-in-one laws level d s p =
     datum-read laws class.GeodeticFrame (datum_keyword (option_map (norm_ellipsoid level) d.ellipsoid))
-    ReadNameLemmas.geodetic-frame-id ReadNameLemmas.geodetic-frame-anchor ReadNameLemmas.geodetic-frame-anchorepoch
+    (keyword-names class.GeodeticFrame (codes "ID")) (keyword-names class.GeodeticFrame (codes "ANCHOR")) (keyword-names class.GeodeticFrame (codes "ANCHOREPOCH"))
     level d s
-    (ellipsoid-in class.GeodeticFrame ReadNameLemmas.geodetic-frame-ellipsoid
+    (ellipsoid-in class.GeodeticFrame (keyword-names class.GeodeticFrame (codes "ELLIPSOID"))
     (option_map (norm_ellipsoid level) d.ellipsoid)) p
 
 abbrev pub GeodeticDatumSound : Type 0
@@ -138,9 +138,9 @@ ensemble-back laws level e s p =
 pub ensemble-in-one : TextLaws → (level : Level) (e : EnsembleParts) → IsEnsemble e → (p : ℕ) →
     ReadsEnsemble class.GeodeticEnsemble (at_place p (item_ensemble (norm_ensemble level e))) (norm_ensemble level e)
 ensemble-in-one laws level e s p =
-    ensemble-read laws class.GeodeticEnsemble ReadNameLemmas.geodetic-ensemble-id
-    ReadNameLemmas.geodetic-ensemble-member ReadNameLemmas.geodetic-ensemble-ensembleaccuracy level e s
-    (ellipsoid-in class.GeodeticEnsemble ReadNameLemmas.geodetic-ensemble-ellipsoid
+    ensemble-read laws class.GeodeticEnsemble (keyword-names class.GeodeticEnsemble (codes "ID"))
+    (keyword-names class.GeodeticEnsemble (codes "MEMBER")) (keyword-names class.GeodeticEnsemble (codes "ENSEMBLEACCURACY")) level e s
+    (ellipsoid-in class.GeodeticEnsemble (keyword-names class.GeodeticEnsemble (codes "ELLIPSOID"))
     (option_map (norm_ellipsoid level) e.ellipsoid)) p
 
 pub ensemble-sound : IsReadAs ReadsEnsemble (λ e. IsGeodeticFrame (frame.Ensemble e)) class.GeodeticEnsemble →

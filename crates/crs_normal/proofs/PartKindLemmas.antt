@@ -26,9 +26,7 @@ use Rattle.crs_normal.proofs.WrittenFormLemmas.{IsOneText, one-text, written-for
 
 pub is-geodetic : (t : SystemType) → IsGeodeticClass (geodetic_class t)
 is-geodetic types.Cartesian = tt
-is-geodetic types.Ellipsoidal = tt
-is-geodetic types.Spherical = tt
-is-geodetic types.Vertical = tt
+is-geodetic other = tt
 
 abbrev IsOwnGeodetic : Level → Class → Type 0
 IsOwnGeodetic level c = IsItsFormUnbroken level c ReadsGeodetic (λ g. item_geodetic (norm_geodetic level g))

@@ -16,22 +16,16 @@ use Rattle.crs_normal.specs.SpelledUnits.{item_unit, norm_unit}
 
 pub kind-in : (kind : UnitKind) → IsKindIn (unit_class kind) (kind_as kinds.Plain kind)
 kind-in kinds.Length = refl
-kind-in kinds.Angle = refl
-kind-in kinds.Scale = refl
-kind-in kinds.Plain = refl
+kind-in other = refl
 
 pub names-id : (kind : UnitKind) → class_named (unit_class kind) (codes "ID") ≡ Some class.Identifier
 unfolding class_named is_keyword
 names-id kinds.Length = refl
-names-id kinds.Angle = refl
-names-id kinds.Scale = refl
-names-id kinds.Plain = refl
+names-id other = refl
 
 pub is-unit_class : (kind : UnitKind) → IsUnitClass (unit_class kind)
 is-unit_class kinds.Length = tt
-is-unit_class kinds.Angle = tt
-is-unit_class kinds.Scale = tt
-is-unit_class kinds.Plain = tt
+is-unit_class other = tt
 
 abbrev IsOwnUnit : Level → Class → Type 0
 IsOwnUnit level c = IsItsForm level c ReadsUnit (λ u. item_unit (norm_unit level kinds.Plain u))

@@ -1,5 +1,5 @@
 -- Compound CRSs, and with them all CRSs, in their one form are read back from their items.
-use Rattle.std.proofs.Common.{◌≡◌, ℕ, ◌+◌, Bool, true, false, Some, List, [], ◌∷◌, refl, sym, ◌∙◌, ap, subst, if◌then◌else◌}
+use Rattle.std.proofs.Common.{◌≡◌, ℕ, ◌+◌, Bool, true, false, Some, List, [], ◌∷◌, refl, sym, ◌∙◌, ap, subst, if◌then◌else◌, codes}
 use Rattle.crs_text.specs.Items.{Item, Siblings, More, End}
 use Rattle.crs_text.specs.Written.{at_place, at_places}
 use Rattle.crs_shape.specs.declared.class.Class.{Class}
@@ -27,47 +27,43 @@ use Rattle.crs_normal.specs.TextLaws.{TextLaws}
 use Rattle.crs_normal.proofs.ReadCrsLemmas.{GeodeticNames, geodetic-read, projected-read, vertical-read}
 use Rattle.crs_normal.proofs.ReadEndLemmas.{tail-read, tail-segments}
 use Rattle.crs_normal.proofs.ReadFrameLemmas.{name-segment}
-use Rattle.crs_normal.proofs.ReadNameLemmas
 use Rattle.crs_normal.proofs.ReadDatumLemmas.{neither}
 use Rattle.crs_normal.proofs.ReadWalkLemmas.{IsIn, Passes, ReadsBack, Segment, first-field, lacking, lay, one-segment, pass-item}
+use Rattle.crs_normal.proofs.ReadNameLemmas.{keyword-names}
 
 geographic-names : GeodeticNames class.GeographicCrs
 geographic-names = record {
-  dynamics = ReadNameLemmas.geographic-crs-dynamic;
-  datums = ReadNameLemmas.geographic-crs-datum;
-  ensembles = ReadNameLemmas.geographic-crs-ensemble;
-  meridians = ReadNameLemmas.geographic-crs-primem;
-  heads = ReadNameLemmas.geographic-crs-cs;
-  axes = ReadNameLemmas.geographic-crs-axis;
-  usages = ReadNameLemmas.geographic-crs-usage;
-  identifiers = ReadNameLemmas.geographic-crs-id;
-  remarks = ReadNameLemmas.geographic-crs-remark;
+  dynamics = keyword-names class.GeographicCrs (codes "DYNAMIC");
+  datums = keyword-names class.GeographicCrs (codes "DATUM");
+  ensembles = keyword-names class.GeographicCrs (codes "ENSEMBLE");
+  meridians = keyword-names class.GeographicCrs (codes "PRIMEM");
+  heads = keyword-names class.GeographicCrs (codes "CS");
+  axes = keyword-names class.GeographicCrs (codes "AXIS");
+  usages = keyword-names class.GeographicCrs (codes "USAGE");
+  identifiers = keyword-names class.GeographicCrs (codes "ID");
+  remarks = keyword-names class.GeographicCrs (codes "REMARK");
 }
 
 geodetic-names : GeodeticNames class.GeodeticCrs
 geodetic-names = record {
-  dynamics = ReadNameLemmas.geodetic-crs-dynamic;
-  datums = ReadNameLemmas.geodetic-crs-datum;
-  ensembles = ReadNameLemmas.geodetic-crs-ensemble;
-  meridians = ReadNameLemmas.geodetic-crs-primem;
-  heads = ReadNameLemmas.geodetic-crs-cs;
-  axes = ReadNameLemmas.geodetic-crs-axis;
-  usages = ReadNameLemmas.geodetic-crs-usage;
-  identifiers = ReadNameLemmas.geodetic-crs-id;
-  remarks = ReadNameLemmas.geodetic-crs-remark;
+  dynamics = keyword-names class.GeodeticCrs (codes "DYNAMIC");
+  datums = keyword-names class.GeodeticCrs (codes "DATUM");
+  ensembles = keyword-names class.GeodeticCrs (codes "ENSEMBLE");
+  meridians = keyword-names class.GeodeticCrs (codes "PRIMEM");
+  heads = keyword-names class.GeodeticCrs (codes "CS");
+  axes = keyword-names class.GeodeticCrs (codes "AXIS");
+  usages = keyword-names class.GeodeticCrs (codes "USAGE");
+  identifiers = keyword-names class.GeodeticCrs (codes "ID");
+  remarks = keyword-names class.GeodeticCrs (codes "REMARK");
 }
 
 names-of : (t : SystemType) → GeodeticNames (geodetic_class t)
 names-of types.Ellipsoidal = geographic-names
-names-of types.Cartesian = geodetic-names
-names-of types.Spherical = geodetic-names
-names-of types.Vertical = geodetic-names
+names-of other = geodetic-names
 
 is-geodetic : (t : SystemType) → IsGeodeticClass (geodetic_class t)
 is-geodetic types.Ellipsoidal = tt
-is-geodetic types.Cartesian = tt
-is-geodetic types.Spherical = tt
-is-geodetic types.Vertical = tt
+is-geodetic other = tt
 
 abbrev compound : Class
 compound = class.CompoundCrs
@@ -75,11 +71,11 @@ compound = class.CompoundCrs
 geographic-in : (level : Level) (g : GeodeticParts) → g.system.system_type ≡ types.Ellipsoidal →
     IsIn compound class.GeographicCrs (item_geodetic (norm_geodetic level g))
 geographic-in level g e place =
-    ap (λ t. class_named compound (geodetic_keyword t)) e ∙ ReadNameLemmas.compound-crs-geogcrs
+    ap (λ t. class_named compound (geodetic_keyword t)) e ∙ (keyword-names class.CompoundCrs (codes "GEOGCRS"))
 
 projected-in : (level : Level) (p : ProjectedParts) →
     IsIn compound class.ProjectedCrs (item_projected (norm_projected level p))
-projected-in level p place = ReadNameLemmas.compound-crs-projcrs
+projected-in level p place = keyword-names class.CompoundCrs (codes "PROJCRS")
 
 -- ---- the horizontal part
 
@@ -100,7 +96,7 @@ module _ (laws : TextLaws) (lower : LowerLaws) (level : Level) (k : CompoundPart
   vertical-item = item_vertical (norm_vertical level k.vertical)
 
   vertical-in : IsIn compound class.VerticalCrs vertical-item
-  vertical-in place = ReadNameLemmas.compound-crs-vertcrs
+  vertical-in place = keyword-names class.CompoundCrs (codes "VERTCRS")
 
   abbrev vertical-segment : Segment compound
   vertical-segment = one-segment compound class.VerticalCrs vertical-item vertical-in
@@ -114,8 +110,8 @@ module _ (laws : TextLaws) (lower : LowerLaws) (level : Level) (k : CompoundPart
 
   abbrev compound-tail : List (Segment compound)
   compound-tail =
-      tail-segments laws compound ReadNameLemmas.compound-crs-usage ReadNameLemmas.compound-crs-id
-      ReadNameLemmas.compound-crs-remark level k.tail s.tail
+      tail-segments laws compound (keyword-names class.CompoundCrs (codes "USAGE")) (keyword-names class.CompoundCrs (codes "ID"))
+      (keyword-names class.CompoundCrs (codes "REMARK")) level k.tail s.tail
 
   abbrev behind : List (Segment compound)
   behind = vertical-segment ∷ compound-tail
@@ -178,8 +174,8 @@ module _ (laws : TextLaws) (lower : LowerLaws) (level : Level) (k : CompoundPart
         refl (λ l. ReadsFirst (ReadsVertical class.VerticalCrs) l (norm_vertical level k.vertical)) vertical-item
         vertical-in refl (λ p others. vertical-read laws lower level k.vertical s.vertical p) (place + 11);
     tail =
-        tail-read laws compound ReadNameLemmas.compound-crs-usage ReadNameLemmas.compound-crs-id
-        ReadNameLemmas.compound-crs-remark level k.tail s.tail
+        tail-read laws compound (keyword-names class.CompoundCrs (codes "USAGE")) (keyword-names class.CompoundCrs (codes "ID"))
+        (keyword-names class.CompoundCrs (codes "REMARK")) level k.tail s.tail
         (name-segment compound k.name ∷ horizontal-segment ∷ vertical-segment ∷ [])
         (at_place place (item_compound (norm_compound level k))) (place + 11) refl refl refl refl refl refl refl refl;
   }
@@ -200,14 +196,10 @@ crs-read laws lower level (crs.Compound k) s place = (refl, compound-read laws l
 keyword-named : (t : SystemType) → root_named (geodetic_keyword t) ≡ Some (geodetic_class t)
 unfolding root_named is_keyword
 keyword-named types.Ellipsoidal = refl
-keyword-named types.Cartesian = refl
-keyword-named types.Spherical = refl
-keyword-named types.Vertical = refl
+keyword-named other = refl
 
 pub crs-rooted : (level : Level) (x : Crs) (place : ℕ) →
     class_of_root (at_place place (item_crs (norm_crs level x))) ≡ Some (crs_class x)
 unfolding root_named is_keyword
 crs-rooted level (crs.Geodetic g) place = keyword-named g.system.system_type
-crs-rooted level (crs.Projected p) place = refl
-crs-rooted level (crs.Vertical v) place = refl
-crs-rooted level (crs.Compound k) place = refl
+crs-rooted level other place = refl

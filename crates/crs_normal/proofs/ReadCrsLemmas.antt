@@ -31,9 +31,9 @@ use Rattle.crs_normal.proofs.ReadDatumLemmas.{frame-read, frame-segment, geodeti
 use Rattle.crs_normal.proofs.ReadDynamicLemmas.{dynamic-field, dynamic-segment}
 use Rattle.crs_normal.proofs.ReadEndLemmas.{axes-segment, conversion-read, geoids-back, head-segment, system-read, tail-read, tail-segments}
 use Rattle.crs_normal.proofs.ReadFrameLemmas.{IsAngle, angles-back, angles-in, angles-kept, identifiers-field, identifiers-segment, meridian-read, name-segment}
-use Rattle.crs_normal.proofs.ReadNameLemmas
 use Rattle.crs_normal.proofs.ReadSystemLemmas.{AreWhole}
 use Rattle.crs_normal.proofs.ReadWalkLemmas.{AreIn, IsIn, MayIn, ReadsBack, Segment, each-all, each-field, each-segment, first-field, one-segment, opt-field, opt-segment, some-all}
+use Rattle.crs_normal.proofs.ReadNameLemmas.{keyword-names}
 
 -- ---- the axes are at most three
 
@@ -68,9 +68,7 @@ geodetic-few types.Vertical = tt
 
 projected-few : (t : SystemType) → Each IsFew (projected_dimensions t)
 projected-few types.Cartesian = (omega arith, (omega arith, tt))
-projected-few types.Ellipsoidal = tt
-projected-few types.Spherical = tt
-projected-few types.Vertical = tt
+projected-few other = tt
 
 vertical-few : (t : SystemType) → Each IsFew (vertical_dimensions t)
 vertical-few types.Cartesian = tt
@@ -159,54 +157,54 @@ module _ (laws : TextLaws) (level : Level) (b : BaseParts) (s : IsBase b) where
   base = class.BaseCrs
 
   abbrev base-dynamic : Segment base
-  base-dynamic = dynamic-segment base ReadNameLemmas.base-crs-dynamic level b.dynamic
+  base-dynamic = dynamic-segment base (keyword-names class.BaseCrs (codes "DYNAMIC")) level b.dynamic
 
   abbrev base-frame : Segment base
   base-frame =
-      frame-segment base class.GeodeticFrame class.GeodeticEnsemble (codes "DATUM") ReadNameLemmas.base-crs-datum
-      ReadNameLemmas.base-crs-ensemble (norm_frame level b.frame)
+      frame-segment base class.GeodeticFrame class.GeodeticEnsemble (codes "DATUM") (keyword-names class.BaseCrs (codes "DATUM"))
+      (keyword-names class.BaseCrs (codes "ENSEMBLE")) (norm_frame level b.frame)
 
   abbrev base-meridian : Segment base
   base-meridian =
       opt-segment base class.PrimeMeridian item_meridian (norm_meridian level b.meridian)
-      (meridian-in base ReadNameLemmas.base-crs-primem (norm_meridian level b.meridian))
+      (meridian-in base (keyword-names class.BaseCrs (codes "PRIMEM")) (norm_meridian level b.meridian))
 
   base-angle : IfSome (norm_units level kinds.Angle b.unit) IsAngle
   base-angle = angles-kept level b.unit s.unit
 
   base-unit-in : MayIn base class.AngleUnit item_unit (norm_units level kinds.Angle b.unit)
-  base-unit-in = angles-in base ReadNameLemmas.base-crs-angleunit (norm_units level kinds.Angle b.unit) base-angle
+  base-unit-in = angles-in base (keyword-names class.BaseCrs (codes "ANGLEUNIT")) (norm_units level kinds.Angle b.unit) base-angle
 
   abbrev base-unit : Segment base
   base-unit = opt-segment base class.AngleUnit item_unit (norm_units level kinds.Angle b.unit) base-unit-in
 
   abbrev base-identifiers : Segment base
-  base-identifiers = identifiers-segment base ReadNameLemmas.base-crs-id (set_idents level b.identifiers)
+  base-identifiers = identifiers-segment base (keyword-names class.BaseCrs (codes "ID")) (set_idents level b.identifiers)
 
   pub base-read : ReadsBack item_base (ReadsBase class.BaseCrs) (norm_base level b)
   base-read place = record {
     name = refl;
     dynamic =
-        dynamic-field base ReadNameLemmas.base-crs-dynamic level b.dynamic laws b.frame s.dynamic
+        dynamic-field base (keyword-names class.BaseCrs (codes "DYNAMIC")) level b.dynamic laws b.frame s.dynamic
         (name-segment base b.name ∷ []) (base-frame ∷ base-meridian ∷ base-unit ∷ base-identifiers ∷ []) refl refl
         (place + 11);
     frame =
-        frame-read base class.GeodeticFrame class.GeodeticEnsemble (codes "DATUM") ReadNameLemmas.base-crs-datum
-        ReadNameLemmas.base-crs-ensemble refl refl refl (norm_frame level b.frame)
+        frame-read base class.GeodeticFrame class.GeodeticEnsemble (codes "DATUM") (keyword-names class.BaseCrs (codes "DATUM"))
+        (keyword-names class.BaseCrs (codes "ENSEMBLE")) refl refl refl (norm_frame level b.frame)
         (geodetic-back laws level b.frame s.frame) (name-segment base b.name ∷ base-dynamic ∷ [])
         (base-meridian ∷ base-unit ∷ base-identifiers ∷ []) refl refl refl
         (at_place place (item_base (norm_base level b))) (place + 11) refl;
     meridian =
         opt-field base class.PrimeMeridian (name-segment base b.name ∷ base-dynamic ∷ base-frame ∷ []) (base-unit ∷ base-identifiers ∷ []) refl
         item_meridian (ReadsMeridian class.PrimeMeridian) refl refl (norm_meridian level b.meridian)
-        (meridian-in base ReadNameLemmas.base-crs-primem (norm_meridian level b.meridian))
+        (meridian-in base (keyword-names class.BaseCrs (codes "PRIMEM")) (norm_meridian level b.meridian))
         (meridian-read laws level b.meridian s.meridian) (place + 11);
     unit =
         opt-field base class.AngleUnit (name-segment base b.name ∷ base-dynamic ∷ base-frame ∷ base-meridian ∷ []) (base-identifiers ∷ []) refl
         item_unit (ReadsUnit class.AngleUnit) refl refl (norm_units level kinds.Angle b.unit) base-unit-in
         (angles-back laws (norm_units level kinds.Angle b.unit) base-angle) (place + 11);
     identifiers =
-        identifiers-field base ReadNameLemmas.base-crs-id
+        identifiers-field base (keyword-names class.BaseCrs (codes "ID"))
         (name-segment base b.name ∷ base-dynamic ∷ base-frame ∷ base-meridian ∷ base-unit ∷ []) refl level b.identifiers s.identifiers (place + 11);
   }
 
@@ -222,10 +220,10 @@ module _ (laws : TextLaws) (lower : LowerLaws) (level : Level) (p : ProjectedPar
       s.dimension
 
   base-in : IsIn projected class.BaseCrs (item_base (norm_base level p.base))
-  base-in place = ReadNameLemmas.projected-crs-basegeogcrs
+  base-in place = keyword-names class.ProjectedCrs (codes "BASEGEOGCRS")
 
   conversion-in : IsIn projected class.Conversion (item_conversion (norm_conversion level p.conversion))
-  conversion-in place = ReadNameLemmas.projected-crs-conversion
+  conversion-in place = keyword-names class.ProjectedCrs (codes "CONVERSION")
 
   abbrev projected-base : Segment projected
   projected-base = one-segment projected class.BaseCrs (item_base (norm_base level p.base)) base-in
@@ -236,18 +234,18 @@ module _ (laws : TextLaws) (lower : LowerLaws) (level : Level) (p : ProjectedPar
 
   abbrev projected-head : Segment projected
   projected-head =
-      head-segment laws projected ReadNameLemmas.projected-crs-cs ReadNameLemmas.projected-crs-axis level p.system
+      head-segment laws projected (keyword-names class.ProjectedCrs (codes "CS")) (keyword-names class.ProjectedCrs (codes "AXIS")) level p.system
       s.system projected-whole
 
   abbrev projected-axes : Segment projected
   projected-axes =
-      axes-segment laws projected ReadNameLemmas.projected-crs-cs ReadNameLemmas.projected-crs-axis level p.system
+      axes-segment laws projected (keyword-names class.ProjectedCrs (codes "CS")) (keyword-names class.ProjectedCrs (codes "AXIS")) level p.system
       s.system projected-whole
 
   abbrev projected-tail : List (Segment projected)
   projected-tail =
-      tail-segments laws projected ReadNameLemmas.projected-crs-usage ReadNameLemmas.projected-crs-id
-      ReadNameLemmas.projected-crs-remark level p.tail s.tail
+      tail-segments laws projected (keyword-names class.ProjectedCrs (codes "USAGE")) (keyword-names class.ProjectedCrs (codes "ID"))
+      (keyword-names class.ProjectedCrs (codes "REMARK")) level p.tail s.tail
 
   pub projected-read : ReadsBack item_projected (ReadsProjected class.ProjectedCrs) (norm_projected level p)
   projected-read place =
@@ -266,12 +264,12 @@ module _ (laws : TextLaws) (lower : LowerLaws) (level : Level) (p : ProjectedPar
             (item_conversion (norm_conversion level p.conversion)) conversion-in refl
             (λ q others. conversion-read laws level p.conversion s.conversion q) (place + 7);
         system =
-            system-read laws projected ReadNameLemmas.projected-crs-cs ReadNameLemmas.projected-crs-axis level p.system
+            system-read laws projected (keyword-names class.ProjectedCrs (codes "CS")) (keyword-names class.ProjectedCrs (codes "AXIS")) level p.system
             s.system projected-whole (name-segment projected p.name ∷ projected-base ∷ projected-conversion ∷ [])
             projected-tail item (place + 7) refl refl refl refl refl refl;
         tail =
-            tail-read laws projected ReadNameLemmas.projected-crs-usage ReadNameLemmas.projected-crs-id
-            ReadNameLemmas.projected-crs-remark level p.tail s.tail
+            tail-read laws projected (keyword-names class.ProjectedCrs (codes "USAGE")) (keyword-names class.ProjectedCrs (codes "ID"))
+            (keyword-names class.ProjectedCrs (codes "REMARK")) level p.tail s.tail
             (name-segment projected p.name ∷ projected-base ∷ projected-conversion ∷ projected-head ∷ projected-axes ∷
             []) item (place + 7) refl refl refl refl refl refl refl refl;
       }
@@ -288,27 +286,27 @@ module _ (laws : TextLaws) (lower : LowerLaws) (level : Level) (v : VerticalPart
       s.dimension
 
   abbrev vertical-dynamic : Segment vertical
-  vertical-dynamic = dynamic-segment vertical ReadNameLemmas.vertical-crs-dynamic level v.dynamic
+  vertical-dynamic = dynamic-segment vertical (keyword-names class.VerticalCrs (codes "DYNAMIC")) level v.dynamic
 
   abbrev vertical-frame : Segment vertical
   vertical-frame =
       frame-segment vertical class.VerticalFrame class.VerticalEnsemble (codes "VDATUM")
-      ReadNameLemmas.vertical-crs-vdatum ReadNameLemmas.vertical-crs-ensemble (norm_frame level v.frame)
+      (keyword-names class.VerticalCrs (codes "VDATUM")) (keyword-names class.VerticalCrs (codes "ENSEMBLE")) (norm_frame level v.frame)
 
   abbrev vertical-head : Segment vertical
   vertical-head =
-      head-segment laws vertical ReadNameLemmas.vertical-crs-cs ReadNameLemmas.vertical-crs-axis level v.system s.system
+      head-segment laws vertical (keyword-names class.VerticalCrs (codes "CS")) (keyword-names class.VerticalCrs (codes "AXIS")) level v.system s.system
       vertical-whole
 
   abbrev vertical-axes : Segment vertical
   vertical-axes =
-      axes-segment laws vertical ReadNameLemmas.vertical-crs-cs ReadNameLemmas.vertical-crs-axis level v.system s.system
+      axes-segment laws vertical (keyword-names class.VerticalCrs (codes "CS")) (keyword-names class.VerticalCrs (codes "AXIS")) level v.system s.system
       vertical-whole
 
   geoids-in : AreIn vertical class.GeoidModel item_geoid_model (set_geoid_models level v.geoid_models)
   geoids-in =
       each-all (λ x. IsIn vertical class.GeoidModel (item_geoid_model x))
-      (λ x place. ReadNameLemmas.vertical-crs-geoidmodel) (set_geoid_models level v.geoid_models)
+      (λ x place. keyword-names class.VerticalCrs (codes "GEOIDMODEL")) (set_geoid_models level v.geoid_models)
 
   abbrev vertical-geoids : Segment vertical
   vertical-geoids =
@@ -316,25 +314,25 @@ module _ (laws : TextLaws) (lower : LowerLaws) (level : Level) (v : VerticalPart
 
   abbrev vertical-tail : List (Segment vertical)
   vertical-tail =
-      tail-segments laws vertical ReadNameLemmas.vertical-crs-usage ReadNameLemmas.vertical-crs-id
-      ReadNameLemmas.vertical-crs-remark level v.tail s.tail
+      tail-segments laws vertical (keyword-names class.VerticalCrs (codes "USAGE")) (keyword-names class.VerticalCrs (codes "ID"))
+      (keyword-names class.VerticalCrs (codes "REMARK")) level v.tail s.tail
 
   pub vertical-read : ReadsBack item_vertical (ReadsVertical class.VerticalCrs) (norm_vertical level v)
   vertical-read place =
       let item = at_place place (item_vertical (norm_vertical level v)) in record {
         name = refl;
         dynamic =
-            dynamic-field vertical ReadNameLemmas.vertical-crs-dynamic level v.dynamic laws v.frame s.dynamic
+            dynamic-field vertical (keyword-names class.VerticalCrs (codes "DYNAMIC")) level v.dynamic laws v.frame s.dynamic
             (name-segment vertical v.name ∷ [])
             (vertical-frame ∷ vertical-head ∷ vertical-axes ∷ vertical-geoids ∷ vertical-tail) refl refl (place + 7);
         frame =
             frame-read vertical class.VerticalFrame class.VerticalEnsemble (codes "VDATUM")
-            ReadNameLemmas.vertical-crs-vdatum ReadNameLemmas.vertical-crs-ensemble refl refl refl
+            (keyword-names class.VerticalCrs (codes "VDATUM")) (keyword-names class.VerticalCrs (codes "ENSEMBLE")) refl refl refl
             (norm_frame level v.frame) (vertical-back laws level v.frame s.frame)
             (name-segment vertical v.name ∷ vertical-dynamic ∷ [])
             (vertical-head ∷ vertical-axes ∷ vertical-geoids ∷ vertical-tail) refl refl refl item (place + 7) refl;
         system =
-            system-read laws vertical ReadNameLemmas.vertical-crs-cs ReadNameLemmas.vertical-crs-axis level v.system
+            system-read laws vertical (keyword-names class.VerticalCrs (codes "CS")) (keyword-names class.VerticalCrs (codes "AXIS")) level v.system
             s.system vertical-whole (name-segment vertical v.name ∷ vertical-dynamic ∷ vertical-frame ∷ [])
             (vertical-geoids ∷ vertical-tail) item (place + 7) refl refl refl refl refl refl;
         geoid_models =
@@ -343,8 +341,8 @@ module _ (laws : TextLaws) (lower : LowerLaws) (level : Level) (v : VerticalPart
             item_geoid_model (ReadsGeoidModel class.GeoidModel) refl refl (set_geoid_models level v.geoid_models)
             geoids-in (geoids-back level v.geoid_models s.geoid_models) (place + 7);
         tail =
-            tail-read laws vertical ReadNameLemmas.vertical-crs-usage ReadNameLemmas.vertical-crs-id
-            ReadNameLemmas.vertical-crs-remark level v.tail s.tail
+            tail-read laws vertical (keyword-names class.VerticalCrs (codes "USAGE")) (keyword-names class.VerticalCrs (codes "ID"))
+            (keyword-names class.VerticalCrs (codes "REMARK")) level v.tail s.tail
             (name-segment vertical v.name ∷ vertical-dynamic ∷ vertical-frame ∷ vertical-head ∷ vertical-axes ∷ vertical-geoids ∷ []) item
             (place + 7) refl refl refl refl refl refl refl refl;
       }

@@ -17,8 +17,8 @@ use Rattle.crs_value.specs.Values.{EllipsoidParts}
 use Rattle.crs_normal.specs.SpelledFrames.{item_datum, item_ellipsoid, item_ensemble, item_frame, norm_ellipsoid, norm_frame}
 use Rattle.crs_normal.specs.TextLaws.{TextLaws}
 use Rattle.crs_normal.proofs.ReadFrameLemmas.{datum-read, ensemble-read}
-use Rattle.crs_normal.proofs.ReadNameLemmas
 use Rattle.crs_normal.proofs.ReadWalkLemmas.{AllPass, IsIn, MayIn, Passes, ReadsBack, Segment, first-field, lacking, lay, pass-item, past, some-all}
+use Rattle.crs_normal.proofs.ReadNameLemmas.{keyword-names}
 
 -- the frame is read from its item by the node that stands there
 abbrev pub FrameBack : Class → Class → List ℕ → Frame → Type 0
@@ -37,25 +37,25 @@ none-in c level (Some x) s = absurd (true≢false s)
 pub geodetic-back : TextLaws → (level : Level) (f : Frame) → IsGeodeticFrame f →
     FrameBack class.GeodeticFrame class.GeodeticEnsemble (codes "DATUM") (norm_frame level f)
 geodetic-back laws level (frame.Datum d) s =
-    datum-read laws class.GeodeticFrame (codes "DATUM") ReadNameLemmas.geodetic-frame-id
-    ReadNameLemmas.geodetic-frame-anchor ReadNameLemmas.geodetic-frame-anchorepoch level d s.0
-    (ellipsoid-in class.GeodeticFrame ReadNameLemmas.geodetic-frame-ellipsoid
+    datum-read laws class.GeodeticFrame (codes "DATUM") (keyword-names class.GeodeticFrame (codes "ID"))
+    (keyword-names class.GeodeticFrame (codes "ANCHOR")) (keyword-names class.GeodeticFrame (codes "ANCHOREPOCH")) level d s.0
+    (ellipsoid-in class.GeodeticFrame (keyword-names class.GeodeticFrame (codes "ELLIPSOID"))
     (option_map (norm_ellipsoid level) d.ellipsoid))
 geodetic-back laws level (frame.Ensemble e) s =
-    ensemble-read laws class.GeodeticEnsemble ReadNameLemmas.geodetic-ensemble-id
-    ReadNameLemmas.geodetic-ensemble-member ReadNameLemmas.geodetic-ensemble-ensembleaccuracy level e s.0
-    (ellipsoid-in class.GeodeticEnsemble ReadNameLemmas.geodetic-ensemble-ellipsoid
+    ensemble-read laws class.GeodeticEnsemble (keyword-names class.GeodeticEnsemble (codes "ID"))
+    (keyword-names class.GeodeticEnsemble (codes "MEMBER")) (keyword-names class.GeodeticEnsemble (codes "ENSEMBLEACCURACY")) level e s.0
+    (ellipsoid-in class.GeodeticEnsemble (keyword-names class.GeodeticEnsemble (codes "ELLIPSOID"))
     (option_map (norm_ellipsoid level) e.ellipsoid))
 
 pub vertical-back : TextLaws → (level : Level) (f : Frame) → IsVerticalFrame f →
     FrameBack class.VerticalFrame class.VerticalEnsemble (codes "VDATUM") (norm_frame level f)
 vertical-back laws level (frame.Datum d) s =
-    datum-read laws class.VerticalFrame (codes "VDATUM") ReadNameLemmas.vertical-frame-id
-    ReadNameLemmas.vertical-frame-anchor ReadNameLemmas.vertical-frame-anchorepoch level d s.0
+    datum-read laws class.VerticalFrame (codes "VDATUM") (keyword-names class.VerticalFrame (codes "ID"))
+    (keyword-names class.VerticalFrame (codes "ANCHOR")) (keyword-names class.VerticalFrame (codes "ANCHOREPOCH")) level d s.0
     (none-in class.VerticalFrame level d.ellipsoid s.1)
 vertical-back laws level (frame.Ensemble e) s =
-    ensemble-read laws class.VerticalEnsemble ReadNameLemmas.vertical-ensemble-id
-    ReadNameLemmas.vertical-ensemble-member ReadNameLemmas.vertical-ensemble-ensembleaccuracy level e s.0
+    ensemble-read laws class.VerticalEnsemble (keyword-names class.VerticalEnsemble (codes "ID"))
+    (keyword-names class.VerticalEnsemble (codes "MEMBER")) (keyword-names class.VerticalEnsemble (codes "ENSEMBLEACCURACY")) level e s.0
     (none-in class.VerticalEnsemble level e.ellipsoid s.1)
 
 pub neither : (x y : Bool) → (if x then true else y) ≡ false → (x ≡ false) × (y ≡ false)

@@ -20,8 +20,8 @@ use Rattle.crs_normal.proofs.DynamicSameLemmas.{dynamics-sound}
 use Rattle.crs_normal.proofs.ItemLemmas.{Gives}
 use Rattle.crs_normal.proofs.MemberUnitLemmas.{number-read}
 use Rattle.crs_normal.proofs.ReadFrameLemmas.{identifiers-field, name-segment}
-use Rattle.crs_normal.proofs.ReadNameLemmas
 use Rattle.crs_normal.proofs.ReadWalkLemmas.{AllPass, IsIn, MayIn, ReadsBack, Segment, first-field, lay, one-segment, opt-field, opt-segment, some-all, some-mapped}
+use Rattle.crs_normal.proofs.ReadNameLemmas.{keyword-names}
 
 -- ---- deformation models
 
@@ -30,7 +30,7 @@ pub deformation-model-read : (level : Level) (m : DeformationModelParts) → IsD
 deformation-model-read level m s place = record {
   name = refl;
   identifiers =
-      identifiers-field class.DeformationModel ReadNameLemmas.deformation-model-id
+      identifiers-field class.DeformationModel (keyword-names class.DeformationModel (codes "ID"))
       (name-segment class.DeformationModel m.name ∷ []) refl level m.identifiers s.identifiers (place + 5);
 }
 
@@ -41,7 +41,7 @@ module _ (laws : TextLaws) (level : Level) (d : DynamicParts) (s : IsDynamic d) 
   epoch-item = number_node (codes "FRAMEEPOCH") d.epoch
 
   epoch-in : IsIn class.Dynamic class.FrameEpoch epoch-item
-  epoch-in place = ReadNameLemmas.dynamic-frameepoch
+  epoch-in place = keyword-names class.Dynamic (codes "FRAMEEPOCH")
 
   abbrev model-parts : Option DeformationModelParts
   model-parts = option_map (norm_deformation_model level) d.model
@@ -49,7 +49,7 @@ module _ (laws : TextLaws) (level : Level) (d : DynamicParts) (s : IsDynamic d) 
   model-in : MayIn class.Dynamic class.DeformationModel item_deformation_model model-parts
   model-in =
       some-all (λ m. IsIn class.Dynamic class.DeformationModel (item_deformation_model m))
-      (λ m place. ReadNameLemmas.dynamic-model) model-parts
+      (λ m place. keyword-names class.Dynamic (codes "MODEL")) model-parts
 
   abbrev epoch-segment : Segment class.Dynamic
   epoch-segment = one-segment class.Dynamic class.FrameEpoch epoch-item epoch-in

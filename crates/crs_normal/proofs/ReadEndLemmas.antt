@@ -29,10 +29,10 @@ use Rattle.crs_normal.proofs.MemberLemmas.{geoid-kept, geoid-read}
 use Rattle.crs_normal.proofs.MemberUnitLemmas.{NamesId}
 use Rattle.crs_normal.proofs.ParameterLemmas.{parameter-kept, parameter-read}
 use Rattle.crs_normal.proofs.ReadFrameLemmas.{idents-back, idents-in, identifiers-field, identifiers-segment, name-segment}
-use Rattle.crs_normal.proofs.ReadNameLemmas
 use Rattle.crs_normal.proofs.ReadSystemLemmas.{AreWhole, axes-read, head-read}
 use Rattle.crs_normal.proofs.ReadWalkLemmas.{AllPass, AreIn, IsIn, MayIn, ReadsBack, Segment, each-all, each-field, each-imp, each-segment, first-field, lacking, lay, one-segment, opt-field, opt-segment, past, set-kept, some-all}
 use Rattle.crs_normal.proofs.UsageLemmas.{IsWrittenUsage, usage-is-node, usage-kept, usage-read}
+use Rattle.crs_normal.proofs.ReadNameLemmas.{keyword-names}
 
 -- ---- conversions
 
@@ -41,7 +41,7 @@ pub method-read : (level : Level) (m : MethodParts) → IsMethod m →
 method-read level m s place = record {
   name = refl;
   identifiers =
-      identifiers-field class.Method ReadNameLemmas.method-id (name-segment class.Method m.name ∷ []) refl level m.identifiers s.identifiers
+      identifiers-field class.Method (keyword-names class.Method (codes "ID")) (name-segment class.Method m.name ∷ []) refl level m.identifiers s.identifiers
       (place + 6);
 }
 
@@ -58,7 +58,7 @@ module _ (laws : TextLaws) (level : Level) (v : ConversionParts) (s : IsConversi
   method-item = item_method (norm_method level v.method)
 
   method-in : IsIn class.Conversion class.Method method-item
-  method-in place = ReadNameLemmas.conversion-method
+  method-in place = keyword-names class.Conversion (codes "METHOD")
 
   abbrev method-segment : Segment class.Conversion
   method-segment = one-segment class.Conversion class.Method method-item method-in
@@ -66,14 +66,14 @@ module _ (laws : TextLaws) (level : Level) (v : ConversionParts) (s : IsConversi
   parameters-in : AreIn class.Conversion class.Parameter item_parameter (set_parameters level v.parameters)
   parameters-in =
       each-all (λ x. IsIn class.Conversion class.Parameter (item_parameter x))
-      (λ x place. ReadNameLemmas.conversion-parameter) (set_parameters level v.parameters)
+      (λ x place. keyword-names class.Conversion (codes "PARAMETER")) (set_parameters level v.parameters)
 
   abbrev parameters-segment : Segment class.Conversion
   parameters-segment =
       each-segment class.Conversion class.Parameter item_parameter (set_parameters level v.parameters) parameters-in
 
   abbrev conversion-identifiers : Segment class.Conversion
-  conversion-identifiers = identifiers-segment class.Conversion ReadNameLemmas.conversion-id (set_idents level v.identifiers)
+  conversion-identifiers = identifiers-segment class.Conversion (keyword-names class.Conversion (codes "ID")) (set_idents level v.identifiers)
 
   pub conversion-read : ReadsBack item_conversion (ReadsConversion class.Conversion) (norm_conversion level v)
   conversion-read place = record {
@@ -89,7 +89,7 @@ module _ (laws : TextLaws) (level : Level) (v : ConversionParts) (s : IsConversi
         (set_parameters level v.parameters) parameters-in (parameters-back laws level v.parameters s.parameters)
         (place + 10);
     identifiers =
-        identifiers-field class.Conversion ReadNameLemmas.conversion-id
+        identifiers-field class.Conversion (keyword-names class.Conversion (codes "ID"))
         (name-segment class.Conversion v.name ∷ method-segment ∷ parameters-segment ∷ []) refl level v.identifiers s.identifiers
         (place + 10);
   }

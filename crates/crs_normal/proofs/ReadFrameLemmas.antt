@@ -26,8 +26,8 @@ use Rattle.crs_normal.proofs.IdentLemmas.{ident-read, idents-kept}
 use Rattle.crs_normal.proofs.ItemLemmas.{Gives}
 use Rattle.crs_normal.proofs.MemberLemmas.{member-kept, member-read}
 use Rattle.crs_normal.proofs.MemberUnitLemmas.{NamesId, number-read, unit-kept, unit-read}
-use Rattle.crs_normal.proofs.ReadNameLemmas
 use Rattle.crs_normal.proofs.ReadWalkLemmas.{AllPass, AreIn, IsIn, MayIn, ReadsBack, Segment, each-all, each-field, each-imp, each-segment, first-field, lay, one-segment, opt-field, opt-segment, set-kept, some-all, some-imp, some-mapped}
+use Rattle.crs_normal.proofs.ReadNameLemmas.{keyword-names}
 
 -- ---- identifiers
 
@@ -87,7 +87,7 @@ module _ (laws : TextLaws) (level : Level) (e : EllipsoidParts) (s : IsEllipsoid
 
   ellipsoid-unit-in : IsIn class.Ellipsoid class.LengthUnit (item_unit ellipsoid-unit)
   ellipsoid-unit-in =
-      unit-in class.Ellipsoid class.LengthUnit kinds.Length ReadNameLemmas.ellipsoid-lengthunit ellipsoid-unit
+      unit-in class.Ellipsoid class.LengthUnit kinds.Length (keyword-names class.Ellipsoid (codes "LENGTHUNIT")) ellipsoid-unit
       (length-kept level e.unit s.unit).1
 
   abbrev ellipsoid-front : List (Segment class.Ellipsoid)
@@ -105,12 +105,12 @@ module _ (laws : TextLaws) (level : Level) (e : EllipsoidParts) (s : IsEllipsoid
     inverse_flattening = number-read laws e.inverse_flattening s.inverse_flattening 0;
     unit =
         opt-field class.Ellipsoid class.LengthUnit ellipsoid-front
-        (identifiers-segment class.Ellipsoid ReadNameLemmas.ellipsoid-id ellipsoid-identifiers ∷ []) refl item_unit
+        (identifiers-segment class.Ellipsoid (keyword-names class.Ellipsoid (codes "ID")) ellipsoid-identifiers ∷ []) refl item_unit
         (ReadsUnit class.LengthUnit) refl refl (Some ellipsoid-unit) ellipsoid-unit-in
-        (unit-read laws class.LengthUnit ReadNameLemmas.length-unit-id ellipsoid-unit
+        (unit-read laws class.LengthUnit (keyword-names class.LengthUnit (codes "ID")) ellipsoid-unit
         (length-kept level e.unit s.unit).0) (place + 9);
     identifiers =
-        identifiers-field class.Ellipsoid ReadNameLemmas.ellipsoid-id
+        identifiers-field class.Ellipsoid (keyword-names class.Ellipsoid (codes "ID"))
         (name-segment class.Ellipsoid e.name ∷ number-segment class.Ellipsoid e.semi_major_axis ∷
         number-segment class.Ellipsoid e.inverse_flattening ∷
         opt-segment class.Ellipsoid class.LengthUnit item_unit (Some ellipsoid-unit) ellipsoid-unit-in ∷ []) refl level
@@ -130,7 +130,7 @@ pub angles-back : TextLaws → (o : Option UnitParts) → IfSome o IsAngle →
     IfSome o (ReadsBack item_unit (ReadsUnit class.AngleUnit))
 angles-back laws o s =
     some-imp IsAngle (ReadsBack item_unit (ReadsUnit class.AngleUnit))
-    (λ u q. unit-read laws class.AngleUnit ReadNameLemmas.angle-unit-id u q.0) o s
+    (λ u q. unit-read laws class.AngleUnit (keyword-names class.AngleUnit (codes "ID")) u q.0) o s
 
 unless-kept : (b : Bool) (o : Option UnitParts) → IfSome o IsAngle → IfSome (if b then None else o) IsAngle
 unless-kept true o s = tt
@@ -145,7 +145,7 @@ module _ (laws : TextLaws) (level : Level) (m : MeridianParts) (s : IsMeridian m
       unless-kept (is_zero m.longitude) (norm_units level kinds.Angle m.unit) (angles-kept level m.unit s.unit)
 
   meridian-in : MayIn class.PrimeMeridian class.AngleUnit item_unit meridian-unit
-  meridian-in = angles-in class.PrimeMeridian ReadNameLemmas.prime-meridian-angleunit meridian-unit meridian-angle
+  meridian-in = angles-in class.PrimeMeridian (keyword-names class.PrimeMeridian (codes "ANGLEUNIT")) meridian-unit meridian-angle
 
   pub given-read : ReadsBack item_meridian (ReadsMeridian class.PrimeMeridian) (norm_given level m)
   given-read place = record {
@@ -154,11 +154,11 @@ module _ (laws : TextLaws) (level : Level) (m : MeridianParts) (s : IsMeridian m
     unit =
         opt-field class.PrimeMeridian class.AngleUnit
         (name-segment class.PrimeMeridian m.name ∷ number-segment class.PrimeMeridian m.longitude ∷ [])
-        (identifiers-segment class.PrimeMeridian ReadNameLemmas.prime-meridian-id (set_idents level m.identifiers) ∷ []) refl item_unit
+        (identifiers-segment class.PrimeMeridian (keyword-names class.PrimeMeridian (codes "ID")) (set_idents level m.identifiers) ∷ []) refl item_unit
         (ReadsUnit class.AngleUnit) refl refl meridian-unit meridian-in
         (angles-back laws meridian-unit meridian-angle) (place + 6);
     identifiers =
-        identifiers-field class.PrimeMeridian ReadNameLemmas.prime-meridian-id
+        identifiers-field class.PrimeMeridian (keyword-names class.PrimeMeridian (codes "ID"))
         (name-segment class.PrimeMeridian m.name ∷ number-segment class.PrimeMeridian m.longitude ∷
         opt-segment class.PrimeMeridian class.AngleUnit item_unit meridian-unit meridian-in ∷ []) refl level m.identifiers s.identifiers
         (place + 6);

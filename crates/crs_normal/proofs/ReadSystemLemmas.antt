@@ -26,8 +26,8 @@ use Rattle.crs_normal.specs.SpelledUnits.{item_unit, norm_unit, norm_units, set_
 use Rattle.crs_normal.specs.TextLaws.{TextLaws}
 use Rattle.crs_normal.proofs.MemberUnitLemmas.{number-read, unit-kept, unit-read}
 use Rattle.crs_normal.proofs.ReadFrameLemmas.{angle-kept, identifiers-field, identifiers-segment, name-segment, number-segment, unit-in}
-use Rattle.crs_normal.proofs.ReadNameLemmas
 use Rattle.crs_normal.proofs.ReadWalkLemmas.{IsIn, MayIn, ReadsBack, Segment, first-field, one-segment, opt-field, opt-segment, some-all, some-imp}
+use Rattle.crs_normal.proofs.ReadNameLemmas.{keyword-names}
 
 -- ---- the meridian of an axis
 
@@ -40,8 +40,8 @@ axis-meridian-read laws level m s place =
       unit =
           first-field class.AxisMeridian class.AngleUnit (number-segment class.AxisMeridian m.longitude ∷ []) [] refl
           (λ l. ReadsFirst (ReadsUnit class.AngleUnit) l unit) (item_unit unit)
-          (unit-in class.AxisMeridian class.AngleUnit kinds.Angle ReadNameLemmas.meridian-angleunit unit kept.1) refl
-          (λ p others. unit-read laws class.AngleUnit ReadNameLemmas.angle-unit-id unit kept.0 p) (place + 8);
+          (unit-in class.AxisMeridian class.AngleUnit kinds.Angle (keyword-names class.AxisMeridian (codes "ANGLEUNIT")) unit kept.1) refl
+          (λ p others. unit-read laws class.AngleUnit (keyword-names class.AngleUnit (codes "ID")) unit kept.0 p) (place + 8);
     }
 
 axis-meridians-read : TextLaws → (level : Level) (o : Option AxisMeridianParts) → IfSome o IsAxisMeridian →
@@ -53,27 +53,7 @@ axis-meridians-read laws level (Some m) s = axis-meridian-read laws level m s
 
 vertical-no-scale : (d : Direction) → kind_by_direction d ≢ kinds.Scale
 vertical-no-scale direction.North e = cc
-vertical-no-scale direction.NorthNorthEast e = cc
-vertical-no-scale direction.NorthEast e = cc
-vertical-no-scale direction.EastNorthEast e = cc
-vertical-no-scale direction.East e = cc
-vertical-no-scale direction.EastSouthEast e = cc
-vertical-no-scale direction.SouthEast e = cc
-vertical-no-scale direction.SouthSouthEast e = cc
-vertical-no-scale direction.South e = cc
-vertical-no-scale direction.SouthSouthWest e = cc
-vertical-no-scale direction.SouthWest e = cc
-vertical-no-scale direction.WestSouthWest e = cc
-vertical-no-scale direction.West e = cc
-vertical-no-scale direction.WestNorthWest e = cc
-vertical-no-scale direction.NorthWest e = cc
-vertical-no-scale direction.NorthNorthWest e = cc
-vertical-no-scale direction.GeocentricX e = cc
-vertical-no-scale direction.GeocentricY e = cc
-vertical-no-scale direction.GeocentricZ e = cc
-vertical-no-scale direction.Up e = cc
-vertical-no-scale direction.Down e = cc
-vertical-no-scale direction.Unspecified e = cc
+vertical-no-scale other e = cc
 
 asked-no-scale : (t : SystemType) (d : Direction) → asked_kind t d ≢ kinds.Scale
 asked-no-scale types.Cartesian d e = cc
@@ -98,9 +78,9 @@ axis-unit-in : (u : UnitParts) → IsAxisUnit u → IsIn class.Axis class.AxisUn
 axis-unit-in u s = by u.kind refl
   where
     by : (k : UnitKind) → u.kind ≡ k → IsIn class.Axis class.AxisUnit (item_unit u)
-    by kinds.Length e = unit-in class.Axis class.AxisUnit kinds.Length ReadNameLemmas.axis-lengthunit u e
-    by kinds.Angle e = unit-in class.Axis class.AxisUnit kinds.Angle ReadNameLemmas.axis-angleunit u e
-    by kinds.Plain e = unit-in class.Axis class.AxisUnit kinds.Plain ReadNameLemmas.axis-unit u e
+    by kinds.Length e = unit-in class.Axis class.AxisUnit kinds.Length (keyword-names class.Axis (codes "LENGTHUNIT")) u e
+    by kinds.Angle e = unit-in class.Axis class.AxisUnit kinds.Angle (keyword-names class.Axis (codes "ANGLEUNIT")) u e
+    by kinds.Plain e = unit-in class.Axis class.AxisUnit kinds.Plain (keyword-names class.Axis (codes "UNIT")) u e
     by kinds.Scale e = absurd (s.1 e)
 
 -- ---- axes
@@ -114,7 +94,7 @@ module _ (laws : TextLaws) (level : Level) (system : SystemParts) (shared : IfSo
 
   meridian-in : MayIn class.Axis class.AxisMeridian item_axis_meridian (norm_axis_meridians level x.meridian)
   meridian-in =
-      some-all (λ m. IsIn class.Axis class.AxisMeridian (item_axis_meridian m)) (λ m place. ReadNameLemmas.axis-meridian)
+      some-all (λ m. IsIn class.Axis class.AxisMeridian (item_axis_meridian m)) (λ m place. keyword-names class.Axis (codes "MERIDIAN"))
       (norm_axis_meridians level x.meridian)
 
   abbrev axis-along : Segment class.Axis
@@ -122,7 +102,7 @@ module _ (laws : TextLaws) (level : Level) (system : SystemParts) (shared : IfSo
       opt-segment class.Axis class.AxisMeridian item_axis_meridian (norm_axis_meridians level x.meridian) meridian-in
 
   order-in : MayIn class.Axis class.Order (number_node (codes "ORDER")) (Some (whole_value k))
-  order-in place = ReadNameLemmas.axis-order
+  order-in place = keyword-names class.Axis (codes "ORDER")
 
   abbrev axis-order : Segment class.Axis
   axis-order = opt-segment class.Axis class.Order (number_node (codes "ORDER")) (Some (whole_value k)) order-in
@@ -143,7 +123,7 @@ module _ (laws : TextLaws) (level : Level) (system : SystemParts) (shared : IfSo
   axis-unit-segment = opt-segment class.Axis class.AxisUnit item_unit unit-of-axis unit-within
 
   abbrev axis-identifiers : Segment class.Axis
-  axis-identifiers = identifiers-segment class.Axis ReadNameLemmas.axis-id (set_idents level x.identifiers)
+  axis-identifiers = identifiers-segment class.Axis (keyword-names class.Axis (codes "ID")) (set_idents level x.identifiers)
 
   pub axis-read : ReadsBack item_axis (ReadsAxis class.Axis) (norm_axis level system k x)
   unfolding norm_axis
@@ -163,9 +143,9 @@ module _ (laws : TextLaws) (level : Level) (system : SystemParts) (shared : IfSo
         opt-field class.Axis class.AxisUnit (axis-name ∷ axis-word ∷ axis-along ∷ axis-order ∷ []) (axis-identifiers ∷ []) refl
         item_unit (ReadsUnit class.AxisUnit) refl refl unit-of-axis unit-within
         (some-imp IsAxisUnit (ReadsBack item_unit (ReadsUnit class.AxisUnit))
-        (λ u q. unit-read laws class.AxisUnit ReadNameLemmas.axis-unit-id u q.0) unit-of-axis unit-sound) (place + 4);
+        (λ u q. unit-read laws class.AxisUnit (keyword-names class.AxisUnit (codes "ID")) u q.0) unit-of-axis unit-sound) (place + 4);
     identifiers =
-        identifiers-field class.Axis ReadNameLemmas.axis-id
+        identifiers-field class.Axis (keyword-names class.Axis (codes "ID"))
         (axis-name ∷ axis-word ∷ axis-along ∷ axis-order ∷ axis-unit-segment ∷ []) refl level x.identifiers s.identifiers (place + 4);
   }
 
@@ -186,7 +166,7 @@ module _ (laws : TextLaws) (level : Level) (x : AxisParts) (s : IsAxis x) where
 
   own-meridian-in : MayIn class.Axis class.AxisMeridian item_axis_meridian (norm_axis_meridians level x.meridian)
   own-meridian-in =
-      some-all (λ m. IsIn class.Axis class.AxisMeridian (item_axis_meridian m)) (λ m place. ReadNameLemmas.axis-meridian)
+      some-all (λ m. IsIn class.Axis class.AxisMeridian (item_axis_meridian m)) (λ m place. keyword-names class.Axis (codes "MERIDIAN"))
       (norm_axis_meridians level x.meridian)
 
   abbrev own-along : Segment class.Axis
@@ -196,7 +176,7 @@ module _ (laws : TextLaws) (level : Level) (x : AxisParts) (s : IsAxis x) where
   own-order-in : MayIn class.Axis class.Order (number_node (codes "ORDER")) x.order
   own-order-in =
       some-all (λ v. IsIn class.Axis class.Order (number_node (codes "ORDER") v))
-      (λ v place. ReadNameLemmas.axis-order) x.order
+      (λ v place. keyword-names class.Axis (codes "ORDER")) x.order
 
   abbrev own-order : Segment class.Axis
   own-order = opt-segment class.Axis class.Order (number_node (codes "ORDER")) x.order own-order-in
@@ -215,7 +195,7 @@ module _ (laws : TextLaws) (level : Level) (x : AxisParts) (s : IsAxis x) where
   own-unit-segment = opt-segment class.Axis class.AxisUnit item_unit own-unit own-unit-in
 
   abbrev own-identifiers : Segment class.Axis
-  own-identifiers = identifiers-segment class.Axis ReadNameLemmas.axis-id (set_idents level x.identifiers)
+  own-identifiers = identifiers-segment class.Axis (keyword-names class.Axis (codes "ID")) (set_idents level x.identifiers)
 
   pub axis-alone-read : ReadsBack item_axis (ReadsAxis class.Axis) (norm_axis_alone level x)
   axis-alone-read place = record {
@@ -234,9 +214,9 @@ module _ (laws : TextLaws) (level : Level) (x : AxisParts) (s : IsAxis x) where
         opt-field class.Axis class.AxisUnit (own-name ∷ own-word ∷ own-along ∷ own-order ∷ []) (own-identifiers ∷ []) refl
         item_unit (ReadsUnit class.AxisUnit) refl refl own-unit own-unit-in
         (some-imp IsAxisUnit (ReadsBack item_unit (ReadsUnit class.AxisUnit))
-        (λ u q. unit-read laws class.AxisUnit ReadNameLemmas.axis-unit-id u q.0) own-unit own-unit-sound) (place + 4);
+        (λ u q. unit-read laws class.AxisUnit (keyword-names class.AxisUnit (codes "ID")) u q.0) own-unit own-unit-sound) (place + 4);
     identifiers =
-        identifiers-field class.Axis ReadNameLemmas.axis-id
+        identifiers-field class.Axis (keyword-names class.Axis (codes "ID"))
         (own-name ∷ own-word ∷ own-along ∷ own-order ∷ own-unit-segment ∷ []) refl level x.identifiers s.identifiers (place + 4);
   }
 
@@ -280,7 +260,7 @@ head-read laws level system s place = record {
   system_type = refl;
   dimension = number-read laws system.dimension s.dimension 0;
   identifiers =
-      identifiers-field class.CoordinateSystem ReadNameLemmas.coordinate-system-id
+      identifiers-field class.CoordinateSystem (keyword-names class.CoordinateSystem (codes "ID"))
       (one-segment class.CoordinateSystem class.Word (word_item (system_word system.system_type)) (λ p. refl)
       ∷ number-segment class.CoordinateSystem system.dimension ∷ []) refl level system.identifiers s.identifiers (place + 2);
 }

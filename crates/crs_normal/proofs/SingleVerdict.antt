@@ -22,7 +22,7 @@ use Rattle.crs_normal.specs.Normal.{IsNumberIn, IsSingleIn, IsWordIn}
 use Rattle.crs_normal.specs.NormalOwn.{IsCode, IsShort}
 use Rattle.crs_normal.specs.SpelledItems.{is_short}
 use Rattle.crs_normal.proofs.MadeLeafLemmas.{run-single, short-true, true-short}
-use Rattle.crs_normal.proofs.MadeWordLemmas.{direction-known, direction_of, type-known, type_of}
+use Rattle.crs_normal.proofs.WordFormLemmas.{direction-known, direction_of, type-known, type_of}
 use Rattle.crs_normal.proofs.Verdicts.{Verdict, both, equal, or_else, refuted_by, shown_by, tested, via}
 
 -- ---- codes

@@ -5,8 +5,7 @@ use Rattle.crs_text.specs.Tokens.{IsWord}
 use Rattle.crs_text.specs.Written.{at_place, item_text}
 use Rattle.crs_shape.specs.declared.class.Class.{Class}
 use Rattle.crs_shape.specs.declared.class.Class.TheVariants as class
-use Rattle.crs_shape.specs.Keywords.{is_keyword}
-use Rattle.crs_shape.specs.Slots.{class_named, is_class}
+use Rattle.crs_shape.specs.Slots.{is_class}
 use Rattle.crs_value.specs.Kept.{kept}
 use Rattle.crs_value.specs.KeptLaws.{kept-each}
 use Rattle.crs_value.specs.declared.values.level.Level.{Level}
@@ -27,6 +26,7 @@ use Rattle.crs_normal.proofs.IdentLemmas.{ReadsIdentOnce, source-fit, text-read,
 use Rattle.crs_normal.proofs.ItemLemmas.{AreFit, Gives, IsOf, fit-deeper, fit-end, fit-node, fit-opt, from-arguments, lacks-end, opt-over, opt-read, told}
 use Rattle.crs_normal.proofs.MemberUnitLemmas.{option-agrees}
 use Rattle.crs_normal.proofs.SetLemmas.{set-agrees}
+use Rattle.crs_normal.proofs.ReadNameLemmas.{keyword-names}
 
 -- a usage as it is written: what it says, and of its extent a unit of length by its own keyword
 pub record IsWrittenUsage (u : UsageParts) : Type 0 where
@@ -50,34 +50,18 @@ from-area u = opt (text_node (codes "AREA")) u.area (from-bbox u)
 abbrev from-scope : UsageParts → Siblings
 from-scope u = opt (text_node (codes "SCOPE")) u.scope (from-area u)
 
-scope-named : class_named class.Usage (codes "SCOPE") ≡ Some class.Scope
-unfolding class_named is_keyword
-scope-named = refl
-
-area-named : class_named class.Usage (codes "AREA") ≡ Some class.Area
-unfolding class_named is_keyword
-area-named = refl
-
-box-named : class_named class.Usage (codes "BBOX") ≡ Some class.BoundingBox
-unfolding class_named is_keyword
-box-named = refl
-
-extent-named : class_named class.Usage (codes "VERTICALEXTENT") ≡ Some class.VerticalExtent
-unfolding class_named is_keyword
-extent-named = refl
-
 module _ (d : Class) (b : Bool) where
   scope-is : is_class d (Some class.Scope) ≡ b → (raw : List ℕ) → IsOf b class.Usage d (text_node (codes "SCOPE") raw)
-  scope-is h raw place = ap (is_class d) scope-named ∙ h
+  scope-is h raw place = ap (is_class d) (keyword-names class.Usage (codes "SCOPE")) ∙ h
 
   area-is : is_class d (Some class.Area) ≡ b → (raw : List ℕ) → IsOf b class.Usage d (text_node (codes "AREA") raw)
-  area-is h raw place = ap (is_class d) area-named ∙ h
+  area-is h raw place = ap (is_class d) (keyword-names class.Usage (codes "AREA")) ∙ h
 
   box-is : is_class d (Some class.BoundingBox) ≡ b → (x : BoxParts) → IsOf b class.Usage d (item_box x)
-  box-is h x place = ap (is_class d) box-named ∙ h
+  box-is h x place = ap (is_class d) (keyword-names class.Usage (codes "BBOX")) ∙ h
 
   extent-is : is_class d (Some class.VerticalExtent) ≡ b → (x : ExtentParts) → IsOf b class.Usage d (item_extent x)
-  extent-is h x place = ap (is_class d) extent-named ∙ h
+  extent-is h x place = ap (is_class d) (keyword-names class.Usage (codes "VERTICALEXTENT")) ∙ h
 
 module _ (d : Class) (P : List Item → Type 0) (u : UsageParts) where
   over-scope : is_class d (Some class.Scope) ≡ false → Gives class.Usage d P (from-area u) →

@@ -23,50 +23,26 @@ abbrev unit_kinds : List UnitKind
 unit_kinds = kinds.Length ∷ kinds.Angle ∷ kinds.Scale ∷ kinds.Plain ∷ []
 
 -- the one whose word these small letters spell
-abbrev direction_of : List ℕ → Option Direction
+abbrev pub direction_of : List ℕ → Option Direction
 direction_of small = find (λ d. bytes_eq (str_to_ascii_lowercase (direction_word d)) small) directions
 
-abbrev type_of : List ℕ → Option SystemType
+abbrev pub type_of : List ℕ → Option SystemType
 type_of small = find (λ t. bytes_eq (str_to_ascii_lowercase (system_word t)) small) types
 
 abbrev kind_of : List ℕ → Option UnitKind
 kind_of small = find (λ k. bytes_eq (str_to_ascii_lowercase (unit_word k)) small) unit_kinds
 
-direction-known : (d : Direction) → direction_of (str_to_ascii_lowercase (direction_word d)) ≡ Some d
+pub direction-known : (d : Direction) → direction_of (str_to_ascii_lowercase (direction_word d)) ≡ Some d
 direction-known North = refl
-direction-known NorthNorthEast = refl
-direction-known NorthEast = refl
-direction-known EastNorthEast = refl
-direction-known East = refl
-direction-known EastSouthEast = refl
-direction-known SouthEast = refl
-direction-known SouthSouthEast = refl
-direction-known South = refl
-direction-known SouthSouthWest = refl
-direction-known SouthWest = refl
-direction-known WestSouthWest = refl
-direction-known West = refl
-direction-known WestNorthWest = refl
-direction-known NorthWest = refl
-direction-known NorthNorthWest = refl
-direction-known GeocentricX = refl
-direction-known GeocentricY = refl
-direction-known GeocentricZ = refl
-direction-known Up = refl
-direction-known Down = refl
-direction-known Unspecified = refl
+direction-known other = refl
 
-type-known : (t : SystemType) → type_of (str_to_ascii_lowercase (system_word t)) ≡ Some t
+pub type-known : (t : SystemType) → type_of (str_to_ascii_lowercase (system_word t)) ≡ Some t
 type-known Cartesian = refl
-type-known Ellipsoidal = refl
-type-known Spherical = refl
-type-known Vertical = refl
+type-known other = refl
 
 kind-known : (k : UnitKind) → kind_of (str_to_ascii_lowercase (unit_word k)) ≡ Some k
 kind-known kinds.Length = refl
-kind-known kinds.Angle = refl
-kind-known kinds.Scale = refl
-kind-known kinds.Plain = refl
+kind-known other = refl
 
 -- bytes that are one's own word and spell another's are the other's
 pub direction-one : (d e : Direction) → SpellsWord (direction_word d) (direction_word e) → d ≡ e
