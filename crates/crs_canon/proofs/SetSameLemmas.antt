@@ -5,7 +5,7 @@ use Rattle.crs_same.specs.Sets.{AllHaveSame, HasSame, SameSet}
 use Rattle.crs_normal.specs.Ascending.{Ascends, IsIn}
 use Rattle.crs_normal.specs.CanonicalForm.{IsCanonicalForm}
 use Rattle.crs_normal.specs.Closed.{IsClosed}
-use Rattle.crs_canon.specs.SetText.{HaveOneTextWhereSame, IsSetText, SpellsOneOf, commas, joined}
+use Rattle.crs_canon.specs.SetText.{HaveOneTextWhereSame, IsSetText, SpellsOneOf, commas, comma_separated}
 
 -- ---- closed texts behind one another
 
@@ -64,7 +64,7 @@ word-not-nil (b ∷ word) inside e = none-some b (word ++ 91 ∷ inside) (sym e)
 pub closed-some : (bytes : List ℕ) → IsClosed bytes → bytes ≡ [] → ⊥
 closed-some bytes h e = word-not-nil h.word h.inside (sym h.parts ∙ e)
 
--- ---- joined texts
+-- ---- comma_separated texts
 
 commas-tell : NoFront → (xs ys : List (List ℕ)) → Each IsClosed xs → Each IsClosed ys → commas xs ≡ commas ys →
     xs ≡ ys
@@ -80,13 +80,13 @@ front-nil : (a b : List ℕ) → a ++ b ≡ [] → a ≡ []
 front-nil [] b e = refl
 front-nil (x ∷ a) b e = absurd (none-some x (a ++ b) (sym e))
 
--- closed texts that are joined are one list
-pub joined-tell : NoFront → (xs ys : List (List ℕ)) → Each IsClosed xs → Each IsClosed ys → joined xs ≡ joined ys →
+-- closed texts that are comma_separated are one list
+pub comma_separated-tell : NoFront → (xs ys : List (List ℕ)) → Each IsClosed xs → Each IsClosed ys → comma_separated xs ≡ comma_separated ys →
     xs ≡ ys
-joined-tell law [] [] p q e = refl
-joined-tell law [] (y ∷ ys) p q e = absurd (closed-some y q.0 (front-nil y (commas ys) (sym e)))
-joined-tell law (x ∷ xs) [] p q e = absurd (closed-some x p.0 (front-nil x (commas xs) e))
-joined-tell law (x ∷ xs) (y ∷ ys) p q e =
+comma_separated-tell law [] [] p q e = refl
+comma_separated-tell law [] (y ∷ ys) p q e = absurd (closed-some y q.0 (front-nil y (commas ys) (sym e)))
+comma_separated-tell law (x ∷ xs) [] p q e = absurd (closed-some x p.0 (front-nil x (commas xs) e))
+comma_separated-tell law (x ∷ xs) (y ∷ ys) p q e =
     let both = split law x y (commas xs) (commas ys) p.0 q.0 e in
     let rest = commas-tell law xs ys p.1 q.1 both.1 in
     λ i. both.0 i ∷ rest i
@@ -152,11 +152,11 @@ module _ {V : Type 0} (Q : V → Type 0) (Spells : V → List ℕ → Type 0) (S
       )
         where
           members : s.members ≡ t.members
-          members = joined-tell law s.members t.members (closed-in a g first s) (closed-in b h second t)
+          members = comma_separated-tell law s.members t.members (closed-in a g first s) (closed-in b h second t)
               (sym s.written ∙ e ∙ t.written)
 
       from : SameSet Same a b → first ≡ second
-      from same = s.written ∙ ap joined members ∙ sym t.written
+      from same = s.written ∙ ap comma_separated members ∙ sym t.written
         where
           members : s.members ≡ t.members
           members = one s.members t.members s.ascend t.ascend (λ text. (
@@ -174,7 +174,7 @@ by-members Same Spells [] [] one f g = λ first second s t. (
   λ e. (tt, tt),
   λ same.
       s.written
-      ∙ ap joined (one s.members t.members s.ascend t.ascend
+      ∙ ap comma_separated (one s.members t.members s.ascend t.ascend
       (λ text. (λ p. (t.same text).1 ((s.same text).0 p), λ p. (s.same text).1 ((t.same text).0 p))))
       ∙ sym t.written,
 )

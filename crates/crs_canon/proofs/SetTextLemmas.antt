@@ -5,8 +5,8 @@ use Rattle.std.specs.declared.alloc.Global.{Global}
 use Rattle.crs_normal.specs.Ascending.{Ascends, IsIn}
 use Rattle.crs_normal.specs.Ordered.{in_order, put_all}
 use Rattle.crs_canon.specs.Canonical.{AppendsSpelling}
-use Rattle.crs_canon.specs.Members.{AppendsAll, AreSpelled, ArePut, spellings}
-use Rattle.crs_canon.specs.SetText.{IsSetText, SpellsOneOf, joined}
+use Rattle.crs_canon.specs.Members.{AppendsAll, AreSpellingsOf, ArePut, spellings}
+use Rattle.crs_canon.specs.SetText.{IsSetText, SpellsOneOf, comma_separated}
 use Rattle.crs_canon.proofs.SetLemmas.{compared, gathered}
 
 module _ {V : Type 0} (IsSpelling : V → List ℕ → Type 0) where
@@ -29,7 +29,7 @@ module _ {V : Type 0} (IsSpelling : V → List ℕ → Type 0) where
       ArePut IsSpelling values b c → ArePut IsSpelling (value ∷ values) a c
   more-put value values a b c p q = by p.texts p.spelled p.all_put
     where
-      by : (texts : List (List ℕ)) → AreSpelled IsSpelling (value ∷ []) texts → b ≡ put_all (λ bytes. bytes) a texts →
+      by : (texts : List (List ℕ)) → AreSpellingsOf IsSpelling (value ∷ []) texts → b ≡ put_all (λ bytes. bytes) a texts →
           ArePut IsSpelling (value ∷ values) a c
       by [] none e = absurd none
       by (text ∷ []) h e = record {
@@ -49,7 +49,7 @@ module _ {V : Type 0} (IsSpelling : V → List ℕ → Type 0) where
       record { texts = p.texts; spelled = p.spelled; appended = e ∙ ap (λ k. before ++ write k) p.all_put }
 
   -- the spellings are those of the values
-  spellings-tell : (values : List V) (texts : List (List ℕ)) → AreSpelled IsSpelling values texts →
+  spellings-tell : (values : List V) (texts : List (List ℕ)) → AreSpellingsOf IsSpelling values texts →
       (text : List ℕ) → IsIn text texts ↔ SpellsOneOf IsSpelling values text
   spellings-tell [] [] h text = (λ p. p, λ p. p)
   spellings-tell [] (t ∷ texts) h text = absurd h
@@ -65,10 +65,10 @@ module _ {V : Type 0} (IsSpelling : V → List ℕ → Type 0) where
   -- what is appended is the text of the set
   pub set-text : ((texts : List (List ℕ)) → Ascends (λ text. text) (in_order (λ text. text) texts)) →
       ((texts : List (List ℕ)) (text : List ℕ) → IsIn text (in_order (λ text. text) texts) ↔ IsIn text texts) →
-      (values : List V) (before after : List ℕ) → AppendsAll joined IsSpelling values before after →
+      (values : List V) (before after : List ℕ) → AppendsAll comma_separated IsSpelling values before after →
       AppendsSpelling (IsSetText IsSpelling values) before after
   set-text ascend same values before after a = record {
-    spelling = joined (in_order (λ text. text) a.texts);
+    spelling = comma_separated (in_order (λ text. text) a.texts);
     appended = a.appended;
     is_spelling = record {
       members = in_order (λ text. text) a.texts;

@@ -15,22 +15,22 @@ spellings vectors = map (λ v. v.items) vectors
 -- ---- values of which each has one spelling
 
 -- the bytes of which this holds are these alone
-abbrev pub IsOnly : (List ℕ → Type 0) → List ℕ → Type 0
-IsOnly IsSpelling text = (bytes : List ℕ) → IsSpelling bytes ↔ (bytes ≡ text)
+abbrev pub IsOnlySpelling : (List ℕ → Type 0) → List ℕ → Type 0
+IsOnlySpelling IsSpelling text = (bytes : List ℕ) → IsSpelling bytes ↔ (bytes ≡ text)
 
 -- each text is the one spelling of its value
-abbrev pub AreSpelled : {V : Type 0} → (V → List ℕ → Type 0) → List V → List (List ℕ) → Type 0
-AreSpelled IsSpelling [] [] = Unit {0}
-AreSpelled IsSpelling [] (text ∷ texts) = ⊥
-AreSpelled IsSpelling (value ∷ values) [] = ⊥
-AreSpelled IsSpelling (value ∷ values) (text ∷ texts) =
-    IsOnly (IsSpelling value) text × AreSpelled IsSpelling values texts
+abbrev pub AreSpellingsOf : {V : Type 0} → (V → List ℕ → Type 0) → List V → List (List ℕ) → Type 0
+AreSpellingsOf IsSpelling [] [] = Unit {0}
+AreSpellingsOf IsSpelling [] (text ∷ texts) = ⊥
+AreSpellingsOf IsSpelling (value ∷ values) [] = ⊥
+AreSpellingsOf IsSpelling (value ∷ values) (text ∷ texts) =
+    IsOnlySpelling (IsSpelling value) text × AreSpellingsOf IsSpelling values texts
 
 -- the spellings of the values are put among those before
 pub record ArePut {V : Type 0} (IsSpelling : V → List ℕ → Type 0) (values : List V)
     (before after : List (List ℕ)) : Type 0 where
   pub texts : List (List ℕ)
-  pub spelled : AreSpelled IsSpelling values texts
+  pub spelled : AreSpellingsOf IsSpelling values texts
   pub all_put : after ≡ put_all (λ bytes. bytes) before texts
 
 -- the spellings of the values, each once and in order, are appended in this way
@@ -38,5 +38,5 @@ pub record AppendsAll {V : Type 0} (write : List (List ℕ) → List ℕ)
     (IsSpelling : V → List ℕ → Type 0)
     (values : List V) (before after : List ℕ) : Type 0 where
   pub texts : List (List ℕ)
-  pub spelled : AreSpelled IsSpelling values texts
+  pub spelled : AreSpellingsOf IsSpelling values texts
   pub appended : after ≡ before ++ write (in_order (λ bytes. bytes) texts)

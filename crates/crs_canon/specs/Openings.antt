@@ -13,8 +13,8 @@ text_behind opening None = []
 text_behind opening (Some text) = opened opening text ++ 93 ∷ []
 
 -- a node of a name and of arguments behind it
-abbrev pub named : List ℕ → List ℕ → Siblings → List ℕ
-named opening name others = opened opening name ++ (others_text others ++ 93 ∷ [])
+abbrev pub named_node : List ℕ → List ℕ → Siblings → List ℕ
+named_node opening name others = opened opening name ++ (others_text others ++ 93 ∷ [])
 
 -- arguments in delimiters, where there are any
 abbrev pub enclosed : Siblings → List ℕ

@@ -10,9 +10,9 @@ commas [] = []
 commas (bytes ∷ others) = 44 ∷ (bytes ++ commas others)
 
 -- the texts behind one another, a comma between two
-abbrev pub joined : List (List ℕ) → List ℕ
-joined [] = []
-joined (bytes ∷ others) = bytes ++ commas others
+abbrev pub comma_separated : List (List ℕ) → List ℕ
+comma_separated [] = []
+comma_separated (bytes ∷ others) = bytes ++ commas others
 
 -- the text is a spelling of one of these values
 abbrev pub SpellsOneOf : {V : Type 0} → (V → List ℕ → Type 0) → List V → List ℕ → Type 0
@@ -27,7 +27,7 @@ pub record IsSetText {V : Type 0} (IsSpelling : V → List ℕ → Type 0) (valu
   pub members : List (List ℕ)
   pub ascend : Ascends (λ text. text) members
   pub same : (text : List ℕ) → IsIn text members ↔ SpellsOneOf IsSpelling values text
-  pub written : bytes ≡ joined members
+  pub written : bytes ≡ comma_separated members
 
 -- two sets, whose members are spelled so, have equal texts, byte for byte, exactly where they are
 -- the same

@@ -6,7 +6,7 @@ ghost use Rattle.crs_same.specs.Sets.{AllHaveSame, HasSame, SameSet};
 ghost use Rattle.crs_normal.specs.Ascending.{IsIn};
 ghost use Rattle.crs_canon.specs.Canonical.{AppendsSpelling};
 ghost use Rattle.crs_canon.specs.Members.{AppendsAll, ArePut, spellings};
-ghost use Rattle.crs_canon.specs.SetText.{HaveOneTextWhereSame, IsSetText, commas, joined};
+ghost use Rattle.crs_canon.specs.SetText.{HaveOneTextWhereSame, IsSetText, commas, comma_separated};
 
 use crate::canonical::Canonical;
 use crate::set::{MEMBER_ROOM, write_sorted};
@@ -162,7 +162,7 @@ fn write_members<T: Canonical>(
 // Members with a comma before each, without the first comma.
 fn append_members(out: &mut Vec<u8>, text: &[u8]) -> Result<(), AllocError>
     ensures { (members : List (List ℕ)) → text.now ≡ commas members → MatchResult result
-        (λ _. out.new.items ≡ out.old.items ++ joined members)
+        (λ _. out.new.items ≡ out.old.items ++ comma_separated members)
         (λ _. out.new.items ≡ out.old.items) }
 {
     match text {
@@ -179,7 +179,7 @@ fn append_set<T: Canonical>(
     level: Level,
 ) -> Result<(), AllocError>
     ensures { MatchResult result
-        (λ _. AppendsAll joined (T.IsSpelling level) members.now out.old.items out.new.items)
+        (λ _. AppendsAll comma_separated (T.IsSpelling level) members.now out.old.items out.new.items)
         (λ _. out.new.items ≡ out.old.items) }
 {
     let mut text = Vec::new(alloc);

@@ -19,7 +19,7 @@ use Rattle.crs_value.specs.Sound.{Each}
 use Rattle.crs_value.specs.declared.values.level.Level.TheVariants as levels
 use Rattle.crs_normal.specs.Ascending.{Below}
 use Rattle.crs_normal.specs.Normal.{AreNormalIn, AtLevel, IsFirst, IsNormalIn, IsFirstKeyword}
-use Rattle.crs_normal.specs.NormalOwn.{Ascend, AreOrdered, HasAxes, HasCodes, Has, HasSets, HasTail, IsCode, IsNotEllipsoidal, Lacks, HasOwnForm, Rise, bare_classes, numbers_in, rank, set_classes, words_in}
+use Rattle.crs_normal.specs.NormalOwn.{Ascend, AreOrdered, HasAxes, HasCodes, Has, HasSets, HasTail, IsCode, LacksEllipsoidal, Lacks, HasOwnForm, Rise, bare_classes, numbers_in, rank, set_classes, words_in}
 use Rattle.crs_normal.proofs.Verdicts.{Verdict, at_most, both, each, empty-full, equal, implied, negated, none, one_of, some, via}
 use Rattle.crs_normal.proofs.SingleVerdict.{NumberLaws, is_code, is_single, is_word, single_in}
 
@@ -153,7 +153,7 @@ is_one [] w = Some (inr (empty-full w []))
 is_one (x ∷ []) w = via (λ e. ap (λ y. y ∷ []) e) (λ e. ap first_or_none e) (equal x w)
 is_one (x ∷ y ∷ zs) w = Some (inr (one-more x y w zs))
 
-abbrev not_ellipsoidal : (c : Class) (item : Item) → Verdict (IsNotEllipsoidal c item)
+abbrev not_ellipsoidal : (c : Class) (item : Item) → Verdict (LacksEllipsoidal c item)
 not_ellipsoidal c item =
     over (Each (λ cs. words_in class.CoordinateSystem cs ≢ codes "ellipsoidal" ∷ [])) c class.CoordinateSystem
     (arguments item) (each (λ cs. words_in class.CoordinateSystem cs ≢ codes "ellipsoidal" ∷ [])

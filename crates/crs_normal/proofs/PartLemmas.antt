@@ -12,14 +12,14 @@ use Rattle.crs_value.specs.Told.{IsReadAs, IsReadOnce}
 use Rattle.crs_normal.specs.WrittenForm.{IsWrittenForm}
 use Rattle.crs_normal.specs.Closed.{IsClosed}
 use Rattle.crs_normal.specs.Decides.{FormDecides}
-use Rattle.crs_normal.specs.Flat.{flat}
+use Rattle.crs_normal.specs.Unplaced.{unplaced}
 use Rattle.crs_normal.specs.Made.{IsMade}
 use Rattle.crs_normal.specs.Normal.{IsNormalIn}
 use Rattle.crs_normal.specs.OneForm.{IsItsForm, IsItsFormUnbroken}
 use Rattle.crs_normal.specs.SpelledAs.{IsSpelledAs, IsSpelledBy}
 use Rattle.crs_normal.specs.TextLaws.{TextLaws}
 use Rattle.crs_normal.proofs.ClosedLemmas.{node-closed}
-use Rattle.crs_normal.proofs.FormLemmas.{flat-text}
+use Rattle.crs_normal.proofs.FormLemmas.{unplaced-text}
 use Rattle.crs_normal.proofs.ItemLemmas.{IsWritable, one-by-text}
 use Rattle.crs_normal.proofs.MadeCrsLemmas.{placed-twice}
 use Rattle.crs_normal.proofs.MadePlaceLemmas.{text-at}
@@ -59,7 +59,7 @@ unbroken-form level c Reads form own parent item value shaped normal free reads 
 -- a normal item that is sound is what is written for the value that it says
 abbrev pub IsItsFormSound : {V : Type 0} → Level → Class → (Class → Item → V → Type 0) → (V → Item) → Type 0
 IsItsFormSound {V = V} level c Reads form =
-    (item : Item) (value : V) → IsSound c item → IsNormalIn level c c item → Reads c item value → flat item ≡ form value
+    (item : Item) (value : V) → IsSound c item → IsNormalIn level c c item → Reads c item value → unplaced item ≡ form value
 
 pub sound-form : {V : Type 0} (level : Level) (c : Class) (Reads : Class → Item → V → Type 0) (form : V → Item) →
     IsItsFormUnbroken level c Reads form → IsItsFormSound level c Reads form
@@ -73,7 +73,7 @@ pub record IsKnownBy {V : Type 0} (c : V → Class) (N : V → Item → Type 0) 
   pub reads : (x : V) → Is x → Reads (c x) (at_place 0 (item (form x))) (form x)
   pub told : (a b : V) → Is a → Is b → item_text (item (form a)) ≡ item_text (item (form b)) → form a ≡ form b
   pub sound : (x : V) → Is x → IsReadAs Reads Is (c x)
-  pub own : (x : V) → Is x → (i : Item) (v : V) → IsSound (c x) i → N x i → Reads (c x) i v → flat i ≡ item (form v)
+  pub own : (x : V) → Is x → (i : Item) (v : V) → IsSound (c x) i → N x i → Reads (c x) i v → unplaced i ≡ item (form v)
 
 -- the text of an item, of which the place doesn't count
 writable-at : (c : Class) (N : Item → Type 0) (i : Item) → IsStanding c N (at_place 0 i) → IsWritable (at_place 0 i)
@@ -111,11 +111,11 @@ module _ {V : Type 0} (laws : TextLaws) (formed : SpelledFormed) (c : V → Clas
   form-twice : (x : V) → Is x → form x ≡ form (form x)
   form-twice x s =
       let m = known.made x s in
-      let f : flat (at-start x) ≡ item (form (form x)) =
+      let f : unplaced (at-start x) ≡ item (form (form x)) =
       known.own x s (at-start x) (form x)
       (record { formed = m.formed; shaped = m.shaped; unbroken = m.unbroken }) m.normal (known.reads x s) in
       known.told x (form x) s (form-kept x s)
-      (sym (text-at 0 (item (form x))) ∙ sym (flat-text (at-start x)) ∙ ap item_text f)
+      (sym (text-at 0 (item (form x))) ∙ sym (unplaced-text (at-start x)) ∙ ap item_text f)
 
   form-same : (x : V) → Is x → Same x (form x)
   form-same x s = (known.decides x (form x) s (form-kept x s)).0 (form-twice x s)
@@ -149,8 +149,8 @@ module _ {V : Type 0} (laws : TextLaws) (formed : SpelledFormed) (c : V → Clas
       let all : IsSound (c x) h.item =
       record { formed = formed bytes h.item h.spells; shaped = h.shaped; unbroken = h.unbroken } in
       let k : Is v = known.sound x s h.item v all h.reads in
-      let f : flat h.item ≡ item (form v) = known.own x s h.item v all h.normal h.reads in
-      h.written ∙ sym (flat-text h.item) ∙ ap item_text f
+      let f : unplaced h.item ≡ item (form v) = known.own x s h.item v all h.normal h.reads in
+      h.written ∙ sym (unplaced-text h.item) ∙ ap item_text f
       ∙ ap (λ y. item_text (item y)) (sym ((known.decides x v s k).1 h.same))
 
   pub canonical-by : IsWrittenForm Is Same (λ x. IsSpelledBy (c x) (N x) Reads Same x) (λ x. item_text (item (form x)))

@@ -3,7 +3,7 @@ use Rattle.std.proofs.Common.{◌≡◌, ◌≤◌, ℕ, ◌+◌, Bool, true, fa
 use Rattle.crs_text.specs.Items.{Item, leaf, node, Siblings, End, More, IsNode, arguments, depth, first_of, raw_of, rest_of}
 use Rattle.crs_text.specs.Tokens.{Kind, word}
 use Rattle.crs_text.specs.Written.{AreFormed, SameItem, SameItems, at_place, at_places, item_text}
-use Rattle.crs_normal.specs.Flat.{flat, flats}
+use Rattle.crs_normal.specs.Unplaced.{unplaced, all_unplaced}
 use Rattle.crs_normal.specs.TextLaws.{TextLaws}
 use Rattle.crs_normal.proofs.ItemLemmas.{one-by-text}
 
@@ -45,22 +45,22 @@ mutual
   )
 
 mutual
-  pub flat-placed : (p : ℕ) (i : Item) → flat (at_place p i) ≡ flat i
-  flat-placed p (leaf kind place raw) = refl
-  flat-placed p (node place keyword square first others close) =
-      let f = flat-placed (p + length keyword + 1) first in
-      let o = flats-placed (p + length keyword + 1 + length (item_text first)) others in λ k. node 0 keyword true (f k)
+  pub unplaced-placed : (p : ℕ) (i : Item) → unplaced (at_place p i) ≡ unplaced i
+  unplaced-placed p (leaf kind place raw) = refl
+  unplaced-placed p (node place keyword square first others close) =
+      let f = unplaced-placed (p + length keyword + 1) first in
+      let o = all-unplaced-placed (p + length keyword + 1 + length (item_text first)) others in λ k. node 0 keyword true (f k)
       (o k) 0
 
-  flats-placed : (p : ℕ) (is : Siblings) → flats (at_places p is) ≡ flats is
-  flats-placed p End = refl
-  flats-placed p (More i is) =
-      let f = flat-placed (p + 1) i in
-      let o = flats-placed (p + 1 + length (item_text i)) is in λ k. More (f k) (o k)
+  all-unplaced-placed : (p : ℕ) (is : Siblings) → all_unplaced (at_places p is) ≡ all_unplaced is
+  all-unplaced-placed p End = refl
+  all-unplaced-placed p (More i is) =
+      let f = unplaced-placed (p + 1) i in
+      let o = all-unplaced-placed (p + 1 + length (item_text i)) is in λ k. More (f k) (o k)
 
 pub same-by-text : TextLaws → (i j : Item) → AreFormed i → IsNode i → depth i ≤ 12 → AreFormed j → IsNode j →
     depth j ≤ 12 →
-    item_text i ≡ item_text j → (at_place 0 i ≡ at_place 0 j) × SameItem i j × (flat i ≡ flat j)
+    item_text i ≡ item_text j → (at_place 0 i ≡ at_place 0 j) × SameItem i j × (unplaced i ≡ unplaced j)
 same-by-text laws i j f n d f' n' d' e =
     let h =
     one-by-text laws i j (record {
@@ -69,4 +69,4 @@ same-by-text laws i j f n d f' n' d' e =
       is_node = n;
       within = d;
     }) (record { formed = f'; is_node = n'; within = d' }) e in
-    (h, same-placed i j 0 0 h, sym (flat-placed 0 i) ∙ ap flat h ∙ flat-placed 0 j)
+    (h, same-placed i j 0 0 h, sym (unplaced-placed 0 i) ∙ ap unplaced h ∙ unplaced-placed 0 j)

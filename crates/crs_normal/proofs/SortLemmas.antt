@@ -6,12 +6,12 @@ use Rattle.crs_shape.specs.ShapeFault.{class_in}
 use Rattle.crs_shape.specs.Slots.{is_class}
 use Rattle.crs_value.specs.Reading.{is_a, those}
 use Rattle.crs_value.specs.Sound.{Each}
-use Rattle.crs_normal.specs.Flat.{flat}
-use Rattle.crs_normal.proofs.ViewLemmas.{each-so, flats_onto, onto}
+use Rattle.crs_normal.specs.Unplaced.{unplaced}
+use Rattle.crs_normal.proofs.ViewLemmas.{each-so, unplaced_onto, onto}
 
-pub flats-joined : (a b : List Item) (rest : Siblings) → flats_onto (a ++ b) rest ≡ flats_onto a (flats_onto b rest)
-flats-joined [] b rest = refl
-flats-joined (x ∷ xs) b rest = ap (More (flat x)) (flats-joined xs b rest)
+pub unplaced-joined : (a b : List Item) (rest : Siblings) → unplaced_onto (a ++ b) rest ≡ unplaced_onto a (unplaced_onto b rest)
+unplaced-joined [] b rest = refl
+unplaced-joined (x ∷ xs) b rest = ap (More (unplaced x)) (unplaced-joined xs b rest)
 
 pub those-kept : (c d : Class) (a b : List Item) → Each (λ i. is_a c d i ≡ true) a →
     those c d (onto (a ++ b) End) ≡ a ++ those c d (onto b End)

@@ -10,7 +10,7 @@ use Rattle.crs_shape.specs.Shaped.{Shaped, AreShaped}
 use Rattle.crs_shape.specs.ShapeFault.{class_in}
 use Rattle.crs_shape.specs.Slots.{SlotParts, slots_of, takes, is_class}
 use Rattle.crs_value.specs.Reading.{is_a, those}
-use Rattle.crs_normal.specs.Flat.{flat, flats}
+use Rattle.crs_normal.specs.Unplaced.{unplaced, all_unplaced}
 use Rattle.crs_value.specs.Sound.{Each}
 
 -- these items, and others behind them
@@ -18,13 +18,13 @@ abbrev pub onto : List Item → Siblings → Siblings
 onto [] rest = rest
 onto (item ∷ items) rest = More item (onto items rest)
 
-abbrev pub flats_onto : List Item → Siblings → Siblings
-flats_onto [] rest = rest
-flats_onto (item ∷ items) rest = More (flat item) (flats_onto items rest)
+abbrev pub unplaced_onto : List Item → Siblings → Siblings
+unplaced_onto [] rest = rest
+unplaced_onto (item ∷ items) rest = More (unplaced item) (unplaced_onto items rest)
 
-pub flats-onto : (front : List Item) (rest : Siblings) → flats (onto front rest) ≡ flats_onto front (flats rest)
-flats-onto [] rest = refl
-flats-onto (item ∷ items) rest = ap (More (flat item)) (flats-onto items rest)
+pub unplaced-onto : (front : List Item) (rest : Siblings) → all_unplaced (onto front rest) ≡ unplaced_onto front (all_unplaced rest)
+unplaced-onto [] rest = refl
+unplaced-onto (item ∷ items) rest = ap (More (unplaced item)) (unplaced-onto items rest)
 
 -- ---- the arguments in a slot
 
@@ -103,13 +103,13 @@ view c classes items allowed shaped =
 
 abbrev pub spread : (c : Class) (slots : List SlotParts) (items : Siblings) → View c slots items → Siblings
 spread c [] items v = End
-spread c (slot ∷ slots) items v = flats_onto v.0 (spread c slots v.1.0 v.1.1.1.1)
+spread c (slot ∷ slots) items v = unplaced_onto v.0 (spread c slots v.1.0 v.1.1.1.1)
 
-pub flats-spread : (c : Class) (slots : List SlotParts) (items : Siblings) (v : View c slots items) →
-    flats items ≡ spread c slots items v
-flats-spread c [] items v = ap flats v
-flats-spread c (slot ∷ slots) items v =
-    ap flats v.1.1.1.0 ∙ flats-onto v.0 v.1.0 ∙ ap (flats_onto v.0) (flats-spread c slots v.1.0 v.1.1.1.1)
+pub unplaced-spread : (c : Class) (slots : List SlotParts) (items : Siblings) (v : View c slots items) →
+    all_unplaced items ≡ spread c slots items v
+unplaced-spread c [] items v = ap all_unplaced v
+unplaced-spread c (slot ∷ slots) items v =
+    ap all_unplaced v.1.1.1.0 ∙ unplaced-onto v.0 v.1.0 ∙ ap (unplaced_onto v.0) (unplaced-spread c slots v.1.0 v.1.1.1.1)
 
 abbrev pub rebuilt : (c : Class) (slots : List SlotParts) (items : Siblings) → View c slots items → Siblings
 rebuilt c [] items v = End

@@ -9,15 +9,15 @@ use Rattle.crs_value.specs.declared.values.level.Level.TheVariants as levels
 use Rattle.crs_normal.specs.Normal.{IsNormalText}
 
 -- the text is normal where everything counts
-abbrev pub IsNormal : List ℕ → Type 0
-IsNormal text = IsNormalText levels.Full text
+abbrev pub IsNormalAtFull : List ℕ → Type 0
+IsNormalAtFull text = IsNormalText levels.Full text
 
 -- the text is a node without white space and in square delimiters, and isn't normal
 pub record IsWrittenOtherwise (text : List ℕ) : Type 0 where
   pub item : Item
   pub spells : SpellsNode text item
   pub written : text ≡ item_text item
-  pub otherwise : ¬ (IsNormal text)
+  pub otherwise : ¬ (IsNormalAtFull text)
 
 -- ---- normal texts
 
@@ -92,11 +92,11 @@ with_height =
 -- these are normal
 abbrev pub AreNormal : Type 0
 AreNormal =
-    IsNormal height
-    × IsNormal geographic
-    × IsNormal wgs_84
-    × IsNormal utm_zone
-    × IsNormal with_height
+    IsNormalAtFull height
+    × IsNormalAtFull geographic
+    × IsNormalAtFull wgs_84
+    × IsNormalAtFull utm_zone
+    × IsNormalAtFull with_height
 
 -- a vertical CRS with its name alone
 abbrev pub name_alone : List ℕ
@@ -104,7 +104,7 @@ name_alone = codes "VERTCRS[\"H\"]"
 
 -- it is normal, and spells no CRS, for normal is what is asked beyond acceptance
 abbrev pub NameAloneIsNormal : Type 0
-NameAloneIsNormal = IsNormal name_alone × ((crs : Crs) → ¬ (Spells name_alone crs))
+NameAloneIsNormal = IsNormalAtFull name_alone × ((crs : Crs) → ¬ (Spells name_alone crs))
 
 -- ---- texts that differ from the height above in one point each
 
@@ -231,8 +231,8 @@ no_meridian =
     ++ codes "AXIS[\"lon\",east,ORDER[2],ANGLEUNIT[\"degree\",0.0174532925199433]]]"
 
 -- the keyword of a geodetic CRS for a geographic one
-abbrev pub geodetic_keyword : List ℕ
-geodetic_keyword =
+abbrev pub geodetic_for_geographic : List ℕ
+geodetic_for_geographic =
     codes "GEODCRS[\"A\",DATUM[\"D\",ELLIPSOID[\"E\",6378137,0,LENGTHUNIT[\"metre\",1]]],"
     ++ codes "PRIMEM[\"Greenwich\",0],CS[ellipsoidal,2],"
     ++ codes "AXIS[\"lat\",north,ORDER[1],ANGLEUNIT[\"degree\",0.0174532925199433]],"
@@ -259,6 +259,6 @@ abbrev pub GeographicsWrittenOtherwise : Type 0
 GeographicsWrittenOtherwise =
     IsWrittenOtherwise meridian_with_unit
     × IsWrittenOtherwise no_meridian
-    × IsWrittenOtherwise geodetic_keyword
+    × IsWrittenOtherwise geodetic_for_geographic
     × IsWrittenOtherwise no_unit_of_ellipsoid
     × IsWrittenOtherwise orders_fall

@@ -7,7 +7,6 @@ pub mod Decides
 pub mod DecimalLaws
 pub mod Examples
 pub mod Fit
-pub mod Flat
 pub mod LowerLaws
 pub mod Made
 pub mod Normal
@@ -26,4 +25,5 @@ pub mod SpelledSystems
 pub mod SpelledUnits
 pub mod SpelledUsages
 pub mod TextLaws
+pub mod Unplaced
 pub mod WrittenForm

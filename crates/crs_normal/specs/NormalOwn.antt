@@ -124,9 +124,9 @@ HasNoUnitAtZero item =
     numbers_in class.PrimeMeridian item ≡ codes "0" ∷ [] →
     Lacks class.PrimeMeridian class.AngleUnit item
 
--- a geographic CRS is written as one
-abbrev pub IsNotEllipsoidal : Class → Item → Type 0
-IsNotEllipsoidal c item =
+-- no coordinate system in the node, which is of class `c`, is ellipsoidal
+abbrev pub LacksEllipsoidal : Class → Item → Type 0
+LacksEllipsoidal c item =
     Each (λ cs. words_in class.CoordinateSystem cs ≢ codes "ellipsoidal" ∷ [])
     (those c class.CoordinateSystem (arguments item))
 
@@ -134,7 +134,7 @@ IsNotEllipsoidal c item =
 -- and the arguments that may stand in several orders stand in one
 abbrev pub HasOwnForm : Class → Item → Type 0
 HasOwnForm class.GeodeticCrs item =
-    IsNotEllipsoidal class.GeodeticCrs item × Has class.GeodeticCrs class.PrimeMeridian item
+    LacksEllipsoidal class.GeodeticCrs item × Has class.GeodeticCrs class.PrimeMeridian item
     × HasAxes class.GeodeticCrs item × HasTail class.GeodeticCrs item
 HasOwnForm class.GeographicCrs item =
     Has class.GeographicCrs class.PrimeMeridian item × HasAxes class.GeographicCrs item

@@ -8,7 +8,7 @@ ghost use Rattle.crs_normal.specs.SpelledFrames.{item_ellipsoid, item_ensemble, 
 ghost use Rattle.crs_normal.specs.SpelledFrames.{norm_ellipsoid, norm_ensemble, norm_frame, set_members};
 ghost use Rattle.crs_normal.specs.SpelledItems.{each, number_node, opt, text_node};
 ghost use Rattle.crs_normal.specs.SpelledUnits.{item_ident, set_idents};
-ghost use Rattle.crs_canon.specs.Openings.{named};
+ghost use Rattle.crs_canon.specs.Openings.{named_node};
 
 use crate::set::{Spell, write_set};
 use crate::spelling::ellipsoid::write_optional_ellipsoid;
@@ -105,7 +105,7 @@ fn write_datum(
     datum: &Datum<'_>,
     level: Level,
 ) -> Result<(), AllocError>
-    ensures { OnOk result (out.new.items ≡ out.old.items ++ named opening.now datum.now.name
+    ensures { OnOk result (out.new.items ≡ out.old.items ++ named_node opening.now datum.now.name
         (opt item_ellipsoid (option_map (norm_ellipsoid level) datum.now.ellipsoid)
         (opt (text_node (codes "ANCHOR")) datum.now.anchor
         (opt (number_node (codes "ANCHOREPOCH")) datum.now.anchor_epoch

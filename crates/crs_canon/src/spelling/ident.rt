@@ -6,7 +6,7 @@ ghost use Rattle.crs_text.specs.Written.{item_text, others_text};
 ghost use Rattle.crs_normal.specs.SpelledItems.{code_item, each, opt, text_node};
 ghost use Rattle.crs_normal.specs.SpelledUnits.{item_ident, set_idents};
 ghost use Rattle.crs_canon.specs.Members.{set_text};
-ghost use Rattle.crs_canon.specs.Openings.{named};
+ghost use Rattle.crs_canon.specs.Openings.{named_node};
 
 use crate::set::{Spell, write_set};
 use crate::spelling::texts::{append, open_text, write_code, write_optional_text};
@@ -106,7 +106,7 @@ pub(crate) fn write_named(
     level: Level,
 ) -> Result<(), AllocError>
     ensures { OnOk result (out.new.items
-        ≡ out.old.items ++ named opening.now name.now (each item_ident (set_idents level identifiers.now) End)) }
+        ≡ out.old.items ++ named_node opening.now name.now (each item_ident (set_idents level identifiers.now) End)) }
 {
     open_text(out, opening, name)?;
     write_idents(out, identifiers, level)?;

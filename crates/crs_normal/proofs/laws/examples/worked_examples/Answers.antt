@@ -59,7 +59,7 @@ returns-clause-geographics c =
     } in (
       is-written-otherwise l class.GeographicCrs example.meridian_with_unit (refl, refl, tt, tt, tt) tt,
       is-written-otherwise l class.GeographicCrs example.no_meridian (refl, refl, tt, tt, tt) tt,
-      is-written-otherwise l class.GeodeticCrs example.geodetic_keyword (refl, refl, tt, tt, tt) tt,
+      is-written-otherwise l class.GeodeticCrs example.geodetic_for_geographic (refl, refl, tt, tt, tt) tt,
       is-written-otherwise l class.GeographicCrs example.no_unit_of_ellipsoid (refl, refl, tt, tt, tt) tt,
       is-written-otherwise l class.GeographicCrs example.orders_fall (refl, refl, tt, tt, tt) tt,
     )
