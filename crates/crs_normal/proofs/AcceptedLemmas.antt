@@ -15,8 +15,9 @@ use Rattle.crs_value.specs.SpellsText.{Spells}
 use Rattle.crs_normal.specs.CrsClass.{crs_class}
 use Rattle.crs_normal.specs.Made.{IsMade}
 use Rattle.crs_normal.specs.SpelledCrs.{item_crs, norm_crs}
-use Rattle.crs_normal.proofs.MadeCrsLemmas.{crs-root, placed-twice}
+use Rattle.crs_normal.proofs.MadeCrsLemmas.{placed-twice}
 use Rattle.crs_normal.proofs.MadePlaceLemmas.{text-at}
+use Rattle.crs_normal.proofs.RootLemmas.{crs-rooted}
 
 abbrev pub NoFaultIsShape : Type 0
 NoFaultIsShape = (c : Class) (item : Item) → IsFree (Inside c item) ↔ Shaped c item
@@ -60,6 +61,6 @@ form-spells law written level c made reads =
       at_place 0 i,
       (
         made-stands written level (crs_class c) i made,
-        made-spells law level (crs_class c) 8 (at_place 0 i) (norm_crs level c) (crs-root level c 0) made reads,
+        made-spells law level (crs_class c) 8 (at_place 0 i) (norm_crs level c) (crs-rooted level c 0) made reads,
       ),
     )

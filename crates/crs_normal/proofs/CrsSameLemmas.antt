@@ -1,5 +1,5 @@
 -- Coordinate reference systems have one form exactly where they are the same.
-use Rattle.std.proofs.Common.{◌≡◌, ℕ, ◌*◌, ◌<◌, ◌^◌, inl, inr, List, [], ◌∷◌, length, refl, ap, subst, arith}
+use Rattle.std.proofs.Common.{◌≤◌, ◌≡◌, ℕ, ◌*◌, ◌<◌, ◌^◌, inl, inr, List, [], ◌∷◌, length, refl, ap, subst, arith}
 use Rattle.crs_decimal.specs.Number.{SameNumber, whole_number}
 use Rattle.crs_decimal.specs.Value.{exact}
 use Rattle.crs_value.specs.BadSystem.{IsOneOf, geodetic_dimensions, projected_dimensions, vertical_dimensions}
@@ -15,8 +15,6 @@ use Rattle.crs_value.specs.Values.{SystemParts}
 use Rattle.crs_value.specs.declared.values.compound.Horizontal.TheVariants as horizontal
 use Rattle.crs_value.specs.declared.values.crs.Crs.TheVariants as crs
 use Rattle.crs_value.specs.declared.values.level.Level.{Level}
-use Rattle.crs_value.specs.declared.values.system_type.SystemType.{SystemType}
-use Rattle.crs_value.specs.declared.values.system_type.SystemType.TheVariants as types
 use Rattle.crs_value.specs.declared.values.unit_kind.UnitKind.TheVariants as kinds
 use Rattle.crs_same.specs.SameCrs.{SameBase, SameCompound, SameCrs, SameGeodetic, SameHorizontal, SameProjected}
 use Rattle.crs_same.specs.SameCrs.{SameVertical}
@@ -26,6 +24,7 @@ use Rattle.crs_normal.specs.LowerLaws.{LowerLaws}
 use Rattle.crs_normal.specs.SpelledCrs.{norm_base, norm_compound, norm_crs, norm_geodetic, norm_horizontal}
 use Rattle.crs_normal.specs.SpelledCrs.{norm_projected, norm_vertical}
 use Rattle.crs_normal.proofs.ConversionSameLemmas.{conversion-agrees}
+use Rattle.crs_normal.proofs.DimensionLemmas.{small-geodetic, small-projected, small-vertical}
 use Rattle.crs_normal.proofs.DynamicSameLemmas.{dynamics-agree, dynamics-sound}
 use Rattle.crs_normal.proofs.FrameSameLemmas.{geodetic-frame-agrees, meridian-agrees, vertical-frame-agrees}
 use Rattle.crs_normal.proofs.SystemSameLemmas.{system-agrees}
@@ -35,10 +34,13 @@ use Rattle.crs_normal.proofs.UnitSameLemmas.{units-of-agree}
 -- ---- the number of axes is small
 
 abbrev IsSmall : ℕ → Type 0
-IsSmall n = n < 10 ^ 18
+IsSmall n = n ≤ 3
 
 wholes-same : (m n : ℕ) → SameNumber (whole_number m) (whole_number n) → m ≡ n
 wholes-same m n h = let s : m * 1 ≡ n * 1 = h.0 in omega (arith, s)
+
+small-numbered : (n : ℕ) → IsSmall n → n < 10 ^ 18
+small-numbered n l = omega arith
 
 numbered : LowerLaws → (system : SystemParts) → IsSystem system → (ns : List ℕ) → Each IsSmall ns →
     IsOneOf system.dimension ns → IsNumbered system
@@ -47,39 +49,23 @@ numbered laws system sound (n ∷ ns) small (inl s) =
     let e : n ≡ length system.axes = wholes-same n (length system.axes)
     (laws.transitive (whole_number n) (exact system.dimension) (whole_number (length system.axes))
     (laws.symmetric (exact system.dimension) (whole_number n) s) sound.count) in
-    (sound, subst IsSmall e small.0)
+    (sound, small-numbered (length system.axes) (subst IsSmall e small.0))
 numbered laws system sound (n ∷ ns) small (inr s) = numbered laws system sound ns small.1 s
-
-geodetic-small : (t : SystemType) → Each IsSmall (geodetic_dimensions t)
-geodetic-small types.Cartesian = (omega arith, tt)
-geodetic-small types.Ellipsoidal = (omega arith, (omega arith, tt))
-geodetic-small types.Spherical = (omega arith, (omega arith, tt))
-geodetic-small types.Vertical = tt
-
-projected-small : (t : SystemType) → Each IsSmall (projected_dimensions t)
-projected-small types.Cartesian = (omega arith, (omega arith, tt))
-projected-small other = tt
-
-vertical-small : (t : SystemType) → Each IsSmall (vertical_dimensions t)
-vertical-small types.Cartesian = tt
-vertical-small types.Ellipsoidal = tt
-vertical-small types.Spherical = tt
-vertical-small types.Vertical = (omega arith, tt)
 
 geodetic-numbered : LowerLaws → (g : GeodeticParts) → IsGeodetic g → IsNumbered g.system
 geodetic-numbered laws g sound =
     let type = g.system.system_type in
-    numbered laws g.system sound.system (geodetic_dimensions type) (geodetic-small type) sound.dimension
+    numbered laws g.system sound.system (geodetic_dimensions type) (small-geodetic type) sound.dimension
 
 projected-numbered : LowerLaws → (p : ProjectedParts) → IsProjected p → IsNumbered p.system
 projected-numbered laws p sound =
     let type = p.system.system_type in
-    numbered laws p.system sound.system (projected_dimensions type) (projected-small type) sound.dimension
+    numbered laws p.system sound.system (projected_dimensions type) (small-projected type) sound.dimension
 
 vertical-numbered : LowerLaws → (v : VerticalParts) → IsVertical v → IsNumbered v.system
 vertical-numbered laws v sound =
     let type = v.system.system_type in
-    numbered laws v.system sound.system (vertical_dimensions type) (vertical-small type) sound.dimension
+    numbered laws v.system sound.system (vertical_dimensions type) (small-vertical type) sound.dimension
 
 module _ (laws : LowerLaws) (sets : SetsDecide) (level : Level) where
   -- ---- geodetic and geographic CRSs

@@ -224,16 +224,6 @@ pub reads-kept : {V : Type 0} (level : Level) (R : Item → V → Type 0) (items
 reads-kept level R items values reads =
     kept-where_none level items values (reads-none R items values reads)
 
--- a set is in order already
-pub set-ordered : {V W : Type 0} (level : Level) (c d : Class) (R : Item → V → Type 0) (spell : W → Item)
-    (norm : V → W) → Form level c d R (λ v. spell (norm v)) →
-    (found : List Item) → Each (IsGood level c d) found → Ascend found →
-    (values : List V) → ReadsEach R found values →
-    in_order (λ w. item_text (spell w)) (map norm values) ≡ map norm values
-set-ordered level c d R spell norm form found good up values reads =
-    in_order-of (λ w. item_text (spell w)) (map norm values)
-    (written-ascend spell found (map norm values) (each-written level c d R spell norm form found good values reads) up)
-
 -- a set, in order
 pub set-spelled : {V W : Type 0} (level : Level) (c d : Class) (R : Item → V → Type 0) (spell : W → Item) (norm : V →
     W) → Form level c d R (λ v. spell (norm v)) →

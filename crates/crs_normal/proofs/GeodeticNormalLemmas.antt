@@ -29,7 +29,8 @@ use Rattle.crs_normal.proofs.DynamicNormalLemmas.{dynamic-spelled}
 use Rattle.crs_normal.proofs.EllipsoidNormalLemmas.{meridian-form}
 use Rattle.crs_normal.proofs.EnsembleNormalLemmas.{geodetic_frame-spelled, opt-meridian}
 use Rattle.crs_normal.proofs.FormLemmas.{Form, Kept, kept-good, node-spelled, one-spelled, opened, optional-spelled}
-use Rattle.crs_normal.proofs.HeadLemmas.{AreFree, Laws, SameThose, each-length, ends-of, few-axes, geographic-type, not-ellipsoidal, small-geodetic, small-geographic}
+use Rattle.crs_normal.proofs.DimensionLemmas.{small-geodetic, small-geographic}
+use Rattle.crs_normal.proofs.HeadLemmas.{AreFree, Laws, SameThose, each-length, ends-of, few-axes, geographic-type, not-ellipsoidal}
 use Rattle.crs_normal.proofs.LeafLemmas.{text-form}
 use Rattle.crs_normal.proofs.RankLemmas.{rise-behind}
 use Rattle.crs_normal.proofs.SystemNormalLemmas.{system-spelled}

@@ -10,7 +10,7 @@ use Rattle.crs_text.specs.Refusal.{RefusedAt}
 use Rattle.crs_shape.specs.declared.class.Class.{Class}
 use Rattle.crs_shape.specs.declared.class.Class.TheVariants as class
 use Rattle.crs_shape.specs.Slots.{slots_of, tail, vertical_tail}
-use Rattle.crs_value.specs.BadSystem.{IsOneOf, geodetic_dimensions, geographic_dimensions, projected_dimensions, vertical_dimensions}
+use Rattle.crs_value.specs.BadSystem.{IsOneOf, geographic_dimensions}
 use Rattle.crs_value.specs.Break.{at}
 use Rattle.crs_value.specs.Checks.{BadSystems}
 use Rattle.crs_value.specs.Reading.{is_a, those, ReadsEach, ReadsFirst}
@@ -23,6 +23,7 @@ use Rattle.crs_value.specs.declared.values.system_type.SystemType.TheVariants as
 use Rattle.crs_normal.specs.NormalOwn.{HasTail, words_in}
 use Rattle.crs_value.specs.Sound.{Each}
 use Rattle.crs_normal.proofs.AxisNormalLemmas.{type-raw}
+use Rattle.crs_normal.proofs.DimensionLemmas.{AreSmall}
 use Rattle.crs_normal.proofs.EllipsoidNormalLemmas.{ZeroPlain}
 use Rattle.crs_normal.proofs.FormLemmas.{IsGood, kept-good, opened}
 use Rattle.crs_normal.proofs.LeafLemmas.{PlainIsOne}
@@ -44,9 +45,6 @@ each-length R [] [] reads = refl
 each-length R [] (v ∷ vs) reads = absurd reads
 each-length R (i ∷ is) [] reads = absurd reads
 each-length R (i ∷ is) (v ∷ vs) reads = ap suc (each-length R is vs reads.1)
-
-abbrev pub AreSmall : List ℕ → Type 0
-AreSmall ns = Each (λ n. n ≤ 3) ns
 
 same-whole : (n m : ℕ) → SameNumber (whole_number n) (whole_number m) → n ≡ m
 same-whole n m h = let e : n * 10 ^ (0 + 0) ≡ m * 10 ^ (0 + 0) = h.0 in omega arith
@@ -105,28 +103,6 @@ few-axes laws dimensions small (cs ∷ more) axes units free x reads count =
             ),
           ),
         ))))
-
-pub small-geodetic : (t : SystemType) → AreSmall (geodetic_dimensions t)
-small-geodetic types.Cartesian = (omega arith, tt)
-small-geodetic types.Ellipsoidal = (omega arith, (omega arith, tt))
-small-geodetic types.Spherical = (omega arith, (omega arith, tt))
-small-geodetic types.Vertical = tt
-
-pub small-geographic : (t : SystemType) → AreSmall (geographic_dimensions t)
-small-geographic types.Cartesian = tt
-small-geographic types.Ellipsoidal = (omega arith, (omega arith, tt))
-small-geographic types.Spherical = tt
-small-geographic types.Vertical = tt
-
-pub small-projected : (t : SystemType) → AreSmall (projected_dimensions t)
-small-projected types.Cartesian = (omega arith, (omega arith, tt))
-small-projected other = tt
-
-pub small-vertical : (t : SystemType) → AreSmall (vertical_dimensions t)
-small-vertical types.Cartesian = tt
-small-vertical types.Ellipsoidal = tt
-small-vertical types.Spherical = tt
-small-vertical types.Vertical = (omega arith, tt)
 
 -- ---- of which type the system is
 

@@ -132,13 +132,11 @@ no-single d none (leaf kind place raw) rest s = absurd (clash (none kind) shaped
 
 no-citation : (kind : Kind) → sameb the_type (class_of_kind kind) class.Citation ≡ false
 no-citation number = refl
-no-citation text = refl
-no-citation word = refl
+no-citation other = refl
 
 no-uri : (kind : Kind) → sameb the_type (class_of_kind kind) class.Uri ≡ false
 no-uri number = refl
-no-uri text = refl
-no-uri word = refl
+no-uri other = refl
 
 behind-version : (citations uris : List Item) → Each (InSlot class.Identifier (optional class.Citation)) citations →
     Each (InSlot class.Identifier (optional class.Uri)) uris →

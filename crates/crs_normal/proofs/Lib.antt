@@ -78,7 +78,6 @@ pub mod ReadFrameLemmas
 pub mod ReadNameLemmas
 pub mod ReadSystemLemmas
 pub mod ReadWalkLemmas
-pub mod SameItemLemmas
 pub mod SetLemmas
 pub mod SingleVerdict
 pub mod SortLemmas
@@ -94,3 +93,5 @@ pub mod Verdicts
 pub mod ViewLemmas
 pub mod WordFormLemmas
 pub mod WrittenFormLemmas
+pub mod DimensionLemmas
+pub mod RootLemmas

@@ -14,8 +14,8 @@ use Rattle.crs_value.specs.declared.values.unit_kind.UnitKind.TheVariants as kin
 use Rattle.crs_value.specs.Sound.{Each, IsUnit}
 use Rattle.crs_value.specs.SoundConversion.{IsConversion, IsParameter}
 use Rattle.crs_value.specs.Values.{UnitParts}
-use Rattle.crs_value.specs.Words.{unit_word}
 use Rattle.crs_same.specs.SameUnits.{kind_as}
+use Rattle.crs_normal.specs.PartSpellings.{unit_class}
 use Rattle.crs_normal.specs.DecimalLaws.{DecimalLaws}
 use Rattle.crs_normal.specs.Made.{IsKindIn, IsMade}
 use Rattle.crs_normal.specs.NormalOwn.{Ascend, set_classes}
@@ -29,36 +29,26 @@ use Rattle.crs_normal.proofs.MadeLeafLemmas.{number-made, text-made}
 use Rattle.crs_normal.proofs.MadeLemmas.{KeepsRuns, Made, Run, alone, as-argument, each-line, given, items_in, node-made, opt-line}
 use Rattle.crs_normal.proofs.MadeNamedLemmas.{method-made}
 use Rattle.crs_normal.proofs.MadeUnitLemmas.{unit-made}
+use Rattle.crs_normal.proofs.ParameterLemmas.{named-as}
 
 -- ---- parameters: the class of the unit is that of its keyword
 
-abbrev kind_class : UnitKind → Class
-kind_class kinds.Length = class.LengthUnit
-kind_class kinds.Angle = class.AngleUnit
-kind_class kinds.Scale = class.ScaleUnit
-kind_class kinds.Plain = class.PlainUnit
-
 abbrev given_class : Option UnitParts → Class
 given_class None = class.PlainUnit
-given_class (Some u) = kind_class (kind_as kinds.Plain u.kind)
+given_class (Some u) = unit_class (kind_as kinds.Plain u.kind)
 
-kind-in : (k : UnitKind) → IsKindIn (kind_class k) k
+kind-in : (k : UnitKind) → IsKindIn (unit_class k) k
 kind-in kinds.Length = refl
 kind-in other = refl
-
-kind-named : (k : UnitKind) → class_named class.Parameter (unit_word k) ≡ Some (kind_class k)
-unfolding class_named is_keyword
-kind-named kinds.Length = refl
-kind-named other = refl
 
 parameter-unit : DecimalLaws → (level : Level) (x : Option UnitParts) → IfSome x IsUnit →
     Each (Made level 3 class.Parameter (given_class x)) (given item_unit (norm_units level kinds.Plain x))
 parameter-unit l level None h = tt
 parameter-unit l level (Some u) h =
     let k : UnitKind = kind_as kinds.Plain u.kind in (
-      as-argument level 3 3 class.Parameter (kind_class k) (item_unit (norm_unit level kinds.Plain u)) (omega arith)
-          (kind-named k)
-          (unit-made l level (kind_class k) k u (kind-in k) h),
+      as-argument level 3 3 class.Parameter (unit_class k) (item_unit (norm_unit level kinds.Plain u)) (omega arith)
+          (named-as k)
+          (unit-made l level (unit_class k) k u (kind-in k) h),
       tt,
     )
 
@@ -68,7 +58,7 @@ parameter_runs level c p =
     record { of = c; items = given item_unit (norm_units level kinds.Plain p.unit) } ∷ ids_run level p.identifiers ∷ []
 
 kind-sets : (level : Level) (k : UnitKind) (p : ParameterParts) →
-    Each (λ d. Ascend (items_in d (parameter_runs level (kind_class k) p))) set_classes
+    Each (λ d. Ascend (items_in d (parameter_runs level (unit_class k) p))) set_classes
 kind-sets level kinds.Length p = (identifiers-ascend level p.identifiers, (tt, (tt, (tt, (tt, tt)))))
 kind-sets level other p = (identifiers-ascend level p.identifiers, (tt, (tt, (tt, (tt, tt)))))
 
@@ -78,7 +68,7 @@ parameter-sets level None p = kind-sets level kinds.Plain p
 parameter-sets level (Some u) p = kind-sets level (kind_as kinds.Plain u.kind) p
 
 kind-left : (level : Level) (k : UnitKind) (p : ParameterParts) →
-    KeepsRuns level (parameter_runs level (kind_class k) p)
+    KeepsRuns level (parameter_runs level (unit_class k) p)
 kind-left level kinds.Length p = identifiers-left level p.identifiers
 kind-left level other p = identifiers-left level p.identifiers
 
@@ -90,7 +80,7 @@ parameter-left level (Some u) p = kind-left level (kind_as kinds.Plain u.kind) p
 abbrev unit_classes : List Class
 unit_classes = class.PlainUnit ∷ class.LengthUnit ∷ class.AngleUnit ∷ class.ScaleUnit ∷ []
 
-kind-taken : (k : UnitKind) → takes (optional_of unit_classes) (kind_class k) ≡ true
+kind-taken : (k : UnitKind) → takes (optional_of unit_classes) (unit_class k) ≡ true
 kind-taken kinds.Length = refl
 kind-taken other = refl
 

@@ -1,28 +1,25 @@
 -- All CRSs are made, and their texts are normal.
-use Rattle.std.proofs.Common.{◌≡◌, ℕ, ◌+◌, ◌≤◌, true, Some, length, refl, sym, ap, subst, ◌∙◌, arith}
+use Rattle.std.proofs.Common.{◌≡◌, ℕ, ◌+◌, ◌≤◌, true, length, refl, sym, ap, subst, ◌∙◌, arith}
 use Rattle.crs_text.specs.Items.{Item, leaf, node, Siblings, End, More, depth}
 use Rattle.crs_text.specs.Written.{WrittenSpells, at_place, at_places, item_text, others_text}
 use Rattle.crs_text.specs.TextFault.{SpellsNode}
 use Rattle.crs_shape.specs.declared.class.Class.{Class}
-use Rattle.crs_shape.specs.Keywords.{is_keyword, root_named}
-use Rattle.crs_shape.specs.ShapeFault.{class_of_root}
 use Rattle.crs_value.specs.declared.values.crs.Crs.{Crs}
 use Rattle.crs_value.specs.declared.values.crs.Crs.TheVariants as crs
 use Rattle.crs_value.specs.declared.values.level.Level.{Level}
-use Rattle.crs_value.specs.declared.values.system_type.SystemType.{SystemType}
-use Rattle.crs_value.specs.declared.values.system_type.SystemType.TheVariants as types
 use Rattle.crs_value.specs.SoundCrs.{IsCrs}
 use Rattle.crs_normal.specs.DecimalLaws.{DecimalLaws}
 use Rattle.crs_normal.specs.CrsClass.{crs_class, geodetic_class}
 use Rattle.crs_normal.specs.Made.{IsMade}
 use Rattle.crs_normal.specs.Normal.{IsNormalText}
-use Rattle.crs_normal.specs.SpelledCrs.{geodetic_keyword, item_crs, norm_crs}
+use Rattle.crs_normal.specs.SpelledCrs.{item_crs, norm_crs}
 use Rattle.crs_normal.proofs.MadeBehindLemmas.{AxisEach}
 use Rattle.crs_normal.proofs.MadeCompoundLemmas.{compound-made}
 use Rattle.crs_normal.proofs.MadeGeodeticLemmas.{geodetic-made}
 use Rattle.crs_normal.proofs.MadePlaceLemmas.{text-at, texts-at}
 use Rattle.crs_normal.proofs.MadeProjectedLemmas.{projected-made}
 use Rattle.crs_normal.proofs.MadeVerticalLemmas.{vertical-made}
+use Rattle.crs_normal.proofs.RootLemmas.{crs-rooted}
 
 deeper : (level : Level) (c : Class) (n : ℕ) (item : Item) → n ≤ 8 → IsMade level c n item → IsMade level c 8 item
 deeper level c n item h m =
@@ -50,17 +47,6 @@ crs-made l each_at level (crs.Vertical g) h p =
 crs-made l each_at level (crs.Compound g) h p = compound-made l each_at level g h p
 
 -- ---- a whole text
-
-geodetic-root : (t : SystemType) → root_named (geodetic_keyword t) ≡ Some (geodetic_class t)
-unfolding root_named is_keyword
-geodetic-root types.Cartesian = refl
-geodetic-root other = refl
-
-pub crs-root : (level : Level) (c : Crs) (p : ℕ) →
-    class_of_root (at_place p (item_crs (norm_crs level c))) ≡ Some (crs_class c)
-unfolding root_named is_keyword
-crs-root level (crs.Geodetic g) p = geodetic-root g.system.system_type
-crs-root level other p = refl
 
 -- a text's item stands at the text's places
 mutual
@@ -111,7 +97,7 @@ crs-text-normal l each_at written level c h =
       class_read = crs_class c;
       spells = subst (λ b. SpellsNode b (at_place 0 i)) (text-at 0 i)
           (subst (SpellsNode (item_text (at_place 0 i))) (placed-twice 0 0 i) spelled);
-      root = crs-root level c 0;
+      root = crs-rooted level c 0;
       written = sym (text-at 0 i);
       normal = m.normal (crs_class c);
     }

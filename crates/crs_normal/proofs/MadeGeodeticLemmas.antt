@@ -1,5 +1,5 @@
 -- Geodetic and geographic CRSs are made.
-use Rattle.std.proofs.Common.{◌≡◌, ◌≢◌, ℕ, ◌≤◌, IsTrue, Some, None, List, [], ◌∷◌, map, codes, inl, inr, refl, sym, ap, subst, ◌∙◌, arith}
+use Rattle.std.proofs.Common.{◌≡◌, ◌≢◌, ℕ, IsTrue, Some, None, List, [], ◌∷◌, map, codes, inl, inr, refl, sym, ap, subst, ◌∙◌, arith}
 use Rattle.std.specs.Option.{option_map}
 use Rattle.crs_decimal.specs.Value.{Value}
 use Rattle.crs_text.specs.Items.{Item, Siblings, More, arguments, raw_of}
@@ -46,6 +46,7 @@ use Rattle.crs_normal.proofs.MadePlaceLemmas.{ArePlaced}
 use Rattle.crs_normal.proofs.MadeMeridianLemmas.{meridian-argument}
 use Rattle.crs_normal.proofs.MadeRiseLemmas.{RunsRise}
 use Rattle.crs_normal.proofs.MadeTailLemmas.{IsTailSeen, NamesTail, has-tail, no-repeats, tail-fits, tail-left, tail_runs, usages-ascend}
+use Rattle.crs_normal.proofs.DimensionLemmas.{small-geodetic}
 
 -- ---- the class of a CRS by the type of its system
 
@@ -144,12 +145,6 @@ abbrev pub end_classes : List Class
 end_classes =
     class.Usage ∷ class.Scope ∷ class.Area ∷ class.BoundingBox ∷ class.VerticalExtent ∷ class.Identifier ∷
     class.Remark ∷ []
-
-geodetic-small : (t : SystemType) → Each (λ m. m ≤ 3) (geodetic_dimensions t)
-geodetic-small types.Cartesian = (omega arith, tt)
-geodetic-small types.Ellipsoidal = (omega arith, (omega arith, tt))
-geodetic-small types.Spherical = (omega arith, (omega arith, tt))
-geodetic-small types.Vertical = tt
 
 geodetic-allowed : DecimalLaws → (level : Level) (g : GeodeticParts) → IsFew g.system →
     Allowed geodetic_slots (classes (geodetic_runs level g))
@@ -297,7 +292,7 @@ geodetic-made l each_at level g h =
     (geodetic_others level g) (geodetic_runs level g) (simp (opt-line, each-line))
     (geodetic-kept l level (geodetic_class g.system.system_type) (geodetic_keyword g.system.system_type) g
     (is-root g.system.system_type)
-    (few-system l each_at geodetic_dimensions geodetic-small g.system h.system h.dimension) h)
+    (few-system l each_at geodetic_dimensions small-geodetic g.system h.system h.dimension) h)
 
 -- the system of a CRS, as the checks of a compound see it
 pub geodetic-seen : DecimalLaws → AxisEach → (level : Level) (g : GeodeticParts) → IsGeodetic g → (p : ℕ) →
@@ -311,7 +306,7 @@ pub geodetic-seen : DecimalLaws → AxisEach → (level : Level) (g : GeodeticPa
 geodetic-seen l each_at level g h p =
     let c : Class = geodetic_class g.system.system_type in
     let item : Item = at_place p (item_geodetic (norm_geodetic level g)) in
-    let few : IsFew g.system = few-system l each_at geodetic_dimensions geodetic-small g.system h.system h.dimension in
+    let few : IsFew g.system = few-system l each_at geodetic_dimensions small-geodetic g.system h.system h.dimension in
     let s : Sees c (geodetic_runs level g) item =
     sees level 5 c (geodetic_keyword g.system.system_type) (text_item g.name) (geodetic_others level g)
     (geodetic_runs level g) p (simp (opt-line, each-line))

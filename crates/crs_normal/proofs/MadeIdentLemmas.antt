@@ -88,25 +88,19 @@ ident_runs i k v =
 
 no-sets : (i : IdentParts) (k v : Kind) → Each (λ d. Ascend (items_in d (ident_runs i k v))) set_classes
 no-sets i number number = (tt, (tt, (tt, (tt, (tt, tt)))))
-no-sets i number text = (tt, (tt, (tt, (tt, (tt, tt)))))
-no-sets i number word = (tt, (tt, (tt, (tt, (tt, tt)))))
+no-sets i number other = (tt, (tt, (tt, (tt, (tt, tt)))))
 no-sets i text number = (tt, (tt, (tt, (tt, (tt, tt)))))
-no-sets i text text = (tt, (tt, (tt, (tt, (tt, tt)))))
-no-sets i text word = (tt, (tt, (tt, (tt, (tt, tt)))))
+no-sets i text other = (tt, (tt, (tt, (tt, (tt, tt)))))
 no-sets i word number = (tt, (tt, (tt, (tt, (tt, tt)))))
-no-sets i word text = (tt, (tt, (tt, (tt, (tt, tt)))))
-no-sets i word word = (tt, (tt, (tt, (tt, (tt, tt)))))
+no-sets i word other = (tt, (tt, (tt, (tt, (tt, tt)))))
 
 none-left : (level : Level) (i : IdentParts) (k v : Kind) → KeepsRuns level (ident_runs i k v)
 none-left level i number number = keeps-none level
-none-left level i number text = keeps-none level
-none-left level i number word = keeps-none level
+none-left level i number other = keeps-none level
 none-left level i text number = keeps-none level
-none-left level i text text = keeps-none level
-none-left level i text word = keeps-none level
+none-left level i text other = keeps-none level
 none-left level i word number = keeps-none level
-none-left level i word text = keeps-none level
-none-left level i word word = keeps-none level
+none-left level i word other = keeps-none level
 
 abbrev code_classes : List Class
 code_classes = class.Number ∷ class.Text ∷ []

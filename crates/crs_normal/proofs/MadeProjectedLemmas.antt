@@ -1,5 +1,5 @@
 -- Base CRSs and projected CRSs are made.
-use Rattle.std.proofs.Common.{ℕ, ◌≤◌, None, List, [], ◌∷◌, codes, inl, inr, refl, arith}
+use Rattle.std.proofs.Common.{ℕ, None, List, [], ◌∷◌, codes, inl, inr, refl, arith}
 use Rattle.std.specs.Option.{option_map}
 use Rattle.crs_text.specs.Items.{Item, Siblings, End, More, arguments}
 use Rattle.crs_text.specs.Refusal.{RefusedAt}
@@ -12,11 +12,8 @@ use Rattle.crs_value.specs.BadSystem.{projected_dimensions}
 use Rattle.crs_value.specs.Checks.{OfCrs, Own as BreaksOwn}
 use Rattle.crs_value.specs.CrsValues.{BaseParts, ProjectedParts}
 use Rattle.crs_value.specs.declared.values.level.Level.{Level}
-use Rattle.crs_value.specs.declared.values.system_type.SystemType.{SystemType}
-use Rattle.crs_value.specs.declared.values.system_type.SystemType.TheVariants as types
 use Rattle.crs_value.specs.declared.values.unit_kind.UnitKind.TheVariants as kinds
 use Rattle.crs_value.specs.Reading.{those}
-use Rattle.crs_value.specs.Sound.{Each}
 use Rattle.crs_value.specs.SoundSingle.{IsBase, IsProjected}
 use Rattle.crs_same.specs.SameUsages.{usages_of}
 use Rattle.crs_normal.specs.DecimalLaws.{DecimalLaws}
@@ -43,6 +40,7 @@ use Rattle.crs_normal.proofs.MadeLemmas.{IsKept, Run, RunsMade, Sees, alone, as-
 use Rattle.crs_normal.proofs.MadeMeridianLemmas.{meridian-argument}
 use Rattle.crs_normal.proofs.MadeRiseLemmas.{RunsRise}
 use Rattle.crs_normal.proofs.MadeTailLemmas.{IsTailSeen, has-tail, no-repeats, tail-fits, tail-left, tail_runs, usages-ascend}
+use Rattle.crs_normal.proofs.DimensionLemmas.{small-projected}
 
 -- ---- base CRSs
 
@@ -129,12 +127,8 @@ projected_runs level g =
     alone class.Text (text_item g.name) ∷ alone class.BaseCrs (item_base (norm_base level g.base)) ∷
     alone class.Conversion (item_conversion (norm_conversion level g.conversion)) ∷ behind level g.system g.tail
 
-projected-small : (t : SystemType) → Each (λ m. m ≤ 3) (projected_dimensions t)
-projected-small types.Cartesian = (omega arith, (omega arith, tt))
-projected-small other = tt
-
 projected-few : DecimalLaws → AxisEach → (g : ProjectedParts) → IsProjected g → IsFew g.system
-projected-few l each_at g h = few-system l each_at projected_dimensions projected-small g.system h.system h.dimension
+projected-few l each_at g h = few-system l each_at projected_dimensions small-projected g.system h.system h.dimension
 
 projected-allowed : DecimalLaws → (level : Level) (g : ProjectedParts) → IsFew g.system →
     Allowed (slots_of class.ProjectedCrs) (classes (projected_runs level g))

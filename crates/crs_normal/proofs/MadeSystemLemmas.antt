@@ -274,24 +274,3 @@ few-axes l v n (m ∷ ns) few (inl h) s =
 few-axes l v n (m ∷ ns) few (inr h) s = few-axes l v n ns few.1 h s
 
 -- ---- axes by themselves
-
-axes-each : DecimalLaws → (level : Level) (s : SystemParts) (p k : ℕ) (xs : List AxisParts) → AreAxes level s k xs →
-    1 ≤ k → k + length xs ≤ 4 →
-    Each (λ axis. IsMade level class.Axis 5 (at_place p (item_axis axis))) xs
-axes-each l level s p k [] h low high = tt
-axes-each l level s p k (a ∷ xs) h low high =
-    let low_next : 1 ≤ k + 1 = omega arith in
-    let high_next : (k + 1) + length xs ≤ 4 = omega arith in
-    let small : k ≤ 3 = omega arith in (
-      subst (λ b. IsMade level class.Axis 5 (at_place p (item_axis b))) (sym h.0.1.1)
-          (axis-made l level s k h.0.0 h.0.1.0 low small p),
-      axes-each l level s p (k + 1) xs h.1 low_next high_next,
-    )
-
-pub system-axes-made : DecimalLaws → (level : Level) (s : SystemParts) → IsSystem s → HasEach s → length s.axes ≤ 3 →
-    (p : ℕ) →
-    Each (λ axis. IsMade level class.Axis 5 (at_place p (item_axis axis))) (axes_from level s 1 (length s.axes))
-system-axes-made l level s h each_at few p =
-    let e : length (axes_from level s 1 (length s.axes)) ≡ length s.axes = all-count l level s h each_at few in
-    axes-each l level s p 1 (axes_from level s 1 (length s.axes)) (all-axes l level s h each_at few) (omega arith)
-    (omega arith)

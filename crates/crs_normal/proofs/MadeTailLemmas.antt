@@ -26,12 +26,12 @@ use Rattle.crs_normal.specs.NormalOwn.{Ascend, HasTail}
 use Rattle.crs_normal.specs.Ordered.{in_order}
 use Rattle.crs_normal.specs.SpelledItems.{text_item, text_node}
 use Rattle.crs_normal.specs.SpelledUnits.{item_ident, set_idents}
-use Rattle.crs_normal.specs.SpelledUsages.{item_usage, norm_tail, norm_usage, set_usages, tail_items}
+use Rattle.crs_normal.specs.SpelledUsages.{item_usage, norm_usage, set_usages}
 use Rattle.crs_normal.proofs.MadeAscendLemmas.{set-ascends, set-each}
 use Rattle.crs_normal.proofs.MadeDatumLemmas.{not-repeated}
 use Rattle.crs_normal.proofs.MadeFitLemmas.{fills-one, runs-fit, taken-more}
 use Rattle.crs_normal.proofs.MadeIdentLemmas.{given-made, identifiers-left, identifiers-made, ids_run, text-node-made}
-use Rattle.crs_normal.proofs.MadeLemmas.{Keeps, Made, Run, RunsMade, Sees, alone, as-argument, classes, each-line, given, lines, opt-line}
+use Rattle.crs_normal.proofs.MadeLemmas.{Keeps, Made, Run, RunsMade, Sees, alone, as-argument, classes, given}
 use Rattle.crs_normal.proofs.MadePlaceLemmas.{ArePlaced}
 use Rattle.crs_normal.proofs.MadeRiseLemmas.{RunsRise, has-rise}
 use Rattle.crs_normal.proofs.MadeUsageLemmas.{usage-made, usage-named}
@@ -90,9 +90,6 @@ abbrev pub tail_runs : Level → TailParts → List Run
 tail_runs level t =
     record { of = class.Usage; items = map item_usage (set_usages level (usages_of t)) } ∷ ids_run level t.identifiers ∷
     record { of = class.Remark; items = remark_items level t } ∷ []
-
-pub tail-lines : (level : Level) (t : TailParts) → tail_items (norm_tail level t) ≡ lines (tail_runs level t)
-tail-lines level t = simp (each-line, opt-line)
 
 -- a class of CRS names the nodes of its end
 pub record NamesTail (c : Class) : Type 0 where

@@ -1,5 +1,5 @@
 -- Vertical CRSs are made.
-use Rattle.std.proofs.Common.{◌≡◌, ℕ, ◌≤◌, ◌++◌, true, Option, Some, None, List, [], ◌∷◌, map, codes, inl, inr, refl, arith}
+use Rattle.std.proofs.Common.{◌≡◌, ℕ, ◌++◌, true, Option, Some, None, List, [], ◌∷◌, map, codes, inl, inr, refl, arith}
 use Rattle.std.specs.Option.{option_map}
 use Rattle.crs_text.specs.Items.{Item, More, arguments}
 use Rattle.crs_text.specs.Refusal.{RefusedAt}
@@ -17,8 +17,6 @@ use Rattle.crs_value.specs.CrsValues.{VerticalParts}
 use Rattle.crs_value.specs.declared.values.frame.Frame.{Frame}
 use Rattle.crs_value.specs.declared.values.frame.Frame.TheVariants as frame
 use Rattle.crs_value.specs.declared.values.level.Level.{Level}
-use Rattle.crs_value.specs.declared.values.system_type.SystemType.{SystemType}
-use Rattle.crs_value.specs.declared.values.system_type.SystemType.TheVariants as types
 use Rattle.crs_value.specs.DynamicValues.{DynamicParts}
 use Rattle.crs_value.specs.Reading.{those}
 use Rattle.crs_value.specs.Sound.{Each}
@@ -49,6 +47,7 @@ use Rattle.crs_normal.proofs.MadeLemmas.{IsKept, KeepsRuns, Made, Run, RunsMade,
 use Rattle.crs_normal.proofs.MadeNamedLemmas.{geoid-model-made}
 use Rattle.crs_normal.proofs.MadeRiseLemmas.{RunsRise}
 use Rattle.crs_normal.proofs.MadeTailLemmas.{IsTailSeen, has-tail, no-repeats, tail-fits, tail-left, tail-runs-made, tail_runs, usages-ascend}
+use Rattle.crs_normal.proofs.DimensionLemmas.{small-vertical}
 
 -- ---- the frame, of one class or the other
 
@@ -143,12 +142,6 @@ frame_item level g = item_frame (codes "VDATUM") (norm_frame level g.frame)
 abbrev vertical_runs : Level → VerticalParts → List Run
 vertical_runs level g =
     framed_runs level (text_item g.name) g.dynamic g.frame (frame_item level g) (vertical_rest level g)
-
-vertical-small : (t : SystemType) → Each (λ m. m ≤ 3) (vertical_dimensions t)
-vertical-small types.Cartesian = tt
-vertical-small types.Ellipsoidal = tt
-vertical-small types.Spherical = tt
-vertical-small types.Vertical = (omega arith, tt)
 
 abbrev model_classes : List Class
 model_classes = class.GeoidModel ∷ end_classes
@@ -292,4 +285,4 @@ vertical-made l each_at level g h =
     (system_items (norm_system level g.system) (each item_geoid_model (set_geoid_models level g.geoid_models)
     (tail_items (norm_tail level g.tail))))))
     (vertical_runs level g) (simp (opt-line, each-line))
-    (vertical-kept l level g (few-system l each_at vertical_dimensions vertical-small g.system h.system h.dimension) h)
+    (vertical-kept l level g (few-system l each_at vertical_dimensions small-vertical g.system h.system h.dimension) h)

@@ -22,6 +22,7 @@ use Rattle.crs_value.specs.Values.{IdentParts, UnitParts}
 use Rattle.crs_value.specs.Words.{unit_word}
 use Rattle.crs_same.specs.SameConversions.{SameParameter}
 use Rattle.crs_same.specs.Sets.{SameSet}
+use Rattle.crs_normal.specs.PartSpellings.{unit_class}
 use Rattle.crs_normal.specs.Fit.{IsFit}
 use Rattle.crs_normal.specs.SpelledConversions.{item_parameter, norm_parameter, set_parameters}
 use Rattle.crs_normal.specs.SpelledItems.{each, node_of, number_item, opt, text_item}
@@ -47,19 +48,13 @@ behind-value d t n P name value rest g =
 
 -- ---- the unit
 
--- the class of a unit in a parameter
-abbrev class-as : UnitKind → Class
-class-as kinds.Length = class.LengthUnit
-class-as kinds.Angle = class.AngleUnit
-class-as kinds.Scale = class.ScaleUnit
-class-as kinds.Plain = class.PlainUnit
-
-named-as : (k : UnitKind) → class_named class.Parameter (unit_word k) ≡ Some (class-as k)
+-- the class of a unit in a parameter is that of its keyword
+pub named-as : (k : UnitKind) → class_named class.Parameter (unit_word k) ≡ Some (unit_class k)
 unfolding class_named is_keyword
 named-as kinds.Length = refl
 named-as other = refl
 
-unit-is : (d : Class) (b : Bool) (u : UnitParts) (k : UnitKind) → u.kind ≡ k → is_class d (Some (class-as k)) ≡ b →
+unit-is : (d : Class) (b : Bool) (u : UnitParts) (k : UnitKind) → u.kind ≡ k → is_class d (Some (unit_class k)) ≡ b →
     IsOf b class.Parameter d (item_unit u)
 unit-is d b u k e h place =
     ap (λ j. is_class d (class_named class.Parameter (unit_word j))) e ∙ ap (is_class d) (named-as k) ∙ h
@@ -101,7 +96,7 @@ module _ (laws : TextLaws) (name : List ℕ) (value : Value) (identifiers : List
 
   other-unit : (d : Class) → is_class d (Some class.Text) ≡ false → is_class d (Some class.Number) ≡ false →
       is_class d (Some class.Identifier) ≡ false →
-      (u : UnitParts) (k : UnitKind) → u.kind ≡ k → is_class d (Some (class-as k)) ≡ false → Lacks class.Parameter d
+      (u : UnitParts) (k : UnitKind) → u.kind ≡ k → is_class d (Some (unit_class k)) ≡ false → Lacks class.Parameter d
       (with-unit (Some u))
   other-unit d t n i u k e h =
       behind-value d t n (λ l. l ≡ []) name value (More (item_unit u) (each item_ident identifiers End))
@@ -110,7 +105,7 @@ module _ (laws : TextLaws) (name : List ℕ) (value : Value) (identifiers : List
 
   this-unit : (d : Class) (Other : Option UnitParts → Type 0) → is_class d (Some class.Text) ≡ false →
       is_class d (Some class.Number) ≡ false → NamesId d →
-      (u : UnitParts) → IsUnit u → (k : UnitKind) → u.kind ≡ k → is_class d (Some (class-as k)) ≡ true →
+      (u : UnitParts) → IsUnit u → (k : UnitKind) → u.kind ≡ k → is_class d (Some (unit_class k)) ≡ true →
       Gives class.Parameter d (λ l. ReadsElse (ReadsAsUnit d) l Other (Some u)) (with-unit (Some u))
   this-unit d Other t n names u s k e h =
       behind-value d t n (λ l. ReadsElse (ReadsAsUnit d) l Other (Some u)) name value

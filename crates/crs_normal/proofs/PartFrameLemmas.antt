@@ -1,5 +1,5 @@
 -- Reference frames and ensembles by themselves: geodetic where they have an ellipsoid, else vertical.
-use Rattle.std.proofs.Common.{◌≡◌, ◌↔◌, ◌∙◌, ℕ, true≢false, codes, Option, Some, None, List, [], ◌∷◌, ◌++◌, refl, sym, ap, subst, arith}
+use Rattle.std.proofs.Common.{◌≡◌, ◌↔◌, ◌∙◌, ℕ, true≢false, codes, Option, Some, None, List, [], ◌∷◌, ◌++◌, refl, sym, ap, arith}
 use Rattle.std.specs.Option.{option_map}
 use Rattle.std.specs.Prelude.{IsNone, IsSome}
 use Rattle.crs_text.specs.Written.{at_place}
@@ -27,12 +27,6 @@ use Rattle.crs_normal.proofs.WrittenFormLemmas.{IsOneText, one-text, written-for
 use Rattle.crs_normal.proofs.ReadNameLemmas.{keyword-names}
 
 -- ---- with an ellipsoid or without
-
-none-there : (o : Option EllipsoidParts) → o ≡ None → IsNone o
-none-there o e = let P : Option EllipsoidParts → Type 0 = λ x. IsNone x in subst P (sym e) refl
-
-some-there : (o : Option EllipsoidParts) (x : EllipsoidParts) → o ≡ Some x → IsSome o
-some-there o x e = let P : Option EllipsoidParts → Type 0 = λ x. IsSome x in subst P (sym e) refl
 
 -- what holds of what has an ellipsoid, and of what has none
 by-ellipsoid : (P : Option EllipsoidParts → Type 0) (o : Option EllipsoidParts) → (IsNone o → P None) →

@@ -4,7 +4,7 @@ use Rattle.crs_shape.specs.declared.class.Class.{Class}
 use Rattle.crs_shape.specs.declared.class.Class.TheVariants as class
 use Rattle.crs_text.specs.Written.{item_text}
 use Rattle.crs_value.specs.CrsValues.{GeodeticParts}
-use Rattle.crs_value.specs.ReadsCrs.{IsGeodeticClass, ReadsGeodetic}
+use Rattle.crs_value.specs.ReadsCrs.{ReadsGeodetic}
 use Rattle.crs_value.specs.SoundCrs.{IsCrs}
 use Rattle.crs_value.specs.SoundSingle.{IsGeodetic, IsProjected}
 use Rattle.crs_value.specs.declared.values.compound.Horizontal.{Horizontal}
@@ -23,10 +23,6 @@ use Rattle.crs_normal.specs.PartSpellings.{IsHorizontalPart, IsSpelledGeodetic, 
 use Rattle.crs_normal.specs.PartTexts.{geodetic_text, horizontal_text, projected_text}
 use Rattle.crs_normal.specs.SpelledCrs.{item_crs, item_geodetic, norm_crs, norm_geodetic}
 use Rattle.crs_normal.proofs.WrittenFormLemmas.{IsOneText, one-text, written-form}
-
-pub is-geodetic : (t : SystemType) → IsGeodeticClass (geodetic_class t)
-is-geodetic types.Cartesian = tt
-is-geodetic other = tt
 
 abbrev IsOwnGeodetic : Level → Class → Type 0
 IsOwnGeodetic level c = IsItsFormUnbroken level c ReadsGeodetic (λ g. item_geodetic (norm_geodetic level g))

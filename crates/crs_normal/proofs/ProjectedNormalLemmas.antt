@@ -20,7 +20,8 @@ use Rattle.crs_normal.proofs.DynamicNormalLemmas.{dynamic-spelled}
 use Rattle.crs_normal.proofs.EnsembleNormalLemmas.{base-form, vertical_frame-spelled}
 use Rattle.crs_normal.proofs.FormLemmas.{Form, kept-good, node-spelled, one-spelled, opened}
 use Rattle.crs_normal.proofs.GeodeticNormalLemmas.{found-of, no-models, none-read-each, rise-six}
-use Rattle.crs_normal.proofs.HeadLemmas.{AreFree, Laws, each-length, ends-of, few-axes, small-projected, small-vertical, vertical_ends-of}
+use Rattle.crs_normal.proofs.DimensionLemmas.{small-projected, small-vertical}
+use Rattle.crs_normal.proofs.HeadLemmas.{AreFree, Laws, each-length, ends-of, few-axes, vertical_ends-of}
 use Rattle.crs_normal.proofs.LeafLemmas.{text-form}
 use Rattle.crs_normal.proofs.NamedNormalLemmas.{conversion-form}
 use Rattle.crs_normal.proofs.SystemNormalLemmas.{system-spelled}

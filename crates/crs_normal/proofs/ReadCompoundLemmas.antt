@@ -4,8 +4,6 @@ use Rattle.crs_text.specs.Items.{Item, Siblings, More, End}
 use Rattle.crs_text.specs.Written.{at_place, at_places}
 use Rattle.crs_shape.specs.declared.class.Class.{Class}
 use Rattle.crs_shape.specs.declared.class.Class.TheVariants as class
-use Rattle.crs_shape.specs.Keywords.{is_keyword, root_named}
-use Rattle.crs_shape.specs.ShapeFault.{class_of_root}
 use Rattle.crs_shape.specs.Slots.{class_named, is_class}
 use Rattle.crs_value.specs.CompoundValues.{CompoundParts}
 use Rattle.crs_value.specs.CrsValues.{GeodeticParts, ProjectedParts}
@@ -17,7 +15,7 @@ use Rattle.crs_value.specs.declared.values.level.Level.{Level}
 use Rattle.crs_value.specs.declared.values.system_type.SystemType.{SystemType}
 use Rattle.crs_value.specs.declared.values.system_type.SystemType.TheVariants as types
 use Rattle.crs_value.specs.Reading.{those, ReadsElse, ReadsFirst}
-use Rattle.crs_value.specs.ReadsCrs.{IsGeodeticClass, ReadsAsHorizontal, ReadsCompound, ReadsCrs, ReadsVertical}
+use Rattle.crs_value.specs.ReadsCrs.{ReadsAsHorizontal, ReadsCompound, ReadsCrs, ReadsVertical}
 use Rattle.crs_value.specs.SoundCompound.{IsCompound, IsHorizontal}
 use Rattle.crs_value.specs.SoundCrs.{IsCrs}
 use Rattle.crs_normal.specs.LowerLaws.{LowerLaws}
@@ -30,6 +28,7 @@ use Rattle.crs_normal.proofs.ReadFrameLemmas.{name-segment}
 use Rattle.crs_normal.proofs.ReadDatumLemmas.{neither}
 use Rattle.crs_normal.proofs.ReadWalkLemmas.{IsIn, Passes, ReadsBack, Segment, first-field, lacking, lay, one-segment, pass-item}
 use Rattle.crs_normal.proofs.ReadNameLemmas.{keyword-names}
+use Rattle.crs_normal.proofs.RootLemmas.{is-geodetic}
 
 geographic-names : GeodeticNames class.GeographicCrs
 geographic-names = record {
@@ -60,10 +59,6 @@ geodetic-names = record {
 names-of : (t : SystemType) → GeodeticNames (geodetic_class t)
 names-of types.Ellipsoidal = geographic-names
 names-of other = geodetic-names
-
-is-geodetic : (t : SystemType) → IsGeodeticClass (geodetic_class t)
-is-geodetic types.Ellipsoidal = tt
-is-geodetic other = tt
 
 abbrev compound : Class
 compound = class.CompoundCrs
@@ -191,15 +186,3 @@ crs-read laws lower level (crs.Geodetic g) s place = (
 crs-read laws lower level (crs.Projected p) s place = (refl, projected-read laws lower level p s place)
 crs-read laws lower level (crs.Vertical v) s place = (refl, vertical-read laws lower level v s place)
 crs-read laws lower level (crs.Compound k) s place = (refl, compound-read laws lower level k s place)
-
--- the keyword names the class
-keyword-named : (t : SystemType) → root_named (geodetic_keyword t) ≡ Some (geodetic_class t)
-unfolding root_named is_keyword
-keyword-named types.Ellipsoidal = refl
-keyword-named other = refl
-
-pub crs-rooted : (level : Level) (x : Crs) (place : ℕ) →
-    class_of_root (at_place place (item_crs (norm_crs level x))) ≡ Some (crs_class x)
-unfolding root_named is_keyword
-crs-rooted level (crs.Geodetic g) place = keyword-named g.system.system_type
-crs-rooted level other place = refl

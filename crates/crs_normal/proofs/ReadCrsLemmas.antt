@@ -9,8 +9,6 @@ use Rattle.crs_shape.specs.Slots.{class_named}
 use Rattle.crs_value.specs.BadSystem.{IsOneOf, geodetic_dimensions, projected_dimensions, vertical_dimensions}
 use Rattle.crs_value.specs.CrsValues.{BaseParts, GeodeticParts, ProjectedParts, VerticalParts}
 use Rattle.crs_value.specs.declared.values.level.Level.{Level}
-use Rattle.crs_value.specs.declared.values.system_type.SystemType.{SystemType}
-use Rattle.crs_value.specs.declared.values.system_type.SystemType.TheVariants as types
 use Rattle.crs_value.specs.declared.values.unit_kind.UnitKind.TheVariants as kinds
 use Rattle.crs_value.specs.Reading.{ReadsFirst}
 use Rattle.crs_value.specs.Reads.{ReadsMeridian, ReadsUnit}
@@ -34,6 +32,7 @@ use Rattle.crs_normal.proofs.ReadFrameLemmas.{IsAngle, angles-back, angles-in, a
 use Rattle.crs_normal.proofs.ReadSystemLemmas.{AreWhole}
 use Rattle.crs_normal.proofs.ReadWalkLemmas.{AreIn, IsIn, MayIn, ReadsBack, Segment, each-all, each-field, each-segment, first-field, one-segment, opt-field, opt-segment, some-all}
 use Rattle.crs_normal.proofs.ReadNameLemmas.{keyword-names}
+use Rattle.crs_normal.proofs.DimensionLemmas.{small-geodetic, small-projected, small-vertical}
 
 -- ---- the axes are at most three
 
@@ -60,22 +59,6 @@ few laws system sound (n ∷ ns) small (inl s) =
     positions-whole (length system.axes) (subst IsFew e small.0)
 few laws system sound (n ∷ ns) small (inr s) = few laws system sound ns small.1 s
 
-geodetic-few : (t : SystemType) → Each IsFew (geodetic_dimensions t)
-geodetic-few types.Cartesian = (omega arith, tt)
-geodetic-few types.Ellipsoidal = (omega arith, (omega arith, tt))
-geodetic-few types.Spherical = (omega arith, (omega arith, tt))
-geodetic-few types.Vertical = tt
-
-projected-few : (t : SystemType) → Each IsFew (projected_dimensions t)
-projected-few types.Cartesian = (omega arith, (omega arith, tt))
-projected-few other = tt
-
-vertical-few : (t : SystemType) → Each IsFew (vertical_dimensions t)
-vertical-few types.Cartesian = tt
-vertical-few types.Ellipsoidal = tt
-vertical-few types.Spherical = tt
-vertical-few types.Vertical = (omega arith, tt)
-
 meridian-in : (c : Class) → class_named c (codes "PRIMEM") ≡ Some class.PrimeMeridian → (o : Option MeridianParts) →
     MayIn c class.PrimeMeridian item_meridian o
 meridian-in c e o = some-all (λ x. IsIn c class.PrimeMeridian (item_meridian x)) (λ x place. e) o
@@ -97,7 +80,7 @@ pub record GeodeticNames (c : Class) : Type 0 where
 module _ (laws : TextLaws) (lower : LowerLaws) (c : Class) (names : GeodeticNames c) (level : Level) (g : GeodeticParts) (s : IsGeodetic g) where
   geodetic-whole : AreWhole 1 (length g.system.axes)
   geodetic-whole =
-      few lower g.system s.system (geodetic_dimensions g.system.system_type) (geodetic-few g.system.system_type)
+      few lower g.system s.system (geodetic_dimensions g.system.system_type) (small-geodetic g.system.system_type)
       s.dimension
 
   abbrev geodetic-dynamic : Segment c
@@ -216,7 +199,7 @@ module _ (laws : TextLaws) (lower : LowerLaws) (level : Level) (p : ProjectedPar
 
   projected-whole : AreWhole 1 (length p.system.axes)
   projected-whole =
-      few lower p.system s.system (projected_dimensions p.system.system_type) (projected-few p.system.system_type)
+      few lower p.system s.system (projected_dimensions p.system.system_type) (small-projected p.system.system_type)
       s.dimension
 
   base-in : IsIn projected class.BaseCrs (item_base (norm_base level p.base))
@@ -282,7 +265,7 @@ module _ (laws : TextLaws) (lower : LowerLaws) (level : Level) (v : VerticalPart
 
   vertical-whole : AreWhole 1 (length v.system.axes)
   vertical-whole =
-      few lower v.system s.system (vertical_dimensions v.system.system_type) (vertical-few v.system.system_type)
+      few lower v.system s.system (vertical_dimensions v.system.system_type) (small-vertical v.system.system_type)
       s.dimension
 
   abbrev vertical-dynamic : Segment vertical

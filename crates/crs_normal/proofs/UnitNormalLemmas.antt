@@ -5,24 +5,22 @@ use Rattle.crs_text.specs.Written.{item_text}
 use Rattle.crs_shape.specs.declared.class.Class.{Class}
 use Rattle.crs_shape.specs.declared.class.Class.TheVariants as class
 use Rattle.crs_shape.specs.Slots.{SlotParts, slots_of, unit_slots}
-use Rattle.crs_shape.specs.Shaped.{Shaped}
 use Rattle.crs_value.specs.Reading.{those, ReadsEach}
-use Rattle.crs_value.specs.Reads.{ReadsIdent, ReadsIds, ReadsNumber, ReadsText, ReadsUnit}
+use Rattle.crs_value.specs.Reads.{ReadsIdent, ReadsNumber, ReadsText, ReadsUnit}
 use Rattle.crs_value.specs.Values.{IdentParts}
 use Rattle.crs_value.specs.Words.{SpellsWord, unit_word}
 use Rattle.crs_value.specs.Kept.{kept}
-use Rattle.crs_value.specs.KeptLaws.{kept-none}
 use Rattle.crs_value.specs.declared.values.level.Level.{Level}
 use Rattle.crs_value.specs.declared.values.unit_kind.UnitKind.{UnitKind}
 use Rattle.crs_value.specs.declared.values.unit_kind.UnitKind.TheVariants as kinds
 use Rattle.crs_same.specs.SameUnits.{kind_as}
-use Rattle.crs_normal.specs.Normal.{IsNormalIn, IsFirstKeyword}
+use Rattle.crs_normal.specs.Normal.{IsFirstKeyword}
 use Rattle.crs_normal.specs.NormalOwn.{Ascend}
 use Rattle.crs_value.specs.Sound.{Each}
 use Rattle.crs_normal.specs.Ordered.{in_order}
 use Rattle.crs_normal.specs.SpelledItems.{each, number_item, text_item}
 use Rattle.crs_normal.specs.SpelledUnits.{item_ident, item_unit, norm_unit, set_idents}
-use Rattle.crs_normal.proofs.FormLemmas.{IsGood, Form, Kept, kept-good, node-spelled, one-spelled, opened, reads-kept, set-ordered, set-spelled}
+use Rattle.crs_normal.proofs.FormLemmas.{IsGood, Form, Kept, kept-good, node-spelled, one-spelled, opened, reads-kept, set-spelled}
 use Rattle.crs_normal.proofs.IdentNormalLemmas.{ident-form}
 use Rattle.crs_normal.proofs.LeafLemmas.{ArePlain, PlainIsOne, number-form, text-form}
 use Rattle.crs_normal.proofs.ViewLemmas.{View, unplaced_onto, unplaced-spread, those-looked}
@@ -54,24 +52,6 @@ pub idents-spelled : (level : Level) (c : Class) (items : Siblings) (front : Lis
     (rest after : Siblings) → rest ≡ after → unplaced_onto front rest ≡ each item_ident (set_idents level identifiers) after
 idents-spelled level c items front k e up =
     idents-found-spelled level c items front (kept-good level c class.Identifier items k) e up k.left.0
-
--- the identifiers of a normal node are in order
-pub idents-ordered : (level : Level) (parent c : Class) (item : Item) (identifiers : List IdentParts) → Shaped c item →
-    IsNormalIn level parent c item → ReadsIds c item identifiers → set_idents level identifiers ≡ identifiers
-unfolding set_idents
-idents-ordered level parent c (leaf kind place raw) [] shaped normal reads =
-    ap (in_order (λ (i : IdentParts). item_text (item_ident i))) (kept-none level)
-idents-ordered level parent c (leaf kind place raw) (x ∷ xs) shaped normal reads = absurd reads
-idents-ordered level parent c (node place keyword square first others close) identifiers shaped normal reads =
-    let o = opened level parent c place keyword square first others close shaped normal in
-    let items = More first others in
-    let bytes = λ (i : IdentParts). item_text (item_ident i) in
-    ap (in_order bytes) (reads-kept level (ReadsIdent class.Identifier) (those c class.Identifier items) identifiers reads
-    o.kept.left.0 ∙ sym (map-same identifiers))
-    ∙ set-ordered level c class.Identifier (ReadsIdent class.Identifier) item_ident (λ x. x)
-    (ident-form level c) (those c class.Identifier items)
-    (kept-good level c class.Identifier items o.kept) o.sets.0 identifiers reads
-    ∙ map-same identifiers
 
 -- ---- units
 

@@ -1,0 +1,29 @@
+-- By which keyword a CRS is written, and which class that names at the head of a text.
+use Rattle.std.proofs.Common.{◌≡◌, ℕ, Some, refl}
+use Rattle.crs_text.specs.Written.{at_place}
+use Rattle.crs_shape.specs.Keywords.{is_keyword, root_named}
+use Rattle.crs_shape.specs.ShapeFault.{class_of_root}
+use Rattle.crs_value.specs.ReadsCrs.{IsGeodeticClass}
+use Rattle.crs_value.specs.declared.values.crs.Crs.{Crs}
+use Rattle.crs_value.specs.declared.values.crs.Crs.TheVariants as crs
+use Rattle.crs_value.specs.declared.values.level.Level.{Level}
+use Rattle.crs_value.specs.declared.values.system_type.SystemType.{SystemType}
+use Rattle.crs_value.specs.declared.values.system_type.SystemType.TheVariants as types
+use Rattle.crs_normal.specs.CrsClass.{crs_class, geodetic_class}
+use Rattle.crs_normal.specs.SpelledCrs.{geodetic_keyword, item_crs, norm_crs}
+
+pub is-geodetic : (t : SystemType) → IsGeodeticClass (geodetic_class t)
+is-geodetic types.Ellipsoidal = tt
+is-geodetic other = tt
+
+-- the keyword names the class
+keyword-named : (t : SystemType) → root_named (geodetic_keyword t) ≡ Some (geodetic_class t)
+unfolding root_named is_keyword
+keyword-named types.Ellipsoidal = refl
+keyword-named other = refl
+
+pub crs-rooted : (level : Level) (x : Crs) (place : ℕ) →
+    class_of_root (at_place place (item_crs (norm_crs level x))) ≡ Some (crs_class x)
+unfolding root_named is_keyword
+crs-rooted level (crs.Geodetic g) place = keyword-named g.system.system_type
+crs-rooted level other place = refl
