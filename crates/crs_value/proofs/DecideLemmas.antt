@@ -86,9 +86,7 @@ kind_at (suc (suc (suc n))) = kinds.Plain
 
 kind-back : (kind : UnitKind) → kind_at (kind_place kind) ≡ kind
 kind-back kinds.Length = refl
-kind-back kinds.Angle = refl
-kind-back kinds.Scale = refl
-kind-back kinds.Plain = refl
+kind-back other = refl
 
 pub kind-either : (j k : UnitKind) → Either (j ≡ k)
 kind-either j k = elim (nat-either (kind_place j) (kind_place k)) [

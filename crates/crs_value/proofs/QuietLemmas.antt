@@ -1,6 +1,7 @@
 -- Classes whose items break no check, whatever stands in them.
-use Rattle.std.proofs.Common.{◌≡◌, ℕ, ◌&&◌, Bool, true, false, inl, inr, ◌⊎◌, Option, Some, None, List, [], ◌∷◌, if◌then◌else◌, refl, ◌∙◌, ap, subst}
-use Rattle.std.specs.List.{list_all}
+use Rattle.std.proofs.Common.{◌≡◌, ℕ, ◌&&◌, Bool, true, false, inl, inr, ◌⊎◌, Option, Some, None, List, [], ◌∷◌, if◌then◌else◌, refl, sym, ◌∙◌, ap, subst}
+use Rattle.std.specs.List.{list_all, list_any}
+use Rattle.std.proofs.lemmas.Bool.{or_cases}
 use Rattle.crs_text.specs.Items.{Item, leaf, node, Siblings, End, More}
 use Rattle.crs_text.specs.Refusal.{RefusedAt}
 use Rattle.crs_text.specs.Tokens.{number, text, word}
@@ -10,31 +11,47 @@ use Rattle.crs_shape.specs.Keywords.{is_keyword, first_named}
 use Rattle.crs_shape.specs.ShapeFault.{class_in}
 use Rattle.crs_shape.specs.Slots.{SlotParts, slots_of, named_in, class_named}
 use Rattle.crs_value.specs.Checks.{AtClass, Own, Breaks, BreaksAmong}
+use Rattle.crs_value.specs.Reading.{is_same}
+use Rattle.crs_value.proofs.ArgumentLemmas.{same_class}
 
--- such a class; a number, a text and a word are so too
+and-both : (a b : Bool) → (a && b) ≡ true → (a ≡ true) × (b ≡ true)
+and-both true b e = (refl, e)
+and-both false b e = cc
+
+-- one of these classes
+abbrev IsOneOf : Class → Class → List Class → Type 0
+IsOneOf c d [] = c ≡ d
+IsOneOf c d (e ∷ es) = (c ≡ d) ⊎ IsOneOf c e es
+
+pub one-passes : (test : Class → Bool) (c d : Class) (es : List Class) → list_all test (d ∷ es) ≡ true → IsOneOf c d es → test c ≡ true
+one-passes test c d [] all is = ap test is ∙ (and-both (test d) true all).0
+one-passes test c d (e ∷ es) all (inl is) = ap test is ∙ (and-both (test d) (list_all test (e ∷ es)) all).0
+one-passes test c d (e ∷ es) all (inr is) = one-passes test c e es (and-both (test d) (list_all test (e ∷ es)) all).1 is
+
+one-found : (c d : Class) (es : List Class) → list_any (is_same c) (d ∷ es) ≡ true → IsOneOf c d es
+one-found c d [] found = elim (or_cases (is_same c d) false found) [ inl h ↦ sym (same_class d c h) | inr h ↦ cc ]
+one-found c d (e ∷ es) found = elim (or_cases (is_same c d) (list_any (is_same c) (e ∷ es)) found) [
+  | inl h ↦ inl (sym (same_class d c h))
+  | inr h ↦ inr (one-found c e es h)
+]
+
+-- the nodes that break no check, behind the first, as the program names them
+abbrev pub later_quiet : List Class
+later_quiet =
+    class.Member ∷ class.EnsembleAccuracy ∷ class.Anchor ∷ class.AnchorEpoch ∷ class.Dynamic ∷ class.FrameEpoch ∷ class.DeformationModel ∷ class.Order ∷ class.Method ∷ class.GeoidModel ∷ class.Scope ∷ class.Area ∷ class.BoundingBox
+    ∷ class.Identifier ∷ class.Citation ∷ class.Uri ∷ class.Remark ∷ []
+
+-- those that take such nodes alone, behind the first, as the program names them
+abbrev pub later_quiet_within : List Class
+later_quiet_within = class.AngleUnit ∷ class.ScaleUnit ∷ class.PlainUnit ∷ class.AxisUnit ∷ class.CoordinateSystem ∷ class.VerticalFrame ∷ []
+
+-- a text, a word and those nodes, which stand behind a number
+abbrev quiet_others : List Class
+quiet_others = class.Text ∷ class.Word ∷ class.VerticalEnsemble ∷ later_quiet
+
+-- such a class
 abbrev pub is_quiet : Class → Bool
-is_quiet class.Number = true
-is_quiet class.Text = true
-is_quiet class.Word = true
-is_quiet class.VerticalEnsemble = true
-is_quiet class.Member = true
-is_quiet class.EnsembleAccuracy = true
-is_quiet class.Anchor = true
-is_quiet class.AnchorEpoch = true
-is_quiet class.Dynamic = true
-is_quiet class.FrameEpoch = true
-is_quiet class.DeformationModel = true
-is_quiet class.Order = true
-is_quiet class.Method = true
-is_quiet class.GeoidModel = true
-is_quiet class.Scope = true
-is_quiet class.Area = true
-is_quiet class.BoundingBox = true
-is_quiet class.Identifier = true
-is_quiet class.Citation = true
-is_quiet class.Uri = true
-is_quiet class.Remark = true
-is_quiet other = false
+is_quiet c = list_any (is_same c) (class.Number ∷ quiet_others)
 
 abbrev pub are_quiet : List SlotParts → Bool
 are_quiet slots = list_all (λ slot. list_all is_quiet slot.classes) slots
@@ -44,57 +61,27 @@ abbrev pub is_quiet_within : Class → Bool
 is_quiet_within c = are_quiet (slots_of c)
 
 slots-quiet : (c : Class) → is_quiet c ≡ true → is_quiet_within c ≡ true
-slots-quiet class.Number e = refl
-slots-quiet class.Text e = refl
-slots-quiet class.Word e = refl
-slots-quiet class.VerticalEnsemble e = refl
-slots-quiet class.Member e = refl
-slots-quiet class.EnsembleAccuracy e = refl
-slots-quiet class.Anchor e = refl
-slots-quiet class.AnchorEpoch e = refl
-slots-quiet class.Dynamic e = refl
-slots-quiet class.FrameEpoch e = refl
-slots-quiet class.DeformationModel e = refl
-slots-quiet class.Order e = refl
-slots-quiet class.Method e = refl
-slots-quiet class.GeoidModel e = refl
-slots-quiet class.Scope e = refl
-slots-quiet class.Area e = refl
-slots-quiet class.BoundingBox e = refl
-slots-quiet class.Identifier e = refl
-slots-quiet class.Citation e = refl
-slots-quiet class.Uri e = refl
-slots-quiet class.Remark e = refl
-slots-quiet other e = let k : false ≡ true = e in cc
+slots-quiet c e = one-passes is_quiet_within c class.Number quiet_others refl (one-found c class.Number quiet_others e)
 
 own-quiet : (c : Class) (item : Item) (f : RefusedAt) → is_quiet c ≡ true → Own c item f → ⊥
 unfolding Own
-own-quiet class.Number item f e h = h
-own-quiet class.Text item f e h = h
-own-quiet class.Word item f e h = h
-own-quiet class.VerticalEnsemble item f e h = h
-own-quiet class.Member item f e h = h
-own-quiet class.EnsembleAccuracy item f e h = h
-own-quiet class.Anchor item f e h = h
-own-quiet class.AnchorEpoch item f e h = h
-own-quiet class.Dynamic item f e h = h
-own-quiet class.FrameEpoch item f e h = h
-own-quiet class.DeformationModel item f e h = h
-own-quiet class.Order item f e h = h
-own-quiet class.Method item f e h = h
-own-quiet class.GeoidModel item f e h = h
-own-quiet class.Scope item f e h = h
-own-quiet class.Area item f e h = h
-own-quiet class.BoundingBox item f e h = h
-own-quiet class.Identifier item f e h = h
-own-quiet class.Citation item f e h = h
-own-quiet class.Uri item f e h = h
-own-quiet class.Remark item f e h = h
-own-quiet other item f e h = let k : false ≡ true = e in cc
-
-and-both : (a b : Bool) → (a && b) ≡ true → (a ≡ true) × (b ≡ true)
-and-both true b e = (refl, e)
-and-both false b e = cc
+own-quiet class.GeodeticCrs item f e h = let k : false ≡ true = e in cc
+own-quiet class.GeographicCrs item f e h = let k : false ≡ true = e in cc
+own-quiet class.ProjectedCrs item f e h = let k : false ≡ true = e in cc
+own-quiet class.VerticalCrs item f e h = let k : false ≡ true = e in cc
+own-quiet class.BaseCrs item f e h = let k : false ≡ true = e in cc
+own-quiet class.CompoundCrs item f e h = let k : false ≡ true = e in cc
+own-quiet class.GeodeticFrame item f e h = let k : false ≡ true = e in cc
+own-quiet class.VerticalFrame item f e h = let k : false ≡ true = e in cc
+own-quiet class.Ellipsoid item f e h = let k : false ≡ true = e in cc
+own-quiet class.LengthUnit item f e h = let k : false ≡ true = e in cc
+own-quiet class.AngleUnit item f e h = let k : false ≡ true = e in cc
+own-quiet class.ScaleUnit item f e h = let k : false ≡ true = e in cc
+own-quiet class.PlainUnit item f e h = let k : false ≡ true = e in cc
+own-quiet class.AxisUnit item f e h = let k : false ≡ true = e in cc
+own-quiet class.CoordinateSystem item f e h = let k : false ≡ true = e in cc
+own-quiet class.Axis item f e h = let k : false ≡ true = e in cc
+own-quiet other item f e h = h
 
 some-class : {c d : Class} → Some c ≡ Some d → c ≡ d
 some-class e = cc
@@ -144,25 +131,3 @@ mutual
   within-unbroken c (More item items) f quiet (inl h) =
       at-quiet (class_in c item) (λ d. Breaks d item f) (λ d is k. quiet-unbroken d item f (class-quiet c item d quiet is) k) h
   within-unbroken c (More item items) f quiet (inr h) = within-unbroken c items f quiet h
-
--- ---- the classes as the program names them
-
--- one of these classes
-abbrev IsOneOf : Class → Class → List Class → Type 0
-IsOneOf c d [] = c ≡ d
-IsOneOf c d (e ∷ es) = (c ≡ d) ⊎ IsOneOf c e es
-
-pub one-passes : (test : Class → Bool) (c d : Class) (es : List Class) → list_all test (d ∷ es) ≡ true → IsOneOf c d es → test c ≡ true
-one-passes test c d [] all is = ap test is ∙ (and-both (test d) true all).0
-one-passes test c d (e ∷ es) all (inl is) = ap test is ∙ (and-both (test d) (list_all test (e ∷ es)) all).0
-one-passes test c d (e ∷ es) all (inr is) = one-passes test c e es (and-both (test d) (list_all test (e ∷ es)) all).1 is
-
--- the quiet ones behind the first
-abbrev pub later_quiet : List Class
-later_quiet =
-    class.Member ∷ class.EnsembleAccuracy ∷ class.Anchor ∷ class.AnchorEpoch ∷ class.Dynamic ∷ class.FrameEpoch ∷ class.DeformationModel ∷ class.Order ∷ class.Method ∷ class.GeoidModel ∷ class.Scope ∷ class.Area ∷ class.BoundingBox
-    ∷ class.Identifier ∷ class.Citation ∷ class.Uri ∷ class.Remark ∷ []
-
--- those that are quiet within, behind the first
-abbrev pub later_quiet_within : List Class
-later_quiet_within = class.AngleUnit ∷ class.ScaleUnit ∷ class.PlainUnit ∷ class.AxisUnit ∷ class.CoordinateSystem ∷ class.VerticalFrame ∷ []
