@@ -75,8 +75,8 @@ pub fn one_form_is_the_same()
     one_answer();
 }
 
-/// The written forms of two CRSs are equal exactly where the CRSs are the same. Profile.
-pub fn written_forms_are_equal_where_same()
+// The written forms of two CRSs are equal exactly where the CRSs are the same.
+pub(super) fn written_forms_are_equal_where_same()
     ensures { (level : Level) (a b : Crs) → IsCrs a → IsCrs b →
         (item_text (item_crs (norm_crs level a)) ≡ item_text (item_crs (norm_crs level b))) ↔ SameCrs level a b }
 {
