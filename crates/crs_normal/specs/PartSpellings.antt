@@ -17,7 +17,6 @@ use Rattle.crs_value.specs.ReadsCrs.{ReadsBase, ReadsCompound, ReadsGeodetic, Re
 use Rattle.crs_value.specs.ReadsCrs.{ReadsVertical}
 use Rattle.crs_value.specs.ReadsDynamic.{ReadsDeformationModel, ReadsDynamic}
 use Rattle.crs_value.specs.SoundFrames.{IsDatum, IsEnsemble}
-use Rattle.crs_value.specs.SoundSingle.{IsGeodetic, IsProjected}
 use Rattle.crs_value.specs.Values.{AxisMeridianParts, BoxParts, DatumParts, EllipsoidParts}
 use Rattle.crs_value.specs.Values.{EnsembleParts}
 use Rattle.crs_value.specs.Values.{ExtentParts, IdentParts, MemberParts, MeridianParts, UnitParts}
@@ -34,6 +33,7 @@ use Rattle.crs_same.specs.SameConversions.{SameConversion, SameGeoidModel, SameM
 use Rattle.crs_same.specs.SameConversions.{SameParameter}
 use Rattle.crs_same.specs.SameCrs.{SameBase, SameCompound, SameGeodetic, SameProjected}
 use Rattle.crs_same.specs.SameCrs.{SameVertical}
+pub use Rattle.crs_same.specs.SameCrs.{IsHorizontalPart}
 use Rattle.crs_same.specs.SameDynamic.{SameDeformationModel, SameDynamic}
 use Rattle.crs_same.specs.SameFrames.{SameDatum, SameEllipsoid, SameEnsemble, SameGiven, SameMember}
 use Rattle.crs_same.specs.SameIdents.{SameIdent}
@@ -182,11 +182,6 @@ IsSpelledProjected level projected =
 abbrev pub IsSpelledVertical : Level → VerticalParts → List ℕ → Type 0
 IsSpelledVertical level vertical =
     IsSpelledAs level class.VerticalCrs ReadsVertical (SameVertical level) vertical
-
--- what is asked of the horizontal part of a compound CRS
-abbrev pub IsHorizontalPart : Horizontal → Type 0
-IsHorizontalPart (horizontal.Geodetic geodetic) = IsGeodetic geodetic
-IsHorizontalPart (horizontal.Projected projected) = IsProjected projected
 
 -- the one spelling of the horizontal part of a compound CRS by itself
 abbrev pub IsSpelledHorizontal : Level → Horizontal → List ℕ → Type 0
