@@ -64,20 +64,22 @@ module _ (laws : LowerLaws) (sets : SetsDecide) (level : Level) where
       (plain-unit y.unit in-y.unit) in
       let identifiers = sets.idents level x.identifiers y.identifiers in-x.identifiers in-y.identifiers in (
         λ e. record {
-          name = ap (λ (z : AxisParts). z.name) e;
-          direction = ap (λ (z : AxisParts). z.direction) e;
-          meridian = meridian.0 (ap (λ (z : AxisParts). z.meridian) e);
+          axis = record {
+            name = ap (λ (z : AxisParts). z.name) e;
+            direction = ap (λ (z : AxisParts). z.direction) e;
+            meridian = meridian.0 (ap (λ (z : AxisParts). z.meridian) e);
+            unit = unit.0 (ap (λ (z : AxisParts). z.unit) e);
+            identifiers = identifiers.0 (ap (λ (z : AxisParts). z.identifiers) e);
+          };
           order = order.0 (ap (λ (z : AxisParts). z.order) e);
-          unit = unit.0 (ap (λ (z : AxisParts). z.unit) e);
-          identifiers = identifiers.0 (ap (λ (z : AxisParts). z.identifiers) e);
         },
         λ s. λ i. record {
-          name = s.name i;
-          direction = s.direction i;
-          meridian = meridian.1 s.meridian i;
+          name = s.axis.name i;
+          direction = s.axis.direction i;
+          meridian = meridian.1 s.axis.meridian i;
           order = order.1 s.order i;
-          unit = unit.1 s.unit i;
-          identifiers = identifiers.1 s.identifiers i;
+          unit = unit.1 s.axis.unit i;
+          identifiers = identifiers.1 s.axis.identifiers i;
         },
       )
 

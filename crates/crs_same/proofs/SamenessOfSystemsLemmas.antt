@@ -24,39 +24,32 @@ axis-meridian level number angle =
     (λ a b s. (s.longitude, s.unit))
     (λ a b p. record { longitude = p.0; unit = p.1 })
 
-pub axis-alone : (level : Level) → IsSameness SameValue → IsSameness (SameAxisMeridian level) →
-    IsSameness (SameUnit kinds.Plain level) →
-    IsSameness (SameIdents level) → IsSameness (SameAxisAlone level)
-axis-alone level number along one identifiers =
-    in-words
-    (equal-by (λ a. a.name) ⊗ equal-by (λ a. a.direction) ⊗ by (λ a. a.meridian) (optional along)
-    ⊗ by (λ a. a.order) (optional number)
-    ⊗ by (λ a. a.unit) (optional one) ⊗ by (λ a. a.identifiers) identifiers)
-    (λ a b s. (s.name, (s.direction, (s.meridian, (s.order, (s.unit, s.identifiers))))))
-    (λ a b p. record {
-      name = p.0;
-      direction = p.1.0;
-      meridian = p.1.1.0;
-      order = p.1.1.1.0;
-      unit = p.1.1.1.1.0;
-      identifiers = p.1.1.1.1.1;
-    })
-
-module _ (level : Level) (along : IsSameness (SameAxisMeridian level)) (identifiers : IsSameness (SameIdents level))
-    (units : (asked : UnitKind) → IsSameness (SameUnit asked level)) where
+module _ (level : Level) (along : IsSameness (SameAxisMeridian level)) (identifiers : IsSameness (SameIdents level)) where
   -- of axes with their units
-  axis-in : (asked : UnitKind) →
+  axis-in : (asked : UnitKind) → IsSameness (SameUnit asked level) →
       IsSameness (λ (x y : AxisParts × Option UnitParts). SameAxisIn asked level x.0 y.0 x.1 y.1)
-  axis-in asked =
+  axis-in asked unit =
       in-words
       (equal-by (λ x. x.0.name) ⊗ equal-by (λ x. x.0.direction) ⊗ by (λ x. x.0.meridian) (optional along)
-      ⊗ by (λ x. x.1) (optional (units asked)) ⊗ by (λ x. x.0.identifiers) identifiers)
+      ⊗ by (λ x. x.1) (optional unit) ⊗ by (λ x. x.0.identifiers) identifiers)
       (λ x y s. (s.name, (s.direction, (s.meridian, (s.unit, s.identifiers)))))
       (λ x y p. record { name = p.0; direction = p.1.0; meridian = p.1.1.0; unit = p.1.1.1.0; identifiers = p.1.1.1.1 })
 
+  pub axis-alone : IsSameness SameValue → IsSameness (SameUnit kinds.Plain level) → IsSameness (SameAxisAlone level)
+  axis-alone number one =
+      in-words (by (λ a. (a, a.unit)) (axis-in kinds.Plain one) ⊗ by (λ a. a.order) (optional number))
+      (λ a b s. (s.axis, s.order))
+      (λ a b p. record { axis = p.0; order = p.1 })
+
+module _ (level : Level) (along : IsSameness (SameAxisMeridian level)) (identifiers : IsSameness (SameIdents level))
+    (units : (asked : UnitKind) → IsSameness (SameUnit asked level)) where
+  axes-in : (asked : UnitKind) →
+      IsSameness (λ (x y : AxisParts × Option UnitParts). SameAxisIn asked level x.0 y.0 x.1 y.1)
+  axes-in asked = axis-in level along identifiers asked (units asked)
+
   axis-itself : (a : SystemParts) (x : AxisParts) → SameAxis level a a x x
   unfolding SameAxis
-  axis-itself a x = (axis-in (asked_kind a.system_type x.direction)).reflexive (x, own_or x.unit a.unit)
+  axis-itself a x = (axes-in (asked_kind a.system_type x.direction)).reflexive (x, own_or x.unit a.unit)
 
   axis-swapped : (a b : SystemParts) (x y : AxisParts) → a.system_type ≡ b.system_type → SameAxis level a b x y →
       SameAxis level b a y x
@@ -64,13 +57,13 @@ module _ (level : Level) (along : IsSameness (SameAxisMeridian level)) (identifi
   axis-swapped a b x y e s =
       subst (λ asked. SameAxisIn asked level y x (own_or y.unit b.unit) (own_or x.unit a.unit))
       (ap (λ t. asked_kind t x.direction) e ∙ ap (asked_kind b.system_type) s.direction)
-      ((axis-in (asked_kind a.system_type x.direction)).symmetric (x, own_or x.unit a.unit) (y, own_or y.unit b.unit) s)
+      ((axes-in (asked_kind a.system_type x.direction)).symmetric (x, own_or x.unit a.unit) (y, own_or y.unit b.unit) s)
 
   axis-joined : (a b c : SystemParts) (x y z : AxisParts) → a.system_type ≡ b.system_type → SameAxis level a b x y →
       SameAxis level b c y z → SameAxis level a c x z
   unfolding SameAxis
   axis-joined a b c x y z e s t =
-      (axis-in (asked_kind a.system_type x.direction)).transitive (x, own_or x.unit a.unit) (y, own_or y.unit b.unit)
+      (axes-in (asked_kind a.system_type x.direction)).transitive (x, own_or x.unit a.unit) (y, own_or y.unit b.unit)
       (z, own_or z.unit c.unit) s
       (subst (λ asked. SameAxisIn asked level y z (own_or y.unit b.unit) (own_or z.unit c.unit))
       (sym (ap (λ t. asked_kind t x.direction) e ∙ ap (asked_kind b.system_type) s.direction)) t)

@@ -37,12 +37,8 @@ SameAxis level a b x y =
 
 -- two axes by themselves: with their own orders and units, `UNIT` being a kind of its own
 pub record SameAxisAlone (level : Level) (a b : AxisParts) : Type 0 where
-  pub name : a.name ≡ b.name
-  pub direction : a.direction ≡ b.direction
-  pub meridian : BothOrNeither (SameAxisMeridian level) a.meridian b.meridian
+  pub axis : SameAxisIn kinds.Plain level a b a.unit b.unit
   pub order : BothOrNeither SameValue a.order b.order
-  pub unit : BothOrNeither (SameUnit kinds.Plain level) a.unit b.unit
-  pub identifiers : SameIdents level a.identifiers b.identifiers
 
 -- ---- positions
 

@@ -4,5 +4,5 @@ use Rattle.crs_same.proofs.laws.same_axis_is_equivalence.Goals as goal
 
 pub returns : goal.returns
 returns c level =
-    axis-alone level c.same_value_is_equivalence.ensures (c.same_axis_meridian_is_equivalence.ensures level)
-    (c.same_unit_is_equivalence.ensures kinds.Plain level) (c.same_idents_is_equivalence.ensures level)
+    axis-alone level (c.same_axis_meridian_is_equivalence.ensures level) (c.same_idents_is_equivalence.ensures level)
+    c.same_value_is_equivalence.ensures (c.same_unit_is_equivalence.ensures kinds.Plain level)
