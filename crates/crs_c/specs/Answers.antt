@@ -5,7 +5,7 @@ use Rattle.crs_value.specs.declared.values.level.Level.{Level}
 use Rattle.crs_value.specs.SpellsText.{Refuses}
 use Rattle.crs_c.specs.declared.refused.Refused.{Refused}
 use Rattle.crs_c.specs.Codes.{level_numbered}
-use Rattle.crs_c.specs.Refusals.{shown}
+use Rattle.crs_c.specs.Refusals.{place_and_number}
 
 -- the caller's places where a call puts its answer, and why a text is refused
 pub record AnswerPlaces (A : Type 0) : Type 0 where
@@ -20,7 +20,7 @@ Answer A = AnswerPlaces A → AnswerPlaces A → ℕ → Type 0
 abbrev pub IsRefusedBy : {A : Type 0} → ℕ → List ℕ → Answer A
 IsRefusedBy refusing text old new code =
     (refusal : RefusedAt) × Refuses text refusal × (code ≡ refusing)
-    × (new ≡ record old { refused = shown refusal })
+    × (new ≡ record old { refused = place_and_number refusal })
 
 -- memory was wanting, with code 3, and all is as before
 abbrev pub IsWithoutMemory : {A : Type 0} → Answer A

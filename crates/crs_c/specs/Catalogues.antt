@@ -14,7 +14,7 @@ use Rattle.crs_c.specs.declared.standing.Numbered.{Numbered}
 use Rattle.crs_c.specs.declared.standing.Piece.{Piece}
 use Rattle.crs_c.specs.declared.standing.Standing.{Standing}
 use Rattle.crs_c.specs.Codes.{level_numbered}
-use Rattle.crs_c.specs.Refusals.{shown}
+use Rattle.crs_c.specs.Refusals.{place_and_number}
 
 -- the catalogue of no lines at a level
 abbrev pub empty_at : Level → CatalogueParts
@@ -35,7 +35,8 @@ no_refusal = record { place = 0; number = 0 }
 -- where a line stands, as C sees it; group 0 is none
 abbrev pub standing_of : Placed → Standing
 standing_of placed.Blank = record { group = 0; refused = no_refusal; code = 0 }
-standing_of (placed.Refused refusal) = record { group = 0; refused = shown refusal; code = 1 }
+standing_of (placed.Refused refusal) =
+    record { group = 0; refused = place_and_number refusal; code = 1 }
 standing_of (placed.Group n) = record { group = n; refused = no_refusal; code = 0 }
 
 -- where a line stands for which memory was wanting: nowhere, with code 3

@@ -1,15 +1,9 @@
 -- What crsdesk_check answers.
 use Rattle.std.specs.Prelude.{◌≡◌, ◌⊎◌, ℕ, List}
-use Rattle.crs_value.specs.declared.values.crs.Crs.{Crs}
 use Rattle.crs_value.specs.declared.values.crs.Kind.{Kind}
-use Rattle.crs_value.specs.ReadsCrs.{kind_of}
-use Rattle.crs_value.specs.SpellsText.{Spells}
+use Rattle.crs_value.specs.SpellsText.{SpellsKind}
 use Rattle.crs_c.specs.Answers.{Answer, IsRefusedBy, IsWithoutMemory}
 use Rattle.crs_c.specs.Codes.{kind_number}
-
--- the text spells a CRS of this kind
-abbrev pub SpellsKind : List ℕ → Kind → Type 0
-SpellsKind text kind = (value : Crs) × Spells text value × (kind ≡ kind_of value)
 
 -- the kind with code 0, the refusal with code 1, or code 3; what isn't said is as before
 unfoldable pub IsCheckAnswer : List ℕ → Answer ℕ

@@ -4,10 +4,10 @@ use Rattle.crs_text.specs.Refusal.{RefusedAt}
 use Rattle.crs_c.specs.declared.refused.Refused.{Refused}
 
 -- a refusal as C has it: its place and its number
-abbrev pub shown : RefusedAt → Refused
-shown refusal = record { place = refusal.place; number = refusal.number }
+abbrev pub place_and_number : RefusedAt → Refused
+place_and_number refusal = record { place = refusal.place; number = refusal.number }
 
 -- a refusal is told with this code; without one memory was wanting, and nothing is told
 abbrev pub IsTold : Option RefusedAt → ℕ → Refused → Refused → ℕ → Type 0
-IsTold (Some refusal) code old new result = (result ≡ code) × (new ≡ shown refusal)
+IsTold (Some refusal) code old new result = (result ≡ code) × (new ≡ place_and_number refusal)
 IsTold None code old new result = (result ≡ 3) × (new ≡ old)

@@ -1,7 +1,7 @@
 //! Whether a text spells a CRS.
 ghost use Rattle.std.specs.Prelude.{MatchResult};
-ghost use Rattle.crs_value.specs.SpellsText.{IsFaultOfText};
-ghost use Rattle.crs_c.specs.Check.{IsCheckAnswer, SpellsKind};
+ghost use Rattle.crs_value.specs.SpellsText.{SpellsKind, IsFaultOfText};
+ghost use Rattle.crs_c.specs.Check.{IsCheckAnswer};
 
 use crate::codes::{OK, REFUSED, kind_number};
 use crate::refused::{Refused, tell};

@@ -1,7 +1,7 @@
 //! Refusals as C has them.
 ghost use Rattle.std.specs.Prelude.{◌≡◌};
 ghost use Rattle.crs_text.specs.Fault.{refusal_of};
-ghost use Rattle.crs_c.specs.Refusals.{IsTold, shown};
+ghost use Rattle.crs_c.specs.Refusals.{IsTold, place_and_number};
 
 use crate::codes::NO_MEMORY;
 use crs_text::{Fault, Refusal};
@@ -17,8 +17,8 @@ pub struct Refused {
     pub number: u32,
 }
 
-pub(crate) fn shown(refusal: Refusal) -> Refused
-    ensures { result ≡ shown refusal }
+pub(crate) fn place_and_number(refusal: Refusal) -> Refused
+    ensures { result ≡ place_and_number refusal }
 {
     Refused {
         place: refusal.place(),
@@ -32,7 +32,7 @@ pub(crate) fn tell(fault: Fault, code: u32, refused: &mut Refused) -> u32
 {
     match fault.refusal() {
         Some(refusal) => {
-            *refused = shown(refusal);
+            *refused = place_and_number(refusal);
             code
         }
         None => NO_MEMORY,

@@ -1,10 +1,10 @@
 //! Where a text stands in a catalogue, and numbers of its lines, as C has them.
 ghost use Rattle.std.specs.Prelude.{◌≡◌};
 ghost use Rattle.crs_c.specs.Catalogues.{no_refusal, standing_of};
-ghost use Rattle.crs_c.specs.Refusals.{shown};
+ghost use Rattle.crs_c.specs.Refusals.{place_and_number};
 
 use crate::codes::{OK, REFUSED};
-use crate::refused::{Refused, shown};
+use crate::refused::{Refused, place_and_number};
 use crs_group::Placed;
 
 /// Where a text stands in a catalogue: `struct crsdesk_standing` of C. Profile.
@@ -62,7 +62,7 @@ pub(crate) fn standing_of(place: Placed) -> Standing
         },
         Placed::Refused(refusal) => Standing {
             group: 0,
-            refused: shown(refusal),
+            refused: place_and_number(refusal),
             code: REFUSED,
         },
         Placed::Group(number) => Standing {

@@ -3,21 +3,21 @@ use Rattle.std.proofs.Common.{ℕ, List, inl, inr, Result, Ok, Err}
 use Rattle.std.specs.Prelude.{MatchResult}
 use Rattle.crs_text.specs.Refusal.{RefusedAt}
 use Rattle.crs_value.specs.declared.values.crs.Kind.{Kind}
-use Rattle.crs_value.specs.SpellsText.{Refuses}
+use Rattle.crs_value.specs.SpellsText.{SpellsKind, Refuses}
 use Rattle.crs_group.specs.Streams.{SourceState, SinkState}
 use Rattle.crs_desk.specs.Ending.{IsWritten, IsAnswered}
-use Rattle.crs_desk.specs.Output.{IsKindOf, IsCheckOutput, WritesFound}
+use Rattle.crs_desk.specs.Output.{IsCheckOutput, WritesFound}
 use Rattle.crs_desk.specs.Pieces.{IsHeldOf, IsWholeHeld}
 
 found-written : (text : List ℕ) (found : Result Kind RefusedAt) (written : List ℕ) (status : ℕ)
-    → MatchResult found (IsKindOf text) (Refuses text) → WritesFound found written status → IsCheckOutput text written status
+    → MatchResult found (SpellsKind text) (Refuses text) → WritesFound found written status → IsCheckOutput text written status
 unfolding IsCheckOutput
 found-written text (Ok kind) written status is line = inl (kind, is, line)
 found-written text (Err refusal) written status is line = inr (refusal, is, line)
 
 pub check-answered : (old new : SourceState) (old_sink new_sink : SinkState) (held : List ℕ) (found : Result Kind RefusedAt) (status : ℕ)
     → IsHeldOf old new held
-    → ((text : List ℕ) → IsWholeHeld text held → MatchResult found (IsKindOf text) (Refuses text))
+    → ((text : List ℕ) → IsWholeHeld text held → MatchResult found (SpellsKind text) (Refuses text))
     → IsWritten (WritesFound found) old_sink new_sink status
     → IsAnswered IsCheckOutput old new old_sink new_sink status
 check-answered old new old_sink new_sink held found status read is sent = record {

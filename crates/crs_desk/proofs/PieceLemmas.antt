@@ -15,10 +15,9 @@ use Rattle.crs_value.specs.declared.values.crs.Crs.{Crs}
 use Rattle.crs_value.specs.declared.values.crs.Kind.{Kind}
 use Rattle.crs_value.specs.ReadsCrs.{kind_of}
 use Rattle.crs_value.specs.Spells.{SpellsCrs, RefusesCrs}
-use Rattle.crs_value.specs.SpellsText.{Refuses}
+use Rattle.crs_value.specs.SpellsText.{SpellsKind, Refuses}
 use Rattle.crs_group.specs.GroupRun.{HasGiven}
 use Rattle.crs_group.specs.Streams.{CountsRead, SourceState}
-use Rattle.crs_desk.specs.Output.{IsKindOf}
 use Rattle.crs_desk.specs.Pieces.{IsHeld, IsWholeHeld}
 
 -- what a source has given, with one more read
@@ -75,7 +74,7 @@ held-refused refuses lasts once text held number place (inr front) refused =
 pub found-items : SettledRefuses → NodeOrRefused → (text held : List ℕ) (item : Item) (found : Result Kind RefusedAt)
     → SpellsNode held item
     → MatchResult found (λ kind. (value : Crs) × SpellsCrs item value × (kind ≡ kind_of value)) (RefusesCrs item)
-    → IsWholeHeld text held → MatchResult found (IsKindOf text) (Refuses text)
+    → IsWholeHeld text held → MatchResult found (SpellsKind text) (Refuses text)
 found-items refuses apart text held item (Ok kind) node spells whole =
     (spells.0, (item, (held-spells refuses apart text held item whole node, spells.1)), spells.2)
 found-items refuses apart text held item (Err refusal) node refused whole =

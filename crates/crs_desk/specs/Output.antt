@@ -1,11 +1,9 @@
 -- What `canon` and `check` write for a text, and their status.
 use Rattle.std.specs.Prelude.{◌≡◌, ◌++◌, ◌⊎◌, ℕ, List, [], ◌∷◌, Result, Ok, Err, codes}
 use Rattle.crs_text.specs.Refusal.{RefusedAt}
-use Rattle.crs_value.specs.declared.values.crs.Crs.{Crs}
 use Rattle.crs_value.specs.declared.values.crs.Kind.{Kind}
 use Rattle.crs_value.specs.declared.values.crs.Kind.TheVariants as kind
-use Rattle.crs_value.specs.ReadsCrs.{kind_of}
-use Rattle.crs_value.specs.SpellsText.{Spells, Refuses}
+use Rattle.crs_value.specs.SpellsText.{SpellsKind, Refuses}
 use Rattle.crs_value.specs.declared.values.level.Level.{Level}
 use Rattle.crs_canon.specs.Canonical.{IsCanonicalOf}
 use Rattle.crs_group.specs.Output.{refused_text}
@@ -23,10 +21,6 @@ pub record IsLine (bytes : List ℕ) (end : ℕ) (written : List ℕ) (status : 
   pub line : written ≡ bytes ++ 10 ∷ []
   pub is_status : status ≡ end
 
--- the text spells a CRS of this kind
-abbrev pub IsKindOf : List ℕ → Kind → Type 0
-IsKindOf text found = (value : Crs) × Spells text value × (found ≡ kind_of value)
-
 -- the text's canonical text at this level, with status 0
 abbrev pub WritesCanonical : Level → List ℕ → List ℕ → ℕ → Type 0
 WritesCanonical level text written status =
@@ -35,7 +29,7 @@ WritesCanonical level text written status =
 -- `accepted` and the kind of the CRS that the text spells, with status 0
 abbrev pub WritesAccepted : List ℕ → List ℕ → ℕ → Type 0
 WritesAccepted text written status =
-    (found : Kind) × IsKindOf text found
+    (found : Kind) × SpellsKind text found
     × IsLine (codes "accepted " ++ kind_word found) 0 written status
 
 -- the refusal of a text, with status 1

@@ -1,8 +1,7 @@
 //! What a text spells, for the commands.
 ghost use Rattle.std.specs.Prelude.{◌≡◌, ℕ, List, IfOk, MatchResult, Some};
 ghost use Rattle.crs_text.specs.Fault.{refusal_of};
-ghost use Rattle.crs_value.specs.SpellsText.{Refuses};
-ghost use Rattle.crs_desk.specs.Output.{IsKindOf};
+ghost use Rattle.crs_value.specs.SpellsText.{SpellsKind, Refuses};
 ghost use Rattle.crs_desk.specs.Pieces.{IsWholeHeld};
 
 use crs_text::{Fault, Feeder, Refusal, laws};
@@ -12,7 +11,7 @@ use std::alloc::AllocError;
 // The kind of the CRS that a text spells, or the refusal, by a feeder that holds the text or enough to refuse it.
 pub(crate) fn judged(feeder: &Feeder) -> Result<Result<Kind, Refusal>, AllocError>
     ensures { IfOk result (λ found. (text : List ℕ) → IsWholeHeld text feeder.now →
-        MatchResult found (IsKindOf text) (Refuses text)) }
+        MatchResult found (SpellsKind text) (Refuses text)) }
 {
     laws::one_answer();
     laws::settled_refusals();

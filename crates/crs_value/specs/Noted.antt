@@ -13,21 +13,21 @@ noted true None id = Some id
 noted true (Some old) id = Some old
 
 -- the first one of a class among these arguments; none where there is none
-abbrev pub IsFirst : Item → Class → Siblings → Class → Option ℕ → Type 0
-IsFirst tree parent items c found = IsFound tree parent c (those parent c items) found
+abbrev pub IsFirstOf : Item → Class → Siblings → Class → Option ℕ → Type 0
+IsFirstOf tree parent items c found = IsFound tree parent c (those parent c items) found
 
 -- each is the first of its class among these arguments, and so many axes are among them
 pub record AreFirsts (tree : Item) (parent : Class) (items : Siblings)
     (firsts : Firsts) : Type 0 where
-  pub system : IsFirst tree parent items class.CoordinateSystem firsts.system
-  pub axis : IsFirst tree parent items class.Axis firsts.axis
+  pub system : IsFirstOf tree parent items class.CoordinateSystem firsts.system
+  pub axis : IsFirstOf tree parent items class.Axis firsts.axis
   pub axes : firsts.axes ≡ length (those parent class.Axis items)
-  pub unit : IsFirst tree parent items class.AxisUnit firsts.unit
-  pub scope : IsFirst tree parent items class.Scope firsts.scope
-  pub area : IsFirst tree parent items class.Area firsts.area
-  pub bbox : IsFirst tree parent items class.BoundingBox firsts.bbox
-  pub extent : IsFirst tree parent items class.VerticalExtent firsts.extent
-  pub remark : IsFirst tree parent items class.Remark firsts.remark
-  pub usage : IsFirst tree parent items class.Usage firsts.usage
-  pub identifier : IsFirst tree parent items class.Identifier firsts.identifier
-  pub dynamic : IsFirst tree parent items class.Dynamic firsts.dynamic
+  pub unit : IsFirstOf tree parent items class.AxisUnit firsts.unit
+  pub scope : IsFirstOf tree parent items class.Scope firsts.scope
+  pub area : IsFirstOf tree parent items class.Area firsts.area
+  pub bbox : IsFirstOf tree parent items class.BoundingBox firsts.bbox
+  pub extent : IsFirstOf tree parent items class.VerticalExtent firsts.extent
+  pub remark : IsFirstOf tree parent items class.Remark firsts.remark
+  pub usage : IsFirstOf tree parent items class.Usage firsts.usage
+  pub identifier : IsFirstOf tree parent items class.Identifier firsts.identifier
+  pub dynamic : IsFirstOf tree parent items class.Dynamic firsts.dynamic

@@ -1,16 +1,22 @@
 -- Which value a text spells, and with which number and place it is refused.
-use Rattle.std.specs.Prelude.{ℕ, ◌≤◌, List, ◌⊎◌}
+use Rattle.std.specs.Prelude.{◌≡◌, ℕ, ◌≤◌, List, ◌⊎◌}
 use Rattle.crs_text.specs.Items.{Item}
 use Rattle.crs_text.specs.Refusal.{RefusedAt}
 use Rattle.crs_text.specs.TextFault.{SpellsNode, RefusesText}
 use Rattle.crs_text.specs.declared.fault.Fault.{Fault}
 use Rattle.crs_text.specs.declared.fault.Fault.TheVariants as faults
 use Rattle.crs_value.specs.declared.values.crs.Crs.{Crs}
+use Rattle.crs_value.specs.declared.values.crs.Kind.{Kind}
+use Rattle.crs_value.specs.ReadsCrs.{kind_of}
 use Rattle.crs_value.specs.Spells.{SpellsCrs, RefusesCrs}
 
 -- the text is a node that spells this value
 abbrev pub Spells : List ℕ → Crs → Type 0
 Spells text value = (item : Item) × (SpellsNode text item × SpellsCrs item value)
+
+-- the text spells a CRS of this kind
+abbrev pub SpellsKind : List ℕ → Kind → Type 0
+SpellsKind text kind = (value : Crs) × Spells text value × (kind ≡ kind_of value)
 
 -- the text is refused with the fault of the text itself; or else, where it is a node, with the
 -- fault of its shape or the check that it breaks first
