@@ -39,9 +39,6 @@ module _ {V : Type 0} (IsSpelling : V → List ℕ → Type 0) where
       }
       by (text ∷ other ∷ texts) h e = absurd h.1
 
-  pub none-put : (a : List (List ℕ)) → ArePut IsSpelling [] a a
-  none-put a = record { texts = []; spelled = tt; all_put = refl }
-
   -- what is put into an empty set and written is appended
   pub put-appended : (write : List (List ℕ) → List ℕ) (values : List V) (keys : List (List ℕ)) (before after : List ℕ) →
       ArePut IsSpelling values [] keys → after ≡ before ++ write keys → AppendsAll write IsSpelling values before after

@@ -10,7 +10,6 @@ ghost use Rattle.crs_normal.specs.SpelledItems.{code_item, is_short, number_item
 ghost use Rattle.crs_canon.specs.Openings.{opened, text_behind};
 
 use crs_decimal::Decimal;
-use itoa::Buffer;
 use std::alloc::AllocError;
 
 pub(crate) fn append(out: &mut Vec<u8>, bytes: &[u8]) -> Result<(), AllocError>
