@@ -12,6 +12,7 @@ a line '# REASON' or more, and then, each in its own line and in this order wher
     input TEXT       a part of standard input; no line end is added
     times N TEXT     the same, N times over
     input-file PATH  the same of a file of the repository
+    input-by-lines   a read gives one line of standard input, as a pipe does that is written slowly
     input-unreadable standard input is a folder, from which a read fails
     output TEXT      a line of standard output, with its LF; none: nothing is written
     output-any       standard output isn't compared
@@ -20,12 +21,15 @@ a line '# REASON' or more, and then, each in its own line and in this order wher
     error TEXT       a line of standard error, with its LF; none: standard error isn't compared
 
 TEXT is UTF-8 and everything after the one space, with these escapes: \\n LF, \\r CR, \\t tab, \\\\ a backslash, and
-\\xHH the byte HH. The input is the parts in their order.
+\\xHH the byte HH. The input is the parts in their order. The program runs at the root of the repository.
 """
+import contextlib
 import os
 import re
+import socket
 import subprocess
 import sys
+import threading
 from concurrent.futures import ThreadPoolExecutor
 
 HERE = os.path.dirname(os.path.abspath(__file__))
@@ -42,6 +46,7 @@ class Case:
         self.has_reason = False
         self.words = []
         self.input = b""
+        self.is_by_lines = False
         self.is_unreadable = False
         self.output = b""
         self.is_full = False
@@ -67,6 +72,8 @@ def add_line(case, key, rest):
     elif key == b"input-file":
         with open(os.path.join(os.fsencode(ROOT), rest), "rb") as file:
             case.input += file.read()
+    elif key == b"input-by-lines":
+        case.is_by_lines = True
     elif key == b"input-unreadable":
         case.is_unreadable = True
     elif key == b"output":
@@ -120,13 +127,33 @@ def differences(case, done):
             yield f"{what} {str(got)[:300]}, wanted {str(wanted)[:300]}"
 
 
+def run_by_lines(command, lines):
+    """Runs a command whose reads give a line each: a socket of this kind keeps what is sent apart."""
+    ours, theirs = socket.socketpair(socket.AF_UNIX, socket.SOCK_SEQPACKET)
+
+    def send():
+        with ours, contextlib.suppress(BrokenPipeError):
+            for line in lines:
+                ours.send(line)
+
+    sender = threading.Thread(target=send)
+    sender.start()
+    try:
+        with theirs:
+            return subprocess.run(command, stdin=theirs, capture_output=True, timeout=SECONDS, cwd=ROOT)
+    finally:
+        sender.join()
+
+
 def run(command, case):
+    if case.is_by_lines:
+        return run_by_lines(command, case.input.splitlines(keepends=True))
     with open("/dev/full" if case.is_full else os.devnull, "wb") as full:
         folder = os.open(HERE, os.O_RDONLY)
         try:
             source = {"stdin": folder} if case.is_unreadable else {"input": case.input}
             target = full if case.is_full else subprocess.PIPE
-            return subprocess.run(command, stdout=target, stderr=subprocess.PIPE, timeout=SECONDS, **source)
+            return subprocess.run(command, stdout=target, stderr=subprocess.PIPE, timeout=SECONDS, cwd=ROOT, **source)
         finally:
             os.close(folder)
 

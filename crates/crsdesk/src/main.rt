@@ -2,11 +2,15 @@
 //! catalogues.
 #![tactic(auto)]
 
+mod filling;
+
 use crs_desk::{
     Level, LineWord, Request, RequestFault, RunFault, Sink, Source, request, run_canon, run_check,
     run_group, run_same,
 };
+use filling::Filling;
 use std::alloc::{AllocError, Global};
+use std::path::Path;
 use std::process::ExitCode;
 use std::{env, io};
 
@@ -77,13 +81,13 @@ fn level_of(word: &LineWord) -> Option<Level> {
 }
 
 fn canon(rt: &HostRuntime, level: Level) -> Result<u8, RunFault> {
-    let mut source = Source::new(rt.stdin());
+    let mut source = Source::new(Filling::new(rt.stdin()));
     let mut sink = Sink::new(rt.stdout());
     run_canon(rt.alloc(), level, &mut source, &mut sink)
 }
 
 fn check(rt: &HostRuntime) -> Result<u8, RunFault> {
-    let mut source = Source::new(rt.stdin());
+    let mut source = Source::new(Filling::new(rt.stdin()));
     let mut sink = Sink::new(rt.stdout());
     run_check(rt.alloc(), &mut source, &mut sink)
 }
@@ -94,14 +98,26 @@ fn same(
     first: &LineWord,
     second: &LineWord,
 ) -> Result<u8, RunFault> {
+    hint_at_file(rt, first);
+    hint_at_file(rt, second);
     let a = first.as_str().as_bytes();
     let b = second.as_str().as_bytes();
     run_same(rt.alloc(), level, a, b, &mut Sink::new(rt.stdout()))
 }
 
+// A word without an opening delimiter is no text. Where it names a file, that file's text was most likely meant.
+fn hint_at_file(rt: &HostRuntime, word: &LineWord) {
+    let name = word.as_str();
+    if !name.contains(['[', '(']) && Path::new(name).is_file(rt) {
+        let _ = eprintln!(rt;
+            "crsdesk: {name} is the name of a file; its text is \"$(cat {name})\""
+        );
+    }
+}
+
 // Status 1 where a line was refused.
 fn group(rt: &HostRuntime, level: Level) -> Result<u8, RunFault> {
-    let mut source = Source::new(rt.stdin());
+    let mut source = Source::new(Filling::new(rt.stdin()));
     let mut sink = Sink::new(rt.stdout());
     let summary = run_group(rt.alloc(), level, &mut source, &mut sink)?;
     Ok(u8::from(summary.refused > 0))
