@@ -7,6 +7,7 @@
    crs_same(a, b [, level])      1 where both spell the same CRS, else 0; NULL where either spells none
    crs_difference(a, b [, level]) the path of the first part that differs, or the word same; NULL where either spells none
    crs_refusal(text)             why a text spells no CRS, as: refused 7 UnexpectedEnd at 11; NULL of one that spells one
+   crs_version()                 the version of crsdesk, as: 0.1.0
 
    A text is a TEXT or a BLOB of bytes; another value is its TEXT. A level is full, the usual one, or definition; another
    is an error of SQL. NULL for any argument gives NULL. All functions are deterministic, so they may stand in indexes,
@@ -25,7 +26,7 @@ SQLITE_EXTENSION_INIT1
 #define SQLITE_INNOCUOUS 0
 #endif
 
-/* Room for any path, and for the line of a refusal. */
+/* Room for any path, for the line of a refusal and for the version. */
 #define SHORT_ROOM 160
 
 struct text {
@@ -196,6 +197,20 @@ static void crs_refusal(sqlite3_context *context, int count, sqlite3_value **val
     sqlite3_result_text(context, line, -1, SQLITE_TRANSIENT);
 }
 
+static void crs_version(sqlite3_context *context, int count, sqlite3_value **values)
+{
+    char version[SHORT_ROOM];
+    size_t length;
+    uint32_t code = crsdesk_version(version, sizeof version, &length);
+
+    (void)count;
+    (void)values;
+    if (code == CRSDESK_OK)
+        sqlite3_result_text(context, version, (int)length, SQLITE_TRANSIENT);
+    else
+        give_none(context, code);
+}
+
 int sqlite3_crsdesksqlite_init(sqlite3 *db, char **error, const sqlite3_api_routines *api);
 
 int sqlite3_crsdesksqlite_init(sqlite3 *db, char **error, const sqlite3_api_routines *api)
@@ -209,6 +224,7 @@ int sqlite3_crsdesksqlite_init(sqlite3 *db, char **error, const sqlite3_api_rout
         {"crs_kind", 1, crs_kind},             {"crs_same", 2, crs_same},
         {"crs_same", 3, crs_same},             {"crs_difference", 2, crs_difference},
         {"crs_difference", 3, crs_difference}, {"crs_refusal", 1, crs_refusal},
+        {"crs_version", 0, crs_version},
     };
     const int flags = SQLITE_UTF8 | SQLITE_DETERMINISTIC | SQLITE_INNOCUOUS;
     size_t i;

@@ -116,6 +116,7 @@ def promises() -> Iterator[Statement]:
     yield "a NUL byte", f"SELECT hex(crs_canon({nul}));", wanted
     yield "a NUL byte", f"SELECT crs_refusal({literal(HEIGHT.encode() + bytes(1), False)});", f"refused 1 BadCharacter at {len(HEIGHT)}"
     yield "too few", "SELECT crs_canon();", "Error: wrong number of arguments to function crs_canon()"
+    yield "too many", "SELECT crs_version(1);", "Error: wrong number of arguments to function crs_version()"
     yield "types", f"SELECT typeof(crs_canon({height})), typeof(crs_same({height}, {height}));", "text|integer"
     yield from of_indexes()
     yield from of_long_texts()
@@ -232,6 +233,14 @@ def try_symbols(counts: Counts, extension: pathlib.Path) -> None:
     counts.compare("what it needs", found, ["libc.so.6]"])
 
 
+def try_version(counts: Counts, prefix: pathlib.Path, extension: pathlib.Path) -> None:
+    """It tells the version of the library that it holds."""
+    told = (prefix / "lib" / "pkgconfig" / "crsdesk.pc").read_text(encoding="utf-8").split("\n")
+    wanted = next(line.partition(": ")[2] for line in told if line.startswith("Version: "))
+    found = printed(extension, [("the version", "SELECT crs_version(), typeof(crs_version());", "")], "", "")
+    counts.compare("crs_version", found, [f"{wanted}|text", ""])
+
+
 class Connection:
     """A connection by SQLite's own library, with the extension loaded; calls of it leave the interpreter's lock."""
 
@@ -316,6 +325,7 @@ def main(words: List[str]) -> int:
             return 0
         build_sqlite.build(prefix, extension, ["-Werror"])
         try_symbols(counts, extension)
+        try_version(counts, prefix, extension)
         try_statements(counts, extension)
         try_sanitized(counts, prefix, pathlib.Path(folder))
         try_threads(counts, extension)
