@@ -11,36 +11,16 @@ from __future__ import annotations
 import importlib.util
 import os
 import pathlib
+import re
 import shutil
 import subprocess
 import sys
 import tempfile
-from typing import Dict, List, Set
+from typing import Dict, List, Set, Tuple
 
 ROOT = pathlib.Path(__file__).resolve().parent.parent
 EXAMPLES = ROOT / "examples"
 SECONDS = 3600
-# A program as docs/INSTALL.md has the calls: it tells the kind of its first word.
-PROGRAM = r"""
-#include <crsdesk.h>
-#include <stdio.h>
-#include <string.h>
-
-int main(int count, char **words)
-{
-    struct crsdesk_refusal refusal;
-    uint32_t kind;
-
-    if (count != 2)
-        return 2;
-    if (crsdesk_check(words[1], strlen(words[1]), &kind, &refusal) != CRSDESK_OK) {
-        printf("refused %u at %zu\n", (unsigned)refusal.number, refusal.place);
-        return 1;
-    }
-    printf("kind %u\n", (unsigned)kind);
-    return 0;
-}
-"""
 FILES = {
     "bin/crsdesk",
     "include/crsdesk.h",
@@ -50,8 +30,14 @@ FILES = {
     "lib/pkgconfig/crsdesk.pc",
     "lib/crsdesk_sqlite.so",
     "share/crsdesk/installed",
+    "share/bash-completion/completions/crsdesk",
     "share/man/man1/crsdesk.1",
 }
+FOLDER_OF_DOCUMENTS = "share/doc/crsdesk"
+# What has its files below the list's own folder and the prefix, which a user has.
+OWN = "share/crsdesk/own.txt"
+# Prints what the words before the last are completed to.
+ASK_COMPLETION = 'source "$1"; shift; COMP_WORDS=(crsdesk "$@"); COMP_CWORD=$#; _crsdesk; echo "${COMPREPLY[*]}"'
 
 
 class Counts:
@@ -90,6 +76,12 @@ def is_there(tool: str, what: str) -> bool:
     return found
 
 
+def documents() -> Set[str]:
+    """The pages and examples, by the paths that they have below the prefix."""
+    found = [ROOT / "README.md", *ROOT.glob("docs/**/*.md"), *(it for it in EXAMPLES.glob("**/*") if not it.is_dir())]
+    return {f"{FOLDER_OF_DOCUMENTS}/{it.relative_to(ROOT)}" for it in found}
+
+
 def files_below(folder: pathlib.Path) -> Set[str]:
     """The files below a folder; of the wheel, whose name has the version and the system, its kind."""
     found = {str(path.relative_to(folder)) for path in folder.rglob("*") if not path.is_dir() or path.is_symlink()}
@@ -101,7 +93,7 @@ def wanted_files(error: str) -> Set[str]:
     lacks = "skipped: lib/crsdesk_sqlite.so" in error
     if lacks:
         print("skipped: sqlite3ext.h isn't there: lib/crsdesk_sqlite.so")
-    return FILES - ({"lib/crsdesk_sqlite.so"} if lacks else set()) | {"the wheel"}
+    return FILES - ({"lib/crsdesk_sqlite.so"} if lacks else set()) | {"the wheel"} | documents()
 
 
 def try_install(counts: Counts, prefix: pathlib.Path) -> bool:
@@ -115,7 +107,10 @@ def try_install(counts: Counts, prefix: pathlib.Path) -> bool:
     counts.compare("what is printed", {"the wheel" if it.endswith(".whl") else it for it in printed}, wanted)
     listed = (prefix / "share/crsdesk/installed").read_text(encoding="utf-8").split("\n")[:-1]
     counts.compare("libcrsdesk.so is a link", os.readlink(prefix / "lib/libcrsdesk.so"), "libcrsdesk.so.0")
-    counts.compare("the list", {"the wheel" if it.endswith(".whl") else it for it in listed}, wanted)
+    files = {"the wheel" if it.endswith(".whl") else it for it in listed if not it.endswith("/")}
+    counts.compare("the list's files", files, wanted)
+    folders = {f"{it.relative_to(prefix)}/" for it in [prefix, *prefix.rglob("*")] if it.is_dir()}
+    counts.compare("the list's folders", {it for it in listed if it.endswith("/")}, folders)
     return True
 
 
@@ -125,16 +120,47 @@ def try_program(counts: Counts, prefix: pathlib.Path) -> None:
     counts.compare("bin/crsdesk", (done.returncode, done.stdout), (0, "same\n"))
     if is_there("groff", "the manual's page"):
         page = prefix / "share/man/man1/crsdesk.1"
+        numbers = re.findall(r"^\| (\d+) \| (\w+) \|", (ROOT / "docs/REFUSALS.md").read_text(encoding="utf-8"), re.M)
+        listed = re.findall(r"^\.B (\d+) (\w+)$", page.read_text(encoding="utf-8"), re.M)
+        counts.compare("its refusals", (listed, len(listed)), (numbers, 20))
         done = run(["groff", "-man", "-ww", "-z", page])
         counts.compare("the manual's page", (done.returncode, done.stderr), (0, ""))
         version = run([prefix / "bin" / "crsdesk", "--version"]).stdout.strip()
         counts.compare("its version", f'"{version}"' in page.read_text(encoding="utf-8"), True)
 
 
+def try_completion(counts: Counts, prefix: pathlib.Path) -> None:
+    """What bash offers, held against the program's own help."""
+    if not is_there("bash", "completion of the command line"):
+        return
+    program, script = prefix / "bin/crsdesk", prefix / "share/bash-completion/completions/crsdesk"
+
+    def offered(*words: str) -> Set[str]:
+        done = run(["bash", "-c", ASK_COMPLETION, "bash", script, *words])
+        counts.compare(f"completion of {words}", (done.returncode, done.stderr), (0, ""))
+        return set(done.stdout.split())
+
+    def helped(*words: str) -> Set[str]:
+        """The commands and options that the help has."""
+        lines = run([program, *words]).stdout.split("\n")
+        found = [re.match(r"  +(?:(\w+)  |(-\w), (--\w+)|(--\w+))", line) for line in lines]
+        return {it for match in found if match for it in match.groups() if it}
+
+    commands = {"canon", "check", "group", "same", "help"}
+    counts.compare("the commands", offered(""), helped("--help"))
+    counts.compare("help's words", offered("help", ""), commands)
+    for command in sorted(commands - {"help"}):
+        counts.compare(f"the options of {command}", offered(command, "-"), helped("help", command))
+    counts.compare("ca", offered("ca"), {"canon"})
+    counts.compare("no name of a file", offered("same", "READ"), set())
+    for words in (["--level", ""], ["--level", "="], ["--level", "=", ""]):
+        counts.compare("levels", offered("group", *words), {"full", "definition"})
+    counts.compare("a level", offered("group", "--level", "=", "d"), {"definition"})
+
+
 def try_libraries(counts: Counts, prefix: pathlib.Path, folder: pathlib.Path) -> None:
-    """A C program against each library."""
-    source = folder / "program.c"
-    source.write_text(PROGRAM, encoding="utf-8")
+    """The example in C against each library."""
+    source = prefix / FOLDER_OF_DOCUMENTS / "examples/compare.c"
     flags = ["-std=c99", "-Wall", "-Wextra", "-Werror", "-pedantic"]
     libraries: Dict[str, List[str]] = {"libcrsdesk.a": [f"-I{prefix}/include", f"{prefix}/lib/libcrsdesk.a"]}
     if is_there("pkg-config", "a C program with the shared object"):
@@ -148,10 +174,19 @@ def try_libraries(counts: Counts, prefix: pathlib.Path, folder: pathlib.Path) ->
         program = folder / name
         done = run(["cc", *flags, "-o", program, source, *words])
         counts.compare(f"cc with {name}", (done.returncode, done.stderr), (0, ""))
-        height = (EXAMPLES / "height.wkt").read_text(encoding="utf-8")
-        for text, wanted in ((height, "kind 4\n"), ("x[", "refused 7 at 2\n")):
-            done = run([program, text], LD_LIBRARY_PATH=f"{prefix}/lib")
-            counts.compare(f"a C program with {name}", done.stdout, wanted)
+        wgs84, equal, prj = (EXAMPLES / it for it in ("wgs84.wkt", "wgs84_2015.wkt", "exports/wgs84_esri.prj"))
+        refused = f"{prj}: refused 11 UnknownKeyword at 0\n"
+        cases: List[Tuple[List[object], Tuple[int, str]]] = [
+            ([wgs84, equal], (0, "same\n")),
+            ([wgs84, EXAMPLES / "other_flattening.wkt"], (1, "different datum/ellipsoid/flattening\n")),
+            ([wgs84, prj], (1, refused)),
+            ([prj, wgs84], (1, refused)),
+            ([wgs84, folder / "missing"], (2, "")),
+            ([], (2, "")),
+        ]
+        for files, wanted in cases:
+            done = run([program, *files], LD_LIBRARY_PATH=f"{prefix}/lib")
+            counts.compare(f"the example in C with {name}", (done.returncode, done.stdout), wanted)
 
 
 def try_python(counts: Counts, prefix: pathlib.Path, folder: pathlib.Path) -> None:
@@ -179,34 +214,85 @@ def try_sqlite(counts: Counts, prefix: pathlib.Path) -> None:
 def try_uninstall(counts: Counts, prefix: pathlib.Path) -> None:
     """Again over what is there, with a file of an older version and one of the user's; then all but that goes."""
     (prefix / "lib/libolder.so").write_text("", encoding="utf-8")
-    (prefix / "share/crsdesk/own.txt").write_text("", encoding="utf-8")
+    (prefix / OWN).write_text("", encoding="utf-8")
     with (prefix / "share/crsdesk/installed").open("a", encoding="utf-8") as file:
         file.write("lib/libolder.so\n")
     done = run([ROOT / "install", prefix])
-    wanted = wanted_files(done.stderr) | {"share/crsdesk/own.txt"}
+    wanted = wanted_files(done.stderr) | {OWN}
     counts.compare("./install again", (done.returncode, files_below(prefix)), (0, wanted))
     done = run([ROOT / "install", "--uninstall", prefix])
     counts.compare("--uninstall", (done.returncode, done.stderr), (0, ""))
-    counts.compare("what is left", files_below(prefix), {"share/crsdesk/own.txt"})
+    left = {str(path.relative_to(prefix)) for path in prefix.rglob("*")}
+    counts.compare("what is left", left, {"share", "share/crsdesk", OWN})
     done = run([ROOT / "install", prefix, "--uninstall"])
     wanted_error = f"crsdesk: nothing is installed below {prefix}: there is no share/crsdesk/installed\n"
     counts.compare("--uninstall again", (done.returncode, done.stderr), (2, wanted_error))
 
 
 def try_destdir(counts: Counts, folder: pathlib.Path) -> None:
+    """Below DESTDIR, in which a folder stands already: empty ones that weren't made stay."""
     stage = folder / "a stage"
+    (stage / "usr/local/share/man").mkdir(parents=True)
     done = run([ROOT / "install"], DESTDIR=str(stage))
     counts.compare("DESTDIR", (done.returncode, files_below(stage / "usr/local")), (0, wanted_files(done.stderr)))
     told = (stage / "usr/local/lib/pkgconfig/crsdesk.pc").read_text(encoding="utf-8")
     counts.compare("crsdesk.pc doesn't name the stage", str(stage) in told, False)
     done = run([ROOT / "install", "--uninstall"], DESTDIR=str(stage))
-    counts.compare("DESTDIR --uninstall", (done.returncode, files_below(stage)), (0, set()))
-    counts.compare("its folder", (stage / "usr/local/share/crsdesk").exists(), False)
+    left = {str(path.relative_to(stage)) for path in stage.rglob("*")}
+    wanted = {"usr", "usr/local", "usr/local/share", "usr/local/share/man"}
+    counts.compare("DESTDIR --uninstall", (done.returncode, left), (0, wanted))
+
+
+def try_libdir(counts: Counts, folder: pathlib.Path) -> None:
+    """The libraries in another folder, of two steps; then in the usual one; then all goes, the prefix too."""
+    prefix, libdir = folder / "a prefix", "lib/x86_64-linux-gnu"
+    done = run([ROOT / "install", prefix, f"--libdir={libdir}"])
+    wanted = {it.replace("lib/", f"{libdir}/", 1) if it.startswith("lib/") else it for it in wanted_files(done.stderr)}
+    counts.compare("--libdir", (done.returncode, files_below(prefix)), (0, wanted))
+    if is_there("pkg-config", "crsdesk.pc in another folder"):
+        flags = "--variable=libdir", "--variable=includedir"
+        found = [run(["pkg-config", it, "crsdesk"], PKG_CONFIG_PATH=f"{prefix}/{libdir}/pkgconfig") for it in flags]
+        places = [os.path.realpath(it.stdout.strip().replace("\\ ", " ")) for it in found]
+        counts.compare("its crsdesk.pc", places, [os.path.realpath(prefix / it) for it in (libdir, "include")])
+    done = run([ROOT / "install", prefix, "--libdir", prefix / "lib"])
+    counts.compare("the usual one again", (done.returncode, files_below(prefix)), (0, wanted_files(done.stderr)))
+    done = run([ROOT / "install", prefix, "--uninstall"])
+    counts.compare("--uninstall of both", (done.returncode, prefix.exists()), (0, False))
+    done = run([ROOT / "install", prefix, "--libdir", "../lib"])
+    wanted_error = f"crsdesk: --libdir ../lib doesn't lie below {prefix}\n"
+    counts.compare("--libdir elsewhere", (done.returncode, done.stderr, prefix.exists()), (2, wanted_error, False))
+
+
+def try_closed_pipe(counts: Counts, folder: pathlib.Path) -> None:
+    """Where what reads the answer has ended, help ends quietly, and an installation goes on to its end."""
+    prefix = folder / "unread"
+    for words in (["--help"], [str(prefix)], [str(prefix), "--uninstall"]):
+        reader, writer = os.pipe()
+        os.close(reader)
+        with os.fdopen(writer, "w") as closed:
+            done = subprocess.run([ROOT / "install", *words], stdout=closed, stderr=subprocess.PIPE, check=False)
+        told = done.stderr.decode()
+        counts.compare(
+            f"./install {words[-1]} unread", (done.returncode, "Broken" in told, "Error" in told), (0, False, False)
+        )
+        if words == [str(prefix)]:
+            counts.compare("what it installed", files_below(prefix), wanted_files(told))
+    counts.compare("what it took away", prefix.exists(), False)
 
 
 def try_faults(counts: Counts, folder: pathlib.Path) -> None:
-    usage = "crsdesk: usage: ./install [PREFIX] [--uninstall]\n"
-    for words in (["--frob"], ["a", "b"], [""], ["--uninstall", "--uninstall"]):
+    usage = "crsdesk: usage: ./install [PREFIX] [--libdir DIR | --uninstall]\n"
+    two_libdirs = ["--libdir", "a", "--libdir=b"]
+    wrong_lines = [
+        ["--frob"],
+        ["a", "b"],
+        [""],
+        ["--uninstall", "--uninstall"],
+        ["--libdir"],
+        ["--libdir="],
+        two_libdirs,
+    ]
+    for words in [*wrong_lines, ["--uninstall", "--libdir", "lib"]]:
         done = run([ROOT / "install", *words])
         counts.compare(f"./install {words}", (done.returncode, done.stdout, done.stderr), (2, "", usage))
     done = run([ROOT / "install", "--help"])
@@ -232,11 +318,14 @@ def main(words: List[str]) -> int:
         prefix = folder / "prefix"
         if try_install(counts, prefix):
             try_program(counts, prefix)
+            try_completion(counts, prefix)
             try_libraries(counts, prefix, folder)
             try_python(counts, prefix, folder)
             try_sqlite(counts, prefix)
             try_uninstall(counts, prefix)
             try_destdir(counts, folder)
+            try_libdir(counts, folder)
+            try_closed_pipe(counts, folder)
             try_faults(counts, folder)
     print(f"{counts.passed} passed, {counts.failed} failed")
     return 1 if counts.failed else 0
