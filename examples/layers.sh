@@ -1,6 +1,7 @@
 #!/bin/sh
-# Makes a GeoPackage of five layers, each of one point, by GDAL: layers.sh FILE. The first layer's CRS can't be said in
-# WKT1, so that GDAL gives the file the column definition_12_063; SURVEY:31 is a project's own code for EPSG:32631.
+# Makes a GeoPackage of layers of one point each, by GDAL: layers.sh FILE [wkt1]. SURVEY:31 is a project's own code for
+# EPSG:32631. WKT1 can't say the CRS of the layer heights, so for it GDAL gives the file the column definition_12_063;
+# with the word wkt1 that layer is left out, and the file has WKT1 alone.
 set -e
 file=$1
 rm -f "$file"
@@ -13,7 +14,7 @@ add() {
 }
 
 more=
-add heights EPSG:4979
+[ "$2" = wkt1 ] || add heights EPSG:4979
 add tiles EPSG:32631
 add roads EPSG:32631
 add parcels "$own"

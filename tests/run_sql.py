@@ -12,11 +12,13 @@ failed', and the status is 0 where M is 0.
 """
 from __future__ import annotations
 
+import contextlib
 import ctypes
 import ctypes.util
 import os
 import pathlib
 import shutil
+import sqlite3
 import subprocess
 import sys
 import tempfile
@@ -307,6 +309,63 @@ def try_geopackage(counts: Counts, extension: pathlib.Path, folder: pathlib.Path
         counts.compare(f"a GeoPackage at {level}", sorted(done.split("\n")), sorted([*wanted.split("\n"), ""]))
 
 
+# Entries of a GeoPackage as examples/fill_wkt2.py meets them: srs_id, organization, code, definition, WKT2 before, and
+# what it prints. The first has a definition that PROJ would repair, and the fifth one that it can't read.
+WKT1 = 'GEOGCS["g",DATUM["d",SPHEROID["s",6377397.155,299.15]],PRIMEM["Greenwich",0],UNIT["degree",0.0174532925199433]]'
+ENTRIES = [
+    (1, "EPSG", 4326, WKT1.replace("397.155", "397,155"), "undefined", "1: undefined"),
+    (2, "EPSG", 4326, WKT1, "undefined", "2: definition"),
+    (3, "epsg", 4326, "undefined", "undefined", "3: epsg:4326"),
+    (4, "EPSG", 4326, WKT1, "kept", ""),
+    (5, "OWN", 5, "GEOGCS[", "undefined", "5: undefined"),
+    (6, "none", 0, "undefined", "undefined", "6: undefined"),
+]
+
+
+def try_filling(counts: Counts, folder: pathlib.Path) -> None:
+    """Whether examples/fill_wkt2.py fills what it says, with and without the column, and takes no repaired text."""
+    if shutil.which("projinfo") is None:
+        print("skipped: projinfo isn't there: the column of WKT2 filled by PROJ")
+        return
+    script = [sys.executable, str(ROOT / "examples" / "fill_wkt2.py")]
+    for has_column in (False, True):
+        file = folder / f"{has_column}.gpkg"
+        with contextlib.closing(sqlite3.connect(file)) as table:
+            table.execute(
+                "CREATE TABLE gpkg_spatial_ref_sys (srs_name TEXT, srs_id INTEGER PRIMARY KEY, organization TEXT, "
+                f"organization_coordsys_id INTEGER, definition TEXT{', definition_12_063 TEXT' * has_column})"
+            )
+            entries = [it for it in ENTRIES if has_column or it[0] != 4]
+            for srs_id, organization, code, definition, before, _ in entries:
+                row = ["", srs_id, organization, code, definition] + [before] * has_column
+                table.execute(f"INSERT INTO gpkg_spatial_ref_sys VALUES ({', '.join('?' * len(row))})", row)
+            table.commit()
+        done = subprocess.run([*script, str(file)], capture_output=True, text=True, check=False, timeout=SECONDS)
+        counts.compare(
+            "what is filled", (done.returncode, done.stdout.split()), (1, " ".join(it[5] for it in entries).split())
+        )
+        told = [line.split(": ")[0] for line in done.stderr.split("\n") if line[:2] in ("1:", "5:")]
+        counts.compare("what PROJ says is told", (told, "syntax error" in done.stderr), (["1", "5"], True))
+        with contextlib.closing(sqlite3.connect(file)) as table:
+            found = [
+                row[0] for row in table.execute("SELECT definition_12_063 FROM gpkg_spatial_ref_sys ORDER BY srs_id")
+            ]
+            extensions = table.execute("SELECT count(*) FROM sqlite_master WHERE name = 'gpkg_extensions'").fetchone()
+        fronts = [it[: it.find("[") + 1] or it for it in found]
+        wanted = ["undefined", "GEODCRS[", "GEODCRS[", *["kept"] * has_column, "undefined", "undefined"]
+        counts.compare("the column", (fronts, extensions), (wanted, (int(not has_column),)))
+    other = folder / "other.db"
+    with contextlib.closing(sqlite3.connect(other)) as table:
+        table.execute("CREATE TABLE t (a)")
+    before_it = other.read_bytes()
+    for name in (other, ROOT / "README.md", folder / "missing"):
+        done = subprocess.run([*script, str(name)], capture_output=True, text=True, check=False, timeout=SECONDS)
+        counts.compare(
+            f"no GeoPackage: {name.name}", (done.returncode, done.stdout, "Traceback" in done.stderr), (2, "", False)
+        )
+    counts.compare("it is as before", (other.read_bytes(), (folder / "missing").exists()), (before_it, False))
+
+
 def main(words: List[str]) -> int:
     if len(words) > 1 or words and words[0].startswith("-"):
         sys.exit(__doc__)
@@ -330,6 +389,7 @@ def main(words: List[str]) -> int:
         try_sanitized(counts, prefix, pathlib.Path(folder))
         try_threads(counts, extension)
         try_geopackage(counts, extension, pathlib.Path(folder))
+        try_filling(counts, pathlib.Path(folder))
     print(f"{counts.passed} passed, {counts.failed} failed")
     return 1 if counts.failed else 0
 
