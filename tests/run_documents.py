@@ -8,7 +8,8 @@ the lines '> MORE' directly below it, and the lines up to the next command are w
 block that begins with the line ```console needs=TOOL[,TOOL..] is run where each TOOL is there, a program on the PATH,
 as python3:MODULE a module of that Python, or a file of the repository, whose path has a slash; elsewhere its commands
 are told as skipped, by the tool's name. A block that begins with ```rust is code
-that must stand, line by line, in a file of crates/crs_examples/src, which the gate proves and runs.
+that must stand, line by line, in a file of crates/crs_examples/src, which the gate proves and runs; one that begins with
+```LANGUAGE of=FILE is code that must stand so in that file of the repository.
 
 Without files they are README.md and docs/*.md; README.md then has at most 1,500 words. Each command that prints
 something else has a line; the last line is 'N passed, M failed', and the status is 0 where M is 0.
@@ -90,6 +91,10 @@ def faults_of(path, skipped):
             text = "\n".join(lines) + "\n"
             stands = any(text in file.read_text(encoding="utf-8") for file in EXAMPLES.rglob("*.rt"))
             yield None if stands else f"{place}: this code stands in no file of {EXAMPLES.relative_to(ROOT)}"
+        elif " of=" in head:
+            file = ROOT / head.partition(" of=")[2]
+            stands = file.exists() and "\n".join(lines) + "\n" in file.read_text(encoding="utf-8")
+            yield None if stands else f"{place}: this code doesn't stand in {file.relative_to(ROOT)}"
     if path == ROOT / "README.md":
         words = len(path.read_text(encoding="utf-8").split())
         yield None if words <= MOST_WORDS else f"{path.name}: {words} words, at most {MOST_WORDS}"
