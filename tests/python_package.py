@@ -18,6 +18,7 @@ import pathlib
 import pickle
 import random
 import re
+import shlex
 import subprocess
 import sys
 import tempfile
@@ -203,6 +204,9 @@ def refusal_goes_to_another_process() -> None:
     refused = refusal_of("x[")
     again = pickle.loads(pickle.dumps(refused))
     assert (str(again), again.text) == (str(refused), b"x[")
+    for kept in (refused.kept(), pickle.loads(pickle.dumps(refused.kept())), copy.copy(refused.kept())):
+        assert (str(kept), kept.text, kept.hint) == (str(refused), None, refused.hint)
+        assert kept.__traceback__ is None and b"x[" not in kept.args
 
 
 def every_number_has_a_meaning() -> None:
@@ -224,9 +228,15 @@ HINTS = [
     ("+proj=utm +zone=31 +type=crs", "PROJ string"),
     ("proj=utm zone=31", "PROJ string"),
     ("+init=epsg:4326", "PROJ string"),
+    ("+proj=longlat +ellps=bessel +towgs84=1,2,3", "With +towgs84 it becomes a BOUNDCRS"),
+    ("+proj=longlat +ellps=bessel +nadgrids=a.gsb", "With +nadgrids it becomes a BOUNDCRS"),
+    ('GEOGCS["A",DATUM["D",SPHEROID["E",6378137,0],TOWGS84[1,2,3]]]', "With TOWGS84 it becomes a BOUNDCRS"),
+    (400 * " " + 'GEOGCS["A"]', "WKT1"),
     ("EPSG:4326", "code"),
     ("epsg:28992+5709\n", "code"),
     ("4326", "code"),
+    ("OGC:CRS84", "-o WKT2:2019 OGC:CRS84)"),
+    ("https://a/b;rm", "-o WKT2:2019 'https://a/b;rm')"),
     ("urn:ogc:def:crs:EPSG::4326", "code"),
     ("http://www.opengis.net/def/crs/EPSG/0/4326", "code"),
     ('{"type":"GeographicCRS"}', "JSON"),
@@ -234,12 +244,29 @@ HINTS = [
     ("\ufeff" + HEIGHT, "byte order mark"),
     (HEIGHT.encode("utf-16"), "UTF-16"),
     (HEIGHT.encode("utf-16-le"), "UTF-16"),
+    (HEIGHT.encode("utf-16-be"), "UTF-16"),
+    (b"\x00\x00\x27\x0a" + 20 * b"\0" + b"\0\0\0\x64\xe8\x03\0\0", "This is a shapefile, and no text"),
+    (b"SQLite format 3\0\x10\0\x01\x01", "This is a GeoPackage"),
+    (b"II*\0\x08\0\0\0", "a GeoTIFF"),
+    (b"MM\0*\0\0\0\x08", "a GeoTIFF"),
+    (b"II+\0\x08\0\0\0", "a GeoTIFF"),
+    (b"PK\x03\x04\x14\0", "a zip archive, and no text: unpack it"),
+    (b"\x1f\x8b\x08", "a gzip archive"),
+    (b"\x89HDF\r\n\x1a\n", "netCDF or HDF5"),
+    (b"\x03_\x07\x1a", "A control character stands here, 0x03"),
+    ("VERTCRS[\0", "0x00"),
+    ("SRID=28992;" + HEIGHT, "SRID=28992; stands before the text"),
+    ("SRID=4326;POINT(5 52)", "a geometry, POINT"),
+    ("polygon ((0 0, 1 0, 1 1, 0 0))", "a geometry, POLYGON"),
     ("/data/a.prj", "file's name"),
     ("./a.wkt", "file's name"),
     ("C:\\data\\a.prj", "file's name"),
     ("wgs84.prj", "file's name"),
     ("my tiles/tile_01.tif", "file's name"),
     ("BOUNDCRS[SOURCECRS[", "BOUNDCRS isn't read"),
+    ('BOUNDCRS["A"]', "loses the transformation: keep the transformation as part of a key"),
+    ('COMPOUNDCRS["C",BOUNDCRS["A"]]', "BOUNDCRS isn't read"),
+    ('COORDINATEMETADATA["A"]', "loses the epoch of the coordinates: keep that as part of a key"),
     ('EngCRS["A"]', "Engineering CRSs aren't read"),
     ('DERIVEDPROJCRS["A"]', "Derived CRSs aren't read"),
     ('TIMECRS["A"]', "Temporal CRSs aren't read"),
@@ -249,11 +276,32 @@ HINTS = [
     (" \n", "Nothing stands here"),
     ('GEOGCRS["A",BASEGEOGCRS["B"]]', "Derived CRSs aren't read"),
     ('VERTCRS["H",VDATUM["D"],CS[vertical,1],AXIS["h",up,UNIT["metre",1]],AUTHORITY["E","1"]]', "AUTHORITY is WKT1's"),
+    (HEIGHT.replace("up,", "up,TOWGS84[1,2,3],"), "keep the transformation as part of a key"),
     ("VERTCRS[“H”]", "typographic"),
+    (HEIGHT.replace('"', "&quot;"), "&quot;"),
+    (HEIGHT.replace('"', '\\"'), "take the backslashes off"),
+    ("GEOGCS[&quot;A&quot;]", "&quot;"),
     ("VERTCRS['H']", "double quotes"),
     ('VERTCRS["H";', "commas"),
     (b'VERTCRS["H\xe9"]', "Latin-1"),
     (HEIGHT + "\n" + HEIGHT, "A second text begins here"),
+    (HEIGHT + "," + HEIGHT, "A second text begins here"),
+    (HEIGHT + "]", "one too many"),
+    (HEIGHT + ";", "cut off what stands behind it"),
+    (HEIGHT + " x", "cut off what stands behind it"),
+    (HEIGHT[:-1], "Still open at the end: VERTCRS[ at 0."),
+    ('VERTCRS ("H",VDATUM["D"', "Still open at the end: VERTCRS( at 0, VDATUM[ at 13."),
+    (HEIGHT.replace('"D"]', '"D"'), "CS[ at 23 stands inside VDATUM[ at 12"),
+    (HEIGHT.replace('"D"]', '"D"') + "]", "CS[ at 23 stands inside VDATUM[ at 12"),
+    (HEIGHT.replace('"D"]', '"D")'), "VDATUM[ at 12, to be closed by ]"),
+    (HEIGHT.replace(",CS[vertical,1]", ",CS[vertical]"), "It closes CS[ at 24."),
+    (HEIGHT.replace('"H"', '"H'), "the quoted text that is opened at 8"),
+    (HEIGHT.replace('"H"', 'H"'), "the quoted text that is opened at 9"),
+    (HEIGHT.replace('["metre"', '["metre'), "this quoted text, VERTCRS[ at 0, AXIS[ at 39, LENGTHUNIT[ at 51."),
+    (HEIGHT[:-1] + ',REMARK["r]]', "this quoted text, VERTCRS[ at 0, REMARK[ at 74."),
+    ('GEOGCS["A"', "Still open at the end: GEOGCS[ at 0."),
+    (HEIGHT.replace('"metre",1', '"metre",1,0'), "a comma stands for a decimal point"),
+    ('GEOGCRS["A",DATUM["D",ELLIPSOID["E",6377397,155,299,1528128]]]', "a comma stands for a decimal point"),
     (HEIGHT.replace('"metre",1', '"metre",1m'), "a unit is a node of its own"),
     ('VERTCRS["H",DYNAMIC[FRAMEEPOCH[2010-01-01]]]', "an epoch is a year"),
 ]
@@ -264,6 +312,61 @@ def hints_are_given() -> None:
         refused = refusal_of(text)
         assert part in (refused.hint or ""), (text, refused.hint)
         assert str(refused).endswith(refused.hint or "?")
+
+
+# What the hints say at a command line, which has files.
+FILE_HINTS: List[Tuple[object, str]] = [
+    ('GEOGCS["A"]', '-o WKT2:2019 "$(cat FILE)" | sed 1d)'),
+    (HEIGHT.encode("utf-16"), "iconv -f UTF-16 -t UTF-8 FILE"),
+    ("\ufeff" + HEIGHT, "sed '1s/^\\xEF\\xBB\\xBF//' FILE"),
+    (b'VERTCRS["H\xe9"]', "iconv -f ISO-8859-1 -t UTF-8 FILE"),
+    (HEIGHT.replace('"', "&quot;"), "sed 's/&quot;/\"/g' FILE"),
+    (HEIGHT.replace('"', '\\"'), "sed 's/\\\\\"/\"/g' FILE"),
+    ("./a.wkt", "name that file instead"),
+    (HEIGHT + "\n" + HEIGHT, "with --lines a text a line"),
+]
+
+
+def hints_of_files() -> None:
+    for text, part in FILE_HINTS:
+        told = refusal_of(text).told_of_file()
+        assert part in told and not re.search(r"\bstr\b", told), told
+    assert '"$(sed -n 3p FILE)"' in refusal_of('GEOGCS["A"]').told_of_file(3)
+    for text, _ in HINTS:
+        told = refusal_of(text).told_of_file()
+        assert not re.search(r"\bstr\b|hand over|TEXT", told), told
+
+
+def what_the_hints_of_files_do() -> None:
+    """The commands in the hints, run over a file, make a text that is read."""
+    with tempfile.TemporaryDirectory() as folder:
+        for text, part in FILE_HINTS[1:6]:
+            command = re.search(r"\(((?:iconv|sed) .* FILE)\)", refusal_of(text).told_of_file())
+            assert command, part
+            path = pathlib.Path(folder, "a.wkt")
+            path.write_bytes(text.encode() if isinstance(text, str) else text)  # type: ignore[union-attr]
+            done = subprocess.run(
+                command[1].replace("FILE", shlex.quote(str(path))), shell=True, capture_output=True, check=True
+            )
+            assert is_accepted(done.stdout) or b"\xc3\xa9" in done.stdout, (part, done.stdout)
+
+
+def hints_take_little_time() -> None:
+    """No hint reads more of a long text than is bounded."""
+    node = b'ID["E",1],'
+    for text in (
+        b"VERTCRS[" + b"(" * LONG,
+        b'VERTCRS["H",' + node * (LONG // 50) + b"]",
+        b'VERTCRS["H' + b",ID[" * (LONG // 50),
+        b"GEOGCS[" + b"x" * LONG,
+        b"\0" * LONG,
+        b"\\" * LONG,
+        b"VERTCRS[" + b"x " * (LONG // 50),
+    ):
+        refused = refusal_of(text)
+        began = time.process_time()
+        str(refused)
+        assert time.process_time() - began < 2, (text[:20], time.process_time() - began)
 
 
 def any_bytes_are_told() -> None:
@@ -282,6 +385,7 @@ def any_bytes_are_told() -> None:
             refused_ones += 1
             assert 0 <= refused.place <= len(text) and refused.line >= 1 and refused.column >= 1
             lines = str(refused).split("\n")
+            assert refused.told_of_file().count("\n") in (3, 4)
             assert len(lines) in (4, 5) and lines[2].strip() == "^" and lines[1].isprintable(), lines
     assert refused_ones > 2000
 
@@ -319,7 +423,6 @@ PIECES += [
 
 def no_hint_is_given_where_nothing_can_be_told() -> None:
     for text in (
-        'VERTCRS["H"',
         "x",
         'VERTCRS["H" VDATUM["D"]]',
         'VERTCRS["H",1E]',
@@ -729,6 +832,9 @@ PROMISES = [
     refusal_goes_to_another_process,
     every_number_has_a_meaning,
     hints_are_given,
+    hints_of_files,
+    what_the_hints_of_files_do,
+    hints_take_little_time,
     any_bytes_are_told,
     no_hint_is_given_where_nothing_can_be_told,
     what_is_no_text,

@@ -12,6 +12,8 @@ import re
 from dataclasses import dataclass
 from typing import Callable, Dict, Iterator, List, Optional, Union
 
+from ._shown import escaped
+
 RUN = re.compile(r'[^][,"]+')
 UNITS = ("LENGTHUNIT", "ANGLEUNIT", "SCALEUNIT", "UNIT")
 
@@ -25,7 +27,8 @@ class Difference:
                 lacks, joined by commas; None where the first has nothing there
     ``second``  the same of the second CRS
 
-    ``str`` of it is a line such as ``datum/kind: ENSEMBLE | DATUM``; nothing is written as ``none``.
+    ``str`` of it is a line such as ``datum/kind: ENSEMBLE | DATUM``; nothing is written as ``none``, control characters
+    and backslashes as in Python's strings.
     """
 
     path: str
@@ -33,7 +36,7 @@ class Difference:
     second: Optional[str]
 
     def __str__(self) -> str:
-        return f"{self.path}: {self.first or 'none'} | {self.second or 'none'}"
+        return f"{self.path}: {escaped(self.first or 'none')} | {escaped(self.second or 'none')}"
 
 
 class Node:

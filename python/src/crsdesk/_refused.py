@@ -1,23 +1,18 @@
 """The refusal of a text, told so that a person can mend the text.
 
-Numbers, names and places are the library's; what they mean, and the hints, are this module's own. A hint looks at the
-text alone, and stands there only where what the text is can be told from it.
+Numbers, names and places are the library's; what they mean, and the hints (_hints.py), are this package's own.
 """
 
 from __future__ import annotations
 
-import re
-import unicodedata
-from typing import List, Optional, Tuple
+from typing import NamedTuple, Optional, Tuple
+
+from ._hints import Hint, hints_of, told
+from ._shown import shown
 
 # So many characters of the line are shown before and behind the place.
 BEFORE = 50
 BEHIND = 25
-# A hint looks at no more bytes than these, but for a look at a place.
-LOOKED_AT = 400
-TAB_IS_SHOWN_AS = " "
-
-WRITE_WKT2 = "have PROJ write WKT2:2019 (projinfo -q --single-line -o WKT2:2019"
 
 MEANINGS = {
     1: "This byte begins no token: outside quotes a text has delimiters, commas, numbers and words alone.",
@@ -43,142 +38,27 @@ MEANINGS = {
     29: "A dynamic part may not stand beside an ensemble.",
 }
 
-OLD_CLASSES = "GEOGCS PROJCS GEOCCS VERT_CS COMPD_CS LOCAL_CS FITTED_CS".split()
-OTHER_CLASSES = {
-    "BOUNDCRS": "A BOUNDCRS isn't read: take its source CRS, as by pyproj: CRS(text).source_crs.to_wkt().",
-    "ENGCRS": "Engineering CRSs aren't read.",
-    "ENGINEERINGCRS": "Engineering CRSs aren't read.",
-    "PARAMETRICCRS": "Parametric CRSs aren't read.",
-    "TIMECRS": "Temporal CRSs aren't read.",
-    "DERIVEDPROJCRS": "Derived CRSs aren't read.",
-    "IMAGECRS": "Image CRSs aren't read.",
-    "COORDINATEOPERATION": "A coordinate operation is no CRS.",
-    "CONCATENATEDOPERATION": "A coordinate operation is no CRS.",
-    "POINTMOTIONOPERATION": "A coordinate operation is no CRS.",
-    "COORDINATEMETADATA": "Take the CRS in it: the epoch of coordinates is no part of a CRS.",
-}
-PARTS = (
-    "DATUM TRF GEODETICDATUM VDATUM VRF VERTICALDATUM ENSEMBLE ELLIPSOID SPHEROID PRIMEM PRIMEMERIDIAN CS AXIS "
-    "CONVERSION BASEGEOGCRS BASEGEODCRS LENGTHUNIT ANGLEUNIT UNIT ID"
-).split()
-# Keywords that tools write and that aren't read, with what to do.
-OTHER_KEYWORDS = {
-    "AUTHORITY": "AUTHORITY is WKT1's identifier",
-    "EXTENSION": "EXTENSION is WKT1's",
-    "TOWGS84": "TOWGS84 is WKT1's; a CRS says nothing of transformations",
-    "TIMEEXTENT": "a usage's TIMEEXTENT isn't read",
-    "AXISMINVALUE": "an axis's range isn't read",
-    "AXISMAXVALUE": "an axis's range isn't read",
-    "RANGEMEANING": "an axis's range isn't read",
-    "DERIVINGCONVERSION": "derived CRSs aren't read",
-    "BASEVERTCRS": "derived CRSs aren't read",
-}
-KEYWORD = re.compile(rb"\s*([A-Za-z][0-9A-Za-z_]*)\s*[\[(]")
-CODE = re.compile(rb"[A-Za-z][\w.-]*:{1,2}\d+(\+\d+)?\Z")
-WEB_ADDRESS = re.compile(rb"(?i)(urn:|https?://)")
-QUOTED = re.compile(rb'"[^"]*"')
-DATE = re.compile(rb"\d{4}-\d")
-WITH_UNIT = re.compile(rb"[-+]?[\d.]+[A-DF-Za-df-z]")
-PROJ_STRING = re.compile(rb"(?i)(\+?(proj|init)=|.*\s\+?proj=)", re.DOTALL)
-PATH = re.compile(rb"(?i)([~.]{0,2}/|[a-z]:\\|[^\[\]()\"\n]*\.(wkt2?|prj|txt|shp|gpkg|tiff?|json|gml|xml|csv)\Z)")
+
+class Seen(NamedTuple):
+    """What is told of a refusal, as it is found in the text."""
+
+    line: int
+    column: int
+    piece: str
+    hints: Tuple[Hint, ...]
 
 
-def hint_of(text: bytes, number: int, place: int) -> Optional[str]:
-    """What the text is and what to do with it, in a sentence; None where that can't be told from the text."""
-    return whole_hint(text[:LOOKED_AT].strip(b" \t\r\n"), text) or place_hint(text, number, place)
-
-
-def whole_hint(front: bytes, text: bytes) -> Optional[str]:
-    """What a text is by its front, which has no white space around it."""
-    if not front:
-        return (
-            None if text.strip(b" \t\r\n") else "Nothing stands here: an empty file, or a program that wrote nothing."
-        )
-    if front.startswith(b"\xef\xbb\xbf"):
-        return "A byte order mark stands before the text: cut it off, as by decoding with 'utf-8-sig'."
-    if front.startswith((b"\xff\xfe", b"\xfe\xff")) or b"\0" in front[:2]:
-        return "This is UTF-16: decode it, and hand over the str."
-    if front.startswith(b"{"):
-        return f"This is JSON, most likely PROJJSON: {WRITE_WKT2} TEXT)."
-    if front.startswith(b"<"):
-        return "This is XML, most likely GML: have the tool write WKT2:2019."
-    if front.startswith((b'"', b"'")):
-        return "The text is in quotes, as in a table or in JSON: take them off, and halve the doubled ones inside."
-    if KEYWORD.match(front):
-        return class_hint(front)
-    if PROJ_STRING.match(front):
-        return f'This is a PROJ string: {WRITE_WKT2} "TEXT +type=crs").'
-    if CODE.match(front) or front.isdigit() or WEB_ADDRESS.match(front):
-        code = ("EPSG:" if front.isdigit() else "") + front.decode("utf-8", "replace")
-        return f"This is a code, and nothing is looked up here: {WRITE_WKT2} {code})."
-    if PATH.match(front):
-        return "This is a file's name, most likely: hand over what is in the file."
-    return None
-
-
-def class_hint(front: bytes) -> Optional[str]:
-    """What a text is by its first keyword."""
-    word = keyword_at(front, 0)
-    if word in OLD_CLASSES:
-        return f"This is WKT1, of a .prj file or an older tool: {WRITE_WKT2} TEXT)."
-    if word in OTHER_CLASSES:
-        return OTHER_CLASSES[word]
-    if word in PARTS:
-        return f"{word} is a part of a CRS, and no CRS by itself."
-    return None
-
-
-def place_hint(text: bytes, number: int, place: int) -> Optional[str]:
-    """What stands at the place of a refusal."""
-    rest = text[place : place + LOOKED_AT]
-    word = keyword_at(rest, 0)
-    if number in (11, 12) and word in OTHER_KEYWORDS:
-        return f"{OTHER_KEYWORDS[word]}: have the tool write WKT2:2019, or leave the node out where you don't need it."
-    if number == 12 and word in ("BASEGEOGCRS", "BASEGEODCRS"):
-        return "This is a derived CRS. Derived CRSs aren't read."
-    if number == 6 and word and is_complete(text[:place]):
-        return "A second text begins here: hand over one text at a time."
-    if number == 2 and DATE.match(rest):
-        return "A date is no number: an epoch is a year, with a fraction."
-    if number == 2 and WITH_UNIT.match(rest):
-        return "The number stands alone: a unit is a node of its own, behind it."
-    if number == 1 and rest.startswith((b"\xe2\x80\x9c", b"\xe2\x80\x9d", b"\xe2\x80\x9e", b"\xc2\xab", b"\xc2\xbb")):
-        return 'This is a typographic quote: write straight ones (").'
-    if number == 1 and rest.startswith(b"'"):
-        return 'A text stands in double quotes (").'
-    if number == 1 and rest.startswith(b";"):
-        return "Arguments are separated by commas."
-    if number == 4:
-        return "It is Latin-1, most likely, or another encoding: decode it by that one, and hand over the str."
-    return None
-
-
-def is_complete(text: bytes) -> bool:
-    """Whether delimiters were opened, and all are closed again."""
-    outside = QUOTED.sub(b"", text)
-    opened = outside.count(b"[") + outside.count(b"(")
-    return 0 < opened == outside.count(b"]") + outside.count(b")")
-
-
-def keyword_at(text: bytes, place: int) -> Optional[str]:
-    """The keyword, in capitals, of the node that begins at a place behind white space; None where none does."""
-    match = KEYWORD.match(text, place)
-    return match[1].decode("ascii").upper() if match else None
-
-
-def shown(text: str) -> Tuple[str, int]:
-    """A text as one line can show it, and how many columns of a terminal it takes."""
-    parts: List[str] = []
-    width = 0
-    for character in text:
-        if character == "\t":
-            character = TAB_IS_SHOWN_AS
-        elif not character.isprintable():
-            character = "\N{REPLACEMENT CHARACTER}"
-        parts.append(character)
-        if unicodedata.combining(character) == 0:
-            width += 2 if unicodedata.east_asian_width(character) in "WF" else 1
-    return "".join(parts), width
+def seen_in(text: bytes, number: int, place: int) -> Seen:
+    """What is told of the refusal of a text."""
+    begin = text.rfind(b"\n", 0, place) + 1
+    end = text.find(b"\n", place)
+    column = len(text[begin:place].decode("utf-8", "replace")) + 1
+    # Four bytes a character are enough, and no character is cut where one more byte isn't looked at.
+    front = text[max(begin, place - 4 * BEFORE) : place].decode("utf-8", "replace")
+    behind = text[place : min(place + 4 * BEHIND, len(text) if end < 0 else end)].decode("utf-8", "replace")
+    front, width = shown(front[-BEFORE:])
+    piece = f"  {front}{shown(behind[:BEHIND])[0].rstrip()}\n  {' ' * width}^"
+    return Seen(text.count(b"\n", 0, place) + 1, column, piece, hints_of(text, number, place))
 
 
 class Refused(ValueError):
@@ -190,31 +70,53 @@ class Refused(ValueError):
                 text in UTF-8
     ``line``    the line of that byte, counted from 1; lines end at line feeds
     ``column``  the character of that line, counted from 1
-    ``text``    the text, as bytes
+    ``text``    the text, as bytes; None where it isn't kept, as by a ``Catalogue``
     ``which``   ``"first"`` or ``"second"`` where two texts were handed over, else None
 
     What is to be mended often stands before the place. ``str`` of a refusal has the piece of the text with a caret
     under the place, what the number means, and a hint where what the text is can be told.
     """
 
-    def __init__(self, text: bytes, number: int, name: str, place: int, which: Optional[str] = None) -> None:
-        super().__init__(text, number, name, place, which)
+    __slots__ = ("_seen", "name", "number", "place", "text", "which")
+
+    def __init__(
+        self,
+        text: Optional[bytes],
+        number: int,
+        name: str,
+        place: int,
+        which: Optional[str] = None,
+        seen: Optional[Seen] = None,
+    ) -> None:
+        # The text isn't an argument of the exception's, so that it goes where it isn't kept.
+        super().__init__(number, name, place, which)
         self.text = text
         self.number = number
         self.name = name
         self.place = place
         self.which = which
+        self._seen = seen
+
+    @property
+    def seen(self) -> Seen:
+        """What is told of it, looked for in the text once."""
+        if self._seen is None:
+            self._seen = seen_in(self.text or b"", self.number, self.place)
+        return self._seen
+
+    def kept(self, with_text: bool = False) -> Refused:
+        """The same refusal to keep: without the calls that it was raised in, and without the text unless asked."""
+        return Refused(self.text if with_text else None, self.number, self.name, self.place, self.which, self.seen)
 
     @property
     def line(self) -> int:
         """The line of the place, counted from 1."""
-        return self.text.count(b"\n", 0, self.place) + 1
+        return self.seen.line
 
     @property
     def column(self) -> int:
         """The character of the line at the place, counted from 1; a byte that is no character counts as one."""
-        begin = self.text.rfind(b"\n", 0, self.place) + 1
-        return len(self.text[begin : self.place].decode("utf-8", "replace")) + 1
+        return self.seen.column
 
     @property
     def meaning(self) -> str:
@@ -223,8 +125,8 @@ class Refused(ValueError):
 
     @property
     def hint(self) -> Optional[str]:
-        """What the text is and what to do with it, in a sentence; None where that can't be told from the text."""
-        return hint_of(self.text, self.number, self.place)
+        """What the text is and what to do with it, in a sentence or more; None where that can't be told from it."""
+        return told(self.seen.hints)
 
     @property
     def summary(self) -> str:
@@ -233,18 +135,23 @@ class Refused(ValueError):
 
     def piece(self) -> str:
         """The piece of the line at the place, and below it a caret under the place, without a line end behind."""
-        begin = self.text.rfind(b"\n", 0, self.place) + 1
-        end = self.text.find(b"\n", self.place)
-        # Four bytes a character are enough, and no character is cut where one more byte isn't looked at.
-        front = self.text[max(begin, self.place - 4 * BEFORE) : self.place].decode("utf-8", "replace")
-        behind = self.text[self.place : len(self.text) if end < 0 else end][: 4 * BEHIND].decode("utf-8", "replace")
-        front, width = shown(front[-BEFORE:])
-        return f"  {front}{shown(behind[:BEHIND])[0].rstrip()}\n  {' ' * width}^"
+        return self.seen.piece
+
+    def told_of_file(self, line: int = 0) -> str:
+        """What ``str`` has, for a command line that names a file with the text, or with the text in a line."""
+        where = f"column {self.column}" if line else f"line {self.line}, column {self.column}"
+        hint = told(self.seen.hints, True)
+        if hint and line:
+            hint = hint.replace("$(cat FILE)", f"$(sed -n {line}p FILE)")
+        return "\n".join(filter(None, (f"{self.summary}, {where}", self.piece(), self.meaning, hint)))
 
     def __str__(self) -> str:
         whose = f"the {self.which} text: " if self.which else ""
-        lines = [f"{whose}{self.summary}, line {self.line}, column {self.column}", self.piece(), self.meaning]
-        return "\n".join(lines + ([self.hint] if self.hint else []))
+        head = f"{whose}{self.summary}, line {self.line}, column {self.column}"
+        return "\n".join(filter(None, (head, self.piece(), self.meaning, self.hint)))
 
     def __repr__(self) -> str:
         return f"Refused(number={self.number}, name={self.name!r}, place={self.place})"
+
+    def __reduce__(self) -> Tuple[object, ...]:
+        return Refused, (self.text, self.number, self.name, self.place, self.which, self._seen)
