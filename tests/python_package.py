@@ -25,6 +25,7 @@ import tempfile
 import threading
 import time
 import traceback
+import tracemalloc
 from concurrent.futures import ThreadPoolExecutor
 from typing import Callable, Iterator, List, Optional, Tuple, Type
 
@@ -435,14 +436,68 @@ def what_is_no_text() -> None:
     calls: List[Callable[..., object]] = [check, canon, Crs, Catalogue().add]
     calls += [lambda it: same(it, HEIGHT), lambda it: same(HEIGHT, it)]
     for call in calls:
-        wants(TypeError, "a text is str or bytes, not NoneType", call, None)
+        wants(TypeError, "a text is str, bytes or Crs, not NoneType", call, None)
         wants(TypeError, "not int", call, 4326)
         wants(TypeError, "not float", call, 1.5)
         wants(TypeError, "not list", call, [HEIGHT])
         wants(TypeError, "read the file", call, EXAMPLES / "wgs84.wkt")
         wants(ValueError, "U+D800 at character 1", call, "a\ud800")
+        for package, advice in TO_WKT.items():
+            wants(TypeError, f"not CRS; hand over its {advice}, in WKT2:2019", call, stand_in(package))
     with (EXAMPLES / "wgs84.wkt").open("rb") as file:
         wants(TypeError, "read the file", check, file)
+
+
+# The call that each package's object is refused with.
+TO_WKT = {
+    "fiona.crs": 'to_wkt(version="WKT2_2019")',
+    "osgeo.osr": 'ExportToWkt(["FORMAT=WKT2_2019"])',
+    "pyproj.crs.crs": "to_wkt()",
+    "rasterio.crs": 'to_wkt(version="WKT2_2019")',
+    "others": "to_wkt()",
+}
+
+
+def stand_in(package: str) -> object:
+    """An object as a CRS of another package is, which needn't be there."""
+    name = "ExportToWkt" if package == "osgeo.osr" else "to_wkt"
+    made = type("CRS", (), {name: lambda self: HEIGHT})
+    made.__module__ = package
+    return made()
+
+
+def a_crs_goes_where_a_text_goes() -> None:
+    crs, other = Crs(HEIGHT), Crs(HEIGHT.replace('"H"', '"K"'))
+    noted = Crs(HEIGHT[:-1] + ',REMARK["r"]]')
+    assert check(crs) == "vertical" and canon(crs) == str(crs) and canon(noted, "definition") == CANONICAL_HEIGHT
+    assert same(crs, Crs(crs)) and not same(crs, other) and same(HEIGHT, crs) and same(crs, noted, "definition")
+    assert difference(crs, other) == "name" == crs.difference(other) == crs.difference(other.text)
+    assert [part.path for part in differences(crs, noted)] == ["remark"] == [it.path for it in crs.differences(noted)]
+    assert Crs(crs) == crs and Crs(crs).text == HEIGHT.encode()
+    assert crs != noted and crs.same(noted, "definition")
+    catalogue = Catalogue("definition")
+    assert [catalogue.add(it) for it in (crs, HEIGHT, noted, other)] == [1, 1, 1, 2]
+    refused = refusal_of(crs, lambda it: same(it, "x"))
+    assert refused.which == "second"
+
+
+def a_crs_of_a_file() -> None:
+    for path in (EXAMPLES / "wgs84.wkt", str(EXAMPLES / "wgs84.wkt"), os.fsencode(EXAMPLES / "wgs84.wkt")):
+        assert Crs.from_file(path) == Crs((EXAMPLES / "wgs84.wkt").read_bytes())
+    wants(FileNotFoundError, "none.wkt", Crs.from_file, "none.wkt")
+    assert refusal_of(EXAMPLES / "exports" / "wgs84_esri.prj", Crs.from_file).number == 11
+
+
+def a_crs_is_sorted_by_its_canonical_text() -> None:
+    names = ["b", "é", "a", "a b", "Z", "高"]
+    texts = [HEIGHT.replace('"H"', f'"{name}"') for name in names]
+    crss = [Crs(text) for text in texts]
+    assert list(map(str, sorted(crss))) == sorted(map(str, crss))
+    assert [str(it).encode() for it in sorted(crss)] == sorted(str(it).encode() for it in crss)
+    first, second = Crs(texts[2]), Crs(texts[0])
+    assert first < second and first <= second and second > first and second >= first
+    assert first <= Crs(texts[2]) and not first < Crs(texts[2])
+    wants(TypeError, "not supported between instances of 'Crs' and 'str'", lambda: crss[0] < texts[0])
 
 
 def what_is_no_level() -> None:
@@ -599,7 +654,11 @@ def catalogue_of_names() -> None:
         (1, CANONICAL_HEIGHT, ["a.wkt", ("c", 2)]),
         (2, CANONICAL_HEIGHT.replace('"H"', '"K"'), [5]),
     ]
-    assert catalogue.refused == [("b.wkt", refused)] or catalogue.refused[0][0] == "b.wkt"
+    assert [(name, it.text, str(it)) for name, it in catalogue.refused] == [("b.wkt", None, str(refused))]
+    assert refused.text == b"x"
+    keeping = Catalogue(keep_texts=True)
+    refusal_of("x", keeping.add)
+    assert [(name, it.text) for name, it in keeping.refused] == [(1, b"x")]
     wants(TypeError, "not NoneType", catalogue.add, None)
     for number in (0, 3, -1):
         wants(IndexError, "no such group", catalogue.group, number)
@@ -612,6 +671,29 @@ def many_lines_of_one_group() -> None:
     for _ in range(3000):
         catalogue.add(HEIGHT)
     assert catalogue.group(1).names == list(range(1, 3001))
+
+
+def refused_texts_are_not_kept() -> None:
+    """A catalogue takes little for a refused text, however long that is, and keeps no frame that has it."""
+    catalogue, keeping = Catalogue(), Catalogue(keep_texts=True)
+    text = b"GEOGCS[" + b"x" * 100_000
+    used = []
+    for kept in (catalogue, keeping):
+        tracemalloc.start()
+        for number in range(200):
+            refusal_of(text + b"%d" % number, kept.add)
+        used.append(tracemalloc.get_traced_memory()[0])
+        tracemalloc.stop()
+    assert used[0] < 1500 * 200 and used[1] > 100_000 * 200, used
+    assert all(it.__traceback__ is None and it.__context__ is None for _, it in catalogue.refused + keeping.refused)
+
+
+def values_are_written_escaped() -> None:
+    noted = HEIGHT[:-1] + ',REMARK["a\n\tb\\\x1b[31m\x85\u2028\u202e"]]'
+    assert [str(part) for part in differences(HEIGHT, noted)] == [
+        'remark: none | "a\\n\\tb\\\\\\x1b[31m\\u0085\\u2028\\u202e"'
+    ]
+    assert differences(HEIGHT, noted)[0].second == '"a\n\tb\\\x1b[31m\x85\u2028\u202e"'
 
 
 def nul_bytes() -> None:
@@ -841,12 +923,17 @@ PROMISES = [
     what_is_no_level,
     bytes_of_any_kind,
     a_crs_is_a_key,
+    a_crs_goes_where_a_text_goes,
+    a_crs_of_a_file,
+    a_crs_is_sorted_by_its_canonical_text,
     levels,
     all_parts,
     all_parts_of_all_pairs,
     all_parts_of_changed_texts,
     catalogue_of_names,
     many_lines_of_one_group,
+    refused_texts_are_not_kept,
+    values_are_written_escaped,
     nul_bytes,
     empty_texts,
     long_texts,

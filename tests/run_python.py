@@ -141,6 +141,8 @@ def try_code(counts: Counts) -> None:
             continue
         done = run([tool, *words])
         counts.add(tool, done.returncode == 0, done.stdout[-2000:])
+        if tool == "mypy":
+            try_types(counts)
     for name in ("_crs.py", "_parts.py", "_refused.py"):
         tree = ast.parse((sources / name).read_text(encoding="utf-8"))
         for node in tree.body:
@@ -148,6 +150,35 @@ def try_code(counts: Counts) -> None:
                 has = ast.get_docstring(node) is not None
                 is_public = node.name in (sources / "__init__.py").read_text(encoding="utf-8")
                 counts.add(f"{name}: {node.name}", has or not is_public, "has no docstring")
+
+
+# Lines that a type checker accepts, and lines that it doesn't, with a part of what it says.
+TYPES = {
+    'crsdesk.canon("x", "full")': "",
+    'crsdesk.Catalogue("definition", keep_texts=True)': "",
+    "crsdesk.same(crs, crs)": "",
+    'crsdesk.Catalogue().add(crsdesk.Crs.from_file("a.wkt"))': "",
+    "sorted([crs])": "",
+    'crsdesk.canon("x", "ful")': "expected \"Literal['full', 'definition']\"",
+    'crs.same(crs, "Full")': "expected \"Literal['full', 'definition']\"",
+    'crsdesk.Catalogue("ful")': "expected \"Literal['full', 'definition']\"",
+    "crsdesk.check(4326)": 'incompatible type "int"',
+}
+
+
+def try_types(counts: Counts) -> None:
+    """What mypy says of calls."""
+    with tempfile.TemporaryDirectory() as folder:
+        file = pathlib.Path(folder, "calls.py")
+        lines = ["import crsdesk", 'crs = crsdesk.Crs("x")', *TYPES]
+        file.write_text("".join(f"{line}\n" for line in lines), encoding="utf-8")
+        done = run(
+            ["mypy", "--strict", "--cache-dir", os.devnull, file], {**os.environ, "MYPYPATH": str(PACKAGE / "src")}
+        )
+        for number, (line, wanted) in enumerate(TYPES.items(), 3):
+            said = [it for it in done.stdout.splitlines() if f"calls.py:{number}: error" in it]
+            is_right = any(wanted in it for it in said) if wanted else not said
+            counts.add(f"mypy of {line}", is_right, f"{said or done.stdout}, not {wanted or 'nothing'}")
 
 
 def main(words: List[str]) -> int:

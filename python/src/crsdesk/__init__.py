@@ -11,7 +11,7 @@ CRS in one canonical spelling.
 What the calls answer is that of a library whose answers are proved; this package around them is tested.
 """
 
-from ._crs import Catalogue, Crs, Group, Text, canon, check, difference, differences, same
+from ._crs import Catalogue, Crs, Group, Level, Text, canon, check, difference, differences, same
 from ._library import version
 from ._parts import Difference
 from ._refused import Refused
@@ -21,6 +21,7 @@ __all__ = [
     "Crs",
     "Difference",
     "Group",
+    "Level",
     "Refused",
     "Text",
     "canon",

@@ -14,7 +14,7 @@ import signal
 import sys
 from typing import Callable, Iterator, List, Optional, Tuple
 
-from . import Catalogue, Refused, __version__, canon, check, difference, differences
+from . import Catalogue, Level, Refused, __version__, canon, check, difference, differences
 from ._crs import BLANK, LEVELS
 
 DIFFERS = 1
@@ -88,7 +88,7 @@ def run_canon(run: Run, asked: argparse.Namespace) -> None:
             run.ends(DIFFERS)
 
 
-def canonical_line(run: Run, place: str, line: bytes, level: str) -> str:
+def canonical_line(run: Run, place: str, line: bytes, level: Level) -> str:
     """The canonical text of a line; nothing of a blank line, nor of a refused one, which is told."""
     if not line.strip(BLANK):
         return ""

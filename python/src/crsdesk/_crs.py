@@ -2,20 +2,31 @@
 
 from __future__ import annotations
 
+import functools
+import os
 import threading
-from typing import Any, Dict, Iterator, List, NamedTuple, Optional, Tuple, Union
+from typing import Any, Dict, Iterator, List, Literal, NamedTuple, Optional, Tuple, Union
 
 from . import _library
 from ._parts import Difference, differences_of
 from ._refused import Refused
 
-Text = Union[str, bytes, bytearray, memoryview]
-LEVELS = {"full": 0, "definition": 1}
+Text = Union[str, bytes, bytearray, memoryview, "Crs"]
+Level = Literal["full", "definition"]
+LEVELS: Dict[str, int] = {"full": 0, "definition": 1}
 BLANK = b" \t\r\n"
+# The call that has a package's object write WKT2:2019.
+TO_WKT = {
+    "fiona": 'to_wkt(version="WKT2_2019")',
+    "osgeo": 'ExportToWkt(["FORMAT=WKT2_2019"])',
+    "pyproj": "to_wkt()",
+    "rasterio": 'to_wkt(version="WKT2_2019")',
+}
 
 
 def bytes_of(text: Text) -> bytes:
-    """The bytes of a text: a str in UTF-8, bytes as they are. TypeError and ValueError for what is no text."""
+    """The bytes of a text: a str in UTF-8, bytes as they are, those that a Crs was read from. TypeError and ValueError
+    for what is no text."""
     if isinstance(text, bytes):
         return text
     if isinstance(text, str):
@@ -24,10 +35,21 @@ def bytes_of(text: Text) -> bytes:
         except UnicodeEncodeError as error:
             what = f"U+{ord(text[error.start]):04X} at character {error.start}"
             raise ValueError(f"a lone surrogate, {what}, which UTF-8 doesn't have; hand over bytes") from None
+    if isinstance(text, Crs):
+        return text.text
     if isinstance(text, (bytearray, memoryview)):
         return bytes(text)
-    advice = "; read the file, and hand over its bytes" if hasattr(text, "__fspath__") or hasattr(text, "read") else ""
-    raise TypeError(f"a text is str or bytes, not {type(text).__name__}{advice}")
+    raise TypeError(f"a text is str, bytes or Crs, not {type(text).__name__}{advice_on(text)}")
+
+
+def advice_on(found: object) -> str:
+    """What to hand over in the place of what is no text, behind a semicolon; nothing where that isn't known."""
+    package = type(found).__module__.partition(".")[0]
+    if hasattr(found, "to_wkt") or hasattr(found, "ExportToWkt"):
+        return f"; hand over its {TO_WKT.get(package, 'to_wkt()')}, in WKT2:2019"
+    if hasattr(found, "__fspath__") or hasattr(found, "read"):
+        return "; read the file, and hand over its bytes (Crs.from_file does)"
+    return ""
 
 
 def number_of(level: str) -> int:
@@ -50,17 +72,19 @@ def check(text: Text) -> str:
     return _library.check(bytes_of(text))
 
 
-def canon(text: Text, level: str = "full") -> str:
+def canon(text: Text, level: Level = "full") -> str:
     """The canonical text of the CRS that a text spells, at a level (docs/CANONICAL.md).
 
     ``full`` keeps everything that the text says; ``definition`` leaves identifiers, usages and remarks out. Two texts
     have equal canonical texts exactly where their CRSs are the same at the level. ``ValueError`` for another level.
     """
+    if isinstance(text, Crs):
+        return text.canonical(level)
     number = number_of(level)
     return _library.canon(bytes_of(text), number).decode()
 
 
-def same(first: Text, second: Text, level: str = "full") -> bool:
+def same(first: Text, second: Text, level: Level = "full") -> bool:
     """Whether two texts spell the same CRS at a level (docs/SAMENESS.md).
 
     ``Refused`` has in ``which`` the text that spells none; where the first does, the second isn't judged.
@@ -69,14 +93,14 @@ def same(first: Text, second: Text, level: str = "full") -> bool:
     return _library.same(bytes_of(first), bytes_of(second), number)
 
 
-def difference(first: Text, second: Text, level: str = "full") -> Optional[str]:
+def difference(first: Text, second: Text, level: Level = "full") -> Optional[str]:
     """The path of the first part in which the CRSs of two texts differ, such as ``datum/ellipsoid/flattening``; None
     where they are the same (docs/SAMENESS.md, "The first part that differs"). Raises as ``same`` does."""
     number = number_of(level)
     return _library.first_part(bytes_of(first), bytes_of(second), number).decode("ascii") or None
 
 
-def differences(first: Text, second: Text, level: str = "full") -> List[Difference]:
+def differences(first: Text, second: Text, level: Level = "full") -> List[Difference]:
     """All parts in which the CRSs of two texts differ, in their order; none where they are the same.
 
     The first is that of ``difference``. The parts are found in the canonical texts by code of this package, which is
@@ -90,11 +114,12 @@ def differences(first: Text, second: Text, level: str = "full") -> List[Differen
     return list(differences_of(*(_library.canon(text, number).decode() for text in texts)))
 
 
+@functools.total_ordering
 class Crs:
-    """A CRS, from a text that spells it. It doesn't change.
+    """A CRS, from a text that spells it. It doesn't change, and goes wherever a text goes.
 
     Two are equal, and hash alike, exactly where they are the same with everything that their texts say: so the keys of
-    a ``dict`` and the members of a ``set`` are CRSs. ``str`` of it is the canonical text.
+    a ``dict`` and the members of a ``set`` are CRSs. ``str`` of it is the canonical text; by that they are sorted.
 
     Raises as ``check`` does.
     """
@@ -106,6 +131,12 @@ class Crs:
         self._full = _library.canon(self._text, 0).decode()
         self._definition: Optional[str] = None
         self._kind: Optional[str] = None
+
+    @classmethod
+    def from_file(cls, path: Union[str, bytes, os.PathLike[str], os.PathLike[bytes]]) -> Crs:
+        """The CRS that a file's bytes spell. ``OSError`` where it can't be read; else raises as ``check`` does."""
+        with open(path, "rb") as file:
+            return cls(file.read())
 
     @property
     def text(self) -> bytes:
@@ -119,7 +150,7 @@ class Crs:
             self._kind = _library.check(self._text)
         return self._kind
 
-    def canonical(self, level: str = "full") -> str:
+    def canonical(self, level: Level = "full") -> str:
         """The canonical text, as ``canon`` writes it. ``ValueError`` for a level that isn't there."""
         if number_of(level) == 0:
             return self._full
@@ -127,18 +158,19 @@ class Crs:
             self._definition = _library.canon(self._text, 1).decode()
         return self._definition
 
-    def same(self, other: Union[Crs, Text], level: str = "full") -> bool:
-        """Whether another CRS, or the one that another text spells, is the same at a level.
+    def same(self, other: Text, level: Level = "full") -> bool:
+        """Whether another CRS, or the one that another text spells, is the same at a level, where ``==`` counts
+        everything.
 
         It compares the canonical texts, which are equal exactly where the CRSs are the same.
         """
         return self.canonical(level) == crs_of(other).canonical(level)
 
-    def difference(self, other: Union[Crs, Text], level: str = "full") -> Optional[str]:
+    def difference(self, other: Text, level: Level = "full") -> Optional[str]:
         """The path of the first part that differs, as ``difference`` answers it; None where the two are the same."""
-        return difference(self._text, other._text if isinstance(other, Crs) else other, level)
+        return difference(self, other, level)
 
-    def differences(self, other: Union[Crs, Text], level: str = "full") -> List[Difference]:
+    def differences(self, other: Text, level: Level = "full") -> List[Difference]:
         """All parts that differ, as ``differences`` answers them."""
         return list(differences_of(self.canonical(level), crs_of(other).canonical(level)))
 
@@ -150,6 +182,11 @@ class Crs:
     def __hash__(self) -> int:
         return hash(self._full)
 
+    def __lt__(self, other: Crs) -> bool:
+        if not isinstance(other, Crs):
+            return NotImplemented
+        return self._full < other._full
+
     def __str__(self) -> str:
         return self._full
 
@@ -160,8 +197,13 @@ class Crs:
         return Crs, (self._text,)
 
 
-def crs_of(other: Union[Crs, Text]) -> Crs:
+def crs_of(other: Text) -> Crs:
     return other if isinstance(other, Crs) else Crs(other)
+
+
+def is_blank(text: Text) -> bool:
+    """Whether a text is white space alone, or nothing."""
+    return not isinstance(text, Crs) and not bytes_of(text).strip(BLANK)
 
 
 class Group(NamedTuple):
@@ -181,11 +223,14 @@ class Catalogue:
     """Texts by the CRS that they spell, at a level: the same CRS, the same group (docs/CATALOGUES.md).
 
     Groups are found by canonical texts, which are equal exactly where the CRSs are the same. A catalogue may be used by
-    several threads. ``ValueError`` for a level that isn't there.
+    several threads. Of a text that spells no CRS it keeps what is needed to tell why, and with ``keep_texts`` the text.
+    ``ValueError`` for a level that isn't there.
     """
 
-    def __init__(self, level: str = "full") -> None:
-        self._level = number_of(level)
+    def __init__(self, level: Level = "full", *, keep_texts: bool = False) -> None:
+        number_of(level)
+        self._level = level
+        self._keeps_texts = keep_texts
         self._lock = threading.Lock()
         self._count = 0
         self._groups: List[Group] = []
@@ -199,19 +244,19 @@ class Catalogue:
         is blank (white space alone, or nothing) and stands nowhere. ``Refused`` where it spells no CRS: then it is
         listed in ``refused``, and the catalogue goes on. Where memory is refused to the library, it is as before.
         """
-        found = bytes_of(text)
-        refusal: Optional[Refused] = None
-        spelling = ""
         try:
-            spelling = _library.canon(found, self._level).decode() if found.strip(BLANK) else ""
+            spelling = "" if is_blank(text) else canon(text, self._level)
         except Refused as refused:
-            refusal = refused
+            kept = refused.kept(self._keeps_texts)
+            with self._lock:
+                self._refused.append((self._name(name), kept))
+            raise
+        return self._add_canonical(spelling, name)
+
+    def _add_canonical(self, spelling: str, name: object = None) -> Optional[int]:
+        """Adds what ``canon`` wrote of a text at the catalogue's level; nothing, of a blank one."""
         with self._lock:
-            self._count += 1
-            named = self._count if name is None else name
-            if refusal is not None:
-                self._refused.append((named, refusal))
-                raise refusal
+            named = self._name(name)
             if not spelling:
                 return None
             number = self._numbers.setdefault(spelling, len(self._groups) + 1)
@@ -219,6 +264,11 @@ class Catalogue:
                 self._groups.append(Group(number, spelling, []))
             self._groups[number - 1].names.append(named)
             return number
+
+    def _name(self, name: object) -> object:
+        """Counts a text, and answers the name under which it is added."""
+        self._count += 1
+        return self._count if name is None else name
 
     def __len__(self) -> int:
         """How many groups there are."""
@@ -241,6 +291,7 @@ class Catalogue:
 
     @property
     def refused(self) -> List[Tuple[Any, Refused]]:
-        """The texts that spell no CRS: name and refusal of each, in the order in which they were added."""
+        """The texts that spell no CRS: name and refusal of each, in the order in which they were added. A refusal here
+        has no ``text``, unless ``keep_texts`` asks for it."""
         with self._lock:
             return list(self._refused)
