@@ -13,12 +13,14 @@ from __future__ import annotations
 import copy
 import doctest
 import functools
+import io
 import os
 import pathlib
 import pickle
 import random
 import re
 import shlex
+import shutil
 import subprocess
 import sys
 import tempfile
@@ -86,7 +88,7 @@ def answer(case: run_cases.Case) -> bytes:
 
 def grouped(text: bytes, level: str) -> bytes:
     catalogue = Catalogue(level)
-    for line in lines_of(text):
+    for line in lines_of(io.BytesIO(text)):
         try:
             catalogue.add(line)
         except Refused:
@@ -815,6 +817,7 @@ class Files:
         self.write("old.prj", 'GEOGCS["WGS 84"]')
         self.write("blank.wkt", "\n")
         self.write("noted.wkt", HEIGHT[:-1] + ',REMARK["r"]]')
+        self.write("lined.wkt", HEIGHT[:-1] + ',REMARK["a\n\x1b[31mb\\"]]')
         self.write("lines.txt", f'{HEIGHT}\r\n\nVERTCRS["H"\n{CANONICAL_HEIGHT}')
 
     def write(self, name: str, text: str) -> None:
@@ -835,6 +838,8 @@ def commands() -> None:
         command_canon(files)
         command_same(files)
         command_group(files)
+        command_lines(files)
+        command_names(files)
         command_faults(files)
 
 
@@ -844,15 +849,16 @@ def command_check(files: Files) -> None:
     status, output, error = files.run("check", "height.wkt", "old.prj")
     assert (status, output) == (1, "height.wkt: accepted vertical\nold.prj: refused 11 UnknownKeyword at 0\n")
     assert error.startswith("old.prj: refused 11 UnknownKeyword at 0, line 1, column 1\n") and "WKT1" in error
+    assert '"$(cat FILE)"' in error
 
 
 def command_canon(files: Files) -> None:
     assert files.run("canon", "height.wkt") == (0, CANONICAL_HEIGHT + "\n", "")
     status, output, error = files.run("canon", "old.prj", "noted.wkt", "--level", "definition")
     assert (status, output) == (1, "\n" + CANONICAL_HEIGHT + "\n") and "WKT1" in error
-    status, output, error = files.run("canon", "--lines", "lines.txt")
-    assert (status, output) == (1, f"{CANONICAL_HEIGHT}\n\n\n{CANONICAL_HEIGHT}\n")
-    assert error == "lines.txt:3: refused 7 UnexpectedEnd at 11\n"
+    status, output, error = files.run("canon", "height.wkt", "missing", "again.wkt")
+    assert (status, output) == (2, f"{CANONICAL_HEIGHT}\n\n{CANONICAL_HEIGHT}\n")
+    assert error == "crsdesk: missing: No such file or directory\n"
     assert files.run("canon", "other name.wkt", LC_ALL="C", PYTHONUTF8="0")[0] == 0
 
 
@@ -864,24 +870,124 @@ def command_same(files: Files) -> None:
     assert files.run("same", "height.wkt", "other name.wkt", "--all") == (1, parts, "")
     assert files.run("same", "height.wkt", "noted.wkt", "--all") == (1, 'remark: none | "r"\n', "")
     assert files.run("same", "height.wkt", "noted.wkt", "--level", "definition") == (0, "same\n", "")
-    for words in (("height.wkt", "old.prj"), ("old.prj", "height.wkt")):
+    for which, words in (("second", ("height.wkt", "old.prj")), ("first", ("old.prj", "height.wkt"))):
         status, output, error = files.run("same", *words)
-        assert (status, output) == (2, "") and error.startswith("old.prj: the ") and "WKT1" in error, error
+        assert (status, output) == (1, f"{which} refused 11 UnknownKeyword at 0\n"), (status, output)
+        assert error.startswith("old.prj: refused 11 UnknownKeyword at 0, line 1, column 1\n") and "WKT1" in error
+    status, output, error = files.run("same", "noted.wkt", "lined.wkt", "--all")
+    assert (status, output, error) == (1, 'remark: "r" | "a\\n\\x1b[31mb\\\\"\n', "")
 
 
 def command_group(files: Files) -> None:
-    assert files.run("group", "height.wkt", "again.wkt", "other name.wkt", "blank.wkt", "old.prj") == (
+    status, output, error = files.run("group", "height.wkt", "again.wkt", "other name.wkt", "blank.wkt", "old.prj")
+    assert (status, output) == (
         1,
         "group 1: height.wkt again.wkt\ngroup 2: 'other name.wkt'\nblank.wkt: blank\n"
         "old.prj: refused 11 UnknownKeyword at 0\n",
-        "",
     )
+    assert error.startswith("old.prj: refused 11 UnknownKeyword at 0, line 1, column 1\n") and "WKT1" in error
     assert files.run("group", "height.wkt", "noted.wkt")[1] == "group 1: height.wkt\ngroup 2: noted.wkt\n"
     assert files.run("group", "height.wkt", "noted.wkt", "--level=definition") == (
         0,
         "group 1: height.wkt noted.wkt\n",
         "",
     )
+    assert files.run("group", "height.wkt", "missing", "again.wkt")[:2] == (2, "group 1: height.wkt again.wkt\n")
+
+
+def command_lines(files: Files) -> None:
+    """check, canon and group of a file with a text a line."""
+    refusal = 'lines.txt:3: refused 7 UnexpectedEnd at 11, column 12\n  VERTCRS["H"\n             ^\n'
+    status, output, error = files.run("canon", "--lines", "lines.txt")
+    assert (status, output) == (1, f"{CANONICAL_HEIGHT}\n\n\n{CANONICAL_HEIGHT}\n")
+    assert error.startswith(refusal) and error.endswith("Still open at the end: VERTCRS[ at 0.\n"), error
+    status, output, error = files.run("check", "--lines", "lines.txt")
+    assert (status, output) == (1, "accepted vertical\nblank\nrefused 7 UnexpectedEnd at 11\naccepted vertical\n")
+    assert error.startswith(refusal)
+    status, output, error = files.run("group", "--lines", "lines.txt")
+    assert (status, output) == (1, "group 1: 1 4\nline 3: refused 7 UnexpectedEnd at 11\n")
+    assert error.startswith(refusal)
+    status, output, error = files.run("check", "--lines", "height.wkt", "blank.wkt")
+    assert (status, output) == (0, "height.wkt:1: accepted vertical\nblank.wkt:1: blank\n")
+    status, output, error = files.run(
+        "group", "--lines", "lines.txt", "other name.wkt", "noted.wkt", "--level=definition"
+    )
+    assert output == (
+        "group 1: lines.txt:1 lines.txt:4 noted.wkt:1\ngroup 2: 'other name.wkt:1'\n"
+        "lines.txt:3: refused 7 UnexpectedEnd at 11\n"
+    )
+    for words in (("check", "--lines"), ("group", "--lines"), ("canon", "--lines")):
+        status, output, error = files.run(*words, "missing", "blank.wkt")
+        assert status == 2 and error == "crsdesk: missing: No such file or directory\n"
+        assert files.run(*words, ".")[::2] == (2, "crsdesk: .: Is a directory\n")
+    assert files.run("canon", "--lines", "missing", "height.wkt")[:2] == (2, CANONICAL_HEIGHT + "\n")
+    old = files.run("canon", "--lines", "-", source=b'\n\nGEOGCS["A"]\n')[2]
+    assert old.startswith("-:3: refused 11") and '"$(sed -n 3p FILE)"' in old
+    for path in sorted(HERE.glob("*.rows")):
+        for case in filter(is_asked, run_cases.cases_of(path)):
+            if level_of(case.words)[1] == [b"group"]:
+                words = [f"--level={level_of(case.words)[0]}", "--lines", "-"]
+                status, output, _ = files.run("group", *words, source=case.input)
+                assert (status, output.encode()) == (case.status, case.output), case.name
+
+
+def command_names(files: Files) -> None:
+    """Names of files with control characters, and others that shells take apart."""
+    files.write("a\nb'\x1b\\.wkt", HEIGHT)
+    files.write("c\n.prj", 'GEOGCS["A"]')
+    names = ["a\nb'\x1b\\.wkt", "c\n.prj"]
+    status, output, error = files.run("check", *names)
+    first, second = r"$'a\nb\'\x1b\\.wkt'", r"$'c\n.prj'"
+    assert output == f"{first}: accepted vertical\n{second}: refused 11 UnknownKeyword at 0\n", output
+    assert error.startswith(f"{second}: refused 11")
+    assert files.run("group", *names)[1] == f"group 1: {first}\n{second}: refused 11 UnknownKeyword at 0\n"
+    assert files.run("check", "d\n.wkt")[2] == "crsdesk: $'d\\n.wkt': No such file or directory\n"
+    if shutil.which("bash"):
+        words = ["bash", "-c", f"printf %s {first}"]
+        assert subprocess.run(words, capture_output=True, check=True).stdout.decode() == names[0]
+    else:
+        print("skipped: bash isn't there: names that a shell reads back")
+
+
+PEAK = """
+import re, sys
+from crsdesk.__main__ import main
+status = main(sys.argv[1:])
+with open("/proc/self/status") as file:
+    print(re.search(r"VmHWM:\\s*(\\d+)", file.read())[1], status, file=sys.stderr)
+"""
+
+
+def lines_are_read_in_bounded_memory() -> None:
+    """A hundred times the lines, accepted, blank and refused, take no more memory."""
+    with tempfile.TemporaryDirectory() as folder:
+        files = Files(folder)
+        line = HEIGHT[:-1] + ',REMARK["' + "r" * 2000 + '"]]\n\nGEOGCS["' + "x" * 2000 + '"]\n'
+        peaks = []
+        for times in (200, 20_000):
+            with open(files.folder / "many.txt", "wb") as file:
+                for _ in range(times):
+                    file.write(line.encode())
+            for words in (["canon"], ["check"], ["group", "--level=definition"]):
+                command = [sys.executable, "-c", PEAK, *words, "--lines", "many.txt"]
+                done = subprocess.run(command, cwd=folder, capture_output=True, timeout=120, check=True)
+                peak, status = done.stderr.split(b"\n")[-2].split()
+                peaks.append(int(peak))
+                assert status == b"1" and done.stderr.count(b"This is WKT1") == times, words
+        # A group has the numbers of its lines, and each refused line its refusal's.
+        assert peaks[3] < peaks[0] + 2000 and peaks[4] < peaks[1] + 2000 and peaks[5] < peaks[2] + 12_000, peaks
+
+
+def lines_come_as_they_are_read() -> None:
+    """A line is answered before the next is there."""
+    command = [sys.executable, "-u", "-m", "crsdesk", "canon", "--lines", "-"]
+    with subprocess.Popen(command, stdin=subprocess.PIPE, stdout=subprocess.PIPE) as run:
+        assert run.stdin and run.stdout
+        for name in ("A", "B"):
+            run.stdin.write(HEIGHT.replace('"H"', f'"{name}"').encode() + b"\n")
+            run.stdin.flush()
+            assert run.stdout.readline().startswith(f'VERTCRS["{name}"'.encode())
+        run.stdin.close()
 
 
 def command_faults(files: Files) -> None:
@@ -944,6 +1050,8 @@ PROMISES = [
     examples_of_the_docstrings,
     examples_of_the_document,
     commands,
+    lines_are_read_in_bounded_memory,
+    lines_come_as_they_are_read,
 ]
 
 

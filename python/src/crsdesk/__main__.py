@@ -1,26 +1,38 @@
 """The commands over files: ``python -m crsdesk check|canon|same|group``.
 
 Answers go to standard output, refusals in full and faults to standard error. Status 0: all texts spell CRSs, and of
-``same`` the same one. 1: a text is refused, or the two CRSs differ. 2: a text of ``same`` is refused, a file can't be
-read, or another fault.
+``same`` the same one. 1: a text is refused, or the two CRSs differ. 2: a file can't be read, or another fault.
+
+With ``--lines`` a file has a text a line; one line at a time is held, and ``group`` holds each CRS's canonical text.
 """
 
 from __future__ import annotations
 
 import argparse
 import os
-import shlex
 import signal
 import sys
-from typing import Callable, Iterator, List, Optional, Tuple
+from typing import BinaryIO, Callable, Iterable, Iterator, List, NamedTuple, Optional, Tuple
 
-from . import Catalogue, Level, Refused, __version__, canon, check, difference, differences
-from ._crs import BLANK, LEVELS
+from . import Catalogue, Refused, __version__, canon, check, difference, differences
+from ._crs import LEVELS, is_blank
+from ._shown import named, quoted
 
 DIFFERS = 1
 FAULT = 2
 LEVEL_HELP = "what counts: full, or definition, without identifiers, usages and remarks (default: full)"
 FILE_HELP = "a file with a text; - is standard input"
+LINES_HELP = "a file has a text a line (docs/CATALOGUES.md)"
+
+
+class Place(NamedTuple):
+    """Where a text stands: in a file, or with a number in one of its lines."""
+
+    name: str
+    number: int = 0
+
+    def __str__(self) -> str:
+        return f"{self.name}:{self.number}" if self.number else self.name
 
 
 class Run:
@@ -30,7 +42,7 @@ class Run:
         self.status = 0
 
     def write(self, line: str) -> None:
-        """A line on standard output, in UTF-8; names of files are written as they are."""
+        """A line on standard output, in UTF-8; bytes of a file's name that aren't UTF-8 are written as they are."""
         sys.stdout.buffer.write(line.encode("utf-8", "surrogateescape") + b"\n")
 
     def tell(self, line: str) -> None:
@@ -39,85 +51,105 @@ class Run:
         sys.stderr.buffer.write(line.encode("utf-8", "surrogateescape") + b"\n")
         sys.stderr.flush()
 
+    def tell_refusal(self, place: Place, refused: Refused) -> None:
+        """A refusal in full."""
+        self.tell(f"{named(str(place))}: {refused.told_of_file(place.number)}")
+        self.ends(DIFFERS)
+
+    def tell_fault(self, name: str, error: OSError) -> None:
+        """That a file can't be read."""
+        self.tell(f"crsdesk: {named(name)}: {error.strerror}")
+        self.ends(FAULT)
+
     def ends(self, status: int) -> None:
         """The status is at least this one."""
         self.status = max(self.status, status)
 
-    def texts(self, names: List[str]) -> Iterator[Tuple[str, Optional[bytes]]]:
-        """Each file's name and text; None of a file that can't be read, which is told."""
+    def texts(self, names: List[str], by_line: bool) -> Iterator[Tuple[Place, Optional[bytes]]]:
+        """Each text and where it stands; None of a file that can't be read, which is told."""
         for name in names:
-            yield name, self.text(name)
+            if by_line:
+                yield from self.lines(name)
+            else:
+                yield Place(name), self.text(name)
 
     def text(self, name: str) -> Optional[bytes]:
+        """A file's text; None where it can't be read, which is told."""
         try:
-            if name == "-":
-                return sys.stdin.buffer.read()
-            with open(name, "rb") as file:
+            with opened(name) as file:
                 return file.read()
         except OSError as error:
-            self.tell(f"crsdesk: {name}: {error.strerror}")
-            self.ends(FAULT)
+            self.tell_fault(name, error)
             return None
+
+    def lines(self, name: str) -> Iterator[Tuple[Place, bytes]]:
+        """Each line of a file, as it is read; where one can't be read, that is told, and no more come."""
+        try:
+            file = opened(name)
+        except OSError as error:
+            self.tell_fault(name, error)
+            return
+        with file:
+            lines = lines_of(file)
+            number = 0
+            while True:
+                try:
+                    line = next(lines, None)
+                except OSError as error:
+                    self.tell_fault(name, error)
+                    return
+                if line is None:
+                    return
+                number += 1
+                yield Place(name, number), line
+
+
+def opened(name: str) -> BinaryIO:
+    """A file to read, which is closed behind it; standard input stays open."""
+    return open(sys.stdin.fileno() if name == "-" else name, "rb", closefd=name != "-")
+
+
+def lines_of(file: Iterable[bytes]) -> Iterator[bytes]:
+    """The lines of a catalogue (docs/CATALOGUES.md): a carriage return directly before a line feed is part of its end."""
+    for line in file:
+        if line.endswith(b"\n"):
+            line = line[: -2 if line.endswith(b"\r\n") else -1]
+        yield line
 
 
 def run_check(run: Run, asked: argparse.Namespace) -> None:
-    for name, text in run.texts(asked.files):
-        front = f"{name}: " if len(asked.files) > 1 else ""
-        if text is not None:
-            try:
-                run.write(f"{front}accepted {check(text)}")
-            except Refused as refused:
-                run.write(f"{front}{refused.summary}")
-                run.tell(f"{name}: {refused}")
-                run.ends(DIFFERS)
+    for place, text in run.texts(asked.files, asked.lines):
+        front = f"{named(str(place))}: " if len(asked.files) > 1 else ""
+        if text is None:
+            continue
+        try:
+            is_blank_line = asked.lines and is_blank(text)
+            run.write(front + ("blank" if is_blank_line else f"accepted {check(text)}"))
+        except Refused as refused:
+            run.write(f"{front}{refused.summary}")
+            run.tell_refusal(place, refused)
 
 
 def run_canon(run: Run, asked: argparse.Namespace) -> None:
-    for name, text in run.texts(asked.files):
-        if text is None:
-            continue
-        if asked.lines:
-            for number, line in enumerate(lines_of(text), 1):
-                run.write(canonical_line(run, f"{name}:{number}", line, asked.level))
-            continue
+    for place, text in run.texts(asked.files, asked.lines):
+        spelling = ""
         try:
-            run.write(canon(text, asked.level))
+            if text is not None and not (asked.lines and is_blank(text)):
+                spelling = canon(text, asked.level)
         except Refused as refused:
-            run.write("")
-            run.tell(f"{name}: {refused}")
-            run.ends(DIFFERS)
-
-
-def canonical_line(run: Run, place: str, line: bytes, level: Level) -> str:
-    """The canonical text of a line; nothing of a blank line, nor of a refused one, which is told."""
-    if not line.strip(BLANK):
-        return ""
-    try:
-        return canon(line, level)
-    except Refused as refused:
-        run.tell(f"{place}: {refused.summary}")
-        run.ends(DIFFERS)
-        return ""
-
-
-def lines_of(text: bytes) -> List[bytes]:
-    """The lines of a catalogue (docs/CATALOGUES.md): a carriage return directly before a line feed is part of its end."""
-    lines = text.split(b"\n")
-    last = lines.pop()
-    lines = [line[:-1] if line.endswith(b"\r") else line for line in lines]
-    return [*lines, last] if last else lines
+            run.tell_refusal(place, refused)
+        run.write(spelling)
 
 
 def run_same(run: Run, asked: argparse.Namespace) -> None:
-    names = [asked.first, asked.second]
-    first, second = (text for _, text in run.texts(names))
+    first, second = (run.text(name) for name in (asked.first, asked.second))
     if first is None or second is None:
         return
     try:
         path = difference(first, second, asked.level)
     except Refused as refused:
-        run.tell(f"{names[refused.which == 'second']}: {refused}")
-        run.ends(FAULT)
+        run.write(f"{refused.which} {refused.summary}")
+        run.tell_refusal(Place(asked.first if refused.which == "first" else asked.second), refused)
         return
     if path is None:
         run.write("same")
@@ -132,19 +164,25 @@ def run_same(run: Run, asked: argparse.Namespace) -> None:
 
 def run_group(run: Run, asked: argparse.Namespace) -> None:
     catalogue = Catalogue(asked.level)
+    # What is told behind the groups. Of a catalogue of one file a line is its number, and blank ones aren't told.
     blank: List[str] = []
-    for name, text in run.texts(asked.files):
+    refusals: List[str] = []
+    is_one = asked.lines and len(asked.files) == 1
+    for place, text in run.texts(asked.files, asked.lines):
+        if text is None:
+            continue
         try:
-            if text is not None and catalogue.add(text, name) is None:
-                blank.append(name)
-        except Refused:
-            run.ends(DIFFERS)
+            spelling = "" if is_blank(text) else canon(text, asked.level)
+        except Refused as refused:
+            refusals.append(f"{f'line {place.number}' if is_one else quoted(str(place))}: {refused.summary}")
+            run.tell_refusal(place, refused)
+            continue
+        if catalogue._add_canonical(spelling, place.number if is_one else place) is None and not asked.lines:
+            blank.append(f"{quoted(str(place))}: blank")
     for group in catalogue:
-        run.write(f"group {group.number}: {' '.join(shlex.quote(str(name)) for name in group.names)}")
-    for name in blank:
-        run.write(f"{shlex.quote(name)}: blank")
-    for found, refused in catalogue.refused:
-        run.write(f"{shlex.quote(str(found))}: {refused.summary}")
+        run.write(f"group {group.number}: {' '.join(quoted(str(name)) for name in group.names)}")
+    for line in blank + refusals:
+        run.write(line)
 
 
 def parser() -> argparse.ArgumentParser:
@@ -161,17 +199,20 @@ def parser() -> argparse.ArgumentParser:
         made.set_defaults(run=run)
         return made
 
+    def add_files(made: argparse.ArgumentParser) -> None:
+        made.add_argument("files", nargs="+", metavar="FILE", help=FILE_HELP)
+        made.add_argument("--lines", action="store_true", help=LINES_HELP)
+
     def add_level(made: argparse.ArgumentParser) -> None:
         made.add_argument("--level", choices=list(LEVELS), default="full", help=LEVEL_HELP)
 
-    made = command("check", "tells what kind of CRS each file spells, or where it is refused", run_check)
-    made.add_argument("files", nargs="+", metavar="FILE", help=FILE_HELP)
+    made = command("check", "tells what kind of CRS each text spells, or where it is refused", run_check)
+    add_files(made)
 
     made = command(
-        "canon", "writes the canonical text of each file, and an empty line for one that is refused", run_canon
+        "canon", "writes the canonical text of each text, and an empty line for one that has none", run_canon
     )
-    made.add_argument("files", nargs="+", metavar="FILE", help=FILE_HELP)
-    made.add_argument("--lines", action="store_true", help="a file has a text a line; a line is written for each")
+    add_files(made)
     add_level(made)
 
     made = command("same", "tells whether two files spell the same CRS, or the first part that differs", run_same)
@@ -180,8 +221,8 @@ def parser() -> argparse.ArgumentParser:
     made.add_argument("--all", action="store_true", help="each part that differs, with both values")
     add_level(made)
 
-    made = command("group", "groups files, a text each, by the CRSs that they spell", run_group)
-    made.add_argument("files", nargs="+", metavar="FILE", help=FILE_HELP)
+    made = command("group", "groups texts by the CRSs that they spell", run_group)
+    add_files(made)
     add_level(made)
     return whole
 
