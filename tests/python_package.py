@@ -1,12 +1,13 @@
 #!/usr/bin/env python3
 """Tries the package crsdesk that this Python imports.
 
-    python_package.py
+    python_package.py [--with PACKAGE]
 
 The rows of the .rows files beside it are asked of the package's calls; then come the package's own promises: how a
 refusal is told, hints, what no text is, hashing, threads, long texts, and the commands over files. run_python.py runs
-it with the package installed in a fresh environment. Each case that fails has a line; the last line is 'N passed, M
-failed', and the status is 0 where M is 0.
+it with the package installed in a fresh environment. With --with, what is tried is its use beside another package:
+pandas, pyproj, rasterio or osgeo. What isn't there is told as skipped, by name. Each case that fails has a line; the last
+line is 'N passed, M failed', and the status is 0 where M is 0.
 """
 from __future__ import annotations
 
@@ -790,17 +791,124 @@ def examples_of_the_docstrings() -> None:
     assert doctest.testmod(crsdesk).failed == 0
 
 
-def examples_of_the_document() -> None:
-    """The blocks of docs/PYTHON.md that begin with ```pycon."""
+def examples_of_the_document(needs: str = "") -> None:
+    """The blocks of docs/PYTHON.md that begin with ```pycon, and need nothing, or a package or program."""
+    asked = ["pycon", f"pycon needs={needs}"] if needs else ["pycon"]
     blocks = run_documents.blocks_of(HERE.parent / "docs" / "PYTHON.md")
-    text = "\n".join("\n".join(lines) + "\n" for _, head, lines in blocks if head == "pycon")
+    text = "\n".join("\n".join(lines) + "\n" for _, head, lines in blocks if head in asked)
     before = os.getcwd()
     os.chdir(HERE.parent)
     try:
-        found = doctest.DocTestRunner().run(doctest.DocTestParser().get_doctest(text, {}, "PYTHON.md", None, 0))
+        runner = doctest.DocTestRunner(optionflags=doctest.ELLIPSIS)
+        found = runner.run(doctest.DocTestParser().get_doctest(text, {}, "PYTHON.md", None, 0))
     finally:
         os.chdir(before)
-    assert found.attempted > 10 and found.failed == 0, found
+    assert found.attempted > (30 if needs == "pyproj" else 10) and found.failed == 0, found
+
+
+# PROJ and GDAL, whose commands the hints and the document tell.
+
+
+def lacks(program: str, what: str) -> bool:
+    """Whether a program isn't there, which is told."""
+    if shutil.which(program) is None:
+        print(f"skipped: {program} isn't there: {what}")
+        return True
+    return False
+
+
+def what_projinfo_does_with_a_hint() -> None:
+    """The command of a hint makes a text that is read, and tells by a warning of what was damaged, as -q doesn't."""
+    if lacks("projinfo", "the command that hints give"):
+        return
+    examples_of_the_document("projinfo")
+    hint = refusal_of('GEOGCS["A"]').told_of_file()
+    command = re.search(r"\((projinfo .* sed 1d)\)", hint)
+    assert command
+    old = (EXAMPLES / "exports" / "wgs84_esri.prj").read_text(encoding="utf-8")
+    for text, is_damaged in ((old, False), (old.replace("6378137.0", "6378137,0"), True)):
+        with tempfile.TemporaryDirectory() as folder:
+            pathlib.Path(folder, "FILE").write_text(text, encoding="utf-8")
+            done = subprocess.run(["sh", "-c", command[1]], cwd=folder, capture_output=True, check=True)
+            assert check(done.stdout) == "geographic"
+            assert (b"Warning" in done.stderr) == is_damaged, done.stderr
+            quiet = command[1].replace("projinfo", "projinfo -q").replace(" | sed 1d", "")
+            done = subprocess.run(["sh", "-c", quiet], cwd=folder, capture_output=True, check=True)
+            assert check(done.stdout) == "geographic" and not done.stderr
+    code = re.search(r"\((projinfo .*)\)", refusal_of("EPSG:28992").hint or "")
+    assert code
+    done = subprocess.run(["sh", "-c", code[1]], capture_output=True, check=True)
+    assert check(done.stdout) == "projected"
+
+
+def what_gdalsrsinfo_does_with_a_hint() -> None:
+    if lacks("gdalsrsinfo", "the command that hints give") or lacks("gdal_create", "the command that hints give"):
+        return
+    with tempfile.TemporaryDirectory() as folder:
+        words = "gdal_create -q -of GTiff -outsize 2 2 -bands 1 -a_srs EPSG:32631 -a_ullr 3 50 4 49 FILE".split()
+        subprocess.run(words, cwd=folder, capture_output=True, check=True)
+        hint = refusal_of(pathlib.Path(folder, "FILE").read_bytes()).hint or ""
+        command = re.search(r"\((gdalsrsinfo .*)\)", hint)
+        assert command, hint
+        done = subprocess.run(["sh", "-c", command[1]], cwd=folder, capture_output=True, check=True)
+        assert check(done.stdout) == "projected"
+
+
+# Beside other packages.
+
+
+def is_refused_with_the_call(crs: object, call: str) -> None:
+    """A package's CRS is refused with the call that makes a text of it that is read."""
+    wants(TypeError, f"; hand over its {call}, in WKT2:2019", Crs, crs)
+    assert Crs(eval(f"crs.{call}", {"crs": crs})).kind == "projected"
+
+
+def with_pandas() -> None:
+    import pandas  # type: ignore[import]
+
+    examples_of_the_document("pandas")
+    texts = [HEIGHT.replace('"H"', f'"{name}"') for name in "bab"] + [CANONICAL_HEIGHT.replace('"H"', '"a"')]
+    frame = pandas.DataFrame({"crs": [Crs(text) for text in texts], "number": range(4)})
+    groups = frame.groupby("crs")["number"].agg(list)
+    assert groups.tolist() == [[1, 3], [0, 2]] and list(groups.index) == sorted(set(frame["crs"]))
+    assert frame["crs"].nunique() == 2 and len(frame.drop_duplicates("crs")) == 2
+    assert frame.sort_values("crs", kind="stable")["number"].tolist() == [1, 3, 0, 2]
+    assert frame["crs"].value_counts()[Crs(texts[0])] == 2 and len(frame.merge(frame, on="crs")) == 8
+
+
+def with_pyproj() -> None:
+    import pyproj  # type: ignore[import]
+
+    examples_of_the_document("pyproj")
+    is_refused_with_the_call(pyproj.CRS.from_epsg(28992), "to_wkt()")
+    # PROJ reads each canonical text, as the CRS that it reads in the text itself, where it reads that.
+    texts = [path.read_bytes() for path in sorted([*EXAMPLES.glob("*.wkt"), *(EXAMPLES / "exports").glob("*.wkt")])]
+    texts += (EXAMPLES / "catalogue.txt").read_bytes().split(b"\n")
+    texts = [text for text in texts if is_accepted(text)]
+    read = 0
+    for text in texts:
+        crs = pyproj.CRS(str(Crs(text)))
+        try:
+            other = pyproj.CRS(text.decode())
+        except pyproj.exceptions.CRSError:
+            continue
+        read += 1
+        assert crs == other, text
+    assert len(texts) > 150 and read > 80, (len(texts), read)
+
+
+def with_rasterio() -> None:
+    import rasterio.crs  # type: ignore[import]
+
+    is_refused_with_the_call(rasterio.crs.CRS.from_epsg(28992), 'to_wkt(version="WKT2_2019")')
+
+
+def with_osgeo() -> None:
+    from osgeo import osr  # type: ignore[import]
+
+    crs = osr.SpatialReference()
+    crs.ImportFromEPSG(28992)
+    is_refused_with_the_call(crs, 'ExportToWkt(["FORMAT=WKT2_2019"])')
 
 
 # The commands over files.
@@ -1049,10 +1157,15 @@ PROMISES = [
     four_threads_on_one_catalogue,
     examples_of_the_docstrings,
     examples_of_the_document,
+    what_projinfo_does_with_a_hint,
+    what_gdalsrsinfo_does_with_a_hint,
     commands,
     lines_are_read_in_bounded_memory,
     lines_come_as_they_are_read,
 ]
+
+
+WITH = {"pandas": with_pandas, "pyproj": with_pyproj, "rasterio": with_rasterio, "osgeo": with_osgeo}
 
 
 def promise_fault(promise: Callable[[], None]) -> Optional[str]:
@@ -1063,10 +1176,15 @@ def promise_fault(promise: Callable[[], None]) -> Optional[str]:
     return None
 
 
-def main() -> int:
+def main(words: List[str]) -> int:
     passed = failed = 0
-    cases = list(rows())
-    cases += [(promise.__name__, functools.partial(promise_fault, promise)) for promise in PROMISES]
+    if words:
+        if words[0] != "--with" or words[1:] not in ([package] for package in WITH):
+            sys.exit(__doc__)
+        cases, promises = [], [WITH[words[1]]]
+    else:
+        cases, promises = list(rows()), PROMISES
+    cases += [(promise.__name__, functools.partial(promise_fault, promise)) for promise in promises]
     for name, fault_of in cases:
         try:
             fault = fault_of()
@@ -1082,4 +1200,4 @@ def main() -> int:
 
 
 if __name__ == "__main__":
-    sys.exit(main())
+    sys.exit(main(sys.argv[1:]))

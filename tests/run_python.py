@@ -4,8 +4,9 @@
     run_python.py [PREFIX]
 
 PREFIX has the shared object in lib/, as tools/build_library.py makes it (out/prefix where none is given).
-The wheel is built by pip with no network. python_package.py has what is tried of the package. mypy and black judge the
-code where they are there. What isn't there is told as skipped, by name. Each case that fails has a line; the last line
+The wheel is built by pip with no network. python_package.py has what is tried of the package, and what beside each package
+of BESIDE, by a Python that has it. mypy and black judge the code where they are there. What isn't there is told as
+skipped, by name. Each case that fails has a line; the last line
 is 'N passed, M failed', and the status is 0 where M is 0.
 """
 from __future__ import annotations
@@ -27,6 +28,9 @@ HERE = pathlib.Path(__file__).resolve().parent
 ROOT = HERE.parent
 PACKAGE = ROOT / "python"
 SECONDS = 600
+# Packages beside which it is tried, as this Python or the system's has them.
+BESIDE = ("pandas", "pyproj", "rasterio", "osgeo")
+SYSTEM = "/usr/bin/python3"
 
 
 class Counts:
@@ -118,14 +122,32 @@ def try_package(counts: Counts, python: pathlib.Path, **more: str) -> None:
     environment = {key: value for key, value in os.environ.items() if key not in ("CRSDESK_LIBRARY", "PYTHONPATH")}
     environment |= {"PATH": f"{python.parent}{os.pathsep}{environment['PATH']}", **more}
     for words in ([HERE / "python_package.py"], [HERE / "run_documents.py", ROOT / "docs" / "PYTHON.md"]):
-        done = run([python, *words], environment)
-        *lines, last = done.stdout.rstrip("\n").split("\n")
-        print("".join(f"{line}\n" for line in lines), end="")
-        match = re.fullmatch(r"(\d+) passed, (\d+) failed", last)
-        counts.passed += int(match[1]) if match else 0
-        counts.failed += int(match[2]) if match else 1
-        if not match:
-            print(last)
+        add_counts(counts, [python, *words], environment)
+
+
+def add_counts(counts: Counts, words: List[object], environment: Dict[str, str]) -> None:
+    """The counts of another program of tests, whose other lines are printed."""
+    done = run(words, environment)
+    *lines, last = done.stdout.rstrip("\n").split("\n")
+    print("".join(f"{line}\n" for line in lines), end="")
+    match = re.fullmatch(r"(\d+) passed, (\d+) failed", last)
+    counts.passed += int(match[1]) if match else 0
+    counts.failed += int(match[2]) if match else 1
+    if not match:
+        print(last)
+
+
+def try_beside(counts: Counts, sources: pathlib.Path, **more: str) -> None:
+    """What python_package.py tries beside other packages, with the package of a folder."""
+    environment = {key: value for key, value in os.environ.items() if key not in ("CRSDESK_LIBRARY", "PYTHONPATH")}
+    environment |= {"PYTHONPATH": str(sources), "PYTHONDONTWRITEBYTECODE": "1", **more}
+    for package in BESIDE:
+        pythons = [python for python in (sys.executable, SYSTEM) if shutil.which(python)]
+        python = next((it for it in pythons if run([it, "-c", f"import {package}"]).returncode == 0), None)
+        if python is None:
+            print(f"skipped: {package} isn't there: the Python package beside it")
+        else:
+            add_counts(counts, [python, HERE / "python_package.py", "--with", package], environment)
 
 
 def try_code(counts: Counts) -> None:
@@ -192,11 +214,16 @@ def main(words: List[str]) -> int:
         if lacks_tool():
             more = {"PYTHONPATH": str(PACKAGE / "src"), "PYTHONDONTWRITEBYTECODE": "1"}
             try_package(counts, pathlib.Path(sys.executable), CRSDESK_LIBRARY=str(library), **more)
+            try_beside(counts, PACKAGE / "src", CRSDESK_LIBRARY=str(library))
         else:
             wheel = try_wheel(counts, library, folder)
             python = try_environment(counts, wheel, folder) if wheel else None
             if python:
                 try_package(counts, python)
+            if wheel:
+                with zipfile.ZipFile(wheel) as archive:
+                    archive.extractall(folder / "beside")
+                try_beside(counts, folder / "beside")
     try_code(counts)
     print(f"{counts.passed} passed, {counts.failed} failed")
     return 1 if counts.failed else 0
