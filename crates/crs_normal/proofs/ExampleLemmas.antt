@@ -5,12 +5,12 @@ use Rattle.crs_text.specs.TextFault.{SpellsNode}
 use Rattle.crs_text.specs.Written.{WrittenSpells, at_place, item_text}
 use Rattle.crs_shape.specs.declared.class.Class.{Class}
 use Rattle.crs_shape.specs.ShapeFault.{class_of_root}
-use Rattle.crs_value.specs.declared.values.level.Level.TheVariants as levels
+use Rattle.crs_value.specs.declared.values.level.Level.{Level}
 use Rattle.crs_value.specs.ReadsCrs.{ReadsCrs}
 use Rattle.crs_value.specs.Spells.{SpellsCrs}
 use Rattle.crs_value.specs.SpellsText.{Spells}
 use Rattle.crs_value.specs.declared.values.crs.Crs.{Crs}
-use Rattle.crs_normal.specs.Examples.{IsWrittenOtherwise}
+use Rattle.crs_normal.specs.Examples.{IsOtherwiseAt}
 use Rattle.crs_normal.specs.Normal.{IsNormalIn, IsNormalText}
 use Rattle.crs_normal.proofs.MadePlaceLemmas.{text-at}
 use Rattle.crs_normal.proofs.NormalVerdict.{formed, normal_in}
@@ -39,23 +39,23 @@ spelled l c bytes r =
     (l.written (item_of bytes) (proof (formed l.numbers (item_of bytes)) r.4) r.2
     (proof (at_most (depth (item_of bytes)) 12) r.3))
 
-abbrev verdict : TextLaws → (c : Class) (bytes : List ℕ) → Verdict (IsNormalIn levels.Full c c (placed bytes))
-verdict l c bytes = normal_in l.numbers c c (placed bytes)
+abbrev verdict : TextLaws → (level : Level) (c : Class) (bytes : List ℕ) → Verdict (IsNormalIn level c c (placed bytes))
+verdict l level c bytes = normal_in l.numbers level c c (placed bytes)
 
-pub is-normal : (l : TextLaws) (c : Class) (bytes : List ℕ) → IsRead l c bytes →
-    Holds (normal_in l.numbers c c (placed bytes)) → IsNormalText levels.Full bytes
-is-normal l c bytes r h = record {
+pub is-normal : (l : TextLaws) (level : Level) (c : Class) (bytes : List ℕ) → IsRead l c bytes →
+    Holds (normal_in l.numbers level c c (placed bytes)) → IsNormalText level bytes
+is-normal l level c bytes r h = record {
   item = placed bytes;
   class_read = c;
   spells = spelled l c bytes r;
   root = r.1;
   written = r.0 ∙ sym (text-at 0 (item_of bytes));
-  normal = proof (verdict l c bytes) h;
+  normal = proof (verdict l level c bytes) h;
 }
 
-pub is-written-otherwise : (l : TextLaws) (c : Class) (bytes : List ℕ) → IsRead l c bytes →
-    Fails (normal_in l.numbers c c (placed bytes)) → IsWrittenOtherwise bytes
-is-written-otherwise l c bytes r h = record {
+pub is-otherwise : (l : TextLaws) (level : Level) (c : Class) (bytes : List ℕ) → IsRead l c bytes →
+    Fails (normal_in l.numbers level c c (placed bytes)) → IsOtherwiseAt level bytes
+is-otherwise l level c bytes r h = record {
   item = placed bytes;
   spells = spelled l c bytes r;
   written = r.0 ∙ sym (text-at 0 (item_of bytes));
@@ -63,9 +63,9 @@ is-written-otherwise l c bytes r h = record {
       let same : n.item ≡ placed bytes = l.one_node bytes n.item (placed bytes) n.spells (spelled l c bytes r) in
       let root : Some n.class_read ≡ Some c = sym n.root ∙ ap class_of_root same ∙ r.1 in
       let of : n.class_read ≡ c = cc in
-      let here : IsNormalIn levels.Full n.class_read n.class_read (placed bytes) =
-      subst (IsNormalIn levels.Full n.class_read n.class_read) same n.normal in
-      refutation (verdict l c bytes) h (subst (λ d. IsNormalIn levels.Full d d (placed bytes)) of here);
+      let here : IsNormalIn level n.class_read n.class_read (placed bytes) =
+      subst (IsNormalIn level n.class_read n.class_read) same n.normal in
+      refutation (verdict l level c bytes) h (subst (λ d. IsNormalIn level d d (placed bytes)) of here);
 }
 
 -- what a text of this class spells is read from the item that stands in it

@@ -16,9 +16,10 @@ use Rattle.crs_value.specs.Checks.{AtClass}
 use Rattle.crs_value.specs.Reading.{is_a, those}
 use Rattle.crs_value.specs.Reads.{single_of}
 use Rattle.crs_value.specs.Sound.{Each}
+use Rattle.crs_value.specs.declared.values.level.Level.{Level}
 use Rattle.crs_value.specs.declared.values.level.Level.TheVariants as levels
 use Rattle.crs_normal.specs.Ascending.{Below}
-use Rattle.crs_normal.specs.Normal.{AreNormalIn, AtLevel, IsFirst, IsNormalIn, IsFirstKeyword}
+use Rattle.crs_normal.specs.Normal.{AreNormalIn, AtLevel, IsFirst, IsNormalIn, IsFirstKeyword, left_out}
 use Rattle.crs_normal.specs.NormalOwn.{Ascend, AreOrdered, HasAxes, HasCodes, Has, HasSets, HasTail, IsCode, LacksEllipsoidal, Lacks, HasOwnForm, Rise, bare_classes, numbers_in, rank, set_classes, words_in}
 use Rattle.crs_normal.proofs.Verdicts.{Verdict, at_most, both, each, empty-full, equal, implied, negated, none, one_of, some, via}
 use Rattle.crs_normal.proofs.SingleVerdict.{NumberLaws, is_code, is_single, is_word, single_in}
@@ -192,8 +193,15 @@ written c keyword = first_is keyword (keywords_of c)
 
 -- ---- items
 
-pub all-kept : (c : Class) (item : Item) → AtLevel levels.Full c item
-all-kept c item = (refl, (refl, (refl, tt)))
+abbrev no_more : {A : Type 0} (xs : List A) → Verdict ([] ≡ xs)
+no_more [] = Some (inl refl)
+no_more (x ∷ xs) = Some (inr (empty-full x xs))
+
+abbrev at_level : (level : Level) (c : Class) (item : Item) → Verdict (AtLevel level c item)
+at_level levels.Full c item = Some (inl (refl, (refl, (refl, tt))))
+at_level levels.Definition c item =
+    each (λ d. [] ≡ those c d (arguments item))
+    (λ d. over (λ xs. [] ≡ xs) c d (arguments item) (no_more (found c d (arguments item)))) left_out
 
 abbrev mutual
   pub formed : NumberLaws → (item : Item) → Verdict (AreFormed item)
@@ -207,25 +215,26 @@ abbrev mutual
   all_formed l (More item items) = both (formed l item) (all_formed l items)
 
 abbrev mutual
-  pub normal_in : NumberLaws → (parent c : Class) (item : Item) → Verdict (IsNormalIn levels.Full parent c item)
-  normal_in l parent c (leaf kind place raw) = single_in l parent kind raw
-  normal_in l parent c (node place keyword square first others close) =
+  pub normal_in : NumberLaws → (level : Level) (parent c : Class) (item : Item) → Verdict (IsNormalIn level parent c item)
+  normal_in l level parent c (leaf kind place raw) = single_in l parent kind raw
+  normal_in l level parent c (node place keyword square first others close) =
       via
       (λ h. record {
         first_keyword = h.0;
-        at_level = all-kept c (node place keyword square first others close);
-        own_form = h.1.0;
-        ascending_sets = h.1.1.0;
-        normal_arguments = (h.1.1.1.0, h.1.1.1.1);
+        at_level = h.1.0;
+        own_form = h.1.1.0;
+        ascending_sets = h.1.1.1.0;
+        normal_arguments = (h.1.1.1.1.0, h.1.1.1.1.1);
       })
-      (λ r. (r.first_keyword, (r.own_form, (r.ascending_sets, (r.normal_arguments.0, r.normal_arguments.1)))))
-      (both (written c keyword) (both (own c (node place keyword square first others close))
+      (λ r. (r.first_keyword, (r.at_level, (r.own_form, (r.ascending_sets, (r.normal_arguments.0, r.normal_arguments.1))))))
+      (both (written c keyword) (both (at_level level c (node place keyword square first others close))
+      (both (own c (node place keyword square first others close))
       (both (has_sets c (node place keyword square first others close))
-      (both (at_class (class_in c first) (λ d. IsNormalIn levels.Full c d first) (λ d. normal_in l c d first))
-      (all_normal_in l c others)))))
+      (both (at_class (class_in c first) (λ d. IsNormalIn level c d first) (λ d. normal_in l level c d first))
+      (all_normal_in l level c others))))))
 
-  pub all_normal_in : NumberLaws → (c : Class) (items : Siblings) → Verdict (AreNormalIn levels.Full c items)
-  all_normal_in l c End = Some (inl tt)
-  all_normal_in l c (More item items) =
-      both (at_class (class_in c item) (λ d. IsNormalIn levels.Full c d item) (λ d. normal_in l c d item))
-      (all_normal_in l c items)
+  pub all_normal_in : NumberLaws → (level : Level) (c : Class) (items : Siblings) → Verdict (AreNormalIn level c items)
+  all_normal_in l level c End = Some (inl tt)
+  all_normal_in l level c (More item items) =
+      both (at_class (class_in c item) (λ d. IsNormalIn level c d item) (λ d. normal_in l level c d item))
+      (all_normal_in l level c items)

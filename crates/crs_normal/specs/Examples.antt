@@ -5,6 +5,7 @@ use Rattle.crs_text.specs.TextFault.{SpellsNode}
 use Rattle.crs_text.specs.Written.{item_text}
 use Rattle.crs_value.specs.SpellsText.{Spells}
 use Rattle.crs_value.specs.declared.values.crs.Crs.{Crs}
+use Rattle.crs_value.specs.declared.values.level.Level.{Level}
 use Rattle.crs_value.specs.declared.values.level.Level.TheVariants as levels
 use Rattle.crs_normal.specs.Normal.{IsNormalText}
 
@@ -12,12 +13,24 @@ use Rattle.crs_normal.specs.Normal.{IsNormalText}
 abbrev pub IsNormalAtFull : List ℕ → Type 0
 IsNormalAtFull text = IsNormalText levels.Full text
 
--- the text is a node without white space and in square delimiters, and isn't normal
-pub record IsWrittenOtherwise (text : List ℕ) : Type 0 where
+-- the text is normal by definition
+abbrev pub IsNormalByDefinition : List ℕ → Type 0
+IsNormalByDefinition text = IsNormalText levels.Definition text
+
+-- the text is a node without white space and in square delimiters, and isn't normal at the level
+pub record IsOtherwiseAt (level : Level) (text : List ℕ) : Type 0 where
   pub item : Item
   pub spells : SpellsNode text item
   pub written : text ≡ item_text item
-  pub otherwise : ¬ (IsNormalAtFull text)
+  pub otherwise : ¬ (IsNormalText level text)
+
+-- it isn't normal where everything counts
+abbrev pub IsWrittenOtherwise : List ℕ → Type 0
+IsWrittenOtherwise text = IsOtherwiseAt levels.Full text
+
+-- the text is normal where everything counts, and has what the definition leaves out
+abbrev pub SaysMore : List ℕ → Type 0
+SaysMore text = IsNormalAtFull text × IsOtherwiseAt levels.Definition text
 
 -- ---- normal texts
 
@@ -89,6 +102,22 @@ with_height =
     ++ codes "AXIS[\"Gravity-related height (H)\",up,ORDER[1],LENGTHUNIT[\"metre\",1]]],"
     ++ codes "REMARK[\"Heights are normal heights.\"]]"
 
+-- a height in a dynamic reference frame, whose anchor has an epoch
+abbrev pub dynamic_height : List ℕ
+dynamic_height =
+    codes "VERTCRS[\"H\",DYNAMIC[FRAMEEPOCH[2010],MODEL[\"g\"]],"
+    ++ codes "VDATUM[\"D\",ANCHOR[\"a\"],ANCHOREPOCH[1989.5]],CS[vertical,1],"
+    ++ codes "AXIS[\"h\",up,ORDER[1],LENGTHUNIT[\"metre\",1]]]"
+
+-- latitude and longitude in a dynamic reference frame, whose deformation model has an identifier
+abbrev pub dynamic_geographic : List ℕ
+dynamic_geographic =
+    codes "GEOGCRS[\"A\",DYNAMIC[FRAMEEPOCH[2010],MODEL[\"g\",ID[\"X\",1]]],"
+    ++ codes "DATUM[\"D\",ELLIPSOID[\"E\",6378137,0,LENGTHUNIT[\"metre\",1]],"
+    ++ codes "ANCHOR[\"a\"],ANCHOREPOCH[1989.5]],PRIMEM[\"Greenwich\",0],CS[ellipsoidal,2],"
+    ++ codes "AXIS[\"lat\",north,ORDER[1],ANGLEUNIT[\"degree\",0.0174532925199433]],"
+    ++ codes "AXIS[\"lon\",east,ORDER[2],ANGLEUNIT[\"degree\",0.0174532925199433]]]"
+
 -- these are normal
 abbrev pub AreNormal : Type 0
 AreNormal =
@@ -97,6 +126,8 @@ AreNormal =
     × IsNormalAtFull wgs_84
     × IsNormalAtFull utm_zone
     × IsNormalAtFull with_height
+    × IsNormalAtFull dynamic_height
+    × IsNormalAtFull dynamic_geographic
 
 -- a vertical CRS with its name alone
 abbrev pub name_alone : List ℕ
@@ -105,6 +136,68 @@ name_alone = codes "VERTCRS[\"H\"]"
 -- it is normal, and spells no CRS, for normal is what is asked beyond acceptance
 abbrev pub NameAloneIsNormal : Type 0
 NameAloneIsNormal = IsNormalAtFull name_alone × ((crs : Crs) → ¬ (Spells name_alone crs))
+
+-- ---- by definition
+
+-- WGS 84 without identifiers and usage
+abbrev pub wgs_84_alone : List ℕ
+wgs_84_alone =
+    codes "GEOGCRS[\"WGS 84\",ENSEMBLE[\"World Geodetic System 1984 ensemble\","
+    ++ codes "MEMBER[\"World Geodetic System 1984 (G1150)\"],"
+    ++ codes "MEMBER[\"World Geodetic System 1984 (G1674)\"],"
+    ++ codes "MEMBER[\"World Geodetic System 1984 (G1762)\"],"
+    ++ codes "MEMBER[\"World Geodetic System 1984 (G2139)\"],"
+    ++ codes "MEMBER[\"World Geodetic System 1984 (G730)\"],"
+    ++ codes "MEMBER[\"World Geodetic System 1984 (G873)\"],"
+    ++ codes "MEMBER[\"World Geodetic System 1984 (Transit)\"],"
+    ++ codes "ELLIPSOID[\"WGS 84\",6378137,298.257223563,LENGTHUNIT[\"metre\",1]],"
+    ++ codes "ENSEMBLEACCURACY[2]],"
+    ++ codes "PRIMEM[\"Greenwich\",0],CS[ellipsoidal,2],"
+    ++ codes "AXIS[\"Geodetic latitude (Lat)\",north,"
+    ++ codes "ORDER[1],ANGLEUNIT[\"degree\",0.0174532925199433]],"
+    ++ codes "AXIS[\"Geodetic longitude (Lon)\",east,"
+    ++ codes "ORDER[2],ANGLEUNIT[\"degree\",0.0174532925199433]]]"
+
+-- these are normal by definition
+abbrev pub AreNormalByDefinition : Type 0
+AreNormalByDefinition =
+    IsNormalByDefinition height
+    × IsNormalByDefinition geographic
+    × IsNormalByDefinition wgs_84_alone
+    × IsNormalByDefinition dynamic_height
+
+-- an identifier of a unit
+abbrev pub unit_with_identifier : List ℕ
+unit_with_identifier =
+    codes "VERTCRS[\"H\",VDATUM[\"D\"],CS[vertical,1],"
+    ++ codes "AXIS[\"h\",up,ORDER[1],LENGTHUNIT[\"metre\",1,ID[\"EPSG\",9001]]]]"
+
+-- an identifier at the end
+abbrev pub with_identifier : List ℕ
+with_identifier =
+    codes "VERTCRS[\"H\",VDATUM[\"D\"],CS[vertical,1],"
+    ++ codes "AXIS[\"h\",up,ORDER[1],LENGTHUNIT[\"metre\",1]],ID[\"A\",1]]"
+
+-- a usage
+abbrev pub with_usage : List ℕ
+with_usage =
+    codes "VERTCRS[\"H\",VDATUM[\"D\"],CS[vertical,1],"
+    ++ codes "AXIS[\"h\",up,ORDER[1],LENGTHUNIT[\"metre\",1]],USAGE[SCOPE[\"s\"]]]"
+
+-- a remark
+abbrev pub with_remark : List ℕ
+with_remark =
+    codes "VERTCRS[\"H\",VDATUM[\"D\"],CS[vertical,1],"
+    ++ codes "AXIS[\"h\",up,ORDER[1],LENGTHUNIT[\"metre\",1]],REMARK[\"r\"]]"
+
+-- these are normal where everything counts alone: what stands at the end, and identifiers anywhere
+abbrev pub AreNormalAtFullAlone : Type 0
+AreNormalAtFullAlone =
+    SaysMore unit_with_identifier
+    × SaysMore with_identifier
+    × SaysMore with_usage
+    × SaysMore with_remark
+    × SaysMore dynamic_geographic
 
 -- ---- texts that differ from the height above in one point each
 
@@ -262,3 +355,41 @@ GeographicsWrittenOtherwise =
     × IsWrittenOtherwise geodetic_for_geographic
     × IsWrittenOtherwise no_unit_of_ellipsoid
     × IsWrittenOtherwise orders_fall
+
+-- ---- texts that differ from the height in a dynamic reference frame above in one point each
+
+-- the second keyword of a deformation model
+abbrev pub velocity_grid : List ℕ
+velocity_grid =
+    codes "VERTCRS[\"H\",DYNAMIC[FRAMEEPOCH[2010],VELOCITYGRID[\"g\"]],"
+    ++ codes "VDATUM[\"D\",ANCHOR[\"a\"],ANCHOREPOCH[1989.5]],CS[vertical,1],"
+    ++ codes "AXIS[\"h\",up,ORDER[1],LENGTHUNIT[\"metre\",1]]]"
+
+-- an epoch of the frame that isn't plain
+abbrev pub frame_epoch_with_fraction : List ℕ
+frame_epoch_with_fraction =
+    codes "VERTCRS[\"H\",DYNAMIC[FRAMEEPOCH[1.0],MODEL[\"g\"]],"
+    ++ codes "VDATUM[\"D\",ANCHOR[\"a\"],ANCHOREPOCH[1989.5]],CS[vertical,1],"
+    ++ codes "AXIS[\"h\",up,ORDER[1],LENGTHUNIT[\"metre\",1]]]"
+
+-- an epoch of the anchor that isn't plain
+abbrev pub anchor_epoch_with_fraction : List ℕ
+anchor_epoch_with_fraction =
+    codes "VERTCRS[\"H\",DYNAMIC[FRAMEEPOCH[2010],MODEL[\"g\"]],"
+    ++ codes "VDATUM[\"D\",ANCHOR[\"a\"],ANCHOREPOCH[1.0]],CS[vertical,1],"
+    ++ codes "AXIS[\"h\",up,ORDER[1],LENGTHUNIT[\"metre\",1]]]"
+
+-- the epoch of the anchor before the anchor
+abbrev pub anchor_epoch_first : List ℕ
+anchor_epoch_first =
+    codes "VERTCRS[\"H\",DYNAMIC[FRAMEEPOCH[2010],MODEL[\"g\"]],"
+    ++ codes "VDATUM[\"D\",ANCHOREPOCH[1989.5],ANCHOR[\"a\"]],CS[vertical,1],"
+    ++ codes "AXIS[\"h\",up,ORDER[1],LENGTHUNIT[\"metre\",1]]]"
+
+-- each of these spells a node, and none is normal
+abbrev pub DynamicsWrittenOtherwise : Type 0
+DynamicsWrittenOtherwise =
+    IsWrittenOtherwise velocity_grid
+    × IsWrittenOtherwise frame_epoch_with_fraction
+    × IsWrittenOtherwise anchor_epoch_with_fraction
+    × IsWrittenOtherwise anchor_epoch_first

@@ -1,16 +1,20 @@
 //! The definition of normal texts on worked examples.
-ghost use Rattle.crs_normal.specs.Examples.{AreNormal, NameAloneIsNormal, GeographicsWrittenOtherwise, HeightsWrittenOtherwise};
+ghost use Rattle.crs_normal.specs.Examples.{AreNormal, AreNormalAtFullAlone, AreNormalByDefinition, DynamicsWrittenOtherwise, NameAloneIsNormal, GeographicsWrittenOtherwise, HeightsWrittenOtherwise};
 
 use crate::laws::made::decimal_laws;
 use crs_decimal::laws::one_form;
 use crs_text::laws::{one_answer, written_items};
 
-/// Some texts are normal, one of which spells no CRS; those that differ from one of them in a point aren't.
+/// Some texts are normal, one of which spells no CRS; those that differ from one of them in a point aren't. Some are
+/// normal by definition; those that have an identifier, a usage or a remark besides are normal at the full level alone.
 pub fn worked_examples()
     ensures normal { AreNormal }
     ensures beyond { NameAloneIsNormal }
+    ensures by_definition { AreNormalByDefinition }
+    ensures at_full_alone { AreNormalAtFullAlone }
     ensures heights { HeightsWrittenOtherwise }
     ensures geographics { GeographicsWrittenOtherwise }
+    ensures dynamics { DynamicsWrittenOtherwise }
 {
     decimal_laws();
     one_answer();

@@ -1,13 +1,17 @@
-use Rattle.std.proofs.Common.{◌≡◌, refl}
+use Rattle.std.proofs.Common.{◌≡◌, ℕ, List, refl}
 use Rattle.std.specs.Fmt.{digits}
 use Rattle.crs_shape.specs.Keywords.{is_keyword, root_named}
 use Rattle.crs_shape.specs.Slots.{class_named}
+use Rattle.crs_shape.specs.declared.class.Class.{Class}
 use Rattle.crs_shape.specs.declared.class.Class.TheVariants as class
 use Rattle.crs_value.specs.ReadsCrs.{ReadsCrs}
 use Rattle.crs_value.specs.declared.values.crs.Crs.{Crs}
 use Rattle.crs_value.specs.declared.values.crs.Crs.TheVariants as crs
+use Rattle.crs_value.specs.declared.values.level.Level.TheVariants as levels
 use Rattle.crs_normal.specs.Examples as example
-use Rattle.crs_normal.proofs.ExampleLemmas.{TextLaws, is-normal, is-written-otherwise, placed, read-here}
+use Rattle.crs_normal.proofs.ExampleLemmas.{IsRead, TextLaws, is-normal, is-otherwise, placed, read-here}
+use Rattle.crs_normal.proofs.NormalVerdict.{normal_in}
+use Rattle.crs_normal.proofs.Verdicts.{Fails, Holds}
 use Rattle.crs_normal.proofs.laws.examples.worked_examples.Goals as goal
 
 pub returns-clause-normal : goal.returns-clause-normal
@@ -18,11 +22,61 @@ returns-clause-normal c =
       written = c.written_items.ensures.spells;
       one_node = c.one_answer.ensures.node;
     } in (
-      is-normal l class.VerticalCrs example.height (refl, refl, tt, tt, tt) tt,
-      is-normal l class.GeographicCrs example.geographic (refl, refl, tt, tt, tt) tt,
-      is-normal l class.GeographicCrs example.wgs_84 (refl, refl, tt, tt, tt) tt,
-      is-normal l class.ProjectedCrs example.utm_zone (refl, refl, tt, tt, tt) tt,
-      is-normal l class.CompoundCrs example.with_height (refl, refl, tt, tt, tt) tt,
+      is-normal l levels.Full class.VerticalCrs example.height (refl, refl, tt, tt, tt) tt,
+      is-normal l levels.Full class.GeographicCrs example.geographic (refl, refl, tt, tt, tt) tt,
+      is-normal l levels.Full class.GeographicCrs example.wgs_84 (refl, refl, tt, tt, tt) tt,
+      is-normal l levels.Full class.ProjectedCrs example.utm_zone (refl, refl, tt, tt, tt) tt,
+      is-normal l levels.Full class.CompoundCrs example.with_height (refl, refl, tt, tt, tt) tt,
+      is-normal l levels.Full class.VerticalCrs example.dynamic_height (refl, refl, tt, tt, tt) tt,
+      is-normal l levels.Full class.GeographicCrs example.dynamic_geographic (refl, refl, tt, tt, tt) tt,
+    )
+
+pub returns-clause-by_definition : goal.returns-clause-by_definition
+unfolding digits class_named is_keyword lib.Utf8.encode root_named
+returns-clause-by_definition c =
+    let l : TextLaws = record {
+      numbers = record { decimals = c.decimal_laws.ensures; one_form = c.one_form.ensures };
+      written = c.written_items.ensures.spells;
+      one_node = c.one_answer.ensures.node;
+    } in (
+      is-normal l levels.Definition class.VerticalCrs example.height (refl, refl, tt, tt, tt) tt,
+      is-normal l levels.Definition class.GeographicCrs example.geographic (refl, refl, tt, tt, tt) tt,
+      is-normal l levels.Definition class.GeographicCrs example.wgs_84_alone (refl, refl, tt, tt, tt) tt,
+      is-normal l levels.Definition class.VerticalCrs example.dynamic_height (refl, refl, tt, tt, tt) tt,
+    )
+
+says-more : (l : TextLaws) (c : Class) (bytes : List ℕ) → IsRead l c bytes →
+    Holds (normal_in l.numbers levels.Full c c (placed bytes)) →
+    Fails (normal_in l.numbers levels.Definition c c (placed bytes)) → example.SaysMore bytes
+says-more l c bytes r h f = (is-normal l levels.Full c bytes r h, is-otherwise l levels.Definition c bytes r f)
+
+pub returns-clause-at_full_alone : goal.returns-clause-at_full_alone
+unfolding digits class_named is_keyword lib.Utf8.encode root_named
+returns-clause-at_full_alone c =
+    let l : TextLaws = record {
+      numbers = record { decimals = c.decimal_laws.ensures; one_form = c.one_form.ensures };
+      written = c.written_items.ensures.spells;
+      one_node = c.one_answer.ensures.node;
+    } in (
+      says-more l class.VerticalCrs example.unit_with_identifier (refl, refl, tt, tt, tt) tt tt,
+      says-more l class.VerticalCrs example.with_identifier (refl, refl, tt, tt, tt) tt tt,
+      says-more l class.VerticalCrs example.with_usage (refl, refl, tt, tt, tt) tt tt,
+      says-more l class.VerticalCrs example.with_remark (refl, refl, tt, tt, tt) tt tt,
+      says-more l class.GeographicCrs example.dynamic_geographic (refl, refl, tt, tt, tt) tt tt,
+    )
+
+pub returns-clause-dynamics : goal.returns-clause-dynamics
+unfolding digits class_named is_keyword lib.Utf8.encode root_named
+returns-clause-dynamics c =
+    let l : TextLaws = record {
+      numbers = record { decimals = c.decimal_laws.ensures; one_form = c.one_form.ensures };
+      written = c.written_items.ensures.spells;
+      one_node = c.one_answer.ensures.node;
+    } in (
+      is-otherwise l levels.Full class.VerticalCrs example.velocity_grid (refl, refl, tt, tt, tt) tt,
+      is-otherwise l levels.Full class.VerticalCrs example.frame_epoch_with_fraction (refl, refl, tt, tt, tt) tt,
+      is-otherwise l levels.Full class.VerticalCrs example.anchor_epoch_with_fraction (refl, refl, tt, tt, tt) tt,
+      is-otherwise l levels.Full class.VerticalCrs example.anchor_epoch_first (refl, refl, tt, tt, tt) tt,
     )
 
 pub returns-clause-heights : goal.returns-clause-heights
@@ -33,20 +87,20 @@ returns-clause-heights c =
       written = c.written_items.ensures.spells;
       one_node = c.one_answer.ensures.node;
     } in (
-      is-written-otherwise l class.VerticalCrs example.second_keyword (refl, refl, tt, tt, tt) tt,
-      is-written-otherwise l class.VerticalCrs example.no_order (refl, refl, tt, tt, tt) tt,
-      is-written-otherwise l class.VerticalCrs example.unit_of_no_kind (refl, refl, tt, tt, tt) tt,
-      is-written-otherwise l class.VerticalCrs example.shared_unit (refl, refl, tt, tt, tt) tt,
-      is-written-otherwise l class.VerticalCrs example.factor_with_zero (refl, refl, tt, tt, tt) tt,
-      is-written-otherwise l class.VerticalCrs example.capital_direction (refl, refl, tt, tt, tt) tt,
-      is-written-otherwise l class.VerticalCrs example.quoted_code (refl, refl, tt, tt, tt) tt,
-      is-written-otherwise l class.VerticalCrs example.long_code (refl, refl, tt, tt, tt) tt,
-      is-written-otherwise l class.VerticalCrs example.identifiers_fall (refl, refl, tt, tt, tt) tt,
-      is-written-otherwise l class.VerticalCrs example.identifier_twice (refl, refl, tt, tt, tt) tt,
-      is-written-otherwise l class.VerticalCrs example.bare_scope (refl, refl, tt, tt, tt) tt,
-      is-written-otherwise l class.VerticalCrs example.usages_fall (refl, refl, tt, tt, tt) tt,
-      is-written-otherwise l class.VerticalCrs example.usage_twice (refl, refl, tt, tt, tt) tt,
-      is-written-otherwise l class.VerticalCrs example.remark_first (refl, refl, tt, tt, tt) tt,
+      is-otherwise l levels.Full class.VerticalCrs example.second_keyword (refl, refl, tt, tt, tt) tt,
+      is-otherwise l levels.Full class.VerticalCrs example.no_order (refl, refl, tt, tt, tt) tt,
+      is-otherwise l levels.Full class.VerticalCrs example.unit_of_no_kind (refl, refl, tt, tt, tt) tt,
+      is-otherwise l levels.Full class.VerticalCrs example.shared_unit (refl, refl, tt, tt, tt) tt,
+      is-otherwise l levels.Full class.VerticalCrs example.factor_with_zero (refl, refl, tt, tt, tt) tt,
+      is-otherwise l levels.Full class.VerticalCrs example.capital_direction (refl, refl, tt, tt, tt) tt,
+      is-otherwise l levels.Full class.VerticalCrs example.quoted_code (refl, refl, tt, tt, tt) tt,
+      is-otherwise l levels.Full class.VerticalCrs example.long_code (refl, refl, tt, tt, tt) tt,
+      is-otherwise l levels.Full class.VerticalCrs example.identifiers_fall (refl, refl, tt, tt, tt) tt,
+      is-otherwise l levels.Full class.VerticalCrs example.identifier_twice (refl, refl, tt, tt, tt) tt,
+      is-otherwise l levels.Full class.VerticalCrs example.bare_scope (refl, refl, tt, tt, tt) tt,
+      is-otherwise l levels.Full class.VerticalCrs example.usages_fall (refl, refl, tt, tt, tt) tt,
+      is-otherwise l levels.Full class.VerticalCrs example.usage_twice (refl, refl, tt, tt, tt) tt,
+      is-otherwise l levels.Full class.VerticalCrs example.remark_first (refl, refl, tt, tt, tt) tt,
     )
 
 pub returns-clause-geographics : goal.returns-clause-geographics
@@ -57,11 +111,11 @@ returns-clause-geographics c =
       written = c.written_items.ensures.spells;
       one_node = c.one_answer.ensures.node;
     } in (
-      is-written-otherwise l class.GeographicCrs example.meridian_with_unit (refl, refl, tt, tt, tt) tt,
-      is-written-otherwise l class.GeographicCrs example.no_meridian (refl, refl, tt, tt, tt) tt,
-      is-written-otherwise l class.GeodeticCrs example.geodetic_for_geographic (refl, refl, tt, tt, tt) tt,
-      is-written-otherwise l class.GeographicCrs example.no_unit_of_ellipsoid (refl, refl, tt, tt, tt) tt,
-      is-written-otherwise l class.GeographicCrs example.orders_fall (refl, refl, tt, tt, tt) tt,
+      is-otherwise l levels.Full class.GeographicCrs example.meridian_with_unit (refl, refl, tt, tt, tt) tt,
+      is-otherwise l levels.Full class.GeographicCrs example.no_meridian (refl, refl, tt, tt, tt) tt,
+      is-otherwise l levels.Full class.GeodeticCrs example.geodetic_for_geographic (refl, refl, tt, tt, tt) tt,
+      is-otherwise l levels.Full class.GeographicCrs example.no_unit_of_ellipsoid (refl, refl, tt, tt, tt) tt,
+      is-otherwise l levels.Full class.GeographicCrs example.orders_fall (refl, refl, tt, tt, tt) tt,
     )
 
 no-value : (value : Crs) → ReadsCrs class.VerticalCrs (placed example.name_alone) value → ⊥
@@ -79,6 +133,6 @@ returns-clause-beyond c =
       written = c.written_items.ensures.spells;
       one_node = c.one_answer.ensures.node;
     } in (
-      is-normal l class.VerticalCrs example.name_alone (refl, refl, tt, tt, tt) tt,
+      is-normal l levels.Full class.VerticalCrs example.name_alone (refl, refl, tt, tt, tt) tt,
       λ value s. no-value value (read-here l class.VerticalCrs example.name_alone (refl, refl, tt, tt, tt) value s),
     )
