@@ -56,8 +56,8 @@ fn first_in_geodetic<'a>(at: Path, a: &Geodetic<'a>, b: &Geodetic<'a>, level: Le
     first_in_tail(at, &a.tail, &b.tail, level)
 }
 
-/// Whether two geodetic or geographic CRSs are the same: kind, name, frame, prime meridian, system and end.
-/// ISO 19162:2019, "Geodetic and geographic CRS".
+/// Whether two geodetic or geographic CRSs are the same: kind, name, dynamic part, frame, prime meridian, system and
+/// end. ISO 19162:2019, "Geodetic and geographic CRS".
 pub fn same_geodetic<'a>(a: &Geodetic<'a>, b: &Geodetic<'a>, level: Level) -> bool
     ensures { IsTrue result ↔ SameGeodetic level a.now b.now }
 {
@@ -92,8 +92,8 @@ fn first_in_base<'a>(at: Path, a: &Base<'a>, b: &Base<'a>, level: Level) -> Opti
     None
 }
 
-/// Whether two base CRSs are the same: name, frame, prime meridian, the units in both or in neither, and identifiers.
-/// ISO 19162:2019, "Base CRS"; units: profile.
+/// Whether two base CRSs are the same: name, dynamic part, frame, prime meridian, the units in both or in neither, and
+/// identifiers. ISO 19162:2019, "Base CRS"; units: profile.
 pub fn same_base<'a>(a: &Base<'a>, b: &Base<'a>, level: Level) -> bool
     ensures { IsTrue result ↔ SameBase level a.now b.now }
 {
@@ -158,7 +158,7 @@ fn first_in_vertical<'a>(at: Path, a: &Vertical<'a>, b: &Vertical<'a>, level: Le
     first_in_tail(at, &a.tail, &b.tail, level)
 }
 
-/// Whether two vertical CRSs are the same: name, frame, system, the set of geoid models, and end.
+/// Whether two vertical CRSs are the same: name, dynamic part, frame, system, the set of geoid models, and end.
 /// ISO 19162:2019, "Vertical CRS".
 pub fn same_vertical<'a>(a: &Vertical<'a>, b: &Vertical<'a>, level: Level) -> bool
     ensures { IsTrue result ↔ SameVertical level a.now b.now }

@@ -18,7 +18,7 @@ use crs_text::{ItemId, Items};
 use std::alloc::{AllocError, Global};
 use std::marker::Model;
 
-/// A geodetic or geographic CRS, `GEODCRS[name, frame, (meridian), system, tail]` or with `GEOGCRS`.
+/// A geodetic or geographic CRS, `GEODCRS[name, (dynamic), frame, (meridian), system, tail]` or with `GEOGCRS`.
 /// ISO 19162:2019, "Geodetic and geographic CRS".
 pub struct Geodetic<'a> {
     /// The name.

@@ -62,7 +62,7 @@ impl Drop for Projected<'_> {
     }
 }
 
-/// The base of a projected CRS, `BASEGEOGCRS[name, frame, (meridian), (unit), id..]` or with
+/// The base of a projected CRS, `BASEGEOGCRS[name, (dynamic), frame, (meridian), (unit), id..]` or with
 /// `BASEGEODCRS`. ISO 19162:2019, "Base CRS".
 pub struct Base<'a> {
     /// The name.

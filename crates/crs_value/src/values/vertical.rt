@@ -14,7 +14,7 @@ use crs_text::{ItemId, Items};
 use std::alloc::{AllocError, Global};
 use std::marker::Model;
 
-/// A vertical CRS, `VERTCRS[name, frame, system, tail]`, with geoid models in its tail.
+/// A vertical CRS, `VERTCRS[name, (dynamic), frame, system, tail]`, with geoid models in its tail.
 /// ISO 19162:2019, "Vertical CRS".
 pub struct Vertical<'a> {
     /// The name.
