@@ -6,7 +6,8 @@
 FOLDER is what tools/build_library.py made, out/prefix where none is given. The programs of c/ are compiled
 against its header, and linked with the static library and with the shared object: rows.c, which runs the worked rows of
 crates/crs_rows/data by one thread and by four, with the caller's side under the address and undefined-behaviour
-sanitizers; and growths.c, which refuses each growth of memory in turn. The header must do for C99 and for C++ with every
+sanitizers; growths.c, which refuses each growth of memory in turn; and threads.c, which hands a catalogue from thread to
+thread under the thread sanitizer of the first compiler that has one. The header must do for C99 and for C++ with every
 warning an error, the shared object must need the C library alone, both must show the header's calls and nothing else,
 pkg-config must find them, and both must answer the version that the program crsdesk prints, where that is built.
 
@@ -26,6 +27,8 @@ PROGRAM = ROOT / "crates" / "crsdesk" / "out" / "crsdesk"
 ROWS = sorted((ROOT / "crates" / "crs_rows" / "data").glob("*.rows"))
 WARNINGS = ["-Wall", "-Wextra", "-Wpedantic", "-Werror"]
 SANITIZERS = ["-g", "-O1", "-fsanitize=address,undefined", "-fno-sanitize-recover=all"]
+THREAD_SANITIZER = ["-std=gnu11", "-g", "-O1", "-fsanitize=thread"]
+ORDERS = ["lock", "atomic", "join"]
 SECONDS = 300
 BARE = "#include <crsdesk.h>\nint main(void) { size_t n; char out[16]; return crsdesk_version(out, 16, &n) == CRSDESK_OK ? 0 : 1; }\n"
 VERSION = """#include <crsdesk.h>
@@ -69,11 +72,11 @@ class Tries:
         header = (prefix / "include" / "crsdesk.h").read_text(encoding="utf-8")
         self.calls = set(re.findall(r"^(?!static)\w[\w *]*\b(crsdesk_\w+)\(", header, re.MULTILINE))
 
-    def linked(self, source, kind, flags):
+    def linked(self, source, kind, flags, compiler="cc"):
         """The program of a C file with one of the two libraries, and the environment that it is run in."""
         made = self.scratch / f"{source.stem}_{kind}"
         libraries = [self.lib / "libcrsdesk.a"] if kind == "static" else [f"-L{self.lib}", "-lcrsdesk"]
-        words = ["cc", "-std=gnu99", *WARNINGS, *flags, self.include, "-o", made, source]
+        words = [compiler, "-std=gnu99", *WARNINGS, *flags, self.include, "-o", made, source]
         run([*words, *libraries, "-lpthread"])
         return made, {**os.environ, "LD_LIBRARY_PATH": str(self.lib)}
 
@@ -90,6 +93,34 @@ class Tries:
     def growths(self, kind):
         made, environment = self.linked(HERE / "c" / "growths.c", kind, ["-O1"])
         return self.last_line(run([made], env=environment))
+
+    def thread_compiler(self):
+        """The first compiler whose thread sanitizer works here, or None."""
+        file = self.scratch / "idle.c"
+        file.write_text("int main(void) { return 0; }\n", encoding="utf-8")
+        for compiler in ("cc", "gcc", "clang"):
+            try:
+                run([compiler, *THREAD_SANITIZER, "-o", self.scratch / "idle", file])
+                run([self.scratch / "idle"])
+                return compiler
+            except (Wrong, OSError):
+                continue
+        return None
+
+    def threads(self, kind):
+        compiler = self.thread_compiler()
+        if compiler is None:
+            return "skipped: no compiler here has a thread sanitizer that works"
+        made, environment = self.linked(HERE / "c" / "threads.c", kind, THREAD_SANITIZER, compiler)
+        for order in ORDERS:
+            self.last_line(run([made, order], env=environment))
+        try:
+            run([made, "unordered"], env=environment)
+        except Wrong as told:
+            if "ThreadSanitizer" not in str(told):
+                raise
+            return f"{', '.join(ORDERS)}, by {compiler}"
+        raise Wrong("the sanitizer doesn't tell turns that nothing orders")
 
     def version(self):
         if not PROGRAM.exists():
@@ -156,6 +187,8 @@ def main(words):
             ("the version of the program and of the library", tries.version),
             ("rows, static library", lambda: tries.rows("static")),
             ("rows, shared object", lambda: tries.rows("shared")),
+            ("threads, static library", lambda: tries.threads("static")),
+            ("threads, shared object", lambda: tries.threads("shared")),
             ("refused growths, static library", lambda: tries.growths("static")),
             ("refused growths, shared object", lambda: tries.growths("shared")),
         ]

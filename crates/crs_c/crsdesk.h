@@ -20,17 +20,26 @@
 
    THE CALLER KEEPS to these, which nothing checks:
    - no pointer is null, also where its length or room is 0;
-   - behind each text, and behind each buffer, there are as many bytes as are said, at most PTRDIFF_MAX;
+   - behind each text, and behind each buffer, there are as many bytes as are said, at most PTRDIFF_MAX; behind `numbers`
+     of crsdesk_catalogue_lines as many numbers;
    - what a call writes to overlaps nothing else that it was given, and no other thread uses it during the call; a text
-     isn't changed during the call;
+     isn't changed during the call. Each call writes to the catalogue that it is given, also one that only asks;
+     crsdesk_catalogue_lines and crsdesk_catalogue_text, which are inline, call others several times, and no other call
+     has the catalogue in between;
+   - crsdesk_catalogue_new makes a catalogue, also under CRSDESK_NO_LEVEL, before any other call has it, and behind
+     crsdesk_catalogue_free no other call has it until it is made anew. In between the calls alone read and write its
+     memory, and it isn't copied or moved; crsdesk_catalogue_new over it would lose the memory that it took;
    - each thread that calls has 256 kB of stack left;
    - malloc, realloc and free are the C library's, or those of one allocator that aligns as they do;
    - no call is made by a signal handler, nor by a child that a process of several threads has forked.
 
    THREADS: there is no state but in catalogues, no lock and nothing to set up, so any number of threads may call at
-   once. A catalogue may go from thread to thread, and is in one call at a time.
+   once. A catalogue may go from thread to thread, and any thread may free it: it is in one call at a time, and each call
+   is ordered behind the one before by a mutex, by the start or the join of a thread, or by a sequentially consistent
+   atomic. `volatile` and relaxed atomics order nothing.
 
-   What each call answers is proved of its code, for all texts; this header and the program around the calls are not. */
+   What each call answers is proved of its code, for all texts; this header and the program around the calls are not.
+   That crsdesk_catalogue_free gives back all memory is tested. */
 #ifndef CRSDESK_H
 #define CRSDESK_H
 
@@ -53,7 +62,7 @@ extern "C" {
 #define CRSDESK_NO_MEMORY 3      /* memory was refused to the call; the same call may be made again */
 #define CRSDESK_NO_LEVEL 4       /* there is no such level; no text was looked at */
 #define CRSDESK_NO_ROOM 5        /* the buffer is too small for the answer */
-#define CRSDESK_NO_NUMBER 6      /* no refusal, or no group of the catalogue, has this number */
+#define CRSDESK_NO_NUMBER 6      /* no refusal or no group has this number, or the group has no text at this index */
 
 /* Kinds of CRSs. ISO 19162:2019, "Coordinate reference systems". */
 #define CRSDESK_GEODETIC 1   /* geodetic, and not geographic */
@@ -126,8 +135,7 @@ uint32_t crsdesk_version(char *out, size_t room, size_t *length);
 
 /* A catalogue of texts: those that spell the same CRS stand in one group. Groups are numbered from 1, by the first text
    of each. It lies in memory of the caller's, which holds a catalogue from crsdesk_catalogue_new until
-   crsdesk_catalogue_free; in between it is handed to the calls below alone, and isn't copied or moved. What it has
-   inside is the library's. Profile. */
+   crsdesk_catalogue_free. What it has inside is the library's. Profile. */
 struct crsdesk_catalogue {
     uint64_t hidden[32];
 };
@@ -168,7 +176,7 @@ size_t crsdesk_catalogue_groups(struct crsdesk_catalogue *catalogue);
    which they were added.
 
    CRSDESK_OK: number is it.
-   CRSDESK_NO_NUMBER: there is no such group, or it has no more texts. */
+   CRSDESK_NO_NUMBER: there is no such group, or the index is past its last text. */
 struct crsdesk_line crsdesk_catalogue_line(struct crsdesk_catalogue *catalogue, size_t group, size_t index);
 
 /* The numbers of a group's texts, in the order in which they were added.
@@ -232,7 +240,8 @@ static inline uint32_t crsdesk_catalogue_text(struct crsdesk_catalogue *catalogu
     return CRSDESK_OK;
 }
 
-/* Gives back what a catalogue holds; its memory holds no catalogue then. */
+/* Frees all memory that a catalogue took; the struct holds no catalogue then, and crsdesk_catalogue_new may make another
+   there. */
 void crsdesk_catalogue_free(struct crsdesk_catalogue *catalogue);
 
 #ifdef __cplusplus

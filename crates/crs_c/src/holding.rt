@@ -130,5 +130,10 @@ fn front_of(text: &[u8]) -> &[u8]
 
 // The end of a catalogue.
 pub(crate) fn let_go(held: Catalogue) {
+    let_go_anywhere(held);
+}
+
+// The bound has the prover show that a catalogue may be used, and end, in another thread than the one that made it.
+fn let_go_anywhere<T: Send + Drop>(held: T) {
     drop(held);
 }
