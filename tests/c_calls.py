@@ -9,7 +9,9 @@ crates/crs_rows/data by one thread and by four, with the caller's side under the
 sanitizers; growths.c, which refuses each growth of memory in turn; and threads.c, which hands a catalogue from thread to
 thread under the thread sanitizer of the first compiler that has one. The header must do for C99 and for C++ with every
 warning an error, the shared object must need the C library alone, both must show the header's calls and nothing else,
-pkg-config must find them, and both must answer the version that the program crsdesk prints, where that is built.
+pkg-config must find them, and both must answer the version that the program crsdesk prints, where that is built. Where
+the library was built in this repository, headers whose structs differ from it must be told by the comparison that
+tools/build_library.py makes.
 
 Each try has a line; the last line is 'N passed, M failed', and the status is 0 where M is 0.
 """
@@ -23,6 +25,13 @@ import tempfile
 
 HERE = pathlib.Path(__file__).resolve().parent
 ROOT = HERE.parent
+# The import of tools/build_library.py leaves nothing in the repository.
+sys.dont_write_bytecode = True
+sys.path.append(str(ROOT / "tools"))
+import build_library
+from build_program import Stop, toolchain
+
+MADE = build_library.FOLDER / "out" / "libcrs_c.a"
 PROGRAM = ROOT / "crates" / "crsdesk" / "out" / "crsdesk"
 ROWS = sorted((ROOT / "crates" / "crs_rows" / "data").glob("*.rows"))
 WARNINGS = ["-Wall", "-Wextra", "-Wpedantic", "-Werror"]
@@ -30,6 +39,17 @@ SANITIZERS = ["-g", "-O1", "-fsanitize=address,undefined", "-fno-sanitize-recove
 THREAD_SANITIZER = ["-std=gnu11", "-g", "-O1", "-fsanitize=thread"]
 ORDERS = ["lock", "atomic", "join"]
 SECONDS = 300
+# Edits of the header, and the struct of which each must be told.
+OTHER_LAYOUTS = [
+    ("uint64_t hidden[32];", "uint64_t hidden[8];", "crsdesk_catalogue"),
+    ("uint64_t hidden[32];", "unsigned char hidden[256];", "crsdesk_catalogue"),
+    ("    size_t place;\n    uint32_t number;\n", "    uint32_t number;\n    size_t place;\n", "crsdesk_refusal"),
+    ("    size_t place;\n    uint32_t number;\n", "    uint32_t place, number;\n", "crsdesk_refusal"),
+    ("    size_t group;  ", "    uint64_t first; size_t group;  ", "crsdesk_standing"),
+    ("    uint64_t number; /* 0 with", "    uint32_t was; uint32_t number; /* 0 with", "crsdesk_line"),
+    ("    char bytes[240];", "    char bytes[232];", "crsdesk_piece"),
+    ("    size_t length;   /*", "    uint32_t length, more;   /*", "crsdesk_piece"),
+]
 BARE = "#include <crsdesk.h>\nint main(void) { size_t n; char out[16]; return crsdesk_version(out, 16, &n) == CRSDESK_OK ? 0 : 1; }\n"
 VERSION = """#include <crsdesk.h>
 #include <stdio.h>
@@ -122,6 +142,22 @@ class Tries:
             return f"{', '.join(ORDERS)}, by {compiler}"
         raise Wrong("the sanitizer doesn't tell turns that nothing orders")
 
+    def layouts(self):
+        if not MADE.exists():
+            return f"skipped: there is no {MADE.relative_to(ROOT)}"
+        header = (self.prefix / "include" / "crsdesk.h").read_text(encoding="utf-8")
+        whole = build_library.joined(MADE, toolchain(), self.scratch)
+        place = self.scratch / "other"
+        place.mkdir()
+        for old, new, struct in [("", "", ""), *OTHER_LAYOUTS]:
+            if old and header.count(old) != 1:
+                raise Wrong(f"the header has this {header.count(old)} times: {old}")
+            (place / "crsdesk.h").write_text(header.replace(old, new, 1) if old else header, encoding="utf-8")
+            told = build_library.differences(place, whole, self.scratch)
+            if bool(struct) != any(f"struct {struct} " in it for it in told):
+                raise Wrong(f"{new!r} in place of {old!r}: {told or 'no difference'}")
+        return f"{len(OTHER_LAYOUTS)} other layouts are told"
+
     def version(self):
         if not PROGRAM.exists():
             return f"skipped: there is no {PROGRAM.relative_to(ROOT)}"
@@ -189,6 +225,7 @@ def main(words):
             ("rows, shared object", lambda: tries.rows("shared")),
             ("threads, static library", lambda: tries.threads("static")),
             ("threads, shared object", lambda: tries.threads("shared")),
+            ("other layouts", tries.layouts),
             ("refused growths, static library", lambda: tries.growths("static")),
             ("refused growths, shared object", lambda: tries.growths("shared")),
         ]
@@ -196,7 +233,7 @@ def main(words):
             try:
                 print(f"{name}: {work()}", flush=True)
                 passed += 1
-            except (Wrong, OSError, subprocess.TimeoutExpired) as error:
+            except (Wrong, Stop, OSError, subprocess.TimeoutExpired) as error:
                 print(f"{name}: FAILED: {error}", flush=True)
                 failed += 1
     print(f"{passed} passed, {failed} failed")

@@ -12,7 +12,9 @@ given, has
     lib/libcrsdesk.so.0         the shared object, which needs the C library alone; libcrsdesk.so is the same file
     lib/pkgconfig/crsdesk.pc    what pkg-config tells, by where it lies itself
 
-Both libraries show the calls of the header, and no other name. It takes a C compiler, cc, and ld, objcopy and nm.
+Both libraries show the calls of the header, and no other name. Before they are made, a C program compares the sizes and
+the fields of the header's structs with the library's own (crates/crs_c/layout.c). It takes a C compiler, cc, and ld,
+objcopy and nm.
 
 The status is 0 where they stand there; else 2, with a line on standard error.
 """
@@ -32,6 +34,7 @@ from build_program import ROOT, Crate, Stop, say
 NAME = "crs_c"
 FOLDER = ROOT / "crates" / NAME
 HEADER = FOLDER / "crsdesk.h"
+LAYOUT = FOLDER / "layout.c"
 # The number of the interface: it rises where a program that was linked with the library before can't be run with it.
 INTERFACE = 0
 PC = """prefix=${{pcfiledir}}/../..
@@ -122,15 +125,32 @@ def version():
     return re.search(r'give\(b"([0-9.]+)"', text)[1]
 
 
+def differences(include, whole, scratch):
+    """In which structs the header of this folder differs from the library, a line each."""
+    program = pathlib.Path(scratch, "layout")
+    run("cc", "-std=c11", f"-I{include}", "-o", program, LAYOUT, whole)
+    done = subprocess.run([str(program)], stdout=subprocess.PIPE, stderr=subprocess.STDOUT, check=False)
+    lines = done.stdout.decode(errors="replace").splitlines()
+    return lines if done.returncode == 0 or lines else [f"{LAYOUT.name} ended with status {done.returncode}"]
+
+
+def joined(made, kit, scratch):
+    """One object of the toolchain's two libraries, which still shows all names."""
+    whole = pathlib.Path(scratch, "crsdesk.o")
+    run("ld", "-r", "-o", whole, "--whole-archive", made, "--no-whole-archive", f"{kit}/c/liblibc_c.a")
+    return whole
+
+
 def link(made, kit, folder):
     """Both libraries, of the toolchain's two."""
     names = calls()
     lib = folder / "lib"
     lib.mkdir(parents=True, exist_ok=True)
     with tempfile.TemporaryDirectory() as scratch:
-        whole, script = pathlib.Path(scratch, "crsdesk.o"), pathlib.Path(scratch, "names")
-        heap = f"{kit}/c/liblibc_c.a"
-        run("ld", "-r", "-o", whole, "--whole-archive", made, "--no-whole-archive", heap)
+        whole, script = joined(made, kit, scratch), pathlib.Path(scratch, "names")
+        found = differences(FOLDER, whole, scratch)
+        if found:
+            raise Stop(f"the library was not made, since {HEADER.name} isn't its header: {'; '.join(found)}")
         script.write_text("".join(f"{it}\n" for it in names), encoding="utf-8")
         run("objcopy", f"--keep-global-symbols={script}", whole)
         (lib / "libcrsdesk.a").unlink(missing_ok=True)

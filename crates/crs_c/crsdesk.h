@@ -39,7 +39,8 @@
    atomic. `volatile` and relaxed atomics order nothing.
 
    What each call answers is proved of its code, for all texts; this header and the program around the calls are not.
-   That crsdesk_catalogue_free gives back all memory is tested. */
+   That the structs below lie in memory as the library has them is compared when it is built; that crsdesk_catalogue_free
+   gives back all memory is tested. */
 #ifndef CRSDESK_H
 #define CRSDESK_H
 

@@ -6,6 +6,7 @@ pub mod Check
 pub mod Codes
 pub mod Compared
 pub mod FirstPart
+pub mod Layout
 pub mod Names
 pub mod Pairs
 pub mod Places

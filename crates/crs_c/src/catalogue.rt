@@ -9,16 +9,13 @@ use crate::holding::{added, counted, cut, let_go, looked_up, made};
 use crate::standing::{Numbered, Piece, Standing};
 use crs_group::Catalogue;
 use std::alloc::Global;
-use std::mem::size_of;
 
-/// Memory for a catalogue: `struct crsdesk_catalogue` of C. Profile.
+/// The front of `struct crsdesk_catalogue` of C, in which a catalogue lies. How many words C has there the header alone
+/// says; `layout.c` compares them with what a catalogue takes. Profile.
 #[repr(C)]
 pub struct Room {
-    hidden: [u64; 32],
+    hidden: u64,
 }
-
-// A catalogue fits into the memory that the header gives it.
-const _: () = prove!(size_of::<Catalogue>() <= size_of::<Room>());
 
 /// Makes a catalogue of no texts, at the level of this number. Code 0, or 4: no level has the number, and the catalogue is
 /// one at full. It takes no memory. Profile.

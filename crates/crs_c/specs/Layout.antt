@@ -1,0 +1,41 @@
+-- How what C shares with the library lies in memory.
+use prog.Memory.{size, align}
+use denote.Param.{layout}
+use Rattle.std.specs.Prelude.{replicate}
+use Rattle.crs_c.specs.declared.layout.Sizes.{Sizes}
+use Rattle.crs_c.specs.declared.refused.Refused.{Refused}
+use Rattle.crs_c.specs.declared.standing.Numbered.{Numbered}
+use Rattle.crs_c.specs.declared.standing.Piece.{Piece}
+use Rattle.crs_c.specs.declared.standing.Standing.{Standing}
+use Rattle.crs_c.specs.contracts.refused.Refused as refused
+use Rattle.crs_c.specs.contracts.standing.Standing as standing
+use Rattle.crs_c.specs.contracts.standing.Numbered as numbered
+use Rattle.crs_c.specs.contracts.standing.Piece as piece
+use Rattle.crs_group.specs.contracts.catalogue.Catalogue as catalogue
+
+-- the bytes that a catalogue and each struct takes, and the alignment of a catalogue
+abbrev pub sizes : Sizes
+sizes =
+    record {
+      catalogue = size (layout catalogue.the_row);
+      alignment = align (layout catalogue.the_row);
+      refusal = size (layout refused.the_row);
+      standing = size (layout standing.the_row);
+      line = size (layout numbered.the_row);
+      piece = size (layout piece.the_row);
+    }
+
+-- each struct with a mark in each field
+abbrev pub marked_refusal : Refused
+marked_refusal = record { place = 1111111111111111111; number = 2222222222 }
+
+abbrev pub marked_standing : Standing
+marked_standing =
+    record { group = 3333333333333333333; refused = marked_refusal; code = 4000000004 }
+
+abbrev pub marked_line : Numbered
+marked_line = record { number = 5555555555555555555; code = 4000000006 }
+
+abbrev pub marked_piece : Piece
+marked_piece =
+    record { bytes = replicate 240 7; length = 8888888888888888888; code = 4000000009 }
