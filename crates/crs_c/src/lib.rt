@@ -23,11 +23,11 @@ pub use catalogue::{
 };
 pub use check::crsdesk_check;
 pub use first_part::crsdesk_first_part;
-pub use names::{crsdesk_refusal_name, crsdesk_version};
 pub use layout::{
     Sizes, crsdesk_layout_line, crsdesk_layout_piece, crsdesk_layout_refusal, crsdesk_layout_sizes,
     crsdesk_layout_standing,
 };
+pub use names::{crsdesk_refusal_name, crsdesk_version};
 pub use refused::Refused;
 pub use same::crsdesk_same;
 pub use standing::{Numbered, Piece, Standing};
