@@ -1,5 +1,5 @@
 -- What holds of the path to the first part that differs, since it holds of the path to each part.
-use Rattle.std.proofs.Common.{◌≡◌, ℕ, ◌+◌, ◌≤◌, ◌⊎◌, inl, inr, Option, Some, None, List, [], ◌∷◌, length, refl, sym, subst, arith}
+use Rattle.std.proofs.Common.{◌≡◌, ℕ, zero, suc, max, nat_le, ◌≤◌, ◌⊎◌, inl, inr, Bool, true, false, ◌&&◌, Option, Some, None, List, [], ◌∷◌, length, refl, sym, subst, arith}
 use Rattle.crs_value.specs.declared.values.compound.Horizontal.{Horizontal}
 use Rattle.crs_value.specs.declared.values.compound.Horizontal.TheVariants as horizontal
 use Rattle.crs_value.specs.declared.values.crs.Crs.{Crs}
@@ -17,10 +17,10 @@ use Rattle.crs_value.specs.Values.{IdentParts, AxisParts, EllipsoidParts, Meridi
 use Rattle.crs_same.specs.declared.step.Step.{Step}
 use Rattle.crs_same.specs.declared.step.Step.TheVariants as step
 use Rattle.crs_same.specs.Definition.{IsOfDefinition}
-use Rattle.crs_same.specs.FirstInCrs.{FirstInMethod, FirstInConversion, FirstInDynamic, FirstInTail, FirstInGeodetic, FirstInBase, FirstInProjected, FirstInVertical, FirstInHorizontal, FirstInCompound, FirstInCrs}
-use Rattle.crs_same.specs.FirstInFrames.{FirstInEllipsoid, FirstInEllipsoids, FirstInGiven, FirstBesideGreenwich, FirstInMeridian, FirstInDatum, FirstInEnsemble, FirstInFrame}
-use Rattle.crs_same.specs.FirstInSystems.{FirstInAxis, FirstInAxes, FirstInSystem}
-use Rattle.crs_same.specs.FirstPart.{◌▸◌, ◌⨾◌, Nothing, Part}
+use Rattle.crs_same.specs.Parts.{◌▸◌, Parts, none, part, ◌⨾◌, within, First}
+use Rattle.crs_same.specs.PartsOfCrs.{parts_of_method, parts_of_conversion, parts_of_dynamic, parts_of_tail, parts_of_geodetic, parts_of_base, parts_of_projected, parts_of_vertical, parts_of_horizontal, parts_of_compound, parts_of_crs, FirstInCrs}
+use Rattle.crs_same.specs.PartsOfFrames.{parts_of_ellipsoid, parts_of_ellipsoids, parts_of_given, parts_beside_greenwich, parts_of_meridian, parts_of_datum, parts_of_ensemble, parts_of_frame}
+use Rattle.crs_same.specs.PartsOfSystems.{parts_of_axis, parts_of_both, parts_where, parts_at, parts_of_axes, parts_of_system}
 use Rattle.crs_same.specs.SameIdents.{SameIdents}
 use Rattle.crs_same.specs.SameSystems.{HasAt}
 use Rattle.crs_same.specs.SameUnits.{HasNoIdents}
@@ -28,142 +28,141 @@ use Rattle.crs_same.specs.SameUsages.{SameUsages, SameRemark}
 
 infixr 10 ◌⨟◌
 -- what is found has the property
-record Finds (P : List Step → Type 0) (First : Option (List Step) → Type 0) : Type 0 where
-  some : (path : List Step) → First (Some path) → P path
+record Finds (P : List Step → Type 0) (parts : Parts) : Type 0 where
+  some : (path : List Step) → First parts (Some path) → P path
 
 -- such a part is the same by definition
 abbrev IsLeftOut : Level → Type 0 → Type 0
 IsLeftOut level Same = level ≡ levels.Definition → Same
 
 -- in the first place or in the second
-◌⨟◌ : {P : List Step → Type 0} {First Second : Option (List Step) → Type 0} → Finds P First → Finds P Second → Finds P (First ⨾ Second)
-◌⨟◌ {P} {First} {Second} f g = record { some = found }
+◌⨟◌ : {P : List Step → Type 0} {these others : Parts} → Finds P these → Finds P others → Finds P (these ⨾ others)
+◌⨟◌ {P} {these} {others} f g = record { some = found }
   where
-    found : (path : List Step) → (First ⨾ Second) (Some path) → P path
+    found : (path : List Step) → First (these ⨾ others) (Some path) → P path
     found path (inl h) = f.some path h
     found path (inr h) = g.some path h.1
 
-none : {P : List Step → Type 0} → Finds P Nothing
-none = record { some = λ path f. absurd (cc) }
-
-some-at : (position : ℕ) (P : AxisParts → Type 0) (Q : Type 0) → ((x : AxisParts) → P x → Q) → (place : ℕ) (axes : List AxisParts) →
-    HasAt position P place axes → Q
-some-at position P Q f place [] h = absurd h
-some-at position P Q f place (x ∷ xs) (inl h) = f x h.1
-some-at position P Q f place (x ∷ xs) (inr h) = some-at position P Q f (place + 1) xs h
+nothing : {P : List Step → Type 0} → Finds P none
+nothing = record { some = λ path f. absurd (cc) }
 
 -- `Is` holds of the path to each node, and `P` of that to each part that counts
 module _ (level : Level) (Is P : List Step → Type 0)
     (on : (at : List Step) (s : Step) → IsOfDefinition s → Is at → Is (at ▸ s))
-    (part : (at : List Step) (s : Step) (Same : Type 0) → IsOfDefinition s ⊎ IsLeftOut level Same → Is at → Finds P (Part (at ▸ s) Same)) where
-  one : {Same : Type 0} (at : List Step) (s : Step) → IsOfDefinition s → Is at → Finds P (Part (at ▸ s) Same)
-  one {Same} at s counts is = part at s Same (inl counts) is
+    (each : (at : List Step) (s : Step) (Same : Type 0) → IsOfDefinition s ⊎ IsLeftOut level Same → Is at → Finds P (part (at ▸ s) Same)) where
+  one : {Same : Type 0} (at : List Step) (s : Step) → IsOfDefinition s → Is at → Finds P (part (at ▸ s) Same)
+  one {Same} at s counts is = each at s Same (inl counts) is
 
-  idents : (at : List Step) (xs ys : List IdentParts) → Is at → Finds P (Part (at ▸ step.Id) (SameIdents level xs ys))
+  idents : (at : List Step) (xs ys : List IdentParts) → Is at → Finds P (part (at ▸ step.Id) (SameIdents level xs ys))
   idents at xs ys is =
-      part at step.Id (SameIdents level xs ys) (inr (λ e. subst (λ l. SameIdents l xs ys) (sym e) (tt, tt))) is
+      each at step.Id (SameIdents level xs ys) (inr (λ e. subst (λ l. SameIdents l xs ys) (sym e) (tt, tt))) is
 
-  no-idents : (at : List Step) (xs : List IdentParts) → Is at → Finds P (Part (at ▸ step.Id) (HasNoIdents level xs))
-  no-idents at xs is = part at step.Id (HasNoIdents level xs) (inr (λ e. subst (λ l. HasNoIdents l xs) (sym e) refl)) is
+  no-idents : (at : List Step) (xs : List IdentParts) → Is at → Finds P (part (at ▸ step.Id) (HasNoIdents level xs))
+  no-idents at xs is = each at step.Id (HasNoIdents level xs) (inr (λ e. subst (λ l. HasNoIdents l xs) (sym e) refl)) is
 
   -- ---- dynamic parts
 
-  dynamic : (at : List Step) (a b : Option DynamicParts) → Is at → Finds P (FirstInDynamic at level a b)
-  unfolding FirstInDynamic
-  dynamic at None None is = none
+  dynamic : (at : List Step) (a b : Option DynamicParts) → Is at → Finds P (parts_of_dynamic at level a b)
+  unfolding parts_of_dynamic
+  dynamic at None None is = nothing
   dynamic at None (Some b) is = one at step.Epoch tt is
   dynamic at (Some a) None is = one at step.Epoch tt is
   dynamic at (Some a) (Some b) is = one at step.Epoch tt is ⨟ one at step.Model tt is
 
   -- ---- frames
 
-  ellipsoid : (at : List Step) (a b : EllipsoidParts) → Is at → Finds P (FirstInEllipsoid at level a b)
+  ellipsoid : (at : List Step) (a b : EllipsoidParts) → Is at → Finds P (parts_of_ellipsoid at level a b)
   ellipsoid at a b is =
       one at step.Name tt is ⨟ one at step.SemiMajor tt is ⨟ one at step.Flattening tt is ⨟ one at step.Unit tt is
       ⨟ idents at a.identifiers b.identifiers is
 
-  ellipsoids : (at : List Step) (a b : Option EllipsoidParts) → Is at → Finds P (FirstInEllipsoids at level a b)
-  ellipsoids at None None is = none
+  ellipsoids : (at : List Step) (a b : Option EllipsoidParts) → Is at → Finds P (parts_of_ellipsoids at level a b)
+  ellipsoids at None None is = nothing
   ellipsoids at None (Some b) is = one at step.Name tt is
   ellipsoids at (Some a) None is = one at step.Name tt is
   ellipsoids at (Some a) (Some b) is = ellipsoid at a b is
 
-  given : (at : List Step) (a b : MeridianParts) → Is at → Finds P (FirstInGiven at level a b)
+  given : (at : List Step) (a b : MeridianParts) → Is at → Finds P (parts_of_given at level a b)
   given at a b is =
       one at step.Name tt is ⨟ one at step.Longitude tt is ⨟ one at step.Unit tt is ⨟ idents at a.identifiers b.identifiers is
 
-  beside_greenwich : (at : List Step) (a : MeridianParts) → Is at → Finds P (FirstBesideGreenwich at level a)
+  beside_greenwich : (at : List Step) (a : MeridianParts) → Is at → Finds P (parts_beside_greenwich at level a)
   beside_greenwich at a is = one at step.Name tt is ⨟ one at step.Longitude tt is ⨟ no-idents at a.identifiers is
 
-  meridian : (at : List Step) (a b : Option MeridianParts) → Is at → Finds P (FirstInMeridian at level a b)
-  unfolding FirstInMeridian
-  meridian at None None is = none
+  meridian : (at : List Step) (a b : Option MeridianParts) → Is at → Finds P (parts_of_meridian at level a b)
+  unfolding parts_of_meridian
+  meridian at None None is = nothing
   meridian at None (Some b) is = beside_greenwich at b is
   meridian at (Some a) None is = beside_greenwich at a is
   meridian at (Some a) (Some b) is = given at a b is
 
-  datum : (at : List Step) (a b : DatumParts) → Is at → Finds P (FirstInDatum at level a b)
+  datum : (at : List Step) (a b : DatumParts) → Is at → Finds P (parts_of_datum at level a b)
   datum at a b is =
       one at step.Name tt is ⨟ ellipsoids (at ▸ step.Ellipsoid) a.ellipsoid b.ellipsoid (on at step.Ellipsoid tt is)
       ⨟ one at step.Anchor tt is ⨟ one at step.AnchorEpoch tt is ⨟ idents at a.identifiers b.identifiers is
 
-  ensemble : (at : List Step) (a b : EnsembleParts) → Is at → Finds P (FirstInEnsemble at level a b)
+  ensemble : (at : List Step) (a b : EnsembleParts) → Is at → Finds P (parts_of_ensemble at level a b)
   ensemble at a b is =
       one at step.Name tt is ⨟ one at step.Members tt is
       ⨟ ellipsoids (at ▸ step.Ellipsoid) a.ellipsoid b.ellipsoid (on at step.Ellipsoid tt is)
       ⨟ one at step.Accuracy tt is ⨟ idents at a.identifiers b.identifiers is
 
-  frame-of : (at : List Step) (a b : Frame) → Is at → Finds P (FirstInFrame at level a b)
-  unfolding FirstInFrame
+  frame-of : (at : List Step) (a b : Frame) → Is at → Finds P (parts_of_frame at level a b)
+  unfolding parts_of_frame
   frame-of at (frame.Datum a) (frame.Datum b) is = datum at a b is
   frame-of at (frame.Ensemble a) (frame.Ensemble b) is = ensemble at a b is
   frame-of at a b is = one at step.Kind tt is
 
   -- ---- coordinate systems
 
-  axis : (at : List Step) (a b : SystemParts) (x y : AxisParts) → Is at → Finds P (FirstInAxis at level a b x y)
-  unfolding FirstInAxis
+  axis : (at : List Step) (a b : SystemParts) (x y : AxisParts) → Is at → Finds P (parts_of_axis at level a b x y)
+  unfolding parts_of_axis
   axis at a b x y is =
       one at step.Name tt is ⨟ one at step.Direction tt is ⨟ one at step.Meridian tt is ⨟ one at step.Unit tt is
       ⨟ idents at x.identifiers y.identifiers is
 
-  axes : (at : List Step) (a b : SystemParts) → Is at → Finds P (FirstInAxes at level a b)
-  axes at a b is = record { some = found }
-    where
-      found : (path : List Step) → FirstInAxes at level a b (Some path) → P path
-      found path (position, low, high, below, f) =
-          some-at position (λ x. HasAt position (λ y. FirstInAxis (at ▸ step.Axis position) level a b x y (Some path)) 1 b.axes) (P path)
-          (λ x h. some-at position (λ y. FirstInAxis (at ▸ step.Axis position) level a b x y (Some path)) (P path)
-          (λ y g. (axis (at ▸ step.Axis position) a b x y (on at (step.Axis position) tt is)).some path g) 1 b.axes h)
-          1 a.axes f
+  where-both : (test : Bool) (at : List Step) (a b : SystemParts) (position : ℕ) → Is at → Finds P (parts_where test at level a b position)
+  where-both true at a b position is = record {
+    some = λ path found.
+        let (axes, stand, first) = found in
+        (axis (at ▸ step.Axis position) a b axes.0 axes.1 (on at (step.Axis position) tt is)).some path first;
+  }
+  where-both false at a b position is = one (at ▸ step.Axis position) step.Name tt (on at (step.Axis position) tt is)
 
-  system : (at : List Step) (a b : SystemParts) → Is at → Finds P (FirstInSystem at level a b)
-  unfolding FirstInSystem
+  axes : (at : List Step) (a b : SystemParts) (count : ℕ) → Is at → Finds P (parts_of_axes at level a b count)
+  axes at a b zero is = nothing
+  axes at a b (suc count) is =
+      axes at a b count is
+      ⨟ where-both (nat_le (suc count) (length a.axes) && nat_le (suc count) (length b.axes)) at a b (suc count) is
+
+  system : (at : List Step) (a b : SystemParts) → Is at → Finds P (parts_of_system at level a b)
+  unfolding parts_of_system
   system at a b is =
-      one at step.SystemType tt is ⨟ one at step.Dimension tt is ⨟ idents at a.identifiers b.identifiers is ⨟ axes at a b is
+      one at step.SystemType tt is ⨟ one at step.Dimension tt is ⨟ idents at a.identifiers b.identifiers is ⨟ axes at a b (max (length a.axes) (length b.axes)) is
 
   -- ---- conversions
 
-  method : (at : List Step) (a b : MethodParts) → Is at → Finds P (FirstInMethod at level a b)
+  method : (at : List Step) (a b : MethodParts) → Is at → Finds P (parts_of_method at level a b)
+  unfolding parts_of_method
   method at a b is = one at step.Name tt is ⨟ idents at a.identifiers b.identifiers is
 
-  conversion : (at : List Step) (a b : ConversionParts) → Is at → Finds P (FirstInConversion at level a b)
-  unfolding FirstInConversion
+  conversion : (at : List Step) (a b : ConversionParts) → Is at → Finds P (parts_of_conversion at level a b)
+  unfolding parts_of_conversion
   conversion at a b is =
       one at step.Name tt is ⨟ method (at ▸ step.Method) a.method b.method (on at step.Method tt is)
       ⨟ one at step.Parameters tt is ⨟ idents at a.identifiers b.identifiers is
 
   -- ---- CRSs
 
-  tail : (at : List Step) (a b : TailParts) → Is at → Finds P (FirstInTail at level a b)
-  unfolding FirstInTail
+  tail : (at : List Step) (a b : TailParts) → Is at → Finds P (parts_of_tail at level a b)
+  unfolding parts_of_tail
   tail at a b is =
-      part at step.Usage (SameUsages level a b) (inr (λ e. subst (λ l. SameUsages l a b) (sym e) (tt, tt))) is
+      each at step.Usage (SameUsages level a b) (inr (λ e. subst (λ l. SameUsages l a b) (sym e) (tt, tt))) is
       ⨟ idents at a.identifiers b.identifiers is
-      ⨟ part at step.Remark (SameRemark level a b) (inr (λ e. subst (λ l. SameRemark l a b) (sym e) refl)) is
+      ⨟ each at step.Remark (SameRemark level a b) (inr (λ e. subst (λ l. SameRemark l a b) (sym e) refl)) is
 
-  geodetic : (at : List Step) (a b : GeodeticParts) → Is at → Finds P (FirstInGeodetic at level a b)
-  unfolding FirstInGeodetic
+  geodetic : (at : List Step) (a b : GeodeticParts) → Is at → Finds P (parts_of_geodetic at level a b)
+  unfolding parts_of_geodetic
   geodetic at a b is =
       one at step.Kind tt is ⨟ one at step.Name tt is
       ⨟ dynamic (at ▸ step.Dynamic) a.dynamic b.dynamic (on at step.Dynamic tt is)
@@ -171,42 +170,42 @@ module _ (level : Level) (Is P : List Step → Type 0)
       ⨟ meridian (at ▸ step.Meridian) a.meridian b.meridian (on at step.Meridian tt is)
       ⨟ system (at ▸ step.System) a.system b.system (on at step.System tt is) ⨟ tail at a.tail b.tail is
 
-  base : (at : List Step) (a b : BaseParts) → Is at → Finds P (FirstInBase at level a b)
-  unfolding FirstInBase
+  base : (at : List Step) (a b : BaseParts) → Is at → Finds P (parts_of_base at level a b)
+  unfolding parts_of_base
   base at a b is =
       one at step.Name tt is ⨟ dynamic (at ▸ step.Dynamic) a.dynamic b.dynamic (on at step.Dynamic tt is)
       ⨟ frame-of (at ▸ step.Datum) a.frame b.frame (on at step.Datum tt is)
       ⨟ meridian (at ▸ step.Meridian) a.meridian b.meridian (on at step.Meridian tt is)
       ⨟ one at step.Unit tt is ⨟ idents at a.identifiers b.identifiers is
 
-  projected : (at : List Step) (a b : ProjectedParts) → Is at → Finds P (FirstInProjected at level a b)
-  unfolding FirstInProjected
+  projected : (at : List Step) (a b : ProjectedParts) → Is at → Finds P (parts_of_projected at level a b)
+  unfolding parts_of_projected
   projected at a b is =
       one at step.Name tt is ⨟ base (at ▸ step.Base) a.base b.base (on at step.Base tt is)
       ⨟ conversion (at ▸ step.Conversion) a.conversion b.conversion (on at step.Conversion tt is)
       ⨟ system (at ▸ step.System) a.system b.system (on at step.System tt is) ⨟ tail at a.tail b.tail is
 
-  vertical : (at : List Step) (a b : VerticalParts) → Is at → Finds P (FirstInVertical at level a b)
-  unfolding FirstInVertical
+  vertical : (at : List Step) (a b : VerticalParts) → Is at → Finds P (parts_of_vertical at level a b)
+  unfolding parts_of_vertical
   vertical at a b is =
       one at step.Name tt is ⨟ dynamic (at ▸ step.Dynamic) a.dynamic b.dynamic (on at step.Dynamic tt is)
       ⨟ frame-of (at ▸ step.Datum) a.frame b.frame (on at step.Datum tt is)
       ⨟ system (at ▸ step.System) a.system b.system (on at step.System tt is)
       ⨟ one at step.Geoid tt is ⨟ tail at a.tail b.tail is
 
-  horizontal-of : (at : List Step) (a b : Horizontal) → Is at → Finds P (FirstInHorizontal at level a b)
-  unfolding FirstInHorizontal
+  horizontal-of : (at : List Step) (a b : Horizontal) → Is at → Finds P (parts_of_horizontal at level a b)
+  unfolding parts_of_horizontal
   horizontal-of at (horizontal.Geodetic a) (horizontal.Geodetic b) is = geodetic at a b is
   horizontal-of at (horizontal.Projected a) (horizontal.Projected b) is = projected at a b is
   horizontal-of at a b is = one at step.Kind tt is
 
-  compound : (at : List Step) (a b : CompoundParts) → Is at → Finds P (FirstInCompound at level a b)
-  unfolding FirstInCompound
+  compound : (at : List Step) (a b : CompoundParts) → Is at → Finds P (parts_of_compound at level a b)
+  unfolding parts_of_compound
   compound at a b is =
       one at step.Name tt is ⨟ horizontal-of (at ▸ step.Horizontal) a.horizontal b.horizontal (on at step.Horizontal tt is)
       ⨟ vertical (at ▸ step.Vertical) a.vertical b.vertical (on at step.Vertical tt is) ⨟ tail at a.tail b.tail is
 
-  first-in-crs : (a b : Crs) → Is [] → Finds P (FirstInCrs level a b)
+  first-in-crs : (a b : Crs) → Is [] → Finds P (parts_of_crs level a b)
   first-in-crs (crs.Geodetic a) (crs.Geodetic b) is = geodetic [] a b is
   first-in-crs (crs.Projected a) (crs.Projected b) is = projected [] a b is
   first-in-crs (crs.Vertical a) (crs.Vertical b) is = vertical [] a b is
@@ -220,11 +219,11 @@ some-step [] s = omega arith
 some-step (x ∷ at) s = omega arith
 
 pub first-has-a-step : (level : Level) (a b : Crs) (path : List Step) → FirstInCrs level a b (Some path) → 1 ≤ length path
-first-has-a-step level a b = (first-in-crs level (λ at. Unit {0}) (λ path. 1 ≤ length path) (λ at s counts is. tt) part a b tt).some
+first-has-a-step level a b = (first-in-crs level (λ at. Unit {0}) (λ path. 1 ≤ length path) (λ at s counts is. tt) each a b tt).some
   where
-    part : (at : List Step) (s : Step) (Same : Type 0) → IsOfDefinition s ⊎ IsLeftOut level Same → Unit {0} →
-        Finds (λ path. 1 ≤ length path) (Part (at ▸ s) Same)
-    part at s Same counts is = record { some = λ path f. subst (λ p. 1 ≤ length p) (sym f.1) (some-step at s) }
+    each : (at : List Step) (s : Step) (Same : Type 0) → IsOfDefinition s ⊎ IsLeftOut level Same → Unit {0} →
+        Finds (λ path. 1 ≤ length path) (part (at ▸ s) Same)
+    each at s Same counts is = record { some = λ path f. subst (λ p. 1 ≤ length p) (sym f.1) (some-step at s) }
 
 -- ---- by definition, each step counts
 
@@ -233,9 +232,9 @@ on [] s one all = (one, tt)
 on (x ∷ at) s one all = (all.0, on at s one all.1)
 
 pub first-of-definition : (a b : Crs) (path : List Step) → FirstInCrs levels.Definition a b (Some path) → Each IsOfDefinition path
-first-of-definition a b = (first-in-crs levels.Definition (λ at. Each IsOfDefinition at) (λ path. Each IsOfDefinition path) on part a b tt).some
+first-of-definition a b = (first-in-crs levels.Definition (λ at. Each IsOfDefinition at) (λ path. Each IsOfDefinition path) on each a b tt).some
   where
-    part : (at : List Step) (s : Step) (Same : Type 0) → IsOfDefinition s ⊎ IsLeftOut levels.Definition Same → Each IsOfDefinition at →
-        Finds (λ path. Each IsOfDefinition path) (Part (at ▸ s) Same)
-    part at s Same (inl counts) all = record { some = λ path f. subst (λ p. Each IsOfDefinition p) (sym f.1) (on at s counts all) }
-    part at s Same (inr same) all = record { some = λ path f. absurd (f.0 (same refl)) }
+    each : (at : List Step) (s : Step) (Same : Type 0) → IsOfDefinition s ⊎ IsLeftOut levels.Definition Same → Each IsOfDefinition at →
+        Finds (λ path. Each IsOfDefinition path) (part (at ▸ s) Same)
+    each at s Same (inl counts) all = record { some = λ path f. subst (λ p. Each IsOfDefinition p) (sym f.1) (on at s counts all) }
+    each at s Same (inr same) all = record { some = λ path f. absurd (f.0 (same refl)) }

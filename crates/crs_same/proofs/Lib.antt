@@ -1,6 +1,8 @@
+mod AllSameLemmas
 mod AxisLemmas
 mod CountLemmas
 mod DefinitionLemmas
+mod DifferenceLemmas
 mod FirstPartLemmas
 mod FrontLemmas
 mod KeptLemmas
@@ -13,4 +15,5 @@ mod SamenessOfFramesLemmas
 mod SamenessOfPartsLemmas
 mod SamenessOfSystemsLemmas
 mod SetLemmas
+mod WalkedLemmas
 mod WordLemmas

@@ -1,8 +1,8 @@
 pub mod Definition
-pub mod FirstInCrs
-pub mod FirstInFrames
-pub mod FirstInSystems
-pub mod FirstPart
+pub mod Parts
+pub mod PartsOfCrs
+pub mod PartsOfFrames
+pub mod PartsOfSystems
 pub mod Paths
 pub mod SameConversions
 pub mod SameCrs
@@ -14,3 +14,4 @@ pub mod SameUnits
 pub mod SameUsages
 pub mod Sameness
 pub mod Sets
+pub mod Walked

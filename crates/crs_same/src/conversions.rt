@@ -1,9 +1,11 @@
 //! Conversions and geoid models.
 ghost use Rattle.std.specs.Prelude.{◌≡◌, ◌≤◌, ◌↔◌, IsTrue, None, length};
-ghost use Rattle.crs_same.specs.FirstInCrs.{FirstInMethod, FirstInConversion};
+ghost use Rattle.crs_same.specs.PartsOfCrs.{parts_of_method, parts_of_conversion};
+ghost use Rattle.crs_same.specs.Walked.{Walked};
 ghost use Rattle.crs_same.specs.Sets.{SameSet};
 ghost use Rattle.crs_same.specs.SameConversions.{SameMethod, SameParameter, SameConversion, SameGeoidModel};
 
+use crate::found::Found;
 use crate::idents::same_idents;
 use crate::keys::{Key, key_of_named};
 use crate::laws;
@@ -15,25 +17,25 @@ use crate::texts::same_text;
 use crate::units::same_units_as;
 use crs_value::{Conversion, GeoidModel, Level, Method, Parameter, UnitKind};
 
-fn first_in_method<'a>(at: Path, a: &Method<'a>, b: &Method<'a>, level: Level) -> Option<Path>
+#[tactic(auto, unfolding(crate::specs::PartsOfCrs::parts_of_method))]
+fn walk_method<'a>(found: Found, at: Path, a: &Method<'a>, b: &Method<'a>, level: Level) -> Found
     requires { length at ≤ 4 }
-    ensures first { FirstInMethod at level a.now b.now result }
-    ensures same { (result ≡ None) ↔ SameMethod level a.now b.now }
+    ensures { Walked (parts_of_method at level a.now b.now) found result }
 {
-    if !same_text(a.name, b.name) {
-        return Some(at.then(Step::Name));
-    }
-    if !same_idents(&a.identifiers, &b.identifiers, level) {
-        return Some(at.then(Step::Id));
-    }
-    None
+    let found = found.part(&at, Step::Name, same_text(a.name, b.name));
+    let found = found.part(
+        &at,
+        Step::Id,
+        same_idents(&a.identifiers, &b.identifiers, level),
+    );
+    found
 }
 
 /// Whether two methods are the same: name and identifiers. ISO 19162:2019, "Map projection".
 pub fn same_method<'a>(a: &Method<'a>, b: &Method<'a>, level: Level) -> bool
     ensures { IsTrue result ↔ SameMethod level a.now b.now }
 {
-    first_in_method(Path::start(), a, b, level).is_none()
+    walk_method(Found::first(), Path::start(), a, b, level).is_same()
 }
 
 impl Member for Parameter<'_> {
@@ -111,30 +113,31 @@ pub(crate) fn same_geoid_models<'a>(
     same_set(a, b, level)
 }
 
-#[tactic(auto, unfolding(crate::specs::FirstInCrs::FirstInConversion))]
-pub(crate) fn first_in_conversion<'a>(
+#[tactic(auto, unfolding(crate::specs::PartsOfCrs::parts_of_conversion))]
+pub(crate) fn walk_conversion<'a>(
+    found: Found,
     at: Path,
     a: &Conversion<'a>,
     b: &Conversion<'a>,
     level: Level,
-) -> Option<Path>
+) -> Found
     requires { length at ≤ 3 }
-    ensures first { FirstInConversion at level a.now b.now result }
-    ensures same { (result ≡ None) ↔ SameConversion level a.now b.now }
+    ensures { Walked (parts_of_conversion at level a.now b.now) found result }
 {
-    if !same_text(a.name, b.name) {
-        return Some(at.then(Step::Name));
-    }
-    if let Some(path) = first_in_method(at.then(Step::Method), &a.method, &b.method, level) {
-        return Some(path);
-    }
-    if !same_parameters(a.parameters.as_slice(), b.parameters.as_slice(), level) {
-        return Some(at.then(Step::Parameters));
-    }
-    if !same_idents(&a.identifiers, &b.identifiers, level) {
-        return Some(at.then(Step::Id));
-    }
-    None
+    let found = found.part(&at, Step::Name, same_text(a.name, b.name));
+    let method = at.then(Step::Method);
+    let found = walk_method(found, method, &a.method, &b.method, level);
+    let found = found.part(
+        &at,
+        Step::Parameters,
+        same_parameters(a.parameters.as_slice(), b.parameters.as_slice(), level),
+    );
+    let found = found.part(
+        &at,
+        Step::Id,
+        same_idents(&a.identifiers, &b.identifiers, level),
+    );
+    found
 }
 
 /// Whether two conversions are the same: name, method, the set of parameters, and identifiers.
@@ -142,5 +145,5 @@ pub(crate) fn first_in_conversion<'a>(
 pub fn same_conversion<'a>(a: &Conversion<'a>, b: &Conversion<'a>, level: Level) -> bool
     ensures { IsTrue result ↔ SameConversion level a.now b.now }
 {
-    first_in_conversion(Path::start(), a, b, level).is_none()
+    walk_conversion(Found::first(), Path::start(), a, b, level).is_same()
 }

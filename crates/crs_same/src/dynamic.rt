@@ -1,9 +1,11 @@
 //! Dynamic parts of CRSs.
 ghost use Rattle.std.specs.Prelude.{◌≡◌, ◌≤◌, ◌↔◌, IsTrue, None, length};
-ghost use Rattle.crs_same.specs.FirstInCrs.{FirstInDynamic};
+ghost use Rattle.crs_same.specs.PartsOfCrs.{parts_of_dynamic};
 ghost use Rattle.crs_same.specs.SameDynamic.{SameDeformationModel, SameDynamic};
+ghost use Rattle.crs_same.specs.Walked.{Walked};
 ghost use Rattle.crs_same.specs.Sets.{BothOrNeither};
 
+use crate::found::Found;
 use crate::idents::same_idents;
 use crate::numbers::same_value;
 use crate::path::Path;
@@ -44,28 +46,23 @@ pub fn same_dynamic<'a>(a: &Dynamic<'a>, b: &Dynamic<'a>, level: Level) -> bool
     same_value(&a.epoch, &b.epoch) && same_models(&a.model, &b.model, level)
 }
 
-#[tactic(auto, unfolding(crate::specs::FirstInCrs::FirstInDynamic))]
-pub(crate) fn first_in_dynamic<'a>(
+#[tactic(auto, unfolding(crate::specs::PartsOfCrs::parts_of_dynamic))]
+pub(crate) fn walk_dynamic<'a>(
+    found: Found,
     at: Path,
     a: &Option<Dynamic<'a>>,
     b: &Option<Dynamic<'a>>,
     level: Level,
-) -> Option<Path>
+) -> Found
     requires { length at ≤ 4 }
-    ensures first { FirstInDynamic at level a.now b.now result }
-    ensures same { (result ≡ None) ↔ BothOrNeither (SameDynamic level) a.now b.now }
+    ensures { Walked (parts_of_dynamic at level a.now b.now) found result }
 {
     match (a, b) {
-        (None, None) => None,
+        (None, None) => found,
         (Some(x), Some(y)) => {
-            if !same_value(&x.epoch, &y.epoch) {
-                return Some(at.then(Step::Epoch));
-            }
-            if !same_models(&x.model, &y.model, level) {
-                return Some(at.then(Step::Model));
-            }
-            None
+            let found = found.part(&at, Step::Epoch, same_value(&x.epoch, &y.epoch));
+            found.part(&at, Step::Model, same_models(&x.model, &y.model, level))
         }
-        (None, Some(_)) | (Some(_), None) => Some(at.then(Step::Epoch)),
+        (None, Some(_)) | (Some(_), None) => found.part(&at, Step::Epoch, false),
     }
 }

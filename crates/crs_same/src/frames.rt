@@ -1,13 +1,15 @@
 //! Ellipsoids, prime meridians, reference frames and ensembles.
 ghost use Rattle.std.specs.Prelude.{◌≡◌, ◌≤◌, ◌↔◌, ◌⊎◌, IsTrue, None, length};
 ghost use Rattle.crs_value.specs.declared.values.unit_kind.UnitKind.TheVariants as kinds;
-ghost use Rattle.crs_same.specs.FirstInFrames.{FirstInEllipsoid, FirstInEllipsoids, FirstInGiven, FirstBesideGreenwich};
-ghost use Rattle.crs_same.specs.FirstInFrames.{FirstInMeridian, FirstInDatum, FirstInEnsemble, FirstInFrame};
+ghost use Rattle.crs_same.specs.PartsOfFrames.{parts_of_ellipsoid, parts_of_ellipsoids, parts_of_given, parts_beside_greenwich};
+ghost use Rattle.crs_same.specs.PartsOfFrames.{parts_of_meridian, parts_of_datum, parts_of_ensemble, parts_of_frame};
+ghost use Rattle.crs_same.specs.Walked.{Walked};
 ghost use Rattle.crs_same.specs.Sets.{BothOrNeither, SameSet};
 ghost use Rattle.crs_same.specs.SameUnits.{SameUnit};
 ghost use Rattle.crs_same.specs.SameFrames.{SameEllipsoid, SameMeridian, IsZero, IsGreenwich, SameGiven, SameMember};
 ghost use Rattle.crs_same.specs.SameFrames.{SameDatum, SameEnsemble, SameFrame};
 
+use crate::found::Found;
 use crate::idents::same_idents;
 use crate::keys::key_of_named;
 use crate::laws;
@@ -19,49 +21,51 @@ use crate::texts::{same_optional_text, same_text};
 use crate::units::{has_no_idents, same_length, same_units_as};
 use crs_value::{Datum, Ellipsoid, Ensemble, Frame, Level, Member, Meridian, UnitKind};
 
-fn first_in_ellipsoid<'a>(
+fn walk_ellipsoid<'a>(
+    found: Found,
     at: Path,
     a: &Ellipsoid<'a>,
     b: &Ellipsoid<'a>,
     level: Level,
-) -> Option<Path>
+) -> Found
     requires { length at ≤ 4 }
-    ensures first { FirstInEllipsoid at level a.now b.now result }
-    ensures same { (result ≡ None) ↔ SameEllipsoid level a.now b.now }
+    ensures { Walked (parts_of_ellipsoid at level a.now b.now) found result }
 {
-    if !same_text(a.name, b.name) {
-        return Some(at.then(Step::Name));
-    }
-    if !same_value(&a.semi_major_axis, &b.semi_major_axis) {
-        return Some(at.then(Step::SemiMajor));
-    }
-    if !same_value(&a.inverse_flattening, &b.inverse_flattening) {
-        return Some(at.then(Step::Flattening));
-    }
-    if !same_length(&a.unit, &b.unit, level) {
-        return Some(at.then(Step::Unit));
-    }
-    if !same_idents(&a.identifiers, &b.identifiers, level) {
-        return Some(at.then(Step::Id));
-    }
-    None
+    let found = found.part(&at, Step::Name, same_text(a.name, b.name));
+    let found = found.part(
+        &at,
+        Step::SemiMajor,
+        same_value(&a.semi_major_axis, &b.semi_major_axis),
+    );
+    let found = found.part(
+        &at,
+        Step::Flattening,
+        same_value(&a.inverse_flattening, &b.inverse_flattening),
+    );
+    let found = found.part(&at, Step::Unit, same_length(&a.unit, &b.unit, level));
+    let found = found.part(
+        &at,
+        Step::Id,
+        same_idents(&a.identifiers, &b.identifiers, level),
+    );
+    found
 }
 
 // Of frames: an ellipsoid in both, or in neither.
-fn first_in_ellipsoids<'a>(
+fn walk_ellipsoids<'a>(
+    found: Found,
     at: Path,
     a: &Option<Ellipsoid<'a>>,
     b: &Option<Ellipsoid<'a>>,
     level: Level,
-) -> Option<Path>
+) -> Found
     requires { length at ≤ 4 }
-    ensures first { FirstInEllipsoids at level a.now b.now result }
-    ensures same { (result ≡ None) ↔ BothOrNeither (SameEllipsoid level) a.now b.now }
+    ensures { Walked (parts_of_ellipsoids at level a.now b.now) found result }
 {
     match (a, b) {
-        (None, None) => None,
-        (Some(x), Some(y)) => first_in_ellipsoid(at, x, y, level),
-        (None, Some(_)) | (Some(_), None) => Some(at.then(Step::Name)),
+        (None, None) => found,
+        (Some(x), Some(y)) => walk_ellipsoid(found, at, x, y, level),
+        (None, Some(_)) | (Some(_), None) => found.part(&at, Step::Name, false),
     }
 }
 
@@ -70,7 +74,7 @@ fn first_in_ellipsoids<'a>(
 pub fn same_ellipsoid<'a>(a: &Ellipsoid<'a>, b: &Ellipsoid<'a>, level: Level) -> bool
     ensures { IsTrue result ↔ SameEllipsoid level a.now b.now }
 {
-    first_in_ellipsoid(Path::start(), a, b, level).is_none()
+    walk_ellipsoid(Found::first(), Path::start(), a, b, level).is_same()
 }
 
 // Of meridians with one longitude: at 0 the unit doesn't count.
@@ -82,61 +86,48 @@ fn same_meridian_units<'a>(a: &Meridian<'a>, b: &Meridian<'a>, level: Level) -> 
         || same_units_as(UnitKind::Angle, a.unit.as_ref(), b.unit.as_ref(), level)
 }
 
-fn first_in_given<'a>(at: Path, a: &Meridian<'a>, b: &Meridian<'a>, level: Level) -> Option<Path>
+fn walk_given<'a>(found: Found, at: Path, a: &Meridian<'a>, b: &Meridian<'a>, level: Level) -> Found
     requires { length at ≤ 4 }
-    ensures first { FirstInGiven at level a.now b.now result }
-    ensures same { (result ≡ None) ↔ SameGiven level a.now b.now }
+    ensures { Walked (parts_of_given at level a.now b.now) found result }
 {
-    if !same_text(a.name, b.name) {
-        return Some(at.then(Step::Name));
-    }
-    if !same_value(&a.longitude, &b.longitude) {
-        return Some(at.then(Step::Longitude));
-    }
-    if !same_meridian_units(a, b, level) {
-        return Some(at.then(Step::Unit));
-    }
-    if !same_idents(&a.identifiers, &b.identifiers, level) {
-        return Some(at.then(Step::Id));
-    }
-    None
+    let found = found.part(&at, Step::Name, same_text(a.name, b.name));
+    let found = found.part(&at, Step::Longitude, same_value(&a.longitude, &b.longitude));
+    let found = found.part(&at, Step::Unit, same_meridian_units(a, b, level));
+    let found = found.part(
+        &at,
+        Step::Id,
+        same_idents(&a.identifiers, &b.identifiers, level),
+    );
+    found
 }
 
 // Beside a missing one, which is Greenwich.
-fn first_beside_greenwich(at: Path, meridian: &Meridian<'_>, level: Level) -> Option<Path>
+fn walk_beside_greenwich(found: Found, at: Path, meridian: &Meridian<'_>, level: Level) -> Found
     requires { length at ≤ 4 }
-    ensures first { FirstBesideGreenwich at level meridian.now result }
-    ensures same { (result ≡ None) ↔ IsGreenwich level meridian.now }
+    ensures { Walked (parts_beside_greenwich at level meridian.now) found result }
 {
-    if !same_text(meridian.name, b"Greenwich") {
-        return Some(at.then(Step::Name));
-    }
-    if !meridian.longitude.is_whole(0) {
-        return Some(at.then(Step::Longitude));
-    }
-    if !has_no_idents(&meridian.identifiers, level) {
-        return Some(at.then(Step::Id));
-    }
-    None
+    let found = found.part(&at, Step::Name, same_text(meridian.name, b"Greenwich"));
+    let found = found.part(&at, Step::Longitude, meridian.longitude.is_whole(0));
+    let found = found.part(&at, Step::Id, has_no_idents(&meridian.identifiers, level));
+    found
 }
 
-#[tactic(auto, unfolding(crate::specs::FirstInFrames::FirstInMeridian))]
-pub(crate) fn first_in_meridian<'a>(
+#[tactic(auto, unfolding(crate::specs::PartsOfFrames::parts_of_meridian))]
+pub(crate) fn walk_meridian<'a>(
+    found: Found,
     at: Path,
     a: &Option<Meridian<'a>>,
     b: &Option<Meridian<'a>>,
     level: Level,
-) -> Option<Path>
+) -> Found
     requires { length at ≤ 4 }
-    ensures first { FirstInMeridian at level a.now b.now result }
-    ensures same { (result ≡ None) ↔ SameMeridian level a.now b.now }
+    ensures { Walked (parts_of_meridian at level a.now b.now) found result }
 {
     match (a, b) {
-        (None, None) => None,
-        (Some(meridian), None) | (None, Some(meridian)) => first_beside_greenwich(
-            at, meridian, level,
-        ),
-        (Some(x), Some(y)) => first_in_given(at, x, y, level),
+        (None, None) => found,
+        (Some(x), None) => walk_beside_greenwich(found, at, x, level),
+        (None, Some(y)) => walk_beside_greenwich(found, at, y, level),
+        (Some(x), Some(y)) => walk_given(found, at, x, y, level),
     }
 }
 
@@ -145,7 +136,7 @@ pub(crate) fn first_in_meridian<'a>(
 pub fn same_meridian<'a>(a: &Meridian<'a>, b: &Meridian<'a>, level: Level) -> bool
     ensures { IsTrue result ↔ SameGiven level a.now b.now }
 {
-    first_in_given(Path::start(), a, b, level).is_none()
+    walk_given(Found::first(), Path::start(), a, b, level).is_same()
 }
 
 impl SetMember for Member<'_> {
@@ -179,70 +170,72 @@ fn same_members<'a>(a: &[Member<'a>], b: &[Member<'a>], level: Level) -> bool
     same_set(a, b, level)
 }
 
-fn first_in_datum<'a>(at: Path, a: &Datum<'a>, b: &Datum<'a>, level: Level) -> Option<Path>
+fn walk_datum<'a>(found: Found, at: Path, a: &Datum<'a>, b: &Datum<'a>, level: Level) -> Found
     requires { length at ≤ 3 }
-    ensures first { FirstInDatum at level a.now b.now result }
-    ensures same { (result ≡ None) ↔ SameDatum level a.now b.now }
+    ensures { Walked (parts_of_datum at level a.now b.now) found result }
 {
-    if !same_text(a.name, b.name) {
-        return Some(at.then(Step::Name));
-    }
+    let found = found.part(&at, Step::Name, same_text(a.name, b.name));
     let below = at.then(Step::Ellipsoid);
-    if let Some(path) = first_in_ellipsoids(below, &a.ellipsoid, &b.ellipsoid, level) {
-        return Some(path);
-    }
-    if !same_optional_text(a.anchor, b.anchor) {
-        return Some(at.then(Step::Anchor));
-    }
-    if !same_optional_value(a.anchor_epoch, b.anchor_epoch) {
-        return Some(at.then(Step::AnchorEpoch));
-    }
-    if !same_idents(&a.identifiers, &b.identifiers, level) {
-        return Some(at.then(Step::Id));
-    }
-    None
+    let found = walk_ellipsoids(found, below, &a.ellipsoid, &b.ellipsoid, level);
+    let found = found.part(&at, Step::Anchor, same_optional_text(a.anchor, b.anchor));
+    let found = found.part(
+        &at,
+        Step::AnchorEpoch,
+        same_optional_value(a.anchor_epoch, b.anchor_epoch),
+    );
+    let found = found.part(
+        &at,
+        Step::Id,
+        same_idents(&a.identifiers, &b.identifiers, level),
+    );
+    found
 }
 
-fn first_in_ensemble<'a>(at: Path, a: &Ensemble<'a>, b: &Ensemble<'a>, level: Level) -> Option<Path>
+fn walk_ensemble<'a>(
+    found: Found,
+    at: Path,
+    a: &Ensemble<'a>,
+    b: &Ensemble<'a>,
+    level: Level,
+) -> Found
     requires { length at ≤ 3 }
-    ensures first { FirstInEnsemble at level a.now b.now result }
-    ensures same { (result ≡ None) ↔ SameEnsemble level a.now b.now }
+    ensures { Walked (parts_of_ensemble at level a.now b.now) found result }
 {
-    if !same_text(a.name, b.name) {
-        return Some(at.then(Step::Name));
-    }
-    if !same_members(a.members.as_slice(), b.members.as_slice(), level) {
-        return Some(at.then(Step::Members));
-    }
+    let found = found.part(&at, Step::Name, same_text(a.name, b.name));
+    let found = found.part(
+        &at,
+        Step::Members,
+        same_members(a.members.as_slice(), b.members.as_slice(), level),
+    );
     let below = at.then(Step::Ellipsoid);
-    if let Some(path) = first_in_ellipsoids(below, &a.ellipsoid, &b.ellipsoid, level) {
-        return Some(path);
-    }
-    if !same_value(&a.accuracy, &b.accuracy) {
-        return Some(at.then(Step::Accuracy));
-    }
-    if !same_idents(&a.identifiers, &b.identifiers, level) {
-        return Some(at.then(Step::Id));
-    }
-    None
+    let found = walk_ellipsoids(found, below, &a.ellipsoid, &b.ellipsoid, level);
+    let found = found.part(&at, Step::Accuracy, same_value(&a.accuracy, &b.accuracy));
+    let found = found.part(
+        &at,
+        Step::Id,
+        same_idents(&a.identifiers, &b.identifiers, level),
+    );
+    found
 }
 
-#[tactic(auto, unfolding(crate::specs::FirstInFrames::FirstInFrame))]
-pub(crate) fn first_in_frame<'a>(
+#[tactic(auto, unfolding(crate::specs::PartsOfFrames::parts_of_frame))]
+pub(crate) fn walk_frame<'a>(
+    found: Found,
     at: Path,
     a: &Frame<'a>,
     b: &Frame<'a>,
     level: Level,
-) -> Option<Path>
+) -> Found
     requires { length at ≤ 3 }
-    ensures first { FirstInFrame at level a.now b.now result }
-    ensures same { (result ≡ None) ↔ SameFrame level a.now b.now }
+    ensures { Walked (parts_of_frame at level a.now b.now) found result }
 {
     match (a, b) {
-        (Frame::Datum(x), Frame::Datum(y)) => first_in_datum(at, x, y, level),
-        (Frame::Ensemble(x), Frame::Ensemble(y)) => first_in_ensemble(at, x, y, level),
-        (Frame::Datum(_), Frame::Ensemble(_)) | (Frame::Ensemble(_), Frame::Datum(_)) => Some(
-            at.then(Step::Kind),
+        (Frame::Datum(x), Frame::Datum(y)) => walk_datum(found, at, x, y, level),
+        (Frame::Ensemble(x), Frame::Ensemble(y)) => walk_ensemble(found, at, x, y, level),
+        (Frame::Datum(_), Frame::Ensemble(_)) | (Frame::Ensemble(_), Frame::Datum(_)) => found.part(
+            &at,
+            Step::Kind,
+            false,
         ),
     }
 }
@@ -252,7 +245,7 @@ pub(crate) fn first_in_frame<'a>(
 pub fn same_datum<'a>(a: &Datum<'a>, b: &Datum<'a>, level: Level) -> bool
     ensures { IsTrue result ↔ SameDatum level a.now b.now }
 {
-    first_in_datum(Path::start(), a, b, level).is_none()
+    walk_datum(Found::first(), Path::start(), a, b, level).is_same()
 }
 
 /// Whether two ensembles are the same: name, the set of members, the ellipsoid in both or in neither, accuracy and
@@ -260,12 +253,12 @@ pub fn same_datum<'a>(a: &Datum<'a>, b: &Datum<'a>, level: Level) -> bool
 pub fn same_ensemble<'a>(a: &Ensemble<'a>, b: &Ensemble<'a>, level: Level) -> bool
     ensures { IsTrue result ↔ SameEnsemble level a.now b.now }
 {
-    first_in_ensemble(Path::start(), a, b, level).is_none()
+    walk_ensemble(Found::first(), Path::start(), a, b, level).is_same()
 }
 
 /// Whether two frames are the same: both reference frames or both ensembles, and the same as such. Profile.
 pub fn same_frame<'a>(a: &Frame<'a>, b: &Frame<'a>, level: Level) -> bool
     ensures { IsTrue result ↔ SameFrame level a.now b.now }
 {
-    first_in_frame(Path::start(), a, b, level).is_none()
+    walk_frame(Found::first(), Path::start(), a, b, level).is_same()
 }

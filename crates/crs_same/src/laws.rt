@@ -1,5 +1,5 @@
 //! Laws of the definitions, as contracts of functions that do nothing.
-ghost use Rattle.std.specs.Prelude.{◌≡◌, ◌≤◌, ℕ, ⊤, List, Some, length};
+ghost use Rattle.std.specs.Prelude.{◌≡◌, ◌≤◌, ◌↔◌, ◌∷◌, ℕ, ⊤, List, [], None, Some, length};
 ghost use Rattle.crs_value.specs.declared.values.crs.Crs.{Crs};
 ghost use Rattle.crs_value.specs.declared.values.level.Level.{Level};
 ghost use Rattle.crs_value.specs.declared.values.level.Level.TheVariants as levels;
@@ -12,7 +12,8 @@ ghost use Rattle.crs_value.specs.Sound.{Each};
 ghost use Rattle.crs_value.specs.Values.{AxisParts, SystemParts};
 ghost use Rattle.crs_same.specs.declared.step.Step.{Step};
 ghost use Rattle.crs_same.specs.Definition.{IsOfDefinition};
-ghost use Rattle.crs_same.specs.FirstInCrs.{FirstInCrs};
+ghost use Rattle.crs_same.specs.PartsOfCrs.{parts_of_crs, FirstInCrs, DifferencesInCrs};
+ghost use Rattle.crs_same.specs.Parts.{AllSame};
 ghost use Rattle.crs_same.specs.Paths.{path_text};
 ghost use Rattle.crs_same.specs.Sameness.{IsSameness, IsSamenessOf};
 ghost use Rattle.crs_same.specs.SameConversions.{SameMethod, SameParameter, SameConversion, SameGeoidModel};
@@ -328,6 +329,25 @@ pub fn first_part_has_a_step()
 pub fn paths_have_words()
     ensures { (path : List Step) → 1 ≤ length path → 1 ≤ length (path_text path) }
 {}
+
+/// The first of all parts in which two CRSs differ is the first part in which they differ.
+pub fn first_difference_is_first_part()
+    ensures none { (level : Level) (a b : Crs) → DifferencesInCrs level a b [] → FirstInCrs level a b None }
+    ensures some { (level : Level) (a b : Crs) (path : List Step) (further : List (List Step)) →
+        DifferencesInCrs level a b (path ∷ further) → FirstInCrs level a b (Some path) }
+{}
+
+/// All parts of two CRSs are the same exactly where the CRSs are, and none differs first exactly there.
+pub fn parts_are_the_same_where_crs_is()
+    ensures all { (level : Level) (a b : Crs) → IsCrs a → IsCrs b →
+        (AllSame (parts_of_crs level a b) ↔ SameCrs level a b) }
+    ensures none { (level : Level) (a b : Crs) → IsCrs a → IsCrs b → FirstInCrs level a b None → SameCrs level a b }
+    ensures some { (level : Level) (a b : Crs) → IsCrs a → IsCrs b → (path : List Step) →
+        FirstInCrs level a b (Some path) → ¬ SameCrs level a b }
+{
+    one_axis_each();
+    as_many_axes();
+}
 
 // ---- the two levels
 

@@ -5,6 +5,7 @@
 mod conversions;
 mod crs;
 mod dynamic;
+mod found;
 mod frames;
 mod guesses;
 mod idents;
@@ -20,6 +21,7 @@ mod texts;
 mod units;
 mod usages;
 
-pub use crs::{first_part, same};
+pub use crs::{differences, first_part, same};
+pub use found::Paths;
 pub use path::Path;
 pub use step::Step;

@@ -1,11 +1,13 @@
 //! Axes and coordinate systems.
-ghost use Rattle.std.specs.Prelude.{◌≡◌, ◌↔◌, ◌≤◌, None, length, ⊤, IsTrue, IfSome, IfNone};
+ghost use Rattle.std.specs.Prelude.{◌≡◌, ◌↔◌, ◌≤◌, length, max, ⊤, IsTrue, IfSome, IfNone};
 ghost use Rattle.std.specs.Option.{option_copied};
+ghost use Rattle.crs_same.specs.Walked.{Walked};
 ghost use Rattle.crs_same.specs.Sets.{BothOrNeither};
-ghost use Rattle.crs_same.specs.FirstInSystems.{FirstInAxis, FirstAt, FirstInAxes, FirstInSystem};
+ghost use Rattle.crs_same.specs.PartsOfSystems.{parts_of_axis, parts_of_both, parts_at, parts_of_axes, parts_of_system};
 ghost use Rattle.crs_same.specs.SameSystems.{SameAxisMeridian, SameAxis, SameAxisAlone, IsPositionOf, HasAt, SameAt};
 ghost use Rattle.crs_same.specs.SameSystems.{SameAxes, SameSystem};
 
+use crate::found::Found;
 use crate::idents::same_idents;
 use crate::laws;
 use crate::numbers::{same_optional_value, same_value};
@@ -50,36 +52,42 @@ fn same_type(a: SystemType, b: SystemType) -> bool
 }
 
 // The parts of an axis of each of two systems.
-#[tactic(auto, unfolding(crate::specs::FirstInSystems::FirstInAxis, crate::specs::SameSystems::SameAxis))]
-fn first_in_axis<'a>(
+#[tactic(auto, unfolding(crate::specs::PartsOfSystems::parts_of_axis, crate::specs::SameSystems::SameAxis))]
+fn walk_axis<'a>(
+    found: Found,
     at: Path,
     a: &System<'a>,
     b: &System<'a>,
     x: &Axis<'a>,
     y: &Axis<'a>,
     level: Level,
-) -> Option<Path>
+) -> Found
     requires { length at ≤ 4 }
-    ensures first { FirstInAxis at level a.now b.now x.now y.now result }
-    ensures same { (result ≡ None) ↔ SameAxis level a.now b.now x.now y.now }
+    ensures { Walked (parts_of_axis at level a.now b.now x.now y.now) found result }
 {
-    if !same_text(x.name, y.name) {
-        return Some(at.then(Step::Name));
-    }
-    if !same_direction(x.direction, y.direction) {
-        return Some(at.then(Step::Direction));
-    }
-    if !same_axis_meridians(&x.meridian, &y.meridian, level) {
-        return Some(at.then(Step::Meridian));
-    }
+    let found = found.part(&at, Step::Name, same_text(x.name, y.name));
+    let found = found.part(
+        &at,
+        Step::Direction,
+        same_direction(x.direction, y.direction),
+    );
+    let found = found.part(
+        &at,
+        Step::Meridian,
+        same_axis_meridians(&x.meridian, &y.meridian, level),
+    );
     let asked = a.system_type.asked_kind(x.direction);
-    if !same_units_as(asked, a.unit_of(x), b.unit_of(y), level) {
-        return Some(at.then(Step::Unit));
-    }
-    if !same_idents(&x.identifiers, &y.identifiers, level) {
-        return Some(at.then(Step::Id));
-    }
-    None
+    let found = found.part(
+        &at,
+        Step::Unit,
+        same_units_as(asked, a.unit_of(x), b.unit_of(y), level),
+    );
+    let found = found.part(
+        &at,
+        Step::Id,
+        same_idents(&x.identifiers, &y.identifiers, level),
+    );
+    found
 }
 
 // Whether an axis that is written at this place, from 1 on, has this position.
@@ -107,67 +115,89 @@ fn axis_at<'b, 'a>(axes: &'b [Axis<'a>], position: u64) -> Option<&'b Axis<'a>>
     None
 }
 
-// The parts of the axes at this position.
-fn first_at<'a>(
+// The parts of the axes that stand at this position in both.
+fn walk_both<'a>(
+    found: Found,
     at: Path,
     a: &System<'a>,
     b: &System<'a>,
     position: u64,
     level: Level,
-) -> Option<Path>
+) -> Found
     requires room { length at ≤ 3 }
     requires position { 1 ≤ position }
     requires in_first { position ≤ length a.now.axes }
     requires in_second { position ≤ length b.now.axes }
-    ensures first { FirstAt at level a.now b.now position result }
-    ensures same { (result ≡ None) ↔ SameAt level a.now b.now position }
+    ensures { Walked (parts_of_both at level a.now b.now position) found result }
 {
     laws::one_axis_each();
     let x = axis_at(a.axes.as_slice(), position);
     let y = axis_at(b.axes.as_slice(), position);
     match (x, y) {
-        (Some(x), Some(y)) => first_in_axis(at.then(Step::Axis(position)), a, b, x, y, level),
+        (Some(x), Some(y)) => walk_axis(found, at.then(Step::Axis(position)), a, b, x, y, level),
         _ => unreachable!(),
     }
 }
 
-fn first_in_axes<'a>(at: Path, a: &System<'a>, b: &System<'a>, level: Level) -> Option<Path>
+// The parts of the axes at this position, where each system has one or only one of them has.
+fn walk_at<'a>(
+    found: Found,
+    at: Path,
+    a: &System<'a>,
+    b: &System<'a>,
+    position: u64,
+    level: Level,
+) -> Found
     requires room { length at ≤ 3 }
-    requires as_many { length a.now.axes ≡ length b.now.axes }
-    ensures first { FirstInAxes at level a.now b.now result }
-    ensures same { (result ≡ None) ↔ SameAxes level a.now b.now }
+    requires position { 1 ≤ position }
+    ensures { Walked (parts_at at level a.now b.now position) found result }
 {
-    for index in 0..a.axes.as_slice().len() {
-        let found = first_at(at.copied(), a, b, index as u64 + 1, level);
-        if found.is_some() {
-            return found;
-        }
+    if position <= axis_count(a) && position <= axis_count(b) {
+        return walk_both(found, at, a, b, position, level);
     }
-    None
+    found.part(&at.then(Step::Axis(position)), Step::Name, false)
 }
 
-#[tactic(auto, unfolding(crate::specs::FirstInSystems::FirstInSystem))]
-pub(crate) fn first_in_system<'a>(
+fn axis_count(system: &System<'_>) -> u64
+    ensures { result ≡ length system.now.axes }
+{
+    system.axes.as_slice().len() as u64
+}
+
+fn walk_axes<'a>(found: Found, at: Path, a: &System<'a>, b: &System<'a>, level: Level) -> Found
+    requires { length at ≤ 3 }
+    ensures { Walked (parts_of_axes at level a.now b.now (max (length a.now.axes) (length b.now.axes))) found result }
+{
+    let mut found = found;
+    for index in 0..axis_count(a).max(axis_count(b)) {
+        found = walk_at(found, at.copied(), a, b, index + 1, level);
+    }
+    found
+}
+
+#[tactic(auto, unfolding(crate::specs::PartsOfSystems::parts_of_system))]
+pub(crate) fn walk_system<'a>(
+    found: Found,
     at: Path,
     a: &System<'a>,
     b: &System<'a>,
     level: Level,
-) -> Option<Path>
+) -> Found
     requires { length at ≤ 3 }
-    ensures first { FirstInSystem at level a.now b.now result }
-    ensures same { (result ≡ None) ↔ SameSystem level a.now b.now }
+    ensures { Walked (parts_of_system at level a.now b.now) found result }
 {
-    if !same_type(a.system_type, b.system_type) {
-        return Some(at.then(Step::SystemType));
-    }
-    if !same_value(&a.dimension, &b.dimension) {
-        return Some(at.then(Step::Dimension));
-    }
-    if !same_idents(&a.identifiers, &b.identifiers, level) {
-        return Some(at.then(Step::Id));
-    }
-    laws::as_many_axes();
-    first_in_axes(at, a, b, level)
+    let found = found.part(
+        &at,
+        Step::SystemType,
+        same_type(a.system_type, b.system_type),
+    );
+    let found = found.part(&at, Step::Dimension, same_value(&a.dimension, &b.dimension));
+    let found = found.part(
+        &at,
+        Step::Id,
+        same_idents(&a.identifiers, &b.identifiers, level),
+    );
+    walk_axes(found, at, a, b, level)
 }
 
 /// Whether two axes by themselves are the same: name, direction, identifiers, and meridian, order and unit, each in

@@ -2,11 +2,13 @@
 ghost use Rattle.std.specs.Prelude.{◌≡◌, ◌≤◌, ◌↔◌, IsTrue, None, length, take};
 ghost use Rattle.std.specs.Option.{option_copied};
 ghost use Rattle.crs_value.specs.declared.values.level.Level.{Level};
-ghost use Rattle.crs_same.specs.FirstInCrs.{FirstInTail};
+ghost use Rattle.crs_same.specs.PartsOfCrs.{parts_of_tail};
+ghost use Rattle.crs_same.specs.Walked.{Walked};
 ghost use Rattle.crs_same.specs.Sets.{BothOrNeither, HasSame, AllHaveSame, SameSet};
 ghost use Rattle.crs_same.specs.SameUsages.{SameBox, SameExtent, SameUsage, with_bare, SameUsages, SameRemark};
 ghost use Rattle.crs_same.specs.SameUsages.{SameTail};
 
+use crate::found::Found;
 use crate::guesses::Guesses;
 use crate::idents::same_idents;
 use crate::keys::Key;
@@ -251,20 +253,23 @@ fn same_remark<'a>(a: &Tail<'a>, b: &Tail<'a>, level: Level) -> bool
     same_optional_text(level.kept_text(a.remark), level.kept_text(b.remark))
 }
 
-#[tactic(auto, unfolding(crate::specs::FirstInCrs::FirstInTail))]
-pub(crate) fn first_in_tail<'a>(at: Path, a: &Tail<'a>, b: &Tail<'a>, level: Level) -> Option<Path>
+#[tactic(auto, unfolding(crate::specs::PartsOfCrs::parts_of_tail))]
+pub(crate) fn walk_tail<'a>(
+    found: Found,
+    at: Path,
+    a: &Tail<'a>,
+    b: &Tail<'a>,
+    level: Level,
+) -> Found
     requires { length at ≤ 4 }
-    ensures first { FirstInTail at level a.now b.now result }
-    ensures same { (result ≡ None) ↔ SameTail level a.now b.now }
+    ensures { Walked (parts_of_tail at level a.now b.now) found result }
 {
-    if !same_usages(a, b, level) {
-        return Some(at.then(Step::Usage));
-    }
-    if !same_idents(&a.identifiers, &b.identifiers, level) {
-        return Some(at.then(Step::Id));
-    }
-    if !same_remark(a, b, level) {
-        return Some(at.then(Step::Remark));
-    }
-    None
+    let found = found.part(&at, Step::Usage, same_usages(a, b, level));
+    let found = found.part(
+        &at,
+        Step::Id,
+        same_idents(&a.identifiers, &b.identifiers, level),
+    );
+    let found = found.part(&at, Step::Remark, same_remark(a, b, level));
+    found
 }

@@ -1,0 +1,14 @@
+use Rattle.std.proofs.Common.{rules}
+use Rattle.crs_same.specs.PartsOfCrs.{parts_of_vertical}
+use Rattle.crs_same.proofs.WalkedLemmas.{◌⟫◌, one, via}
+use Rattle.crs_same.proofs.crs.walk_vertical.Goals as goal
+
+pub returns : goal.returns
+unfolding parts_of_vertical
+returns c =
+    one (search rules) c.part-found.ensures ⟫
+    via c.walk_dynamic-found.result (rw (← c.then-dynamic.ensures, ← c.a.view_is, ← c.b.view_is) c.walk_dynamic-found.ensures) (
+    via c.walk_frame-found.result (rw (← c.then-datum.ensures, ← c.a.view_is, ← c.b.view_is) c.walk_frame-found.ensures) (
+    via c.walk_system-found.result (rw (← c.then-system.ensures, ← c.a.view_is, ← c.b.view_is) c.walk_system-found.ensures) (
+    one (search rules) c.part-found-2.ensures ⟫
+    search rules)))

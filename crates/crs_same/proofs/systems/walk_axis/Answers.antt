@@ -1,0 +1,13 @@
+use Rattle.std.proofs.Common.{rules}
+use Rattle.crs_same.specs.PartsOfSystems.{parts_of_axis}
+use Rattle.crs_same.proofs.WalkedLemmas.{◌⟫◌, one}
+use Rattle.crs_same.proofs.systems.walk_axis.Goals as goal
+
+pub returns : goal.returns
+unfolding parts_of_axis
+returns c =
+    one (search rules) c.part-found.ensures ⟫
+    one (search rules) c.part-found-2.ensures ⟫
+    one (search rules) c.part-found-3.ensures ⟫
+    one (search rules) c.part-found-4.ensures ⟫
+    one (search rules) c.part-found-5.ensures

@@ -1,0 +1,12 @@
+use Rattle.std.proofs.Common.{rules}
+use Rattle.crs_same.specs.PartsOfSystems.{parts_of_system}
+use Rattle.crs_same.proofs.WalkedLemmas.{◌⟫◌, one}
+use Rattle.crs_same.proofs.systems.walk_system.Goals as goal
+
+pub returns : goal.returns
+unfolding parts_of_system
+returns c =
+    one (search rules) c.part-found.ensures ⟫
+    one (search rules) c.part-found-2.ensures ⟫
+    one (search rules) c.part-found-3.ensures ⟫
+    search rules

@@ -1,0 +1,49 @@
+-- The parts of two values in order, each with its path and what is asked of it; what is the first
+-- part that differs, and which parts differ.
+use Rattle.std.specs.Prelude.{◌≡◌, Option, Some, None, List, [], ◌∷◌, ◌++◌, ◌⊎◌}
+use Rattle.crs_value.specs.declared.values.level.Level.{Level}
+use Rattle.crs_same.specs.declared.step.Step.{Step}
+
+infixl 60 ◌▸◌
+infixr 10 ◌⨾◌
+-- one step further on a path
+abbrev pub ◌▸◌ : List Step → Step → List Step
+at ▸ step = at ++ step ∷ []
+
+-- The parts of two values: none; one, with its path and what holds where it is the same in both; some
+-- and then others; or those that stand in something of which a property holds.
+pub data Parts : Type 1 where
+  none : Parts
+  part : List Step → Type 0 → Parts
+  ◌⨾◌ : Parts → Parts → Parts
+  within : {X : Type 0} → (X → Type 0) → (X → Parts) → Parts
+
+-- all parts are the same
+abbrev pub AllSame : Parts → Type 0
+AllSame none = Unit {0}
+AllSame (part path Same) = Same
+AllSame (these ⨾ others) = AllSame these × AllSame others
+AllSame (within {X} Is parts) = (x : X) × Is x × AllSame (parts x)
+
+-- this is the path of the first part that differs, or all parts are the same and there is none
+abbrev pub First : Parts → Option (List Step) → Type 0
+First none found = found ≡ None
+First (part path Same) None = Same
+First (part path Same) (Some found) = (¬ Same) × (found ≡ path)
+First (these ⨾ others) None = First these None × First others None
+First (these ⨾ others) (Some found) =
+    First these (Some found) ⊎ (First these None × First others (Some found))
+First (within {X} Is parts) found = (x : X) × Is x × First (parts x) found
+
+-- these are the paths of all parts that differ, in order
+abbrev pub Differences : Parts → List (List Step) → Type 0
+Differences none found = found ≡ []
+Differences (part path Same) [] = Same
+Differences (part path Same) (first ∷ further) = (¬ Same) × (first ≡ path) × (further ≡ [])
+Differences (these ⨾ others) found =
+    (front back : List (List Step)) × (found ≡ front ++ back) × Differences these front × Differences others back
+Differences (within {X} Is parts) found = (x : X) × Is x × Differences (parts x) found
+
+-- the parts of two values at a level, where the path to the two is given
+abbrev pub PartsOf : Type 0 → Type 1
+PartsOf V = List Step → Level → V → V → Parts
