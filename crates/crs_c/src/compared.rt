@@ -1,6 +1,6 @@
 //! A text, compared with a CRS.
 ghost use Rattle.std.specs.Prelude.{◌≡◌, ◌↔◌, [], None, IsTrue};
-ghost use Rattle.crs_same.specs.FirstInCrs.{FirstInCrs};
+ghost use Rattle.crs_same.specs.PartsOfCrs.{FirstInCrs};
 ghost use Rattle.crs_same.specs.SameCrs.{SameCrs};
 ghost use Rattle.crs_c.specs.Compared.{IsFoundBehind};
 ghost use Rattle.crs_c.specs.FirstPart.{words_of};

@@ -23,12 +23,11 @@ fn walk_method<'a>(found: Found, at: Path, a: &Method<'a>, b: &Method<'a>, level
     ensures { Walked (parts_of_method at level a.now b.now) found result }
 {
     let found = found.part(&at, Step::Name, same_text(a.name, b.name));
-    let found = found.part(
+    found.part(
         &at,
         Step::Id,
         same_idents(&a.identifiers, &b.identifiers, level),
-    );
-    found
+    )
 }
 
 /// Whether two methods are the same: name and identifiers. ISO 19162:2019, "Map projection".
@@ -132,12 +131,11 @@ pub(crate) fn walk_conversion<'a>(
         Step::Parameters,
         same_parameters(a.parameters.as_slice(), b.parameters.as_slice(), level),
     );
-    let found = found.part(
+    found.part(
         &at,
         Step::Id,
         same_idents(&a.identifiers, &b.identifiers, level),
-    );
-    found
+    )
 }
 
 /// Whether two conversions are the same: name, method, the set of parameters, and identifiers.

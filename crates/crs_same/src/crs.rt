@@ -89,12 +89,11 @@ fn walk_base<'a>(found: Found, at: Path, a: &Base<'a>, b: &Base<'a>, level: Leve
         Step::Unit,
         same_units_as(UnitKind::Angle, a.unit.as_ref(), b.unit.as_ref(), level),
     );
-    let found = found.part(
+    found.part(
         &at,
         Step::Id,
         same_idents(&a.identifiers, &b.identifiers, level),
-    );
-    found
+    )
 }
 
 /// Whether two base CRSs are the same: name, dynamic part, frame, prime meridian, the units in both or in neither, and

@@ -43,12 +43,11 @@ fn walk_ellipsoid<'a>(
         same_value(&a.inverse_flattening, &b.inverse_flattening),
     );
     let found = found.part(&at, Step::Unit, same_length(&a.unit, &b.unit, level));
-    let found = found.part(
+    found.part(
         &at,
         Step::Id,
         same_idents(&a.identifiers, &b.identifiers, level),
-    );
-    found
+    )
 }
 
 // Of frames: an ellipsoid in both, or in neither.
@@ -93,12 +92,11 @@ fn walk_given<'a>(found: Found, at: Path, a: &Meridian<'a>, b: &Meridian<'a>, le
     let found = found.part(&at, Step::Name, same_text(a.name, b.name));
     let found = found.part(&at, Step::Longitude, same_value(&a.longitude, &b.longitude));
     let found = found.part(&at, Step::Unit, same_meridian_units(a, b, level));
-    let found = found.part(
+    found.part(
         &at,
         Step::Id,
         same_idents(&a.identifiers, &b.identifiers, level),
-    );
-    found
+    )
 }
 
 // Beside a missing one, which is Greenwich.
@@ -108,8 +106,7 @@ fn walk_beside_greenwich(found: Found, at: Path, meridian: &Meridian<'_>, level:
 {
     let found = found.part(&at, Step::Name, same_text(meridian.name, b"Greenwich"));
     let found = found.part(&at, Step::Longitude, meridian.longitude.is_whole(0));
-    let found = found.part(&at, Step::Id, has_no_idents(&meridian.identifiers, level));
-    found
+    found.part(&at, Step::Id, has_no_idents(&meridian.identifiers, level))
 }
 
 #[tactic(auto, unfolding(crate::specs::PartsOfFrames::parts_of_meridian))]
@@ -183,12 +180,11 @@ fn walk_datum<'a>(found: Found, at: Path, a: &Datum<'a>, b: &Datum<'a>, level: L
         Step::AnchorEpoch,
         same_optional_value(a.anchor_epoch, b.anchor_epoch),
     );
-    let found = found.part(
+    found.part(
         &at,
         Step::Id,
         same_idents(&a.identifiers, &b.identifiers, level),
-    );
-    found
+    )
 }
 
 fn walk_ensemble<'a>(
@@ -210,12 +206,11 @@ fn walk_ensemble<'a>(
     let below = at.then(Step::Ellipsoid);
     let found = walk_ellipsoids(found, below, &a.ellipsoid, &b.ellipsoid, level);
     let found = found.part(&at, Step::Accuracy, same_value(&a.accuracy, &b.accuracy));
-    let found = found.part(
+    found.part(
         &at,
         Step::Id,
         same_idents(&a.identifiers, &b.identifiers, level),
-    );
-    found
+    )
 }
 
 #[tactic(auto, unfolding(crate::specs::PartsOfFrames::parts_of_frame))]

@@ -82,12 +82,11 @@ fn walk_axis<'a>(
         Step::Unit,
         same_units_as(asked, a.unit_of(x), b.unit_of(y), level),
     );
-    let found = found.part(
+    found.part(
         &at,
         Step::Id,
         same_idents(&x.identifiers, &y.identifiers, level),
-    );
-    found
+    )
 }
 
 // Whether an axis that is written at this place, from 1 on, has this position.

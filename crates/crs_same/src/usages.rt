@@ -270,6 +270,5 @@ pub(crate) fn walk_tail<'a>(
         Step::Id,
         same_idents(&a.identifiers, &b.identifiers, level),
     );
-    let found = found.part(&at, Step::Remark, same_remark(a, b, level));
-    found
+    found.part(&at, Step::Remark, same_remark(a, b, level))
 }

@@ -7,4 +7,4 @@ pub returns : goal.returns
 unfolding parts_of_conversion
 returns c =
     one (search rules) c.part-found.ensures ⟫ (search rules) ⟫ one (search rules) c.part-found-2.ensures ⟫
-    one (search rules) c.part-found-3.ensures
+    one (search rules) c.part.ensures

@@ -7,4 +7,4 @@ pub returns : goal.returns
 unfolding parts_of_method
 returns c =
     one (search rules) c.part-found.ensures ⟫
-    one (search rules) c.part-found-2.ensures
+    one (search rules) c.part.ensures

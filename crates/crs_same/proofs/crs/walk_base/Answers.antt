@@ -11,4 +11,4 @@ returns c =
     via c.walk_frame-found.result (rw (← c.then-datum.ensures, ← c.a.view_is, ← c.b.view_is) c.walk_frame-found.ensures) (
     via c.walk_meridian-found.result (rw (← c.then-meridian.ensures, ← c.a.view_is, ← c.b.view_is) c.walk_meridian-found.ensures) (
     one (search rules) c.part-found-2.ensures ⟫
-    one (search rules) c.part-found-3.ensures)))
+    one (search rules) c.part.ensures)))

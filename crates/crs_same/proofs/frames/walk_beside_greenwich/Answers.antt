@@ -6,4 +6,4 @@ pub returns : goal.returns
 returns c =
     one (search rules) c.part-found.ensures ⟫
     one (search rules) c.part-found-2.ensures ⟫
-    one (search rules) c.part-found-3.ensures
+    one (search rules) c.part.ensures

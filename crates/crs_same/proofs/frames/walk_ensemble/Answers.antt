@@ -8,4 +8,4 @@ returns c =
     one (search rules) c.part-found-2.ensures ⟫
     via c.walk_ellipsoids-found.result (search rules) (
     one (search rules) c.part-found-3.ensures ⟫
-    one (search rules) c.part-found-4.ensures)
+    one (search rules) c.part.ensures)

@@ -7,4 +7,4 @@ returns c =
     one (search rules) c.part-found.ensures ⟫
     one (search rules) c.part-found-2.ensures ⟫
     one (search rules) c.part-found-3.ensures ⟫
-    one (search rules) c.part-found-4.ensures
+    one (search rules) c.part.ensures

@@ -10,4 +10,4 @@ returns c =
     one (search rules) c.part-found-2.ensures ⟫
     one (search rules) c.part-found-3.ensures ⟫
     one (search rules) c.part-found-4.ensures ⟫
-    one (search rules) c.part-found-5.ensures
+    one (search rules) c.part.ensures

@@ -8,4 +8,4 @@ unfolding parts_of_tail
 returns c =
     one (search rules) c.part-found.ensures ⟫
     one (search rules) c.part-found-2.ensures ⟫
-    one (search rules) c.part-found-3.ensures
+    one (search rules) c.part.ensures
