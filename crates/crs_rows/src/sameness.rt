@@ -4,7 +4,7 @@ use crate::texts::put_fault;
 use crate::verticals::first_axis;
 use bstr::ByteSlice;
 use crs_same::parts::same_axis;
-use crs_same::{Path, first_part, same};
+use crs_same::{Path, Paths, differences, first_part, same};
 use crs_value::{Axis, Crs, Level, read};
 use std::alloc::{AllocError, Global};
 
@@ -34,6 +34,58 @@ fn put_same_as<'a>(
         Ok(crs) => put_outcome(out, alloc, told(first, &crs, level)),
         Err(fault) => put_fault(out, fault),
     }
+}
+
+/// The paths to all parts in which the CRSs of two texts differ, one a line of the text, with a semicolon between two;
+/// `none`, the refusal of the first text that has one, or `one way` where the orders of the two disagree.
+pub fn put_differences(
+    out: &mut String,
+    alloc: Global,
+    level: Level,
+    input: &[u8],
+) -> Result<(), AllocError> {
+    let (first, second) = split_line(input);
+    match read(alloc, first) {
+        Ok(crs) => put_differences_from(out, alloc, level, &crs, second),
+        Err(fault) => put_fault(out, fault),
+    }
+}
+
+fn put_differences_from<'a>(
+    out: &mut String,
+    alloc: Global,
+    level: Level,
+    first: &Crs<'a>,
+    second: &'a [u8],
+) -> Result<(), AllocError> {
+    match read(alloc, second) {
+        Ok(crs) => {
+            let forth = differences(alloc, first, &crs, level)?;
+            let back = differences(alloc, &crs, first, level)?;
+            put_paths(out, &forth, &back)
+        }
+        Err(fault) => put_fault(out, fault),
+    }
+}
+
+fn put_paths(out: &mut String, forth: &Paths, back: &Paths) -> Result<(), AllocError> {
+    let forth = paths_text(*out.allocator(), forth)?;
+    if forth != paths_text(*out.allocator(), back)? {
+        return out.push_str("one way");
+    }
+    put_text(out, if forth.is_empty() { b"none" } else { &forth })
+}
+
+/// The words of paths, with a semicolon between two.
+pub fn paths_text(alloc: Global, paths: &Paths) -> Result<Vec<u8>, AllocError> {
+    let mut words = Vec::new(alloc);
+    for path in paths.as_slice() {
+        if !words.is_empty() {
+            words.push(b';')?;
+        }
+        path.write(&mut words)?;
+    }
+    Ok(words)
 }
 
 /// Whether the first axes of two vertical CRSs are the same by themselves; `no axes` for other texts.

@@ -49,6 +49,7 @@ fn try_plain_call(rt: &(impl Print + AllocGlobal), name: &str, parts: &[&[u8]]) 
         "value_of" => values::try_value_of(rt, first(parts)),
         "canon" => values::try_canon(rt, first(parts)),
         "canon_of" => values::try_canon_of(rt, first(parts)),
+        "differences" => values::try_differences(rt, first(parts), second(parts)),
         _ => try_desk_call(rt, name, parts),
     }
 }

@@ -34,13 +34,13 @@ parts_of_ellipsoids at level (Some a) (Some b) = parts_of_ellipsoid at level a b
 -- ---- prime meridians
 
 -- the parts of two written prime meridians: name,
--- longitude, unit, which doesn't count at longitude 0, identifiers
+-- longitude, unit, which isn't compared where either is at longitude 0, identifiers
 abbrev pub parts_of_given : PartsOf MeridianParts
 parts_of_given at level a b =
     part (at ▸ step.Name) (a.name ≡ b.name)
     ⨾ part (at ▸ step.Longitude) (SameValue a.longitude b.longitude)
     ⨾ part (at ▸ step.Unit)
-    (IsZero a.longitude ⊎ BothOrNeither (SameUnit kinds.Angle level) a.unit b.unit)
+    (IsZero a.longitude ⊎ IsZero b.longitude ⊎ BothOrNeither (SameUnit kinds.Angle level) a.unit b.unit)
     ⨾ part (at ▸ step.Id) (SameIdents level a.identifiers b.identifiers)
 
 -- the parts of a written prime meridian and a missing one, which is Greenwich: name, longitude, identifiers

@@ -65,6 +65,7 @@ fn walk_geodetic<'a>(
 pub fn same_geodetic<'a>(a: &Geodetic<'a>, b: &Geodetic<'a>, level: Level) -> bool
     ensures { IsTrue result ↔ SameGeodetic level a.now b.now }
 {
+    laws::zero_is_one_number();
     laws::one_axis_each();
     laws::as_many_axes();
     let _name = a.name;
@@ -101,6 +102,7 @@ fn walk_base<'a>(found: Found, at: Path, a: &Base<'a>, b: &Base<'a>, level: Leve
 pub fn same_base<'a>(a: &Base<'a>, b: &Base<'a>, level: Level) -> bool
     ensures { IsTrue result ↔ SameBase level a.now b.now }
 {
+    laws::zero_is_one_number();
     walk_base(Found::first(), Path::start(), a, b, level).is_same()
 }
 
@@ -129,6 +131,7 @@ fn walk_projected<'a>(
 pub fn same_projected<'a>(a: &Projected<'a>, b: &Projected<'a>, level: Level) -> bool
     ensures { IsTrue result ↔ SameProjected level a.now b.now }
 {
+    laws::zero_is_one_number();
     laws::one_axis_each();
     laws::as_many_axes();
     let _name = a.name;
@@ -167,6 +170,7 @@ fn walk_vertical<'a>(
 pub fn same_vertical<'a>(a: &Vertical<'a>, b: &Vertical<'a>, level: Level) -> bool
     ensures { IsTrue result ↔ SameVertical level a.now b.now }
 {
+    laws::zero_is_one_number();
     laws::one_axis_each();
     laws::as_many_axes();
     let _name = a.name;
@@ -232,6 +236,7 @@ fn walk_compound<'a>(
 pub fn same_compound<'a>(a: &Compound<'a>, b: &Compound<'a>, level: Level) -> bool
     ensures { IsTrue result ↔ SameCompound level a.now b.now }
 {
+    laws::zero_is_one_number();
     laws::one_axis_each();
     laws::as_many_axes();
     let _name = a.name;

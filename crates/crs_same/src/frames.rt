@@ -76,12 +76,14 @@ pub fn same_ellipsoid<'a>(a: &Ellipsoid<'a>, b: &Ellipsoid<'a>, level: Level) ->
     walk_ellipsoid(Found::first(), Path::start(), a, b, level).is_same()
 }
 
-// Of meridians with one longitude: at 0 the unit doesn't count.
+// At longitude 0 the unit doesn't count.
 fn same_meridian_units<'a>(a: &Meridian<'a>, b: &Meridian<'a>, level: Level) -> bool
     ensures { IsTrue result ↔
-        (IsZero a.now.longitude ⊎ BothOrNeither (SameUnit kinds.Angle level) a.now.unit b.now.unit) }
+        (IsZero a.now.longitude ⊎ IsZero b.now.longitude
+        ⊎ BothOrNeither (SameUnit kinds.Angle level) a.now.unit b.now.unit) }
 {
     a.longitude.is_whole(0)
+        || b.longitude.is_whole(0)
         || same_units_as(UnitKind::Angle, a.unit.as_ref(), b.unit.as_ref(), level)
 }
 
@@ -133,6 +135,7 @@ pub(crate) fn walk_meridian<'a>(
 pub fn same_meridian<'a>(a: &Meridian<'a>, b: &Meridian<'a>, level: Level) -> bool
     ensures { IsTrue result ↔ SameGiven level a.now b.now }
 {
+    laws::zero_is_one_number();
     walk_given(Found::first(), Path::start(), a, b, level).is_same()
 }
 

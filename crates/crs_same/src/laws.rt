@@ -1,5 +1,6 @@
 //! Laws of the definitions, as contracts of functions that do nothing.
 ghost use Rattle.std.specs.Prelude.{◌≡◌, ◌≤◌, ◌↔◌, ◌∷◌, ℕ, ⊤, List, [], None, Some, length};
+ghost use Rattle.crs_decimal.specs.Value.{Value};
 ghost use Rattle.crs_value.specs.declared.values.crs.Crs.{Crs};
 ghost use Rattle.crs_value.specs.declared.values.level.Level.{Level};
 ghost use Rattle.crs_value.specs.declared.values.level.Level.TheVariants as levels;
@@ -20,7 +21,7 @@ ghost use Rattle.crs_same.specs.SameConversions.{SameMethod, SameParameter, Same
 ghost use Rattle.crs_same.specs.SameCrs.{SameGeodetic, SameBase, SameProjected, SameVertical, SameHorizontal};
 ghost use Rattle.crs_same.specs.SameCrs.{IsHorizontalPart, SameCompound, SameCrs};
 ghost use Rattle.crs_same.specs.SameDynamic.{SameDeformationModel, SameDynamic};
-ghost use Rattle.crs_same.specs.SameFrames.{SameEllipsoid, SameGiven, SameMeridian, SameMember, SameDatum};
+ghost use Rattle.crs_same.specs.SameFrames.{IsZero, SameEllipsoid, SameGiven, SameMeridian, SameMember, SameDatum};
 ghost use Rattle.crs_same.specs.SameFrames.{SameEnsemble, SameFrame};
 ghost use Rattle.crs_same.specs.SameIdents.{SameIdent, SameIdents};
 ghost use Rattle.crs_same.specs.SameSystems.{SameAxisMeridian, SameAxisAlone, HasAt, SameSystem};
@@ -46,6 +47,13 @@ pub fn one_axis_each()
 pub fn as_many_axes()
     ensures { (a b : SystemParts) → IsSystem a → IsSystem b → SameValue a.dimension b.dimension →
         length a.axes ≡ length b.axes }
+{
+    laws::same_number_is_equivalence();
+}
+
+// What is the same number as zero is zero.
+pub(crate) fn zero_is_one_number()
+    ensures { (a b : Value) → SameValue a b → IsZero b → IsZero a }
 {
     laws::same_number_is_equivalence();
 }
@@ -345,6 +353,7 @@ pub fn parts_are_the_same_where_crs_is()
     ensures some { (level : Level) (a b : Crs) → IsCrs a → IsCrs b → (path : List Step) →
         FirstInCrs level a b (Some path) → ¬ SameCrs level a b }
 {
+    zero_is_one_number();
     one_axis_each();
     as_many_axes();
 }

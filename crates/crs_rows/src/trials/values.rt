@@ -1,10 +1,12 @@
-//! Calls that make the value of a text, or its canonical text.
+//! Calls that make the value of a text, or its canonical text, and that compare values.
 use crate::escapes::put_text;
+use crate::sameness::paths_text;
 use crate::texts::{answered, put_refusal};
 use crate::trials::trial::{Trial, run};
 use crate::trials::unusable;
 use crate::values::kind_word;
 use crs_canon::{Canon, canon, canon_of};
+use crs_same::{Paths, differences};
 use crs_text::{Fault, Items, Refusal, read_items};
 use crs_value::{Crs, Level, read, value_of};
 use std::alloc::{AllocError, Global};
@@ -79,6 +81,31 @@ impl Trial for Spelling<'_, '_> {
     }
 }
 
+// What is compared: two CRSs.
+#[derive(Clone, Copy)]
+struct Comparing<'v, 't> {
+    first: &'v Crs<'t>,
+    second: &'v Crs<'t>,
+}
+
+impl Trial for Comparing<'_, '_> {
+    type Answer = Paths;
+
+    fn call(&mut self, alloc: Global) -> Result<Self::Answer, AllocError> {
+        differences(alloc, self.first, self.second, Level::Full)
+    }
+
+    // Values that are only read can't change.
+    fn is_kept(&self, _alloc: Global) -> Result<bool, AllocError> {
+        Ok(true)
+    }
+
+    fn put_answer(&self, out: &mut String, answer: &Self::Answer) -> Result<(), AllocError> {
+        let text = paths_text(*out.allocator(), answer)?;
+        put_text(out, &text)
+    }
+}
+
 /// `read` of a text.
 pub fn try_read(rt: &(impl Print + AllocGlobal), text: &[u8]) -> io::Result<()> {
     run(rt, &mut Reading::Text(text))
@@ -101,6 +128,31 @@ pub fn try_canon(rt: &(impl Print + AllocGlobal), text: &[u8]) -> io::Result<()>
 pub fn try_canon_of(rt: &(impl Print + AllocGlobal), text: &[u8]) -> io::Result<()> {
     let crs = crs_of(rt.alloc(), text)?;
     run(rt, &mut Spelling::Crs(&crs))
+}
+
+/// `differences` between the CRSs of two texts.
+pub fn try_differences<'t>(
+    rt: &(impl Print + AllocGlobal),
+    first: &'t [u8],
+    second: &'t [u8],
+) -> io::Result<()> {
+    let first = crs_of(rt.alloc(), first)?;
+    try_differences_from(rt, &first, second)
+}
+
+fn try_differences_from<'t>(
+    rt: &(impl Print + AllocGlobal),
+    first: &Crs<'t>,
+    text: &'t [u8],
+) -> io::Result<()> {
+    let second = crs_of(rt.alloc(), text)?;
+    run(
+        rt,
+        &mut Comparing {
+            first,
+            second: &second,
+        },
+    )
 }
 
 /// The CRS that a text spells, for a call that is handed one.

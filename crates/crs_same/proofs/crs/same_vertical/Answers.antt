@@ -5,5 +5,5 @@ use Rattle.crs_same.proofs.crs.same_vertical.Goals as goal
 
 pub returns : goal.returns
 returns c =
-    decides (vertical c.args.level c.one_axis_each.ensures.one c.as_many_axes.ensures c.start.result c.args.a.now c.args.b.now (subst IsVertical c.a.view_is c.a.invariant) (subst IsVertical c.b.view_is c.b.invariant))
+    decides (vertical c.args.level c.zero_is_one_number.ensures c.one_axis_each.ensures.one c.as_many_axes.ensures c.start.result c.args.a.now c.args.b.now (subst IsVertical c.a.view_is c.a.invariant) (subst IsVertical c.b.view_is c.b.invariant))
     c.first.ensures c.walk_vertical.ensures c.is_same.ensures
