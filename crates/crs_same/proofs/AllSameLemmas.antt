@@ -1,5 +1,5 @@
 -- All parts of two values are the same exactly where the values are.
-use Rattle.std.proofs.Common.{◌≡◌, ◌⊎◌, ◌↔◌, ◌≤◌, ◌&&◌, inl, inr, ℕ, zero, suc, max, nat_le, Option, Some, None, List, [], ◌∷◌, ◌++◌, Bool, true, false, IsTrue, length, refl, sym, subst, ap, ◌∙◌, rules, arith}
+use Rattle.std.proofs.Common.{◌≡◌, ◌⊎◌, ◌↔◌, ◌≤◌, ◌&&◌, inl, inr, ℕ, zero, suc, max, nat_le, Option, Some, None, List, [], Bool, true, false, IsTrue, length, refl, sym, subst, ◌∙◌, arith}
 use Rattle.crs_value.specs.declared.values.compound.Horizontal.{Horizontal}
 use Rattle.crs_value.specs.declared.values.compound.Horizontal.TheVariants as horizontal
 use Rattle.crs_value.specs.declared.values.crs.Crs.{Crs}
@@ -20,7 +20,7 @@ use Rattle.crs_same.specs.Parts.{◌▸◌, Parts, none, part, ◌⨾◌, within
 use Rattle.crs_same.specs.Walked.{Walks, Walked}
 use Rattle.crs_same.specs.PartsOfCrs.{parts_of_method, parts_of_conversion, parts_of_dynamic, parts_of_tail, parts_of_geodetic, parts_of_base, parts_of_projected, parts_of_vertical, parts_of_horizontal, parts_of_compound, parts_of_crs}
 use Rattle.crs_same.specs.PartsOfFrames.{parts_of_ellipsoid, parts_of_ellipsoids, parts_of_given, parts_beside_greenwich, parts_of_meridian, parts_of_datum, parts_of_ensemble, parts_of_frame}
-use Rattle.crs_same.specs.PartsOfSystems.{parts_of_axis, StandAt, parts_of_both, parts_where, parts_at, parts_of_axes, parts_of_system}
+use Rattle.crs_same.specs.PartsOfSystems.{parts_of_axis, StandAt, parts_of_both, parts_where, parts_of_axes, parts_of_system}
 use Rattle.crs_same.specs.SameConversions.{SameMethod, SameConversion}
 use Rattle.crs_same.specs.SameCrs.{SameGeodetic, SameBase, SameProjected, SameVertical, SameHorizontal, SameCompound, SameCrs}
 use Rattle.crs_same.specs.SameDynamic.{SameDynamic}
@@ -28,7 +28,7 @@ use Rattle.crs_same.specs.SameFrames.{IsZero, SameEllipsoid, SameGiven, IsGreenw
 use Rattle.crs_same.specs.SameSystems.{SameAxis, HasAt, SameAt, SameAxes, SameSystem}
 use Rattle.crs_same.specs.SameUsages.{SameTail}
 use Rattle.crs_same.specs.Sets.{BothOrNeither}
-use Rattle.std.proofs.lemmas.Bool.{le-leb, leb-true}
+use Rattle.std.proofs.lemmas.Bool.{le-leb}
 use Rattle.crs_decimal.specs.Value.{Value}
 use Rattle.crs_value.specs.declared.values.unit_kind.UnitKind.TheVariants as kinds
 use Rattle.crs_value.specs.SoundCompound.{IsCompound, IsHorizontal}
@@ -201,6 +201,7 @@ module _ (level : Level) where
         one_of same_value (inl first) = inl first
         one_of same_value (inr (inl second)) = inl (zero_is a.longitude b.longitude same_value second)
         one_of same_value (inr (inr units)) = inr units
+
         of_one : IsZero a.longitude ⊎ BothOrNeither (SameUnit kinds.Angle level) a.unit b.unit →
             IsZero a.longitude ⊎ IsZero b.longitude ⊎ BothOrNeither (SameUnit kinds.Angle level) a.unit b.unit
         of_one (inl first) = inl first

@@ -1,5 +1,5 @@
 -- The first of the parts that differ is the first part that differs.
-use Rattle.std.proofs.Common.{◌≡◌, ◌++◌, inl, inr, Option, Some, None, List, [], ◌∷◌, refl, sym, subst, ap, ◌∙◌}
+use Rattle.std.proofs.Common.{◌++◌, inl, inr, Option, Some, None, List, [], ◌∷◌, sym, subst, ap}
 use Rattle.crs_same.specs.declared.step.Step.{Step}
 use Rattle.crs_same.specs.Parts.{Parts, none, part, ◌⨾◌, within, First, Differences}
 

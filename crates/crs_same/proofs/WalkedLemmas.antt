@@ -1,9 +1,9 @@
 -- What a walk over parts finds, from what it finds over each.
-use Rattle.std.proofs.Common.{◌≡◌, ◌++◌, ◌⊎◌, ◌↔◌, inl, inr, Option, Some, None, List, [], ◌∷◌, Bool, true, false, IsTrue, refl, sym, subst, ap, ◌∙◌, append_assoc, append-nil}
+use Rattle.std.proofs.Common.{◌≡◌, ◌++◌, ◌↔◌, inl, inr, Option, Some, None, List, [], ◌∷◌, Bool, true, false, IsTrue, refl, sym, subst, ap, ◌∙◌, append_assoc, append-nil}
 use Rattle.crs_same.specs.declared.found.Found.{Found}
 use Rattle.crs_same.specs.declared.found.Found.TheVariants as found
 use Rattle.crs_same.specs.declared.step.Step.{Step}
-use Rattle.crs_same.specs.Parts.{Parts, none, part, ◌⨾◌, within, AllSame, First, Differences}
+use Rattle.crs_same.specs.Parts.{Parts, none, part, ◌⨾◌, within, First}
 use Rattle.crs_same.specs.Walked.{IsDone, IsRefused, Walks, TellsOf, Tells, Told, Walked}
 
 never : IsTrue false → ⊥

@@ -1,4 +1,4 @@
-use Rattle.std.proofs.Common.{rules, sym}
+use Rattle.std.proofs.Common.{rules}
 use Rattle.crs_same.specs.PartsOfCrs.{parts_of_dynamic}
 use Rattle.crs_same.proofs.WalkedLemmas.{◌⟫◌, one}
 use Rattle.crs_same.proofs.dynamic.walk_dynamic.Goals as goal
