@@ -36,6 +36,7 @@ abbrev pub parts_where : Bool → List Step → Level → SystemParts → System
 parts_where true at level a b position = parts_of_both at level a b position
 parts_where false at level a b position = part (at ▸ step.Axis position ▸ step.Name) ⊥
 
+-- the parts of the axes at a position; where one system has none there, its name is on one side alone
 abbrev pub parts_at : List Step → Level → SystemParts → SystemParts → ℕ → Parts
 parts_at at level a b position =
     parts_where (nat_le position (length a.axes) && nat_le position (length b.axes)) at level a b position

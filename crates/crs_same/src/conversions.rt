@@ -123,6 +123,9 @@ pub(crate) fn walk_conversion<'a>(
     requires { length at ≤ 3 }
     ensures { Walked (parts_of_conversion at level a.now b.now) found result }
 {
+    if found.is_done() {
+        return found;
+    }
     let found = found.part(&at, Step::Name, same_text(a.name, b.name));
     let method = at.then(Step::Method);
     let found = walk_method(found, method, &a.method, &b.method, level);

@@ -122,6 +122,9 @@ pub(crate) fn walk_meridian<'a>(
     requires { length at ≤ 4 }
     ensures { Walked (parts_of_meridian at level a.now b.now) found result }
 {
+    if found.is_done() {
+        return found;
+    }
     match (a, b) {
         (None, None) => found,
         (Some(x), None) => walk_beside_greenwich(found, at, x, level),
@@ -227,6 +230,9 @@ pub(crate) fn walk_frame<'a>(
     requires { length at ≤ 3 }
     ensures { Walked (parts_of_frame at level a.now b.now) found result }
 {
+    if found.is_done() {
+        return found;
+    }
     match (a, b) {
         (Frame::Datum(x), Frame::Datum(y)) => walk_datum(found, at, x, y, level),
         (Frame::Ensemble(x), Frame::Ensemble(y)) => walk_ensemble(found, at, x, y, level),

@@ -65,6 +65,9 @@ fn walk_axis<'a>(
     requires { length at ≤ 4 }
     ensures { Walked (parts_of_axis at level a.now b.now x.now y.now) found result }
 {
+    if found.is_done() {
+        return found;
+    }
     let found = found.part(&at, Step::Name, same_text(x.name, y.name));
     let found = found.part(
         &at,

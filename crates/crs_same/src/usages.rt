@@ -264,6 +264,9 @@ pub(crate) fn walk_tail<'a>(
     requires { length at ≤ 4 }
     ensures { Walked (parts_of_tail at level a.now b.now) found result }
 {
+    if found.is_done() {
+        return found;
+    }
     let found = found.part(&at, Step::Usage, same_usages(a, b, level));
     let found = found.part(
         &at,

@@ -1,6 +1,6 @@
 use Rattle.std.proofs.Common.{rules}
 use Rattle.crs_same.specs.PartsOfCrs.{parts_of_tail}
-use Rattle.crs_same.proofs.WalkedLemmas.{◌⟫◌, one}
+use Rattle.crs_same.proofs.WalkedLemmas.{◌⟫◌, done, one}
 use Rattle.crs_same.proofs.usages.walk_tail.Goals as goal
 
 pub returns : goal.returns
@@ -9,3 +9,6 @@ returns c =
     one (search rules) c.part-found.ensures ⟫
     one (search rules) c.part-found-2.ensures ⟫
     one (search rules) c.part.ensures
+
+pub returns-then-is_done : goal.returns-then-is_done
+returns-then-is_done c = done (search rules)
