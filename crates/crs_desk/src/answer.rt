@@ -1,5 +1,5 @@
 //! The end of a run: a command's answer is written, with its status.
-ghost use Rattle.std.specs.Prelude.{◌≡◌, ◌↔◌, ℕ, List, IfOk, IfErr, IsErrOf, true};
+ghost use Rattle.std.specs.Prelude.{◌≡◌, ◌↔◌, ℕ, List, IfOk, IfErr, IsErrOf, false, true};
 ghost use Rattle.crs_desk.specs.Ending.{IsWritten, IsWriteFault};
 ghost use Rattle.crs_group.specs.Streams.{fresh_sink};
 
@@ -25,6 +25,7 @@ pub(crate) fn write_answer<A: Answer, W: Write>(
     ensures answered { IfOk result (IsWritten (A.Output answer.now) w.old w.new) }
     ensures fault { IfErr result (IsWriteFault w.old w.new) }
     ensures write_failed { IsErrOf result RunFault.WriteFailed ↔ (w.new.failed ≡ true) }
+    ensures past_failure { w.new.past_failure ≡ false }
 {
     let (output, status) = answer.output(alloc).map_err(|_| RunFault::Memory)?;
     w.write_all(&output).map_err(|_| RunFault::WriteFailed)?;

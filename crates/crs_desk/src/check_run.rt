@@ -30,6 +30,7 @@ pub fn run_check<R: Read, W: Write>(
     ensures fault { IfErr result (IsRunFault r.new w.old w.new) }
     ensures read_failed { IsErrOf result RunFault.ReadFailed ↔ (r.new.failed ≡ true) }
     ensures write_failed { IsErrOf result RunFault.WriteFailed ↔ (w.new.failed ≡ true) }
+    ensures past_failure { w.new.past_failure ≡ false }
     ensures too_long { IsErrOf result (RunFault.TooLong 0) ↔ (1048576 < r.new.taken) × (r.new.failed ≡ false) }
 {
     let feeder = read_pieces(alloc, r)?;

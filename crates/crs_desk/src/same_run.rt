@@ -1,4 +1,4 @@
-ghost use Rattle.std.specs.Prelude.{◌≡◌, ◌↔◌, ◌++◌, ◌∷◌, [], IfOk, IfErr, IsErrOf, codes, true};
+ghost use Rattle.std.specs.Prelude.{◌≡◌, ◌↔◌, ◌++◌, ◌∷◌, [], IfOk, IfErr, IsErrOf, codes, false, true};
 ghost use Rattle.crs_same.specs.Paths.{path_text};
 ghost use Rattle.crs_desk.specs.Ending.{IsWritten, IsWriteFault};
 ghost use Rattle.crs_desk.specs.SameOutput.{IsSameOutput, IsSecondOutput, WritesPart};
@@ -27,6 +27,7 @@ pub fn run_same<W: Write>(
     ensures answered { IfOk result (IsWritten (IsSameOutput level a.now b.now) w.old w.new) }
     ensures fault { IfErr result (IsWriteFault w.old w.new) }
     ensures write_failed { IsErrOf result RunFault.WriteFailed ↔ (w.new.failed ≡ true) }
+    ensures past_failure { w.new.past_failure ≡ false }
 {
     let answer = SameAnswer {
         level,

@@ -13,11 +13,12 @@ pub record SourceState : Type 0 where
   pub past_end : Bool
   pub failed : Bool
 
--- a writer: the bytes that it holds where it tells them, whether anything was handed to it, and
--- whether a write answered a failure
+-- a writer: the bytes that it holds where it tells them, whether anything was handed to it, whether
+-- a write was made past a failure, and whether a write answered a failure, or took no byte
 pub record SinkState : Type 0 where
   pub contents : Option (List ℕ)
   pub used : Bool
+  pub past_failure : Bool
   pub failed : Bool
 
 -- a reader with these bytes left, of which nothing was read
@@ -34,7 +35,8 @@ fresh_source remaining =
 
 -- a writer with these bytes, to which nothing was written
 abbrev pub fresh_sink : Option (List ℕ) → SinkState
-fresh_sink contents = record { contents = contents; used = false; failed = false }
+fresh_sink contents =
+    record { contents = contents; used = false; past_failure = false; failed = false }
 
 -- a writer that was asked for these bytes, and not where there are none
 abbrev pub IsAskedFor : List ℕ → SinkState → SinkState → Type 0
@@ -51,8 +53,18 @@ pub record CountsRead {E : Type 0} (old new : SourceState) (answer : Result ℕ 
       × (new.failed ≡ old.failed))
       (λ _. (new.taken ≡ old.taken) × (new.ended ≡ old.ended) × (new.failed ≡ true))
 
--- one more write: it was used, and it failed where the answer is an error
-pub record CountsWrite {E : Type 0} (old new : SinkState)
+-- one more write: it was used, whether a failure was answered before, and whether one is answered
+-- now
+pub record CountsWrite {E : Type 0} (old new : SinkState) (answer : Result ℕ E) : Type 0 where
+  pub is_used : new.used ≡ true
+  pub past_failure : new.past_failure ≡ (old.past_failure || old.failed)
+  pub failure : MatchResult answer (λ count. new.failed ≡ (old.failed || (count == 0)))
+      (λ _. new.failed ≡ true)
+
+-- bytes that are handed over, in one write after another up to a failure: nothing is asked of a
+-- writer behind one
+pub record CountsWrites {E : Type 0} (old new : SinkState)
     (answer : Result (Unit {0}) E) : Type 0 where
   pub is_used : new.used ≡ true
+  pub past_failure : old.failed ≡ false → new.past_failure ≡ old.past_failure
   pub failure : MatchResult answer (λ _. new.failed ≡ old.failed) (λ _. new.failed ≡ true)

@@ -34,6 +34,7 @@ pub fn run_group<R: Read, W: Write>(
     ensures fault { IfErr result (IsGroupFault r.old r.new w.old w.new) }
     ensures read_failed { IsErrOf result RunFault.ReadFailed ↔ (r.new.failed ≡ true) }
     ensures write_failed { IsErrOf result RunFault.WriteFailed ↔ (w.new.failed ≡ true) }
+    ensures past_failure { w.new.past_failure ≡ false }
 {
     let ledger = read_ledger(alloc, level, r)?;
     write_ledger(alloc, &ledger, w)
@@ -90,6 +91,7 @@ fn write_ledger<W: Write>(
     requires { sink.old ≡ fresh_sink sink.old.contents }
     ensures ok { IfOk result (WritesLedger ledger.now sink.old sink.new) }
     ensures err { IfErr result (IsWritingFault sink.old sink.new) }
+    ensures past_failure { sink.new.past_failure ≡ false }
 {
     let mut text = Vec::new(alloc);
     write_catalogue(&mut text, ledger.catalogue()).map_err(|_| RunFault::Memory)?;

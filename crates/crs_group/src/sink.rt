@@ -1,6 +1,7 @@
 ghost use Rattle.std.specs.Prelude.{◌≡◌, OnOk};
-ghost use Rattle.std.specs.Io.KnownBytes.{Appends};
-ghost use Rattle.crs_group.specs.Streams.{CountsWrite, fresh_sink};
+ghost use Rattle.std.specs.Io.{WritesAtMost};
+ghost use Rattle.std.specs.Io.KnownBytes.{Appends, WriteAppends};
+ghost use Rattle.crs_group.specs.Streams.{CountsWrite, CountsWrites, fresh_sink};
 
 use std::io;
 use std::io::Write;
@@ -11,6 +12,7 @@ use std::marker::Model;
 pub struct Sink<W: Write> {
     writer: W,
     used: bool,
+    past_failure: bool,
     failed: bool,
 }
 
@@ -22,6 +24,7 @@ impl<W: Write> Model for Sink<W> {
     ghost view = { λ sink. record {
       contents = W.contents sink.writer;
       used = sink.used;
+      past_failure = sink.past_failure;
       failed = sink.failed;
     } };
 }
@@ -34,43 +37,54 @@ impl<W: Write> Sink<W> {
         Sink {
             writer,
             used: false,
+            past_failure: false,
             failed: false,
         }
     }
 
-    /// Writes all the bytes; where there are none the writer isn't asked. An error is the writer's own, an interruption
-    /// included, or `WriteZero` where the writer takes no byte; the sink has `failed` from then on.
+    /// Writes all the bytes, as many at a time as the writer takes; where there are none the writer isn't asked. An
+    /// error is the writer's own, an interruption included, or `WriteZero` where the writer takes no byte; nothing is
+    /// asked of the writer behind it, and the sink has `failed` from then on.
     pub fn write_all(&mut self, bytes: &[u8]) -> io::Result<()>
         ensures bytes { OnOk result (Appends self.old.contents self.new.contents bytes.now) }
+        ensures counted { CountsWrites self.old self.new result }
+    {
+        self.used = true;
+        let mut rest = bytes;
+        while !rest.is_empty() {
+            match self.write(rest)? {
+                0 => return Err(io::Error::from(io::ErrorKind::WriteZero)),
+                count => rest = &rest[count..],
+            }
+        }
+        Ok(())
+    }
+
+    // One write of some bytes, and how many of them the writer took. An interruption is a failure, as it is of a read:
+    // the writer's own `write_all` would try again.
+    fn write(&mut self, bytes: &[u8]) -> io::Result<usize>
+        ensures bound { WritesAtMost result bytes.now }
+        ensures bytes { WriteAppends self.old.contents self.new.contents result bytes.now }
         ensures counted { CountsWrite self.old self.new result }
     {
         self.used = true;
-        let result = write_whole(&mut self.writer, bytes);
-        if result.is_err() {
-            self.failed = true;
+        self.past_failure = self.past_failure || self.failed;
+        match self.writer.write(bytes) {
+            Ok(count) => {
+                self.failed = self.failed || count == 0;
+                Ok(count)
+            }
+            Err(error) => {
+                self.failed = true;
+                Err(error)
+            }
         }
-        result
     }
 
-    /// Whether a write answered a failure.
+    /// Whether a write answered a failure, or took no byte.
     pub fn failed(&self) -> bool
         ensures { result ≡ self.now.failed }
     {
         self.failed
     }
-}
-
-// Writes all the bytes, as many at a time as the writer takes. An interruption ends it, as it ends a read: the writer's
-// own `write_all` would try again.
-fn write_whole<W: Write>(writer: &mut W, bytes: &[u8]) -> io::Result<()>
-    ensures { OnOk result (Appends (W.contents writer.old) (W.contents writer.new) bytes.now) }
-{
-    let mut rest = bytes;
-    while !rest.is_empty() {
-        match writer.write(rest)? {
-            0 => return Err(io::Error::from(io::ErrorKind::WriteZero)),
-            count => rest = &rest[count..],
-        }
-    }
-    Ok(())
 }
