@@ -753,17 +753,24 @@ def want_of_memory() -> None:
     assert (done.stdout, done.stderr) == (2 * told + "vertical\n", ""), (done.stdout, done.stderr)
 
 
-def lock_is_released() -> None:
-    text = HEIGHT[:-1].encode() + b',REMARK["' + b"r" * LONG + b'"]]'
-    worker = threading.Thread(target=lambda: [check(text) for _ in range(5)])
+def turns_beside(work: Callable[[], object]) -> int:
+    """How often this thread had a turn while another one was at work."""
+    worker = threading.Thread(target=work)
     worker.start()
-    began, longest = time.monotonic(), 0.0
+    turns = 0
     while worker.is_alive():
-        before = time.monotonic()
         time.sleep(0.001)
-        longest = max(longest, time.monotonic() - before)
-    took = time.monotonic() - began
-    assert longest < took / 3, f"waited {longest:.3f} s of {took:.3f} s"
+        turns += 1
+    return turns
+
+
+def lock_is_released() -> None:
+    # A thread that waits for the interpreter's lock has a turn between two calls at most. A busy machine may give it
+    # few turns besides, so that one good attempt of some is enough.
+    text = HEIGHT[:-1].encode() + b',REMARK["' + b"r" * LONG + b'"]]'
+    attempts = (turns_beside(lambda: [check(text) for _ in range(5)]) for _ in range(5))
+    most = next((turns for turns in attempts if turns > 15), None)
+    assert most is not None, "a call keeps the interpreter's lock"
 
 
 def four_threads() -> None:
