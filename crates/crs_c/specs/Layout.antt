@@ -25,17 +25,20 @@ sizes =
       piece = size (layout piece.the_row);
     }
 
--- each struct with a mark in each field
+-- a refusal with a mark in each field
 abbrev pub marked_refusal : Refused
 marked_refusal = record { place = 1111111111111111111; number = 2222222222 }
 
+-- a standing with a mark in each field
 abbrev pub marked_standing : Standing
 marked_standing =
     record { group = 3333333333333333333; refused = marked_refusal; code = 4000000004 }
 
+-- a line with a mark in each field
 abbrev pub marked_line : Numbered
 marked_line = record { number = 5555555555555555555; code = 4000000006 }
 
+-- a piece with a mark in each field
 abbrev pub marked_piece : Piece
 marked_piece =
     record { bytes = replicate 240 7; length = 8888888888888888888; code = 4000000009 }
