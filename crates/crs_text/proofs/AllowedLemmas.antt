@@ -13,7 +13,8 @@ use Rattle.crs_text.proofs.SoundLemmas.{AreSound, IsSound, run-cons, run-some, s
 use Rattle.crs_text.proofs.ViableLemmas.{node_tokens, step-opening, run-append, taken, completed, viable_from_run, run_from_viable}
 
 mutual
-  opens-item : (item : Item) (held : List Bool) (more : List Token) → fold open_after held (tokens item ++ more) ≡ fold open_after held more
+  -- the tokens of an item leave open what is
+  pub opens-item : (item : Item) (held : List Bool) (more : List Token) → fold open_after held (tokens item ++ more) ≡ fold open_after held more
   opens-item (leaf kind place raw) held more = refl
   opens-item (node place keyword square first others close) held more =
       ap (λ ts. fold open_after (square ∷ held) ts) (node_tokens (tokens first) (others_tokens others) (closing close square) more)

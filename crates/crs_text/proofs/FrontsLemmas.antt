@@ -63,7 +63,7 @@ pub at_once : (left : List ℕ) → StopsAt is_white left → IsAfterWhite left 
 at_once left ends = record { white = []; parts = refl; blank = refl; ends = ends }
 
 -- tokens may begin right after white space
-skip_white : (total : ℕ) (ts : List Token) (bytes at left : List ℕ) → IsAfterWhite bytes at → Fronts total bytes ts left → Fronts total at ts left
+pub skip_white : (total : ℕ) (ts : List Token) (bytes at left : List ℕ) → IsAfterWhite bytes at → Fronts total bytes ts left → Fronts total at ts left
 skip_white total [] bytes at left p q = subst (λ z. IsAfterWhite z left) (after_white_one bytes left at q p) (at_once left q.ends)
 skip_white total (t ∷ ts) bytes at left p q =
     let h : q.0 ≡ at = after_white_one bytes q.0 at q.2 p in

@@ -9,7 +9,9 @@ pub mod IdLemmas
 pub mod KeywordLemmas
 pub mod LeftLemmas
 pub mod LexedLemmas
+pub mod NestingLemmas
 pub mod OneItem
+pub mod PositionLemmas
 pub mod QuotedLemmas
 pub mod RunLemmas
 pub mod ScanLemmas

@@ -247,7 +247,8 @@ pub fault_of_stop : (bytes : List ℕ) (at : ℕ) (table : Flat) (fault : Fault)
 fault_of_stop bytes at table (faults.Refused r) reached s = refused_at bytes at table r reached s
 fault_of_stop bytes at table (faults.Memory e) reached s = tt
 
-fronts_short : (total : ℕ) (ts : List Token) (bytes left : List ℕ) → Fronts total bytes ts left → length left ≤ length bytes
+-- what is left behind tokens is no longer than the bytes
+pub fronts_short : (total : ℕ) (ts : List Token) (bytes left : List ℕ) → Fronts total bytes ts left → length left ≤ length bytes
 fronts_short total [] bytes left p = omega (arith, ap length p.parts, length-append p.white left)
 fronts_short total (t ∷ ts) bytes left p =
     omega (arith, fronts_short total ts p.1 left p.4, forms_shorter total t p.0 p.1 p.3, ap length p.2.parts, length-append p.2.white p.0)

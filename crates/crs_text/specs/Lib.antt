@@ -1,10 +1,13 @@
 pub mod Examples
 pub mod Fault
 pub mod Feeding
+pub mod Innermost
 pub mod Items
 pub mod KeywordTable
 pub mod Keywords
 pub mod Lexing
+pub mod Nesting
+pub mod Position
 pub mod Quoted
 pub mod Refusal
 pub mod Rows

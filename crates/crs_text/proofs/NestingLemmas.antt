@@ -1,0 +1,286 @@
+-- The places of the delimiters that are open, token by token.
+use Rattle.std.proofs.Common.{◌≡◌, ℕ, zero, suc, ◌+◌, ◌-◌, ◌≤◌, ◌<◌, ◌≢◌, ◌⊎◌, inl, inr, min, Bool, Option, Some, None, List, [], ◌∷◌, ◌++◌, length, get_or, drop, refl, sym, ap, subst, ◌∙◌, append_assoc, arith, get_or-set_same, get_or-set_other}
+use Rattle.std.proofs.Math.ListN.{set}
+use Rattle.std.specs.Prelude.{MatchOption}
+use Rattle.std.specs.List.{fold, prefix_len}
+use Rattle.std.proofs.lemmas.List.{append-nil, length-drop, drop-drop}
+use Rattle.std.proofs.lemmas.List.Sums.{fold-append, prefix_len-le-length}
+use Rattle.crs_text.specs.Tokens as tokens
+use Rattle.crs_text.specs.Tokens.{Token, single, comma, opening, closing, opening_byte, is_white, Forms, Fronts, IsAfterWhite}
+use Rattle.crs_text.specs.Items.{Item, AreNode}
+use Rattle.crs_text.specs.Items as items
+use Rattle.crs_text.specs.Viable.{IsViable, open_after, opens, last_of, MayFollow}
+use Rattle.crs_text.specs.TextFault.{IsFlaw, IsStop, RefusesText, SpellsNode}
+use Rattle.crs_text.specs.declared.refusal.Reason.{Reason}
+use Rattle.crs_text.specs.declared.refusal.Reason.TheVariants.{BadCharacter, BadNumber, NumberRange, NotUtf8, OpenText, Unexpected, UnexpectedEnd, TooDeep}
+use Rattle.crs_text.specs.declared.items.ItemKind.{ItemKind}
+use Rattle.crs_text.specs.Scan.{IsSingleAt}
+use Rattle.crs_text.specs.Innermost.{IsClosed, IsInnermost}
+use Rattle.crs_text.specs.Nesting.{places_held, places_after, innermost_of, IsPassed, IsHalted, AreOpen, LeadsTo, IsAhead, IsNested, IsAnswered}
+use Rattle.crs_text.proofs.TokenLemmas.{Forms-one}
+use Rattle.crs_text.proofs.FlawLemmas.{flaw_no_token}
+use Rattle.crs_text.proofs.FrontsLemmas.{fronts_dark, skip_white, front_token, front_none, fronts_more, forms_shorter}
+use Rattle.crs_text.proofs.AllowedLemmas.{allows_from_viable, opens-item}
+use Rattle.crs_text.proofs.ViableLemmas.{viable_front}
+use Rattle.crs_text.proofs.ScanLemmas.{after_white, fronts_short}
+
+-- ---- the places, read from the array
+
+pub places_held-top : (depth : ℕ) (ps : List ℕ) → 0 < depth → places_held depth ps ≡ get_or ps (depth - 1) 0 ∷ places_held (depth - 1) ps
+places_held-top zero ps h = absurd (omega arith)
+places_held-top (suc depth) ps h = let e : suc depth - 1 ≡ depth = omega arith in rw e refl
+
+pub places_held-none : (depth : ℕ) (ps : List ℕ) → depth ≡ 0 → places_held depth ps ≡ []
+places_held-none depth ps h = rw h refl
+
+pub length-places_held : (depth : ℕ) (ps : List ℕ) → length (places_held depth ps) ≡ depth
+length-places_held zero ps = refl
+length-places_held (suc depth) ps = ap (λ n. suc n) (length-places_held depth ps)
+
+-- a write above leaves what is below
+places_held-set : (depth : ℕ) (ps : List ℕ) (i p : ℕ) → depth ≤ i → places_held depth (set ps i p) ≡ places_held depth ps
+places_held-set zero ps i p h = refl
+places_held-set (suc depth) ps i p h =
+    let below : depth ≢ i = omega arith in
+    let here : get_or (set ps i p) depth 0 ≡ get_or ps depth 0 = rw get_or-set_other refl in
+    let rest = places_held-set depth ps i p (omega arith) in
+    cc
+
+-- one more
+pub places_held-push : (depth : ℕ) (ps : List ℕ) (p : ℕ) → depth < length ps → places_held (depth + 1) (set ps depth p) ≡ p ∷ places_held depth ps
+places_held-push depth ps p d =
+    let e : depth + 1 - 1 ≡ depth = omega arith in
+    let top = places_held-top (depth + 1) (set ps depth p) (omega arith) in
+    let here : get_or (set ps depth p) depth 0 ≡ p = rw get_or-set_same refl in
+    let rest = places_held-set depth ps depth p (omega arith) in
+    let t : places_held (depth + 1) (set ps depth p) ≡ get_or (set ps depth p) depth 0 ∷ places_held depth (set ps depth p) = rw e at top in
+    cc
+
+pub ruleset places_rules = (places_held-top, places_held-none, length-places_held, places_held-push)
+
+-- ---- what is open
+
+opens-append : (ts us : List Token) → opens (ts ++ us) ≡ fold open_after (opens ts) us
+opens-append ts us = fold-append open_after [] ts us
+
+-- the innermost is the last opened of those that are open
+opens-innermost : (text : List ℕ) (ts : List Token) (place : ℕ) (i : IsInnermost text ts place) → opens ts ≡ i.square ∷ opens i.outer
+opens-innermost text ts place i =
+    ap opens i.parts ∙ opens-append i.outer (opening i.square ∷ i.inner) ∙ i.closed (i.square ∷ opens i.outer)
+
+pub length-opens : (text places : List ℕ) (ts : List Token) → AreOpen text places ts → length (opens ts) ≡ length places
+length-opens text [] ts a = ap length a
+length-opens text (p ∷ ps) ts a =
+    ap length (opens-innermost text ts p a.0) ∙ ap (λ n. suc n) (length-opens text ps a.0.outer a.1)
+
+-- tokens that are closed, one after another
+closed_append : (ts us : List Token) → IsClosed ts → IsClosed us → IsClosed (ts ++ us)
+closed_append ts us a b = λ held. fold-append open_after held ts us ∙ ap (λ h. fold open_after h us) (a held) ∙ b held
+
+-- closed tokens behind leave open what is
+open_extend : (text places : List ℕ) (ts us : List Token) → AreOpen text places ts → IsClosed us → AreOpen text places (ts ++ us)
+open_extend text [] ts us a c = opens-append ts us ∙ ap (λ h. fold open_after h us) a ∙ c []
+open_extend text (p ∷ ps) ts us a c = (
+  record {
+    outer = a.0.outer;
+    inner = a.0.inner ++ us;
+    square = a.0.square;
+    parts = ap (λ z. z ++ us) a.0.parts ∙ append_assoc a.0.outer (opening a.0.square ∷ a.0.inner) us;
+    fronts = a.0.fronts;
+    stands = a.0.stands;
+    closed = closed_append a.0.inner us a.0.closed c;
+  },
+  a.1,
+)
+
+-- a delimiter and its closing one, with closed tokens between
+closed_pair : (square other : Bool) (place : ℕ) (inner : List Token) → IsClosed inner → IsClosed (opening square ∷ (inner ++ closing place other ∷ []))
+closed_pair square other place inner c = λ held.
+    fold-append open_after (square ∷ held) inner (closing place other ∷ [])
+    ∙ ap (λ h. fold open_after h (closing place other ∷ [])) (c (square ∷ held))
+
+-- one token more
+open_next : (text places : List ℕ) (ts : List Token) (t : Token) (at : ℕ) (rest : List ℕ) → AreOpen text places ts → Fronts (length text) text ts (drop at text)
+    → Forms (length text) t (drop at text) rest → AreOpen text (places_after at places t) (ts ++ t ∷ [])
+open_next text places ts (single kind place raw) at rest a f g = open_extend text places ts (single kind place raw ∷ []) a (λ held. refl)
+open_next text places ts comma at rest a f g = open_extend text places ts (comma ∷ []) a (λ held. refl)
+open_next text places ts (opening square) at rest a f g = (
+  record {
+    outer = ts;
+    inner = [];
+    square = square;
+    parts = refl;
+    fronts = f;
+    stands = g.spelled ∙ ap (λ (z : List ℕ). opening_byte square ∷ z) (sym (ap (drop 1) g.spelled) ∙ drop-drop 1 at text);
+    closed = λ held. refl;
+  },
+  a,
+)
+open_next text [] ts (closing place square) at rest a f g = opens-append ts (closing place square ∷ []) ∙ ap (λ h. open_after h (closing place square)) a
+open_next text (p ∷ ps) ts (closing place square) at rest a f g =
+    let pair = closed_pair a.0.square square place a.0.inner a.0.closed in
+    let parts : ts ++ closing place square ∷ [] ≡ a.0.outer ++ (opening a.0.square ∷ (a.0.inner ++ closing place square ∷ [])) =
+    ap (λ z. z ++ closing place square ∷ []) a.0.parts ∙ append_assoc a.0.outer (opening a.0.square ∷ a.0.inner) (closing place square ∷ []) in
+    subst (AreOpen text ps) (sym parts) (open_extend text ps a.0.outer _ a.1 pair)
+
+-- ---- one token
+
+pub places-closing : (places : List ℕ) (at place : ℕ) (square : Bool) → drop 1 places ≡ places_after at places (closing place square)
+places-closing [] at place square = refl
+places-closing (p ∷ ps) at place square = refl
+
+pub passed_single : (text : List ℕ) (at : ℕ) (places raw : List ℕ) (kind : ItemKind) (n : ℕ) → IsSingleAt text at kind raw n → IsPassed text at places places n
+passed_single text at places raw kind n s = record { token = single s.of_kind at raw; forms = s.forms; places = refl; within = s.within }
+
+pub passed_some : (text : List ℕ) (at : ℕ) (before behind : List ℕ) (n : ℕ) → IsPassed text at before behind n → 0 < n
+passed_some text at before behind n p =
+    omega (arith, forms_shorter (length text) p.token (drop at text) (drop (at + n) text) p.forms, length-drop at text, length-drop (at + n) text)
+
+-- ---- from place to place
+
+-- behind 12 open delimiters no further one is opened
+no_thirteenth : (last : Option Token) (held : List Bool) (square : Bool) → length held ≡ 12 → MayFollow last held (opening square) → ⊥
+no_thirteenth None held square e m = m
+no_thirteenth (Some (single tokens.number place raw)) [] square e m = m
+no_thirteenth (Some (single tokens.number place raw)) (h ∷ hs) square e m = m
+no_thirteenth (Some (single tokens.text place raw)) [] square e m = m
+no_thirteenth (Some (single tokens.text place raw)) (h ∷ hs) square e m = m
+no_thirteenth (Some (single tokens.word place raw)) [] square e m = absurd (omega arith)
+no_thirteenth (Some (single tokens.word place raw)) (h ∷ hs) square e m = elim m [ inl never ↦ never | inr lt ↦ absurd (omega (arith, lt.1, e)) ]
+no_thirteenth (Some comma) held square e m = m
+no_thirteenth (Some (opening other)) held square e m = m
+no_thirteenth (Some (closing place other)) [] square e m = m
+no_thirteenth (Some (closing place other)) (h ∷ hs) square e m = m
+
+pub nested_start : (text : List ℕ) (place at : ℕ) → at ≡ prefix_len is_white text → IsNested text place at []
+nested_start text place at e =
+    let w = subst (λ z. IsAfterWhite text (drop z text)) (sym e) (after_white text (prefix_len is_white text) refl) in
+    record {
+      tokens = [];
+      fronts = w;
+      within = omega (arith, prefix_len-le-length is_white text, e);
+      open_places = refl;
+      ahead = λ before left l. record { more = before; parts = refl; fronts = skip_white (length text) before text (drop at text) left w l.fronts };
+    }
+
+module _ (text : List ℕ) (place at : ℕ) (places : List ℕ) (nested : IsNested text place at places) where
+  -- what the tokens that lead to the place go on with, if they do
+  next_token : (before : List Token) (left : List ℕ) (l : LeadsTo text place before left) (u : Token) (us : List Token)
+      → (nested.ahead before left l).more ≡ u ∷ us → (rest : List ℕ) × Forms (length text) u (drop at text) rest × Fronts (length text) rest us left
+  next_token before left l u us e =
+      let g = nested.ahead before left l in
+      front_token (length text) u us (drop at text) left (fronts_dark (length text) nested.tokens text (drop at text) nested.fronts)
+      (subst (λ z. Fronts (length text) (drop at text) z left) e g.fronts)
+
+  -- they don't end where a token stands in front of the place
+  no_end : (before : List Token) (left rest : List ℕ) (t : Token) (l : LeadsTo text place before left) → at < place → Forms (length text) t (drop at text) rest
+      → (nested.ahead before left l).more ≡ [] → ⊥
+  no_end before left rest t l lt f e =
+      let g = nested.ahead before left l in
+      let same : drop at text ≡ left =
+      front_none (length text) (drop at text) left (fronts_dark (length text) nested.tokens text (drop at text) nested.fronts)
+      (subst (λ z. Fronts (length text) (drop at text) z left) e g.fronts) in
+      elim l.flaw [
+        | inl none ↦ let n = ap length same in absurd (omega (arith, n, none, l.is_place, length-drop at text, nested.within))
+        | inr flaw ↦ flaw_no_token NotUtf8 (length text) t (drop at text) rest l.skip (subst (λ z. IsFlaw NotUtf8 z l.skip) (sym same) flaw) f
+      ]
+
+  module _ (lt : at < place) (behind : List ℕ) (n w : ℕ) (p : IsPassed text at places behind n) (e : w ≡ prefix_len is_white (drop (at + n) text)) where
+    white : IsAfterWhite (drop (at + n) text) (drop (at + n + w) text)
+    white = subst (λ z. IsAfterWhite (drop (at + n) text) z) (drop-drop w (at + n) text) (after_white (drop (at + n) text) w e)
+
+    ahead_next : (before : List Token) (left : List ℕ) → LeadsTo text place before left → IsAhead text (at + n + w) (nested.tokens ++ p.token ∷ []) before left
+    ahead_next before left l = go (nested.ahead before left l).more refl
+      where
+        go : (more : List Token) → (nested.ahead before left l).more ≡ more → IsAhead text (at + n + w) (nested.tokens ++ p.token ∷ []) before left
+        go [] k = absurd (no_end before left (drop (at + n) text) p.token l lt p.forms k)
+        go (u ∷ us) k =
+            let f = next_token before left l u us k in
+            let one = Forms-one (length text) u p.token (drop at text) f.0 (drop (at + n) text) f.1 p.forms in
+            record {
+              more = us;
+              parts = (nested.ahead before left l).parts ∙ ap (λ z. nested.tokens ++ z) k ∙ ap (λ z. nested.tokens ++ z ∷ us) one.0 ∙ sym (append_assoc nested.tokens (p.token ∷ []) us);
+              fronts = skip_white (length text) us (drop (at + n) text) (drop (at + n + w) text) left white (subst (λ z. Fronts (length text) z us left) one.1 f.2);
+            }
+
+    pub nested_next : IsNested text place (at + n + w) behind
+    nested_next = record {
+      tokens = nested.tokens ++ p.token ∷ [];
+      fronts = fronts_more (length text) nested.tokens text (drop at text) (drop (at + n) text) (drop (at + n + w) text) p.token nested.fronts p.forms white;
+      within = omega (arith, prefix_len-le-length is_white (drop (at + n) text), length-drop (at + n) text, p.within, e);
+      open_places = subst (λ z. AreOpen text z (nested.tokens ++ p.token ∷ [])) (sym p.places) (open_next text places nested.tokens p.token at (drop (at + n) text) nested.open_places nested.fronts p.forms);
+      ahead = ahead_next;
+    }
+
+  answered_at : (before : List Token) → before ≡ nested.tokens → MatchOption (innermost_of places) (opens before ≡ []) (IsInnermost text before)
+  answered_at before e = subst (λ z. MatchOption (innermost_of places) (opens z ≡ []) (IsInnermost text z)) (sym e) (go places nested.open_places)
+    where
+      go : (ps : List ℕ) → AreOpen text ps nested.tokens → MatchOption (innermost_of ps) (opens nested.tokens ≡ []) (IsInnermost text nested.tokens)
+      go [] a = a
+      go (p ∷ ps) a = a.0
+
+  -- nothing goes on here with the tokens that lead to the place
+  answered_here : ((before : List Token) (left rest : List ℕ) (u : Token) (us : List Token) → LeadsTo text place before left → before ≡ nested.tokens ++ u ∷ us
+      → Forms (length text) u (drop at text) rest → Fronts (length text) rest us left → ⊥) → IsAnswered text place (innermost_of places)
+  answered_here none before left l = go (nested.ahead before left l).more refl
+    where
+      go : (more : List Token) → (nested.ahead before left l).more ≡ more → MatchOption (innermost_of places) (opens before ≡ []) (IsInnermost text before)
+      go [] k = answered_at before ((nested.ahead before left l).parts ∙ ap (λ z. nested.tokens ++ z) k ∙ append-nil nested.tokens)
+      go (u ∷ us) k =
+          let f = next_token before left l u us k in
+          absurd (none before left f.0 u us l ((nested.ahead before left l).parts ∙ ap (λ z. nested.tokens ++ z) k) f.1 f.2)
+
+  pub answered_end : min place (length text) ≤ at → IsAnswered text place (innermost_of places)
+  answered_end le = answered_here (λ before left rest u us l e f g.
+      omega (arith, forms_shorter (length text) u (drop at text) rest f, fronts_short (length text) us rest left g, length-drop at text, l.is_place, nested.within, le))
+
+  pub answered_halt : (behind : List ℕ) → IsHalted text at places behind → IsAnswered text place (innermost_of behind)
+  answered_halt behind h = subst (λ z. IsAnswered text place (innermost_of z)) (sym h.0) (answered_here none)
+    where
+      none : (before : List Token) (left rest : List ℕ) (u : Token) (us : List Token) → LeadsTo text place before left → before ≡ nested.tokens ++ u ∷ us
+          → Forms (length text) u (drop at text) rest → Fronts (length text) rest us left → ⊥
+      none before left rest u us l e f g = elim h.1 [
+        | inl flaw ↦ flaw_no_token flaw.0 (length text) u (drop at text) rest flaw.1 flaw.2 f
+        | inr full ↦
+            let same = (Forms-one (length text) u (opening full.0) (drop at text) rest full.1 f full.2).0 in
+            let parts : before ≡ (nested.tokens ++ opening full.0 ∷ []) ++ us = e ∙ ap (λ z. nested.tokens ++ z ∷ us) same ∙ sym (append_assoc nested.tokens (opening full.0 ∷ []) us) in
+            let v : IsViable (nested.tokens ++ opening full.0 ∷ []) = viable_front (nested.tokens ++ opening full.0 ∷ []) us (subst IsViable parts l.viable) in
+            no_thirteenth (last_of nested.tokens) (opens nested.tokens) full.0 (length-opens text places nested.tokens nested.open_places ∙ full.3)
+            (allows_from_viable nested.tokens (opening full.0) (viable_front nested.tokens (opening full.0 ∷ []) v) v)
+      ]
+
+-- ---- what leads to the place
+
+pub leads_from_refusal : (text : List ℕ) (n place : ℕ) (r : RefusesText text n place) → LeadsTo text place r.before r.left
+leads_from_refusal text n place r =
+    record { fronts = r.fronts; viable = r.viable; skip = r.skip; is_place = r.is_place; flaw = go r.reason r.stop }
+  where
+    go : (reason : Reason) → IsStop reason (length text) r.before r.left r.skip → (r.skip ≡ 0) ⊎ IsFlaw NotUtf8 r.left r.skip
+    go BadCharacter s = inl s.1
+    go BadNumber s = inl s.4
+    go NumberRange s = inl s.5
+    go NotUtf8 s = inr s
+    go OpenText s = inl s.4
+    go Unexpected s = inl s.5
+    go UnexpectedEnd s = inl s.2
+    go TooDeep s = inl s.4
+
+pub leads_from_node : (text : List ℕ) (item : Item) (place : ℕ) (s : SpellsNode text item) → place ≡ length text → LeadsTo text place s.0 []
+leads_from_node text item place s e = record {
+  fronts = s.1;
+  viable = ([], item, subst (AreNode item) (sym (append-nil s.0)) s.2);
+  skip = 0;
+  is_place = omega (arith, e);
+  flaw = inl refl;
+}
+
+-- behind a node nothing is open
+pub none_open : (text : List ℕ) (item : Item) (place : ℕ) (answer : Option ℕ) → SpellsNode text item → place ≡ length text → IsAnswered text place answer → answer ≡ None
+none_open text item place answer s e a = go answer (a s.0 [] (leads_from_node text item place s e))
+  where
+    closed : opens s.0 ≡ []
+    closed = ap opens s.2.are ∙ ap opens (sym (append-nil (items.tokens item))) ∙ opens-item item [] []
+
+    go : (o : Option ℕ) → MatchOption o (opens s.0 ≡ []) (IsInnermost text s.0) → o ≡ None
+    go None m = refl
+    go (Some q) m = let no = sym (opens-innermost text s.0 q m) ∙ closed in absurd cc

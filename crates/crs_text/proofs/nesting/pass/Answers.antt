@@ -1,0 +1,40 @@
+use Rattle.std.proofs.Common.{◌+◌, arith, refl, subst, ◌∙◌, take, drop}
+use Rattle.crs_text.specs.Tokens.{comma, closing}
+use Rattle.crs_text.specs.Lexing.{IsLexed}
+use Rattle.crs_text.specs.declared.items.ItemKind.TheVariants as kinds
+use Rattle.crs_text.proofs.ScanLemmas.{number_at, text_at, word_at, comma_at, closing_at}
+use Rattle.crs_text.proofs.NestingLemmas.{passed_single, places-closing}
+use Rattle.crs_text.proofs.nesting.pass.Goals as goal
+
+pub returns-in-Number : goal.returns-in-Number
+returns-in-Number c =
+    let text = c.args.text.now in
+    let l = subst (IsLexed (drop c.args.at text)) c.in-Number.is c.requires.lexed in
+    passed_single text c.args.at c.args.nest.now (take c.in-Number.length (drop c.args.at text)) kinds.Number c.in-Number.length (number_at text c.args.at c.requires.within c.in-Number.length l)
+
+pub returns-in-Text : goal.returns-in-Text
+returns-in-Text c =
+    let text = c.args.text.now in
+    let l = subst (IsLexed (drop c.args.at text)) c.in-Text.is c.requires.lexed in
+    passed_single text c.args.at c.args.nest.now (take c.in-Text.length (drop 1 (drop c.args.at text))) kinds.Text (c.in-Text.length + 2) (text_at text c.args.at c.requires.within c.in-Text.length l)
+
+pub returns-in-Word : goal.returns-in-Word
+returns-in-Word c =
+    let text = c.args.text.now in
+    let l = subst (IsLexed (drop c.args.at text)) c.in-Word.is c.requires.lexed in
+    passed_single text c.args.at c.args.nest.now (take c.in-Word.length (drop c.args.at text)) kinds.Word c.in-Word.length (word_at text c.args.at c.requires.within c.in-Word.length l)
+
+pub returns-in-Comma : goal.returns-in-Comma
+returns-in-Comma c =
+    let l = subst (IsLexed (drop c.args.at c.args.text.now)) c.in-Comma.is c.requires.lexed in
+    record { token = comma; forms = comma_at c.args.text.now c.args.at c.requires.within l; places = refl; within = omega (arith, c.requires.within) }
+
+pub returns-in-Closing : goal.returns-in-Closing
+returns-in-Closing c =
+    let l = subst (IsLexed (drop c.args.at c.args.text.now)) c.in-Closing.is c.requires.lexed in
+    record {
+      token = closing c.args.at c.in-Closing.square;
+      forms = closing_at c.args.text.now c.args.at c.requires.within c.in-Closing.square l;
+      places = c.close.ensures ∙ places-closing c.args.nest.now c.args.at c.args.at c.in-Closing.square;
+      within = omega (arith, c.requires.within);
+    }

@@ -1,0 +1,77 @@
+-- A bridge: the places of the delimiters that are open, the last opened first.
+use Rattle.std.specs.Prelude.{◌≡◌, ℕ, zero, suc, ◌+◌, ◌≤◌, ◌⊎◌, Bool, Option, Some, None, List, [], ◌∷◌, ◌++◌, length, drop}
+use Rattle.std.specs.Prelude.{slice_index_or, MatchOption}
+use Rattle.crs_text.specs.Tokens.{Token, single, comma, opening, closing, Forms, Fronts}
+use Rattle.crs_text.specs.Viable.{IsViable, opens}
+use Rattle.crs_text.specs.TextFault.{IsFlaw}
+use Rattle.crs_text.specs.Innermost.{IsInnermost}
+use Rattle.crs_text.specs.declared.refusal.Reason.{Reason}
+use Rattle.crs_text.specs.declared.refusal.Reason.TheVariants.{NotUtf8}
+
+-- the first of these, as many as `depth` says, the last first
+abbrev pub places_held : ℕ → List ℕ → List ℕ
+places_held zero places = []
+places_held (suc depth) places = slice_index_or places depth 0 ∷ places_held depth places
+
+-- the places behind a token at this place
+abbrev pub places_after : ℕ → List ℕ → Token → List ℕ
+places_after at places (single kind place raw) = places
+places_after at places comma = places
+places_after at places (opening square) = at ∷ places
+places_after at [] (closing place square) = []
+places_after at (last ∷ places) (closing place square) = places
+
+-- the place of the innermost, if any is open
+abbrev pub innermost_of : List ℕ → Option ℕ
+innermost_of [] = None
+innermost_of (last ∷ places) = Some last
+
+-- a token of n bytes stands at this place, and is counted
+pub record IsPassed (text : List ℕ) (at : ℕ) (before behind : List ℕ) (n : ℕ) : Type 0 where
+  pub token : Token
+  pub forms : Forms (length text) token (drop at text) (drop (at + n) text)
+  pub places : behind ≡ places_after at before token
+  pub within : at + n ≤ length text
+
+-- nothing is counted at this place: a flaw stands there, or an opening delimiter where 12 are open
+abbrev pub IsHalted : List ℕ → ℕ → List ℕ → List ℕ → Type 0
+IsHalted text at before behind =
+    (behind ≡ before)
+    × (((reason : Reason) × (skip : ℕ) × IsFlaw reason (drop at text) skip)
+    ⊎ ((square : Bool) × (rest : List ℕ) × Forms (length text) (opening square) (drop at text) rest
+    × (length before ≡ 12)))
+
+-- these are the places of the delimiters that are open behind these first tokens of the text
+abbrev pub AreOpen : List ℕ → List ℕ → List Token → Type 0
+AreOpen text [] ts = opens ts ≡ []
+AreOpen text (place ∷ places) ts = (i : IsInnermost text ts place) × AreOpen text places i.outer
+
+-- these viable tokens stand in front of what is left, which begins at the place, or with
+-- ill-formed UTF-8 at it
+pub record LeadsTo (text : List ℕ) (place : ℕ) (before : List Token) (left : List ℕ) : Type 0 where
+  pub fronts : Fronts (length text) text before left
+  pub viable : IsViable before
+  pub skip : ℕ
+  pub is_place : place + length left ≡ length text + skip
+  pub flaw : (skip ≡ 0) ⊎ IsFlaw NotUtf8 left skip
+
+-- of the tokens that lead to the place some are passed, and more of them may come from here
+pub record IsAhead (text : List ℕ) (at : ℕ) (ts before : List Token) (left : List ℕ) : Type 0 where
+  pub more : List Token
+  pub parts : before ≡ ts ++ more
+  pub fronts : Fronts (length text) (drop at text) more left
+
+-- these places are those of the delimiters that are open here, no further on than the tokens that lead to the place
+pub record IsNested (text : List ℕ) (place at : ℕ) (places : List ℕ) : Type 0 where
+  pub tokens : List Token
+  pub fronts : Fronts (length text) text tokens (drop at text)
+  pub within : at ≤ length text
+  pub open_places : AreOpen text places tokens
+  pub ahead : (before : List Token) (left : List ℕ) → LeadsTo text place before left →
+      IsAhead text at tokens before left
+
+-- the answer for all tokens that lead to the place
+abbrev pub IsAnswered : List ℕ → ℕ → Option ℕ → Type 0
+IsAnswered text place answer =
+    (before : List Token) (left : List ℕ) → LeadsTo text place before left →
+    MatchOption answer (opens before ≡ []) (IsInnermost text before)

@@ -1,0 +1,80 @@
+//! Where a place of a text stands for a person: its line and its column.
+ghost use Rattle.std.specs.Prelude.{◌≡◌, ◌≤◌, not, length, take, drop};
+ghost use Rattle.crs_text.specs.Position.{feeds, continues, characters, BeginsLine, EndsLine, IsPosition};
+
+use crate::lexing::{front_of, rest_of};
+use bstr::ByteSlice;
+
+/// Where a place of a text stands: its line, counted from 1, and its column, which counts the line's
+/// characters from 1; and where the line's bytes begin and end, the line feed not among them, so that
+/// `&text[begin..end]` is the line. Profile.
+#[derive(Clone, Copy, Debug, PartialEq, Eq)]
+pub struct Position {
+    pub line: usize,
+    pub column: usize,
+    pub begin: usize,
+    pub end: usize,
+}
+
+// How many line feeds the bytes have.
+fn feeds(bytes: &[u8]) -> usize
+    ensures { result ≡ feeds bytes.now }
+{
+    bytes.iter().filter(|b| **b == b'\n').count()
+}
+
+// Whether a character begins with this byte.
+fn begins_character(byte: u8) -> bool
+    ensures { result ≡ not (continues byte) }
+{
+    !matches!(byte, 0x80..=0xBF)
+}
+
+// How many characters the bytes begin.
+fn characters(bytes: &[u8]) -> usize
+    ensures { result ≡ characters bytes.now }
+{
+    bytes.iter().filter(|b| begins_character(**b)).count()
+}
+
+// Where the last line of these bytes begins.
+fn last_line(bytes: &[u8]) -> usize
+    ensures within { result ≤ length bytes.now }
+    ensures begins { BeginsLine (take result bytes.now) }
+    ensures one_line { feeds (drop result bytes.now) ≡ 0 }
+{
+    match bytes.rfind_byte(b'\n') {
+        Some(feed) => feed + 1,
+        None => 0,
+    }
+}
+
+// Where the first line of these bytes ends.
+fn first_line(bytes: &[u8]) -> usize
+    ensures within { result ≤ length bytes.now }
+    ensures one_line { feeds (take result bytes.now) ≡ 0 }
+    ensures ends { EndsLine (drop result bytes.now) }
+{
+    match bytes.find_byte(b'\n') {
+        Some(feed) => feed,
+        None => bytes.len(),
+    }
+}
+
+/// Where this place of the text stands; the text's end is a place too.
+///
+/// A line ends at a line feed alone: a carriage return is a character of its line. A byte from 128 to
+/// 191 continues a character, and isn't counted. Time is linear in the text. Profile.
+pub fn position_of(text: &[u8], place: usize) -> Position
+    requires { place ≤ length text.now }
+    ensures { IsPosition text.now place result }
+{
+    let front = front_of(text, place);
+    let begin = last_line(front);
+    Position {
+        line: 1 + feeds(front_of(front, begin)),
+        column: 1 + characters(rest_of(front, begin)),
+        begin,
+        end: place + first_line(rest_of(text, place)),
+    }
+}
