@@ -23,7 +23,7 @@ import subprocess
 import sys
 import tempfile
 from concurrent.futures import ThreadPoolExecutor
-from typing import Iterator, List, Tuple
+from typing import Iterator, List
 
 HERE = pathlib.Path(__file__).resolve().parent
 ROOT = HERE.parent
@@ -33,13 +33,10 @@ sys.dont_write_bytecode = True
 sys.path.append(str(ROOT / "tools"))
 import build_sqlite
 import run_cases
+import sql_rows
+from sql_rows import CANONICAL_HEIGHT, HEIGHT, NOTED, TWIN, Counts, Statement
 
 SECONDS = 300
-HEIGHT = 'VERTCRS["H",VDATUM["D"],CS[vertical,1],AXIS["h",up,LENGTHUNIT["metre",1]]]'
-CANONICAL_HEIGHT = 'VERTCRS["H",VDATUM["D"],CS[vertical,1],AXIS["h",up,ORDER[1],LENGTHUNIT["metre",1]]]'
-NOTED = HEIGHT[:-1] + ',REMARK["r"]]'
-# A statement, and what it must print; an error is the line that begins with 'Error: '.
-Statement = Tuple[str, str, str]
 
 
 def literal(text: bytes, is_blob: bool) -> str:
@@ -48,88 +45,35 @@ def literal(text: bytes, is_blob: bool) -> str:
     return blob if is_blob else f"CAST({blob} AS TEXT)"
 
 
-def level_of(words: List[bytes]) -> Tuple[List[str], List[bytes]]:
-    """A command line's level as arguments of SQL, and its other words."""
-    rest = [word for word in words if word != b"--"]
-    if b"--level" in rest[:-1]:
-        place = rest.index(b"--level")
-        return [f"'{rest[place + 1].decode()}'"], rest[:place] + rest[place + 2 :]
-    for word in rest:
-        if word.startswith(b"--level="):
-            return [f"'{word[8:].decode()}'"], [it for it in rest if it is not word]
-    return [], rest
-
-
-def of_case(case: run_cases.Case, is_blob: bool) -> Iterator[Statement]:
-    """The statements that ask a row, each with its answer."""
-    if case.error is not None or case.output is None or case.is_unreadable or case.status == 2 or not case.words:
-        return
-    level, words = level_of(case.words)
-    wanted = case.output[:-1]
-    refusal = wanted.decode(errors="replace") if b"refused" in wanted else ""
-    text = literal(case.input, is_blob)
-    if words == [b"canon"]:
-        canonical = "" if refusal else wanted.hex().upper()
-        call = f"crs_canon({', '.join([text, *level])})"
-        yield case.place, f"SELECT hex(coalesce({call}, '')), crs_refusal({text});", f"{canonical}|{refusal}"
-    elif words == [b"check"]:
-        kind = "" if refusal else wanted.decode().split()[1]
-        yield case.place, f"SELECT crs_kind({text}), crs_refusal({text});", f"{kind}|{refusal}"
-    elif len(words) == 3 and words[0] == b"same":
-        texts = [literal(word, is_blob) for word in words[1:]]
-        given = ", ".join([*texts, *level])
-        is_same = "" if refusal else str(int(wanted == b"same"))
-        path = "" if refusal else wanted.decode().split()[-1]
-        yield case.place, f"SELECT crs_same({given}), crs_difference({given});", f"{is_same}|{path}"
-        if refusal:
-            which, _, rest = refusal.partition(" ")
-            yield case.place, f"SELECT crs_refusal({texts[which == 'second']});", rest
-
-
-def rows() -> Iterator[Statement]:
-    for path in sorted(HERE.glob("*.rows")):
-        for case in run_cases.cases_of(path):
-            for is_blob in (False, True):
-                yield from of_case(case, is_blob)
+SQLITE = sql_rows.Dialect(
+    literal=literal,
+    hex=lambda call: f"hex(coalesce({call}, ''))",
+    number=lambda condition: condition,
+    zeros=lambda length: f"hex(zeroblob({length // 2}))",
+)
 
 
 def promises() -> Iterator[Statement]:
     """What the rows don't ask."""
-    height, noted = f"'{HEIGHT}'", f"'{NOTED}'"
-    for call in ("crs_canon(NULL)", "crs_kind(NULL)", "crs_refusal(NULL)", "crs_canon('x', NULL)"):
-        yield "NULL gives NULL", f"SELECT {call} IS NULL;", "1"
-    for call in ("crs_same", "crs_difference"):
-        for given in ("NULL, 'x'", "'x', NULL", "NULL, NULL", f"{height}, {height}, NULL"):
-            yield "NULL gives NULL", f"SELECT {call}({given}) IS NULL;", "1"
-    for call in (
-        f"crs_canon({height}, 'Full')",
-        f"crs_same({height}, {height}, 'Full')",
-        "crs_difference('', '', 'Full')",
-    ):
-        yield "a wrong level", f"SELECT {call};", "Error: no such level: 'Full'; there are 'full' and 'definition'"
-    yield "a wrong level", "SELECT crs_canon('x', 1);", "Error: no such level: '1'; there are 'full' and 'definition'"
-    yield "a level", f"SELECT crs_canon({noted}, 'definition');", CANONICAL_HEIGHT
-    yield "a level", f"SELECT crs_same({height}, {noted}, 'definition'), crs_same({height}, {noted}, 'full');", "1|0"
-    yield "a level", f"SELECT crs_difference({height}, {noted}), crs_difference({height}, {noted}, 'definition');", "remark|same"
+    yield from sql_rows.promises(SQLITE)
+    yield "a wrong level", "SELECT crs_canon('x', 1);", f"Error: no such level: '1'; {sql_rows.LEVELS}"
     yield "a number", "SELECT crs_kind(4326), crs_refusal(4326), crs_refusal(1.5);", "|refused 6 Unexpected at 0|refused 6 Unexpected at 0"
-    yield "nothing", "SELECT crs_kind(''), crs_refusal(''), crs_refusal(X'');", "|refused 7 UnexpectedEnd at 0|refused 7 UnexpectedEnd at 0"
     nul = literal(HEIGHT.replace('"H"', '"a\0b"').encode(), False)
     wanted = CANONICAL_HEIGHT.replace('"H"', '"a\0b"').encode().hex().upper()
     yield "a NUL byte", f"SELECT hex(crs_canon({nul}));", wanted
     yield "a NUL byte", f"SELECT crs_refusal({literal(HEIGHT.encode() + bytes(1), False)});", f"refused 1 BadCharacter at {len(HEIGHT)}"
     yield "too few", "SELECT crs_canon();", "Error: wrong number of arguments to function crs_canon()"
     yield "too many", "SELECT crs_version(1);", "Error: wrong number of arguments to function crs_version()"
-    yield "types", f"SELECT typeof(crs_canon({height})), typeof(crs_same({height}, {height}));", "text|integer"
+    yield "types", f"SELECT typeof(crs_canon('{HEIGHT}')), typeof(crs_same('{HEIGHT}', '{HEIGHT}'));", "text|integer"
     yield from of_indexes()
-    yield from of_long_texts()
+    yield from sql_rows.of_long_texts(SQLITE)
 
 
 def of_indexes() -> Iterator[Statement]:
-    twin = HEIGHT.replace("[", "(").replace("]", ")")
     yield "a table", "PRAGMA trusted_schema = OFF;", ""
     yield "a check", "CREATE TABLE t (n INTEGER PRIMARY KEY, wkt TEXT CHECK (crs_refusal(wkt) IS NULL), kind AS (crs_kind(wkt)));", ""
     yield "an index", "CREATE INDEX t_by_crs ON t (crs_canon(wkt));", ""
-    yield "rows", f"INSERT INTO t (wkt) VALUES ('{HEIGHT}'), ('{NOTED}'), ('{twin}'), (NULL);", ""
+    yield "rows", f"INSERT INTO t (wkt) VALUES ('{HEIGHT}'), ('{NOTED}'), ('{TWIN}'), (NULL);", ""
     yield "a check", "INSERT INTO t (wkt) VALUES ('EPSG:4326');", "Error: CHECK constraint failed: crs_refusal(wkt) IS NULL"
     asked = f"SELECT group_concat(n) FROM t WHERE crs_canon(wkt) = crs_canon('{CANONICAL_HEIGHT}');"
     yield "the index answers", asked, "1,3"
@@ -140,16 +84,6 @@ def of_indexes() -> Iterator[Statement]:
 
 
 PLAN = "QUERY PLAN\n`--SEARCH t USING INDEX t_by_crs (<expr>=?)"
-
-
-def of_long_texts() -> Iterator[Statement]:
-    long = f"'{HEIGHT[:-1]},REMARK[\"' || hex(zeroblob(50000000)) || '\"]]'"
-    yield "100 MB", f"SELECT crs_kind({long}), length(crs_canon({long}));", f"vertical|{len(CANONICAL_HEIGHT) + 11 + 100_000_000}"
-    yield "100 MB", "SELECT crs_refusal(hex(zeroblob(50000000)));", "refused 3 NumberRange at 0"
-    many = "".join(f",USAGE[BBOX[1E40,-1E40,1E-40,{n}]]" for n in range(300))
-    text = f"'{HEIGHT[:-1]}{many}]'"
-    yield "a longer canonical text", f"SELECT length(crs_canon({text})) > 2 * length({text});", "1"
-    yield "a canonical text", f"SELECT crs_canon(crs_canon({text})) = crs_canon({text});", "1"
 
 
 def printed(extension: pathlib.Path, statements: List[Statement], first: str, preloaded: str) -> List[str]:
@@ -184,25 +118,8 @@ def plain_error(text: str) -> str:
     return text
 
 
-class Counts:
-    """How many cases passed and failed."""
-
-    def __init__(self) -> None:
-        self.passed = self.failed = 0
-
-    def add(self, name: str, fault: str) -> None:
-        if fault:
-            self.failed += 1
-            print(f"{name}: {fault[:1000]}")
-        else:
-            self.passed += 1
-
-    def compare(self, name: str, got: object, wanted: object) -> None:
-        self.add(name, "" if got == wanted else f"answered {str(got)[:300]!r}, wanted {str(wanted)[:300]!r}")
-
-
 def try_statements(counts: Counts, extension: pathlib.Path, preloaded: str = "") -> None:
-    asked, promised = list(rows()), list(promises())
+    asked, promised = list(sql_rows.rows(SQLITE)), list(promises())
     of_encoding = [it for it in promised if it[0] in ("a level", "a wrong level", "nothing", "types")]
     for statements, first in ((asked, ""), (promised, ""), (of_encoding, "PRAGMA encoding='UTF-16';")):
         *answers, rest = printed(extension, statements, first, preloaded)

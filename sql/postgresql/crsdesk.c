@@ -1,0 +1,227 @@
+/* crsdesk: the calls of crsdesk as functions of PostgreSQL. crsdesk--0.1.0.sql declares them, and docs/SQL.md says what
+   they answer.
+
+   A text is a `text`, whose characters are judged as the bytes of their UTF-8, or a `bytea`, whose bytes are judged as
+   they are. Places of refusals count those bytes. In a database of SQL_ASCII a text's bytes are judged as they are too.
+
+   What the header of crsdesk asks of its caller:
+   - Stack: check_stack_depth() refuses a call below max_stack_depth, which PostgreSQL holds 512 kB (STACK_DEPTH_SLOP)
+     above the end that the process's limit sets; 256 kB are asked.
+   - Handlers of signals: those of a backend set flags, or end it, and call nothing of the library.
+   - Memory: a call takes it by malloc, and holds none when it comes back. No error of PostgreSQL is raised inside a
+     call, so none jumps over memory that is to be freed. All else is palloc's.
+
+   What the functions answer is crsdesk's; this file is tested and not proved. */
+#include "postgres.h"
+
+#include "fmgr.h"
+#include "mb/pg_wchar.h"
+#include "miscadmin.h"
+#include "utils/builtins.h"
+#include "utils/memutils.h"
+
+#include "crsdesk.h"
+
+PG_MODULE_MAGIC;
+
+/* Room for any path, for the line of a refusal and for the version. */
+#define SHORT_ROOM 160
+/* How many bytes a `text` may have. */
+#define MOST_BYTES ((size_t)(MaxAllocSize - VARHDRSZ))
+/* How many bytes of a wrong level are told. */
+#define TOLD_BYTES 40
+
+/* The bytes that the library judges. */
+struct bytes {
+    const char *first;
+    size_t length;
+};
+
+/* A cancelled query ends here, between two calls of the library. */
+static void begin_call(void)
+{
+    CHECK_FOR_INTERRUPTS();
+    check_stack_depth();
+}
+
+/* The bytes of an argument, a `text` or a `bytea`. */
+static struct bytes bytes_of(FunctionCallInfo fcinfo, int argument, bool is_text)
+{
+    struct varlena *value = PG_GETARG_VARLENA_PP(argument);
+    struct bytes found = {VARDATA_ANY(value), VARSIZE_ANY_EXHDR(value)};
+    char *converted;
+
+    if (!is_text || GetDatabaseEncoding() == PG_SQL_ASCII)
+        return found;
+    converted = pg_server_to_any(found.first, (int)found.length, PG_UTF8);
+    if (converted != found.first) {
+        found.first = converted;
+        found.length = strlen(converted);
+    }
+    return found;
+}
+
+/* The level of an argument; an error for what is none. */
+static uint32 level_of(FunctionCallInfo fcinfo, int argument)
+{
+    char *word = text_to_cstring(PG_GETARG_TEXT_PP(argument));
+    size_t length = strlen(word);
+
+    if (strcmp(word, "full") == 0)
+        return CRSDESK_FULL;
+    if (strcmp(word, "definition") == 0)
+        return CRSDESK_DEFINITION;
+    word[pg_mbcliplen(word, (int)length, TOLD_BYTES)] = '\0';
+    ereport(ERROR, (errcode(ERRCODE_INVALID_PARAMETER_VALUE),
+                    errmsg("no such level: '%s'; there are 'full' and 'definition'", word)));
+}
+
+/* Raises an error for a code that is neither CRSDESK_OK nor a refusal. */
+static void hold_code(uint32 code)
+{
+    if (code == CRSDESK_NO_MEMORY)
+        ereport(ERROR, (errcode(ERRCODE_OUT_OF_MEMORY), errmsg("out of memory"),
+                        errdetail("Memory was refused to a call of crsdesk.")));
+    if (code != CRSDESK_OK && code != CRSDESK_REFUSED && code != CRSDESK_SECOND_REFUSED)
+        elog(ERROR, "crsdesk: a code that isn't known: %u", code);
+}
+
+/* What the library wrote behind a header's room, as a `text` of the server's encoding. */
+static text *text_of(text *out, size_t length)
+{
+    char *bytes = VARDATA(out), *converted;
+
+    if (memchr(bytes, '\0', length) != NULL)
+        ereport(ERROR, (errcode(ERRCODE_UNTRANSLATABLE_CHARACTER),
+                        errmsg("the canonical text has a NUL byte, which a text of PostgreSQL can't have")));
+    converted = pg_any_to_server(bytes, (int)length, PG_UTF8);
+    if (converted != bytes)
+        return cstring_to_text(converted);
+    SET_VARSIZE(out, VARHDRSZ + length);
+    return out;
+}
+
+static Datum canon_of(FunctionCallInfo fcinfo, bool is_text)
+{
+    uint32 level = level_of(fcinfo, 1), code;
+    struct bytes given = bytes_of(fcinfo, 0, is_text);
+    size_t length = Min(given.length + given.length / 8 + 1000, MOST_BYTES), room;
+    struct crsdesk_refusal refusal;
+    text *out = NULL;
+
+    begin_call();
+    do {
+        if (length > MOST_BYTES)
+            ereport(ERROR, (errcode(ERRCODE_PROGRAM_LIMIT_EXCEEDED),
+                            errmsg("the canonical text has %zu bytes, more than a text of PostgreSQL", length)));
+        if (out != NULL)
+            pfree(out);
+        room = length;
+        out = palloc(VARHDRSZ + room);
+        code = crsdesk_canon(given.first, given.length, level, VARDATA(out), room, &length, &refusal);
+    } while (code == CRSDESK_NO_ROOM);
+    hold_code(code);
+    if (code != CRSDESK_OK)
+        PG_RETURN_NULL();
+    PG_RETURN_TEXT_P(text_of(out, length));
+}
+
+static Datum kind_of(FunctionCallInfo fcinfo, bool is_text)
+{
+    static const char *const KINDS[] = {"", "geodetic", "geographic", "projected", "vertical", "compound"};
+    struct bytes given = bytes_of(fcinfo, 0, is_text);
+    struct crsdesk_refusal refusal;
+    uint32 kind, code;
+
+    begin_call();
+    code = crsdesk_check(given.first, given.length, &kind, &refusal);
+    hold_code(code);
+    if (code != CRSDESK_OK)
+        PG_RETURN_NULL();
+    PG_RETURN_TEXT_P(cstring_to_text(KINDS[kind]));
+}
+
+static Datum refusal_of(FunctionCallInfo fcinfo, bool is_text)
+{
+    struct bytes given = bytes_of(fcinfo, 0, is_text);
+    struct crsdesk_refusal refusal;
+    char name[SHORT_ROOM];
+    size_t length;
+    uint32 kind, code;
+
+    begin_call();
+    code = crsdesk_check(given.first, given.length, &kind, &refusal);
+    hold_code(code);
+    if (code == CRSDESK_OK)
+        PG_RETURN_NULL();
+    hold_code(crsdesk_refusal_name(refusal.number, name, sizeof name, &length));
+    PG_RETURN_TEXT_P(
+        cstring_to_text(psprintf("refused %u %.*s at %zu", refusal.number, (int)length, name, refusal.place)));
+}
+
+static Datum same_of(FunctionCallInfo fcinfo, bool first_is_text, bool second_is_text)
+{
+    uint32 level = level_of(fcinfo, 2), same, code;
+    struct bytes first = bytes_of(fcinfo, 0, first_is_text), second = bytes_of(fcinfo, 1, second_is_text);
+    struct crsdesk_refusal refusal;
+
+    begin_call();
+    code = crsdesk_same(first.first, first.length, second.first, second.length, level, &same, &refusal);
+    hold_code(code);
+    if (code != CRSDESK_OK)
+        PG_RETURN_NULL();
+    PG_RETURN_BOOL(same == 1);
+}
+
+static Datum difference_of(FunctionCallInfo fcinfo, bool first_is_text, bool second_is_text)
+{
+    uint32 level = level_of(fcinfo, 2), code;
+    struct bytes first = bytes_of(fcinfo, 0, first_is_text), second = bytes_of(fcinfo, 1, second_is_text);
+    struct crsdesk_refusal refusal;
+    char path[SHORT_ROOM];
+    size_t length;
+
+    begin_call();
+    code = crsdesk_first_part(first.first, first.length, second.first, second.length, level, path, sizeof path, &length,
+                              &refusal);
+    hold_code(code);
+    if (code != CRSDESK_OK)
+        PG_RETURN_NULL();
+    if (length == 0)
+        PG_RETURN_TEXT_P(cstring_to_text("same"));
+    PG_RETURN_TEXT_P(cstring_to_text_with_len(path, (int)length));
+}
+
+static Datum version_of(void)
+{
+    char version[SHORT_ROOM];
+    size_t length;
+
+    hold_code(crsdesk_version(version, sizeof version, &length));
+    PG_RETURN_TEXT_P(cstring_to_text_with_len(version, (int)length));
+}
+
+/* A function under the name that SQL's declaration has. A process loads all modules into one space of names. */
+#define FUNCTION(name, answer)                                                                                         \
+    PG_FUNCTION_INFO_V1(name);                                                                                         \
+    Datum name(PG_FUNCTION_ARGS)                                                                                       \
+    {                                                                                                                  \
+        (void)fcinfo;                                                                                                  \
+        return answer;                                                                                                 \
+    }
+
+FUNCTION(crsdesk_pg_canon_text, canon_of(fcinfo, true))
+FUNCTION(crsdesk_pg_canon_bytea, canon_of(fcinfo, false))
+FUNCTION(crsdesk_pg_kind_text, kind_of(fcinfo, true))
+FUNCTION(crsdesk_pg_kind_bytea, kind_of(fcinfo, false))
+FUNCTION(crsdesk_pg_refusal_text, refusal_of(fcinfo, true))
+FUNCTION(crsdesk_pg_refusal_bytea, refusal_of(fcinfo, false))
+FUNCTION(crsdesk_pg_same_text_text, same_of(fcinfo, true, true))
+FUNCTION(crsdesk_pg_same_text_bytea, same_of(fcinfo, true, false))
+FUNCTION(crsdesk_pg_same_bytea_text, same_of(fcinfo, false, true))
+FUNCTION(crsdesk_pg_same_bytea_bytea, same_of(fcinfo, false, false))
+FUNCTION(crsdesk_pg_difference_text_text, difference_of(fcinfo, true, true))
+FUNCTION(crsdesk_pg_difference_text_bytea, difference_of(fcinfo, true, false))
+FUNCTION(crsdesk_pg_difference_bytea_text, difference_of(fcinfo, false, true))
+FUNCTION(crsdesk_pg_difference_bytea_bytea, difference_of(fcinfo, false, false))
+FUNCTION(crsdesk_pg_version, version_of())

@@ -1,0 +1,678 @@
+#!/usr/bin/env python3
+"""Tries the extension for PostgreSQL in a server of its own.
+
+    run_postgresql.py [PREFIX]
+
+PREFIX has the header and the static library, as tools/build_library.py makes them (out/prefix where none is
+given). The extension is built anew by PGXS, under all warnings, below a temporary folder; beside it go the server's
+programs and links to all else that it needs, since a server looks for its files from where its program lies. So nothing
+of the system's is touched. The server runs as nobody where root calls, and is reached by a socket in that folder alone.
+
+The rows of the .rows files beside this one are asked of the functions, as text and as bytea, in databases of three
+encodings; then come what no text is, levels, constraints, indexes, generated columns, a parallel plan over a million
+rows, a cancelled query, dump and restore, an update from an older version, entries of a GeoPackage, the commands that
+docs/SQL.md shows, and each growth of memory refused in turn. What isn't there is told as skipped, by name. Each case that
+fails has a line; the last line is 'N passed, M failed', and the status is 0 where M is 0.
+"""
+from __future__ import annotations
+
+import contextlib
+import os
+import pathlib
+import pwd
+import re
+import shutil
+import signal
+import sqlite3
+import subprocess
+import sys
+import tempfile
+import time
+from typing import Any, Dict, Iterator, List, Optional
+
+HERE = pathlib.Path(__file__).resolve().parent
+ROOT = HERE.parent
+
+# The imports of the repository's own files leave nothing in it.
+sys.dont_write_bytecode = True
+sys.path.append(str(ROOT / "tools"))
+import build_postgresql
+import run_documents
+import sql_rows
+from sql_rows import CANONICAL_HEIGHT, HEIGHT, NOTED, TWIN, Counts, Statement
+
+SECONDS = 300
+USER = "tester"
+# Python's names of the encodings of the databases; of SQL_ASCII a text is any bytes but NUL.
+ENCODINGS: Dict[str, Optional[str]] = {"UTF8": "utf-8", "LATIN1": "latin-1", "SQL_ASCII": None}
+# The variable of the environment by which docs/SQL.md asks for a server: its folder of sockets.
+SERVER = "$CRSDESK_POSTGRESQL"
+# More growths than any call here makes.
+MOST_GROWTHS = 250
+LACKS = "the extension for PostgreSQL"
+CONTROL = (build_postgresql.SOURCES / "crsdesk.control").read_text(encoding="utf-8")
+VERSION = CONTROL.partition("default_version = '")[2].partition("'")[0]
+
+
+def dialect_of(encoding: str) -> sql_rows.Dialect:
+    """How a database of an encoding spells what is asked."""
+
+    def literal(text: bytes, is_blob: bool) -> Optional[str]:
+        blob = f"'\\x{text.hex()}'::bytea"
+        if is_blob:
+            return blob
+        codec = ENCODINGS[encoding]
+        try:
+            if codec is not None:
+                text.decode().encode(codec)
+        except UnicodeError:
+            return None
+        return None if b"\0" in text else f"convert_from({blob}, '{'UTF8' if codec else encoding}')"
+
+    return sql_rows.Dialect(
+        literal=literal,
+        hex=lambda call: f"upper(encode(convert_to({call}, 'UTF8'), 'hex'))",
+        number=lambda condition: f"({condition})::int",
+        zeros=lambda length: f"repeat('0', {length})",
+    )
+
+
+def run(words: List[object], **more: Any) -> "subprocess.CompletedProcess[str]":
+    """Runs a command; what it writes comes back as one text."""
+    return subprocess.run(
+        [str(word) for word in words],
+        stdout=subprocess.PIPE,
+        stderr=subprocess.STDOUT,
+        text=True,
+        timeout=SECONDS,
+        check=False,
+        **more,
+    )
+
+
+class Server:
+    """A server of its own below a folder, in which the extension was put by PGXS."""
+
+    def __init__(self, folder: pathlib.Path, stage: pathlib.Path) -> None:
+        programs = build_postgresql.folder_of("bindir")
+        self.programs = programs
+        self.folder = folder
+        self.own = below(stage, programs)
+        self.own.mkdir(parents=True, exist_ok=True)
+        for name in ("postgres", "initdb"):
+            shutil.copy(programs / name, self.own)
+        for kind in ("pkglibdir", "sharedir"):
+            add_links(build_postgresql.folder_of(kind), below(stage, build_postgresql.folder_of(kind)))
+        self.user: Dict[str, Any] = {}
+        if os.geteuid() == 0:
+            nobody = pwd.getpwnam("nobody")
+            self.user = {"user": nobody.pw_uid, "group": nobody.pw_gid, "extra_groups": []}
+            os.chown(folder, nobody.pw_uid, nobody.pw_gid)
+        words = [
+            self.own / "initdb",
+            "-D",
+            folder / "data",
+            "-U",
+            USER,
+            "-A",
+            "trust",
+            "-E",
+            "UTF8",
+            "--no-locale",
+            "-N",
+        ]
+        done = run(words, cwd=folder, env={**os.environ, "LC_ALL": "C"}, **self.user)
+        if done.returncode:
+            raise RuntimeError(f"initdb: {done.stdout[-1000:]}")
+        self.environment = {
+            **{key: value for key, value in os.environ.items() if not key.startswith("PG")},
+            "PATH": f"{programs}{os.pathsep}{os.environ['PATH']}",
+            "PGHOST": str(folder),
+            "PGUSER": USER,
+            "PGDATABASE": "postgres",
+            "PGCLIENTENCODING": "UTF8",
+            "PGOPTIONS": "--client-min-messages=warning",
+        }
+
+    @contextlib.contextmanager
+    def running(self, **more: str) -> Iterator[None]:
+        """The server, from when it answers; ended behind."""
+        settings = {
+            "listen_addresses": "",
+            "unix_socket_directories": str(self.folder),
+            "fsync": "off",
+            "autovacuum": "off",
+            "dynamic_shared_memory_type": "mmap",
+            "max_wal_size": "4GB",
+        }
+        words = [self.own / "postgres", "-D", self.folder / "data"]
+        words += [word for name, value in settings.items() for word in ("-c", f"{name}={value}")]
+        with open(self.folder / "log", "ab") as log:
+            server = subprocess.Popen(
+                [str(word) for word in words],
+                cwd=self.folder,
+                env={**os.environ, **more, "LC_ALL": "C"},
+                stdin=subprocess.DEVNULL,
+                stdout=log,
+                stderr=log,
+                **self.user,
+            )
+            try:
+                end = time.monotonic() + SECONDS
+                while run(["pg_isready", "-q"], env=self.environment).returncode:
+                    if server.poll() is not None or time.monotonic() > end:
+                        raise RuntimeError((self.folder / "log").read_text(encoding="utf-8")[-1000:])
+                    time.sleep(0.1)
+                yield
+            finally:
+                # The fast shutdown: connections are ended.
+                server.send_signal(signal.SIGINT)
+                server.wait(SECONDS)
+
+    def printed(self, statements: List[Statement], database: str = "postgres", first: str = "") -> List[str]:
+        """What the program psql prints for each statement, and at last behind them; an error as 'Error: '."""
+        script = [f"{first}\n"]
+        for index, (_, statement, _) in enumerate(statements):
+            script.append(f"{statement}\n\\echo -- {index}\n")
+        done = subprocess.run(
+            ["psql", "-X", "-q", "-A", "-t", "-v", "VERBOSITY=terse", "-d", database],
+            input="".join(script).encode(),
+            stdout=subprocess.PIPE,
+            stderr=subprocess.STDOUT,
+            env=self.environment,
+            timeout=SECONDS,
+            check=False,
+        )
+        lines, found = done.stdout.decode(errors="replace").split("\n"), []
+        begin = 0
+        for index in range(len(statements)):
+            end = lines.index(f"-- {index}", begin) if f"-- {index}" in lines[begin:] else len(lines)
+            found.append("\n".join(lines[begin:end]).replace("ERROR:  ", "Error: "))
+            begin = end + 1
+        return [*found, "\n".join(lines[begin:])]
+
+    def hold(self, counts: Counts, statements: List[Statement], database: str = "postgres", first: str = "") -> None:
+        *answers, rest = self.printed(statements, database, first)
+        for (place, statement, wanted), got in zip(statements, answers):
+            counts.compare(f"{database}: {place}: {statement[:100]}", got, wanted)
+        counts.compare(f"{database}: behind all statements", rest, "")
+
+    def make(self, database: str, encoding: str = "UTF8") -> None:
+        """An empty database of an encoding."""
+        done = run(["createdb", "-T", "template0", "-E", encoding, database], env=self.environment)
+        if done.returncode:
+            raise RuntimeError(done.stdout)
+
+
+def below(stage: pathlib.Path, folder: pathlib.Path) -> pathlib.Path:
+    return stage / folder.relative_to("/")
+
+
+def add_links(source: pathlib.Path, target: pathlib.Path) -> None:
+    """Links from a folder to all that another has, but for what is there, and but for an installed crsdesk."""
+    target.mkdir(parents=True, exist_ok=True)
+    for path in source.iterdir():
+        if path.name == "extension":
+            add_links(path, target / path.name)
+        elif not path.name.startswith("crsdesk") and not (target / path.name).exists():
+            (target / path.name).symlink_to(path)
+
+
+def try_symbols(counts: Counts, module: pathlib.Path, script: str) -> None:
+    """It shows the functions that SQL declares, and needs the C library alone."""
+    shown = subprocess.run(["nm", "-D", "--defined-only", module], capture_output=True, text=True, check=True).stdout
+    declared = re.findall(r"'MODULE_PATHNAME', '(\w+)'", script)
+    wanted = {"Pg_magic_func", *declared, *(f"pg_finfo_{name}" for name in declared)}
+    counts.compare("its names", set(shown.split()[2::3]), wanted)
+    needs = subprocess.run(["readelf", "-d", module], capture_output=True, text=True, check=True).stdout
+    found = [line.split("[")[1] for line in needs.split("\n") if "(NEEDED)" in line]
+    counts.compare("what it needs", found, ["libc.so.6]"])
+
+
+def try_version(counts: Counts, server: Server, prefix: pathlib.Path) -> None:
+    """The extension's version is that of the library that it holds."""
+    told = (prefix / "lib" / "pkgconfig" / "crsdesk.pc").read_text(encoding="utf-8").split("\n")
+    wanted = next(line.partition(": ")[2] for line in told if line.startswith("Version: "))
+    asked = "SELECT crs_version(), extversion FROM pg_extension WHERE extname = 'crsdesk';"
+    server.hold(counts, [("the version", asked, f"{wanted}|{wanted}")])
+
+
+# All functions of the extension as they are declared.
+DECLARED = """SELECT p.oid::regprocedure, p.prorettype::regtype, p.provolatile, p.proisstrict, p.proparallel, p.procost,
+p.prosrc, p.probin, pg_get_function_arguments(p.oid) FROM pg_depend d JOIN pg_proc p ON d.objid = p.oid
+JOIN pg_extension e ON d.refobjid = e.oid WHERE e.extname = 'crsdesk' AND d.deptype = 'e' ORDER BY p.oid::regprocedure::text;"""
+
+
+def promises() -> Iterator[Statement]:
+    """What PostgreSQL's functions promise beside what all extensions do."""
+    nul = HEIGHT.replace('"H"', '"a\0b"').encode()
+    blob = f"'\\x{nul.hex()}'::bytea"
+    yield "functions", f"SELECT count(*) FROM ({DECLARED[:-1]}) AS t WHERE provolatile = 'i' AND proisstrict AND proparallel = 's';", "15"
+    yield "a NUL byte", f"SELECT crs_kind({blob}), crs_same({blob}, {blob}), crs_difference({blob}, '{HEIGHT}');", "vertical|t|name"
+    yield "a NUL byte", f"SELECT crs_canon({blob});", "Error: the canonical text has a NUL byte, which a text of PostgreSQL can't have"
+    yield "a long level", f"SELECT crs_canon('x', '{'é' * 30}');", f"Error: no such level: '{'é' * 20}'; {sql_rows.LEVELS}"
+    yield "an empty level", "SELECT crs_canon('x', '');", f"Error: no such level: ''; {sql_rows.LEVELS}"
+    yield "types", f"SELECT pg_typeof(crs_canon('{HEIGHT}')), pg_typeof(crs_same('{HEIGHT}', '{HEIGHT}'));", "text|boolean"
+    kinds = {
+        "text": f"'{HEIGHT}'::text",
+        "bytea": f"'\\x{TWIN.encode().hex()}'::bytea",
+        "varchar": f"'{TWIN}'::varchar",
+    }
+    for first in kinds.values():
+        yield "all types of text", f"SELECT crs_kind({first}), crs_canon({first}), crs_canon({first}, level => 'definition');", f"vertical|{CANONICAL_HEIGHT}|{CANONICAL_HEIGHT}"
+        for second in [*kinds.values(), f"'{TWIN}'"]:
+            yield "two types of text", f"SELECT crs_same({first}, {second}), crs_difference({first}, {second}, 'full');", "t|same"
+    yield "a NUL argument", f"SELECT crs_same({kinds['bytea']}, NULL) IS NULL, crs_difference(NULL::bytea, 'x') IS NULL;", "t|t"
+    yield from of_tables()
+    yield from of_long_keys()
+    yield from sql_rows.of_long_texts(dialect_of("UTF8"))
+
+
+def of_tables() -> Iterator[Statement]:
+    yield "a table", "CREATE TABLE t (n serial PRIMARY KEY, wkt text CHECK (crs_kind(wkt) IS NOT NULL), kind text GENERATED ALWAYS AS (crs_kind(wkt)) STORED);", ""
+    yield "an index", "CREATE INDEX t_by_crs ON t (crs_canon(wkt)); SET enable_seqscan = off;", ""
+    yield "rows", f"INSERT INTO t (wkt) VALUES ('{HEIGHT}'), ('{NOTED}'), ('{TWIN}');", ""
+    wanted = 'Error: new row for relation "t" violates check constraint "t_wkt_check"'
+    yield "a check", "INSERT INTO t (wkt) VALUES ('EPSG:4326');", wanted
+    yield "a check of NULL", "INSERT INTO t (wkt) VALUES (NULL);", wanted
+    asked = f"SELECT string_agg(n::text, ',' ORDER BY n) FROM t WHERE crs_canon(wkt) = crs_canon('{CANONICAL_HEIGHT}');"
+    yield "the index answers", asked, "1,3"
+    plan = f"""Aggregate
+  ->  Index Scan using t_by_crs on t
+        Index Cond: (crs_canon(wkt, 'full'::text) = '{CANONICAL_HEIGHT}'::text)"""
+    yield "the index is used", f"SET enable_bitmapscan = off; EXPLAIN (COSTS OFF) {asked}", plan
+    yield "a generated column", "SELECT DISTINCT kind FROM t;", "vertical"
+    yield "groups", "SELECT count(*) FROM t GROUP BY crs_canon(wkt, 'definition') ORDER BY 1; RESET enable_seqscan;", "3"
+    yield "groups", "SELECT count(*) FROM t GROUP BY crs_canon(wkt) ORDER BY 1;", "1\n2"
+    yield "a view", "CREATE VIEW v AS SELECT n, crs_canon(wkt) AS canon FROM t; SELECT count(DISTINCT canon) FROM v;", "2"
+    yield "each CRS once", "CREATE TABLE once (wkt text, EXCLUDE USING hash (crs_canon(wkt) WITH =));", ""
+    yield "each CRS once", f"INSERT INTO once VALUES ('{HEIGHT}'), ('{NOTED}'), (NULL), (NULL);", ""
+    yield "each CRS once", f"INSERT INTO once VALUES ('{TWIN}');", 'Error: conflicting key value violates exclusion constraint "once_crs_canon_excl"'
+
+
+# A collation by which upper and lower case are equal, which a result takes from its argument.
+LOOSE = "CREATE COLLATION loose (provider = icu, locale = 'und-u-ks-level2', deterministic = false);"
+
+
+def of_long_keys() -> Iterator[Statement]:
+    """Canonical texts that are too long for a B-tree's key, and a collation of its own."""
+    remark = "(SELECT string_agg(md5(n::text), '') FROM generate_series(1, 1000) AS n)"
+    long = f"'{HEIGHT[:-1]},REMARK[\"' || {remark} || '\"]]'"
+    yield "a long key", f"INSERT INTO once SELECT {long};", ""
+    yield "a long key again", f"INSERT INTO once SELECT {long} || ' ';", 'Error: conflicting key value violates exclusion constraint "once_crs_canon_excl"'
+    yield "a long key of a B-tree", f"INSERT INTO t (wkt) SELECT {long};", "Error: index row requires 32112 bytes, maximum size is 8191"
+    yield "a loose collation", LOOSE, ""
+    lower = HEIGHT.replace('"H"', '"h"')
+    yield "a loose collation", f"CREATE TABLE c (wkt text COLLATE loose); INSERT INTO c VALUES ('{HEIGHT}'), ('{lower}');", ""
+    yield "a loose collation", 'SELECT count(DISTINCT crs_canon(wkt)), count(DISTINCT crs_canon(wkt) COLLATE "C") FROM c;', "1|2"
+
+
+def try_statements(counts: Counts, server: Server) -> None:
+    """The rows in databases of three encodings, and the promises."""
+    for encoding in ENCODINGS:
+        database, dialect = encoding.lower(), dialect_of(encoding)
+        server.make(database, encoding)
+        asked = list(sql_rows.rows(dialect))
+        as_text = sum("convert_from" in statement for _, statement, _ in asked)
+        counts.add(f"{encoding}: rows as text", "" if as_text > 500 else f"{as_text} of {len(asked)}")
+        server.hold(counts, asked, database, "CREATE EXTENSION crsdesk;")
+        server.hold(counts, list(sql_rows.promises(dialect)), database)
+    server.hold(counts, list(promises()), "utf8")
+    try_encodings(counts, server)
+
+
+def try_encodings(counts: Counts, server: Server) -> None:
+    """Answers are those of the characters, whatever bytes the server keeps of them."""
+    accented = HEIGHT.replace('"H"', '"é"')
+    euro = f"'\\x{HEIGHT.replace(chr(34) + 'H', chr(34) + '€').encode().hex()}'::bytea"
+    server.hold(
+        counts,
+        [
+            ("bytes of a text", f"SELECT octet_length('{accented}') - char_length('{accented}');", "0"),
+            ("a text", f"SELECT crs_canon('{accented}');", CANONICAL_HEIGHT.replace('"H"', '"é"')),
+            ("a place", f"SELECT crs_refusal('{accented}x');", f"refused 6 Unexpected at {len(HEIGHT) + 1}"),
+            ("text and bytes", f"SELECT crs_same('{accented}', '\\x{accented.encode().hex()}'::bytea);", "t"),
+            ("its own bytes", f"SELECT crs_refusal(convert_to('{accented}', 'LATIN1'));", "refused 4 NotUtf8 at 9"),
+            ("what it can't say", f"SELECT crs_kind({euro});", "vertical"),
+            (
+                "what it can't say",
+                f"SELECT crs_canon({euro});",
+                'Error: character with byte sequence 0xe2 0x82 0xac in encoding "UTF8" has no equivalent in encoding "LATIN1"',
+            ),
+        ],
+        "latin1",
+    )
+
+
+PARALLEL = """SELECT count(*), count(crs_canon(wkt)), count(crs_refusal(wkt)),
+sum(hashtextextended(crs_canon(wkt, 'definition'), 0)) FROM million"""
+MILLION = """CREATE UNLOGGED TABLE million AS SELECT CASE n % 10 WHEN 0 THEN NULL WHEN 1 THEN 'EPSG:' || n
+ELSE format('VERTCRS["H %s",VDATUM["D"],CS[vertical,1],AXIS["h",up,LENGTHUNIT["metre",1]]]', n / 20) END AS wkt
+FROM generate_series(1, 1000000) AS n; ANALYZE million;"""
+
+
+def try_parallel(counts: Counts, server: Server) -> None:
+    """A plan of several workers has the answers of a plan of one."""
+    begin = time.monotonic()
+    workers = "SET max_parallel_workers_per_gather = "
+    found = server.printed(
+        [
+            ("", MILLION, ""),
+            ("", f"{workers}2; EXPLAIN (COSTS OFF) {PARALLEL};", ""),
+            ("", f"{PARALLEL};", ""),
+            ("", f"{workers}0; EXPLAIN (COSTS OFF) {PARALLEL};", ""),
+            ("", f"{PARALLEL};", ""),
+        ],
+        "utf8",
+    )
+    is_parallel = "Gather" in found[1] and "Parallel Seq Scan on million" in found[1]
+    counts.compare("a parallel plan", (is_parallel, "Gather" in found[3]), (True, False))
+    counts.compare("its answers", found[2], found[4])
+    counts.compare("what they count", found[2].split("|")[:3], ["1000000", "800000", "100000"])
+    counts.compare("nothing else", [found[0], found[5]], ["", ""])
+    print(f"a million rows: {time.monotonic() - begin:.1f} s")
+
+
+def try_cancel(counts: Counts, server: Server) -> None:
+    """A query ends between two texts, and the connection goes on."""
+    begin = time.monotonic()
+    server.hold(
+        counts,
+        [
+            ("a cancelled query", "SET statement_timeout = 200; SET max_parallel_workers_per_gather = 0;", ""),
+            (
+                "a cancelled query",
+                "SELECT count(crs_canon(a.wkt)) FROM million AS a, generate_series(1, 1000);",
+                "Error: canceling statement due to statement timeout",
+            ),
+            (
+                "a cancelled query of workers",
+                "SET max_parallel_workers_per_gather = 2; SELECT count(crs_canon(a.wkt)) FROM million AS a, generate_series(1, 1000);",
+                "Error: canceling statement due to statement timeout",
+            ),
+            ("behind it", f"SELECT crs_kind('{HEIGHT}');", "vertical"),
+        ],
+        "utf8",
+    )
+    counts.compare("the time of cancelled queries", time.monotonic() - begin < 10, True)
+
+
+def try_leaks(counts: Counts, server: Server) -> None:
+    """The memory of a backend doesn't grow with the calls that it made."""
+    asked = "SELECT count(crs_canon(wkt)), count(crs_refusal(wkt)) FROM million WHERE wkt IS NOT NULL;"
+    words = ["psql", "-X", "-q", "-A", "-t", "-d", "utf8"]
+    client = subprocess.Popen(words, env=server.environment, stdin=subprocess.PIPE, stdout=subprocess.PIPE, text=True)
+    assert client.stdin is not None and client.stdout is not None
+    kept = []
+    try:
+        for statement in ("SET max_parallel_workers_per_gather = 0; SELECT pg_backend_pid();", asked, asked):
+            client.stdin.write(f"{statement}\n")
+            client.stdin.flush()
+            line = client.stdout.readline().strip()
+            kept.append(line)
+            status = pathlib.Path("/proc", kept[0], "status").read_text(encoding="utf-8")
+            match = re.search(r"RssAnon:\s+(\d+) kB", status)
+            kept.append(match[1] if match else "0")
+    finally:
+        client.stdin.close()
+        client.wait(SECONDS)
+    grown = int(kept[5]) - int(kept[3])
+    counts.add("the memory of a backend", "" if grown < 1000 else f"grew by {grown} kB in two million calls")
+
+
+def try_dump(counts: Counts, server: Server, folder: pathlib.Path) -> None:
+    """A table with an index, a check and a generated column goes through a dump into another database."""
+    server.make("before")
+    server.make("after")
+    rows = ", ".join(f"('{text}')" for text in (HEIGHT, NOTED, TWIN))
+    server.hold(
+        counts,
+        [
+            (
+                "a table",
+                "CREATE EXTENSION crsdesk; CREATE TABLE kept (wkt text CHECK (crs_kind(wkt) IS NOT NULL), crs text GENERATED ALWAYS AS (crs_canon(wkt, 'definition')) STORED);",
+                "",
+            ),
+            (
+                "an index",
+                "CREATE INDEX kept_by_crs ON kept (crs_canon(wkt)); CREATE INDEX kept_hashed ON kept USING hash (crs_canon(wkt));",
+                "",
+            ),
+            ("rows", f"INSERT INTO kept (wkt) VALUES {rows};", ""),
+        ],
+        "before",
+    )
+    file = folder / "dump.sql"
+    with file.open("w", encoding="utf-8") as out:
+        done = subprocess.run(["pg_dump", "before"], env=server.environment, stdout=out, check=False, timeout=SECONDS)
+    words = ["psql", "-X", "-q", "-o", os.devnull, "-v", "ON_ERROR_STOP=1", "-d", "after", "-f", file]
+    back = run(words, env=server.environment)
+    counts.compare("dump and restore", (done.returncode, back.returncode, back.stdout), (0, 0, ""))
+    same = [
+        "SELECT wkt, crs FROM kept ORDER BY ctid;",
+        "SELECT pg_get_indexdef(indexrelid) FROM pg_index WHERE indrelid = 'kept'::regclass ORDER BY 1;",
+        "SELECT pg_get_constraintdef(oid) FROM pg_constraint WHERE conrelid = 'kept'::regclass;",
+        "SELECT pg_get_expr(adbin, adrelid) FROM pg_attrdef WHERE adrelid = 'kept'::regclass;",
+    ]
+    asked = [("", it, "") for it in same]
+    counts.compare("what was restored", server.printed(asked, "after"), server.printed(asked, "before"))
+    wanted = 'Error: new row for relation "kept" violates check constraint "kept_wkt_check"'
+    asked_index = f"SET enable_seqscan = off; SELECT count(*) FROM kept WHERE crs_canon(wkt) = '{CANONICAL_HEIGHT}';"
+    server.hold(
+        counts,
+        [("the check", "INSERT INTO kept VALUES ('x');", wanted), ("the index", asked_index, "2")],
+        "after",
+    )
+
+
+def try_update(counts: Counts, server: Server, extensions: pathlib.Path, script: str) -> None:
+    """ALTER EXTENSION .. UPDATE from a version of texts alone makes what CREATE EXTENSION makes."""
+    declarations = re.findall(r"(?ms)^CREATE FUNCTION .*?;$", script)
+    older = [it for it in declarations if "bytea" not in it]
+    newer = [it for it in declarations if it not in older]
+    (extensions / "crsdesk--0.0.9.sql").write_text("\n".join(older), encoding="utf-8")
+    (extensions / f"crsdesk--0.0.9--{VERSION}.sql").write_text("\n".join(newer), encoding="utf-8")
+    server.make("older")
+    server.hold(
+        counts,
+        [
+            (
+                "an older version",
+                "CREATE EXTENSION crsdesk VERSION '0.0.9'; SELECT extversion FROM pg_extension WHERE extname = 'crsdesk';",
+                "0.0.9",
+            ),
+            (
+                "an older version",
+                f"SELECT crs_kind('\\x{HEIGHT.encode().hex()}'::bytea);",
+                "Error: function crs_kind(bytea) does not exist at character 8",
+            ),
+            (
+                "a table",
+                f"CREATE TABLE t (wkt text); CREATE INDEX ON t (crs_canon(wkt)); INSERT INTO t VALUES ('{HEIGHT}');",
+                "",
+            ),
+            (
+                "an update",
+                "ALTER EXTENSION crsdesk UPDATE; SELECT extversion FROM pg_extension WHERE extname = 'crsdesk';",
+                VERSION,
+            ),
+            ("a newer function", f"SELECT crs_kind('\\x{HEIGHT.encode().hex()}'::bytea);", "vertical"),
+            (
+                "an index of before",
+                f"SET enable_seqscan = off; SELECT count(*) FROM t WHERE crs_canon(wkt) = crs_canon('{TWIN}');",
+                "1",
+            ),
+            (
+                "what depends on it",
+                "DROP EXTENSION crsdesk;",
+                "Error: cannot drop extension crsdesk because other objects depend on it",
+            ),
+            (
+                "without what depends",
+                "DROP TABLE t; DROP EXTENSION crsdesk; SELECT count(*) FROM pg_proc WHERE proname LIKE 'crs%';",
+                "0",
+            ),
+            (
+                "another schema",
+                "CREATE SCHEMA maps; CREATE EXTENSION crsdesk SCHEMA maps; ALTER EXTENSION crsdesk SET SCHEMA public; SELECT crs_version();",
+                VERSION,
+            ),
+        ],
+        "older",
+    )
+    server.make("updated")
+    server.hold(
+        counts,
+        [("an update", "CREATE EXTENSION crsdesk VERSION '0.0.9'; ALTER EXTENSION crsdesk UPDATE;", "")],
+        "updated",
+    )
+    asked = [("", DECLARED, "")]
+    counts.compare("what an update makes", server.printed(asked, "updated"), server.printed(asked, "utf8"))
+    for name in ("crsdesk--0.0.9.sql", f"crsdesk--0.0.9--{VERSION}.sql"):
+        (extensions / name).unlink()
+
+
+def try_rights(counts: Counts, server: Server) -> None:
+    """A user who may create in a database may create the extension there."""
+    server.make("owned")
+    first = "CREATE ROLE owner LOGIN; GRANT CREATE ON DATABASE owned TO owner; GRANT CREATE ON SCHEMA public TO owner;"
+    asked = "SET ROLE owner; CREATE EXTENSION crsdesk; SELECT crs_version(), rolsuper FROM pg_roles WHERE rolname = current_user;"
+    server.hold(counts, [("a user", asked, f"{VERSION}|f")], "owned", first)
+
+
+def try_geopackage(counts: Counts, server: Server, folder: pathlib.Path) -> None:
+    """The queries of docs/SQL.md over a GeoPackage's entries, as far as they apply, over a copy of them."""
+    if shutil.which("ogr2ogr") is None:
+        print("skipped: ogr2ogr isn't there: a GeoPackage's entries in PostgreSQL")
+        return
+    file = folder / "layers.gpkg"
+    subprocess.run(["sh", ROOT / "examples" / "layers.sh", file], check=True, timeout=SECONDS, capture_output=True)
+    tables = {
+        "gpkg_spatial_ref_sys": "srs_id, organization, organization_coordsys_id, definition, definition_12_063",
+        "gpkg_contents": "table_name, srs_id",
+    }
+    first = []
+    with contextlib.closing(sqlite3.connect(file)) as package:
+        for table, columns in tables.items():
+            first.append(f"CREATE TABLE {table} ({columns.replace(',', ' text,')} text);")
+            for row in package.execute(f"SELECT {columns} FROM {table}"):
+                values = ", ".join("NULL" if it is None else "'" + str(it).replace("'", "''") + "'" for it in row)
+                first.append(f"INSERT INTO {table} VALUES ({values});")
+    groups = """SELECT string_agg(table_name, ' ' ORDER BY table_name) FROM gpkg_contents
+        JOIN gpkg_spatial_ref_sys USING (srs_id) GROUP BY coalesce(crs_canon(definition_12_063, '{}'),
+        upper(organization) || ':' || organization_coordsys_id) ORDER BY 1;"""
+    pairs = """SELECT a.srs_id, b.srs_id, crs_difference(a.definition_12_063, b.definition_12_063)
+        FROM gpkg_spatial_ref_sys AS a JOIN gpkg_spatial_ref_sys AS b ON a.srs_id::int < b.srs_id::int
+        WHERE crs_same(a.definition_12_063, b.definition_12_063, 'definition');"""
+    refused = """SELECT srs_id, crs_refusal(definition_12_063) FROM gpkg_spatial_ref_sys
+        WHERE crs_refusal(definition_12_063) IS NOT NULL ORDER BY 1;"""
+    statements = [
+        (
+            "WKT1",
+            "SELECT DISTINCT crs_refusal(definition) FROM gpkg_spatial_ref_sys WHERE definition <> 'undefined';",
+            "refused 11 UnknownKeyword at 0",
+        ),
+        ("by definition", groups.format("definition"), "heights\nparcels roads tiles\nwells"),
+        ("with everything", groups.format("full"), "heights\nparcels\nroads tiles\nwells"),
+        ("pairs", pairs, "31|32631|id"),
+        ("refused", refused, "-1|refused 7 UnexpectedEnd at 9\n0|refused 7 UnexpectedEnd at 9"),
+    ]
+    server.hold(counts, statements, "utf8", "\n".join(first))
+
+
+def try_documents(counts: Counts, server: Server) -> None:
+    """The commands of docs/SQL.md that ask for a server, in a database of their own."""
+    server.make("documents")
+    path, found = ROOT / "docs" / "SQL.md", 0
+    environment = {**server.environment, "PGDATABASE": "documents", SERVER[1:]: str(server.folder)}
+    for start, head, lines in run_documents.blocks_of(path):
+        if head.split(" ")[0] != "console" or SERVER not in head:
+            continue
+        for number, command, wanted in run_documents.commands_of(start, lines):
+            found += 1
+            done = run(["sh", "-c", command], cwd=ROOT, env=environment)
+            counts.compare(f"SQL.md:{number}: {command}", done.stdout, wanted)
+    counts.add("the commands of SQL.md", "" if found else "there are none")
+
+
+def try_refused(counts: Counts, server: Server, folder: pathlib.Path) -> None:
+    """Each growth of memory refused in turn: out of memory, by its code; the same call answers then."""
+    module = folder / "refuse.so"
+    include = build_postgresql.folder_of("includedir-server")
+    words = ["cc", "-Wall", "-Wextra", "-Werror", "-O2", "-fPIC", "-shared", "-isystem", include]
+    done = run([*words, "-o", module, HERE / "postgresql" / "refuse.c"])
+    counts.compare("refuse.c", (done.returncode, done.stdout), (0, ""))
+    if done.returncode:
+        return
+    declared = [
+        f"CREATE FUNCTION {it} RETURNS int AS '{module}' LANGUAGE C;"
+        for it in ("refuse_growth(n int)", "refused_growths()")
+    ]
+    # Long enough that a canonical text has no room at first.
+    many = "".join(f",USAGE[BBOX[1E40,-1E40,1E-40,{n}]]" for n in range(30))
+    calls = {
+        f"crs_canon('{HEIGHT[:-1]}{many}]') IS NULL": "f",
+        f"crs_kind('{HEIGHT}')": "vertical",
+        f"crs_same('{HEIGHT}', '{NOTED}')": "f",
+        f"crs_difference('{HEIGHT}', '{NOTED}')": "remark",
+        f"crs_refusal('{HEIGHT}x')": f"refused 6 Unexpected at {len(HEIGHT)}",
+    }
+    with server.running(LD_PRELOAD=str(module)):
+        server.printed([], "utf8", "\n".join(declared))
+        for call, wanted in calls.items():
+            statements = []
+            for number in range(1, MOST_GROWTHS + 1):
+                statements.append(("", f"SELECT refuse_growth({number});", ""))
+                statements.append(("", f"\\set VERBOSITY sqlstate\nSELECT {call};", ""))
+                statements.append(("", "SELECT refused_growths();", ""))
+            found = server.printed(statements, "utf8")[:-1]
+            trials = list(zip(found[1::3], found[2::3]))
+            refused = [answer for answer, count in trials if count == "1"]
+            answered = [answer for answer, count in trials if count == "0"]
+            # The library does without some memory that it asks for: then it answers as ever.
+            counts.compare(f"growths refused to {call[:20]}", set(refused) - {wanted}, {"Error: 53200"})
+            counts.compare(f"none refused to {call[:20]}", set(answered), {wanted})
+            is_front = [count for _, count in trials] == ["1"] * len(refused) + ["0"] * len(answered)
+            counts.add(f"each growth of {call[:20]}", "" if is_front else "one that was refused left no trace")
+            print(f"{call[:14]}: {len(refused)} growths refused")
+
+
+def main(words: List[str]) -> int:
+    if len(words) > 1 or words and words[0].startswith("-"):
+        sys.exit(__doc__)
+    prefix = pathlib.Path(words[0]) if words else ROOT / "out" / "prefix"
+    lack = build_postgresql.lacking()
+    if lack or not (build_postgresql.folder_of("bindir") / "postgres").exists():
+        print(f"skipped: {lack or 'no server of PostgreSQL'}: {LACKS}")
+        print("0 passed, 0 failed")
+        return 0
+    counts = Counts()
+    with tempfile.TemporaryDirectory() as name:
+        folder = pathlib.Path(name)
+        folder.chmod(0o755)
+        (folder / "server").mkdir()
+        stage = folder / "stage"
+        build_postgresql.build(prefix, stage, "-Werror")
+        script = (build_postgresql.SOURCES / f"crsdesk--{VERSION}.sql").read_text(encoding="utf-8")
+        try_symbols(counts, below(stage, build_postgresql.folder_of("pkglibdir")) / "crsdesk.so", script)
+        server = Server(folder / "server", stage)
+        os.environ["PATH"] = server.environment["PATH"]
+        with server.running():
+            server.hold(counts, [], "postgres", "CREATE EXTENSION crsdesk;")
+            try_version(counts, server, prefix)
+            try_statements(counts, server)
+            try_parallel(counts, server)
+            try_cancel(counts, server)
+            try_leaks(counts, server)
+            try_dump(counts, server, folder)
+            try_update(counts, server, below(stage, build_postgresql.folder_of("sharedir")) / "extension", script)
+            try_rights(counts, server)
+            try_geopackage(counts, server, folder)
+            try_documents(counts, server)
+        try_refused(counts, server, folder)
+    print(f"{counts.passed} passed, {counts.failed} failed")
+    return 1 if counts.failed else 0
+
+
+if __name__ == "__main__":
+    sys.exit(main(sys.argv[1:]))

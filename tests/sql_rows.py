@@ -1,0 +1,138 @@
+"""What both extensions for SQL are asked, that for SQLite and that for PostgreSQL: the rows of the .rows files beside it,
+and what they promise alike. A database's own spelling of it is a Dialect."""
+
+from __future__ import annotations
+
+import pathlib
+from typing import Callable, Iterator, List, NamedTuple, Optional, Tuple
+
+import run_cases
+
+HERE = pathlib.Path(__file__).resolve().parent
+HEIGHT = 'VERTCRS["H",VDATUM["D"],CS[vertical,1],AXIS["h",up,LENGTHUNIT["metre",1]]]'
+CANONICAL_HEIGHT = 'VERTCRS["H",VDATUM["D"],CS[vertical,1],AXIS["h",up,ORDER[1],LENGTHUNIT["metre",1]]]'
+NOTED = HEIGHT[:-1] + ',REMARK["r"]]'
+# The same CRS as that of HEIGHT, spelled otherwise.
+TWIN = HEIGHT.replace("[", "(").replace("]", ")")
+LEVELS = "there are 'full' and 'definition'"
+# What is asked, the statement, and what it must print; an error is the line that begins with 'Error: '.
+Statement = Tuple[str, str, str]
+
+
+class Dialect(NamedTuple):
+    """How a database spells and prints what is asked.
+
+    ``literal``  a text, as bytes or as a text; None where the database has no such text
+    ``hex``      the bytes of a text in capital digits; nothing of NULL
+    ``number``   a condition, as 1 or 0; nothing of NULL
+    ``zeros``    a text of so many zeros
+    """
+
+    literal: Callable[[bytes, bool], Optional[str]]
+    hex: Callable[[str], str]
+    number: Callable[[str], str]
+    zeros: Callable[[int], str]
+
+
+class Counts:
+    """How many cases passed and failed."""
+
+    def __init__(self) -> None:
+        self.passed = self.failed = 0
+
+    def add(self, name: str, fault: str) -> None:
+        if fault:
+            self.failed += 1
+            print(f"{name}: {fault[:1000]}", flush=True)
+        else:
+            self.passed += 1
+
+    def compare(self, name: str, got: object, wanted: object) -> None:
+        self.add(name, "" if got == wanted else f"answered {str(got)[:300]!r}, wanted {str(wanted)[:300]!r}")
+
+
+def level_of(words: List[bytes]) -> Tuple[List[str], List[bytes]]:
+    """A command line's level as arguments of SQL, and its other words."""
+    rest = [word for word in words if word != b"--"]
+    if b"--level" in rest[:-1]:
+        place = rest.index(b"--level")
+        return [f"'{rest[place + 1].decode()}'"], rest[:place] + rest[place + 2 :]
+    for word in rest:
+        if word.startswith(b"--level="):
+            return [f"'{word[8:].decode()}'"], [it for it in rest if it is not word]
+    return [], rest
+
+
+def of_case(case: run_cases.Case, is_blob: bool, dialect: Dialect) -> Iterator[Statement]:
+    """The statements that ask a row, each with its answer; none of a text that the database hasn't."""
+    if case.error is not None or case.output is None or case.is_unreadable or case.status == 2 or not case.words:
+        return
+    level, words = level_of(case.words)
+    given = [dialect.literal(it, is_blob) for it in (words[1:] if len(words) == 3 else [case.input])]
+    texts = [it for it in given if it is not None]
+    if len(texts) < len(given):
+        return
+    wanted = case.output[:-1]
+    refusal = wanted.decode(errors="replace") if b"refused" in wanted else ""
+    if words == [b"canon"]:
+        canonical = "" if refusal else wanted.hex().upper()
+        call = dialect.hex(f"crs_canon({', '.join([texts[0], *level])})")
+        yield case.place, f"SELECT {call}, crs_refusal({texts[0]});", f"{canonical}|{refusal}"
+    elif words == [b"check"]:
+        kind = "" if refusal else wanted.decode().split()[1]
+        yield case.place, f"SELECT crs_kind({texts[0]}), crs_refusal({texts[0]});", f"{kind}|{refusal}"
+    elif len(words) == 3 and words[0] == b"same":
+        both = ", ".join([*texts, *level])
+        is_same = "" if refusal else str(int(wanted == b"same"))
+        path = "" if refusal else wanted.decode().split()[-1]
+        call = dialect.number(f"crs_same({both})")
+        yield case.place, f"SELECT {call}, crs_difference({both});", f"{is_same}|{path}"
+        if refusal:
+            which, _, rest = refusal.partition(" ")
+            yield case.place, f"SELECT crs_refusal({texts[which == 'second']});", rest
+
+
+def rows(dialect: Dialect) -> Iterator[Statement]:
+    for path in sorted(HERE.glob("*.rows")):
+        for case in run_cases.cases_of(path):
+            for is_blob in (False, True):
+                yield from of_case(case, is_blob, dialect)
+
+
+def promises(dialect: Dialect) -> Iterator[Statement]:
+    """What the rows don't ask, and all extensions promise."""
+    height, noted = f"'{HEIGHT}'", f"'{NOTED}'"
+    for call in ("crs_canon(NULL)", "crs_kind(NULL)", "crs_refusal(NULL)", "crs_canon('x', NULL)"):
+        yield "NULL gives NULL", f"SELECT {dialect.number(f'{call} IS NULL')};", "1"
+    for call in ("crs_same", "crs_difference"):
+        for given in ("NULL, 'x'", "'x', NULL", "NULL, NULL", f"{height}, {height}, NULL"):
+            yield "NULL gives NULL", f"SELECT {dialect.number(f'{call}({given}) IS NULL')};", "1"
+    for call in (
+        f"crs_canon({height}, 'Full')",
+        f"crs_same({height}, {height}, 'Full')",
+        "crs_difference('', '', 'Full')",
+    ):
+        yield "a wrong level", f"SELECT {call};", f"Error: no such level: 'Full'; {LEVELS}"
+    both, by_definition = f"{height}, {noted}", f"{height}, {noted}, 'definition'"
+    same, same_by_definition = dialect.number(f"crs_same({both}, 'full')"), dialect.number(f"crs_same({by_definition})")
+    yield "a level", f"SELECT crs_canon({noted}, 'definition');", CANONICAL_HEIGHT
+    yield "a level", f"SELECT {same_by_definition}, {same};", "1|0"
+    yield "a level", f"SELECT crs_difference({both}), crs_difference({by_definition});", "remark|same"
+    nothing = dialect.literal(b"", True)
+    asked = f"SELECT crs_kind(''), crs_refusal(''), crs_refusal({nothing});"
+    yield "nothing", asked, "|refused 7 UnexpectedEnd at 0|refused 7 UnexpectedEnd at 0"
+    text, wanted = HEIGHT.encode(), f"refused 1 BadCharacter at {len(HEIGHT)}"
+    yield "a NUL byte", f"SELECT crs_refusal({dialect.literal(text + bytes(1), True)});", wanted
+
+
+def of_long_texts(dialect: Dialect) -> Iterator[Statement]:
+    length = 100_000_000
+    long = f"'{HEIGHT[:-1]},REMARK[\"' || {dialect.zeros(length)} || '\"]]'"
+    yield "100 MB", f"SELECT crs_kind({long}), length(crs_canon({long}));", f"vertical|{len(CANONICAL_HEIGHT) + 11 + length}"
+    yield "100 MB", f"SELECT crs_refusal({dialect.zeros(length)});", "refused 3 NumberRange at 0"
+    many = "".join(f",USAGE[BBOX[1E40,-1E40,1E-40,{n}]]" for n in range(300))
+    text = f"'{HEIGHT[:-1]}{many}]'"
+    is_longer = dialect.number(f"length(crs_canon({text})) > 2 * length({text})")
+    is_canonical = dialect.number(f"crs_canon(crs_canon({text})) = crs_canon({text})")
+    yield "a longer canonical text", f"SELECT {is_longer};", "1"
+    yield "a canonical text", f"SELECT {is_canonical};", "1"
