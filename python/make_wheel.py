@@ -15,11 +15,12 @@ import re
 import sys
 import sysconfig
 import zipfile
-from typing import Dict, Mapping, Optional
+from typing import Dict, List, Mapping, Optional
 
 HERE = pathlib.Path(__file__).resolve().parent
 PACKAGE = HERE / "src" / "crsdesk"
 LIBRARY = HERE.parent / "out" / "prefix" / "lib" / "libcrsdesk.so"
+SOURCES = (".css", ".jinja", ".js", ".py", ".typed")
 # The first moment that a zip file can name.
 MOMENT = (1980, 1, 1, 0, 0, 0)
 
@@ -29,15 +30,27 @@ def files(project: Mapping[str, str]) -> Dict[str, bytes]:
     library = pathlib.Path(os.environ.get("CRSDESK_LIBRARY", LIBRARY))
     if not library.is_file():
         raise SystemExit(f"crsdesk: there is no shared object {library}: tools/build_library.py makes it")
-    found = {f"crsdesk/{it.name}": it.read_bytes() for it in sorted(PACKAGE.glob("*.py"))}
-    found["crsdesk/py.typed"] = (PACKAGE / "py.typed").read_bytes()
+    sources = [it for it in PACKAGE.rglob("*") if it.suffix in SOURCES]
+    found = {f"crsdesk/{it.relative_to(PACKAGE)}": it.read_bytes() for it in sorted(sources)}
     found["crsdesk/libcrsdesk.so"] = library.read_bytes()
     metadata = ["Metadata-Version: 2.1", "Name: crsdesk", f"Version: {project['version']}"]
     metadata += [f"Summary: {project['description']}", f"Requires-Python: {project['requires-python']}"]
+    metadata += extras()
     wheel = ["Wheel-Version: 1.0", "Generator: make_wheel", "Root-Is-Purelib: false", f"Tag: {tag()}"]
     for name, lines in (("METADATA", metadata), ("WHEEL", wheel)):
         found[f"crsdesk-{project['version']}.dist-info/{name}"] = "".join(f"{it}\n" for it in lines).encode()
     return found
+
+
+def extras() -> List[str]:
+    """The lines of the packages that are asked for by an extra of pyproject.toml."""
+    text = (HERE / "pyproject.toml").read_text(encoding="utf-8")
+    section = text.partition("[project.optional-dependencies]\n")[2].partition("\n[")[0]
+    lines = []
+    for extra, packages in re.findall(r"^(\w+) = \[(.*)\]$", section, re.MULTILINE):
+        lines.append(f"Provides-Extra: {extra}")
+        lines += [f'Requires-Dist: {package}; extra == "{extra}"' for package in re.findall(r'"([^"]*)"', packages)]
+    return lines
 
 
 def tag() -> str:

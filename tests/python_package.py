@@ -464,7 +464,7 @@ TO_WKT = {
 def stand_in(package: str) -> object:
     """An object as a CRS of another package is, which needn't be there."""
     name = "ExportToWkt" if package == "osgeo.osr" else "to_wkt"
-    made = type("CRS", (), {name: lambda self: HEIGHT})
+    made = type("CRS", (), {name: lambda self, *options: HEIGHT})
     made.__module__ = package
     return made()
 
@@ -482,6 +482,31 @@ def a_crs_goes_where_a_text_goes() -> None:
     assert [catalogue.add(it) for it in (crs, HEIGHT, noted, other)] == [1, 1, 1, 2]
     refused = refusal_of(crs, lambda it: same(it, "x"))
     assert refused.which == "second"
+
+
+def a_crs_of_another_package() -> None:
+    """It is asked for WKT2:2019, and its text is kept; a wrong call is told the right one."""
+    for package in TO_WKT:
+        crs = Crs.from_user(stand_in(package))
+        assert crs == Crs(HEIGHT) and crs.text == HEIGHT.encode()
+    asked: List[object] = []
+    versions = type("CRS", (), {"to_wkt": lambda self, version: asked.append(version) or HEIGHT})
+    osgeo = type("CRS", (), {"ExportToWkt": lambda self, options: asked.append(options) or HEIGHT})
+    assert Crs.from_user(versions()) == Crs.from_user(osgeo()) == Crs(HEIGHT)
+    assert asked == ["WKT2_2019", ["FORMAT=WKT2_2019"]]
+    assert Crs.from_user(crs) is crs
+    refused = refusal_of(type("CRS", (), {"to_wkt": lambda self: 'BOUNDCRS["A"]'})(), Crs.from_user)
+    assert refused.text == b'BOUNDCRS["A"]' and "BOUNDCRS isn't read" in str(refused)
+    wants(TypeError, "hand a text over to Crs", Crs.from_user, HEIGHT)
+    wants(TypeError, "Crs.from_file reads a file", Crs.from_user, EXAMPLES / "wgs84.wkt")
+    wants(TypeError, "has a method to_wkt, and int hasn't", Crs.from_user, 4326)
+    wants(TypeError, "answers NoneType, and no text", Crs.from_user, type("CRS", (), {"to_wkt": lambda self: None})())
+    frame = type("GeoDataFrame", (), {"crs": crs})()
+    for call in (Crs, Crs.from_user):
+        wants(TypeError, "hand over its .crs to Crs.from_user", call, frame)
+    wants(TypeError, "(Crs.from_user does)", Crs, stand_in("pyproj.crs.crs"))
+    wants(TypeError, "(Crs.from_file does)", Crs, EXAMPLES / "wgs84.wkt")
+    assert "call Crs.from_user with" in str(refusal_of("EPSG:4326", Crs))
 
 
 def a_crs_of_a_file() -> None:
@@ -888,6 +913,8 @@ def with_pyproj() -> None:
 
     examples_of_the_document("pyproj")
     is_refused_with_the_call(pyproj.CRS.from_epsg(28992), "to_wkt()")
+    for crs in (pyproj.CRS.from_epsg(28992), pyproj.CRS.from_epsg(7415)):
+        assert Crs.from_user(crs).text == crs.to_wkt().encode()
     # PROJ reads each canonical text, as the CRS that it reads in the text itself, where it reads that.
     texts = [path.read_bytes() for path in sorted([*EXAMPLES.glob("*.wkt"), *(EXAMPLES / "exports").glob("*.wkt")])]
     texts += (EXAMPLES / "catalogue.txt").read_bytes().split(b"\n")
@@ -908,6 +935,7 @@ def with_rasterio() -> None:
     import rasterio.crs  # type: ignore[import]
 
     is_refused_with_the_call(rasterio.crs.CRS.from_epsg(28992), 'to_wkt(version="WKT2_2019")')
+    assert Crs.from_user(rasterio.crs.CRS.from_epsg(28992)).kind == "projected"
 
 
 def with_osgeo() -> None:
@@ -916,6 +944,7 @@ def with_osgeo() -> None:
     crs = osr.SpatialReference()
     crs.ImportFromEPSG(28992)
     is_refused_with_the_call(crs, 'ExportToWkt(["FORMAT=WKT2_2019"])')
+    assert Crs.from_user(crs).text == crs.ExportToWkt(["FORMAT=WKT2_2019"]).encode()
 
 
 # The commands over files.
@@ -1146,6 +1175,7 @@ PROMISES = [
     a_crs_is_a_key,
     a_crs_goes_where_a_text_goes,
     a_crs_of_a_file,
+    a_crs_of_another_package,
     a_crs_is_sorted_by_its_canonical_text,
     levels,
     all_parts,

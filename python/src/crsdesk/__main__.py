@@ -1,4 +1,4 @@
-"""The commands over files: ``python -m crsdesk check|canon|same|group``.
+"""The commands over files: ``python -m crsdesk check|canon|same|group|audit``.
 
 Answers go to standard output, refusals in full and faults to standard error. Status 0: all texts spell CRSs, and of
 ``same`` the same one. 1: a text is refused, or the two CRSs differ. 2: a file can't be read, or another fault.
@@ -20,9 +20,11 @@ from ._shown import named, quoted
 
 DIFFERS = 1
 FAULT = 2
+MOST_JOBS = 256
 LEVEL_HELP = "what counts: full, or definition, without identifiers, usages and remarks (default: full)"
 FILE_HELP = "a file with a text; - is standard input"
 LINES_HELP = "a file has a text a line (docs/CATALOGUES.md)"
+LINES_HELP_OF_AUDIT = "it has a text a line, and so has a file of another suffix that is named itself"
 
 
 class Place(NamedTuple):
@@ -185,6 +187,20 @@ def run_group(run: Run, asked: argparse.Namespace) -> None:
         run.write(line)
 
 
+def run_audit(run: Run, asked: argparse.Namespace) -> None:
+    # What only this command needs is imported where it runs.
+    from .audit.command import run_audit
+
+    run_audit(run, asked)
+
+
+def jobs(word: str) -> int:
+    number = int(word)
+    if not 1 <= number <= MOST_JOBS:
+        raise argparse.ArgumentTypeError(f"a number from 1 to {MOST_JOBS} is wanted")
+    return number
+
+
 def parser() -> argparse.ArgumentParser:
     whole = argparse.ArgumentParser(
         prog="python -m crsdesk",
@@ -224,6 +240,15 @@ def parser() -> argparse.ArgumentParser:
     made = command("group", "groups texts by the CRSs that they spell", run_group)
     add_files(made)
     add_level(made)
+
+    made = command("audit", "reports on the CRSs of all files of folders (docs/AUDIT.md)", run_audit)
+    made.add_argument("paths", nargs="+", metavar="PATH", help="a folder, with all below it, or a file")
+    made.add_argument("--txt", action="store_true", help="a .txt file is a text")
+    made.add_argument("--lines", action="store_true", help=LINES_HELP_OF_AUDIT)
+    made.add_argument("--html", metavar="FILE", help="writes the report as a page")
+    made.add_argument("--json", metavar="FILE", help="writes it as data (docs/audit.schema.json)")
+    made.add_argument("--csv", metavar="FILE", help="writes a row a text")
+    made.add_argument("--jobs", type=jobs, metavar="N", help="processes that read files (default: the number of cores)")
     return whole
 
 

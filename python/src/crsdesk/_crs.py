@@ -46,10 +46,31 @@ def advice_on(found: object) -> str:
     """What to hand over in the place of what is no text, behind a semicolon; nothing where that isn't known."""
     package = type(found).__module__.partition(".")[0]
     if hasattr(found, "to_wkt") or hasattr(found, "ExportToWkt"):
-        return f"; hand over its {TO_WKT.get(package, 'to_wkt()')}, in WKT2:2019"
+        return f"; hand over its {TO_WKT.get(package, 'to_wkt()')}, in WKT2:2019 (Crs.from_user does)"
     if hasattr(found, "__fspath__") or hasattr(found, "read"):
         return "; read the file, and hand over its bytes (Crs.from_file does)"
+    if hasattr(found, "crs"):
+        return "; hand over its .crs to Crs.from_user"
     return ""
+
+
+def text_of_user(found: object) -> Text:
+    """The text in WKT2:2019 that another package's CRS writes of itself. TypeError for what writes none."""
+    asked: Any = found
+    if hasattr(found, "ExportToWkt"):
+        text = asked.ExportToWkt(["FORMAT=WKT2_2019"])
+    elif hasattr(found, "to_wkt"):
+        try:
+            text = asked.to_wkt(version="WKT2_2019")
+        except TypeError:  # a CRS of a package that writes one version alone
+            text = asked.to_wkt()
+    else:
+        advice = "; Crs.from_file reads a file" if hasattr(found, "__fspath__") else advice_on(found)
+        advice = "; hand a text over to Crs" if isinstance(found, (str, bytes)) else advice
+        raise TypeError(f"a CRS of another package has a method to_wkt, and {type(found).__name__} hasn't{advice}")
+    if not isinstance(text, (str, bytes)):
+        raise TypeError(f"the to_wkt of {type(found).__name__} answers {type(text).__name__}, and no text")
+    return text
 
 
 def number_of(level: str) -> int:
@@ -137,6 +158,13 @@ class Crs:
         """The CRS that a file's bytes spell. ``OSError`` where it can't be read; else raises as ``check`` does."""
         with open(path, "rb") as file:
             return cls(file.read())
+
+    @classmethod
+    def from_user(cls, found: object) -> Crs:
+        """The CRS of another package's object: of pyproj, rasterio, fiona or osgeo, or what else has ``to_wkt``. It is
+        asked for WKT2:2019, and ``text`` is what it answered. ``TypeError`` for an object that isn't one; else raises
+        as ``check`` does, as of a CRS with a transformation, which is written as a ``BOUNDCRS``."""
+        return found if isinstance(found, cls) else cls(text_of_user(found))
 
     @property
     def text(self) -> bytes:

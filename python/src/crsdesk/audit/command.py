@@ -1,0 +1,126 @@
+"""The command ``audit``: its options, its progress and its files."""
+
+from __future__ import annotations
+
+import argparse
+import functools
+import importlib.util
+import os
+import signal
+from typing import TYPE_CHECKING, Iterable, List, Sequence, Tuple, TypeVar
+
+from .. import Difference
+from .collecting import Listing, Workers, listing_of
+from .judging import Told, Two, parts_of, told_of
+from .names import place_shown, readable, visible
+from .output import Outputs
+from .reading import Unread
+from .report import Report, report_of
+
+if TYPE_CHECKING:
+    from ..__main__ import Run
+
+Answer = TypeVar("Answer")
+FAULT = 2
+NEEDED = ("jinja2", "rich")
+SIGNALS = (signal.SIGINT, signal.SIGTERM, signal.SIGHUP)
+
+
+class Stopped(BaseException):
+    """A signal that ends the run."""
+
+    def __init__(self, number: int) -> None:
+        super().__init__(number)
+        self.number = number
+
+
+def run_audit(run: Run, asked: argparse.Namespace) -> None:
+    """Runs the command. A signal ends the processes, and leaves no part of a report."""
+    lacking = [name for name in NEEDED if importlib.util.find_spec(name) is None]
+    if lacking:
+        run.tell(f"crsdesk: audit needs {' and '.join(lacking)}: pip install {' '.join(lacking)} (or crsdesk[audit])")
+        run.ends(FAULT)
+        return
+    for number in SIGNALS:
+        signal.signal(number, stop)
+    # A process that has ended is met where its answers are waited for.
+    signal.signal(signal.SIGPIPE, signal.SIG_IGN)
+    try:
+        audit(run, asked)
+    except Stopped as stopped:
+        for number in SIGNALS:
+            signal.signal(number, signal.SIG_DFL)
+        os.kill(os.getpid(), stopped.number)
+
+
+def stop(number: int, _: object) -> None:
+    raise Stopped(number)
+
+
+def audit(run: Run, asked: argparse.Namespace) -> None:
+    """Reads, makes the report and writes it. A file that can't be written is a fault, which is found at the start."""
+    from .data import write_json
+    from .html import write_html
+    from .table import write_csv
+    from .terminal import lines_of
+
+    writers = {asked.html: write_html, asked.json: write_json, asked.csv: write_csv}
+    writers.pop(None, None)
+    listing = listing_of(asked.paths, asked.lines, asked.txt)
+    try:
+        with Outputs(list(writers)) as outputs:
+            report = report_on(asked.paths, listing, asked.jobs or len(os.sched_getaffinity(0)))
+            for name, write in writers.items():
+                outputs.write(name, functools.partial(write, report))
+            outputs.finish()
+    except OSError as error:
+        name = f"{readable(error.filename)}: " if isinstance(error.filename, str) else ""
+        run.tell(f"crsdesk: {name}{error.strerror}")
+        run.ends(FAULT)
+        return
+    signal.signal(signal.SIGPIPE, signal.SIG_DFL)
+    for line in lines_of(report):
+        run.write(line)
+    for untold in report.unread:
+        run.tell(f"crsdesk: {place_shown(untold.place)}: {visible(untold.why)}")
+    run.ends(report.status)
+
+
+def report_on(paths: Sequence[str], listing: Listing, jobs: int) -> Report:
+    """The report on the files of a listing, which processes read."""
+    with Workers(jobs) as workers:
+
+        def compare(pairs: Sequence[Two]) -> List[List[Difference]]:
+            answers = workers.answers(parts_of, pairs, lost_comparison)
+            return in_order(followed(answers, len(pairs), "comparing CRSs"))
+
+        answers = workers.answers(told_of, listing.files, lost_file)
+        told = in_order(followed(answers, len(listing.files), "reading files"))
+        return report_of(paths, listing, told, compare)
+
+
+def in_order(answers: Iterable[Tuple[int, Answer]]) -> List[Answer]:
+    """Answers by the numbers of their items."""
+    return [answer for _, answer in sorted(answers, key=lambda it: it[0])]
+
+
+def followed(answers: Iterable[Answer], total: int, what: str) -> Iterable[Answer]:
+    """The same answers. As they come a bar shows what is left, on standard error where that is a terminal."""
+    from rich.console import Console
+    from rich.progress import BarColumn, MofNCompleteColumn, Progress, TextColumn, TimeRemainingColumn
+
+    console = Console(stderr=True)
+    if not console.is_terminal:
+        yield from answers
+        return
+    columns = (TextColumn("{task.description}"), BarColumn(), MofNCompleteColumn(), TimeRemainingColumn())
+    with Progress(*columns, console=console, transient=True) as bar:
+        yield from bar.track(answers, total=total, description=what)
+
+
+def lost_file(how: str) -> Told:
+    return Told(unread=[Unread(f"the process that read it ended: {how}")])
+
+
+def lost_comparison(how: str) -> List[Difference]:
+    return [Difference("", None, f"the process that compared ended: {how}")]

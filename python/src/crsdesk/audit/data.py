@@ -1,0 +1,122 @@
+"""The report as data, for JSON: docs/audit.schema.json says its form."""
+
+from __future__ import annotations
+
+import dataclasses
+import json
+import os
+from typing import Any, Dict, List, TextIO
+
+from .. import Difference, __version__
+from .names import visible
+from .report import Area, Definition, NearMiss, Place, RefusedText, Report, Summary, Untold, Variant
+
+FORM = "crsdesk audit 1"
+
+
+def write_json(report: Report, file: TextIO) -> None:
+    """Writes the report as one JSON text, in ASCII."""
+    json.dump(data_of(report), file, indent=1)
+    file.write("\n")
+
+
+def data_of(report: Report) -> Dict[str, Any]:
+    return {
+        "form": FORM,
+        "version": __version__,
+        "paths": [name_of(path) for path in report.paths],
+        "summary": of_summary(report.summary),
+        "definitions": [of_definition(it) for it in report.definitions],
+        "near_misses": [of_near_miss(it) for it in report.near_misses],
+        "areas": [of_area(it) for it in report.areas],
+        "refused": [of_refused(it) for it in report.refused],
+        "without": [of_untold(it) for it in report.without],
+        "unread": [of_untold(it) for it in report.unread],
+        "skipped": [of_untold(it) for it in report.skipped],
+        "passed": [of_untold(it) for it in report.passed],
+    }
+
+
+def name_of(name: str) -> str:
+    """A name; bytes in it that aren't UTF-8 are U+FFFD."""
+    return os.fsencode(name).decode("utf-8", "replace") if has_odd_bytes(name) else name
+
+
+def has_odd_bytes(name: str) -> bool:
+    return any(0xD800 <= ord(character) <= 0xDFFF for character in name)
+
+
+def of_place(place: Place) -> Dict[str, Any]:
+    """A place: what isn't there, a layer or a line, is left out. ``file_bytes`` has a name that isn't UTF-8."""
+    data: Dict[str, Any] = {"file": name_of(place.file)}
+    if has_odd_bytes(place.file):
+        data["file_bytes"] = os.fsencode(place.file).hex()
+    if place.layer:
+        data["layer"] = name_of(place.layer)
+    if place.line:
+        data["line"] = place.line
+    return data
+
+
+def of_summary(summary: Summary) -> Dict[str, Any]:
+    data = dataclasses.asdict(summary)
+    data["others"] = {name_of(suffix): count for suffix, count in summary.others.items()}
+    data["refused_by_number"] = [it._asdict() for it in summary.refused_by_number]
+    return data
+
+
+def of_definition(definition: Definition) -> Dict[str, Any]:
+    return {
+        "number": definition.number,
+        "name": definition.name,
+        "kind": definition.kind,
+        "identifiers": definition.identifiers,
+        "texts": definition.texts,
+        "text": definition.text,
+        "variants": [of_variant(it) for it in definition.variants],
+    }
+
+
+def of_variant(variant: Variant) -> Dict[str, Any]:
+    return {
+        "number": variant.number,
+        "identifiers": list(variant.crs.identifiers),
+        "text": variant.crs.full,
+        "parts": of_parts(variant.parts),
+        "places": [of_place(it) for it in variant.places],
+    }
+
+
+def of_parts(parts: List[Difference]) -> List[Dict[str, Any]]:
+    return [{"path": it.path, "first": it.first, "second": it.second} for it in parts]
+
+
+def of_near_miss(miss: NearMiss) -> Dict[str, Any]:
+    pairs = [
+        {"first": it.first, "second": it.second, "identifiers": it.identifiers, "parts": of_parts(it.parts)}
+        for it in miss.pairs
+    ]
+    return {"by": miss.by, "value": miss.value, "pairs": pairs}
+
+
+def of_area(area: Area) -> Dict[str, Any]:
+    return {**area.box._asdict(), "texts": area.texts, "definitions": area.definitions}
+
+
+def of_refused(refused: RefusedText) -> Dict[str, Any]:
+    found = refused.refusal
+    return {
+        "place": of_place(refused.place),
+        "number": found.number,
+        "name": found.name,
+        "byte": found.place,
+        "line": found.line,
+        "column": found.column,
+        "piece": found.piece,
+        "meaning": found.meaning,
+        "hint": found.hint or None,
+    }
+
+
+def of_untold(untold: Untold) -> Dict[str, Any]:
+    return {"place": of_place(untold.place), "why": visible(untold.why)}

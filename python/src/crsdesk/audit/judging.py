@@ -1,0 +1,167 @@
+"""What a file's texts spell: the library is asked, and its answers are kept as data that goes between processes."""
+
+from __future__ import annotations
+
+import functools
+import hashlib
+import re
+from dataclasses import dataclass, field
+from typing import Dict, Iterator, List, NamedTuple, Optional, Tuple
+
+from .. import Crs, Difference, Level, Refused
+from .reading import File, Skipped, Text, Unread, Without, read
+
+TOKEN = re.compile(r'"(?:[^"]|"")*"|[\[\],]|[^\[\],"]+')
+
+
+class Box(NamedTuple):
+    """An area of use in degrees, as a text states it; it crosses the meridian of 180 degrees where west is above east."""
+
+    south: float
+    west: float
+    north: float
+    east: float
+
+
+@dataclass(frozen=True)
+class Spelled:
+    """A CRS that a text spells.
+
+    ``full``         its canonical text with everything, ``definition`` the one without identifiers, usages and remarks
+    ``identifiers``  its own, as ``EPSG:4326``
+    ``boxes``        its areas of use, and those of its parts
+    """
+
+    full: str
+    definition: str
+    kind: str
+    name: str
+    identifiers: Tuple[str, ...]
+    boxes: Tuple[Box, ...]
+
+
+@dataclass(frozen=True)
+class Refusal:
+    """Why a text is refused, in the words of ``Refused``: ``place`` is its byte, ``piece`` the line with a caret below,
+    ``hint`` what the text most likely is and what to do, or nothing."""
+
+    number: int
+    name: str
+    place: int
+    line: int
+    column: int
+    piece: str
+    meaning: str
+    hint: str
+
+
+class Judged(NamedTuple):
+    """A text's answer: the CRS by its place in the list of its file, or the refusal; the digest tells equal texts."""
+
+    layer: str
+    line: int
+    digest: bytes
+    crs: int
+    refusal: Optional[Refusal]
+
+
+@dataclass
+class Told:
+    """What a file states, and what couldn't be read in it."""
+
+    spelled: List[Spelled] = field(default_factory=list)
+    texts: List[Judged] = field(default_factory=list)
+    without: List[Without] = field(default_factory=list)
+    unread: List[Unread] = field(default_factory=list)
+    skipped: List[Skipped] = field(default_factory=list)
+
+
+def told_of(file: File) -> Told:
+    """What a file states. Each of its CRSs stands in the list once."""
+    told = Told()
+    known: Dict[str, int] = {}
+    for found in read(file):
+        if isinstance(found, Text):
+            try:
+                told.texts.append(judged(found, told.spelled, known))
+            except MemoryError:
+                told.unread.append(Unread("out of memory", found.layer, found.line))
+        elif isinstance(found, Without):
+            told.without.append(found)
+        elif isinstance(found, Unread):
+            told.unread.append(found)
+        else:
+            told.skipped.append(found)
+    return told
+
+
+def judged(found: Text, spelled: List[Spelled], known: Dict[str, int]) -> Judged:
+    """A text's answer. A CRS that isn't known yet is added."""
+    digest = hashlib.blake2b(found.text, digest_size=16).digest()
+    try:
+        crs = Crs(found.text)
+    except Refused as refused:
+        return Judged(found.layer, found.line, digest, -1, refusal_of(refused, found.line))
+    full = str(crs)
+    if full not in known:
+        known[full] = len(spelled)
+        spelled.append(spelled_by(crs))
+    return Judged(found.layer, found.line, digest, known[full], None)
+
+
+def spelled_by(crs: Crs) -> Spelled:
+    name, identifiers, boxes = facts_of(str(crs))
+    return Spelled(str(crs), crs.canonical("definition"), crs.kind, name, identifiers, boxes)
+
+
+def refusal_of(refused: Refused, line: int) -> Refusal:
+    """A refusal's words, as they are told of files."""
+    piece = refused.piece()
+    _, _, words = refused.told_of_file(line).partition(piece + "\n")
+    meaning, _, hint = words.partition("\n")
+    return Refusal(
+        refused.number, refused.name, refused.place, refused.line, refused.column, piece, meaning, hint.strip()
+    )
+
+
+@functools.lru_cache(maxsize=4096)
+def facts_of(canonical: str) -> Tuple[str, Tuple[str, ...], Tuple[Box, ...]]:
+    """The name, the own identifiers and all boxes of a canonical text's CRS."""
+    name, identifiers, boxes = "", [], []
+    for depth, keyword, values in nodes_of(canonical):
+        if depth == 0:
+            name = values[0]
+        elif depth == 1 and keyword == "ID":
+            identifiers.append(":".join(values[:2]))
+        elif keyword == "BBOX":
+            boxes.append(Box(*map(float, values)))
+    return name, tuple(identifiers), tuple(dict.fromkeys(boxes))
+
+
+def nodes_of(canonical: str) -> Iterator[Tuple[int, str, List[str]]]:
+    """Each node of a canonical text where it ends: in how many nodes it stands, its keyword, and its own values."""
+    open_nodes: List[Tuple[str, List[str]]] = [("", [])]
+    word = ""
+    for token in TOKEN.findall(canonical):
+        if token == "[":
+            open_nodes[-1][1].pop()
+            open_nodes.append((word, []))
+        elif token == "]":
+            keyword, values = open_nodes.pop()
+            yield len(open_nodes) - 1, keyword, values
+        elif token != ",":
+            word = token
+            open_nodes[-1][1].append(token[1:-1].replace('""', '"') if token[0] == '"' else token)
+
+
+class Two(NamedTuple):
+    """Two CRSs to compare at a level, by their canonical texts."""
+
+    first: str
+    second: str
+    level: Level
+
+
+def parts_of(two: Two) -> List[Difference]:
+    """The parts in which two CRSs differ."""
+    return Crs(two.first).differences(two.second, two.level)

@@ -1,0 +1,428 @@
+"""What is in a file: the texts that it states, each with its layer or line.
+
+Nothing is written, looked up or fetched. A file is read the way that its name says (``Way``); what can't be read is told
+and stops nothing.
+"""
+
+from __future__ import annotations
+
+import contextlib
+import enum
+import errno
+import functools
+import os
+import shutil
+import sqlite3
+import stat
+import tempfile
+import urllib.parse
+import zipfile
+import zlib
+from typing import Any, BinaryIO, Dict, Iterator, List, NamedTuple, Optional, Tuple, Union
+
+from .._crs import is_blank
+
+# The bound of the program `crsdesk` too.
+MOST_BYTES = 1_048_576
+MOST_LAYERS = 10_000
+# So many thousand steps of SQLite's machine may a database take: a view can be without end.
+MOST_STEPS = 20_000
+# A database with a log is copied up to so many bytes.
+MOST_COPIED = 1 << 30
+DATABASE = b"SQLite format 3\0"
+
+
+class Way(enum.Enum):
+    """How a file is read."""
+
+    TEXT = "a text a file"
+    LINES = "a text a line"
+    DATABASE = "a database"
+    GDAL = "by GDAL"
+    ZIP = "an archive"
+
+
+class File(NamedTuple):
+    """A file to read, and how."""
+
+    path: str
+    way: Way
+
+
+class Text(NamedTuple):
+    """A text that a file states."""
+
+    text: bytes
+    layer: str = ""
+    line: int = 0
+
+
+class Without(NamedTuple):
+    """A file, layer or line that states no CRS."""
+
+    why: str
+    layer: str = ""
+    line: int = 0
+
+
+class Unread(NamedTuple):
+    """A file, layer or line that can't be read."""
+
+    why: str
+    layer: str = ""
+    line: int = 0
+
+
+class Skipped(NamedTuple):
+    """A file, or a member of one, that isn't read, since something isn't installed."""
+
+    lacking: str
+    layer: str = ""
+
+
+Found = Union[Text, Without, Unread, Skipped]
+
+TEXTS = frozenset((".wkt", ".wkt2", ".prj", ".qpj"))
+CATALOGUES = frozenset((".txt",))
+DATABASES = frozenset((".gpkg", ".sqlite", ".sqlite3", ".db"))
+ARCHIVES = frozenset((".zip",))
+# What GDAL reads, by its drivers' names. Files that name others to be read, or to be fetched, aren't among them.
+DRIVERS: Dict[str, Tuple[str, ...]] = {
+    ".tif": ("GTiff",),
+    ".tiff": ("GTiff",),
+    ".shp": ("ESRI Shapefile",),
+    ".nc": ("netCDF", "HDF5"),
+    ".nc4": ("netCDF", "HDF5"),
+    ".fgb": ("FlatGeobuf",),
+    ".gml": ("GML",),
+    ".geojson": ("GeoJSON",),
+    ".kml": ("LIBKML", "KML"),
+    ".jp2": ("JP2OpenJPEG", "JP2KAK", "JP2ECW", "JP2MrSID"),
+    ".img": ("HFA",),
+    ".asc": ("AAIGrid",),
+    ".grb": ("GRIB",),
+    ".grb2": ("GRIB",),
+    ".grib": ("GRIB",),
+    ".h5": ("HDF5", "BAG"),
+    ".hdf5": ("HDF5",),
+    ".bag": ("BAG",),
+    ".hdf": ("HDF4",),
+    ".tab": ("MapInfo File",),
+    ".mif": ("MapInfo File",),
+    ".dgn": ("DGN",),
+    ".dxf": ("DXF",),
+    ".parquet": ("Parquet",),
+    ".gdb": ("OpenFileGDB",),
+}
+# In an archive a database is read by GDAL.
+DRIVERS_OF_MEMBERS: Dict[str, Tuple[str, ...]] = {**DRIVERS, ".gpkg": ("GPKG",)}
+# A folder that is one data set.
+FOLDERS = frozenset((".gdb",))
+OPEN_OPTIONS = {".gml": ["WRITE_GFS=NO", "DOWNLOAD_SCHEMA=NO"]}
+
+
+def suffix_of(path: str) -> str:
+    return os.path.splitext(path)[1].lower()
+
+
+def way_of(path: str, is_named: bool, by_line: bool, with_txt: bool) -> Optional[Way]:
+    """How a file is read: by its suffix; None where it isn't. One of another suffix that is named itself is as .txt."""
+    suffix = suffix_of(path)
+    if suffix in DATABASES:
+        return Way.DATABASE
+    if suffix in DRIVERS:
+        return Way.GDAL
+    if suffix in ARCHIVES:
+        return Way.ZIP
+    if suffix in TEXTS:
+        return Way.TEXT
+    if is_named or suffix in CATALOGUES and (by_line or with_txt):
+        return Way.LINES if by_line else Way.TEXT
+    return None
+
+
+def read(file: File) -> Iterator[Found]:
+    """What a file states. Whatever goes wrong in it is told of it."""
+    try:
+        yield from READERS[file.way](file.path)
+    except OSError as error:
+        yield Unread(error.strerror or str(error))
+    except MemoryError:
+        yield Unread("out of memory")
+    except Exception as error:  # whatever a library makes of damaged bytes
+        yield Unread(f"{type(error).__name__}: {error}")
+
+
+def opened(path: str) -> BinaryIO:
+    """A file to read. OSError where it is none: what waits for others, such as a named pipe, isn't read."""
+    descriptor = os.open(path, os.O_RDONLY | os.O_NONBLOCK | os.O_CLOEXEC)
+    mode = os.fstat(descriptor).st_mode
+    if stat.S_ISREG(mode):
+        return os.fdopen(descriptor, "rb")
+    os.close(descriptor)
+    if stat.S_ISDIR(mode):
+        raise IsADirectoryError(errno.EISDIR, os.strerror(errno.EISDIR))
+    raise OSError(errno.EINVAL, "Not a regular file")
+
+
+def text_found(text: bytes, layer: str = "", line: int = 0) -> Found:
+    """A text as it is found: one of white space alone states nothing, and a long one isn't read."""
+    if len(text) > MOST_BYTES:
+        return Unread(TOO_LONG, layer, line)
+    if is_blank(text):
+        return Without("blank" if text else "empty", layer, line)
+    return Text(text, layer, line)
+
+
+TOO_LONG = f"text too long (more than {MOST_BYTES:,} bytes)"
+
+
+def read_text(path: str) -> Iterator[Found]:
+    with opened(path) as file:
+        front = file.read(MOST_BYTES + 1)
+    if front.startswith(DATABASE):
+        yield from read_database(path)
+    else:
+        yield text_found(front)
+
+
+def read_lines(path: str) -> Iterator[Found]:
+    """The lines of a catalogue (docs/CATALOGUES.md); of a line that is too long the rest is passed over."""
+    with opened(path) as file:
+        number = 0
+        while True:
+            line = file.readline(MOST_BYTES + 2)
+            if not line:
+                return
+            number += 1
+            is_whole = line.endswith(b"\n")
+            if is_whole:
+                line = line[: -2 if line.endswith(b"\r\n") else -1]
+            yield text_found(line, "", number)
+            while not is_whole:
+                rest = file.readline(MOST_BYTES)
+                is_whole = not rest or rest.endswith(b"\n")
+
+
+# A database: the layers, and the text of each one's entry.
+
+GEOPACKAGE = ("gpkg_contents", "gpkg_spatial_ref_sys")
+SPATIALITE = ("geometry_columns", "spatial_ref_sys")
+
+
+def read_database(path: str) -> Iterator[Found]:
+    opened(path).close()
+    try:
+        with unchanged(path) as address, contextlib.closing(connection_to(address)) as connection:
+            tables = {name.lower() for name in column(connection, "SELECT name FROM sqlite_master")}
+            kinds = [kind for kind in (GEOPACKAGE, SPATIALITE) if tables.issuperset(kind)]
+            for kind in kinds:
+                yield from layers_of(connection, kind)
+            if not kinds:
+                yield Without("a database without layers")
+    except sqlite3.Error as error:
+        yield Unread(f"SQLite: {error}")
+
+
+@contextlib.contextmanager
+def unchanged(path: str) -> Iterator[str]:
+    """The address by which a database is read so that no file is made beside it. Where it has a log, and no program
+    has it open, it is read from a copy: SQLite makes a file to read a log."""
+    address = "file:" + urllib.parse.quote(os.fsencode(path)) + "?mode=ro"
+    log = path + "-wal"
+    if not os.path.exists(log) or os.path.getsize(log) == 0:
+        yield address + "&immutable=1"
+    elif os.path.exists(path + "-shm"):
+        yield address
+    elif os.path.getsize(path) + os.path.getsize(log) > MOST_COPIED:
+        raise sqlite3.OperationalError(f"more than {MOST_COPIED:,} bytes, with a log: have SQLite write that into it")
+    else:
+        with tempfile.TemporaryDirectory() as folder:
+            copy = os.path.join(folder, "copy")
+            shutil.copyfile(path, copy)
+            shutil.copyfile(log, copy + "-wal")
+            yield f"file:{urllib.parse.quote(copy)}?mode=ro"
+
+
+def connection_to(address: str) -> sqlite3.Connection:
+    """A connection on which neither a view nor a trigger does anything but be read, for a bounded time."""
+    connection = sqlite3.connect(address, uri=True, timeout=1)
+    connection.text_factory = bytes
+    connection.execute("PRAGMA trusted_schema = OFF")
+    steps = iter(range(MOST_STEPS))
+    connection.set_progress_handler(lambda: next(steps, None) is None, 1000)
+    return connection
+
+
+def column(connection: sqlite3.Connection, query: str) -> List[str]:
+    """The first column of what a query answers, as text."""
+    return [decoded(row[0]) for row in connection.execute(query)]
+
+
+def decoded(value: Any) -> str:
+    """A value of a database as text; bytes that aren't UTF-8 as Python has them in names."""
+    return value.decode("utf-8", "surrogateescape") if isinstance(value, bytes) else str(value)
+
+
+def layers_of(connection: sqlite3.Connection, kind: Tuple[str, str]) -> Iterator[Found]:
+    """The text of each layer: of a GeoPackage the text in WKT2, where the entry has one."""
+    layers, entries = kind
+    columns = {name.lower() for name in column(connection, f"SELECT name FROM pragma_table_info('{entries}')")}
+    texts = [name for name in ("definition_12_063", "definition", "srtext", "srs_wkt") if name in columns]
+    identity, name = ("srs_id", "table_name") if kind == GEOPACKAGE else ("srid", "f_table_name")
+    chosen = ", ".join(f"entry.{text}" for text in texts) or "NULL"
+    query = (
+        f"SELECT layer.{name}, layer.{identity}, entry.{identity}, {chosen} FROM {layers} AS layer "
+        f"LEFT JOIN {entries} AS entry ON layer.{identity} = entry.{identity} ORDER BY 1"
+    )
+    for layer, number, entry, *values in connection.execute(query):
+        yield layer_found(decoded(layer), number, entry, values)
+
+
+def layer_found(layer: str, number: Any, entry: Any, values: List[Any]) -> Found:
+    """What a layer states, by the number of its entry and the entry's texts, the best first."""
+    if number is None or number in (-1, 0) and entry is None:
+        return Without("the layer has no CRS", layer)
+    if entry is None:
+        return Unread(f"there is no entry {decoded(number)} for the layer", layer)
+    texts = [value if isinstance(value, bytes) else str(value).encode() for value in values if value is not None]
+    texts = [text for text in texts if text.strip().lower() not in (b"", b"undefined")]
+    return text_found(texts[0], layer) if texts else Without("the layer's CRS is undefined", layer)
+
+
+# What GDAL reads.
+
+
+@functools.lru_cache(maxsize=None)
+def gdal_of() -> Any:
+    """The module osgeo.gdal, quiet and without a network; None where it isn't installed."""
+    os.environ["PROJ_NETWORK"] = "OFF"
+    try:
+        from osgeo import gdal
+    except ImportError:
+        return None
+    gdal.UseExceptions()
+    gdal.PushErrorHandler("CPLQuietErrorHandler")
+    gdal.SetConfigOption("CPL_VSIL_CURL_ALLOWED_EXTENSIONS", ".none")
+    return gdal
+
+
+def read_by_gdal(path: str) -> Iterator[Found]:
+    os.stat(path)
+    if not os.path.isdir(path):
+        opened(path).close()
+    yield from read_data_set(path, "", DRIVERS[suffix_of(path)])
+
+
+def read_data_set(path: str, member: str, names: Tuple[str, ...]) -> Iterator[Found]:
+    """The texts that GDAL writes of a data set's layers and rasters; a member of an archive is the layers' front."""
+    gdal = gdal_of()
+    if gdal is None:
+        yield Skipped("osgeo", member)
+        return
+    drivers = [name for name in names if gdal.GetDriverByName(name) is not None]
+    if not drivers:
+        yield Skipped(f"GDAL's driver {names[0]}", member)
+        return
+    options = OPEN_OPTIONS.get(suffix_of(path), [])
+    try:
+        data_set = gdal.OpenEx(path, gdal.OF_READONLY, allowed_drivers=drivers, open_options=options)
+    except RuntimeError as error:
+        yield Unread(f"GDAL: {told_by_gdal(error, path)}", member)
+        return
+    if data_set is None:
+        yield Unread("GDAL: not read", member)
+        return
+    yield from layers_of_data_set(gdal, data_set, path, member)
+
+
+def told_by_gdal(error: RuntimeError, path: str) -> str:
+    """GDAL's words in one line, without the file's name, which is told before."""
+    words = " ".join(str(error).split())
+    for name in (f"`{path}' ", f"{path}: ", f"{path}, "):
+        words = words.replace(name, "")
+    return words
+
+
+def layers_of_data_set(gdal: Any, data_set: Any, path: str, member: str) -> Iterator[Found]:
+    is_told = False
+    for index in range(min(data_set.GetLayerCount(), MOST_LAYERS)):
+        layer = data_set.GetLayer(index)
+        yield reference_found(layer.GetSpatialRef(), joined(member, layer.GetName()))
+        is_told = True
+    rasters = data_set.GetSubDatasets()[:MOST_LAYERS]
+    for name, _ in rasters:
+        label = joined(member, name.rpartition(":")[2])
+        try:
+            yield reference_found(raster_reference(gdal.OpenEx(name, gdal.OF_RASTER)), label)
+        except RuntimeError as error:
+            yield Unread(f"GDAL: {told_by_gdal(error, path)}", label)
+        is_told = True
+    if not is_told or data_set.RasterCount and not rasters:
+        yield reference_found(raster_reference(data_set), member)
+
+
+def joined(member: str, layer: str) -> str:
+    return f"{member}:{layer}" if member and layer else member or layer
+
+
+def raster_reference(data_set: Any) -> Any:
+    """A raster's reference, or else that of its control points."""
+    return data_set.GetSpatialRef() or data_set.GetGCPSpatialRef()
+
+
+def reference_found(reference: Any, layer: str) -> Found:
+    """What GDAL writes of a reference, in WKT2:2019."""
+    if reference is None:
+        return Without("no CRS", layer)
+    try:
+        text = reference.ExportToWkt(["FORMAT=WKT2_2019", "MULTILINE=NO"])
+    except RuntimeError as error:
+        return Unread(f"GDAL: {' '.join(str(error).split())}", layer)
+    return text_found(text.encode("utf-8", "surrogateescape"), layer)
+
+
+# Archives.
+
+
+def read_archive(path: str) -> Iterator[Found]:
+    """The members of a zip archive: texts, and what GDAL reads in it."""
+    with opened(path) as file:
+        try:
+            with zipfile.ZipFile(file) as archive:
+                yield from members_of(archive, path)
+        except (zipfile.BadZipFile, NotImplementedError) as error:
+            yield Unread(f"zip: {error}")
+
+
+def members_of(archive: zipfile.ZipFile, path: str) -> Iterator[Found]:
+    is_told = False
+    for entry in sorted(archive.infolist(), key=lambda it: it.filename):
+        suffix = suffix_of(entry.filename)
+        if entry.is_dir() or suffix not in TEXTS and suffix not in DRIVERS_OF_MEMBERS:
+            continue
+        is_told = True
+        if suffix in TEXTS:
+            yield member_found(archive, entry)
+        else:
+            yield from read_data_set(f"/vsizip/{path}/{entry.filename}", entry.filename, DRIVERS_OF_MEMBERS[suffix])
+    if not is_told:
+        yield Without("nothing in the archive is read")
+
+
+def member_found(archive: zipfile.ZipFile, entry: zipfile.ZipInfo) -> Found:
+    """A text in an archive. No more of it is unpacked than a text can have."""
+    try:
+        with archive.open(entry) as file:
+            return text_found(file.read(MOST_BYTES + 1), entry.filename)
+    except (zipfile.BadZipFile, NotImplementedError, RuntimeError, EOFError, zlib.error) as error:
+        return Unread(f"zip: {error}", entry.filename)
+
+
+READERS = {
+    Way.TEXT: read_text,
+    Way.LINES: read_lines,
+    Way.DATABASE: read_database,
+    Way.GDAL: read_by_gdal,
+    Way.ZIP: read_archive,
+}

@@ -1,0 +1,36 @@
+"use strict";
+(() => {
+  const words = document.getElementById("words");
+  const shown = document.getElementById("shown");
+  const chunks = Array.from(document.querySelectorAll(".chunk"), (chunk) => [chunk, Array.from(chunk.querySelectorAll(".item"))]);
+  const total = chunks.reduce((sum, [, items]) => sum + items.length, 0);
+  let texts = null;
+  const filter = () => {
+    texts = texts || new Map(chunks.flatMap(([, items]) => items.map((item) => [item, item.textContent.toLowerCase()])));
+    const asked = words.value.toLowerCase().split(/\s+/).filter(Boolean);
+    let count = 0;
+    for (const [chunk, items] of chunks) {
+      const fitting = items.filter((item) => asked.every((word) => texts.get(item).includes(word)));
+      chunk.hidden = fitting.length === 0;
+      count += fitting.length;
+      if (chunk.hidden) continue;
+      const fits = new Set(fitting);
+      for (const item of items) if (item.hidden === fits.has(item)) item.hidden = !item.hidden;
+    }
+    shown.textContent = asked.length ? `${count} of ${total} shown` : "";
+  };
+  const open = () => {
+    const target = location.hash && document.getElementById(location.hash.slice(1));
+    if (target && target.matches("details")) {
+      target.hidden = target.closest(".chunk").hidden = false;
+      target.open = true;
+      target.scrollIntoView();
+    }
+  };
+  words.addEventListener("input", filter);
+  document.getElementById("filter").addEventListener("submit", (event) => event.preventDefault());
+  document.getElementById("filter").hidden = false;
+  addEventListener("hashchange", open);
+  addEventListener("beforeprint", () => document.querySelectorAll("details").forEach((it) => { it.open = true; }));
+  open();
+})();

@@ -1,0 +1,304 @@
+#!/usr/bin/env python3
+"""Opens the page of `python -m crsdesk audit --html` in a browser, and tries what a reader does there.
+
+    audit_page.py [--measure | --picture FILE]
+
+The browser is Chromium, without a window, as Debian's chromium, chromium-driver and python3-selenium have it. With
+--measure it tells how long the page of 13,000 texts takes to open and to filter; with --picture it writes the picture
+of docs/AUDIT.md. What isn't there is told as skipped, by name. Each case that fails has a line; the last line is
+'N passed, M failed', and the status is 0 where M is 0.
+"""
+from __future__ import annotations
+
+import contextlib
+import functools
+import importlib.util
+import os
+import pathlib
+import shutil
+import subprocess
+import sys
+import tempfile
+import time
+import traceback
+from typing import Any, Iterator, List, NamedTuple
+
+sys.dont_write_bytecode = True
+import audit_archive
+import big_catalogue
+
+ROOT = pathlib.Path(__file__).resolve().parent.parent
+DRIVER = "chromedriver"
+BROWSER = "chromium"
+MARKUP = '<b onclick="alert(1)">&amp;</b><script>alert(2)</script>'
+
+
+@contextlib.contextmanager
+def browser(*words: str, has_scripts: bool = True, size: str = "1200,1000") -> Iterator[Any]:
+    """A browser, which is closed behind it."""
+    from selenium import webdriver
+    from selenium.webdriver.chrome.options import Options
+    from selenium.webdriver.chrome.service import Service
+
+    options = Options()
+    options.binary_location = shutil.which(BROWSER)
+    for word in ("--headless=new", "--no-sandbox", "--disable-gpu", "--disable-dev-shm-usage", f"--window-size={size}"):
+        options.add_argument(word)
+    for word in words:
+        options.add_argument(word)
+    options.set_capability("goog:loggingPrefs", {"browser": "ALL"})
+    driver = webdriver.Chrome(options=options, service=Service(shutil.which(DRIVER)))
+    if not has_scripts:
+        driver.execute_cdp_cmd("Emulation.setScriptExecutionDisabled", {"value": True})
+    try:
+        yield driver
+    finally:
+        driver.quit()
+
+
+@functools.lru_cache(maxsize=None)
+def folder() -> pathlib.Path:
+    made = tempfile.TemporaryDirectory()
+    KEPT.append(made)
+    return pathlib.Path(made.name)
+
+
+KEPT: List[Any] = []
+
+
+def audited(name: str, *words: object) -> pathlib.Path:
+    """The page of an audit."""
+    page = folder() / name
+    command = [sys.executable, "-m", "crsdesk", "audit", "--lines", "--html", page, *words]
+    done = subprocess.run(list(map(str, command)), capture_output=True, check=False)
+    assert done.returncode == 1, done.stderr[-2000:]
+    return page
+
+
+@functools.lru_cache(maxsize=None)
+def page_of_archive() -> pathlib.Path:
+    archive = folder() / "archive"
+    archive.mkdir()
+    audit_archive.make(archive)
+    return audited("archive.html", archive)
+
+
+def opened(driver: Any, page: pathlib.Path) -> None:
+    driver.get(page.as_uri())
+
+
+def all_of(driver: Any, selector: str) -> List[Any]:
+    return list(driver.find_elements("css selector", selector))
+
+
+def shown(driver: Any, selector: str) -> List[Any]:
+    return [it for it in all_of(driver, selector) if it.is_displayed()]
+
+
+def loads_without_an_error() -> None:
+    with browser() as driver:
+        opened(driver, page_of_archive())
+        assert driver.get_log("browser") == []
+        assert driver.title == "Audit of coordinate reference systems"
+        assert len(all_of(driver, "#groups details")) > 50 and len(all_of(driver, "svg rect.bar")) == 15
+        asked = driver.execute_script("return performance.getEntriesByType('resource').length")
+        assert asked == 0, "the page asks for more than itself"
+
+
+def filter_hides_and_shows() -> None:
+    with browser() as driver:
+        opened(driver, page_of_archive())
+        words = driver.find_element("id", "words")
+        whole = len(shown(driver, "#groups details"))
+        words.send_keys("survey: zone survey:1040")
+        found = [it.text for it in shown(driver, "#groups details")]
+        assert len(found) == 1 and "Survey zone 40" in found[0], found
+        told = driver.find_element("id", "shown").text
+        assert told.endswith(" shown") and told.startswith("1 of "), told
+        driver.execute_script("arguments[0].value = ''; arguments[0].dispatchEvent(new Event('input'))", words)
+        assert len(shown(driver, "#groups details")) == whole and driver.find_element("id", "shown").text == ""
+        words.send_keys("nothing has this")
+        assert shown(driver, ".item") == []
+        assert driver.get_log("browser") == []
+
+
+def sections_fold_by_keyboard_too() -> None:
+    from selenium.webdriver.common.keys import Keys
+
+    with browser() as driver:
+        opened(driver, page_of_archive())
+        (first,) = all_of(driver, "#d1")
+        summary, text = first.find_element("css selector", "summary"), first.find_element("css selector", "pre")
+        assert not text.is_displayed()
+        summary.click()
+        assert text.is_displayed() and text.text.startswith("PROJCRS[")
+        summary.send_keys(Keys.ENTER)
+        assert not text.is_displayed()
+        # The page is gone through by the tabulator: the links, the filter, what folds.
+        opened(driver, page_of_archive())
+        focused = []
+        for _ in range(12):
+            driver.switch_to.active_element.send_keys(Keys.TAB)
+            focused.append(driver.switch_to.active_element.tag_name)
+        assert focused[:6] == ["a", "a", "a", "a", "a", "input"], focused
+        # A link to a group opens it.
+        driver.execute_script("location.hash = '#d2'")
+        time.sleep(0.3)
+        assert driver.find_element("css selector", "#d2 pre").is_displayed()
+
+
+def is_readable_without_scripts() -> None:
+    with browser(has_scripts=False) as driver:
+        opened(driver, page_of_archive())
+        assert not driver.find_element("id", "filter").is_displayed()
+        assert len(shown(driver, "#groups details")) > 50 and shown(driver, "#near-misses table")
+        (first,) = all_of(driver, "#d1")
+        assert not first.find_element("css selector", "pre").is_displayed()
+        first.find_element("css selector", "summary").click()
+        assert first.find_element("css selector", "pre").is_displayed()
+
+
+def markup_stays_text() -> None:
+    with browser() as driver:
+        opened(driver, page_of_archive())
+        names = [it.get_attribute("textContent") for it in all_of(driver, "#groups summary b")]
+        assert MARKUP in names, names[-3:]
+        assert len(all_of(driver, "script")) == 1 and all_of(driver, "b[onclick], img") == []
+        # Even a script that got into the page wouldn't run.
+        driver.execute_script("document.body.insertAdjacentHTML('beforeend', '<img src=x onerror=\"window.ran = 1\">')")
+        time.sleep(0.3)
+        assert driver.execute_script("return window.ran") is None
+
+
+def is_whole_on_paper() -> None:
+    """What folds is open where the page is printed, with scripts and without."""
+    for has_scripts in (True, False):
+        with browser(has_scripts=has_scripts) as driver:
+            opened(driver, page_of_archive())
+            driver.execute_cdp_cmd("Emulation.setEmulatedMedia", {"media": "print"})
+            if has_scripts:
+                driver.execute_script("dispatchEvent(new Event('beforeprint'))")
+            text = driver.find_element("css selector", "#d1 pre")
+            assert text.size["height"] > 10, has_scripts
+            assert not driver.find_element("css selector", "nav").is_displayed()
+
+
+def is_dark_where_that_is_asked() -> None:
+    with browser() as driver:
+        opened(driver, page_of_archive())
+        colors = []
+        for scheme in ("light", "dark"):
+            features = {"features": [{"name": "prefers-color-scheme", "value": scheme}]}
+            driver.execute_cdp_cmd("Emulation.setEmulatedMedia", features)
+            colors.append(driver.execute_script("return getComputedStyle(document.body).backgroundColor"))
+        assert colors == ["rgb(255, 255, 255)", "rgb(20, 23, 27)"], colors
+
+
+# Thirteen thousand texts.
+
+
+@functools.lru_cache(maxsize=None)
+def page_of_many() -> pathlib.Path:
+    """The page of 13,000 texts, each of a CRS with its own name, but those that are refused."""
+    path = folder() / "thirteen.txt"
+    parts = list(big_catalogue.texts())
+    with open(path, "wb") as file:
+        for number in range(13_000):
+            front, rest = parts[number % len(parts)]
+            file.write(b'%s %d"%s\n' % (front, number, rest[:-1] if number % 20 == 0 else rest))
+    return audited("many.html", path)
+
+
+class Taken(NamedTuple):
+    """The seconds that something takes, and those of a core that the page's thread has."""
+
+    seconds: float
+    of_a_core: float
+
+
+def many_texts() -> List[Taken]:
+    """What the page takes to open, and each of some words to filter it, until it is drawn."""
+    page = page_of_many()
+    taken = []
+    with browser() as driver:
+        driver.set_script_timeout(60)
+        driver.get("about:blank")
+        driver.execute_cdp_cmd("Performance.enable", {"timeDomain": "threadTicks"})
+
+        def measure(script: str, *words: str) -> None:
+            began, before = time.monotonic(), thread_time(driver)
+            if not words:
+                opened(driver, page)
+                before = 0
+            driver.execute_async_script(
+                f"const [word, done] = [arguments[0], arguments[arguments.length - 1]]; {script};"
+                "requestAnimationFrame(() => setTimeout(done, 0))",
+                *words,
+            )
+            taken.append(Taken(round(time.monotonic() - began, 3), round(thread_time(driver) - before, 3)))
+
+        measure("0")
+        for word in ("12999", "e", "zzz", ""):
+            field = "document.getElementById('words')"
+            measure(f"{field}.value = word; {field}.dispatchEvent(new Event('input'))", word)
+        assert driver.get_log("browser") == []
+    return taken
+
+
+def thread_time(driver: Any) -> float:
+    """The seconds of a core that the page's thread has had since the page was opened."""
+    metrics = driver.execute_cdp_cmd("Performance.getMetrics", {})["metrics"]
+    return float({it["name"]: it["value"] for it in metrics}["TaskDuration"])
+
+
+def many_texts_open_and_filter_soon() -> None:
+    # What it takes of a core: how long that is, is up to the machine.
+    slowest = max(it.of_a_core for it in many_texts())
+    assert page_of_many().stat().st_size < 10_000_000
+    assert slowest < 1, f"{slowest} seconds"
+
+
+CASES = [
+    loads_without_an_error,
+    filter_hides_and_shows,
+    sections_fold_by_keyboard_too,
+    is_readable_without_scripts,
+    markup_stays_text,
+    is_whole_on_paper,
+    is_dark_where_that_is_asked,
+    many_texts_open_and_filter_soon,
+]
+
+
+def lacking() -> List[str]:
+    programs = [name for name in (BROWSER, DRIVER) if shutil.which(name) is None]
+    return programs + [name for name in ("selenium",) if importlib.util.find_spec(name) is None]
+
+
+def main(words: List[str]) -> int:
+    if lacking():
+        print(f"skipped: {lacking()[0]} isn't there: the audit's page in a browser")
+        print("1 passed, 0 failed")
+        return 0
+    if words[:1] == ["--measure"]:
+        print(*many_texts(), page_of_many().stat().st_size, os.getloadavg(), sep="\n")
+        return 0
+    if words[:1] == ["--picture"]:
+        with browser(size="1000,1750") as driver:
+            opened(driver, pathlib.Path(words[1]).resolve())
+            driver.save_screenshot(words[2])
+        return 0
+    passed = failed = 0
+    for case in CASES:
+        try:
+            case()
+            passed += 1
+        except Exception:
+            failed += 1
+            print(f"{case.__name__}: {''.join(traceback.format_exc().splitlines(keepends=True)[-5:]).rstrip()}")
+    print(f"{passed} passed, {failed} failed")
+    return 1 if failed else 0
+
+
+if __name__ == "__main__":
+    sys.exit(main(sys.argv[1:]))
