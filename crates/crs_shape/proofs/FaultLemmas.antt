@@ -50,13 +50,13 @@ reached-more row before slots next c r e = record {
   back = λ cs h. one-more row before c cs (r.back (c ∷ cs) (goes-back slots c next cs e h));
 }
 
-reached-begins : (row : List SlotParts) (before : List Class) (slots next : List SlotParts) (c : Class) → Reached row before slots → after slots c ≡ Some next →
+pub reached-begins : (row : List SlotParts) (before : List Class) (slots next : List SlotParts) (c : Class) → Reached row before slots → after slots c ≡ Some next →
     Begins row (before ++ c ∷ [])
 reached-begins row before slots next c r e =
     let some : (runs : List (List Class)) × Fit next runs = allows-some next (after-apart slots c next r.apart e) in
     (joined some.0, (reached-more row before slots next c r e).back (joined some.0) (some.0, (some.1, refl)))
 
-reached-not : (row : List SlotParts) (before : List Class) (slots : List SlotParts) (c : Class) → Reached row before slots → after slots c ≡ None →
+pub reached-not : (row : List SlotParts) (before : List Class) (slots : List SlotParts) (c : Class) → Reached row before slots → after slots c ≡ None →
     Begins row (before ++ c ∷ []) → ⊥
 reached-not row before slots c r e (more, h) =
     let g : Goes slots c more = goes slots r.apart c more (r.there (c ∷ more) (one-less row before c more h)) in
@@ -107,7 +107,7 @@ exact-later parent before item Within Later c g e stands free l = (inr (c, (stan
     only other (inr (d, (stands2, rest))) =
         only_rest other (subst (OrLater Within Later before other) (same_class parent before item c d e stands2) rest)
 
-exact-free : (parent : Class) (before : List Class) (item : Item) (Within : Class → RefusedAt → Type 0) (Later : List Class → RefusedAt → Type 0) (c : Class) →
+pub exact-free : (parent : Class) (before : List Class) (item : Item) (Within : Class → RefusedAt → Type 0) (Later : List Class → RefusedAt → Type 0) (c : Class) →
     class_in parent item ≡ Some c → Stands parent before item c → IsFree (Within c) → IsFree (Later (before ++ c ∷ [])) →
     IsFree (ArgumentFault parent before item Within Later)
 exact-free parent before item Within Later c e stands free l = only
@@ -149,13 +149,13 @@ exact-argument parent before slots item Within Later within later r hw hl =
           ] refl
     ] refl
 
-end-free : (parent : Class) (close : ℕ) (before : List Class) (slots : List SlotParts) → Reached (slots_of parent) before slots → may_end slots ≡ true →
+pub end-free : (parent : Class) (close : ℕ) (before : List Class) (slots : List SlotParts) → Reached (slots_of parent) before slots → may_end slots ≡ true →
     IsFree (Among parent close before End)
 end-free parent close before slots r e fault (refused, same) =
     let P : List Class → Type 0 = λ x. Allowed (slots_of parent) x in
     refused (subst P (append-none before) (r.back [] (end-allowed slots e)))
 
-end-not : (parent : Class) (before : List Class) (slots : List SlotParts) → Reached (slots_of parent) before slots → may_end slots ≡ false →
+pub end-not : (parent : Class) (before : List Class) (slots : List SlotParts) → Reached (slots_of parent) before slots → may_end slots ≡ false →
     Allowed (slots_of parent) before → ⊥
 end-not parent before slots r e h =
     let P : List Class → Type 0 = λ x. Allowed (slots_of parent) x in

@@ -26,11 +26,11 @@ pub record Going (tree : Item) (class : Class) (item : Item) (close : ℕ) (slot
   pub has : HasNext tree next
   pub less : sizes (from tree next) < size_of item
 
-from_at : (tree : Item) (items : Siblings) (next : Option ℕ) → IsAt tree items next → from tree next ≡ items
+pub from_at : (tree : Item) (items : Siblings) (next : Option ℕ) → IsAt tree items next → from tree next ≡ items
 from_at tree items None e = sym e
 from_at tree items (Some id) h = h.0
 
-has_at : (tree : Item) (items : Siblings) (next : Option ℕ) → IsAt tree items next → HasNext tree next
+pub has_at : (tree : Item) (items : Siblings) (next : Option ℕ) → IsAt tree items next → HasNext tree next
 has_at tree items None e = tt
 has_at tree items (Some id) h = h.1
 
@@ -38,7 +38,7 @@ size-above : (item : Item) → 0 < size_of item
 size-above (leaf kind place raw) = omega arith
 size-above (node place keyword square first others close) = omega arith
 
-arguments-less : (item : Item) → sizes (arguments item) < size_of item
+pub arguments-less : (item : Item) → sizes (arguments item) < size_of item
 arguments-less (leaf kind place raw) = omega arith
 arguments-less (node place keyword square first others close) = omega arith
 
@@ -134,7 +134,7 @@ going_at tree c item close slots next other going e = subst (Going tree c item c
 
 -- an argument is of the class that it has in its parent
 
-first-has : (cs : List Class) (word : List ℕ) (c : Class) → first_named cs word ≡ Some c → is_keyword c word ≡ true
+pub first-has : (cs : List Class) (word : List ℕ) (c : Class) → first_named cs word ≡ Some c → is_keyword c word ≡ true
 first-has [] word c e = cc
 first-has (d ∷ ds) word c e =
     elim (is_keyword d word) as (λ b. is_keyword d word ≡ b → (if b then Some d else first_named ds word) ≡ Some c → is_keyword c word ≡ true) [
@@ -173,7 +173,7 @@ unfolding class_named
 class-is_of parent c (leaf kind place raw) e = true_same the_type (class_of_kind kind) c cc
 class-is_of parent c (node place keyword square first others close) e = named-has (slots_of parent) keyword c e
 
-step-is_of : (parent c : Class) (slots left : List SlotParts) (item : Item) → Some (c, left) ≡ step_of parent slots item → is_of c item ≡ true
+pub step-is_of : (parent c : Class) (slots left : List SlotParts) (item : Item) → Some (c, left) ≡ step_of parent slots item → is_of c item ≡ true
 step-is_of parent c slots left item e =
     elim (class_in parent item) as (λ o. class_in parent item ≡ o → is_of c item ≡ true) [
       | None ↦ λ f. absurd (none (rw f at e))

@@ -1,9 +1,11 @@
 pub mod ClassSet
 pub mod Counts
+pub mod Expected
 pub mod FaultPlace
 pub mod FirstFault
 pub mod KeywordTable
 pub mod Keywords
+pub mod Left
 pub mod Shape
 pub mod ShapeFault
 pub mod Shaped

@@ -53,7 +53,7 @@ pub fn fit_root(items: &Items<'_>) -> Result<Class, Refusal>
     }
 }
 
-fn class_at_root(items: &Items<'_>, id: ItemId) -> Option<Class>
+pub(crate) fn class_at_root(items: &Items<'_>, id: ItemId) -> Option<Class>
     requires { HasId items.now id }
     ensures { result ≡ class_of_root (first_of (here items.now id)) }
 {
@@ -111,7 +111,7 @@ fn fault_within(items: &Items<'_>, id: ItemId, class: Class, close: usize) -> Op
 }
 
 // The class of an argument in its parent and the walk after it; None where it may not stand there.
-fn step(
+pub(crate) fn step(
     items: &Items<'_>,
     argument: ItemId,
     parent: Class,
@@ -186,14 +186,14 @@ fn refusal(number: u8, place: usize) -> Refusal
 
 // Where a walk over a row of slots stands: before slot number `at`, which has an argument already if `filled`.
 #[derive(Clone, Copy)]
-struct Walk {
-    at: usize,
-    filled: bool,
+pub(crate) struct Walk {
+    pub(crate) at: usize,
+    pub(crate) filled: bool,
 }
 
 impl Walk {
     // The walk after one more argument, of this class; None where it may not stand there.
-    fn after(self, row: &[Slot], class: Class) -> Option<Walk>
+    pub(crate) fn after(self, row: &[Slot], class: Class) -> Option<Walk>
         requires { All HasSet row.now }
         ensures { option_map (λ w. left_of row.now w) result ≡ after (left_of row.now self) class }
     {
@@ -212,7 +212,7 @@ impl Walk {
     }
 
     // Whether the arguments may end here.
-    fn may_end(self, row: &[Slot]) -> bool
+    pub(crate) fn may_end(self, row: &[Slot]) -> bool
         ensures { result ≡ may_end (left_of row.now self) }
     {
         let mut filled = self.filled;

@@ -55,7 +55,7 @@ fn first_root(classes: &[Class]) -> Option<Class>
     None
 }
 
-fn is_root(class: Class) -> bool
+pub(crate) fn is_root(class: Class) -> bool
     ensures { result ≡ is_root class }
 {
     matches!(

@@ -1,6 +1,6 @@
 -- A bridge: the places of the delimiters that are open, the last opened first.
-use Rattle.std.specs.Prelude.{◌≡◌, ℕ, zero, suc, ◌+◌, ◌≤◌, ◌⊎◌, Bool, Option, Some, None, List, [], ◌∷◌, ◌++◌, length, drop}
-use Rattle.std.specs.Prelude.{slice_index_or, MatchOption}
+use Rattle.std.specs.Prelude.{◌≡◌, ℕ, zero, suc, ◌+◌, ◌≤◌, ◌⊎◌, Bool, Option, Some, None, List, []}
+use Rattle.std.specs.Prelude.{◌∷◌, ◌++◌, length, drop, slice_index_or, MatchOption}
 use Rattle.crs_text.specs.Tokens.{Token, single, comma, opening, closing, Forms, Fronts}
 use Rattle.crs_text.specs.Viable.{IsViable, opens}
 use Rattle.crs_text.specs.TextFault.{IsFlaw}
@@ -61,7 +61,8 @@ pub record IsAhead (text : List ℕ) (at : ℕ) (ts before : List Token) (left :
   pub parts : before ≡ ts ++ more
   pub fronts : Fronts (length text) (drop at text) more left
 
--- these places are those of the delimiters that are open here, no further on than the tokens that lead to the place
+-- these places are those of the delimiters that are open here,
+-- no further on than the tokens that lead to the place
 pub record IsNested (text : List ℕ) (place at : ℕ) (places : List ℕ) : Type 0 where
   pub tokens : List Token
   pub fronts : Fronts (length text) text tokens (drop at text)

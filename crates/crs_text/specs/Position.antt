@@ -1,5 +1,6 @@
--- Where a place of a text stands for a person who reads it: its line, and its character in the line.
-use Rattle.std.specs.Prelude.{◌≡◌, ℕ, ◌+◌, ◌⊎◌, ◌&&◌, ◌==◌, nat_le, not, Bool, List, [], ◌∷◌, ◌++◌, length, count_by}
+-- Where a place of a text stands for a person: its line, and the character in the line.
+use Rattle.std.specs.Prelude.{◌≡◌, ℕ, ◌+◌, ◌⊎◌, ◌&&◌, ◌==◌, nat_le, not, Bool, List, [], ◌∷◌}
+use Rattle.std.specs.Prelude.{◌++◌, length, count_by}
 use Rattle.crs_text.specs.declared.position.Position.{Position}
 
 -- how many line feeds are among the bytes
@@ -22,8 +23,8 @@ BeginsLine before = (before ≡ []) ⊎ ((lines : List ℕ) × (before ≡ lines
 abbrev pub EndsLine : List ℕ → Type 0
 EndsLine after = (after ≡ []) ⊎ ((lines : List ℕ) × (after ≡ 10 ∷ lines))
 
--- the place stands so in the text: before its line come so many others, and before it in its line so many
--- characters; a line is what stands between two line feeds, the text's beginning and end like these
+-- the place stands so in the text: before its line come so many others, and before it in its line
+-- so many characters; a line goes from a line feed or the text's beginning to the next or its end
 pub record IsPosition (text : List ℕ) (place : ℕ) (position : Position) : Type 0 where
   pub before : List ℕ
   pub left : List ℕ

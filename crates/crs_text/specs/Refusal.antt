@@ -1,5 +1,5 @@
 -- Refusals: a number, a place and a name.
-use Rattle.std.specs.Prelude.{ℕ, ◌&&◌, ◌||◌, ◌==◌, nat_le, Bool, List, codes, if◌then◌else◌}
+use Rattle.std.specs.Prelude.{ℕ, ◌&&◌, ◌||◌, ◌==◌, ◌++◌, nat_le, Bool, List, codes, decimal, if◌then◌else◌}
 
 -- a refusal: its number, and its place, which counts bytes of the text from 0
 pub record RefusedAt : Type 0 where
@@ -45,3 +45,9 @@ value_name n =
 -- the name of a refusal's number
 abbrev pub name_of : ℕ → List ℕ
 name_of n = if nat_le n 8 then text_name n else (if nat_le n 13 then shape_name n else value_name n)
+
+-- `refused N NAME at P`
+abbrev pub refused_text : ℕ → ℕ → List ℕ
+refused_text number place =
+    codes "refused " ++ decimal number ++ codes " " ++ name_of number ++ codes " at "
+    ++ decimal place

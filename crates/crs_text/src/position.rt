@@ -67,7 +67,8 @@ fn first_line(bytes: &[u8]) -> usize
 /// 191 continues a character, and isn't counted. Time is linear in the text. Profile.
 pub fn position_of(text: &[u8], place: usize) -> Position
     requires { place ≤ length text.now }
-    ensures { IsPosition text.now place result }
+    ensures position { IsPosition text.now place result }
+    ensures within { (result.begin ≤ place) × (place ≤ result.end) × (result.end ≤ length text.now) }
 {
     let front = front_of(text, place);
     let begin = last_line(front);

@@ -3,8 +3,8 @@ use Rattle.crs_text.specs.Position.{feeds, characters, BeginsLine, EndsLine}
 use Rattle.crs_text.proofs.PositionLemmas.{position}
 use Rattle.crs_text.proofs.position.position_of.Goals as goal
 
-pub returns : goal.returns
-returns c =
+pub returns-clause-position : goal.returns-clause-position
+returns-clause-position c =
     let text = c.args.text.now in
     let place = c.args.place in
     let begin = c.last_line-begin.result in

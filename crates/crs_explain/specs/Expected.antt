@@ -1,0 +1,51 @@
+-- What is told of the place where a fault of shape lies: the node, what is found, and all that could stand there.
+use Rattle.std.specs.Prelude.{◌≡◌, ◌++◌, ◌∷◌, [], ◌⊎◌, ℕ, List, Bool, codes, decimal, map, filter, slice_index_or}
+use Rattle.std.specs.Prelude.{if◌then◌else◌}
+use denote.Enum.Bare.{sameb}
+use Rattle.crs_text.specs.Items.{Item}
+use Rattle.crs_text.specs.Keywords.{spelling_of}
+use Rattle.crs_text.specs.TextFault.{SpellsNode}
+use Rattle.crs_text.specs.declared.keyword.Keyword.TheVariants as keyword
+use Rattle.crs_shape.specs.contracts.class.Class.{the_type}
+use Rattle.crs_shape.specs.declared.class.Class.{Class}
+use Rattle.crs_shape.specs.declared.class.Class.TheVariants as class
+use Rattle.crs_shape.specs.Keywords.{keywords_of, every_class}
+use Rattle.crs_shape.specs.Expected.{ExpectedParts, ExpectedAtRoot, may_come}
+use Rattle.crs_shape.specs.FaultPlace.{IsShapeNumber}
+use Rattle.crs_shape.specs.ShapeFault.{AtRoot, IsFree}
+
+-- the name of a class: its first keyword, or what it is where it has none; the unit of an axis has two
+abbrev pub class_name : Class → List ℕ
+class_name c =
+    if sameb the_type c class.Number then codes "a number"
+    else (if sameb the_type c class.Text then codes "a text in quotes"
+    else (if sameb the_type c class.Word then codes "a word"
+    else (if sameb the_type c class.AxisUnit then codes "LENGTHUNIT, ANGLEUNIT"
+    else spelling_of (slice_index_or (keywords_of c) 0 keyword.Id))))
+
+-- names with commas between, and an `or` before the last
+abbrev pub listed : List (List ℕ) → List ℕ
+listed [] = []
+listed (name ∷ []) = name
+listed (name ∷ other ∷ []) = name ++ codes " or " ++ other
+listed (name ∷ other ∷ more ∷ names) = name ++ codes ", " ++ listed (other ∷ more ∷ names)
+
+-- the names of classes, and the end of the node where it may end
+abbrev pub names_of : List Class → Bool → List (List ℕ)
+names_of classes may_end =
+    map class_name classes ++ (if may_end then codes "its closing delimiter" ∷ [] else [])
+
+-- a line: the place of the node, what is found there, and exactly the names of the classes that could stand there
+pub record IsLineOf (expected : ExpectedParts) (classes : List Class) (line : List ℕ) : Type 0 where
+  pub node : List ℕ
+  pub found : List ℕ
+  pub is_line : line ≡ node ++ codes "at " ++ decimal expected.place ++ codes ": found " ++ found
+      ++ codes ", expected " ++ listed (names_of classes expected.may_end) ++ 10 ∷ []
+
+-- of a refusal of shape the line of the fault of the text's item is told, with the classes in the order of the
+-- table; of another number nothing
+abbrev pub IsExpectedPart : List ℕ → ℕ → List ℕ → Type 0
+IsExpectedPart text number part =
+    (IsShapeNumber number × ((item : Item) × SpellsNode text item × ((expected : ExpectedParts)
+    × ExpectedAtRoot item expected × IsLineOf expected (filter (may_come expected) every_class) part)))
+    ⊎ ((part ≡ []) × (IsShapeNumber number → (item : Item) → SpellsNode text item → IsFree (AtRoot item)))

@@ -1,0 +1,234 @@
+//! What stands before a place: a look at delimiters and quoted texts, token by token, with no memory asked for.
+ghost use Rattle.std.specs.Prelude.{◌≤◌};
+
+use crate::glance::{back, front, is_of_word, is_one_of, keyword_at, looked_at, rest};
+use crate::hint::Open;
+
+// A text has at most 12 open delimiters before the place of its refusal, and one may begin there.
+const MOST: usize = 13;
+
+const NONE: Open<'static> = Open {
+    keyword: b"",
+    begin: 0,
+    delimiter: b'[',
+};
+
+// Keywords of nodes that stand in a CRS or a base CRS alone.
+const IN_CRS: [&[u8]; 16] = [
+    b"DATUM",
+    b"TRF",
+    b"GEODETICDATUM",
+    b"VDATUM",
+    b"VRF",
+    b"VERTICALDATUM",
+    b"ENSEMBLE",
+    b"DYNAMIC",
+    b"PRIMEM",
+    b"PRIMEMERIDIAN",
+    b"CS",
+    b"AXIS",
+    b"CONVERSION",
+    b"GEOIDMODEL",
+    b"USAGE",
+    b"REMARK",
+];
+
+// Keywords of nodes that hold none of those.
+const HOLDS_NONE: [&[u8]; 28] = [
+    b"DATUM",
+    b"TRF",
+    b"GEODETICDATUM",
+    b"VDATUM",
+    b"VRF",
+    b"VERTICALDATUM",
+    b"ENSEMBLE",
+    b"MEMBER",
+    b"DYNAMIC",
+    b"ELLIPSOID",
+    b"SPHEROID",
+    b"PRIMEM",
+    b"PRIMEMERIDIAN",
+    b"CS",
+    b"AXIS",
+    b"ORDER",
+    b"CONVERSION",
+    b"METHOD",
+    b"PARAMETER",
+    b"LENGTHUNIT",
+    b"ANGLEUNIT",
+    b"SCALEUNIT",
+    b"UNIT",
+    b"USAGE",
+    b"SCOPE",
+    b"AREA",
+    b"BBOX",
+    b"ID",
+];
+
+/// What stands before a place, or begins there.
+#[derive(Drop)]
+pub(crate) struct Before<'a> {
+    open: [Open<'a>; MOST],
+    depth: usize,
+    quote: Option<usize>,
+    /// Whether a delimiter was closed.
+    has_closed: bool,
+    /// Where the first quoted text begins that has nodes inside.
+    pub(crate) quote_missing: Option<usize>,
+    /// The first node that stands where none of its kind can, and the node that it stands in.
+    pub(crate) outside: Option<(Open<'a>, Open<'a>)>,
+    ghost in_range: { depth ≤ 13 },
+}
+
+/// What stands before a place of a text.
+pub(crate) fn look_before(text: &[u8], place: usize) -> Before<'_> {
+    let seen = front(text, place.saturating_add(400));
+    let mut found = Before {
+        open: [NONE; MOST],
+        depth: 0,
+        quote: None,
+        has_closed: false,
+        quote_missing: None,
+        outside: None,
+    };
+    for (at, byte) in seen.iter().enumerate() {
+        if !found.goes_on(seen, place, at, *byte) {
+            break;
+        }
+    }
+    if let Some(begin) = found.quote {
+        found.end_quote(rest(seen, begin), begin);
+    }
+    found
+}
+
+impl<'a> Before<'a> {
+    /// The delimiters that are open, the outermost first.
+    pub(crate) fn all_open(&self) -> &[Open<'a>] {
+        &self.open[..self.depth]
+    }
+
+    /// The delimiter that was opened last.
+    pub(crate) fn innermost(&self) -> Option<Open<'a>> {
+        self.all_open().last().copied()
+    }
+
+    /// Whether delimiters were opened, and all are closed again.
+    pub(crate) fn is_complete(&self) -> bool {
+        self.has_closed && self.depth == 0
+    }
+
+    // Takes the byte at `at`; false where what follows doesn't count.
+    fn goes_on(&mut self, text: &'a [u8], place: usize, at: usize, byte: u8) -> bool {
+        match (self.quote, byte) {
+            (Some(begin), b'"') => {
+                self.end_quote(front(rest(text, begin), at.saturating_sub(begin)), begin);
+                self.quote = None;
+                true
+            }
+            (Some(_), _) => true,
+            (None, b'"') => self.begin_quote(place, at),
+            (None, b'[' | b'(') => self.enter(node_at(text, at, byte), place),
+            (None, b']' | b')') => self.leave(place, at),
+            (None, _) => true,
+        }
+    }
+
+    fn begin_quote(&mut self, place: usize, at: usize) -> bool {
+        if at <= place {
+            self.quote = Some(at);
+        }
+        at <= place
+    }
+
+    fn end_quote(&mut self, quoted: &[u8], begin: usize) {
+        let opening = match self.innermost() {
+            Some(open) => open.delimiter,
+            None => b'[',
+        };
+        if self.quote_missing.is_none() && has_node(looked_at(quoted, 0), opening) {
+            self.quote_missing = Some(begin);
+        }
+    }
+
+    // A node that begins at the place itself counts too: what is missing may stand before it.
+    fn enter(&mut self, node: Open<'a>, place: usize) -> bool {
+        if node.begin > place {
+            return false;
+        }
+        if let Some(outer) = self.innermost()
+            && self.outside.is_none()
+            && is_one_of(node.keyword, &IN_CRS)
+            && is_one_of(outer.keyword, &HOLDS_NONE)
+        {
+            self.outside = Some((node, outer));
+        }
+        if node.begin == place || self.depth >= MOST {
+            return false;
+        }
+        self.open[self.depth] = node;
+        self.depth += 1;
+        true
+    }
+
+    fn leave(&mut self, place: usize, at: usize) -> bool {
+        if at < place && self.depth > 0 {
+            self.depth -= 1;
+            self.has_closed = true;
+        }
+        at < place
+    }
+}
+
+/// The node whose opening delimiter stands at a place.
+pub(crate) fn node_at(text: &[u8], at: usize, delimiter: u8) -> Open<'_> {
+    let before = back(front(text, at), 100);
+    let behind = before.trim_ascii_end();
+    let run = behind
+        .iter()
+        .rev()
+        .take_while(|it| is_of_word(**it))
+        .count();
+    let keyword = from_letter(back(behind, run));
+    let white = before.len().saturating_sub(behind.len());
+    Open {
+        keyword,
+        begin: at.saturating_sub(white).saturating_sub(keyword.len()),
+        delimiter,
+    }
+}
+
+// The run from its first letter on.
+fn from_letter(run: &[u8]) -> &[u8] {
+    rest(
+        run,
+        run.iter()
+            .take_while(|it| !it.is_ascii_alphabetic())
+            .count(),
+    )
+}
+
+// Whether a quoted text has the end of a node in it, or the beginning of the next, as where a quote is missing.
+fn has_node(quoted: &[u8], opening: u8) -> bool {
+    for (at, byte) in quoted.iter().enumerate() {
+        if is_of_node(*byte, rest(quoted, at + 1), opening) {
+            return true;
+        }
+    }
+    false
+}
+
+fn is_of_node(byte: u8, behind: &[u8], opening: u8) -> bool {
+    match byte {
+        b',' => begins_node(behind, opening),
+        b']' => opening == b'[' && behind.trim_ascii_start().starts_with(b","),
+        b')' => opening == b'(' && behind.trim_ascii_start().starts_with(b","),
+        _ => false,
+    }
+}
+
+fn begins_node(text: &[u8], opening: u8) -> bool {
+    let keyword = keyword_at(text);
+    let behind = rest(text.trim_ascii_start(), keyword.len());
+    !keyword.is_empty() && behind.trim_ascii_start().first() == Some(&opening)
+}

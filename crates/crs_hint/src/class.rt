@@ -1,0 +1,188 @@
+//! What a text is by its first keyword, and keywords that aren't read.
+use crate::glance::{begins, is_one_of};
+use crate::hint::{Filled, Hint, Sentence};
+use crate::refused::NOT_HERE;
+
+/// A keyword, and what is told of its node.
+struct Entry {
+    keyword: &'static [u8],
+    sentence: Sentence,
+    words: &'static str,
+}
+
+// The classes of CRS of WKT1.
+const OLD_CLASSES: [&[u8]; 8] = [
+    b"GEOGCS",
+    b"PROJCS",
+    b"GEOCCS",
+    b"VERT_CS",
+    b"COMPD_CS",
+    b"LOCAL_CS",
+    b"FITTED_CS",
+    b"VERTCS",
+];
+
+// Parts of a CRS that are handed over by themselves.
+const PARTS: [&[u8]; 20] = [
+    b"DATUM",
+    b"TRF",
+    b"GEODETICDATUM",
+    b"VDATUM",
+    b"VRF",
+    b"VERTICALDATUM",
+    b"ENSEMBLE",
+    b"ELLIPSOID",
+    b"SPHEROID",
+    b"PRIMEM",
+    b"PRIMEMERIDIAN",
+    b"CS",
+    b"AXIS",
+    b"CONVERSION",
+    b"BASEGEOGCRS",
+    b"BASEGEODCRS",
+    b"LENGTHUNIT",
+    b"ANGLEUNIT",
+    b"UNIT",
+    b"ID",
+];
+
+// Classes of the standard that aren't read.
+const OTHER_CLASSES: [Entry; 11] = [
+    Entry {
+        keyword: b"BOUNDCRS",
+        sentence: Sentence::Bound,
+        words: "",
+    },
+    Entry {
+        keyword: b"ENGCRS",
+        sentence: Sentence::Class,
+        words: "Engineering CRSs",
+    },
+    Entry {
+        keyword: b"ENGINEERINGCRS",
+        sentence: Sentence::Class,
+        words: "Engineering CRSs",
+    },
+    Entry {
+        keyword: b"PARAMETRICCRS",
+        sentence: Sentence::Class,
+        words: "Parametric CRSs",
+    },
+    Entry {
+        keyword: b"TIMECRS",
+        sentence: Sentence::Class,
+        words: "Temporal CRSs",
+    },
+    Entry {
+        keyword: b"DERIVEDPROJCRS",
+        sentence: Sentence::Class,
+        words: "Derived CRSs",
+    },
+    Entry {
+        keyword: b"IMAGECRS",
+        sentence: Sentence::Class,
+        words: "Image CRSs",
+    },
+    Entry {
+        keyword: b"COORDINATEOPERATION",
+        sentence: Sentence::Operation,
+        words: "",
+    },
+    Entry {
+        keyword: b"CONCATENATEDOPERATION",
+        sentence: Sentence::Operation,
+        words: "",
+    },
+    Entry {
+        keyword: b"POINTMOTIONOPERATION",
+        sentence: Sentence::Operation,
+        words: "",
+    },
+    Entry {
+        keyword: b"COORDINATEMETADATA",
+        sentence: Sentence::Metadata,
+        words: "",
+    },
+];
+
+// Keywords that tools write and that aren't read.
+const OTHER_KEYWORDS: [Entry; 9] = [
+    Entry {
+        keyword: b"AUTHORITY",
+        sentence: Sentence::Keyword,
+        words: "AUTHORITY is WKT1's identifier",
+    },
+    Entry {
+        keyword: b"EXTENSION",
+        sentence: Sentence::Keyword,
+        words: "EXTENSION is WKT1's",
+    },
+    Entry {
+        keyword: b"TOWGS84",
+        sentence: Sentence::Transformation,
+        words: "TOWGS84",
+    },
+    Entry {
+        keyword: b"TIMEEXTENT",
+        sentence: Sentence::Keyword,
+        words: "A usage's TIMEEXTENT isn't read",
+    },
+    Entry {
+        keyword: b"AXISMINVALUE",
+        sentence: Sentence::Keyword,
+        words: "An axis's range isn't read",
+    },
+    Entry {
+        keyword: b"AXISMAXVALUE",
+        sentence: Sentence::Keyword,
+        words: "An axis's range isn't read",
+    },
+    Entry {
+        keyword: b"RANGEMEANING",
+        sentence: Sentence::Keyword,
+        words: "An axis's range isn't read",
+    },
+    Entry {
+        keyword: b"DERIVINGCONVERSION",
+        sentence: Sentence::Keyword,
+        words: "Derived CRSs aren't read",
+    },
+    Entry {
+        keyword: b"BASEVERTCRS",
+        sentence: Sentence::Keyword,
+        words: "Derived CRSs aren't read",
+    },
+];
+
+/// What a text is by its first keyword.
+pub(crate) fn by_class(keyword: &[u8]) -> Option<Hint<'_>> {
+    if is_one_of(keyword, &OLD_CLASSES) {
+        return Some(Hint::of(Sentence::Wkt1));
+    }
+    if is_one_of(keyword, &PARTS) {
+        return Some(Hint::with(Sentence::Part, Filled::Capitals(keyword)));
+    }
+    entry_of(keyword, &OTHER_CLASSES)
+}
+
+/// What a node is that may not stand where it does, by its keyword.
+pub(crate) fn by_keyword<'a>(number: u8, keyword: &[u8]) -> Option<Hint<'a>> {
+    if number == NOT_HERE && is_one_of(keyword, &[b"BASEGEOGCRS", b"BASEGEODCRS"]) {
+        return Some(Hint::of(Sentence::Derived));
+    }
+    entry_of(keyword, &OTHER_KEYWORDS).or(entry_of(keyword, &OTHER_CLASSES))
+}
+
+fn entry_of<'a>(keyword: &[u8], entries: &[Entry]) -> Option<Hint<'a>> {
+    for entry in entries {
+        if entry.keyword.eq_ignore_ascii_case(keyword) {
+            return Some(Hint::with(entry.sentence, Filled::Words(entry.words)));
+        }
+    }
+    None
+}
+
+/// Whether WKT1 has a transformation, `TOWGS84[`.
+pub(crate) fn has_transformation(text: &[u8]) -> bool {
+    text.windows(8).any(|it| begins(it, b"TOWGS84["))
+}

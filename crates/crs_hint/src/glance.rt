@@ -1,0 +1,90 @@
+//! Short looks at bytes.
+
+/// A hint looks at so many bytes of the text's front, and from the place on.
+const LOOKED_AT: usize = 400;
+
+/// The bytes from a place on, at most as many as a hint looks at.
+pub(crate) fn looked_at(text: &[u8], place: usize) -> &[u8] {
+    front(rest(text, place), LOOKED_AT)
+}
+
+/// The bytes behind so many.
+pub(crate) fn rest(text: &[u8], count: usize) -> &[u8] {
+    match text.get(count..) {
+        Some(rest) => rest,
+        None => b"",
+    }
+}
+
+/// The first bytes, at most so many.
+pub(crate) fn front(text: &[u8], count: usize) -> &[u8] {
+    match text.get(..count) {
+        Some(front) => front,
+        None => text,
+    }
+}
+
+/// The last bytes, at most so many.
+pub(crate) fn back(text: &[u8], count: usize) -> &[u8] {
+    rest(text, text.len().saturating_sub(count))
+}
+
+/// Whether the bytes begin so, letter case aside.
+pub(crate) fn begins(text: &[u8], words: &[u8]) -> bool {
+    front(text, words.len()).eq_ignore_ascii_case(words)
+}
+
+/// Whether the bytes end so, letter case aside.
+pub(crate) fn ends(text: &[u8], words: &[u8]) -> bool {
+    back(text, words.len()).eq_ignore_ascii_case(words)
+}
+
+/// Whether a word is one of these, letter case aside.
+pub(crate) fn is_one_of(word: &[u8], words: &[&[u8]]) -> bool {
+    for it in words {
+        if it.eq_ignore_ascii_case(word) {
+            return true;
+        }
+    }
+    false
+}
+
+/// Whether a byte may stand in a word.
+pub(crate) fn is_of_word(byte: u8) -> bool {
+    byte.is_ascii_alphanumeric() || byte == b'_'
+}
+
+/// The word that the bytes begin with: a letter, then letters, digits and underscores; empty where there is none.
+pub(crate) fn word_at(text: &[u8]) -> &[u8] {
+    match text.first() {
+        Some(byte) if byte.is_ascii_alphabetic() => {
+            front(text, text.iter().take_while(|it| is_of_word(**it)).count())
+        }
+        _ => b"",
+    }
+}
+
+/// The number of digits that the bytes begin with.
+pub(crate) fn digit_count(text: &[u8]) -> usize {
+    text.iter().take_while(|it| it.is_ascii_digit()).count()
+}
+
+/// The keyword of the node that the bytes begin with, behind white space; empty where they begin with no node.
+pub(crate) fn keyword_at(text: &[u8]) -> &[u8] {
+    let text = text.trim_ascii_start();
+    let word = word_at(text);
+    if !word.is_empty() && begins_open(rest(text, word.len()).trim_ascii_start()) {
+        word
+    } else {
+        b""
+    }
+}
+
+fn begins_open(text: &[u8]) -> bool {
+    matches!(text.first(), Some(b'[' | b'('))
+}
+
+/// Whether the bytes begin with a closing delimiter.
+pub(crate) fn begins_close(text: &[u8]) -> bool {
+    matches!(text.first(), Some(b']' | b')'))
+}

@@ -1,0 +1,61 @@
+//! What the numbers of refusals mean.
+
+/// What the number of a refusal means, in a sentence. Profile.
+pub fn meaning(number: u8) -> &'static str {
+    match number {
+        0..=8 => of_text(number),
+        9..=13 => of_shape(number),
+        _ => of_value(number),
+    }
+}
+
+fn of_text(number: u8) -> &'static str {
+    match number {
+        1 =>
+            "This byte begins no token: outside quotes a text has delimiters, commas, numbers and words alone.",
+        2 => "A number is expected to begin here, and what stands here isn't of a number's form.",
+        3 => {
+            "This number is outside the bounds: 38 digits from the first to the last that isn't zero, a power of ten \
+             from -40 to 40, and 100 digits written."
+        }
+        4 => "The bytes of this quoted text aren't UTF-8.",
+        5 =>
+            "The quoted text that is opened here has no end; most often a quote is missing before it.",
+        6 => {
+            "No text can go on like this: a comma is missing or twice, '[' is closed by ')', or a second text follows."
+        }
+        7 => {
+            "The text ends before it is complete: a closing delimiter is missing somewhere before, or it was cut off."
+        }
+        _ => "More than 12 delimiters are open here.",
+    }
+}
+
+fn of_shape(number: u8) -> &'static str {
+    match number {
+        11 => "The keyword here is in no table, and no such node may stand here.",
+        12 => {
+            "What stands here may not stand at this place of its node; or what must stand before it is missing."
+        }
+        _ => "The node that is closed here lacks a part that it must have.",
+    }
+}
+
+fn of_value(number: u8) -> &'static str {
+    match number {
+        21 => "This type of coordinate system, or this direction of an axis, isn't known.",
+        22 => "This part may stand once, and stands here again.",
+        23 => "The coordinate system's type and dimension don't fit a CRS of this kind.",
+        24 => {
+            "The horizontal part of a compound CRS is a geographic or projected CRS of dimension 2, and this isn't one."
+        }
+        25 => "There are more or fewer axes than the dimension of this coordinate system.",
+        26 => {
+            "The orders of axes are missing on some, repeated, or not the numbers from 1 to the number of axes."
+        }
+        27 => "A unit is missing here, stands both on an axis and shared, or is of the wrong kind.",
+        28 =>
+            "A factor and a semi-major axis are above zero, and an inverse flattening isn't negative.",
+        _ => "A dynamic part may not stand beside an ensemble.",
+    }
+}

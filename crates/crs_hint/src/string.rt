@@ -1,0 +1,127 @@
+//! What a text is that doesn't begin with a node.
+use crate::front::srid_of;
+use crate::glance::{begins, digit_count, ends, front, is_of_word, rest};
+use crate::hint::{Filled, Hint, Sentence};
+
+/// What a text is that doesn't begin with a node, by its front.
+pub(crate) fn by_string(text: &[u8]) -> Option<Hint<'_>> {
+    let srid = srid_of(text);
+    if !srid.is_empty() {
+        return Some(Hint::with(Sentence::Srid, Filled::Piece(srid)));
+    }
+    if is_proj_string(text) {
+        return Some(Hint::of(Sentence::ProjString));
+    }
+    if digit_count(text) == text.len() {
+        return Some(Hint::with(Sentence::Code, Filled::Digits(text)));
+    }
+    if is_code(text) || is_address(text) {
+        return Some(Hint::with(Sentence::Code, Filled::ShellWord(text)));
+    }
+    if is_path(text) {
+        return Some(Hint::of(Sentence::Path));
+    }
+    None
+}
+
+// `+proj=utm ..`, also without plus signs, or with `init=`, or with other words before.
+fn is_proj_string(text: &[u8]) -> bool {
+    let first = without_plus(text);
+    begins(first, b"proj=") || begins(first, b"init=") || has_proj_behind(text)
+}
+
+fn has_proj_behind(text: &[u8]) -> bool {
+    for (at, byte) in text.iter().enumerate() {
+        if byte.is_ascii_whitespace() && begins(without_plus(rest(text, at + 1)), b"proj=") {
+            return true;
+        }
+    }
+    false
+}
+
+fn without_plus(text: &[u8]) -> &[u8] {
+    text.strip_prefix(b"+").unwrap_or(text)
+}
+
+/// The word of a PROJ string that asks for a transformation, such as `+towgs84`; empty where there is none.
+pub(crate) fn transformation_of(text: &[u8]) -> &[u8] {
+    for (at, _) in text.iter().enumerate() {
+        let word = transformation_at(rest(text, at));
+        if !word.is_empty() {
+            return word;
+        }
+    }
+    b""
+}
+
+fn transformation_at(text: &[u8]) -> &[u8] {
+    let plus = if text.starts_with(b"+") { 1 } else { 0 };
+    for name in [
+        b"towgs84".as_slice(),
+        b"nadgrids".as_slice(),
+        b"geoidgrids".as_slice(),
+    ] {
+        if begins(rest(text, plus), name) {
+            return front(text, plus.saturating_add(name.len()));
+        }
+    }
+    b""
+}
+
+// `EPSG:28992`, `OGC:CRS84`, `EPSG:28992+5709`.
+fn is_code(text: &[u8]) -> bool {
+    let authority = text.iter().take_while(|it| is_of_authority(**it)).count();
+    if authority < 3 || !rest(text, authority).starts_with(b":") {
+        return false;
+    }
+    let behind = rest(text, authority).strip_prefix(b":").unwrap_or(b"");
+    is_of_codes(behind.strip_prefix(b":").unwrap_or(behind))
+}
+
+fn is_of_authority(byte: u8) -> bool {
+    is_of_word(byte) || byte == b'.' || byte == b'-'
+}
+
+// A code, or two with a plus sign between.
+fn is_of_codes(text: &[u8]) -> bool {
+    let first = text.iter().take_while(|it| is_of_word(**it)).count();
+    match rest(text, first) {
+        _ if first == 0 => false,
+        [] => true,
+        [b'+', second @ ..] => !second.is_empty() && second.iter().all(|it| is_of_word(*it)),
+        _ => false,
+    }
+}
+
+// `urn:ogc:def:crs:EPSG::4326`, or a web address.
+fn is_address(text: &[u8]) -> bool {
+    let is_begun = begins(text, b"urn:") || begins(text, b"http://") || begins(text, b"https://");
+    is_begun && text.iter().all(|it| it.is_ascii_graphic())
+}
+
+const ENDINGS: [&[u8]; 12] = [
+    b".wkt", b".wkt2", b".prj", b".txt", b".shp", b".gpkg", b".tif", b".tiff", b".json", b".gml",
+    b".xml", b".csv",
+];
+
+// A file's name: `/..`, `./..`, `~/..`, `../..`, `C:\..`, or one that ends as files do.
+fn is_path(text: &[u8]) -> bool {
+    match text {
+        [b'/', ..] | [b'.' | b'~', b'/', ..] | [b'.', b'.', b'/', ..] => true,
+        [drive, b':', b'\\', ..] => drive.is_ascii_alphabetic(),
+        _ => has_ending(text, &ENDINGS) && !text.iter().any(|it| is_of_wkt(*it)),
+    }
+}
+
+fn has_ending(text: &[u8], endings: &[&[u8]]) -> bool {
+    for ending in endings {
+        if ends(text, ending) {
+            return true;
+        }
+    }
+    false
+}
+
+fn is_of_wkt(byte: u8) -> bool {
+    matches!(byte, b'[' | b']' | b'(' | b')' | b'"' | b'\n')
+}

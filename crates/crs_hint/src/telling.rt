@@ -1,0 +1,192 @@
+//! Which hints hold of a refused text, and how they are written.
+use crate::before::{look_before, node_at};
+use crate::class::has_transformation;
+use crate::front::by_front;
+use crate::glance::{looked_at, rest};
+use crate::hint::{Filled, Hint, Open, Sentence};
+use crate::place::by_place;
+use crate::refused::LAST_OF_TEXT;
+use crate::sentence::words_of;
+use crate::string::transformation_of;
+use itoa::Buffer;
+use std::alloc::AllocError;
+
+/// Appends the hints that hold of a refused text, a sentence or more in one line with its line end; nothing where none
+/// holds. A hint looks at the text's first bytes, at the place of the refusal, and at what is open there.
+/// On `AllocError` a part of the line may be appended. Profile.
+pub fn append_hints(
+    text: &[u8],
+    number: u8,
+    place: usize,
+    out: &mut Vec<u8>,
+) -> Result<(), AllocError> {
+    let front = looked_at(text.trim_ascii_start(), 0).trim_ascii_end();
+    let whole = by_front(text, front);
+    let there = beside(whole, by_place(text, number, place), number);
+    let mut is_first = true;
+    for hint in [whole, bound(whole, text, front), there]
+        .into_iter()
+        .flatten()
+    {
+        if !is_first {
+            out.push(b' ')?;
+        }
+        append_hint(hint, text, place, out)?;
+        is_first = false;
+    }
+    if !is_first {
+        out.push(b'\n')?;
+    }
+    Ok(())
+}
+
+// What is told of the place beside what is told of the whole. Of a class that isn't read what is damaged is told, and
+// no more: in WKT1 a second text may follow.
+fn beside<'a>(whole: Option<Hint<'a>>, there: Option<Hint<'a>>, number: u8) -> Option<Hint<'a>> {
+    let Some(whole) = whole else {
+        return there;
+    };
+    let there = there?;
+    let is_of_class = matches!(
+        whole.sentence,
+        Sentence::Wkt1 | Sentence::Bound | Sentence::Class
+    );
+    let is_damage = !matches!(there.sentence, Sentence::SecondText | Sentence::Behind);
+    if is_of_class && is_damage && number <= LAST_OF_TEXT {
+        Some(there)
+    } else {
+        None
+    }
+}
+
+// The transformation with which a text becomes a `BOUNDCRS`.
+fn bound<'a>(whole: Option<Hint<'a>>, text: &'a [u8], front: &'a [u8]) -> Option<Hint<'a>> {
+    match whole?.sentence {
+        Sentence::Wkt1 if has_transformation(text) => {
+            Some(Hint::with(Sentence::MakesBound, Filled::Words("TOWGS84")))
+        }
+        Sentence::ProjString => {
+            let word = transformation_of(front);
+            if word.is_empty() {
+                return None;
+            }
+            Some(Hint::with(Sentence::MakesBound, Filled::Piece(word)))
+        }
+        _ => None,
+    }
+}
+
+/// Appends the node whose opening delimiter stands at this place, as `CS[ at 24`, where its keyword begins.
+/// On `AllocError` a part of it may be appended. Profile.
+pub fn append_opened(text: &[u8], at: usize, out: &mut Vec<u8>) -> Result<(), AllocError> {
+    let delimiter = rest(text, at).first().copied().unwrap_or(b'[');
+    append_node(node_at(text, at, delimiter), out)
+}
+
+fn append_hint(
+    hint: Hint<'_>,
+    text: &[u8],
+    place: usize,
+    out: &mut Vec<u8>,
+) -> Result<(), AllocError> {
+    let words = words_of(hint.sentence);
+    out.extend_from_slice(words.front.as_bytes())?;
+    match hint.filled {
+        Filled::Nothing => {}
+        Filled::Words(words) => out.extend_from_slice(words.as_bytes())?,
+        Filled::Piece(piece) => out.extend_from_slice(piece)?,
+        Filled::Capitals(piece) => append_capitals(piece, out)?,
+        Filled::ShellWord(piece) => append_shell_word(piece, out)?,
+        Filled::Digits(digits) => {
+            out.extend_from_slice(b"EPSG:")?;
+            out.extend_from_slice(digits)?;
+        }
+        Filled::Place(place) => append_number(place, out)?,
+        Filled::Byte(byte) => append_byte(byte, out)?,
+        Filled::Closing(open) => append_closing(open, out)?,
+        Filled::Inside(node, outer) => append_inside(node, outer, out)?,
+        Filled::AllOpen => append_open(look_before(text, place).all_open(), true, out)?,
+        Filled::MoreOpen => append_open(look_before(text, place).all_open(), false, out)?,
+    }
+    out.extend_from_slice(words.back.as_bytes())
+}
+
+fn append_capitals(piece: &[u8], out: &mut Vec<u8>) -> Result<(), AllocError> {
+    for byte in piece {
+        out.push(byte.to_ascii_uppercase())?;
+    }
+    Ok(())
+}
+
+fn append_number(number: usize, out: &mut Vec<u8>) -> Result<(), AllocError> {
+    let mut digits = Buffer::new();
+    out.extend_from_slice(digits.format(number).as_bytes())
+}
+
+const HEX: [u8; 16] = *b"0123456789abcdef";
+
+fn append_byte(byte: u8, out: &mut Vec<u8>) -> Result<(), AllocError> {
+    let high = HEX[usize::from(byte / 16)];
+    let low = HEX[usize::from(byte % 16)];
+    out.extend_from_slice(&[b'0', b'x', high, low])
+}
+
+// As it is where no byte of it means more to a shell, else in single quotes.
+fn append_shell_word(piece: &[u8], out: &mut Vec<u8>) -> Result<(), AllocError> {
+    if piece.iter().all(|it| is_plain(*it)) {
+        return out.extend_from_slice(piece);
+    }
+    out.push(b'\'')?;
+    for byte in piece {
+        match byte {
+            b'\'' => out.extend_from_slice(b"'\"'\"'")?,
+            _ => out.push(*byte)?,
+        }
+    }
+    out.push(b'\'')?;
+    Ok(())
+}
+
+fn is_plain(byte: u8) -> bool {
+    byte.is_ascii_alphanumeric()
+        || matches!(
+            byte,
+            b'@' | b'%' | b'+' | b'=' | b':' | b',' | b'.' | b'/' | b'_' | b'-'
+        )
+}
+
+// `CS[ at 24`
+fn append_node(node: Open<'_>, out: &mut Vec<u8>) -> Result<(), AllocError> {
+    append_capitals(node.keyword, out)?;
+    out.push(node.delimiter)?;
+    out.extend_from_slice(b" at ")?;
+    append_number(node.begin, out)
+}
+
+// `CS[ at 24 is closed by ], not by )`
+fn append_closing(open: Open<'_>, out: &mut Vec<u8>) -> Result<(), AllocError> {
+    append_node(open, out)?;
+    match open.delimiter {
+        b'[' => out.extend_from_slice(b" is closed by ], not by )"),
+        _ => out.extend_from_slice(b" is closed by ), not by ]"),
+    }
+}
+
+fn append_inside(node: Open<'_>, outer: Open<'_>, out: &mut Vec<u8>) -> Result<(), AllocError> {
+    append_node(node, out)?;
+    out.extend_from_slice(b" stands inside ")?;
+    append_node(outer, out)
+}
+
+// Each behind a comma, but for the first where the list begins with it.
+fn append_open(all: &[Open<'_>], is_begin: bool, out: &mut Vec<u8>) -> Result<(), AllocError> {
+    let mut is_first = is_begin;
+    for open in all {
+        if !is_first {
+            out.extend_from_slice(b", ")?;
+        }
+        append_node(*open, out)?;
+        is_first = false;
+    }
+    Ok(())
+}

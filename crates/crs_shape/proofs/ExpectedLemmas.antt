@@ -1,0 +1,241 @@
+-- What could stand where the fault lies, as the loop over an item's arguments finds it.
+use Rattle.std.proofs.Common.{◌≡◌, ◌≢◌, ℕ, ◌<◌, inl, inr, Bool, true, false, ◌&&◌, Option, Some, None, List, [], ◌∷◌, ◌++◌, drop, filter, map, option_map, refl, sym, ◌∙◌, ap, subst, arith, rules}
+use Rattle.std.specs.List.{list_any}
+use Rattle.std.proofs.lemmas.Map.Views.{any-filter_same}
+use denote.Enum.Bare.{sameb, same_true}
+use Rattle.crs_text.specs.Items.{Item, leaf, node, Siblings, End, More, arguments, first_of, rest_of, close_of, place_of, size_of, sizes, here, IsAt}
+use Rattle.crs_shape.specs.contracts.class.Class.{the_type}
+use Rattle.crs_shape.specs.declared.class.Class.{Class}
+use Rattle.crs_shape.specs.declared.fitting.Walk.{Walk}
+use Rattle.crs_shape.specs.declared.slot.Slot.{Slot}
+use Rattle.crs_shape.specs.Keywords.{every_class, root_classes, root_named}
+use Rattle.crs_shape.specs.Slots.{SlotParts, shown, slots_of}
+use Rattle.crs_shape.specs.Shape.{Allowed, Begins}
+use Rattle.crs_shape.specs.Walk.{left, left_of, after, may_end}
+use Rattle.crs_shape.specs.ShapeFault.{class_in, is_of, IsFree, Stands, Inside, Among, class_of_root}
+use Rattle.crs_shape.specs.FirstFault.{step_to, step_as, step_of}
+use Rattle.crs_shape.specs.Left.{has_some, may_go, slots_left, classes_left, end_left}
+use Rattle.crs_shape.specs.Expected.{ExpectedParts, Follows, ExpectedIn, ExpectedAmong}
+use Rattle.crs_shape.proofs.KeywordTableLemmas.{class-among}
+use Rattle.crs_shape.proofs.TableLemmas.{apart_tables}
+use Rattle.crs_shape.proofs.SlotLemmas.{end-allowed}
+use Rattle.crs_shape.proofs.FaultLemmas.{Reached, reached-start, reached-more, reached-begins, reached-not, exact-free, end-free, end-not, append-none}
+use Rattle.crs_shape.proofs.FitLemmas.{from, HasNext, from_at, has_at, arguments-less, rest-less, first-has, step-is_of}
+
+-- ---- the classes
+
+both-true : (b : Bool) → (b && true) ≡ b
+both-true true = refl
+both-true false = refl
+
+-- of all classes those that pass a test are those that pass it
+pub among-passing : (p : Class → Bool) (c : Class) → list_any (λ d. sameb the_type d c) (filter p every_class) ≡ p c
+among-passing p c =
+    any-filter_same (λ d. sameb the_type d c) p (p c) (λ d e. ap p (same_true the_type (search rules) d c e)) every_class
+    ∙ ap (λ b. p c && b) (class-among c) ∙ both-true (p c)
+
+-- a class may go where an allowed list goes on with it
+may_go-begins : (row : List SlotParts) (before : List Class) (slots : List SlotParts) (c : Class) → Reached row before slots → may_go slots c ≡ true → Begins row (before ++ c ∷ [])
+may_go-begins row before slots c r e =
+    elim (after slots c) as (λ o. after slots c ≡ o → has_some o ≡ true → Begins row (before ++ c ∷ [])) [
+      | None ↦ λ f g. cc
+      | Some next ↦ λ f g. reached-begins row before slots next c r f
+    ] refl e
+
+begins-may_go : (row : List SlotParts) (before : List Class) (slots : List SlotParts) (c : Class) → Reached row before slots → Begins row (before ++ c ∷ []) → may_go slots c ≡ true
+begins-may_go row before slots c r b =
+    elim (after slots c) as (λ o. after slots c ≡ o → has_some o ≡ true) [
+      | None ↦ λ f. absurd (reached-not row before slots c r f b)
+      | Some next ↦ λ f. refl
+    ] refl
+
+-- what is answered for a walk that has come so far
+pub follows : (parent : Class) (place : ℕ) (before : List Class) (slots : List SlotParts) → Reached (slots_of parent) before slots → (e : ExpectedParts) →
+    e ≡ record { parent = Some parent; place = place; classes = filter (may_go slots) every_class; may_end = may_end slots } → Follows parent place before e
+follows parent place before slots r e is = record {
+  is_parent = ap (λ x. x.parent) is;
+  is_place = ap (λ x. x.place) is;
+  classes = λ c.
+      let same : list_any (λ d. sameb the_type d c) e.classes ≡ may_go slots c = ap (λ (x : ExpectedParts). list_any (λ d. sameb the_type d c) x.classes) is ∙ among-passing (may_go slots) c in (
+        (λ has. may_go-begins (slots_of parent) before slots c r (sym same ∙ has)),
+        (λ begins. same ∙ begins-may_go (slots_of parent) before slots c r begins),
+      );
+  may_end = (
+    (λ ends. subst (Allowed (slots_of parent)) (append-none before) (r.back [] (end-allowed slots (sym (ap (λ x. x.may_end) is) ∙ ends)))),
+    (λ allowed. ap (λ x. x.may_end) is ∙ by_end (may_end slots) refl allowed),
+  );
+}
+  where
+    by_end : (b : Bool) → may_end slots ≡ b → Allowed (slots_of parent) before → b ≡ true
+    by_end true f allowed = refl
+    by_end false f allowed = absurd (end-not parent before slots r f allowed)
+
+-- ---- the loop
+
+-- what the loop keeps: what is free of faults from the next argument on leaves the item free, and what could
+-- stand where the fault lies there could stand where that of the item does
+pub record Going (tree : Item) (class : Class) (item : Item) (slots : List SlotParts) (next : Option ℕ) : Type 0 where
+  pub close : ℕ
+  pub before : List Class
+  pub reached : Reached (slots_of class) before slots
+  pub free : IsFree (Among class close before (from tree next)) → IsFree (Inside class item)
+  pub found : (e : ExpectedParts) → ExpectedAmong class (place_of item) before (from tree next) e → ExpectedIn class item e
+  pub has : HasNext tree next
+  pub less : sizes (from tree next) < size_of item
+
+-- a leaf has no fault inside
+pub free_leaf : (c : Class) (item : Item) → is_of c item ≡ true → close_of item ≡ None → IsFree (Inside c item)
+free_leaf c (leaf kind place raw) e none fault h = let never : true ≡ false = sym e ∙ h.0 in cc
+free_leaf c (node place keyword square first others close) e none fault h = cc
+
+first_free : (c : Class) (place : ℕ) (keyword : List ℕ) (square : Bool) (first : Item) (others : Siblings) (close : ℕ) → is_of c (node place keyword square first others close) ≡ true →
+    IsFree (Among c close [] (More first others)) → IsFree (Inside c (node place keyword square first others close))
+first_free c place keyword square first others close e free fault (inl h) = let never : true ≡ false = sym e ∙ h.0 in cc
+first_free c place keyword square first others close e free fault (inr h) = free fault h.1
+
+pub going_first : (tree : Item) (c : Class) (item : Item) (close : ℕ) (next : Option ℕ) → is_of c item ≡ true → close_of item ≡ Some close →
+    IsAt tree (arguments item) next → Going tree c item (slots_of c) next
+going_first tree c (leaf kind place raw) close next e f at = cc
+going_first tree c (node place keyword square first others end) close next e f at =
+    let same = from_at tree (More first others) next at in
+    let item = node place keyword square first others end in
+    record {
+      close = end;
+      before = [];
+      reached = reached-start (slots_of c) (apart_tables c);
+      free = λ free. first_free c place keyword square first others end e (subst (λ z. IsFree (Among c end [] z)) same free);
+      found = λ e h. subst (λ z. ExpectedAmong c place [] z e) same h;
+      has = has_at tree (More first others) next at;
+      less = let n : sizes (from tree next) ≡ sizes (More first others) = ap sizes same in omega (arith, n, arguments-less item);
+    }
+
+pub going_at : (tree : Item) (c : Class) (item : Item) (slots : List SlotParts) (next other : Option ℕ) → Going tree c item slots next → next ≡ other → Going tree c item slots other
+going_at tree c item slots next other going e = subst (Going tree c item slots) e going
+
+-- what an argument's step says
+
+-- no class stands where there is no step
+none_stands : (parent : Class) (before : List Class) (slots : List SlotParts) (item : Item) → Reached (slots_of parent) before slots → None ≡ step_of parent slots item →
+    (d : Class) → Stands parent before item d → ⊥
+none_stands parent before slots item r e d stands = by (after slots d) refl
+  where
+    by : (o : Option (List SlotParts)) → after slots d ≡ o → ⊥
+    by None f = reached-not (slots_of parent) before slots d r f stands.begins
+    by (Some next) f =
+        let s : step_of parent slots item ≡ Some (d, next) = ap (step_as slots) stands.named ∙ ap (step_to d) f in
+        let never : ◌≡◌ {A = Option (Class × List SlotParts)} None (Some (d, next)) = e ∙ s in
+        absurd cc
+
+to_class : (c d : Class) (later : List SlotParts) (o : Option (List SlotParts)) → Some (c, later) ≡ step_to d o → (d ≡ c) × (o ≡ Some later)
+to_class c d later None e = absurd cc
+to_class c d later (Some next) e =
+    let p : Some c ≡ Some d = ap (option_map (λ s. s.0)) e in
+    let q : Some later ≡ Some next = ap (option_map (λ s. s.1)) e in
+    let one : c ≡ d = cc in
+    let two : later ≡ next = cc in
+    (sym one, ap Some (sym two))
+
+step_class : (parent c : Class) (slots later : List SlotParts) (item : Item) → Some (c, later) ≡ step_of parent slots item → (class_in parent item ≡ Some c) × (after slots c ≡ Some later)
+step_class parent c slots later item e = by (class_in parent item) refl
+  where
+    by : (o : Option Class) → class_in parent item ≡ o → (class_in parent item ≡ Some c) × (after slots c ≡ Some later)
+    by None f = absurd (let never : ◌≡◌ {A = Option (Class × List SlotParts)} (Some (c, later)) None = e ∙ ap (step_as slots) f in cc)
+    by (Some d) f =
+        let t = to_class c d later (after slots d) (e ∙ ap (step_as slots) f) in
+        (f ∙ ap Some t.0, ap (after slots) (sym t.0) ∙ t.1)
+
+step_stands : (parent c : Class) (before : List Class) (slots later : List SlotParts) (item : Item) → Reached (slots_of parent) before slots → Some (c, later) ≡ step_of parent slots item →
+    Stands parent before item c
+step_stands parent c before slots later item r e =
+    let s = step_class parent c slots later item e in
+    record { named = s.0; begins = reached-begins (slots_of parent) before slots later c r s.1 }
+
+-- an argument and those after it
+
+among_wrong : (c : Class) (place : ℕ) (before : List Class) (items : Siblings) (e : ExpectedParts) → items ≢ End → ((d : Class) → Stands c before (first_of items) d → ⊥) →
+    Follows c place before e → ExpectedAmong c place before items e
+among_wrong c place before End e some none f = absurd (some refl)
+among_wrong c place before (More item items) e some none f = inl (none, f)
+
+among_inside : (c d : Class) (place : ℕ) (before : List Class) (items : Siblings) (e : ExpectedParts) → items ≢ End → Stands c before (first_of items) d →
+    ExpectedIn d (first_of items) e → ExpectedAmong c place before items e
+among_inside c d place before End e some stands h = absurd (some refl)
+among_inside c d place before (More item items) e some stands h = inr (d, (stands, inl h))
+
+among_later : (c d : Class) (place : ℕ) (before : List Class) (items : Siblings) (e : ExpectedParts) → items ≢ End → Stands c before (first_of items) d →
+    IsFree (Inside d (first_of items)) → ExpectedAmong c place (before ++ d ∷ []) (rest_of items) e → ExpectedAmong c place before items e
+among_later c d place before End e some stands free h = absurd (some refl)
+among_later c d place before (More item items) e some stands free h = inr (d, (stands, inr (free, h)))
+
+free_later : (c d : Class) (close : ℕ) (before : List Class) (items : Siblings) → items ≢ End → Stands c before (first_of items) d →
+    IsFree (Inside d (first_of items)) → IsFree (Among c close (before ++ d ∷ []) (rest_of items)) → IsFree (Among c close before items)
+free_later c d close before End some stands free later = absurd (some refl)
+free_later c d close before (More item items) some stands free later =
+    exact-free c before item (λ x f. Inside x item f) (λ b f. Among c close b items f) d stands.named stands free later
+
+module _ (tree : Item) (c : Class) (item : Item) (slots : List SlotParts) (id : ℕ) (going : Going tree c item slots (Some id)) where
+  -- an argument that may not stand there
+  pub going_wrong : (e : ExpectedParts) → None ≡ step_of c slots (first_of (here tree id)) →
+      e ≡ record { parent = Some c; place = place_of item; classes = filter (may_go slots) every_class; may_end = may_end slots } → ExpectedIn c item e
+  going_wrong e none is =
+      going.found e
+      (among_wrong c (place_of item) going.before (here tree id) e going.has
+      (none_stands c going.before slots (first_of (here tree id)) going.reached none)
+      (follows c (place_of item) going.before slots going.reached e is))
+
+  module _ (named : Class) (later : List SlotParts) (step : Some (named, later) ≡ step_of c slots (first_of (here tree id))) where
+    stands : Stands c going.before (first_of (here tree id)) named
+    stands = step_stands c named going.before slots later (first_of (here tree id)) going.reached step
+
+    pub going_class : is_of named (first_of (here tree id)) ≡ true
+    going_class = step-is_of c named slots later (first_of (here tree id)) step
+
+    -- an argument with a fault inside
+    pub going_inside : (e : ExpectedParts) → ExpectedIn named (first_of (here tree id)) e → ExpectedIn c item e
+    going_inside e h = going.found e (among_inside c named (place_of item) going.before (here tree id) e going.has stands h)
+
+    -- an argument without
+    pub going_on : (next : Option ℕ) → IsFree (Inside named (first_of (here tree id))) → IsAt tree (rest_of (here tree id)) next → Going tree c item later next
+    going_on next free at =
+        let same = from_at tree (rest_of (here tree id)) next at in
+        record {
+          close = going.close;
+          before = going.before ++ named ∷ [];
+          reached = reached-more (slots_of c) going.before slots later named going.reached (step_class c named slots later (first_of (here tree id)) step).1;
+          free = λ h. going.free (free_later c named going.close going.before (here tree id) going.has stands free (subst (λ z. IsFree (Among c going.close (going.before ++ named ∷ []) z)) same h));
+          found = λ e h. going.found e
+              (among_later c named (place_of item) going.before (here tree id) e going.has stands free (subst (λ z. ExpectedAmong c (place_of item) (going.before ++ named ∷ []) z e) same h));
+          has = has_at tree (rest_of (here tree id)) next at;
+          less = omega (arith, rest-less tree id next going.has at, going.less);
+        }
+
+-- all arguments stand
+
+pub going_end : (tree : Item) (c : Class) (item : Item) (slots : List SlotParts) (b : Bool) → Going tree c item slots None → b ≡ may_end slots → b ≡ true → IsFree (Inside c item)
+going_end tree c item slots b going e t = going.free (end-free c going.close going.before slots going.reached (sym e ∙ t))
+
+pub going_short : (tree : Item) (c : Class) (item : Item) (slots : List SlotParts) (b : Bool) (e : ExpectedParts) → Going tree c item slots None → b ≡ may_end slots → b ≡ false →
+    e ≡ record { parent = Some c; place = place_of item; classes = filter (may_go slots) every_class; may_end = may_end slots } → ExpectedIn c item e
+going_short tree c item slots b e going k f is =
+    going.found e (end-not c going.before slots going.reached (sym k ∙ f), follows c (place_of item) going.before slots going.reached e is)
+
+-- what is answered, by the slots that are left in the row
+pub answered : (c : Class) (row : List Slot) (walk : Walk) (place other : ℕ) (e : ExpectedParts) → map shown row ≡ slots_of c → other ≡ place →
+    e ≡ record { parent = Some c; place = other; classes = classes_left (Some c) walk; may_end = end_left (Some c) walk } →
+    e ≡ record { parent = Some c; place = place; classes = filter (may_go (left_of row walk)) every_class; may_end = may_end (left_of row walk) }
+answered c row walk place other e slots same is =
+    let P : List SlotParts → ℕ → Type 0 = λ ss p. e ≡ record { parent = Some c; place = p; classes = filter (may_go (left walk.filled (drop walk.at ss))) every_class; may_end = may_end (left walk.filled (drop walk.at ss)) } in
+    subst (λ ss. P ss place) (sym slots) (subst (P (slots_of c)) same is)
+
+-- a text is of the class of its root
+pub root_is_of : (c : Class) (item : Item) → class_of_root item ≡ Some c → is_of c item ≡ true
+unfolding root_named
+root_is_of c (leaf kind place raw) e = cc
+root_is_of c (node place keyword square first others close) e = first-has root_classes keyword c e
+
+-- a class may come where the walk may go with it
+pub comes : (other : Option Class) (parent c : Class) (walk : Walk) (classes : List Class) → other ≡ Some parent → classes_left other walk ≡ classes →
+    may_go (slots_left parent walk) c ≡ list_any (λ d. sameb the_type d c) classes
+comes other parent c walk classes e same =
+    sym (among-passing (may_go (slots_left parent walk)) c)
+    ∙ ap (list_any (λ d. sameb the_type d c)) (sym (ap (λ o. classes_left o walk) e) ∙ same)

@@ -1,0 +1,14 @@
+use Rattle.crs_text.specs.Items.{first_of, here, size_of, sizes}
+use Rattle.crs_shape.specs.Walk.{left_of}
+use Rattle.crs_shape.proofs.ExpectedLemmas.{Going}
+use Rattle.crs_shape.proofs.FitLemmas.{from}
+use Rattle.crs_shape.proofs.expecting.+expected_within.Given as goal
+
+abbrev pub decreases-expected_within : goal.decreases-expected_within
+decreases-expected_within l = size_of (first_of (here l.items.now l.id))
+
+abbrev pub invariant-loop-next : goal.invariant-loop-next
+invariant-loop-next l = Going l.items l.class (first_of (here l.items l.fn.id)) (left_of l.row l.walk) l.next
+
+abbrev pub decreases-loop-next : goal.decreases-loop-next
+decreases-loop-next l = sizes (from l.items l.next)

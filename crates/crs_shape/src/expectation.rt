@@ -1,0 +1,150 @@
+//! What could stand where a fault of shape lies.
+ghost use Rattle.std.specs.Prelude.{◌≡◌, Some, None};
+ghost use Rattle.crs_shape.specs.Keywords.{every_class};
+ghost use Rattle.crs_shape.specs.Expected.{may_come};
+ghost use Rattle.crs_shape.specs.Left.{may_go, slots_left, classes_left, end_left};
+
+use crate::class::Class;
+use crate::fitting::Walk;
+use crate::keyword::is_root;
+use crate::table::row;
+use std::marker::Model;
+
+/// What could stand where a fault of shape lies: which classes of arguments in which node. Profile.
+#[derive(Drop)]
+pub struct Expected {
+    parent: Option<Class>,
+    place: usize,
+    // where the walk over the parent's slots stands
+    walk: Walk,
+}
+
+impl Model for Expected {
+    ghost use Rattle.crs_shape.specs.Expected.{ExpectedParts};
+    ghost use Rattle.crs_shape.specs.Left.{classes_left, end_left};
+
+    ghost Value = { ExpectedParts };
+
+    ghost view = { λ e. record {
+      parent = e.parent;
+      place = e.place;
+      classes = classes_left e.parent e.walk;
+      may_end = end_left e.parent e.walk;
+    } };
+}
+
+impl Expected {
+    // What may come where this walk stands, in a node of this class, or at the head of a text.
+    pub(crate) fn new(parent: Option<Class>, place: usize, walk: Walk) -> Self
+        ensures { result ≡ record {
+          parent = parent;
+          place = place;
+          classes = classes_left parent walk;
+          may_end = end_left parent walk;
+        } }
+    {
+        Expected {
+            parent,
+            place,
+            walk,
+        }
+    }
+
+    /// The class of the node in which the fault lies; None where the text's own class is at fault.
+    pub fn parent(&self) -> Option<Class>
+        ensures { result ≡ self.now.parent }
+    {
+        self.parent
+    }
+
+    /// The place of the first byte of that node, or of the text's item where it has no class.
+    pub fn place(&self) -> usize
+        ensures { result ≡ self.now.place }
+    {
+        self.place
+    }
+
+    /// Whether an argument of this class could stand where the fault lies, or a text of this class at the head.
+    pub fn has(&self, class: Class) -> bool
+        ensures { result ≡ may_come self.now class }
+    {
+        match self.parent {
+            None => is_root(class),
+            Some(parent) => may_go(self.walk, parent, class),
+        }
+    }
+
+    /// Whether the node's closing delimiter could stand where the fault lies.
+    pub fn may_end(&self) -> bool
+        ensures { result ≡ self.now.may_end }
+    {
+        match self.parent {
+            None => false,
+            Some(parent) => self.walk.may_end(row(parent)),
+        }
+    }
+}
+
+// Whether an argument of this class may come where this walk stands.
+fn may_go(walk: Walk, parent: Class, class: Class) -> bool
+    ensures { result ≡ may_go (slots_left parent walk) class }
+{
+    walk.after(row(parent), class).is_some()
+}
+
+// all classes
+macro_rules! all {
+    ($($class:ident),* $(,)?) => { &[$(Class::$class),*] };
+}
+
+/// All classes, in the order of the table. Profile.
+pub fn classes() -> &'static [Class]
+    ensures { result.now ≡ every_class }
+{
+    all![
+        Number,
+        Text,
+        Word,
+        GeodeticCrs,
+        GeographicCrs,
+        ProjectedCrs,
+        VerticalCrs,
+        CompoundCrs,
+        BaseCrs,
+        Dynamic,
+        FrameEpoch,
+        DeformationModel,
+        GeodeticFrame,
+        VerticalFrame,
+        GeodeticEnsemble,
+        VerticalEnsemble,
+        Member,
+        EnsembleAccuracy,
+        Anchor,
+        AnchorEpoch,
+        Ellipsoid,
+        PrimeMeridian,
+        PlainUnit,
+        LengthUnit,
+        AngleUnit,
+        ScaleUnit,
+        AxisUnit,
+        CoordinateSystem,
+        Axis,
+        AxisMeridian,
+        Order,
+        Conversion,
+        Method,
+        Parameter,
+        GeoidModel,
+        Usage,
+        Scope,
+        Area,
+        BoundingBox,
+        VerticalExtent,
+        Identifier,
+        Citation,
+        Uri,
+        Remark,
+    ]
+}

@@ -1,0 +1,66 @@
+//! Where the fault of a shape lies, and what could stand there.
+ghost use Rattle.std.specs.Prelude.{◌≡◌, false, IsTrue, MatchOption};
+ghost use Rattle.crs_text.specs.Items.{first_of, here, HasId};
+ghost use Rattle.crs_shape.specs.Expected.{ExpectedIn, ExpectedAtRoot};
+ghost use Rattle.crs_shape.specs.ShapeFault.{is_of, IsFree, Inside, AtRoot};
+
+use crate::class::Class;
+use crate::expectation::Expected;
+use crate::fitting::{Walk, class_at_root, step};
+use crate::table::row;
+use crs_text::{ItemId, Items};
+
+/// What could stand where the fault lies for which `fit_root` refuses the items: the node whose argument
+/// may not stand there, or whose arguments aren't complete, and exactly the classes with which an allowed
+/// list goes on behind the arguments before. None: the items have the shape of a CRS.
+///
+/// It takes no memory; time is linear in the items. Profile.
+pub fn expected(items: &Items<'_>) -> Option<Expected>
+    ensures { MatchOption result (IsFree (AtRoot items.now)) (ExpectedAtRoot items.now) }
+{
+    let root = items.root();
+    match class_at_root(items, root) {
+        None => Some(Expected::new(None, items.place(root), start())),
+        Some(class) => expected_within(items, root, class),
+    }
+}
+
+// What could stand where the fault lies in an item of this class.
+fn expected_within(items: &Items<'_>, id: ItemId, class: Class) -> Option<Expected>
+    requires has { HasId items.now id }
+    requires class { IsTrue (is_of class (first_of (here items.now id))) }
+    ensures { MatchOption result
+        (IsFree (Inside class (first_of (here items.now id))))
+        (ExpectedIn class (first_of (here items.now id))) }
+{
+    // A leaf has no argument that could be at fault.
+    items.close(id)?;
+    let row = row(class);
+    let mut walk = start();
+    let mut next = items.arg(id, 0);
+    while let Some(argument) = next {
+        let Some((named, stepped)) = step(items, argument, class, row, walk) else {
+            return Some(Expected::new(Some(class), items.place(id), walk));
+        };
+        if let Some(inner) = expected_within(items, argument, named) {
+            return Some(inner);
+        }
+        walk = stepped;
+        next = items.next(argument);
+    }
+    if walk.may_end(row) {
+        None
+    } else {
+        Some(Expected::new(Some(class), items.place(id), walk))
+    }
+}
+
+// A walk that has no argument behind it.
+fn start() -> Walk
+    ensures { result ≡ record { at = 0; filled = false } }
+{
+    Walk {
+        at: 0,
+        filled: false,
+    }
+}
