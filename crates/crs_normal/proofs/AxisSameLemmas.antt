@@ -11,7 +11,8 @@ use Rattle.crs_value.specs.declared.values.level.Level.{Level}
 use Rattle.crs_value.specs.declared.values.unit_kind.UnitKind.{UnitKind}
 use Rattle.crs_value.specs.declared.values.unit_kind.UnitKind.TheVariants as kinds
 use Rattle.crs_value.specs.declared.values.unit_kind.UnitKind.TheVariants as kinds
-use Rattle.crs_same.specs.SameSystems.{HasAt, IsPositionOf, SameAxis, SameAxisAlone, SameAxisMeridian, own_or}
+use Rattle.crs_same.specs.Agreement.{AgreeAxis}
+use Rattle.crs_same.specs.SameSystems.{HasAt, IsPositionOf, SameAxisAlone, SameAxisMeridian, own_or}
 use Rattle.crs_same.specs.SameUnits.{SameUnit, SameValue}
 use Rattle.crs_same.specs.Sets.{BothOrNeither}
 use Rattle.crs_normal.specs.Decides.{FormDecides, Maybe, SetsDecide}
@@ -64,22 +65,20 @@ module _ (laws : LowerLaws) (sets : SetsDecide) (level : Level) where
       (plain-unit y.unit in-y.unit) in
       let identifiers = sets.idents level x.identifiers y.identifiers in-x.identifiers in-y.identifiers in (
         λ e. record {
-          axis = record {
-            name = ap (λ (z : AxisParts). z.name) e;
-            direction = ap (λ (z : AxisParts). z.direction) e;
-            meridian = meridian.0 (ap (λ (z : AxisParts). z.meridian) e);
-            unit = unit.0 (ap (λ (z : AxisParts). z.unit) e);
-            identifiers = identifiers.0 (ap (λ (z : AxisParts). z.identifiers) e);
-          };
+          name = ap (λ (z : AxisParts). z.name) e;
+          direction = ap (λ (z : AxisParts). z.direction) e;
+          meridian = meridian.0 (ap (λ (z : AxisParts). z.meridian) e);
           order = order.0 (ap (λ (z : AxisParts). z.order) e);
+          unit = unit.0 (ap (λ (z : AxisParts). z.unit) e);
+          identifiers = identifiers.0 (ap (λ (z : AxisParts). z.identifiers) e);
         },
         λ s. λ i. record {
-          name = s.axis.name i;
-          direction = s.axis.direction i;
-          meridian = meridian.1 s.axis.meridian i;
+          name = s.name i;
+          direction = s.direction i;
+          meridian = meridian.1 s.meridian i;
           order = order.1 s.order i;
-          unit = unit.1 s.axis.unit i;
-          identifiers = identifiers.1 s.axis.identifiers i;
+          unit = unit.1 s.unit i;
+          identifiers = identifiers.1 s.identifiers i;
         },
       )
 
@@ -95,8 +94,8 @@ module _ (laws : LowerLaws) (sets : SetsDecide) (level : Level) where
   -- at the same position of two systems of one type
   pub axis-agrees : (a b : SystemParts) (k : ℕ) (x y : AxisParts) → a.system_type ≡ b.system_type →
       Maybe IsAxisUnit a.unit → Maybe IsAxisUnit b.unit → IsAxis x → IsAxis y →
-      (norm_axis level a k x ≡ norm_axis level b k y) ↔ SameAxis level a b x y
-  unfolding norm_axis SameAxis
+      (norm_axis level a k x ≡ norm_axis level b k y) ↔ AgreeAxis level a b x y
+  unfolding norm_axis AgreeAxis
   axis-agrees a b k x y type unit-a unit-b in-x in-y =
       let asked = asked_kind a.system_type x.direction in
       let second = own_or y.unit b.unit in

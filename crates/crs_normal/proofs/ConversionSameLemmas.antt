@@ -4,7 +4,8 @@ use Rattle.crs_value.specs.ConversionValues.{ConversionParts, GeoidModelParts, M
 use Rattle.crs_value.specs.SoundConversion.{IsConversion, IsGeoidModel, IsMethod, IsParameter}
 use Rattle.crs_value.specs.declared.values.level.Level.{Level}
 use Rattle.crs_value.specs.declared.values.unit_kind.UnitKind.TheVariants as kinds
-use Rattle.crs_same.specs.SameConversions.{SameConversion, SameGeoidModel, SameMethod, SameParameter}
+use Rattle.crs_same.specs.Agreement.{AgreeConversion, AgreeMethod}
+use Rattle.crs_same.specs.SameConversions.{SameGeoidModel, SameParameter}
 use Rattle.crs_normal.specs.Decides.{FormDecides, SetsDecide}
 use Rattle.crs_normal.specs.LowerLaws.{LowerLaws}
 use Rattle.crs_normal.specs.SpelledConversions.{norm_conversion, norm_geoid_model, norm_method, norm_parameter}
@@ -12,7 +13,7 @@ use Rattle.crs_normal.proofs.PartSameLemmas.{values-agree}
 use Rattle.crs_normal.proofs.UnitSameLemmas.{units-agree}
 
 module _ (laws : LowerLaws) (sets : SetsDecide) (level : Level) where
-  pub method-agrees : FormDecides IsMethod (norm_method level) (SameMethod level)
+  pub method-agrees : FormDecides IsMethod (norm_method level) (AgreeMethod level)
   method-agrees a b in-a in-b =
       let identifiers = sets.idents level a.identifiers b.identifiers in-a.identifiers in-b.identifiers in (
         λ e. record { name = ap (λ (x : MethodParts). x.name) e; identifiers = identifiers.0 (ap (λ (x : MethodParts). x.identifiers) e) },
@@ -33,7 +34,7 @@ module _ (laws : LowerLaws) (sets : SetsDecide) (level : Level) where
         λ s. λ i. record { name = s.name i; value = value.1 s.value i; unit = unit.1 s.unit i; identifiers = identifiers.1 s.identifiers i },
       )
 
-  pub conversion-agrees : FormDecides IsConversion (norm_conversion level) (SameConversion level)
+  pub conversion-agrees : FormDecides IsConversion (norm_conversion level) (AgreeConversion level)
   conversion-agrees a b in-a in-b =
       let method = method-agrees a.method b.method in-a.method in-b.method in
       let parameters = sets.parameters level a.parameters b.parameters in-a.parameters in-b.parameters in

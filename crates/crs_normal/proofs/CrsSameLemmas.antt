@@ -1,4 +1,4 @@
--- Coordinate reference systems have one form exactly where they are the same.
+-- Coordinate reference systems have one form exactly where they agree.
 use Rattle.std.proofs.Common.{◌≤◌, ◌≡◌, ℕ, ◌*◌, ◌<◌, ◌^◌, inl, inr, List, [], ◌∷◌, length, refl, ap, subst, arith}
 use Rattle.crs_decimal.specs.Number.{SameNumber, whole_number}
 use Rattle.crs_decimal.specs.Value.{exact}
@@ -12,13 +12,13 @@ use Rattle.crs_value.specs.SoundCrs.{IsCrs}
 use Rattle.crs_value.specs.SoundSingle.{IsBase, IsGeodetic, IsProjected, IsVertical}
 use Rattle.crs_value.specs.SoundSystem.{IsSystem}
 use Rattle.crs_value.specs.Values.{SystemParts}
+use Rattle.crs_value.specs.declared.values.compound.Horizontal.{Horizontal}
 use Rattle.crs_value.specs.declared.values.compound.Horizontal.TheVariants as horizontal
 use Rattle.crs_value.specs.declared.values.crs.Crs.TheVariants as crs
 use Rattle.crs_value.specs.declared.values.level.Level.{Level}
 use Rattle.crs_value.specs.declared.values.unit_kind.UnitKind.TheVariants as kinds
-use Rattle.crs_same.specs.SameCrs.{SameBase, SameCompound, SameCrs, SameGeodetic, SameHorizontal, SameProjected}
-use Rattle.crs_same.specs.SameCrs.{SameVertical}
-use Rattle.crs_same.specs.SameSystems.{SameSystem}
+use Rattle.crs_same.specs.Agreement.{AgreeBase, AgreeCompound, AgreeCrs, AgreeGeodetic, AgreeHorizontal, AgreeProjected, AgreeVertical, AgreeSystem}
+use Rattle.crs_same.specs.SameCrs.{IsHorizontalPart}
 use Rattle.crs_normal.specs.Decides.{FormDecides, IsNumbered, SetsDecide}
 use Rattle.crs_normal.specs.LowerLaws.{LowerLaws}
 use Rattle.crs_normal.specs.SpelledCrs.{norm_base, norm_compound, norm_crs, norm_geodetic, norm_horizontal}
@@ -70,7 +70,7 @@ vertical-numbered laws v sound =
 module _ (laws : LowerLaws) (sets : SetsDecide) (level : Level) where
   -- ---- geodetic and geographic CRSs
 
-  pub geodetic-agrees : FormDecides IsGeodetic (norm_geodetic level) (SameGeodetic level)
+  pub geodetic-agrees : FormDecides IsGeodetic (norm_geodetic level) (AgreeGeodetic level)
   geodetic-agrees a b in-a in-b =
       let dynamic =
       dynamics-agree laws sets level a.dynamic b.dynamic (dynamics-sound a.dynamic a.frame in-a.dynamic)
@@ -81,7 +81,7 @@ module _ (laws : LowerLaws) (sets : SetsDecide) (level : Level) where
       let numbered-b = geodetic-numbered laws b in-b in
       let system = system-agrees laws sets level a.system b.system numbered-a numbered-b in
       let tail = tail-agrees sets level a.tail b.tail in-a.tail in-b.tail in (
-        λ e. let alike : SameSystem level a.system b.system = system.0 (ap (λ (x : GeodeticParts). x.system) e) in
+        λ e. let alike : AgreeSystem level a.system b.system = system.0 (ap (λ (x : GeodeticParts). x.system) e) in
             record {
               kind = ap kind_by alike.system_type;
               name = ap (λ (x : GeodeticParts). x.name) e;
@@ -103,7 +103,7 @@ module _ (laws : LowerLaws) (sets : SetsDecide) (level : Level) where
 
   -- ---- projected CRSs
 
-  pub base-agrees : FormDecides IsBase (norm_base level) (SameBase level)
+  pub base-agrees : FormDecides IsBase (norm_base level) (AgreeBase level)
   base-agrees a b in-a in-b =
       let dynamic =
       dynamics-agree laws sets level a.dynamic b.dynamic (dynamics-sound a.dynamic a.frame in-a.dynamic)
@@ -130,7 +130,7 @@ module _ (laws : LowerLaws) (sets : SetsDecide) (level : Level) where
         },
       )
 
-  pub projected-agrees : FormDecides IsProjected (norm_projected level) (SameProjected level)
+  pub projected-agrees : FormDecides IsProjected (norm_projected level) (AgreeProjected level)
   projected-agrees a b in-a in-b =
       let base = base-agrees a.base b.base in-a.base in-b.base in
       let conversion = conversion-agrees laws sets level a.conversion b.conversion in-a.conversion in-b.conversion in
@@ -156,7 +156,7 @@ module _ (laws : LowerLaws) (sets : SetsDecide) (level : Level) where
 
   -- ---- vertical CRSs
 
-  pub vertical-agrees : FormDecides IsVertical (norm_vertical level) (SameVertical level)
+  pub vertical-agrees : FormDecides IsVertical (norm_vertical level) (AgreeVertical level)
   vertical-agrees a b in-a in-b =
       let dynamic =
       dynamics-agree laws sets level a.dynamic b.dynamic (dynamics-sound a.dynamic a.frame in-a.dynamic)
@@ -187,7 +187,7 @@ module _ (laws : LowerLaws) (sets : SetsDecide) (level : Level) where
 
   -- ---- compound CRSs
 
-  pub horizontal-agrees : FormDecides IsHorizontal (norm_horizontal level) (SameHorizontal level)
+  pub horizontal-agrees : FormDecides IsHorizontal (norm_horizontal level) (AgreeHorizontal level)
   horizontal-agrees (horizontal.Geodetic a) (horizontal.Geodetic b) in-a in-b = (
     λ e. (geodetic-agrees a b in-a.0 in-b.0).0 cc,
     λ s. ap (λ x. horizontal.Geodetic x) ((geodetic-agrees a b in-a.0 in-b.0).1 s),
@@ -199,7 +199,7 @@ module _ (laws : LowerLaws) (sets : SetsDecide) (level : Level) where
     λ s. ap (λ x. horizontal.Projected x) ((projected-agrees a b in-a.0 in-b.0).1 s),
   )
 
-  pub compound-agrees : FormDecides IsCompound (norm_compound level) (SameCompound level)
+  pub compound-agrees : FormDecides IsCompound (norm_compound level) (AgreeCompound level)
   compound-agrees a b in-a in-b =
       let plane = horizontal-agrees a.horizontal b.horizontal in-a.horizontal in-b.horizontal in
       let height = vertical-agrees a.vertical b.vertical in-a.vertical in-b.vertical in
@@ -220,9 +220,9 @@ module _ (laws : LowerLaws) (sets : SetsDecide) (level : Level) where
 
   -- ---- all
 
-  pub crs-agrees : FormDecides IsCrs (norm_crs level) (SameCrs level)
+  pub crs-agrees : FormDecides IsCrs (norm_crs level) (AgreeCrs level)
   crs-agrees (crs.Geodetic a) (crs.Geodetic b) in-a in-b = (
-    λ e. let s : SameGeodetic level a b = (geodetic-agrees a b in-a in-b).0 cc in record { kind = s.kind; parts = s },
+    λ e. let s : AgreeGeodetic level a b = (geodetic-agrees a b in-a in-b).0 cc in record { kind = s.kind; parts = s },
     λ s. ap (λ x. crs.Geodetic x) ((geodetic-agrees a b in-a in-b).1 s.parts),
   )
   crs-agrees (crs.Projected a) (crs.Projected b) in-a in-b = (
@@ -241,3 +241,8 @@ module _ (laws : LowerLaws) (sets : SetsDecide) (level : Level) where
   crs-agrees (crs.Projected a) other in-a in-b = (λ e. cc, λ s. absurd s.parts)
   crs-agrees (crs.Vertical a) other in-a in-b = (λ e. cc, λ s. absurd s.parts)
   crs-agrees (crs.Compound a) other in-a in-b = (λ e. cc, λ s. absurd s.parts)
+
+-- the horizontal part of a compound CRS is one by itself
+pub by-itself : (a : Horizontal) → IsHorizontal a → IsHorizontalPart a
+by-itself (horizontal.Geodetic a) sound = sound.0
+by-itself (horizontal.Projected a) sound = sound.0

@@ -7,7 +7,8 @@ use Rattle.crs_value.specs.SoundSingle.{IsDynamicOf}
 use Rattle.crs_value.specs.declared.values.frame.Frame.{Frame}
 use Rattle.crs_value.specs.declared.values.frame.Frame.TheVariants as frame
 use Rattle.crs_value.specs.declared.values.level.Level.{Level}
-use Rattle.crs_same.specs.SameDynamic.{SameDeformationModel, SameDynamic}
+use Rattle.crs_same.specs.Agreement.{AgreeDynamic}
+use Rattle.crs_same.specs.SameDynamic.{SameDeformationModel}
 use Rattle.crs_same.specs.Sets.{BothOrNeither}
 use Rattle.crs_normal.specs.Decides.{FormDecides, Maybe, SetsDecide}
 use Rattle.crs_normal.specs.LowerLaws.{LowerLaws}
@@ -38,7 +39,7 @@ module _ (laws : LowerLaws) (sets : SetsDecide) (level : Level) where
       options-agree IsDeformationModel (norm_deformation_model level) (SameDeformationModel level)
       deformation-model-agrees (option_map (norm_deformation_model level)) refl (λ x. refl)
 
-  pub dynamic-agrees : FormDecides IsDynamic (norm_dynamic level) (SameDynamic level)
+  pub dynamic-agrees : FormDecides IsDynamic (norm_dynamic level) (AgreeDynamic level)
   dynamic-agrees a b in-a in-b =
       let epoch = values-agree laws a.epoch b.epoch in-a.epoch in-b.epoch in
       let model = models-agree a.model b.model in-a.model in-b.model in (
@@ -50,7 +51,7 @@ module _ (laws : LowerLaws) (sets : SetsDecide) (level : Level) where
       )
 
   pub dynamics-agree : FormDecides (Maybe IsDynamic) (option_map (norm_dynamic level))
-      (BothOrNeither (SameDynamic level))
+      (BothOrNeither (AgreeDynamic level))
   dynamics-agree =
-      options-agree IsDynamic (norm_dynamic level) (SameDynamic level) dynamic-agrees
+      options-agree IsDynamic (norm_dynamic level) (AgreeDynamic level) dynamic-agrees
       (option_map (norm_dynamic level)) refl (λ x. refl)

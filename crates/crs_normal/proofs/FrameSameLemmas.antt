@@ -11,8 +11,9 @@ use Rattle.crs_value.specs.declared.values.frame.Frame.{Frame}
 use Rattle.crs_value.specs.declared.values.frame.Frame.TheVariants as frame
 use Rattle.crs_value.specs.declared.values.level.Level.{Level}
 use Rattle.crs_value.specs.declared.values.unit_kind.UnitKind.TheVariants as kinds
-use Rattle.crs_same.specs.SameFrames.{IsGreenwich, IsZero, SameDatum, SameEllipsoid, SameEnsemble, SameFrame, SameGiven}
-use Rattle.crs_same.specs.SameFrames.{SameMember, SameMeridian}
+use Rattle.crs_same.specs.Agreement.{IsGreenwich, AgreeDatum, AgreeEllipsoid, AgreeEnsemble, AgreeFrame, AgreeGiven, AgreeMeridian}
+use Rattle.crs_same.specs.SameFrames.{IsZero}
+use Rattle.crs_same.specs.SameFrames.{SameMember}
 use Rattle.crs_same.specs.SameIdents.{SameIdents}
 use Rattle.crs_same.specs.SameUnits.{SameUnit, SameValue}
 use Rattle.crs_same.specs.Sets.{BothOrNeither}
@@ -50,7 +51,7 @@ counted false false x y e = (
 )
 
 module _ (laws : LowerLaws) (sets : SetsDecide) (level : Level) where
-  pub ellipsoid-agrees : FormDecides IsEllipsoid (norm_ellipsoid level) (SameEllipsoid level)
+  pub ellipsoid-agrees : FormDecides IsEllipsoid (norm_ellipsoid level) (AgreeEllipsoid level)
   ellipsoid-agrees a b in-a in-b =
       let axis = values-agree laws a.semi_major_axis b.semi_major_axis in-a.semi_major_axis in-b.semi_major_axis in
       let flattening =
@@ -75,9 +76,9 @@ module _ (laws : LowerLaws) (sets : SetsDecide) (level : Level) where
       )
 
   pub ellipsoids-agree : FormDecides (Maybe IsEllipsoid) (option_map (norm_ellipsoid level))
-      (BothOrNeither (SameEllipsoid level))
+      (BothOrNeither (AgreeEllipsoid level))
   ellipsoids-agree =
-      options-agree IsEllipsoid (norm_ellipsoid level) (SameEllipsoid level) ellipsoid-agrees
+      options-agree IsEllipsoid (norm_ellipsoid level) (AgreeEllipsoid level) ellipsoid-agrees
       (option_map (norm_ellipsoid level)) refl (λ x. refl)
 
   -- ---- prime meridians
@@ -104,7 +105,7 @@ module _ (laws : LowerLaws) (sets : SetsDecide) (level : Level) where
   abbrev unit_in : MeridianParts → Option UnitParts
   unit_in m = if is_zero m.longitude then None else norm_units level kinds.Angle m.unit
 
-  given-agrees : FormDecides IsMeridian (norm_given level) (SameGiven level)
+  pub given-agrees : FormDecides IsMeridian (norm_given level) (AgreeGiven level)
   given-agrees a b in-a in-b = (
     λ e. let at : a.longitude ≡ b.longitude = ap (λ (x : MeridianParts). x.longitude) e in
         record {
@@ -152,7 +153,7 @@ module _ (laws : LowerLaws) (sets : SetsDecide) (level : Level) where
       identifiers : (set_idents level a.identifiers ≡ set_idents level b.identifiers) ↔ SameIdents level a.identifiers b.identifiers
       identifiers = sets.idents level a.identifiers b.identifiers in-a.identifiers in-b.identifiers
 
-  pub meridian-agrees : FormDecides (Maybe IsMeridian) (norm_meridian level) (SameMeridian level)
+  pub meridian-agrees : FormDecides (Maybe IsMeridian) (norm_meridian level) (AgreeMeridian level)
   meridian-agrees None None in-a in-b = (λ e. tt, λ s. refl)
   meridian-agrees None (Some b) in-a in-b = (
     λ e. (greenwich-agrees b in-b).0 (some-one (norm_given level b) greenwich (sym e)),
@@ -180,7 +181,7 @@ module _ (laws : LowerLaws) (sets : SetsDecide) (level : Level) where
   epochs-agree =
       options-agree IsNormal (λ value. value) SameValue (values-agree laws) (λ epoch. epoch) refl (λ x. refl)
 
-  pub datum-agrees : FormDecides IsDatum (norm_datum level) (SameDatum level)
+  pub datum-agrees : FormDecides IsDatum (norm_datum level) (AgreeDatum level)
   datum-agrees a b in-a in-b =
       let ellipsoid = ellipsoids-agree a.ellipsoid b.ellipsoid in-a.ellipsoid in-b.ellipsoid in
       let epoch = epochs-agree a.anchor_epoch b.anchor_epoch in-a.anchor_epoch in-b.anchor_epoch in
@@ -201,7 +202,7 @@ module _ (laws : LowerLaws) (sets : SetsDecide) (level : Level) where
         },
       )
 
-  pub ensemble-agrees : FormDecides IsEnsemble (norm_ensemble level) (SameEnsemble level)
+  pub ensemble-agrees : FormDecides IsEnsemble (norm_ensemble level) (AgreeEnsemble level)
   ensemble-agrees a b in-a in-b =
       let members = sets.members level a.members b.members in-a.members in-b.members in
       let ellipsoid = ellipsoids-agree a.ellipsoid b.ellipsoid in-a.ellipsoid in-b.ellipsoid in
@@ -228,7 +229,7 @@ module _ (laws : LowerLaws) (sets : SetsDecide) (level : Level) where
   IsFrame (frame.Datum d) = IsDatum d
   IsFrame (frame.Ensemble e) = IsEnsemble e
 
-  frame-agrees : FormDecides IsFrame (norm_frame level) (SameFrame level)
+  frame-agrees : FormDecides IsFrame (norm_frame level) (AgreeFrame level)
   frame-agrees (frame.Datum a) (frame.Datum b) in-a in-b = (
     λ e. (datum-agrees a b in-a in-b).0 cc,
     λ s. ap (λ d. frame.Datum d) ((datum-agrees a b in-a in-b).1 s),
@@ -248,8 +249,8 @@ module _ (laws : LowerLaws) (sets : SetsDecide) (level : Level) where
   vertical-is (frame.Datum d) sound = sound.0
   vertical-is (frame.Ensemble e) sound = sound.0
 
-  pub geodetic-frame-agrees : FormDecides IsGeodeticFrame (norm_frame level) (SameFrame level)
+  pub geodetic-frame-agrees : FormDecides IsGeodeticFrame (norm_frame level) (AgreeFrame level)
   geodetic-frame-agrees a b in-a in-b = frame-agrees a b (geodetic-is a in-a) (geodetic-is b in-b)
 
-  pub vertical-frame-agrees : FormDecides IsVerticalFrame (norm_frame level) (SameFrame level)
+  pub vertical-frame-agrees : FormDecides IsVerticalFrame (norm_frame level) (AgreeFrame level)
   vertical-frame-agrees a b in-a in-b = frame-agrees a b (vertical-is a in-a) (vertical-is b in-b)

@@ -12,7 +12,8 @@ use Rattle.crs_value.specs.Values.{DatumParts, EllipsoidParts, EnsembleParts}
 use Rattle.crs_value.specs.declared.values.frame.Frame.{Frame}
 use Rattle.crs_value.specs.declared.values.frame.Frame.TheVariants as frame
 use Rattle.crs_value.specs.declared.values.level.Level.{Level}
-use Rattle.crs_same.specs.SameFrames.{SameDatum, SameEnsemble, SameFrame}
+use Rattle.crs_same.specs.Parts.{AreSame}
+use Rattle.crs_same.specs.PartsOfFrames.{parts_of_datum, parts_of_ensemble, parts_of_frame}
 use Rattle.crs_normal.specs.WrittenForm.{IsWrittenForm}
 use Rattle.crs_normal.specs.Made.{IsMade, geodetic_frame_class, vertical_frame_class}
 use Rattle.crs_normal.specs.OneForm.{IsItsForm, IsItsFormUnbroken}
@@ -168,21 +169,22 @@ keywords-apart (Some z) x y e = let k : ◌≡◌ {A = ℕ} 68 69 = ap first-byt
 texts-apart : (level : Level) (d : DatumParts) (e : EnsembleParts) → datum_text level d ≡ ensemble_text level e → ⊥
 texts-apart level d e same = keywords-apart (option_map (norm_ellipsoid level) d.ellipsoid) _ _ same
 
-module _ (level : Level) (datum_texts : IsWrittenForm IsDatum (SameDatum level) (IsSpelledDatum level) (datum_text level)) (ensemble_texts : IsWrittenForm IsEnsemble (SameEnsemble level) (IsSpelledEnsemble level) (ensemble_text level)) where
-  datums : IsOneText IsDatum (SameDatum level) (IsSpelledDatum level) (datum_text level)
-  datums = one-text IsDatum (SameDatum level) (IsSpelledDatum level) (datum_text level) datum_texts
+module _ (level : Level) (datum_texts : IsWrittenForm IsDatum (AreSame parts_of_datum level) (IsSpelledDatum level) (datum_text level)) (ensemble_texts : IsWrittenForm IsEnsemble (AreSame parts_of_ensemble level) (IsSpelledEnsemble level) (ensemble_text level)) where
+  datums : IsOneText IsDatum (AreSame parts_of_datum level) (IsSpelledDatum level) (datum_text level)
+  datums = one-text IsDatum (AreSame parts_of_datum level) (IsSpelledDatum level) (datum_text level) datum_texts
 
-  ensembles : IsOneText IsEnsemble (SameEnsemble level) (IsSpelledEnsemble level) (ensemble_text level)
-  ensembles = one-text IsEnsemble (SameEnsemble level) (IsSpelledEnsemble level) (ensemble_text level) ensemble_texts
+  ensembles : IsOneText IsEnsemble (AreSame parts_of_ensemble level) (IsSpelledEnsemble level) (ensemble_text level)
+  ensembles = one-text IsEnsemble (AreSame parts_of_ensemble level) (IsSpelledEnsemble level) (ensemble_text level) ensemble_texts
 
-  frames-equal : (a b : Frame) → IsFrame a → IsFrame b → (frame_text level a ≡ frame_text level b) ↔ SameFrame level a b
+  frames-equal : (a b : Frame) → IsFrame a → IsFrame b → (frame_text level a ≡ frame_text level b) ↔ AreSame parts_of_frame level a b
+  unfolding AreSame parts_of_frame
   frames-equal (frame.Datum a) (frame.Datum b) p q = datums.equal_bytes a b p q
-  frames-equal (frame.Datum a) (frame.Ensemble b) p q = (λ e. texts-apart level a b e, λ none. absurd none)
-  frames-equal (frame.Ensemble a) (frame.Datum b) p q = (λ e. texts-apart level b a (sym e), λ none. absurd none)
+  frames-equal (frame.Datum a) (frame.Ensemble b) p q = (λ e. absurd (texts-apart level a b e), λ none. absurd none.0)
+  frames-equal (frame.Ensemble a) (frame.Datum b) p q = (λ e. absurd (texts-apart level b a (sym e)), λ none. absurd none.0)
   frames-equal (frame.Ensemble a) (frame.Ensemble b) p q = ensembles.equal_bytes a b p q
 
-  pub frames-canonical : IsWrittenForm IsFrame (SameFrame level) (IsSpelledFrame level) (frame_text level)
-  frames-canonical = written-form IsFrame (SameFrame level) (IsSpelledFrame level) (frame_text level) (record {
+  pub frames-canonical : IsWrittenForm IsFrame (AreSame parts_of_frame level) (IsSpelledFrame level) (frame_text level)
+  frames-canonical = written-form IsFrame (AreSame parts_of_frame level) (IsSpelledFrame level) (frame_text level) (record {
     spelled = elim [ frame.Datum d ↦ λ s. datums.spelled d s | frame.Ensemble e ↦ λ s. ensembles.spelled e s ];
     one = elim [ frame.Datum d ↦ λ bytes s h. datums.one d bytes s h | frame.Ensemble e ↦ λ bytes s h. ensembles.one e bytes s h ];
     equal_bytes = frames-equal;

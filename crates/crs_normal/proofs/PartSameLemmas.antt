@@ -1,5 +1,5 @@
 -- Numbers, and parts that may be missing, have one form exactly where they are the same.
-use Rattle.std.proofs.Common.{◌≡◌, ◌∙◌, Option, Some, None, refl, sym, ap}
+use Rattle.std.proofs.Common.{◌≡◌, ◌↔◌, ◌∙◌, Option, Some, None, refl, sym, ap}
 use Rattle.crs_decimal.specs.Value.{IsNormal}
 use Rattle.crs_same.specs.SameUnits.{SameValue}
 use Rattle.crs_same.specs.Sets.{BothOrNeither}
@@ -23,3 +23,11 @@ options-agree Is form Same agree all none some (Some a) (Some b) in-a in-b = (
   λ e. let u : Some (form a) ≡ Some (form b) = sym (some a) ∙ e ∙ some b in (agree a b in-a in-b).0 cc,
   λ s. some a ∙ ap (λ x. Some x) ((agree a b in-a in-b).1 s) ∙ sym (some b),
 )
+
+-- where all parts are the same exactly where the values agree: a form that decides the latter decides the former
+pub decides-parts : {A B : Type 0} {Is : A → Type 0} {form : A → B} {S R : A → A → Type 0} →
+    ((a b : A) → Is a → Is b → S a b ↔ R a b) → FormDecides Is form R → FormDecides Is form S
+decides-parts is decides a b in-a in-b =
+    let said = is a b in-a in-b in
+    let it = decides a b in-a in-b in
+    (λ e. said.1 (it.0 e), λ s. it.1 (said.0 s))

@@ -6,7 +6,7 @@ use Rattle.std.proofs.lemmas.Bool.{cases_lt}
 use Rattle.crs_value.specs.Values.{AxisParts, SystemParts}
 use Rattle.crs_value.specs.declared.values.level.Level.{Level}
 use Rattle.crs_same.specs.SameIdents.{SameIdents}
-use Rattle.crs_same.specs.SameSystems.{SameAt, SameAxes, SameAxis, SameSystem}
+use Rattle.crs_same.specs.Agreement.{AgreeAt, AgreeAxes, AgreeAxis, AgreeSystem}
 use Rattle.crs_same.specs.SameUnits.{SameValue}
 use Rattle.crs_normal.specs.Decides.{FormDecides, IsNumbered, SetsDecide}
 use Rattle.crs_normal.specs.LowerLaws.{LowerLaws}
@@ -29,30 +29,30 @@ module _ (laws : LowerLaws) (sets : SetsDecide) (level : Level) where
 
   position-agrees : (a b : SystemParts) (k : ℕ) → IsNumbered a → IsNumbered b → a.system_type ≡ b.system_type →
       (x : Found k 1 a.axes) (y : Found k 1 b.axes) →
-      (norm_axis level a k x.axis ≡ norm_axis level b k y.axis) ↔ SameAt level a b k
+      (norm_axis level a k x.axis ≡ norm_axis level b k y.axis) ↔ AgreeAt level a b k
   position-agrees a b k in-a in-b type x y =
-      let axes : (norm_axis level a k x.axis ≡ norm_axis level b k y.axis) ↔ SameAxis level a b x.axis y.axis =
+      let axes : (norm_axis level a k x.axis ≡ norm_axis level b k y.axis) ↔ AgreeAxis level a b x.axis y.axis =
       axis-agrees laws sets level a b k x.axis y.axis type in-a.0.unit in-b.0.unit
       (sound-at k 1 a.axes x.axis in-a.0.axes x.at) (sound-at k 1 b.axes y.axis in-b.0.axes y.at) in
-      let both : SameAxis level a b x.axis y.axis ↔ SameAt level a b k =
-      both-agree (λ p q. SameAxis level a b p q) k a.axes b.axes x.axis y.axis (laws.one_axis a in-a.0 k)
+      let both : AgreeAxis level a b x.axis y.axis ↔ AgreeAt level a b k =
+      both-agree (λ p q. AgreeAxis level a b p q) k a.axes b.axes x.axis y.axis (laws.one_axis a in-a.0 k)
       (laws.one_axis b in-b.0 k) x.at y.at in
       (λ e. both.0 (axes.0 e), λ s. axes.1 (both.1 s))
 
   -- the axes at `n` positions from k on
   abbrev SameFrom : SystemParts → SystemParts → ℕ → ℕ → Type 0
-  SameFrom a b k n = (p : ℕ) → k ≤ p → p < k + n → SameAt level a b p
+  SameFrom a b k n = (p : ℕ) → k ≤ p → p < k + n → AgreeAt level a b p
 
-  from-agrees : (a b : SystemParts) (k n : ℕ) → SameAt level a b k × SameFrom a b (k + 1) n ↔ SameFrom a b k (suc n)
+  from-agrees : (a b : SystemParts) (k n : ℕ) → AgreeAt level a b k × SameFrom a b (k + 1) n ↔ SameFrom a b k (suc n)
   from-agrees a b k n = (
     λ s p least most. by s p least most (cases_lt k p),
     λ s. (s k (omega arith) (omega arith), λ p least most. s p (omega (arith, least)) (omega (arith, most))),
   )
     where
-      by : SameAt level a b k × SameFrom a b (k + 1) n → (p : ℕ) → k ≤ p → p < k + suc n → (k < p) ⊎ (p ≤ k) →
-          SameAt level a b p
+      by : AgreeAt level a b k × SameFrom a b (k + 1) n → (p : ℕ) → k ≤ p → p < k + suc n → (k < p) ⊎ (p ≤ k) →
+          AgreeAt level a b p
       by s p least most (inl more) = s.1 p (omega (arith, more)) (omega (arith, most))
-      by s p least most (inr less) = let e : k ≡ p = omega (arith, least, less) in subst (λ q. SameAt level a b q) e s.0
+      by s p least most (inr less) = let e : k ≡ p = omega (arith, least, less) in subst (λ q. AgreeAt level a b q) e s.0
 
   axes-agree : (a b : SystemParts) → IsNumbered a → IsNumbered b → a.system_type ≡ b.system_type →
       length a.axes ≡ length b.axes →
@@ -78,7 +78,7 @@ module _ (laws : LowerLaws) (sets : SetsDecide) (level : Level) where
 
   all-agree : (a b : SystemParts) → IsNumbered a → IsNumbered b → a.system_type ≡ b.system_type →
       length a.axes ≡ length b.axes →
-      (axes_from level a 1 (length a.axes) ≡ axes_from level b 1 (length b.axes)) ↔ SameAxes level a b
+      (axes_from level a 1 (length a.axes) ≡ axes_from level b 1 (length b.axes)) ↔ AgreeAxes level a b
   all-agree a b in-a in-b type long =
       let count : axes_from level b 1 (length a.axes) ≡ axes_from level b 1 (length b.axes) =
       ap (λ n. axes_from level b 1 n) long in
@@ -87,7 +87,7 @@ module _ (laws : LowerLaws) (sets : SetsDecide) (level : Level) where
         λ s. each.1 (λ p least most. s p least (omega (arith, most))) ∙ count,
       )
 
-  pub system-agrees : FormDecides IsNumbered (norm_system level) (SameSystem level)
+  pub system-agrees : FormDecides IsNumbered (norm_system level) (AgreeSystem level)
   system-agrees a b in-a in-b = (
     λ e. let type : a.system_type ≡ b.system_type = ap (λ (x : SystemParts). x.system_type) e in
         let size : SameValue a.dimension b.dimension = dimension.0 (ap (λ (x : SystemParts). x.dimension) e) in
@@ -113,5 +113,5 @@ module _ (laws : LowerLaws) (sets : SetsDecide) (level : Level) where
       identifiers = sets.idents level a.identifiers b.identifiers in-a.0.identifiers in-b.0.identifiers
 
       axes : a.system_type ≡ b.system_type → SameValue a.dimension b.dimension →
-          (axes_from level a 1 (length a.axes) ≡ axes_from level b 1 (length b.axes)) ↔ SameAxes level a b
+          (axes_from level a 1 (length a.axes) ≡ axes_from level b 1 (length b.axes)) ↔ AgreeAxes level a b
       axes type size = all-agree a b in-a in-b type (laws.as_many a b in-a.0 in-b.0 size)

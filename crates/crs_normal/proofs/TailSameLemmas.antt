@@ -6,7 +6,8 @@ use Rattle.crs_value.specs.Values.{BoxParts, ExtentParts, TailParts, UsageParts}
 use Rattle.crs_value.specs.Kept.{kept_one}
 use Rattle.crs_value.specs.declared.values.level.Level.{Level}
 use Rattle.crs_value.specs.declared.values.level.Level.TheVariants as levels
-use Rattle.crs_same.specs.SameUsages.{SameBox, SameExtent, SameRemark, SameTail, SameUsage, SameUsages}
+use Rattle.crs_same.specs.Agreement.{AgreeTail}
+use Rattle.crs_same.specs.SameUsages.{SameBox, SameExtent, SameRemark, SameUsage, SameUsages}
 use Rattle.crs_same.specs.SameUsages.{usages_of}
 use Rattle.crs_normal.specs.Decides.{FormDecides, SetsDecide}
 use Rattle.crs_normal.specs.LowerLaws.{LowerLaws}
@@ -85,7 +86,7 @@ module _ (sets : SetsDecide) where
       ↔ SameRemark level a b
   remarks-agree level a b = (λ e. e, λ s. s)
 
-  pub tail-agrees : (level : Level) → FormDecides IsTail (norm_tail level) (SameTail level)
+  pub tail-agrees : (level : Level) → FormDecides IsTail (norm_tail level) (AgreeTail level)
   tail-agrees level a b in-a in-b =
       let usages = usages-agree level a b in-a in-b in
       let remark = remarks-agree level a b in

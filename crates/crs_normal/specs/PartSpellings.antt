@@ -29,13 +29,18 @@ use Rattle.crs_value.specs.declared.values.level.Level.{Level}
 use Rattle.crs_value.specs.declared.values.level.Level.TheVariants as levels
 use Rattle.crs_value.specs.declared.values.unit_kind.UnitKind.{UnitKind}
 use Rattle.crs_value.specs.declared.values.unit_kind.UnitKind.TheVariants as kinds
-use Rattle.crs_same.specs.SameConversions.{SameConversion, SameGeoidModel, SameMethod}
+use Rattle.crs_same.specs.Parts.{AreSame}
+use Rattle.crs_same.specs.PartsOfCrs.{parts_of_method, parts_of_conversion, parts_of_base}
+use Rattle.crs_same.specs.PartsOfCrs.{parts_of_geodetic, parts_of_projected, parts_of_vertical}
+use Rattle.crs_same.specs.PartsOfCrs.{parts_of_compound}
+use Rattle.crs_same.specs.PartsOfFrames.{parts_of_ellipsoid, parts_of_given, parts_of_datum}
+use Rattle.crs_same.specs.PartsOfFrames.{parts_of_ensemble}
+use Rattle.crs_same.specs.SameConversions.{SameGeoidModel}
+use Rattle.crs_same.specs.SameCrs.{SameDynamic}
 use Rattle.crs_same.specs.SameConversions.{SameParameter}
-use Rattle.crs_same.specs.SameCrs.{SameBase, SameCompound, SameGeodetic, SameProjected}
-use Rattle.crs_same.specs.SameCrs.{SameVertical}
 pub use Rattle.crs_same.specs.SameCrs.{IsHorizontalPart}
-use Rattle.crs_same.specs.SameDynamic.{SameDeformationModel, SameDynamic}
-use Rattle.crs_same.specs.SameFrames.{SameDatum, SameEllipsoid, SameEnsemble, SameGiven, SameMember}
+use Rattle.crs_same.specs.SameDynamic.{SameDeformationModel}
+use Rattle.crs_same.specs.SameFrames.{SameMember}
 use Rattle.crs_same.specs.SameIdents.{SameIdent}
 use Rattle.crs_same.specs.SameSystems.{SameAxisMeridian}
 use Rattle.crs_same.specs.SameUnits.{SameUnit}
@@ -69,12 +74,12 @@ IsSpelledAxisMeridian level meridian = IsSpelledAs level class.AxisMeridian Read
 -- the one spelling of an ellipsoid by itself
 abbrev pub IsSpelledEllipsoid : Level → EllipsoidParts → List ℕ → Type 0
 IsSpelledEllipsoid level ellipsoid =
-    IsSpelledAs level class.Ellipsoid ReadsEllipsoid (SameEllipsoid level) ellipsoid
+    IsSpelledAs level class.Ellipsoid ReadsEllipsoid (AreSame parts_of_ellipsoid level) ellipsoid
 
 -- the one spelling of a prime meridian by itself
 abbrev pub IsSpelledMeridian : Level → MeridianParts → List ℕ → Type 0
 IsSpelledMeridian level meridian =
-    IsSpelledAs level class.PrimeMeridian ReadsMeridian (SameGiven level) meridian
+    IsSpelledAs level class.PrimeMeridian ReadsMeridian (AreSame parts_of_given level) meridian
 
 -- the one spelling of a member of an ensemble by itself
 abbrev pub IsSpelledMember : Level → MemberParts → List ℕ → Type 0
@@ -93,13 +98,13 @@ ensemble_class (Some ellipsoid) = class.GeodeticEnsemble
 -- the one spelling of a reference frame by itself
 abbrev pub IsSpelledDatum : Level → DatumParts → List ℕ → Type 0
 IsSpelledDatum level datum =
-    IsSpelledAs level (datum_class datum.ellipsoid) ReadsDatum (SameDatum level) datum
+    IsSpelledAs level (datum_class datum.ellipsoid) ReadsDatum (AreSame parts_of_datum level) datum
 
 -- the one spelling of a datum ensemble by itself
 abbrev pub IsSpelledEnsemble : Level → EnsembleParts → List ℕ → Type 0
 IsSpelledEnsemble level ensemble =
-    IsSpelledAs level (ensemble_class ensemble.ellipsoid) ReadsEnsemble (SameEnsemble level)
-    ensemble
+    IsSpelledAs level (ensemble_class ensemble.ellipsoid) ReadsEnsemble
+    (AreSame parts_of_ensemble level) ensemble
 
 -- what is asked of a reference frame or an ensemble
 abbrev pub IsFrame : Frame → Type 0
@@ -128,7 +133,8 @@ IsSpelledDynamic level dynamic =
 
 -- the one spelling of a method by itself
 abbrev pub IsSpelledMethod : Level → MethodParts → List ℕ → Type 0
-IsSpelledMethod level method = IsSpelledAs level class.Method ReadsMethod (SameMethod level) method
+IsSpelledMethod level method =
+    IsSpelledAs level class.Method ReadsMethod (AreSame parts_of_method level) method
 
 -- the one spelling of a parameter by itself
 abbrev pub IsSpelledParameter : Level → ParameterParts → List ℕ → Type 0
@@ -138,7 +144,7 @@ IsSpelledParameter level parameter =
 -- the one spelling of a conversion by itself
 abbrev pub IsSpelledConversion : Level → ConversionParts → List ℕ → Type 0
 IsSpelledConversion level conversion = IsSpelledAs level class.Conversion ReadsConversion
-    (SameConversion level) conversion
+    (AreSame parts_of_conversion level) conversion
 
 -- the one spelling of a geoid model by itself
 abbrev pub IsSpelledGeoidModel : Level → GeoidModelParts → List ℕ → Type 0
@@ -164,24 +170,25 @@ IsSpelledUsage level usage = IsSpelledAs levels.Full class.Usage ReadsUsage Same
 
 -- the one spelling of a base CRS by itself
 abbrev pub IsSpelledBase : Level → BaseParts → List ℕ → Type 0
-IsSpelledBase level base = IsSpelledAs level class.BaseCrs ReadsBase (SameBase level) base
+IsSpelledBase level base =
+    IsSpelledAs level class.BaseCrs ReadsBase (AreSame parts_of_base level) base
 
 -- the one spelling of a geodetic CRS, which is geographic where its coordinate system is
 -- ellipsoidal
 abbrev pub IsSpelledGeodetic : Level → GeodeticParts → List ℕ → Type 0
 IsSpelledGeodetic level geodetic =
     IsSpelledAs level (geodetic_class geodetic.system.system_type) ReadsGeodetic
-    (SameGeodetic level) geodetic
+    (AreSame parts_of_geodetic level) geodetic
 
 -- the one spelling of a projected CRS
 abbrev pub IsSpelledProjected : Level → ProjectedParts → List ℕ → Type 0
 IsSpelledProjected level projected =
-    IsSpelledAs level class.ProjectedCrs ReadsProjected (SameProjected level) projected
+    IsSpelledAs level class.ProjectedCrs ReadsProjected (AreSame parts_of_projected level) projected
 
 -- the one spelling of a vertical CRS
 abbrev pub IsSpelledVertical : Level → VerticalParts → List ℕ → Type 0
 IsSpelledVertical level vertical =
-    IsSpelledAs level class.VerticalCrs ReadsVertical (SameVertical level) vertical
+    IsSpelledAs level class.VerticalCrs ReadsVertical (AreSame parts_of_vertical level) vertical
 
 -- the one spelling of the horizontal part of a compound CRS by itself
 abbrev pub IsSpelledHorizontal : Level → Horizontal → List ℕ → Type 0
@@ -193,4 +200,4 @@ IsSpelledHorizontal level (horizontal.Projected projected) bytes =
 -- the one spelling of a compound CRS
 abbrev pub IsSpelledCompound : Level → CompoundParts → List ℕ → Type 0
 IsSpelledCompound level compound =
-    IsSpelledAs level class.CompoundCrs ReadsCompound (SameCompound level) compound
+    IsSpelledAs level class.CompoundCrs ReadsCompound (AreSame parts_of_compound level) compound

@@ -1,26 +1,28 @@
 -- What is the same with everything that counts is the same by definition.
-use Rattle.std.proofs.Common.{ℕ, ◌+◌, inl, inr, ◌⊎◌, Option, Some, None, List, [], ◌∷◌, refl}
-use Rattle.crs_value.specs.declared.values.compound.Horizontal.{Horizontal}
+use Rattle.std.proofs.Common.{ℕ, zero, suc, max, nat_le, inl, inr, ◌⊎◌, Option, Some, None, List, [], ◌∷◌, Bool, true, false, length, refl}
 use Rattle.crs_value.specs.declared.values.compound.Horizontal.TheVariants as horizontal
 use Rattle.crs_value.specs.declared.values.crs.Crs.{Crs}
 use Rattle.crs_value.specs.declared.values.crs.Crs.TheVariants as crs
-use Rattle.crs_value.specs.declared.values.frame.Frame.{Frame}
 use Rattle.crs_value.specs.declared.values.frame.Frame.TheVariants as frame
 use Rattle.crs_value.specs.declared.values.level.Level.TheVariants as levels
 use Rattle.crs_value.specs.declared.values.unit_kind.UnitKind.{UnitKind}
 use Rattle.crs_value.specs.declared.values.unit_kind.UnitKind.TheVariants as kinds
-use Rattle.crs_value.specs.ConversionValues.{MethodParts, ParameterParts, ConversionParts, GeoidModelParts}
-use Rattle.crs_value.specs.CompoundValues.{CompoundParts}
-use Rattle.crs_value.specs.CrsValues.{GeodeticParts, BaseParts, ProjectedParts, VerticalParts}
-use Rattle.crs_value.specs.DynamicValues.{DeformationModelParts, DynamicParts}
-use Rattle.crs_value.specs.Values.{AxisParts, AxisMeridianParts, EllipsoidParts, MeridianParts, MemberParts, DatumParts, EnsembleParts, SystemParts, TailParts, UnitParts}
-use Rattle.crs_same.specs.SameConversions.{SameMethod, SameParameter, SameConversion, SameGeoidModel}
-use Rattle.crs_same.specs.SameCrs.{SameGeodetic, SameBase, SameProjected, SameVertical, SameHorizontal, SameCompound, SameParts, SameCrs}
-use Rattle.crs_same.specs.SameDynamic.{SameDeformationModel, SameDynamic}
-use Rattle.crs_same.specs.SameFrames.{SameEllipsoid, SameGiven, SameMeridian, SameMember, SameDatum, SameEnsemble, SameFrame, IsZero}
-use Rattle.crs_same.specs.SameSystems.{SameAxisMeridian, SameAxisIn, SameAxis, HasAt, SameSystem}
+use Rattle.crs_value.specs.BadUnit.{asked_kind}
+use Rattle.crs_value.specs.ConversionValues.{ParameterParts, GeoidModelParts}
+use Rattle.crs_value.specs.DynamicValues.{DeformationModelParts}
+use Rattle.crs_value.specs.Values.{AxisParts, AxisMeridianParts, MemberParts, SystemParts, UnitParts}
+use Rattle.crs_same.specs.declared.step.Step.{Step}
+use Rattle.crs_same.specs.declared.step.Step.TheVariants as step
+use Rattle.crs_same.specs.Parts.{◌▸◌, PartsOf, AllSame}
+use Rattle.crs_same.specs.PartsOfCrs.{parts_of_method, parts_of_conversion, parts_of_dynamic, parts_of_tail, parts_of_geodetic, parts_of_base, parts_of_projected, parts_of_vertical, parts_of_horizontal, parts_of_compound}
+use Rattle.crs_same.specs.PartsOfFrames.{parts_of_ellipsoid, parts_of_ellipsoids, parts_of_given, parts_of_meridian, parts_of_datum, parts_of_ensemble, parts_of_frame}
+use Rattle.crs_same.specs.PartsOfSystems.{parts_of_axis, parts_where, parts_of_axes, parts_of_system}
+use Rattle.crs_same.specs.SameConversions.{SameParameter, SameGeoidModel}
+use Rattle.crs_same.specs.SameCrs.{SameCrs}
+use Rattle.crs_same.specs.SameDynamic.{SameDeformationModel}
+use Rattle.crs_same.specs.SameFrames.{SameMember, IsZero}
+use Rattle.crs_same.specs.SameSystems.{SameAxisMeridian, own_or}
 use Rattle.crs_same.specs.SameUnits.{SameUnit, SameLength}
-use Rattle.crs_same.specs.SameUsages.{SameTail}
 use Rattle.crs_same.specs.Sets.{BothOrNeither, HasSame, AllHaveSame, SameSet}
 
 -- ---- what may be missing, and sets
@@ -43,209 +45,199 @@ module _ {V : Type 0} (P Q : V → V → Type 0) (f : (a b : V) → P a b → Q 
   set : (xs ys : List V) → SameSet P xs ys → SameSet Q xs ys
   set xs ys s = (all xs ys s.0, all ys xs s.1)
 
--- ---- units
+-- ---- units, and what is compared whole
 
 unit : (asked : UnitKind) (a b : UnitParts) → SameUnit asked levels.Full a b → SameUnit asked levels.Definition a b
 unit asked a b s = record { kind = s.kind; name = s.name; factor = s.factor; identifiers = (tt, tt) }
 
-length : (a b : Option UnitParts) → SameLength levels.Full a b → SameLength levels.Definition a b
-length None None s = tt
-length None (Some b) s = record { kind = s.kind; name = s.name; factor = s.factor; identifiers = refl }
-length (Some a) None s = record { kind = s.kind; name = s.name; factor = s.factor; identifiers = refl }
-length (Some a) (Some b) s = unit kinds.Length a b s
+metres : (a b : Option UnitParts) → SameLength levels.Full a b → SameLength levels.Definition a b
+metres None None s = tt
+metres None (Some b) s = record { kind = s.kind; name = s.name; factor = s.factor; identifiers = refl }
+metres (Some a) None s = record { kind = s.kind; name = s.name; factor = s.factor; identifiers = refl }
+metres (Some a) (Some b) s = unit kinds.Length a b s
 
--- ---- conversions and geoid models
-
-method : (a b : MethodParts) → SameMethod levels.Full a b → SameMethod levels.Definition a b
-method a b s = record { name = s.name; identifiers = (tt, tt) }
+units : (asked : UnitKind) (a b : Option UnitParts) → BothOrNeither (SameUnit asked levels.Full) a b → BothOrNeither (SameUnit asked levels.Definition) a b
+units asked = optional (SameUnit asked levels.Full) (SameUnit asked levels.Definition) (unit asked)
 
 parameter : (a b : ParameterParts) → SameParameter levels.Full a b → SameParameter levels.Definition a b
-parameter a b s = record {
-  name = s.name;
-  value = s.value;
-  unit = optional (SameUnit kinds.Plain levels.Full) (SameUnit kinds.Plain levels.Definition) (unit kinds.Plain) a.unit b.unit s.unit;
-  identifiers = (tt, tt);
-}
-
-conversion : (a b : ConversionParts) → SameConversion levels.Full a b → SameConversion levels.Definition a b
-conversion a b s = record {
-  name = s.name;
-  method = method a.method b.method s.method;
-  parameters = set (SameParameter levels.Full) (SameParameter levels.Definition) parameter a.parameters b.parameters s.parameters;
-  identifiers = (tt, tt);
-}
+parameter a b s = record { name = s.name; value = s.value; unit = units kinds.Plain a.unit b.unit s.unit; identifiers = (tt, tt) }
 
 geoid_model : (a b : GeoidModelParts) → SameGeoidModel levels.Full a b → SameGeoidModel levels.Definition a b
 geoid_model a b s = record { name = s.name; identifiers = (tt, tt) }
 
--- ---- dynamic parts
-
 model : (a b : DeformationModelParts) → SameDeformationModel levels.Full a b → SameDeformationModel levels.Definition a b
 model a b s = record { name = s.name; identifiers = (tt, tt) }
-
-dynamic : (a b : DynamicParts) → SameDynamic levels.Full a b → SameDynamic levels.Definition a b
-dynamic a b s = record {
-  epoch = s.epoch;
-  model = optional (SameDeformationModel levels.Full) (SameDeformationModel levels.Definition) model a.model b.model s.model;
-}
-
-dynamics : (a b : Option DynamicParts) → BothOrNeither (SameDynamic levels.Full) a b → BothOrNeither (SameDynamic levels.Definition) a b
-dynamics = optional (SameDynamic levels.Full) (SameDynamic levels.Definition) dynamic
-
--- ---- frames
-
-ellipsoid : (a b : EllipsoidParts) → SameEllipsoid levels.Full a b → SameEllipsoid levels.Definition a b
-ellipsoid a b s = record {
-  name = s.name;
-  semi_major_axis = s.semi_major_axis;
-  inverse_flattening = s.inverse_flattening;
-  unit = length a.unit b.unit s.unit;
-  identifiers = (tt, tt);
-}
-
-given : (a b : MeridianParts) → SameGiven levels.Full a b → SameGiven levels.Definition a b
-given a b s = record { name = s.name; longitude = s.longitude; unit = its s.unit; identifiers = (tt, tt) }
-  where
-    its : IsZero a.longitude ⊎ BothOrNeither (SameUnit kinds.Angle levels.Full) a.unit b.unit →
-        IsZero a.longitude ⊎ BothOrNeither (SameUnit kinds.Angle levels.Definition) a.unit b.unit
-    its (inl zero) = inl zero
-    its (inr units) = inr (optional (SameUnit kinds.Angle levels.Full) (SameUnit kinds.Angle levels.Definition) (unit kinds.Angle) a.unit b.unit units)
-
-meridian : (a b : Option MeridianParts) → SameMeridian levels.Full a b → SameMeridian levels.Definition a b
-meridian None None s = tt
-meridian None (Some b) s = record { name = s.name; longitude = s.longitude; identifiers = refl }
-meridian (Some a) None s = record { name = s.name; longitude = s.longitude; identifiers = refl }
-meridian (Some a) (Some b) s = given a b s
 
 member : (a b : MemberParts) → SameMember levels.Full a b → SameMember levels.Definition a b
 member a b s = record { name = s.name; identifiers = (tt, tt) }
 
-ellipsoids : (a b : Option EllipsoidParts) → BothOrNeither (SameEllipsoid levels.Full) a b → BothOrNeither (SameEllipsoid levels.Definition) a b
-ellipsoids = optional (SameEllipsoid levels.Full) (SameEllipsoid levels.Definition) ellipsoid
-
-datum : (a b : DatumParts) → SameDatum levels.Full a b → SameDatum levels.Definition a b
-datum a b s = record {
-  name = s.name;
-  ellipsoid = ellipsoids a.ellipsoid b.ellipsoid s.ellipsoid;
-  anchor = s.anchor;
-  anchor_epoch = s.anchor_epoch;
-  identifiers = (tt, tt);
-}
-
-ensemble : (a b : EnsembleParts) → SameEnsemble levels.Full a b → SameEnsemble levels.Definition a b
-ensemble a b s = record {
-  name = s.name;
-  members = set (SameMember levels.Full) (SameMember levels.Definition) member a.members b.members s.members;
-  ellipsoid = ellipsoids a.ellipsoid b.ellipsoid s.ellipsoid;
-  accuracy = s.accuracy;
-  identifiers = (tt, tt);
-}
-
-frame-of : (a b : Frame) → SameFrame levels.Full a b → SameFrame levels.Definition a b
-frame-of (frame.Datum a) (frame.Datum b) s = datum a b s
-frame-of (frame.Ensemble a) (frame.Ensemble b) s = ensemble a b s
-frame-of a b s = absurd s
-
--- ---- coordinate systems
-
 axis_meridian : (a b : AxisMeridianParts) → SameAxisMeridian levels.Full a b → SameAxisMeridian levels.Definition a b
 axis_meridian a b s = record { longitude = s.longitude; unit = unit kinds.Angle a.unit b.unit s.unit }
 
-axis-in : (asked : UnitKind) (a b : AxisParts) (first second : Option UnitParts) → SameAxisIn asked levels.Full a b first second →
-    SameAxisIn asked levels.Definition a b first second
-axis-in asked a b first second s = record {
-  name = s.name;
-  direction = s.direction;
-  meridian = optional (SameAxisMeridian levels.Full) (SameAxisMeridian levels.Definition) axis_meridian a.meridian b.meridian s.meridian;
-  unit = optional (SameUnit asked levels.Full) (SameUnit asked levels.Definition) (unit asked) first second s.unit;
-  identifiers = (tt, tt);
-}
+-- ---- of the parts of two values: where all are the same with everything, all are by definition
 
-axis : (a b : SystemParts) (x y : AxisParts) → SameAxis levels.Full a b x y → SameAxis levels.Definition a b x y
-unfolding SameAxis
-axis a b x y s = axis-in _ x y _ _ s
+abbrev Narrows : {V : Type 0} → PartsOf V → Type 0
+Narrows {V} parts = (at : List Step) (a b : V) → AllSame (parts at levels.Full a b) → AllSame (parts at levels.Definition a b)
 
-at : (position : ℕ) (P Q : AxisParts → Type 0) → ((x : AxisParts) → P x → Q x) → (place : ℕ) (axes : List AxisParts) →
-    HasAt position P place axes → HasAt position Q place axes
-at position P Q f place [] h = absurd h
-at position P Q f place (x ∷ xs) (inl h) = inl (h.0, f x h.1)
-at position P Q f place (x ∷ xs) (inr h) = inr (at position P Q f (place + 1) xs h)
+method : Narrows parts_of_method
+unfolding parts_of_method
+method at a b s = (s.0, (tt, tt))
 
-system : (a b : SystemParts) → SameSystem levels.Full a b → SameSystem levels.Definition a b
-system a b s = record {
-  system_type = s.system_type;
-  dimension = s.dimension;
-  identifiers = (tt, tt);
-  axes = λ position low high.
-      at position (λ x. HasAt position (λ y. SameAxis levels.Full a b x y) 1 b.axes) (λ x. HasAt position (λ y. SameAxis levels.Definition a b x y) 1 b.axes)
-      (λ x h. at position (λ y. SameAxis levels.Full a b x y) (λ y. SameAxis levels.Definition a b x y) (λ y s. axis a b x y s) 1 b.axes h)
-      1 a.axes (s.axes position low high);
-}
+conversion : Narrows parts_of_conversion
+unfolding parts_of_conversion
+conversion at a b s = (
+  s.0,
+  (
+    method (at ▸ step.Method) a.method b.method s.1.0,
+    (set (SameParameter levels.Full) (SameParameter levels.Definition) parameter a.parameters b.parameters s.1.1.0, (tt, tt)),
+  ),
+)
+
+dynamic : Narrows parts_of_dynamic
+unfolding parts_of_dynamic
+dynamic at None None s = s
+dynamic at None (Some b) s = absurd s.0
+dynamic at (Some a) None s = absurd s.0
+dynamic at (Some a) (Some b) s = (s.0, optional (SameDeformationModel levels.Full) (SameDeformationModel levels.Definition) model a.model b.model s.1)
+
+tail : Narrows parts_of_tail
+unfolding parts_of_tail
+tail at a b s = ((tt, tt), ((tt, tt), refl))
+
+-- ---- frames
+
+ellipsoid : Narrows parts_of_ellipsoid
+ellipsoid at a b s = (s.0, (s.1.0, (s.1.1.0, (metres a.unit b.unit s.1.1.1.0, (tt, tt)))))
+
+ellipsoids : Narrows parts_of_ellipsoids
+ellipsoids at None None s = s
+ellipsoids at None (Some b) s = s
+ellipsoids at (Some a) None s = s
+ellipsoids at (Some a) (Some b) s = ellipsoid at a b s
+
+given : Narrows parts_of_given
+given at a b s = (s.0, (s.1.0, (its s.1.1.0, (tt, tt))))
+  where
+    its : IsZero a.longitude ⊎ IsZero b.longitude ⊎ BothOrNeither (SameUnit kinds.Angle levels.Full) a.unit b.unit →
+        IsZero a.longitude ⊎ IsZero b.longitude ⊎ BothOrNeither (SameUnit kinds.Angle levels.Definition) a.unit b.unit
+    its (inl first) = inl first
+    its (inr (inl second)) = inr (inl second)
+    its (inr (inr same)) = inr (inr (units kinds.Angle a.unit b.unit same))
+
+meridian : Narrows parts_of_meridian
+unfolding parts_of_meridian
+meridian at None None s = s
+meridian at None (Some b) s = (s.0, (s.1.0, refl))
+meridian at (Some a) None s = (s.0, (s.1.0, refl))
+meridian at (Some a) (Some b) s = given at a b s
+
+datum : Narrows parts_of_datum
+datum at a b s = (s.0, (ellipsoids (at ▸ step.Ellipsoid) a.ellipsoid b.ellipsoid s.1.0, (s.1.1.0, (s.1.1.1.0, (tt, tt)))))
+
+ensemble : Narrows parts_of_ensemble
+ensemble at a b s = (
+  s.0,
+  (
+    set (SameMember levels.Full) (SameMember levels.Definition) member a.members b.members s.1.0,
+    (ellipsoids (at ▸ step.Ellipsoid) a.ellipsoid b.ellipsoid s.1.1.0, (s.1.1.1.0, (tt, tt))),
+  ),
+)
+
+frame-of : Narrows parts_of_frame
+unfolding parts_of_frame
+frame-of at (frame.Datum a) (frame.Datum b) s = datum at a b s
+frame-of at (frame.Ensemble a) (frame.Ensemble b) s = ensemble at a b s
+frame-of at (frame.Datum a) (frame.Ensemble b) s = absurd s.0
+frame-of at (frame.Ensemble a) (frame.Datum b) s = absurd s.0
+
+-- ---- coordinate systems
+
+axis : (at : List Step) (a b : SystemParts) (x y : AxisParts) → AllSame (parts_of_axis at levels.Full a b x y) →
+    AllSame (parts_of_axis at levels.Definition a b x y)
+unfolding parts_of_axis
+axis at a b x y s = (
+  s.0,
+  (
+    s.1.0,
+    (
+      optional (SameAxisMeridian levels.Full) (SameAxisMeridian levels.Definition) axis_meridian x.meridian y.meridian s.1.1.0,
+      (units (asked_kind a.system_type x.direction) (own_or x.unit a.unit) (own_or y.unit b.unit) s.1.1.1.0, (tt, tt)),
+    ),
+  ),
+)
+
+axes-where : (in-a in-b : Bool) (at : List Step) (a b : SystemParts) (position : ℕ) → AllSame (parts_where in-a in-b at levels.Full a b position) →
+    AllSame (parts_where in-a in-b at levels.Definition a b position)
+axes-where true true at a b position (found, stand, s) = (found, stand, axis (at ▸ step.Axis position) a b found.0 found.1 s)
+axes-where true false at a b position (x, stand, bad) = absurd bad
+axes-where false in-b at a b position (y, stand, bad) = absurd bad
+
+axes : (at : List Step) (a b : SystemParts) (count : ℕ) → AllSame (parts_of_axes at levels.Full a b count) →
+    AllSame (parts_of_axes at levels.Definition a b count)
+axes at a b zero s = tt
+axes at a b (suc count) s = (
+  axes at a b count s.0,
+  axes-where (nat_le (suc count) (length a.axes)) (nat_le (suc count) (length b.axes)) at a b (suc count) s.1,
+)
+
+system : Narrows parts_of_system
+unfolding parts_of_system
+system at a b s = (s.0, (s.1.0, ((tt, tt), axes at a b (max (length a.axes) (length b.axes)) s.1.1.1)))
 
 -- ---- CRSs
 
-tail : (a b : TailParts) → SameTail levels.Full a b → SameTail levels.Definition a b
-tail a b s = record { usages = (tt, tt); identifiers = (tt, tt); remark = refl }
+geodetic : Narrows parts_of_geodetic
+unfolding parts_of_geodetic
+geodetic at a b s =
+    let d = dynamic (at ▸ step.Dynamic) a.dynamic b.dynamic s.1.1.0 in
+    let f = frame-of (at ▸ step.Datum) a.frame b.frame s.1.1.1.0 in
+    let m = meridian (at ▸ step.Meridian) a.meridian b.meridian s.1.1.1.1.0 in
+    let y = system (at ▸ step.System) a.system b.system s.1.1.1.1.1.0 in
+    (s.0, (s.1.0, (d, (f, (m, (y, tail at a.tail b.tail s.1.1.1.1.1.1))))))
 
-geodetic : (a b : GeodeticParts) → SameGeodetic levels.Full a b → SameGeodetic levels.Definition a b
-geodetic a b s = record {
-  kind = s.kind;
-  name = s.name;
-  dynamic = dynamics a.dynamic b.dynamic s.dynamic;
-  frame = frame-of a.frame b.frame s.frame;
-  meridian = meridian a.meridian b.meridian s.meridian;
-  system = system a.system b.system s.system;
-  tail = tail a.tail b.tail s.tail;
-}
+base : Narrows parts_of_base
+unfolding parts_of_base
+base at a b s =
+    let d = dynamic (at ▸ step.Dynamic) a.dynamic b.dynamic s.1.0 in
+    let f = frame-of (at ▸ step.Datum) a.frame b.frame s.1.1.0 in
+    let m = meridian (at ▸ step.Meridian) a.meridian b.meridian s.1.1.1.0 in
+    (s.0, (d, (f, (m, (units kinds.Angle a.unit b.unit s.1.1.1.1.0, (tt, tt))))))
 
-base : (a b : BaseParts) → SameBase levels.Full a b → SameBase levels.Definition a b
-base a b s = record {
-  name = s.name;
-  dynamic = dynamics a.dynamic b.dynamic s.dynamic;
-  frame = frame-of a.frame b.frame s.frame;
-  meridian = meridian a.meridian b.meridian s.meridian;
-  unit = optional (SameUnit kinds.Angle levels.Full) (SameUnit kinds.Angle levels.Definition) (unit kinds.Angle) a.unit b.unit s.unit;
-  identifiers = (tt, tt);
-}
+projected : Narrows parts_of_projected
+unfolding parts_of_projected
+projected at a b s =
+    let d = base (at ▸ step.Base) a.base b.base s.1.0 in
+    let f = conversion (at ▸ step.Conversion) a.conversion b.conversion s.1.1.0 in
+    let y = system (at ▸ step.System) a.system b.system s.1.1.1.0 in
+    (s.0, (d, (f, (y, tail at a.tail b.tail s.1.1.1.1))))
 
-projected : (a b : ProjectedParts) → SameProjected levels.Full a b → SameProjected levels.Definition a b
-projected a b s = record {
-  name = s.name;
-  base = base a.base b.base s.base;
-  conversion = conversion a.conversion b.conversion s.conversion;
-  system = system a.system b.system s.system;
-  tail = tail a.tail b.tail s.tail;
-}
+vertical : Narrows parts_of_vertical
+unfolding parts_of_vertical
+vertical at a b s =
+    let d = dynamic (at ▸ step.Dynamic) a.dynamic b.dynamic s.1.0 in
+    let f = frame-of (at ▸ step.Datum) a.frame b.frame s.1.1.0 in
+    let y = system (at ▸ step.System) a.system b.system s.1.1.1.0 in
+    let g = set (SameGeoidModel levels.Full) (SameGeoidModel levels.Definition) geoid_model a.geoid_models b.geoid_models s.1.1.1.1.0 in
+    (s.0, (d, (f, (y, (g, tail at a.tail b.tail s.1.1.1.1.1)))))
 
-vertical : (a b : VerticalParts) → SameVertical levels.Full a b → SameVertical levels.Definition a b
-vertical a b s = record {
-  name = s.name;
-  dynamic = dynamics a.dynamic b.dynamic s.dynamic;
-  frame = frame-of a.frame b.frame s.frame;
-  system = system a.system b.system s.system;
-  geoid_models = set (SameGeoidModel levels.Full) (SameGeoidModel levels.Definition) geoid_model a.geoid_models b.geoid_models s.geoid_models;
-  tail = tail a.tail b.tail s.tail;
-}
+horizontal-of : Narrows parts_of_horizontal
+unfolding parts_of_horizontal
+horizontal-of at (horizontal.Geodetic a) (horizontal.Geodetic b) s = geodetic at a b s
+horizontal-of at (horizontal.Projected a) (horizontal.Projected b) s = projected at a b s
+horizontal-of at (horizontal.Geodetic a) (horizontal.Projected b) s = s
+horizontal-of at (horizontal.Projected a) (horizontal.Geodetic b) s = s
 
-horizontal-of : (a b : Horizontal) → SameHorizontal levels.Full a b → SameHorizontal levels.Definition a b
-horizontal-of (horizontal.Geodetic a) (horizontal.Geodetic b) s = geodetic a b s
-horizontal-of (horizontal.Projected a) (horizontal.Projected b) s = projected a b s
-horizontal-of a b s = absurd s
-
-compound : (a b : CompoundParts) → SameCompound levels.Full a b → SameCompound levels.Definition a b
-compound a b s = record {
-  name = s.name;
-  horizontal = horizontal-of a.horizontal b.horizontal s.horizontal;
-  vertical = vertical a.vertical b.vertical s.vertical;
-  tail = tail a.tail b.tail s.tail;
-}
-
-parts : (a b : Crs) → SameParts levels.Full a b → SameParts levels.Definition a b
-parts (crs.Geodetic a) (crs.Geodetic b) s = geodetic a b s
-parts (crs.Projected a) (crs.Projected b) s = projected a b s
-parts (crs.Vertical a) (crs.Vertical b) s = vertical a b s
-parts (crs.Compound a) (crs.Compound b) s = compound a b s
-parts a b s = absurd s
+compound : Narrows parts_of_compound
+unfolding parts_of_compound
+compound at a b s =
+    let h = horizontal-of (at ▸ step.Horizontal) a.horizontal b.horizontal s.1.0 in
+    let v = vertical (at ▸ step.Vertical) a.vertical b.vertical s.1.1.0 in
+    (s.0, (h, (v, tail at a.tail b.tail s.1.1.1)))
 
 pub same-by-definition : (a b : Crs) → SameCrs levels.Full a b → SameCrs levels.Definition a b
-same-by-definition a b s = record { kind = s.kind; parts = parts a b s.parts }
+unfolding SameCrs
+same-by-definition (crs.Geodetic a) (crs.Geodetic b) s = geodetic [] a b s
+same-by-definition (crs.Projected a) (crs.Projected b) s = projected [] a b s
+same-by-definition (crs.Vertical a) (crs.Vertical b) s = vertical [] a b s
+same-by-definition (crs.Compound a) (crs.Compound b) s = compound [] a b s
+same-by-definition a b s = absurd s

@@ -1,5 +1,5 @@
 -- What holds of the path to the first part that differs, since it holds of the path to each part.
-use Rattle.std.proofs.Common.{◌≡◌, ℕ, zero, suc, max, nat_le, ◌≤◌, ◌⊎◌, inl, inr, Bool, true, false, ◌&&◌, Option, Some, None, List, [], ◌∷◌, length, refl, sym, subst, arith}
+use Rattle.std.proofs.Common.{◌≡◌, ℕ, zero, suc, max, nat_le, ◌≤◌, ◌⊎◌, inl, inr, Bool, true, false, Option, Some, None, List, [], ◌∷◌, length, refl, sym, subst, arith}
 use Rattle.crs_value.specs.declared.values.compound.Horizontal.{Horizontal}
 use Rattle.crs_value.specs.declared.values.compound.Horizontal.TheVariants as horizontal
 use Rattle.crs_value.specs.declared.values.crs.Crs.{Crs}
@@ -12,18 +12,21 @@ use Rattle.crs_value.specs.CompoundValues.{CompoundParts}
 use Rattle.crs_value.specs.ConversionValues.{MethodParts, ConversionParts}
 use Rattle.crs_value.specs.CrsValues.{GeodeticParts, BaseParts, ProjectedParts, VerticalParts}
 use Rattle.crs_value.specs.DynamicValues.{DynamicParts}
+use Rattle.crs_value.specs.Kept.{kept, kept_one}
 use Rattle.crs_value.specs.Sound.{Each}
 use Rattle.crs_value.specs.Values.{IdentParts, AxisParts, EllipsoidParts, MeridianParts, DatumParts, EnsembleParts, SystemParts, TailParts}
 use Rattle.crs_same.specs.declared.step.Step.{Step}
 use Rattle.crs_same.specs.declared.step.Step.TheVariants as step
+use Rattle.crs_same.specs.Contents.{Content}
+use Rattle.crs_same.specs.Contents as content
 use Rattle.crs_same.specs.Definition.{IsOfDefinition}
 use Rattle.crs_same.specs.Parts.{◌▸◌, Parts, none, part, ◌⨾◌, First}
 use Rattle.crs_same.specs.PartsOfCrs.{parts_of_method, parts_of_conversion, parts_of_dynamic, parts_of_tail, parts_of_geodetic, parts_of_base, parts_of_projected, parts_of_vertical, parts_of_horizontal, parts_of_compound, parts_of_crs, FirstInCrs}
-use Rattle.crs_same.specs.PartsOfFrames.{parts_of_ellipsoid, parts_of_ellipsoids, parts_of_given, parts_beside_greenwich, parts_of_meridian, parts_of_datum, parts_of_ensemble, parts_of_frame}
+use Rattle.crs_same.specs.PartsOfFrames.{parts_of_ellipsoid, parts_of_ellipsoids, parts_of_given, parts_before_greenwich, parts_behind_greenwich, parts_of_meridian, parts_of_datum, parts_of_ensemble, parts_of_frame}
 use Rattle.crs_same.specs.PartsOfSystems.{parts_of_axis, parts_where, parts_of_axes, parts_of_system}
 use Rattle.crs_same.specs.SameIdents.{SameIdents}
 use Rattle.crs_same.specs.SameUnits.{HasNoIdents}
-use Rattle.crs_same.specs.SameUsages.{SameUsages, SameRemark}
+use Rattle.crs_same.specs.SameUsages.{usages_of, SameUsages, SameRemark}
 
 infixr 10 ◌⨟◌
 -- what is found has the property
@@ -48,24 +51,29 @@ nothing = record { some = λ path f. absurd (cc) }
 -- `Is` holds of the path to each node, and `P` of that to each part that counts
 module _ (level : Level) (Is P : List Step → Type 0)
     (on : (at : List Step) (s : Step) → IsOfDefinition s → Is at → Is (at ▸ s))
-    (each : (at : List Step) (s : Step) (Same : Type 0) → IsOfDefinition s ⊎ IsLeftOut level Same → Is at → Finds P (part (at ▸ s) Same)) where
-  one : {Same : Type 0} (at : List Step) (s : Step) → IsOfDefinition s → Is at → Finds P (part (at ▸ s) Same)
-  one {Same} at s counts is = each at s Same (inl counts) is
+    (each : (at : List Step) (s : Step) (Same : Type 0) (first second : Content) → IsOfDefinition s ⊎ IsLeftOut level Same → Is at →
+    Finds P (part (at ▸ s) Same first second)) where
+  one : {Same : Type 0} {first second : Content} (at : List Step) (s : Step) → IsOfDefinition s → Is at →
+      Finds P (part (at ▸ s) Same first second)
+  one {Same} {first} {second} at s counts is = each at s Same first second (inl counts) is
 
-  idents : (at : List Step) (xs ys : List IdentParts) → Is at → Finds P (part (at ▸ step.Id) (SameIdents level xs ys))
-  idents at xs ys is =
-      each at step.Id (SameIdents level xs ys) (inr (λ e. subst (λ l. SameIdents l xs ys) (sym e) (tt, tt))) is
+  idents : {first second : Content} (at : List Step) (xs ys : List IdentParts) → Is at →
+      Finds P (part (at ▸ step.Id) (SameIdents level xs ys) first second)
+  idents {first} {second} at xs ys is =
+      each at step.Id (SameIdents level xs ys) first second (inr (λ e. subst (λ l. SameIdents l xs ys) (sym e) (tt, tt))) is
 
-  no-idents : (at : List Step) (xs : List IdentParts) → Is at → Finds P (part (at ▸ step.Id) (HasNoIdents level xs))
-  no-idents at xs is = each at step.Id (HasNoIdents level xs) (inr (λ e. subst (λ l. HasNoIdents l xs) (sym e) refl)) is
+  no-idents : {first second : Content} (at : List Step) (xs : List IdentParts) → Is at →
+      Finds P (part (at ▸ step.Id) (HasNoIdents level xs) first second)
+  no-idents {first} {second} at xs is =
+      each at step.Id (HasNoIdents level xs) first second (inr (λ e. subst (λ l. HasNoIdents l xs) (sym e) refl)) is
 
   -- ---- dynamic parts
 
   dynamic : (at : List Step) (a b : Option DynamicParts) → Is at → Finds P (parts_of_dynamic at level a b)
   unfolding parts_of_dynamic
   dynamic at None None is = nothing
-  dynamic at None (Some b) is = one at step.Epoch tt is
-  dynamic at (Some a) None is = one at step.Epoch tt is
+  dynamic at None (Some b) is = one at step.Epoch tt is ⨟ one at step.Model tt is
+  dynamic at (Some a) None is = one at step.Epoch tt is ⨟ one at step.Model tt is
   dynamic at (Some a) (Some b) is = one at step.Epoch tt is ⨟ one at step.Model tt is
 
   -- ---- frames
@@ -85,14 +93,17 @@ module _ (level : Level) (Is P : List Step → Type 0)
   given at a b is =
       one at step.Name tt is ⨟ one at step.Longitude tt is ⨟ one at step.Unit tt is ⨟ idents at a.identifiers b.identifiers is
 
-  beside_greenwich : (at : List Step) (a : MeridianParts) → Is at → Finds P (parts_beside_greenwich at level a)
-  beside_greenwich at a is = one at step.Name tt is ⨟ one at step.Longitude tt is ⨟ no-idents at a.identifiers is
+  before_greenwich : (at : List Step) (a : MeridianParts) → Is at → Finds P (parts_before_greenwich at level a)
+  before_greenwich at a is = one at step.Name tt is ⨟ one at step.Longitude tt is ⨟ no-idents at a.identifiers is
+
+  behind_greenwich : (at : List Step) (b : MeridianParts) → Is at → Finds P (parts_behind_greenwich at level b)
+  behind_greenwich at b is = one at step.Name tt is ⨟ one at step.Longitude tt is ⨟ no-idents at b.identifiers is
 
   meridian : (at : List Step) (a b : Option MeridianParts) → Is at → Finds P (parts_of_meridian at level a b)
   unfolding parts_of_meridian
   meridian at None None is = nothing
-  meridian at None (Some b) is = beside_greenwich at b is
-  meridian at (Some a) None is = beside_greenwich at a is
+  meridian at None (Some b) is = behind_greenwich at b is
+  meridian at (Some a) None is = before_greenwich at a is
   meridian at (Some a) (Some b) is = given at a b is
 
   datum : (at : List Step) (a b : DatumParts) → Is at → Finds P (parts_of_datum at level a b)
@@ -110,7 +121,12 @@ module _ (level : Level) (Is P : List Step → Type 0)
   unfolding parts_of_frame
   frame-of at (frame.Datum a) (frame.Datum b) is = datum at a b is
   frame-of at (frame.Ensemble a) (frame.Ensemble b) is = ensemble at a b is
-  frame-of at a b is = one at step.Kind tt is
+  frame-of at (frame.Datum a) (frame.Ensemble b) is =
+      one at step.Kind tt is ⨟ one at step.Name tt is
+      ⨟ ellipsoids (at ▸ step.Ellipsoid) a.ellipsoid b.ellipsoid (on at step.Ellipsoid tt is) ⨟ idents at a.identifiers b.identifiers is
+  frame-of at (frame.Ensemble a) (frame.Datum b) is =
+      one at step.Kind tt is ⨟ one at step.Name tt is
+      ⨟ ellipsoids (at ▸ step.Ellipsoid) a.ellipsoid b.ellipsoid (on at step.Ellipsoid tt is) ⨟ idents at a.identifiers b.identifiers is
 
   -- ---- coordinate systems
 
@@ -120,19 +136,33 @@ module _ (level : Level) (Is P : List Step → Type 0)
       one at step.Name tt is ⨟ one at step.Direction tt is ⨟ one at step.Meridian tt is ⨟ one at step.Unit tt is
       ⨟ idents at x.identifiers y.identifiers is
 
-  where-both : (test : Bool) (at : List Step) (a b : SystemParts) (position : ℕ) → Is at → Finds P (parts_where test at level a b position)
-  where-both true at a b position is = record {
+  where-both : (in-a in-b : Bool) (at : List Step) (a b : SystemParts) (position : ℕ) → Is at →
+      Finds P (parts_where in-a in-b at level a b position)
+  where-both true true at a b position is = record {
     some = λ path found.
         let (axes, stand, first) = found in
         (axis (at ▸ step.Axis position) a b axes.0 axes.1 (on at (step.Axis position) tt is)).some path first;
   }
-  where-both false at a b position is = one (at ▸ step.Axis position) step.Name tt (on at (step.Axis position) tt is)
+  where-both true false at a b position is = record {
+    some = λ path found.
+        let (x, stands, first) = found in
+        let it : Finds P (part (at ▸ step.Axis position ▸ step.Name) ⊥ (content.text x.name) content.nothing) =
+        one (at ▸ step.Axis position) step.Name tt (on at (step.Axis position) tt is) in
+        it.some path first;
+  }
+  where-both false other at a b position is = record {
+    some = λ path found.
+        let (y, stands, first) = found in
+        let it : Finds P (part (at ▸ step.Axis position ▸ step.Name) ⊥ content.nothing (content.text y.name)) =
+        one (at ▸ step.Axis position) step.Name tt (on at (step.Axis position) tt is) in
+        it.some path first;
+  }
 
   axes : (at : List Step) (a b : SystemParts) (count : ℕ) → Is at → Finds P (parts_of_axes at level a b count)
   axes at a b zero is = nothing
   axes at a b (suc count) is =
       axes at a b count is
-      ⨟ where-both (nat_le (suc count) (length a.axes) && nat_le (suc count) (length b.axes)) at a b (suc count) is
+      ⨟ where-both (nat_le (suc count) (length a.axes)) (nat_le (suc count) (length b.axes)) at a b (suc count) is
 
   system : (at : List Step) (a b : SystemParts) → Is at → Finds P (parts_of_system at level a b)
   unfolding parts_of_system
@@ -156,9 +186,11 @@ module _ (level : Level) (Is P : List Step → Type 0)
   tail : (at : List Step) (a b : TailParts) → Is at → Finds P (parts_of_tail at level a b)
   unfolding parts_of_tail
   tail at a b is =
-      each at step.Usage (SameUsages level a b) (inr (λ e. subst (λ l. SameUsages l a b) (sym e) (tt, tt))) is
+      each at step.Usage (SameUsages level a b) (content.usages (kept level (usages_of a)) (kept level (usages_of b)))
+      (content.usages (kept level (usages_of b)) (kept level (usages_of a))) (inr (λ e. subst (λ l. SameUsages l a b) (sym e) (tt, tt))) is
       ⨟ idents at a.identifiers b.identifiers is
-      ⨟ each at step.Remark (SameRemark level a b) (inr (λ e. subst (λ l. SameRemark l a b) (sym e) refl)) is
+      ⨟ each at step.Remark (SameRemark level a b) (content.given content.text (kept_one level a.remark))
+      (content.given content.text (kept_one level b.remark)) (inr (λ e. subst (λ l. SameRemark l a b) (sym e) refl)) is
 
   geodetic : (at : List Step) (a b : GeodeticParts) → Is at → Finds P (parts_of_geodetic at level a b)
   unfolding parts_of_geodetic
@@ -220,9 +252,9 @@ some-step (x ∷ at) s = omega arith
 pub first-has-a-step : (level : Level) (a b : Crs) (path : List Step) → FirstInCrs level a b (Some path) → 1 ≤ length path
 first-has-a-step level a b = (first-in-crs level (λ at. Unit {0}) (λ path. 1 ≤ length path) (λ at s counts is. tt) each a b tt).some
   where
-    each : (at : List Step) (s : Step) (Same : Type 0) → IsOfDefinition s ⊎ IsLeftOut level Same → Unit {0} →
-        Finds (λ path. 1 ≤ length path) (part (at ▸ s) Same)
-    each at s Same counts is = record { some = λ path f. subst (λ p. 1 ≤ length p) (sym f.1) (some-step at s) }
+    each : (at : List Step) (s : Step) (Same : Type 0) (first second : Content) → IsOfDefinition s ⊎ IsLeftOut level Same → Unit {0} →
+        Finds (λ path. 1 ≤ length path) (part (at ▸ s) Same first second)
+    each at s Same first second counts is = record { some = λ path f. subst (λ p. 1 ≤ length p) (sym f.1) (some-step at s) }
 
 -- ---- by definition, each step counts
 
@@ -233,7 +265,7 @@ on (x ∷ at) s one all = (all.0, on at s one all.1)
 pub first-of-definition : (a b : Crs) (path : List Step) → FirstInCrs levels.Definition a b (Some path) → Each IsOfDefinition path
 first-of-definition a b = (first-in-crs levels.Definition (λ at. Each IsOfDefinition at) (λ path. Each IsOfDefinition path) on each a b tt).some
   where
-    each : (at : List Step) (s : Step) (Same : Type 0) → IsOfDefinition s ⊎ IsLeftOut levels.Definition Same → Each IsOfDefinition at →
-        Finds (λ path. Each IsOfDefinition path) (part (at ▸ s) Same)
-    each at s Same (inl counts) all = record { some = λ path f. subst (λ p. Each IsOfDefinition p) (sym f.1) (on at s counts all) }
-    each at s Same (inr same) all = record { some = λ path f. absurd (f.0 (same refl)) }
+    each : (at : List Step) (s : Step) (Same : Type 0) (first second : Content) → IsOfDefinition s ⊎ IsLeftOut levels.Definition Same →
+        Each IsOfDefinition at → Finds (λ path. Each IsOfDefinition path) (part (at ▸ s) Same first second)
+    each at s Same first second (inl counts) all = record { some = λ path f. subst (λ p. Each IsOfDefinition p) (sym f.1) (on at s counts all) }
+    each at s Same first second (inr same) all = record { some = λ path f. absurd (f.0 (same refl)) }

@@ -1,3 +1,4 @@
+mod AgreementLemmas
 mod AllSameLemmas
 mod AxisLemmas
 mod CountLemmas
@@ -15,5 +16,6 @@ mod SamenessOfFramesLemmas
 mod SamenessOfPartsLemmas
 mod SamenessOfSystemsLemmas
 mod SetLemmas
+mod SettledLemmas
 mod WalkedLemmas
 mod WordLemmas

@@ -33,6 +33,13 @@ in-words s there back = record {
   transitive = λ a b c p q. back a c (s.transitive a b c (there a b p) (there b c q));
 }
 
+-- where all parts are the same exactly where the values agree: of the former from the latter, and back
+pub same-as : {A : Type 0} {S R : A → A → Type 0} → ((a b : A) → S a b ↔ R a b) → IsSameness R → IsSameness S
+same-as is r = in-words r (λ a b. (is a b).0) (λ a b. (is a b).1)
+
+pub agree-as : {A : Type 0} {S R : A → A → Type 0} → ((a b : A) → S a b ↔ R a b) → IsSameness S → IsSameness R
+agree-as is s = in-words s (λ a b. (is a b).1) (λ a b. (is a b).0)
+
 -- ---- over the values that are so
 
 pub over : {A : Type 0} {P : A → Type 0} {R : A → A → Type 0} → IsSameness (λ (x y : (a : A) × P a). R x.0 y.0) →
@@ -50,6 +57,14 @@ of s = record {
   symmetric = λ x y. s.symmetric x.0 y.0 x.1 y.1;
   transitive = λ x y z. s.transitive x.0 y.0 z.0 x.1 y.1 z.1;
 }
+
+pub same-as-of : {A : Type 0} {P : A → Type 0} {S R : A → A → Type 0} → ((a b : A) → P a → P b → S a b ↔ R a b) →
+    IsSamenessOf P R → IsSamenessOf P S
+same-as-of is r = over (same-as (λ x y. is x.0 y.0 x.1 y.1) (of r))
+
+pub agree-as-of : {A : Type 0} {P : A → Type 0} {S R : A → A → Type 0} → ((a b : A) → P a → P b → S a b ↔ R a b) →
+    IsSamenessOf P S → IsSamenessOf P R
+agree-as-of is s = over (agree-as (λ x y. is x.0 y.0 x.1 y.1) (of s))
 
 -- ---- of what may be missing
 

@@ -11,20 +11,16 @@ use Rattle.crs_value.specs.SoundCrs.{IsCrs}
 use Rattle.crs_value.specs.SoundSingle.{IsGeodetic, IsProjected, IsVertical}
 use Rattle.crs_value.specs.SoundSystem.{IsSystem}
 use Rattle.crs_same.specs.Sameness.{IsSameness, IsSamenessOf}
-use Rattle.crs_same.specs.SameConversions.{SameConversion, SameGeoidModel}
-use Rattle.crs_same.specs.SameCrs.{SameGeodetic, SameBase, SameProjected, SameVertical, SameHorizontal, SameCompound}
-use Rattle.crs_same.specs.SameCrs.{IsHorizontalPart, SameParts, SameCrs}
-use Rattle.crs_same.specs.SameDynamic.{SameDynamic}
-use Rattle.crs_same.specs.SameFrames.{SameMeridian, SameFrame}
+use Rattle.crs_same.specs.Agreement.{AgreeConversion, AgreeGeodetic, AgreeBase, AgreeProjected, AgreeVertical, AgreeHorizontal, AgreeCompound, AgreeParts, AgreeCrs, AgreeDynamic, AgreeMeridian, AgreeFrame, AgreeSystem, AgreeTail}
+use Rattle.crs_same.specs.SameConversions.{SameGeoidModel}
+use Rattle.crs_same.specs.SameCrs.{IsHorizontalPart}
 use Rattle.crs_same.specs.SameIdents.{SameIdents}
-use Rattle.crs_same.specs.SameSystems.{SameSystem}
 use Rattle.crs_same.specs.SameUnits.{SameUnit}
-use Rattle.crs_same.specs.SameUsages.{SameTail}
 use Rattle.crs_same.proofs.SamenessLemmas.{equal-by, by, ◌⊗◌, in-words, over, of, optional, set}
 
-pub base : (level : Level) → IsSameness (SameDynamic level) → IsSameness (SameFrame level) → IsSameness (SameMeridian level) →
+pub base : (level : Level) → IsSameness (AgreeDynamic level) → IsSameness (AgreeFrame level) → IsSameness (AgreeMeridian level) →
     IsSameness (SameUnit kinds.Angle level) →
-    IsSameness (SameIdents level) → IsSameness (SameBase level)
+    IsSameness (SameIdents level) → IsSameness (AgreeBase level)
 base level dynamics frames meridians angle identifiers =
     in-words
     (equal-by (λ a. a.name) ⊗ by (λ a. a.dynamic) (optional dynamics) ⊗ by (λ a. a.frame) frames ⊗ by (λ a. a.meridian) meridians
@@ -39,9 +35,9 @@ base level dynamics frames meridians angle identifiers =
       identifiers = p.1.1.1.1.1;
     })
 
-module _ (level : Level) (systems : IsSamenessOf IsSystem (SameSystem level)) (ends : IsSameness (SameTail level)) where
-  pub geodetic : IsSameness (SameDynamic level) → IsSameness (SameFrame level) → IsSameness (SameMeridian level) →
-      IsSamenessOf IsGeodetic (SameGeodetic level)
+module _ (level : Level) (systems : IsSamenessOf IsSystem (AgreeSystem level)) (ends : IsSameness (AgreeTail level)) where
+  pub geodetic : IsSameness (AgreeDynamic level) → IsSameness (AgreeFrame level) → IsSameness (AgreeMeridian level) →
+      IsSamenessOf IsGeodetic (AgreeGeodetic level)
   geodetic dynamics frames meridians =
       over (in-words
       (equal-by (λ x. kind_by x.0.system.system_type) ⊗ equal-by (λ x. x.0.name)
@@ -58,8 +54,8 @@ module _ (level : Level) (systems : IsSamenessOf IsSystem (SameSystem level)) (e
         tail = p.1.1.1.1.1.1;
       }))
 
-  pub projected : IsSameness (SameBase level) → IsSameness (SameConversion level) →
-      IsSamenessOf IsProjected (SameProjected level)
+  pub projected : IsSameness (AgreeBase level) → IsSameness (AgreeConversion level) →
+      IsSamenessOf IsProjected (AgreeProjected level)
   projected bases conversions =
       over (in-words
       (equal-by (λ x. x.0.name) ⊗ by (λ x. x.0.base) bases ⊗ by (λ x. x.0.conversion) conversions
@@ -67,8 +63,8 @@ module _ (level : Level) (systems : IsSamenessOf IsSystem (SameSystem level)) (e
       (λ x y s. (s.name, (s.base, (s.conversion, (s.system, s.tail)))))
       (λ x y p. record { name = p.0; base = p.1.0; conversion = p.1.1.0; system = p.1.1.1.0; tail = p.1.1.1.1 }))
 
-  pub vertical : IsSameness (SameDynamic level) → IsSameness (SameFrame level) → IsSameness (SameGeoidModel level) →
-      IsSamenessOf IsVertical (SameVertical level)
+  pub vertical : IsSameness (AgreeDynamic level) → IsSameness (AgreeFrame level) → IsSameness (SameGeoidModel level) →
+      IsSamenessOf IsVertical (AgreeVertical level)
   vertical dynamics frames models =
       over (in-words
       (equal-by (λ x. x.0.name) ⊗ by (λ x. x.0.dynamic) (optional dynamics) ⊗ by (λ x. x.0.frame) frames ⊗ by (λ x. (x.0.system, x.1.system)) (of systems)
@@ -85,23 +81,23 @@ module _ (level : Level) (systems : IsSamenessOf IsSystem (SameSystem level)) (e
 
 -- ---- compounds
 
-pub horizontal-of : (level : Level) → IsSamenessOf IsGeodetic (SameGeodetic level) →
-    IsSamenessOf IsProjected (SameProjected level) →
-    IsSamenessOf IsHorizontalPart (SameHorizontal level)
+pub horizontal-of : (level : Level) → IsSamenessOf IsGeodetic (AgreeGeodetic level) →
+    IsSamenessOf IsProjected (AgreeProjected level) →
+    IsSamenessOf IsHorizontalPart (AgreeHorizontal level)
 horizontal-of level g p = record { reflexive = itself; symmetric = swapped; transitive = joined }
   where
-    itself : (a : Horizontal) → IsHorizontalPart a → SameHorizontal level a a
+    itself : (a : Horizontal) → IsHorizontalPart a → AgreeHorizontal level a a
     itself (horizontal.Geodetic a) is = g.reflexive a is
     itself (horizontal.Projected a) is = p.reflexive a is
 
-    swapped : (a b : Horizontal) → IsHorizontalPart a → IsHorizontalPart b → SameHorizontal level a b →
-        SameHorizontal level b a
+    swapped : (a b : Horizontal) → IsHorizontalPart a → IsHorizontalPart b → AgreeHorizontal level a b →
+        AgreeHorizontal level b a
     swapped (horizontal.Geodetic a) (horizontal.Geodetic b) x y s = g.symmetric a b x y s
     swapped (horizontal.Projected a) (horizontal.Projected b) x y s = p.symmetric a b x y s
     swapped a b x y s = absurd s
 
     joined : (a b c : Horizontal) → IsHorizontalPart a → IsHorizontalPart b → IsHorizontalPart c →
-        SameHorizontal level a b → SameHorizontal level b c → SameHorizontal level a c
+        AgreeHorizontal level a b → AgreeHorizontal level b c → AgreeHorizontal level a c
     joined (horizontal.Geodetic a) (horizontal.Geodetic b) (horizontal.Geodetic c) x y z s t =
         g.transitive a b c x y z s t
     joined (horizontal.Projected a) (horizontal.Projected b) (horizontal.Projected c) x y z s t =
@@ -114,9 +110,9 @@ horizontal-part : (a : Horizontal) → IsHorizontal a → IsHorizontalPart a
 horizontal-part (horizontal.Geodetic a) is = is.0
 horizontal-part (horizontal.Projected a) is = is.0
 
-pub compound : (level : Level) → IsSamenessOf IsHorizontalPart (SameHorizontal level) →
-    IsSamenessOf IsVertical (SameVertical level) →
-    IsSameness (SameTail level) → IsSamenessOf IsCompound (SameCompound level)
+pub compound : (level : Level) → IsSamenessOf IsHorizontalPart (AgreeHorizontal level) →
+    IsSamenessOf IsVertical (AgreeVertical level) →
+    IsSameness (AgreeTail level) → IsSamenessOf IsCompound (AgreeCompound level)
 compound level horizontals verticals ends =
     over (in-words
     (equal-by (λ x. x.0.name)
@@ -128,26 +124,26 @@ compound level horizontals verticals ends =
 -- ---- of each kind
 
 module _ (level : Level)
-    (g : IsSamenessOf IsGeodetic (SameGeodetic level)) (p : IsSamenessOf IsProjected (SameProjected level))
-    (v : IsSamenessOf IsVertical (SameVertical level)) (c : IsSamenessOf IsCompound (SameCompound level)) where
-  parts : IsSamenessOf IsCrs (SameParts level)
+    (g : IsSamenessOf IsGeodetic (AgreeGeodetic level)) (p : IsSamenessOf IsProjected (AgreeProjected level))
+    (v : IsSamenessOf IsVertical (AgreeVertical level)) (c : IsSamenessOf IsCompound (AgreeCompound level)) where
+  parts : IsSamenessOf IsCrs (AgreeParts level)
   parts = record { reflexive = itself; symmetric = swapped; transitive = joined }
     where
-      itself : (a : Crs) → IsCrs a → SameParts level a a
+      itself : (a : Crs) → IsCrs a → AgreeParts level a a
       itself (crs.Geodetic a) is = g.reflexive a is
       itself (crs.Projected a) is = p.reflexive a is
       itself (crs.Vertical a) is = v.reflexive a is
       itself (crs.Compound a) is = c.reflexive a is
 
-      swapped : (a b : Crs) → IsCrs a → IsCrs b → SameParts level a b → SameParts level b a
+      swapped : (a b : Crs) → IsCrs a → IsCrs b → AgreeParts level a b → AgreeParts level b a
       swapped (crs.Geodetic a) (crs.Geodetic b) x y s = g.symmetric a b x y s
       swapped (crs.Projected a) (crs.Projected b) x y s = p.symmetric a b x y s
       swapped (crs.Vertical a) (crs.Vertical b) x y s = v.symmetric a b x y s
       swapped (crs.Compound a) (crs.Compound b) x y s = c.symmetric a b x y s
       swapped a b x y s = absurd s
 
-      joined : (a b d : Crs) → IsCrs a → IsCrs b → IsCrs d → SameParts level a b → SameParts level b d →
-          SameParts level a d
+      joined : (a b d : Crs) → IsCrs a → IsCrs b → IsCrs d → AgreeParts level a b → AgreeParts level b d →
+          AgreeParts level a d
       joined (crs.Geodetic a) (crs.Geodetic b) (crs.Geodetic d) x y z s t = g.transitive a b d x y z s t
       joined (crs.Projected a) (crs.Projected b) (crs.Projected d) x y z s t = p.transitive a b d x y z s t
       joined (crs.Vertical a) (crs.Vertical b) (crs.Vertical d) x y z s t = v.transitive a b d x y z s t
@@ -158,7 +154,7 @@ module _ (level : Level)
       joined (crs.Compound a) (crs.Compound b) d x y z s t = absurd t
       joined a b d x y z s t = absurd s
 
-  pub crs-of : IsSamenessOf IsCrs (SameCrs level)
+  pub crs-of : IsSamenessOf IsCrs (AgreeCrs level)
   crs-of =
       over (in-words (equal-by (λ x. kind_of x.0) ⊗ of parts)
       (λ x y s. (s.kind, s.parts))

@@ -1,7 +1,8 @@
 -- The sameness of dynamic parts.
 use Rattle.crs_value.specs.declared.values.level.Level.{Level}
 use Rattle.crs_same.specs.Sameness.{IsSameness}
-use Rattle.crs_same.specs.SameDynamic.{SameDeformationModel, SameDynamic}
+use Rattle.crs_same.specs.Agreement.{AgreeDynamic}
+use Rattle.crs_same.specs.SameDynamic.{SameDeformationModel}
 use Rattle.crs_same.specs.SameIdents.{SameIdents}
 use Rattle.crs_same.specs.SameUnits.{SameValue}
 use Rattle.crs_same.proofs.SamenessLemmas.{equal-by, by, ◌⊗◌, in-words, optional}
@@ -12,7 +13,7 @@ deformation_model level identifiers =
     (λ a b s. (s.name, s.identifiers))
     (λ a b p. record { name = p.0; identifiers = p.1 })
 
-pub dynamic : (level : Level) → IsSameness SameValue → IsSameness (SameDeformationModel level) → IsSameness (SameDynamic level)
+pub dynamic : (level : Level) → IsSameness SameValue → IsSameness (SameDeformationModel level) → IsSameness (AgreeDynamic level)
 dynamic level number model =
     in-words (by (λ a. a.epoch) number ⊗ by (λ a. a.model) (optional model))
     (λ a b s. (s.epoch, s.model))

@@ -6,8 +6,8 @@ use Rattle.crs_value.specs.declared.values.level.Level.{Level}
 use Rattle.crs_value.specs.declared.values.unit_kind.UnitKind.TheVariants as kinds
 use Rattle.crs_value.specs.Values.{MeridianParts}
 use Rattle.crs_same.specs.Sameness.{IsSameness}
-use Rattle.crs_same.specs.SameFrames.{SameEllipsoid, IsZero, IsGreenwich, SameGiven, SameMeridian, SameMember}
-use Rattle.crs_same.specs.SameFrames.{SameDatum, SameEnsemble, SameFrame}
+use Rattle.crs_same.specs.Agreement.{AgreeEllipsoid, IsGreenwich, AgreeGiven, AgreeMeridian, AgreeDatum, AgreeEnsemble, AgreeFrame}
+use Rattle.crs_same.specs.SameFrames.{IsZero, SameMember}
 use Rattle.crs_same.specs.SameIdents.{SameIdents}
 use Rattle.crs_same.specs.SameUnits.{SameValue, SameUnit, SameLength}
 use Rattle.crs_same.specs.Sets.{BothOrNeither}
@@ -15,7 +15,7 @@ use Rattle.crs_same.proofs.SamenessLemmas.{equal-by, by, ◌⊗◌, in-words, op
 use Rattle.crs_same.proofs.SamenessOfPartsLemmas.{whole, none-beside-none, none-alike}
 
 pub ellipsoid : (level : Level) → IsSameness SameValue → IsSameness (SameLength level) → IsSameness (SameIdents level) →
-    IsSameness (SameEllipsoid level)
+    IsSameness (AgreeEllipsoid level)
 ellipsoid level number long identifiers =
     in-words
     (equal-by (λ a. a.name) ⊗ by (λ a. a.semi_major_axis) number ⊗ by (λ a. a.inverse_flattening) number
@@ -73,20 +73,20 @@ module _ (level : Level) (number : IsSameness SameValue) (angle : IsSameness (Sa
     );
   }
 
-  pub given : IsSameness (SameIdents level) → IsSameness (SameGiven level)
+  pub given : IsSameness (SameIdents level) → IsSameness (AgreeGiven level)
   given identifiers =
       in-words (equal-by (λ a. a.name) ⊗ same-angle ⊗ by (λ a. a.identifiers) identifiers)
       (λ a b s. (s.name, ((s.longitude, s.unit), s.identifiers)))
       (λ a b p. record { name = p.0; longitude = p.1.0.0; unit = p.1.0.1; identifiers = p.1.1 })
 
-  greenwich-beside-greenwich : (a b : MeridianParts) → IsGreenwich level a → SameGiven level a b → IsGreenwich level b
+  greenwich-beside-greenwich : (a b : MeridianParts) → IsGreenwich level a → AgreeGiven level a b → IsGreenwich level b
   greenwich-beside-greenwich a b g s = record {
     name = sym s.name ∙ g.name;
     longitude = zero-beside-zero a b s.longitude g.longitude;
     identifiers = none-beside-none level a.identifiers b.identifiers g.identifiers s.identifiers;
   }
 
-  greenwiches-alike : (a b : MeridianParts) → IsGreenwich level a → IsGreenwich level b → SameGiven level a b
+  greenwiches-alike : (a b : MeridianParts) → IsGreenwich level a → IsGreenwich level b → AgreeGiven level a b
   greenwiches-alike a b g h = record {
     name = g.name ∙ sym h.name;
     longitude = zeros-alike a b g.longitude h.longitude;
@@ -94,9 +94,9 @@ module _ (level : Level) (number : IsSameness SameValue) (angle : IsSameness (Sa
     identifiers = none-alike level a.identifiers b.identifiers g.identifiers h.identifiers;
   }
 
-  pub meridian : IsSameness (SameIdents level) → IsSameness (SameMeridian level)
+  pub meridian : IsSameness (SameIdents level) → IsSameness (AgreeMeridian level)
   meridian identifiers =
-      with-default (IsGreenwich level) (SameMeridian level) (given identifiers) greenwich-beside-greenwich greenwiches-alike
+      with-default (IsGreenwich level) (AgreeMeridian level) (given identifiers) greenwich-beside-greenwich greenwiches-alike
       tt (λ b. (λ h. h, λ h. h)) (λ a. (λ h. h, λ h. h)) (λ a b. (λ h. h, λ h. h))
 
 -- ---- frames
@@ -107,8 +107,8 @@ member level identifiers =
     (λ a b s. (s.name, s.identifiers))
     (λ a b p. record { name = p.0; identifiers = p.1 })
 
-pub datum : (level : Level) → IsSameness SameValue → IsSameness (SameEllipsoid level) → IsSameness (SameIdents level) →
-    IsSameness (SameDatum level)
+pub datum : (level : Level) → IsSameness SameValue → IsSameness (AgreeEllipsoid level) → IsSameness (SameIdents level) →
+    IsSameness (AgreeDatum level)
 datum level number round identifiers =
     in-words
     (equal-by (λ a. a.name) ⊗ by (λ a. a.ellipsoid) (optional round) ⊗ equal-by (λ a. a.anchor)
@@ -117,8 +117,8 @@ datum level number round identifiers =
     (λ a b p. record { name = p.0; ellipsoid = p.1.0; anchor = p.1.1.0; anchor_epoch = p.1.1.1.0; identifiers = p.1.1.1.1 })
 
 pub ensemble : (level : Level) → IsSameness SameValue → IsSameness (SameMember level) →
-    IsSameness (SameEllipsoid level) →
-    IsSameness (SameIdents level) → IsSameness (SameEnsemble level)
+    IsSameness (AgreeEllipsoid level) →
+    IsSameness (SameIdents level) → IsSameness (AgreeEnsemble level)
 ensemble level number one round identifiers =
     in-words
     (equal-by (λ a. a.name) ⊗ by (λ a. a.members) (set one) ⊗ by (λ a. a.ellipsoid) (optional round)
@@ -126,20 +126,20 @@ ensemble level number one round identifiers =
     (λ a b s. (s.name, (s.members, (s.ellipsoid, (s.accuracy, s.identifiers)))))
     (λ a b p. record { name = p.0; members = p.1.0; ellipsoid = p.1.1.0; accuracy = p.1.1.1.0; identifiers = p.1.1.1.1 })
 
-pub frame-of : (level : Level) → IsSameness (SameDatum level) → IsSameness (SameEnsemble level) →
-    IsSameness (SameFrame level)
+pub frame-of : (level : Level) → IsSameness (AgreeDatum level) → IsSameness (AgreeEnsemble level) →
+    IsSameness (AgreeFrame level)
 frame-of level d e = record { reflexive = itself; symmetric = swapped; transitive = joined }
   where
-    itself : (a : Frame) → SameFrame level a a
+    itself : (a : Frame) → AgreeFrame level a a
     itself (frame.Datum a) = d.reflexive a
     itself (frame.Ensemble a) = e.reflexive a
 
-    swapped : (a b : Frame) → SameFrame level a b → SameFrame level b a
+    swapped : (a b : Frame) → AgreeFrame level a b → AgreeFrame level b a
     swapped (frame.Datum a) (frame.Datum b) s = d.symmetric a b s
     swapped (frame.Ensemble a) (frame.Ensemble b) s = e.symmetric a b s
     swapped a b s = absurd s
 
-    joined : (a b c : Frame) → SameFrame level a b → SameFrame level b c → SameFrame level a c
+    joined : (a b c : Frame) → AgreeFrame level a b → AgreeFrame level b c → AgreeFrame level a c
     joined (frame.Datum a) (frame.Datum b) (frame.Datum c) s t = d.transitive a b c s t
     joined (frame.Ensemble a) (frame.Ensemble b) (frame.Ensemble c) s t = e.transitive a b c s t
     joined (frame.Datum a) (frame.Datum b) c s t = absurd t

@@ -10,11 +10,12 @@ use Rattle.crs_value.specs.declared.values.unit_kind.UnitKind.TheVariants as kin
 use Rattle.crs_value.specs.Kept.{kept, kept_one}
 use Rattle.crs_value.specs.Values.{IdentParts, UnitParts}
 use Rattle.crs_same.specs.Sameness.{IsSameness}
-use Rattle.crs_same.specs.SameConversions.{SameMethod, SameParameter, SameConversion, SameGeoidModel}
+use Rattle.crs_same.specs.Agreement.{AgreeMethod, AgreeConversion, AgreeTail}
+use Rattle.crs_same.specs.SameConversions.{SameParameter, SameGeoidModel}
 use Rattle.crs_same.specs.SameIdents.{SameIdent, SameIdents}
 use Rattle.crs_same.specs.SameUnits.{SameValue, SameUnit, SameLength, IsMetre, HasNoIdents, kind_as}
 use Rattle.crs_same.specs.Sets.{SameSet}
-use Rattle.crs_same.specs.SameUsages.{SameBox, SameExtent, SameUsage, SameUsages, SameRemark, SameTail, usages_of}
+use Rattle.crs_same.specs.SameUsages.{SameBox, SameExtent, SameUsage, SameUsages, SameRemark, usages_of}
 use Rattle.crs_same.proofs.SamenessLemmas.{equal-by, by, ◌⊗◌, in-words, optional, with-default, set}
 
 pub value : IsSameness SameNumber → IsSameness SameValue
@@ -92,7 +93,7 @@ module _ (level : Level) (number : IsSameness SameValue) where
 
 -- ---- conversions and geoid models
 
-pub method : (level : Level) → IsSameness (SameIdents level) → IsSameness (SameMethod level)
+pub method : (level : Level) → IsSameness (SameIdents level) → IsSameness (AgreeMethod level)
 method level identifiers =
     in-words (equal-by (λ a. a.name) ⊗ by (λ a. a.identifiers) identifiers)
     (λ a b s. (s.name, s.identifiers))
@@ -106,9 +107,9 @@ parameter level number one identifiers =
     (λ a b s. (s.name, (s.value, (s.unit, s.identifiers))))
     (λ a b p. record { name = p.0; value = p.1.0; unit = p.1.1.0; identifiers = p.1.1.1 })
 
-pub conversion : (level : Level) → IsSameness (SameMethod level) → IsSameness (SameParameter level) →
+pub conversion : (level : Level) → IsSameness (AgreeMethod level) → IsSameness (SameParameter level) →
     IsSameness (SameIdents level) →
-    IsSameness (SameConversion level)
+    IsSameness (AgreeConversion level)
 conversion level how one identifiers =
     in-words (equal-by (λ a. a.name) ⊗ by (λ a. a.method) how ⊗ by (λ a. a.parameters) (set one) ⊗ by (λ a. a.identifiers) identifiers)
     (λ a b s. (s.name, (s.method, (s.parameters, s.identifiers))))
@@ -148,7 +149,7 @@ usages level one = by (λ t. kept level (usages_of t)) (set one)
 remark : (level : Level) → IsSameness (SameRemark level)
 remark level = equal-by (λ a. kept_one level a.remark)
 
-pub tail : (level : Level) → IsSameness SameUsage → IsSameness (SameIdents level) → IsSameness (SameTail level)
+pub tail : (level : Level) → IsSameness SameUsage → IsSameness (SameIdents level) → IsSameness (AgreeTail level)
 tail level one identifiers =
     in-words (usages level one ⊗ by (λ a. a.identifiers) identifiers ⊗ remark level)
     (λ a b s. (s.usages, (s.identifiers, s.remark)))

@@ -9,8 +9,8 @@ use Rattle.crs_value.specs.SoundSystem.{IsSystem}
 use Rattle.crs_value.specs.Values.{UnitParts, AxisParts, SystemParts}
 use Rattle.crs_same.specs.Sameness.{IsSameness, IsSamenessOf}
 use Rattle.crs_same.specs.SameIdents.{SameIdents}
-use Rattle.crs_same.specs.SameSystems.{SameAxisMeridian, own_or, SameAxisIn, SameAxis, SameAxisAlone, HasAt, SameAxes}
-use Rattle.crs_same.specs.SameSystems.{SameSystem}
+use Rattle.crs_same.specs.Agreement.{AgreeAxisIn, AgreeAxis, AgreeAxes, AgreeSystem}
+use Rattle.crs_same.specs.SameSystems.{SameAxisMeridian, own_or, SameAxisAlone, HasAt}
 use Rattle.crs_same.specs.SameUnits.{SameValue, SameUnit}
 use Rattle.crs_same.proofs.AxisLemmas.{which, at-both, which-both}
 use Rattle.crs_same.proofs.SamenessLemmas.{equal-by, by, ◌⊗◌, in-words, optional}
@@ -27,7 +27,7 @@ axis-meridian level number angle =
 module _ (level : Level) (along : IsSameness (SameAxisMeridian level)) (identifiers : IsSameness (SameIdents level)) where
   -- of axes with their units
   axis-in : (asked : UnitKind) → IsSameness (SameUnit asked level) →
-      IsSameness (λ (x y : AxisParts × Option UnitParts). SameAxisIn asked level x.0 y.0 x.1 y.1)
+      IsSameness (λ (x y : AxisParts × Option UnitParts). AgreeAxisIn asked level x.0 y.0 x.1 y.1)
   axis-in asked unit =
       in-words
       (equal-by (λ x. x.0.name) ⊗ equal-by (λ x. x.0.direction) ⊗ by (λ x. x.0.meridian) (optional along)
@@ -37,35 +37,44 @@ module _ (level : Level) (along : IsSameness (SameAxisMeridian level)) (identifi
 
   pub axis-alone : IsSameness SameValue → IsSameness (SameUnit kinds.Plain level) → IsSameness (SameAxisAlone level)
   axis-alone number one =
-      in-words (by (λ a. (a, a.unit)) (axis-in kinds.Plain one) ⊗ by (λ a. a.order) (optional number))
-      (λ a b s. (s.axis, s.order))
-      (λ a b p. record { axis = p.0; order = p.1 })
+      in-words
+      (equal-by (λ a. a.name) ⊗ equal-by (λ a. a.direction) ⊗ by (λ a. a.meridian) (optional along)
+      ⊗ by (λ a. a.order) (optional number) ⊗ by (λ a. a.unit) (optional one) ⊗ by (λ a. a.identifiers) identifiers)
+      (λ a b s. (s.name, (s.direction, (s.meridian, (s.order, (s.unit, s.identifiers))))))
+      (λ a b p. record {
+        name = p.0;
+        direction = p.1.0;
+        meridian = p.1.1.0;
+        order = p.1.1.1.0;
+        unit = p.1.1.1.1.0;
+        identifiers = p.1.1.1.1.1;
+      })
 
 module _ (level : Level) (along : IsSameness (SameAxisMeridian level)) (identifiers : IsSameness (SameIdents level))
     (units : (asked : UnitKind) → IsSameness (SameUnit asked level)) where
   axes-in : (asked : UnitKind) →
-      IsSameness (λ (x y : AxisParts × Option UnitParts). SameAxisIn asked level x.0 y.0 x.1 y.1)
+      IsSameness (λ (x y : AxisParts × Option UnitParts). AgreeAxisIn asked level x.0 y.0 x.1 y.1)
   axes-in asked = axis-in level along identifiers asked (units asked)
 
-  axis-itself : (a : SystemParts) (x : AxisParts) → SameAxis level a a x x
-  unfolding SameAxis
+  axis-itself : (a : SystemParts) (x : AxisParts) → AgreeAxis level a a x x
+  unfolding AgreeAxis
   axis-itself a x = (axes-in (asked_kind a.system_type x.direction)).reflexive (x, own_or x.unit a.unit)
 
-  axis-swapped : (a b : SystemParts) (x y : AxisParts) → a.system_type ≡ b.system_type → SameAxis level a b x y →
-      SameAxis level b a y x
-  unfolding SameAxis
+  axis-swapped : (a b : SystemParts) (x y : AxisParts) → a.system_type ≡ b.system_type → AgreeAxis level a b x y →
+      AgreeAxis level b a y x
+  unfolding AgreeAxis
   axis-swapped a b x y e s =
-      subst (λ asked. SameAxisIn asked level y x (own_or y.unit b.unit) (own_or x.unit a.unit))
+      subst (λ asked. AgreeAxisIn asked level y x (own_or y.unit b.unit) (own_or x.unit a.unit))
       (ap (λ t. asked_kind t x.direction) e ∙ ap (asked_kind b.system_type) s.direction)
       ((axes-in (asked_kind a.system_type x.direction)).symmetric (x, own_or x.unit a.unit) (y, own_or y.unit b.unit) s)
 
-  axis-joined : (a b c : SystemParts) (x y z : AxisParts) → a.system_type ≡ b.system_type → SameAxis level a b x y →
-      SameAxis level b c y z → SameAxis level a c x z
-  unfolding SameAxis
+  axis-joined : (a b c : SystemParts) (x y z : AxisParts) → a.system_type ≡ b.system_type → AgreeAxis level a b x y →
+      AgreeAxis level b c y z → AgreeAxis level a c x z
+  unfolding AgreeAxis
   axis-joined a b c x y z e s t =
       (axes-in (asked_kind a.system_type x.direction)).transitive (x, own_or x.unit a.unit) (y, own_or y.unit b.unit)
       (z, own_or z.unit c.unit) s
-      (subst (λ asked. SameAxisIn asked level y z (own_or y.unit b.unit) (own_or z.unit c.unit))
+      (subst (λ asked. AgreeAxisIn asked level y z (own_or y.unit b.unit) (own_or z.unit c.unit))
       (sym (ap (λ t. asked_kind t x.direction) e ∙ ap (asked_kind b.system_type) s.direction)) t)
 
   -- ---- coordinate systems
@@ -77,31 +86,31 @@ module _ (level : Level) (along : IsSameness (SameAxisMeridian level)) (identifi
       HasAt position (λ axis. axis ≡ x) 1 a.axes → HasAt position (λ axis. axis ≡ y) 1 a.axes → x ≡ y)
       (as-many : (a b : SystemParts) → IsSystem a → IsSystem b → SameValue a.dimension b.dimension →
       length a.axes ≡ length b.axes) where
-    axes-themselves : (a : SystemParts) → IsSystem a → SameAxes level a a
+    axes-themselves : (a : SystemParts) → IsSystem a → AgreeAxes level a a
     axes-themselves a is position first last =
         let w = which (λ axis. ⊤) position 1 a.axes (some a is position first last) in
-        at-both (λ x y. SameAxis level a a x y) position a.axes a.axes w.0 w.0 w.2 w.2 (axis-itself a w.0)
+        at-both (λ x y. AgreeAxis level a a x y) position a.axes a.axes w.0 w.0 w.2 w.2 (axis-itself a w.0)
 
-    axes-swapped : (a b : SystemParts) → IsSystem a → IsSystem b → SameSystem level a b → SameAxes level b a
+    axes-swapped : (a b : SystemParts) → IsSystem a → IsSystem b → AgreeSystem level a b → AgreeAxes level b a
     axes-swapped a b is-a is-b s position first last =
         let equal : length b.axes ≡ length a.axes = sym (as-many a b is-a is-b s.dimension) in
         let within : position ≤ length a.axes = subst (λ n. position ≤ n) equal last in
-        let w = which-both (λ x y. SameAxis level a b x y) position a.axes b.axes (s.axes position first within) in
-        at-both (λ y x. SameAxis level b a y x) position b.axes a.axes w.1 w.0 w.4 w.3
+        let w = which-both (λ x y. AgreeAxis level a b x y) position a.axes b.axes (s.axes position first within) in
+        at-both (λ y x. AgreeAxis level b a y x) position b.axes a.axes w.1 w.0 w.4 w.3
         (axis-swapped a b w.0 w.1 s.system_type w.2)
 
-    axes-joined : (a b c : SystemParts) → IsSystem a → IsSystem b → SameSystem level a b → SameSystem level b c →
-        SameAxes level a c
+    axes-joined : (a b c : SystemParts) → IsSystem a → IsSystem b → AgreeSystem level a b → AgreeSystem level b c →
+        AgreeAxes level a c
     axes-joined a b c is-a is-b s t position first last =
         let within : position ≤ length b.axes = subst (λ n. position ≤ n) (as-many a b is-a is-b s.dimension) last in
-        let v = which-both (λ x y. SameAxis level a b x y) position a.axes b.axes (s.axes position first last) in
-        let w = which-both (λ y z. SameAxis level b c y z) position b.axes c.axes (t.axes position first within) in
+        let v = which-both (λ x y. AgreeAxis level a b x y) position a.axes b.axes (s.axes position first last) in
+        let w = which-both (λ y z. AgreeAxis level b c y z) position b.axes c.axes (t.axes position first within) in
         let equal : v.1 ≡ w.0 = one b is-b position v.1 w.0 v.4 w.3 in
-        let same : SameAxis level a b v.0 w.0 = subst (λ y. SameAxis level a b v.0 y) equal v.2 in
-        at-both (λ x z. SameAxis level a c x z) position a.axes c.axes v.0 w.1 v.3 w.4
+        let same : AgreeAxis level a b v.0 w.0 = subst (λ y. AgreeAxis level a b v.0 y) equal v.2 in
+        at-both (λ x z. AgreeAxis level a c x z) position a.axes c.axes v.0 w.1 v.3 w.4
         (axis-joined a b c v.0 w.0 w.1 s.system_type same w.2)
 
-    pub system : IsSamenessOf IsSystem (SameSystem level)
+    pub system : IsSamenessOf IsSystem (AgreeSystem level)
     system = record {
       reflexive = λ a is. record {
         system_type = refl;

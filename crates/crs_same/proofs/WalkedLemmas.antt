@@ -1,13 +1,14 @@
 -- What a walk over parts finds, from what it finds over each.
-use Rattle.std.proofs.Common.{◌≡◌, ◌++◌, ◌↔◌, inl, inr, Option, Some, None, List, [], ◌∷◌, Bool, true, false, IsTrue, refl, sym, subst, ap, ◌∙◌, append_assoc, append-nil}
+use Rattle.std.proofs.Common.{◌≡◌, ℕ, suc, ◌+◌, arith, ◌++◌, ◌↔◌, inl, inr, Option, Some, None, List, [], ◌∷◌, refl, sym, subst, ap, ◌∙◌, append_assoc, append-nil}
+use Rattle.crs_value.specs.declared.values.level.Level.{Level}
+use Rattle.crs_value.specs.Values.{SystemParts}
 use Rattle.crs_same.specs.declared.found.Found.{Found}
 use Rattle.crs_same.specs.declared.found.Found.TheVariants as found
 use Rattle.crs_same.specs.declared.step.Step.{Step}
+use Rattle.crs_same.specs.Contents.{Content}
 use Rattle.crs_same.specs.Parts.{Parts, none, part, ◌⨾◌, within, First}
-use Rattle.crs_same.specs.Walked.{IsDone, IsRefused, Walks, TellsOf, Tells, Told, Walked}
-
-never : IsTrue false → ⊥
-never h = cc
+use Rattle.crs_same.specs.PartsOfSystems.{parts_at, parts_of_axes}
+use Rattle.crs_same.specs.Walked.{IsDone, IsRefused, Walks, TellsOf, Told, Walked}
 
 -- over no part
 walks-none : (old : Found) → Walks none old old
@@ -23,25 +24,22 @@ walks-done parts (found.First (Some path)) done = refl
 walks-done parts (found.All paths) done = absurd done
 walks-done parts (found.Refused error) done = refl
 
--- over one part
-walks-part : (path : List Step) (Same : Type 0) (same : Bool) (old new : Found) → (IsTrue same ↔ Same) → Tells path same old new →
-    Walks (part path Same) old new
-walks-part path Same true (found.First None) new is told = (None, told, is.0 refl)
-walks-part path Same true (found.First (Some before)) new is told = told
-walks-part path Same true (found.All paths) new is told = inr ([], told ∙ ap found.All (sym (append-nil paths)), is.0 refl)
-walks-part path Same true (found.Refused error) new is told = told
-walks-part path Same false (found.First None) new is (inl done) = absurd done.0
-walks-part path Same false (found.First None) new is (inr tells) = (Some path, tells.1, ((λ same. never (is.1 same)), refl))
-walks-part path Same false (found.First (Some before)) new is (inl done) = done.1
-walks-part path Same false (found.First (Some before)) new is (inr tells) = absurd (tells.0 tt)
-walks-part path Same false (found.All paths) new is (inl done) = absurd done.0
-walks-part path Same false (found.All paths) new is (inr tells) = told tells.1
-  where
-    told : TellsOf path (found.All paths) new → Walks (part path Same) (found.All paths) new
-    told (inl refused) = inl refused
-    told (inr more) = inr (path ∷ [], more, ((λ same. never (is.1 same)), refl, refl))
-walks-part path Same false (found.Refused error) new is (inl done) = done.1
-walks-part path Same false (found.Refused error) new is (inr tells) = absurd tells.1
+-- over one part that is the same in both
+walks-same : (path : List Step) (Same : Type 0) (first second : Content) (old : Found) → Same → Walks (part path Same first second) old old
+walks-same path Same first second (found.First None) same = (None, refl, same)
+walks-same path Same first second (found.First (Some before)) same = refl
+walks-same path Same first second (found.All before) same = inr ([], ap found.All (sym (append-nil before)), same)
+walks-same path Same first second (found.Refused error) same = refl
+
+-- over one part that differs
+walks-told : (path : List Step) (Same : Type 0) (first second : Content) (old new : Found) → ¬ Same → ¬ IsDone old →
+    TellsOf (record { path = path; first = first; second = second }) old new → Walks (part path Same first second) old new
+walks-told path Same first second (found.First None) new differs more told = (Some path, told, (differs, refl))
+walks-told path Same first second (found.First (Some before)) new differs more told = absurd (more tt)
+walks-told path Same first second (found.All before) new differs more (inl refused) = inl refused
+walks-told path Same first second (found.All before) new differs more (inr told) =
+    inr (record { path = path; first = first; second = second } ∷ [], told, (differs, refl, refl))
+walks-told path Same first second (found.Refused error) new differs more told = absurd told
 
 -- over these parts and others
 walks-both : (these others : Parts) (old between new : Found) → Walks these old between → Walks others between new →
@@ -88,13 +86,13 @@ pub ◌⟫◌ : {these others : Parts} {old between new : Found} → Walked thes
 pub via : {these others : Parts} {old new : Found} (between : Found) → Walked these old between → Walked others between new → Walked (these ⨾ others) old new
 via between first second = first ⟫ second
 
-pub one : {path : List Step} {Same : Type 0} {same : Bool} {old new : Found} → (IsTrue same ↔ Same) → Told path same old new →
-    Walked (part path Same) old new
-one {path} {Same} {same} {old} {new} is told = record { walks = walks-part path Same same old new is told.tells }
+pub same : {path : List Step} {Same : Type 0} {first second : Content} {old : Found} → Same → Walked (part path Same first second) old old
+same {path} {Same} {first} {second} {old} is = record { walks = walks-same path Same first second old is }
 
--- where it is the same in neither
-pub never_same : {path : List Step} {old new : Found} → Told path false old new → Walked (part path ⊥) old new
-never_same {path} {old} {new} told = one (never, λ bad. absurd bad) told
+pub told : {path : List Step} {Same : Type 0} {first second : Content} {old new : Found} → ¬ Same → Told path first second old new →
+    Walked (part path Same first second) old new
+told {path} {Same} {first} {second} {old} {new} differs it =
+    record { walks = walks-told path Same first second old new differs it.more it.tells }
 
 pub nothing : {old : Found} → Walked none old old
 nothing {old} = record { walks = walks-none old }
@@ -105,6 +103,19 @@ done {parts} {old} is = record { walks = walks-done parts old is }
 pub inside : {X : Type 0} {Is : X → Type 0} {parts : X → Parts} {old new : Found} (x : X) → Is x → Walked (parts x) old new →
     Walked (within Is parts) old new
 inside {X} {Is} {parts} {old} {new} x is walked = record { walks = walks-within Is parts x old new is walked.walks }
+
+-- over the axes at one position more
+pub more-axes : (at : List Step) (level : Level) (a b : SystemParts) (count : ℕ) {old between new : Found} →
+    Walked (parts_of_axes at level a b count) old between → Walked (parts_at at level a b (count + 1)) between new →
+    Walked (parts_of_axes at level a b (count + 1)) old new
+more-axes at level a b count {old} {between} {new} first second =
+    subst (λ n. Walked (parts_of_axes at level a b n) old new) is
+    (first ⟫ subst (λ n. Walked (parts_at at level a b n) between new) (sym is) second)
+  where
+    is : suc count ≡ count + 1
+    is = omega arith
+
+pub ruleset walked_rules = (done, same, told)
 
 -- ---- what a walk for the first part that differs ends with
 

@@ -1,3 +1,5 @@
+pub mod Agreement
+pub mod Contents
 pub mod Definition
 pub mod Parts
 pub mod PartsOfCrs
@@ -14,4 +16,6 @@ pub mod SameUnits
 pub mod SameUsages
 pub mod Sameness
 pub mod Sets
+pub mod Shown
+pub mod SingleParts
 pub mod Walked

@@ -1,34 +1,39 @@
 -- The parts of ellipsoids, prime meridians, reference frames and ensembles, in order.
-use Rattle.std.specs.Prelude.{◌≡◌, Option, Some, None, List, ◌⊎◌, codes}
+use Rattle.std.specs.Prelude.{ℕ, Option, Some, None, List, [], ◌⊎◌, codes}
+use Rattle.crs_decimal.specs.Value.{zero}
 use Rattle.crs_value.specs.declared.values.frame.Frame.{Frame}
 use Rattle.crs_value.specs.declared.values.frame.Frame.TheVariants as frame
 use Rattle.crs_value.specs.declared.values.level.Level.{Level}
 use Rattle.crs_value.specs.declared.values.unit_kind.UnitKind.TheVariants as kinds
+use Rattle.crs_value.specs.Kept.{kept}
 use Rattle.crs_value.specs.Values.{EllipsoidParts, MeridianParts, DatumParts, EnsembleParts}
 use Rattle.crs_same.specs.declared.step.Step.{Step}
 use Rattle.crs_same.specs.declared.step.Step.TheVariants as step
+use Rattle.crs_same.specs.Contents.{given}
+use Rattle.crs_same.specs.Contents as content
 use Rattle.crs_same.specs.Parts.{◌▸◌, Parts, PartsOf, none, part, ◌⨾◌}
 use Rattle.crs_same.specs.SameFrames.{IsZero, SameMember}
-use Rattle.crs_same.specs.SameIdents.{SameIdents}
-use Rattle.crs_same.specs.SameUnits.{SameValue, SameUnit, SameLength, HasNoIdents}
-use Rattle.crs_same.specs.Sets.{SameSet, BothOrNeither}
+use Rattle.crs_same.specs.SameUnits.{SameUnit, HasNoIdents}
+use Rattle.crs_same.specs.Sets.{BothOrNeither}
+use Rattle.crs_same.specs.SingleParts.{texts, optional_texts, unlike, numbers, optional_numbers}
+use Rattle.crs_same.specs.SingleParts.{lengths, sets, identifiers}
 
 -- the parts of two ellipsoids: name,
 -- semi-major axis, inverse flattening, unit, identifiers
 abbrev pub parts_of_ellipsoid : PartsOf EllipsoidParts
 parts_of_ellipsoid at level a b =
-    part (at ▸ step.Name) (a.name ≡ b.name)
-    ⨾ part (at ▸ step.SemiMajor) (SameValue a.semi_major_axis b.semi_major_axis)
-    ⨾ part (at ▸ step.Flattening) (SameValue a.inverse_flattening b.inverse_flattening)
-    ⨾ part (at ▸ step.Unit) (SameLength level a.unit b.unit)
-    ⨾ part (at ▸ step.Id) (SameIdents level a.identifiers b.identifiers)
+    texts (at ▸ step.Name) a.name b.name
+    ⨾ numbers (at ▸ step.SemiMajor) a.semi_major_axis b.semi_major_axis
+    ⨾ numbers (at ▸ step.Flattening) a.inverse_flattening b.inverse_flattening
+    ⨾ lengths (at ▸ step.Unit) level a.unit b.unit
+    ⨾ identifiers (at ▸ step.Id) level a.identifiers b.identifiers
 
 -- the parts of two ellipsoids that may be missing; where only one side has an
 -- ellipsoid, its name is the first part that is on one side alone
 abbrev pub parts_of_ellipsoids : PartsOf (Option EllipsoidParts)
 parts_of_ellipsoids at level None None = none
-parts_of_ellipsoids at level None (Some b) = part (at ▸ step.Name) ⊥
-parts_of_ellipsoids at level (Some a) None = part (at ▸ step.Name) ⊥
+parts_of_ellipsoids at level None (Some b) = part (at ▸ step.Name) ⊥ content.nothing (content.text b.name)
+parts_of_ellipsoids at level (Some a) None = part (at ▸ step.Name) ⊥ (content.text a.name) content.nothing
 parts_of_ellipsoids at level (Some a) (Some b) = parts_of_ellipsoid at level a b
 
 -- ---- prime meridians
@@ -37,24 +42,34 @@ parts_of_ellipsoids at level (Some a) (Some b) = parts_of_ellipsoid at level a b
 -- longitude, unit, which isn't compared where either is at longitude 0, identifiers
 abbrev pub parts_of_given : PartsOf MeridianParts
 parts_of_given at level a b =
-    part (at ▸ step.Name) (a.name ≡ b.name)
-    ⨾ part (at ▸ step.Longitude) (SameValue a.longitude b.longitude)
+    texts (at ▸ step.Name) a.name b.name
+    ⨾ numbers (at ▸ step.Longitude) a.longitude b.longitude
     ⨾ part (at ▸ step.Unit)
     (IsZero a.longitude ⊎ IsZero b.longitude ⊎ BothOrNeither (SameUnit kinds.Angle level) a.unit b.unit)
-    ⨾ part (at ▸ step.Id) (SameIdents level a.identifiers b.identifiers)
+    (given (content.unit kinds.Angle) a.unit) (given (content.unit kinds.Angle) b.unit)
+    ⨾ identifiers (at ▸ step.Id) level a.identifiers b.identifiers
 
 -- the parts of a written prime meridian and a missing one, which is Greenwich: name, longitude, identifiers
-abbrev pub parts_beside_greenwich : List Step → Level → MeridianParts → Parts
-parts_beside_greenwich at level meridian =
-    part (at ▸ step.Name) (meridian.name ≡ codes "Greenwich")
-    ⨾ part (at ▸ step.Longitude) (IsZero meridian.longitude)
-    ⨾ part (at ▸ step.Id) (HasNoIdents level meridian.identifiers)
+abbrev pub parts_before_greenwich : List Step → Level → MeridianParts → Parts
+parts_before_greenwich at level a =
+    texts (at ▸ step.Name) a.name (codes "Greenwich")
+    ⨾ part (at ▸ step.Longitude) (IsZero a.longitude) (content.number a.longitude) (content.number zero)
+    ⨾ part (at ▸ step.Id) (HasNoIdents level a.identifiers)
+    (content.identifiers (kept level a.identifiers) []) (content.identifiers [] (kept level a.identifiers))
+
+-- the parts of a missing prime meridian and a written one
+abbrev pub parts_behind_greenwich : List Step → Level → MeridianParts → Parts
+parts_behind_greenwich at level b =
+    texts (at ▸ step.Name) (codes "Greenwich") b.name
+    ⨾ part (at ▸ step.Longitude) (IsZero b.longitude) (content.number zero) (content.number b.longitude)
+    ⨾ part (at ▸ step.Id) (HasNoIdents level b.identifiers)
+    (content.identifiers [] (kept level b.identifiers)) (content.identifiers (kept level b.identifiers) [])
 
 -- the parts of two prime meridians, of which each may be missing
 unfoldable pub parts_of_meridian : PartsOf (Option MeridianParts)
 parts_of_meridian at level None None = none
-parts_of_meridian at level None (Some b) = parts_beside_greenwich at level b
-parts_of_meridian at level (Some a) None = parts_beside_greenwich at level a
+parts_of_meridian at level None (Some b) = parts_behind_greenwich at level b
+parts_of_meridian at level (Some a) None = parts_before_greenwich at level a
 parts_of_meridian at level (Some a) (Some b) = parts_of_given at level a b
 
 -- ---- frames
@@ -63,24 +78,39 @@ parts_of_meridian at level (Some a) (Some b) = parts_of_given at level a b
 -- ellipsoid, anchor, the anchor's epoch, identifiers
 abbrev pub parts_of_datum : PartsOf DatumParts
 parts_of_datum at level a b =
-    part (at ▸ step.Name) (a.name ≡ b.name)
+    texts (at ▸ step.Name) a.name b.name
     ⨾ parts_of_ellipsoids (at ▸ step.Ellipsoid) level a.ellipsoid b.ellipsoid
-    ⨾ part (at ▸ step.Anchor) (a.anchor ≡ b.anchor)
-    ⨾ part (at ▸ step.AnchorEpoch) (BothOrNeither SameValue a.anchor_epoch b.anchor_epoch)
-    ⨾ part (at ▸ step.Id) (SameIdents level a.identifiers b.identifiers)
+    ⨾ optional_texts (at ▸ step.Anchor) a.anchor b.anchor
+    ⨾ optional_numbers (at ▸ step.AnchorEpoch) a.anchor_epoch b.anchor_epoch
+    ⨾ identifiers (at ▸ step.Id) level a.identifiers b.identifiers
 
 -- the parts of two datum ensembles: name,
 -- members, ellipsoid, accuracy, identifiers
 abbrev pub parts_of_ensemble : PartsOf EnsembleParts
 parts_of_ensemble at level a b =
-    part (at ▸ step.Name) (a.name ≡ b.name)
-    ⨾ part (at ▸ step.Members) (SameSet (SameMember level) a.members b.members)
+    texts (at ▸ step.Name) a.name b.name
+    ⨾ sets (at ▸ step.Members) (SameMember level) content.members a.members b.members
     ⨾ parts_of_ellipsoids (at ▸ step.Ellipsoid) level a.ellipsoid b.ellipsoid
-    ⨾ part (at ▸ step.Accuracy) (SameValue a.accuracy b.accuracy)
-    ⨾ part (at ▸ step.Id) (SameIdents level a.identifiers b.identifiers)
+    ⨾ numbers (at ▸ step.Accuracy) a.accuracy b.accuracy
+    ⨾ identifiers (at ▸ step.Id) level a.identifiers b.identifiers
 
--- the parts of two frames; a reference frame and an ensemble differ in kind
+-- the keyword of a reference frame: one without an ellipsoid is vertical
+abbrev pub datum_word : Option EllipsoidParts → List ℕ
+datum_word None = codes "VDATUM"
+datum_word (Some ellipsoid) = codes "DATUM"
+
+-- the parts of two frames; a reference frame and an ensemble differ in kind,
+-- and what both have is compared: name, ellipsoid, identifiers
 unfoldable pub parts_of_frame : PartsOf Frame
 parts_of_frame at level (frame.Datum a) (frame.Datum b) = parts_of_datum at level a b
 parts_of_frame at level (frame.Ensemble a) (frame.Ensemble b) = parts_of_ensemble at level a b
-parts_of_frame at level a b = part (at ▸ step.Kind) ⊥
+parts_of_frame at level (frame.Datum a) (frame.Ensemble b) =
+    unlike (at ▸ step.Kind) (datum_word a.ellipsoid) (codes "ENSEMBLE")
+    ⨾ texts (at ▸ step.Name) a.name b.name
+    ⨾ parts_of_ellipsoids (at ▸ step.Ellipsoid) level a.ellipsoid b.ellipsoid
+    ⨾ identifiers (at ▸ step.Id) level a.identifiers b.identifiers
+parts_of_frame at level (frame.Ensemble a) (frame.Datum b) =
+    unlike (at ▸ step.Kind) (codes "ENSEMBLE") (datum_word b.ellipsoid)
+    ⨾ texts (at ▸ step.Name) a.name b.name
+    ⨾ parts_of_ellipsoids (at ▸ step.Ellipsoid) level a.ellipsoid b.ellipsoid
+    ⨾ identifiers (at ▸ step.Id) level a.identifiers b.identifiers

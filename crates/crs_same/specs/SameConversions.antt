@@ -1,17 +1,11 @@
--- When conversions and geoid models are the same.
+-- When parameters of conversions and geoid models are the same.
 use Rattle.std.specs.Prelude.{◌≡◌}
 use Rattle.crs_value.specs.declared.values.level.Level.{Level}
 use Rattle.crs_value.specs.declared.values.unit_kind.UnitKind.TheVariants as kinds
-use Rattle.crs_value.specs.ConversionValues.{MethodParts, ParameterParts, ConversionParts}
-use Rattle.crs_value.specs.ConversionValues.{GeoidModelParts}
-use Rattle.crs_same.specs.Sets.{SameSet, BothOrNeither}
+use Rattle.crs_value.specs.ConversionValues.{ParameterParts, GeoidModelParts}
+use Rattle.crs_same.specs.Sets.{BothOrNeither}
 use Rattle.crs_same.specs.SameIdents.{SameIdents}
 use Rattle.crs_same.specs.SameUnits.{SameValue, SameUnit}
-
--- two methods of conversions are the same: name and identifiers
-pub record SameMethod (level : Level) (a b : MethodParts) : Type 0 where
-  pub name : a.name ≡ b.name
-  pub identifiers : SameIdents level a.identifiers b.identifiers
 
 -- two parameters are the same: name, number, unit and identifiers; `UNIT` is a kind of its own
 -- here, and a missing unit differs from each that is there
@@ -19,13 +13,6 @@ pub record SameParameter (level : Level) (a b : ParameterParts) : Type 0 where
   pub name : a.name ≡ b.name
   pub value : SameValue a.value b.value
   pub unit : BothOrNeither (SameUnit kinds.Plain level) a.unit b.unit
-  pub identifiers : SameIdents level a.identifiers b.identifiers
-
--- two conversions are the same: name, method, the set of parameters, and identifiers
-pub record SameConversion (level : Level) (a b : ConversionParts) : Type 0 where
-  pub name : a.name ≡ b.name
-  pub method : SameMethod level a.method b.method
-  pub parameters : SameSet (SameParameter level) a.parameters b.parameters
   pub identifiers : SameIdents level a.identifiers b.identifiers
 
 -- two geoid models are the same: name and identifiers

@@ -1,11 +1,10 @@
--- When usages and the ends of CRSs are the same.
+-- When usages, and those and the remarks at the ends of CRSs, are the same.
 use Rattle.std.specs.Prelude.{◌≡◌, List, ◌∷◌, Option, Some, None}
 use Rattle.crs_value.specs.declared.values.level.Level.{Level}
 use Rattle.crs_value.specs.declared.values.level.Level.TheVariants as levels
 use Rattle.crs_value.specs.Kept.{kept, kept_one}
 use Rattle.crs_value.specs.Values.{BoxParts, ExtentParts, UsageParts, TailParts}
 use Rattle.crs_same.specs.Sets.{SameSet, BothOrNeither}
-use Rattle.crs_same.specs.SameIdents.{SameIdents}
 use Rattle.crs_same.specs.SameUnits.{SameValue, SameLength}
 
 -- two bounding boxes are the same: south, west, north and east
@@ -47,9 +46,3 @@ SameUsages level a b = SameSet SameUsage (kept level (usages_of a)) (kept level 
 -- the remarks that the level keeps of two ends are equal, or both are missing
 abbrev pub SameRemark : Level → TailParts → TailParts → Type 0
 SameRemark level a b = kept_one level a.remark ≡ kept_one level b.remark
-
--- the ends of two CRSs are the same: usages, identifiers and remark
-pub record SameTail (level : Level) (a b : TailParts) : Type 0 where
-  pub usages : SameUsages level a b
-  pub identifiers : SameIdents level a.identifiers b.identifiers
-  pub remark : SameRemark level a b

@@ -1,10 +1,16 @@
 //! Conversions and geoid models.
-ghost use Rattle.std.specs.Prelude.{◌≡◌, ◌≤◌, ◌↔◌, IsTrue, None, length};
+ghost use Rattle.std.specs.Prelude.{◌≡◌, ◌<◌, ◌≤◌, ◌↔◌, IsTrue, None, length};
+ghost use Rattle.crs_same.specs.declared.step.Step.TheVariants as step;
+ghost use Rattle.crs_same.specs.Contents as content;
+ghost use Rattle.crs_same.specs.Parts.{◌▸◌};
 ghost use Rattle.crs_same.specs.PartsOfCrs.{parts_of_method, parts_of_conversion};
+ghost use Rattle.crs_same.specs.SingleParts.{sets};
 ghost use Rattle.crs_same.specs.Walked.{Walked};
 ghost use Rattle.crs_same.specs.Sets.{SameSet};
-ghost use Rattle.crs_same.specs.SameConversions.{SameMethod, SameParameter, SameConversion, SameGeoidModel};
+ghost use Rattle.crs_same.specs.Parts.{AreSame};
+ghost use Rattle.crs_same.specs.SameConversions.{SameParameter, SameGeoidModel};
 
+use crate::content::Content;
 use crate::found::Found;
 use crate::idents::same_idents;
 use crate::keys::{Key, key_of_named};
@@ -18,21 +24,23 @@ use crate::units::same_units_as;
 use crs_value::{Conversion, GeoidModel, Level, Method, Parameter, UnitKind};
 
 #[tactic(auto, unfolding(crate::specs::PartsOfCrs::parts_of_method))]
-fn walk_method<'a>(found: Found, at: Path, a: &Method<'a>, b: &Method<'a>, level: Level) -> Found
+fn walk_method<'b, 'a>(
+    found: Found<'b, 'a>,
+    at: Path,
+    a: &'b Method<'a>,
+    b: &'b Method<'a>,
+    level: Level,
+) -> Found<'b, 'a>
     requires { length at ≤ 4 }
-    ensures { Walked (parts_of_method at level a.now b.now) found result }
+    ensures { Walked (parts_of_method at level a.now b.now) found.entry result }
 {
-    let found = found.part(&at, Step::Name, same_text(a.name, b.name));
-    found.part(
-        &at,
-        Step::Id,
-        same_idents(&a.identifiers, &b.identifiers, level),
-    )
+    let found = found.text(&at, Step::Name, a.name, b.name);
+    found.identifiers(&at, level, &a.identifiers, &b.identifiers)
 }
 
 /// Whether two methods are the same: name and identifiers. ISO 19162:2019, "Map projection".
 pub fn same_method<'a>(a: &Method<'a>, b: &Method<'a>, level: Level) -> bool
-    ensures { IsTrue result ↔ SameMethod level a.now b.now }
+    ensures { IsTrue result ↔ AreSame parts_of_method level a.now b.now }
 {
     walk_method(Found::first(), Path::start(), a, b, level).is_same()
 }
@@ -102,49 +110,91 @@ fn same_parameters<'a>(a: &[Parameter<'a>], b: &[Parameter<'a>], level: Level) -
     same_set(a, b, level)
 }
 
-pub(crate) fn same_geoid_models<'a>(
-    a: &[GeoidModel<'a>],
-    b: &[GeoidModel<'a>],
-    level: Level,
-) -> bool
+fn same_geoid_models<'a>(a: &[GeoidModel<'a>], b: &[GeoidModel<'a>], level: Level) -> bool
     ensures { IsTrue result ↔ SameSet (SameGeoidModel level) a.now b.now }
 {
     same_set(a, b, level)
 }
 
-#[tactic(auto, unfolding(crate::specs::PartsOfCrs::parts_of_conversion))]
-pub(crate) fn walk_conversion<'a>(
-    found: Found,
-    at: Path,
-    a: &Conversion<'a>,
-    b: &Conversion<'a>,
+#[tactic(auto, using(crate::proofs::WalkedLemmas::walked_rules))]
+fn walk_parameters<'b, 'a>(
+    found: Found<'b, 'a>,
+    at: &Path,
+    a: &'b [Parameter<'a>],
+    b: &'b [Parameter<'a>],
     level: Level,
-) -> Found
-    requires { length at ≤ 3 }
-    ensures { Walked (parts_of_conversion at level a.now b.now) found result }
+) -> Found<'b, 'a>
+    requires { length at.now < 5 }
+    ensures { Walked (sets (at.now ▸ step.Parameters) (SameParameter level) content.parameters a.now b.now) found.entry result }
 {
     if found.is_done() {
         return found;
     }
-    let found = found.part(&at, Step::Name, same_text(a.name, b.name));
+    if same_parameters(a, b, level) {
+        return found;
+    }
+    found.with(
+        at.then(Step::Parameters),
+        Content::Parameters(a, b),
+        Content::Parameters(b, a),
+    )
+}
+
+#[tactic(auto, using(crate::proofs::WalkedLemmas::walked_rules))]
+pub(crate) fn walk_geoid_models<'b, 'a>(
+    found: Found<'b, 'a>,
+    at: &Path,
+    a: &'b [GeoidModel<'a>],
+    b: &'b [GeoidModel<'a>],
+    level: Level,
+) -> Found<'b, 'a>
+    requires { length at.now < 5 }
+    ensures { Walked (sets (at.now ▸ step.Geoid) (SameGeoidModel level) content.geoid_models a.now b.now) found.entry result }
+{
+    if found.is_done() {
+        return found;
+    }
+    if same_geoid_models(a, b, level) {
+        return found;
+    }
+    found.with(
+        at.then(Step::Geoid),
+        Content::GeoidModels(a, b),
+        Content::GeoidModels(b, a),
+    )
+}
+
+#[tactic(auto, unfolding(crate::specs::PartsOfCrs::parts_of_conversion))]
+pub(crate) fn walk_conversion<'b, 'a>(
+    found: Found<'b, 'a>,
+    at: Path,
+    a: &'b Conversion<'a>,
+    b: &'b Conversion<'a>,
+    level: Level,
+) -> Found<'b, 'a>
+    requires { length at ≤ 3 }
+    ensures { Walked (parts_of_conversion at level a.now b.now) found.entry result }
+{
+    if found.is_done() {
+        return found;
+    }
+    let found = found.text(&at, Step::Name, a.name, b.name);
     let method = at.then(Step::Method);
     let found = walk_method(found, method, &a.method, &b.method, level);
-    let found = found.part(
+    let found = walk_parameters(
+        found,
         &at,
-        Step::Parameters,
-        same_parameters(a.parameters.as_slice(), b.parameters.as_slice(), level),
+        a.parameters.as_slice(),
+        b.parameters.as_slice(),
+        level,
     );
-    found.part(
-        &at,
-        Step::Id,
-        same_idents(&a.identifiers, &b.identifiers, level),
-    )
+    found.identifiers(&at, level, &a.identifiers, &b.identifiers)
 }
 
 /// Whether two conversions are the same: name, method, the set of parameters, and identifiers.
 /// ISO 19162:2019, "Map projection".
 pub fn same_conversion<'a>(a: &Conversion<'a>, b: &Conversion<'a>, level: Level) -> bool
-    ensures { IsTrue result ↔ SameConversion level a.now b.now }
+    ensures { IsTrue result ↔ AreSame parts_of_conversion level a.now b.now }
 {
     walk_conversion(Found::first(), Path::start(), a, b, level).is_same()
 }

@@ -1,27 +1,30 @@
 //! Coordinate reference systems.
-ghost use Rattle.std.specs.Prelude.{◌≡◌, ◌≤◌, ◌↔◌, IfOk, IfSome, IsTrue, None, length};
-ghost use Rattle.crs_value.specs.ReadsCrs.{kind_by};
+ghost use Rattle.std.specs.Prelude.{◌≡◌, ◌<◌, ◌≤◌, ◌↔◌, [], IfOk, IfSome, IsTrue, None, length};
+ghost use Rattle.crs_value.specs.ReadsCrs.{kind_by, kind_of};
+ghost use Rattle.crs_same.specs.declared.step.Step.TheVariants as step;
+ghost use Rattle.crs_same.specs.Parts.{◌▸◌};
+ghost use Rattle.crs_same.specs.PartsOfCrs.{kind_word, horizontal_word};
 ghost use Rattle.crs_same.specs.PartsOfCrs.{parts_of_geodetic, parts_of_base, parts_of_projected, parts_of_vertical};
 ghost use Rattle.crs_same.specs.PartsOfCrs.{parts_of_horizontal, parts_of_compound, parts_of_crs, FirstInCrs, DifferencesInCrs};
+ghost use Rattle.crs_same.specs.SingleParts.{words, unlike};
 ghost use Rattle.crs_same.specs.Walked.{Walked};
-ghost use Rattle.crs_same.specs.SameCrs.{SameGeodetic, SameBase, SameProjected, SameVertical, SameHorizontal};
-ghost use Rattle.crs_same.specs.SameCrs.{SameCompound, SameCrs};
+ghost use Rattle.crs_same.specs.Parts.{AreSame};
+ghost use Rattle.crs_same.specs.SameCrs.{SameCrs};
 
-use crate::conversions::{same_geoid_models, walk_conversion};
+use crate::content::Content;
+use crate::conversions::{walk_conversion, walk_geoid_models};
 use crate::dynamic::walk_dynamic;
-use crate::found::{Found, Paths};
+use crate::found::{Differences, Found};
 use crate::frames::{walk_frame, walk_meridian};
-use crate::idents::same_idents;
 use crate::laws;
 use crate::path::Path;
 use crate::step::Step;
 use crate::systems::walk_system;
-use crate::texts::same_text;
-use crate::units::same_units_as;
 use crate::usages::walk_tail;
 use crs_value::laws::crs_is_sound;
 use crs_value::{
-    Base, Compound, Crs, Geodetic, Horizontal, Level, Projected, SystemType, UnitKind, Vertical,
+    Base, Compound, Crs, Geodetic, Horizontal, Kind, Level, Projected, SystemType, UnitKind,
+    Vertical,
 };
 use std::alloc::{AllocError, Global};
 
@@ -32,23 +35,60 @@ fn same_geodetic_kind(a: SystemType, b: SystemType) -> bool
     (a == SystemType::Ellipsoidal) == (b == SystemType::Ellipsoidal)
 }
 
-#[tactic(auto, unfolding(crate::specs::PartsOfCrs::parts_of_geodetic))]
-fn walk_geodetic<'a>(
-    found: Found,
-    at: Path,
-    a: &Geodetic<'a>,
-    b: &Geodetic<'a>,
-    level: Level,
-) -> Found
-    requires { length at ≤ 2 }
-    ensures { Walked (parts_of_geodetic at level a.now b.now) found result }
+// The keyword of a CRS of this kind.
+fn kind_word(kind: Kind) -> &'static str
+    ensures { result.now ≡ kind_word kind }
 {
-    let found = found.part(
-        &at,
-        Step::Kind,
-        same_geodetic_kind(a.system.system_type, b.system.system_type),
-    );
-    let found = found.part(&at, Step::Name, same_text(a.name, b.name));
+    match kind {
+        Kind::Geodetic => "GEODCRS",
+        Kind::Geographic => "GEOGCRS",
+        Kind::Projected => "PROJCRS",
+        Kind::Vertical => "VERTCRS",
+        Kind::Compound => "COMPOUNDCRS",
+    }
+}
+
+// The kind of a geodetic or geographic CRS that has a system of this type.
+fn geodetic_kind(system_type: SystemType) -> Kind
+    ensures { result ≡ kind_by system_type }
+{
+    match system_type {
+        SystemType::Ellipsoidal => Kind::Geographic,
+        SystemType::Cartesian | SystemType::Spherical | SystemType::Vertical => Kind::Geodetic,
+    }
+}
+
+#[tactic(auto, using(crate::proofs::WalkedLemmas::walked_rules))]
+fn walk_kind<'b, 'a>(found: Found<'b, 'a>, at: &Path, a: SystemType, b: SystemType) -> Found<'b, 'a>
+    requires { length at.now < 5 }
+    ensures { Walked (words (at.now ▸ step.Kind) kind_word (kind_by a) (kind_by b)) found.entry result }
+{
+    if found.is_done() {
+        return found;
+    }
+    if same_geodetic_kind(a, b) {
+        return found;
+    }
+    found.with(
+        at.then(Step::Kind),
+        Content::word(kind_word(geodetic_kind(a))),
+        Content::word(kind_word(geodetic_kind(b))),
+    )
+}
+
+#[tactic(auto, unfolding(crate::specs::PartsOfCrs::parts_of_geodetic))]
+fn walk_geodetic<'b, 'a>(
+    found: Found<'b, 'a>,
+    at: Path,
+    a: &'b Geodetic<'a>,
+    b: &'b Geodetic<'a>,
+    level: Level,
+) -> Found<'b, 'a>
+    requires { length at ≤ 2 }
+    ensures { Walked (parts_of_geodetic at level a.now b.now) found.entry result }
+{
+    let found = walk_kind(found, &at, a.system.system_type, b.system.system_type);
+    let found = found.text(&at, Step::Name, a.name, b.name);
     let dynamic = at.then(Step::Dynamic);
     let found = walk_dynamic(found, dynamic, &a.dynamic, &b.dynamic, level);
     let datum = at.then(Step::Datum);
@@ -63,61 +103,57 @@ fn walk_geodetic<'a>(
 /// Whether two geodetic or geographic CRSs are the same: kind, name, dynamic part, frame, prime meridian, system and
 /// end. ISO 19162:2019, "Geodetic and geographic CRS".
 pub fn same_geodetic<'a>(a: &Geodetic<'a>, b: &Geodetic<'a>, level: Level) -> bool
-    ensures { IsTrue result ↔ SameGeodetic level a.now b.now }
+    ensures { IsTrue result ↔ AreSame parts_of_geodetic level a.now b.now }
 {
-    laws::zero_is_one_number();
     laws::one_axis_each();
-    laws::as_many_axes();
     let _name = a.name;
     let _name = b.name;
     walk_geodetic(Found::first(), Path::start(), a, b, level).is_same()
 }
 
 #[tactic(auto, unfolding(crate::specs::PartsOfCrs::parts_of_base))]
-fn walk_base<'a>(found: Found, at: Path, a: &Base<'a>, b: &Base<'a>, level: Level) -> Found
+fn walk_base<'b, 'a>(
+    found: Found<'b, 'a>,
+    at: Path,
+    a: &'b Base<'a>,
+    b: &'b Base<'a>,
+    level: Level,
+) -> Found<'b, 'a>
     requires { length at ≤ 2 }
-    ensures { Walked (parts_of_base at level a.now b.now) found result }
+    ensures { Walked (parts_of_base at level a.now b.now) found.entry result }
 {
-    let found = found.part(&at, Step::Name, same_text(a.name, b.name));
+    let found = found.text(&at, Step::Name, a.name, b.name);
     let dynamic = at.then(Step::Dynamic);
     let found = walk_dynamic(found, dynamic, &a.dynamic, &b.dynamic, level);
     let datum = at.then(Step::Datum);
     let found = walk_frame(found, datum, &a.frame, &b.frame, level);
     let meridian = at.then(Step::Meridian);
     let found = walk_meridian(found, meridian, &a.meridian, &b.meridian, level);
-    let found = found.part(
-        &at,
-        Step::Unit,
-        same_units_as(UnitKind::Angle, a.unit.as_ref(), b.unit.as_ref(), level),
-    );
-    found.part(
-        &at,
-        Step::Id,
-        same_idents(&a.identifiers, &b.identifiers, level),
-    )
+    let asked = (UnitKind::Angle, UnitKind::Angle);
+    let found = found.unit(&at, level, asked, a.unit.as_ref(), b.unit.as_ref());
+    found.identifiers(&at, level, &a.identifiers, &b.identifiers)
 }
 
 /// Whether two base CRSs are the same: name, dynamic part, frame, prime meridian, the units in both or in neither, and
 /// identifiers. ISO 19162:2019, "Base CRS"; units: profile.
 pub fn same_base<'a>(a: &Base<'a>, b: &Base<'a>, level: Level) -> bool
-    ensures { IsTrue result ↔ SameBase level a.now b.now }
+    ensures { IsTrue result ↔ AreSame parts_of_base level a.now b.now }
 {
-    laws::zero_is_one_number();
     walk_base(Found::first(), Path::start(), a, b, level).is_same()
 }
 
 #[tactic(auto, unfolding(crate::specs::PartsOfCrs::parts_of_projected))]
-fn walk_projected<'a>(
-    found: Found,
+fn walk_projected<'b, 'a>(
+    found: Found<'b, 'a>,
     at: Path,
-    a: &Projected<'a>,
-    b: &Projected<'a>,
+    a: &'b Projected<'a>,
+    b: &'b Projected<'a>,
     level: Level,
-) -> Found
+) -> Found<'b, 'a>
     requires { length at ≤ 1 }
-    ensures { Walked (parts_of_projected at level a.now b.now) found result }
+    ensures { Walked (parts_of_projected at level a.now b.now) found.entry result }
 {
-    let found = found.part(&at, Step::Name, same_text(a.name, b.name));
+    let found = found.text(&at, Step::Name, a.name, b.name);
     let base = at.then(Step::Base);
     let found = walk_base(found, base, &a.base, &b.base, level);
     let conversion = at.then(Step::Conversion);
@@ -129,38 +165,38 @@ fn walk_projected<'a>(
 
 /// Whether two projected CRSs are the same: name, base, conversion, system and end. ISO 19162:2019, "Projected CRS".
 pub fn same_projected<'a>(a: &Projected<'a>, b: &Projected<'a>, level: Level) -> bool
-    ensures { IsTrue result ↔ SameProjected level a.now b.now }
+    ensures { IsTrue result ↔ AreSame parts_of_projected level a.now b.now }
 {
-    laws::zero_is_one_number();
     laws::one_axis_each();
-    laws::as_many_axes();
     let _name = a.name;
     let _name = b.name;
     walk_projected(Found::first(), Path::start(), a, b, level).is_same()
 }
 
 #[tactic(auto, unfolding(crate::specs::PartsOfCrs::parts_of_vertical))]
-fn walk_vertical<'a>(
-    found: Found,
+fn walk_vertical<'b, 'a>(
+    found: Found<'b, 'a>,
     at: Path,
-    a: &Vertical<'a>,
-    b: &Vertical<'a>,
+    a: &'b Vertical<'a>,
+    b: &'b Vertical<'a>,
     level: Level,
-) -> Found
+) -> Found<'b, 'a>
     requires { length at ≤ 2 }
-    ensures { Walked (parts_of_vertical at level a.now b.now) found result }
+    ensures { Walked (parts_of_vertical at level a.now b.now) found.entry result }
 {
-    let found = found.part(&at, Step::Name, same_text(a.name, b.name));
+    let found = found.text(&at, Step::Name, a.name, b.name);
     let dynamic = at.then(Step::Dynamic);
     let found = walk_dynamic(found, dynamic, &a.dynamic, &b.dynamic, level);
     let datum = at.then(Step::Datum);
     let found = walk_frame(found, datum, &a.frame, &b.frame, level);
     let system = at.then(Step::System);
     let found = walk_system(found, system, &a.system, &b.system, level);
-    let found = found.part(
+    let found = walk_geoid_models(
+        found,
         &at,
-        Step::Geoid,
-        same_geoid_models(a.geoid_models.as_slice(), b.geoid_models.as_slice(), level),
+        a.geoid_models.as_slice(),
+        b.geoid_models.as_slice(),
+        level,
     );
     walk_tail(found, at, &a.tail, &b.tail, level)
 }
@@ -168,26 +204,34 @@ fn walk_vertical<'a>(
 /// Whether two vertical CRSs are the same: name, dynamic part, frame, system, the set of geoid models, and end.
 /// ISO 19162:2019, "Vertical CRS".
 pub fn same_vertical<'a>(a: &Vertical<'a>, b: &Vertical<'a>, level: Level) -> bool
-    ensures { IsTrue result ↔ SameVertical level a.now b.now }
+    ensures { IsTrue result ↔ AreSame parts_of_vertical level a.now b.now }
 {
-    laws::zero_is_one_number();
     laws::one_axis_each();
-    laws::as_many_axes();
     let _name = a.name;
     let _name = b.name;
     walk_vertical(Found::first(), Path::start(), a, b, level).is_same()
 }
 
+// The keyword of the horizontal part of a compound CRS.
+fn horizontal_word(part: &Horizontal<'_>) -> &'static str
+    ensures { result.now ≡ horizontal_word part.now }
+{
+    match part {
+        Horizontal::Geodetic(geodetic) => kind_word(geodetic_kind(geodetic.system.system_type)),
+        Horizontal::Projected(_) => kind_word(Kind::Projected),
+    }
+}
+
 #[tactic(auto, unfolding(crate::specs::PartsOfCrs::parts_of_horizontal))]
-fn walk_horizontal<'a>(
-    found: Found,
+fn walk_horizontal<'b, 'a>(
+    found: Found<'b, 'a>,
     at: Path,
-    a: &Horizontal<'a>,
-    b: &Horizontal<'a>,
+    a: &'b Horizontal<'a>,
+    b: &'b Horizontal<'a>,
     level: Level,
-) -> Found
+) -> Found<'b, 'a>
     requires { length at ≤ 1 }
-    ensures { Walked (parts_of_horizontal at level a.now b.now) found result }
+    ensures { Walked (parts_of_horizontal at level a.now b.now) found.entry result }
 {
     match (a, b) {
         (Horizontal::Geodetic(x), Horizontal::Geodetic(y)) => walk_geodetic(found, at, x, y, level),
@@ -195,14 +239,20 @@ fn walk_horizontal<'a>(
             found, at, x, y, level,
         ),
         (Horizontal::Geodetic(_), Horizontal::Projected(_))
-        | (Horizontal::Projected(_), Horizontal::Geodetic(_)) => found.part(&at, Step::Kind, false),
+        | (Horizontal::Projected(_), Horizontal::Geodetic(_)) => found.unlike(
+            &at,
+            Step::Kind,
+            horizontal_word(a),
+            horizontal_word(b),
+        ),
     }
 }
 
 /// Whether two horizontal parts of compound CRSs are the same: both geodetic or both projected, and the same as such.
 /// ISO 19162:2019, "Compound CRS".
+#[tactic(auto, unfolding(crate::specs::Parts::AreSame, crate::specs::PartsOfCrs::parts_of_horizontal))]
 pub fn same_horizontal<'a>(a: &Horizontal<'a>, b: &Horizontal<'a>, level: Level) -> bool
-    ensures { IsTrue result ↔ SameHorizontal level a.now b.now }
+    ensures { IsTrue result ↔ AreSame parts_of_horizontal level a.now b.now }
 {
     match (a, b) {
         (Horizontal::Geodetic(x), Horizontal::Geodetic(y)) => same_geodetic(x, y, level),
@@ -213,17 +263,17 @@ pub fn same_horizontal<'a>(a: &Horizontal<'a>, b: &Horizontal<'a>, level: Level)
 }
 
 #[tactic(auto, unfolding(crate::specs::PartsOfCrs::parts_of_compound))]
-fn walk_compound<'a>(
-    found: Found,
+fn walk_compound<'b, 'a>(
+    found: Found<'b, 'a>,
     at: Path,
-    a: &Compound<'a>,
-    b: &Compound<'a>,
+    a: &'b Compound<'a>,
+    b: &'b Compound<'a>,
     level: Level,
-) -> Found
+) -> Found<'b, 'a>
     requires { length at ≤ 0 }
-    ensures { Walked (parts_of_compound at level a.now b.now) found result }
+    ensures { Walked (parts_of_compound at level a.now b.now) found.entry result }
 {
-    let found = found.part(&at, Step::Name, same_text(a.name, b.name));
+    let found = found.text(&at, Step::Name, a.name, b.name);
     let horizontal = at.then(Step::Horizontal);
     let found = walk_horizontal(found, horizontal, &a.horizontal, &b.horizontal, level);
     let vertical = at.then(Step::Vertical);
@@ -234,18 +284,34 @@ fn walk_compound<'a>(
 /// Whether two compound CRSs are the same: name, horizontal part, vertical part and end. ISO 19162:2019, "Compound
 /// CRS".
 pub fn same_compound<'a>(a: &Compound<'a>, b: &Compound<'a>, level: Level) -> bool
-    ensures { IsTrue result ↔ SameCompound level a.now b.now }
+    ensures { IsTrue result ↔ AreSame parts_of_compound level a.now b.now }
 {
-    laws::zero_is_one_number();
     laws::one_axis_each();
-    laws::as_many_axes();
     let _name = a.name;
     let _name = b.name;
     walk_compound(Found::first(), Path::start(), a, b, level).is_same()
 }
 
-fn walk_crs<'a>(found: Found, a: &Crs<'a>, b: &Crs<'a>, level: Level) -> Found
-    ensures { Walked (parts_of_crs level a.now b.now) found result }
+// CRSs of which one is geodetic, projected, vertical or compound, and the other isn't.
+fn walk_kinds<'b, 'a>(found: Found<'b, 'a>, a: &'b Crs<'a>, b: &'b Crs<'a>) -> Found<'b, 'a>
+    ensures { Walked (unlike ([] ▸ step.Kind) (kind_word (kind_of a.now)) (kind_word (kind_of b.now)))
+        found.entry result }
+{
+    found.unlike(
+        &Path::start(),
+        Step::Kind,
+        kind_word(a.kind()),
+        kind_word(b.kind()),
+    )
+}
+
+fn walk_crs<'b, 'a>(
+    found: Found<'b, 'a>,
+    a: &'b Crs<'a>,
+    b: &'b Crs<'a>,
+    level: Level,
+) -> Found<'b, 'a>
+    ensures { Walked (parts_of_crs level a.now b.now) found.entry result }
 {
     let at = Path::start();
     match (a, b) {
@@ -253,7 +319,7 @@ fn walk_crs<'a>(found: Found, a: &Crs<'a>, b: &Crs<'a>, level: Level) -> Found
         (Crs::Projected(x), Crs::Projected(y)) => walk_projected(found, at, x, y, level),
         (Crs::Vertical(x), Crs::Vertical(y)) => walk_vertical(found, at, x, y, level),
         (Crs::Compound(x), Crs::Compound(y)) => walk_compound(found, at, x, y, level),
-        _ => found.part(&at, Step::Kind, false),
+        _ => walk_kinds(found, a, b),
     }
 }
 
@@ -265,23 +331,23 @@ pub fn first_part<'a>(a: &Crs<'a>, b: &Crs<'a>, level: Level) -> Option<Path>
     ensures step { IfSome result (λ path. 1 ≤ length path) }
 {
     laws::first_part_has_a_step();
-    laws::parts_are_the_same_where_crs_is();
+    laws::no_part_differs_where_same();
     crs_is_sound(a);
     crs_is_sound(b);
     walk_crs(Found::first(), a, b, level).into_first()
 }
 
-/// The paths to all parts in which two CRSs differ, in the order of the canonical text; none exactly where they are the
-/// same. A set is one part, and so is a unit. Profile.
+/// All parts in which two CRSs differ, in the order of the canonical text, each with what stands there in either; none
+/// exactly where they are the same. A set is one part, and so is a unit. Profile.
 ///
 /// `AllocError`: there is no memory for them.
-pub fn differences<'a>(
+pub fn differences<'b, 'a>(
     alloc: Global,
-    a: &Crs<'a>,
-    b: &Crs<'a>,
+    a: &'b Crs<'a>,
+    b: &'b Crs<'a>,
     level: Level,
-) -> Result<Paths, AllocError>
-    ensures { IfOk result (λ paths. DifferencesInCrs level a.now b.now paths) }
+) -> Result<Differences<'b, 'a>, AllocError>
+    ensures { IfOk result (λ differences. DifferencesInCrs level a.now b.now differences) }
 {
     walk_crs(Found::all(alloc), a, b, level).into_all()
 }

@@ -1,80 +1,143 @@
 //! What a walk over the parts of two values finds: the first part that differs, or all.
 ghost use Rattle.std.specs.Prelude.{◌≡◌, ◌<◌, ◌++◌, ◌∷◌, ◌↔◌, [], IfOk, IsTrue, List, None, Option, length};
+ghost use Rattle.std.specs.Option.{option_copied};
+ghost use Rattle.crs_value.specs.Kept.{kept};
 ghost use Rattle.crs_same.specs.declared.step.Step.{Step};
+ghost use Rattle.crs_same.specs.declared.step.Step.TheVariants as step;
 ghost use Rattle.crs_same.specs.declared.found.Found.TheVariants as found;
-ghost use Rattle.crs_same.specs.Parts.{◌▸◌};
-ghost use Rattle.crs_same.specs.Walked.{IsDone, IsOfAll, Told, TellsOf};
+ghost use Rattle.crs_same.specs.Parts.{◌▸◌, part};
+ghost use Rattle.crs_same.specs.Shown.{content_of};
+ghost use Rattle.crs_same.specs.SingleParts.{texts, optional_texts, unlike, numbers, optional_numbers, lengths, units};
+ghost use Rattle.crs_same.specs.SingleParts.{identifiers};
+ghost use Rattle.crs_same.specs.Walked.{IsDone, IsOfAll, Told, Walked};
 
+use crate::content::Content;
+use crate::idents::same_idents;
+use crate::numbers::{same_optional_value, same_value};
 use crate::path::Path;
 use crate::step::Step;
+use crate::texts::{same_optional_text, same_text};
+use crate::units::{same_length, same_units_as};
+use crs_decimal::Decimal;
+use crs_value::{Ident, Level, List, Unit, UnitKind};
 use std::alloc::{AllocError, Global};
 use std::marker::Model;
 
-/// The paths to parts of two CRSs, in the order of the canonical text. Profile.
+/// A part in which two CRSs differ: the path to it, and what stands there in either. Profile.
 #[derive(Drop)]
-pub struct Paths {
-    paths: Vec<Path>,
+pub struct Difference<'b, 'a> {
+    path: Path,
+    first: Content<'b, 'a>,
+    second: Content<'b, 'a>,
 }
 
-impl Model for Paths {
-    ghost use Rattle.std.specs.Prelude.{List};
-    ghost use Rattle.crs_same.specs.declared.step.Step.{Step};
+impl<'b, 'a> Model for Difference<'b, 'a> {
+    ghost use Rattle.crs_same.specs.Parts.{DifferenceParts};
+    ghost use Rattle.crs_same.specs.Shown.{content_of};
 
-    ghost Value = { List (List Step) };
+    ghost Value = { DifferenceParts };
 
-    ghost view = { λ p. p.paths.items };
+    ghost view = { λ d. record { path = d.path; first = content_of d.first; second = content_of d.second } };
 }
 
-impl Paths {
-    /// The paths, in order.
-    pub fn as_slice(&self) -> &[Path]
-        ensures { result.now ≡ self.now }
+impl<'b, 'a> Difference<'b, 'a> {
+    /// The path to the part.
+    pub fn path(&self) -> &Path
+        ensures { result.now ≡ self.now.path }
     {
-        &self.paths
+        &self.path
     }
 
-    fn new(alloc: Global) -> Paths
+    /// What stands there in the first CRS.
+    pub fn first(&self) -> &Content<'b, 'a>
+        ensures { content_of result.now ≡ self.now.first }
+    {
+        &self.first
+    }
+
+    /// What stands there in the second CRS.
+    pub fn second(&self) -> &Content<'b, 'a>
+        ensures { content_of result.now ≡ self.now.second }
+    {
+        &self.second
+    }
+
+    fn new(path: Path, first: Content<'b, 'a>, second: Content<'b, 'a>) -> Difference<'b, 'a>
+        ensures { result ≡ record { path = path; first = content_of first.entry; second = content_of second.entry } }
+    {
+        Difference {
+            path,
+            first,
+            second,
+        }
+    }
+}
+
+/// The parts in which two CRSs differ, in the order of the canonical text. Profile.
+#[derive(Drop)]
+pub struct Differences<'b, 'a> {
+    differences: Vec<Difference<'b, 'a>>,
+}
+
+impl<'b, 'a> Model for Differences<'b, 'a> {
+    ghost use Rattle.std.specs.Prelude.{List};
+    ghost use Rattle.crs_same.specs.Parts.{DifferenceParts};
+
+    ghost Value = { List DifferenceParts };
+
+    ghost view = { λ d. d.differences.items };
+}
+
+impl<'b, 'a> Differences<'b, 'a> {
+    /// The parts, in order.
+    pub fn as_slice(&self) -> &[Difference<'b, 'a>]
+        ensures { result.now ≡ self.now }
+    {
+        &self.differences
+    }
+
+    fn new(alloc: Global) -> Differences<'b, 'a>
         ensures { result ≡ [] }
     {
-        Paths {
-            paths: Vec::new(alloc),
+        Differences {
+            differences: Vec::new(alloc),
         }
     }
 
-    // These paths and one more.
-    fn with(self, path: Path) -> Result<Paths, AllocError>
-        ensures { IfOk result (λ more. more ≡ self ++ path ∷ []) }
+    // These and one more.
+    fn with(self, difference: Difference<'b, 'a>) -> Result<Differences<'b, 'a>, AllocError>
+        ensures { IfOk result (λ more. more ≡ self.entry ++ difference.entry ∷ []) }
     {
-        let Paths { mut paths } = self;
-        paths.push(path)?;
-        Ok(Paths { paths })
+        let Differences { mut differences } = self;
+        differences.push(difference)?;
+        Ok(Differences { differences })
     }
 }
 
 // What is found so far, and what is looked for.
 #[derive(Drop)]
-pub(crate) enum Found {
+pub(crate) enum Found<'b, 'a> {
     // The first part that differs; None where there was none yet.
     First(Option<Path>),
     // All parts that differ, up to here.
-    All(Paths),
+    All(Differences<'b, 'a>),
     // All were looked for, and there was no memory for one.
     Refused(AllocError),
 }
 
-impl Found {
+impl<'b, 'a> Found<'b, 'a> {
     // The first part that differs is looked for.
-    pub(crate) fn first() -> Found
+    pub(crate) fn first() -> Found<'b, 'a>
         ensures { result ≡ found.First None }
     {
         Found::First(None)
     }
 
     // All parts that differ are looked for.
-    pub(crate) fn all(alloc: Global) -> Found
+    pub(crate) fn all(alloc: Global) -> Found<'b, 'a>
         ensures { result ≡ found.All [] }
     {
-        Found::All(Paths::new(alloc))
+        Found::All(Differences::new(alloc))
     }
 
     // Whether nothing more is looked for.
@@ -90,62 +153,247 @@ impl Found {
 
     // Whether nothing was found.
     pub(crate) fn is_same(self) -> bool
-        ensures { IsTrue result ↔ (self ≡ found.First None) }
+        ensures { IsTrue result ↔ (self.entry ≡ found.First None) }
     {
         match self {
             Found::First(None) => true,
             Found::First(Some(_path)) => false,
-            Found::All(_paths) => false,
+            Found::All(_differences) => false,
             Found::Refused(_error) => false,
         }
     }
 
     // The first part that differs, where that was looked for.
     pub(crate) fn into_first(self) -> Option<Path>
-        ensures { (path : Option (List Step)) → self ≡ found.First path → result ≡ path }
+        ensures { (path : Option (List Step)) → self.entry ≡ found.First path → result ≡ path }
     {
         match self {
             Found::First(path) => path,
-            Found::All(_paths) => None,
+            Found::All(_differences) => None,
             Found::Refused(_error) => None,
         }
     }
 
     // All parts that differ, where they were looked for.
-    pub(crate) fn into_all(self) -> Result<Paths, AllocError>
+    pub(crate) fn into_all(self) -> Result<Differences<'b, 'a>, AllocError>
         requires { IsOfAll self }
-        ensures { IfOk result (λ paths. self ≡ found.All paths) }
+        ensures { IfOk result (λ differences. self.entry ≡ found.All differences) }
     {
         match self {
-            Found::All(paths) => Ok(paths),
+            Found::All(differences) => Ok(differences),
             Found::Refused(error) => Err(error),
             Found::First(_path) => unreachable!(),
         }
     }
 
-    // Over a part one step further, which is the same in both or isn't.
-    pub(crate) fn part(self, at: &Path, step: Step, same: bool) -> Found
-        requires { length at.now < 5 }
-        ensures { Told (at.now ▸ step) same self result }
-    {
-        if same || self.is_done() {
-            return self;
-        }
-        self.with(at.then(step))
-    }
-
-    // With one path more.
-    fn with(self, path: Path) -> Found
+    // With one part more, in which these stand.
+    pub(crate) fn with(
+        self,
+        path: Path,
+        first: Content<'b, 'a>,
+        second: Content<'b, 'a>,
+    ) -> Found<'b, 'a>
         requires { ¬ IsDone self }
-        ensures { TellsOf path self result }
+        ensures { Told path (content_of first.entry) (content_of second.entry) self.entry result }
     {
         match self {
-            Found::All(paths) => match paths.with(path) {
+            Found::All(differences) => match differences.with(Difference::new(
+                path, first, second,
+            )) {
                 Ok(more) => Found::All(more),
                 Err(error) => Found::Refused(error),
             },
             Found::First(_before) => Found::First(Some(path)),
             Found::Refused(_error) => unreachable!(),
         }
+    }
+
+    // ---- over a part one step further
+
+    // Two things that are never the same, with their words.
+    #[tactic(auto, using(crate::proofs::WalkedLemmas::walked_rules))]
+    pub(crate) fn unlike(
+        self,
+        at: &Path,
+        step: Step,
+        first: &'static str,
+        second: &'static str,
+    ) -> Found<'b, 'a>
+        requires { length at.now < 5 }
+        ensures { Walked (unlike (at.now ▸ step) first.now second.now) self.entry result }
+    {
+        self.alone(at, step, Content::word(first), Content::word(second))
+    }
+
+    // A part that one side alone has.
+    #[tactic(auto, using(crate::proofs::WalkedLemmas::walked_rules))]
+    pub(crate) fn alone(
+        self,
+        at: &Path,
+        step: Step,
+        first: Content<'b, 'a>,
+        second: Content<'b, 'a>,
+    ) -> Found<'b, 'a>
+        requires { length at.now < 5 }
+        ensures { Walked (part (at.now ▸ step) ⊥ (content_of first.entry) (content_of second.entry)) self.entry result }
+    {
+        if self.is_done() {
+            return self;
+        }
+        self.with(at.then(step), first, second)
+    }
+
+    #[tactic(auto, using(crate::proofs::WalkedLemmas::walked_rules))]
+    pub(crate) fn text(self, at: &Path, step: Step, a: &'a [u8], b: &'a [u8]) -> Found<'b, 'a>
+        requires { length at.now < 5 }
+        ensures { Walked (texts (at.now ▸ step) a.now b.now) self.entry result }
+    {
+        if self.is_done() {
+            return self;
+        }
+        if same_text(a, b) {
+            return self;
+        }
+        self.with(at.then(step), Content::text(a), Content::text(b))
+    }
+
+    #[tactic(auto, using(crate::proofs::WalkedLemmas::walked_rules))]
+    pub(crate) fn optional_text(
+        self,
+        at: &Path,
+        step: Step,
+        a: Option<&'a [u8]>,
+        b: Option<&'a [u8]>,
+    ) -> Found<'b, 'a>
+        requires { length at.now < 5 }
+        ensures { Walked (optional_texts (at.now ▸ step) (option_copied a.entry) (option_copied b.entry)) self.entry result }
+    {
+        if self.is_done() {
+            return self;
+        }
+        if same_optional_text(a, b) {
+            return self;
+        }
+        self.with(
+            at.then(step),
+            Content::optional_text(a),
+            Content::optional_text(b),
+        )
+    }
+
+    #[tactic(auto, using(crate::proofs::WalkedLemmas::walked_rules))]
+    pub(crate) fn number(self, at: &Path, step: Step, a: &Decimal, b: &Decimal) -> Found<'b, 'a>
+        requires { length at.now < 5 }
+        ensures { Walked (numbers (at.now ▸ step) a.now b.now) self.entry result }
+    {
+        if self.is_done() {
+            return self;
+        }
+        if same_value(a, b) {
+            return self;
+        }
+        self.with(at.then(step), Content::Number(*a), Content::Number(*b))
+    }
+
+    #[tactic(auto, using(crate::proofs::WalkedLemmas::walked_rules))]
+    pub(crate) fn optional_number(
+        self,
+        at: &Path,
+        step: Step,
+        a: &Option<Decimal>,
+        b: &Option<Decimal>,
+    ) -> Found<'b, 'a>
+        requires { length at.now < 5 }
+        ensures { Walked (optional_numbers (at.now ▸ step) a.now b.now) self.entry result }
+    {
+        if self.is_done() {
+            return self;
+        }
+        if same_optional_value(*a, *b) {
+            return self;
+        }
+        self.with(
+            at.then(step),
+            Content::optional_number(*a),
+            Content::optional_number(*b),
+        )
+    }
+
+    #[tactic(auto, using(crate::proofs::WalkedLemmas::walked_rules))]
+    pub(crate) fn length(
+        self,
+        at: &Path,
+        level: Level,
+        a: &'b Option<Unit<'a>>,
+        b: &'b Option<Unit<'a>>,
+    ) -> Found<'b, 'a>
+        requires { length at.now < 5 }
+        ensures { Walked (lengths (at.now ▸ step.Unit) level a.now b.now) self.entry result }
+    {
+        if self.is_done() {
+            return self;
+        }
+        if same_length(a, b, level) {
+            return self;
+        }
+        self.with(
+            at.then(Step::Unit),
+            Content::length(a.as_ref()),
+            Content::length(b.as_ref()),
+        )
+    }
+
+    // Units, each where a kind is asked; they are compared as where that of the first is.
+    #[tactic(auto, using(crate::proofs::WalkedLemmas::walked_rules))]
+    pub(crate) fn unit(
+        self,
+        at: &Path,
+        level: Level,
+        asked: (UnitKind, UnitKind),
+        a: Option<&'b Unit<'a>>,
+        b: Option<&'b Unit<'a>>,
+    ) -> Found<'b, 'a>
+        requires { length at.now < 5 }
+        ensures { Walked (units (at.now ▸ step.Unit) level asked.0 asked.1 (option_copied a.entry) (option_copied b.entry))
+            self.entry result }
+    {
+        if self.is_done() {
+            return self;
+        }
+        if same_units_as(asked.0, a, b, level) {
+            return self;
+        }
+        self.with(
+            at.then(Step::Unit),
+            Content::optional_unit(asked.0, a),
+            Content::optional_unit(asked.1, b),
+        )
+    }
+
+    // The identifiers that the level keeps.
+    #[tactic(auto, using(crate::proofs::WalkedLemmas::walked_rules))]
+    pub(crate) fn identifiers(
+        self,
+        at: &Path,
+        level: Level,
+        a: &'b List<Ident<'a>>,
+        b: &'b List<Ident<'a>>,
+    ) -> Found<'b, 'a>
+        requires { length at.now < 5 }
+        ensures { Walked (identifiers (at.now ▸ step.Id) level a.now b.now) self.entry result }
+    {
+        if self.is_done() {
+            return self;
+        }
+        if same_idents(a, b, level) {
+            return self;
+        }
+        let these = level.kept(a.as_slice());
+        let others = level.kept(b.as_slice());
+        self.with(
+            at.then(Step::Id),
+            Content::Identifiers(these, others),
+            Content::Identifiers(others, these),
+        )
     }
 }

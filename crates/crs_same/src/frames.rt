@@ -1,77 +1,83 @@
 //! Ellipsoids, prime meridians, reference frames and ensembles.
-ghost use Rattle.std.specs.Prelude.{◌≡◌, ◌≤◌, ◌↔◌, ◌⊎◌, IsTrue, None, length};
+ghost use Rattle.std.specs.Prelude.{◌≡◌, ◌<◌, ◌≤◌, ◌↔◌, ◌⊎◌, [], IsTrue, None, length};
+ghost use Rattle.crs_decimal.specs.Value.{zero};
+ghost use Rattle.crs_value.specs.declared.values.frame.Frame.TheVariants as frame;
 ghost use Rattle.crs_value.specs.declared.values.unit_kind.UnitKind.TheVariants as kinds;
-ghost use Rattle.crs_same.specs.PartsOfFrames.{parts_of_ellipsoid, parts_of_ellipsoids, parts_of_given, parts_beside_greenwich};
-ghost use Rattle.crs_same.specs.PartsOfFrames.{parts_of_meridian, parts_of_datum, parts_of_ensemble, parts_of_frame};
+ghost use Rattle.crs_value.specs.Kept.{kept};
+ghost use Rattle.crs_same.specs.declared.step.Step.TheVariants as step;
+ghost use Rattle.crs_same.specs.Contents.{given};
+ghost use Rattle.crs_same.specs.Contents as content;
+ghost use Rattle.crs_same.specs.Parts.{◌▸◌, part};
+ghost use Rattle.crs_same.specs.PartsOfFrames.{parts_of_ellipsoid, parts_of_ellipsoids, parts_of_given, datum_word};
+ghost use Rattle.crs_same.specs.PartsOfFrames.{parts_before_greenwich, parts_behind_greenwich, parts_of_meridian};
+ghost use Rattle.crs_same.specs.PartsOfFrames.{parts_of_datum, parts_of_ensemble, parts_of_frame};
+ghost use Rattle.crs_same.specs.SingleParts.{sets};
 ghost use Rattle.crs_same.specs.Walked.{Walked};
 ghost use Rattle.crs_same.specs.Sets.{BothOrNeither, SameSet};
-ghost use Rattle.crs_same.specs.SameUnits.{SameUnit};
-ghost use Rattle.crs_same.specs.SameFrames.{SameEllipsoid, SameMeridian, IsZero, IsGreenwich, SameGiven, SameMember};
-ghost use Rattle.crs_same.specs.SameFrames.{SameDatum, SameEnsemble, SameFrame};
+ghost use Rattle.crs_same.specs.SameUnits.{SameUnit, HasNoIdents};
+ghost use Rattle.crs_same.specs.Parts.{AreSame};
+ghost use Rattle.crs_same.specs.SameFrames.{IsZero, SameMember};
 
+use crate::content::Content;
 use crate::found::Found;
 use crate::idents::same_idents;
 use crate::keys::key_of_named;
 use crate::laws;
-use crate::numbers::{same_optional_value, same_value};
 use crate::path::Path;
 use crate::sets::{Member as SetMember, same_set};
 use crate::step::Step;
-use crate::texts::{same_optional_text, same_text};
-use crate::units::{has_no_idents, same_length, same_units_as};
-use crs_value::{Datum, Ellipsoid, Ensemble, Frame, Level, Member, Meridian, UnitKind};
+use crate::texts::same_text;
+use crate::units::{has_no_idents, same_units_as};
+use crs_decimal::Decimal;
+use crs_value::{
+    Datum, Ellipsoid, Ensemble, Frame, Ident, Level, List, Member, Meridian, UnitKind,
+};
 
-fn walk_ellipsoid<'a>(
-    found: Found,
+fn walk_ellipsoid<'b, 'a>(
+    found: Found<'b, 'a>,
     at: Path,
-    a: &Ellipsoid<'a>,
-    b: &Ellipsoid<'a>,
+    a: &'b Ellipsoid<'a>,
+    b: &'b Ellipsoid<'a>,
     level: Level,
-) -> Found
+) -> Found<'b, 'a>
     requires { length at ≤ 4 }
-    ensures { Walked (parts_of_ellipsoid at level a.now b.now) found result }
+    ensures { Walked (parts_of_ellipsoid at level a.now b.now) found.entry result }
 {
-    let found = found.part(&at, Step::Name, same_text(a.name, b.name));
-    let found = found.part(
-        &at,
-        Step::SemiMajor,
-        same_value(&a.semi_major_axis, &b.semi_major_axis),
-    );
-    let found = found.part(
+    let found = found.text(&at, Step::Name, a.name, b.name);
+    let found = found.number(&at, Step::SemiMajor, &a.semi_major_axis, &b.semi_major_axis);
+    let found = found.number(
         &at,
         Step::Flattening,
-        same_value(&a.inverse_flattening, &b.inverse_flattening),
+        &a.inverse_flattening,
+        &b.inverse_flattening,
     );
-    let found = found.part(&at, Step::Unit, same_length(&a.unit, &b.unit, level));
-    found.part(
-        &at,
-        Step::Id,
-        same_idents(&a.identifiers, &b.identifiers, level),
-    )
+    let found = found.length(&at, level, &a.unit, &b.unit);
+    found.identifiers(&at, level, &a.identifiers, &b.identifiers)
 }
 
 // Of frames: an ellipsoid in both, or in neither.
-fn walk_ellipsoids<'a>(
-    found: Found,
+fn walk_ellipsoids<'b, 'a>(
+    found: Found<'b, 'a>,
     at: Path,
-    a: &Option<Ellipsoid<'a>>,
-    b: &Option<Ellipsoid<'a>>,
+    a: &'b Option<Ellipsoid<'a>>,
+    b: &'b Option<Ellipsoid<'a>>,
     level: Level,
-) -> Found
+) -> Found<'b, 'a>
     requires { length at ≤ 4 }
-    ensures { Walked (parts_of_ellipsoids at level a.now b.now) found result }
+    ensures { Walked (parts_of_ellipsoids at level a.now b.now) found.entry result }
 {
     match (a, b) {
         (None, None) => found,
         (Some(x), Some(y)) => walk_ellipsoid(found, at, x, y, level),
-        (None, Some(_)) | (Some(_), None) => found.part(&at, Step::Name, false),
+        (None, Some(y)) => found.alone(&at, Step::Name, Content::Nothing, Content::text(y.name)),
+        (Some(x), None) => found.alone(&at, Step::Name, Content::text(x.name), Content::Nothing),
     }
 }
 
 /// Whether two ellipsoids are the same: name, semi-major axis, inverse flattening, unit and identifiers. A missing unit
 /// is the metre. ISO 19162:2019, "Ellipsoid".
 pub fn same_ellipsoid<'a>(a: &Ellipsoid<'a>, b: &Ellipsoid<'a>, level: Level) -> bool
-    ensures { IsTrue result ↔ SameEllipsoid level a.now b.now }
+    ensures { IsTrue result ↔ AreSame parts_of_ellipsoid level a.now b.now }
 {
     walk_ellipsoid(Found::first(), Path::start(), a, b, level).is_same()
 }
@@ -87,48 +93,205 @@ fn same_meridian_units<'a>(a: &Meridian<'a>, b: &Meridian<'a>, level: Level) -> 
         || same_units_as(UnitKind::Angle, a.unit.as_ref(), b.unit.as_ref(), level)
 }
 
-fn walk_given<'a>(found: Found, at: Path, a: &Meridian<'a>, b: &Meridian<'a>, level: Level) -> Found
-    requires { length at ≤ 4 }
-    ensures { Walked (parts_of_given at level a.now b.now) found result }
+#[tactic(auto, using(crate::proofs::WalkedLemmas::walked_rules))]
+fn walk_meridian_units<'b, 'a>(
+    found: Found<'b, 'a>,
+    at: &Path,
+    a: &'b Meridian<'a>,
+    b: &'b Meridian<'a>,
+    level: Level,
+) -> Found<'b, 'a>
+    requires { length at.now < 5 }
+    ensures { Walked (part (at.now ▸ step.Unit)
+        (IsZero a.now.longitude ⊎ IsZero b.now.longitude
+        ⊎ BothOrNeither (SameUnit kinds.Angle level) a.now.unit b.now.unit)
+        (given (content.unit kinds.Angle) a.now.unit) (given (content.unit kinds.Angle) b.now.unit)) found.entry result }
 {
-    let found = found.part(&at, Step::Name, same_text(a.name, b.name));
-    let found = found.part(&at, Step::Longitude, same_value(&a.longitude, &b.longitude));
-    let found = found.part(&at, Step::Unit, same_meridian_units(a, b, level));
-    found.part(
-        &at,
-        Step::Id,
-        same_idents(&a.identifiers, &b.identifiers, level),
+    if found.is_done() {
+        return found;
+    }
+    if same_meridian_units(a, b, level) {
+        return found;
+    }
+    found.with(
+        at.then(Step::Unit),
+        Content::optional_unit(UnitKind::Angle, a.unit.as_ref()),
+        Content::optional_unit(UnitKind::Angle, b.unit.as_ref()),
     )
 }
 
-// Beside a missing one, which is Greenwich.
-fn walk_beside_greenwich(found: Found, at: Path, meridian: &Meridian<'_>, level: Level) -> Found
+fn walk_given<'b, 'a>(
+    found: Found<'b, 'a>,
+    at: Path,
+    a: &'b Meridian<'a>,
+    b: &'b Meridian<'a>,
+    level: Level,
+) -> Found<'b, 'a>
     requires { length at ≤ 4 }
-    ensures { Walked (parts_beside_greenwich at level meridian.now) found result }
+    ensures { Walked (parts_of_given at level a.now b.now) found.entry result }
 {
-    let found = found.part(&at, Step::Name, same_text(meridian.name, b"Greenwich"));
-    let found = found.part(&at, Step::Longitude, meridian.longitude.is_whole(0));
-    found.part(&at, Step::Id, has_no_idents(&meridian.identifiers, level))
+    let found = found.text(&at, Step::Name, a.name, b.name);
+    let found = found.number(&at, Step::Longitude, &a.longitude, &b.longitude);
+    let found = walk_meridian_units(found, &at, a, b, level);
+    found.identifiers(&at, level, &a.identifiers, &b.identifiers)
+}
+
+// A written longitude before that of Greenwich.
+#[tactic(auto, using(crate::proofs::WalkedLemmas::walked_rules))]
+fn walk_longitude_before<'b, 'a>(
+    found: Found<'b, 'a>,
+    at: &Path,
+    longitude: &Decimal,
+) -> Found<'b, 'a>
+    requires { length at.now < 5 }
+    ensures { Walked (part (at.now ▸ step.Longitude) (IsZero longitude.now)
+        (content.number longitude.now) (content.number zero)) found.entry result }
+{
+    if found.is_done() {
+        return found;
+    }
+    if longitude.is_whole(0) {
+        return found;
+    }
+    found.with(
+        at.then(Step::Longitude),
+        Content::Number(*longitude),
+        Content::Zero,
+    )
+}
+
+// A written longitude behind that of Greenwich.
+#[tactic(auto, using(crate::proofs::WalkedLemmas::walked_rules))]
+fn walk_longitude_behind<'b, 'a>(
+    found: Found<'b, 'a>,
+    at: &Path,
+    longitude: &Decimal,
+) -> Found<'b, 'a>
+    requires { length at.now < 5 }
+    ensures { Walked (part (at.now ▸ step.Longitude) (IsZero longitude.now)
+        (content.number zero) (content.number longitude.now)) found.entry result }
+{
+    if found.is_done() {
+        return found;
+    }
+    if longitude.is_whole(0) {
+        return found;
+    }
+    found.with(
+        at.then(Step::Longitude),
+        Content::Zero,
+        Content::Number(*longitude),
+    )
+}
+
+fn no_identifiers<'b, 'a>() -> &'b [Ident<'a>]
+    ensures { result.now ≡ [] }
+{
+    &[]
+}
+
+// Identifiers, and none behind them.
+#[tactic(auto, using(crate::proofs::WalkedLemmas::walked_rules))]
+fn walk_no_idents_behind<'b, 'a>(
+    found: Found<'b, 'a>,
+    at: &Path,
+    identifiers: &'b List<Ident<'a>>,
+    level: Level,
+) -> Found<'b, 'a>
+    requires { length at.now < 5 }
+    ensures { Walked (part (at.now ▸ step.Id) (HasNoIdents level identifiers.now)
+        (content.identifiers (kept level identifiers.now) []) (content.identifiers [] (kept level identifiers.now))) found.entry result }
+{
+    if found.is_done() {
+        return found;
+    }
+    if has_no_idents(identifiers, level) {
+        return found;
+    }
+    let these = level.kept(identifiers.as_slice());
+    let none = no_identifiers();
+    found.with(
+        at.then(Step::Id),
+        Content::Identifiers(these, none),
+        Content::Identifiers(none, these),
+    )
+}
+
+// No identifiers, and some behind them.
+#[tactic(auto, using(crate::proofs::WalkedLemmas::walked_rules))]
+fn walk_no_idents_before<'b, 'a>(
+    found: Found<'b, 'a>,
+    at: &Path,
+    identifiers: &'b List<Ident<'a>>,
+    level: Level,
+) -> Found<'b, 'a>
+    requires { length at.now < 5 }
+    ensures { Walked (part (at.now ▸ step.Id) (HasNoIdents level identifiers.now)
+        (content.identifiers [] (kept level identifiers.now)) (content.identifiers (kept level identifiers.now) [])) found.entry result }
+{
+    if found.is_done() {
+        return found;
+    }
+    if has_no_idents(identifiers, level) {
+        return found;
+    }
+    let these = level.kept(identifiers.as_slice());
+    let none = no_identifiers();
+    found.with(
+        at.then(Step::Id),
+        Content::Identifiers(none, these),
+        Content::Identifiers(these, none),
+    )
+}
+
+// A written prime meridian before a missing one, which is Greenwich.
+fn walk_before_greenwich<'b, 'a>(
+    found: Found<'b, 'a>,
+    at: Path,
+    meridian: &'b Meridian<'a>,
+    level: Level,
+) -> Found<'b, 'a>
+    requires { length at ≤ 4 }
+    ensures { Walked (parts_before_greenwich at level meridian.now) found.entry result }
+{
+    let found = found.text(&at, Step::Name, meridian.name, b"Greenwich");
+    let found = walk_longitude_before(found, &at, &meridian.longitude);
+    walk_no_idents_behind(found, &at, &meridian.identifiers, level)
+}
+
+// A missing prime meridian before a written one.
+fn walk_behind_greenwich<'b, 'a>(
+    found: Found<'b, 'a>,
+    at: Path,
+    meridian: &'b Meridian<'a>,
+    level: Level,
+) -> Found<'b, 'a>
+    requires { length at ≤ 4 }
+    ensures { Walked (parts_behind_greenwich at level meridian.now) found.entry result }
+{
+    let found = found.text(&at, Step::Name, b"Greenwich", meridian.name);
+    let found = walk_longitude_behind(found, &at, &meridian.longitude);
+    walk_no_idents_before(found, &at, &meridian.identifiers, level)
 }
 
 #[tactic(auto, unfolding(crate::specs::PartsOfFrames::parts_of_meridian))]
-pub(crate) fn walk_meridian<'a>(
-    found: Found,
+pub(crate) fn walk_meridian<'b, 'a>(
+    found: Found<'b, 'a>,
     at: Path,
-    a: &Option<Meridian<'a>>,
-    b: &Option<Meridian<'a>>,
+    a: &'b Option<Meridian<'a>>,
+    b: &'b Option<Meridian<'a>>,
     level: Level,
-) -> Found
+) -> Found<'b, 'a>
     requires { length at ≤ 4 }
-    ensures { Walked (parts_of_meridian at level a.now b.now) found result }
+    ensures { Walked (parts_of_meridian at level a.now b.now) found.entry result }
 {
     if found.is_done() {
         return found;
     }
     match (a, b) {
         (None, None) => found,
-        (Some(x), None) => walk_beside_greenwich(found, at, x, level),
-        (None, Some(y)) => walk_beside_greenwich(found, at, y, level),
+        (Some(x), None) => walk_before_greenwich(found, at, x, level),
+        (None, Some(y)) => walk_behind_greenwich(found, at, y, level),
         (Some(x), Some(y)) => walk_given(found, at, x, y, level),
     }
 }
@@ -136,9 +299,8 @@ pub(crate) fn walk_meridian<'a>(
 /// Whether two prime meridians are the same: name, longitude, identifiers, and the units in both or in neither, but at
 /// longitude 0, where the unit doesn't count. ISO 19162:2019, "Prime meridian"; units: profile.
 pub fn same_meridian<'a>(a: &Meridian<'a>, b: &Meridian<'a>, level: Level) -> bool
-    ensures { IsTrue result ↔ SameGiven level a.now b.now }
+    ensures { IsTrue result ↔ AreSame parts_of_given level a.now b.now }
 {
-    laws::zero_is_one_number();
     walk_given(Found::first(), Path::start(), a, b, level).is_same()
 }
 
@@ -173,62 +335,130 @@ fn same_members<'a>(a: &[Member<'a>], b: &[Member<'a>], level: Level) -> bool
     same_set(a, b, level)
 }
 
-fn walk_datum<'a>(found: Found, at: Path, a: &Datum<'a>, b: &Datum<'a>, level: Level) -> Found
-    requires { length at ≤ 3 }
-    ensures { Walked (parts_of_datum at level a.now b.now) found result }
+#[tactic(auto, using(crate::proofs::WalkedLemmas::walked_rules))]
+fn walk_members<'b, 'a>(
+    found: Found<'b, 'a>,
+    at: &Path,
+    a: &'b [Member<'a>],
+    b: &'b [Member<'a>],
+    level: Level,
+) -> Found<'b, 'a>
+    requires { length at.now < 5 }
+    ensures { Walked (sets (at.now ▸ step.Members) (SameMember level) content.members a.now b.now) found.entry result }
 {
-    let found = found.part(&at, Step::Name, same_text(a.name, b.name));
-    let below = at.then(Step::Ellipsoid);
-    let found = walk_ellipsoids(found, below, &a.ellipsoid, &b.ellipsoid, level);
-    let found = found.part(&at, Step::Anchor, same_optional_text(a.anchor, b.anchor));
-    let found = found.part(
-        &at,
-        Step::AnchorEpoch,
-        same_optional_value(a.anchor_epoch, b.anchor_epoch),
-    );
-    found.part(
-        &at,
-        Step::Id,
-        same_idents(&a.identifiers, &b.identifiers, level),
+    if found.is_done() {
+        return found;
+    }
+    if same_members(a, b, level) {
+        return found;
+    }
+    found.with(
+        at.then(Step::Members),
+        Content::Members(a, b),
+        Content::Members(b, a),
     )
 }
 
-fn walk_ensemble<'a>(
-    found: Found,
+fn walk_datum<'b, 'a>(
+    found: Found<'b, 'a>,
     at: Path,
-    a: &Ensemble<'a>,
-    b: &Ensemble<'a>,
+    a: &'b Datum<'a>,
+    b: &'b Datum<'a>,
     level: Level,
-) -> Found
+) -> Found<'b, 'a>
     requires { length at ≤ 3 }
-    ensures { Walked (parts_of_ensemble at level a.now b.now) found result }
+    ensures { Walked (parts_of_datum at level a.now b.now) found.entry result }
 {
-    let found = found.part(&at, Step::Name, same_text(a.name, b.name));
-    let found = found.part(
+    let found = found.text(&at, Step::Name, a.name, b.name);
+    let below = at.then(Step::Ellipsoid);
+    let found = walk_ellipsoids(found, below, &a.ellipsoid, &b.ellipsoid, level);
+    let found = found.optional_text(&at, Step::Anchor, a.anchor, b.anchor);
+    let found = found.optional_number(&at, Step::AnchorEpoch, &a.anchor_epoch, &b.anchor_epoch);
+    found.identifiers(&at, level, &a.identifiers, &b.identifiers)
+}
+
+fn walk_ensemble<'b, 'a>(
+    found: Found<'b, 'a>,
+    at: Path,
+    a: &'b Ensemble<'a>,
+    b: &'b Ensemble<'a>,
+    level: Level,
+) -> Found<'b, 'a>
+    requires { length at ≤ 3 }
+    ensures { Walked (parts_of_ensemble at level a.now b.now) found.entry result }
+{
+    let found = found.text(&at, Step::Name, a.name, b.name);
+    let found = walk_members(
+        found,
         &at,
-        Step::Members,
-        same_members(a.members.as_slice(), b.members.as_slice(), level),
+        a.members.as_slice(),
+        b.members.as_slice(),
+        level,
     );
     let below = at.then(Step::Ellipsoid);
     let found = walk_ellipsoids(found, below, &a.ellipsoid, &b.ellipsoid, level);
-    let found = found.part(&at, Step::Accuracy, same_value(&a.accuracy, &b.accuracy));
-    found.part(
-        &at,
-        Step::Id,
-        same_idents(&a.identifiers, &b.identifiers, level),
-    )
+    let found = found.number(&at, Step::Accuracy, &a.accuracy, &b.accuracy);
+    found.identifiers(&at, level, &a.identifiers, &b.identifiers)
+}
+
+// The keyword of a reference frame.
+fn datum_word(ellipsoid: &Option<Ellipsoid<'_>>) -> &'static str
+    ensures { result.now ≡ datum_word ellipsoid.now }
+{
+    match ellipsoid {
+        None => "VDATUM",
+        Some(_) => "DATUM",
+    }
+}
+
+// A reference frame beside an ensemble: what both have.
+#[tactic(auto, unfolding(crate::specs::PartsOfFrames::parts_of_frame))]
+fn walk_datum_beside<'b, 'a>(
+    found: Found<'b, 'a>,
+    at: Path,
+    a: &'b Datum<'a>,
+    b: &'b Ensemble<'a>,
+    level: Level,
+) -> Found<'b, 'a>
+    requires { length at ≤ 3 }
+    ensures { Walked (parts_of_frame at level (frame.Datum a.now) (frame.Ensemble b.now)) found.entry result }
+{
+    let found = found.unlike(&at, Step::Kind, datum_word(&a.ellipsoid), "ENSEMBLE");
+    let found = found.text(&at, Step::Name, a.name, b.name);
+    let below = at.then(Step::Ellipsoid);
+    let found = walk_ellipsoids(found, below, &a.ellipsoid, &b.ellipsoid, level);
+    found.identifiers(&at, level, &a.identifiers, &b.identifiers)
+}
+
+// An ensemble beside a reference frame: what both have.
+#[tactic(auto, unfolding(crate::specs::PartsOfFrames::parts_of_frame))]
+fn walk_ensemble_beside<'b, 'a>(
+    found: Found<'b, 'a>,
+    at: Path,
+    a: &'b Ensemble<'a>,
+    b: &'b Datum<'a>,
+    level: Level,
+) -> Found<'b, 'a>
+    requires { length at ≤ 3 }
+    ensures { Walked (parts_of_frame at level (frame.Ensemble a.now) (frame.Datum b.now)) found.entry result }
+{
+    let found = found.unlike(&at, Step::Kind, "ENSEMBLE", datum_word(&b.ellipsoid));
+    let found = found.text(&at, Step::Name, a.name, b.name);
+    let below = at.then(Step::Ellipsoid);
+    let found = walk_ellipsoids(found, below, &a.ellipsoid, &b.ellipsoid, level);
+    found.identifiers(&at, level, &a.identifiers, &b.identifiers)
 }
 
 #[tactic(auto, unfolding(crate::specs::PartsOfFrames::parts_of_frame))]
-pub(crate) fn walk_frame<'a>(
-    found: Found,
+pub(crate) fn walk_frame<'b, 'a>(
+    found: Found<'b, 'a>,
     at: Path,
-    a: &Frame<'a>,
-    b: &Frame<'a>,
+    a: &'b Frame<'a>,
+    b: &'b Frame<'a>,
     level: Level,
-) -> Found
+) -> Found<'b, 'a>
     requires { length at ≤ 3 }
-    ensures { Walked (parts_of_frame at level a.now b.now) found result }
+    ensures { Walked (parts_of_frame at level a.now b.now) found.entry result }
 {
     if found.is_done() {
         return found;
@@ -236,18 +466,15 @@ pub(crate) fn walk_frame<'a>(
     match (a, b) {
         (Frame::Datum(x), Frame::Datum(y)) => walk_datum(found, at, x, y, level),
         (Frame::Ensemble(x), Frame::Ensemble(y)) => walk_ensemble(found, at, x, y, level),
-        (Frame::Datum(_), Frame::Ensemble(_)) | (Frame::Ensemble(_), Frame::Datum(_)) => found.part(
-            &at,
-            Step::Kind,
-            false,
-        ),
+        (Frame::Datum(x), Frame::Ensemble(y)) => walk_datum_beside(found, at, x, y, level),
+        (Frame::Ensemble(x), Frame::Datum(y)) => walk_ensemble_beside(found, at, x, y, level),
     }
 }
 
 /// Whether two reference frames are the same: name, ellipsoid, anchor and its epoch, each in both or in neither, and identifiers.
 /// ISO 19162:2019, "Geodetic reference frame" and "Vertical reference frame".
 pub fn same_datum<'a>(a: &Datum<'a>, b: &Datum<'a>, level: Level) -> bool
-    ensures { IsTrue result ↔ SameDatum level a.now b.now }
+    ensures { IsTrue result ↔ AreSame parts_of_datum level a.now b.now }
 {
     walk_datum(Found::first(), Path::start(), a, b, level).is_same()
 }
@@ -255,14 +482,14 @@ pub fn same_datum<'a>(a: &Datum<'a>, b: &Datum<'a>, level: Level) -> bool
 /// Whether two ensembles are the same: name, the set of members, the ellipsoid in both or in neither, accuracy and
 /// identifiers. ISO 19162:2019, "Datum ensemble".
 pub fn same_ensemble<'a>(a: &Ensemble<'a>, b: &Ensemble<'a>, level: Level) -> bool
-    ensures { IsTrue result ↔ SameEnsemble level a.now b.now }
+    ensures { IsTrue result ↔ AreSame parts_of_ensemble level a.now b.now }
 {
     walk_ensemble(Found::first(), Path::start(), a, b, level).is_same()
 }
 
 /// Whether two frames are the same: both reference frames or both ensembles, and the same as such. Profile.
 pub fn same_frame<'a>(a: &Frame<'a>, b: &Frame<'a>, level: Level) -> bool
-    ensures { IsTrue result ↔ SameFrame level a.now b.now }
+    ensures { IsTrue result ↔ AreSame parts_of_frame level a.now b.now }
 {
     walk_frame(Found::first(), Path::start(), a, b, level).is_same()
 }

@@ -13,20 +13,24 @@ ghost use Rattle.crs_value.specs.Sound.{Each};
 ghost use Rattle.crs_value.specs.Values.{AxisParts, SystemParts};
 ghost use Rattle.crs_same.specs.declared.step.Step.{Step};
 ghost use Rattle.crs_same.specs.Definition.{IsOfDefinition};
-ghost use Rattle.crs_same.specs.PartsOfCrs.{parts_of_crs, FirstInCrs, DifferencesInCrs};
-ghost use Rattle.crs_same.specs.Parts.{AllSame};
+ghost use Rattle.crs_same.specs.Agreement.{AgreeWhereSame};
+ghost use Rattle.crs_same.specs.PartsOfCrs.{parts_of_method, parts_of_conversion, parts_of_tail, parts_of_geodetic};
+ghost use Rattle.crs_same.specs.PartsOfCrs.{parts_of_base, parts_of_projected, parts_of_vertical, parts_of_horizontal};
+ghost use Rattle.crs_same.specs.PartsOfCrs.{parts_of_compound, FirstInCrs, DifferencesInCrs};
+ghost use Rattle.crs_same.specs.PartsOfFrames.{parts_of_ellipsoid, parts_of_given, parts_of_meridian, parts_of_datum};
+ghost use Rattle.crs_same.specs.PartsOfFrames.{parts_of_ensemble, parts_of_frame};
+ghost use Rattle.crs_same.specs.PartsOfSystems.{parts_of_system};
+ghost use Rattle.crs_same.specs.Parts.{AreSame, DifferenceParts};
 ghost use Rattle.crs_same.specs.Paths.{path_text};
 ghost use Rattle.crs_same.specs.Sameness.{IsSameness, IsSamenessOf};
-ghost use Rattle.crs_same.specs.SameConversions.{SameMethod, SameParameter, SameConversion, SameGeoidModel};
-ghost use Rattle.crs_same.specs.SameCrs.{SameGeodetic, SameBase, SameProjected, SameVertical, SameHorizontal};
-ghost use Rattle.crs_same.specs.SameCrs.{IsHorizontalPart, SameCompound, SameCrs};
-ghost use Rattle.crs_same.specs.SameDynamic.{SameDeformationModel, SameDynamic};
-ghost use Rattle.crs_same.specs.SameFrames.{IsZero, SameEllipsoid, SameGiven, SameMeridian, SameMember, SameDatum};
-ghost use Rattle.crs_same.specs.SameFrames.{SameEnsemble, SameFrame};
+ghost use Rattle.crs_same.specs.SameConversions.{SameParameter, SameGeoidModel};
+ghost use Rattle.crs_same.specs.SameCrs.{SameCrs, SameDynamic, IsHorizontalPart};
+ghost use Rattle.crs_same.specs.SameDynamic.{SameDeformationModel};
+ghost use Rattle.crs_same.specs.SameFrames.{IsZero, SameMember};
 ghost use Rattle.crs_same.specs.SameIdents.{SameIdent, SameIdents};
-ghost use Rattle.crs_same.specs.SameSystems.{SameAxisMeridian, SameAxisAlone, HasAt, SameSystem};
+ghost use Rattle.crs_same.specs.SameSystems.{SameAxisMeridian, SameAxisAlone, HasAt};
 ghost use Rattle.crs_same.specs.SameUnits.{SameValue, SameUnit, SameLength};
-ghost use Rattle.crs_same.specs.SameUsages.{SameBox, SameExtent, SameUsage, SameTail};
+ghost use Rattle.crs_same.specs.SameUsages.{SameBox, SameExtent, SameUsage};
 
 use crs_decimal::laws;
 
@@ -56,6 +60,14 @@ pub(crate) fn zero_is_one_number()
     ensures { (a b : Value) → SameValue a b → IsZero b → IsZero a }
 {
     laws::same_number_is_equivalence();
+}
+
+/// All parts of two values are the same exactly where the values agree, field by field: what proofs stand on.
+pub fn parts_agree_where_same()
+    ensures { (level : Level) → AgreeWhereSame level }
+{
+    zero_is_one_number();
+    as_many_axes();
 }
 
 // ---- sameness is an equivalence
@@ -97,8 +109,9 @@ pub fn same_length_is_equivalence()
 
 /// Sameness of methods is an equivalence.
 pub fn same_method_is_equivalence()
-    ensures { (level : Level) → IsSameness (SameMethod level) }
+    ensures { (level : Level) → IsSameness (AreSame parts_of_method level) }
 {
+    parts_agree_where_same();
     same_idents_is_equivalence();
 }
 
@@ -113,8 +126,9 @@ pub fn same_parameter_is_equivalence()
 
 /// Sameness of conversions is an equivalence.
 pub fn same_conversion_is_equivalence()
-    ensures { (level : Level) → IsSameness (SameConversion level) }
+    ensures { (level : Level) → IsSameness (AreSame parts_of_conversion level) }
 {
+    parts_agree_where_same();
     same_method_is_equivalence();
     same_parameter_is_equivalence();
     same_idents_is_equivalence();
@@ -152,16 +166,18 @@ pub fn same_usage_is_equivalence()
 
 /// Sameness of the ends of CRSs is an equivalence.
 pub fn same_tail_is_equivalence()
-    ensures { (level : Level) → IsSameness (SameTail level) }
+    ensures { (level : Level) → IsSameness (AreSame parts_of_tail level) }
 {
+    parts_agree_where_same();
     same_usage_is_equivalence();
     same_idents_is_equivalence();
 }
 
 /// Sameness of ellipsoids is an equivalence.
 pub fn same_ellipsoid_is_equivalence()
-    ensures { (level : Level) → IsSameness (SameEllipsoid level) }
+    ensures { (level : Level) → IsSameness (AreSame parts_of_ellipsoid level) }
 {
+    parts_agree_where_same();
     same_value_is_equivalence();
     same_length_is_equivalence();
     same_idents_is_equivalence();
@@ -169,9 +185,10 @@ pub fn same_ellipsoid_is_equivalence()
 
 /// Sameness of prime meridians is an equivalence, also where a missing one is Greenwich.
 pub fn same_meridian_is_equivalence()
-    ensures given { (level : Level) → IsSameness (SameGiven level) }
-    ensures optional { (level : Level) → IsSameness (SameMeridian level) }
+    ensures given { (level : Level) → IsSameness (AreSame parts_of_given level) }
+    ensures optional { (level : Level) → IsSameness (AreSame parts_of_meridian level) }
 {
+    parts_agree_where_same();
     same_value_is_equivalence();
     same_unit_is_equivalence();
     same_idents_is_equivalence();
@@ -186,8 +203,9 @@ pub fn same_member_is_equivalence()
 
 /// Sameness of reference frames is an equivalence.
 pub fn same_datum_is_equivalence()
-    ensures { (level : Level) → IsSameness (SameDatum level) }
+    ensures { (level : Level) → IsSameness (AreSame parts_of_datum level) }
 {
+    parts_agree_where_same();
     same_value_is_equivalence();
     same_ellipsoid_is_equivalence();
     same_idents_is_equivalence();
@@ -195,8 +213,9 @@ pub fn same_datum_is_equivalence()
 
 /// Sameness of ensembles is an equivalence.
 pub fn same_ensemble_is_equivalence()
-    ensures { (level : Level) → IsSameness (SameEnsemble level) }
+    ensures { (level : Level) → IsSameness (AreSame parts_of_ensemble level) }
 {
+    parts_agree_where_same();
     same_value_is_equivalence();
     same_member_is_equivalence();
     same_ellipsoid_is_equivalence();
@@ -205,8 +224,9 @@ pub fn same_ensemble_is_equivalence()
 
 /// Sameness of frames, be they reference frames or ensembles, is an equivalence.
 pub fn same_frame_is_equivalence()
-    ensures { (level : Level) → IsSameness (SameFrame level) }
+    ensures { (level : Level) → IsSameness (AreSame parts_of_frame level) }
 {
+    parts_agree_where_same();
     same_datum_is_equivalence();
     same_ensemble_is_equivalence();
 }
@@ -222,6 +242,7 @@ pub fn same_deformation_model_is_equivalence()
 pub fn same_dynamic_is_equivalence()
     ensures { (level : Level) → IsSameness (SameDynamic level) }
 {
+    parts_agree_where_same();
     same_value_is_equivalence();
     same_deformation_model_is_equivalence();
 }
@@ -246,8 +267,9 @@ pub fn same_axis_is_equivalence()
 
 /// Sameness of coordinate systems is an equivalence.
 pub fn same_system_is_equivalence()
-    ensures { (level : Level) → IsSamenessOf IsSystem (SameSystem level) }
+    ensures { (level : Level) → IsSamenessOf IsSystem (AreSame parts_of_system level) }
 {
+    parts_agree_where_same();
     same_value_is_equivalence();
     same_axis_meridian_is_equivalence();
     same_unit_is_equivalence();
@@ -258,8 +280,9 @@ pub fn same_system_is_equivalence()
 
 /// Sameness of base CRSs is an equivalence.
 pub fn same_base_is_equivalence()
-    ensures { (level : Level) → IsSameness (SameBase level) }
+    ensures { (level : Level) → IsSameness (AreSame parts_of_base level) }
 {
+    parts_agree_where_same();
     same_dynamic_is_equivalence();
     same_frame_is_equivalence();
     same_meridian_is_equivalence();
@@ -269,8 +292,9 @@ pub fn same_base_is_equivalence()
 
 /// Sameness of geodetic and geographic CRSs is an equivalence.
 pub fn same_geodetic_is_equivalence()
-    ensures { (level : Level) → IsSamenessOf IsGeodetic (SameGeodetic level) }
+    ensures { (level : Level) → IsSamenessOf IsGeodetic (AreSame parts_of_geodetic level) }
 {
+    parts_agree_where_same();
     same_dynamic_is_equivalence();
     same_frame_is_equivalence();
     same_meridian_is_equivalence();
@@ -280,8 +304,9 @@ pub fn same_geodetic_is_equivalence()
 
 /// Sameness of projected CRSs is an equivalence.
 pub fn same_projected_is_equivalence()
-    ensures { (level : Level) → IsSamenessOf IsProjected (SameProjected level) }
+    ensures { (level : Level) → IsSamenessOf IsProjected (AreSame parts_of_projected level) }
 {
+    parts_agree_where_same();
     same_base_is_equivalence();
     same_conversion_is_equivalence();
     same_system_is_equivalence();
@@ -290,8 +315,9 @@ pub fn same_projected_is_equivalence()
 
 /// Sameness of vertical CRSs is an equivalence.
 pub fn same_vertical_is_equivalence()
-    ensures { (level : Level) → IsSamenessOf IsVertical (SameVertical level) }
+    ensures { (level : Level) → IsSamenessOf IsVertical (AreSame parts_of_vertical level) }
 {
+    parts_agree_where_same();
     same_dynamic_is_equivalence();
     same_frame_is_equivalence();
     same_system_is_equivalence();
@@ -301,16 +327,18 @@ pub fn same_vertical_is_equivalence()
 
 /// Sameness of the horizontal parts of compound CRSs, by themselves, is an equivalence.
 pub fn same_horizontal_is_equivalence()
-    ensures { (level : Level) → IsSamenessOf IsHorizontalPart (SameHorizontal level) }
+    ensures { (level : Level) → IsSamenessOf IsHorizontalPart (AreSame parts_of_horizontal level) }
 {
+    parts_agree_where_same();
     same_geodetic_is_equivalence();
     same_projected_is_equivalence();
 }
 
 /// Sameness of compound CRSs is an equivalence.
 pub fn same_compound_is_equivalence()
-    ensures { (level : Level) → IsSamenessOf IsCompound (SameCompound level) }
+    ensures { (level : Level) → IsSamenessOf IsCompound (AreSame parts_of_compound level) }
 {
+    parts_agree_where_same();
     same_horizontal_is_equivalence();
     same_vertical_is_equivalence();
     same_tail_is_equivalence();
@@ -320,6 +348,7 @@ pub fn same_compound_is_equivalence()
 pub fn same_crs_is_equivalence()
     ensures { (level : Level) → IsSamenessOf IsCrs (SameCrs level) }
 {
+    parts_agree_where_same();
     same_geodetic_is_equivalence();
     same_projected_is_equivalence();
     same_vertical_is_equivalence();
@@ -341,21 +370,17 @@ pub fn paths_have_words()
 /// The first of all parts in which two CRSs differ is the first part in which they differ.
 pub fn first_difference_is_first_part()
     ensures none { (level : Level) (a b : Crs) → DifferencesInCrs level a b [] → FirstInCrs level a b None }
-    ensures some { (level : Level) (a b : Crs) (path : List Step) (further : List (List Step)) →
-        DifferencesInCrs level a b (path ∷ further) → FirstInCrs level a b (Some path) }
+    ensures some { (level : Level) (a b : Crs) (one : DifferenceParts) (further : List DifferenceParts) →
+        DifferencesInCrs level a b (one ∷ further) → FirstInCrs level a b (Some one.path) }
 {}
 
-/// All parts of two CRSs are the same exactly where the CRSs are, and none differs first exactly there.
-pub fn parts_are_the_same_where_crs_is()
-    ensures all { (level : Level) (a b : Crs) → IsCrs a → IsCrs b →
-        (AllSame (parts_of_crs level a b) ↔ SameCrs level a b) }
-    ensures none { (level : Level) (a b : Crs) → IsCrs a → IsCrs b → FirstInCrs level a b None → SameCrs level a b }
+/// No part of two CRSs differs first exactly where the CRSs are the same.
+pub fn no_part_differs_where_same()
+    ensures none { (level : Level) (a b : Crs) → (FirstInCrs level a b None ↔ SameCrs level a b) }
     ensures some { (level : Level) (a b : Crs) → IsCrs a → IsCrs b → (path : List Step) →
         FirstInCrs level a b (Some path) → ¬ SameCrs level a b }
 {
-    zero_is_one_number();
     one_axis_each();
-    as_many_axes();
 }
 
 // ---- the two levels

@@ -2,6 +2,7 @@
 //! filled in, sorted or spelled.
 #![tactic(auto)]
 
+mod content;
 mod conversions;
 mod crs;
 mod dynamic;
@@ -21,7 +22,8 @@ mod texts;
 mod units;
 mod usages;
 
+pub use content::{Content, Text, Usages};
 pub use crs::{differences, first_part, same};
-pub use found::Paths;
+pub use found::{Difference, Differences};
 pub use path::Path;
 pub use step::Step;

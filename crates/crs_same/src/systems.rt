@@ -1,12 +1,19 @@
 //! Axes and coordinate systems.
-ghost use Rattle.std.specs.Prelude.{◌≡◌, ◌↔◌, ◌≤◌, length, max, ⊤, IsTrue, IfSome, IfNone};
+ghost use Rattle.std.specs.Prelude.{◌≡◌, ◌↔◌, ◌<◌, ◌≤◌, length, max, ⊤, IsTrue, IfSome, IfNone};
 ghost use Rattle.std.specs.Option.{option_copied};
+ghost use Rattle.crs_value.specs.Words.{direction_word, system_word};
+ghost use Rattle.crs_same.specs.declared.step.Step.TheVariants as step;
+ghost use Rattle.crs_same.specs.Contents.{given};
+ghost use Rattle.crs_same.specs.Contents as content;
+ghost use Rattle.crs_same.specs.Parts.{◌▸◌, part, within};
+ghost use Rattle.crs_same.specs.SingleParts.{words};
 ghost use Rattle.crs_same.specs.Walked.{Walked};
 ghost use Rattle.crs_same.specs.Sets.{BothOrNeither};
-ghost use Rattle.crs_same.specs.PartsOfSystems.{parts_of_axis, parts_of_both, parts_at, parts_of_axes, parts_of_system};
-ghost use Rattle.crs_same.specs.SameSystems.{SameAxisMeridian, SameAxis, SameAxisAlone, IsPositionOf, HasAt, SameAt};
-ghost use Rattle.crs_same.specs.SameSystems.{SameAxes, SameSystem};
+ghost use Rattle.crs_same.specs.PartsOfSystems.{parts_of_axis, StandsAt, StandAt, parts_at, parts_of_axes};
+ghost use Rattle.crs_same.specs.PartsOfSystems.{parts_of_system};
+ghost use Rattle.crs_same.specs.SameSystems.{SameAxisMeridian, SameAxisAlone, IsPositionOf, HasAt};
 
+use crate::content::Content;
 use crate::found::Found;
 use crate::idents::same_idents;
 use crate::laws;
@@ -51,45 +58,96 @@ fn same_type(a: SystemType, b: SystemType) -> bool
     a == b
 }
 
-// The parts of an axis of each of two systems.
-#[tactic(auto, unfolding(crate::specs::PartsOfSystems::parts_of_axis, crate::specs::SameSystems::SameAxis))]
-fn walk_axis<'a>(
-    found: Found,
-    at: Path,
-    a: &System<'a>,
-    b: &System<'a>,
-    x: &Axis<'a>,
-    y: &Axis<'a>,
-    level: Level,
-) -> Found
-    requires { length at ≤ 4 }
-    ensures { Walked (parts_of_axis at level a.now b.now x.now y.now) found result }
+#[tactic(auto, using(crate::proofs::WalkedLemmas::walked_rules))]
+fn walk_direction<'b, 'a>(
+    found: Found<'b, 'a>,
+    at: &Path,
+    a: Direction,
+    b: Direction,
+) -> Found<'b, 'a>
+    requires { length at.now < 5 }
+    ensures { Walked (words (at.now ▸ step.Direction) direction_word a b) found.entry result }
 {
     if found.is_done() {
         return found;
     }
-    let found = found.part(&at, Step::Name, same_text(x.name, y.name));
-    let found = found.part(
-        &at,
-        Step::Direction,
-        same_direction(x.direction, y.direction),
-    );
-    let found = found.part(
-        &at,
-        Step::Meridian,
-        same_axis_meridians(&x.meridian, &y.meridian, level),
-    );
-    let asked = a.system_type.asked_kind(x.direction);
-    let found = found.part(
-        &at,
-        Step::Unit,
-        same_units_as(asked, a.unit_of(x), b.unit_of(y), level),
-    );
-    found.part(
-        &at,
-        Step::Id,
-        same_idents(&x.identifiers, &y.identifiers, level),
+    if same_direction(a, b) {
+        return found;
+    }
+    found.with(
+        at.then(Step::Direction),
+        Content::word(a.word()),
+        Content::word(b.word()),
     )
+}
+
+#[tactic(auto, using(crate::proofs::WalkedLemmas::walked_rules))]
+fn walk_type<'b, 'a>(found: Found<'b, 'a>, at: &Path, a: SystemType, b: SystemType) -> Found<'b, 'a>
+    requires { length at.now < 5 }
+    ensures { Walked (words (at.now ▸ step.SystemType) system_word a b) found.entry result }
+{
+    if found.is_done() {
+        return found;
+    }
+    if same_type(a, b) {
+        return found;
+    }
+    found.with(
+        at.then(Step::SystemType),
+        Content::word(a.word()),
+        Content::word(b.word()),
+    )
+}
+
+#[tactic(auto, using(crate::proofs::WalkedLemmas::walked_rules))]
+fn walk_axis_meridians<'b, 'a>(
+    found: Found<'b, 'a>,
+    at: &Path,
+    a: &'b Option<AxisMeridian<'a>>,
+    b: &'b Option<AxisMeridian<'a>>,
+    level: Level,
+) -> Found<'b, 'a>
+    requires { length at.now < 5 }
+    ensures { Walked (part (at.now ▸ step.Meridian) (BothOrNeither (SameAxisMeridian level) a.now b.now)
+        (given content.meridian a.now) (given content.meridian b.now)) found.entry result }
+{
+    if found.is_done() {
+        return found;
+    }
+    if same_axis_meridians(a, b, level) {
+        return found;
+    }
+    found.with(
+        at.then(Step::Meridian),
+        Content::optional_meridian(a.as_ref()),
+        Content::optional_meridian(b.as_ref()),
+    )
+}
+
+// The parts of an axis of each of two systems.
+#[tactic(auto, unfolding(crate::specs::PartsOfSystems::parts_of_axis))]
+fn walk_axis<'b, 'a>(
+    found: Found<'b, 'a>,
+    at: Path,
+    a: &'b System<'a>,
+    b: &'b System<'a>,
+    x: &'b Axis<'a>,
+    y: &'b Axis<'a>,
+    level: Level,
+) -> Found<'b, 'a>
+    requires { length at ≤ 4 }
+    ensures { Walked (parts_of_axis at level a.now b.now x.now y.now) found.entry result }
+{
+    if found.is_done() {
+        return found;
+    }
+    let found = found.text(&at, Step::Name, x.name, y.name);
+    let found = walk_direction(found, &at, x.direction, y.direction);
+    let found = walk_axis_meridians(found, &at, &x.meridian, &y.meridian, level);
+    let asked = a.system_type.asked_kind(x.direction);
+    let other = b.system_type.asked_kind(y.direction);
+    let found = found.unit(&at, level, (asked, other), a.unit_of(x), b.unit_of(y));
+    found.identifiers(&at, level, &x.identifiers, &y.identifiers)
 }
 
 // Whether an axis that is written at this place, from 1 on, has this position.
@@ -117,47 +175,93 @@ fn axis_at<'b, 'a>(axes: &'b [Axis<'a>], position: u64) -> Option<&'b Axis<'a>>
     None
 }
 
-// The parts of the axes that stand at this position in both.
-fn walk_both<'a>(
-    found: Found,
+// The name of the axis at this position of the first system alone.
+fn walk_first_alone<'b, 'a>(
+    found: Found<'b, 'a>,
     at: Path,
-    a: &System<'a>,
-    b: &System<'a>,
+    a: &'b System<'a>,
+    position: u64,
+) -> Found<'b, 'a>
+    requires room { length at ≤ 4 }
+    requires position { 1 ≤ position }
+    requires in_first { position ≤ length a.now.axes }
+    ensures { Walked (within (StandsAt position a.now.axes) (λ axis. part (at ▸ step.Name) ⊥
+        (content.text axis.name) content.nothing)) found.entry result }
+{
+    laws::one_axis_each();
+    match axis_at(a.axes.as_slice(), position) {
+        Some(x) => found.alone(&at, Step::Name, Content::text(x.name), Content::Nothing),
+        None => unreachable!(),
+    }
+}
+
+// The name of the axis at this position of the second system alone.
+fn walk_second_alone<'b, 'a>(
+    found: Found<'b, 'a>,
+    at: Path,
+    b: &'b System<'a>,
+    position: u64,
+) -> Found<'b, 'a>
+    requires room { length at ≤ 4 }
+    requires position { 1 ≤ position }
+    requires in_second { position ≤ length b.now.axes }
+    ensures { Walked (within (StandsAt position b.now.axes) (λ axis. part (at ▸ step.Name) ⊥
+        content.nothing (content.text axis.name))) found.entry result }
+{
+    laws::one_axis_each();
+    match axis_at(b.axes.as_slice(), position) {
+        Some(y) => found.alone(&at, Step::Name, Content::Nothing, Content::text(y.name)),
+        None => unreachable!(),
+    }
+}
+
+// The parts of the axes that stand at this position in both.
+fn walk_both<'b, 'a>(
+    found: Found<'b, 'a>,
+    at: Path,
+    a: &'b System<'a>,
+    b: &'b System<'a>,
     position: u64,
     level: Level,
-) -> Found
-    requires room { length at ≤ 3 }
+) -> Found<'b, 'a>
+    requires room { length at ≤ 4 }
     requires position { 1 ≤ position }
     requires in_first { position ≤ length a.now.axes }
     requires in_second { position ≤ length b.now.axes }
-    ensures { Walked (parts_of_both at level a.now b.now position) found result }
+    ensures { Walked (within (StandAt position a.now b.now)
+        (λ axes. parts_of_axis at level a.now b.now axes.0 axes.1)) found.entry result }
 {
     laws::one_axis_each();
     let x = axis_at(a.axes.as_slice(), position);
     let y = axis_at(b.axes.as_slice(), position);
     match (x, y) {
-        (Some(x), Some(y)) => walk_axis(found, at.then(Step::Axis(position)), a, b, x, y, level),
+        (Some(x), Some(y)) => walk_axis(found, at, a, b, x, y, level),
         _ => unreachable!(),
     }
 }
 
 // The parts of the axes at this position, where each system has one or only one of them has.
-fn walk_at<'a>(
-    found: Found,
+fn walk_at<'b, 'a>(
+    found: Found<'b, 'a>,
     at: Path,
-    a: &System<'a>,
-    b: &System<'a>,
+    a: &'b System<'a>,
+    b: &'b System<'a>,
     position: u64,
     level: Level,
-) -> Found
+) -> Found<'b, 'a>
     requires room { length at ≤ 3 }
     requires position { 1 ≤ position }
-    ensures { Walked (parts_at at level a.now b.now position) found result }
+    requires in_one { position ≤ max (length a.now.axes) (length b.now.axes) }
+    ensures { Walked (parts_at at level a.now b.now position) found.entry result }
 {
-    if position <= axis_count(a) && position <= axis_count(b) {
-        return walk_both(found, at, a, b, position, level);
+    let at = at.then(Step::Axis(position));
+    if position <= axis_count(a) {
+        if position <= axis_count(b) {
+            return walk_both(found, at, a, b, position, level);
+        }
+        return walk_first_alone(found, at, a, position);
     }
-    found.part(&at.then(Step::Axis(position)), Step::Name, false)
+    walk_second_alone(found, at, b, position)
 }
 
 fn axis_count(system: &System<'_>) -> u64
@@ -166,9 +270,15 @@ fn axis_count(system: &System<'_>) -> u64
     system.axes.as_slice().len() as u64
 }
 
-fn walk_axes<'a>(found: Found, at: Path, a: &System<'a>, b: &System<'a>, level: Level) -> Found
+fn walk_axes<'b, 'a>(
+    found: Found<'b, 'a>,
+    at: Path,
+    a: &'b System<'a>,
+    b: &'b System<'a>,
+    level: Level,
+) -> Found<'b, 'a>
     requires { length at ≤ 3 }
-    ensures { Walked (parts_of_axes at level a.now b.now (max (length a.now.axes) (length b.now.axes))) found result }
+    ensures { Walked (parts_of_axes at level a.now b.now (max (length a.now.axes) (length b.now.axes))) found.entry result }
 {
     let mut found = found;
     for index in 0..axis_count(a).max(axis_count(b)) {
@@ -178,27 +288,19 @@ fn walk_axes<'a>(found: Found, at: Path, a: &System<'a>, b: &System<'a>, level: 
 }
 
 #[tactic(auto, unfolding(crate::specs::PartsOfSystems::parts_of_system))]
-pub(crate) fn walk_system<'a>(
-    found: Found,
+pub(crate) fn walk_system<'b, 'a>(
+    found: Found<'b, 'a>,
     at: Path,
-    a: &System<'a>,
-    b: &System<'a>,
+    a: &'b System<'a>,
+    b: &'b System<'a>,
     level: Level,
-) -> Found
+) -> Found<'b, 'a>
     requires { length at ≤ 3 }
-    ensures { Walked (parts_of_system at level a.now b.now) found result }
+    ensures { Walked (parts_of_system at level a.now b.now) found.entry result }
 {
-    let found = found.part(
-        &at,
-        Step::SystemType,
-        same_type(a.system_type, b.system_type),
-    );
-    let found = found.part(&at, Step::Dimension, same_value(&a.dimension, &b.dimension));
-    let found = found.part(
-        &at,
-        Step::Id,
-        same_idents(&a.identifiers, &b.identifiers, level),
-    );
+    let found = walk_type(found, &at, a.system_type, b.system_type);
+    let found = found.number(&at, Step::Dimension, &a.dimension, &b.dimension);
+    let found = found.identifiers(&at, level, &a.identifiers, &b.identifiers);
     walk_axes(found, at, a, b, level)
 }
 

@@ -1,16 +1,20 @@
 //! Usages, and the ends of CRSs.
-ghost use Rattle.std.specs.Prelude.{◌≡◌, ◌≤◌, ◌↔◌, IsTrue, None, length, take};
+ghost use Rattle.std.specs.Prelude.{◌≡◌, ◌<◌, ◌≤◌, ◌↔◌, IsTrue, None, length, take};
 ghost use Rattle.std.specs.Option.{option_copied};
 ghost use Rattle.crs_value.specs.declared.values.level.Level.{Level};
+ghost use Rattle.crs_value.specs.Kept.{kept};
+ghost use Rattle.crs_same.specs.declared.step.Step.TheVariants as step;
+ghost use Rattle.crs_same.specs.Contents as content;
+ghost use Rattle.crs_same.specs.Parts.{◌▸◌};
 ghost use Rattle.crs_same.specs.PartsOfCrs.{parts_of_tail};
+ghost use Rattle.crs_same.specs.SingleParts.{sets};
 ghost use Rattle.crs_same.specs.Walked.{Walked};
 ghost use Rattle.crs_same.specs.Sets.{BothOrNeither, HasSame, AllHaveSame, SameSet};
-ghost use Rattle.crs_same.specs.SameUsages.{SameBox, SameExtent, SameUsage, with_bare, SameUsages, SameRemark};
-ghost use Rattle.crs_same.specs.SameUsages.{SameTail};
+ghost use Rattle.crs_same.specs.SameUsages.{SameBox, SameExtent, SameUsage, with_bare, usages_of, SameUsages};
 
+use crate::content::{Content, Usages};
 use crate::found::Found;
 use crate::guesses::Guesses;
-use crate::idents::same_idents;
 use crate::keys::Key;
 use crate::laws;
 use crate::numbers::same_value;
@@ -247,31 +251,62 @@ fn same_usages<'a>(a: &Tail<'a>, b: &Tail<'a>, level: Level) -> bool
     )
 }
 
-fn same_remark<'a>(a: &Tail<'a>, b: &Tail<'a>, level: Level) -> bool
-    ensures { IsTrue result ↔ SameRemark level a.now b.now }
+// The usages that the level keeps of the end of a CRS.
+#[tactic(auto, using(crate::proofs::KeptLemmas::kept_rules))]
+fn usages_of<'b, 'a>(tail: &'b Tail<'a>, level: Level) -> Usages<'b, 'a>
+    ensures { result ≡ kept level (usages_of tail.now) }
 {
-    same_optional_text(level.kept_text(a.remark), level.kept_text(b.remark))
+    Usages::new(
+        level.kept_one(tail.bare_parts.as_ref()),
+        level.kept(tail.usages.as_slice()),
+    )
 }
 
-#[tactic(auto, unfolding(crate::specs::PartsOfCrs::parts_of_tail))]
-pub(crate) fn walk_tail<'a>(
-    found: Found,
-    at: Path,
-    a: &Tail<'a>,
-    b: &Tail<'a>,
+#[tactic(auto, using(crate::proofs::WalkedLemmas::walked_rules))]
+fn walk_usages<'b, 'a>(
+    found: Found<'b, 'a>,
+    at: &Path,
+    a: &'b Tail<'a>,
+    b: &'b Tail<'a>,
     level: Level,
-) -> Found
-    requires { length at ≤ 4 }
-    ensures { Walked (parts_of_tail at level a.now b.now) found result }
+) -> Found<'b, 'a>
+    requires { length at.now < 5 }
+    ensures { Walked (sets (at.now ▸ step.Usage) SameUsage content.usages
+        (kept level (usages_of a.now)) (kept level (usages_of b.now))) found.entry result }
 {
     if found.is_done() {
         return found;
     }
-    let found = found.part(&at, Step::Usage, same_usages(a, b, level));
-    let found = found.part(
+    if same_usages(a, b, level) {
+        return found;
+    }
+    found.with(
+        at.then(Step::Usage),
+        Content::Usages(usages_of(a, level), usages_of(b, level)),
+        Content::Usages(usages_of(b, level), usages_of(a, level)),
+    )
+}
+
+#[tactic(auto, unfolding(crate::specs::PartsOfCrs::parts_of_tail))]
+pub(crate) fn walk_tail<'b, 'a>(
+    found: Found<'b, 'a>,
+    at: Path,
+    a: &'b Tail<'a>,
+    b: &'b Tail<'a>,
+    level: Level,
+) -> Found<'b, 'a>
+    requires { length at ≤ 4 }
+    ensures { Walked (parts_of_tail at level a.now b.now) found.entry result }
+{
+    if found.is_done() {
+        return found;
+    }
+    let found = walk_usages(found, &at, a, b, level);
+    let found = found.identifiers(&at, level, &a.identifiers, &b.identifiers);
+    found.optional_text(
         &at,
-        Step::Id,
-        same_idents(&a.identifiers, &b.identifiers, level),
-    );
-    found.part(&at, Step::Remark, same_remark(a, b, level))
+        Step::Remark,
+        level.kept_text(a.remark),
+        level.kept_text(b.remark),
+    )
 }

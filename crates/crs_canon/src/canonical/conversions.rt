@@ -9,12 +9,13 @@ use std::alloc::{AllocError, Global};
 
 impl Canonical for Method<'_> {
     ghost use Rattle.crs_value.specs.SoundConversion.{IsMethod};
-    ghost use Rattle.crs_same.specs.SameConversions.{SameMethod};
+    ghost use Rattle.crs_same.specs.Parts.{AreSame};
+    ghost use Rattle.crs_same.specs.PartsOfCrs.{parts_of_method};
     ghost use Rattle.crs_normal.specs.PartSpellings.{IsSpelledMethod};
 
     ghost IsValue = { IsMethod };
 
-    ghost Same = { SameMethod };
+    ghost Same = { AreSame parts_of_method };
 
     ghost IsSpelling = { IsSpelledMethod };
 
@@ -67,12 +68,13 @@ impl Canonical for Parameter<'_> {
 
 impl Canonical for Conversion<'_> {
     ghost use Rattle.crs_value.specs.SoundConversion.{IsConversion};
-    ghost use Rattle.crs_same.specs.SameConversions.{SameConversion};
+    ghost use Rattle.crs_same.specs.Parts.{AreSame};
+    ghost use Rattle.crs_same.specs.PartsOfCrs.{parts_of_conversion};
     ghost use Rattle.crs_normal.specs.PartSpellings.{IsSpelledConversion};
 
     ghost IsValue = { IsConversion };
 
-    ghost Same = { SameConversion };
+    ghost Same = { AreSame parts_of_conversion };
 
     ghost IsSpelling = { IsSpelledConversion };
 

@@ -8,7 +8,7 @@ use std::alloc::{AllocError, Global};
 
 impl Canonical for Dynamic<'_> {
     ghost use Rattle.crs_value.specs.SoundDynamic.{IsDynamic};
-    ghost use Rattle.crs_same.specs.SameDynamic.{SameDynamic};
+    ghost use Rattle.crs_same.specs.SameCrs.{SameDynamic};
     ghost use Rattle.crs_normal.specs.PartSpellings.{IsSpelledDynamic};
 
     ghost IsValue = { IsDynamic };

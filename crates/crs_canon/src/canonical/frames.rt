@@ -13,12 +13,13 @@ use std::alloc::{AllocError, Global};
 
 impl Canonical for Ellipsoid<'_> {
     ghost use Rattle.crs_value.specs.SoundFrames.{IsEllipsoid};
-    ghost use Rattle.crs_same.specs.SameFrames.{SameEllipsoid};
+    ghost use Rattle.crs_same.specs.Parts.{AreSame};
+    ghost use Rattle.crs_same.specs.PartsOfFrames.{parts_of_ellipsoid};
     ghost use Rattle.crs_normal.specs.PartSpellings.{IsSpelledEllipsoid};
 
     ghost IsValue = { IsEllipsoid };
 
-    ghost Same = { SameEllipsoid };
+    ghost Same = { AreSame parts_of_ellipsoid };
 
     ghost IsSpelling = { IsSpelledEllipsoid };
 
@@ -42,12 +43,13 @@ impl Canonical for Ellipsoid<'_> {
 
 impl Canonical for Meridian<'_> {
     ghost use Rattle.crs_value.specs.SoundFrames.{IsMeridian};
-    ghost use Rattle.crs_same.specs.SameFrames.{SameGiven};
+    ghost use Rattle.crs_same.specs.Parts.{AreSame};
+    ghost use Rattle.crs_same.specs.PartsOfFrames.{parts_of_given};
     ghost use Rattle.crs_normal.specs.PartSpellings.{IsSpelledMeridian};
 
     ghost IsValue = { IsMeridian };
 
-    ghost Same = { SameGiven };
+    ghost Same = { AreSame parts_of_given };
 
     ghost IsSpelling = { IsSpelledMeridian };
 
@@ -100,12 +102,13 @@ impl Canonical for Member<'_> {
 
 impl Canonical for Datum<'_> {
     ghost use Rattle.crs_value.specs.SoundFrames.{IsDatum};
-    ghost use Rattle.crs_same.specs.SameFrames.{SameDatum};
+    ghost use Rattle.crs_same.specs.Parts.{AreSame};
+    ghost use Rattle.crs_same.specs.PartsOfFrames.{parts_of_datum};
     ghost use Rattle.crs_normal.specs.PartSpellings.{IsSpelledDatum};
 
     ghost IsValue = { IsDatum };
 
-    ghost Same = { SameDatum };
+    ghost Same = { AreSame parts_of_datum };
 
     ghost IsSpelling = { IsSpelledDatum };
 
@@ -129,12 +132,13 @@ impl Canonical for Datum<'_> {
 
 impl Canonical for Ensemble<'_> {
     ghost use Rattle.crs_value.specs.SoundFrames.{IsEnsemble};
-    ghost use Rattle.crs_same.specs.SameFrames.{SameEnsemble};
+    ghost use Rattle.crs_same.specs.Parts.{AreSame};
+    ghost use Rattle.crs_same.specs.PartsOfFrames.{parts_of_ensemble};
     ghost use Rattle.crs_normal.specs.PartSpellings.{IsSpelledEnsemble};
 
     ghost IsValue = { IsEnsemble };
 
-    ghost Same = { SameEnsemble };
+    ghost Same = { AreSame parts_of_ensemble };
 
     ghost IsSpelling = { IsSpelledEnsemble };
 
@@ -157,12 +161,13 @@ impl Canonical for Ensemble<'_> {
 }
 
 impl Canonical for Frame<'_> {
-    ghost use Rattle.crs_same.specs.SameFrames.{SameFrame};
+    ghost use Rattle.crs_same.specs.Parts.{AreSame};
+    ghost use Rattle.crs_same.specs.PartsOfFrames.{parts_of_frame};
     ghost use Rattle.crs_normal.specs.PartSpellings.{IsFrame, IsSpelledFrame};
 
     ghost IsValue = { IsFrame };
 
-    ghost Same = { SameFrame };
+    ghost Same = { AreSame parts_of_frame };
 
     ghost IsSpelling = { IsSpelledFrame };
 

@@ -12,12 +12,13 @@ use std::alloc::{AllocError, Global};
 
 impl Canonical for Base<'_> {
     ghost use Rattle.crs_value.specs.SoundSingle.{IsBase};
-    ghost use Rattle.crs_same.specs.SameCrs.{SameBase};
+    ghost use Rattle.crs_same.specs.Parts.{AreSame};
+    ghost use Rattle.crs_same.specs.PartsOfCrs.{parts_of_base};
     ghost use Rattle.crs_normal.specs.PartSpellings.{IsSpelledBase};
 
     ghost IsValue = { IsBase };
 
-    ghost Same = { SameBase };
+    ghost Same = { AreSame parts_of_base };
 
     ghost IsSpelling = { IsSpelledBase };
 
@@ -41,12 +42,13 @@ impl Canonical for Base<'_> {
 
 impl Canonical for Geodetic<'_> {
     ghost use Rattle.crs_value.specs.SoundSingle.{IsGeodetic};
-    ghost use Rattle.crs_same.specs.SameCrs.{SameGeodetic};
+    ghost use Rattle.crs_same.specs.Parts.{AreSame};
+    ghost use Rattle.crs_same.specs.PartsOfCrs.{parts_of_geodetic};
     ghost use Rattle.crs_normal.specs.PartSpellings.{IsSpelledGeodetic};
 
     ghost IsValue = { IsGeodetic };
 
-    ghost Same = { SameGeodetic };
+    ghost Same = { AreSame parts_of_geodetic };
 
     ghost IsSpelling = { IsSpelledGeodetic };
 
@@ -70,12 +72,13 @@ impl Canonical for Geodetic<'_> {
 
 impl Canonical for Projected<'_> {
     ghost use Rattle.crs_value.specs.SoundSingle.{IsProjected};
-    ghost use Rattle.crs_same.specs.SameCrs.{SameProjected};
+    ghost use Rattle.crs_same.specs.Parts.{AreSame};
+    ghost use Rattle.crs_same.specs.PartsOfCrs.{parts_of_projected};
     ghost use Rattle.crs_normal.specs.PartSpellings.{IsSpelledProjected};
 
     ghost IsValue = { IsProjected };
 
-    ghost Same = { SameProjected };
+    ghost Same = { AreSame parts_of_projected };
 
     ghost IsSpelling = { IsSpelledProjected };
 
@@ -99,12 +102,13 @@ impl Canonical for Projected<'_> {
 
 impl Canonical for Vertical<'_> {
     ghost use Rattle.crs_value.specs.SoundSingle.{IsVertical};
-    ghost use Rattle.crs_same.specs.SameCrs.{SameVertical};
+    ghost use Rattle.crs_same.specs.Parts.{AreSame};
+    ghost use Rattle.crs_same.specs.PartsOfCrs.{parts_of_vertical};
     ghost use Rattle.crs_normal.specs.PartSpellings.{IsSpelledVertical};
 
     ghost IsValue = { IsVertical };
 
-    ghost Same = { SameVertical };
+    ghost Same = { AreSame parts_of_vertical };
 
     ghost IsSpelling = { IsSpelledVertical };
 
@@ -128,12 +132,13 @@ impl Canonical for Vertical<'_> {
 
 impl Canonical for Compound<'_> {
     ghost use Rattle.crs_value.specs.SoundCompound.{IsCompound};
-    ghost use Rattle.crs_same.specs.SameCrs.{SameCompound};
+    ghost use Rattle.crs_same.specs.Parts.{AreSame};
+    ghost use Rattle.crs_same.specs.PartsOfCrs.{parts_of_compound};
     ghost use Rattle.crs_normal.specs.PartSpellings.{IsSpelledCompound};
 
     ghost IsValue = { IsCompound };
 
-    ghost Same = { SameCompound };
+    ghost Same = { AreSame parts_of_compound };
 
     ghost IsSpelling = { IsSpelledCompound };
 
@@ -156,12 +161,13 @@ impl Canonical for Compound<'_> {
 }
 
 impl Canonical for Horizontal<'_> {
-    ghost use Rattle.crs_same.specs.SameCrs.{SameHorizontal};
+    ghost use Rattle.crs_same.specs.Parts.{AreSame};
+    ghost use Rattle.crs_same.specs.PartsOfCrs.{parts_of_horizontal};
     ghost use Rattle.crs_normal.specs.PartSpellings.{IsHorizontalPart, IsSpelledHorizontal};
 
     ghost IsValue = { IsHorizontalPart };
 
-    ghost Same = { SameHorizontal };
+    ghost Same = { AreSame parts_of_horizontal };
 
     ghost IsSpelling = { IsSpelledHorizontal };
 

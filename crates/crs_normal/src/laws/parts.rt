@@ -11,11 +11,17 @@ ghost use Rattle.crs_value.specs.SoundSingle.{IsBase, IsGeodetic, IsProjected, I
 ghost use Rattle.crs_value.specs.SoundUsages.{IsBox, IsExtent, IsUsage};
 ghost use Rattle.crs_value.specs.declared.values.level.Level.{Level};
 ghost use Rattle.crs_value.specs.declared.values.unit_kind.UnitKind.TheVariants as kinds;
-ghost use Rattle.crs_same.specs.SameConversions.{SameConversion, SameGeoidModel, SameMethod, SameParameter};
-ghost use Rattle.crs_same.specs.SameCrs.{SameBase, SameCompound, SameGeodetic, SameHorizontal, SameProjected};
-ghost use Rattle.crs_same.specs.SameCrs.{SameVertical};
-ghost use Rattle.crs_same.specs.SameDynamic.{SameDeformationModel, SameDynamic};
-ghost use Rattle.crs_same.specs.SameFrames.{SameDatum, SameEllipsoid, SameEnsemble, SameFrame, SameGiven, SameMember};
+ghost use Rattle.crs_same.specs.Parts.{AreSame};
+ghost use Rattle.crs_same.specs.PartsOfCrs.{parts_of_method, parts_of_conversion, parts_of_base};
+ghost use Rattle.crs_same.specs.PartsOfCrs.{parts_of_geodetic, parts_of_projected};
+ghost use Rattle.crs_same.specs.PartsOfCrs.{parts_of_vertical, parts_of_compound};
+ghost use Rattle.crs_same.specs.PartsOfCrs.{parts_of_horizontal};
+ghost use Rattle.crs_same.specs.PartsOfFrames.{parts_of_ellipsoid, parts_of_given, parts_of_datum};
+ghost use Rattle.crs_same.specs.PartsOfFrames.{parts_of_ensemble, parts_of_frame};
+ghost use Rattle.crs_same.specs.SameConversions.{SameGeoidModel, SameParameter};
+ghost use Rattle.crs_same.specs.SameCrs.{SameDynamic};
+ghost use Rattle.crs_same.specs.SameDynamic.{SameDeformationModel};
+ghost use Rattle.crs_same.specs.SameFrames.{SameMember};
 ghost use Rattle.crs_same.specs.SameIdents.{SameIdent};
 ghost use Rattle.crs_same.specs.SameSystems.{SameAxisAlone, SameAxisMeridian};
 ghost use Rattle.crs_same.specs.SameUnits.{SameUnit};
@@ -105,9 +111,11 @@ pub fn units_are_canonical()
 /// The spellings of ellipsoids, prime meridians, members of ensembles and the meridians of axes. Profile.
 pub fn frame_parts_are_canonical()
     ensures ellipsoid { (level : Level) →
-        IsWrittenForm IsEllipsoid (SameEllipsoid level) (IsSpelledEllipsoid level) (ellipsoid_text level) }
+        IsWrittenForm IsEllipsoid (AreSame parts_of_ellipsoid level)
+        (IsSpelledEllipsoid level) (ellipsoid_text level) }
     ensures meridian { (level : Level) →
-        IsWrittenForm IsMeridian (SameGiven level) (IsSpelledMeridian level) (meridian_text level) }
+        IsWrittenForm IsMeridian (AreSame parts_of_given level)
+        (IsSpelledMeridian level) (meridian_text level) }
     ensures member { (level : Level) →
         IsWrittenForm IsMember (SameMember level) (IsSpelledMember level) (member_text level) }
     ensures along { (level : Level) →
@@ -152,13 +160,15 @@ pub fn axes_are_canonical()
 /// The spellings of conversions, their methods and parameters, and geoid models. Profile.
 pub fn conversions_are_canonical()
     ensures method { (level : Level) →
-        IsWrittenForm IsMethod (SameMethod level) (IsSpelledMethod level) (method_text level) }
+        IsWrittenForm IsMethod (AreSame parts_of_method level) (IsSpelledMethod level) (method_text level) }
     ensures parameter { (level : Level) →
         IsWrittenForm IsParameter (SameParameter level) (IsSpelledParameter level) (parameter_text level) }
     ensures conversion { (level : Level) →
-        IsWrittenForm IsConversion (SameConversion level) (IsSpelledConversion level) (conversion_text level) }
+        IsWrittenForm IsConversion (AreSame parts_of_conversion level)
+        (IsSpelledConversion level) (conversion_text level) }
     ensures geoid_model { (level : Level) →
-        IsWrittenForm IsGeoidModel (SameGeoidModel level) (IsSpelledGeoidModel level) (geoid_model_text level) }
+        IsWrittenForm IsGeoidModel (SameGeoidModel level)
+        (IsSpelledGeoidModel level) (geoid_model_text level) }
 {
     made_method_is_normal();
     made_parameter_is_normal();
@@ -235,9 +245,10 @@ pub fn usages_are_canonical()
 /// The spellings of reference frames and ensembles: geodetic ones where they have an ellipsoid, else vertical ones. Profile.
 pub fn datums_are_canonical()
     ensures datum { (level : Level) →
-        IsWrittenForm IsDatum (SameDatum level) (IsSpelledDatum level) (datum_text level) }
+        IsWrittenForm IsDatum (AreSame parts_of_datum level) (IsSpelledDatum level) (datum_text level) }
     ensures ensemble { (level : Level) →
-        IsWrittenForm IsEnsemble (SameEnsemble level) (IsSpelledEnsemble level) (ensemble_text level) }
+        IsWrittenForm IsEnsemble (AreSame parts_of_ensemble level)
+        (IsSpelledEnsemble level) (ensemble_text level) }
 {
     made_geodetic_frame_is_normal();
     made_vertical_frame_is_normal();
@@ -252,7 +263,7 @@ pub fn datums_are_canonical()
 /// The spellings of frames of either kind. Profile.
 pub fn frames_are_canonical()
     ensures { (level : Level) →
-        IsWrittenForm IsFrame (SameFrame level) (IsSpelledFrame level) (frame_text level) }
+        IsWrittenForm IsFrame (AreSame parts_of_frame level) (IsSpelledFrame level) (frame_text level) }
 {
     datums_are_canonical();
 }
@@ -260,15 +271,19 @@ pub fn frames_are_canonical()
 /// The spellings of geodetic, projected, vertical and compound CRSs, and of base CRSs. Profile.
 pub fn kinds_are_canonical()
     ensures base { (level : Level) →
-        IsWrittenForm IsBase (SameBase level) (IsSpelledBase level) (base_text level) }
+        IsWrittenForm IsBase (AreSame parts_of_base level) (IsSpelledBase level) (base_text level) }
     ensures geodetic { (level : Level) →
-        IsWrittenForm IsGeodetic (SameGeodetic level) (IsSpelledGeodetic level) (geodetic_text level) }
+        IsWrittenForm IsGeodetic (AreSame parts_of_geodetic level)
+        (IsSpelledGeodetic level) (geodetic_text level) }
     ensures projected { (level : Level) →
-        IsWrittenForm IsProjected (SameProjected level) (IsSpelledProjected level) (projected_text level) }
+        IsWrittenForm IsProjected (AreSame parts_of_projected level)
+        (IsSpelledProjected level) (projected_text level) }
     ensures vertical { (level : Level) →
-        IsWrittenForm IsVertical (SameVertical level) (IsSpelledVertical level) (vertical_text level) }
+        IsWrittenForm IsVertical (AreSame parts_of_vertical level)
+        (IsSpelledVertical level) (vertical_text level) }
     ensures compound { (level : Level) →
-        IsWrittenForm IsCompound (SameCompound level) (IsSpelledCompound level) (compound_text level) }
+        IsWrittenForm IsCompound (AreSame parts_of_compound level)
+        (IsSpelledCompound level) (compound_text level) }
 {
     made_base_is_normal();
     made_geodetic_is_normal();
@@ -291,7 +306,8 @@ pub fn kinds_are_canonical()
 /// The spellings of the horizontal parts of compound CRSs. Profile.
 pub fn horizontals_are_canonical()
     ensures { (level : Level) →
-        IsWrittenForm IsHorizontalPart (SameHorizontal level) (IsSpelledHorizontal level) (horizontal_text level) }
+        IsWrittenForm IsHorizontalPart (AreSame parts_of_horizontal level)
+        (IsSpelledHorizontal level) (horizontal_text level) }
 {
     kinds_are_canonical();
     written_forms_are_equal_where_same();

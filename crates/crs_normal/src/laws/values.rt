@@ -12,15 +12,22 @@ ghost use Rattle.crs_value.specs.Values.{AxisParts, SystemParts};
 ghost use Rattle.crs_value.specs.declared.values.level.Level.{Level};
 ghost use Rattle.crs_value.specs.declared.values.unit_kind.UnitKind.{UnitKind};
 ghost use Rattle.crs_value.specs.declared.values.unit_kind.UnitKind.TheVariants as kinds;
-ghost use Rattle.crs_same.specs.SameConversions.{SameConversion, SameGeoidModel, SameMethod, SameParameter};
-ghost use Rattle.crs_same.specs.SameCrs.{SameBase, SameCompound, SameGeodetic, SameHorizontal};
-ghost use Rattle.crs_same.specs.SameCrs.{SameProjected, SameVertical};
-ghost use Rattle.crs_same.specs.SameDynamic.{SameDeformationModel, SameDynamic};
-ghost use Rattle.crs_same.specs.SameFrames.{SameDatum, SameEllipsoid, SameEnsemble, SameFrame};
-ghost use Rattle.crs_same.specs.SameFrames.{SameMember, SameMeridian};
-ghost use Rattle.crs_same.specs.SameSystems.{SameAxis, SameAxisAlone, SameAxisMeridian, SameSystem};
+ghost use Rattle.crs_same.specs.Agreement.{AgreeAxis};
+ghost use Rattle.crs_same.specs.Parts.{AreSame};
+ghost use Rattle.crs_same.specs.PartsOfCrs.{parts_of_method, parts_of_conversion, parts_of_tail};
+ghost use Rattle.crs_same.specs.PartsOfCrs.{parts_of_geodetic, parts_of_base, parts_of_projected};
+ghost use Rattle.crs_same.specs.PartsOfCrs.{parts_of_vertical, parts_of_horizontal};
+ghost use Rattle.crs_same.specs.PartsOfCrs.{parts_of_compound};
+ghost use Rattle.crs_same.specs.PartsOfFrames.{parts_of_ellipsoid, parts_of_given, parts_of_meridian};
+ghost use Rattle.crs_same.specs.PartsOfFrames.{parts_of_datum, parts_of_ensemble, parts_of_frame};
+ghost use Rattle.crs_same.specs.PartsOfSystems.{parts_of_system};
+ghost use Rattle.crs_same.specs.SameConversions.{SameGeoidModel, SameParameter};
+ghost use Rattle.crs_same.specs.SameCrs.{SameDynamic};
+ghost use Rattle.crs_same.specs.SameDynamic.{SameDeformationModel};
+ghost use Rattle.crs_same.specs.SameFrames.{SameMember};
+ghost use Rattle.crs_same.specs.SameSystems.{SameAxisAlone, SameAxisMeridian};
 ghost use Rattle.crs_same.specs.SameUnits.{SameLength, SameUnit};
-ghost use Rattle.crs_same.specs.SameUsages.{SameBox, SameExtent, SameTail, SameUsage};
+ghost use Rattle.crs_same.specs.SameUsages.{SameBox, SameExtent, SameUsage};
 ghost use Rattle.crs_same.specs.Sets.{BothOrNeither};
 ghost use Rattle.crs_normal.specs.Decides.{DecidesSameness, FormDecides, IsNumbered, Maybe, SetsDecide};
 ghost use Rattle.crs_normal.specs.LowerLaws.{LowerLaws};
@@ -31,7 +38,7 @@ ghost use Rattle.crs_normal.specs.SpelledCrs.{norm_base, norm_compound, norm_geo
 ghost use Rattle.crs_normal.specs.SpelledCrs.{norm_projected, norm_vertical};
 ghost use Rattle.crs_normal.specs.SpelledDynamic.{norm_deformation_model, norm_dynamic};
 ghost use Rattle.crs_normal.specs.SpelledFrames.{norm_datum, norm_ellipsoid, norm_ensemble, norm_frame};
-ghost use Rattle.crs_normal.specs.SpelledFrames.{norm_member, norm_meridian};
+ghost use Rattle.crs_normal.specs.SpelledFrames.{norm_given, norm_member, norm_meridian};
 ghost use Rattle.crs_normal.specs.SpelledSystems.{norm_axis, norm_axis_meridians, norm_system};
 ghost use Rattle.crs_normal.specs.SpelledUnits.{norm_length, norm_unit, norm_units};
 ghost use Rattle.crs_normal.specs.SpelledUsages.{norm_extent, norm_tail, norm_usage};
@@ -43,7 +50,7 @@ use crate::laws::sets::{
 use crs_decimal::laws::{
     digits_alone, normal_is_one, one_form, plain_is_the_one, same_number_is_equivalence,
 };
-use crs_same::laws::{as_many_axes, one_axis_each};
+use crs_same::laws::{as_many_axes, one_axis_each, parts_agree_where_same};
 
 // What is taken from the lower crates.
 pub(super) fn lower_laws()
@@ -86,26 +93,29 @@ pub(super) fn same_units_have_one_form()
 // missing prime meridian is Greenwich.
 pub(super) fn same_frames_have_one_form()
     ensures ellipsoid { (level : Level) →
-        FormDecides IsEllipsoid (norm_ellipsoid level) (SameEllipsoid level) }
+        FormDecides IsEllipsoid (norm_ellipsoid level) (AreSame parts_of_ellipsoid level) }
+    ensures given { (level : Level) →
+        FormDecides IsMeridian (norm_given level) (AreSame parts_of_given level) }
     ensures meridian { (level : Level) →
-        FormDecides (Maybe IsMeridian) (norm_meridian level) (SameMeridian level) }
+        FormDecides (Maybe IsMeridian) (norm_meridian level) (AreSame parts_of_meridian level) }
     ensures member { (level : Level) →
         FormDecides IsMember (norm_member level) (SameMember level) }
     ensures datum { (level : Level) →
-        FormDecides IsDatum (norm_datum level) (SameDatum level) }
+        FormDecides IsDatum (norm_datum level) (AreSame parts_of_datum level) }
     ensures ensemble { (level : Level) →
-        FormDecides IsEnsemble (norm_ensemble level) (SameEnsemble level) }
+        FormDecides IsEnsemble (norm_ensemble level) (AreSame parts_of_ensemble level) }
     ensures geodetic { (level : Level) →
-        FormDecides IsGeodeticFrame (norm_frame level) (SameFrame level) }
+        FormDecides IsGeodeticFrame (norm_frame level) (AreSame parts_of_frame level) }
     ensures vertical { (level : Level) →
-        FormDecides IsVerticalFrame (norm_frame level) (SameFrame level) }
+        FormDecides IsVerticalFrame (norm_frame level) (AreSame parts_of_frame level) }
 {
+    parts_agree_where_same();
     lower_laws();
     sets_decide();
 }
 
-// Coordinate systems, and the axes at one position of two, have one form exactly where they are the same. The number of
-// axes has at most 18 digits.
+// Coordinate systems have one form exactly where they are the same, and the axes at one position of two exactly where
+// they agree. The number of axes has at most 18 digits.
 pub(super) fn same_systems_have_one_form()
     ensures meridian { (level : Level) →
         FormDecides (Maybe IsAxisMeridian) (norm_axis_meridians level)
@@ -113,14 +123,15 @@ pub(super) fn same_systems_have_one_form()
     ensures axis { (level : Level) (a b : SystemParts) (position : ℕ) (x y : AxisParts) →
         a.system_type ≡ b.system_type → Maybe IsAxisUnit a.unit → Maybe IsAxisUnit b.unit →
         IsAxis x → IsAxis y →
-        (norm_axis level a position x ≡ norm_axis level b position y) ↔ SameAxis level a b x y }
+        (norm_axis level a position x ≡ norm_axis level b position y) ↔ AgreeAxis level a b x y }
 
     // By themselves axes have their own orders and units.
     ensures alone { (level : Level) →
         FormDecides IsAxis (norm_axis_alone level) (SameAxisAlone level) }
     ensures system { (level : Level) →
-        FormDecides IsNumbered (norm_system level) (SameSystem level) }
+        FormDecides IsNumbered (norm_system level) (AreSame parts_of_system level) }
 {
+    parts_agree_where_same();
     lower_laws();
     sets_decide();
 }
@@ -128,14 +139,15 @@ pub(super) fn same_systems_have_one_form()
 // Conversions, methods, parameters and geoid models have one form exactly where they are the same.
 pub(super) fn same_conversions_have_one_form()
     ensures method { (level : Level) →
-        FormDecides IsMethod (norm_method level) (SameMethod level) }
+        FormDecides IsMethod (norm_method level) (AreSame parts_of_method level) }
     ensures parameter { (level : Level) →
         FormDecides IsParameter (norm_parameter level) (SameParameter level) }
     ensures conversion { (level : Level) →
-        FormDecides IsConversion (norm_conversion level) (SameConversion level) }
+        FormDecides IsConversion (norm_conversion level) (AreSame parts_of_conversion level) }
     ensures geoid_model { (level : Level) →
         FormDecides IsGeoidModel (norm_geoid_model level) (SameGeoidModel level) }
 {
+    parts_agree_where_same();
     lower_laws();
     sets_decide();
 }
@@ -147,6 +159,7 @@ pub(super) fn same_dynamic_parts_have_one_form()
     ensures dynamic { (level : Level) →
         FormDecides IsDynamic (norm_dynamic level) (SameDynamic level) }
 {
+    parts_agree_where_same();
     lower_laws();
     sets_decide();
 }
@@ -159,8 +172,9 @@ pub(super) fn same_tails_have_one_form()
         FormDecides IsExtent (norm_extent level) (SameExtent level) }
     ensures usage { FormDecides IsUsage norm_usage SameUsage }
     ensures tail { (level : Level) →
-        FormDecides IsTail (norm_tail level) (SameTail level) }
+        FormDecides IsTail (norm_tail level) (AreSame parts_of_tail level) }
 {
+    parts_agree_where_same();
     lower_laws();
     sets_decide();
 }
@@ -168,18 +182,19 @@ pub(super) fn same_tails_have_one_form()
 // CRSs of each kind, base CRSs and the horizontal parts of compound CRSs have one form exactly where they are the same.
 pub(super) fn same_kinds_have_one_form()
     ensures geodetic { (level : Level) →
-        FormDecides IsGeodetic (norm_geodetic level) (SameGeodetic level) }
+        FormDecides IsGeodetic (norm_geodetic level) (AreSame parts_of_geodetic level) }
     ensures base { (level : Level) →
-        FormDecides IsBase (norm_base level) (SameBase level) }
+        FormDecides IsBase (norm_base level) (AreSame parts_of_base level) }
     ensures projected { (level : Level) →
-        FormDecides IsProjected (norm_projected level) (SameProjected level) }
+        FormDecides IsProjected (norm_projected level) (AreSame parts_of_projected level) }
     ensures vertical { (level : Level) →
-        FormDecides IsVertical (norm_vertical level) (SameVertical level) }
+        FormDecides IsVertical (norm_vertical level) (AreSame parts_of_vertical level) }
     ensures horizontal { (level : Level) →
-        FormDecides IsHorizontal (norm_horizontal level) (SameHorizontal level) }
+        FormDecides IsHorizontal (norm_horizontal level) (AreSame parts_of_horizontal level) }
     ensures compound { (level : Level) →
-        FormDecides IsCompound (norm_compound level) (SameCompound level) }
+        FormDecides IsCompound (norm_compound level) (AreSame parts_of_compound level) }
 {
+    parts_agree_where_same();
     lower_laws();
     sets_decide();
 }
@@ -188,6 +203,7 @@ pub(super) fn same_kinds_have_one_form()
 pub(super) fn same_crss_have_one_form()
     ensures { DecidesSameness }
 {
+    parts_agree_where_same();
     lower_laws();
     sets_decide();
 }

@@ -1,9 +1,12 @@
-use Rattle.std.proofs.Common.{subst}
+use Rattle.std.proofs.Common.{[], subst}
 use Rattle.crs_value.specs.SoundSingle.{IsVertical}
-use Rattle.crs_same.proofs.AllSameLemmas.{decides, vertical}
+use Rattle.crs_same.specs.PartsOfCrs.{parts_of_vertical}
+use Rattle.crs_same.proofs.AllSameLemmas.{walked-same}
+use Rattle.crs_same.proofs.SettledLemmas.{vertical}
 use Rattle.crs_same.proofs.crs.same_vertical.Goals as goal
 
 pub returns : goal.returns
 returns c =
-    decides (vertical c.args.level c.zero_is_one_number.ensures c.one_axis_each.ensures.one c.as_many_axes.ensures c.start.result c.args.a.now c.args.b.now (subst IsVertical c.a.view_is c.a.invariant) (subst IsVertical c.b.view_is c.b.invariant))
-    c.first.ensures c.walk_vertical.ensures c.is_same.ensures
+    walked-same parts_of_vertical c.args.level c.args.a.now c.args.b.now
+    (vertical c.args.level c.one_axis_each.ensures.one [] c.args.a.now c.args.b.now (subst IsVertical c.a.view_is c.a.invariant) (subst IsVertical c.b.view_is c.b.invariant))
+    c.start.ensures c.first.ensures c.walk_vertical.ensures c.is_same.ensures

@@ -1,14 +1,14 @@
-use Rattle.std.proofs.Common.{rules}
 use Rattle.crs_same.specs.PartsOfCrs.{parts_of_vertical}
-use Rattle.crs_same.proofs.WalkedLemmas.{◌⟫◌, one, via}
+use Rattle.crs_same.proofs.WalkedLemmas.{◌⟫◌, via}
 use Rattle.crs_same.proofs.crs.walk_vertical.Goals as goal
 
 pub returns : goal.returns
 unfolding parts_of_vertical
 returns c =
-    one (search rules) c.part-found.ensures ⟫
-    via c.walk_dynamic-found.result (rw (← c.then-dynamic.ensures, ← c.a.view_is, ← c.b.view_is) c.walk_dynamic-found.ensures) (
-    via c.walk_frame-found.result (rw (← c.then-datum.ensures, ← c.a.view_is, ← c.b.view_is) c.walk_frame-found.ensures) (
-    via c.walk_system-found.result (rw (← c.then-system.ensures, ← c.a.view_is, ← c.b.view_is) c.walk_system-found.ensures) (
-    one (search rules) c.part-found-2.ensures ⟫
-    search rules)))
+    rw (← c.a.view_is, ← c.b.view_is)
+    (c.text-found.ensures ⟫
+    via c.walk_dynamic-found.result (rw (← c.then-dynamic.ensures) c.walk_dynamic-found.ensures) (
+    via c.walk_frame-found.result (rw (← c.then-datum.ensures) c.walk_frame-found.ensures) (
+    via c.walk_system-found.result (rw (← c.then-system.ensures) c.walk_system-found.ensures) (
+    via c.walk_geoid_models-found.result (rw (← c.as_slice.ensures, ← c.as_slice-2.ensures) c.walk_geoid_models-found.ensures) (
+    c.walk_tail.ensures)))))

@@ -1,11 +1,11 @@
-use Rattle.std.proofs.Common.{rules}
-use Rattle.crs_same.proofs.WalkedLemmas.{◌⟫◌, one, via}
+use Rattle.crs_same.proofs.WalkedLemmas.{◌⟫◌, via}
 use Rattle.crs_same.proofs.frames.walk_datum.Goals as goal
 
 pub returns : goal.returns
 returns c =
-    one (search rules) c.part-found.ensures ⟫
-    via c.walk_ellipsoids-found.result (search rules) (
-    one (search rules) c.part-found-2.ensures ⟫
-    one (search rules) c.part-found-3.ensures ⟫
-    one (search rules) c.part.ensures)
+    rw (← c.a.view_is, ← c.b.view_is)
+    (c.text-found.ensures ⟫
+    via c.walk_ellipsoids-found.result (rw (← c.then-below.ensures) c.walk_ellipsoids-found.ensures) (
+    c.optional_text-found.ensures ⟫
+    c.optional_number-found.ensures ⟫
+    c.identifiers.ensures))

@@ -1,11 +1,11 @@
-use Rattle.std.proofs.Common.{rules}
-use Rattle.crs_same.proofs.WalkedLemmas.{◌⟫◌, one}
+use Rattle.crs_same.proofs.WalkedLemmas.{◌⟫◌}
 use Rattle.crs_same.proofs.frames.walk_ellipsoid.Goals as goal
 
 pub returns : goal.returns
 returns c =
-    one (search rules) c.part-found.ensures ⟫
-    one (search rules) c.part-found-2.ensures ⟫
-    one (search rules) c.part-found-3.ensures ⟫
-    one (search rules) c.part-found-4.ensures ⟫
-    one (search rules) c.part.ensures
+    rw (← c.a.view_is, ← c.b.view_is)
+    (c.text-found.ensures ⟫
+    c.number-found.ensures ⟫
+    c.number-found-2.ensures ⟫
+    c.length-found.ensures ⟫
+    c.identifiers.ensures)

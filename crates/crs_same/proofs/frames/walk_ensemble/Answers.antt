@@ -1,11 +1,11 @@
-use Rattle.std.proofs.Common.{rules}
-use Rattle.crs_same.proofs.WalkedLemmas.{◌⟫◌, one, via}
+use Rattle.crs_same.proofs.WalkedLemmas.{◌⟫◌, via}
 use Rattle.crs_same.proofs.frames.walk_ensemble.Goals as goal
 
 pub returns : goal.returns
 returns c =
-    one (search rules) c.part-found.ensures ⟫
-    one (search rules) c.part-found-2.ensures ⟫
-    via c.walk_ellipsoids-found.result (search rules) (
-    one (search rules) c.part-found-3.ensures ⟫
-    one (search rules) c.part.ensures)
+    rw (← c.a.view_is, ← c.b.view_is)
+    (c.text-found.ensures ⟫
+    via c.walk_members-found.result (rw (← c.as_slice.ensures, ← c.as_slice-2.ensures) c.walk_members-found.ensures) (
+    via c.walk_ellipsoids-found.result (rw (← c.then-below.ensures) c.walk_ellipsoids-found.ensures) (
+    c.number-found.ensures ⟫
+    c.identifiers.ensures)))

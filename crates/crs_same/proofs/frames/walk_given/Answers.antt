@@ -1,10 +1,9 @@
-use Rattle.std.proofs.Common.{rules}
-use Rattle.crs_same.proofs.WalkedLemmas.{◌⟫◌, one}
+use Rattle.crs_same.proofs.WalkedLemmas.{◌⟫◌, via}
 use Rattle.crs_same.proofs.frames.walk_given.Goals as goal
 
 pub returns : goal.returns
 returns c =
-    one (search rules) c.part-found.ensures ⟫
-    one (search rules) c.part-found-2.ensures ⟫
-    one (search rules) c.part-found-3.ensures ⟫
-    one (search rules) c.part.ensures
+    via c.text-found.result (rw (← c.a.view_is, ← c.b.view_is) c.text-found.ensures) (
+    via c.number-found.result (rw (← c.a.view_is, ← c.b.view_is) c.number-found.ensures) (
+    c.walk_meridian_units-found.ensures ⟫
+    (rw (← c.a.view_is, ← c.b.view_is) c.identifiers.ensures)))

@@ -7,4 +7,4 @@ pub returns-clause-none : goal.returns-clause-none
 returns-clause-none c level a b = first-difference (parts_of_crs level a b) []
 
 pub returns-clause-some : goal.returns-clause-some
-returns-clause-some c level a b path further = first-difference (parts_of_crs level a b) (path ∷ further)
+returns-clause-some c level a b one further = first-difference (parts_of_crs level a b) (one ∷ further)

@@ -1,7 +1,10 @@
+use Rattle.crs_same.proofs.SamenessLemmas.{agree-as-of, same-as-of}
 use Rattle.crs_same.proofs.SamenessOfCrsLemmas.{crs-of}
 use Rattle.crs_same.proofs.laws.same_crs_is_equivalence.Goals as goal
 
 pub returns : goal.returns
 returns c level =
-    crs-of level (c.same_geodetic_is_equivalence.ensures level) (c.same_projected_is_equivalence.ensures level)
-    (c.same_vertical_is_equivalence.ensures level) (c.same_compound_is_equivalence.ensures level)
+    let is = c.parts_agree_where_same.ensures level in
+    same-as-of is.crs
+    (crs-of level (agree-as-of is.geodetic (c.same_geodetic_is_equivalence.ensures level)) (agree-as-of is.projected (c.same_projected_is_equivalence.ensures level))
+    (agree-as-of is.vertical (c.same_vertical_is_equivalence.ensures level)) (agree-as-of is.compound (c.same_compound_is_equivalence.ensures level)))

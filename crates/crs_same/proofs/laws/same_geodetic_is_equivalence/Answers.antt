@@ -1,7 +1,11 @@
+use Rattle.crs_same.proofs.SamenessLemmas.{agree-as, agree-as-of, same-as-of}
 use Rattle.crs_same.proofs.SamenessOfCrsLemmas.{geodetic}
 use Rattle.crs_same.proofs.laws.same_geodetic_is_equivalence.Goals as goal
 
 pub returns : goal.returns
 returns c level =
-    geodetic level (c.same_system_is_equivalence.ensures level) (c.same_tail_is_equivalence.ensures level)
-    (c.same_dynamic_is_equivalence.ensures level) (c.same_frame_is_equivalence.ensures level) (c.same_meridian_is_equivalence.ensures.optional level)
+    let is = c.parts_agree_where_same.ensures level in
+    same-as-of is.geodetic
+    (geodetic level (agree-as-of is.system (c.same_system_is_equivalence.ensures level)) (agree-as is.tail (c.same_tail_is_equivalence.ensures level))
+    (agree-as is.dynamic (c.same_dynamic_is_equivalence.ensures level)) (agree-as is.frame (c.same_frame_is_equivalence.ensures level))
+    (agree-as is.meridian (c.same_meridian_is_equivalence.ensures.optional level)))

@@ -1,12 +1,11 @@
-use Rattle.std.proofs.Common.{rules}
 use Rattle.crs_same.specs.PartsOfSystems.{parts_of_system}
-use Rattle.crs_same.proofs.WalkedLemmas.{◌⟫◌, one}
+use Rattle.crs_same.proofs.WalkedLemmas.{via}
 use Rattle.crs_same.proofs.systems.walk_system.Goals as goal
 
 pub returns : goal.returns
 unfolding parts_of_system
 returns c =
-    one (search rules) c.part-found.ensures ⟫
-    one (search rules) c.part-found-2.ensures ⟫
-    one (search rules) c.part-found-3.ensures ⟫
-    search rules
+    via c.walk_type-found.result (rw (← c.a.view_is, ← c.b.view_is) c.walk_type-found.ensures) (
+    via c.number-found.result (rw (← c.a.view_is, ← c.b.view_is) c.number-found.ensures) (
+    via c.identifiers-found.result (rw (← c.a.view_is, ← c.b.view_is) c.identifiers-found.ensures) (
+    c.walk_axes.ensures)))

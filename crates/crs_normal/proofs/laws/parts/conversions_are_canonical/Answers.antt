@@ -2,14 +2,16 @@ use Rattle.std.proofs.Common.{arith}
 use Rattle.crs_shape.specs.declared.class.Class.TheVariants as class
 use Rattle.crs_value.specs.ReadsConversion.{ReadsConversion, ReadsGeoidModel, ReadsMethod, ReadsParameter}
 use Rattle.crs_value.specs.SoundConversion.{IsConversion, IsGeoidModel, IsMethod, IsParameter}
-use Rattle.crs_same.specs.SameConversions.{SameConversion, SameGeoidModel, SameMethod, SameParameter}
+use Rattle.crs_same.specs.Parts.{AreSame}
+use Rattle.crs_same.specs.PartsOfCrs.{parts_of_method, parts_of_conversion}
+use Rattle.crs_same.specs.SameConversions.{SameGeoidModel, SameParameter}
 use Rattle.crs_normal.specs.SpelledConversions.{item_conversion, item_geoid_model, item_method, item_parameter, norm_conversion, norm_geoid_model, norm_method, norm_parameter}
 use Rattle.crs_normal.proofs.PartLemmas.{canonical-of, unbroken-form}
 use Rattle.crs_normal.proofs.laws.parts.conversions_are_canonical.Goals as goal
 
 pub returns-clause-method : goal.returns-clause-method
 returns-clause-method c level =
-    canonical-of c.text_laws.ensures c.written_items.ensures.formed level class.Method 3 ReadsMethod IsMethod (SameMethod level) (norm_method level) item_method
+    canonical-of c.text_laws.ensures c.written_items.ensures.formed level class.Method 3 ReadsMethod IsMethod (AreSame parts_of_method level) (norm_method level) item_method
     (record {
       few = omega arith;
       decides = c.same_conversions_have_one_form.ensures.method level;
@@ -35,7 +37,7 @@ returns-clause-parameter c level =
 
 pub returns-clause-conversion : goal.returns-clause-conversion
 returns-clause-conversion c level =
-    canonical-of c.text_laws.ensures c.written_items.ensures.formed level class.Conversion 5 ReadsConversion IsConversion (SameConversion level) (norm_conversion level) item_conversion
+    canonical-of c.text_laws.ensures c.written_items.ensures.formed level class.Conversion 5 ReadsConversion IsConversion (AreSame parts_of_conversion level) (norm_conversion level) item_conversion
     (record {
       few = omega arith;
       decides = c.same_conversions_have_one_form.ensures.conversion level;

@@ -3,7 +3,8 @@ use Rattle.crs_text.specs.Written.{at_place}
 use Rattle.crs_shape.specs.declared.class.Class.TheVariants as class
 use Rattle.crs_value.specs.Reads.{ReadsDatum, ReadsEnsemble}
 use Rattle.crs_value.specs.SoundFrames.{IsDatum, IsEnsemble}
-use Rattle.crs_same.specs.SameFrames.{SameDatum, SameEnsemble}
+use Rattle.crs_same.specs.Parts.{AreSame}
+use Rattle.crs_same.specs.PartsOfFrames.{parts_of_datum, parts_of_ensemble}
 use Rattle.crs_normal.specs.Normal.{IsNormalIn}
 use Rattle.crs_normal.specs.PartSpellings.{datum_class, ensemble_class}
 use Rattle.crs_normal.specs.PartTexts.{item_own_datum}
@@ -17,7 +18,7 @@ returns-clause-datum c level =
     let geodetic = c.made_geodetic_frame_is_normal.ensures in
     let vertical = c.made_vertical_frame_is_normal.ensures in
     let laws = c.text_laws.ensures in
-    canonical-form laws c.written_items.ensures.formed level (λ x. datum_class x.ellipsoid) ReadsDatum IsDatum (SameDatum level)
+    canonical-form laws c.written_items.ensures.formed level (λ x. datum_class x.ellipsoid) ReadsDatum IsDatum (AreSame parts_of_datum level)
     (norm_datum level) item_own_datum (record {
       decides = c.same_frames_have_one_form.ensures.datum level;
       made = λ x s. made-stands level (datum_class x.ellipsoid) 5 (at_place 0 (item_own_datum (norm_datum level x))) (omega arith)
@@ -38,7 +39,7 @@ returns-clause-ensemble c level =
     let geodetic = c.made_geodetic_frame_is_normal.ensures in
     let vertical = c.made_vertical_frame_is_normal.ensures in
     let laws = c.text_laws.ensures in
-    canonical-form laws c.written_items.ensures.formed level (λ x. ensemble_class x.ellipsoid) ReadsEnsemble IsEnsemble (SameEnsemble level)
+    canonical-form laws c.written_items.ensures.formed level (λ x. ensemble_class x.ellipsoid) ReadsEnsemble IsEnsemble (AreSame parts_of_ensemble level)
     (norm_ensemble level) item_ensemble (record {
       decides = c.same_frames_have_one_form.ensures.ensemble level;
       made = λ x s. made-stands level (ensemble_class x.ellipsoid) 5 (at_place 0 (item_ensemble (norm_ensemble level x))) (omega arith)

@@ -3,7 +3,9 @@ use Rattle.crs_shape.specs.declared.class.Class.TheVariants as class
 use Rattle.crs_value.specs.Reads.{ReadsAxisMeridian, ReadsEllipsoid, ReadsMember, ReadsMeridian}
 use Rattle.crs_value.specs.Sound.{IsAxisMeridian}
 use Rattle.crs_value.specs.SoundFrames.{IsEllipsoid, IsMember, IsMeridian}
-use Rattle.crs_same.specs.SameFrames.{SameEllipsoid, SameGiven, SameMember}
+use Rattle.crs_same.specs.Parts.{AreSame}
+use Rattle.crs_same.specs.PartsOfFrames.{parts_of_ellipsoid, parts_of_given}
+use Rattle.crs_same.specs.SameFrames.{SameMember}
 use Rattle.crs_same.specs.SameSystems.{SameAxisMeridian}
 use Rattle.crs_normal.specs.SpelledFrames.{item_ellipsoid, item_member, item_meridian, norm_ellipsoid, norm_given, norm_member}
 use Rattle.crs_normal.specs.SpelledSystems.{item_axis_meridian, norm_axis_meridian}
@@ -12,7 +14,7 @@ use Rattle.crs_normal.proofs.laws.parts.frame_parts_are_canonical.Goals as goal
 
 pub returns-clause-ellipsoid : goal.returns-clause-ellipsoid
 returns-clause-ellipsoid c level =
-    canonical-of c.text_laws.ensures c.written_items.ensures.formed level class.Ellipsoid 4 ReadsEllipsoid IsEllipsoid (SameEllipsoid level) (norm_ellipsoid level) item_ellipsoid
+    canonical-of c.text_laws.ensures c.written_items.ensures.formed level class.Ellipsoid 4 ReadsEllipsoid IsEllipsoid (AreSame parts_of_ellipsoid level) (norm_ellipsoid level) item_ellipsoid
     (record {
       few = omega arith;
       decides = c.same_frames_have_one_form.ensures.ellipsoid level;
@@ -25,11 +27,10 @@ returns-clause-ellipsoid c level =
 
 pub returns-clause-meridian : goal.returns-clause-meridian
 returns-clause-meridian c level =
-    canonical-of c.text_laws.ensures c.written_items.ensures.formed level class.PrimeMeridian 4 ReadsMeridian IsMeridian (SameGiven level) (norm_given level) item_meridian
+    canonical-of c.text_laws.ensures c.written_items.ensures.formed level class.PrimeMeridian 4 ReadsMeridian IsMeridian (AreSame parts_of_given level) (norm_given level) item_meridian
     (record {
       few = omega arith;
-      decides = some-decides IsMeridian (norm_given level) (SameGiven level)
-          (λ a b p q. c.same_frames_have_one_form.ensures.meridian level (Some a) (Some b) p q);
+      decides = c.same_frames_have_one_form.ensures.given level;
       made = c.made_meridian_is_normal.ensures level;
       reads = c.frame_parts_are_read_back.ensures.given level;
       once = c.parts_read_once.ensures.meridian;

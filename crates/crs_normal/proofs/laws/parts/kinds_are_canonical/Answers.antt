@@ -5,7 +5,9 @@ use Rattle.crs_value.specs.ReadsCrs.{ReadsBase, ReadsCompound, ReadsGeodetic, Re
 use Rattle.crs_value.specs.SoundCompound.{IsCompound}
 use Rattle.crs_value.specs.SoundSingle.{IsBase, IsGeodetic, IsProjected, IsVertical}
 use Rattle.crs_value.specs.declared.values.crs.Crs.TheVariants as crs
-use Rattle.crs_same.specs.SameCrs.{SameBase, SameCompound, SameGeodetic, SameProjected, SameVertical}
+use Rattle.crs_same.specs.Parts.{AreSame}
+use Rattle.crs_same.specs.PartsOfCrs.{parts_of_base, parts_of_geodetic, parts_of_projected}
+use Rattle.crs_same.specs.PartsOfCrs.{parts_of_vertical, parts_of_compound}
 use Rattle.crs_normal.specs.CrsClass.{geodetic_class}
 use Rattle.crs_normal.specs.SpelledCrs.{item_base, item_compound, item_geodetic, item_projected, item_vertical, norm_base, norm_compound, norm_geodetic, norm_projected, norm_vertical}
 use Rattle.crs_normal.proofs.PartKindLemmas.{geodetic-told, own-geodetic}
@@ -15,7 +17,7 @@ use Rattle.crs_normal.proofs.laws.parts.kinds_are_canonical.Goals as goal
 
 pub returns-clause-base : goal.returns-clause-base
 returns-clause-base c level =
-    canonical-of c.text_laws.ensures c.written_items.ensures.formed level class.BaseCrs 6 ReadsBase IsBase (SameBase level)
+    canonical-of c.text_laws.ensures c.written_items.ensures.formed level class.BaseCrs 6 ReadsBase IsBase (AreSame parts_of_base level)
     (norm_base level) item_base
     (record {
       few = omega arith;
@@ -31,7 +33,7 @@ pub returns-clause-geodetic : goal.returns-clause-geodetic
 returns-clause-geodetic c level =
     let own = c.normal_crs_is_its_form.ensures in
     canonical-form c.text_laws.ensures c.written_items.ensures.formed level (λ x. geodetic_class x.system.system_type)
-    ReadsGeodetic IsGeodetic (SameGeodetic level) (norm_geodetic level) item_geodetic
+    ReadsGeodetic IsGeodetic (AreSame parts_of_geodetic level) (norm_geodetic level) item_geodetic
     (record {
       decides = c.same_kinds_have_one_form.ensures.geodetic level;
       made = λ x s. made-stands level (geodetic_class x.system.system_type) 6
@@ -49,7 +51,7 @@ returns-clause-geodetic c level =
 
 pub returns-clause-projected : goal.returns-clause-projected
 returns-clause-projected c level =
-    canonical-of c.text_laws.ensures c.written_items.ensures.formed level class.ProjectedCrs 7 ReadsProjected IsProjected (SameProjected level)
+    canonical-of c.text_laws.ensures c.written_items.ensures.formed level class.ProjectedCrs 7 ReadsProjected IsProjected (AreSame parts_of_projected level)
     (norm_projected level) item_projected
     (record {
       few = omega arith;
@@ -63,7 +65,7 @@ returns-clause-projected c level =
 
 pub returns-clause-vertical : goal.returns-clause-vertical
 returns-clause-vertical c level =
-    canonical-of c.text_laws.ensures c.written_items.ensures.formed level class.VerticalCrs 6 ReadsVertical IsVertical (SameVertical level)
+    canonical-of c.text_laws.ensures c.written_items.ensures.formed level class.VerticalCrs 6 ReadsVertical IsVertical (AreSame parts_of_vertical level)
     (norm_vertical level) item_vertical
     (record {
       few = omega arith;
@@ -77,7 +79,7 @@ returns-clause-vertical c level =
 
 pub returns-clause-compound : goal.returns-clause-compound
 returns-clause-compound c level =
-    canonical-of c.text_laws.ensures c.written_items.ensures.formed level class.CompoundCrs 8 ReadsCompound IsCompound (SameCompound level)
+    canonical-of c.text_laws.ensures c.written_items.ensures.formed level class.CompoundCrs 8 ReadsCompound IsCompound (AreSame parts_of_compound level)
     (norm_compound level) item_compound
     (record {
       few = omega arith;

@@ -1,8 +1,10 @@
 use Rattle.crs_normal.proofs.DynamicSameLemmas.{deformation-model-agrees, dynamic-agrees}
+use Rattle.crs_normal.proofs.PartSameLemmas.{decides-parts}
 use Rattle.crs_normal.proofs.laws.values.same_dynamic_parts_have_one_form.Goals as goal
 
 pub returns-clause-deformation_model : goal.returns-clause-deformation_model
 returns-clause-deformation_model c = deformation-model-agrees c.lower_laws.ensures c.sets_decide.ensures
 
 pub returns-clause-dynamic : goal.returns-clause-dynamic
-returns-clause-dynamic c = dynamic-agrees c.lower_laws.ensures c.sets_decide.ensures
+returns-clause-dynamic c level =
+    decides-parts (λ a b in-a in-b. (c.parts_agree_where_same.ensures level).dynamic a b) (dynamic-agrees c.lower_laws.ensures c.sets_decide.ensures level)

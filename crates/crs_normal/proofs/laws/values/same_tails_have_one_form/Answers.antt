@@ -1,4 +1,5 @@
 use Rattle.crs_normal.proofs.TailSameLemmas.{box-agrees, extent-agrees, tail-agrees, usage-agrees}
+use Rattle.crs_normal.proofs.PartSameLemmas.{decides-parts}
 use Rattle.crs_normal.proofs.laws.values.same_tails_have_one_form.Goals as goal
 
 pub returns-clause-bounding_box : goal.returns-clause-bounding_box
@@ -11,4 +12,5 @@ pub returns-clause-usage : goal.returns-clause-usage
 returns-clause-usage c = usage-agrees c.lower_laws.ensures c.sets_decide.ensures
 
 pub returns-clause-tail : goal.returns-clause-tail
-returns-clause-tail c = tail-agrees c.sets_decide.ensures
+returns-clause-tail c level =
+    decides-parts (λ a b in-a in-b. (c.parts_agree_where_same.ensures level).tail a b) (tail-agrees c.sets_decide.ensures level)

@@ -1,0 +1,333 @@
+-- All parts of two values are the same exactly where the values agree, field by field.
+use Rattle.std.proofs.Common.{◌≡◌, ◌⊎◌, ◌↔◌, ◌≤◌, inl, inr, ℕ, zero, suc, max, nat_le, Option, Some, None, List, [], Bool, true, false, length, refl, sym, subst, arith}
+use Rattle.crs_value.specs.declared.values.compound.Horizontal.{Horizontal}
+use Rattle.crs_value.specs.declared.values.compound.Horizontal.TheVariants as horizontal
+use Rattle.crs_value.specs.declared.values.crs.Crs.{Crs}
+use Rattle.crs_value.specs.declared.values.crs.Crs.TheVariants as crs
+use Rattle.crs_value.specs.declared.values.frame.Frame.{Frame}
+use Rattle.crs_value.specs.declared.values.frame.Frame.TheVariants as frame
+use Rattle.crs_value.specs.declared.values.level.Level.{Level}
+use Rattle.crs_value.specs.CompoundValues.{CompoundParts}
+use Rattle.crs_value.specs.ConversionValues.{MethodParts, ConversionParts}
+use Rattle.crs_value.specs.CrsValues.{GeodeticParts, BaseParts, ProjectedParts, VerticalParts}
+use Rattle.crs_value.specs.DynamicValues.{DynamicParts}
+use Rattle.crs_value.specs.Values.{AxisParts, EllipsoidParts, MeridianParts, DatumParts, EnsembleParts, SystemParts, TailParts}
+use Rattle.crs_same.specs.declared.step.Step.{Step}
+use Rattle.crs_same.specs.declared.step.Step.TheVariants as step
+use Rattle.crs_same.specs.Parts.{◌▸◌, AllSame, AreSame}
+use Rattle.crs_same.specs.PartsOfCrs.{parts_of_method, parts_of_conversion, parts_of_dynamic, parts_of_tail, parts_of_geodetic, parts_of_base, parts_of_projected, parts_of_vertical, parts_of_horizontal, parts_of_compound, parts_of_crs}
+use Rattle.crs_same.specs.PartsOfFrames.{parts_of_ellipsoid, parts_of_ellipsoids, parts_of_given, parts_before_greenwich, parts_behind_greenwich, parts_of_meridian, parts_of_datum, parts_of_ensemble, parts_of_frame}
+use Rattle.crs_same.specs.PartsOfSystems.{parts_of_axis, parts_where, parts_of_axes, parts_of_system}
+use Rattle.crs_same.specs.Agreement.{AgreeWhereSame, AgreeMethod, AgreeConversion, AgreeGeodetic, AgreeBase, AgreeProjected, AgreeVertical, AgreeHorizontal, AgreeCompound, AgreeCrs, AgreeDynamic, AgreeEllipsoid, AgreeGiven, IsGreenwich, AgreeMeridian, AgreeDatum, AgreeEnsemble, AgreeFrame, AgreeAxis, AgreeAt, AgreeAxes, AgreeSystem, AgreeTail}
+use Rattle.crs_same.specs.SameFrames.{IsZero}
+use Rattle.crs_same.specs.Sets.{BothOrNeither}
+use Rattle.std.proofs.lemmas.Bool.{le-leb}
+use Rattle.crs_decimal.specs.Value.{Value}
+use Rattle.crs_value.specs.declared.values.unit_kind.UnitKind.TheVariants as kinds
+use Rattle.crs_value.specs.SoundCompound.{IsCompound, IsHorizontal}
+use Rattle.crs_value.specs.SoundCrs.{IsCrs}
+use Rattle.crs_value.specs.SoundSingle.{IsGeodetic, IsProjected, IsVertical}
+use Rattle.crs_value.specs.SoundSystem.{IsSystem}
+use Rattle.crs_same.specs.SameCrs.{SameCrs, SameDynamic, IsHorizontalPart}
+use Rattle.crs_same.specs.SameUnits.{SameUnit, SameValue}
+use Rattle.crs_same.proofs.AxisLemmas.{at-both, which-both}
+
+module _ (level : Level) where
+  same : {Same : Type 0} → Same ↔ Same
+  same = (λ s. s, λ s. s)
+
+  -- ---- dynamic parts
+
+  pub dynamic : (at : List Step) (a b : Option DynamicParts) → AllSame (parts_of_dynamic at level a b) ↔ BothOrNeither (AgreeDynamic level) a b
+  unfolding parts_of_dynamic
+  dynamic at None None = same
+  dynamic at None (Some b) = (λ s. absurd s.0, λ s. absurd s)
+  dynamic at (Some a) None = (λ s. absurd s.0, λ s. absurd s)
+  dynamic at (Some a) (Some b) = (λ s. record { epoch = s.0; model = s.1 }, λ s. (s.epoch, s.model))
+
+  -- ---- frames
+
+  pub ellipsoid : (at : List Step) (a b : EllipsoidParts) → AllSame (parts_of_ellipsoid at level a b) ↔ AgreeEllipsoid level a b
+  ellipsoid at a b = (
+    λ s. record { name = s.0; semi_major_axis = s.1.0; inverse_flattening = s.1.1.0; unit = s.1.1.1.0; identifiers = s.1.1.1.1 },
+    λ s. (s.name, (s.semi_major_axis, (s.inverse_flattening, (s.unit, s.identifiers)))),
+  )
+
+  ellipsoids : (at : List Step) (a b : Option EllipsoidParts) → AllSame (parts_of_ellipsoids at level a b) ↔ BothOrNeither (AgreeEllipsoid level) a b
+  ellipsoids at None None = same
+  ellipsoids at None (Some b) = same
+  ellipsoids at (Some a) None = same
+  ellipsoids at (Some a) (Some b) = ellipsoid at a b
+
+  before_greenwich : (at : List Step) (a : MeridianParts) → AllSame (parts_before_greenwich at level a) ↔ IsGreenwich level a
+  before_greenwich at a = (λ s. record { name = s.0; longitude = s.1.0; identifiers = s.1.1 }, λ s. (s.name, (s.longitude, s.identifiers)))
+
+  behind_greenwich : (at : List Step) (b : MeridianParts) → AllSame (parts_behind_greenwich at level b) ↔ IsGreenwich level b
+  behind_greenwich at b = (λ s. record { name = sym s.0; longitude = s.1.0; identifiers = s.1.1 }, λ s. (sym s.name, (s.longitude, s.identifiers)))
+
+  pub datum : (at : List Step) (a b : DatumParts) → AllSame (parts_of_datum at level a b) ↔ AgreeDatum level a b
+  datum at a b =
+      let e = ellipsoids (at ▸ step.Ellipsoid) a.ellipsoid b.ellipsoid in (
+        λ s. record { name = s.0; ellipsoid = e.0 s.1.0; anchor = s.1.1.0; anchor_epoch = s.1.1.1.0; identifiers = s.1.1.1.1 },
+        λ s. (s.name, (e.1 s.ellipsoid, (s.anchor, (s.anchor_epoch, s.identifiers)))),
+      )
+
+  pub ensemble : (at : List Step) (a b : EnsembleParts) → AllSame (parts_of_ensemble at level a b) ↔ AgreeEnsemble level a b
+  ensemble at a b =
+      let e = ellipsoids (at ▸ step.Ellipsoid) a.ellipsoid b.ellipsoid in (
+        λ s. record { name = s.0; members = s.1.0; ellipsoid = e.0 s.1.1.0; accuracy = s.1.1.1.0; identifiers = s.1.1.1.1 },
+        λ s. (s.name, (s.members, (e.1 s.ellipsoid, (s.accuracy, s.identifiers)))),
+      )
+
+  pub frame-of : (at : List Step) (a b : Frame) → AllSame (parts_of_frame at level a b) ↔ AgreeFrame level a b
+  unfolding parts_of_frame
+  frame-of at (frame.Datum a) (frame.Datum b) = datum at a b
+  frame-of at (frame.Ensemble a) (frame.Ensemble b) = ensemble at a b
+  frame-of at (frame.Datum a) (frame.Ensemble b) = (λ s. absurd s.0, λ s. absurd s)
+  frame-of at (frame.Ensemble a) (frame.Datum b) = (λ s. absurd s.0, λ s. absurd s)
+
+  -- ---- conversions
+
+  pub method : (at : List Step) (a b : MethodParts) → AllSame (parts_of_method at level a b) ↔ AgreeMethod level a b
+  unfolding parts_of_method
+  method at a b = (λ s. record { name = s.0; identifiers = s.1 }, λ s. (s.name, s.identifiers))
+
+  pub conversion : (at : List Step) (a b : ConversionParts) → AllSame (parts_of_conversion at level a b) ↔ AgreeConversion level a b
+  unfolding parts_of_conversion
+  conversion at a b =
+      let m = method (at ▸ step.Method) a.method b.method in (
+        λ s. record { name = s.0; method = m.0 s.1.0; parameters = s.1.1.0; identifiers = s.1.1.1 },
+        λ s. (s.name, (m.1 s.method, (s.parameters, s.identifiers))),
+      )
+
+  tail : (at : List Step) (a b : TailParts) → AllSame (parts_of_tail at level a b) ↔ AgreeTail level a b
+  unfolding parts_of_tail
+  tail at a b = (λ s. record { usages = s.0; identifiers = s.1.0; remark = s.1.1 }, λ s. (s.usages, (s.identifiers, s.remark)))
+
+  -- ---- coordinate systems
+
+  axis : (at : List Step) (a b : SystemParts) (x y : AxisParts) → AllSame (parts_of_axis at level a b x y) ↔ AgreeAxis level a b x y
+  unfolding parts_of_axis AgreeAxis
+  axis at a b x y = (
+    λ s. record { name = s.0; direction = s.1.0; meridian = s.1.1.0; unit = s.1.1.1.0; identifiers = s.1.1.1.1 },
+    λ s. (s.name, (s.direction, (s.meridian, (s.unit, s.identifiers)))),
+  )
+
+  -- what is the same number as zero is zero
+  module _ (zero_is : (x y : Value) → SameValue x y → IsZero y → IsZero x) where
+    pub given : (at : List Step) (a b : MeridianParts) → AllSame (parts_of_given at level a b) ↔ AgreeGiven level a b
+    given at a b = (
+      λ s. record { name = s.0; longitude = s.1.0; unit = one_of s.1.0 s.1.1.0; identifiers = s.1.1.1 },
+      λ s. (s.name, (s.longitude, (of_one s.unit, s.identifiers))),
+    )
+      where
+        one_of : SameValue a.longitude b.longitude →
+            IsZero a.longitude ⊎ IsZero b.longitude ⊎ BothOrNeither (SameUnit kinds.Angle level) a.unit b.unit →
+            IsZero a.longitude ⊎ BothOrNeither (SameUnit kinds.Angle level) a.unit b.unit
+        one_of same_value (inl first) = inl first
+        one_of same_value (inr (inl second)) = inl (zero_is a.longitude b.longitude same_value second)
+        one_of same_value (inr (inr units)) = inr units
+
+        of_one : IsZero a.longitude ⊎ BothOrNeither (SameUnit kinds.Angle level) a.unit b.unit →
+            IsZero a.longitude ⊎ IsZero b.longitude ⊎ BothOrNeither (SameUnit kinds.Angle level) a.unit b.unit
+        of_one (inl first) = inl first
+        of_one (inr units) = inr (inr units)
+
+    meridian : (at : List Step) (a b : Option MeridianParts) → AllSame (parts_of_meridian at level a b) ↔ AgreeMeridian level a b
+    unfolding parts_of_meridian
+    meridian at None None = same
+    meridian at None (Some b) = behind_greenwich at b
+    meridian at (Some a) None = before_greenwich at a
+    meridian at (Some a) (Some b) = given at a b
+
+    pub base : (at : List Step) (a b : BaseParts) → AllSame (parts_of_base at level a b) ↔ AgreeBase level a b
+    unfolding parts_of_base
+    base at a b =
+        let d = dynamic (at ▸ step.Dynamic) a.dynamic b.dynamic in
+        let f = frame-of (at ▸ step.Datum) a.frame b.frame in
+        let m = meridian (at ▸ step.Meridian) a.meridian b.meridian in (
+          λ s. record {
+            name = s.0;
+            dynamic = d.0 s.1.0;
+            frame = f.0 s.1.1.0;
+            meridian = m.0 s.1.1.1.0;
+            unit = s.1.1.1.1.0;
+            identifiers = s.1.1.1.1.1;
+          },
+          λ s. (s.name, (d.1 s.dynamic, (f.1 s.frame, (m.1 s.meridian, (s.unit, s.identifiers))))),
+        )
+
+    -- systems of one dimension have as many axes
+    module _
+        (as_many : (a b : SystemParts) → IsSystem a → IsSystem b → SameValue a.dimension b.dimension → length a.axes ≡ length b.axes) where
+      of-where : (in-a in-b : Bool) (at : List Step) (a b : SystemParts) (position : ℕ) → AllSame (parts_where in-a in-b at level a b position) →
+          AgreeAt level a b position
+      of-where true true at a b position (axes, (here, there), all) =
+          at-both (λ x y. AgreeAxis level a b x y) position a.axes b.axes axes.0 axes.1 here there ((axis (at ▸ step.Axis position) a b axes.0 axes.1).0 all)
+      of-where true false at a b position (x, here, bad) = absurd bad
+      of-where false in-b at a b position (y, there, bad) = absurd bad
+
+      last : (k n : ℕ) → k ≤ suc n → (k ≤ n) ⊎ (k ≡ suc n)
+      last k n low = grind arith
+
+      of-axes : (at : List Step) (a b : SystemParts) (count : ℕ) → AllSame (parts_of_axes at level a b count) →
+          (position : ℕ) → 1 ≤ position → position ≤ count → AgreeAt level a b position
+      of-axes at a b zero all position low high = absurd (omega (arith, low, high))
+      of-axes at a b (suc count) all position low high = elim (last position count high) [
+        | inl below ↦ of-axes at a b count all.0 position low below
+        | inr is ↦ subst (λ k. AgreeAt level a b k) (sym is)
+            (of-where (nat_le (suc count) (length a.axes)) (nat_le (suc count) (length b.axes)) at a b (suc count) all.1)
+      ]
+
+      to-where : (in-a in-b : Bool) → in-a ≡ true → in-b ≡ true → (at : List Step) (a b : SystemParts) (position : ℕ) → AgreeAt level a b position →
+          AllSame (parts_where in-a in-b at level a b position)
+      to-where true true is-a is-b at a b position same_at =
+          let (x, y, r, here, there) = which-both (λ x y. AgreeAxis level a b x y) position a.axes b.axes same_at in
+          ((x, y), (here, there), (axis (at ▸ step.Axis position) a b x y).1 r)
+      to-where true false is-a is-b at a b position same_at = absurd (cc)
+      to-where false in-b is-a is-b at a b position same_at = absurd (cc)
+
+      to-axes : (at : List Step) (a b : SystemParts) → AgreeAxes level a b → (count : ℕ) → count ≤ length a.axes → count ≤ length b.axes →
+          AllSame (parts_of_axes at level a b count)
+      to-axes at a b axes zero in-a in-b = tt
+      to-axes at a b axes (suc count) in-a in-b = (
+        to-axes at a b axes count (omega (arith, in-a)) (omega (arith, in-b)),
+        to-where (nat_le (suc count) (length a.axes)) (nat_le (suc count) (length b.axes)) (le-leb (suc count) (length a.axes) in-a)
+            (le-leb (suc count) (length b.axes) in-b) at a b (suc count) (axes (suc count) (omega arith) in-a),
+      )
+
+      pub system : (at : List Step) (a b : SystemParts) → IsSystem a → IsSystem b → AllSame (parts_of_system at level a b) ↔ AgreeSystem level a b
+      unfolding parts_of_system
+      system at a b sound-a sound-b = (
+        λ s. record {
+          system_type = s.0;
+          dimension = s.1.0;
+          identifiers = s.1.1.0;
+          axes = λ position low high. of-axes at a b (max (length a.axes) (length b.axes)) s.1.1.1 position low (omega (arith, high));
+        },
+        λ s.
+            let many = as_many a b sound-a sound-b s.dimension in (
+              s.system_type,
+              (
+                s.dimension,
+                (
+                  s.identifiers,
+                  to-axes at a b s.axes (max (length a.axes) (length b.axes)) (omega (arith, many)) (omega (arith, many)),
+                ),
+              ),
+            ),
+      )
+
+      -- ---- CRSs
+
+      pub geodetic : (at : List Step) (a b : GeodeticParts) → IsGeodetic a → IsGeodetic b → AllSame (parts_of_geodetic at level a b) ↔ AgreeGeodetic level a b
+      unfolding parts_of_geodetic
+      geodetic at a b sound-a sound-b =
+          let d = dynamic (at ▸ step.Dynamic) a.dynamic b.dynamic in
+          let f = frame-of (at ▸ step.Datum) a.frame b.frame in
+          let m = meridian (at ▸ step.Meridian) a.meridian b.meridian in
+          let y = system (at ▸ step.System) a.system b.system sound-a.system sound-b.system in
+          let t = tail at a.tail b.tail in (
+            λ s. record {
+              kind = s.0;
+              name = s.1.0;
+              dynamic = d.0 s.1.1.0;
+              frame = f.0 s.1.1.1.0;
+              meridian = m.0 s.1.1.1.1.0;
+              system = y.0 s.1.1.1.1.1.0;
+              tail = t.0 s.1.1.1.1.1.1;
+            },
+            λ s. (s.kind, (s.name, (d.1 s.dynamic, (f.1 s.frame, (m.1 s.meridian, (y.1 s.system, t.1 s.tail)))))),
+          )
+
+      pub projected : (at : List Step) (a b : ProjectedParts) → IsProjected a → IsProjected b → AllSame (parts_of_projected at level a b) ↔ AgreeProjected level a b
+      unfolding parts_of_projected
+      projected at a b sound-a sound-b =
+          let d = base (at ▸ step.Base) a.base b.base in
+          let f = conversion (at ▸ step.Conversion) a.conversion b.conversion in
+          let y = system (at ▸ step.System) a.system b.system sound-a.system sound-b.system in
+          let t = tail at a.tail b.tail in (
+            λ s. record { name = s.0; base = d.0 s.1.0; conversion = f.0 s.1.1.0; system = y.0 s.1.1.1.0; tail = t.0 s.1.1.1.1 },
+            λ s. (s.name, (d.1 s.base, (f.1 s.conversion, (y.1 s.system, t.1 s.tail)))),
+          )
+
+      pub vertical : (at : List Step) (a b : VerticalParts) → IsVertical a → IsVertical b → AllSame (parts_of_vertical at level a b) ↔ AgreeVertical level a b
+      unfolding parts_of_vertical
+      vertical at a b sound-a sound-b =
+          let d = dynamic (at ▸ step.Dynamic) a.dynamic b.dynamic in
+          let f = frame-of (at ▸ step.Datum) a.frame b.frame in
+          let y = system (at ▸ step.System) a.system b.system sound-a.system sound-b.system in
+          let t = tail at a.tail b.tail in (
+            λ s. record {
+              name = s.0;
+              dynamic = d.0 s.1.0;
+              frame = f.0 s.1.1.0;
+              system = y.0 s.1.1.1.0;
+              geoid_models = s.1.1.1.1.0;
+              tail = t.0 s.1.1.1.1.1;
+            },
+            λ s. (s.name, (d.1 s.dynamic, (f.1 s.frame, (y.1 s.system, (s.geoid_models, t.1 s.tail))))),
+          )
+
+      pub horizontal-of : (at : List Step) (a b : Horizontal) → IsHorizontalPart a → IsHorizontalPart b →
+          AllSame (parts_of_horizontal at level a b) ↔ AgreeHorizontal level a b
+      unfolding parts_of_horizontal
+      horizontal-of at (horizontal.Geodetic a) (horizontal.Geodetic b) sound-a sound-b = geodetic at a b sound-a sound-b
+      horizontal-of at (horizontal.Projected a) (horizontal.Projected b) sound-a sound-b = projected at a b sound-a sound-b
+      horizontal-of at (horizontal.Geodetic a) (horizontal.Projected b) sound-a sound-b = same
+      horizontal-of at (horizontal.Projected a) (horizontal.Geodetic b) sound-a sound-b = same
+
+      by-itself : (a : Horizontal) → IsHorizontal a → IsHorizontalPart a
+      by-itself (horizontal.Geodetic a) sound = sound.0
+      by-itself (horizontal.Projected a) sound = sound.0
+
+      pub compound : (at : List Step) (a b : CompoundParts) → IsCompound a → IsCompound b → AllSame (parts_of_compound at level a b) ↔ AgreeCompound level a b
+      unfolding parts_of_compound
+      compound at a b sound-a sound-b =
+          let h =
+          horizontal-of (at ▸ step.Horizontal) a.horizontal b.horizontal (by-itself a.horizontal sound-a.horizontal) (by-itself b.horizontal sound-b.horizontal) in
+          let v = vertical (at ▸ step.Vertical) a.vertical b.vertical sound-a.vertical sound-b.vertical in
+          let t = tail at a.tail b.tail in (
+            λ s. record { name = s.0; horizontal = h.0 s.1.0; vertical = v.0 s.1.1.0; tail = t.0 s.1.1.1 },
+            λ s. (s.name, (h.1 s.horizontal, (v.1 s.vertical, t.1 s.tail))),
+          )
+
+      pub crs-of : (a b : Crs) → IsCrs a → IsCrs b → AllSame (parts_of_crs level a b) ↔ AgreeCrs level a b
+      crs-of (crs.Geodetic a) (crs.Geodetic b) sound-a sound-b =
+          let g = geodetic [] a b sound-a sound-b in
+          (λ s. record { kind = (g.0 s).kind; parts = g.0 s }, λ s. g.1 s.parts)
+      crs-of (crs.Projected a) (crs.Projected b) sound-a sound-b =
+          let p = projected [] a b sound-a sound-b in
+          (λ s. record { kind = refl; parts = p.0 s }, λ s. p.1 s.parts)
+      crs-of (crs.Vertical a) (crs.Vertical b) sound-a sound-b =
+          let v = vertical [] a b sound-a sound-b in
+          (λ s. record { kind = refl; parts = v.0 s }, λ s. v.1 s.parts)
+      crs-of (crs.Compound a) (crs.Compound b) sound-a sound-b =
+          let p = compound [] a b sound-a sound-b in
+          (λ s. record { kind = refl; parts = p.0 s }, λ s. p.1 s.parts)
+      crs-of a b sound-a sound-b = (λ s. absurd s, λ s. absurd s.parts)
+
+      -- ---- of each kind
+
+      pub agree-where-same : AgreeWhereSame level
+      unfolding AreSame SameDynamic SameCrs
+      agree-where-same = record {
+        method = method [];
+        conversion = conversion [];
+        dynamic = λ a b. dynamic [] (Some a) (Some b);
+        ellipsoid = ellipsoid [];
+        given = given [];
+        meridian = meridian [];
+        datum = datum [];
+        ensemble = ensemble [];
+        frame = frame-of [];
+        tail = tail [];
+        base = base [];
+        system = system [];
+        geodetic = geodetic [];
+        projected = projected [];
+        vertical = vertical [];
+        horizontal = horizontal-of [];
+        compound = compound [];
+        crs = crs-of;
+      }

@@ -1,9 +1,0 @@
-use Rattle.std.proofs.Common.{rules}
-use Rattle.crs_same.proofs.WalkedLemmas.{◌⟫◌, one}
-use Rattle.crs_same.proofs.frames.walk_beside_greenwich.Goals as goal
-
-pub returns : goal.returns
-returns c =
-    one (search rules) c.part-found.ensures ⟫
-    one (search rules) c.part-found-2.ensures ⟫
-    one (search rules) c.part.ensures
