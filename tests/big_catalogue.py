@@ -61,4 +61,5 @@ def main(crss, spellings):
             out.write(b'%s %d"%s\n' % (front, number, rest))
 
 
-main(int(sys.argv[1]), int(sys.argv[2]))
+if __name__ == "__main__":
+    main(int(sys.argv[1]), int(sys.argv[2]))

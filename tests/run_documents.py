@@ -6,8 +6,8 @@
 In a block that begins with the line ```console, a line '$ COMMAND' is run by the shell in the repository's folder, with
 the lines '> MORE' directly below it, and the lines up to the next command are what it must print on standard output. A
 block that begins with the line ```console needs=TOOL[,TOOL..] is run where each TOOL is there, a program on the PATH,
-as python3:MODULE a module of that Python, or a file of the repository, whose path has a slash; elsewhere its commands
-are told as skipped, by the tool's name. A block that begins with ```rust is code
+as python3:MODULE a module of that Python, as $NAME a variable of the environment, or a file of the repository, whose path
+has a slash; elsewhere its commands are told as skipped, by the tool's name. A block that begins with ```rust is code
 that must stand, line by line, in a file of crates/crs_examples/src, which the gate proves and runs; one that begins with
 ```LANGUAGE of=FILE is code that must stand so in that file of the repository.
 
@@ -15,6 +15,7 @@ Without files they are README.md and docs/*.md; README.md then has at most 1,500
 something else has a line; the last line is 'N passed, M failed', and the status is 0 where M is 0.
 """
 import collections
+import os
 import pathlib
 import shutil
 import subprocess
@@ -58,6 +59,8 @@ def printed(command):
 
 
 def is_there(tool):
+    if tool.startswith("$"):
+        return tool[1:] in os.environ
     if "/" in tool:
         return (ROOT / tool).exists()
     program, _, module = tool.partition(":")

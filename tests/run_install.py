@@ -78,7 +78,7 @@ def is_there(tool: str, what: str) -> bool:
 
 def documents() -> Set[str]:
     """The pages and examples, by the paths that they have below the prefix."""
-    found = [ROOT / "README.md", *ROOT.glob("docs/**/*.md"), *(it for it in EXAMPLES.glob("**/*") if not it.is_dir())]
+    found = [ROOT / "README.md", *ROOT.glob("docs/**/*.md"), *ROOT.glob("docs/audit.*"), *(it for it in EXAMPLES.glob("**/*") if not it.is_dir())]
     return {f"{FOLDER_OF_DOCUMENTS}/{it.relative_to(ROOT)}" for it in found}
 
 
@@ -146,13 +146,14 @@ def try_completion(counts: Counts, prefix: pathlib.Path) -> None:
         found = [re.match(r"  +(?:(\w+)  |(-\w), (--\w+)|(--\w+))", line) for line in lines]
         return {it for match in found if match for it in match.groups() if it}
 
-    commands = {"canon", "check", "group", "same", "help"}
+    commands = {"canon", "check", "group", "same", "explain", "help"}
     counts.compare("the commands", offered(""), helped("--help"))
     counts.compare("help's words", offered("help", ""), commands)
     for command in sorted(commands - {"help"}):
         counts.compare(f"the options of {command}", offered(command, "-"), helped("help", command))
     counts.compare("ca", offered("ca"), {"canon"})
-    counts.compare("no name of a file", offered("same", "READ"), set())
+    for command in ("same", "explain"):
+        counts.compare(f"no name of a file for {command}", offered(command, "READ"), set())
     for words in (["--level", ""], ["--level", "="], ["--level", "=", ""]):
         counts.compare("levels", offered("group", *words), {"full", "definition"})
     counts.compare("a level", offered("group", "--level", "=", "d"), {"definition"})
@@ -263,6 +264,34 @@ def try_libdir(counts: Counts, folder: pathlib.Path) -> None:
     counts.compare("--libdir elsewhere", (done.returncode, done.stderr, prefix.exists()), (2, wanted_error, False))
 
 
+def try_postgresql(counts: Counts, folder: pathlib.Path) -> None:
+    """The extension for PostgreSQL below DESTDIR, where pg_config says; then it goes, and what isn't its own stays."""
+    stage = folder / "a stage for PostgreSQL"
+    done = run([ROOT / "install", "--postgresql"], DESTDIR=str(stage))
+    if done.returncode == 2 and "aren't there" in done.stderr or "there is no pg_config" in done.stderr:
+        print("skipped: PostgreSQL's server or pg_config isn't there: ./install --postgresql")
+        return
+    folders = [run(["pg_config", f"--{it}"]).stdout.strip().lstrip("/") for it in ("pkglibdir", "sharedir")]
+    script = f"crsdesk--{run([ROOT / 'crates/crsdesk/out/crsdesk', '--version']).stdout.split()[1]}.sql"
+    names = [f"extension/{it}" for it in ("crsdesk.control", "crsdesk.installed", script)]
+    wanted = {f"{folders[0]}/crsdesk.so", *(f"{folders[1]}/{it}" for it in names)}
+    counts.compare("--postgresql", (done.returncode, files_below(stage)), (0, wanted))
+    printed = {line[len(str(stage)) + 1 :] for line in done.stdout.split("\n")[:-1]}
+    counts.compare("what --postgresql prints", printed, wanted)
+    own = stage / folders[1] / "extension" / "own.control"
+    own.write_text("", encoding="utf-8")
+    done = run([ROOT / "install", "--uninstall", "--postgresql"], DESTDIR=str(stage))
+    left = {str(own.relative_to(stage))}
+    counts.compare("--postgresql --uninstall", (done.returncode, files_below(stage)), (0, left))
+    own.unlink()
+    done = run([ROOT / "install", "--postgresql"], DESTDIR=str(stage))
+    done = run([ROOT / "install", "--uninstall", "--postgresql"], DESTDIR=str(stage))
+    counts.compare("--postgresql --uninstall of all", (done.returncode, stage.exists()), (0, True))
+    done = run([ROOT / "install", "--postgresql"], DESTDIR=str(stage), PG_CONFIG="/missing/pg_config")
+    wanted_error = "crsdesk: there is no /missing/pg_config (Debian: apt-get install postgresql-server-dev-15)\n"
+    counts.compare("no pg_config", (done.returncode, done.stderr), (2, wanted_error))
+
+
 def try_closed_pipe(counts: Counts, folder: pathlib.Path) -> None:
     """Where what reads the answer has ended, help ends quietly, and an installation goes on to its end."""
     prefix = folder / "unread"
@@ -281,7 +310,7 @@ def try_closed_pipe(counts: Counts, folder: pathlib.Path) -> None:
 
 
 def try_faults(counts: Counts, folder: pathlib.Path) -> None:
-    usage = "crsdesk: usage: ./install [PREFIX] [--libdir DIR | --uninstall]\n"
+    usage = "crsdesk: usage: ./install [PREFIX] [--libdir DIR | --uninstall], or ./install --postgresql [--uninstall]\n"
     two_libdirs = ["--libdir", "a", "--libdir=b"]
     wrong_lines = [
         ["--frob"],
@@ -291,6 +320,9 @@ def try_faults(counts: Counts, folder: pathlib.Path) -> None:
         ["--libdir"],
         ["--libdir="],
         two_libdirs,
+        ["--postgresql", "--postgresql"],
+        ["--postgresql", "a"],
+        ["--postgresql", "--libdir", "lib"],
     ]
     for words in [*wrong_lines, ["--uninstall", "--libdir", "lib"]]:
         done = run([ROOT / "install", *words])
@@ -325,6 +357,7 @@ def main(words: List[str]) -> int:
             try_uninstall(counts, prefix)
             try_destdir(counts, folder)
             try_libdir(counts, folder)
+            try_postgresql(counts, folder)
             try_closed_pipe(counts, folder)
             try_faults(counts, folder)
     print(f"{counts.passed} passed, {counts.failed} failed")

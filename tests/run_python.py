@@ -31,6 +31,7 @@ SECONDS = 600
 # Packages beside which it is tried, as this Python or the system's has them.
 BESIDE = ("pandas", "pyproj", "rasterio", "osgeo")
 SYSTEM = "/usr/bin/python3"
+EXTRAS = "import importlib.metadata; print(importlib.metadata.requires('crsdesk'))"
 
 
 class Counts:
@@ -79,8 +80,9 @@ def try_wheel(counts: Counts, library: pathlib.Path, folder: pathlib.Path) -> Op
     with zipfile.ZipFile(wheels[0]) as archive:
         names = {name for name in archive.namelist() if name.startswith("crsdesk/")}
         inside = hashlib.sha256(archive.read("crsdesk/libcrsdesk.so")).digest()
-    sources = {f"crsdesk/{path.name}" for path in (PACKAGE / "src" / "crsdesk").glob("*.py")}
-    counts.add("its files", names == sources | {"crsdesk/py.typed", "crsdesk/libcrsdesk.so"}, str(names))
+    below = (path for path in (PACKAGE / "src" / "crsdesk").rglob("*") if path.is_file() and path.suffix != ".pyc")
+    sources = {str(path.relative_to(PACKAGE / "src")) for path in below}
+    counts.add("its files", names == sources | {"crsdesk/libcrsdesk.so"}, str(names ^ sources))
     counts.add("its shared object", inside == hashlib.sha256(library.read_bytes()).digest(), str(library))
     return wheels[0]
 
@@ -108,6 +110,10 @@ def try_environment(counts: Counts, wheel: pathlib.Path, folder: pathlib.Path) -
     counts.add("the library's version is the wheel's", done.stdout == wanted + "\n", f"{done.stdout}, not {wanted}")
     text = (PACKAGE / "pyproject.toml").read_text(encoding="utf-8")
     counts.add("the version of pyproject.toml", f'version = "{wanted}"' in text, wanted)
+    done = run([python, "-c", EXTRAS])
+    wanted_extras = [f'{it}; extra == "audit"' for it in ("jinja2", "rich")]
+    wanted_extras.append('dask[dataframe,distributed]; extra == "dask"')
+    counts.add("its extras", done.stdout == f"{wanted_extras}\n", done.stdout)
     done = run([python, "-m", "pip", "check"])
     counts.add("it depends on nothing", done.returncode == 0, done.stdout)
     missing = {**os.environ, "CRSDESK_LIBRARY": "/missing/libcrsdesk.so"}

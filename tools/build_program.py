@@ -41,6 +41,8 @@ KNOWN_SECONDS = {
     "crs_normal": 15,
     "crs_canon": 109,
     "crs_group": 51,
+    "crs_hint": 60,
+    "crs_explain": 40,
     "crs_line": 58,
     "crs_desk": 40,
     "crs_c": 40,

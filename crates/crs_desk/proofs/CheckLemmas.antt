@@ -9,7 +9,7 @@ use Rattle.crs_desk.specs.Ending.{IsWritten, IsAnswered}
 use Rattle.crs_desk.specs.Output.{IsCheckOutput, WritesFound}
 use Rattle.crs_desk.specs.Pieces.{IsHeldOf, IsWholeHeld}
 
-found-written : (text : List ℕ) (found : Result Kind RefusedAt) (written : List ℕ) (status : ℕ)
+pub found-written : (text : List ℕ) (found : Result Kind RefusedAt) (written : List ℕ) (status : ℕ)
     → MatchResult found (SpellsKind text) (Refuses text) → WritesFound found written status → IsCheckOutput text written status
 unfolding IsCheckOutput
 found-written text (Ok kind) written status is line = inl (kind, is, line)

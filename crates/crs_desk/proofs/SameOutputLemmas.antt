@@ -1,7 +1,7 @@
 -- The answers of `same`, put together from what was found out about the two texts.
 use Rattle.std.proofs.Common.{◌≡◌, ◌↔◌, ◌++◌, ◌∷◌, ◌⊎◌, ℕ, List, [], Option, Some, None, codes, refl, inl, inr}
 use Rattle.crs_text.specs.Fault.{refusal_of}
-use Rattle.crs_text.specs.Refusal.{RefusedAt}
+use Rattle.crs_text.specs.Refusal.{RefusedAt, refused_text}
 use Rattle.crs_text.specs.declared.fault.Fault.{Fault}
 use Rattle.crs_value.specs.declared.values.crs.Crs.{Crs}
 use Rattle.crs_value.specs.declared.values.level.Level.{Level}
@@ -9,7 +9,6 @@ use Rattle.crs_value.specs.SpellsText.{Spells, IsFaultOfText}
 use Rattle.crs_same.specs.declared.step.Step.{Step}
 use Rattle.crs_same.specs.PartsOfCrs.{FirstInCrs}
 use Rattle.crs_same.specs.SameCrs.{SameCrs}
-use Rattle.crs_group.specs.Output.{refused_text}
 use Rattle.crs_desk.specs.SameOutput.{WritesRefusalOf, WritesSame, WritesDifferent, IsSameOutput, IsSecondOutput, WritesPart}
 use Rattle.crs_desk.proofs.JudgedLemmas.{refused-text}
 

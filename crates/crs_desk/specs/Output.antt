@@ -1,12 +1,11 @@
 -- What `canon` and `check` write for a text, and their status.
 use Rattle.std.specs.Prelude.{◌≡◌, ◌++◌, ◌⊎◌, ℕ, List, [], ◌∷◌, Result, Ok, Err, codes}
-use Rattle.crs_text.specs.Refusal.{RefusedAt}
+use Rattle.crs_text.specs.Refusal.{RefusedAt, refused_text}
 use Rattle.crs_value.specs.declared.values.crs.Kind.{Kind}
 use Rattle.crs_value.specs.declared.values.crs.Kind.TheVariants as kind
 use Rattle.crs_value.specs.SpellsText.{SpellsKind, Refuses}
 use Rattle.crs_value.specs.declared.values.level.Level.{Level}
 use Rattle.crs_canon.specs.Canonical.{IsCanonicalOf}
-use Rattle.crs_group.specs.Output.{refused_text}
 
 -- the word for a kind of CRS
 abbrev pub kind_word : Kind → List ℕ

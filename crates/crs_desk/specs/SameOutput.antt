@@ -1,6 +1,6 @@
 -- What `same` writes for two texts, and its status.
 use Rattle.std.specs.Prelude.{◌++◌, ◌⊎◌, ℕ, List, Option, Some, None, codes}
-use Rattle.crs_text.specs.Refusal.{RefusedAt}
+use Rattle.crs_text.specs.Refusal.{RefusedAt, refused_text}
 use Rattle.crs_value.specs.declared.values.crs.Crs.{Crs}
 use Rattle.crs_value.specs.declared.values.level.Level.{Level}
 use Rattle.crs_value.specs.SpellsText.{Spells, Refuses}
@@ -8,7 +8,6 @@ use Rattle.crs_same.specs.declared.step.Step.{Step}
 use Rattle.crs_same.specs.PartsOfCrs.{FirstInCrs}
 use Rattle.crs_same.specs.Paths.{path_text}
 use Rattle.crs_same.specs.SameCrs.{SameCrs}
-use Rattle.crs_group.specs.Output.{refused_text}
 use Rattle.crs_desk.specs.Output.{IsLine}
 
 -- the refusal of a text behind the word that says which text it is, with status 1

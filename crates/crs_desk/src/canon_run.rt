@@ -39,9 +39,9 @@ pub fn run_canon<R: Read, W: Write>(
 
 // The canonical text of a text, at this level.
 #[derive(Drop)]
-struct CanonAnswer<'t> {
-    level: Level,
-    text: &'t [u8],
+pub(crate) struct CanonAnswer<'t> {
+    pub(crate) level: Level,
+    pub(crate) text: &'t [u8],
 }
 
 impl Answer for CanonAnswer<'_> {

@@ -40,8 +40,8 @@ pub fn run_check<R: Read, W: Write>(
 
 // The kind of the CRS that a text spells, or the refusal.
 #[derive(Drop)]
-struct CheckAnswer {
-    found: Result<Kind, Refusal>,
+pub(crate) struct CheckAnswer {
+    pub(crate) found: Result<Kind, Refusal>,
 }
 
 impl Answer for CheckAnswer {
@@ -64,7 +64,7 @@ impl Answer for CheckAnswer {
 }
 
 // `accepted KIND` and a line end.
-fn accepted_line(alloc: Global, kind: Kind) -> Result<Vec<u8>, AllocError>
+pub(crate) fn accepted_line(alloc: Global, kind: Kind) -> Result<Vec<u8>, AllocError>
     ensures { IfOk result (λ line. line.items ≡ (codes "accepted " ++ kind_word kind) ++ 10 ∷ []) }
 {
     let mut line = Vec::from_slice(alloc, b"accepted ")?;

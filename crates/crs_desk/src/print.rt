@@ -1,6 +1,6 @@
 //! The lines that commands print.
 ghost use Rattle.std.specs.Prelude.{◌≡◌, ◌++◌, ◌∷◌, [], IfOk};
-ghost use Rattle.crs_group.specs.Output.{refused_text};
+ghost use Rattle.crs_text.specs.Refusal.{refused_text};
 
 use crs_text::Refusal;
 use itoa::Buffer;

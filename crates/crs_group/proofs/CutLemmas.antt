@@ -2,9 +2,9 @@
 use Rattle.std.proofs.Common.{◌≡◌, ◌+◌, ◌<◌, ◌≤◌, ◌++◌, ◌∷◌, [], ℕ, List, true, false, length, ap, subst, sym, refl, ◌∙◌, arith, append_assoc, append-nil, length-append}
 use Rattle.std.specs.Prelude.{◌==◌}
 use Rattle.std.proofs.lemmas.Bool.{eqb-true}
-use Rattle.crs_group.specs.Cutting.{AreEnded, CutterParts, IsCutFault, IsCutTo, IsLedgerFor, IsLedgerOf, IsNextLine, IsSplit, LedgerParts}
+use Rattle.crs_group.specs.Cutting.{AreEnded, CutterParts, IsCutFault, IsCutTo, IsLedgerFor, IsLedgerOf, IsNextLine, LedgerParts}
 use Rattle.crs_group.specs.declared.fault.RunFault.{RunFault}
-use Rattle.crs_group.specs.Lines.{AreLines, HasNoFeed}
+use Rattle.crs_group.specs.Lines.{AreLines, HasNoFeed, IsSplit}
 use Rattle.crs_group.specs.LongLines.{HasShortLines, IsTooLong}
 use Rattle.crs_group.proofs.FeedLemmas.{ended-begins, ended-feeds, ended-fits, ended-last, ended-lines, ended-more, plain-append, short-ended, short-line, short-more}
 

@@ -5,8 +5,8 @@ use Rattle.std.proofs.lemmas.Bool.{cases_Bool, eqb-true}
 use Rattle.std.proofs.lemmas.List.{take_all}
 use Rattle.std.proofs.lemmas.List.Sums.{sum_by-append}
 use Rattle.bstr.specs.Find.{IsFirstByte, is_byte}
-use Rattle.crs_group.specs.Cutting.{AreEnded, IsSplit}
-use Rattle.crs_group.specs.Lines.{AreLines, HasNoFeed, IsTextOf}
+use Rattle.crs_group.specs.Cutting.{AreEnded}
+use Rattle.crs_group.specs.Lines.{AreLines, HasNoFeed, IsSplit, IsTextOf}
 use Rattle.crs_group.specs.LongLines.{EndsInFeed, HasShortLines, feeds}
 use Rattle.crs_group.proofs.LineLemmas.{false-true, feed-more, feed-rest, feed-test}
 

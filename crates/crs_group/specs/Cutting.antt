@@ -63,10 +63,6 @@ pub record IsCutTo (bytes : List ℕ) (cutter : CutterParts) : Type 0 where
   pub is_short : length cutter.partial ≤ 1048576
   pub of_texts : IsLedgerOf texts cutter.ledger
 
--- the bytes have a first line, and others behind its line feed
-abbrev pub IsSplit : List ℕ → List ℕ → List ℕ → Type 0
-IsSplit bytes line rest = (bytes ≡ line ++ 10 ∷ rest) × HasNoFeed line
-
 -- why bytes aren't cut
 abbrev pub IsCutFault : List ℕ → RunFault → Type 0
 IsCutFault bytes ReadFailed = ⊥

@@ -1,7 +1,7 @@
 -- How the catalogue of some bytes is written.
 use Rattle.std.specs.Prelude.{◌≡◌, ◌+◌, ◌++◌, ◌∷◌, [], ℕ, List, codes, decimal, length}
 use Rattle.std.specs.List.{flat_map}
-use Rattle.crs_text.specs.Refusal.{RefusedAt, name_of}
+use Rattle.crs_text.specs.Refusal.{RefusedAt, refused_text}
 use Rattle.crs_value.specs.declared.values.level.Level.{Level}
 use Rattle.crs_group.specs.Catalogue.{GroupParts, CatalogueParts}
 use Rattle.crs_group.specs.GroupTexts.{IsCatalogueOf}
@@ -16,12 +16,6 @@ numbers_text numbers = flat_map (λ number. codes " " ++ decimal number) numbers
 abbrev pub group_line : ℕ → GroupParts → List ℕ
 group_line number group =
     codes "group " ++ decimal number ++ codes ":" ++ numbers_text group.lines ++ 10 ∷ []
-
--- `refused N NAME at P`
-abbrev pub refused_text : ℕ → ℕ → List ℕ
-refused_text number place =
-    codes "refused " ++ decimal number ++ codes " " ++ name_of number ++ codes " at "
-    ++ decimal place
 
 -- `line L: refused N NAME at P`, and a line feed
 abbrev pub refused_line : ℕ × RefusedAt → List ℕ

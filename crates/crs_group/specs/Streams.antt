@@ -1,6 +1,7 @@
 -- A counted reader and writer as callers see them.
-use Rattle.std.specs.Prelude.{◌≡◌, ◌+◌, ◌==◌, ◌||◌, ◌∷◌, [], ℕ, Bool, true, false, List, Option}
+use Rattle.std.specs.Prelude.{◌≡◌, ◌+◌, ◌++◌, ◌==◌, ◌||◌, ◌∷◌, [], ℕ, Bool, true, false, List, Option}
 use Rattle.std.specs.Prelude.{Result, MatchResult}
+use Rattle.std.specs.Io.KnownBytes.{Appends}
 
 -- a reader: the bytes that it has left where it tells them, the reads made, the bytes that they
 -- gave, whether a read gave no byte, which shows the end, whether a read was made past the end, and
@@ -42,6 +43,11 @@ fresh_sink contents =
 abbrev pub IsAskedFor : List ℕ → SinkState → SinkState → Type 0
 IsAskedFor [] old new = new ≡ old
 IsAskedFor (byte ∷ bytes) old new = new.used ≡ true
+
+-- bytes that are handed over in vain: a writer that tells its bytes holds the first of them
+abbrev pub AppendsFront : Option (List ℕ) → Option (List ℕ) → List ℕ → Type 0
+AppendsFront old new bytes =
+    (front : List ℕ) × (rest : List ℕ) × (bytes ≡ front ++ rest) × Appends old new front
 
 -- one more read: whether the end was shown before, the bytes that it gave, whether there were none,
 -- or its failure

@@ -153,8 +153,8 @@ impl Catalogue {
     }
 }
 
-// Whether a text is white space alone, or nothing.
-fn is_blank(text: &[u8]) -> bool
+/// Whether a text is white space alone, or nothing: a blank line stands in no group.
+pub fn is_blank(text: &[u8]) -> bool
     ensures { result ≡ list_all is_white text.now }
 {
     text.iter()

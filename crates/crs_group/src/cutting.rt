@@ -2,8 +2,8 @@
 //! read where it stands; of others the bytes are kept until their line feed comes.
 ghost use Rattle.std.specs.Prelude.{◌≡◌, ◌+◌, ◌^◌, ◌<◌, ◌≤◌, ◌++◌, ◌∷◌, [], ℕ, List, length};
 ghost use Rattle.std.specs.Prelude.{IfErr, IfOk, IsFalse, IsTrue, MatchOption, OnOk};
-ghost use Rattle.crs_group.specs.Cutting.{IsCutFault, IsCutTo, IsLedgerFor, IsNextLine, IsSplit};
-ghost use Rattle.crs_group.specs.Lines.{HasNoFeed, IsTextOf};
+ghost use Rattle.crs_group.specs.Cutting.{IsCutFault, IsCutTo, IsLedgerFor, IsNextLine};
+ghost use Rattle.crs_group.specs.Lines.{HasNoFeed, IsSplit, IsTextOf};
 
 use crate::fault::RunFault;
 use crate::ledger::Ledger;
@@ -12,8 +12,8 @@ use crs_value::Level;
 use std::alloc::{AllocError, Global};
 use std::marker::Model;
 
-// the most bytes of a line before its line feed
-const MAX_LINE: usize = 1_048_576;
+/// The most bytes of a line before its line feed. Profile.
+pub const MAX_LINE: usize = 1_048_576;
 
 #[derive(Drop)]
 pub(crate) struct Cutter {
@@ -120,8 +120,8 @@ impl Cutter {
     }
 }
 
-// The bytes before the first line feed, and those behind it.
-fn split_line(bytes: &[u8]) -> Option<(&[u8], &[u8])>
+/// The bytes before the first line feed, and those behind it. `None`: there is no line feed.
+pub fn split_line(bytes: &[u8]) -> Option<(&[u8], &[u8])>
     ensures { MatchOption result (HasNoFeed bytes.now) (λ parts. IsSplit bytes.now parts.0.now parts.1.now) }
 {
     match bytes.find_byte(b'\n') {
@@ -130,8 +130,8 @@ fn split_line(bytes: &[u8]) -> Option<(&[u8], &[u8])>
     }
 }
 
-// The text of a line: a return at its end is no part of it.
-fn text_of(line: &[u8]) -> &[u8]
+/// The text of a line that ended at a line feed: a return at its end is no part of it.
+pub fn text_of(line: &[u8]) -> &[u8]
     ensures { IsTextOf line.now result.now }
 {
     match line.split_last() {

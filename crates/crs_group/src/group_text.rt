@@ -3,7 +3,8 @@ ghost use Rattle.std.specs.Prelude.{◌≡◌, ◌++◌, OnOk};
 ghost use Rattle.std.specs.List.{flat_map};
 ghost use Rattle.crs_group.specs.Catalogue.{GroupParts};
 ghost use Rattle.crs_group.specs.Output.{catalogue_text, group_line, group_lines, numbers_text};
-ghost use Rattle.crs_group.specs.Output.{refused_line, refused_text};
+ghost use Rattle.crs_group.specs.Output.{refused_line};
+ghost use Rattle.crs_text.specs.Refusal.{refused_text};
 
 use crate::catalogue::Catalogue;
 use crate::groups::Groups;

@@ -15,10 +15,11 @@ mod sink;
 mod source;
 mod summary;
 
-pub use catalogue::Catalogue;
+pub use catalogue::{Catalogue, is_blank};
+pub use cutting::{MAX_LINE, split_line, text_of};
 pub use fault::RunFault;
 pub use placed::Placed;
 pub use run::run_group;
 pub use sink::Sink;
-pub use source::{MAX_READS, Source, make_room};
+pub use source::{MAX_COUNTED_READS, MAX_READS, Source, make_room};
 pub use summary::Summary;

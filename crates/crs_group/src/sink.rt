@@ -1,7 +1,7 @@
-ghost use Rattle.std.specs.Prelude.{◌≡◌, OnOk};
+ghost use Rattle.std.specs.Prelude.{◌≡◌, OnErr, OnOk};
 ghost use Rattle.std.specs.Io.{WritesAtMost};
 ghost use Rattle.std.specs.Io.KnownBytes.{Appends, WriteAppends};
-ghost use Rattle.crs_group.specs.Streams.{CountsWrite, CountsWrites, fresh_sink};
+ghost use Rattle.crs_group.specs.Streams.{AppendsFront, CountsWrite, CountsWrites, fresh_sink};
 
 use std::io;
 use std::io::Write;
@@ -44,9 +44,10 @@ impl<W: Write> Sink<W> {
 
     /// Writes all the bytes, as many at a time as the writer takes; where there are none the writer isn't asked. An
     /// error is the writer's own, an interruption included, or `WriteZero` where the writer takes no byte; nothing is
-    /// asked of the writer behind it, and the sink has `failed` from then on.
+    /// asked of the writer behind it, and the sink has `failed` from then on; the bytes that it took are the first ones.
     pub fn write_all(&mut self, bytes: &[u8]) -> io::Result<()>
         ensures bytes { OnOk result (Appends self.old.contents self.new.contents bytes.now) }
+        ensures front { OnErr result (AppendsFront self.old.contents self.new.contents bytes.now) }
         ensures counted { CountsWrites self.old self.new result }
     {
         self.used = true;

@@ -1,4 +1,4 @@
-ghost use Rattle.std.specs.Prelude.{◌≡◌, ◌≤◌, ◌<◌, IfOk, length, true, vec_len};
+ghost use Rattle.std.specs.Prelude.{◌≡◌, ◌≤◌, ◌<◌, ◌^◌, IfOk, length, true, vec_len};
 ghost use Rattle.std.specs.Io.{ReadsAtMost};
 ghost use Rattle.std.specs.Io.KnownBytes.{ReadConsumes};
 ghost use Rattle.crs_group.specs.Streams.{CountsRead, fresh_source};
@@ -8,8 +8,11 @@ use std::io;
 use std::io::Read;
 use std::marker::Model;
 
-/// The reads that a run makes at most. Profile.
+/// The reads that a run over one text or over a catalogue makes at most. Profile.
 pub const MAX_READS: u32 = 1_048_576;
+
+/// The reads that a source counts at most, 2^47. Profile.
+pub const MAX_COUNTED_READS: u64 = 140_737_488_355_328;
 
 // The bytes of a read at most.
 const ROOM: usize = 65_536;
@@ -18,7 +21,7 @@ const ROOM: usize = 65_536;
 #[derive(Drop)]
 pub struct Source<R: Read> {
     reader: R,
-    reads: u32,
+    reads: u64,
     taken: u64,
     ended: bool,
     past_end: bool,
@@ -26,7 +29,7 @@ pub struct Source<R: Read> {
 }
 
 impl<R: Read> Model for Source<R> {
-    ghost use Rattle.std.specs.Prelude.{◌≤◌, ◌*◌};
+    ghost use Rattle.std.specs.Prelude.{◌≤◌, ◌*◌, ◌^◌};
     ghost use Rattle.crs_group.specs.Streams.{SourceState};
 
     ghost Value = { SourceState };
@@ -40,7 +43,7 @@ impl<R: Read> Model for Source<R> {
       failed = source.failed;
     } };
 
-    ghost invariant = { λ source. (source.reads ≤ 1048576) × (source.taken ≤ 65536 * source.reads) };
+    ghost invariant = { λ source. (source.reads ≤ 2 ^ 47) × (source.taken ≤ 65536 * source.reads) };
 }
 
 impl<R: Read> Source<R> {
@@ -63,7 +66,7 @@ impl<R: Read> Source<R> {
     pub fn read(&mut self, room: &mut [u8]) -> io::Result<usize>
         requires some { 1 ≤ length room.old }
         requires few { length room.old ≤ 65536 }
-        requires reads { self.old.reads < 1048576 }
+        requires reads { self.old.reads < 2 ^ 47 }
         ensures bound { ReadsAtMost result room.new }
         ensures bytes { ReadConsumes self.old.remaining self.new.remaining result room.new }
         ensures counted { CountsRead self.old self.new result }
@@ -84,9 +87,9 @@ impl<R: Read> Source<R> {
     }
 
     /// How many reads were made.
-    pub fn reads(&self) -> u32
+    pub fn reads(&self) -> u64
         ensures count { result ≡ self.now.reads }
-        ensures bound { result ≤ 1048576 }
+        ensures bound { result ≤ 2 ^ 47 }
     {
         self.reads
     }

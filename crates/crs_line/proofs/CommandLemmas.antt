@@ -65,7 +65,10 @@ stop_asks (Some stop) free passes some =
           (λ answers taken. refl),
           (
             (λ answers taken. texts_there stop.1 taken),
-            ((λ answers taken. absurd (answers_help stop.0 free (or_false _ answers))), tt),
+            (
+              (λ answers taken. refl),
+              ((λ answers taken. absurd (answers_help stop.0 free (or_false _ answers))), tt),
+            ),
           ),
         ),
       ),

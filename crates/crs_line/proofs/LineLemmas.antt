@@ -1,4 +1,4 @@
--- Which lines of `same` are taken, word by word.
+-- Which lines are taken, word by word.
 use Rattle.std.proofs.Common.{◌≡◌, ◌≢◌, ◌<◌, ap₂, nat_lt, subst, ℕ, List, [], ◌∷◌, ◌++◌, length, Option, Some, None, Bool, true, false, not, ◌&&◌, ◌||◌, cond, refl, codes, zero, suc, drop, ap, ◌∙◌, sym, true≢false, option_and_then}
 use Rattle.std.specs.Prelude.{◌==◌, encode_utf8, slice_get}
 use Rattle.std.specs.Option.{option_map_or}
@@ -13,9 +13,9 @@ use Rattle.clap.specs.Walk.{Held, Outcome, Step, Waiting, Walk, done, waits, pla
 use Rattle.clap.specs.Takes.{bundle_passes, bundle_step_passes, default_passes, flag_word_passes, flags_pass, is_given, is_valid, level_passes, long_passes, other_passes, settle_passes, short_passes, step_passes, turn_passes, walk_passes, word_passes}
 use Rattle.clap.proofs.OnLiterals.{clap_on_literals}
 use Rattle.clap.proofs.WalkLemmas.{both}
-use Rattle.crs_line.specs.CommandLine.{asked, desk, is_plain_word, level_of, level_option, request_of, same_of}
+use Rattle.crs_line.specs.CommandLine.{asked, desk, explain_of, has_lines, is_plain_word, level_of, level_option, lines_flag, request_of, same_of, spare_operand}
 use Rattle.crs_line.specs.declared.asked.Request.{Request}
-use Rattle.crs_line.specs.declared.asked.Request.TheVariants.{Canon, Same, Group}
+use Rattle.crs_line.specs.declared.asked.Request.TheVariants.{Canon, Check, Same, Group, Explain}
 use Rattle.crs_line.proofs.OperandLemmas.{built_same, second_given}
 
 -- ---- after `--`
@@ -430,40 +430,58 @@ level_last program text first second usual one other =
     (goes_on built_same wants to to text []
     (plain_turn built_same (wants_level built_same held) (option (codes "level")) 3 text refl usual) (stays built_same to))))) refl
 
--- `canon` and `group`, as `clap` builds them
-abbrev built_levelled : Text → Shape
-built_levelled name = record (new_shape name) {
-  rules = filled_from 1 (level_option ∷ help_rule ∷ []);
+-- `canon`, `group` and `explain`, as `clap` builds them
+abbrev built_with : Text → List Rule → Shape
+built_with name own = record (new_shape name) {
+  rules = filled_from 1 own;
   disable_help_subcommand = true;
   is_built = true;
 }
 
--- a level alone, after `--level`
-level_runs : (name text : Text) → is_plain_word text ≡ true
-    → Runs (built_levelled name) (walk_from nothing_held) (codes "--level" ∷ text ∷ []) (before (with_level (built_levelled name) nothing_held text) idle 1)
-unfolding clap_on_literals
-level_runs name text usual =
-    let s = built_levelled name in
-    let wants = before (wants_level s nothing_held) (option (codes "level")) 1 in
-    let to = before (with_level s nothing_held text) idle 1 in
-    goes_on s (walk_from nothing_held) wants to (codes "--level") (text ∷ []) (refl, refl)
-    (goes_on s wants to to text [] (plain_turn s (wants_level s nothing_held) (option (codes "level")) 1 text refl usual) (stays s to))
+abbrev built_canon : Shape
+built_canon = built_with (codes "canon") (level_option ∷ lines_flag ∷ help_rule ∷ [])
 
-pub canon_level : (program text : Text) → is_plain_word text ≡ true → asked (program ∷ codes "canon" ∷ codes "--level" ∷ text ∷ []) ≡ Some (Canon text)
+abbrev built_group : Shape
+built_group = built_with (codes "group") (level_option ∷ help_rule ∷ [])
+
+abbrev built_explain : Shape
+built_explain =
+    built_with (codes "explain") (spare_operand (codes "first") ∷ spare_operand (codes "second") ∷ level_option ∷ help_rule ∷ [])
+
+abbrev canon_of : List Row → Option Request
+canon_of rows = Some (Canon (level_of rows) (has_lines rows))
+
+-- what `canon` holds after `--lines`
+abbrev with_lines : Held → Held
+with_lines h = record {
+  rows = used (with_index 1 (filled lines_flag)) [] (settled built_canon.rules h).rows;
+  pending = None;
+  skip = 0;
+}
+
+pub canon_level : (program text : Text) → is_plain_word text ≡ true
+    → asked (program ∷ codes "canon" ∷ codes "--level" ∷ text ∷ []) ≡ Some (Canon text false)
 unfolding clap_on_literals
 canon_level program text usual =
-    let s = built_levelled (codes "canon") in
-    line_asked s (λ rows. Some (Canon (level_of rows))) (program ∷ codes "canon" ∷ codes "--level" ∷ text ∷ []) (codes "--level" ∷ text ∷ [])
-    (before (with_level s nothing_held text) idle 1) refl refl (level_runs (codes "canon") text usual) refl
+    let s = built_canon in
+    let wants = before (wants_level s nothing_held) (option (codes "level")) 1 in
+    let to = before (with_level s nothing_held text) idle 1 in
+    line_asked s canon_of (program ∷ codes "canon" ∷ codes "--level" ∷ text ∷ []) (codes "--level" ∷ text ∷ []) to refl refl
+    (goes_on s (walk_from nothing_held) wants to (codes "--level") (text ∷ []) (refl, refl)
+    (goes_on s wants to to text [] (plain_turn s (wants_level s nothing_held) (option (codes "level")) 1 text refl usual) (stays s to))) refl
 
 pub group_level : (program text : Text) → is_plain_word text ≡ true → asked (program ∷ codes "group" ∷ codes "--level" ∷ text ∷ []) ≡ Some (Group text)
 unfolding clap_on_literals
 group_level program text usual =
-    let s = built_levelled (codes "group") in
+    let s = built_group in
+    let wants = before (wants_level s nothing_held) (option (codes "level")) 1 in
+    let to = before (with_level s nothing_held text) idle 1 in
     line_asked s (λ rows. Some (Group (level_of rows))) (program ∷ codes "group" ∷ codes "--level" ∷ text ∷ []) (codes "--level" ∷ text ∷ [])
-    (before (with_level s nothing_held text) idle 1) refl refl (level_runs (codes "group") text usual) refl
+    to refl refl
+    (goes_on s (walk_from nothing_held) wants to (codes "--level") (text ∷ []) (refl, refl)
+    (goes_on s wants to to text [] (plain_turn s (wants_level s nothing_held) (option (codes "level")) 1 text refl usual) (stays s to))) refl
 
-pub canon_alone : (program : Text) → asked (program ∷ codes "canon" ∷ []) ≡ Some (Canon (codes "full"))
+pub canon_alone : (program : Text) → asked (program ∷ codes "canon" ∷ []) ≡ Some (Canon (codes "full") false)
 unfolding clap_on_literals
 canon_alone program = refl
 
@@ -471,9 +489,148 @@ pub group_alone : (program : Text) → asked (program ∷ codes "group" ∷ []) 
 unfolding clap_on_literals
 group_alone program = refl
 
+pub check_alone : (program : Text) → asked (program ∷ codes "check" ∷ []) ≡ Some (Check false)
+unfolding clap_on_literals
+check_alone program = refl
+
 pub check_refuses : (program text : Text) → takes desk (program ∷ codes "check" ∷ codes "--level" ∷ text ∷ []) ≡ false
 unfolding clap_on_literals
 check_refuses program text = refl
+
+-- ---- each line a text
+
+pub canon_lines : (program : Text) → asked (program ∷ codes "canon" ∷ codes "--lines" ∷ []) ≡ Some (Canon (codes "full") true)
+unfolding clap_on_literals
+canon_lines program = refl
+
+pub check_lines : (program : Text) → asked (program ∷ codes "check" ∷ codes "--lines" ∷ []) ≡ Some (Check true)
+unfolding clap_on_literals
+check_lines program = refl
+
+pub lines_first : (program text : Text) → is_plain_word text ≡ true
+    → asked (program ∷ codes "canon" ∷ codes "--lines" ∷ codes "--level" ∷ text ∷ []) ≡ Some (Canon text true)
+unfolding clap_on_literals
+lines_first program text usual =
+    let s = built_canon in
+    let h = with_lines nothing_held in
+    let wants = before (wants_level s h) (option (codes "level")) 1 in
+    let to = before (with_level s h text) idle 1 in
+    line_asked s canon_of (program ∷ codes "canon" ∷ codes "--lines" ∷ codes "--level" ∷ text ∷ [])
+    (codes "--lines" ∷ codes "--level" ∷ text ∷ []) to refl refl
+    (goes_on s (walk_from nothing_held) (before h idle 1) to (codes "--lines") (codes "--level" ∷ text ∷ []) (refl, refl)
+    (goes_on s (before h idle 1) wants to (codes "--level") (text ∷ []) (refl, refl)
+    (goes_on s wants to to text [] (plain_turn s (wants_level s h) (option (codes "level")) 1 text refl usual) (stays s to)))) refl
+
+pub lines_last : (program text : Text) → is_plain_word text ≡ true
+    → asked (program ∷ codes "canon" ∷ codes "--level" ∷ text ∷ codes "--lines" ∷ []) ≡ Some (Canon text true)
+unfolding clap_on_literals
+lines_last program text usual =
+    let s = built_canon in
+    let wants = before (wants_level s nothing_held) (option (codes "level")) 1 in
+    let via = before (with_level s nothing_held text) idle 1 in
+    let to = before (with_lines (with_level s nothing_held text)) idle 1 in
+    line_asked s canon_of (program ∷ codes "canon" ∷ codes "--level" ∷ text ∷ codes "--lines" ∷ [])
+    (codes "--level" ∷ text ∷ codes "--lines" ∷ []) to refl refl
+    (goes_on s (walk_from nothing_held) wants to (codes "--level") (text ∷ codes "--lines" ∷ []) (refl, refl)
+    (goes_on s wants via to text (codes "--lines" ∷ [])
+    (plain_turn s (wants_level s nothing_held) (option (codes "level")) 1 text refl usual)
+    (goes_on s via to to (codes "--lines") [] (refl, refl) (stays s to)))) refl
+
+pub lines_twice : (program : Text) → takes desk (program ∷ codes "canon" ∷ codes "--lines" ∷ codes "--lines" ∷ []) ≡ false
+unfolding clap_on_literals
+lines_twice program = refl
+
+pub check_twice : (program : Text) → takes desk (program ∷ codes "check" ∷ codes "--lines" ∷ codes "--lines" ∷ []) ≡ false
+unfolding clap_on_literals
+check_twice program = refl
+
+pub lines_valued : (program word : Text) → takes desk (program ∷ codes "canon" ∷ (codes "--lines=" ++ word) ∷ []) ≡ false
+unfolding clap_on_literals
+lines_valued program word = refl
+
+pub group_lines : (program : Text) → takes desk (program ∷ codes "group" ∷ codes "--lines" ∷ []) ≡ false
+unfolding clap_on_literals
+group_lines program = refl
+
+-- ---- texts that are explained
+
+abbrev asked_explain : List Row → Option Request
+asked_explain rows = Some (explain_of rows)
+
+pub explain_alone : (program : Text) → asked (program ∷ codes "explain" ∷ []) ≡ Some (Explain (codes "full") None None)
+unfolding clap_on_literals
+explain_alone program = refl
+
+pub explain_one : (program first : Text) → is_plain_word first ≡ true
+    → asked (program ∷ codes "explain" ∷ first ∷ []) ≡ Some (Explain (codes "full") (Some first) None)
+unfolding clap_on_literals
+explain_one program first one =
+    let s = built_explain in
+    let to = before (after_first nothing_held first) idle 2 in
+    line_asked s asked_explain (program ∷ codes "explain" ∷ first ∷ []) (first ∷ []) to refl refl
+    (goes_on s (walk_from nothing_held) to to first [] (plain_turn s nothing_held idle 1 first refl one) (stays s to)) refl
+
+pub explain_two : (program first second : Text) → is_plain_word first ≡ true → is_plain_word second ≡ true
+    → asked (program ∷ codes "explain" ∷ first ∷ second ∷ []) ≡ Some (Explain (codes "full") (Some first) (Some second))
+unfolding clap_on_literals
+explain_two program first second one other =
+    let s = built_explain in
+    let via = before (after_first nothing_held first) idle 2 in
+    let to = before (after_second nothing_held first second) idle 3 in
+    line_asked s asked_explain (program ∷ codes "explain" ∷ first ∷ second ∷ []) (first ∷ second ∷ []) to refl refl
+    (goes_on s (walk_from nothing_held) via to first (second ∷ []) (plain_turn s nothing_held idle 1 first refl one)
+    (goes_on s via to to second [] (plain_turn s (after_first nothing_held first) idle 2 second refl other) (stays s to))) refl
+
+pub explain_dashes : (program first second : Text)
+    → asked (program ∷ codes "explain" ∷ codes "--" ∷ first ∷ second ∷ []) ≡ Some (Explain (codes "full") (Some first) (Some second))
+unfolding clap_on_literals
+explain_dashes program first second = refl
+
+pub explain_level : (program text : Text) → is_plain_word text ≡ true
+    → asked (program ∷ codes "explain" ∷ codes "--level" ∷ text ∷ []) ≡ Some (Explain text None None)
+unfolding clap_on_literals
+explain_level program text usual =
+    let s = built_explain in
+    let wants = before (wants_level s nothing_held) (option (codes "level")) 1 in
+    let to = before (with_level s nothing_held text) idle 1 in
+    line_asked s asked_explain (program ∷ codes "explain" ∷ codes "--level" ∷ text ∷ []) (codes "--level" ∷ text ∷ []) to refl refl
+    (goes_on s (walk_from nothing_held) wants to (codes "--level") (text ∷ []) (refl, refl)
+    (goes_on s wants to to text [] (plain_turn s (wants_level s nothing_held) (option (codes "level")) 1 text refl usual) (stays s to))) refl
+
+pub explain_level_first : (program text first second : Text) → is_plain_word text ≡ true → is_plain_word first ≡ true → is_plain_word second ≡ true
+    → asked (program ∷ codes "explain" ∷ codes "--level" ∷ text ∷ first ∷ second ∷ []) ≡ Some (Explain text (Some first) (Some second))
+unfolding clap_on_literals
+explain_level_first program text first second usual one other =
+    let s = built_explain in
+    let wants = before (wants_level s nothing_held) (option (codes "level")) 1 in
+    let h = with_level s nothing_held text in
+    let to = before (after_second h first second) idle 3 in
+    line_asked s asked_explain (program ∷ codes "explain" ∷ codes "--level" ∷ text ∷ first ∷ second ∷ [])
+    (codes "--level" ∷ text ∷ first ∷ second ∷ []) to refl refl
+    (goes_on s (walk_from nothing_held) wants to (codes "--level") (text ∷ first ∷ second ∷ []) (refl, refl)
+    (goes_on s wants (before h idle 1) to text (first ∷ second ∷ [])
+    (plain_turn s (wants_level s nothing_held) (option (codes "level")) 1 text refl usual)
+    (goes_on s (before h idle 1) (before (after_first h first) idle 2) to first (second ∷ []) (plain_turn s h idle 1 first refl one)
+    (goes_on s (before (after_first h first) idle 2) to to second []
+    (plain_turn s (after_first h first) idle 2 second refl other) (stays s to))))) refl
+
+pub explain_level_last : (program text first second : Text) → is_plain_word text ≡ true → is_plain_word first ≡ true → is_plain_word second ≡ true
+    → asked (program ∷ codes "explain" ∷ first ∷ second ∷ codes "--level" ∷ text ∷ []) ≡ Some (Explain text (Some first) (Some second))
+unfolding clap_on_literals
+explain_level_last program text first second usual one other =
+    let s = built_explain in
+    let held = after_second nothing_held first second in
+    let wants = before (wants_level s held) (option (codes "level")) 3 in
+    let to = before (with_level s held text) idle 3 in
+    line_asked s asked_explain (program ∷ codes "explain" ∷ first ∷ second ∷ codes "--level" ∷ text ∷ [])
+    (first ∷ second ∷ codes "--level" ∷ text ∷ []) to refl refl
+    (goes_on s (walk_from nothing_held) (before (after_first nothing_held first) idle 2) to first (second ∷ codes "--level" ∷ text ∷ [])
+    (plain_turn s nothing_held idle 1 first refl one)
+    (goes_on s (before (after_first nothing_held first) idle 2) (before held idle 3) to second (codes "--level" ∷ text ∷ [])
+    (plain_turn s (after_first nothing_held first) idle 2 second refl other)
+    (goes_on s (before held idle 3) wants to (codes "--level") (text ∷ []) (refl, refl)
+    (goes_on s wants to to text []
+    (plain_turn s (wants_level s held) (option (codes "level")) 3 text refl usual) (stays s to))))) refl
 
 -- ---- a level that is no level
 

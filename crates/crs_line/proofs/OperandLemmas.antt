@@ -16,7 +16,7 @@ use Rattle.clap.specs.Simple.{filled, filled_from, help_rule, new_shape, rows_at
 use Rattle.clap.specs.Walk.{Held, Names, Outcome, Step, Waiting, Walk, done, waits, plain, refused, idle, option, positional, next, trailing, subcommand, value, after_flag, after_step, arg_by_id, arg_by_index, arg_by_long, arg_by_short, at_row, attached_value, bundle, bundle_met, bundle_step, default_rows, flag_met, has_row, is_pending, long_met, long_or_other, more_values, nothing_held, option_met, option_word, plain_word, reacted, reading_by, rows_after, settled, settled_rows, short_met, short_or_plain, subcommand_met, subcommand_or_other, takes_several, takes_values, to_positional, used, used_by_id, walk, walk_from, walked, with_default, with_values, without, word_met}
 use Rattle.clap.specs.Takes.{bundle_passes, bundle_step_passes, flag_word_passes, flags_pass, is_given, is_valid, default_passes, level_passes, long_passes, option_passes, other_passes, positional_passes, react_passes, settle_passes, short_passes, step_passes, turn_passes, use_passes, walk_passes, word_passes}
 use Rattle.clap.proofs.WalkLemmas.{both, first_value-rows}
-use Rattle.crs_line.specs.CommandLine.{level_of, level_option, operand, same_of, same_texts}
+use Rattle.crs_line.specs.CommandLine.{has_lines, level_of, level_option, operand, same_of, same_texts}
 
 -- ---- rows with values
 
@@ -363,3 +363,11 @@ pub level_read : (f : Found) (found : Option (Bor Text)) (usual text : Bor Text)
     → option_map (λ s. s.now) found ≡ first_value f (codes "level") → usual.now ≡ codes "full" → text.now ≡ level_of (rows_of f)
 level_read f found usual text is one full =
     ap (λ (t : Bor Text). t.now) is ∙ now_or found usual ∙ ap₂ unwrap_or (one ∙ first_value-rows f (codes "level")) full
+
+-- the getter's text, or `false`, tells whether the flag `--lines` is there
+pub lines_read : (f : Found) (found : Option (Bor Text)) (usual text : Bor Text) → text ≡ unwrap_or found usual
+    → option_map (λ s. s.now) found ≡ first_value f (codes "lines") → usual.now ≡ codes "false"
+    → bytes_eq text.now (codes "true") ≡ has_lines (rows_of f)
+lines_read f found usual text is one unset =
+    ap (λ (t : Text). bytes_eq t (codes "true"))
+    (ap (λ (t : Bor Text). t.now) is ∙ now_or found usual ∙ ap₂ unwrap_or (one ∙ first_value-rows f (codes "lines")) unset)

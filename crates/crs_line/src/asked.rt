@@ -6,12 +6,15 @@ use thiserror::Error;
 /// and `full` where the line names none.
 #[derive(Debug, Drop)]
 pub enum Request {
-    /// The canonical text, at a level, of the text on standard input.
+    /// The canonical text, at a level, of the text on standard input, or of each of its lines.
     Canon {
         level: LineWord,
+        lines: bool,
     },
-    /// Whether the text on standard input is accepted, and what it spells.
-    Check,
+    /// Whether the text on standard input, or each of its lines, is accepted, and what it spells.
+    Check {
+        lines: bool,
+    },
     /// Whether two texts spell the same, at a level.
     Same {
         level: LineWord,
@@ -21,6 +24,13 @@ pub enum Request {
     /// Which lines of standard input, a text each, spell the same, at a level.
     Group {
         level: LineWord,
+    },
+    /// What a text spells, or why it is refused, explained; of two texts whether they spell the same, at a level.
+    /// Where no first text is named, the text is on standard input.
+    Explain {
+        level: LineWord,
+        first: Option<LineWord>,
+        second: Option<LineWord>,
     },
 }
 

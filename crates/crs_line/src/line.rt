@@ -1,13 +1,15 @@
 ghost use Rattle.std.specs.Prelude.{◌≡◌, [], map, IfOk, IfErr, IsSome, Some, false, option_and_then};
-ghost use Rattle.clap.specs.Words.{app_of, fault_of, found_of, rows_of, rule_of, shape_of, subcommand_rows_of};
+ghost use Rattle.clap.specs.Words.{app_of, fault_of, first_of, found_of, rows_of, rule_of, shape_of, subcommand_rows_of};
 ghost use Rattle.clap.specs.Simple.{new_shape};
 ghost use Rattle.clap.specs.declared.builder.command.Command.TheViews.{out-Command as fields_of};
 ghost use Rattle.crs_line.specs.CommandLine.{HandsOn, IsRefusal, asked, desk, input_desk, lone_desk, operand};
-ghost use Rattle.crs_line.specs.CommandLine.{level_of, level_option, levelled_shape, request_of, same_of, same_shape};
+ghost use Rattle.crs_line.specs.CommandLine.{canon_shape, check_shape, explain_of, explain_shape, group_shape};
+ghost use Rattle.crs_line.specs.CommandLine.{has_lines, level_of, level_option, lines_flag, request_of, same_of};
+ghost use Rattle.crs_line.specs.CommandLine.{same_shape, spare_operand};
 
 use crate::{LineWord, Request, RequestFault};
 use clap::error::ErrorKind;
-use clap::{Arg, ArgMatches, Command};
+use clap::{Arg, ArgAction, ArgMatches, Command};
 use std::alloc::{AllocError, Global};
 
 /// The version that `--version` prints.
@@ -20,6 +22,22 @@ const CHECK_ABOUT: &str = "Tells what kind of CRS standard input spells, or wher
 
 const GROUP_ABOUT: &str =
     "Groups the lines of standard input, a text each, by the CRSs that they spell";
+
+const EXPLAIN_ABOUT: &str =
+    "Tells what a text spells, or explains why it is refused; compares two texts as same does";
+
+const SAME_ABOUT: &str = "Compares two texts, and names the first part in which their CRSs differ";
+
+// What help says of the texts of `same` and `explain`.
+const FIRST_HELP: &str = "The first text itself, as \"$(cat a.wkt)\"";
+
+const SPARE_FIRST_HELP: &str =
+    "The first text itself, as \"$(cat a.wkt)\" [default: standard input]";
+
+const SECOND_HELP: &str = "The second text itself";
+
+// What help says of the flag `--lines`.
+const LINES_HELP: &str = "Takes each line of standard input as a text";
 
 // What help says of the option `--level`.
 const LEVEL_HELP: &str =
@@ -34,6 +52,8 @@ const CANON_STATUS: &str = "Status: 0 and the canonical text, 1 and the refusal,
 const CHECK_STATUS: &str = "Status: 0 and the kind, 1 and the refusal, 2 for a fault.";
 
 const GROUP_STATUS: &str = "Status: 0, 1 where a line was refused, 2 for a fault.";
+
+const EXPLAIN_STATUS: &str = "Status: 0, 1 for a refusal or a difference, 2 for a fault.";
 
 const SAME_STATUS: &str =
     "Status: 0 and `same`, 1 and the first part that differs, or a refusal, 2 for a fault.";
@@ -68,7 +88,8 @@ fn desk_command<'a>(alloc: Global) -> Result<Command<'a>, AllocError>
     ensures globals { IfOk result (λ command. (fields_of command).has_globals ≡ false) }
 {
     let same = same_command(alloc)?;
-    with_inputs(alloc)?.subcommand(same)
+    let explain = explain_command(alloc)?;
+    with_inputs(alloc)?.subcommand(same)?.subcommand(explain)
 }
 
 // The commands that read standard input.
@@ -76,30 +97,40 @@ fn with_inputs<'a>(alloc: Global) -> Result<Command<'a>, AllocError>
     ensures shape { IfOk result (λ command. app_of command ≡ input_desk) }
     ensures globals { IfOk result (λ command. (fields_of command).has_globals ≡ false) }
 {
-    let canon = levelled_command(alloc, "canon", CANON_ABOUT, CANON_STATUS)?;
-    let check = input_command(alloc, "check", CHECK_ABOUT, CHECK_STATUS);
-    let group = levelled_command(alloc, "group", GROUP_ABOUT, GROUP_STATUS)?;
+    let canon = canon_command(alloc)?;
+    let check = check_command(alloc)?;
+    let group = group_command(alloc)?;
     desk_alone(alloc)
         .subcommand(canon)?
         .subcommand(check)?
         .subcommand(group)
 }
 
-// A command that takes the option `--level` alone, what help says of it, and what it says last.
-fn levelled_command<'a>(
-    alloc: Global,
-    name: &'a str,
-    about: &'a str,
-    status: &'a str,
-) -> Result<Command<'a>, AllocError>
-    ensures shape { IfOk result (λ command. shape_of command ≡ levelled_shape name.entry.now) }
+fn canon_command<'a>(alloc: Global) -> Result<Command<'a>, AllocError>
+    ensures shape { IfOk result (λ command. shape_of command ≡ canon_shape) }
     ensures globals { IfOk result (λ command. (fields_of command).has_globals ≡ false) }
 {
-    input_command(alloc, name, about, status).arg(level_argument(alloc))
+    lone_command(alloc, "canon", CANON_ABOUT, CANON_STATUS)
+        .arg(level_argument(alloc))?
+        .arg(lines_argument(alloc))
 }
 
-// A command that takes no words, what help says of it, and what it says last.
-fn input_command<'a>(alloc: Global, name: &'a str, about: &'a str, status: &'a str) -> Command<'a>
+fn check_command<'a>(alloc: Global) -> Result<Command<'a>, AllocError>
+    ensures shape { IfOk result (λ command. shape_of command ≡ check_shape) }
+    ensures globals { IfOk result (λ command. (fields_of command).has_globals ≡ false) }
+{
+    lone_command(alloc, "check", CHECK_ABOUT, CHECK_STATUS).arg(lines_argument(alloc))
+}
+
+fn group_command<'a>(alloc: Global) -> Result<Command<'a>, AllocError>
+    ensures shape { IfOk result (λ command. shape_of command ≡ group_shape) }
+    ensures globals { IfOk result (λ command. (fields_of command).has_globals ≡ false) }
+{
+    lone_command(alloc, "group", GROUP_ABOUT, GROUP_STATUS).arg(level_argument(alloc))
+}
+
+// A command before its words are added, what help says of it, and what it says last.
+fn lone_command<'a>(alloc: Global, name: &'a str, about: &'a str, status: &'a str) -> Command<'a>
     ensures shape { shape_of result ≡ new_shape name.entry.now }
     ensures globals { (fields_of result).has_globals ≡ false }
 {
@@ -120,16 +151,21 @@ fn same_command<'a>(alloc: Global) -> Result<Command<'a>, AllocError>
     ensures shape { IfOk result (λ command. shape_of command ≡ same_shape) }
     ensures globals { IfOk result (λ command. (fields_of command).has_globals ≡ false) }
 {
-    let first = needed_word(
-        alloc,
-        "first",
-        "A",
-        "The first text itself, as \"$(cat a.wkt)\"",
-    );
-    let second = needed_word(alloc, "second", "B", "The second text itself");
-    Command::new(alloc, "same")
-        .about("Compares two texts, and names the first part in which their CRSs differ")
-        .after_help(SAME_STATUS)
+    let first = needed_word(alloc, "first", "A", FIRST_HELP);
+    let second = needed_word(alloc, "second", "B", SECOND_HELP);
+    lone_command(alloc, "same", SAME_ABOUT, SAME_STATUS)
+        .arg(first)?
+        .arg(second)?
+        .arg(level_argument(alloc))
+}
+
+fn explain_command<'a>(alloc: Global) -> Result<Command<'a>, AllocError>
+    ensures shape { IfOk result (λ command. shape_of command ≡ explain_shape) }
+    ensures globals { IfOk result (λ command. (fields_of command).has_globals ≡ false) }
+{
+    let first = spare_word(alloc, "first", "A", SPARE_FIRST_HELP);
+    let second = spare_word(alloc, "second", "B", SECOND_HELP);
+    lone_command(alloc, "explain", EXPLAIN_ABOUT, EXPLAIN_STATUS)
         .arg(first)?
         .arg(second)?
         .arg(level_argument(alloc))
@@ -140,10 +176,25 @@ fn needed_word<'a>(alloc: Global, id: &'a str, shown: &'a str, help: &'a str) ->
     ensures rule { rule_of result ≡ operand id.entry.now }
     ensures local { result.global ≡ false }
 {
-    Arg::new(alloc, id)
-        .value_name(shown)
-        .help(help)
-        .required(true)
+    spare_word(alloc, id, shown, help).required(true)
+}
+
+// An operand that may be left out, what help calls it, and what help says of it.
+fn spare_word<'a>(alloc: Global, id: &'a str, shown: &'a str, help: &'a str) -> Arg<'a>
+    ensures rule { rule_of result ≡ spare_operand id.entry.now }
+    ensures local { result.global ≡ false }
+{
+    Arg::new(alloc, id).value_name(shown).help(help)
+}
+
+fn lines_argument<'a>(alloc: Global) -> Arg<'a>
+    ensures rule { rule_of result ≡ lines_flag }
+    ensures local { result.global ≡ false }
+{
+    Arg::new(alloc, "lines")
+        .long("lines")
+        .action(ArgAction::SetTrue)
+        .help(LINES_HELP)
 }
 
 fn level_argument<'a>(alloc: Global) -> Arg<'a>
@@ -172,12 +223,16 @@ fn named(alloc: Global, matches: &ArgMatches) -> Result<Request, AllocError>
     match matches.subcommand() {
         Some(("canon", options)) => Ok(Request::Canon {
             level: level_word(alloc, options)?,
+            lines: lines_asked(options),
         }),
-        Some(("check", _)) => Ok(Request::Check),
+        Some(("check", options)) => Ok(Request::Check {
+            lines: lines_asked(options),
+        }),
         Some(("same", operands)) => same_request(alloc, operands),
         Some(("group", options)) => Ok(Request::Group {
             level: level_word(alloc, options)?,
         }),
+        Some(("explain", operands)) => explain_request(alloc, operands),
         _ => unreachable!(),
     }
 }
@@ -205,4 +260,36 @@ fn level_word(alloc: Global, matches: &ArgMatches) -> Result<LineWord, AllocErro
     ensures { IfOk result (λ level. level ≡ level_of (rows_of (found_of matches.now))) }
 {
     LineWord::new(alloc, matches.get_str("level").unwrap_or(USUAL_LEVEL))
+}
+
+fn explain_request(alloc: Global, operands: &ArgMatches) -> Result<Request, AllocError>
+    ensures { IfOk result (λ found. found ≡ explain_of (rows_of (found_of operands.now))) }
+{
+    let level = level_word(alloc, operands)?;
+    let first = spare_text(alloc, operands, "first")?;
+    let second = spare_text(alloc, operands, "second")?;
+    Ok(Request::Explain {
+        level,
+        first,
+        second,
+    })
+}
+
+fn spare_text(
+    alloc: Global,
+    operands: &ArgMatches,
+    id: &str,
+) -> Result<Option<LineWord>, AllocError>
+    ensures { IfOk result (λ word. word ≡ first_of id.now (rows_of (found_of operands.now))) }
+{
+    match operands.get_str(id) {
+        Some(text) => Ok(Some(LineWord::new(alloc, text)?)),
+        None => Ok(None),
+    }
+}
+
+fn lines_asked(matches: &ArgMatches) -> bool
+    ensures { result ≡ has_lines (rows_of (found_of matches.now)) }
+{
+    matches.get_str("lines").unwrap_or("false") == "true"
 }

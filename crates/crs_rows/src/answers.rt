@@ -109,7 +109,9 @@ fn put_value_answer(
         "run_check" => runs::put_check(out, alloc, input),
         "run_same" => runs::put_same(out, alloc, level, "", input),
         "Catalogue" => catalogues::put_catalogue(out, alloc, level, input),
-        "run_group" => runs::put_run(out, alloc, level, call, input),
+        "run_group" | "run_canon_lines" | "run_check_lines" => {
+            runs::put_run(out, alloc, level, call, input)
+        }
         "request" => lines::put_request(out, alloc, input),
         _ => out.push_str("no such call"),
     }

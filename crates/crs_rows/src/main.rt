@@ -24,7 +24,7 @@ mod verticals;
 
 use std::{env, fs, io};
 
-const FILES: [&str; 22] = [
+const FILES: [&str; 23] = [
     "decimals",
     "refusals",
     "tokens",
@@ -47,6 +47,7 @@ const FILES: [&str; 22] = [
     "lines",
     "catalogues",
     "group_runs",
+    "line_runs",
 ];
 
 fn main(rt: HostRuntime) -> io::Result<()> {

@@ -2,7 +2,10 @@
 use crate::escapes::put_text;
 use crate::sameness::split_line;
 use crate::streams::{Manner, Page, Pieces};
-use crs_desk::{Level, RunFault, Sink, Source, run_canon, run_check, run_group, run_same};
+use crs_desk::{
+    Level, RunFault, Sink, Source, run_canon, run_canon_lines, run_check, run_check_lines,
+    run_group, run_same,
+};
 use crs_group::Summary;
 use std::alloc::{AllocError, Global};
 
@@ -10,7 +13,9 @@ use std::alloc::{AllocError, Global};
 #[derive(Clone, Copy)]
 pub enum Command {
     Canon,
+    CanonLines,
     Check,
+    CheckLines,
     Group,
 }
 
@@ -18,7 +23,9 @@ impl Command {
     fn read(word: &str) -> Option<Command> {
         match word {
             "run_canon" => Some(Command::Canon),
+            "run_canon_lines" => Some(Command::CanonLines),
             "run_check" => Some(Command::Check),
+            "run_check_lines" => Some(Command::CheckLines),
             "run_group" => Some(Command::Group),
             _ => None,
         }
@@ -76,7 +83,11 @@ fn put_ended(
     let mut sink = Sink::new(page);
     match command {
         Command::Canon => put_outcome(out, &run_canon(alloc, level, &mut source, &mut sink))?,
+        Command::CanonLines => {
+            put_outcome(out, &run_canon_lines(alloc, level, &mut source, &mut sink))?
+        }
         Command::Check => put_outcome(out, &run_check(alloc, &mut source, &mut sink))?,
+        Command::CheckLines => put_outcome(out, &run_check_lines(alloc, &mut source, &mut sink))?,
         Command::Group => put_grouped(out, &run_group(alloc, level, &mut source, &mut sink))?,
     }
     write!(out, ", reads {}", source.reads())?;

@@ -4,7 +4,7 @@ use crate::texts::put_fault;
 use crate::verticals::first_axis;
 use bstr::ByteSlice;
 use crs_same::parts::same_axis;
-use crs_same::{Path, Paths, differences, first_part, same};
+use crs_same::{Differences, Path, differences, first_part, same};
 use crs_value::{Axis, Crs, Level, read};
 use std::alloc::{AllocError, Global};
 
@@ -68,22 +68,31 @@ fn put_differences_from<'a>(
     }
 }
 
-fn put_paths(out: &mut String, forth: &Paths, back: &Paths) -> Result<(), AllocError> {
+fn put_paths(
+    out: &mut String,
+    forth: &Differences<'_, '_>,
+    back: &Differences<'_, '_>,
+) -> Result<(), AllocError> {
     let forth = paths_text(*out.allocator(), forth)?;
-    if forth != paths_text(*out.allocator(), back)? {
-        return out.push_str("one way");
-    }
-    put_text(out, if forth.is_empty() { b"none" } else { &forth })
+    let back = paths_text(*out.allocator(), back)?;
+    put_one_way_or(out, &forth, &back)
 }
 
-/// The words of paths, with a semicolon between two.
-pub fn paths_text(alloc: Global, paths: &Paths) -> Result<Vec<u8>, AllocError> {
+fn put_one_way_or(out: &mut String, forth: &[u8], back: &[u8]) -> Result<(), AllocError> {
+    if forth != back {
+        return out.push_str("one way");
+    }
+    put_text(out, if forth.is_empty() { b"none" } else { forth })
+}
+
+/// The words of the paths, with a semicolon between two.
+pub fn paths_text(alloc: Global, differences: &Differences<'_, '_>) -> Result<Vec<u8>, AllocError> {
     let mut words = Vec::new(alloc);
-    for path in paths.as_slice() {
+    for difference in differences.as_slice() {
         if !words.is_empty() {
             words.push(b';')?;
         }
-        path.write(&mut words)?;
+        difference.path().write(&mut words)?;
     }
     Ok(words)
 }

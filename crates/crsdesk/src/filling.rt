@@ -4,7 +4,7 @@ use std::io::Read;
 
 /// A reader that asks another one until the room is full or the input ends: a pipe gives what was written last, often a
 /// line, and a run makes a bounded number of reads. Once the input has ended, it isn't asked again. After an error the
-/// bytes that were read before it in the same call are lost: a run that meets an error answers nothing.
+/// bytes that were read before it in the same call are lost: a run that meets an error takes no more of them.
 #[derive(Drop)]
 pub struct Filling<R: Read> {
     reader: R,

@@ -5,8 +5,9 @@
 mod filling;
 
 use crs_desk::{
-    Level, LineWord, Request, RequestFault, RunFault, Sink, Source, request, run_canon, run_check,
-    run_group, run_same,
+    Level, LineWord, Request, RequestFault, RunFault, Sink, Source, request, run_canon,
+    run_canon_lines, run_check, run_check_lines, run_explain, run_explain_text, run_group,
+    run_same,
 };
 use filling::Filling;
 use std::alloc::{AllocError, Global};
@@ -61,14 +62,19 @@ fn answer(rt: &HostRuntime, wanted: &Request) -> u8 {
 // None where there is no such level, which is judged before anything is read.
 fn outcome(rt: &HostRuntime, wanted: &Request) -> Option<Result<u8, RunFault>> {
     match wanted {
-        Request::Canon { level } => Some(canon(rt, level_of(level)?)),
-        Request::Check => Some(check(rt)),
+        Request::Canon { level, lines } => Some(canon(rt, level_of(level)?, *lines)),
+        Request::Check { lines } => Some(check(rt, *lines)),
         Request::Same {
             level,
             first,
             second,
         } => Some(same(rt, level_of(level)?, first, second)),
         Request::Group { level } => Some(group(rt, level_of(level)?)),
+        Request::Explain {
+            level,
+            first,
+            second,
+        } => Some(explain(rt, level_of(level)?, first, second)),
     }
 }
 
@@ -80,15 +86,21 @@ fn level_of(word: &LineWord) -> Option<Level> {
     }
 }
 
-fn canon(rt: &HostRuntime, level: Level) -> Result<u8, RunFault> {
+fn canon(rt: &HostRuntime, level: Level, lines: bool) -> Result<u8, RunFault> {
     let mut source = Source::new(Filling::new(rt.stdin()));
     let mut sink = Sink::new(rt.stdout());
+    if lines {
+        return run_canon_lines(rt.alloc(), level, &mut source, &mut sink);
+    }
     run_canon(rt.alloc(), level, &mut source, &mut sink)
 }
 
-fn check(rt: &HostRuntime) -> Result<u8, RunFault> {
+fn check(rt: &HostRuntime, lines: bool) -> Result<u8, RunFault> {
     let mut source = Source::new(Filling::new(rt.stdin()));
     let mut sink = Sink::new(rt.stdout());
+    if lines {
+        return run_check_lines(rt.alloc(), &mut source, &mut sink);
+    }
     run_check(rt.alloc(), &mut source, &mut sink)
 }
 
@@ -103,6 +115,31 @@ fn same(
     let a = first.as_str().as_bytes();
     let b = second.as_str().as_bytes();
     run_same(rt.alloc(), level, a, b, &mut Sink::new(rt.stdout()))
+}
+
+// A text on standard input or in a word is explained; two texts are compared as by `same`.
+fn explain(
+    rt: &HostRuntime,
+    level: Level,
+    first: &Option<LineWord>,
+    second: &Option<LineWord>,
+) -> Result<u8, RunFault> {
+    match (first, second) {
+        (None, _) => explain_input(rt),
+        (Some(text), None) => explain_word(rt, text),
+        (Some(first), Some(second)) => same(rt, level, first, second),
+    }
+}
+
+fn explain_input(rt: &HostRuntime) -> Result<u8, RunFault> {
+    let mut source = Source::new(Filling::new(rt.stdin()));
+    run_explain(rt.alloc(), &mut source, &mut Sink::new(rt.stdout()))
+}
+
+fn explain_word(rt: &HostRuntime, word: &LineWord) -> Result<u8, RunFault> {
+    hint_at_file(rt, word);
+    let text = word.as_str().as_bytes();
+    run_explain_text(rt.alloc(), text, &mut Sink::new(rt.stdout()))
 }
 
 // A word without an opening delimiter is no text. Where it names a file, that file's text was most likely meant.

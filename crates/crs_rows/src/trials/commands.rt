@@ -5,7 +5,8 @@ use crate::runs::{put_outcome, put_written};
 use crate::trials::trial::{Trial, run};
 use crate::trials::unusable;
 use crs_desk::{
-    Level, Request, RequestFault, RunFault, Sink, Source, request, run_canon, run_check, run_same,
+    Level, Request, RequestFault, RunFault, Sink, Source, request, run_canon, run_canon_lines,
+    run_check, run_check_lines, run_same,
 };
 use std::alloc::{AllocError, Global};
 use std::{io, str};
@@ -17,7 +18,9 @@ const ROOM: usize = 65_536;
 #[derive(Clone, Copy)]
 enum Command<'t> {
     Canon(&'t [u8]),
+    CanonLines(&'t [u8]),
     Check(&'t [u8]),
+    CheckLines(&'t [u8]),
     Same(&'t [u8], &'t [u8]),
 }
 
@@ -38,7 +41,11 @@ impl Trial for Run<'_> {
             Command::Canon(text) => {
                 run_canon(alloc, Level::Full, &mut Source::new(text), &mut sink)
             }
+            Command::CanonLines(text) => {
+                run_canon_lines(alloc, Level::Full, &mut Source::new(text), &mut sink)
+            }
             Command::Check(text) => run_check(alloc, &mut Source::new(text), &mut sink),
+            Command::CheckLines(text) => run_check_lines(alloc, &mut Source::new(text), &mut sink),
             Command::Same(a, b) => run_same(alloc, Level::Full, a, b, &mut sink),
         };
         ended(outcome)
@@ -80,6 +87,16 @@ pub fn try_canon(rt: &(impl Print + AllocGlobal), text: &[u8]) -> io::Result<()>
 /// `run_check` over a text.
 pub fn try_check(rt: &(impl Print + AllocGlobal), text: &[u8]) -> io::Result<()> {
     run_command(rt, Command::Check(text))
+}
+
+/// `run_canon_lines` over lines.
+pub fn try_canon_lines(rt: &(impl Print + AllocGlobal), text: &[u8]) -> io::Result<()> {
+    run_command(rt, Command::CanonLines(text))
+}
+
+/// `run_check_lines` over lines.
+pub fn try_check_lines(rt: &(impl Print + AllocGlobal), text: &[u8]) -> io::Result<()> {
+    run_command(rt, Command::CheckLines(text))
 }
 
 /// `run_same` of two texts.

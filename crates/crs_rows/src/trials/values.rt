@@ -6,7 +6,7 @@ use crate::trials::trial::{Trial, run};
 use crate::trials::unusable;
 use crate::values::kind_word;
 use crs_canon::{Canon, canon, canon_of};
-use crs_same::{Paths, differences};
+use crs_same::{Differences, differences};
 use crs_text::{Fault, Items, Refusal, read_items};
 use crs_value::{Crs, Level, read, value_of};
 use std::alloc::{AllocError, Global};
@@ -88,8 +88,8 @@ struct Comparing<'v, 't> {
     second: &'v Crs<'t>,
 }
 
-impl Trial for Comparing<'_, '_> {
-    type Answer = Paths;
+impl<'v, 't> Trial for Comparing<'v, 't> {
+    type Answer = Differences<'v, 't>;
 
     fn call(&mut self, alloc: Global) -> Result<Self::Answer, AllocError> {
         differences(alloc, self.first, self.second, Level::Full)

@@ -1,0 +1,97 @@
+//! What a text spells, or why it is refused, told to a person.
+ghost use Rattle.std.specs.Prelude.{◌≡◌, ◌<◌, ◌≤◌, ◌↔◌, IfOk, IfErr, IsErrOf, true, false};
+ghost use Rattle.crs_value.specs.SpellsText.{Refuses};
+ghost use Rattle.crs_explain.specs.Explained.{IsExplained};
+ghost use Rattle.crs_desk.specs.Ending.{IsAnswered, IsRunFault, IsWritten, IsWriteFault};
+ghost use Rattle.crs_desk.specs.ExplainOutput.{IsExplainOutput};
+ghost use Rattle.crs_group.specs.Streams.{fresh_sink, fresh_source};
+
+use crate::answer::{Answer, write_answer};
+use crate::check_run::accepted_line;
+use crate::judging::refusal_in;
+use crate::text::read_text;
+use crate::{RunFault, Sink, Source};
+use crs_explain::refusal_text;
+use crs_text::Refusal;
+use crs_value::{laws, read};
+use std::alloc::{AllocError, Global};
+use std::io::{Read, Write};
+
+/// Reads a text to its end, and writes what it is: `accepted KIND` for a text that spells a CRS, with status 0, else
+/// the refusal, explained over some lines, with status 1. `ReadFailed` and `WriteFailed` where the source or the sink
+/// has failed, `TooLong(0)` for more than 1,048,576 bytes, `TooManyReads` where 1,048,576 reads have not shown the end,
+/// `Memory` where memory ran out. Nothing was written then, but for `WriteFailed`. Profile.
+pub fn run_explain<R: Read, W: Write>(
+    alloc: Global,
+    r: &mut Source<R>,
+    w: &mut Sink<W>,
+) -> Result<u8, RunFault>
+    requires source { r.old ≡ fresh_source r.old.remaining }
+    requires sink { w.old ≡ fresh_sink w.old.contents }
+    ensures answered { IfOk result (IsAnswered IsExplainOutput r.old r.new w.old w.new) }
+    ensures reads { r.new.reads ≤ 1048576 }
+    ensures past_end { r.new.past_end ≡ false }
+    ensures fault { IfErr result (IsRunFault r.new w.old w.new) }
+    ensures read_failed { IsErrOf result RunFault.ReadFailed ↔ (r.new.failed ≡ true) }
+    ensures write_failed { IsErrOf result RunFault.WriteFailed ↔ (w.new.failed ≡ true) }
+    ensures past_failure { w.new.past_failure ≡ false }
+    ensures too_long { IsErrOf result (RunFault.TooLong 0) ↔ (1048576 < r.new.taken) × (r.new.failed ≡ false) }
+{
+    let text = read_text(alloc, r)?;
+    write_answer(alloc, &TextAnswer { text: &text }, w)
+}
+
+/// Writes what a text is, as `run_explain` does. `WriteFailed` where the sink has failed, `Memory` where memory ran
+/// out, and then nothing was written. Profile.
+pub fn run_explain_text<W: Write>(
+    alloc: Global,
+    text: &[u8],
+    w: &mut Sink<W>,
+) -> Result<u8, RunFault>
+    requires { w.old ≡ fresh_sink w.old.contents }
+    ensures answered { IfOk result (IsWritten (IsExplainOutput text.now) w.old w.new) }
+    ensures fault { IfErr result (IsWriteFault w.old w.new) }
+    ensures write_failed { IsErrOf result RunFault.WriteFailed ↔ (w.new.failed ≡ true) }
+    ensures past_failure { w.new.past_failure ≡ false }
+{
+    write_answer(alloc, &TextAnswer { text }, w)
+}
+
+// What a text is.
+#[derive(Drop)]
+struct TextAnswer<'t> {
+    text: &'t [u8],
+}
+
+impl Answer for TextAnswer<'_> {
+    ghost use Rattle.crs_desk.specs.ExplainOutput.{IsExplainOutput};
+
+    ghost Output = { λ s written status. IsExplainOutput s.text.now written status };
+
+    fn output(&self, alloc: Global) -> Result<(Vec<u8>, u8), AllocError> {
+        text_output(alloc, self.text)
+    }
+}
+
+fn text_output<'t>(alloc: Global, text: &'t [u8]) -> Result<(Vec<u8>, u8), AllocError>
+    ensures { IfOk result (λ output. IsExplainOutput text.now output.0.items output.1) }
+{
+    match read(alloc, text) {
+        Ok(crs) => {
+            let line = accepted_line(alloc, crs.kind())?;
+            Ok((line, 0))
+        }
+        Err(fault) => {
+            let told = explained(alloc, text, refusal_in(fault)?)?;
+            Ok((told, 1))
+        }
+    }
+}
+
+fn explained(alloc: Global, text: &[u8], refusal: Refusal) -> Result<Vec<u8>, AllocError>
+    requires { Refuses text.now refusal }
+    ensures { IfOk result (λ told. IsExplained text.now refusal told.items) }
+{
+    laws::one_answer();
+    refusal_text(alloc, text, refusal)
+}
