@@ -38,7 +38,8 @@ impl Model for Decimal {
 }
 
 impl Decimal {
-    pub(crate) fn zero() -> Decimal
+    /// The number 0.
+    pub fn zero() -> Decimal
         ensures value { result ≡ zero }
         ensures normal { IsNormal result }
     {

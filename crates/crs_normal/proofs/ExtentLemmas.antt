@@ -1,46 +1,37 @@
 -- Boxes and extents of a usage: their items read as them wherever they stand, and their one form agrees with sameness.
-use Rattle.std.proofs.Common.{◌≡◌, ◌↔◌, ℕ, ◌+◌, true, codes, IfSome, Option, Some, None, List, [], inl, inr, refl, sym, ◌∙◌, ap, arith}
+use Rattle.std.proofs.Common.{◌≡◌, ◌↔◌, ℕ, ◌+◌, true, codes, IfSome, Option, Some, None, inl, inr, refl, sym, ◌∙◌, ap}
 use Rattle.crs_decimal.specs.Value.{Value, IsNormal}
 use Rattle.crs_text.specs.Items.{End, More}
 use Rattle.crs_text.specs.Written.{at_place}
 use Rattle.crs_shape.specs.declared.class.Class.TheVariants as class
 use Rattle.crs_shape.specs.Slots.{class_named, is_class}
-use Rattle.crs_value.specs.KeptLaws.{kept-none}
 use Rattle.crs_value.specs.declared.values.level.Level.{Level}
 use Rattle.crs_value.specs.declared.values.unit_kind.UnitKind.{UnitKind}
 use Rattle.crs_value.specs.declared.values.unit_kind.UnitKind.TheVariants as kinds
 use Rattle.crs_value.specs.Reading.{ReadsOptional}
 use Rattle.crs_value.specs.Reads.{ReadsBox, ReadsExtent, ReadsUnit}
-use Rattle.crs_value.specs.Sound.{Each, IsIdent, IsUnit, IsUnitOf, Suits}
+use Rattle.crs_value.specs.Sound.{IsUnit, IsUnitOf, Suits}
 use Rattle.crs_value.specs.SoundUsages.{IsBox, IsExtent}
-use Rattle.crs_value.specs.Values.{BoxParts, ExtentParts, IdentParts, UnitParts}
+use Rattle.crs_value.specs.Values.{BoxParts, ExtentParts, UnitParts}
 use Rattle.crs_value.specs.Words.{unit_word}
-use Rattle.crs_same.specs.SameUnits.{HasNoIdents, IsMetre, SameLength, kind_as}
+use Rattle.crs_same.specs.SameUnits.{SameLength, kind_as, or_metre}
 use Rattle.crs_same.specs.SameUsages.{SameBox, SameExtent}
 use Rattle.crs_normal.specs.Fit.{IsFit}
 use Rattle.crs_normal.specs.SpelledItems.{number_item, opt}
-use Rattle.crs_normal.specs.SpelledUnits.{item_unit, metre, norm_length, norm_unit, set_idents, whole_value}
+use Rattle.crs_normal.specs.SpelledUnits.{item_unit, metre, norm_length}
 use Rattle.crs_normal.specs.SpelledUsages.{item_box, item_extent, norm_extent}
 use Rattle.crs_normal.specs.TextLaws.{TextLaws}
-use Rattle.crs_normal.proofs.IdentLemmas.{ReadsIdentOnce, idents-agree, none-form, none-same}
+use Rattle.crs_normal.proofs.IdentLemmas.{ReadsIdentOnce}
 use Rattle.crs_normal.proofs.ItemLemmas.{Gives, IsOf, fit-end, fit-more, fit-node, fit-opt, gives-over, lacks-end, opt-read, value-fit}
 use Rattle.crs_normal.proofs.MemberUnitLemmas.{number-read, unit-agrees, unit-fit, unit-kept, unit-read, values-agree}
 use Rattle.crs_normal.proofs.ReadNameLemmas.{keyword-names}
+use Rattle.crs_normal.proofs.UnitSameLemmas.{given-length, length-formed, metre-is}
 
 -- ---- units of length, where a missing one is the metre
 
 -- a unit of length by its own keyword
 abbrev pub IsLength : UnitParts → Type 0
 IsLength u = IsUnit u × (u.kind ≡ kinds.Length)
-
-metre-is : IsUnit metre
-unfolding lib.Utf8.encode
-metre-is = record {
-  name = ((codes "metre", refl), (codes "metre", (refl, refl)));
-  factor = refl;
-  above_zero = (refl, λ e. absurd (omega arith));
-  identifiers = tt;
-}
 
 length-kind : (k : UnitKind) → Suits kinds.Length k → kind_as kinds.Length k ≡ kinds.Length
 length-kind k (inl e) = ap (kind_as kinds.Length) e
@@ -51,39 +42,12 @@ pub length-kept : (level : Level) (o : Option UnitParts) → IfSome o (IsUnitOf 
 length-kept level None s = (metre-is, refl)
 length-kept level (Some u) s = (unit-kept level kinds.Length u s.0, length-kind u.kind s.1)
 
-none-agrees : TextLaws → ReadsIdentOnce → (level : Level) (identifiers : List IdentParts) → Each IsIdent identifiers →
-    ([] ≡ set_idents level identifiers) ↔ HasNoIdents level identifiers
-none-agrees laws once level identifiers s = (
-  λ e. none-same level identifiers
-      ((idents-agree laws once level identifiers [] s tt).0 (sym e ∙ sym (none-form level [] (kept-none level)))),
-  λ e. sym (none-form level identifiers e),
-)
-
-abbrev unit-made : UnitKind → List ℕ → Value → List IdentParts → UnitParts
-unit-made x0 x1 x2 x3 = record { kind = x0; name = x1; factor = x2; identifiers = x3 }
-
-metre-agrees : TextLaws → ReadsIdentOnce → (level : Level) (u : UnitParts) → IsUnit u →
-    (metre ≡ norm_unit level kinds.Length u) ↔ IsMetre level u
-metre-agrees laws once level u s =
-    let identifiers = none-agrees laws once level u.identifiers s.identifiers in
-    let factor = laws.one_value u.factor (whole_value 1) s.factor refl in (
-      λ e. record {
-        kind = ap (λ x. x.kind) (sym e);
-        name = ap (λ x. x.name) (sym e);
-        factor = factor.1 (ap (λ x. x.factor) (sym e));
-        identifiers = identifiers.0 (ap (λ x. x.identifiers) e);
-      },
-      λ m. λ i. unit-made (sym m.kind i) (sym m.name i) (sym (factor.0 m.factor) i) (identifiers.1 m.identifiers i),
-    )
-
 pub length-agrees : TextLaws → ReadsIdentOnce → (level : Level) (a b : Option UnitParts) →
     IfSome a (IsUnitOf kinds.Length) → IfSome b (IsUnitOf kinds.Length) →
     (norm_length level a ≡ norm_length level b) ↔ SameLength level a b
-length-agrees laws once level None None p q = (λ e. tt, λ h. refl)
-length-agrees laws once level None (Some b) p q = metre-agrees laws once level b q.0
-length-agrees laws once level (Some a) None p q =
-    let h = metre-agrees laws once level a p.0 in (λ e. h.0 (sym e), λ m. sym (h.1 m))
-length-agrees laws once level (Some a) (Some b) p q = unit-agrees laws once level kinds.Length a b p.0 q.0
+length-agrees laws once level a b p q =
+    let same = unit-agrees laws once level kinds.Length (or_metre a) (or_metre b) (given-length a p) (given-length b q) in
+    (λ e. same.0 (sym (length-formed level a) ∙ e ∙ length-formed level b), λ s. length-formed level a ∙ same.1 s ∙ sym (length-formed level b))
 
 -- ---- boxes
 

@@ -1,5 +1,5 @@
 -- Ellipsoids, prime meridians, reference frames and ensembles have one form exactly where they are the same.
-use Rattle.std.proofs.Common.{◌≡◌, ◌↔◌, ◌⊎◌, ◌*◌, ℕ, inl, inr, Bool, true, false, Option, Some, None, refl, sym, ap}
+use Rattle.std.proofs.Common.{◌≡◌, ◌↔◌, ◌∙◌, ◌⊎◌, ◌*◌, ℕ, inl, inr, Bool, true, false, Option, Some, None, codes, refl, sym, ap}
 use Rattle.std.proofs.Common.{arith, if◌then◌else◌}
 use Rattle.std.specs.Option.{option_map}
 use Rattle.std.proofs.lemmas.Bool.{eqb-true, false≢true}
@@ -11,7 +11,8 @@ use Rattle.crs_value.specs.declared.values.frame.Frame.{Frame}
 use Rattle.crs_value.specs.declared.values.frame.Frame.TheVariants as frame
 use Rattle.crs_value.specs.declared.values.level.Level.{Level}
 use Rattle.crs_value.specs.declared.values.unit_kind.UnitKind.TheVariants as kinds
-use Rattle.crs_same.specs.Agreement.{IsGreenwich, AgreeDatum, AgreeEllipsoid, AgreeEnsemble, AgreeFrame, AgreeGiven, AgreeMeridian}
+use Rattle.crs_same.specs.Agreement.{AgreeDatum, AgreeEllipsoid, AgreeEnsemble, AgreeFrame, AgreeGiven, AgreeMeridian}
+use Rattle.crs_same.specs.PartsOfFrames.{or_greenwich}
 use Rattle.crs_same.specs.SameFrames.{IsZero}
 use Rattle.crs_same.specs.SameFrames.{SameMember}
 use Rattle.crs_same.specs.SameIdents.{SameIdents}
@@ -21,9 +22,24 @@ use Rattle.crs_normal.specs.Decides.{FormDecides, Maybe, SetsDecide}
 use Rattle.crs_normal.specs.LowerLaws.{LowerLaws}
 use Rattle.crs_normal.specs.SpelledFrames.{greenwich, is_zero, norm_datum, norm_ellipsoid, norm_ensemble, norm_frame}
 use Rattle.crs_normal.specs.SpelledFrames.{norm_given, norm_member, norm_meridian}
-use Rattle.crs_normal.specs.SpelledUnits.{norm_length, norm_units, set_idents}
+use Rattle.crs_normal.specs.SpelledUnits.{norm_length, norm_units, set_idents, whole_value}
 use Rattle.crs_normal.proofs.PartSameLemmas.{options-agree, values-agree}
-use Rattle.crs_normal.proofs.UnitSameLemmas.{length-agrees, none-agree, some-one, units-of-agree, whole-agrees}
+use Rattle.crs_normal.proofs.UnitSameLemmas.{length-agrees, none-formed, some-one, units-of-agree, whole-agrees}
+
+-- ---- a missing prime meridian
+
+greenwich-is : IsMeridian greenwich
+unfolding lib.Utf8.encode
+greenwich-is = record {
+  name = ((codes "Greenwich", refl), (codes "Greenwich", (refl, refl)));
+  longitude = refl;
+  unit = tt;
+  identifiers = tt;
+}
+
+given-is : (m : Option MeridianParts) → Maybe IsMeridian m → IsMeridian (or_greenwich m)
+given-is None is = greenwich-is
+given-is (Some m) is = is
 
 -- ---- longitude 0
 
@@ -83,24 +99,6 @@ module _ (laws : LowerLaws) (sets : SetsDecide) (level : Level) where
 
   -- ---- prime meridians
 
-  greenwich-agrees : (m : MeridianParts) → IsMeridian m → (norm_given level m ≡ greenwich) ↔ IsGreenwich level m
-  greenwich-agrees m in-m =
-      let longitude = whole-agrees laws 0 refl m.longitude in-m.longitude in
-      let identifiers = none-agree sets level m.identifiers in-m.identifiers in (
-        λ e. record {
-          name = ap (λ (x : MeridianParts). x.name) e;
-          longitude = longitude.0 (ap (λ (x : MeridianParts). x.longitude) e);
-          identifiers = identifiers.0 (ap (λ (x : MeridianParts). x.identifiers) e);
-        },
-        λ s. λ i. record {
-          name = s.name i;
-          longitude = longitude.1 s.longitude i;
-          unit = ap (λ t. if t then None else norm_units level kinds.Angle m.unit)
-              ((zero-agrees laws m.longitude in-m.longitude).1 s.longitude) i;
-          identifiers = identifiers.1 s.identifiers i;
-        },
-      )
-
   -- the unit as it stands in the form
   abbrev unit_in : MeridianParts → Option UnitParts
   unit_in m = if is_zero m.longitude then None else norm_units level kinds.Angle m.unit
@@ -153,20 +151,22 @@ module _ (laws : LowerLaws) (sets : SetsDecide) (level : Level) where
       identifiers : (set_idents level a.identifiers ≡ set_idents level b.identifiers) ↔ SameIdents level a.identifiers b.identifiers
       identifiers = sets.idents level a.identifiers b.identifiers in-a.identifiers in-b.identifiers
 
+  -- a missing one has the form of what it stands for
+  given-formed : (m : Option MeridianParts) → norm_meridian level m ≡ Some (norm_given level (or_greenwich m))
+  given-formed None = λ i. Some (record {
+    name = codes "Greenwich";
+    longitude = whole_value 0;
+    unit = None;
+    identifiers = sym (none-formed level) i;
+  })
+  given-formed (Some m) = refl
+
   pub meridian-agrees : FormDecides (Maybe IsMeridian) (norm_meridian level) (AgreeMeridian level)
-  meridian-agrees None None in-a in-b = (λ e. tt, λ s. refl)
-  meridian-agrees None (Some b) in-a in-b = (
-    λ e. (greenwich-agrees b in-b).0 (some-one (norm_given level b) greenwich (sym e)),
-    λ s. ap (λ m. Some m) (sym ((greenwich-agrees b in-b).1 s)),
-  )
-  meridian-agrees (Some a) None in-a in-b = (
-    λ e. (greenwich-agrees a in-a).0 (some-one (norm_given level a) greenwich e),
-    λ s. ap (λ m. Some m) ((greenwich-agrees a in-a).1 s),
-  )
-  meridian-agrees (Some a) (Some b) in-a in-b = (
-    λ e. (given-agrees a b in-a in-b).0 (some-one (norm_given level a) (norm_given level b) e),
-    λ s. ap (λ m. Some m) ((given-agrees a b in-a in-b).1 s),
-  )
+  meridian-agrees a b in-a in-b =
+      let same = given-agrees (or_greenwich a) (or_greenwich b) (given-is a in-a) (given-is b in-b) in (
+        λ e. same.0 (some-one (norm_given level (or_greenwich a)) (norm_given level (or_greenwich b)) (sym (given-formed a) ∙ e ∙ given-formed b)),
+        λ s. given-formed a ∙ ap (λ m. Some m) (same.1 s) ∙ sym (given-formed b),
+      )
 
   -- ---- frames
 

@@ -1,6 +1,6 @@
 -- Identifiers: the item of one reads as it wherever it stands, equal texts are of equal identifiers, and the set of
 -- them in order is one exactly where they are the same set.
-use Rattle.std.proofs.Common.{◌≡◌, ◌≤◌, ◌↔◌, ℕ, suc, ◌+◌, Bool, true, false, ◌&&◌, codes, if◌then◌else◌, Option, Some, None, List, [], length, map, map-id, nat_le, refl, ap, subst, arith, ◌∷◌}
+use Rattle.std.proofs.Common.{◌≡◌, ◌≤◌, ◌↔◌, ℕ, suc, ◌+◌, Bool, true, false, ◌&&◌, codes, if◌then◌else◌, Option, Some, None, List, [], length, map, map-id, nat_le, refl, ap, subst, arith}
 use Rattle.std.proofs.lemmas.Bool.{and_parts, leb-true}
 use Rattle.std.specs.List.{list_all}
 use Rattle.crs_decimal.specs.Spelling.{is_digit}
@@ -13,7 +13,7 @@ use Rattle.crs_shape.specs.Keywords.{is_keyword}
 use Rattle.crs_shape.specs.Slots.{class_named, is_class}
 use Rattle.crs_shape.specs.ShapeFault.{class_of_kind}
 use Rattle.crs_value.specs.Kept.{kept}
-use Rattle.crs_value.specs.KeptLaws.{kept-each, kept-none}
+use Rattle.crs_value.specs.KeptLaws.{kept-each}
 use Rattle.crs_value.specs.declared.values.level.Level.{Level}
 use Rattle.crs_value.specs.Reading.{ReadsFirst, ReadsOptional}
 use Rattle.crs_value.specs.Reads.{ReadsText, ReadsTextOf, single_of, ReadsIdent}
@@ -243,12 +243,3 @@ idents-kept level xs p =
 pub none-form : (level : Level) (xs : List IdentParts) → kept level xs ≡ [] → set_idents level xs ≡ []
 unfolding set_idents
 none-form level xs none = ap (in_order (λ i. item_text (item_ident i))) none
-
-none-beside : (xs ys : List IdentParts) → ys ≡ [] → SameSet SameIdent xs ys → xs ≡ []
-none-beside [] ys none s = refl
-none-beside (x ∷ xs) [] none s = absurd s.0.0
-none-beside (x ∷ xs) (y ∷ ys) none s = absurd (cc)
-
--- the same as none
-pub none-same : (level : Level) (xs : List IdentParts) → SameIdents level xs [] → kept level xs ≡ []
-none-same level xs s = none-beside (kept level xs) (kept level []) (kept-none level) s

@@ -1,33 +1,51 @@
 -- Units have one form exactly where they are the same: alone, as an asked kind, and where a missing one is the metre.
-use Rattle.std.proofs.Common.{◌≡◌, ◌↔◌, ◌∙◌, ℕ, List, [], Some, None, refl, sym, ap}
+use Rattle.std.proofs.Common.{◌≡◌, ◌↔◌, ◌∙◌, ℕ, [], Option, Some, None, codes, refl, sym, ap, arith}
 use Rattle.crs_decimal.specs.Number.{SameNumber, whole_number}
 use Rattle.crs_decimal.specs.Value.{Value, IsNormal, exact}
-use Rattle.crs_value.specs.Sound.{Each, IsIdent, IsUnit, IsUnitOf}
-use Rattle.crs_value.specs.Values.{IdentParts, UnitParts}
+use Rattle.crs_value.specs.Sound.{IsUnit, IsUnitOf}
+use Rattle.crs_value.specs.Values.{UnitParts}
 use Rattle.crs_value.specs.KeptLaws.{kept-none}
 use Rattle.crs_value.specs.declared.values.level.Level.{Level}
 use Rattle.crs_value.specs.declared.values.unit_kind.UnitKind.{UnitKind}
 use Rattle.crs_value.specs.declared.values.unit_kind.UnitKind.TheVariants as kinds
-use Rattle.crs_same.specs.SameUnits.{HasNoIdents, IsMetre, SameLength, SameUnit}
+use Rattle.crs_same.specs.SameUnits.{SameLength, SameUnit, or_metre}
 use Rattle.crs_same.specs.Sets.{BothOrNeither}
 use Rattle.crs_normal.specs.Decides.{FormDecides, Maybe, SetsDecide}
 use Rattle.crs_normal.specs.LowerLaws.{LowerLaws}
 use Rattle.crs_normal.specs.SpelledUnits.{metre, norm_length, norm_unit, norm_units, set_idents, whole_value}
-use Rattle.crs_normal.proofs.IdentLemmas.{none-form, none-same}
+use Rattle.crs_normal.proofs.IdentLemmas.{none-form}
 use Rattle.crs_normal.proofs.PartSameLemmas.{options-agree, values-agree}
 
 pub some-one : {A : Type 0} (a b : A) → Some a ≡ Some b → a ≡ b
 some-one a b e = cc
 
--- ---- no identifiers
+-- ---- no identifiers, and a missing unit of length
 
-module _ (sets : SetsDecide) where
-  pub none-agree : (level : Level) (identifiers : List IdentParts) → Each IsIdent identifiers → (set_idents level identifiers ≡ [])
-      ↔ HasNoIdents level identifiers
-  none-agree level identifiers sound = (
-    λ e. none-same level identifiers ((sets.idents level identifiers [] sound tt).0 (e ∙ sym (none-form level [] (kept-none level)))),
-    λ e. none-form level identifiers e,
-  )
+pub none-formed : (level : Level) → set_idents level [] ≡ []
+none-formed level = none-form level [] (kept-none level)
+
+-- one that is missing has the form of what it stands for
+pub length-formed : (level : Level) (unit : Option UnitParts) → norm_length level unit ≡ norm_unit level kinds.Length (or_metre unit)
+length-formed level None = λ i. record {
+  kind = kinds.Length;
+  name = codes "metre";
+  factor = whole_value 1;
+  identifiers = sym (none-formed level) i;
+}
+length-formed level (Some unit) = refl
+
+pub metre-is : IsUnit metre
+unfolding lib.Utf8.encode
+metre-is = record {
+  name = ((codes "metre", refl), (codes "metre", (refl, refl)));
+  factor = refl;
+  above_zero = (refl, λ e. absurd (omega arith));
+  identifiers = tt;
+}
+
+pub given-length : (unit : Option UnitParts) → Maybe (IsUnitOf kinds.Length) unit → IsUnit (or_metre unit)
+given-length None is = metre-is
+given-length (Some unit) is = is.0
 
 -- ---- whole numbers
 
@@ -64,22 +82,7 @@ module _ (laws : LowerLaws) (sets : SetsDecide) (level : Level) where
       options-agree (IsUnitOf kind) (norm_unit level asked) (SameUnit asked level)
       (λ a b in-a in-b. unit-agrees asked a b in-a.0 in-b.0) (norm_units level asked) refl (λ u. refl)
 
-  metre-agrees : (u : UnitParts) → IsUnit u → (norm_unit level kinds.Length u ≡ metre) ↔ IsMetre level u
-  metre-agrees u in-u =
-      let factor = whole-agrees laws 1 refl u.factor in-u.factor in
-      let identifiers = none-agree sets level u.identifiers in-u.identifiers in (
-        λ e. record {
-          kind = ap (λ (u : UnitParts). u.kind) e;
-          name = ap (λ (u : UnitParts). u.name) e;
-          factor = factor.0 (ap (λ (u : UnitParts). u.factor) e);
-          identifiers = identifiers.0 (ap (λ (u : UnitParts). u.identifiers) e);
-        },
-        λ s. λ i. record { kind = s.kind i; name = s.name i; factor = factor.1 s.factor i; identifiers = identifiers.1 s.identifiers i },
-      )
-
   pub length-agrees : FormDecides (Maybe (IsUnitOf kinds.Length)) (norm_length level) (SameLength level)
-  length-agrees None None in-a in-b = (λ e. tt, λ s. refl)
-  length-agrees None (Some b) in-a in-b =
-      (λ e. (metre-agrees b in-b.0).0 (sym e), λ s. sym ((metre-agrees b in-b.0).1 s))
-  length-agrees (Some a) None in-a in-b = metre-agrees a in-a.0
-  length-agrees (Some a) (Some b) in-a in-b = unit-agrees kinds.Length a b in-a.0 in-b.0
+  length-agrees a b in-a in-b =
+      let same = unit-agrees kinds.Length (or_metre a) (or_metre b) (given-length a in-a) (given-length b in-b) in
+      (λ e. same.0 (sym (length-formed level a) ∙ e ∙ length-formed level b), λ s. length-formed level a ∙ same.1 s ∙ sym (length-formed level b))

@@ -35,5 +35,4 @@ IsNormalAxis level (node place keyword square first others close) =
 
 -- the bytes are the one spelling of an axis by itself, with the order and the unit that it holds
 abbrev pub IsSpelledAxis : Level → AxisParts → List ℕ → Type 0
-IsSpelledAxis level axis =
-    IsSpelledBy class.Axis (IsNormalAxis level) ReadsAxis (SameAxisAlone level) axis
+IsSpelledAxis level = IsSpelledBy class.Axis (IsNormalAxis level) ReadsAxis (SameAxisAlone level)

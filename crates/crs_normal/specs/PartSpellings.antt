@@ -50,7 +50,7 @@ use Rattle.crs_normal.specs.SpelledAs.{IsSpelledAs}
 
 -- the one spelling of an identifier by itself: with all that it holds, at each level
 abbrev pub IsSpelledIdent : Level → IdentParts → List ℕ → Type 0
-IsSpelledIdent level ident = IsSpelledAs levels.Full class.Identifier ReadsIdent SameIdent ident
+IsSpelledIdent level = IsSpelledAs levels.Full class.Identifier ReadsIdent SameIdent
 
 -- the class of a unit by itself, by its kind: `UNIT` is a kind of its own
 abbrev pub unit_class : UnitKind → Class
@@ -66,24 +66,21 @@ IsSpelledUnit level unit =
 
 -- the one spelling of the meridian of an axis by itself: its unit is one of angle
 abbrev pub IsSpelledAxisMeridian : Level → AxisMeridianParts → List ℕ → Type 0
-IsSpelledAxisMeridian level meridian = IsSpelledAs level class.AxisMeridian ReadsAxisMeridian
-    (SameAxisMeridian level) meridian
+IsSpelledAxisMeridian level = IsSpelledAs level class.AxisMeridian ReadsAxisMeridian (SameAxisMeridian level)
 
 -- ---- frames
 
 -- the one spelling of an ellipsoid by itself
 abbrev pub IsSpelledEllipsoid : Level → EllipsoidParts → List ℕ → Type 0
-IsSpelledEllipsoid level ellipsoid =
-    IsSpelledAs level class.Ellipsoid ReadsEllipsoid (AreSame parts_of_ellipsoid level) ellipsoid
+IsSpelledEllipsoid level = IsSpelledAs level class.Ellipsoid ReadsEllipsoid (AreSame parts_of_ellipsoid level)
 
 -- the one spelling of a prime meridian by itself
 abbrev pub IsSpelledMeridian : Level → MeridianParts → List ℕ → Type 0
-IsSpelledMeridian level meridian =
-    IsSpelledAs level class.PrimeMeridian ReadsMeridian (AreSame parts_of_given level) meridian
+IsSpelledMeridian level = IsSpelledAs level class.PrimeMeridian ReadsMeridian (AreSame parts_of_given level)
 
 -- the one spelling of a member of an ensemble by itself
 abbrev pub IsSpelledMember : Level → MemberParts → List ℕ → Type 0
-IsSpelledMember level member = IsSpelledAs level class.Member ReadsMember (SameMember level) member
+IsSpelledMember level = IsSpelledAs level class.Member ReadsMember (SameMember level)
 
 -- a reference frame by itself is geodetic where it has an ellipsoid, else vertical
 abbrev pub datum_class : Option EllipsoidParts → Class
@@ -113,65 +110,58 @@ IsFrame (frame.Ensemble ensemble) = IsEnsemble ensemble
 
 -- the one spelling of a reference frame or an ensemble by itself
 abbrev pub IsSpelledFrame : Level → Frame → List ℕ → Type 0
-IsSpelledFrame level (frame.Datum datum) bytes = IsSpelledDatum level datum bytes
-IsSpelledFrame level (frame.Ensemble ensemble) bytes = IsSpelledEnsemble level ensemble bytes
+IsSpelledFrame level (frame.Datum datum) = IsSpelledDatum level datum
+IsSpelledFrame level (frame.Ensemble ensemble) = IsSpelledEnsemble level ensemble
 
 -- ---- dynamic parts
 
 -- the one spelling of a deformation model by itself
 abbrev pub IsSpelledDeformationModel : Level → DeformationModelParts → List ℕ → Type 0
-IsSpelledDeformationModel level model =
+IsSpelledDeformationModel level =
     IsSpelledAs level class.DeformationModel ReadsDeformationModel (SameDeformationModel level)
-    model
 
 -- the one spelling of a dynamic part by itself
 abbrev pub IsSpelledDynamic : Level → DynamicParts → List ℕ → Type 0
-IsSpelledDynamic level dynamic =
-    IsSpelledAs level class.Dynamic ReadsDynamic (SameDynamic level) dynamic
+IsSpelledDynamic level = IsSpelledAs level class.Dynamic ReadsDynamic (SameDynamic level)
 
 -- ---- conversions and geoid models
 
 -- the one spelling of a method by itself
 abbrev pub IsSpelledMethod : Level → MethodParts → List ℕ → Type 0
-IsSpelledMethod level method =
-    IsSpelledAs level class.Method ReadsMethod (AreSame parts_of_method level) method
+IsSpelledMethod level = IsSpelledAs level class.Method ReadsMethod (AreSame parts_of_method level)
 
 -- the one spelling of a parameter by itself
 abbrev pub IsSpelledParameter : Level → ParameterParts → List ℕ → Type 0
-IsSpelledParameter level parameter =
-    IsSpelledAs level class.Parameter ReadsParameter (SameParameter level) parameter
+IsSpelledParameter level = IsSpelledAs level class.Parameter ReadsParameter (SameParameter level)
 
 -- the one spelling of a conversion by itself
 abbrev pub IsSpelledConversion : Level → ConversionParts → List ℕ → Type 0
-IsSpelledConversion level conversion = IsSpelledAs level class.Conversion ReadsConversion
-    (AreSame parts_of_conversion level) conversion
+IsSpelledConversion level =
+    IsSpelledAs level class.Conversion ReadsConversion (AreSame parts_of_conversion level)
 
 -- the one spelling of a geoid model by itself
 abbrev pub IsSpelledGeoidModel : Level → GeoidModelParts → List ℕ → Type 0
-IsSpelledGeoidModel level model =
-    IsSpelledAs level class.GeoidModel ReadsGeoidModel (SameGeoidModel level) model
+IsSpelledGeoidModel level = IsSpelledAs level class.GeoidModel ReadsGeoidModel (SameGeoidModel level)
 
 -- ---- usages
 
 -- the one spelling of a bounding box by itself
 abbrev pub IsSpelledBox : Level → BoxParts → List ℕ → Type 0
-IsSpelledBox level box = IsSpelledAs level class.BoundingBox ReadsBox SameBox box
+IsSpelledBox level = IsSpelledAs level class.BoundingBox ReadsBox SameBox
 
 -- the one spelling of a vertical extent by itself
 abbrev pub IsSpelledExtent : Level → ExtentParts → List ℕ → Type 0
-IsSpelledExtent level extent =
-    IsSpelledAs level class.VerticalExtent ReadsExtent (SameExtent level) extent
+IsSpelledExtent level = IsSpelledAs level class.VerticalExtent ReadsExtent (SameExtent level)
 
 -- the one spelling of a usage by itself: with all that it holds, at each level
 abbrev pub IsSpelledUsage : Level → UsageParts → List ℕ → Type 0
-IsSpelledUsage level usage = IsSpelledAs levels.Full class.Usage ReadsUsage SameUsage usage
+IsSpelledUsage level = IsSpelledAs levels.Full class.Usage ReadsUsage SameUsage
 
 -- ---- CRSs of each kind, and base CRSs
 
 -- the one spelling of a base CRS by itself
 abbrev pub IsSpelledBase : Level → BaseParts → List ℕ → Type 0
-IsSpelledBase level base =
-    IsSpelledAs level class.BaseCrs ReadsBase (AreSame parts_of_base level) base
+IsSpelledBase level = IsSpelledAs level class.BaseCrs ReadsBase (AreSame parts_of_base level)
 
 -- the one spelling of a geodetic CRS, which is geographic where its coordinate system is
 -- ellipsoidal
@@ -182,22 +172,18 @@ IsSpelledGeodetic level geodetic =
 
 -- the one spelling of a projected CRS
 abbrev pub IsSpelledProjected : Level → ProjectedParts → List ℕ → Type 0
-IsSpelledProjected level projected =
-    IsSpelledAs level class.ProjectedCrs ReadsProjected (AreSame parts_of_projected level) projected
+IsSpelledProjected level =
+    IsSpelledAs level class.ProjectedCrs ReadsProjected (AreSame parts_of_projected level)
 
 -- the one spelling of a vertical CRS
 abbrev pub IsSpelledVertical : Level → VerticalParts → List ℕ → Type 0
-IsSpelledVertical level vertical =
-    IsSpelledAs level class.VerticalCrs ReadsVertical (AreSame parts_of_vertical level) vertical
+IsSpelledVertical level = IsSpelledAs level class.VerticalCrs ReadsVertical (AreSame parts_of_vertical level)
 
 -- the one spelling of the horizontal part of a compound CRS by itself
 abbrev pub IsSpelledHorizontal : Level → Horizontal → List ℕ → Type 0
-IsSpelledHorizontal level (horizontal.Geodetic geodetic) bytes =
-    IsSpelledGeodetic level geodetic bytes
-IsSpelledHorizontal level (horizontal.Projected projected) bytes =
-    IsSpelledProjected level projected bytes
+IsSpelledHorizontal level (horizontal.Geodetic geodetic) = IsSpelledGeodetic level geodetic
+IsSpelledHorizontal level (horizontal.Projected projected) = IsSpelledProjected level projected
 
 -- the one spelling of a compound CRS
 abbrev pub IsSpelledCompound : Level → CompoundParts → List ℕ → Type 0
-IsSpelledCompound level compound =
-    IsSpelledAs level class.CompoundCrs ReadsCompound (AreSame parts_of_compound level) compound
+IsSpelledCompound level = IsSpelledAs level class.CompoundCrs ReadsCompound (AreSame parts_of_compound level)

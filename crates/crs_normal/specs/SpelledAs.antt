@@ -14,8 +14,7 @@ use Rattle.crs_normal.specs.Normal.{IsNormalIn}
 -- the shape of its class, breaks no check and is normal in this sense, and says a value that is the
 -- same
 pub record IsSpelledBy {V : Type 0} (c : Class) (IsNormal : Item → Type 0)
-    (Reads : Class → Item → V → Type 0)
-    (Same : V → V → Type 0) (value : V) (bytes : List ℕ) : Type 0 where
+    (Reads : Class → Item → V → Type 0) (Same : V → V → Type 0) (value : V) (bytes : List ℕ) : Type 0 where
   pub item : Item
   pub spells : SpellsNode bytes item
   pub written : bytes ≡ item_text item
@@ -27,8 +26,6 @@ pub record IsSpelledBy {V : Type 0} (c : Class) (IsNormal : Item → Type 0)
   pub same : Same value read
 
 -- normal as one of its class at the level
-abbrev pub IsSpelledAs : {V : Type 0} → Level → Class → (Class → Item → V → Type 0) →
-    (V → V → Type 0) →
+abbrev pub IsSpelledAs : {V : Type 0} → Level → Class → (Class → Item → V → Type 0) → (V → V → Type 0) →
     V → List ℕ → Type 0
-IsSpelledAs level c Reads Same value bytes =
-    IsSpelledBy c (IsNormalIn level c c) Reads Same value bytes
+IsSpelledAs level c = IsSpelledBy c (IsNormalIn level c c)

@@ -1,5 +1,6 @@
 -- All parts of two values are the same exactly where the values agree, field by field.
-use Rattle.std.proofs.Common.{◌≡◌, ◌⊎◌, ◌↔◌, ◌≤◌, inl, inr, ℕ, zero, suc, max, nat_le, Option, Some, None, List, [], Bool, true, false, length, refl, sym, subst, arith}
+use Rattle.std.proofs.Common.{◌≡◌, ◌⊎◌, ◌↔◌, ◌≤◌, inl, inr, ℕ, zero, suc, max, Option, Some, None, List, [], length, refl, sym, subst, arith}
+use Rattle.std.specs.Prelude.{⊤}
 use Rattle.crs_value.specs.declared.values.compound.Horizontal.{Horizontal}
 use Rattle.crs_value.specs.declared.values.compound.Horizontal.TheVariants as horizontal
 use Rattle.crs_value.specs.declared.values.crs.Crs.{Crs}
@@ -16,12 +17,11 @@ use Rattle.crs_same.specs.declared.step.Step.{Step}
 use Rattle.crs_same.specs.declared.step.Step.TheVariants as step
 use Rattle.crs_same.specs.Parts.{◌▸◌, AllSame, AreSame}
 use Rattle.crs_same.specs.PartsOfCrs.{parts_of_method, parts_of_conversion, parts_of_dynamic, parts_of_tail, parts_of_geodetic, parts_of_base, parts_of_projected, parts_of_vertical, parts_of_horizontal, parts_of_compound, parts_of_crs}
-use Rattle.crs_same.specs.PartsOfFrames.{parts_of_ellipsoid, parts_of_ellipsoids, parts_of_given, parts_before_greenwich, parts_behind_greenwich, parts_of_meridian, parts_of_datum, parts_of_ensemble, parts_of_frame}
-use Rattle.crs_same.specs.PartsOfSystems.{parts_of_axis, parts_where, parts_of_axes, parts_of_system}
-use Rattle.crs_same.specs.Agreement.{AgreeWhereSame, AgreeMethod, AgreeConversion, AgreeGeodetic, AgreeBase, AgreeProjected, AgreeVertical, AgreeHorizontal, AgreeCompound, AgreeCrs, AgreeDynamic, AgreeEllipsoid, AgreeGiven, IsGreenwich, AgreeMeridian, AgreeDatum, AgreeEnsemble, AgreeFrame, AgreeAxis, AgreeAt, AgreeAxes, AgreeSystem, AgreeTail}
+use Rattle.crs_same.specs.PartsOfFrames.{parts_of_ellipsoid, parts_of_ellipsoids, parts_of_given, or_greenwich, parts_of_meridian, parts_of_datum, parts_of_ensemble, parts_of_frame}
+use Rattle.crs_same.specs.PartsOfSystems.{parts_of_axis, parts_at, parts_of_axes, parts_of_system}
+use Rattle.crs_same.specs.Agreement.{AgreeWhereSame, AgreeMethod, AgreeConversion, AgreeGeodetic, AgreeBase, AgreeProjected, AgreeVertical, AgreeHorizontal, AgreeCompound, AgreeCrs, AgreeDynamic, AgreeEllipsoid, AgreeGiven, AgreeMeridian, AgreeDatum, AgreeEnsemble, AgreeFrame, AgreeAxis, AgreeAt, AgreeAxes, AgreeSystem, AgreeTail}
 use Rattle.crs_same.specs.SameFrames.{IsZero}
 use Rattle.crs_same.specs.Sets.{BothOrNeither}
-use Rattle.std.proofs.lemmas.Bool.{le-leb}
 use Rattle.crs_decimal.specs.Value.{Value}
 use Rattle.crs_value.specs.declared.values.unit_kind.UnitKind.TheVariants as kinds
 use Rattle.crs_value.specs.SoundCompound.{IsCompound, IsHorizontal}
@@ -29,6 +29,7 @@ use Rattle.crs_value.specs.SoundCrs.{IsCrs}
 use Rattle.crs_value.specs.SoundSingle.{IsGeodetic, IsProjected, IsVertical}
 use Rattle.crs_value.specs.SoundSystem.{IsSystem}
 use Rattle.crs_same.specs.SameCrs.{SameCrs, SameDynamic, IsHorizontalPart}
+use Rattle.crs_same.specs.SameSystems.{HasAt}
 use Rattle.crs_same.specs.SameUnits.{SameUnit, SameValue}
 use Rattle.crs_same.proofs.AxisLemmas.{at-both, which-both}
 
@@ -40,7 +41,7 @@ module _ (level : Level) where
 
   pub dynamic : (at : List Step) (a b : Option DynamicParts) → AllSame (parts_of_dynamic at level a b) ↔ BothOrNeither (AgreeDynamic level) a b
   unfolding parts_of_dynamic
-  dynamic at None None = same
+  dynamic at None None = (λ s. tt, λ s. (tt, tt))
   dynamic at None (Some b) = (λ s. absurd s.0, λ s. absurd s)
   dynamic at (Some a) None = (λ s. absurd s.0, λ s. absurd s)
   dynamic at (Some a) (Some b) = (λ s. record { epoch = s.0; model = s.1 }, λ s. (s.epoch, s.model))
@@ -58,12 +59,6 @@ module _ (level : Level) where
   ellipsoids at None (Some b) = same
   ellipsoids at (Some a) None = same
   ellipsoids at (Some a) (Some b) = ellipsoid at a b
-
-  before_greenwich : (at : List Step) (a : MeridianParts) → AllSame (parts_before_greenwich at level a) ↔ IsGreenwich level a
-  before_greenwich at a = (λ s. record { name = s.0; longitude = s.1.0; identifiers = s.1.1 }, λ s. (s.name, (s.longitude, s.identifiers)))
-
-  behind_greenwich : (at : List Step) (b : MeridianParts) → AllSame (parts_behind_greenwich at level b) ↔ IsGreenwich level b
-  behind_greenwich at b = (λ s. record { name = sym s.0; longitude = s.1.0; identifiers = s.1.1 }, λ s. (sym s.name, (s.longitude, s.identifiers)))
 
   pub datum : (at : List Step) (a b : DatumParts) → AllSame (parts_of_datum at level a b) ↔ AgreeDatum level a b
   datum at a b =
@@ -135,10 +130,7 @@ module _ (level : Level) where
 
     meridian : (at : List Step) (a b : Option MeridianParts) → AllSame (parts_of_meridian at level a b) ↔ AgreeMeridian level a b
     unfolding parts_of_meridian
-    meridian at None None = same
-    meridian at None (Some b) = behind_greenwich at b
-    meridian at (Some a) None = before_greenwich at a
-    meridian at (Some a) (Some b) = given at a b
+    meridian at a b = given at (or_greenwich a) (or_greenwich b)
 
     pub base : (at : List Step) (a b : BaseParts) → AllSame (parts_of_base at level a b) ↔ AgreeBase level a b
     unfolding parts_of_base
@@ -157,43 +149,41 @@ module _ (level : Level) where
           λ s. (s.name, (d.1 s.dynamic, (f.1 s.frame, (m.1 s.meridian, (s.unit, s.identifiers))))),
         )
 
-    -- systems of one dimension have as many axes
+    -- systems of one dimension have as many axes, and each position of a system has one
     module _
-        (as_many : (a b : SystemParts) → IsSystem a → IsSystem b → SameValue a.dimension b.dimension → length a.axes ≡ length b.axes) where
-      of-where : (in-a in-b : Bool) (at : List Step) (a b : SystemParts) (position : ℕ) → AllSame (parts_where in-a in-b at level a b position) →
-          AgreeAt level a b position
-      of-where true true at a b position (axes, (here, there), all) =
-          at-both (λ x y. AgreeAxis level a b x y) position a.axes b.axes axes.0 axes.1 here there ((axis (at ▸ step.Axis position) a b axes.0 axes.1).0 all)
-      of-where true false at a b position (x, here, bad) = absurd bad
-      of-where false in-b at a b position (y, there, bad) = absurd bad
+        (as_many : (a b : SystemParts) → IsSystem a → IsSystem b → SameValue a.dimension b.dimension → length a.axes ≡ length b.axes)
+        (some : (system : SystemParts) → IsSystem system → (position : ℕ) → 1 ≤ position → position ≤ length system.axes →
+        HasAt position (λ axis. ⊤) 1 system.axes) where
+      of-at : (at : List Step) (a b : SystemParts) → IsSystem a → (position : ℕ) → 1 ≤ position → position ≤ length a.axes →
+          AllSame (parts_at at level a b position) → AgreeAt level a b position
+      of-at at a b sound position low high (None, here, rest) = absurd (here (some a sound position low high))
+      of-at at a b sound position low high (Some x, here, (None, there, bad)) = absurd bad
+      of-at at a b sound position low high (Some x, here, (Some y, there, all)) =
+          at-both (λ x y. AgreeAxis level a b x y) position a.axes b.axes x y here there ((axis at a b x y).0 all)
 
       last : (k n : ℕ) → k ≤ suc n → (k ≤ n) ⊎ (k ≡ suc n)
       last k n low = grind arith
 
-      of-axes : (at : List Step) (a b : SystemParts) (count : ℕ) → AllSame (parts_of_axes at level a b count) →
-          (position : ℕ) → 1 ≤ position → position ≤ count → AgreeAt level a b position
-      of-axes at a b zero all position low high = absurd (omega (arith, low, high))
-      of-axes at a b (suc count) all position low high = elim (last position count high) [
-        | inl below ↦ of-axes at a b count all.0 position low below
-        | inr is ↦ subst (λ k. AgreeAt level a b k) (sym is)
-            (of-where (nat_le (suc count) (length a.axes)) (nat_le (suc count) (length b.axes)) at a b (suc count) all.1)
+      of-axes : (at : List Step) (a b : SystemParts) → IsSystem a → (count : ℕ) → AllSame (parts_of_axes at level a b count) →
+          (position : ℕ) → 1 ≤ position → position ≤ count → position ≤ length a.axes → AgreeAt level a b position
+      of-axes at a b sound zero all position low high in-a = absurd (omega (arith, low, high))
+      of-axes at a b sound (suc count) all position low high in-a = elim (last position count high) [
+        | inl below ↦ of-axes at a b sound count all.0 position low below in-a
+        | inr is ↦ of-at (at ▸ step.Axis position) a b sound position low in-a
+            (subst (λ k. AllSame (parts_at (at ▸ step.Axis k) level a b k)) (sym is) all.1)
       ]
 
-      to-where : (in-a in-b : Bool) → in-a ≡ true → in-b ≡ true → (at : List Step) (a b : SystemParts) (position : ℕ) → AgreeAt level a b position →
-          AllSame (parts_where in-a in-b at level a b position)
-      to-where true true is-a is-b at a b position same_at =
+      to-at : (at : List Step) (a b : SystemParts) (position : ℕ) → AgreeAt level a b position → AllSame (parts_at at level a b position)
+      to-at at a b position same_at =
           let (x, y, r, here, there) = which-both (λ x y. AgreeAxis level a b x y) position a.axes b.axes same_at in
-          ((x, y), (here, there), (axis (at ▸ step.Axis position) a b x y).1 r)
-      to-where true false is-a is-b at a b position same_at = absurd (cc)
-      to-where false in-b is-a is-b at a b position same_at = absurd (cc)
+          (Some x, here, (Some y, there, (axis at a b x y).1 r))
 
-      to-axes : (at : List Step) (a b : SystemParts) → AgreeAxes level a b → (count : ℕ) → count ≤ length a.axes → count ≤ length b.axes →
+      to-axes : (at : List Step) (a b : SystemParts) → AgreeAxes level a b → (count : ℕ) → count ≤ length a.axes →
           AllSame (parts_of_axes at level a b count)
-      to-axes at a b axes zero in-a in-b = tt
-      to-axes at a b axes (suc count) in-a in-b = (
-        to-axes at a b axes count (omega (arith, in-a)) (omega (arith, in-b)),
-        to-where (nat_le (suc count) (length a.axes)) (nat_le (suc count) (length b.axes)) (le-leb (suc count) (length a.axes) in-a)
-            (le-leb (suc count) (length b.axes) in-b) at a b (suc count) (axes (suc count) (omega arith) in-a),
+      to-axes at a b axes zero in-a = tt
+      to-axes at a b axes (suc count) in-a = (
+        to-axes at a b axes count (omega (arith, in-a)),
+        to-at (at ▸ step.Axis (suc count)) a b (suc count) (axes (suc count) (omega arith) in-a),
       )
 
       pub system : (at : List Step) (a b : SystemParts) → IsSystem a → IsSystem b → AllSame (parts_of_system at level a b) ↔ AgreeSystem level a b
@@ -203,7 +193,8 @@ module _ (level : Level) where
           system_type = s.0;
           dimension = s.1.0;
           identifiers = s.1.1.0;
-          axes = λ position low high. of-axes at a b (max (length a.axes) (length b.axes)) s.1.1.1 position low (omega (arith, high));
+          axes = λ position low high.
+              of-axes at a b sound-a (max (length a.axes) (length b.axes)) s.1.1.1 position low (omega (arith, high)) high;
         },
         λ s.
             let many = as_many a b sound-a sound-b s.dimension in (
@@ -212,7 +203,7 @@ module _ (level : Level) where
                 s.dimension,
                 (
                   s.identifiers,
-                  to-axes at a b s.axes (max (length a.axes) (length b.axes)) (omega (arith, many)) (omega (arith, many)),
+                  to-axes at a b s.axes (max (length a.axes) (length b.axes)) (omega (arith, many)),
                 ),
               ),
             ),

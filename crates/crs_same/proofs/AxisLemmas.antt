@@ -18,6 +18,10 @@ has-mapped P Q position place [] on h = absurd h
 has-mapped P Q position place (axis ∷ axes) on (inl h) = inl (h.0, on axis h.1)
 has-mapped P Q position place (axis ∷ axes) on (inr h) = inr (has-mapped P Q position (place + 1) axes on h)
 
+pub has-some : (position place : ℕ) (axes : List AxisParts) (axis : AxisParts) → HasAt position (λ x. x ≡ axis) place axes →
+    HasAt position (λ x. ⊤) place axes
+has-some position place axes axis h = has-mapped (λ x. x ≡ axis) (λ x. ⊤) position place axes (λ x e. tt) h
+
 has-of : (P : AxisParts → Type 0) (position place : ℕ) (axes : List AxisParts) (axis : AxisParts) → HasAt position (λ x. x ≡ axis) place axes → P axis →
     HasAt position P place axes
 has-of P position place axes axis h p = has-mapped (λ x. x ≡ axis) P position place axes (λ x e. subst P (sym e) p) h

@@ -1,5 +1,6 @@
 -- What is the same with everything that counts is the same by definition.
-use Rattle.std.proofs.Common.{ℕ, zero, suc, max, nat_le, inl, inr, ◌⊎◌, Option, Some, None, List, [], ◌∷◌, Bool, true, false, length, refl}
+use Rattle.std.proofs.Common.{ℕ, zero, suc, max, inl, inr, ◌⊎◌, Option, Some, None, List, [], ◌∷◌, length, refl}
+use Rattle.std.specs.Option.{option_and_then}
 use Rattle.crs_value.specs.declared.values.compound.Horizontal.TheVariants as horizontal
 use Rattle.crs_value.specs.declared.values.crs.Crs.{Crs}
 use Rattle.crs_value.specs.declared.values.crs.Crs.TheVariants as crs
@@ -13,17 +14,18 @@ use Rattle.crs_value.specs.DynamicValues.{DeformationModelParts}
 use Rattle.crs_value.specs.Values.{AxisParts, AxisMeridianParts, MemberParts, SystemParts, UnitParts}
 use Rattle.crs_same.specs.declared.step.Step.{Step}
 use Rattle.crs_same.specs.declared.step.Step.TheVariants as step
-use Rattle.crs_same.specs.Parts.{◌▸◌, PartsOf, AllSame}
+use Rattle.crs_same.specs.Parts.{◌▸◌, Parts, PartsOf, AllSame}
 use Rattle.crs_same.specs.PartsOfCrs.{parts_of_method, parts_of_conversion, parts_of_dynamic, parts_of_tail, parts_of_geodetic, parts_of_base, parts_of_projected, parts_of_vertical, parts_of_horizontal, parts_of_compound}
-use Rattle.crs_same.specs.PartsOfFrames.{parts_of_ellipsoid, parts_of_ellipsoids, parts_of_given, parts_of_meridian, parts_of_datum, parts_of_ensemble, parts_of_frame}
-use Rattle.crs_same.specs.PartsOfSystems.{parts_of_axis, parts_where, parts_of_axes, parts_of_system}
+use Rattle.crs_same.specs.PartsOfFrames.{parts_of_ellipsoid, parts_of_ellipsoids, parts_of_given, or_greenwich, parts_of_meridian, parts_of_datum, parts_of_ensemble, parts_of_frame}
+use Rattle.crs_same.specs.PartsOfSystems.{parts_of_axis, parts_at, parts_of_axes, parts_of_system}
 use Rattle.crs_same.specs.SameConversions.{SameParameter, SameGeoidModel}
 use Rattle.crs_same.specs.SameCrs.{SameCrs}
 use Rattle.crs_same.specs.SameDynamic.{SameDeformationModel}
 use Rattle.crs_same.specs.SameFrames.{SameMember, IsZero}
 use Rattle.crs_same.specs.SameSystems.{SameAxisMeridian, own_or}
-use Rattle.crs_same.specs.SameUnits.{SameUnit, SameLength}
+use Rattle.crs_same.specs.SameUnits.{SameUnit, SameLength, or_metre}
 use Rattle.crs_same.specs.Sets.{BothOrNeither, HasSame, AllHaveSame, SameSet}
+use Rattle.crs_same.specs.SingleParts.{nodes}
 
 -- ---- what may be missing, and sets
 
@@ -51,10 +53,7 @@ unit : (asked : UnitKind) (a b : UnitParts) → SameUnit asked levels.Full a b �
 unit asked a b s = record { kind = s.kind; name = s.name; factor = s.factor; identifiers = (tt, tt) }
 
 metres : (a b : Option UnitParts) → SameLength levels.Full a b → SameLength levels.Definition a b
-metres None None s = tt
-metres None (Some b) s = record { kind = s.kind; name = s.name; factor = s.factor; identifiers = refl }
-metres (Some a) None s = record { kind = s.kind; name = s.name; factor = s.factor; identifiers = refl }
-metres (Some a) (Some b) s = unit kinds.Length a b s
+metres a b s = unit kinds.Length (or_metre a) (or_metre b) s
 
 units : (asked : UnitKind) (a b : Option UnitParts) → BothOrNeither (SameUnit asked levels.Full) a b → BothOrNeither (SameUnit asked levels.Definition) a b
 units asked = optional (SameUnit asked levels.Full) (SameUnit asked levels.Definition) (unit asked)
@@ -79,6 +78,13 @@ axis_meridian a b s = record { longitude = s.longitude; unit = unit kinds.Angle 
 abbrev Narrows : {V : Type 0} → PartsOf V → Type 0
 Narrows {V} parts = (at : List Step) (a b : V) → AllSame (parts at levels.Full a b) → AllSame (parts at levels.Definition a b)
 
+either : {V : Type 0} (at : List Step) (name_of : V → List ℕ) (P Q : V → V → Parts) → ((a b : V) → AllSame (P a b) → AllSame (Q a b)) →
+    (a b : Option V) → AllSame (nodes at name_of P a b) → AllSame (nodes at name_of Q a b)
+either at name_of P Q narrow None None s = s
+either at name_of P Q narrow None (Some b) s = s
+either at name_of P Q narrow (Some a) None s = s
+either at name_of P Q narrow (Some a) (Some b) s = narrow a b s
+
 method : Narrows parts_of_method
 unfolding parts_of_method
 method at a b s = (s.0, (tt, tt))
@@ -95,10 +101,11 @@ conversion at a b s = (
 
 dynamic : Narrows parts_of_dynamic
 unfolding parts_of_dynamic
-dynamic at None None s = s
-dynamic at None (Some b) s = absurd s.0
-dynamic at (Some a) None s = absurd s.0
-dynamic at (Some a) (Some b) s = (s.0, optional (SameDeformationModel levels.Full) (SameDeformationModel levels.Definition) model a.model b.model s.1)
+dynamic at a b s = (
+  s.0,
+  optional (SameDeformationModel levels.Full) (SameDeformationModel levels.Definition) model (option_and_then (λ d. d.model) a)
+      (option_and_then (λ d. d.model) b) s.1,
+)
 
 tail : Narrows parts_of_tail
 unfolding parts_of_tail
@@ -110,10 +117,7 @@ ellipsoid : Narrows parts_of_ellipsoid
 ellipsoid at a b s = (s.0, (s.1.0, (s.1.1.0, (metres a.unit b.unit s.1.1.1.0, (tt, tt)))))
 
 ellipsoids : Narrows parts_of_ellipsoids
-ellipsoids at None None s = s
-ellipsoids at None (Some b) s = s
-ellipsoids at (Some a) None s = s
-ellipsoids at (Some a) (Some b) s = ellipsoid at a b s
+ellipsoids at = either at (λ e. e.name) (parts_of_ellipsoid at levels.Full) (parts_of_ellipsoid at levels.Definition) (ellipsoid at)
 
 given : Narrows parts_of_given
 given at a b s = (s.0, (s.1.0, (its s.1.1.0, (tt, tt))))
@@ -126,10 +130,7 @@ given at a b s = (s.0, (s.1.0, (its s.1.1.0, (tt, tt))))
 
 meridian : Narrows parts_of_meridian
 unfolding parts_of_meridian
-meridian at None None s = s
-meridian at None (Some b) s = (s.0, (s.1.0, refl))
-meridian at (Some a) None s = (s.0, (s.1.0, refl))
-meridian at (Some a) (Some b) s = given at a b s
+meridian at a b s = given at (or_greenwich a) (or_greenwich b) s
 
 datum : Narrows parts_of_datum
 datum at a b s = (s.0, (ellipsoids (at ▸ step.Ellipsoid) a.ellipsoid b.ellipsoid s.1.0, (s.1.1.0, (s.1.1.1.0, (tt, tt)))))
@@ -166,19 +167,15 @@ axis at a b x y s = (
   ),
 )
 
-axes-where : (in-a in-b : Bool) (at : List Step) (a b : SystemParts) (position : ℕ) → AllSame (parts_where in-a in-b at levels.Full a b position) →
-    AllSame (parts_where in-a in-b at levels.Definition a b position)
-axes-where true true at a b position (found, stand, s) = (found, stand, axis (at ▸ step.Axis position) a b found.0 found.1 s)
-axes-where true false at a b position (x, stand, bad) = absurd bad
-axes-where false in-b at a b position (y, stand, bad) = absurd bad
+axes-at : (at : List Step) (a b : SystemParts) (position : ℕ) → AllSame (parts_at at levels.Full a b position) →
+    AllSame (parts_at at levels.Definition a b position)
+axes-at at a b position (x, here, (y, there, s)) =
+    (x, here, (y, there, either at (λ axis. axis.name) (parts_of_axis at levels.Full a b) (parts_of_axis at levels.Definition a b) (axis at a b) x y s))
 
 axes : (at : List Step) (a b : SystemParts) (count : ℕ) → AllSame (parts_of_axes at levels.Full a b count) →
     AllSame (parts_of_axes at levels.Definition a b count)
 axes at a b zero s = tt
-axes at a b (suc count) s = (
-  axes at a b count s.0,
-  axes-where (nat_le (suc count) (length a.axes)) (nat_le (suc count) (length b.axes)) at a b (suc count) s.1,
-)
+axes at a b (suc count) s = (axes at a b count s.0, axes-at (at ▸ step.Axis (suc count)) a b (suc count) s.1)
 
 system : Narrows parts_of_system
 unfolding parts_of_system

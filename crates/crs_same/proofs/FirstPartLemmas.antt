@@ -1,5 +1,5 @@
 -- What holds of the path to the first part that differs, since it holds of the path to each part.
-use Rattle.std.proofs.Common.{◌≡◌, ℕ, zero, suc, max, nat_le, ◌≤◌, ◌⊎◌, inl, inr, Bool, true, false, Option, Some, None, List, [], ◌∷◌, length, refl, sym, subst, arith}
+use Rattle.std.proofs.Common.{◌≡◌, ℕ, zero, suc, max, ◌≤◌, ◌⊎◌, inl, inr, Option, Some, None, List, [], ◌∷◌, length, refl, sym, subst, arith}
 use Rattle.crs_value.specs.declared.values.compound.Horizontal.{Horizontal}
 use Rattle.crs_value.specs.declared.values.compound.Horizontal.TheVariants as horizontal
 use Rattle.crs_value.specs.declared.values.crs.Crs.{Crs}
@@ -15,18 +15,19 @@ use Rattle.crs_value.specs.DynamicValues.{DynamicParts}
 use Rattle.crs_value.specs.Kept.{kept, kept_one}
 use Rattle.crs_value.specs.Sound.{Each}
 use Rattle.crs_value.specs.Values.{IdentParts, AxisParts, EllipsoidParts, MeridianParts, DatumParts, EnsembleParts, SystemParts, TailParts}
+use Rattle.crs_same.specs.declared.content.Content.{Content}
+use Rattle.crs_same.specs.declared.content.Content.TheVariants as content
 use Rattle.crs_same.specs.declared.step.Step.{Step}
 use Rattle.crs_same.specs.declared.step.Step.TheVariants as step
-use Rattle.crs_same.specs.Contents.{Content}
-use Rattle.crs_same.specs.Contents as content
+use Rattle.crs_same.specs.Contents.{given as what-stands}
 use Rattle.crs_same.specs.Definition.{IsOfDefinition}
 use Rattle.crs_same.specs.Parts.{◌▸◌, Parts, none, part, ◌⨾◌, First}
 use Rattle.crs_same.specs.PartsOfCrs.{parts_of_method, parts_of_conversion, parts_of_dynamic, parts_of_tail, parts_of_geodetic, parts_of_base, parts_of_projected, parts_of_vertical, parts_of_horizontal, parts_of_compound, parts_of_crs, FirstInCrs}
-use Rattle.crs_same.specs.PartsOfFrames.{parts_of_ellipsoid, parts_of_ellipsoids, parts_of_given, parts_before_greenwich, parts_behind_greenwich, parts_of_meridian, parts_of_datum, parts_of_ensemble, parts_of_frame}
-use Rattle.crs_same.specs.PartsOfSystems.{parts_of_axis, parts_where, parts_of_axes, parts_of_system}
+use Rattle.crs_same.specs.PartsOfFrames.{parts_of_ellipsoid, parts_of_ellipsoids, parts_of_given, or_greenwich, parts_of_meridian, parts_of_datum, parts_of_ensemble, parts_of_frame}
+use Rattle.crs_same.specs.PartsOfSystems.{parts_of_axis, parts_at, parts_of_axes, parts_of_system}
 use Rattle.crs_same.specs.SameIdents.{SameIdents}
-use Rattle.crs_same.specs.SameUnits.{HasNoIdents}
 use Rattle.crs_same.specs.SameUsages.{usages_of, SameUsages, SameRemark}
+use Rattle.crs_same.specs.SingleParts.{nodes}
 
 infixr 10 ◌⨟◌
 -- what is found has the property
@@ -62,19 +63,18 @@ module _ (level : Level) (Is P : List Step → Type 0)
   idents {first} {second} at xs ys is =
       each at step.Id (SameIdents level xs ys) first second (inr (λ e. subst (λ l. SameIdents l xs ys) (sym e) (tt, tt))) is
 
-  no-idents : {first second : Content} (at : List Step) (xs : List IdentParts) → Is at →
-      Finds P (part (at ▸ step.Id) (HasNoIdents level xs) first second)
-  no-idents {first} {second} at xs is =
-      each at step.Id (HasNoIdents level xs) first second (inr (λ e. subst (λ l. HasNoIdents l xs) (sym e) refl)) is
+  either : {V : Type 0} (at : List Step) (name_of : V → List ℕ) (parts : V → V → Parts) → ((a b : V) → Finds P (parts a b)) →
+      (a b : Option V) → Is at → Finds P (nodes at name_of parts a b)
+  either at name_of parts each-of None None is = nothing
+  either at name_of parts each-of None (Some b) is = one at step.Name tt is
+  either at name_of parts each-of (Some a) None is = one at step.Name tt is
+  either at name_of parts each-of (Some a) (Some b) is = each-of a b
 
   -- ---- dynamic parts
 
   dynamic : (at : List Step) (a b : Option DynamicParts) → Is at → Finds P (parts_of_dynamic at level a b)
   unfolding parts_of_dynamic
-  dynamic at None None is = nothing
-  dynamic at None (Some b) is = one at step.Epoch tt is ⨟ one at step.Model tt is
-  dynamic at (Some a) None is = one at step.Epoch tt is ⨟ one at step.Model tt is
-  dynamic at (Some a) (Some b) is = one at step.Epoch tt is ⨟ one at step.Model tt is
+  dynamic at a b is = one at step.Epoch tt is ⨟ one at step.Model tt is
 
   -- ---- frames
 
@@ -84,27 +84,15 @@ module _ (level : Level) (Is P : List Step → Type 0)
       ⨟ idents at a.identifiers b.identifiers is
 
   ellipsoids : (at : List Step) (a b : Option EllipsoidParts) → Is at → Finds P (parts_of_ellipsoids at level a b)
-  ellipsoids at None None is = nothing
-  ellipsoids at None (Some b) is = one at step.Name tt is
-  ellipsoids at (Some a) None is = one at step.Name tt is
-  ellipsoids at (Some a) (Some b) is = ellipsoid at a b is
+  ellipsoids at a b is = either at (λ e. e.name) (parts_of_ellipsoid at level) (λ x y. ellipsoid at x y is) a b is
 
   given : (at : List Step) (a b : MeridianParts) → Is at → Finds P (parts_of_given at level a b)
   given at a b is =
       one at step.Name tt is ⨟ one at step.Longitude tt is ⨟ one at step.Unit tt is ⨟ idents at a.identifiers b.identifiers is
 
-  before_greenwich : (at : List Step) (a : MeridianParts) → Is at → Finds P (parts_before_greenwich at level a)
-  before_greenwich at a is = one at step.Name tt is ⨟ one at step.Longitude tt is ⨟ no-idents at a.identifiers is
-
-  behind_greenwich : (at : List Step) (b : MeridianParts) → Is at → Finds P (parts_behind_greenwich at level b)
-  behind_greenwich at b is = one at step.Name tt is ⨟ one at step.Longitude tt is ⨟ no-idents at b.identifiers is
-
   meridian : (at : List Step) (a b : Option MeridianParts) → Is at → Finds P (parts_of_meridian at level a b)
   unfolding parts_of_meridian
-  meridian at None None is = nothing
-  meridian at None (Some b) is = behind_greenwich at b is
-  meridian at (Some a) None is = before_greenwich at a is
-  meridian at (Some a) (Some b) is = given at a b is
+  meridian at a b is = given at (or_greenwich a) (or_greenwich b) is
 
   datum : (at : List Step) (a b : DatumParts) → Is at → Finds P (parts_of_datum at level a b)
   datum at a b is =
@@ -136,33 +124,17 @@ module _ (level : Level) (Is P : List Step → Type 0)
       one at step.Name tt is ⨟ one at step.Direction tt is ⨟ one at step.Meridian tt is ⨟ one at step.Unit tt is
       ⨟ idents at x.identifiers y.identifiers is
 
-  where-both : (in-a in-b : Bool) (at : List Step) (a b : SystemParts) (position : ℕ) → Is at →
-      Finds P (parts_where in-a in-b at level a b position)
-  where-both true true at a b position is = record {
+  axes-at : (at : List Step) (a b : SystemParts) (position : ℕ) → Is at → Finds P (parts_at at level a b position)
+  axes-at at a b position is = record {
     some = λ path found.
-        let (axes, stand, first) = found in
-        (axis (at ▸ step.Axis position) a b axes.0 axes.1 (on at (step.Axis position) tt is)).some path first;
-  }
-  where-both true false at a b position is = record {
-    some = λ path found.
-        let (x, stands, first) = found in
-        let it : Finds P (part (at ▸ step.Axis position ▸ step.Name) ⊥ (content.text x.name) content.nothing) =
-        one (at ▸ step.Axis position) step.Name tt (on at (step.Axis position) tt is) in
-        it.some path first;
-  }
-  where-both false other at a b position is = record {
-    some = λ path found.
-        let (y, stands, first) = found in
-        let it : Finds P (part (at ▸ step.Axis position ▸ step.Name) ⊥ content.nothing (content.text y.name)) =
-        one (at ▸ step.Axis position) step.Name tt (on at (step.Axis position) tt is) in
-        it.some path first;
+        let (x, here, (y, there, first)) = found in
+        (either at (λ axis. axis.name) (parts_of_axis at level a b) (λ v w. axis at a b v w is) x y is).some path first;
   }
 
   axes : (at : List Step) (a b : SystemParts) (count : ℕ) → Is at → Finds P (parts_of_axes at level a b count)
   axes at a b zero is = nothing
   axes at a b (suc count) is =
-      axes at a b count is
-      ⨟ where-both (nat_le (suc count) (length a.axes)) (nat_le (suc count) (length b.axes)) at a b (suc count) is
+      axes at a b count is ⨟ axes-at (at ▸ step.Axis (suc count)) a b (suc count) (on at (step.Axis (suc count)) tt is)
 
   system : (at : List Step) (a b : SystemParts) → Is at → Finds P (parts_of_system at level a b)
   unfolding parts_of_system
@@ -186,11 +158,11 @@ module _ (level : Level) (Is P : List Step → Type 0)
   tail : (at : List Step) (a b : TailParts) → Is at → Finds P (parts_of_tail at level a b)
   unfolding parts_of_tail
   tail at a b is =
-      each at step.Usage (SameUsages level a b) (content.usages (kept level (usages_of a)) (kept level (usages_of b)))
-      (content.usages (kept level (usages_of b)) (kept level (usages_of a))) (inr (λ e. subst (λ l. SameUsages l a b) (sym e) (tt, tt))) is
+      each at step.Usage (SameUsages level a b) (content.Usages (kept level (usages_of a)) (kept level (usages_of b)))
+      (content.Usages (kept level (usages_of b)) (kept level (usages_of a))) (inr (λ e. subst (λ l. SameUsages l a b) (sym e) (tt, tt))) is
       ⨟ idents at a.identifiers b.identifiers is
-      ⨟ each at step.Remark (SameRemark level a b) (content.given content.text (kept_one level a.remark))
-      (content.given content.text (kept_one level b.remark)) (inr (λ e. subst (λ l. SameRemark l a b) (sym e) refl)) is
+      ⨟ each at step.Remark (SameRemark level a b) (what-stands content.Text (kept_one level a.remark))
+      (what-stands content.Text (kept_one level b.remark)) (inr (λ e. subst (λ l. SameRemark l a b) (sym e) refl)) is
 
   geodetic : (at : List Step) (a b : GeodeticParts) → Is at → Finds P (parts_of_geodetic at level a b)
   unfolding parts_of_geodetic

@@ -86,33 +86,6 @@ optional {A} {R} s = record { reflexive = itself; symmetric = swapped; transitiv
     joined (Some a) (Some b) None p q = absurd q
     joined a b c p q = absurd p
 
--- where a missing one stands for each that is D
-pub with-default : {A : Type 0} {R : A → A → Type 0} (D : A → Type 0) (S : Option A → Option A → Type 0) →
-    IsSameness R → ((a b : A) → D a → R a b → D b) → ((a b : A) → D a → D b → R a b) → S None None →
-    ((b : A) → S None (Some b) ↔ D b) → ((a : A) → S (Some a) None ↔ D a) →
-    ((a b : A) → S (Some a) (Some b) ↔ R a b) → IsSameness S
-with-default {A} {R} D S s beside alike none second first both =
-    record { reflexive = itself; symmetric = swapped; transitive = joined }
-  where
-    itself : (a : Option A) → S a a
-    itself None = none
-    itself (Some a) = (both a a).1 (s.reflexive a)
-
-    swapped : (a b : Option A) → S a b → S b a
-    swapped None None r = none
-    swapped None (Some b) r = (first b).1 ((second b).0 r)
-    swapped (Some a) None r = (second a).1 ((first a).0 r)
-    swapped (Some a) (Some b) r = (both b a).1 (s.symmetric a b ((both a b).0 r))
-
-    joined : (a b c : Option A) → S a b → S b c → S a c
-    joined None None c p q = q
-    joined None (Some b) None p q = none
-    joined None (Some b) (Some c) p q = (second c).1 (beside b c ((second b).0 p) ((both b c).0 q))
-    joined (Some a) None None p q = p
-    joined (Some a) None (Some c) p q = (both a c).1 (alike a c ((first a).0 p) ((second c).0 q))
-    joined (Some a) (Some b) None p q = (first a).1 (beside b a ((first b).0 q) (s.symmetric a b ((both a b).0 p)))
-    joined (Some a) (Some b) (Some c) p q = (both a c).1 (s.transitive a b c ((both a b).0 p) ((both b c).0 q))
-
 -- ---- of sets
 
 module _ {A : Type 0} {R : A → A → Type 0} (s : IsSameness R) where

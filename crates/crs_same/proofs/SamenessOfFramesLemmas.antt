@@ -1,18 +1,19 @@
 -- The sameness of ellipsoids, prime meridians, reference frames and ensembles.
-use Rattle.std.proofs.Common.{◌∙◌, sym, ◌⊎◌, inl, inr}
+use Rattle.std.proofs.Common.{◌⊎◌, inl, inr}
 use Rattle.crs_value.specs.declared.values.frame.Frame.{Frame}
 use Rattle.crs_value.specs.declared.values.frame.Frame.TheVariants as frame
 use Rattle.crs_value.specs.declared.values.level.Level.{Level}
 use Rattle.crs_value.specs.declared.values.unit_kind.UnitKind.TheVariants as kinds
 use Rattle.crs_value.specs.Values.{MeridianParts}
 use Rattle.crs_same.specs.Sameness.{IsSameness}
-use Rattle.crs_same.specs.Agreement.{AgreeEllipsoid, IsGreenwich, AgreeGiven, AgreeMeridian, AgreeDatum, AgreeEnsemble, AgreeFrame}
+use Rattle.crs_same.specs.Agreement.{AgreeEllipsoid, AgreeGiven, AgreeMeridian, AgreeDatum, AgreeEnsemble, AgreeFrame}
+use Rattle.crs_same.specs.PartsOfFrames.{or_greenwich}
 use Rattle.crs_same.specs.SameFrames.{IsZero, SameMember}
 use Rattle.crs_same.specs.SameIdents.{SameIdents}
 use Rattle.crs_same.specs.SameUnits.{SameValue, SameUnit, SameLength}
 use Rattle.crs_same.specs.Sets.{BothOrNeither}
-use Rattle.crs_same.proofs.SamenessLemmas.{equal-by, by, ◌⊗◌, in-words, optional, with-default, set}
-use Rattle.crs_same.proofs.SamenessOfPartsLemmas.{whole, none-beside-none, none-alike}
+use Rattle.crs_same.proofs.SamenessLemmas.{equal-by, by, ◌⊗◌, in-words, optional, set}
+use Rattle.crs_same.proofs.SamenessOfPartsLemmas.{whole}
 
 pub ellipsoid : (level : Level) → IsSameness SameValue → IsSameness (SameLength level) → IsSameness (SameIdents level) →
     IsSameness (AgreeEllipsoid level)
@@ -36,11 +37,6 @@ module _ (level : Level) (number : IsSameness SameValue) (angle : IsSameness (Sa
   unfolding SameValue
   zero-beside-zero a b s zero =
       number.transitive b.longitude a.longitude (whole 0) (number.symmetric a.longitude b.longitude s) zero
-
-  zeros-alike : (a b : MeridianParts) → IsZero a.longitude → IsZero b.longitude → SameValue a.longitude b.longitude
-  unfolding SameValue
-  zeros-alike a b zero also =
-      number.transitive a.longitude (whole 0) b.longitude zero (number.symmetric b.longitude (whole 0) also)
 
   -- in longitude, and in the unit where that counts
   abbrev SameAngle : MeridianParts → MeridianParts → Type 0
@@ -79,25 +75,8 @@ module _ (level : Level) (number : IsSameness SameValue) (angle : IsSameness (Sa
       (λ a b s. (s.name, ((s.longitude, s.unit), s.identifiers)))
       (λ a b p. record { name = p.0; longitude = p.1.0.0; unit = p.1.0.1; identifiers = p.1.1 })
 
-  greenwich-beside-greenwich : (a b : MeridianParts) → IsGreenwich level a → AgreeGiven level a b → IsGreenwich level b
-  greenwich-beside-greenwich a b g s = record {
-    name = sym s.name ∙ g.name;
-    longitude = zero-beside-zero a b s.longitude g.longitude;
-    identifiers = none-beside-none level a.identifiers b.identifiers g.identifiers s.identifiers;
-  }
-
-  greenwiches-alike : (a b : MeridianParts) → IsGreenwich level a → IsGreenwich level b → AgreeGiven level a b
-  greenwiches-alike a b g h = record {
-    name = g.name ∙ sym h.name;
-    longitude = zeros-alike a b g.longitude h.longitude;
-    unit = inl g.longitude;
-    identifiers = none-alike level a.identifiers b.identifiers g.identifiers h.identifiers;
-  }
-
   pub meridian : IsSameness (SameIdents level) → IsSameness (AgreeMeridian level)
-  meridian identifiers =
-      with-default (IsGreenwich level) (AgreeMeridian level) (given identifiers) greenwich-beside-greenwich greenwiches-alike
-      tt (λ b. (λ h. h, λ h. h)) (λ a. (λ h. h, λ h. h)) (λ a b. (λ h. h, λ h. h))
+  meridian identifiers = by or_greenwich (given identifiers)
 
 -- ---- frames
 

@@ -1,5 +1,4 @@
 -- The sameness of each kind of part, but for frames and coordinate systems.
-use Rattle.std.proofs.Common.{◌≡◌, ◌∙◌, refl, sym, List, [], ◌∷◌}
 use Rattle.std.specs.Prelude.{pos, false, ℕ}
 use Rattle.crs_decimal.specs.Number.{SameNumber}
 use Rattle.crs_decimal.specs.Value.{Value, exact}
@@ -8,15 +7,13 @@ use Rattle.crs_value.specs.declared.values.level.Level.TheVariants as levels
 use Rattle.crs_value.specs.declared.values.unit_kind.UnitKind.{UnitKind}
 use Rattle.crs_value.specs.declared.values.unit_kind.UnitKind.TheVariants as kinds
 use Rattle.crs_value.specs.Kept.{kept, kept_one}
-use Rattle.crs_value.specs.Values.{IdentParts, UnitParts}
 use Rattle.crs_same.specs.Sameness.{IsSameness}
 use Rattle.crs_same.specs.Agreement.{AgreeMethod, AgreeConversion, AgreeTail}
 use Rattle.crs_same.specs.SameConversions.{SameParameter, SameGeoidModel}
 use Rattle.crs_same.specs.SameIdents.{SameIdent, SameIdents}
-use Rattle.crs_same.specs.SameUnits.{SameValue, SameUnit, SameLength, IsMetre, HasNoIdents, kind_as}
-use Rattle.crs_same.specs.Sets.{SameSet}
+use Rattle.crs_same.specs.SameUnits.{SameValue, SameUnit, SameLength, or_metre, kind_as}
 use Rattle.crs_same.specs.SameUsages.{SameBox, SameExtent, SameUsage, SameUsages, SameRemark, usages_of}
-use Rattle.crs_same.proofs.SamenessLemmas.{equal-by, by, ◌⊗◌, in-words, optional, with-default, set}
+use Rattle.crs_same.proofs.SamenessLemmas.{equal-by, by, ◌⊗◌, in-words, optional, set}
 
 pub value : IsSameness SameNumber → IsSameness SameValue
 unfolding SameValue
@@ -35,24 +32,6 @@ ident =
 pub idents : (level : Level) → IsSameness SameIdent → IsSameness (SameIdents level)
 idents level one = by (kept level) (set one)
 
-none-beside : (xs ys : List IdentParts) → xs ≡ [] → SameSet SameIdent xs ys → ys ≡ []
-none-beside [] [] none same = refl
-none-beside [] (y ∷ ys) none same = absurd same.1.0
-none-beside (x ∷ xs) ys none same = absurd (cc)
-
-both-none : (xs ys : List IdentParts) → xs ≡ [] → ys ≡ [] → SameSet SameIdent xs ys
-both-none [] [] none also = (tt, tt)
-both-none [] (y ∷ ys) none also = absurd (cc)
-both-none (x ∷ xs) ys none also = absurd (cc)
-
-pub none-beside-none : (level : Level) (xs ys : List IdentParts) → HasNoIdents level xs → SameIdents level xs ys →
-    HasNoIdents level ys
-none-beside-none level xs ys = none-beside (kept level xs) (kept level ys)
-
-pub none-alike : (level : Level) (xs ys : List IdentParts) → HasNoIdents level xs → HasNoIdents level ys →
-    SameIdents level xs ys
-none-alike level xs ys = both-none (kept level xs) (kept level ys)
-
 -- ---- units
 
 pub unit : (asked : UnitKind) (level : Level) → IsSameness SameValue → IsSameness (SameIdents level) →
@@ -67,29 +46,8 @@ unit asked level number identifiers =
 abbrev pub whole : ℕ → Value
 whole n = record { negative = false; digits = n; power = pos 0 }
 
-module _ (level : Level) (number : IsSameness SameValue) where
-  metre-beside-metre : (a b : UnitParts) → IsMetre level a → SameUnit kinds.Length level a b → IsMetre level b
-  unfolding SameValue
-  metre-beside-metre a b m s = record {
-    kind = sym s.kind ∙ m.kind;
-    name = sym s.name ∙ m.name;
-    factor = number.transitive b.factor a.factor (whole 1) (number.symmetric a.factor b.factor s.factor) m.factor;
-    identifiers = none-beside-none level a.identifiers b.identifiers m.identifiers s.identifiers;
-  }
-
-  metres-alike : (a b : UnitParts) → IsMetre level a → IsMetre level b → SameUnit kinds.Length level a b
-  unfolding SameValue
-  metres-alike a b m n = record {
-    kind = m.kind ∙ sym n.kind;
-    name = m.name ∙ sym n.name;
-    factor = number.transitive a.factor (whole 1) b.factor m.factor (number.symmetric b.factor (whole 1) n.factor);
-    identifiers = none-alike level a.identifiers b.identifiers m.identifiers n.identifiers;
-  }
-
-  pub length : IsSameness (SameUnit kinds.Length level) → IsSameness (SameLength level)
-  length one =
-      with-default (IsMetre level) (SameLength level) one metre-beside-metre metres-alike
-      tt (λ b. (λ h. h, λ h. h)) (λ a. (λ h. h, λ h. h)) (λ a b. (λ h. h, λ h. h))
+pub length : (level : Level) → IsSameness (SameUnit kinds.Length level) → IsSameness (SameLength level)
+length level one = by or_metre one
 
 -- ---- conversions and geoid models
 

@@ -1,5 +1,5 @@
 -- What stands in something among the parts of two values stands in one thing.
-use Rattle.std.proofs.Common.{◌≡◌, ℕ, zero, suc, max, nat_le, Option, Some, None, List, [], Bool, true, false, length}
+use Rattle.std.proofs.Common.{◌≡◌, ℕ, zero, suc, max, Option, Some, None, List, [], length, refl, ap}
 use Rattle.crs_value.specs.declared.values.compound.Horizontal.{Horizontal}
 use Rattle.crs_value.specs.declared.values.compound.Horizontal.TheVariants as horizontal
 use Rattle.crs_value.specs.declared.values.crs.Crs.{Crs}
@@ -18,20 +18,26 @@ use Rattle.crs_value.specs.SoundSystem.{IsSystem}
 use Rattle.crs_value.specs.Values.{AxisParts, EllipsoidParts, MeridianParts, DatumParts, EnsembleParts, SystemParts, TailParts}
 use Rattle.crs_same.specs.declared.step.Step.{Step}
 use Rattle.crs_same.specs.declared.step.Step.TheVariants as step
-use Rattle.crs_same.specs.Parts.{◌▸◌}
+use Rattle.crs_same.specs.Parts.{◌▸◌, Parts}
 use Rattle.crs_same.specs.PartsOfCrs.{parts_of_method, parts_of_conversion, parts_of_dynamic, parts_of_tail, parts_of_geodetic, parts_of_base, parts_of_projected, parts_of_vertical, parts_of_horizontal, parts_of_compound, parts_of_crs}
-use Rattle.crs_same.specs.PartsOfFrames.{parts_of_ellipsoid, parts_of_ellipsoids, parts_of_given, parts_of_meridian, parts_of_datum, parts_of_ensemble, parts_of_frame}
-use Rattle.crs_same.specs.PartsOfSystems.{parts_of_axis, StandAt, parts_of_both, parts_where, parts_of_axes, parts_of_system}
+use Rattle.crs_same.specs.PartsOfFrames.{parts_of_ellipsoid, parts_of_ellipsoids, parts_of_given, or_greenwich, parts_of_meridian, parts_of_datum, parts_of_ensemble, parts_of_frame}
+use Rattle.crs_same.specs.PartsOfSystems.{parts_of_axis, StandsAt, parts_at, parts_of_axes, parts_of_system}
 use Rattle.crs_same.specs.SameSystems.{HasAt}
+use Rattle.crs_same.specs.SingleParts.{nodes}
 use Rattle.crs_same.proofs.AllSameLemmas.{IsSettled}
+use Rattle.crs_same.proofs.AxisLemmas.{has-some}
 
 module _ (level : Level) where
   dynamic : (at : List Step) (a b : Option DynamicParts) → IsSettled (parts_of_dynamic at level a b)
   unfolding parts_of_dynamic
-  dynamic at None None = tt
-  dynamic at None (Some b) = (tt, tt)
-  dynamic at (Some a) None = (tt, tt)
-  dynamic at (Some a) (Some b) = (tt, tt)
+  dynamic at a b = (tt, tt)
+
+  either : {V : Type 0} (at : List Step) (name_of : V → List ℕ) (parts : V → V → Parts) → ((a b : V) → IsSettled (parts a b)) →
+      (a b : Option V) → IsSettled (nodes at name_of parts a b)
+  either at name_of parts settled None None = tt
+  either at name_of parts settled None (Some b) = tt
+  either at name_of parts settled (Some a) None = tt
+  either at name_of parts settled (Some a) (Some b) = settled a b
 
   -- ---- frames
 
@@ -39,20 +45,14 @@ module _ (level : Level) where
   ellipsoid at a b = (tt, (tt, (tt, (tt, tt))))
 
   ellipsoids : (at : List Step) (a b : Option EllipsoidParts) → IsSettled (parts_of_ellipsoids at level a b)
-  ellipsoids at None None = tt
-  ellipsoids at None (Some b) = tt
-  ellipsoids at (Some a) None = tt
-  ellipsoids at (Some a) (Some b) = ellipsoid at a b
+  ellipsoids at = either at (λ e. e.name) (parts_of_ellipsoid at level) (ellipsoid at)
 
   pub given : (at : List Step) (a b : MeridianParts) → IsSettled (parts_of_given at level a b)
   given at a b = (tt, (tt, (tt, tt)))
 
   meridian : (at : List Step) (a b : Option MeridianParts) → IsSettled (parts_of_meridian at level a b)
   unfolding parts_of_meridian
-  meridian at None None = tt
-  meridian at None (Some b) = (tt, (tt, tt))
-  meridian at (Some a) None = (tt, (tt, tt))
-  meridian at (Some a) (Some b) = given at a b
+  meridian at a b = given at (or_greenwich a) (or_greenwich b)
 
   pub datum : (at : List Step) (a b : DatumParts) → IsSettled (parts_of_datum at level a b)
   datum at a b = (tt, (ellipsoids (at ▸ step.Ellipsoid) a.ellipsoid b.ellipsoid, (tt, (tt, tt))))
@@ -105,28 +105,27 @@ module _ (level : Level) where
   module _
       (one : (system : SystemParts) → IsSystem system → (position : ℕ) (x y : AxisParts) →
       HasAt position (λ axis. axis ≡ x) 1 system.axes → HasAt position (λ axis. axis ≡ y) 1 system.axes → x ≡ y) where
-    both : (at : List Step) (a b : SystemParts) → IsSystem a → IsSystem b → (position : ℕ) → IsSettled (parts_of_both at level a b position)
-    both at a b sound-a sound-b position =
-        (pairs, λ axes stand. axis (at ▸ step.Axis position) a b axes.0 axes.1)
-      where
-        pair : (p q : AxisParts × AxisParts) → p.0 ≡ q.0 → p.1 ≡ q.1 → p ≡ q
-        pair (x, y) (z, w) e f = cc
+    one-stands : (system : SystemParts) → IsSystem system → (position : ℕ) (x y : Option AxisParts) →
+        StandsAt position system.axes x → StandsAt position system.axes y → x ≡ y
+    one-stands system sound position None None here there = refl
+    one-stands system sound position None (Some y) here there = absurd (here (has-some position 1 system.axes y there))
+    one-stands system sound position (Some x) None here there = absurd (there (has-some position 1 system.axes x here))
+    one-stands system sound position (Some x) (Some y) here there = ap Some (one system sound position x y here there)
 
-        pairs : (p q : AxisParts × AxisParts) → StandAt position a b p → StandAt position a b q → p ≡ q
-        pairs p q here there =
-            pair p q (one a sound-a position p.0 q.0 here.0 there.0) (one b sound-b position p.1 q.1 here.1 there.1)
-
-    where-one : (in-a in-b : Bool) (at : List Step) (a b : SystemParts) → IsSystem a → IsSystem b → (position : ℕ) →
-        IsSettled (parts_where in-a in-b at level a b position)
-    where-one true true at a b sound-a sound-b position = both at a b sound-a sound-b position
-    where-one true false at a b sound-a sound-b position = (λ x y here there. one a sound-a position x y here there, λ x here. tt)
-    where-one false in-b at a b sound-a sound-b position = (λ x y here there. one b sound-b position x y here there, λ x here. tt)
+    position-of : (at : List Step) (a b : SystemParts) → IsSystem a → IsSystem b → (position : ℕ) → IsSettled (parts_at at level a b position)
+    position-of at a b sound-a sound-b position = (
+      one-stands a sound-a position,
+      λ x here. (
+        one-stands b sound-b position,
+        λ y there. either at (λ axis. axis.name) (parts_of_axis at level a b) (axis at a b) x y,
+      ),
+    )
 
     axes : (at : List Step) (a b : SystemParts) → IsSystem a → IsSystem b → (count : ℕ) → IsSettled (parts_of_axes at level a b count)
     axes at a b sound-a sound-b zero = tt
     axes at a b sound-a sound-b (suc count) = (
       axes at a b sound-a sound-b count,
-      where-one (nat_le (suc count) (length a.axes)) (nat_le (suc count) (length b.axes)) at a b sound-a sound-b (suc count),
+      position-of (at ▸ step.Axis (suc count)) a b sound-a sound-b (suc count),
     )
 
     system : (at : List Step) (a b : SystemParts) → IsSystem a → IsSystem b → IsSettled (parts_of_system at level a b)

@@ -1,13 +1,18 @@
 -- What a walk over parts finds, from what it finds over each.
 use Rattle.std.proofs.Common.{◌≡◌, ℕ, suc, ◌+◌, arith, ◌++◌, ◌↔◌, inl, inr, Option, Some, None, List, [], ◌∷◌, refl, sym, subst, ap, ◌∙◌, append_assoc, append-nil}
 use Rattle.crs_value.specs.declared.values.level.Level.{Level}
+use Rattle.crs_value.specs.declared.values.level.Level.TheVariants as levels
 use Rattle.crs_value.specs.Values.{SystemParts}
+use Rattle.crs_same.specs.declared.content.Content.{Content}
 use Rattle.crs_same.specs.declared.found.Found.{Found}
 use Rattle.crs_same.specs.declared.found.Found.TheVariants as found
 use Rattle.crs_same.specs.declared.step.Step.{Step}
-use Rattle.crs_same.specs.Contents.{Content}
-use Rattle.crs_same.specs.Parts.{Parts, none, part, ◌⨾◌, within, First}
+use Rattle.crs_same.specs.declared.step.Step.TheVariants as step
+use Rattle.crs_same.specs.Parts.{◌▸◌, Parts, none, part, ◌⨾◌, within, First}
+use Rattle.crs_same.specs.PartsOfFrames.{parts_of_given, or_greenwich}
 use Rattle.crs_same.specs.PartsOfSystems.{parts_at, parts_of_axes}
+use Rattle.crs_same.specs.SameIdents.{SameIdents}
+use Rattle.crs_same.specs.SameUnits.{SameValue}
 use Rattle.crs_same.specs.Walked.{IsDone, IsRefused, Walks, TellsOf, Told, Walked}
 
 -- over no part
@@ -104,13 +109,22 @@ pub inside : {X : Type 0} {Is : X → Type 0} {parts : X → Parts} {old new : F
     Walked (within Is parts) old new
 inside {X} {Is} {parts} {old} {new} x is walked = record { walks = walks-within Is parts x old new is walked.walks }
 
+-- over two prime meridians that are missing
+no-idents : (level : Level) → SameIdents level [] []
+no-idents levels.Full = (tt, tt)
+no-idents levels.Definition = (tt, tt)
+
+pub greenwiches : (at : List Step) (level : Level) {old : Found} → Walked (parts_of_given at level (or_greenwich None) (or_greenwich None)) old old
+unfolding SameValue
+greenwiches at level {old} = via old (same refl) (via old (same (refl, inl refl)) (via old (same (inl (refl, inl refl))) (same (no-idents level))))
+
 -- over the axes at one position more
 pub more-axes : (at : List Step) (level : Level) (a b : SystemParts) (count : ℕ) {old between new : Found} →
-    Walked (parts_of_axes at level a b count) old between → Walked (parts_at at level a b (count + 1)) between new →
+    Walked (parts_of_axes at level a b count) old between → Walked (parts_at (at ▸ step.Axis (count + 1)) level a b (count + 1)) between new →
     Walked (parts_of_axes at level a b (count + 1)) old new
 more-axes at level a b count {old} {between} {new} first second =
     subst (λ n. Walked (parts_of_axes at level a b n) old new) is
-    (first ⟫ subst (λ n. Walked (parts_at at level a b n) between new) (sym is) second)
+    (first ⟫ subst (λ n. Walked (parts_at (at ▸ step.Axis n) level a b n) between new) (sym is) second)
   where
     is : suc count ≡ count + 1
     is = omega arith

@@ -2,7 +2,7 @@
 use Rattle.std.proofs.Common.{ℕ, ◌≤◌, ◌++◌, List, [], ◌∷◌, length, arith}
 use Rattle.crs_same.specs.declared.step.Step.{Step}
 use Rattle.crs_same.specs.declared.step.Step.TheVariants as step
-use Rattle.crs_same.specs.Paths.{step_word, step_number, further_text, path_text}
+use Rattle.crs_same.specs.Paths.{step_text, further_text, path_text}
 
 abbrev IsSomeText : List ℕ → Type 0
 IsSomeText [] = ⊥
@@ -16,7 +16,7 @@ some-byte : (xs : List ℕ) → IsSomeText xs → 1 ≤ length xs
 some-byte [] is = absurd is
 some-byte (x ∷ xs) is = omega arith
 
-word : (s : Step) → IsSomeText (step_word s)
+word : (s : Step) → IsSomeText (step_text s)
 word step.Kind = tt
 word step.Name = tt
 word step.Datum = tt
@@ -52,5 +52,4 @@ word step.Parameters = tt
 pub path-has-words : (path : List Step) → 1 ≤ length path → 1 ≤ length (path_text path)
 path-has-words [] some = absurd (omega (arith, some))
 path-has-words (s ∷ steps) some =
-    some-byte ((step_word s ++ step_number s) ++ further_text steps)
-    (front-of (step_word s ++ step_number s) (further_text steps) (front-of (step_word s) (step_number s) (word s)))
+    some-byte (step_text s ++ further_text steps) (front-of (step_text s) (further_text steps) (word s))

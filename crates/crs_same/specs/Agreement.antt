@@ -1,5 +1,5 @@
 -- A bridge: two values agree, field by field, exactly where all their parts are the same.
-use Rattle.std.specs.Prelude.{◌≡◌, ◌↔◌, ℕ, ◌≤◌, length, Option, Some, None, ◌⊎◌, codes}
+use Rattle.std.specs.Prelude.{◌≡◌, ◌↔◌, ℕ, ◌≤◌, length, Option, ◌⊎◌}
 use Rattle.crs_value.specs.declared.values.compound.Horizontal.{Horizontal}
 use Rattle.crs_value.specs.declared.values.compound.Horizontal.TheVariants as horizontal
 use Rattle.crs_value.specs.declared.values.crs.Crs.{Crs}
@@ -25,7 +25,7 @@ use Rattle.crs_same.specs.Parts.{AreSame}
 use Rattle.crs_same.specs.PartsOfCrs.{parts_of_method, parts_of_conversion, parts_of_tail}
 use Rattle.crs_same.specs.PartsOfCrs.{parts_of_geodetic, parts_of_base, parts_of_projected}
 use Rattle.crs_same.specs.PartsOfCrs.{parts_of_vertical, parts_of_horizontal, parts_of_compound}
-use Rattle.crs_same.specs.PartsOfFrames.{parts_of_ellipsoid, parts_of_given, parts_of_meridian}
+use Rattle.crs_same.specs.PartsOfFrames.{parts_of_ellipsoid, parts_of_given, or_greenwich, parts_of_meridian}
 use Rattle.crs_same.specs.PartsOfFrames.{parts_of_datum, parts_of_ensemble, parts_of_frame}
 use Rattle.crs_same.specs.PartsOfSystems.{parts_of_system}
 use Rattle.crs_same.specs.SameConversions.{SameParameter, SameGeoidModel}
@@ -34,7 +34,7 @@ use Rattle.crs_same.specs.SameDynamic.{SameDeformationModel}
 use Rattle.crs_same.specs.SameFrames.{IsZero, SameMember}
 use Rattle.crs_same.specs.SameIdents.{SameIdents}
 use Rattle.crs_same.specs.SameSystems.{SameAxisMeridian, HasAt, own_or}
-use Rattle.crs_same.specs.SameUnits.{SameValue, SameUnit, SameLength, HasNoIdents}
+use Rattle.crs_same.specs.SameUnits.{SameValue, SameUnit, SameLength}
 use Rattle.crs_same.specs.SameUsages.{SameUsages, SameRemark}
 use Rattle.crs_same.specs.Sets.{SameSet, BothOrNeither}
 
@@ -69,13 +69,6 @@ pub record AgreeEllipsoid (level : Level) (a b : EllipsoidParts) : Type 0 where
   pub unit : SameLength level a.unit b.unit
   pub identifiers : SameIdents level a.identifiers b.identifiers
 
--- the prime meridian is what a missing one stands for:
--- Greenwich, at longitude 0, without identifiers that count
-pub record IsGreenwich (level : Level) (meridian : MeridianParts) : Type 0 where
-  pub name : meridian.name ≡ codes "Greenwich"
-  pub longitude : IsZero meridian.longitude
-  pub identifiers : HasNoIdents level meridian.identifiers
-
 -- two written prime meridians agree: at longitude 0 the unit
 -- doesn't count; at another a missing one differs from each that is there
 pub record AgreeGiven (level : Level) (a b : MeridianParts) : Type 0 where
@@ -86,10 +79,7 @@ pub record AgreeGiven (level : Level) (a b : MeridianParts) : Type 0 where
 
 -- two prime meridians agree, a missing one being Greenwich
 abbrev pub AgreeMeridian : Level → Option MeridianParts → Option MeridianParts → Type 0
-AgreeMeridian level None None = Unit {0}
-AgreeMeridian level None (Some b) = IsGreenwich level b
-AgreeMeridian level (Some a) None = IsGreenwich level a
-AgreeMeridian level (Some a) (Some b) = AgreeGiven level a b
+AgreeMeridian level a b = AgreeGiven level (or_greenwich a) (or_greenwich b)
 
 -- two reference frames agree: name, ellipsoid, anchor, the anchor's epoch and identifiers
 pub record AgreeDatum (level : Level) (a b : DatumParts) : Type 0 where

@@ -16,6 +16,5 @@ pub mod SameUnits
 pub mod SameUsages
 pub mod Sameness
 pub mod Sets
-pub mod Shown
 pub mod SingleParts
 pub mod Walked

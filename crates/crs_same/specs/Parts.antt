@@ -2,8 +2,8 @@
 -- either; what is the first part that differs, and which parts differ.
 use Rattle.std.specs.Prelude.{◌≡◌, Option, Some, None, List, [], ◌∷◌, ◌++◌, ◌⊎◌}
 use Rattle.crs_value.specs.declared.values.level.Level.{Level}
+use Rattle.crs_same.specs.declared.content.Content.{Content}
 use Rattle.crs_same.specs.declared.step.Step.{Step}
-use Rattle.crs_same.specs.Contents.{Content}
 
 infixl 60 ◌▸◌
 infixr 10 ◌⨾◌

@@ -1,5 +1,6 @@
 -- The parts of coordinate reference systems, in order.
-use Rattle.std.specs.Prelude.{ℕ, Option, Some, None, List, [], codes}
+use Rattle.std.specs.Prelude.{ℕ, Option, List, [], codes}
+use Rattle.std.specs.Option.{option_map, option_and_then}
 use Rattle.crs_value.specs.declared.values.compound.Horizontal.{Horizontal}
 use Rattle.crs_value.specs.declared.values.compound.Horizontal.TheVariants as horizontal
 use Rattle.crs_value.specs.declared.values.crs.Crs.{Crs}
@@ -15,15 +16,16 @@ use Rattle.crs_value.specs.DynamicValues.{DynamicParts}
 use Rattle.crs_value.specs.Kept.{kept, kept_one}
 use Rattle.crs_value.specs.ReadsCrs.{kind_by, kind_of}
 use Rattle.crs_value.specs.Values.{TailParts}
+use Rattle.crs_same.specs.declared.content.Content.TheVariants as content
 use Rattle.crs_same.specs.declared.step.Step.{Step}
 use Rattle.crs_same.specs.declared.step.Step.TheVariants as step
-use Rattle.crs_same.specs.Contents as content
 use Rattle.crs_same.specs.PartsOfFrames.{parts_of_meridian, parts_of_frame}
 use Rattle.crs_same.specs.PartsOfSystems.{parts_of_system}
-use Rattle.crs_same.specs.Parts.{◌▸◌, Parts, PartsOf, none, part, ◌⨾◌, First, DifferenceParts, Differences}
+use Rattle.crs_same.specs.Parts.{◌▸◌, Parts, PartsOf, ◌⨾◌, First, DifferenceParts, Differences}
 use Rattle.crs_same.specs.SameConversions.{SameParameter, SameGeoidModel}
+use Rattle.crs_same.specs.SameDynamic.{SameDeformationModel}
 use Rattle.crs_same.specs.SameUsages.{SameUsage, usages_of}
-use Rattle.crs_same.specs.SingleParts.{texts, optional_texts, words, unlike, numbers, units, models}
+use Rattle.crs_same.specs.SingleParts.{texts, optional_texts, words, unlike, optional, optional_numbers, units}
 use Rattle.crs_same.specs.SingleParts.{sets, identifiers}
 
 -- the parts of two methods: name, identifiers
@@ -37,27 +39,20 @@ unfoldable pub parts_of_conversion : PartsOf ConversionParts
 parts_of_conversion at level a b =
     texts (at ▸ step.Name) a.name b.name
     ⨾ parts_of_method (at ▸ step.Method) level a.method b.method
-    ⨾ sets (at ▸ step.Parameters) (SameParameter level) content.parameters a.parameters b.parameters
+    ⨾ sets (at ▸ step.Parameters) (SameParameter level) content.Parameters a.parameters b.parameters
     ⨾ identifiers (at ▸ step.Id) level a.identifiers b.identifiers
 
--- the parts of two dynamic parts: epoch, model; where only one side has a dynamic
--- part, its epoch is the first part that is on one side alone
+-- the parts of two dynamic parts, of which each may be missing: epoch, model
 unfoldable pub parts_of_dynamic : PartsOf (Option DynamicParts)
-parts_of_dynamic at level None None = none
-parts_of_dynamic at level None (Some b) =
-    part (at ▸ step.Epoch) ⊥ content.nothing (content.number b.epoch)
-    ⨾ models (at ▸ step.Model) level None b.model
-parts_of_dynamic at level (Some a) None =
-    part (at ▸ step.Epoch) ⊥ (content.number a.epoch) content.nothing
-    ⨾ models (at ▸ step.Model) level a.model None
-parts_of_dynamic at level (Some a) (Some b) =
-    numbers (at ▸ step.Epoch) a.epoch b.epoch
-    ⨾ models (at ▸ step.Model) level a.model b.model
+parts_of_dynamic at level a b =
+    optional_numbers (at ▸ step.Epoch) (option_map (λ d. d.epoch) a) (option_map (λ d. d.epoch) b)
+    ⨾ optional (at ▸ step.Model) (SameDeformationModel level) content.Model
+    (option_and_then (λ d. d.model) a) (option_and_then (λ d. d.model) b)
 
 -- the parts of the ends of two CRSs: usages, identifiers, remark
 unfoldable pub parts_of_tail : PartsOf TailParts
 parts_of_tail at level a b =
-    sets (at ▸ step.Usage) SameUsage content.usages (kept level (usages_of a)) (kept level (usages_of b))
+    sets (at ▸ step.Usage) SameUsage content.Usages (kept level (usages_of a)) (kept level (usages_of b))
     ⨾ identifiers (at ▸ step.Id) level a.identifiers b.identifiers
     ⨾ optional_texts (at ▸ step.Remark) (kept_one level a.remark) (kept_one level b.remark)
 
@@ -110,7 +105,7 @@ parts_of_vertical at level a b =
     ⨾ parts_of_dynamic (at ▸ step.Dynamic) level a.dynamic b.dynamic
     ⨾ parts_of_frame (at ▸ step.Datum) level a.frame b.frame
     ⨾ parts_of_system (at ▸ step.System) level a.system b.system
-    ⨾ sets (at ▸ step.Geoid) (SameGeoidModel level) content.geoid_models a.geoid_models b.geoid_models
+    ⨾ sets (at ▸ step.Geoid) (SameGeoidModel level) content.GeoidModels a.geoid_models b.geoid_models
     ⨾ parts_of_tail at level a.tail b.tail
 
 -- the keyword of the horizontal part of a compound CRS

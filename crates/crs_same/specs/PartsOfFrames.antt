@@ -3,20 +3,17 @@ use Rattle.std.specs.Prelude.{ℕ, Option, Some, None, List, [], ◌⊎◌, code
 use Rattle.crs_decimal.specs.Value.{zero}
 use Rattle.crs_value.specs.declared.values.frame.Frame.{Frame}
 use Rattle.crs_value.specs.declared.values.frame.Frame.TheVariants as frame
-use Rattle.crs_value.specs.declared.values.level.Level.{Level}
 use Rattle.crs_value.specs.declared.values.unit_kind.UnitKind.TheVariants as kinds
-use Rattle.crs_value.specs.Kept.{kept}
 use Rattle.crs_value.specs.Values.{EllipsoidParts, MeridianParts, DatumParts, EnsembleParts}
-use Rattle.crs_same.specs.declared.step.Step.{Step}
+use Rattle.crs_same.specs.declared.content.Content.TheVariants as content
 use Rattle.crs_same.specs.declared.step.Step.TheVariants as step
-use Rattle.crs_same.specs.Contents.{given}
-use Rattle.crs_same.specs.Contents as content
-use Rattle.crs_same.specs.Parts.{◌▸◌, Parts, PartsOf, none, part, ◌⨾◌}
+use Rattle.crs_same.specs.Contents.{given, length_unit}
+use Rattle.crs_same.specs.Parts.{◌▸◌, PartsOf, part, ◌⨾◌}
 use Rattle.crs_same.specs.SameFrames.{IsZero, SameMember}
-use Rattle.crs_same.specs.SameUnits.{SameUnit, HasNoIdents}
+use Rattle.crs_same.specs.SameUnits.{SameUnit, SameLength}
 use Rattle.crs_same.specs.Sets.{BothOrNeither}
 use Rattle.crs_same.specs.SingleParts.{texts, optional_texts, unlike, numbers, optional_numbers}
-use Rattle.crs_same.specs.SingleParts.{lengths, sets, identifiers}
+use Rattle.crs_same.specs.SingleParts.{sets, identifiers, nodes}
 
 -- the parts of two ellipsoids: name,
 -- semi-major axis, inverse flattening, unit, identifiers
@@ -25,16 +22,12 @@ parts_of_ellipsoid at level a b =
     texts (at ▸ step.Name) a.name b.name
     ⨾ numbers (at ▸ step.SemiMajor) a.semi_major_axis b.semi_major_axis
     ⨾ numbers (at ▸ step.Flattening) a.inverse_flattening b.inverse_flattening
-    ⨾ lengths (at ▸ step.Unit) level a.unit b.unit
+    ⨾ part (at ▸ step.Unit) (SameLength level a.unit b.unit) (length_unit a.unit) (length_unit b.unit)
     ⨾ identifiers (at ▸ step.Id) level a.identifiers b.identifiers
 
--- the parts of two ellipsoids that may be missing; where only one side has an
--- ellipsoid, its name is the first part that is on one side alone
+-- the parts of two ellipsoids that may be missing
 abbrev pub parts_of_ellipsoids : PartsOf (Option EllipsoidParts)
-parts_of_ellipsoids at level None None = none
-parts_of_ellipsoids at level None (Some b) = part (at ▸ step.Name) ⊥ content.nothing (content.text b.name)
-parts_of_ellipsoids at level (Some a) None = part (at ▸ step.Name) ⊥ (content.text a.name) content.nothing
-parts_of_ellipsoids at level (Some a) (Some b) = parts_of_ellipsoid at level a b
+parts_of_ellipsoids at level = nodes at (λ ellipsoid. ellipsoid.name) (parts_of_ellipsoid at level)
 
 -- ---- prime meridians
 
@@ -46,31 +39,17 @@ parts_of_given at level a b =
     ⨾ numbers (at ▸ step.Longitude) a.longitude b.longitude
     ⨾ part (at ▸ step.Unit)
     (IsZero a.longitude ⊎ IsZero b.longitude ⊎ BothOrNeither (SameUnit kinds.Angle level) a.unit b.unit)
-    (given (content.unit kinds.Angle) a.unit) (given (content.unit kinds.Angle) b.unit)
+    (given (content.Unit kinds.Angle) a.unit) (given (content.Unit kinds.Angle) b.unit)
     ⨾ identifiers (at ▸ step.Id) level a.identifiers b.identifiers
 
--- the parts of a written prime meridian and a missing one, which is Greenwich: name, longitude, identifiers
-abbrev pub parts_before_greenwich : List Step → Level → MeridianParts → Parts
-parts_before_greenwich at level a =
-    texts (at ▸ step.Name) a.name (codes "Greenwich")
-    ⨾ part (at ▸ step.Longitude) (IsZero a.longitude) (content.number a.longitude) (content.number zero)
-    ⨾ part (at ▸ step.Id) (HasNoIdents level a.identifiers)
-    (content.identifiers (kept level a.identifiers) []) (content.identifiers [] (kept level a.identifiers))
+-- a prime meridian; a missing one is Greenwich
+abbrev pub or_greenwich : Option MeridianParts → MeridianParts
+or_greenwich None = record { name = codes "Greenwich"; longitude = zero; unit = None; identifiers = [] }
+or_greenwich (Some meridian) = meridian
 
--- the parts of a missing prime meridian and a written one
-abbrev pub parts_behind_greenwich : List Step → Level → MeridianParts → Parts
-parts_behind_greenwich at level b =
-    texts (at ▸ step.Name) (codes "Greenwich") b.name
-    ⨾ part (at ▸ step.Longitude) (IsZero b.longitude) (content.number zero) (content.number b.longitude)
-    ⨾ part (at ▸ step.Id) (HasNoIdents level b.identifiers)
-    (content.identifiers [] (kept level b.identifiers)) (content.identifiers (kept level b.identifiers) [])
-
--- the parts of two prime meridians, of which each may be missing
+-- the parts of two prime meridians, a missing one being Greenwich
 unfoldable pub parts_of_meridian : PartsOf (Option MeridianParts)
-parts_of_meridian at level None None = none
-parts_of_meridian at level None (Some b) = parts_behind_greenwich at level b
-parts_of_meridian at level (Some a) None = parts_before_greenwich at level a
-parts_of_meridian at level (Some a) (Some b) = parts_of_given at level a b
+parts_of_meridian at level a b = parts_of_given at level (or_greenwich a) (or_greenwich b)
 
 -- ---- frames
 
@@ -89,7 +68,7 @@ parts_of_datum at level a b =
 abbrev pub parts_of_ensemble : PartsOf EnsembleParts
 parts_of_ensemble at level a b =
     texts (at ▸ step.Name) a.name b.name
-    ⨾ sets (at ▸ step.Members) (SameMember level) content.members a.members b.members
+    ⨾ sets (at ▸ step.Members) (SameMember level) content.Members a.members b.members
     ⨾ parts_of_ellipsoids (at ▸ step.Ellipsoid) level a.ellipsoid b.ellipsoid
     ⨾ numbers (at ▸ step.Accuracy) a.accuracy b.accuracy
     ⨾ identifiers (at ▸ step.Id) level a.identifiers b.identifiers

@@ -1,57 +1,54 @@
 -- The words of a path to a part.
-use Rattle.std.specs.Prelude.{List, [], ◌∷◌, ◌++◌, ℕ, codes, decimal}
+use Rattle.std.specs.Prelude.{List, [], ◌++◌, ℕ, codes, decimal, flat_map}
+use Rattle.std.specs.List.{join_by}
 use Rattle.crs_same.specs.declared.step.Step.{Step}
 use Rattle.crs_same.specs.declared.step.Step.TheVariants as step
 
--- the word of a step
-abbrev pub step_word : Step → List ℕ
-step_word step.Kind = codes "kind"
-step_word step.Name = codes "name"
-step_word step.Datum = codes "datum"
-step_word step.Meridian = codes "meridian"
-step_word step.System = codes "system"
-step_word step.Usage = codes "usage"
-step_word step.Id = codes "id"
-step_word step.Remark = codes "remark"
-step_word step.Base = codes "base"
-step_word step.Conversion = codes "conversion"
-step_word step.Geoid = codes "geoid"
-step_word step.Horizontal = codes "horizontal"
-step_word step.Vertical = codes "vertical"
-step_word step.Unit = codes "unit"
-step_word step.Ellipsoid = codes "ellipsoid"
-step_word step.Anchor = codes "anchor"
-step_word step.Dynamic = codes "dynamic"
-step_word step.Epoch = codes "epoch"
-step_word step.Model = codes "model"
-step_word step.AnchorEpoch = codes "anchorepoch"
-step_word step.Members = codes "members"
-step_word step.Accuracy = codes "accuracy"
-step_word step.SemiMajor = codes "semimajor"
-step_word step.Flattening = codes "flattening"
-step_word step.Longitude = codes "longitude"
-step_word step.SystemType = codes "type"
-step_word step.Dimension = codes "dimension"
-step_word (step.Axis position) = codes "axis"
-step_word step.Direction = codes "direction"
-step_word step.Method = codes "method"
-step_word step.Parameters = codes "parameters"
-
--- the number of a step: of an axis its position, of any other none
-abbrev pub step_number : Step → List ℕ
-step_number (step.Axis position) = decimal position
-step_number other = []
-
--- the text of a step: its word, and its number if it has one
+-- the text of a step: a word, and of an axis its position
 abbrev pub step_text : Step → List ℕ
-step_text step = step_word step ++ step_number step
+step_text step.Kind = codes "kind"
+step_text step.Name = codes "name"
+step_text step.Datum = codes "datum"
+step_text step.Meridian = codes "meridian"
+step_text step.System = codes "system"
+step_text step.Usage = codes "usage"
+step_text step.Id = codes "id"
+step_text step.Remark = codes "remark"
+step_text step.Base = codes "base"
+step_text step.Conversion = codes "conversion"
+step_text step.Geoid = codes "geoid"
+step_text step.Horizontal = codes "horizontal"
+step_text step.Vertical = codes "vertical"
+step_text step.Unit = codes "unit"
+step_text step.Ellipsoid = codes "ellipsoid"
+step_text step.Anchor = codes "anchor"
+step_text step.Dynamic = codes "dynamic"
+step_text step.Epoch = codes "epoch"
+step_text step.Model = codes "model"
+step_text step.AnchorEpoch = codes "anchorepoch"
+step_text step.Members = codes "members"
+step_text step.Accuracy = codes "accuracy"
+step_text step.SemiMajor = codes "semimajor"
+step_text step.Flattening = codes "flattening"
+step_text step.Longitude = codes "longitude"
+step_text step.SystemType = codes "type"
+step_text step.Dimension = codes "dimension"
+step_text (step.Axis position) = codes "axis" ++ decimal position
+step_text step.Direction = codes "direction"
+step_text step.Method = codes "method"
+step_text step.Parameters = codes "parameters"
+
+-- the texts of the steps with strokes between them
+abbrev pub path_text : List Step → List ℕ
+path_text = join_by step_text (codes "/")
+
+-- ---- bridges: what is written step by step
+
+-- the digits behind the word of a step
+abbrev pub step_digits : Step → List ℕ
+step_digits (step.Axis position) = decimal position
+step_digits other = []
 
 -- each of these steps behind a stroke
 abbrev pub further_text : List Step → List ℕ
-further_text [] = []
-further_text (step ∷ steps) = codes "/" ++ step_text step ++ further_text steps
-
--- the steps with strokes between them
-abbrev pub path_text : List Step → List ℕ
-path_text [] = []
-path_text (step ∷ steps) = step_text step ++ further_text steps
+further_text = flat_map (λ step. codes "/" ++ step_text step)

@@ -2,9 +2,10 @@
 use Rattle.std.specs.Prelude.{◌≡◌}
 use Rattle.crs_value.specs.declared.values.level.Level.{Level}
 use Rattle.crs_value.specs.declared.values.unit_kind.UnitKind.TheVariants as kinds
-use Rattle.crs_value.specs.ConversionValues.{ParameterParts, GeoidModelParts}
+use Rattle.crs_value.specs.ConversionValues.{ParameterParts}
 use Rattle.crs_same.specs.Sets.{BothOrNeither}
 use Rattle.crs_same.specs.SameIdents.{SameIdents}
+pub use Rattle.crs_same.specs.SameIdents.{SameNamed as SameGeoidModel}
 use Rattle.crs_same.specs.SameUnits.{SameValue, SameUnit}
 
 -- two parameters are the same: name, number, unit and identifiers; `UNIT` is a kind of its own
@@ -13,9 +14,4 @@ pub record SameParameter (level : Level) (a b : ParameterParts) : Type 0 where
   pub name : a.name ≡ b.name
   pub value : SameValue a.value b.value
   pub unit : BothOrNeither (SameUnit kinds.Plain level) a.unit b.unit
-  pub identifiers : SameIdents level a.identifiers b.identifiers
-
--- two geoid models are the same: name and identifiers
-pub record SameGeoidModel (level : Level) (a b : GeoidModelParts) : Type 0 where
-  pub name : a.name ≡ b.name
   pub identifiers : SameIdents level a.identifiers b.identifiers

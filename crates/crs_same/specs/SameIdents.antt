@@ -1,8 +1,8 @@
--- When identifiers are the same, one by one and as a set.
+-- When identifiers are the same, one by one and as a set, and what has a name and identifiers alone.
 use Rattle.std.specs.Prelude.{◌≡◌, List}
 use Rattle.crs_value.specs.declared.values.level.Level.{Level}
 use Rattle.crs_value.specs.Kept.{kept}
-use Rattle.crs_value.specs.Values.{IdentParts}
+use Rattle.crs_value.specs.NamedValues.{IdentParts, NamedParts}
 use Rattle.crs_same.specs.Sets.{SameSet}
 
 -- two identifiers are the same: their texts are when their characters
@@ -17,3 +17,9 @@ pub record SameIdent (a b : IdentParts) : Type 0 where
 -- the identifiers that the level keeps of a part, as a set
 abbrev pub SameIdents : Level → List IdentParts → List IdentParts → Type 0
 SameIdents level xs ys = SameSet SameIdent (kept level xs) (kept level ys)
+
+-- two values that have a name and identifiers alone are the same:
+-- members of ensembles, geoid models and deformation models
+pub record SameNamed (level : Level) (a b : NamedParts) : Type 0 where
+  pub name : a.name ≡ b.name
+  pub identifiers : SameIdents level a.identifiers b.identifiers

@@ -1,9 +1,9 @@
 -- A bridge: what a walk over the parts of two values finds.
 use Rattle.std.specs.Prelude.{◌≡◌, Option, Some, None, List, [], ◌∷◌, ◌++◌, ◌⊎◌}
+use Rattle.crs_same.specs.declared.content.Content.{Content}
 use Rattle.crs_same.specs.declared.found.Found.{Found}
 use Rattle.crs_same.specs.declared.found.Found.TheVariants as found
 use Rattle.crs_same.specs.declared.step.Step.{Step}
-use Rattle.crs_same.specs.Contents.{Content}
 use Rattle.crs_same.specs.Parts.{Parts, DifferenceParts, First, Differences}
 
 -- nothing more is looked for

@@ -1,9 +1,8 @@
 //! What stands at a part of a CRS, borrowed from it.
 ghost use Rattle.std.specs.Prelude.{◌≡◌};
 ghost use Rattle.std.specs.Option.{option_copied};
+ghost use Rattle.crs_same.specs.declared.content.Content.TheVariants as content;
 ghost use Rattle.crs_same.specs.Contents.{given, length_unit};
-ghost use Rattle.crs_same.specs.Contents as content;
-ghost use Rattle.crs_same.specs.Shown.{content_of};
 ghost use Rattle.crs_same.specs.SameUsages.{with_bare};
 
 use crs_decimal::Decimal;
@@ -38,6 +37,65 @@ impl<'a> Text<'a> {
         ensures { result.now ≡ self.now }
     {
         self.bytes
+    }
+}
+
+/// A part, borrowed from its CRS. Profile.
+#[derive(Drop)]
+pub struct Borrowed<'b, T> {
+    part: &'b T,
+}
+
+// With a `ghost use` of its own: without one the block takes those of the file, which lead back to this struct.
+impl<'b, T> Model for Borrowed<'b, T> {
+    ghost use Rattle.std.specs.Prelude as std;
+
+    ghost Value = { T };
+
+    ghost view = { λ b. b.part.now };
+}
+
+impl<'b, T> Borrowed<'b, T> {
+    pub(crate) fn new(part: &'b T) -> Borrowed<'b, T>
+        ensures { result ≡ part.now }
+    {
+        Borrowed { part }
+    }
+
+    /// The part.
+    pub fn get(&self) -> &'b T
+        ensures { result.now ≡ self.now }
+    {
+        self.part
+    }
+}
+
+/// The members of a set, in the order in which they are written. Profile.
+#[derive(Drop)]
+pub struct Members<'b, T> {
+    members: &'b [T],
+}
+
+impl<'b, T> Model for Members<'b, T> {
+    ghost use Rattle.std.specs.Prelude as std;
+
+    ghost Value = { std.List T };
+
+    ghost view = { λ m. m.members.now };
+}
+
+impl<'b, T> Members<'b, T> {
+    pub(crate) fn new(members: &'b [T]) -> Members<'b, T>
+        ensures { result ≡ members.now }
+    {
+        Members { members }
+    }
+
+    /// The members, in order.
+    pub fn as_slice(&self) -> &'b [T]
+        ensures { result.now ≡ self.now }
+    {
+        self.members
     }
 }
 
@@ -85,43 +143,41 @@ pub enum Content<'b, 'a> {
     Text(Text<'a>),
     /// A number.
     Number(Decimal),
-    /// The number 0, which the longitude of a missing prime meridian is.
-    Zero,
     /// A unit where a kind is asked, which `UNIT` is of.
-    Unit(UnitKind, &'b Unit<'a>),
+    Unit(UnitKind, Borrowed<'b, Unit<'a>>),
     /// The metre, which a missing unit of length stands for.
     Metre,
     /// The meridian that an axis goes along.
-    Meridian(&'b AxisMeridian<'a>),
+    Meridian(Borrowed<'b, AxisMeridian<'a>>),
     /// A deformation model.
-    Model(&'b DeformationModel<'a>),
+    Model(Borrowed<'b, DeformationModel<'a>>),
     /// Identifiers, and those of the other CRS.
-    Identifiers(&'b [Ident<'a>], &'b [Ident<'a>]),
+    Identifiers(Members<'b, Ident<'a>>, Members<'b, Ident<'a>>),
     /// Usages, and those of the other CRS.
     Usages(Usages<'b, 'a>, Usages<'b, 'a>),
     /// Members of an ensemble, and those of the other CRS.
-    Members(&'b [Member<'a>], &'b [Member<'a>]),
+    Members(Members<'b, Member<'a>>, Members<'b, Member<'a>>),
     /// Parameters of a conversion, and those of the other CRS.
-    Parameters(&'b [Parameter<'a>], &'b [Parameter<'a>]),
+    Parameters(Members<'b, Parameter<'a>>, Members<'b, Parameter<'a>>),
     /// Geoid models, and those of the other CRS.
-    GeoidModels(&'b [GeoidModel<'a>], &'b [GeoidModel<'a>]),
+    GeoidModels(Members<'b, GeoidModel<'a>>, Members<'b, GeoidModel<'a>>),
 }
 
 impl<'b, 'a> Content<'b, 'a> {
     pub(crate) fn word(word: &'static str) -> Content<'b, 'a>
-        ensures { content_of result ≡ content.word word.now }
+        ensures { result ≡ content.Word word.now }
     {
         Content::Word(Text::new(word.as_bytes()))
     }
 
     pub(crate) fn text(text: &'a [u8]) -> Content<'b, 'a>
-        ensures { content_of result ≡ content.text text.now }
+        ensures { result ≡ content.Text text.now }
     {
         Content::Text(Text::new(text))
     }
 
     pub(crate) fn optional_text(text: Option<&'a [u8]>) -> Content<'b, 'a>
-        ensures { content_of result ≡ given content.text (option_copied text.entry) }
+        ensures { result ≡ given content.Text (option_copied text.entry) }
     {
         match text {
             None => Content::Nothing,
@@ -130,7 +186,7 @@ impl<'b, 'a> Content<'b, 'a> {
     }
 
     pub(crate) fn optional_number(number: Option<Decimal>) -> Content<'b, 'a>
-        ensures { content_of result ≡ given content.number number }
+        ensures { result ≡ given content.Number number }
     {
         match number {
             None => Content::Nothing,
@@ -140,38 +196,38 @@ impl<'b, 'a> Content<'b, 'a> {
 
     // Where this kind is asked.
     pub(crate) fn optional_unit(asked: UnitKind, unit: Option<&'b Unit<'a>>) -> Content<'b, 'a>
-        ensures { content_of result ≡ given (content.unit asked) (option_copied unit.entry) }
+        ensures { result ≡ given (content.Unit asked) (option_copied unit.entry) }
     {
         match unit {
             None => Content::Nothing,
-            Some(unit) => Content::Unit(asked, unit),
+            Some(unit) => Content::Unit(asked, Borrowed::new(unit)),
         }
     }
 
     pub(crate) fn length(unit: Option<&'b Unit<'a>>) -> Content<'b, 'a>
-        ensures { content_of result ≡ length_unit (option_copied unit.entry) }
+        ensures { result ≡ length_unit (option_copied unit.entry) }
     {
         match unit {
             None => Content::Metre,
-            Some(unit) => Content::Unit(UnitKind::Length, unit),
+            Some(unit) => Content::Unit(UnitKind::Length, Borrowed::new(unit)),
         }
     }
 
     pub(crate) fn optional_meridian(meridian: Option<&'b AxisMeridian<'a>>) -> Content<'b, 'a>
-        ensures { content_of result ≡ given content.meridian (option_copied meridian.entry) }
+        ensures { result ≡ given content.Meridian (option_copied meridian.entry) }
     {
         match meridian {
             None => Content::Nothing,
-            Some(meridian) => Content::Meridian(meridian),
+            Some(meridian) => Content::Meridian(Borrowed::new(meridian)),
         }
     }
 
     pub(crate) fn optional_model(model: Option<&'b DeformationModel<'a>>) -> Content<'b, 'a>
-        ensures { content_of result ≡ given content.model (option_copied model.entry) }
+        ensures { result ≡ given content.Model (option_copied model.entry) }
     {
         match model {
             None => Content::Nothing,
-            Some(model) => Content::Model(model),
+            Some(model) => Content::Model(Borrowed::new(model)),
         }
     }
 }

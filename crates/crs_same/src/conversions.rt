@@ -1,7 +1,7 @@
 //! Conversions and geoid models.
 ghost use Rattle.std.specs.Prelude.{◌≡◌, ◌<◌, ◌≤◌, ◌↔◌, IsTrue, None, length};
+ghost use Rattle.crs_same.specs.declared.content.Content.TheVariants as content;
 ghost use Rattle.crs_same.specs.declared.step.Step.TheVariants as step;
-ghost use Rattle.crs_same.specs.Contents as content;
 ghost use Rattle.crs_same.specs.Parts.{◌▸◌};
 ghost use Rattle.crs_same.specs.PartsOfCrs.{parts_of_method, parts_of_conversion};
 ghost use Rattle.crs_same.specs.SingleParts.{sets};
@@ -10,7 +10,7 @@ ghost use Rattle.crs_same.specs.Sets.{SameSet};
 ghost use Rattle.crs_same.specs.Parts.{AreSame};
 ghost use Rattle.crs_same.specs.SameConversions.{SameParameter, SameGeoidModel};
 
-use crate::content::Content;
+use crate::content::{Content, Members};
 use crate::found::Found;
 use crate::idents::same_idents;
 use crate::keys::{Key, key_of_named};
@@ -125,7 +125,7 @@ fn walk_parameters<'b, 'a>(
     level: Level,
 ) -> Found<'b, 'a>
     requires { length at.now < 5 }
-    ensures { Walked (sets (at.now ▸ step.Parameters) (SameParameter level) content.parameters a.now b.now) found.entry result }
+    ensures { Walked (sets (at.now ▸ step.Parameters) (SameParameter level) content.Parameters a.now b.now) found.entry result }
 {
     if found.is_done() {
         return found;
@@ -135,8 +135,8 @@ fn walk_parameters<'b, 'a>(
     }
     found.with(
         at.then(Step::Parameters),
-        Content::Parameters(a, b),
-        Content::Parameters(b, a),
+        Content::Parameters(Members::new(a), Members::new(b)),
+        Content::Parameters(Members::new(b), Members::new(a)),
     )
 }
 
@@ -149,7 +149,7 @@ pub(crate) fn walk_geoid_models<'b, 'a>(
     level: Level,
 ) -> Found<'b, 'a>
     requires { length at.now < 5 }
-    ensures { Walked (sets (at.now ▸ step.Geoid) (SameGeoidModel level) content.geoid_models a.now b.now) found.entry result }
+    ensures { Walked (sets (at.now ▸ step.Geoid) (SameGeoidModel level) content.GeoidModels a.now b.now) found.entry result }
 {
     if found.is_done() {
         return found;
@@ -159,8 +159,8 @@ pub(crate) fn walk_geoid_models<'b, 'a>(
     }
     found.with(
         at.then(Step::Geoid),
-        Content::GeoidModels(a, b),
-        Content::GeoidModels(b, a),
+        Content::GeoidModels(Members::new(a), Members::new(b)),
+        Content::GeoidModels(Members::new(b), Members::new(a)),
     )
 }
 

@@ -1,12 +1,13 @@
 //! Dynamic parts of CRSs.
 ghost use Rattle.std.specs.Prelude.{◌≡◌, ◌<◌, ◌≤◌, ◌↔◌, IsTrue, None, length};
+ghost use Rattle.crs_same.specs.declared.content.Content.TheVariants as content;
 ghost use Rattle.crs_same.specs.declared.step.Step.TheVariants as step;
 ghost use Rattle.crs_same.specs.Parts.{◌▸◌};
-ghost use Rattle.std.specs.Option.{option_copied};
+ghost use Rattle.std.specs.Option.{option_and_then, option_copied, option_map};
 ghost use Rattle.crs_same.specs.PartsOfCrs.{parts_of_dynamic};
 ghost use Rattle.crs_same.specs.SameCrs.{SameDynamic};
 ghost use Rattle.crs_same.specs.SameDynamic.{SameDeformationModel};
-ghost use Rattle.crs_same.specs.SingleParts.{models};
+ghost use Rattle.crs_same.specs.SingleParts.{optional};
 ghost use Rattle.crs_same.specs.Walked.{Walked};
 ghost use Rattle.crs_same.specs.Sets.{BothOrNeither};
 
@@ -17,6 +18,7 @@ use crate::numbers::same_value;
 use crate::path::Path;
 use crate::step::Step;
 use crate::texts::same_text;
+use crs_decimal::Decimal;
 use crs_value::{DeformationModel, Dynamic, Level};
 
 /// Whether two deformation models are the same: name and identifiers. ISO 19162:2019, "Deformation model".
@@ -62,7 +64,8 @@ fn walk_models<'b, 'a>(
     level: Level,
 ) -> Found<'b, 'a>
     requires { length at.now < 5 }
-    ensures { Walked (models (at.now ▸ step.Model) level (option_copied a.entry) (option_copied b.entry)) found.entry result }
+    ensures { Walked (optional (at.now ▸ step.Model) (SameDeformationModel level) content.Model
+        (option_copied a.entry) (option_copied b.entry)) found.entry result }
 {
     if found.is_done() {
         return found;
@@ -77,6 +80,24 @@ fn walk_models<'b, 'a>(
     )
 }
 
+fn epoch_of(dynamic: &Option<Dynamic<'_>>) -> Option<Decimal>
+    ensures { result ≡ option_map (λ d. d.epoch) dynamic.now }
+{
+    match dynamic {
+        None => None,
+        Some(dynamic) => Some(dynamic.epoch),
+    }
+}
+
+fn model_of<'b, 'a>(dynamic: &'b Option<Dynamic<'a>>) -> Option<&'b DeformationModel<'a>>
+    ensures { option_copied result ≡ option_and_then (λ d. d.model) dynamic.entry.now }
+{
+    match dynamic {
+        None => None,
+        Some(dynamic) => dynamic.model.as_ref(),
+    }
+}
+
 #[tactic(auto, unfolding(crate::specs::PartsOfCrs::parts_of_dynamic))]
 pub(crate) fn walk_dynamic<'b, 'a>(
     found: Found<'b, 'a>,
@@ -88,21 +109,6 @@ pub(crate) fn walk_dynamic<'b, 'a>(
     requires { length at ≤ 4 }
     ensures { Walked (parts_of_dynamic at level a.now b.now) found.entry result }
 {
-    match (a, b) {
-        (None, None) => found,
-        (Some(x), Some(y)) => {
-            let found = found.number(&at, Step::Epoch, &x.epoch, &y.epoch);
-            walk_models(found, &at, x.model.as_ref(), y.model.as_ref(), level)
-        }
-        (None, Some(y)) => {
-            let epoch = Content::Number(y.epoch);
-            let found = found.alone(&at, Step::Epoch, Content::Nothing, epoch);
-            walk_models(found, &at, None, y.model.as_ref(), level)
-        }
-        (Some(x), None) => {
-            let epoch = Content::Number(x.epoch);
-            let found = found.alone(&at, Step::Epoch, epoch, Content::Nothing);
-            walk_models(found, &at, x.model.as_ref(), None, level)
-        }
-    }
+    let found = found.optional_number(&at, Step::Epoch, &epoch_of(a), &epoch_of(b));
+    walk_models(found, &at, model_of(a), model_of(b), level)
 }

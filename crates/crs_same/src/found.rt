@@ -1,18 +1,18 @@
 //! What a walk over the parts of two values finds: the first part that differs, or all.
 ghost use Rattle.std.specs.Prelude.{◌≡◌, ◌<◌, ◌++◌, ◌∷◌, ◌↔◌, [], IfOk, IsTrue, List, None, Option, length};
 ghost use Rattle.std.specs.Option.{option_copied};
-ghost use Rattle.crs_value.specs.Kept.{kept};
 ghost use Rattle.crs_same.specs.declared.step.Step.{Step};
 ghost use Rattle.crs_same.specs.declared.step.Step.TheVariants as step;
 ghost use Rattle.crs_same.specs.declared.found.Found.TheVariants as found;
+ghost use Rattle.crs_same.specs.Contents.{length_unit};
 ghost use Rattle.crs_same.specs.Parts.{◌▸◌, part};
-ghost use Rattle.crs_same.specs.Shown.{content_of};
-ghost use Rattle.crs_same.specs.SingleParts.{texts, optional_texts, unlike, numbers, optional_numbers, lengths, units};
+ghost use Rattle.crs_same.specs.SingleParts.{texts, optional_texts, unlike, numbers, optional_numbers, units};
 ghost use Rattle.crs_same.specs.SingleParts.{identifiers};
+ghost use Rattle.crs_same.specs.SameUnits.{SameLength};
 ghost use Rattle.crs_same.specs.Walked.{IsDone, IsOfAll, Told, Walked};
 
-use crate::content::Content;
-use crate::idents::same_idents;
+use crate::content::{Content, Members};
+use crate::idents::same_kept_idents;
 use crate::numbers::{same_optional_value, same_value};
 use crate::path::Path;
 use crate::step::Step;
@@ -33,11 +33,10 @@ pub struct Difference<'b, 'a> {
 
 impl<'b, 'a> Model for Difference<'b, 'a> {
     ghost use Rattle.crs_same.specs.Parts.{DifferenceParts};
-    ghost use Rattle.crs_same.specs.Shown.{content_of};
 
     ghost Value = { DifferenceParts };
 
-    ghost view = { λ d. record { path = d.path; first = content_of d.first; second = content_of d.second } };
+    ghost view = { λ d. record { path = d.path; first = d.first; second = d.second } };
 }
 
 impl<'b, 'a> Difference<'b, 'a> {
@@ -50,20 +49,20 @@ impl<'b, 'a> Difference<'b, 'a> {
 
     /// What stands there in the first CRS.
     pub fn first(&self) -> &Content<'b, 'a>
-        ensures { content_of result.now ≡ self.now.first }
+        ensures { result.now ≡ self.now.first }
     {
         &self.first
     }
 
     /// What stands there in the second CRS.
     pub fn second(&self) -> &Content<'b, 'a>
-        ensures { content_of result.now ≡ self.now.second }
+        ensures { result.now ≡ self.now.second }
     {
         &self.second
     }
 
     fn new(path: Path, first: Content<'b, 'a>, second: Content<'b, 'a>) -> Difference<'b, 'a>
-        ensures { result ≡ record { path = path; first = content_of first.entry; second = content_of second.entry } }
+        ensures { result ≡ record { path = path; first = first.entry; second = second.entry } }
     {
         Difference {
             path,
@@ -194,7 +193,7 @@ impl<'b, 'a> Found<'b, 'a> {
         second: Content<'b, 'a>,
     ) -> Found<'b, 'a>
         requires { ¬ IsDone self }
-        ensures { Told path (content_of first.entry) (content_of second.entry) self.entry result }
+        ensures { Told path (first.entry) (second.entry) self.entry result }
     {
         match self {
             Found::All(differences) => match differences.with(Difference::new(
@@ -235,7 +234,7 @@ impl<'b, 'a> Found<'b, 'a> {
         second: Content<'b, 'a>,
     ) -> Found<'b, 'a>
         requires { length at.now < 5 }
-        ensures { Walked (part (at.now ▸ step) ⊥ (content_of first.entry) (content_of second.entry)) self.entry result }
+        ensures { Walked (part (at.now ▸ step) ⊥ (first.entry) (second.entry)) self.entry result }
     {
         if self.is_done() {
             return self;
@@ -328,7 +327,7 @@ impl<'b, 'a> Found<'b, 'a> {
         b: &'b Option<Unit<'a>>,
     ) -> Found<'b, 'a>
         requires { length at.now < 5 }
-        ensures { Walked (lengths (at.now ▸ step.Unit) level a.now b.now) self.entry result }
+        ensures { Walked (part (at.now ▸ step.Unit) (SameLength level a.now b.now) (length_unit a.now) (length_unit b.now)) self.entry result }
     {
         if self.is_done() {
             return self;
@@ -371,7 +370,6 @@ impl<'b, 'a> Found<'b, 'a> {
     }
 
     // The identifiers that the level keeps.
-    #[tactic(auto, using(crate::proofs::WalkedLemmas::walked_rules))]
     pub(crate) fn identifiers(
         self,
         at: &Path,
@@ -382,18 +380,32 @@ impl<'b, 'a> Found<'b, 'a> {
         requires { length at.now < 5 }
         ensures { Walked (identifiers (at.now ▸ step.Id) level a.now b.now) self.entry result }
     {
+        self.identifiers_of(at, level, a.as_slice(), b.as_slice())
+    }
+
+    #[tactic(auto, using(crate::proofs::WalkedLemmas::walked_rules))]
+    pub(crate) fn identifiers_of(
+        self,
+        at: &Path,
+        level: Level,
+        a: &'b [Ident<'a>],
+        b: &'b [Ident<'a>],
+    ) -> Found<'b, 'a>
+        requires { length at.now < 5 }
+        ensures { Walked (identifiers (at.now ▸ step.Id) level a.now b.now) self.entry result }
+    {
         if self.is_done() {
             return self;
         }
-        if same_idents(a, b, level) {
+        if same_kept_idents(a, b, level) {
             return self;
         }
-        let these = level.kept(a.as_slice());
-        let others = level.kept(b.as_slice());
+        let these = level.kept(a);
+        let others = level.kept(b);
         self.with(
             at.then(Step::Id),
-            Content::Identifiers(these, others),
-            Content::Identifiers(others, these),
+            Content::Identifiers(Members::new(these), Members::new(others)),
+            Content::Identifiers(Members::new(others), Members::new(these)),
         )
     }
 }

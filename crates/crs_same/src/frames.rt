@@ -1,24 +1,22 @@
 //! Ellipsoids, prime meridians, reference frames and ensembles.
 ghost use Rattle.std.specs.Prelude.{◌≡◌, ◌<◌, ◌≤◌, ◌↔◌, ◌⊎◌, [], IsTrue, None, length};
-ghost use Rattle.crs_decimal.specs.Value.{zero};
 ghost use Rattle.crs_value.specs.declared.values.frame.Frame.TheVariants as frame;
 ghost use Rattle.crs_value.specs.declared.values.unit_kind.UnitKind.TheVariants as kinds;
-ghost use Rattle.crs_value.specs.Kept.{kept};
+ghost use Rattle.crs_same.specs.declared.content.Content.TheVariants as content;
 ghost use Rattle.crs_same.specs.declared.step.Step.TheVariants as step;
 ghost use Rattle.crs_same.specs.Contents.{given};
-ghost use Rattle.crs_same.specs.Contents as content;
 ghost use Rattle.crs_same.specs.Parts.{◌▸◌, part};
 ghost use Rattle.crs_same.specs.PartsOfFrames.{parts_of_ellipsoid, parts_of_ellipsoids, parts_of_given, datum_word};
-ghost use Rattle.crs_same.specs.PartsOfFrames.{parts_before_greenwich, parts_behind_greenwich, parts_of_meridian};
+ghost use Rattle.crs_same.specs.PartsOfFrames.{or_greenwich, parts_of_meridian};
 ghost use Rattle.crs_same.specs.PartsOfFrames.{parts_of_datum, parts_of_ensemble, parts_of_frame};
 ghost use Rattle.crs_same.specs.SingleParts.{sets};
 ghost use Rattle.crs_same.specs.Walked.{Walked};
 ghost use Rattle.crs_same.specs.Sets.{BothOrNeither, SameSet};
-ghost use Rattle.crs_same.specs.SameUnits.{SameUnit, HasNoIdents};
+ghost use Rattle.crs_same.specs.SameUnits.{SameUnit};
 ghost use Rattle.crs_same.specs.Parts.{AreSame};
 ghost use Rattle.crs_same.specs.SameFrames.{IsZero, SameMember};
 
-use crate::content::Content;
+use crate::content::{Content, Members};
 use crate::found::Found;
 use crate::idents::same_idents;
 use crate::keys::key_of_named;
@@ -27,7 +25,7 @@ use crate::path::Path;
 use crate::sets::{Member as SetMember, same_set};
 use crate::step::Step;
 use crate::texts::same_text;
-use crate::units::{has_no_idents, same_units_as};
+use crate::units::same_units_as;
 use crs_decimal::Decimal;
 use crs_value::{
     Datum, Ellipsoid, Ensemble, Frame, Ident, Level, List, Member, Meridian, UnitKind,
@@ -105,7 +103,7 @@ fn walk_meridian_units<'b, 'a>(
     ensures { Walked (part (at.now ▸ step.Unit)
         (IsZero a.now.longitude ⊎ IsZero b.now.longitude
         ⊎ BothOrNeither (SameUnit kinds.Angle level) a.now.unit b.now.unit)
-        (given (content.unit kinds.Angle) a.now.unit) (given (content.unit kinds.Angle) b.now.unit)) found.entry result }
+        (given (content.Unit kinds.Angle) a.now.unit) (given (content.Unit kinds.Angle) b.now.unit)) found.entry result }
 {
     if found.is_done() {
         return found;
@@ -136,112 +134,10 @@ fn walk_given<'b, 'a>(
     found.identifiers(&at, level, &a.identifiers, &b.identifiers)
 }
 
-// A written longitude before that of Greenwich.
-#[tactic(auto, using(crate::proofs::WalkedLemmas::walked_rules))]
-fn walk_longitude_before<'b, 'a>(
-    found: Found<'b, 'a>,
-    at: &Path,
-    longitude: &Decimal,
-) -> Found<'b, 'a>
-    requires { length at.now < 5 }
-    ensures { Walked (part (at.now ▸ step.Longitude) (IsZero longitude.now)
-        (content.number longitude.now) (content.number zero)) found.entry result }
-{
-    if found.is_done() {
-        return found;
-    }
-    if longitude.is_whole(0) {
-        return found;
-    }
-    found.with(
-        at.then(Step::Longitude),
-        Content::Number(*longitude),
-        Content::Zero,
-    )
-}
-
-// A written longitude behind that of Greenwich.
-#[tactic(auto, using(crate::proofs::WalkedLemmas::walked_rules))]
-fn walk_longitude_behind<'b, 'a>(
-    found: Found<'b, 'a>,
-    at: &Path,
-    longitude: &Decimal,
-) -> Found<'b, 'a>
-    requires { length at.now < 5 }
-    ensures { Walked (part (at.now ▸ step.Longitude) (IsZero longitude.now)
-        (content.number zero) (content.number longitude.now)) found.entry result }
-{
-    if found.is_done() {
-        return found;
-    }
-    if longitude.is_whole(0) {
-        return found;
-    }
-    found.with(
-        at.then(Step::Longitude),
-        Content::Zero,
-        Content::Number(*longitude),
-    )
-}
-
 fn no_identifiers<'b, 'a>() -> &'b [Ident<'a>]
     ensures { result.now ≡ [] }
 {
     &[]
-}
-
-// Identifiers, and none behind them.
-#[tactic(auto, using(crate::proofs::WalkedLemmas::walked_rules))]
-fn walk_no_idents_behind<'b, 'a>(
-    found: Found<'b, 'a>,
-    at: &Path,
-    identifiers: &'b List<Ident<'a>>,
-    level: Level,
-) -> Found<'b, 'a>
-    requires { length at.now < 5 }
-    ensures { Walked (part (at.now ▸ step.Id) (HasNoIdents level identifiers.now)
-        (content.identifiers (kept level identifiers.now) []) (content.identifiers [] (kept level identifiers.now))) found.entry result }
-{
-    if found.is_done() {
-        return found;
-    }
-    if has_no_idents(identifiers, level) {
-        return found;
-    }
-    let these = level.kept(identifiers.as_slice());
-    let none = no_identifiers();
-    found.with(
-        at.then(Step::Id),
-        Content::Identifiers(these, none),
-        Content::Identifiers(none, these),
-    )
-}
-
-// No identifiers, and some behind them.
-#[tactic(auto, using(crate::proofs::WalkedLemmas::walked_rules))]
-fn walk_no_idents_before<'b, 'a>(
-    found: Found<'b, 'a>,
-    at: &Path,
-    identifiers: &'b List<Ident<'a>>,
-    level: Level,
-) -> Found<'b, 'a>
-    requires { length at.now < 5 }
-    ensures { Walked (part (at.now ▸ step.Id) (HasNoIdents level identifiers.now)
-        (content.identifiers [] (kept level identifiers.now)) (content.identifiers (kept level identifiers.now) [])) found.entry result }
-{
-    if found.is_done() {
-        return found;
-    }
-    if has_no_idents(identifiers, level) {
-        return found;
-    }
-    let these = level.kept(identifiers.as_slice());
-    let none = no_identifiers();
-    found.with(
-        at.then(Step::Id),
-        Content::Identifiers(none, these),
-        Content::Identifiers(these, none),
-    )
 }
 
 // A written prime meridian before a missing one, which is Greenwich.
@@ -252,11 +148,16 @@ fn walk_before_greenwich<'b, 'a>(
     level: Level,
 ) -> Found<'b, 'a>
     requires { length at ≤ 4 }
-    ensures { Walked (parts_before_greenwich at level meridian.now) found.entry result }
+    ensures { Walked (parts_of_given at level meridian.now (or_greenwich None)) found.entry result }
 {
     let found = found.text(&at, Step::Name, meridian.name, b"Greenwich");
-    let found = walk_longitude_before(found, &at, &meridian.longitude);
-    walk_no_idents_behind(found, &at, &meridian.identifiers, level)
+    let found = found.number(&at, Step::Longitude, &meridian.longitude, &Decimal::zero());
+    found.identifiers_of(
+        &at,
+        level,
+        meridian.identifiers.as_slice(),
+        no_identifiers(),
+    )
 }
 
 // A missing prime meridian before a written one.
@@ -267,11 +168,16 @@ fn walk_behind_greenwich<'b, 'a>(
     level: Level,
 ) -> Found<'b, 'a>
     requires { length at ≤ 4 }
-    ensures { Walked (parts_behind_greenwich at level meridian.now) found.entry result }
+    ensures { Walked (parts_of_given at level (or_greenwich None) meridian.now) found.entry result }
 {
     let found = found.text(&at, Step::Name, b"Greenwich", meridian.name);
-    let found = walk_longitude_behind(found, &at, &meridian.longitude);
-    walk_no_idents_before(found, &at, &meridian.identifiers, level)
+    let found = found.number(&at, Step::Longitude, &Decimal::zero(), &meridian.longitude);
+    found.identifiers_of(
+        &at,
+        level,
+        no_identifiers(),
+        meridian.identifiers.as_slice(),
+    )
 }
 
 #[tactic(auto, unfolding(crate::specs::PartsOfFrames::parts_of_meridian))]
@@ -344,7 +250,7 @@ fn walk_members<'b, 'a>(
     level: Level,
 ) -> Found<'b, 'a>
     requires { length at.now < 5 }
-    ensures { Walked (sets (at.now ▸ step.Members) (SameMember level) content.members a.now b.now) found.entry result }
+    ensures { Walked (sets (at.now ▸ step.Members) (SameMember level) content.Members a.now b.now) found.entry result }
 {
     if found.is_done() {
         return found;
@@ -354,8 +260,8 @@ fn walk_members<'b, 'a>(
     }
     found.with(
         at.then(Step::Members),
-        Content::Members(a, b),
-        Content::Members(b, a),
+        Content::Members(Members::new(a), Members::new(b)),
+        Content::Members(Members::new(b), Members::new(a)),
     )
 }
 

@@ -46,8 +46,14 @@ fn same_ident_set<'a>(a: &[Ident<'a>], b: &[Ident<'a>]) -> bool
 }
 
 // The identifiers that the level keeps of a part.
+pub(crate) fn same_kept_idents<'a>(a: &[Ident<'a>], b: &[Ident<'a>], level: Level) -> bool
+    ensures { IsTrue result ↔ SameIdents level a.now b.now }
+{
+    same_ident_set(level.kept(a), level.kept(b))
+}
+
 pub(crate) fn same_idents<'a>(a: &List<Ident<'a>>, b: &List<Ident<'a>>, level: Level) -> bool
     ensures { IsTrue result ↔ SameIdents level a.now b.now }
 {
-    same_ident_set(level.kept(a.as_slice()), level.kept(b.as_slice()))
+    same_kept_idents(a.as_slice(), b.as_slice(), level)
 }

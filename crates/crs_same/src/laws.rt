@@ -68,6 +68,7 @@ pub fn parts_agree_where_same()
 {
     zero_is_one_number();
     as_many_axes();
+    one_axis_each();
 }
 
 // ---- sameness is an equivalence
@@ -103,7 +104,6 @@ pub fn same_unit_is_equivalence()
 pub fn same_length_is_equivalence()
     ensures { (level : Level) → IsSameness (SameLength level) }
 {
-    same_value_is_equivalence();
     same_unit_is_equivalence();
 }
 

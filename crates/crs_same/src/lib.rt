@@ -22,7 +22,7 @@ mod texts;
 mod units;
 mod usages;
 
-pub use content::{Content, Text, Usages};
+pub use content::{Borrowed, Content, Members, Text, Usages};
 pub use crs::{differences, first_part, same};
 pub use found::{Difference, Differences};
 pub use path::Path;

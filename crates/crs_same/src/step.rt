@@ -1,6 +1,6 @@
 //! The steps of a path.
 ghost use Rattle.std.specs.Prelude.{◌≡◌, ◌++◌, length, take, OnOk};
-ghost use Rattle.crs_same.specs.Paths.{step_word, step_text};
+ghost use Rattle.crs_same.specs.Paths.{step_digits, step_text};
 
 use itoa::Buffer;
 use std::alloc::AllocError;
@@ -75,7 +75,7 @@ pub enum Step {
 impl Step {
     // The word of any step but an axis, whose position follows its word.
     fn word(self) -> &'static str
-        ensures { result.now ≡ step_word self }
+        ensures { step_text self ≡ result.now ++ step_digits self }
     {
         match self {
             Step::Kind => "kind",

@@ -1,22 +1,20 @@
 //! Axes and coordinate systems.
-ghost use Rattle.std.specs.Prelude.{◌≡◌, ◌↔◌, ◌<◌, ◌≤◌, length, max, ⊤, IsTrue, IfSome, IfNone};
+ghost use Rattle.std.specs.Prelude.{◌≡◌, ◌↔◌, ◌<◌, ◌≤◌, length, max, IsTrue};
 ghost use Rattle.std.specs.Option.{option_copied};
 ghost use Rattle.crs_value.specs.Words.{direction_word, system_word};
+ghost use Rattle.crs_same.specs.declared.content.Content.TheVariants as content;
 ghost use Rattle.crs_same.specs.declared.step.Step.TheVariants as step;
-ghost use Rattle.crs_same.specs.Contents.{given};
-ghost use Rattle.crs_same.specs.Contents as content;
-ghost use Rattle.crs_same.specs.Parts.{◌▸◌, part, within};
-ghost use Rattle.crs_same.specs.SingleParts.{words};
+ghost use Rattle.crs_same.specs.Parts.{◌▸◌};
+ghost use Rattle.crs_same.specs.SingleParts.{words, optional, nodes};
 ghost use Rattle.crs_same.specs.Walked.{Walked};
 ghost use Rattle.crs_same.specs.Sets.{BothOrNeither};
-ghost use Rattle.crs_same.specs.PartsOfSystems.{parts_of_axis, StandsAt, StandAt, parts_at, parts_of_axes};
+ghost use Rattle.crs_same.specs.PartsOfSystems.{parts_of_axis, StandsAt, parts_at, parts_of_axes};
 ghost use Rattle.crs_same.specs.PartsOfSystems.{parts_of_system};
-ghost use Rattle.crs_same.specs.SameSystems.{SameAxisMeridian, SameAxisAlone, IsPositionOf, HasAt};
+ghost use Rattle.crs_same.specs.SameSystems.{SameAxisMeridian, SameAxisAlone, IsPositionOf};
 
 use crate::content::Content;
 use crate::found::Found;
 use crate::idents::same_idents;
-use crate::laws;
 use crate::numbers::{same_optional_value, same_value};
 use crate::path::Path;
 use crate::step::Step;
@@ -108,8 +106,8 @@ fn walk_axis_meridians<'b, 'a>(
     level: Level,
 ) -> Found<'b, 'a>
     requires { length at.now < 5 }
-    ensures { Walked (part (at.now ▸ step.Meridian) (BothOrNeither (SameAxisMeridian level) a.now b.now)
-        (given content.meridian a.now) (given content.meridian b.now)) found.entry result }
+    ensures { Walked (optional (at.now ▸ step.Meridian) (SameAxisMeridian level) content.Meridian a.now b.now)
+        found.entry result }
 {
     if found.is_done() {
         return found;
@@ -160,10 +158,9 @@ fn is_at(position: u64, place: u64, order: Option<Decimal>) -> bool
     }
 }
 
-// The axis at this position.
+// The axis at this position, if there is one.
 fn axis_at<'b, 'a>(axes: &'b [Axis<'a>], position: u64) -> Option<&'b Axis<'a>>
-    ensures at { IfSome (option_copied result) (λ axis. HasAt position (λ x. x ≡ axis) 1 axes.entry.now) }
-    ensures none { IfNone result (¬ (HasAt position (λ x. ⊤) 1 axes.entry.now)) }
+    ensures { StandsAt position axes.entry.now (option_copied result) }
 {
     let mut place = 1;
     for axis in axes {
@@ -175,72 +172,29 @@ fn axis_at<'b, 'a>(axes: &'b [Axis<'a>], position: u64) -> Option<&'b Axis<'a>>
     None
 }
 
-// The name of the axis at this position of the first system alone.
-fn walk_first_alone<'b, 'a>(
-    found: Found<'b, 'a>,
-    at: Path,
-    a: &'b System<'a>,
-    position: u64,
-) -> Found<'b, 'a>
-    requires room { length at ≤ 4 }
-    requires position { 1 ≤ position }
-    requires in_first { position ≤ length a.now.axes }
-    ensures { Walked (within (StandsAt position a.now.axes) (λ axis. part (at ▸ step.Name) ⊥
-        (content.text axis.name) content.nothing)) found.entry result }
-{
-    laws::one_axis_each();
-    match axis_at(a.axes.as_slice(), position) {
-        Some(x) => found.alone(&at, Step::Name, Content::text(x.name), Content::Nothing),
-        None => unreachable!(),
-    }
-}
-
-// The name of the axis at this position of the second system alone.
-fn walk_second_alone<'b, 'a>(
-    found: Found<'b, 'a>,
-    at: Path,
-    b: &'b System<'a>,
-    position: u64,
-) -> Found<'b, 'a>
-    requires room { length at ≤ 4 }
-    requires position { 1 ≤ position }
-    requires in_second { position ≤ length b.now.axes }
-    ensures { Walked (within (StandsAt position b.now.axes) (λ axis. part (at ▸ step.Name) ⊥
-        content.nothing (content.text axis.name))) found.entry result }
-{
-    laws::one_axis_each();
-    match axis_at(b.axes.as_slice(), position) {
-        Some(y) => found.alone(&at, Step::Name, Content::Nothing, Content::text(y.name)),
-        None => unreachable!(),
-    }
-}
-
-// The parts of the axes that stand at this position in both.
+// The parts of two axes of which each may be missing.
 fn walk_both<'b, 'a>(
     found: Found<'b, 'a>,
     at: Path,
     a: &'b System<'a>,
     b: &'b System<'a>,
-    position: u64,
+    x: Option<&'b Axis<'a>>,
+    y: Option<&'b Axis<'a>>,
     level: Level,
 ) -> Found<'b, 'a>
-    requires room { length at ≤ 4 }
-    requires position { 1 ≤ position }
-    requires in_first { position ≤ length a.now.axes }
-    requires in_second { position ≤ length b.now.axes }
-    ensures { Walked (within (StandAt position a.now b.now)
-        (λ axes. parts_of_axis at level a.now b.now axes.0 axes.1)) found.entry result }
+    requires { length at ≤ 4 }
+    ensures { Walked (nodes at (λ axis. axis.name) (parts_of_axis at level a.now b.now)
+        (option_copied x.entry) (option_copied y.entry)) found.entry result }
 {
-    laws::one_axis_each();
-    let x = axis_at(a.axes.as_slice(), position);
-    let y = axis_at(b.axes.as_slice(), position);
     match (x, y) {
+        (None, None) => found,
         (Some(x), Some(y)) => walk_axis(found, at, a, b, x, y, level),
-        _ => unreachable!(),
+        (None, Some(y)) => found.alone(&at, Step::Name, Content::Nothing, Content::text(y.name)),
+        (Some(x), None) => found.alone(&at, Step::Name, Content::text(x.name), Content::Nothing),
     }
 }
 
-// The parts of the axes at this position, where each system has one or only one of them has.
+// The parts of the axes at this position.
 fn walk_at<'b, 'a>(
     found: Found<'b, 'a>,
     at: Path,
@@ -249,19 +203,12 @@ fn walk_at<'b, 'a>(
     position: u64,
     level: Level,
 ) -> Found<'b, 'a>
-    requires room { length at ≤ 3 }
-    requires position { 1 ≤ position }
-    requires in_one { position ≤ max (length a.now.axes) (length b.now.axes) }
+    requires { length at ≤ 4 }
     ensures { Walked (parts_at at level a.now b.now position) found.entry result }
 {
-    let at = at.then(Step::Axis(position));
-    if position <= axis_count(a) {
-        if position <= axis_count(b) {
-            return walk_both(found, at, a, b, position, level);
-        }
-        return walk_first_alone(found, at, a, position);
-    }
-    walk_second_alone(found, at, b, position)
+    let x = axis_at(a.axes.as_slice(), position);
+    let y = axis_at(b.axes.as_slice(), position);
+    walk_both(found, at, a, b, x, y, level)
 }
 
 fn axis_count(system: &System<'_>) -> u64
@@ -282,7 +229,8 @@ fn walk_axes<'b, 'a>(
 {
     let mut found = found;
     for index in 0..axis_count(a).max(axis_count(b)) {
-        found = walk_at(found, at.copied(), a, b, index + 1, level);
+        let position = index + 1;
+        found = walk_at(found, at.then(Step::Axis(position)), a, b, position, level);
     }
     found
 }

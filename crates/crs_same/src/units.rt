@@ -1,14 +1,15 @@
 //! Units.
-ghost use Rattle.std.specs.Prelude.{◌≡◌, ◌↔◌, IsTrue};
+ghost use Rattle.std.specs.Prelude.{◌≡◌, ◌↔◌, IsTrue, None};
 ghost use Rattle.std.specs.Option.{option_copied};
 ghost use Rattle.crs_value.specs.declared.values.unit_kind.UnitKind.TheVariants as kinds;
 ghost use Rattle.crs_same.specs.Sets.{BothOrNeither};
-ghost use Rattle.crs_same.specs.SameUnits.{SameUnit, SameLength, IsMetre, HasNoIdents};
+ghost use Rattle.crs_same.specs.SameUnits.{SameUnit, SameLength, or_metre};
 
-use crate::idents::same_idents;
+use crate::idents::{same_idents, same_kept_idents};
+use crate::laws;
 use crate::numbers::same_value;
 use crate::texts::same_text;
-use crs_value::{Ident, Level, List, Unit, UnitKind};
+use crs_value::{Level, Unit, UnitKind};
 
 fn same_kind(a: UnitKind, b: UnitKind) -> bool
     ensures { IsTrue result ↔ (a ≡ b) }
@@ -49,28 +50,25 @@ pub(crate) fn same_units_as<'a>(
     }
 }
 
-pub(crate) fn has_no_idents(identifiers: &List<Ident<'_>>, level: Level) -> bool
-    ensures { IsTrue result ↔ HasNoIdents level identifiers.now }
-{
-    level.kept(identifiers.as_slice()).is_empty()
-}
-
+#[tactic(auto, unfolding(crate::specs::SameUnits::SameValue))]
 fn is_metre(unit: &Unit<'_>, level: Level) -> bool
-    ensures { IsTrue result ↔ IsMetre level unit.now }
+    ensures { IsTrue result ↔ SameUnit kinds.Length level unit.now (or_metre None) }
 {
     same_kind(unit.kind.as_asked(UnitKind::Length), UnitKind::Length)
         && same_text(unit.name, b"metre")
         && unit.factor.is_whole(1)
-        && has_no_idents(&unit.identifiers, level)
+        && same_kept_idents(unit.identifiers.as_slice(), &[], level)
 }
 
 // Of lengths: a missing unit is the metre.
 pub(crate) fn same_length<'a>(a: &Option<Unit<'a>>, b: &Option<Unit<'a>>, level: Level) -> bool
     ensures { IsTrue result ↔ SameLength level a.now b.now }
 {
+    laws::same_length_is_equivalence();
     match (a, b) {
         (None, None) => true,
-        (Some(unit), None) | (None, Some(unit)) => is_metre(unit, level),
+        (Some(x), None) => is_metre(x, level),
+        (None, Some(y)) => is_metre(y, level),
         (Some(x), Some(y)) => same_unit_as(UnitKind::Length, x, y, level),
     }
 }

@@ -3,8 +3,8 @@ ghost use Rattle.std.specs.Prelude.{◌≡◌, ◌<◌, ◌≤◌, ◌↔◌, Is
 ghost use Rattle.std.specs.Option.{option_copied};
 ghost use Rattle.crs_value.specs.declared.values.level.Level.{Level};
 ghost use Rattle.crs_value.specs.Kept.{kept};
+ghost use Rattle.crs_same.specs.declared.content.Content.TheVariants as content;
 ghost use Rattle.crs_same.specs.declared.step.Step.TheVariants as step;
-ghost use Rattle.crs_same.specs.Contents as content;
 ghost use Rattle.crs_same.specs.Parts.{◌▸◌};
 ghost use Rattle.crs_same.specs.PartsOfCrs.{parts_of_tail};
 ghost use Rattle.crs_same.specs.SingleParts.{sets};
@@ -271,7 +271,7 @@ fn walk_usages<'b, 'a>(
     level: Level,
 ) -> Found<'b, 'a>
     requires { length at.now < 5 }
-    ensures { Walked (sets (at.now ▸ step.Usage) SameUsage content.usages
+    ensures { Walked (sets (at.now ▸ step.Usage) SameUsage content.Usages
         (kept level (usages_of a.now)) (kept level (usages_of b.now))) found.entry result }
 {
     if found.is_done() {

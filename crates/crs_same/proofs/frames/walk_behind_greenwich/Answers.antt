@@ -1,7 +1,10 @@
-use Rattle.crs_same.proofs.WalkedLemmas.{◌⟫◌}
+use Rattle.std.proofs.Common.{refl, inl, rules}
+use Rattle.crs_same.proofs.WalkedLemmas.{same, via}
 use Rattle.crs_same.proofs.frames.walk_behind_greenwich.Goals as goal
 
 pub returns : goal.returns
 returns c =
-    rw (← c.meridian.view_is)
-    (c.text-found.ensures ⟫ c.walk_longitude_behind-found.ensures ⟫ c.walk_no_idents_before.ensures)
+    via c.text-found.result (rw (← c.meridian.view_is) c.text-found.ensures) (
+    via c.number-found.result (search rules) (
+    via c.number-found.result (same (inl (refl, inl refl)))
+    (search rules)))

@@ -1,6 +1,15 @@
 use Rattle.std.proofs.Common.{rules}
-use Rattle.crs_same.proofs.WalkedLemmas.{done}
+use Rattle.crs_same.specs.PartsOfFrames.{parts_of_meridian}
+use Rattle.crs_same.proofs.WalkedLemmas.{done, greenwiches}
 use Rattle.crs_same.proofs.frames.walk_meridian.Goals as goal
 
 pub returns-then-is_done : goal.returns-then-is_done
 returns-then-is_done c = done (search rules)
+
+pub returns-in-None-None : goal.returns-in-None-None
+unfolding parts_of_meridian
+returns-in-None-None c = rw (c.in-None-None.is-0, c.in-None-None.is-1) (greenwiches c.args.at c.args.level)
+
+pub returns-in-Some-Some : goal.returns-in-Some-Some
+unfolding parts_of_meridian
+returns-in-Some-Some c = rw (c.in-Some-Some.is-0, c.in-Some-Some.is-1) c.walk_given.ensures

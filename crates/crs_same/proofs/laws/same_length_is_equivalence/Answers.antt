@@ -4,4 +4,4 @@ use Rattle.crs_same.proofs.laws.same_length_is_equivalence.Goals as goal
 
 pub returns : goal.returns
 returns c level =
-    length level c.same_value_is_equivalence.ensures (c.same_unit_is_equivalence.ensures kinds.Length level)
+    length level (c.same_unit_is_equivalence.ensures kinds.Length level)
