@@ -1,4 +1,6 @@
+pub mod ContentLemmas
 pub mod EncloseLemmas
+pub mod LackingLemmas
 pub mod LevelLemmas
 pub mod MainLemmas
 pub mod PieceLemmas

@@ -46,7 +46,7 @@ module _ {V : Type 0} (IsSpelling : V → List ℕ → Type 0) where
       record { texts = p.texts; spelled = p.spelled; appended = e ∙ ap (λ k. before ++ write k) p.all_put }
 
   -- the spellings are those of the values
-  spellings-tell : (values : List V) (texts : List (List ℕ)) → AreSpellingsOf IsSpelling values texts →
+  pub spellings-tell : (values : List V) (texts : List (List ℕ)) → AreSpellingsOf IsSpelling values texts →
       (text : List ℕ) → IsIn text texts ↔ SpellsOneOf IsSpelling values text
   spellings-tell [] [] h text = (λ p. p, λ p. p)
   spellings-tell [] (t ∷ texts) h text = absurd h

@@ -1,4 +1,5 @@
 pub mod Canonical
+pub mod ContentText
 pub mod CrsText
 pub mod Equality
 pub mod EqualityLaws

@@ -1,5 +1,7 @@
 -- A bridge: sets as they are written: each spelling once, in ascending order.
-use Rattle.std.specs.Prelude.{◌≡◌, ◌↔◌, ℕ, List, [], ◌∷◌, ◌++◌, map, Vec}
+use Rattle.std.specs.Prelude.{◌≡◌, ◌↔◌, ℕ, not, List, [], ◌∷◌, ◌++◌, map, Vec}
+use Rattle.std.specs.List.{filter, list_any}
+use Rattle.std.specs.Str.{bytes_eq}
 use Rattle.std.specs.declared.alloc.Global.{Global}
 use Rattle.crs_normal.specs.Ordered.{in_order, put_all}
 use Rattle.crs_canon.specs.SetText.{commas}
@@ -11,6 +13,10 @@ set_text spellings = commas (in_order (λ bytes. bytes) spellings)
 -- the bytes of vectors
 abbrev pub spellings : List (Vec ℕ Global) → List (List ℕ)
 spellings vectors = map (λ v. v.items) vectors
+
+-- of these texts those that aren't among the others
+abbrev pub lacking : (these others : List (List ℕ)) → List (List ℕ)
+lacking these others = filter (λ text. not (list_any (bytes_eq text) others)) these
 
 -- ---- values of which each has one spelling
 

@@ -51,7 +51,7 @@ pub trait Canonical: Sized {
 }
 
 // Appends a text that was written behind a comma, without the comma.
-fn append_argument(out: &mut Vec<u8>, text: &[u8]) -> Result<(), AllocError>
+pub(crate) fn append_argument(out: &mut Vec<u8>, text: &[u8]) -> Result<(), AllocError>
     ensures { (bytes : List ℕ) → text.now ≡ 44 ∷ bytes → MatchResult result
         (λ _. out.new.items ≡ out.old.items ++ bytes)
         (λ _. out.new.items ≡ out.old.items) }

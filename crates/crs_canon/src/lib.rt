@@ -4,6 +4,8 @@
 mod answer;
 mod canon_text;
 mod canonical;
+mod content;
+mod lacking;
 pub mod laws;
 mod set;
 mod set_view;
@@ -12,4 +14,5 @@ mod spelling;
 pub use answer::{canon, canon_of};
 pub use canon_text::Canon;
 pub use canonical::Canonical;
+pub use content::write_content;
 pub use set_view::Set;

@@ -114,7 +114,7 @@ fn all_have_same<T: Canonical>(members: &[T], others: &[T], level: Level) -> boo
 }
 
 // Puts a member's spelling among the others.
-fn gather<T: Canonical>(
+pub(crate) fn gather<T: Canonical>(
     alloc: Global,
     sorted: &mut BTreeSet<Vec<u8>>,
     member: &T,
@@ -130,7 +130,7 @@ fn gather<T: Canonical>(
     Ok(())
 }
 
-fn gather_all<T: Canonical>(
+pub(crate) fn gather_all<T: Canonical>(
     alloc: Global,
     sorted: &mut BTreeSet<Vec<u8>>,
     members: &[T],
@@ -160,7 +160,7 @@ fn write_members<T: Canonical>(
 }
 
 // Members with a comma before each, without the first comma.
-fn append_members(out: &mut Vec<u8>, text: &[u8]) -> Result<(), AllocError>
+pub(crate) fn append_members(out: &mut Vec<u8>, text: &[u8]) -> Result<(), AllocError>
     ensures { (members : List (List ℕ)) → text.now ≡ commas members → MatchResult result
         (λ _. out.new.items ≡ out.old.items ++ comma_separated members)
         (λ _. out.new.items ≡ out.old.items) }

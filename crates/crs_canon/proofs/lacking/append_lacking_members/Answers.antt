@@ -1,0 +1,23 @@
+use Rattle.std.proofs.Common.{◌≡◌, [], rules, subst}
+use Rattle.crs_canon.specs.ContentText.{IsLackingText}
+use Rattle.crs_canon.specs.Members.{ArePut, lacking, spellings}
+use Rattle.crs_canon.specs.SetText.{comma_separated}
+use Rattle.crs_canon.proofs.LackingLemmas.{lacking-text}
+use Rattle.crs_canon.proofs.SpellingLemmas.{appended}
+use Rattle.crs_canon.proofs.lacking.append_lacking_members.Goals as goal
+
+pub returns : goal.returns
+returns g c =
+    let Spells = g.T.Canonical.IsSpelling c.args.level in
+    let law = c.texts_are_in_order.ensures in
+    let these = c.args.these.now in
+    let others = c.args.others.now in
+    let keys = spellings c.gather_all.new.sorted.keys in
+    let other_keys = spellings c.gather_all-2.new.sorted.keys in
+    let none : spellings c.new-sorted.result.keys ≡ [] = search rules in
+    let none_other : spellings c.new-other.result.keys ≡ [] = search rules in
+    appended (IsLackingText Spells these others) c.args.out.now.items c.append_lacking.new.out.items
+    (comma_separated (lacking keys other_keys)) c.append_lacking.result c.append_lacking.ensures
+    (lacking-text Spells law.ascend law.members these others keys other_keys
+    (subst (λ start. ArePut Spells these start keys) none c.in_ok-gather_all.ensures)
+    (subst (λ start. ArePut Spells others start other_keys) none_other c.in_ok-gather_all-2.ensures))

@@ -1,0 +1,147 @@
+//! What stands at a part of a CRS, as the canonical text writes it.
+ghost use Rattle.std.specs.Prelude.{◌≡◌, MatchResult, OnOk};
+ghost use Rattle.crs_value.specs.declared.values.level.Level.TheVariants as levels;
+ghost use Rattle.crs_same.specs.declared.content.Content.TheVariants as content;
+ghost use Rattle.crs_normal.specs.PartSpellings.{IsSpelledUsage};
+ghost use Rattle.crs_canon.specs.Canonical.{AppendsSpelling};
+ghost use Rattle.crs_canon.specs.ContentText.{IsContentText};
+ghost use Rattle.crs_canon.specs.Members.{ArePut, spellings};
+
+use crate::canonical::{Canonical, append_argument};
+use crate::lacking::{append_lacking, append_lacking_members};
+use crate::set_view::{gather, gather_all};
+use crate::spelling::texts::open_text;
+use crate::spelling::unit::write_unit;
+use crs_decimal::Decimal;
+use crs_normal::laws::{parts, sets};
+use crs_same::{Content, Usages};
+use crs_value::{Level, Unit, UnitKind};
+use std::alloc::{AllocError, Global};
+use std::collections::BTreeSet;
+
+// These bytes.
+fn append_bytes(out: &mut Vec<u8>, bytes: &[u8]) -> Result<(), AllocError>
+    ensures { MatchResult result
+        (λ _. AppendsSpelling (λ written. written ≡ bytes.now) out.old.items out.new.items)
+        (λ _. out.new.items ≡ out.old.items) }
+{
+    out.extend_from_slice(bytes)
+}
+
+// A text in quotes.
+fn append_text(alloc: Global, out: &mut Vec<u8>, text: &[u8]) -> Result<(), AllocError>
+    ensures { MatchResult result
+        (λ _. AppendsSpelling (IsContentText levels.Full (content.Text text.now)) out.old.items out.new.items)
+        (λ _. out.new.items ≡ out.old.items) }
+{
+    let mut quoted = Vec::new(alloc);
+    open_text(&mut quoted, b"\"", text)?;
+    out.extend_from_slice(quoted.as_slice())
+}
+
+fn append_number(out: &mut Vec<u8>, number: &Decimal) -> Result<(), AllocError>
+    ensures { MatchResult result
+        (λ _. AppendsSpelling (IsContentText levels.Full (content.Number number.now)) out.old.items out.new.items)
+        (λ _. out.new.items ≡ out.old.items) }
+{
+    number.write(out)
+}
+
+// Where this kind is asked.
+fn append_unit(
+    alloc: Global,
+    out: &mut Vec<u8>,
+    asked: UnitKind,
+    unit: &Unit<'_>,
+    level: Level,
+) -> Result<(), AllocError>
+    ensures { MatchResult result
+        (λ _. AppendsSpelling (IsContentText level (content.Unit asked unit.now)) out.old.items out.new.items)
+        (λ _. out.new.items ≡ out.old.items) }
+{
+    let _name = unit.name;
+    parts::units_are_canonical();
+    let mut text = Vec::new(alloc);
+    write_unit(&mut text, asked, unit, level)?;
+    append_argument(out, text.as_slice())
+}
+
+// Puts the spellings of usages among the others.
+fn gather_usages(
+    alloc: Global,
+    sorted: &mut BTreeSet<Vec<u8>>,
+    usages: &Usages<'_, '_>,
+    level: Level,
+) -> Result<(), AllocError>
+    ensures { OnOk result (ArePut (IsSpelledUsage level) usages.now
+        (spellings sorted.old.keys) (spellings sorted.new.keys)) }
+{
+    let (bare, others) = usages.parts();
+    match bare {
+        None => gather_all(alloc, sorted, others, level),
+        Some(usage) => {
+            gather(alloc, sorted, usage, level)?;
+            gather_all(alloc, sorted, others, level)
+        }
+    }
+}
+
+fn append_usages(
+    alloc: Global,
+    out: &mut Vec<u8>,
+    these: &Usages<'_, '_>,
+    others: &Usages<'_, '_>,
+    level: Level,
+) -> Result<(), AllocError>
+    ensures { MatchResult result
+        (λ _. AppendsSpelling (IsContentText level (content.Usages these.now others.now)) out.old.items out.new.items)
+        (λ _. out.new.items ≡ out.old.items) }
+{
+    sets::texts_are_in_order();
+    let mut sorted = BTreeSet::new(alloc);
+    gather_usages(alloc, &mut sorted, these, level)?;
+    let mut other = BTreeSet::new(alloc);
+    gather_usages(alloc, &mut other, others, level)?;
+    append_lacking(alloc, out, &sorted, &other)
+}
+
+/// Appends what stands at a part of a CRS, as the canonical text at a level writes it: nothing; a word; a text in its
+/// quotes; a number in its plain spelling; a node; or of a set the members of which the other CRS has no same one, each
+/// once, in ascending order of their bytes, a comma between two. A unit has the keyword of its kind, which where `UNIT`
+/// is written is the asked one. Profile.
+///
+/// `AllocError`: there is no memory for it, and `out` is as before.
+pub fn write_content(
+    content: &Content<'_, '_>,
+    alloc: Global,
+    level: Level,
+    out: &mut Vec<u8>,
+) -> Result<(), AllocError>
+    ensures { MatchResult result
+        (λ _. AppendsSpelling (IsContentText level content.now) out.old.items out.new.items)
+        (λ _. out.new.items ≡ out.old.items) }
+{
+    match content {
+        Content::Nothing => Ok(()),
+        Content::Word(word) => append_bytes(out, word.as_bytes()),
+        Content::Text(text) => append_text(alloc, out, text.as_bytes()),
+        Content::Number(number) => append_number(out, number),
+        Content::Unit(asked, unit) => append_unit(alloc, out, *asked, unit.get(), level),
+        Content::Metre => append_bytes(out, b"LENGTHUNIT[\"metre\",1]"),
+        Content::Meridian(meridian) => meridian.get().write(alloc, level, out),
+        Content::Model(model) => model.get().write(alloc, level, out),
+        Content::Identifiers(these, others) => {
+            append_lacking_members(alloc, out, these.as_slice(), others.as_slice(), level)
+        }
+        Content::Usages(these, others) => append_usages(alloc, out, these, others, level),
+        Content::Members(these, others) => {
+            append_lacking_members(alloc, out, these.as_slice(), others.as_slice(), level)
+        }
+        Content::Parameters(these, others) => {
+            append_lacking_members(alloc, out, these.as_slice(), others.as_slice(), level)
+        }
+        Content::GeoidModels(these, others) => {
+            append_lacking_members(alloc, out, these.as_slice(), others.as_slice(), level)
+        }
+    }
+}

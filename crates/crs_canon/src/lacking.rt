@@ -1,0 +1,67 @@
+//! The members of a set that another lacks.
+ghost use Rattle.std.specs.Prelude.{◌≡◌, ◌++◌, MatchResult, OnOk};
+ghost use Rattle.crs_canon.specs.Canonical.{AppendsSpelling};
+ghost use Rattle.crs_canon.specs.ContentText.{IsLackingText};
+ghost use Rattle.crs_canon.specs.Members.{lacking, spellings};
+ghost use Rattle.crs_canon.specs.SetText.{commas, comma_separated};
+
+use crate::canonical::Canonical;
+use crate::set_view::{append_members, gather_all};
+use crate::spelling::texts::append;
+use crs_normal::laws::sets;
+use crs_value::Level;
+use std::alloc::{AllocError, Global};
+use std::collections::BTreeSet;
+
+// A comma before each.
+fn write_lacking(
+    out: &mut Vec<u8>,
+    these: &BTreeSet<Vec<u8>>,
+    others: &BTreeSet<Vec<u8>>,
+) -> Result<(), AllocError>
+    ensures { OnOk result (out.new.items
+        ≡ out.old.items ++ commas (lacking (spellings these.now.keys) (spellings others.now.keys))) }
+{
+    for bytes in these.difference(others) {
+        append(out, b",")?;
+        append(out, bytes)?;
+    }
+    Ok(())
+}
+
+// The spellings that the others lack, where there is memory for them.
+pub(crate) fn append_lacking(
+    alloc: Global,
+    out: &mut Vec<u8>,
+    these: &BTreeSet<Vec<u8>>,
+    others: &BTreeSet<Vec<u8>>,
+) -> Result<(), AllocError>
+    ensures { MatchResult result
+        (λ _. out.new.items
+        ≡ out.old.items ++ comma_separated (lacking (spellings these.now.keys) (spellings others.now.keys)))
+        (λ _. out.new.items ≡ out.old.items) }
+{
+    let mut text = Vec::new(alloc);
+    write_lacking(&mut text, these, others)?;
+    append_members(out, text.as_slice())
+}
+
+// The members that the others lack, where there is memory for them.
+pub(crate) fn append_lacking_members<T: Canonical>(
+    alloc: Global,
+    out: &mut Vec<u8>,
+    these: &[T],
+    others: &[T],
+    level: Level,
+) -> Result<(), AllocError>
+    ensures { MatchResult result
+        (λ _. AppendsSpelling (IsLackingText (T.IsSpelling level) these.now others.now) out.old.items out.new.items)
+        (λ _. out.new.items ≡ out.old.items) }
+{
+    sets::texts_are_in_order();
+    let mut sorted = BTreeSet::new(alloc);
+    gather_all(alloc, &mut sorted, these, level)?;
+    let mut other = BTreeSet::new(alloc);
+    gather_all(alloc, &mut other, others, level)?;
+    append_lacking(alloc, out, &sorted, &other)
+}
