@@ -121,6 +121,33 @@ uint32_t crsdesk_same(const char *first, size_t first_length, const char *second
 uint32_t crsdesk_first_part(const char *first, size_t first_length, const char *second, size_t second_length,
                        uint32_t level, char *out, size_t room, size_t *length, struct crsdesk_refusal *refusal);
 
+/* All parts in which the CRSs of two texts differ at a level, in the order of the canonical text: a line each, with its
+   path, what stands there in the first and what in the second, and a line feed, as
+
+       datum/ellipsoid/flattening: 298.257223563 | 298.257222101
+
+   Nothing is written as `none`; of a set each side shows the members that the other lacks. Values are spelled as in the
+   canonical text; control characters and backslashes in quoted texts are escaped, as `\n` and `\\`. No lines exactly
+   where the CRSs are the same.
+
+   CRSDESK_OK: each text spells a CRS; the buffer begins with the lines, *length is their number of bytes.
+   CRSDESK_REFUSED: the first spells none; *refusal says why. The second wasn't judged.
+   CRSDESK_SECOND_REFUSED: the first spells a CRS and the second none; *refusal says why the second doesn't.
+   CRSDESK_NO_ROOM: the lines have more bytes than the buffer; *length is their number.
+   CRSDESK_NO_MEMORY, CRSDESK_NO_LEVEL. */
+uint32_t crsdesk_differences(const char *first, size_t first_length, const char *second, size_t second_length,
+                        uint32_t level, char *out, size_t room, size_t *length, struct crsdesk_refusal *refusal);
+
+/* Why a text spells no CRS, told to a person over some lines, each with a line feed: `refused N NAME at P, line L,
+   column C`; the piece of that line, and a caret under the place; for a refusal of shape `in NODE at P: found .., expected
+   ..`, with all that could stand there; for a refusal of the text which delimiter is open; what the number means; and a
+   hint where the text tells what it is. Room for 2,000 bytes does.
+
+   CRSDESK_OK: the buffer begins with the lines, *length is their number of bytes; 0 where the text spells a CRS.
+   CRSDESK_NO_ROOM: they have more bytes than the buffer; *length is their number.
+   CRSDESK_NO_MEMORY. */
+uint32_t crsdesk_explain(const char *text, size_t text_length, char *out, size_t room, size_t *length);
+
 /* The name of a refusal's number, as `UnknownKeyword`. Room for 16 bytes does.
 
    CRSDESK_OK: the buffer begins with the name; *length is its number of bytes.

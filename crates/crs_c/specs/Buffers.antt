@@ -1,5 +1,6 @@
 -- What stands in a buffer of the caller's behind a call.
 use Rattle.std.specs.Prelude.{◌≡◌, ◌++◌, ◌≤◌, ◌<◌, ◌⊎◌, ℕ, List, length, drop}
+use Rattle.crs_c.specs.Answers.{Answer}
 
 -- all that the buffer holds, and the length that is told
 pub record Buffer (A : Type 0) : Type 0 where
@@ -14,3 +15,8 @@ IsGiven answer old new code =
     × (new.items ≡ answer ++ drop (length answer) old.items) × (new.told ≡ length answer))
     ⊎ ((length old.items < length answer) × (code ≡ 5) × (new.items ≡ old.items)
     × (new.told ≡ length answer))
+
+-- bytes like these are given, with their code, and no refusal is told
+abbrev pub Gives : (List ℕ → Type 0) → Answer (Buffer ℕ)
+Gives Like old new code =
+    (bytes : List ℕ) × Like bytes × IsGiven bytes old.answer new.answer code × (new.refused ≡ old.refused)

@@ -1,16 +1,15 @@
 -- What crsdesk_canon answers.
-use Rattle.std.specs.Prelude.{◌≡◌, ◌⊎◌, ℕ, List}
+use Rattle.std.specs.Prelude.{◌⊎◌, ℕ, List}
 use Rattle.crs_value.specs.declared.values.level.Level.{Level}
 use Rattle.crs_canon.specs.Canonical.{IsCanonicalOf}
 use Rattle.crs_c.specs.Answers.{Answer, IsAtLevel, IsRefusedBy, IsWithoutMemory}
-use Rattle.crs_c.specs.Buffers.{Buffer, IsGiven}
+use Rattle.crs_c.specs.Buffers.{Buffer, Gives}
 
 -- the canonical text is given, with its code; the refusal with code 1; or code 3; what isn't said
 -- is as before
 unfoldable pub IsCanonAt : Level → List ℕ → Answer (Buffer ℕ)
 IsCanonAt level text old new code =
-    ((canonical : List ℕ) × IsCanonicalOf level text canonical
-    × IsGiven canonical old.answer new.answer code × (new.refused ≡ old.refused))
+    Gives (IsCanonicalOf level text) old new code
     ⊎ IsRefusedBy 1 text old new code ⊎ IsWithoutMemory old new code
 
 -- the canonical text at the level of this number, where there is such a level

@@ -5,6 +5,7 @@ use Rattle.crs_value.specs.declared.values.crs.Crs.{Crs}
 use Rattle.crs_value.specs.declared.values.level.Level.{Level}
 use Rattle.crs_value.specs.SpellsText.{Spells, IsFaultOfText}
 use Rattle.crs_same.specs.declared.step.Step.{Step}
+use Rattle.crs_explain.specs.Differing.{IsDifferencesText}
 use Rattle.crs_c.specs.FirstPart.{DiffersFirst}
 
 -- the text spells a CRS which differs from this one there first, by no words exactly where the CRSs
@@ -17,3 +18,7 @@ DiffersAt level a second path =
 abbrev pub IsFoundBehind : Level → List ℕ → Crs → Result (Option (List Step)) Fault → Type 0
 IsFoundBehind level second a found =
     MatchResult found (DiffersAt level a second) (IsFaultOfText second)
+
+-- the lines of all parts in which a CRS and that of a text differ
+abbrev pub AreLinesBehind : Level → List ℕ → Crs → List ℕ → Type 0
+AreLinesBehind level second a lines = (b : Crs) × Spells second b × IsDifferencesText level a b lines

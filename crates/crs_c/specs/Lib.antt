@@ -5,6 +5,7 @@ pub mod Catalogues
 pub mod Check
 pub mod Codes
 pub mod Compared
+pub mod Explain
 pub mod FirstPart
 pub mod Layout
 pub mod Names

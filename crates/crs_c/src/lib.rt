@@ -8,6 +8,8 @@ mod catalogue;
 mod check;
 mod codes;
 mod compared;
+mod differences;
+mod explain;
 mod first_part;
 mod holding;
 mod layout;
@@ -22,6 +24,8 @@ pub use catalogue::{
     crsdesk_catalogue_line, crsdesk_catalogue_new, crsdesk_catalogue_piece,
 };
 pub use check::crsdesk_check;
+pub use differences::crsdesk_differences;
+pub use explain::crsdesk_explain;
 pub use first_part::crsdesk_first_part;
 pub use layout::{
     Sizes, crsdesk_layout_line, crsdesk_layout_piece, crsdesk_layout_refusal, crsdesk_layout_sizes,

@@ -1,4 +1,4 @@
--- What `same` writes for two texts, and its status.
+-- What is written for two texts that are compared, what `same` writes, and the status.
 use Rattle.std.specs.Prelude.{◌++◌, ◌⊎◌, ℕ, List, Option, Some, None, codes}
 use Rattle.crs_text.specs.Refusal.{RefusedAt, refused_text}
 use Rattle.crs_value.specs.declared.values.crs.Crs.{Crs}
@@ -9,6 +9,22 @@ use Rattle.crs_same.specs.PartsOfCrs.{FirstInCrs}
 use Rattle.crs_same.specs.Paths.{path_text}
 use Rattle.crs_same.specs.SameCrs.{SameCrs}
 use Rattle.crs_desk.specs.Output.{IsLine}
+
+-- of two texts what stands behind a first one that spells a CRS: the refusal of the second behind the
+-- word for it, or the comparison with the CRS that it spells
+abbrev pub IsSecondOutput : (List ℕ → List ℕ → List ℕ → ℕ → Type 0) → (Crs → List ℕ → ℕ → Type 0) →
+    List ℕ → List ℕ → ℕ → Type 0
+IsSecondOutput Refused Compared second written status =
+    Refused (codes "second ") second written status
+    ⊎ ((b : Crs) × Spells second b × Compared b written status)
+
+-- what is written for two texts, given how a refusal is written behind the word for its text, and how two CRSs
+-- are compared
+unfoldable pub IsPairOutput : (List ℕ → List ℕ → List ℕ → ℕ → Type 0) →
+    (Crs → Crs → List ℕ → ℕ → Type 0) → List ℕ → List ℕ → List ℕ → ℕ → Type 0
+IsPairOutput Refused Compared first second written status =
+    Refused (codes "first ") first written status
+    ⊎ ((a : Crs) × Spells first a × IsSecondOutput Refused (Compared a) second written status)
 
 -- the refusal of a text behind the word that says which text it is, with status 1
 abbrev pub WritesRefusalOf : List ℕ → List ℕ → List ℕ → ℕ → Type 0
@@ -26,21 +42,14 @@ WritesDifferent level a b written status =
     (path : List Step) × FirstInCrs level a b (Some path)
     × IsLine (codes "different " ++ path_text path) 1 written status
 
--- the first text is refused; or it spells a CRS and the second is refused; or both do, the same or
--- different ones
-unfoldable pub IsSameOutput : Level → List ℕ → List ℕ → List ℕ → ℕ → Type 0
-IsSameOutput level first second written status =
-    WritesRefusalOf (codes "first ") first written status
-    ⊎ ((a : Crs) × Spells first a × WritesRefusalOf (codes "second ") second written status)
-    ⊎ ((a b : Crs) × Spells first a × Spells second b × WritesSame level a b written status)
-    ⊎ ((a b : Crs) × Spells first a × Spells second b × WritesDifferent level a b written status)
+-- whether two CRSs are the same, or the first part that differs
+abbrev pub WritesWhetherSame : Level → Crs → Crs → List ℕ → ℕ → Type 0
+WritesWhetherSame level a b written status =
+    WritesSame level a b written status ⊎ WritesDifferent level a b written status
 
--- of these what stands behind a first text that spells this CRS
-unfoldable pub IsSecondOutput : Level → Crs → List ℕ → List ℕ → ℕ → Type 0
-IsSecondOutput level a second written status =
-    WritesRefusalOf (codes "second ") second written status
-    ⊎ ((b : Crs) × Spells second b
-    × (WritesSame level a b written status ⊎ WritesDifferent level a b written status))
+-- what `same` writes for two texts, and its status
+abbrev pub IsSameOutput : Level → List ℕ → List ℕ → List ℕ → ℕ → Type 0
+IsSameOutput level = IsPairOutput WritesRefusalOf (WritesWhetherSame level)
 
 -- what is written of the first part that differs
 abbrev pub WritesPart : Option (List Step) → List ℕ → ℕ → Type 0

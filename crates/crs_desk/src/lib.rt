@@ -6,7 +6,7 @@ pub use check_run::run_check;
 pub use crs_group::{RunFault, Sink, Source, Summary, run_group};
 pub use crs_line::{LineWord, Request, RequestFault, request};
 pub use crs_value::Level;
-pub use explain_run::{run_explain, run_explain_text};
+pub use explain_run::{run_explain, run_explain_pair, run_explain_text};
 pub use lines_run::{run_canon_lines, run_check_lines};
 pub use same_run::run_same;
 
@@ -20,6 +20,7 @@ mod line_cutter;
 mod line_output;
 mod line_writer;
 mod lines_run;
+mod pair;
 mod pieces;
 mod print;
 mod same_run;

@@ -1,15 +1,16 @@
 ghost use Rattle.std.specs.Prelude.{◌≡◌, ◌↔◌, ◌++◌, ◌∷◌, [], IfOk, IfErr, IsErrOf, codes, false, true};
 ghost use Rattle.crs_same.specs.Paths.{path_text};
 ghost use Rattle.crs_desk.specs.Ending.{IsWritten, IsWriteFault};
-ghost use Rattle.crs_desk.specs.SameOutput.{IsSameOutput, IsSecondOutput, WritesPart};
+ghost use Rattle.crs_desk.specs.SameOutput.{IsSameOutput, WritesPart};
 ghost use Rattle.crs_group.specs.Streams.{fresh_sink};
 
 use crate::answer::{Answer, write_answer};
-use crate::judging::refusal_in;
+use crate::pair::{Telling, pair_output};
 use crate::print::refused_line;
 use crate::{Level, RunFault, Sink};
 use crs_same::{Path, first_part};
-use crs_value::{Crs, read};
+use crs_text::Refusal;
+use crs_value::Crs;
 use std::alloc::{AllocError, Global};
 use std::io::Write;
 
@@ -51,42 +52,38 @@ impl Answer for SameAnswer<'_> {
     ghost Output = { λ s written status. IsSameOutput s.level s.first.now s.second.now written status };
 
     fn output(&self, alloc: Global) -> Result<(Vec<u8>, u8), AllocError> {
-        first_output(alloc, self.level, self.first, self.second)
+        pair_output(alloc, &InALine, self.level, self.first, self.second)
     }
 }
 
-fn first_output<'t>(
-    alloc: Global,
-    level: Level,
-    first: &'t [u8],
-    second: &'t [u8],
-) -> Result<(Vec<u8>, u8), AllocError>
-    ensures { IfOk result (λ output. IsSameOutput level first.now second.now output.0.items output.1) }
-{
-    match read(alloc, first) {
-        Ok(crs) => second_output(alloc, level, &crs, second),
-        Err(fault) => {
-            let line = refused_line(alloc, b"first ", refusal_in(fault)?)?;
-            Ok((line, 1))
-        }
-    }
-}
+// A refusal is told in a line, and so is the first part in which two CRSs differ.
+struct InALine;
 
-// Behind a first text that spells a CRS.
-fn second_output<'t>(
-    alloc: Global,
-    level: Level,
-    first: &Crs<'t>,
-    second: &'t [u8],
-) -> Result<(Vec<u8>, u8), AllocError>
-    ensures { IfOk result (λ output. IsSecondOutput level first.now second.now output.0.items output.1) }
-{
-    match read(alloc, second) {
-        Ok(crs) => part_output(alloc, first_part(first, &crs, level)),
-        Err(fault) => {
-            let line = refused_line(alloc, b"second ", refusal_in(fault)?)?;
-            Ok((line, 1))
-        }
+impl Telling for InALine {
+    ghost use Rattle.crs_desk.specs.SameOutput.{WritesRefusalOf, WritesWhetherSame};
+
+    ghost Refused = { λ s which text written status. WritesRefusalOf which text written status };
+
+    ghost Compared = { λ s level a b written status. WritesWhetherSame level a b written status };
+
+    fn refusal(
+        &self,
+        alloc: Global,
+        which: &[u8],
+        _text: &[u8],
+        refusal: Refusal,
+    ) -> Result<Vec<u8>, AllocError> {
+        refused_line(alloc, which, refusal)
+    }
+
+    fn comparison<'t>(
+        &self,
+        alloc: Global,
+        level: Level,
+        a: &Crs<'t>,
+        b: &Crs<'t>,
+    ) -> Result<(Vec<u8>, u8), AllocError> {
+        part_output(alloc, first_part(a, b, level))
     }
 }
 

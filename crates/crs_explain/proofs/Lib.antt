@@ -1,2 +1,3 @@
 pub mod ListedLemmas
 pub mod PartLemmas
+pub mod DifferingLemmas

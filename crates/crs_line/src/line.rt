@@ -24,7 +24,7 @@ const GROUP_ABOUT: &str =
     "Groups the lines of standard input, a text each, by the CRSs that they spell";
 
 const EXPLAIN_ABOUT: &str =
-    "Tells what a text spells, or explains why it is refused; compares two texts as same does";
+    "Tells what a text spells, or explains why it is refused; of two texts each part that differs";
 
 const SAME_ABOUT: &str = "Compares two texts, and names the first part in which their CRSs differ";
 

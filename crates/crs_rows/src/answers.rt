@@ -94,6 +94,7 @@ fn put_value_answer(
         "first_axis" => values::put_axis(out, alloc, input),
         "same" => sameness::put_same(out, alloc, level, input),
         "differences" => sameness::put_differences(out, alloc, level, input),
+        "values" => sameness::put_values(out, alloc, level, input),
         "same_axis" => sameness::put_same_axis(out, alloc, level, input),
         "canon" => canonical::put_canon(out, alloc, level, input),
         "Canon::same" => canonical::put_same(out, alloc, level, input),

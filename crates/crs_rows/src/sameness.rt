@@ -3,8 +3,9 @@ use crate::escapes::put_text;
 use crate::texts::put_fault;
 use crate::verticals::first_axis;
 use bstr::ByteSlice;
+use crs_canon::write_content;
 use crs_same::parts::same_axis;
-use crs_same::{Differences, Path, differences, first_part, same};
+use crs_same::{Difference, Differences, Path, differences, first_part, same};
 use crs_value::{Axis, Crs, Level, read};
 use std::alloc::{AllocError, Global};
 
@@ -95,6 +96,75 @@ pub fn paths_text(alloc: Global, differences: &Differences<'_, '_>) -> Result<Ve
         difference.path().write(&mut words)?;
     }
     Ok(words)
+}
+
+/// All parts in which the CRSs of two texts differ, one a line of the text, each as its path and what stands there in
+/// the first and in the second, with a semicolon between two; else as `put_differences`.
+pub fn put_values(
+    out: &mut String,
+    alloc: Global,
+    level: Level,
+    input: &[u8],
+) -> Result<(), AllocError> {
+    let (first, second) = split_line(input);
+    match read(alloc, first) {
+        Ok(crs) => put_values_from(out, alloc, level, &crs, second),
+        Err(fault) => put_fault(out, fault),
+    }
+}
+
+fn put_values_from<'a>(
+    out: &mut String,
+    alloc: Global,
+    level: Level,
+    first: &Crs<'a>,
+    second: &'a [u8],
+) -> Result<(), AllocError> {
+    match read(alloc, second) {
+        Ok(crs) => {
+            let forth = differences(alloc, first, &crs, level)?;
+            let back = differences(alloc, &crs, first, level)?;
+            let forth = values_text(alloc, &forth, level, false)?;
+            let back = values_text(alloc, &back, level, true)?;
+            put_one_way_or(out, &forth, &back)
+        }
+        Err(fault) => put_fault(out, fault),
+    }
+}
+
+fn values_text(
+    alloc: Global,
+    differences: &Differences<'_, '_>,
+    level: Level,
+    turned: bool,
+) -> Result<Vec<u8>, AllocError> {
+    let mut text = Vec::new(alloc);
+    for difference in differences.as_slice() {
+        if !text.is_empty() {
+            text.push(b';')?;
+        }
+        put_value(&mut text, alloc, difference, level, turned)?;
+    }
+    Ok(text)
+}
+
+fn put_value(
+    text: &mut Vec<u8>,
+    alloc: Global,
+    difference: &Difference<'_, '_>,
+    level: Level,
+    turned: bool,
+) -> Result<(), AllocError> {
+    difference.path().write(text)?;
+    text.extend_from_slice(b": ")?;
+    let (first, second) = if turned {
+        (difference.second(), difference.first())
+    } else {
+        (difference.first(), difference.second())
+    };
+    write_content(first, alloc, level, text)?;
+    text.extend_from_slice(b" | ")?;
+    write_content(second, alloc, level, text)
 }
 
 /// Whether the first axes of two vertical CRSs are the same by themselves; `no axes` for other texts.

@@ -62,6 +62,8 @@ fn try_desk_call(rt: &(impl Print + AllocGlobal), name: &str, parts: &[&[u8]]) -
         "run_canon_lines" => commands::try_canon_lines(rt, first(parts)),
         "run_check" => commands::try_check(rt, first(parts)),
         "run_check_lines" => commands::try_check_lines(rt, first(parts)),
+        "run_explain" => commands::try_explain(rt, first(parts)),
+        "run_explain_pair" => commands::try_explain_pair(rt, first(parts), second(parts)),
         "run_same" => commands::try_same(rt, first(parts), second(parts)),
         "request" => commands::try_request(rt, parts),
         _ => Err(unusable()),

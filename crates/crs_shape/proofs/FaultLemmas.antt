@@ -7,8 +7,8 @@ use Rattle.crs_shape.specs.Keywords.{is_keyword}
 use Rattle.crs_shape.specs.Slots.{SlotParts, slots_of}
 use Rattle.crs_shape.specs.Shape.{Fit, joined, Allowed, Begins, is_apart}
 use Rattle.crs_shape.specs.Walk.{after, may_end}
-use Rattle.crs_shape.specs.ShapeFault.{class_in, is_of, misplaced, missing, IsFree, IsOnly, Stands, ArgumentFault, Inside, Among, class_of_root, AtRoot}
-use Rattle.crs_shape.specs.FirstFault.{or_later, step_to, step_as, fault_by, fault_from, first_inside, first_in_arguments}
+use Rattle.crs_shape.specs.ShapeFault.{class_in, is_of, misplaced, missing, IsFree, IsOnly, Stands, Inside, Among, class_of_root, AtRoot}
+use Rattle.crs_shape.specs.FirstFault.{ArgumentFault, or_later, step_to, step_as, fault_by, fault_from, first_inside, first_in_arguments}
 use Rattle.crs_shape.proofs.SlotLemmas.{Goes, after-apart, goes-along, goes-back, allows-some, end-allowed, allowed-end}
 
 -- the fault, if there is one, is the only one

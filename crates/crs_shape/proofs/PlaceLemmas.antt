@@ -7,7 +7,8 @@ use Rattle.crs_text.specs.TextFault.{SpellsNode}
 use Rattle.crs_shape.specs.declared.class.Class.{Class}
 use Rattle.crs_shape.specs.FaultPlace.{IsShapeNumber, IsPlaceIn, IsPlaceAmong}
 use Rattle.crs_shape.specs.Keywords.{is_known}
-use Rattle.crs_shape.specs.ShapeFault.{misplaced, missing, ArgumentFault, Inside, Among, AtRoot}
+use Rattle.crs_shape.specs.FirstFault.{ArgumentFault}
+use Rattle.crs_shape.specs.ShapeFault.{misplaced, missing, Inside, Among, AtRoot}
 
 -- ---- numbers and places
 

@@ -55,14 +55,14 @@ pub record Stands (parent : Class) (before : List Class) (item : Item) (c : Clas
   pub named : class_in parent item ≡ Some c
   pub begins : Begins (slots_of parent) (before ++ c ∷ [])
 
--- The fault of an argument and of those after it: its own, if it may not stand there; else the
--- fault inside it; else, if there is none, the fault of those after it.
-abbrev pub ArgumentFault : Class → List Class → Item → (Class → RefusedAt → Type 0) →
-    (List Class → RefusedAt → Type 0) → RefusedAt → Type 0
-ArgumentFault parent before item Within Later fault =
-    (((c : Class) → Stands parent before item c → ⊥) × (fault ≡ misplaced item))
+-- Where a fault may lie at an argument that comes after others of the classes `before`: the argument
+-- itself, if it may not stand there; else inside it; else, if it is free inside, after it.
+abbrev pub AtArgument : Class → List Class → Item → Type 0 → (Class → Type 0) → (Class → Type 0) →
+    (List Class → Type 0) → Type 0
+AtArgument parent before item Own Within Free Later =
+    (((c : Class) → Stands parent before item c → ⊥) × Own)
     ⊎ ((c : Class) × (Stands parent before item c
-    × (Within c fault ⊎ (IsFree (Within c) × Later (before ++ c ∷ []) fault))))
+    × (Within c ⊎ (Free c × Later (before ++ c ∷ [])))))
 
 abbrev mutual
   -- the fault of an item that is asked to be of this class
@@ -73,14 +73,15 @@ abbrev mutual
       (IsFalse (is_keyword c keyword)
       × (fault ≡ misplaced (node place keyword square first others close)))
       ⊎ (IsTrue (is_keyword c keyword)
-      × ArgumentFault c [] first (λ d f. Inside d first f)
-      (λ before f. Among c close before others f) fault)
+      × AtArgument c [] first (fault ≡ misplaced first) (λ d. Inside d first fault)
+      (λ d. IsFree (λ f. Inside d first f)) (λ before. Among c close before others fault))
 
   -- the fault of a node's arguments that stand after others of the classes `before`
   pub Among : Class → ℕ → List Class → Siblings → RefusedAt → Type 0
   Among c close before End fault = (Allowed (slots_of c) before → ⊥) × (fault ≡ missing close)
   Among c close before (More item items) fault =
-      ArgumentFault c before item (λ d f. Inside d item f) (λ b f. Among c close b items f) fault
+      AtArgument c before item (fault ≡ misplaced item) (λ d. Inside d item fault)
+      (λ d. IsFree (λ f. Inside d item f)) (λ b. Among c close b items fault)
 
 -- the class of a whole text; a text is a node
 abbrev pub class_of_root : Item → Option Class

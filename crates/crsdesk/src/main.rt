@@ -6,8 +6,8 @@ mod filling;
 
 use crs_desk::{
     Level, LineWord, Request, RequestFault, RunFault, Sink, Source, request, run_canon,
-    run_canon_lines, run_check, run_check_lines, run_explain, run_explain_text, run_group,
-    run_same,
+    run_canon_lines, run_check, run_check_lines, run_explain, run_explain_pair, run_explain_text,
+    run_group, run_same,
 };
 use filling::Filling;
 use std::alloc::{AllocError, Global};
@@ -117,7 +117,7 @@ fn same(
     run_same(rt.alloc(), level, a, b, &mut Sink::new(rt.stdout()))
 }
 
-// A text on standard input or in a word is explained; two texts are compared as by `same`.
+// A text on standard input or in a word is explained, or of two texts all that differs.
 fn explain(
     rt: &HostRuntime,
     level: Level,
@@ -127,7 +127,7 @@ fn explain(
     match (first, second) {
         (None, _) => explain_input(rt),
         (Some(text), None) => explain_word(rt, text),
-        (Some(first), Some(second)) => same(rt, level, first, second),
+        (Some(first), Some(second)) => explain_pair(rt, level, first, second),
     }
 }
 
@@ -140,6 +140,19 @@ fn explain_word(rt: &HostRuntime, word: &LineWord) -> Result<u8, RunFault> {
     hint_at_file(rt, word);
     let text = word.as_str().as_bytes();
     run_explain_text(rt.alloc(), text, &mut Sink::new(rt.stdout()))
+}
+
+fn explain_pair(
+    rt: &HostRuntime,
+    level: Level,
+    first: &LineWord,
+    second: &LineWord,
+) -> Result<u8, RunFault> {
+    hint_at_file(rt, first);
+    hint_at_file(rt, second);
+    let a = first.as_str().as_bytes();
+    let b = second.as_str().as_bytes();
+    run_explain_pair(rt.alloc(), level, a, b, &mut Sink::new(rt.stdout()))
 }
 
 // A word without an opening delimiter is no text. Where it names a file, that file's text was most likely meant.

@@ -6,7 +6,7 @@ use crate::trials::trial::{Trial, run};
 use crate::trials::unusable;
 use crs_desk::{
     Level, Request, RequestFault, RunFault, Sink, Source, request, run_canon, run_canon_lines,
-    run_check, run_check_lines, run_same,
+    run_check, run_check_lines, run_explain, run_explain_pair, run_same,
 };
 use std::alloc::{AllocError, Global};
 use std::{io, str};
@@ -21,6 +21,8 @@ enum Command<'t> {
     CanonLines(&'t [u8]),
     Check(&'t [u8]),
     CheckLines(&'t [u8]),
+    Explain(&'t [u8]),
+    ExplainPair(&'t [u8], &'t [u8]),
     Same(&'t [u8], &'t [u8]),
 }
 
@@ -46,6 +48,8 @@ impl Trial for Run<'_> {
             }
             Command::Check(text) => run_check(alloc, &mut Source::new(text), &mut sink),
             Command::CheckLines(text) => run_check_lines(alloc, &mut Source::new(text), &mut sink),
+            Command::Explain(text) => run_explain(alloc, &mut Source::new(text), &mut sink),
+            Command::ExplainPair(a, b) => run_explain_pair(alloc, Level::Full, a, b, &mut sink),
             Command::Same(a, b) => run_same(alloc, Level::Full, a, b, &mut sink),
         };
         ended(outcome)
@@ -97,6 +101,20 @@ pub fn try_canon_lines(rt: &(impl Print + AllocGlobal), text: &[u8]) -> io::Resu
 /// `run_check_lines` over lines.
 pub fn try_check_lines(rt: &(impl Print + AllocGlobal), text: &[u8]) -> io::Result<()> {
     run_command(rt, Command::CheckLines(text))
+}
+
+/// `run_explain` over a text.
+pub fn try_explain(rt: &(impl Print + AllocGlobal), text: &[u8]) -> io::Result<()> {
+    run_command(rt, Command::Explain(text))
+}
+
+/// `run_explain_pair` of two texts.
+pub fn try_explain_pair(
+    rt: &(impl Print + AllocGlobal),
+    first: &[u8],
+    second: &[u8],
+) -> io::Result<()> {
+    run_command(rt, Command::ExplainPair(first, second))
 }
 
 /// `run_same` of two texts.

@@ -15,10 +15,7 @@ returns-in_ok-line-in-Ok c =
 
 pub returns-in_ok-told-in-Err : goal.returns-in_ok-told-in-Err
 unfolding IsExplainOutput
-returns-in_ok-told-in-Err c =
-    let fault = rw c.in-Err.is at c.read.ensures in
-    let refused = refused-text c.args.text.now c.in-Err.fault c.in_ok-refusal_in-in-Err.field-0 fault c.in_ok-refusal_in-in-Err.ensures in
-    inr (c.in_ok-refusal_in-in-Err.field-0, refused, c.in_ok-told-in-Err.ensures, refl)
+returns-in_ok-told-in-Err c = inr c.in_ok-told-in-Err.ensures
 
 pub explained-requires : goal.explained-requires
 explained-requires c =
