@@ -3,7 +3,7 @@
 use crate::catalogue::{Bytes, Counted};
 use crate::entry::{Entry, accepted};
 use crate::tally::Outcome;
-use crs_canon::canon_of;
+use crs_canon::{canon, canon_of};
 use crs_group::{Catalogue, Placed, RunFault, Sink, Source, Summary, run_group};
 use crs_same::same;
 use crs_shape::fit_root;
@@ -32,6 +32,8 @@ pub enum Stage {
     Same,
     /// From the value: its canonical text.
     Canon,
+    /// From the text: its canonical text.
+    Text,
     /// From the text: its group among those of the texts before it.
     Group,
     /// From the lines of all texts: what the command writes of them.
@@ -39,7 +41,7 @@ pub enum Stage {
 }
 
 /// All stages, in the order in which they are run.
-pub const STAGES: [Stage; 12] = [
+pub const STAGES: [Stage; 13] = [
     Stage::Items,
     Stage::Feed(1),
     Stage::Feed(16),
@@ -50,6 +52,7 @@ pub const STAGES: [Stage; 12] = [
     Stage::Read,
     Stage::Same,
     Stage::Canon,
+    Stage::Text,
     Stage::Group,
     Stage::Run,
 ];
@@ -73,6 +76,7 @@ impl Stage {
             Stage::Read => "read",
             Stage::Same => "same",
             Stage::Canon => "canon",
+            Stage::Text => "canon-text",
             Stage::Group => "group",
             Stage::Run => "run-group",
         }
@@ -84,7 +88,7 @@ impl Stage {
             Stage::Items | Stage::Feed(_) | Stage::Shape | Stage::Judge | Stage::Value => "items",
             Stage::Read => "CRSs",
             Stage::Same => "same",
-            Stage::Canon => "bytes",
+            Stage::Canon | Stage::Text => "bytes",
             Stage::Group | Stage::Run => "groups",
         }
     }
@@ -112,6 +116,7 @@ impl Stage {
             Stage::Read => whole(alloc, entry.text),
             Stage::Same => Ok(compared(entry, next)),
             Stage::Canon => canonical(alloc, entry),
+            Stage::Text => spelled(alloc, entry.text),
             Stage::Group | Stage::Run => placed(before, entry.text),
         }
     }
@@ -205,6 +210,13 @@ fn canonical(alloc: Global, entry: &Entry<'_>) -> Result<Outcome, AllocError> {
             let canon = canon_of(alloc, crs, Level::Full)?;
             Ok(Outcome::Accepted(canon.bytes().len()))
         }
+        None => Ok(Outcome::Refused),
+    }
+}
+
+fn spelled(alloc: Global, text: &[u8]) -> Result<Outcome, AllocError> {
+    match accepted(canon(alloc, text, Level::Full))? {
+        Some(canon) => Ok(Outcome::Accepted(canon.bytes().len())),
         None => Ok(Outcome::Refused),
     }
 }
