@@ -191,6 +191,8 @@ def data_has_the_refusals() -> None:
     for refused in audited().data["refused"]:
         piece = refused["piece"].split("\n")
         assert len(piece) == 2 and piece[1].strip() == "^" and refused["meaning"].endswith(".")
+        assert bool(refused["expected"]) == (11 <= refused["number"] <= 13)
+        assert refused["meaning"] not in (refused["hint"] or "") and ": found " not in (refused["hint"] or "")
     hints = {it["number"]: it["hint"] for it in audited().data["refused"]}
     assert "WKT1" in hints[11] and "PROJ string" in hints[2] and "code" in hints[1] and hints[23] is None
 

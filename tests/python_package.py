@@ -30,7 +30,7 @@ import time
 import traceback
 import tracemalloc
 from concurrent.futures import ThreadPoolExecutor
-from typing import Callable, Iterator, List, Optional, Tuple, Type
+from typing import Callable, Dict, Iterator, List, Optional, Tuple, Type
 
 # The import of the files beside this one leaves nothing in the repository.
 sys.dont_write_bytecode = True
@@ -221,8 +221,65 @@ def every_number_has_a_meaning() -> None:
                 refused = refusal_of(case.input)
                 seen.add(refused.number)
                 assert refused.meaning.endswith(".") and refused.meaning in str(refused)
-                assert refused.meaning != Refused(b"", 99, "", 0).meaning, refused.number
     assert seen == {*range(1, 9), *range(11, 14), *range(21, 30)}, seen
+
+
+def are_all_parts(refused: Refused) -> bool:
+    """Whether the lines of a refusal are those of its parts, and no others."""
+    head, *lines = refused.told_of_file().split("\n")
+    expected = [line for line in lines[2:3] if refused.expected]
+    listed = expected[0].partition(", expected ")[2] if expected else ""
+    names = [*refused.expected[:-2], " or ".join(refused.expected[-2:])]
+    hints = (refused.hint or "").split("\n") if refused.hint else []
+    return (
+        head == f"{refused.summary}, line {refused.line}, column {refused.column}"
+        and "\n".join(lines[:2]) == refused.piece()
+        and listed == ", ".join(names)
+        and bool(expected) == (11 <= refused.number <= 13)
+        and sorted(lines[2 + len(expected) :]) == sorted([refused.meaning, *hints])
+    )
+
+
+# What the rows of explain.rows have between the piece and the end, by their cases: what is expected, and the hints.
+EXPECTED = {
+    "system-left-out": ("PRIMEM", "CS"),
+    "axes-left-out": ("AXIS",),
+    "frame-of-another-kind": ("DYNAMIC", "VDATUM", "ENSEMBLE"),
+    "name-without-quotes": ("a text in quotes",),
+    "number-in-quotes": ("a number",),
+    "direction-in-quotes": ("a word",),
+    "decimal-comma": ("LENGTHUNIT", "ID", "its closing delimiter"),
+    "direction-misspelt": (),
+    "comma-missing": (),
+}
+HINT = {
+    "closing-delimiter-left-out-at-the-end": "GEOGCRS[ at 0 is still open",
+    "round-for-square": "VDATUM[ at 12 is still open\nVDATUM[ at 12 is closed by ], not by ).",
+    "keyword-misspelt": "Did you mean ELLIPSOID?",
+    "system-left-out": None,
+    "semicolon-for-comma": "Arguments are separated by commas.",
+}
+
+
+def rows_of_explain() -> None:
+    """Each row's refusal has in Python what the command writes of it."""
+    cases = [case for case in run_cases.cases_of(HERE / "explain.rows") if case.words == [b"explain"]]
+    assert len(cases) > 50 and {*EXPECTED, *HINT} <= {case.name for case in cases}
+    meanings: Dict[int, str] = {}
+    for case in cases:
+        refused = refusal_of(case.input)
+        assert f"{refused}\n".encode() == case.output, (case.name, str(refused))
+        assert are_all_parts(refused), (case.name, refused.expected, refused.hint)
+        assert meanings.setdefault(refused.number, refused.meaning) == refused.meaning != "", case.name
+        assert refused.expected == EXPECTED.get(case.name, refused.expected), (case.name, refused.expected)
+        assert refused.hint == HINT.get(case.name, refused.hint), (case.name, refused.hint)
+
+
+def refusals_made_by_hand() -> None:
+    """A refusal that isn't the text's own tells what it was given, and no more."""
+    for refused in (Refused(None, 7, "UnexpectedEnd", 3), Refused(HEIGHT.encode(), 7, "UnexpectedEnd", 3)):
+        assert str(refused) == refused.summary == refused.told_of_file() == "refused 7 UnexpectedEnd at 3"
+        assert (refused.line, refused.expected, refused.meaning, refused.hint) == (0, (), "", None)
 
 
 HINTS = [
@@ -283,7 +340,7 @@ HINTS = [
     (HEIGHT.replace("up,", "up,TOWGS84[1,2,3],"), "keep the transformation as part of a key"),
     ("VERTCRS[“H”]", "typographic"),
     (HEIGHT.replace('"', "&quot;"), "&quot;"),
-    (HEIGHT.replace('"', '\\"'), "take the backslashes off"),
+    (HEIGHT.replace('"', '\\"'), "Its quotes are escaped"),
     ("GEOGCS[&quot;A&quot;]", "&quot;"),
     ("VERTCRS['H']", "double quotes"),
     ('VERTCRS["H";', "commas"),
@@ -315,7 +372,6 @@ def hints_are_given() -> None:
     for text, part in HINTS:
         refused = refusal_of(text)
         assert part in (refused.hint or ""), (text, refused.hint)
-        assert str(refused).endswith(refused.hint or "?")
 
 
 # What the hints say at a command line, which has files.
@@ -327,7 +383,7 @@ FILE_HINTS: List[Tuple[object, str]] = [
     (HEIGHT.replace('"', "&quot;"), "sed 's/&quot;/\"/g' FILE"),
     (HEIGHT.replace('"', '\\"'), "sed 's/\\\\\"/\"/g' FILE"),
     ("./a.wkt", "name that file instead"),
-    (HEIGHT + "\n" + HEIGHT, "with --lines a text a line"),
+    (HEIGHT + "\n" + HEIGHT, "a file has one text"),
 ]
 
 
@@ -389,8 +445,8 @@ def any_bytes_are_told() -> None:
             refused_ones += 1
             assert 0 <= refused.place <= len(text) and refused.line >= 1 and refused.column >= 1
             lines = str(refused).split("\n")
-            assert refused.told_of_file().count("\n") in (3, 4)
-            assert len(lines) in (4, 5) and lines[2].strip() == "^" and lines[1].isprintable(), lines
+            assert str(refused) == refused.told_of_file() and are_all_parts(refused), lines
+            assert len(lines) in range(4, 7) and lines[2].strip() == "^" and lines[1].isprintable(), lines
     assert refused_ones > 2000
 
 
@@ -428,8 +484,8 @@ PIECES += [
 def no_hint_is_given_where_nothing_can_be_told() -> None:
     for text in (
         "x",
-        'VERTCRS["H" VDATUM["D"]]',
         'VERTCRS["H",1E]',
+        'VERTCRS["H",VDATUM["D"],CS[vertical,1]]',
         'VERTCRS["H",VDATUM["D"],CS[vertical,2],AXIS["h",up,LENGTHUNIT["metre",1]]]',
     ):
         assert refusal_of(text).hint is None, text
@@ -722,6 +778,32 @@ def values_are_written_escaped() -> None:
         'remark: none | "a\\n\\tb\\\\\\x1b[31m\\u0085\\u2028\\u202e"'
     ]
     assert differences(HEIGHT, noted)[0].second == '"a\n\tb\\\x1b[31m\x85\u2028\u202e"'
+
+
+def values_of_any_characters() -> None:
+    """What separates the values of a line, and what escapes them, may stand in them."""
+    values = [
+        "none",
+        " | ",
+        ": ",
+        '"" | ""',
+        'a" | "b',
+        "\\n",
+        "\\",
+        "\\x41",
+        "\n",
+        "\u2028 | \u202e",
+        "é高",
+        "\0",
+        "x" * 100_000,
+    ]
+    names = [value.replace('"', '""') for value in values]
+    for first in names:
+        for second in names:
+            texts = (HEIGHT[:-1] + f',REMARK["{name}"]]' for name in (first, second))
+            wanted = [] if first == second else [Difference("remark", f'"{first}"', f'"{second}"')]
+            assert differences(*texts) == wanted, (first, second)
+        assert differences(HEIGHT, HEIGHT[:-1] + f',REMARK["{first}"]]') == [Difference("remark", None, f'"{first}"')]
 
 
 def nul_bytes() -> None:
@@ -1163,6 +1245,8 @@ PROMISES = [
     refusal_of_two_texts,
     refusal_goes_to_another_process,
     every_number_has_a_meaning,
+    rows_of_explain,
+    refusals_made_by_hand,
     hints_are_given,
     hints_of_files,
     what_the_hints_of_files_do,
@@ -1185,6 +1269,7 @@ PROMISES = [
     many_lines_of_one_group,
     refused_texts_are_not_kept,
     values_are_written_escaped,
+    values_of_any_characters,
     nul_bytes,
     empty_texts,
     long_texts,

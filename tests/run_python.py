@@ -171,10 +171,10 @@ def try_code(counts: Counts) -> None:
         counts.add(tool, done.returncode == 0, done.stdout[-2000:])
         if tool == "mypy":
             try_types(counts)
-    for name in ("_crs.py", "_parts.py", "_refused.py"):
+    for name in ("_crs.py", "_difference.py", "_refused.py"):
         tree = ast.parse((sources / name).read_text(encoding="utf-8"))
         for node in tree.body:
-            if isinstance(node, (ast.ClassDef, ast.FunctionDef)) and not node.name.startswith("parts_of"):
+            if isinstance(node, (ast.ClassDef, ast.FunctionDef)):
                 has = ast.get_docstring(node) is not None
                 is_public = node.name in (sources / "__init__.py").read_text(encoding="utf-8")
                 counts.add(f"{name}: {node.name}", has or not is_public, "has no docstring")

@@ -12,8 +12,8 @@ What the calls answer is that of a library whose answers are proved; this packag
 """
 
 from ._crs import Catalogue, Crs, Group, Level, Text, canon, check, difference, differences, same
+from ._difference import Difference
 from ._library import version
-from ._parts import Difference
 from ._refused import Refused
 
 __all__ = [

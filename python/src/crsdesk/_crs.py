@@ -8,7 +8,7 @@ import threading
 from typing import Any, Dict, Iterator, List, Literal, NamedTuple, Optional, Tuple, Union
 
 from . import _library
-from ._parts import Difference, differences_of
+from ._difference import Difference, differences_of
 from ._refused import Refused
 
 Text = Union[str, bytes, bytearray, memoryview, "Crs"]
@@ -124,15 +124,10 @@ def difference(first: Text, second: Text, level: Level = "full") -> Optional[str
 def differences(first: Text, second: Text, level: Level = "full") -> List[Difference]:
     """All parts in which the CRSs of two texts differ, in their order; none where they are the same.
 
-    The first is that of ``difference``. The parts are found in the canonical texts by code of this package, which is
-    tested and not proved. Where the CRSs are of two kinds, a part that only one kind has is in the list too.
-    Raises as ``same`` does.
+    The first is that of ``difference``. Raises as ``same`` does.
     """
     number = number_of(level)
-    texts = bytes_of(first), bytes_of(second)
-    if _library.same(*texts, number):
-        return []
-    return list(differences_of(*(_library.canon(text, number).decode() for text in texts)))
+    return differences_of(_library.differences(bytes_of(first), bytes_of(second), number).decode())
 
 
 @functools.total_ordering
@@ -200,7 +195,7 @@ class Crs:
 
     def differences(self, other: Text, level: Level = "full") -> List[Difference]:
         """All parts that differ, as ``differences`` answers them."""
-        return list(differences_of(self.canonical(level), crs_of(other).canonical(level)))
+        return differences(self, other, level)
 
     def __eq__(self, other: object) -> bool:
         if not isinstance(other, Crs):

@@ -9,7 +9,7 @@ from __future__ import annotations
 import ctypes
 import os
 import pathlib
-from typing import Any, Dict, List, Optional
+from typing import Any, Callable, Dict, List, Optional, Tuple
 
 from ._refused import Refused
 
@@ -56,6 +56,8 @@ def load() -> ctypes.CDLL:
         "canon": [text, size, number, place, size, place, place],
         "same": [text, size, text, size, number, place, place],
         "first_part": [text, size, text, size, number, place, size, place, place],
+        "differences": [text, size, text, size, number, place, size, place, place],
+        "explain": [text, size, place, size, place],
         "refusal_name": [number, place, size, place],
         "version": [place, size, place],
     }
@@ -71,6 +73,8 @@ _check = LOADED.crsdesk_check
 _canon = LOADED.crsdesk_canon
 _same = LOADED.crsdesk_same
 _first_part = LOADED.crsdesk_first_part
+_differences = LOADED.crsdesk_differences
+_explain = LOADED.crsdesk_explain
 _kept: List[Places] = []
 
 
@@ -141,6 +145,36 @@ def first_part(first: bytes, second: bytes, level: int) -> bytes:
     if code:
         raise fault(code, found, first, second)
     answer: bytes = found.out[: found.length.value]
+    _kept.append(found)
+    return answer
+
+
+def in_room(found: Places, call: Callable[[Any, int], int]) -> Tuple[int, bytes]:
+    """The code of a call that writes an answer of any length, and the answer; another room is made where it needs it."""
+    out, room = found.out, found.room
+    code = call(out, room)
+    while code == NO_ROOM:
+        room = found.length.value
+        out = ctypes.create_string_buffer(room)
+        code = call(out, room)
+    return code, out[: found.length.value] if code == OK else b""
+
+
+def differences(first: bytes, second: bytes, level: int) -> bytes:
+    found = places()
+    given = first, len(first), second, len(second), level
+    code, answer = in_room(found, lambda out, room: _differences(*given, out, room, found.to_length, found.to_refusal))
+    if code:
+        raise fault(code, found, first, second)
+    _kept.append(found)
+    return answer
+
+
+def explain(text: bytes) -> bytes:
+    found = places()
+    code, answer = in_room(found, lambda out, room: _explain(text, len(text), out, room, found.to_length))
+    if code:
+        raise fault(code, found, text)
     _kept.append(found)
     return answer
 

@@ -1,31 +1,15 @@
-"""Names, values and pieces of texts, each as one line can show it."""
+"""Names and values, each as one line can show it."""
 
 from __future__ import annotations
 
 import re
 import shlex
-import unicodedata
-from typing import List, Tuple
 
-TAB_IS_SHOWN_AS = " "
 # Control characters, ends of lines and paragraphs, and what turns the direction of a text around.
 CONTROL = re.compile("[\x00-\x1f\x7f-\x9f\u2028\u2029\u202a-\u202e\u2066-\u2069]")
 ESCAPES = {"\t": "\\t", "\n": "\\n", "\r": "\\r", "\\": "\\\\"}
-
-
-def shown(text: str) -> Tuple[str, int]:
-    """A piece of a text, and how many columns of a terminal it takes; what can't be printed is replaced."""
-    parts: List[str] = []
-    width = 0
-    for character in text:
-        if character == "\t":
-            character = TAB_IS_SHOWN_AS
-        elif not character.isprintable():
-            character = "\N{REPLACEMENT CHARACTER}"
-        parts.append(character)
-        if unicodedata.combining(character) == 0:
-            width += 2 if unicodedata.east_asian_width(character) in "WF" else 1
-    return "".join(parts), width
+UNESCAPED = {escape[1]: character for character, escape in ESCAPES.items()}
+ESCAPE = re.compile(r"\\(?:x([0-9a-f]{2})|u([0-9a-f]{4})|(.))")
 
 
 def escape(character: str) -> str:
@@ -37,6 +21,11 @@ def escape(character: str) -> str:
 def escaped(value: str) -> str:
     """A value with its control characters and backslashes escaped."""
     return CONTROL.sub(lambda match: escape(match[0]), value.replace("\\", "\\\\"))
+
+
+def unescaped(written: str) -> str:
+    """The value that is written with escapes."""
+    return ESCAPE.sub(lambda it: UNESCAPED[it[3]] if it[3] else chr(int(it[1] or it[2], 16)), written)
 
 
 def named(name: str) -> str:

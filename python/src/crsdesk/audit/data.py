@@ -113,6 +113,7 @@ def of_refused(refused: RefusedText) -> Dict[str, Any]:
         "line": found.line,
         "column": found.column,
         "piece": found.piece,
+        "expected": list(found.expected),
         "meaning": found.meaning,
         "hint": found.hint or None,
     }

@@ -43,7 +43,7 @@ class Spelled:
 @dataclass(frozen=True)
 class Refusal:
     """Why a text is refused, in the words of ``Refused``: ``place`` is its byte, ``piece`` the line with a caret below,
-    ``hint`` what the text most likely is and what to do, or nothing."""
+    ``expected`` what may stand there, ``hint`` what the text most likely is and what to do, or nothing."""
 
     number: int
     name: str
@@ -51,6 +51,7 @@ class Refusal:
     line: int
     column: int
     piece: str
+    expected: Tuple[str, ...]
     meaning: str
     hint: str
 
@@ -116,11 +117,19 @@ def spelled_by(crs: Crs) -> Spelled:
 
 def refusal_of(refused: Refused, line: int) -> Refusal:
     """A refusal's words, as they are told of files."""
-    piece = refused.piece()
-    _, _, words = refused.told_of_file(line).partition(piece + "\n")
-    meaning, _, hint = words.partition("\n")
+    # Behind the head, the piece and what is expected.
+    lines = refused.told_of_file(line).split("\n")[4 if refused.expected else 3 :]
+    hint = "; ".join(it for it in lines if it != refused.meaning)
     return Refusal(
-        refused.number, refused.name, refused.place, refused.line, refused.column, piece, meaning, hint.strip()
+        refused.number,
+        refused.name,
+        refused.place,
+        refused.line,
+        refused.column,
+        refused.piece(),
+        refused.expected,
+        refused.meaning,
+        hint,
     )
 
 
