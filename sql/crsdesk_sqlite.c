@@ -6,6 +6,8 @@
    crs_kind(text)                geodetic, geographic, projected, vertical or compound; NULL of such a text
    crs_same(a, b [, level])      1 where both spell the same CRS, else 0; NULL where either spells none
    crs_difference(a, b [, level]) the path of the first part that differs, or the word same; NULL where either spells none
+   crs_differences(a, b [, level]) all parts that differ, as JSON: [{"path":..,"first":..,"second":..},..], with null for
+                                 what stands in one alone; [] where they are the same; NULL where either spells none
    crs_refusal(text)             why a text spells no CRS, as: refused 7 UnexpectedEnd at 11; NULL of one that spells one
    crs_version()                 the version of crsdesk, as: 0.1.0
 
@@ -19,6 +21,7 @@
 #include <sqlite3ext.h>
 
 #include "crsdesk.h"
+#include "differences.h"
 
 SQLITE_EXTENSION_INIT1
 
@@ -175,6 +178,46 @@ static void crs_difference(sqlite3_context *context, int count, sqlite3_value **
         sqlite3_result_text(context, path, (int)length, SQLITE_TRANSIENT);
 }
 
+/* Gives the lines of differences as JSON. */
+static void give_json(sqlite3_context *context, const char *lines, size_t length)
+{
+    size_t room = differences_as_json(lines, length, NULL);
+    char *json = sqlite3_malloc64(room);
+
+    if (json == NULL) {
+        sqlite3_result_error_nomem(context);
+        return;
+    }
+    differences_as_json(lines, length, json);
+    sqlite3_result_text64(context, json, room, sqlite3_free, SQLITE_UTF8);
+}
+
+static void crs_differences(sqlite3_context *context, int count, sqlite3_value **values)
+{
+    struct crsdesk_refusal refusal;
+    struct text first, second;
+    uint32_t level, code;
+    size_t room, length = 1000;
+    char *lines = NULL;
+
+    if (any_null(count, values) || !take_level(context, count, values, 2, &level) ||
+        !take_text(context, values[0], &first) || !take_text(context, values[1], &second))
+        return;
+    do {
+        room = length;
+        sqlite3_free(lines);
+        lines = sqlite3_malloc64(room);
+        code = lines == NULL ? CRSDESK_NO_MEMORY
+                             : crsdesk_differences(first.bytes, first.length, second.bytes, second.length, level, lines,
+                                                   room, &length, &refusal);
+    } while (code == CRSDESK_NO_ROOM);
+    if (code == CRSDESK_OK)
+        give_json(context, lines, length);
+    else
+        give_none(context, code);
+    sqlite3_free(lines);
+}
+
 static void crs_refusal(sqlite3_context *context, int count, sqlite3_value **values)
 {
     struct crsdesk_refusal refusal;
@@ -223,7 +266,8 @@ int sqlite3_crsdesksqlite_init(sqlite3 *db, char **error, const sqlite3_api_rout
         {"crs_canon", 1, crs_canon},           {"crs_canon", 2, crs_canon},
         {"crs_kind", 1, crs_kind},             {"crs_same", 2, crs_same},
         {"crs_same", 3, crs_same},             {"crs_difference", 2, crs_difference},
-        {"crs_difference", 3, crs_difference}, {"crs_refusal", 1, crs_refusal},
+        {"crs_difference", 3, crs_difference}, {"crs_differences", 2, crs_differences},
+        {"crs_differences", 3, crs_differences}, {"crs_refusal", 1, crs_refusal},
         {"crs_version", 0, crs_version},
     };
     const int flags = SQLITE_UTF8 | SQLITE_DETERMINISTIC | SQLITE_INNOCUOUS;

@@ -50,6 +50,8 @@ SQLITE = sql_rows.Dialect(
     hex=lambda call: f"hex(coalesce({call}, ''))",
     number=lambda condition: condition,
     zeros=lambda length: f"hex(zeroblob({length // 2}))",
+    part=lambda call, key: f"json_extract({call}, '$[0].{key}')",
+    is_none=lambda call: f"json_array_length({call}) = 0",
 )
 
 
@@ -64,6 +66,14 @@ def promises() -> Iterator[Statement]:
     yield "a NUL byte", f"SELECT crs_refusal({literal(HEIGHT.encode() + bytes(1), False)});", f"refused 1 BadCharacter at {len(HEIGHT)}"
     yield "too few", "SELECT crs_canon();", "Error: wrong number of arguments to function crs_canon()"
     yield "too many", "SELECT crs_version(1);", "Error: wrong number of arguments to function crs_version()"
+    other, wanted = HEIGHT.replace('"H"', '"a\0b"'), '[{"path":"name","first":"\\"H\\"","second":"\\"a\\u0000b\\""}]'
+    parts = f"crs_differences('{HEIGHT}', {literal(other.encode(), False)})"
+    yield "a NUL byte", f"SELECT {parts}, json_valid({parts}), typeof({parts});", f"{wanted}|1|text"
+    yield "the same", f"SELECT crs_differences('{HEIGHT}', '{TWIN}');", "[]"
+    other = HEIGHT.replace('VDATUM["D"]', 'ENSEMBLE["D",MEMBER["m"],ENSEMBLEACCURACY[2]]').replace("up", "down")
+    parts = f"crs_differences('{HEIGHT}', '{other}')"
+    asked = f"SELECT json_valid({parts}), group_concat(json_extract(value, '$.path')) FROM json_each({parts});"
+    yield "the parts", asked, "1|datum/kind,datum/members,datum/accuracy,system/axis1/direction"
     yield "types", f"SELECT typeof(crs_canon('{HEIGHT}')), typeof(crs_same('{HEIGHT}', '{HEIGHT}'));", "text|integer"
     yield from of_indexes()
     yield from sql_rows.of_long_texts(SQLITE)

@@ -26,12 +26,16 @@ class Dialect(NamedTuple):
     ``hex``      the bytes of a text in capital digits; nothing of NULL
     ``number``   a condition, as 1 or 0; nothing of NULL
     ``zeros``    a text of so many zeros
+    ``part``     what stands in the first object of a JSON array under a key, as a text; nothing where none does
+    ``is_none``  whether a JSON array has no members
     """
 
     literal: Callable[[bytes, bool], Optional[str]]
     hex: Callable[[str], str]
     number: Callable[[str], str]
     zeros: Callable[[int], str]
+    part: Callable[[str, str], str]
+    is_none: Callable[[str], str]
 
 
 class Counts:
@@ -87,6 +91,10 @@ def of_case(case: run_cases.Case, is_blob: bool, dialect: Dialect) -> Iterator[S
         path = "" if refusal else wanted.decode().split()[-1]
         call = dialect.number(f"crs_same({both})")
         yield case.place, f"SELECT {call}, crs_difference({both});", f"{is_same}|{path}"
+        parts = f"crs_differences({both})"
+        first = "" if path == "same" else path
+        call = dialect.number(dialect.is_none(parts))
+        yield case.place, f"SELECT {call}, {dialect.part(parts, 'path')};", f"{is_same}|{first}"
         if refusal:
             which, _, rest = refusal.partition(" ")
             yield case.place, f"SELECT crs_refusal({texts[which == 'second']});", rest
@@ -104,13 +112,14 @@ def promises(dialect: Dialect) -> Iterator[Statement]:
     height, noted = f"'{HEIGHT}'", f"'{NOTED}'"
     for call in ("crs_canon(NULL)", "crs_kind(NULL)", "crs_refusal(NULL)", "crs_canon('x', NULL)"):
         yield "NULL gives NULL", f"SELECT {dialect.number(f'{call} IS NULL')};", "1"
-    for call in ("crs_same", "crs_difference"):
+    for call in ("crs_same", "crs_difference", "crs_differences"):
         for given in ("NULL, 'x'", "'x', NULL", "NULL, NULL", f"{height}, {height}, NULL"):
             yield "NULL gives NULL", f"SELECT {dialect.number(f'{call}({given}) IS NULL')};", "1"
     for call in (
         f"crs_canon({height}, 'Full')",
         f"crs_same({height}, {height}, 'Full')",
         "crs_difference('', '', 'Full')",
+        "crs_differences('', '', 'Full')",
     ):
         yield "a wrong level", f"SELECT {call};", f"Error: no such level: 'Full'; {LEVELS}"
     both, by_definition = f"{height}, {noted}", f"{height}, {noted}, 'definition'"
@@ -118,11 +127,32 @@ def promises(dialect: Dialect) -> Iterator[Statement]:
     yield "a level", f"SELECT crs_canon({noted}, 'definition');", CANONICAL_HEIGHT
     yield "a level", f"SELECT {same_by_definition}, {same};", "1|0"
     yield "a level", f"SELECT crs_difference({both}), crs_difference({by_definition});", "remark|same"
+    parts, parts_by_definition = f"crs_differences({both})", f"crs_differences({by_definition})"
+    yield "a level", f"SELECT {dialect.part(parts, 'path')}, {dialect.part(parts_by_definition, 'path')};", "remark|"
+    yield from of_values(dialect)
     nothing = dialect.literal(b"", True)
     asked = f"SELECT crs_kind(''), crs_refusal(''), crs_refusal({nothing});"
     yield "nothing", asked, "|refused 7 UnexpectedEnd at 0|refused 7 UnexpectedEnd at 0"
     text, wanted = HEIGHT.encode(), f"refused 1 BadCharacter at {len(HEIGHT)}"
     yield "a NUL byte", f"SELECT crs_refusal({dialect.literal(text + bytes(1), True)});", wanted
+
+
+# Characters that separate or escape values in the library's lines or in JSON.
+VALUES = ["", "none", " | ", ": ", '"" | ""', "\\", "\\\\n", "\\x41", "/", "a\nb\tc\rd\x01e\x1ff\x7fg", "\x85\u2028\u202e", "é高\U0001f600"]
+
+
+def of_values(dialect: Dialect) -> Iterator[Statement]:
+    """Remarks of any characters in either text, or in one alone, come out of the JSON as they are."""
+    for index, value in enumerate(VALUES):
+        other = VALUES[index - 1]
+        texts = [f'{HEIGHT[:-1]},REMARK["{it}"]]'.encode() for it in (value, other)]
+        first, second = (dialect.literal(it, True) for it in texts)
+        wanted = [f'"{it}"'.encode().hex().upper() for it in (value, other)]
+        call = f"crs_differences({first}, {second})"
+        hexes = ", ".join(dialect.hex(dialect.part(call, key)) for key in ("first", "second"))
+        yield "a value", f"SELECT {hexes};", "|".join(wanted)
+        alone = f"crs_differences('{HEIGHT}', {second})"
+        yield "a value alone", f"SELECT {dialect.part(alone, 'first')}, {dialect.hex(dialect.part(alone, 'second'))};", f"|{wanted[1]}"
 
 
 def of_long_texts(dialect: Dialect) -> Iterator[Statement]:

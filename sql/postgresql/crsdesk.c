@@ -18,9 +18,11 @@
 #include "mb/pg_wchar.h"
 #include "miscadmin.h"
 #include "utils/builtins.h"
+#include "utils/jsonb.h"
 #include "utils/memutils.h"
 
 #include "crsdesk.h"
+#include "differences.h"
 
 PG_MODULE_MAGIC;
 
@@ -192,6 +194,47 @@ static Datum difference_of(FunctionCallInfo fcinfo, bool first_is_text, bool sec
     PG_RETURN_TEXT_P(cstring_to_text_with_len(path, (int)length));
 }
 
+/* The lines of differences as jsonb, which has no NUL byte: a value with one is an error of PostgreSQL's. */
+static Datum jsonb_of(const char *lines, size_t length)
+{
+    size_t room = differences_as_json(lines, length, NULL);
+    char *json;
+
+    if (room > MOST_BYTES)
+        ereport(ERROR, (errcode(ERRCODE_PROGRAM_LIMIT_EXCEEDED),
+                        errmsg("the differences have %zu bytes, more than a text of PostgreSQL", room)));
+    json = palloc(room + 1);
+    differences_as_json(lines, length, json);
+    json[room] = '\0';
+    return DirectFunctionCall1(jsonb_in, CStringGetDatum(pg_any_to_server(json, (int)room, PG_UTF8)));
+}
+
+static Datum differences_of(FunctionCallInfo fcinfo, bool first_is_text, bool second_is_text)
+{
+    uint32 level = level_of(fcinfo, 2), code;
+    struct bytes first = bytes_of(fcinfo, 0, first_is_text), second = bytes_of(fcinfo, 1, second_is_text);
+    struct crsdesk_refusal refusal;
+    size_t length = 1000, room;
+    char *lines = NULL;
+
+    begin_call();
+    do {
+        if (length > MOST_BYTES)
+            ereport(ERROR, (errcode(ERRCODE_PROGRAM_LIMIT_EXCEEDED),
+                            errmsg("the differences have %zu bytes, more than a text of PostgreSQL", length)));
+        if (lines != NULL)
+            pfree(lines);
+        room = length;
+        lines = palloc(room);
+        code = crsdesk_differences(first.first, first.length, second.first, second.length, level, lines, room, &length,
+                                   &refusal);
+    } while (code == CRSDESK_NO_ROOM);
+    hold_code(code);
+    if (code != CRSDESK_OK)
+        PG_RETURN_NULL();
+    return jsonb_of(lines, length);
+}
+
 static Datum version_of(void)
 {
     char version[SHORT_ROOM];
@@ -224,4 +267,8 @@ FUNCTION(crsdesk_pg_difference_text_text, difference_of(fcinfo, true, true))
 FUNCTION(crsdesk_pg_difference_text_bytea, difference_of(fcinfo, true, false))
 FUNCTION(crsdesk_pg_difference_bytea_text, difference_of(fcinfo, false, true))
 FUNCTION(crsdesk_pg_difference_bytea_bytea, difference_of(fcinfo, false, false))
+FUNCTION(crsdesk_pg_differences_text_text, differences_of(fcinfo, true, true))
+FUNCTION(crsdesk_pg_differences_text_bytea, differences_of(fcinfo, true, false))
+FUNCTION(crsdesk_pg_differences_bytea_text, differences_of(fcinfo, false, true))
+FUNCTION(crsdesk_pg_differences_bytea_bytea, differences_of(fcinfo, false, false))
 FUNCTION(crsdesk_pg_version, version_of())

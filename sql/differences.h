@@ -1,0 +1,105 @@
+/* The lines of crsdesk_differences as JSON: an array of objects {"path", "first", "second"}, in the order of the lines,
+   with null where nothing stands. Of both extensions for SQL. */
+#ifndef CRSDESK_DIFFERENCES_H
+#define CRSDESK_DIFFERENCES_H
+
+#include <stddef.h>
+#include <string.h>
+
+/* What is written, or counted where `out` is null. */
+struct json {
+    char *out;
+    size_t length;
+};
+
+static void put(struct json *json, const char *bytes, size_t length)
+{
+    if (json->out != NULL)
+        memcpy(json->out + json->length, bytes, length);
+    json->length += length;
+}
+
+static void put_word(struct json *json, const char *word)
+{
+    put(json, word, strlen(word));
+}
+
+/* A value, as the line has it. Of its escapes JSON has all but \xHH; its quotes are escaped here. */
+static void put_value(struct json *json, const char *value, size_t length)
+{
+    size_t from = 0, i;
+
+    if (length == 4 && memcmp(value, "none", 4) == 0) {
+        put_word(json, "null");
+        return;
+    }
+    put_word(json, "\"");
+    for (i = 0; i < length; i++) {
+        if (value[i] != '"' && value[i] != '\\')
+            continue;
+        put(json, value + from, i - from);
+        from = i;
+        if (value[i] == '"') {
+            put_word(json, "\\");
+        } else {
+            i++;
+            if (i < length && value[i] == 'x') {
+                put_word(json, "\\u00");
+                from = i + 1;
+            }
+        }
+    }
+    put(json, value + from, length - from);
+    put_word(json, "\"");
+}
+
+/* Where the two values of a line are parted, at ` | `, which a quoted text may have inside. */
+static size_t between_values(const char *values, size_t length)
+{
+    int is_quoted = 0;
+    size_t i;
+
+    for (i = 0; i + 2 < length; i++) {
+        if (values[i] == '"')
+            is_quoted = !is_quoted;
+        else if (!is_quoted && memcmp(values + i, " | ", 3) == 0)
+            return i;
+    }
+    return length;
+}
+
+static void put_difference(struct json *json, const char *line, size_t length)
+{
+    const char *colon = memchr(line, ':', length);
+    size_t path = colon == NULL ? length : (size_t)(colon - line);
+    const char *values = line + (path + 2 < length ? path + 2 : length);
+    size_t rest = length - (size_t)(values - line), first = between_values(values, rest);
+    size_t second = first + 3 < rest ? first + 3 : rest;
+
+    put_word(json, "{\"path\":");
+    put_value(json, line, path);
+    put_word(json, ",\"first\":");
+    put_value(json, values, first);
+    put_word(json, ",\"second\":");
+    put_value(json, values + second, rest - second);
+    put_word(json, "}");
+}
+
+/* Writes the JSON of the lines to `out`, where that isn't null; answers its number of bytes. */
+static size_t differences_as_json(const char *lines, size_t length, char *out)
+{
+    struct json json = {NULL, 0};
+    const char *rest = lines, *end;
+
+    json.out = out;
+    put_word(&json, "[");
+    for (; (end = memchr(rest, '\n', length - (size_t)(rest - lines))) != NULL; rest = end + 1) {
+        if (rest != lines)
+            put_word(&json, ",");
+        put_difference(&json, rest, (size_t)(end - rest));
+    }
+    put_word(&json, "]");
+    return json.length;
+}
+
+#endif
