@@ -118,6 +118,22 @@ static uint32_t first_part(const struct trial *it, struct places *to)
                               sizeof to->out, &to->length, &to->why);
 }
 
+static uint32_t differences(const struct trial *it, struct places *to)
+{
+    return crsdesk_differences(it->first, strlen(it->first), it->second, strlen(it->second), CRSDESK_FULL, to->out,
+                               sizeof to->out, &to->length, &to->why);
+}
+
+static uint32_t explain(const struct trial *it, struct places *to)
+{
+    return crsdesk_explain(it->first, strlen(it->first), to->out, sizeof to->out, &to->length);
+}
+
+static uint32_t explain_without_room(const struct trial *it, struct places *to)
+{
+    return crsdesk_explain(it->first, strlen(it->first), to->out, 3, &to->length);
+}
+
 /* Adds a text, and once more where memory was refused, which must have changed nothing. */
 static struct crsdesk_standing added(struct crsdesk_catalogue *catalogue, uint64_t number, const char *text,
                                      struct places *to)
@@ -169,6 +185,17 @@ static const struct trial trials[] = {
     {"first_part", first_part, VERTICAL "]", VERTICAL ",ID[\"X\",1]]"},
     {"first_part, the same", first_part, GEOGRAPHIC, GEOGRAPHIC},
     {"first_part, the second refused", first_part, GEOGRAPHIC, VERTICAL},
+    {"differences", differences, GEOGRAPHIC, VERTICAL "]"},
+    {"differences, a set", differences, VERTICAL ",ID[\"X\",1],REMARK[\"a\\\\\nb\"]]", VERTICAL ",ID[\"X\",2]]"},
+    {"differences, the same", differences, GEOGRAPHIC, GEOGRAPHIC},
+    {"differences, the second refused", differences, GEOGRAPHIC, VERTICAL},
+    {"explain, of the text", explain, VERTICAL, ""},
+    {"explain, of the shape", explain, VERTICAL ",FOO[1]]", ""},
+    {"explain, of the values", explain, "VERTCRS[\"H\",VDATUM[\"D\"],CS[vertical,2],AXIS[\"h\",up,LENGTHUNIT[\"metre\",1]]]", ""},
+    {"explain, a keyword misspelt", explain, "VERTCSR[\"H\"]", ""},
+    {"explain, WKT1", explain, "GEOGCS[\"A\",DATUM[\"D\",TOWGS84[1,2,3]]]", ""},
+    {"explain, accepted", explain, GEOGRAPHIC, ""},
+    {"explain without room", explain_without_room, VERTICAL, ""},
     {"a catalogue", catalogue, GEOGRAPHIC, VERTICAL "]"},
 };
 

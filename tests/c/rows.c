@@ -166,6 +166,20 @@ static uint32_t call_part(const struct asked *it, char *out, size_t room, size_t
                               why);
 }
 
+static uint32_t call_differences(const struct asked *it, char *out, size_t room, size_t *length,
+                                 struct crsdesk_refusal *why)
+{
+    return crsdesk_differences(it->first, it->first_length, it->second, it->second_length, it->level, out, room, length,
+                               why);
+}
+
+/* This call has no refusal apart from its text; none is told. */
+static uint32_t call_explain(const struct asked *it, char *out, size_t room, size_t *length, struct crsdesk_refusal *why)
+{
+    (void)why;
+    return crsdesk_explain(it->first, it->first_length, out, room, length);
+}
+
 /* This call has no refusal; none is told. */
 static uint32_t call_name(const struct asked *it, char *out, size_t room, size_t *length, struct crsdesk_refusal *why)
 {
@@ -205,6 +219,32 @@ static void without_level(struct asked asked, struct answer *answer)
     free(out);
 }
 
+/* The explanation of a text begins with the line of its refusal, and has the piece and a caret behind it; an accepted
+   text has none. It is the same in each room. */
+static void explained(const struct asked *given, int is_refused, const struct crsdesk_refusal *told,
+                      struct answer *answer)
+{
+    struct asked asked = *given;
+    struct answer line = {{NULL, 0}, 0, ""};
+    struct bytes lines;
+    struct crsdesk_refusal why;
+    size_t ends = 0;
+    asked.call = call_explain;
+    if (in_each_room(&asked, &lines, &why, answer) != CRSDESK_OK || (lines.length > 0) != is_refused)
+        wrong(answer, "an accepted text is explained, or a refused one isn't");
+    if (is_refused && lines.length > 0) {
+        append_refusal(&line, told);
+        appendf(&line, ", line ");
+        for (size_t i = 0; i < lines.length; i++)
+            ends += lines.at[i] == '\n';
+        if (lines.length < line.text.length || memcmp(lines.at, line.text.at, line.text.length) != 0 || ends < 4
+            || lines.at[lines.length - 1] != '\n')
+            wrong(answer, "the explanation isn't that of the refusal");
+    }
+    free(lines.at);
+    free(line.text.at);
+}
+
 static void answer_canon(const struct bytes *text, uint32_t level, struct answer *answer, const char *before)
 {
     struct asked asked = {call_canon, copied(text->at, text->length), NULL, text->length, 0, level, 0};
@@ -219,9 +259,31 @@ static void answer_canon(const struct bytes *text, uint32_t level, struct answer
     } else {
         wrong(answer, "a code that canon doesn't have here");
     }
+    explained(&asked, code == CRSDESK_REFUSED, &why, answer);
     without_level(asked, answer);
     free(canonical.at);
     free((char *)asked.first);
+}
+
+/* The lines of all parts begin with the first part's path, and each line ends; there are none where the path has no
+   words. The code and the refusal are those of first_part. */
+static void all_parts(const struct asked *given, uint32_t code, const struct bytes *path,
+                      const struct crsdesk_refusal *told, struct answer *answer)
+{
+    struct asked asked = *given;
+    struct bytes lines;
+    struct crsdesk_refusal why;
+    asked.call = call_differences;
+    if (in_each_room(&asked, &lines, &why, answer) != code || why.number != told->number || why.place != told->place)
+        wrong(answer, "differences and first_part don't have the same code or refusal");
+    if ((lines.length == 0) != (path->length == 0))
+        wrong(answer, "differences and first_part don't agree that there are any");
+    if (path->length > 0 && lines.length > 0
+        && (lines.length < path->length + 2 || memcmp(lines.at, path->at, path->length) != 0
+            || memcmp(lines.at + path->length, ": ", 2) != 0 || lines.at[lines.length - 1] != '\n'))
+        wrong(answer, "the first of all parts isn't the first part");
+    without_level(asked, answer);
+    free(lines.at);
 }
 
 /* `same`, or `different` and the path; or the refusal behind `first` and `second`. */
@@ -248,6 +310,7 @@ static void answer_same(const struct bytes *first, const struct bytes *second, u
         appendf(answer, "%s", names[code == CRSDESK_SECOND_REFUSED]);
         append_refusal(answer, &why);
     }
+    all_parts(&asked, code, &path, &why, answer);
     without_level(asked, answer);
     if (crsdesk_same(asked.first, asked.first_length, asked.second, asked.second_length, 2, &same, &same_why)
         != CRSDESK_NO_LEVEL)
