@@ -149,7 +149,7 @@ def first_part(first: bytes, second: bytes, level: int) -> bytes:
     return answer
 
 
-def in_room(found: Places, call: Callable[[Any, int], int]) -> Tuple[int, bytes]:
+def in_room(found: Places, call: Callable[[Any, int], Any]) -> Tuple[int, bytes]:
     """The code of a call that writes an answer of any length, and the answer; another room is made where it needs it."""
     out, room = found.out, found.room
     code = call(out, room)
