@@ -350,17 +350,16 @@ HINTS = [
     (HEIGHT + "]", "one too many"),
     (HEIGHT + ";", "cut off what stands behind it"),
     (HEIGHT + " x", "cut off what stands behind it"),
-    (HEIGHT[:-1], "Still open at the end: VERTCRS[ at 0."),
+    (HEIGHT[:-1], "VERTCRS[ at 0 is still open"),
     ('VERTCRS ("H",VDATUM["D"', "Still open at the end: VERTCRS( at 0, VDATUM[ at 13."),
     (HEIGHT.replace('"D"]', '"D"'), "CS[ at 23 stands inside VDATUM[ at 12"),
     (HEIGHT.replace('"D"]', '"D"') + "]", "CS[ at 23 stands inside VDATUM[ at 12"),
-    (HEIGHT.replace('"D"]', '"D")'), "VDATUM[ at 12, to be closed by ]"),
-    (HEIGHT.replace(",CS[vertical,1]", ",CS[vertical]"), "It closes CS[ at 24."),
+    (HEIGHT.replace('"D"]', '"D")'), "VDATUM[ at 12 is closed by ], not by )"),
     (HEIGHT.replace('"H"', '"H'), "the quoted text that is opened at 8"),
     (HEIGHT.replace('"H"', 'H"'), "the quoted text that is opened at 9"),
     (HEIGHT.replace('["metre"', '["metre'), "this quoted text, VERTCRS[ at 0, AXIS[ at 39, LENGTHUNIT[ at 51."),
     (HEIGHT[:-1] + ',REMARK["r]]', "this quoted text, VERTCRS[ at 0, REMARK[ at 74."),
-    ('GEOGCS["A"', "Still open at the end: GEOGCS[ at 0."),
+    ('GEOGCS["A"', "GEOGCS[ at 0 is still open"),
     (HEIGHT.replace('"metre",1', '"metre",1,0'), "a comma stands for a decimal point"),
     ('GEOGCRS["A",DATUM["D",ELLIPSOID["E",6377397,155,299,1528128]]]', "a comma stands for a decimal point"),
     (HEIGHT.replace('"metre",1', '"metre",1m'), "a unit is a node of its own"),
@@ -1126,7 +1125,7 @@ def command_lines(files: Files) -> None:
     refusal = 'lines.txt:3: refused 7 UnexpectedEnd at 11, column 12\n  VERTCRS["H"\n             ^\n'
     status, output, error = files.run("canon", "--lines", "lines.txt")
     assert (status, output) == (1, f"{CANONICAL_HEIGHT}\n\n\n{CANONICAL_HEIGHT}\n")
-    assert error.startswith(refusal) and error.endswith("Still open at the end: VERTCRS[ at 0.\n"), error
+    assert error.startswith(refusal) and "VERTCRS[ at 0 is still open\n" in error, error
     status, output, error = files.run("check", "--lines", "lines.txt")
     assert (status, output) == (1, "accepted vertical\nblank\nrefused 7 UnexpectedEnd at 11\naccepted vertical\n")
     assert error.startswith(refusal)
