@@ -272,8 +272,8 @@ def try_postgresql(counts: Counts, folder: pathlib.Path) -> None:
         print("skipped: PostgreSQL's server or pg_config isn't there: ./install --postgresql")
         return
     folders = [run(["pg_config", f"--{it}"]).stdout.strip().lstrip("/") for it in ("pkglibdir", "sharedir")]
-    script = f"crsdesk--{run([ROOT / 'crates/crsdesk/out/crsdesk', '--version']).stdout.split()[1]}.sql"
-    names = [f"extension/{it}" for it in ("crsdesk.control", "crsdesk.installed", script)]
+    scripts = sorted(it.name for it in (ROOT / "sql" / "postgresql").glob("crsdesk--*.sql"))
+    names = [f"extension/{it}" for it in ("crsdesk.control", "crsdesk.installed", *scripts)]
     wanted = {f"{folders[0]}/crsdesk.so", *(f"{folders[1]}/{it}" for it in names)}
     counts.compare("--postgresql", (done.returncode, files_below(stage)), (0, wanted))
     printed = {line[len(str(stage)) + 1 :] for line in done.stdout.split("\n")[:-1]}

@@ -10,7 +10,7 @@ of the system's is touched. The server runs as nobody where root calls, and is r
 
 The rows of the .rows files beside this one are asked of the functions, as text and as bytea, in databases of three
 encodings; then come what no text is, levels, constraints, indexes, generated columns, a parallel plan over a million
-rows, a cancelled query, dump and restore, an update from an older version, entries of a GeoPackage, the commands that
+rows, a cancelled query, dump and restore, an update from each older version, entries of a GeoPackage, the commands that
 docs/SQL.md shows, and each growth of memory refused in turn. What isn't there is told as skipped, by name. Each case that
 fails has a line; the last line is 'N passed, M failed', and the status is 0 where M is 0.
 """
@@ -52,6 +52,9 @@ MOST_GROWTHS = 250
 LACKS = "the extension for PostgreSQL"
 CONTROL = (build_postgresql.SOURCES / "crsdesk.control").read_text(encoding="utf-8")
 VERSION = CONTROL.partition("default_version = '")[2].partition("'")[0]
+# The scripts of the oldest version that can be made, and those that update one to another.
+SCRIPTS = sorted(path.name for path in build_postgresql.SOURCES.glob("crsdesk--*.sql"))
+OLDEST = "0.1.0"
 
 
 def dialect_of(encoding: str) -> sql_rows.Dialect:
@@ -220,10 +223,10 @@ def add_links(source: pathlib.Path, target: pathlib.Path) -> None:
             (target / path.name).symlink_to(path)
 
 
-def try_symbols(counts: Counts, module: pathlib.Path, script: str) -> None:
+def try_symbols(counts: Counts, module: pathlib.Path, scripts: str) -> None:
     """It shows the functions that SQL declares, and needs the C library alone."""
     shown = subprocess.run(["nm", "-D", "--defined-only", module], capture_output=True, text=True, check=True).stdout
-    declared = re.findall(r"'MODULE_PATHNAME', '(\w+)'", script)
+    declared = re.findall(r"'MODULE_PATHNAME', '(\w+)'", scripts)
     wanted = {"Pg_magic_func", *declared, *(f"pg_finfo_{name}" for name in declared)}
     counts.compare("its names", set(shown.split()[2::3]), wanted)
     needs = subprocess.run(["readelf", "-d", module], capture_output=True, text=True, check=True).stdout
@@ -232,11 +235,11 @@ def try_symbols(counts: Counts, module: pathlib.Path, script: str) -> None:
 
 
 def try_version(counts: Counts, server: Server, prefix: pathlib.Path) -> None:
-    """The extension's version is that of the library that it holds."""
+    """crs_version tells the library that the extension holds; the extension's own version is that of its scripts."""
     told = (prefix / "lib" / "pkgconfig" / "crsdesk.pc").read_text(encoding="utf-8").split("\n")
     wanted = next(line.partition(": ")[2] for line in told if line.startswith("Version: "))
     asked = "SELECT crs_version(), extversion FROM pg_extension WHERE extname = 'crsdesk';"
-    server.hold(counts, [("the version", asked, f"{wanted}|{wanted}")])
+    server.hold(counts, [("the version", asked, f"{wanted}|{VERSION}")])
 
 
 # All functions of the extension as they are declared.
@@ -249,7 +252,7 @@ def promises() -> Iterator[Statement]:
     """What PostgreSQL's functions promise beside what all extensions do."""
     nul = HEIGHT.replace('"H"', '"a\0b"').encode()
     blob = f"'\\x{nul.hex()}'::bytea"
-    yield "functions", f"SELECT count(*) FROM ({DECLARED[:-1]}) AS t WHERE provolatile = 'i' AND proisstrict AND proparallel = 's';", "15"
+    yield "functions", f"SELECT count(*) FROM ({DECLARED[:-1]}) AS t WHERE provolatile = 'i' AND proisstrict AND proparallel = 's';", "19"
     yield "a NUL byte", f"SELECT crs_kind({blob}), crs_same({blob}, {blob}), crs_difference({blob}, '{HEIGHT}');", "vertical|t|name"
     yield "a NUL byte", f"SELECT crs_canon({blob});", "Error: the canonical text has a NUL byte, which a text of PostgreSQL can't have"
     yield "a long level", f"SELECT crs_canon('x', '{'é' * 30}');", f"Error: no such level: '{'é' * 20}'; {sql_rows.LEVELS}"
@@ -467,38 +470,26 @@ def try_dump(counts: Counts, server: Server, folder: pathlib.Path) -> None:
     )
 
 
-def try_update(counts: Counts, server: Server, extensions: pathlib.Path, script: str) -> None:
-    """ALTER EXTENSION .. UPDATE from a version of texts alone makes what CREATE EXTENSION makes."""
-    declarations = re.findall(r"(?ms)^CREATE FUNCTION .*?;$", script)
-    older = [it for it in declarations if "bytea" not in it]
-    newer = [it for it in declarations if it not in older]
-    (extensions / "crsdesk--0.0.9.sql").write_text("\n".join(older), encoding="utf-8")
-    (extensions / f"crsdesk--0.0.9--{VERSION}.sql").write_text("\n".join(newer), encoding="utf-8")
+def try_update(counts: Counts, server: Server) -> None:
+    """ALTER EXTENSION .. UPDATE from each older version makes what CREATE EXTENSION makes, and keeps what depends on it."""
+    made = "SELECT extversion FROM pg_extension WHERE extname = 'crsdesk';"
     server.make("older")
     server.hold(
         counts,
         [
+            ("an older version", f"CREATE EXTENSION crsdesk VERSION '{OLDEST}'; {made}", OLDEST),
             (
                 "an older version",
-                "CREATE EXTENSION crsdesk VERSION '0.0.9'; SELECT extversion FROM pg_extension WHERE extname = 'crsdesk';",
-                "0.0.9",
-            ),
-            (
-                "an older version",
-                f"SELECT crs_kind('\\x{HEIGHT.encode().hex()}'::bytea);",
-                "Error: function crs_kind(bytea) does not exist at character 8",
+                f"SELECT crs_differences('{HEIGHT}', '{NOTED}');",
+                "Error: function crs_differences(unknown, unknown) does not exist at character 8",
             ),
             (
                 "a table",
                 f"CREATE TABLE t (wkt text); CREATE INDEX ON t (crs_canon(wkt)); INSERT INTO t VALUES ('{HEIGHT}');",
                 "",
             ),
-            (
-                "an update",
-                "ALTER EXTENSION crsdesk UPDATE; SELECT extversion FROM pg_extension WHERE extname = 'crsdesk';",
-                VERSION,
-            ),
-            ("a newer function", f"SELECT crs_kind('\\x{HEIGHT.encode().hex()}'::bytea);", "vertical"),
+            ("an update", f"ALTER EXTENSION crsdesk UPDATE; {made}", VERSION),
+            ("a newer function", f"SELECT crs_differences('{HEIGHT}', '{NOTED}')->0->>'path';", "remark"),
             (
                 "an index of before",
                 f"SET enable_seqscan = off; SELECT count(*) FROM t WHERE crs_canon(wkt) = crs_canon('{TWIN}');",
@@ -516,30 +507,31 @@ def try_update(counts: Counts, server: Server, extensions: pathlib.Path, script:
             ),
             (
                 "another schema",
-                "CREATE SCHEMA maps; CREATE EXTENSION crsdesk SCHEMA maps; ALTER EXTENSION crsdesk SET SCHEMA public; SELECT crs_version();",
+                f"CREATE SCHEMA maps; CREATE EXTENSION crsdesk SCHEMA maps; ALTER EXTENSION crsdesk SET SCHEMA public; {made}",
                 VERSION,
             ),
+            ("another schema", f"SELECT crs_kind('{HEIGHT}');", "vertical"),
         ],
         "older",
     )
-    server.make("updated")
-    server.hold(
-        counts,
-        [("an update", "CREATE EXTENSION crsdesk VERSION '0.0.9'; ALTER EXTENSION crsdesk UPDATE;", "")],
-        "updated",
-    )
     asked = [("", DECLARED, "")]
-    counts.compare("what an update makes", server.printed(asked, "updated"), server.printed(asked, "utf8"))
-    for name in ("crsdesk--0.0.9.sql", f"crsdesk--0.0.9--{VERSION}.sql"):
-        (extensions / name).unlink()
+    found = {version for name in SCRIPTS for version in name[len("crsdesk--") : -len(".sql")].split("--")}
+    counts.compare("its versions", (OLDEST in found, VERSION in found, len(found) > 1), (True, True, True))
+    for version in sorted(found - {VERSION}):
+        database = f"from {version}"
+        server.make(database)
+        update = f"CREATE EXTENSION crsdesk VERSION '{version}'; ALTER EXTENSION crsdesk UPDATE; {made}"
+        server.hold(counts, [("an update", update, VERSION)], database)
+        wanted = server.printed(asked, "utf8")
+        counts.compare(f"what an update from {version} makes", server.printed(asked, database), wanted)
 
 
 def try_rights(counts: Counts, server: Server) -> None:
     """A user who may create in a database may create the extension there."""
     server.make("owned")
     first = "CREATE ROLE owner LOGIN; GRANT CREATE ON DATABASE owned TO owner; GRANT CREATE ON SCHEMA public TO owner;"
-    asked = "SET ROLE owner; CREATE EXTENSION crsdesk; SELECT crs_version(), rolsuper FROM pg_roles WHERE rolname = current_user;"
-    server.hold(counts, [("a user", asked, f"{VERSION}|f")], "owned", first)
+    asked = f"SET ROLE owner; CREATE EXTENSION crsdesk; SELECT crs_kind('{HEIGHT}'), rolsuper FROM pg_roles WHERE rolname = current_user;"
+    server.hold(counts, [("a user", asked, "vertical|f")], "owned", first)
 
 
 def try_geopackage(counts: Counts, server: Server, folder: pathlib.Path) -> None:
@@ -655,8 +647,8 @@ def main(words: List[str]) -> int:
         (folder / "server").mkdir()
         stage = folder / "stage"
         build_postgresql.build(prefix, stage, "-Werror")
-        script = (build_postgresql.SOURCES / f"crsdesk--{VERSION}.sql").read_text(encoding="utf-8")
-        try_symbols(counts, below(stage, build_postgresql.folder_of("pkglibdir")) / "crsdesk.so", script)
+        scripts = "".join((build_postgresql.SOURCES / name).read_text(encoding="utf-8") for name in SCRIPTS)
+        try_symbols(counts, below(stage, build_postgresql.folder_of("pkglibdir")) / "crsdesk.so", scripts)
         server = Server(folder / "server", stage)
         os.environ["PATH"] = server.environment["PATH"]
         with server.running():
@@ -667,7 +659,7 @@ def main(words: List[str]) -> int:
             try_cancel(counts, server)
             try_leaks(counts, server)
             try_dump(counts, server, folder)
-            try_update(counts, server, below(stage, build_postgresql.folder_of("sharedir")) / "extension", script)
+            try_update(counts, server)
             try_rights(counts, server)
             try_geopackage(counts, server, folder)
             try_documents(counts, server)

@@ -65,24 +65,6 @@ CREATE FUNCTION crs_difference(a bytea, b bytea, level text DEFAULT 'full') RETU
     AS 'MODULE_PATHNAME', 'crsdesk_pg_difference_bytea_bytea'
     LANGUAGE C IMMUTABLE STRICT PARALLEL SAFE COST 500;
 
--- all parts that differ, [{"path", "first", "second"}, ..] with null for what stands in one alone; NULL where either
--- spells none
-CREATE FUNCTION crs_differences(a text, b text, level text DEFAULT 'full') RETURNS jsonb
-    AS 'MODULE_PATHNAME', 'crsdesk_pg_differences_text_text'
-    LANGUAGE C IMMUTABLE STRICT PARALLEL SAFE COST 500;
-
-CREATE FUNCTION crs_differences(a text, b bytea, level text DEFAULT 'full') RETURNS jsonb
-    AS 'MODULE_PATHNAME', 'crsdesk_pg_differences_text_bytea'
-    LANGUAGE C IMMUTABLE STRICT PARALLEL SAFE COST 500;
-
-CREATE FUNCTION crs_differences(a bytea, b text, level text DEFAULT 'full') RETURNS jsonb
-    AS 'MODULE_PATHNAME', 'crsdesk_pg_differences_bytea_text'
-    LANGUAGE C IMMUTABLE STRICT PARALLEL SAFE COST 500;
-
-CREATE FUNCTION crs_differences(a bytea, b bytea, level text DEFAULT 'full') RETURNS jsonb
-    AS 'MODULE_PATHNAME', 'crsdesk_pg_differences_bytea_bytea'
-    LANGUAGE C IMMUTABLE STRICT PARALLEL SAFE COST 500;
-
 -- the version of crsdesk, as: 0.1.0
 CREATE FUNCTION crs_version() RETURNS text
     AS 'MODULE_PATHNAME', 'crsdesk_pg_version'

@@ -1,5 +1,5 @@
-/* crsdesk: the calls of crsdesk as functions of PostgreSQL. crsdesk--0.1.0.sql declares them, and docs/SQL.md says what
-   they answer.
+/* crsdesk: the calls of crsdesk as functions of PostgreSQL. The scripts crsdesk--*.sql declare them, and docs/SQL.md
+   says what they answer.
 
    A text is a `text`, whose characters are judged as the bytes of their UTF-8, or a `bytea`, whose bytes are judged as
    they are. Places of refusals count those bytes. In a database of SQL_ASCII a text's bytes are judged as they are too.
