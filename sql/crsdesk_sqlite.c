@@ -263,10 +263,10 @@ int sqlite3_crsdesksqlite_init(sqlite3 *db, char **error, const sqlite3_api_rout
         int arguments;
         void (*call)(sqlite3_context *, int, sqlite3_value **);
     } FUNCTIONS[] = {
-        {"crs_canon", 1, crs_canon},           {"crs_canon", 2, crs_canon},
-        {"crs_kind", 1, crs_kind},             {"crs_same", 2, crs_same},
-        {"crs_same", 3, crs_same},             {"crs_difference", 2, crs_difference},
-        {"crs_difference", 3, crs_difference}, {"crs_differences", 2, crs_differences},
+        {"crs_canon", 1, crs_canon},             {"crs_canon", 2, crs_canon},
+        {"crs_kind", 1, crs_kind},               {"crs_same", 2, crs_same},
+        {"crs_same", 3, crs_same},               {"crs_difference", 2, crs_difference},
+        {"crs_difference", 3, crs_difference},   {"crs_differences", 2, crs_differences},
         {"crs_differences", 3, crs_differences}, {"crs_refusal", 1, crs_refusal},
         {"crs_version", 0, crs_version},
     };
