@@ -93,7 +93,8 @@ class Refused(ValueError):
 
     def kept(self, with_text: bool = False) -> Refused:
         """The same refusal to keep: without the calls that it was raised in, and without the text unless asked."""
-        return Refused(self.text if with_text else None, self.number, self.name, self.place, self.which, self.told)
+        text, told = (self.text, self._told) if with_text else (None, self.told)
+        return Refused(text, self.number, self.name, self.place, self.which, told)
 
     @property
     def line(self) -> int:

@@ -22,7 +22,7 @@ import numpy
 import pandas
 from dask import delayed
 
-from ._crs import Catalogue, Level, canon as canonical_text, number_of
+from ._crs import Catalogue, Level, canon as canonical_text, is_blank, number_of
 from ._refused import Refused
 
 __all__ = ["Standing", "canon", "groups"]
@@ -143,7 +143,7 @@ def own_groups(texts: Iterable[Any], level: Level, is_bag: bool) -> Tuple[Kept, 
         group = None
         try:
             if is_bag or not is_missing(text):
-                group = catalogue.add(text, number)
+                group = catalogue._add_canonical("" if is_blank(text) else canonical_text(text, level), number)
         except Refused as refused:
             refusals[number] = refused.summary
         local.append(group or 0)
