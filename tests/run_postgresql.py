@@ -248,6 +248,10 @@ p.prosrc, p.probin, pg_get_function_arguments(p.oid) FROM pg_depend d JOIN pg_pr
 JOIN pg_extension e ON d.refobjid = e.oid WHERE e.extname = 'crsdesk' AND d.deptype = 'e' ORDER BY p.oid::regprocedure::text;"""
 
 
+# The parts in which HEIGHT and NOTED differ, and those of HEIGHT and TWIN.
+ALL_PARTS = """[{"path": "remark", "first": null, "second": "\\"r\\""}]|[]"""
+
+
 def promises() -> Iterator[Statement]:
     """What PostgreSQL's functions promise beside what all extensions do."""
     nul = HEIGHT.replace('"H"', '"a\0b"').encode()
@@ -255,9 +259,15 @@ def promises() -> Iterator[Statement]:
     yield "functions", f"SELECT count(*) FROM ({DECLARED[:-1]}) AS t WHERE provolatile = 'i' AND proisstrict AND proparallel = 's';", "19"
     yield "a NUL byte", f"SELECT crs_kind({blob}), crs_same({blob}, {blob}), crs_difference({blob}, '{HEIGHT}');", "vertical|t|name"
     yield "a NUL byte", f"SELECT crs_canon({blob});", "Error: the canonical text has a NUL byte, which a text of PostgreSQL can't have"
+    parts = f"crs_differences({blob}, '{HEIGHT}')"
+    yield "a NUL byte", f"SELECT {parts};", "Error: a part that differs has a NUL byte, which a text of PostgreSQL can't have"
+    nul_like = HEIGHT.replace('"H"', '"a\\x00"')
+    yield "no NUL byte", f"SELECT crs_differences('{nul_like}', '{HEIGHT}')->0->>'first';", '"a\\x00"'
     yield "a long level", f"SELECT crs_canon('x', '{'é' * 30}');", f"Error: no such level: '{'é' * 20}'; {sql_rows.LEVELS}"
     yield "an empty level", "SELECT crs_canon('x', '');", f"Error: no such level: ''; {sql_rows.LEVELS}"
-    yield "types", f"SELECT pg_typeof(crs_canon('{HEIGHT}')), pg_typeof(crs_same('{HEIGHT}', '{HEIGHT}'));", "text|boolean"
+    yield "types", f"SELECT pg_typeof(crs_canon('{HEIGHT}')), pg_typeof(crs_same('{HEIGHT}', '{HEIGHT}')), pg_typeof(crs_differences('{HEIGHT}', '{HEIGHT}'));", "text|boolean|jsonb"
+    yield "all parts", f"SELECT crs_differences('{HEIGHT}', '{NOTED}'), crs_differences('{HEIGHT}', '{TWIN}');", ALL_PARTS
+    yield "all parts", f"SELECT crs_differences('{HEIGHT}', 'x'), crs_differences('x', '{HEIGHT}', 'definition');", "|"
     kinds = {
         "text": f"'{HEIGHT}'::text",
         "bytea": f"'\\x{TWIN.encode().hex()}'::bytea",
@@ -266,7 +276,7 @@ def promises() -> Iterator[Statement]:
     for first in kinds.values():
         yield "all types of text", f"SELECT crs_kind({first}), crs_canon({first}), crs_canon({first}, level => 'definition');", f"vertical|{CANONICAL_HEIGHT}|{CANONICAL_HEIGHT}"
         for second in [*kinds.values(), f"'{TWIN}'"]:
-            yield "two types of text", f"SELECT crs_same({first}, {second}), crs_difference({first}, {second}, 'full');", "t|same"
+            yield "two types of text", f"SELECT crs_same({first}, {second}), crs_difference({first}, {second}, 'full'), crs_differences({first}, {second}, level => 'full');", "t|same|[]"
     yield "a NUL argument", f"SELECT crs_same({kinds['bytea']}, NULL) IS NULL, crs_difference(NULL::bytea, 'x') IS NULL;", "t|t"
     yield from of_tables()
     yield from of_long_keys()
@@ -609,6 +619,7 @@ def try_refused(counts: Counts, server: Server, folder: pathlib.Path) -> None:
         f"crs_kind('{HEIGHT}')": "vertical",
         f"crs_same('{HEIGHT}', '{NOTED}')": "f",
         f"crs_difference('{HEIGHT}', '{NOTED}')": "remark",
+        f"crs_differences('{HEIGHT}', '{NOTED}')->0->>'path'": "remark",
         f"crs_refusal('{HEIGHT}x')": f"refused 6 Unexpected at {len(HEIGHT)}",
     }
     with server.running(LD_PRELOAD=str(module)):

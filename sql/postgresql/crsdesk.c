@@ -194,12 +194,30 @@ static Datum difference_of(FunctionCallInfo fcinfo, bool first_is_text, bool sec
     PG_RETURN_TEXT_P(cstring_to_text_with_len(path, (int)length));
 }
 
-/* The lines of differences as jsonb, which has no NUL byte: a value with one is an error of PostgreSQL's. */
+/* Whether a value of the lines of differences has a NUL byte, which stands there escaped. */
+static bool has_nul(const char *lines, size_t length)
+{
+    size_t i;
+
+    for (i = 0; i + 3 < length; i++) {
+        if (lines[i] != '\\')
+            continue;
+        if (memcmp(lines + i + 1, "x00", 3) == 0)
+            return true;
+        i++;
+    }
+    return false;
+}
+
+/* The lines of differences as jsonb. */
 static Datum jsonb_of(const char *lines, size_t length)
 {
     size_t room = differences_as_json(lines, length, NULL);
     char *json;
 
+    if (has_nul(lines, length))
+        ereport(ERROR, (errcode(ERRCODE_UNTRANSLATABLE_CHARACTER),
+                        errmsg("a part that differs has a NUL byte, which a text of PostgreSQL can't have")));
     if (room > MOST_BYTES)
         ereport(ERROR, (errcode(ERRCODE_PROGRAM_LIMIT_EXCEEDED),
                         errmsg("the differences have %zu bytes, more than a text of PostgreSQL", room)));
