@@ -142,9 +142,10 @@ VALUES = ["", "none", " | ", ": ", '"" | ""', "\\", "\\\\n", "\\x41", "/", "a\nb
 
 
 def of_values(dialect: Dialect) -> Iterator[Statement]:
-    """Remarks of any characters in either text, or in one alone, come out of the JSON as they are."""
-    for index, value in enumerate(VALUES):
-        other = VALUES[index - 1]
+    """Remarks of any characters that the database has, in either text or in one alone, come out of the JSON as they are."""
+    values = [it for it in VALUES if dialect.literal(it.encode(), False) is not None]
+    for index, value in enumerate(values):
+        other = values[index - 1]
         texts = [f'{HEIGHT[:-1]},REMARK["{it}"]]'.encode() for it in (value, other)]
         first, second = (dialect.literal(it, True) for it in texts)
         wanted = [f'"{it}"'.encode().hex().upper() for it in (value, other)]
