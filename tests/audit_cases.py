@@ -368,7 +368,9 @@ def page_has_the_near_misses_and_refusals() -> None:
         (summary,) = group.all("summary")
         for refusal in group.all("div", "item"):
             (head,), (piece,) = refusal.all("p"), refusal.all("pre")
-            refused.append((int(summary.text.split()[0]), head.text.rpartition(", line ")[0]))
+            number = int(summary.text.split()[0])
+            refused.append((number, head.text.rpartition(", line ")[0]))
+            assert ("; expected: " in head.text) == (11 <= number <= 13), head.text
             assert piece.text.split("\n")[1].strip() == "^"
     wanted = [(number, shown((file, layer, line))) for file, layer, line, number, _ in audited().wanted["refused"]]
     assert sorted(refused) == sorted(wanted)
