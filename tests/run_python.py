@@ -120,6 +120,11 @@ def try_environment(counts: Counts, wheel: pathlib.Path, folder: pathlib.Path) -
     done = run([python, "-c", "import crsdesk"], missing)
     is_told = "ImportError: crsdesk needs its shared object: /missing/libcrsdesk.so" in done.stdout
     counts.add("a missing shared object is told", is_told, done.stdout)
+    other = {**os.environ, "CRSDESK_LIBRARY": "libc.so.6"}
+    done = run([python, "-c", "import crsdesk"], other)
+    wanted = "ImportError: crsdesk needs the shared object of its own version: "
+    is_told = wanted in done.stdout and "undefined symbol: crsdesk_check" in done.stdout
+    counts.add("a shared object without the calls is told", is_told, done.stdout)
     return python
 
 

@@ -44,7 +44,7 @@ class Places:
 
 
 def load() -> ctypes.CDLL:
-    """The shared object; an ImportError where it isn't there."""
+    """The shared object; an ImportError where it isn't there, or has not all calls, as an older one."""
     path = os.environ.get(LIBRARY) or str(pathlib.Path(__file__).resolve().parent / "libcrsdesk.so")
     try:
         library = ctypes.CDLL(path)
@@ -62,7 +62,10 @@ def load() -> ctypes.CDLL:
         "version": [place, size, place],
     }
     for name, types in arguments.items():
-        function = getattr(library, f"crsdesk_{name}")
+        try:
+            function = getattr(library, f"crsdesk_{name}")
+        except AttributeError as error:
+            raise ImportError(f"crsdesk needs the shared object of its own version: {error}") from None
         function.restype = number
         function.argtypes = types
     return library
