@@ -21,6 +21,7 @@ import os
 import pathlib
 import pty
 import re
+import shutil
 import signal
 import sqlite3
 import stat
@@ -36,6 +37,7 @@ sys.dont_write_bytecode = True
 import audit_archive
 import big_catalogue
 
+import crsdesk
 from crsdesk import Crs
 from crsdesk.audit import collecting, judging, names, report
 
@@ -565,6 +567,43 @@ def what_cant_be_read_is_told() -> None:
     assert without == {("./empty.wkt", None, "empty"), ("./blank.wkt", None, "blank"), ("./lines.txt", 2, "empty")}
 
 
+def what_may_not_be_read_is_told() -> None:
+    """What another user has closed: a text, a database, a folder. Root may read all, so that nobody reads there."""
+    place = folder() / "closed"
+    (place / "in" / "shut").mkdir(parents=True)
+    (place / "out").mkdir(mode=0o777)
+    (place / "out").chmod(0o777)
+    for name in ("a.wkt", "b.wkt", "c.gpkg", "shut/d.wkt"):
+        (place / "in" / name).write_text(HEIGHT)
+    for name in ("b.wkt", "c.gpkg", "shut"):
+        (place / "in" / name).chmod(0)
+    package = pathlib.Path(crsdesk.__file__).resolve().parent
+    shutil.copytree(package, place / "package" / "crsdesk")
+    library = os.environ.get("CRSDESK_LIBRARY") or package / "libcrsdesk.so"
+    shutil.copyfile(library, place / "package" / "crsdesk" / "libcrsdesk.so")
+    more: Dict[str, Any] = {"user": 65534, "group": 65534, "extra_groups": []} if os.geteuid() == 0 else {}
+    environment = {"PATH": os.environ["PATH"], "PYTHONPATH": str(place / "package"), "PYTHONDONTWRITEBYTECODE": "1"}
+    folder().chmod(0o755)
+
+    def run(*words: str) -> "subprocess.CompletedProcess[str]":
+        command = [sys.executable, *words]
+        return subprocess.run(command, cwd=place, env=environment, capture_output=True, text=True, check=False, **more)
+
+    try:
+        is_able = run("-c", "import crsdesk, jinja2, rich").returncode == 0
+    except OSError:
+        is_able = False
+    if not is_able:
+        print("skipped: another user has no Python here: an audit of what may not be read")
+        return
+    done = run("-m", "crsdesk", "audit", "--json", "out/a.json", "in")
+    (place / "in" / "shut").chmod(0o700)
+    closed = {f"crsdesk: in/{name}: Permission denied" for name in ("b.wkt", "c.gpkg", "shut")}
+    assert (done.returncode, set(done.stderr.splitlines())) == (2, closed), done.stderr
+    data = json.loads((place / "out" / "a.json").read_text())
+    assert data["summary"]["accepted"] == 1 and len(data["unread"]) == 3, data
+
+
 def the_rest_goes_on() -> None:
     """What stands before and behind odd files and lines is read."""
     data = odd_data()
@@ -794,6 +833,7 @@ CASES = [
     page_has_the_near_misses_and_refusals,
     page_is_whole_and_asks_for_nothing,
     what_cant_be_read_is_told,
+    what_may_not_be_read_is_told,
     the_rest_goes_on,
     names_are_shown_as_text,
     a_log_is_read_and_nothing_is_made,
