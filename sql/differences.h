@@ -24,7 +24,7 @@ static void put_word(struct json *json, const char *word)
     put(json, word, strlen(word));
 }
 
-/* A value, as the line has it. Of its escapes JSON has all but \xHH; its quotes are escaped here. */
+/* A value, as the line has it. Of its escapes JSON has all but \0 and \xHH; its quotes are escaped here. */
 static void put_value(struct json *json, const char *value, size_t length)
 {
     size_t from = 0, i;
@@ -43,8 +43,8 @@ static void put_value(struct json *json, const char *value, size_t length)
             put_word(json, "\\");
         } else {
             i++;
-            if (i < length && value[i] == 'x') {
-                put_word(json, "\\u00");
+            if (i < length && (value[i] == '0' || value[i] == 'x')) {
+                put_word(json, value[i] == '0' ? "\\u0000" : "\\u00");
                 from = i + 1;
             }
         }

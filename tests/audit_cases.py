@@ -616,10 +616,10 @@ def the_rest_goes_on() -> None:
 def names_are_shown_as_text() -> None:
     _, _, _, files = odd_run()
     line_end = r"$'./<img src=x onerror=alert(1)>\n.wkt'"
-    assert r"$'./na\xefme.wkt'" in files["csv"] and line_end in files["csv"]
-    assert "<img" not in files["html"] and r"$&#39;./na\xefme.wkt&#39;" in files["html"]
-    assert names.readable("a b.wkt") == "a b.wkt" and names.readable("a'\udcff") == r"$'a\'\xff'"
-    assert names.visible("a\u202eb\0") == "a\\u202eb\\x00"
+    assert r"$'./na\xEFme.wkt'" in files["csv"] and line_end in files["csv"]
+    assert "<img" not in files["html"] and r"$&#39;./na\xEFme.wkt&#39;" in files["html"]
+    assert names.readable("a b.wkt") == "a b.wkt" and names.readable("a'\udcff") == r"$'a\'\xFF'"
+    assert names.visible("a\u202eb\0") == "a\\u202Eb\\0"
 
 
 def a_file_vanishes() -> None:

@@ -774,7 +774,7 @@ def refused_texts_are_not_kept() -> None:
 def values_are_written_escaped() -> None:
     noted = HEIGHT[:-1] + ',REMARK["a\n\tb\\\x1b[31m\x85\u2028\u202e"]]'
     assert [str(part) for part in differences(HEIGHT, noted)] == [
-        'remark: none | "a\\n\\tb\\\\\\x1b[31m\\u0085\\u2028\\u202e"'
+        'remark: none | "a\\n\\tb\\\\\\x1B[31m\\u0085\\u2028\\u202E"'
     ]
     assert differences(HEIGHT, noted)[0].second == '"a\n\tb\\\x1b[31m\x85\u2028\u202e"'
 
@@ -1100,7 +1100,7 @@ def command_same(files: Files) -> None:
         assert (status, output) == (1, f"{which} refused 11 UnknownKeyword at 0\n"), (status, output)
         assert error.startswith("old.prj: refused 11 UnknownKeyword at 0, line 1, column 1\n") and "WKT1" in error
     status, output, error = files.run("same", "noted.wkt", "lined.wkt", "--all")
-    assert (status, output, error) == (1, 'remark: "r" | "a\\n\\x1b[31mb\\\\"\n', "")
+    assert (status, output, error) == (1, 'remark: "r" | "a\\n\\x1B[31mb\\\\"\n', "")
 
 
 def command_group(files: Files) -> None:
@@ -1162,7 +1162,7 @@ def command_names(files: Files) -> None:
     files.write("c\n.prj", 'GEOGCS["A"]')
     names = ["a\nb'\x1b\\.wkt", "c\n.prj"]
     status, output, error = files.run("check", *names)
-    first, second = r"$'a\nb\'\x1b\\.wkt'", r"$'c\n.prj'"
+    first, second = r"$'a\nb\'\x1B\\.wkt'", r"$'c\n.prj'"
     assert output == f"{first}: accepted vertical\n{second}: refused 11 UnknownKeyword at 0\n", output
     assert error.startswith(f"{second}: refused 11")
     assert files.run("group", *names)[1] == f"group 1: {first}\n{second}: refused 11 UnknownKeyword at 0\n"

@@ -73,7 +73,7 @@ def promises() -> Iterator[Statement]:
     other = HEIGHT.replace('VDATUM["D"]', 'ENSEMBLE["D",MEMBER["m"],ENSEMBLEACCURACY[2]]').replace("up", "down")
     parts = f"crs_differences('{HEIGHT}', '{other}')"
     asked = f"SELECT json_valid({parts}), group_concat(json_extract(value, '$.path')) FROM json_each({parts});"
-    yield "the parts", asked, "1|datum/kind,datum/members,datum/accuracy,system/axis1/direction"
+    yield "the parts", asked, "1|datum/kind,system/axis1/direction"
     yield "types", f"SELECT typeof(crs_canon('{HEIGHT}')), typeof(crs_same('{HEIGHT}', '{HEIGHT}'));", "text|integer"
     yield from of_indexes()
     yield from sql_rows.of_long_texts(SQLITE)

@@ -199,10 +199,10 @@ static bool has_nul(const char *lines, size_t length)
 {
     size_t i;
 
-    for (i = 0; i + 3 < length; i++) {
+    for (i = 0; i + 1 < length; i++) {
         if (lines[i] != '\\')
             continue;
-        if (memcmp(lines + i + 1, "x00", 3) == 0)
+        if (lines[i + 1] == '0')
             return true;
         i++;
     }

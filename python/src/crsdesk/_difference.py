@@ -23,7 +23,7 @@ class Difference:
     ``second``  the same of the second CRS
 
     ``str`` of it is a line such as ``datum/kind: ENSEMBLE | DATUM``; nothing is written as ``none``, control characters
-    and backslashes as in Python's strings.
+    and backslashes are escaped, as ``\\n`` and ``\\x1B``.
     """
 
     path: str

@@ -7,15 +7,15 @@ import shlex
 
 # Control characters, ends of lines and paragraphs, and what turns the direction of a text around.
 CONTROL = re.compile("[\x00-\x1f\x7f-\x9f\u2028\u2029\u202a-\u202e\u2066-\u2069]")
-ESCAPES = {"\t": "\\t", "\n": "\\n", "\r": "\\r", "\\": "\\\\"}
+ESCAPES = {"\0": "\\0", "\t": "\\t", "\n": "\\n", "\r": "\\r", "\\": "\\\\"}
 UNESCAPED = {escape[1]: character for character, escape in ESCAPES.items()}
-ESCAPE = re.compile(r"\\(?:x([0-9a-f]{2})|u([0-9a-f]{4})|(.))")
+ESCAPE = re.compile(r"\\(?:x([0-9A-F]{2})|u([0-9A-F]{4})|(.))")
 
 
 def escape(character: str) -> str:
-    """The escape of a character, as in Python: ``\\n``, ``\\x1b``, ``\\u2028``."""
+    """The escape of a character, as the library writes it: ``\\n``, ``\\x1B``; and ``\\u2028``."""
     known = ESCAPES.get(character)
-    return known or (f"\\x{ord(character):02x}" if ord(character) < 0x80 else f"\\u{ord(character):04x}")
+    return known or (f"\\x{ord(character):02X}" if ord(character) < 0x80 else f"\\u{ord(character):04X}")
 
 
 def escaped(value: str) -> str:

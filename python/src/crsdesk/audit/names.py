@@ -13,11 +13,11 @@ UNSHOWN = re.compile(f"{CONTROL.pattern[:-1]}\ud800-\udfff]")
 
 def character_shown(match: re.Match[str]) -> str:
     code = ord(match[0])
-    return f"\\x{code - 0xDC00:02x}" if 0xDC80 <= code <= 0xDCFF else escape(match[0])
+    return f"\\x{code - 0xDC00:02X}" if 0xDC80 <= code <= 0xDCFF else escape(match[0])
 
 
 def readable(name: str) -> str:
-    """A file's name as it is; one with control characters or with bytes that aren't UTF-8 as ``$'a\\xff'``, which
+    """A file's name as it is; one with control characters or with bytes that aren't UTF-8 as ``$'a\\xFF'``, which
     shells read back."""
     if not UNSHOWN.search(name):
         return name
@@ -25,7 +25,7 @@ def readable(name: str) -> str:
 
 
 def visible(text: str) -> str:
-    """A text with its control characters as they are escaped in Python."""
+    """A text with its control characters escaped."""
     return UNSHOWN.sub(character_shown, text)
 
 
