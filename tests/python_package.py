@@ -275,6 +275,20 @@ def rows_of_explain() -> None:
         assert refused.hint == HINT.get(case.name, refused.hint), (case.name, refused.hint)
 
 
+def rows_of_explain_of_two() -> None:
+    """Of two texts each row's differences, or the refusal of one, are in Python what the command writes."""
+    for path in HERE.glob("explain_two.rows"):
+        for case in run_cases.cases_of(path):
+            words = case.words[1:]
+            level = "definition" if words[:2] == [b"--level", b"definition"] else "full"
+            first, second = words[-2:]
+            try:
+                found = "".join(f"{part}\n" for part in differences(first, second, level)) or "same\n"
+            except Refused as refused:
+                found = f"{refused.which} {refused.told_of_file()}\n"
+            assert found.encode() == case.output, (case.name, found)
+
+
 def refusals_made_by_hand() -> None:
     """A refusal that isn't the text's own tells what it was given, and no more."""
     for refused in (Refused(None, 7, "UnexpectedEnd", 3), Refused(HEIGHT.encode(), 7, "UnexpectedEnd", 3)):
@@ -1243,6 +1257,7 @@ PROMISES = [
     refusal_goes_to_another_process,
     every_number_has_a_meaning,
     rows_of_explain,
+    rows_of_explain_of_two,
     refusals_made_by_hand,
     hints_are_given,
     hints_of_files,
