@@ -279,14 +279,14 @@ def rows(text: str) -> list[Row]:
 
 def told() -> Told:
     text = THEOREMS.read_text(encoding="utf-8")
-    words, claims, answers = (text.index(title) for title in ("## The words", "## The claims", "## Crate by crate"))
+    words, claims = (text.index(title) for title in ("## The words", "## The claims"))
     line = next(line for line in text.split("\n") if line.startswith("Definitions that compute"))
     computing = {
         (crate, file)
         for crate, listed in re.findall(r"`(crs_\w+)`: ([^;)]*)", line)
         for file in re.findall(r"`(\w+)`", listed)
     }
-    return Told(rows(text[words:claims]), computing, rows(text[claims:answers]))
+    return Told(rows(text[words:claims]), computing, rows(text[claims:]))
 
 
 def files_of(row: Row) -> list[tuple[str, str]]:

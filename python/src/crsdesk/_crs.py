@@ -88,7 +88,7 @@ def check(text: Text) -> str:
 
     Raises ``Refused`` where it spells none, ``MemoryError`` where memory is refused, and ``TypeError`` or
     ``ValueError`` for what is no text: ``None``, a number, a str with a lone surrogate. So do the other calls.
-    docs/CHECKS.md and docs/GRAMMAR.md have the rules.
+    docs/REFUSALS.md and docs/GRAMMAR.md have the rules.
     """
     return _library.check(bytes_of(text))
 
@@ -116,7 +116,7 @@ def same(first: Text, second: Text, level: Level = "full") -> bool:
 
 def difference(first: Text, second: Text, level: Level = "full") -> Optional[str]:
     """The path of the first part in which the CRSs of two texts differ, such as ``datum/ellipsoid/flattening``; None
-    where they are the same (docs/SAMENESS.md, "The first part that differs"). Raises as ``same`` does."""
+    where they are the same (docs/SAMENESS.md, "The parts that differ"). Raises as ``same`` does."""
     number = number_of(level)
     return _library.first_part(bytes_of(first), bytes_of(second), number).decode("ascii") or None
 
