@@ -10,6 +10,8 @@ EXPECTED = re.compile(r"(?:in \w+ )?at \d+: found .*?, expected (.*)")
 BETWEEN_NAMES = re.compile(r", | or ")
 MEANT = "Did you mean "
 STILL_OPEN = " is still open"
+CODE = "\nThis is a code,"
+OF_A_CODE = "In Python, call Crs.from_user with the CRS that another package makes of it."
 
 
 class Told(NamedTuple):
@@ -140,7 +142,8 @@ class Refused(ValueError):
         return head.replace(", line 1,", ",") + end + rest.replace("$(cat FILE)", f"$(sed -n {line}p FILE)")
 
     def __str__(self) -> str:
-        return f"the {self.which} text: {self.told}" if self.which else self.told
+        told = f"{self.told}\n{OF_A_CODE}" if CODE in self.told else self.told
+        return f"the {self.which} text: {told}" if self.which else told
 
     def __repr__(self) -> str:
         return f"Refused(number={self.number}, name={self.name!r}, place={self.place})"
