@@ -144,7 +144,11 @@ class Crs:
 
     def __init__(self, text: Text) -> None:
         self._text = bytes_of(text)
-        self._full = _library.canon(self._text, 0).decode()
+        try:
+            self._full = _library.canon(self._text, 0).decode()
+        except Refused as refused:
+            refused.is_of_crs = True
+            raise
         self._definition: Optional[str] = None
         self._kind: Optional[str] = None
 

@@ -11,7 +11,7 @@ BETWEEN_NAMES = re.compile(r", | or ")
 MEANT = "Did you mean "
 STILL_OPEN = " is still open"
 CODE = "\nThis is a code,"
-OF_A_CODE = "In Python, call Crs.from_user with the CRS that another package makes of it."
+FROM_USER = "In Python, call Crs.from_user with the CRS that another package makes of it."
 
 
 class Told(NamedTuple):
@@ -62,7 +62,7 @@ class Refused(ValueError):
     under the place, what is expected there, what the number means, and hints where the text tells what it is.
     """
 
-    __slots__ = ("_told", "name", "number", "place", "text", "which")
+    __slots__ = ("_told", "is_of_crs", "name", "number", "place", "text", "which")
 
     def __init__(
         self,
@@ -81,6 +81,8 @@ class Refused(ValueError):
         self.place = place
         self.which = which
         self._told = told
+        # Raised by Crs(text), beside which there is Crs.from_user.
+        self.is_of_crs = False
 
     @property
     def told(self) -> str:
@@ -142,7 +144,7 @@ class Refused(ValueError):
         return head.replace(", line 1,", ",") + end + rest.replace("$(cat FILE)", f"$(sed -n {line}p FILE)")
 
     def __str__(self) -> str:
-        told = f"{self.told}\n{OF_A_CODE}" if CODE in self.told else self.told
+        told = f"{self.told}\n{FROM_USER}" if self.is_of_crs and CODE in self.told else self.told
         return f"the {self.which} text: {told}" if self.which else told
 
     def __repr__(self) -> str:
