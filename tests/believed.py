@@ -299,13 +299,19 @@ def files_of(row: Row) -> list[tuple[str, str]]:
     return found
 
 
-def claimed(row: Row) -> Iterator[str]:
-    """The calls, types and laws of a row of the claims, each behind its crate: a crate holds until the next."""
+def named(row: Row) -> Iterator[tuple[str, str]]:
+    """What a row of the claims names, each with its crate: a crate holds until the next."""
     crate = ""
     for path in row.columns[1]:
         crate = path.split("::")[0] if path.startswith("crs_") else crate
-        # a plain word is a clause
-        if crate and ("::" in path or "_" in path):
+        if crate:
+            yield crate, path
+
+
+def claimed(row: Row) -> Iterator[str]:
+    """The calls, types and laws of a row of the claims, each behind its crate. A plain word is a clause, or a call."""
+    for crate, path in named(row):
+        if "::" in path or "_" in path:
             yield f"{crate}::{path.split('::')[-1]}"
 
 
@@ -331,8 +337,8 @@ def lost(said: Told) -> Iterator[str]:
             there = re.findall(r"\b(?:fn|struct|enum|trait|mod|ensures) (\w+)", texts[crate])
             if name not in LIBRARIES and not fnmatch.filter(there, name):
                 yield f"the claim {claim}"
-        for name in row.columns[2] if len(row.columns) > 2 else []:
-            if not any(re.search(rf"\b{name}\b", texts[crate]) for crate in row.crates):
+        for crate, name in named(row):
+            if name.isalpha() and not re.search(rf"\b{name}\b", texts[crate]):
                 yield f"the clause {name} of {' '.join(row.columns[1])}"
 
 
