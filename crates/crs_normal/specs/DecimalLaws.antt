@@ -6,6 +6,8 @@ use Rattle.crs_decimal.specs.Plain.{IsPlain, plain}
 use Rattle.crs_decimal.specs.Spelling.{AreDigits, HasForm, IsRun}
 use Rattle.crs_decimal.specs.Value.{Value, IsNormal, exact}
 
+-- plain spellings denote their values, a normal value is the only one of its number, digits
+-- alone are in bounds
 pub record DecimalLaws : Type 0 where
   pub is_plain : (v : Value) → IsNormal v → IsPlain (plain v)
   pub denotes : (v : Value) → IsNormal v → Denotes (plain v) (exact v)

@@ -11,6 +11,8 @@ use Rattle.crs_value.specs.Values.{AxisParts, SystemParts}
 use Rattle.crs_same.specs.SameSystems.{HasAt}
 use Rattle.crs_same.specs.SameUnits.{SameValue}
 
+-- numbers have one form and one plain spelling, normal values are equal where their numbers are,
+-- and each position of a coordinate system has one axis
 pub record LowerLaws : Type 0 where
   pub one_form : (bytes : List ℕ) (p q : Parts) → SpellsNumber bytes p → SpellsNumber bytes q →
       p ≡ q

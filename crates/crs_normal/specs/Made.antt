@@ -32,11 +32,12 @@ IsKindIn class.PlainUnit kind = kind ≡ kinds.Plain
 IsKindIn class.AxisUnit kind = (kind ≡ kinds.Length) ⊎ (kind ≡ kinds.Angle)
 IsKindIn other kind = ⊥
 
--- the classes of a reference frame, which is geodetic or vertical
+-- the class of the reference frame or ensemble of a geodetic CRS
 abbrev pub geodetic_frame_class : Frame → Class
 geodetic_frame_class (frame.Datum datum) = class.GeodeticFrame
 geodetic_frame_class (frame.Ensemble ensemble) = class.GeodeticEnsemble
 
+-- the class of the reference frame or ensemble of a vertical CRS
 abbrev pub vertical_frame_class : Frame → Class
 vertical_frame_class (frame.Datum datum) = class.VerticalFrame
 vertical_frame_class (frame.Ensemble ensemble) = class.VerticalEnsemble

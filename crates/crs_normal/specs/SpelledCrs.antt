@@ -23,6 +23,7 @@ use Rattle.crs_normal.specs.SpelledUsages.{norm_tail, tail_items}
 
 -- ---- geodetic and geographic CRSs
 
+-- a geodetic or geographic CRS, each of its parts in its one form
 abbrev pub norm_geodetic : Level → GeodeticParts → GeodeticParts
 norm_geodetic level g = record {
   name = g.name;
@@ -33,12 +34,14 @@ norm_geodetic level g = record {
   tail = norm_tail level g.tail;
 }
 
+-- the keyword of a geodetic CRS, which is geographic where its coordinate system is ellipsoidal
 abbrev pub geodetic_keyword : SystemType → List ℕ
 geodetic_keyword types.Ellipsoidal = codes "GEOGCRS"
 geodetic_keyword types.Cartesian = codes "GEODCRS"
 geodetic_keyword types.Spherical = codes "GEODCRS"
 geodetic_keyword types.Vertical = codes "GEODCRS"
 
+-- a geodetic or geographic CRS as a node: name, dynamic part, frame, prime meridian, system, end
 abbrev pub item_geodetic : GeodeticParts → Item
 item_geodetic g =
     node_of (geodetic_keyword g.system.system_type) (text_item g.name)
@@ -47,6 +50,7 @@ item_geodetic g =
 
 -- ---- projected CRSs
 
+-- a base CRS, each of its parts in its one form; its unit is one of angle
 abbrev pub norm_base : Level → BaseParts → BaseParts
 norm_base level b = record {
   name = b.name;
@@ -57,12 +61,14 @@ norm_base level b = record {
   identifiers = set_idents level b.identifiers;
 }
 
+-- a base CRS as a node: name, dynamic part, frame, prime meridian, unit, identifiers
 abbrev pub item_base : BaseParts → Item
 item_base b =
     node_of (codes "BASEGEOGCRS") (text_item b.name)
     (opt item_dynamic b.dynamic (More (item_frame (codes "DATUM") b.frame)
     (opt item_meridian b.meridian (opt item_unit b.unit (each item_ident b.identifiers End)))))
 
+-- a projected CRS, each of its parts in its one form
 abbrev pub norm_projected : Level → ProjectedParts → ProjectedParts
 norm_projected level p = record {
   name = p.name;
@@ -72,6 +78,7 @@ norm_projected level p = record {
   tail = norm_tail level p.tail;
 }
 
+-- a projected CRS as a node: name, base CRS, conversion, system, end
 abbrev pub item_projected : ProjectedParts → Item
 item_projected p =
     node_of (codes "PROJCRS") (text_item p.name)
@@ -80,6 +87,7 @@ item_projected p =
 
 -- ---- vertical CRSs
 
+-- a vertical CRS, each of its parts in its one form
 abbrev pub norm_vertical : Level → VerticalParts → VerticalParts
 norm_vertical level v = record {
   name = v.name;
@@ -90,6 +98,7 @@ norm_vertical level v = record {
   tail = norm_tail level v.tail;
 }
 
+-- a vertical CRS as a node: name, dynamic part, frame, system, geoid models, end
 abbrev pub item_vertical : VerticalParts → Item
 item_vertical v =
     node_of (codes "VERTCRS") (text_item v.name)
@@ -98,14 +107,17 @@ item_vertical v =
 
 -- ---- compound CRSs
 
+-- the horizontal part of a compound CRS, in its one form
 abbrev pub norm_horizontal : Level → Horizontal → Horizontal
 norm_horizontal level (horizontal.Geodetic g) = horizontal.Geodetic (norm_geodetic level g)
 norm_horizontal level (horizontal.Projected p) = horizontal.Projected (norm_projected level p)
 
+-- the horizontal part of a compound CRS as a node
 abbrev pub item_horizontal : Horizontal → Item
 item_horizontal (horizontal.Geodetic g) = item_geodetic g
 item_horizontal (horizontal.Projected p) = item_projected p
 
+-- a compound CRS, each of its parts in its one form
 abbrev pub norm_compound : Level → CompoundParts → CompoundParts
 norm_compound level c = record {
   name = c.name;
@@ -114,6 +126,7 @@ norm_compound level c = record {
   tail = norm_tail level c.tail;
 }
 
+-- a compound CRS as a node: name, horizontal part, vertical part, end
 abbrev pub item_compound : CompoundParts → Item
 item_compound c =
     node_of (codes "COMPOUNDCRS") (text_item c.name) (More (item_horizontal c.horizontal)
@@ -121,12 +134,14 @@ item_compound c =
 
 -- ---- all
 
+-- a CRS in its one form at a level
 abbrev pub norm_crs : Level → Crs → Crs
 norm_crs level (crs.Geodetic g) = crs.Geodetic (norm_geodetic level g)
 norm_crs level (crs.Projected p) = crs.Projected (norm_projected level p)
 norm_crs level (crs.Vertical v) = crs.Vertical (norm_vertical level v)
 norm_crs level (crs.Compound c) = crs.Compound (norm_compound level c)
 
+-- a CRS as the node of its kind
 abbrev pub item_crs : Crs → Item
 item_crs (crs.Geodetic g) = item_geodetic g
 item_crs (crs.Projected p) = item_projected p

@@ -17,10 +17,12 @@ use Rattle.crs_normal.specs.SpelledItems.{word_item}
 use Rattle.crs_normal.specs.SpelledUnits.{item_ident, item_unit, norm_unit, norm_units, set_idents}
 use Rattle.crs_normal.specs.SpelledUnits.{whole_value}
 
+-- the meridian of an axis: its unit is one of angle
 abbrev pub norm_axis_meridian : Level → AxisMeridianParts → AxisMeridianParts
 norm_axis_meridian level m =
     record { longitude = m.longitude; unit = norm_unit level kinds.Angle m.unit }
 
+-- the meridian of an axis, which may be missing
 abbrev pub norm_axis_meridians : Level → Option AxisMeridianParts → Option AxisMeridianParts
 norm_axis_meridians level None = None
 norm_axis_meridians level (Some m) = Some (norm_axis_meridian level m)
@@ -54,6 +56,7 @@ axis_at position place [] = None
 axis_at position place (axis ∷ axes) =
     if is_at position place axis.order then Some axis else axis_at position (place + 1) axes
 
+-- the axis at position k, if there is one, before these others
 abbrev pub with_axis : Level → SystemParts → ℕ → Option AxisParts → List AxisParts → List AxisParts
 with_axis level system k None rest = rest
 with_axis level system k (Some axis) rest = norm_axis level system k axis ∷ rest
@@ -64,6 +67,7 @@ axes_from level system k zero = []
 axes_from level system k (suc n) =
     with_axis level system k (axis_at k 1 system.axes) (axes_from level system (k + 1) n)
 
+-- a coordinate system: its axes by position, each with its order and its own unit; none is shared
 abbrev pub norm_system : Level → SystemParts → SystemParts
 norm_system level s = record {
   system_type = s.system_type;
@@ -73,10 +77,12 @@ norm_system level s = record {
   unit = None;
 }
 
+-- the meridian of an axis as a node: longitude, unit
 abbrev pub item_axis_meridian : AxisMeridianParts → Item
 item_axis_meridian m =
     node_of (codes "MERIDIAN") (number_item m.longitude) (More (item_unit m.unit) End)
 
+-- an axis as a node: name, direction, meridian, order, unit, identifiers
 abbrev pub item_axis : AxisParts → Item
 item_axis axis =
     node_of (codes "AXIS") (text_item axis.name) (More (word_item (direction_word axis.direction))
@@ -89,5 +95,6 @@ item_head s =
     node_of (codes "CS") (word_item (system_word s.system_type))
     (More (number_item s.dimension) (each item_ident s.identifiers End))
 
+-- a coordinate system as items: the node `CS` and its axes, before these others
 abbrev pub system_items : SystemParts → Siblings → Siblings
 system_items s rest = More (item_head s) (each item_axis s.axes rest)

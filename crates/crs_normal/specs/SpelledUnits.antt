@@ -14,6 +14,7 @@ use Rattle.crs_normal.specs.Ordered.{in_order}
 use Rattle.crs_normal.specs.SpelledItems.{code_item, each, node_of, number_item, opt, text_item}
 use Rattle.crs_normal.specs.SpelledItems.{text_node}
 
+-- an identifier as a node: authority, code, version, citation, URI
 abbrev pub item_ident : IdentParts → Item
 item_ident i =
     node_of (codes "ID") (text_item i.authority) (More (code_item i.code)
@@ -38,6 +39,7 @@ norm_unit level asked u =
       identifiers = set_idents level u.identifiers;
     }
 
+-- a unit that may be missing, where this kind is asked
 abbrev pub norm_units : Level → UnitKind → Option UnitParts → Option UnitParts
 norm_units level asked None = None
 norm_units level asked (Some u) = Some (norm_unit level asked u)
@@ -47,10 +49,12 @@ abbrev pub metre : UnitParts
 metre =
     record { kind = kinds.Length; name = codes "metre"; factor = whole_value 1; identifiers = [] }
 
+-- a unit of length; a missing one is the metre
 abbrev pub norm_length : Level → Option UnitParts → UnitParts
 norm_length level None = metre
 norm_length level (Some u) = norm_unit level kinds.Length u
 
+-- a unit as a node, under the keyword of its kind
 abbrev pub item_unit : UnitParts → Item
 item_unit u =
     node_of (unit_word u.kind) (text_item u.name)

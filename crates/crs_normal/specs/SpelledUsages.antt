@@ -17,6 +17,7 @@ abbrev pub norm_extent : Level → ExtentParts → ExtentParts
 norm_extent level e =
     record { minimum = e.minimum; maximum = e.maximum; unit = Some (norm_length level e.unit) }
 
+-- a usage, with the unit of its vertical extent written
 abbrev pub norm_usage : UsageParts → UsageParts
 norm_usage u =
     record {
@@ -26,16 +27,19 @@ norm_usage u =
       extent = option_map (norm_extent levels.Full) u.extent;
     }
 
+-- a bounding box as a node: south, west, north, east
 abbrev pub item_box : BoxParts → Item
 item_box b =
     node_of (codes "BBOX") (number_item b.south)
     (More (number_item b.west) (More (number_item b.north) (More (number_item b.east) End)))
 
+-- a vertical extent as a node: minimum, maximum, unit
 abbrev pub item_extent : ExtentParts → Item
 item_extent e =
     node_of (codes "VERTICALEXTENT") (number_item e.minimum)
     (More (number_item e.maximum) (opt item_unit e.unit End))
 
+-- a usage as a node: scope, area, bounding box, vertical extent
 abbrev pub item_usage : UsageParts → Item
 item_usage u =
     node_from (codes "USAGE")
@@ -56,6 +60,7 @@ norm_tail level t = record {
   remark = kept_one level t.remark;
 }
 
+-- the end of a CRS as items: usages, identifiers, the remark
 abbrev pub tail_items : TailParts → Siblings
 tail_items t =
     each item_usage t.usages

@@ -9,6 +9,8 @@ use Rattle.crs_text.specs.Items.{Item}
 use Rattle.crs_text.specs.TextFault.{SpellsNode}
 use Rattle.crs_text.specs.Written.{WrittenSpells}
 
+-- a written item is the only one that its text spells, and a plain spelling is that of one
+-- normal value
 pub record TextLaws : Type 0 where
   pub spells : WrittenSpells
   pub one_node : (bytes : List ℕ) (i j : Item) → SpellsNode bytes i → SpellsNode bytes j → i ≡ j
