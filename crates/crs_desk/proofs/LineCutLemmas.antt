@@ -1,4 +1,4 @@
--- Bytes are cut further, and what is written for their lines is sent or kept.
+-- Bytes are cut into lines, one piece further, and what is written for the lines is sent or kept.
 use Rattle.std.proofs.Common.{◌≡◌, ◌⊎◌, ◌+◌, ◌<◌, ◌≤◌, ◌++◌, ◌∷◌, [], ℕ, List, Bool, true, false, Option, Some, None, cond, length, inl, inr, ap, subst, sym, refl, ◌∙◌, arith, append_assoc, append-nil, length-append, true≢false}
 use Rattle.std.specs.Prelude.{◌==◌, max}
 use Rattle.std.specs.Io.KnownBytes.{Appends}
@@ -37,7 +37,7 @@ front-end : (Output : Outputs) (bytes written : List ℕ) (end : Bool) → IsFro
 front-end Output bytes written end is =
     subst (λ b. IsFrontOutput Output b end written) (append-nil bytes) (front-more Output bytes [] written end is)
 
--- what was sent is a front
+-- what was sent is a front of what is written
 pub put-sent : (Output : Outputs) (end : Bool) (before after : SinkState) (bytes : List ℕ) (writer : WriterParts)
     → IsPutOut Output end before bytes writer after → HasSent Output bytes end before after []
 put-sent Output end before after bytes writer put =
@@ -204,7 +204,7 @@ cut-begins : (Output : Outputs) (before after : SinkState) (bytes : List ℕ) (c
 cut-begins Output before after bytes cutter cut =
     put-begins Output before after cut.ended cutter.writer cut.is_put
 
--- a line has its end
+-- a line ends
 pub cut-line : (Output : Outputs) (before now after : SinkState) (bytes line text : List ℕ) (old new : CutterParts)
     (put : WriterParts) → IsLinesCut Output before bytes old now → HasNoFeed line
     → length old.partial + length line ≤ 1048576 → IsTextOf (old.partial ++ line) text

@@ -37,7 +37,7 @@ tail-of a b xs ys h = cc
 some-length : (line rest : List ℕ) (b : ℕ) → line ++ b ∷ rest ≡ [] → ⊥
 some-length line rest b e = absurd (omega (arith, ap length e, length-append line (b ∷ rest)))
 
--- behind a feed, bytes that end in one end in one
+-- after a feed, bytes that end in one end in one
 ends-behind : (line rest front : List ℕ) → line ++ 10 ∷ rest ≡ front ++ 10 ∷ [] → (rest ≡ []) ⊎ EndsInFeed rest
 ends-behind [] rest [] e = inl (tail-of 10 10 rest [] e)
 ends-behind [] rest (y ∷ ys) e = inr (ys, tail-of 10 y rest (ys ++ 10 ∷ []) e)
@@ -55,7 +55,7 @@ no-feed-ends bytes plain (front, ends) =
     let one : feeds (front ++ 10 ∷ []) ≡ feeds front + 1 = feeds-append front (10 ∷ []) in
     absurd (omega (arith, none, one, ap feeds ends))
 
--- lines behind lines that have ended
+-- lines after lines that have ended
 pub lines-append : (a b : List ℕ) (xs ys : List (List ℕ)) → (a ≡ []) ⊎ EndsInFeed a → AreLines a xs → AreLines b ys
     → AreLines (a ++ b) (xs ++ ys)
 lines-append a b [] ys begins none more = subst (λ l. AreLines (l ++ b) ys) (sym none) more
@@ -70,7 +70,7 @@ lines-append a b (x ∷ xs) ys begins (inl (line, rest, e, plain, is, further)) 
 lines-append a b (x ∷ xs) ys (inl none) (inr (some, plain, is, end)) more = absurd (some none)
 lines-append a b (x ∷ xs) ys (inr ends) (inr (some, plain, is, end)) more = absurd (no-feed-ends a plain ends)
 
--- what is written for bytes that are joined behind a line feed
+-- what is written for bytes that are joined at a line feed
 pub output-append : (Output : Outputs) (a b : List ℕ) (v w : List ℕ) (m n : ℕ) → (a ≡ []) ⊎ EndsInFeed a
     → IsLinesOutput Output a v m → IsLinesOutput Output b w n → IsLinesOutput Output (a ++ b) (v ++ w) (max m n)
 output-append Output a b v w m n begins first other = record {

@@ -1,4 +1,5 @@
--- What the source of a run over lines has given, and what the halves of the run say of the whole.
+-- What the source of a run over lines has given, and what the two halves of the run say of the
+-- whole.
 use Rattle.std.proofs.Common.{◌≡◌, ◌+◌, ◌<◌, ◌≤◌, ◌*◌, ◌^◌, ◌++◌, [], ℕ, List, Option, Some, None, true, false, ap, subst, sym, refl, ◌∙◌, arith, Result, Ok, Err}
 use Rattle.std.specs.Prelude.{IfErr, IfOk, IsErr}
 use Rattle.std.specs.Io.KnownBytes.{Consumes, Keeps, ReadConsumes}

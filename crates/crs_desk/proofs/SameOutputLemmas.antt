@@ -10,7 +10,7 @@ module _ (Refused : List ℕ → List ℕ → List ℕ → ℕ → Type 0) (Comp
   unfolding IsPairOutput
   first-refused first second written refused = inl refused
 
-  -- behind a first text that spells a CRS
+  -- after a first text that spells a CRS
   pub second-answered : (a : Crs) (first second : List ℕ) → Spells first a → (written : List ℕ) (status : ℕ)
       → IsSecondOutput Refused (Compared a) second written status → IsPairOutput Refused Compared first second written status
   unfolding IsPairOutput

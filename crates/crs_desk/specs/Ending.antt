@@ -16,7 +16,7 @@ pub record IsWritten (Output : List ℕ → ℕ → Type 0) (old new : SinkState
   pub is_used : new.used ≡ true
   pub is_healthy : new.failed ≡ false
 
--- a run over one text, with this status: the source gave a text whole, and the sink got what is
+-- a run over one text, with this status: the source gave a whole text, and the sink got what is
 -- written for it
 pub record IsAnswered (Output : List ℕ → List ℕ → ℕ → Type 0) (old_source new_source : SourceState)
     (old_sink new_sink : SinkState) (status : ℕ) : Type 0 where
@@ -32,8 +32,8 @@ IsWriteFault old new TooManyReads = ⊥
 IsWriteFault old new WriteFailed = new.failed ≡ true
 IsWriteFault old new Memory = new ≡ old
 
--- what a run's fault says of its source, and of its sink before and after: what ended the reading
--- goes before everything else, and then nothing was written
+-- what a run's fault says of its source, and of its sink before and after: a fault of the reading
+-- goes before all others, and then nothing was written
 abbrev pub IsRunFault : SourceState → SinkState → SinkState → RunFault → Type 0
 IsRunFault source old new ReadFailed =
     (source.failed ≡ true) × (source.taken ≤ 1048576) × (new ≡ old)

@@ -10,7 +10,7 @@ use Rattle.crs_explain.specs.Differing.{IsDifferencesText}
 use Rattle.crs_desk.specs.Output.{WritesAccepted}
 use Rattle.crs_desk.specs.SameOutput.{IsPairOutput, WritesSame}
 
--- the refusal of a text is explained behind the word that says which text it is, with status 1
+-- the refusal of a text is explained after the word that says which text it is, with status 1
 abbrev pub ExplainsRefusalOf : List ℕ → List ℕ → List ℕ → ℕ → Type 0
 ExplainsRefusalOf which text written status =
     (refusal : RefusedAt) × Refuses text refusal × (told : List ℕ) × IsExplained text refusal told

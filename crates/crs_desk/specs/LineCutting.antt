@@ -16,7 +16,7 @@ pub record WriterParts : Type 0 where
   pub out : List ℕ
   pub status : ℕ
 
--- the output, the bytes of the line that has not ended, and how many lines have
+-- the output, the bytes of the line that has not ended, and how many lines have ended
 pub record CutterParts : Type 0 where
   pub writer : WriterParts
   pub partial : List ℕ
@@ -47,7 +47,7 @@ IsNotKept more old fault =
     (fault ≡ Memory) ⊎ ((fault ≡ TooLong (old.lines + 1))
     × (1048576 < length old.partial + length more))
 
--- no failure was answered, and none was asked again
+-- no failure was answered, and no write was made after one
 abbrev pub IsHealthy : SinkState → Type 0
 IsHealthy sink = (sink.failed ≡ false) × (sink.past_failure ≡ false)
 
@@ -70,8 +70,8 @@ pub record IsCut (old : WriterParts) (before after : SinkState) (fault : RunFaul
   pub is_failed : after.failed ≡ true
   pub is_first : IsHealthy before → after.past_failure ≡ false
 
--- what is written for the lines of these bytes was sent or is kept; the last has ended, or this is
--- the end
+-- what is written for the lines of these bytes was sent or is kept; the last line has ended, or
+-- this is the end
 pub record IsPutOut (Output : Outputs) (end : Bool) (before : SinkState) (bytes : List ℕ)
     (writer : WriterParts) (after : SinkState) : Type 0 where
   pub texts : List (List ℕ)

@@ -16,8 +16,8 @@ use Rattle.crs_desk.specs.Output.{IsLine}
 abbrev pub Outputs : Type 1
 Outputs = List ℕ → List ℕ → ℕ → Type 0
 
--- for a line of white space alone an empty line is written, for another what the command writes for
--- its text
+-- for a line of white space alone an empty line is written, for any other what the command writes
+-- for its text
 abbrev pub IsLineOutput : Outputs → Outputs
 IsLineOutput Output text written status =
     (IsTrue (list_all is_white text) × IsLine [] 0 written status)
@@ -37,8 +37,8 @@ pub record IsLinesOutput (Output : Outputs) (bytes written : List ℕ) (status :
   pub are_texts : AreLines bytes texts
   pub are_outputs : AreOutputs Output texts written status
 
--- this is written for some whole lines, the first of these bytes; one without a line feed is whole
--- where the end was shown
+-- this is written for some whole lines, the first of these bytes; a line without a line feed is
+-- whole where the end was shown
 pub record IsFrontOutput (Output : Outputs) (bytes : List ℕ) (ended : Bool)
     (written : List ℕ) : Type 0 where
   pub front : List ℕ
@@ -48,7 +48,7 @@ pub record IsFrontOutput (Output : Outputs) (bytes : List ℕ) (ended : Bool)
   pub status : ℕ
   pub is_output : IsLinesOutput Output front written status
 
--- the sink got that, but for what is unsent of it
+-- the sink got that, but for a part that was not sent
 abbrev pub HasSent : Outputs → List ℕ → Bool → SinkState → SinkState → List ℕ → Type 0
 HasSent Output bytes ended before after unsent =
     (written : List ℕ) × IsFrontOutput Output bytes ended (written ++ unsent)
@@ -66,7 +66,7 @@ pub record IsLinesAnswered (Output : Outputs) (old new : SourceState) (before af
   pub is_sent : Appends before.contents after.contents written
   pub is_healthy : after.failed ≡ false
 
--- the source gave bytes like these, and the sink got whole lines for a front of them
+-- the source gave these bytes or more, and the sink got whole lines for a front of them
 abbrev pub HasBegun : Outputs → SourceState → SourceState → SinkState → SinkState
     → (List ℕ → Type 0) → Type 0
 HasBegun Output old new before after Like =

@@ -47,7 +47,7 @@ unfoldable pub IsCheckOutput : List ℕ → List ℕ → ℕ → Type 0
 IsCheckOutput text written status =
     WritesAccepted text written status ⊎ WritesRefusal text written status
 
--- what is written of a kind or a refusal that was found
+-- what is written for a kind or a refusal that was found
 abbrev pub WritesFound : Result Kind RefusedAt → List ℕ → ℕ → Type 0
 WritesFound (Ok found) written status =
     IsLine (codes "accepted " ++ kind_word found) 0 written status

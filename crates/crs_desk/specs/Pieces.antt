@@ -12,7 +12,7 @@ pub record IsRefusedFront (text held : List ℕ) : Type 0 where
   pub is_settled : IsSettledRefusal held number place
   pub is_front : text ≡ held ++ behind
 
--- what is held of the text so far, where a refusal is settled or not
+-- what is held of the text so far, whether a refusal is settled or not
 abbrev pub IsHeld : Bool → List ℕ → List ℕ → Type 0
 IsHeld false text held = held ≡ text
 IsHeld true text held = IsRefusedFront text held
@@ -21,7 +21,7 @@ IsHeld true text held = IsRefusedFront text held
 abbrev pub IsWholeHeld : List ℕ → List ℕ → Type 0
 IsWholeHeld text held = (held ≡ text) ⊎ IsRefusedFront text held
 
--- the source gave a text whole, and this is held of it
+-- the source gave a whole text, and this is held of it
 pub record IsHeldOf (old new : SourceState) (held : List ℕ) : Type 0 where
   pub text : List ℕ
   pub is_whole : IsWhole old new text

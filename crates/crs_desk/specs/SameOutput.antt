@@ -10,23 +10,23 @@ use Rattle.crs_same.specs.Paths.{path_text}
 use Rattle.crs_same.specs.SameCrs.{SameCrs}
 use Rattle.crs_desk.specs.Output.{IsLine}
 
--- of two texts what stands behind a first one that spells a CRS: the refusal of the second behind the
--- word for it, or the comparison with the CRS that it spells
+-- what is written of the second of two texts, where the first spells a CRS: the refusal of the
+-- second after the word for it, or the comparison with the CRS that it spells
 abbrev pub IsSecondOutput : (List ℕ → List ℕ → List ℕ → ℕ → Type 0) → (Crs → List ℕ → ℕ → Type 0) →
     List ℕ → List ℕ → ℕ → Type 0
 IsSecondOutput Refused Compared second written status =
     Refused (codes "second ") second written status
     ⊎ ((b : Crs) × Spells second b × Compared b written status)
 
--- what is written for two texts, given how a refusal is written behind the word for its text, and how two CRSs
--- are compared
+-- what is written for two texts, given how a refusal is written after the word for its text, and
+-- how two CRSs are compared
 unfoldable pub IsPairOutput : (List ℕ → List ℕ → List ℕ → ℕ → Type 0) →
     (Crs → Crs → List ℕ → ℕ → Type 0) → List ℕ → List ℕ → List ℕ → ℕ → Type 0
 IsPairOutput Refused Compared first second written status =
     Refused (codes "first ") first written status
     ⊎ ((a : Crs) × Spells first a × IsSecondOutput Refused (Compared a) second written status)
 
--- the refusal of a text behind the word that says which text it is, with status 1
+-- the refusal of a text after the word that says which text it is, with status 1
 abbrev pub WritesRefusalOf : List ℕ → List ℕ → List ℕ → ℕ → Type 0
 WritesRefusalOf which text written status =
     (refusal : RefusedAt) × Refuses text refusal × IsLine (which

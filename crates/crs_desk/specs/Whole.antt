@@ -5,7 +5,7 @@ use Rattle.crs_group.specs.declared.fault.RunFault.{RunFault}
 use Rattle.crs_group.specs.declared.fault.RunFault.TheVariants.{ReadFailed, WriteFailed, TooLong}
 use Rattle.crs_group.specs.declared.fault.RunFault.TheVariants.{TooManyReads, Memory}
 
--- the source showed its end, and gave these bytes: all that it had, where it tells them
+-- the source showed its end, and gave these bytes, which are all that it had, where all are known
 pub record IsWhole (old new : SourceState) (text : List ℕ) : Type 0 where
   pub is_ended : new.ended ≡ true
   pub is_healthy : new.failed ≡ false

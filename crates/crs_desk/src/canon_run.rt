@@ -15,7 +15,7 @@ use std::io::{Read, Write};
 /// Reads a text to its end, and writes a line: the canonical text at a level of a text that spells a CRS, with status
 /// 0, else the refusal, with status 1. `ReadFailed` and `WriteFailed` where the source or the sink has failed,
 /// `TooLong(0)` for more than 1,048,576 bytes, `TooManyReads` where 1,048,576 reads have not shown the end, `Memory`
-/// where memory ran out. Nothing was written then, but for `WriteFailed`. Profile.
+/// where memory ran out. Every fault but `WriteFailed` leaves the sink untouched. Profile.
 pub fn run_canon<R: Read, W: Write>(
     alloc: Global,
     level: Level,

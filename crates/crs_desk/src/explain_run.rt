@@ -1,4 +1,4 @@
-//! What a text spells or why it is refused, and all parts in which two texts differ, told to a person.
+//! What a text spells or why it is refused, and all parts in which two texts differ, explained to a person.
 ghost use Rattle.std.specs.Prelude.{◌≡◌, ◌<◌, ◌↔◌, ◌≤◌, IfOk, IfErr, IsErrOf, true, false};
 ghost use Rattle.crs_value.specs.SpellsText.{Refuses};
 ghost use Rattle.crs_desk.specs.Ending.{IsAnswered, IsRunFault, IsWritten, IsWriteFault};
@@ -21,8 +21,8 @@ use std::io::{Read, Write};
 
 /// Reads a text to its end, and writes what it is: `accepted KIND` for a text that spells a CRS, with status 0, else
 /// the refusal, explained over some lines, with status 1. `ReadFailed` and `WriteFailed` where the source or the sink
-/// has failed, `TooLong(0)` for more than 1,048,576 bytes, `TooManyReads` where 1,048,576 reads have not shown the end,
-/// `Memory` where memory ran out. Nothing was written then, but for `WriteFailed`. Profile.
+/// has failed, `TooLong(0)` for more than 1,048,576 bytes, `TooManyReads` where 1,048,576 reads have not shown the
+/// end, `Memory` where memory ran out. Every fault but `WriteFailed` leaves the sink untouched. Profile.
 pub fn run_explain<R: Read, W: Write>(
     alloc: Global,
     r: &mut Source<R>,
@@ -115,7 +115,7 @@ fn text_output<'t>(alloc: Global, text: &'t [u8]) -> Result<(Vec<u8>, u8), Alloc
     }
 }
 
-// The refusal of a text, explained behind the word that says which text it is.
+// The refusal of a text, explained after the word that says which text it is.
 fn explained(
     alloc: Global,
     which: &[u8],
@@ -150,7 +150,7 @@ impl Answer for PairAnswer<'_> {
     }
 }
 
-// A refusal is explained, and of two CRSs all parts that differ are told.
+// Explains a refusal, and of two CRSs all parts that differ.
 struct InFull;
 
 impl Telling for InFull {

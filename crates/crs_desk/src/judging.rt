@@ -31,7 +31,7 @@ pub(crate) fn found_in(alloc: Global, text: &[u8]) -> Result<Result<Kind, Refusa
     }
 }
 
-// The refusal in a fault; want of memory is the error.
+// The refusal in a fault; the error is out of memory.
 pub(crate) fn refusal_in(fault: Fault) -> Result<Refusal, AllocError>
     ensures { IfOk result (λ refusal. Some refusal ≡ refusal_of fault) }
 {

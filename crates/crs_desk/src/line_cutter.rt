@@ -1,5 +1,5 @@
-//! Bytes are cut into lines piece by piece, and what a command writes for each goes into a sink. A line that lies whole
-//! within a piece is read where it stands; of others the bytes are kept until their line feed comes.
+//! Cuts bytes into lines piece by piece, and sends what a command writes for each to a sink. A line that is whole
+//! within a piece is read in place; of others the bytes are kept until their line feed comes.
 ghost use Rattle.std.specs.Prelude.{◌≡◌, ◌+◌, ◌^◌, ◌<◌, ◌≤◌, ◌++◌, ◌∷◌, [], ℕ, List, length};
 ghost use Rattle.std.specs.Prelude.{IfErr, IfOk, IsFalse, IsTrue, OnOk, false, true};
 ghost use Rattle.crs_group.specs.Lines.{HasNoFeed};
@@ -69,7 +69,7 @@ impl LineCutter {
         self.keep(rest)
     }
 
-    // The status of all lines: what stands behind the last line feed is one, if it has a byte.
+    // The status of all lines: what follows the last line feed is one, if it has a byte.
     pub(crate) fn finish<C: LineCommand, W: Write>(
         &mut self,
         alloc: Global,
@@ -88,7 +88,7 @@ impl LineCutter {
         Ok(self.writer.status())
     }
 
-    // The bytes before a line feed: behind what was kept they make a line.
+    // The bytes before a line feed: after what was kept they complete a line.
     fn end_line<C: LineCommand, W: Write>(
         &mut self,
         alloc: Global,
@@ -134,7 +134,7 @@ impl LineCutter {
         Ok(())
     }
 
-    // The bytes behind the last line feed of a piece.
+    // The bytes after the last line feed of a piece.
     fn keep(&mut self, bytes: &[u8]) -> Result<(), RunFault>
         requires { self.old.lines + 1 < 2 ^ 64 }
         ensures kept { OnOk result (IsKept bytes.now self.old self.new) }

@@ -9,7 +9,7 @@ use std::alloc::{AllocError, Global};
 use std::io::Write;
 use std::marker::Model;
 
-// The bytes that are sent in one write, at least, but for the last.
+// The least number of bytes that are sent in one write, but for the last.
 const BLOCK: usize = 65_536;
 
 #[derive(Drop)]

@@ -13,12 +13,12 @@ use std::alloc::Global;
 use std::io::{Read, Write};
 
 /// Reads lines of texts to the end, and writes for each in its turn what `run_canon` writes for its text alone, at a
-/// level; for a line of white space alone an empty line. Status 0, or 1 where a line was refused. What was written is
-/// handed to the sink in blocks of at least 65,536 bytes, but for the last: memory is bounded by the longest line.
+/// level; for a line of white space alone an empty line. Status 0, or 1 where a line was refused. Output is handed to
+/// the sink in blocks of at least 65,536 bytes, but for the last, so that memory is bounded by the longest line.
 /// `ReadFailed` and `WriteFailed` where the source or the sink has failed, `TooLong(n)` where line `n` has more than
-/// 1,048,576 bytes before its line feed, `TooManyReads` where 2^47 reads have not shown the end, `Memory` where memory
-/// ran out. Whole lines were written then, the first of all, but for `WriteFailed`: the sink got a front of such
-/// lines. Profile.
+/// 1,048,576 bytes before its line feed, `TooManyReads` where 2^47 reads have not shown the end, `Memory` where
+/// memory ran out. At a fault whole lines were written, the first of all; at `WriteFailed` the sink got a front of
+/// such lines. Profile.
 pub fn run_canon_lines<R: Read, W: Write>(
     alloc: Global,
     level: Level,

@@ -11,12 +11,12 @@ use crs_text::Refusal;
 use crs_value::{Crs, read};
 use std::alloc::{AllocError, Global};
 
-// How a refusal is told, and whether two CRSs are the same.
+// How a refusal is written, and how two CRSs are compared.
 pub(crate) trait Telling {
-    // What is written of the refusal of a text behind the word that says which text it is.
+    // What is written for the refusal of a text, after the word that says which text it is.
     ghost Refused: { Self → List ℕ → List ℕ → List ℕ → ℕ → Type 0 };
 
-    // What is written of two CRSs at a level.
+    // What is written for two CRSs at a level.
     ghost Compared: { Self → Level → Crs → Crs → List ℕ → ℕ → Type 0 };
 
     fn refusal(
@@ -59,7 +59,7 @@ pub(crate) fn pair_output<'t, T: Telling>(
     }
 }
 
-// Behind a first text that spells a CRS.
+// The second text, where the first spells a CRS.
 fn second_output<'t, T: Telling>(
     alloc: Global,
     told: &T,

@@ -11,7 +11,7 @@ use crs_text::{Fault, Feeder};
 use std::alloc::Global;
 use std::io::Read;
 
-// A feeder that was fed the whole text of a source, at most 1,048,576 bytes. Behind a settled refusal the rest is read
+// A feeder that was fed the whole text of a source, at most 1,048,576 bytes. After a settled refusal the rest is read
 // and counted, and isn't fed.
 pub(crate) fn read_pieces<R: Read>(
     alloc: Global,

@@ -6,7 +6,7 @@ use crs_text::Refusal;
 use itoa::Buffer;
 use std::alloc::{AllocError, Global};
 
-// `refused N NAME at P` behind these bytes, and a line end.
+// `refused N NAME at P` after these bytes, and a line end.
 pub(crate) fn refused_line(
     alloc: Global,
     front: &[u8],

@@ -56,7 +56,7 @@ impl Answer for SameAnswer<'_> {
     }
 }
 
-// A refusal is told in a line, and so is the first part in which two CRSs differ.
+// A refusal, and the first part in which two CRSs differ, are a line each.
 struct InALine;
 
 impl Telling for InALine {

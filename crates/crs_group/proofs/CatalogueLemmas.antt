@@ -1,4 +1,4 @@
--- What becomes of a catalogue where a further line finds its place.
+-- What becomes of a catalogue when a further line is placed.
 use Rattle.std.proofs.Common.{◌≡◌, ◌⊎◌, ◌<◌, ◌≤◌, ◌++◌, Bool, false, ◌∷◌, [], ℕ, zero, suc, List, Some, length, slice_get, slice_set, inl, inr, ap, subst, sym, refl, ◌∙◌, arith, add-one, length-append}
 use Rattle.std.proofs.lemmas.Option.{slice_get-map, slice_get_within}
 use Rattle.std.specs.Option.{option_map}
@@ -24,7 +24,7 @@ use Rattle.crs_group.specs.declared.placed.Placed.TheVariants.{Blank, Refused, G
 use Rattle.crs_group.proofs.ListLemmas.{each-append, each-by, get-last, if-equal, if-other, map-changed, none-is, nth-changed, nth-either, nth-front, some-is}
 use Rattle.crs_group.proofs.PartitionLemmas.{lines-append, lines-none, numbered-append, refused-append}
 
--- the place of a member lies in the list
+-- the place of a member is within the list
 get-within : {A : Type 0} (xs : List A) (at : ℕ) (x : A) → slice_get xs at ≡ Some x → suc at ≤ length xs
 get-within xs at x e = let h = slice_get_within xs at x e in omega arith
 
@@ -32,7 +32,7 @@ past-end : {A : Type 0} (xs : List A) (n : ℕ) (x : A) → nth n xs ≡ Some x 
 past-end xs zero x e h = none-is x e
 past-end xs (suc at) x e h = let k : at < length xs = slice_get_within xs at x e in absurd (omega arith)
 
--- no canonical text stands twice
+-- no canonical text is there twice
 abbrev pub AreApart : List CanonicalText → Type 0
 AreApart texts = (m n : ℕ) (canon : CanonicalText) → nth m texts ≡ Some canon → nth n texts ≡ Some canon → m ≡ n
 
@@ -47,7 +47,7 @@ text_of bytes level = record { bytes = bytes; level = level }
 same-parts : (a b : CanonicalText) → a.bytes ≡ b.bytes → a.level ≡ b.level → a ≡ b
 same-parts a b bytes level = ap (λ t. text_of t a.level) bytes ∙ ap (text_of b.bytes) level
 
--- of two lines under their canonical texts
+-- of two lines, by their canonical texts
 under-share : (level : Level) (texts : List CanonicalText) → MainTheorem level → AreApart texts → (p q : PlacedLine)
     → IsUnder level texts p.line.text p.place → IsUnder level texts q.line.text q.place → ShareWhereSame level p q
 under-share level texts main apart p q hp hq m n a b pm qn sa sb =
@@ -59,7 +59,8 @@ under-share level texts main apart p q hp hq m n a b pm qn sa sb =
           (uq.1 ∙ ap Some (sym (same-parts up.0 uq.0 (equal.1 same) (up.2 ∙ sym uq.2)))),
     )
 
--- lines that stand under their canonical texts share a group exactly where their CRSs are the same
+-- lines that are grouped by their canonical texts share a group exactly where their CRSs are the
+-- same
 pub all-share : (level : Level) (texts : List CanonicalText) → MainTheorem level → AreApart texts
     → (placed : List PlacedLine)
     → Each (λ p. IsUnder level texts p.line.text p.place) placed
@@ -145,7 +146,7 @@ none-added level = (
   record { texts = tt; apart = λ m n canon first second. absurd (nth-none m canon first) },
 )
 
--- a line that stands in no group
+-- a line that is in no group
 no-line : (n number : ℕ) (place : Placed) (placed : List PlacedLine) (lines : List ℕ) → in_group n number place ≡ []
     → lines ≡ lines_in n placed → lines ≡ lines_in n placed ++ in_group n number place
 no-line n number place placed lines none is =

@@ -1,4 +1,4 @@
--- Bytes are cut further.
+-- Bytes are cut into lines, one piece further.
 use Rattle.std.proofs.Common.{◌≡◌, ◌+◌, ◌<◌, ◌≤◌, ◌++◌, ◌∷◌, [], ℕ, List, true, false, length, ap, subst, sym, refl, ◌∙◌, arith, append_assoc, append-nil, length-append}
 use Rattle.std.specs.Prelude.{◌==◌}
 use Rattle.std.proofs.lemmas.Bool.{eqb-true}
@@ -21,7 +21,7 @@ cut-none cutter none ledger = record {
   of_texts = ledger;
 }
 
--- a line has its end
+-- a line ends
 pub cut-line : (bytes line : List ℕ) (before after : CutterParts) → IsCutTo bytes before → HasNoFeed line
     → length before.partial + length line ≤ 1048576
     → IsNextLine (before.partial ++ line) before.ledger after.ledger → after.partial ≡ []
@@ -135,7 +135,7 @@ some-kept bytes e none = true-false (ap (λ b. length b == 0) (sym none) ∙ sym
     true-false : true ≡ false → ⊥
     true-false h = cc
 
--- a line that stands whole in a piece
+-- a line that is whole within a piece
 pub cut-straight : (line : List ℕ) (now : CutterParts) (ledger after : LedgerParts) (partial : List ℕ)
     → cutter_of ledger partial ≡ now → HasNoFeed line → length now.partial + length line ≤ 1048576
     → true ≡ (length partial == 0) → IsNextLine line ledger after → (bytes : List ℕ) → IsCutTo bytes now
@@ -146,7 +146,7 @@ cut-straight line now ledger after partial is plain fits empty next bytes cut =
     cut-line bytes line (cutter_of ledger partial) (cutter_of after partial) (subst (IsCutTo bytes) (sym is) cut) plain
     (omega (arith, ap length was)) (subst (λ p. IsNextLine (p ++ line) ledger after) (sym none) next) none
 
--- a line of which bytes were kept
+-- a line some bytes of which were kept
 pub cut-joined : (line : List ℕ) (now : CutterParts) (ledger after : LedgerParts) (partial joined cleared : List ℕ)
     → cutter_of ledger partial ≡ now → HasNoFeed line → length now.partial + length line ≤ 1048576
     → joined ≡ partial ++ line → cleared ≡ [] → IsNextLine joined ledger after → (bytes : List ℕ) → IsCutTo bytes now
@@ -181,7 +181,7 @@ cut-longer more now ledger partial longer is plain fits whole bytes cut =
     cut-kept bytes more (cutter_of ledger partial) (cutter_of ledger longer) (subst (IsCutTo bytes) (sym is) cut) plain
     (omega (arith, ap length was)) refl whole
 
--- the bytes before a line of a piece, its bytes and those behind it
+-- the bytes before a line of a piece, its bytes and those after it
 line-in-piece : (bytes front line left rest piece : List ℕ) → piece ≡ front ++ rest → rest ≡ line ++ 10 ∷ left
     → (bytes ++ front) ++ (line ++ 10 ∷ left) ≡ bytes ++ piece
 line-in-piece bytes front line left rest piece is split =

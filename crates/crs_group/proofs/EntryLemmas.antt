@@ -1,4 +1,4 @@
--- What edits and look-ups of a map's entries are to the groups.
+-- What changes and look-ups of a map's entries mean for the groups.
 use Rattle.std.proofs.Common.{◌≡◌, ◌++◌, true, false, ◌∷◌, [], ℕ, zero, suc, List, Option, Some, None, length, map, position, get_or, slice_get, is_some, cond, true≢false, ap, sym, refl, ◌∙◌, add-one, append_assoc, drop, Result, Ok, Err}
 use Rattle.std.specs.Prelude.{◌+◌, MatchOption, OnErr}
 use Rattle.std.specs.Map.{keys_of, values_of, lookup}
@@ -24,7 +24,7 @@ pub on-err : {A E P : Type 0} (r : Result A E) → P → OnErr r P
 on-err (Ok x) p = tt
 on-err (Err e) p = p
 
--- the groups from a place on: the one with these lines, and those behind it
+-- the groups from a place on: the one with these lines, and those after it
 split-at : (groups : List GroupParts) (at : ℕ) (ns : List ℕ)
     → slice_get (map (λ group. group.lines) groups) at ≡ Some ns
     → (group : GroupParts) × (group.lines ≡ ns) × (drop at groups ≡ group ∷ drop (suc at) groups)

@@ -134,7 +134,7 @@ ended-last bytes (text ∷ texts) last (line, rest, e, bare, is, more) plain som
   ended-last rest texts last more plain some,
 )
 
--- a stretch that begins the bytes lies before their first feed
+-- a stretch at the start of the bytes that ends before their first feed
 stretch-before : (line rest a b : List ℕ) → line ++ rest ≡ a ++ 10 ∷ b → HasNoFeed line
     → (m : List ℕ) × (a ≡ line ++ m)
 stretch-before [] rest a b e plain = (a, refl)
@@ -144,7 +144,7 @@ stretch-before (x ∷ xs) rest (y ∷ ys) b e plain =
     let further = stretch-before xs rest ys b (tail-of x y (xs ++ rest) (ys ++ 10 ∷ b) e) (feed-rest x xs plain) in
     (further.0, cons-is y x ys (xs ++ further.0) (sym (head-of x y (xs ++ rest) (ys ++ 10 ∷ b) e)) further.1)
 
--- what begins behind some bytes begins before a feed, or behind it
+-- what begins after some bytes begins before a feed, or after it
 begins-either : (front rest a b : List ℕ) → a ++ 10 ∷ b ≡ front ++ rest
     → ((m : List ℕ) × (a ≡ front ++ m) × (m ++ 10 ∷ b ≡ rest)) ⊎ ((m : List ℕ) × (b ≡ m ++ rest))
 begins-either [] rest a b e = inl (a, refl, e)
@@ -188,7 +188,7 @@ short-more ended more (inr (front, is)) before behind =
     subst HasShortLines (sym (ap (λ b. b ++ more) is ∙ append_assoc front (10 ∷ []) more))
     (short-feed front more first behind)
 
--- behind lines that have ended, one more of this length
+-- after lines that have ended, one more line of this length
 pub short-ended : (ended line : List ℕ) → (ended ≡ []) ⊎ EndsInFeed ended → HasShortLines ended → length line ≤ 1048576
     → HasShortLines (ended ++ (line ++ 10 ∷ []))
 short-ended ended line begins before fits =

@@ -52,7 +52,7 @@ feed-rest b bs plain = by_test (b == 10) plain
 pub feed-more : (b : ℕ) (bs : List ℕ) → (b == 10) ≡ false → HasNoFeed bs → HasNoFeed (b ∷ bs)
 feed-more b bs test plain = rw test plain
 
--- a feed stands there
+-- there is a feed at that place
 feed-there : (line rest : List ℕ) → HasNoFeed (line ++ 10 ∷ rest) → ⊥
 feed-there [] rest plain = false-true plain
 feed-there (b ∷ bs) rest plain = feed-there bs rest (feed-rest b (bs ++ 10 ∷ rest) plain)
@@ -195,7 +195,7 @@ text-of line = by_last (last-of line)
 line-text : (line : List ℕ) → without_terminator (line ++ 10 ∷ []) ≡ no_cr line
 line-text line = cond-true _ _ _ (ends-test line 10 10) ∙ ap no_cr (take-front line 10)
 
--- what has no feed stays
+-- what has no feed is unchanged
 last-text : (bytes : List ℕ) → HasNoFeed bytes → without_terminator bytes ≡ bytes
 last-text bytes plain = by_last (last-of bytes)
   where

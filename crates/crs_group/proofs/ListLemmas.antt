@@ -1,4 +1,4 @@
--- Members of lists that are made longer, or changed at a place.
+-- Members of lists that grow, or change at a place.
 use Rattle.std.proofs.Common.{◌≡◌, ◌⊎◌, ◌++◌, ◌∷◌, [], ℕ, zero, suc, List, Some, None, length, slice_get, slice_set, map, inl, inr, ap, sym, refl, ◌∙◌, arith, eq-eqb}
 use Rattle.std.proofs.lemmas.Bool.{ne_eqb}
 use Rattle.std.specs.Prelude.{◌==◌, if◌then◌else◌}

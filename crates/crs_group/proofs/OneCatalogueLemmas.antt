@@ -1,4 +1,5 @@
--- The catalogue of some lines is one: its lines stand at one place each, and its groups have one text each.
+-- The catalogue of some lines is one: each of its lines has one place, and each of its groups one
+-- text.
 use Rattle.std.proofs.Common.{◌≡◌, ◌⊎◌, ◌<◌, ◌≤◌, ◌∷◌, [], ℕ, suc, List, Some, length, map, slice_get, inl, inr, ap, subst, sym, refl, ◌∙◌, arith}
 use Rattle.std.proofs.lemmas.Bool.{cases_lt}
 use Rattle.std.proofs.lemmas.Option.{slice_get_within}
@@ -18,7 +19,7 @@ use Rattle.crs_group.specs.declared.placed.Placed.TheVariants.{Blank, Refused, G
 use Rattle.crs_group.proofs.ListLemmas.{some-is}
 use Rattle.crs_group.proofs.PlaceLemmas.{canon-at}
 
--- no text spells a value and is refused, and it is refused once
+-- no text both spells a value and is refused, and it has one refusal at most
 pub record IsAnsweredOnce : Type 0 where
   pub refusal : (text : List ℕ) (a b : RefusedAt) → Refuses text a → Refuses text b → a ≡ b
   pub apart : (text : List ℕ) (value : Crs) (fault : RefusedAt) → Spells text value → ¬ (Refuses text fault)
@@ -63,7 +64,7 @@ numbered-one before (r ∷ rs) x y p q =
 
 -- ---- each group has a line
 
--- one of these lines stands in the group
+-- one of these lines is in the group
 abbrev Found : (PlacedLine → Type 0) → ℕ → Type 0
 Found Is n = (p : PlacedLine) × Is p × (p.place ≡ Group n)
 
@@ -108,14 +109,14 @@ found-all Is before (p ∷ ps) behind numbered found n low high =
 
 -- ---- each line has one place
 
--- a line shares the group of one of these
+-- a line that is in the group of one of these
 abbrev Shares : Level → (PlacedLine → Type 0) → PlacedLine → Type 0
 Shares level Is p = (q : PlacedLine) → Is q → ShareWhereSame level q p
 
 abbrev Placing : (PlacedLine → Type 0) → Type 0
 Placing Is = (q : PlacedLine) → Is q → IsPlacedAs q.line.text q.place
 
--- a line that spells what another spells stands in the group that this one joins
+-- a line that spells what another spells is in the group that this one joins
 joins : (level : Level) (Is : PlacedLine → Type 0) (before : ℕ) → AllFound Is before → Placing Is
     → (p q : PlacedLine) → Shares level Is p → Shares level Is q → (m n : ℕ) → p.place ≡ Group m → q.place ≡ Group n
     → (crs : Crs) → Spells p.line.text crs → Spells q.line.text crs → 1 ≤ m → m ≤ before → m ≡ n

@@ -1,4 +1,4 @@
--- Lists of placed lines that are made longer.
+-- Lists of placed lines that grow.
 use Rattle.std.proofs.Common.{◌≡◌, ◌<◌, ◌≤◌, ◌++◌, ◌∷◌, [], ℕ, List, inl, inr, ap, subst, refl, ◌∙◌, arith}
 use Rattle.std.proofs.lemmas.Grind.{flat_map-append}
 use Rattle.std.proofs.lemmas.List.{append-nil}
@@ -26,7 +26,7 @@ refused-append placed p =
     flat_map-append (λ q. if_refused q.line.number q.place) placed (p ∷ [])
     ∙ ap (λ l. refused_in placed ++ l) (append-nil (if_refused p.line.number p.place))
 
--- groups aren't lost, and a line's group is counted
+-- no group is lost, and the group of a line is counted
 counts-rise : (before : ℕ) (place : Placed) (behind : ℕ) → Counts before place behind → before ≤ behind
 counts-rise before Blank behind counts = omega arith
 counts-rise before (Refused refusal) behind counts = omega arith
@@ -47,7 +47,7 @@ in-none n before line (Refused refusal) behind counts over = refl
 in-none n before line (Group m) behind (inl (low, high, same)) over = if-other m n _ _ (λ e. omega arith)
 in-none n before line (Group m) behind (inr (next, last)) over = if-other m n _ _ (λ e. omega arith)
 
--- no line stands in a group that isn't counted
+-- no line is in a group that isn't counted
 pub lines-none : (n before : ℕ) (placed : List PlacedLine) (behind : ℕ) → AreNumbered before placed behind
     → behind < n
     → lines_in n placed ≡ []

@@ -1,4 +1,4 @@
--- What the source of a run has given, and what the halves of the run say of the whole.
+-- What the source of a run has given, and what the two halves of the run say of the whole.
 use Rattle.std.proofs.Common.{◌≡◌, ◌+◌, ◌<◌, ◌≤◌, ◌*◌, ◌^◌, ◌++◌, ℕ, List, Option, Some, None, false, length, ap, subst, sym, ◌∙◌, arith, append_assoc, length-append, length-take, take, is_ok, true≢false, Result, Ok, Err}
 use Rattle.std.specs.Prelude.{IfOk, IsErr, MatchResult}
 use Rattle.std.specs.Io.{ReadsAtMost}
@@ -115,7 +115,7 @@ whole-ledger level old new cutter (Ok ledger) read lines is = record {
 }
 whole-ledger level old new cutter (Err error) read lines is = tt
 
--- what holds of an answer holds of it where its error alone is put otherwise
+-- what holds of an answer holds of it where its error alone is replaced
 pub kept : {A E F : Type 0} (P : A → Type 0) (Q : E → Type 0) (r : Result A E) (s : Result A F)
     → MatchResult r (λ x. s ≡ Ok x) Q → is_ok s ≡ is_ok r → IfOk r P → IfOk s P
 kept P Q (Ok x) s is same p = subst (λ t. IfOk t P) (sym is) p

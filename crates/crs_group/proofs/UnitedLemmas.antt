@@ -37,7 +37,7 @@ beside (p0 ∷ ps) (q ∷ qs) e (suc at) p there =
     let found = beside ps qs rest at p there in
     record { placed = found.placed; there = found.there; same = found.same }
 
--- an accepted text that isn't blank stands in a group
+-- an accepted text that isn't blank is in a group
 stands : ((text : List ℕ) (value : Crs) (fault : RefusedAt) → Spells text value → ¬ (Refuses text fault)) →
     (text : List ℕ) (place : Placed) → ¬ (IsWhite text) → IsAccepted text → IsPlacedAs text place → (n : ℕ) × (place ≡ Group n)
 stands apart text Blank dark accepted such = absurd (dark such)

@@ -10,12 +10,12 @@ use Rattle.crs_group.specs.declared.fault.RunFault.TheVariants.{ReadFailed, Writ
 use Rattle.crs_group.specs.declared.fault.RunFault.TheVariants.{TooManyReads, Memory}
 use Rattle.crs_group.specs.declared.summary.Summary.{Summary}
 
--- the source gave these bytes, the first of all that it had, where it tells them
+-- the source gave these bytes, which are the first of all that it had, where all are known
 pub record HasGiven (old new : SourceState) (bytes : List ℕ) : Type 0 where
   pub is_counted : length bytes ≡ new.taken
   pub is_first : Consumes old.remaining new.remaining bytes
 
--- the source showed its end, and gave these bytes: all that it had, where it tells them
+-- the source showed its end, and gave these bytes, which are all that it had, where all are known
 pub record HasGivenAll (old new : SourceState) (bytes : List ℕ) : Type 0 where
   pub is_ended : new.ended ≡ true
   pub is_healthy : new.failed ≡ false
@@ -30,7 +30,7 @@ GivesShortLines old new = (bytes : List ℕ) × HasGiven old new bytes × HasSho
 abbrev pub GivesLongLine : SourceState → SourceState → ℕ → Type 0
 GivesLongLine old new number = (bytes : List ℕ) × HasGiven old new bytes × IsTooLong bytes number
 
--- the source gave bytes whole, and the sink got what is written for them
+-- the source gave all its bytes, and the sink got what is written for them
 pub record IsGrouped (level : Level) (old_source new_source : SourceState)
     (old_sink new_sink : SinkState)
     (summary : Summary) : Type 0 where
@@ -43,7 +43,7 @@ pub record IsGrouped (level : Level) (old_source new_source : SourceState)
   pub is_asked : IsAskedFor written old_sink new_sink
   pub is_healthy : new_sink.failed ≡ false
 
--- what a fault says of the reading that it ended
+-- what a fault of the reading says
 abbrev pub IsReadingFault : SourceState → SourceState → RunFault → Type 0
 IsReadingFault old new ReadFailed = (new.failed ≡ true) × GivesShortLines old new
 IsReadingFault old new WriteFailed = ⊥
@@ -52,8 +52,7 @@ IsReadingFault old new TooManyReads =
     (new.failed ≡ false) × (new.reads ≡ 1048576) × (new.ended ≡ false) × GivesShortLines old new
 IsReadingFault old new Memory = new.failed ≡ false
 
--- what a run's fault says of its source and of its sink: before the whole was read nothing is
--- written
+-- what a run's fault says of its source and of its sink: nothing is written before all was read
 abbrev pub IsGroupFault : SourceState → SourceState → SinkState → SinkState → RunFault → Type 0
 IsGroupFault old new before after ReadFailed = IsReadingFault old new ReadFailed × (after ≡ before)
 IsGroupFault old new before after WriteFailed =

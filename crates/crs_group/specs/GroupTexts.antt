@@ -27,7 +27,7 @@ pub record HasTexts (placed : List PlacedLine) (catalogue : CatalogueParts) : Ty
   pub apart : (m n : ℕ) (canon : CanonicalText) → nth m (canons catalogue.groups) ≡ Some canon
       → nth n (canons catalogue.groups) ≡ Some canon → m ≡ n
 
--- the catalogue is that of lines which stand at these places, and its texts are theirs
+-- the catalogue is that of lines at these places, and its texts are theirs
 abbrev pub IsCatalogue : List PlacedLine → CatalogueParts → Type 0
 IsCatalogue placed catalogue = IsPartition placed catalogue × HasTexts placed catalogue
 

@@ -21,8 +21,8 @@ EndsInReturn bytes = (front : List ℕ) × (bytes ≡ front ++ 13 ∷ [])
 abbrev pub IsTextOf : List ℕ → List ℕ → Type 0
 IsTextOf bytes text = (bytes ≡ text ++ 13 ∷ []) ⊎ ((bytes ≡ text) × ¬ (EndsInReturn bytes))
 
--- the texts of all lines: a line ends at a line feed, and what stands behind the last feed is one
--- if it has a byte
+-- the texts of all lines: a line ends at a line feed, and what follows the last feed is one if it
+-- has a byte
 abbrev pub AreLines : List ℕ → List (List ℕ) → Type 0
 AreLines bytes [] = bytes ≡ []
 AreLines bytes (text ∷ texts) =

@@ -1,4 +1,4 @@
--- Which catalogue is that of some lines: it speaks of what texts spell, and of no canonical text.
+-- Which catalogue is that of some lines, said by what texts spell, without canonical texts.
 use Rattle.std.specs.Prelude.{◌≡◌, ◌↔◌, ◌⊎◌, ◌+◌, ◌≤◌, ◌==◌, ◌∷◌, [], ℕ, List, Some, if◌then◌else◌}
 use Rattle.std.specs.Prelude.{length}
 use Rattle.std.specs.List.{flat_map}
@@ -14,24 +14,24 @@ use Rattle.crs_group.specs.Catalogue.{Line, GroupParts, CatalogueParts, nth}
 use Rattle.crs_group.specs.declared.placed.Placed.{Placed}
 use Rattle.crs_group.specs.declared.placed.Placed.TheVariants.{Blank, Refused, Group}
 
--- a line and where it stands
+-- a line and its place: the group that it is in, or its refusal
 pub record PlacedLine : Type 0 where
   pub line : Line
   pub place : Placed
 
--- blank is a text of white space alone; any other is refused as what spells no CRS, or spells one
--- and stands in a group
+-- a blank text is white space alone; any other spells no CRS and is refused, or spells one and is
+-- in a group
 abbrev pub IsPlacedAs : List ℕ → Placed → Type 0
 IsPlacedAs text Blank = IsWhite text
 IsPlacedAs text (Refused refusal) = (¬ (IsWhite text)) × Refuses text refusal
 IsPlacedAs text (Group n) = (¬ (IsWhite text)) × IsAccepted text
 
--- two lines stand in one group exactly where the CRSs that they spell are the same
+-- two lines are in one group exactly where the CRSs that they spell are the same
 abbrev pub ShareWhereSame : Level → PlacedLine → PlacedLine → Type 0
 ShareWhereSame level p q = (m n : ℕ) (a b : Crs) → p.place ≡ Group m → q.place ≡ Group n
     → Spells p.line.text a → Spells q.line.text b → (m ≡ n) ↔ SameCrs level a b
 
--- with so many groups before a line, there are so many behind it: it stands in one of them, or is
+-- with so many groups before a line, there are so many after it: the line is in one of them, or is
 -- the first of the next
 abbrev pub Counts : ℕ → Placed → ℕ → Type 0
 Counts before Blank behind = behind ≡ before
@@ -40,13 +40,13 @@ Counts before (Group n) behind =
     ((1 ≤ n) × (n ≤ before) × (behind ≡ before)) ⊎ ((n ≡ before + 1) × (behind ≡ n))
 
 -- groups are numbered by their first lines: with so many before these lines, there are so many
--- behind them
+-- after them
 abbrev pub AreNumbered : ℕ → List PlacedLine → ℕ → Type 0
 AreNumbered before [] behind = behind ≡ before
 AreNumbered before (p ∷ ps) behind =
     (next : ℕ) × Counts before p.place next × AreNumbered next ps behind
 
--- the line's number, where it stands in the group
+-- the line's number, where it is in the group
 abbrev pub in_group : ℕ → ℕ → Placed → List ℕ
 in_group n number Blank = []
 in_group n number (Refused refusal) = []
@@ -58,7 +58,7 @@ if_refused number Blank = []
 if_refused number (Refused refusal) = (number, refusal) ∷ []
 if_refused number (Group n) = []
 
--- the numbers of the lines that stand in a group, in order
+-- the numbers of the lines that are in a group, in order
 abbrev pub lines_in : ℕ → List PlacedLine → List ℕ
 lines_in n placed = flat_map (λ p. in_group n p.line.number p.place) placed
 
@@ -66,12 +66,12 @@ lines_in n placed = flat_map (λ p. in_group n p.line.number p.place) placed
 abbrev pub refused_in : List PlacedLine → List (ℕ × RefusedAt)
 refused_in placed = flat_map (λ p. if_refused p.line.number p.place) placed
 
--- the catalogue is that of lines which stand at these places
+-- the catalogue is that of lines at these places
 pub record IsPartition (placed : List PlacedLine) (catalogue : CatalogueParts) : Type 0 where
   pub each : Each (λ p. IsPlacedAs p.line.text p.place) placed
   pub same : Each (λ p. Each (ShareWhereSame catalogue.level p) placed) placed
   pub numbered : AreNumbered 0 placed (length catalogue.groups)
-  -- each group has the numbers of its lines, and the refused lines stand with their refusals
+  -- each group has the numbers of its lines, and each refused line has its refusal
   pub lines : (n : ℕ) (group : GroupParts) → nth n catalogue.groups ≡ Some group →
       group.lines ≡ lines_in n placed
   pub refused : catalogue.refused ≡ refused_in placed

@@ -1,4 +1,4 @@
--- A bridge: what becomes of the groups where a line with a canonical text is put among them.
+-- A bridge: what becomes of the groups when a line with a canonical text is put among them.
 use Rattle.std.specs.Prelude.{◌≡◌, ◌⊎◌, ◌+◌, ◌++◌, ◌∷◌, [], ℕ, List, Some, length, slice_get}
 use Rattle.std.specs.Prelude.{slice_set}
 use Rattle.crs_text.specs.Refusal.{RefusedAt}
@@ -36,7 +36,7 @@ IsPut canon line before behind place =
     ⊎ (IsNew canon before × (place ≡ Group (length before + 1))
     × (behind ≡ before ++ group_of canon line ∷ []))
 
--- the fault is a refusal, with which the line stands among the refused ones
+-- the fault is a refusal, with which the line is among the refused ones
 abbrev pub IsRefused : Fault → ℕ → List (ℕ × RefusedAt) → List (ℕ × RefusedAt) → Placed → Type 0
 IsRefused fault line before behind place =
     (refusal : RefusedAt) × (fault ≡ faults.Refused refusal) × (place ≡ Refused refusal)

@@ -3,7 +3,7 @@ use Rattle.std.specs.Prelude.{◌≡◌, ◌+◌, ◌++◌, ◌==◌, ◌||◌, 
 use Rattle.std.specs.Prelude.{Result, MatchResult}
 use Rattle.std.specs.Io.KnownBytes.{Appends}
 
--- a reader: the bytes that it has left where it tells them, the reads made, the bytes that they
+-- a reader: the bytes that it has left where they are known, the reads made, the bytes that they
 -- gave, whether a read gave no byte, which shows the end, whether a read was made past the end, and
 -- whether a read answered a failure
 pub record SourceState : Type 0 where
@@ -14,8 +14,8 @@ pub record SourceState : Type 0 where
   pub past_end : Bool
   pub failed : Bool
 
--- a writer: the bytes that it holds where it tells them, whether anything was handed to it, whether
--- a write was made past a failure, and whether a write answered a failure, or took no byte
+-- a writer: the bytes that it holds where they are known, whether anything was handed to it,
+-- whether a write was made past a failure, and whether a write answered a failure, or took no byte
 pub record SinkState : Type 0 where
   pub contents : Option (List ℕ)
   pub used : Bool
@@ -39,12 +39,12 @@ abbrev pub fresh_sink : Option (List ℕ) → SinkState
 fresh_sink contents =
     record { contents = contents; used = false; past_failure = false; failed = false }
 
--- a writer that was asked for these bytes, and not where there are none
+-- a writer that was given these bytes, and wasn't asked where there are none
 abbrev pub IsAskedFor : List ℕ → SinkState → SinkState → Type 0
 IsAskedFor [] old new = new ≡ old
 IsAskedFor (byte ∷ bytes) old new = new.used ≡ true
 
--- bytes that are handed over in vain: a writer that tells its bytes holds the first of them
+-- bytes of which a write failed: a writer whose bytes are known holds the first of them
 abbrev pub AppendsFront : Option (List ℕ) → Option (List ℕ) → List ℕ → Type 0
 AppendsFront old new bytes =
     (front : List ℕ) × (rest : List ℕ) × (bytes ≡ front ++ rest) × Appends old new front
@@ -59,16 +59,16 @@ pub record CountsRead {E : Type 0} (old new : SourceState) (answer : Result ℕ 
       × (new.failed ≡ old.failed))
       (λ _. (new.taken ≡ old.taken) × (new.ended ≡ old.ended) × (new.failed ≡ true))
 
--- one more write: it was used, whether a failure was answered before, and whether one is answered
--- now
+-- one more write: the writer was used; whether a failure was answered before, and whether one is
+-- answered now
 pub record CountsWrite {E : Type 0} (old new : SinkState) (answer : Result ℕ E) : Type 0 where
   pub is_used : new.used ≡ true
   pub past_failure : new.past_failure ≡ (old.past_failure || old.failed)
   pub failure : MatchResult answer (λ count. new.failed ≡ (old.failed || (count == 0)))
       (λ _. new.failed ≡ true)
 
--- bytes that are handed over, in one write after another up to a failure: nothing is asked of a
--- writer behind one
+-- bytes that are handed over in one write after another up to a failure: nothing is asked of a
+-- writer after one
 pub record CountsWrites {E : Type 0} (old new : SinkState)
     (answer : Result (Unit {0}) E) : Type 0 where
   pub is_used : new.used ≡ true

@@ -88,7 +88,7 @@ impl Catalogue {
         &self.refused
     }
 
-    /// Adds a line, and answers where it stands: with the lines whose CRSs are the same, where it spells a CRS.
+    /// Adds a line, and answers where it was placed: with the lines whose CRSs are the same, where it spells a CRS.
     ///
     /// `AllocError`: there is no memory for the line; the catalogue is as before. Profile.
     pub fn add(&mut self, line: u64, text: &[u8]) -> Result<Placed, AllocError>
@@ -153,7 +153,7 @@ impl Catalogue {
     }
 }
 
-/// Whether a text is white space alone, or nothing: a blank line stands in no group.
+/// Whether a text is white space alone, or nothing: a blank line is in no group.
 pub fn is_blank(text: &[u8]) -> bool
     ensures { result ≡ list_all is_white text.now }
 {

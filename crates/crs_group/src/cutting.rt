@@ -1,5 +1,5 @@
-//! Bytes are cut into lines piece by piece, and each line goes into a ledger. A line that lies whole within a piece is
-//! read where it stands; of others the bytes are kept until their line feed comes.
+//! Cuts bytes into lines piece by piece, and puts each line into a ledger. A line that is whole within a piece is
+//! read in place; of others the bytes are kept until their line feed comes.
 ghost use Rattle.std.specs.Prelude.{◌≡◌, ◌+◌, ◌^◌, ◌<◌, ◌≤◌, ◌++◌, ◌∷◌, [], ℕ, List, length};
 ghost use Rattle.std.specs.Prelude.{IfErr, IfOk, IsFalse, IsTrue, MatchOption, OnOk};
 ghost use Rattle.crs_group.specs.Cutting.{IsCutFault, IsCutTo, IsLedgerFor, IsNextLine};
@@ -57,7 +57,7 @@ impl Cutter {
         self.keep(rest)
     }
 
-    // The ledger of all lines: what stands behind the last line feed is one, if it has a byte.
+    // The ledger of all lines: what follows the last line feed is one, if it has a byte.
     pub(crate) fn finish(self) -> Result<Ledger, AllocError>
         requires { self.ledger.lines + 1 < 2 ^ 64 }
         ensures lines { IfOk result (λ ledger. (bytes : List ℕ) → IsCutTo bytes self → IsLedgerFor bytes ledger) }
@@ -71,7 +71,7 @@ impl Cutter {
         Ok(ledger)
     }
 
-    // The bytes before a line feed: behind what was kept they make a line.
+    // The bytes before a line feed: after what was kept they complete a line.
     fn end_line(&mut self, line: &[u8]) -> Result<(), RunFault>
         requires one { HasNoFeed line.now }
         requires fits { self.old.ledger.lines + 1 < 2 ^ 64 }
@@ -94,7 +94,7 @@ impl Cutter {
         Ok(())
     }
 
-    // The bytes behind the last line feed of a piece.
+    // The bytes after the last line feed of a piece.
     fn keep(&mut self, bytes: &[u8]) -> Result<(), RunFault>
         requires one { HasNoFeed bytes.now }
         requires small { length bytes.now ≤ 65536 }
@@ -120,7 +120,7 @@ impl Cutter {
     }
 }
 
-/// The bytes before the first line feed, and those behind it. `None`: there is no line feed.
+/// The bytes before the first line feed, and those after it. `None`: there is no line feed.
 pub fn split_line(bytes: &[u8]) -> Option<(&[u8], &[u8])>
     ensures { MatchOption result (HasNoFeed bytes.now) (λ parts. IsSplit bytes.now parts.0.now parts.1.now) }
 {
@@ -130,7 +130,7 @@ pub fn split_line(bytes: &[u8]) -> Option<(&[u8], &[u8])>
     }
 }
 
-/// The text of a line that ended at a line feed: a return at its end is no part of it.
+/// The text of a line that ended at a line feed, without a return at its end.
 pub fn text_of(line: &[u8]) -> &[u8]
     ensures { IsTextOf line.now result.now }
 {

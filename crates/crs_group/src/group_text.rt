@@ -12,7 +12,7 @@ use crs_text::Refusal;
 use itoa::Buffer;
 use std::alloc::AllocError;
 
-// The groups, and behind them the refused lines.
+// The groups, and after them the refused lines.
 pub(crate) fn write_catalogue(out: &mut Vec<u8>, catalogue: &Catalogue) -> Result<(), AllocError>
     ensures { OnOk result (out.new.items ≡ out.old.items ++ catalogue_text catalogue.now) }
 {

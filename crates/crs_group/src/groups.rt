@@ -80,7 +80,7 @@ impl Groups {
         self.lines.get_index_of(canon)
     }
 
-    // A further line in the group at this place. Want of memory leaves the groups as they were.
+    // A further line in the group at this place. Out of memory, the groups are as before.
     pub(crate) fn join(&mut self, at: usize, line: u64) -> Result<(), AllocError>
         requires { at < length self.old }
         ensures groups { IfOk result (λ _. IsJoined at line self.old self.new) }
@@ -90,7 +90,7 @@ impl Groups {
         Ok(())
     }
 
-    // A further group, of one line. Want of memory leaves the groups as they were.
+    // A further group, of one line. Out of memory, the groups are as before.
     pub(crate) fn open(&mut self, alloc: Global, line: u64, canon: Canon) -> Result<(), AllocError>
         requires { IsNew canon self.old }
         ensures groups { IfOk result (λ _. self.new ≡ self.old ++ group_of canon line ∷ []) }

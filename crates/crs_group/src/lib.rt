@@ -1,5 +1,5 @@
 //! Groups of texts: two lines are in one group exactly where their CRSs are the same. The lines of a source are read
-//! piece by piece, and their catalogue is written to a sink. What stands above knows places, groups and refusals alone.
+//! piece by piece, and their catalogue is written to a sink. Crates above know places, groups and refusals alone.
 #![tactic(auto)]
 
 mod catalogue;

@@ -17,9 +17,10 @@ use std::io::{Read, Write};
 
 /// Reads lines of texts to the end, and writes their catalogue at a level: for each group `group N:` and the numbers
 /// of its lines, and then for each refused line `line L:` and the refusal. Lines are numbered from 1, blank ones
-/// included. Where nothing is to be written the sink isn't asked. `ReadFailed` and `WriteFailed` where the source or the sink has failed, `TooLong(n)` where line `n` has
-/// more than 1,048,576 bytes before its line feed, `TooManyReads` where 1,048,576 reads have not shown the end,
-/// `Memory` where memory ran out. Nothing was written then, but for `WriteFailed`. Profile.
+/// included. Where there is nothing to write the sink isn't asked. `ReadFailed` and `WriteFailed` where the source or
+/// the sink has failed, `TooLong(n)` where line `n` has more than 1,048,576 bytes before its line feed,
+/// `TooManyReads` where 1,048,576 reads have not shown the end, `Memory` where memory ran out. Every fault but
+/// `WriteFailed` leaves the sink untouched. Profile.
 pub fn run_group<R: Read, W: Write>(
     alloc: Global,
     level: Level,

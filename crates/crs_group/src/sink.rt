@@ -43,8 +43,9 @@ impl<W: Write> Sink<W> {
     }
 
     /// Writes all the bytes, as many at a time as the writer takes; where there are none the writer isn't asked. An
-    /// error is the writer's own, an interruption included, or `WriteZero` where the writer takes no byte; nothing is
-    /// asked of the writer behind it, and the sink has `failed` from then on; the bytes that it took are the first ones.
+    /// error is the writer's own, an interruption included, or `WriteZero` where the writer takes no byte. Nothing is
+    /// asked of the writer after it, the sink has `failed` from then on, and the bytes that the writer took are the
+    /// first ones.
     pub fn write_all(&mut self, bytes: &[u8]) -> io::Result<()>
         ensures bytes { OnOk result (Appends self.old.contents self.new.contents bytes.now) }
         ensures front { OnErr result (AppendsFront self.old.contents self.new.contents bytes.now) }

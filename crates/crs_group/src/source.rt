@@ -8,13 +8,13 @@ use std::io;
 use std::io::Read;
 use std::marker::Model;
 
-/// The reads that a run over one text or over a catalogue makes at most. Profile.
+/// The most reads that a run over one text or over a catalogue makes. Profile.
 pub const MAX_READS: u32 = 1_048_576;
 
-/// The reads that a source counts at most, 2^47. Profile.
+/// The most reads that a source counts, 2^47. Profile.
 pub const MAX_COUNTED_READS: u64 = 140_737_488_355_328;
 
-// The bytes of a read at most.
+// The most bytes of a read.
 const ROOM: usize = 65_536;
 
 /// A reader that counts its reads and remembers a failure.

@@ -1,4 +1,4 @@
-/// What a catalogue was made of. Profile.
+/// What a catalogue has. Profile.
 #[derive(Clone, Copy, Debug, PartialEq, Eq)]
 pub struct Summary {
     /// How many lines there are, blank ones included.
