@@ -1,32 +1,32 @@
 /* crsdesk: well-known text (WKT2, ISO 19162:2019) of coordinate reference systems, from C.
 
-   One CRS has many spellings. These calls tell whether two texts are one CRS, or which part differs first; write each
-   CRS in one canonical spelling; group a catalogue by CRS; and refuse anything else with a number, at the exact byte.
+   One CRS has many spellings. These calls say whether two texts are one CRS, and where they differ; write each CRS in
+   one canonical spelling; group a catalogue by CRS; and refuse anything else with a number, at the exact byte.
 
        #include <crsdesk.h>
        cc program.c -lcrsdesk          (or with pkg-config: cc program.c $(pkg-config --cflags --libs crsdesk))
 
-   TEXTS are bytes and a length, with no NUL byte behind them; a NUL byte inside is a byte like any other. They needn't
-   be UTF-8 to be judged. They are only read. They may be as long as memory allows.
+   TEXTS are bytes and a length, with no NUL byte after them; a NUL byte inside is a byte like any other. They needn't
+   be UTF-8, are only read, and may be as long as memory allows.
 
    ANSWERS go to places that the caller gives. A text that is answered goes into a buffer of the caller's, `out`, which
-   has room for `room` bytes, and its number of bytes into `*length`; no NUL byte is written behind it. Where it has
+   has room for `room` bytes, and its number of bytes into `*length`; no NUL byte is written after it. Where it has
    more bytes than there is room, the call answers CRSDESK_NO_ROOM, writes nothing into the buffer, and `*length` is the
    room that is needed: make it and call again. Nothing that a call answers must be freed. A catalogue alone holds memory,
    until crsdesk_catalogue_free.
 
-   CODES: each call that can fail returns CRSDESK_OK, or another code below. What stands at the pointers that it was
-   given is as before, but for what is said of the code that came back.
+   CODES: each call that can fail returns CRSDESK_OK, or another code below. A call changes at its pointers only what is
+   said of the code that it returns.
 
    THE CALLER KEEPS to these, which nothing checks:
-   - no pointer is null, also where its length or room is 0;
-   - behind each text, and behind each buffer, there are as many bytes as are said, at most PTRDIFF_MAX; behind `numbers`
-     of crsdesk_catalogue_lines as many numbers;
+   - no pointer is null, even where its length or room is 0;
+   - each text, and each buffer, has as many bytes as the call is told, at most PTRDIFF_MAX; `numbers` of
+     crsdesk_catalogue_lines has room for as many numbers;
    - what a call writes to overlaps nothing else that it was given, and no other thread uses it during the call; a text
-     isn't changed during the call. Each call writes to the catalogue that it is given, also one that only asks;
+     isn't changed during the call. Each call writes to the catalogue that it is given, even one that only asks;
      crsdesk_catalogue_lines and crsdesk_catalogue_text, which are inline, call others several times, and no other call
      has the catalogue in between;
-   - crsdesk_catalogue_new makes a catalogue, also under CRSDESK_NO_LEVEL, before any other call has it, and behind
+   - crsdesk_catalogue_new makes a catalogue, even with CRSDESK_NO_LEVEL, before any other call has it, and after
      crsdesk_catalogue_free no other call has it until it is made anew. In between the calls alone read and write its
      memory, and it isn't copied or moved; crsdesk_catalogue_new over it would lose the memory that it took;
    - each thread that calls has 256 kB of stack left;
@@ -35,12 +35,12 @@
 
    THREADS: there is no state but in catalogues, no lock and nothing to set up, so any number of threads may call at
    once. A catalogue may go from thread to thread, and any thread may free it: it is in one call at a time, and each call
-   is ordered behind the one before by a mutex, by the start or the join of a thread, or by a sequentially consistent
+   is ordered after the one before by a mutex, by the start or the join of a thread, or by a sequentially consistent
    atomic. `volatile` and relaxed atomics order nothing.
 
    What each call answers is proved of its code, for all texts; this header and the program around the calls are not.
-   That the structs below lie in memory as the library has them is compared when it is built; that crsdesk_catalogue_free
-   gives back all memory is tested. */
+   The layout of the structs below is compared with the library's when that is built; that crsdesk_catalogue_free gives
+   back all memory is tested. */
 #ifndef CRSDESK_H
 #define CRSDESK_H
 
@@ -122,11 +122,11 @@ uint32_t crsdesk_first_part(const char *first, size_t first_length, const char *
                        uint32_t level, char *out, size_t room, size_t *length, struct crsdesk_refusal *refusal);
 
 /* All parts in which the CRSs of two texts differ at a level, in the order of the canonical text: a line each, with its
-   path, what stands there in the first and what in the second, and a line feed, as
+   path, its value in the first and in the second, and a line feed, as
 
        datum/ellipsoid/flattening: 298.257223563 | 298.257222101
 
-   Nothing is written as `none`; of a set each side shows the members that the other lacks. Values are spelled as in the
+   A missing value is written `none`; of a set each side has the members that the other lacks. Values are spelled as in the
    canonical text; control characters and backslashes in quoted texts are escaped, as `\n` and `\\`. No lines exactly
    where the CRSs are the same.
 
@@ -138,10 +138,10 @@ uint32_t crsdesk_first_part(const char *first, size_t first_length, const char *
 uint32_t crsdesk_differences(const char *first, size_t first_length, const char *second, size_t second_length,
                         uint32_t level, char *out, size_t room, size_t *length, struct crsdesk_refusal *refusal);
 
-/* Why a text spells no CRS, told to a person over some lines, each with a line feed: `refused N NAME at P, line L,
+/* Why a text spells no CRS, explained to a person in some lines, each with a line feed: `refused N NAME at P, line L,
    column C`; the piece of that line, and a caret under the place; for a refusal of shape `in NODE at P: found .., expected
-   ..`, with all that could stand there; for a refusal of the text which delimiter is open; what the number means; and a
-   hint where the text tells what it is. Room for 2,000 bytes does.
+   ..`, with all that could come there; for a refusal of the text which delimiter is open; what the number means; and a
+   hint where the text shows what it is. Room for 2,000 bytes does.
 
    CRSDESK_OK: the buffer begins with the lines, *length is their number of bytes; 0 where the text spells a CRS.
    CRSDESK_NO_ROOM: they have more bytes than the buffer; *length is their number.
@@ -161,16 +161,16 @@ uint32_t crsdesk_refusal_name(uint32_t number, char *out, size_t room, size_t *l
    CRSDESK_NO_ROOM: the version has more bytes than the buffer; *length is their number. */
 uint32_t crsdesk_version(char *out, size_t room, size_t *length);
 
-/* A catalogue of texts: those that spell the same CRS stand in one group. Groups are numbered from 1, by the first text
-   of each. It lies in memory of the caller's, which holds a catalogue from crsdesk_catalogue_new until
+/* A catalogue of texts: those that spell the same CRS are in one group. Groups are numbered from 1, by the first text of
+   each. It is in memory of the caller's, which holds a catalogue from crsdesk_catalogue_new until
    crsdesk_catalogue_free. What it has inside is the library's. Profile. */
 struct crsdesk_catalogue {
     uint64_t hidden[32];
 };
 
-/* Where a text stands in a catalogue. */
+/* Where a text was placed in a catalogue. */
 struct crsdesk_standing {
-    size_t group;                   /* the number of its group; 0 where it stands in none */
+    size_t group;                   /* the number of its group; 0 where it is in none */
     struct crsdesk_refusal refusal; /* why it spells no CRS, with CRSDESK_REFUSED; else zeros */
     uint32_t code;
 };
@@ -188,11 +188,11 @@ struct crsdesk_line {
 uint32_t crsdesk_catalogue_new(struct crsdesk_catalogue *catalogue, uint32_t level);
 
 /* Adds a text to a catalogue, under a number of the caller's, such as that of its line; numbers may repeat. The text
-   isn't needed behind the call. In what is returned the code is
+   isn't needed after the call. In what is returned the code is
 
    CRSDESK_OK: group is the number of its group, a new one where no text before it spells the same CRS; it is 0 where the
-       text is white space alone, or nothing, which stands nowhere.
-   CRSDESK_REFUSED: it spells no CRS and stands in no group; refusal says why.
+       text is white space alone, or nothing.
+   CRSDESK_REFUSED: it spells no CRS and is in no group; refusal says why.
    CRSDESK_NO_MEMORY: the catalogue is as before. */
 struct crsdesk_standing crsdesk_catalogue_add(struct crsdesk_catalogue *catalogue, uint64_t number, const char *text,
                                               size_t text_length);

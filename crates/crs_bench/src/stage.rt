@@ -12,7 +12,7 @@ use crs_value::{Crs, Level, judge, read, value_of};
 use std::alloc::{AllocError, Global};
 use std::io;
 
-/// A stage by itself: what it is given was made before. A further one is a variant here, its place in `STAGES`, a
+/// A stage by itself: what it is given was made before. To add one, add a variant here, its place in `STAGES`, a
 /// name, what it is given, and an arm in `outcome`.
 #[derive(Clone, Copy)]
 pub enum Stage {
@@ -98,7 +98,7 @@ impl Stage {
         matches!(self, Stage::Group | Stage::Run)
     }
 
-    /// What the stage makes of a text that stands before another one, and behind those of a catalogue. `Group` alone
+    /// What the stage makes of a text, of the text after it, and of the catalogue of those before it. `Group` alone
     /// changes the catalogue. (`Run` is run over all lines at once, by `grouped`.)
     pub fn outcome<'t>(
         self,

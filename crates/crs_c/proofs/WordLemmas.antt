@@ -1,4 +1,4 @@
--- A first part that differs is told by no words exactly where there is none.
+-- The words of a first part that differs are none exactly where no part differs.
 use Rattle.std.proofs.Common.{◌≡◌, ◌↔◌, ◌≤◌, List, [], Option, Some, None, IfSome, length, refl, ap, arith}
 use Rattle.crs_same.specs.declared.step.Step.{Step}
 use Rattle.crs_same.specs.Paths.{path_text}

@@ -1,4 +1,4 @@
--- What stands at the caller's places behind a call, and what calls answer alike.
+-- What is at the caller's places after a call, and the answers that several calls share.
 use Rattle.std.specs.Prelude.{◌≡◌, ℕ, List, MatchOption}
 use Rattle.crs_text.specs.Refusal.{RefusedAt}
 use Rattle.crs_value.specs.declared.values.level.Level.{Level}
@@ -12,17 +12,18 @@ pub record AnswerPlaces (A : Type 0) : Type 0 where
   pub answer : A
   pub refused : Refused
 
--- what is said of a call: of the caller's places before it and behind it, and of its code
+-- what is said of a call: of the caller's places before it and after it, and of its code
 abbrev pub Answer : Type 0 → Type 1
 Answer A = AnswerPlaces A → AnswerPlaces A → ℕ → Type 0
 
--- the text is refused: why is told with this code, and the answer's place is as before
+-- the text is refused: the refusal is at its place, with this code, and the answer's place is as
+-- before
 abbrev pub IsRefusedBy : {A : Type 0} → ℕ → List ℕ → Answer A
 IsRefusedBy refusing text old new code =
     (refusal : RefusedAt) × Refuses text refusal × (code ≡ refusing)
     × (new ≡ record old { refused = place_and_number refusal })
 
--- memory was wanting, with code 3, and all is as before
+-- out of memory, with code 3, and all is as before
 abbrev pub IsWithoutMemory : {A : Type 0} → Answer A
 IsWithoutMemory old new code = (code ≡ 3) × (new ≡ old)
 

@@ -20,8 +20,8 @@ use Rattle.crs_c.specs.Refusals.{place_and_number}
 abbrev pub empty_at : Level → CatalogueParts
 empty_at level = record { level = level; groups = []; refused = [] }
 
--- the catalogue of no lines, at the level of this number with code 0; at full with code 4 where it
--- is no level's
+-- the catalogue of no lines, at the level of this number with code 0; at full, with code 4, where
+-- no level has the number
 unfoldable pub IsMadeEmpty : ℕ → CatalogueParts → ℕ → Type 0
 IsMadeEmpty number made code =
     IsCatalogueOf [] made
@@ -32,19 +32,19 @@ IsMadeEmpty number made code =
 abbrev pub no_refusal : Refused
 no_refusal = record { place = 0; number = 0 }
 
--- where a line stands, as C sees it; group 0 is none
+-- where a line was placed, as C sees it; group 0 is none
 abbrev pub standing_of : Placed → Standing
 standing_of placed.Blank = record { group = 0; refused = no_refusal; code = 0 }
 standing_of (placed.Refused refusal) =
     record { group = 0; refused = place_and_number refusal; code = 1 }
 standing_of (placed.Group n) = record { group = n; refused = no_refusal; code = 0 }
 
--- where a line stands for which memory was wanting: nowhere, with code 3
+-- where a line was placed for which there was no memory: nowhere, with code 3
 abbrev pub without_memory : Standing
 without_memory = record { group = 0; refused = no_refusal; code = 3 }
 
--- the line is added, and where it stands is told; or memory was wanting, with code 3, and the
--- catalogue is as before
+-- the line is added, and its place is answered; or out of memory, with code 3, and the catalogue is
+-- as before
 unfoldable pub IsAdded : ℕ → List ℕ → CatalogueParts → CatalogueParts → Standing → Type 0
 IsAdded number text old new told =
     ((place : Placed) × (told ≡ standing_of place)
@@ -75,7 +75,7 @@ line_at catalogue group index =
 abbrev pub piece_of : List ℕ → ℕ → List ℕ
 piece_of text from = take 240 (drop from text)
 
--- a piece of this text is told with code 0: its bytes at the front
+-- a piece of this text is answered with code 0: its bytes at the front
 unfoldable pub IsPiece : ℕ → Piece → List ℕ → Type 0
 IsPiece from told text =
     (rest : List ℕ) × (told.code ≡ 0) × (told.length ≡ length (piece_of text from))

@@ -5,7 +5,7 @@ use Rattle.crs_value.specs.SpellsText.{SpellsKind}
 use Rattle.crs_c.specs.Answers.{Answer, IsRefusedBy, IsWithoutMemory}
 use Rattle.crs_c.specs.Codes.{kind_number}
 
--- the kind with code 0, the refusal with code 1, or code 3; what isn't said is as before
+-- the kind with code 0, the refusal with code 1, or code 3; all else is as before
 unfoldable pub IsCheckAnswer : List ℕ → Answer ℕ
 IsCheckAnswer text old new code =
     ((kind : Kind) × SpellsKind text kind × (code ≡ 0)

@@ -8,8 +8,8 @@ use Rattle.crs_same.specs.declared.step.Step.{Step}
 use Rattle.crs_explain.specs.Differing.{IsDifferencesText}
 use Rattle.crs_c.specs.FirstPart.{DiffersFirst}
 
--- the text spells a CRS which differs from this one there first, by no words exactly where the CRSs
--- are the same
+-- the text spells a CRS that differs from this one there first; the words are none exactly where
+-- the CRSs are the same
 abbrev pub DiffersAt : Level → Crs → List ℕ → Option (List Step) → Type 0
 DiffersAt level a second path =
     (b : Crs) × Spells second b × DiffersFirst level a b path

@@ -15,7 +15,7 @@ abbrev pub words_of : Option (List Step) → List ℕ
 words_of None = []
 words_of (Some path) = path_text path
 
--- two CRSs differ there first, by no words exactly where they are the same
+-- two CRSs differ there first; the words are none exactly where they are the same
 abbrev pub DiffersFirst : Level → Crs → Crs → Option (List Step) → Type 0
 DiffersFirst level a b found =
     FirstInCrs level a b found × ((found ≡ None) ↔ SameCrs level a b)
@@ -32,6 +32,6 @@ GivesPart level a b old new code =
 abbrev pub IsPartAnswer : ℕ → List ℕ → List ℕ → Answer (Buffer ℕ)
 IsPartAnswer level first second = IsAtLevel level (λ l. IsPairAnswer (GivesPart l) first second)
 
--- the words of a path are given, or memory is wanting for them, with code 3
+-- the words of a path are given, or there is no memory for them, with code 3
 unfoldable pub IsPathGiven : Option (List Step) → Buffer ℕ → Buffer ℕ → ℕ → Type 0
 IsPathGiven found old new code = IsGiven (words_of found) old new code ⊎ ((code ≡ 3) × (new ≡ old))

@@ -1,4 +1,4 @@
--- How what C shares with the library lies in memory.
+-- How the structs that C shares with the library are laid out in memory.
 use prog.Memory.{size, align}
 use denote.Param.{layout}
 use Rattle.std.specs.Prelude.{replicate}
@@ -29,7 +29,7 @@ sizes =
 abbrev pub marked_refusal : Refused
 marked_refusal = record { place = 1111111111111111111; number = 2222222222 }
 
--- a standing with a mark in each field
+-- where a line was placed, with a mark in each field
 abbrev pub marked_standing : Standing
 marked_standing =
     record { group = 3333333333333333333; refused = marked_refusal; code = 4000000004 }

@@ -10,8 +10,8 @@ IsSecondAnswer Is second old new code =
     ((b : Crs) × Spells second b × Is b old new code)
     ⊎ IsRefusedBy 2 second old new code ⊎ IsWithoutMemory old new code
 
--- of two texts: the refusal of the first with code 1; what is answered of the second, behind a
--- first that spells a CRS; or code 3
+-- of two texts: the refusal of the first with code 1; what is answered of the second, where the
+-- first spells a CRS; or code 3
 unfoldable pub IsPairAnswer : {A : Type 0} → (Crs → Crs → Answer A) → List ℕ → List ℕ → Answer A
 IsPairAnswer Is first second old new code =
     IsRefusedBy 1 first old new code

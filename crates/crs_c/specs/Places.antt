@@ -5,7 +5,7 @@ use denote.RawPtr.{Ptr, lies_at, room_at}
 use Rattle.crs_group.specs.Catalogue.{CatalogueParts}
 use Rattle.crs_group.specs.contracts.catalogue.Catalogue as catalogue
 
--- this catalogue lies there, and belongs to whoever has this
+-- this catalogue is there, and belongs to the holder of this
 unfoldable pub catalogue_at : Ptr → CatalogueParts → Fml
 catalogue_at place held = lies_at catalogue.the_row full_share place held
 

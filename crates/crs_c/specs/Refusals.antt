@@ -7,7 +7,7 @@ use Rattle.crs_c.specs.declared.refused.Refused.{Refused}
 abbrev pub place_and_number : RefusedAt → Refused
 place_and_number refusal = record { place = refusal.place; number = refusal.number }
 
--- a refusal is told with this code; without one memory was wanting, and nothing is told
+-- a refusal is answered with this code; without one there was no memory, and nothing is answered
 abbrev pub IsTold : Option RefusedAt → ℕ → Refused → Refused → ℕ → Type 0
 IsTold (Some refusal) code old new result = (result ≡ code) × (new ≡ place_and_number refusal)
 IsTold None code old new result = (result ≡ 3) × (new ≡ old)

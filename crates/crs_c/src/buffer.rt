@@ -3,7 +3,7 @@ ghost use Rattle.crs_c.specs.Buffers.{IsGiven};
 
 use crate::codes::{NO_ROOM, OK};
 
-// Puts an answer at the front of a buffer, where it has the room, and tells its length.
+// Puts an answer at the front of a buffer, where it has the room, and answers its length.
 #[tactic(auto, unfolding(crate::specs::Buffers::IsGiven))]
 pub(crate) fn give<T: Copy>(answer: &[T], out: &mut [T], length: &mut usize) -> u32
     ensures { IsGiven answer.now

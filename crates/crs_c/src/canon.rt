@@ -10,9 +10,9 @@ use std::alloc::Global;
 
 /// The canonical text, at a level, of the CRS that a text spells.
 ///
-/// 0: it is at the front of `out`; `length` is its number of bytes. 1: the text spells no CRS, and `refused` says why.
-/// 3: memory was refused. 4: there is no such level. 5: the canonical text has more bytes than `out`; `length` is their
-/// number. What isn't said of a code is as before. Profile.
+/// 0: it is at the front of `out`; `length` is its number of bytes. 1: the text spells no CRS, and `refused` says
+/// why. 3: memory was refused. 4: there is no such level. 5: the canonical text has more bytes than `out`; `length`
+/// is their number. What a code doesn't mention is as before. Profile.
 #[unsafe(no_mangle)]
 pub extern "C" fn crsdesk_canon(
     alloc: Global,

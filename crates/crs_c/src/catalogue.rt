@@ -1,4 +1,4 @@
-//! A catalogue, which lies in memory of the caller's.
+//! A catalogue in memory of the caller's.
 ghost use Rattle.std.specs.Prelude.{◌≡◌, length};
 ghost use Rattle.std.specs.Borrow.{sem};
 ghost use Rattle.crs_group.specs.Catalogue.{CatalogueParts};
@@ -10,8 +10,8 @@ use crate::standing::{Numbered, Piece, Standing};
 use crs_group::Catalogue;
 use std::alloc::Global;
 
-/// The front of `struct crsdesk_catalogue` of C, in which a catalogue lies. How many words C has there the header alone
-/// says; `layout.c` compares them with what a catalogue takes. Profile.
+/// The front of `struct crsdesk_catalogue` of C, which holds a catalogue. How many words C has there is in the header
+/// alone; `layout.c` compares them with what a catalogue takes. Profile.
 #[repr(C)]
 pub struct Room {
     hidden: u64,
@@ -31,9 +31,9 @@ pub unsafe extern "C" fn crsdesk_catalogue_new(alloc: Global, at: *mut Room, lev
     code
 }
 
-/// Adds a text to a catalogue, under a number of the caller's. The code of what is answered is 0: it stands in the group of
-/// that number, or in none where it is white space alone; 1: it spells no CRS, and `refused` says why; 3: memory was
-/// refused, and the catalogue is as before. Profile.
+/// Adds a text to a catalogue, under a number of the caller's. The code of what is answered is 0: it is in the group
+/// of that number, or in none where it is white space alone; 1: it spells no CRS, and `refused` says why; 3: memory
+/// was refused, and the catalogue is as before. Profile.
 #[unsafe(no_mangle)]
 pub unsafe extern "C" fn crsdesk_catalogue_add(at: *mut Room, number: u64, text: &[u8]) -> Standing
     ghost held: { CatalogueParts }
@@ -81,8 +81,8 @@ pub unsafe extern "C" fn crsdesk_catalogue_line(
     found
 }
 
-/// A piece of a group's canonical text: its bytes from an index on, 240 at most, none behind its end. Code 0, or 6: there
-/// is no such group. Profile.
+/// A piece of a group's canonical text: its bytes from an index on, 240 at most, none after its end. Code 0, or 6:
+/// there is no such group. Profile.
 #[unsafe(no_mangle)]
 pub unsafe extern "C" fn crsdesk_catalogue_piece(at: *mut Room, group: usize, from: usize) -> Piece
     ghost held: { CatalogueParts }

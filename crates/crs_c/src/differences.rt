@@ -15,13 +15,13 @@ use crs_text::Fault;
 use crs_value::{Crs, Level, read};
 use std::alloc::Global;
 
-/// All parts in which the CRSs of two texts differ at a level, a line each: the path, and what stands there in the first
-/// and in the second. No lines exactly where they are the same.
+/// All parts in which the CRSs of two texts differ at a level, a line each: the path, and the values in the first and
+/// in the second. No lines exactly where they are the same.
 ///
-/// 0: each spells a CRS, and the lines are at the front of `out`; `length` is their number of bytes. 1: the first spells
-/// none, and `refused` says why. 2: the first spells a CRS and the second none, and `refused` says why. 3: memory was
-/// refused. 4: there is no such level. 5: the lines have more bytes than `out`; `length` is their number. What isn't
-/// said of a code is as before. Profile.
+/// 0: each spells a CRS, and the lines are at the front of `out`; `length` is their number of bytes. 1: the first
+/// spells none, and `refused` says why. 2: the first spells a CRS and the second none, and `refused` says why. 3:
+/// memory was refused. 4: there is no such level. 5: the lines have more bytes than `out`; `length` is their number.
+/// What a code doesn't mention is as before. Profile.
 #[unsafe(no_mangle)]
 pub extern "C" fn crsdesk_differences(
     alloc: Global,
@@ -64,7 +64,7 @@ fn differences_at<'t>(
     }
 }
 
-// Behind a first text that spells a CRS.
+// The second text, where the first spells a CRS.
 #[tactic(auto, unfolding(crate::specs::Pairs::IsSecondAnswer))]
 fn second_differences<'t>(
     alloc: Global,

@@ -1,4 +1,4 @@
-//! Why a text is refused, told to a person.
+//! Why a text is refused, explained to a person.
 ghost use Rattle.std.specs.Prelude.{IfOk};
 ghost use Rattle.crs_value.specs.SpellsText.{IsFaultOfText};
 ghost use Rattle.crs_c.specs.Explain.{IsExplainAnswer, IsExplanation};
@@ -13,8 +13,8 @@ use std::alloc::{AllocError, Global};
 /// Why a text spells no CRS, over some lines: its refusal, the line and column, the piece of the line with a caret,
 /// what is expected there, what the number means, and a hint where one holds. No bytes where the text spells a CRS.
 ///
-/// 0: the explanation is at the front of `out`; `length` is its number of bytes. 3: memory was refused. 5: it has more
-/// bytes than `out`; `length` is their number. What isn't said of a code is as before. Profile.
+/// 0: the explanation is at the front of `out`; `length` is its number of bytes. 3: memory was refused. 5: it has
+/// more bytes than `out`; `length` is their number. What a code doesn't mention is as before. Profile.
 #[unsafe(no_mangle)]
 #[tactic(auto, unfolding(crate::specs::Explain::IsExplainAnswer))]
 pub extern "C" fn crsdesk_explain(
@@ -43,7 +43,7 @@ fn explanation<'t>(alloc: Global, text: &'t [u8]) -> Result<Vec<u8>, AllocError>
     }
 }
 
-// What is told of the refusal in a fault of this text.
+// The explanation of the refusal in a fault of this text.
 fn explained(alloc: Global, text: &[u8], fault: Fault) -> Result<Vec<u8>, AllocError>
     requires { IsFaultOfText text.now fault }
     ensures { IfOk result (λ told. IsExplanation text.now told.items) }

@@ -16,8 +16,8 @@ use std::alloc::Global;
 ///
 /// 0: each spells a CRS, and the path is at the front of `out`; `length` is its number of bytes. 1: the first spells
 /// none, and `refused` says why. 2: the first spells a CRS and the second none, and `refused` says why. 3: memory was
-/// refused. 4: there is no such level. 5: the path has more bytes than `out`; `length` is their number. What isn't said
-/// of a code is as before. Profile.
+/// refused. 4: there is no such level. 5: the path has more bytes than `out`; `length` is their number. What a code
+/// doesn't mention is as before. Profile.
 #[unsafe(no_mangle)]
 pub extern "C" fn crsdesk_first_part(
     alloc: Global,
@@ -60,7 +60,7 @@ fn part_at<'t>(
     }
 }
 
-// Behind a first text that spells a CRS.
+// The second text, where the first spells a CRS.
 #[tactic(auto, unfolding(crate::specs::Pairs::IsSecondAnswer, crate::specs::FirstPart::IsPathGiven))]
 fn second_part<'t>(
     alloc: Global,

@@ -1,4 +1,4 @@
-//! What each call does to a catalogue that it takes by value, and hands back.
+//! What each call does to a catalogue, which it takes by value and hands back.
 ghost use Rattle.std.specs.Prelude.{◌≡◌, ◌≤◌, length, take, drop};
 ghost use Rattle.crs_c.specs.Catalogues.{IsAdded, IsMadeEmpty, IsPiece, IsPieceAt, line_at};
 
@@ -128,12 +128,12 @@ fn front_of(text: &[u8]) -> &[u8]
     front
 }
 
-// The end of a catalogue.
+// Drops a catalogue.
 pub(crate) fn let_go(held: Catalogue) {
     let_go_anywhere(held);
 }
 
-// The bound has the prover show that a catalogue may be used, and end, in another thread than the one that made it.
+// By this bound the prover shows that another thread than the one that made a catalogue may use and drop it.
 fn let_go_anywhere<T: Send + Drop>(held: T) {
     drop(held);
 }

@@ -1,5 +1,5 @@
-//! How what C shares with the library lies in memory. `layout.c` compares it with the header when the library is built,
-//! and the library that is made doesn't show these calls.
+//! How the structs that C shares with the library are laid out in memory. `layout.c` compares it with the header when
+//! the library is built; the finished library doesn't export these calls.
 ghost use Rattle.std.specs.Prelude.{◌≡◌};
 ghost use Rattle.crs_c.specs.Layout.{marked_line, marked_piece, marked_refusal, marked_standing, sizes};
 
@@ -52,7 +52,7 @@ pub extern "C" fn crsdesk_layout_refusal() -> Refused
     }
 }
 
-/// A standing with a mark in each field.
+/// Where a text was placed, with a mark in each field.
 #[unsafe(no_mangle)]
 pub extern "C" fn crsdesk_layout_standing() -> Standing
     ensures { result ≡ marked_standing }

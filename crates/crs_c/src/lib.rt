@@ -1,5 +1,5 @@
 //! The library from C: each call of `crsdesk.h` as a function of a static library, which answers what the call of the
-//! crate below answers. Results stand at places of the caller's; a code tells which.
+//! crate below answers. Results are put at places of the caller's; a code says which.
 #![tactic(auto)]
 
 mod buffer;

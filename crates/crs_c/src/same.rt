@@ -11,8 +11,8 @@ use std::alloc::Global;
 /// Whether two texts spell the same CRS at a level.
 ///
 /// 0: each spells a CRS, and `is_same` is 1 where they are the same, else 0. 1: the first spells none, and `refused`
-/// says why. 2: the first spells a CRS and the second none, and `refused` says why. 3: memory was refused. 4: there is
-/// no such level. What isn't said of a code is as before. Profile.
+/// says why. 2: the first spells a CRS and the second none, and `refused` says why. 3: memory was refused. 4: there
+/// is no such level. What a code doesn't mention is as before. Profile.
 #[unsafe(no_mangle)]
 pub extern "C" fn crsdesk_same(
     alloc: Global,
@@ -53,7 +53,7 @@ fn same_at<'t>(
     }
 }
 
-// Behind a first text that spells a CRS.
+// The second text, where the first spells a CRS.
 #[tactic(auto, unfolding(crate::specs::Pairs::IsSecondAnswer))]
 fn second_same<'t>(
     alloc: Global,

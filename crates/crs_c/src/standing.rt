@@ -1,4 +1,4 @@
-//! Where a text stands in a catalogue, and numbers of its lines, as C has them.
+//! Where a text was placed in a catalogue, and numbers of its lines, as C has them.
 ghost use Rattle.std.specs.Prelude.{◌≡◌};
 ghost use Rattle.crs_c.specs.Catalogues.{no_refusal, standing_of};
 ghost use Rattle.crs_c.specs.Refusals.{place_and_number};
@@ -7,11 +7,11 @@ use crate::codes::{OK, REFUSED};
 use crate::refused::{Refused, place_and_number};
 use crs_group::Placed;
 
-/// Where a text stands in a catalogue: `struct crsdesk_standing` of C. Profile.
+/// Where a text was placed in a catalogue: `struct crsdesk_standing` of C. Profile.
 #[repr(C)]
 #[derive(Drop)]
 pub struct Standing {
-    /// The number of its group; 0 where it stands in none.
+    /// The number of its group; 0 where it is in none.
     pub group: usize,
     /// Why it spells no CRS, with code 1.
     pub refused: Refused,
@@ -50,7 +50,7 @@ pub(crate) fn no_refusal() -> Refused
     }
 }
 
-// What is told of a line that was added.
+// What is answered of a line that was added.
 pub(crate) fn standing_of(place: Placed) -> Standing
     ensures { result ≡ standing_of place }
 {

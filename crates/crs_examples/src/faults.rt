@@ -1,10 +1,10 @@
-//! What a caller is told where there is no answer.
+//! What to tell a user where there is no answer.
 
 use crs_text::Fault;
 use std::alloc::{AllocError, Global};
 
-/// What to tell a user: of a refusal its number, name and place, with the text from there on; of want of memory, that
-/// the same call may be made again.
+/// What to tell a user: of a refusal its number, name and place, with the text from there on; out of memory, that the
+/// same call may be made again.
 pub fn told(alloc: Global, text: &[u8], fault: &Fault) -> Result<String, AllocError> {
     match fault.refusal() {
         Some(refusal) => {

@@ -1,5 +1,5 @@
-//! The library's calls, task by task, over the lines of standard input, a text each. `docs/CALLING.md` shows the
-//! functions of the other files as they stand here.
+//! The library's calls, task by task, over the lines of standard input, a text each. `docs/CALLING.md` shows
+//! functions of the other files as they are here.
 #![tactic(auto)]
 
 mod catalogue;

@@ -3,7 +3,7 @@ use Rattle.std.proofs.Common.{◌≡◌, ◌≤◌, ◌++◌, ◌∷◌, [], ℕ
 use Rattle.crs_shape.specs.declared.class.Class.{Class}
 use Rattle.crs_explain.specs.Expected.{class_name, listed, names_of}
 
--- a name that has two behind it stands before a comma
+-- a name that has two after it is before a comma
 pub listed_more : (classes : List Class) (may_end : Bool) (d : Class) → 3 ≤ length classes →
     class_name (get_or classes 0 d) ++ (codes ", " ++ listed (names_of (drop 1 classes) may_end))
     ≡ listed (names_of classes may_end)
@@ -16,7 +16,7 @@ listed_more (c ∷ e ∷ f ∷ others) may_end d h = append-step
         ≡ class_name c ++ codes ", " ++ listed (names_of (e ∷ f ∷ others) may_end)
     append-step = sym (append_assoc (class_name c) (codes ", ") (listed (names_of (e ∷ f ∷ others) may_end)))
 
--- the same behind other bytes
+-- the same after other bytes
 pub appended_more : (old first comma new : List ℕ) (classes : List Class) (may_end : Bool) (d : Class) →
     3 ≤ length classes → first ≡ old ++ class_name (get_or classes 0 d) → comma ≡ first ++ codes ", " →
     new ≡ comma ++ listed (names_of (drop 1 classes) may_end) → new ≡ old ++ listed (names_of classes may_end)

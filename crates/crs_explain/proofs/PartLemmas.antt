@@ -1,4 +1,4 @@
--- What is told of a text whose items are read.
+-- What is written of a text whose items are read.
 use Rattle.std.proofs.Common.{◌≡◌, ℕ, List, [], subst, inl, inr}
 use Rattle.crs_text.specs.Items.{Item}
 use Rattle.crs_text.specs.TextFault.{SpellsNode, RefusesText}
@@ -7,7 +7,7 @@ use Rattle.crs_shape.specs.ShapeFault.{AtRoot, IsFree}
 use Rattle.crs_explain.specs.Expected.{IsExpectedPart}
 use Rattle.crs_explain.specs.Parts.{IsPartOf, IsPartOfText}
 
--- what is told of the items is told of the text
+-- what is written of the items is written of the text
 pub of_item : (text part : List ℕ) (item : Item) →
     ((bytes : List ℕ) (i j : Item) → SpellsNode bytes i → SpellsNode bytes j → i ≡ j) →
     SpellsNode text item → IsPartOf item part → IsPartOfText text part
@@ -16,20 +16,20 @@ of_item text part item one spells (inr free) =
     let P : Item → Type 0 = λ i. IsFree (AtRoot i) in
     inr (free.0, λ other spelled. subst P (one text item other spells spelled) free.1)
 
--- nothing is told of a text that has no items
+-- nothing is written of a text that has no items
 pub of_refused : (text part : List ℕ) (n place : ℕ) →
     ((bytes : List ℕ) (item : Item) (n place : ℕ) → SpellsNode bytes item → RefusesText bytes n place → ⊥) →
     RefusesText text n place → part ≡ [] → IsPartOfText text part
 of_refused text part n place apart refused empty =
     inr (empty, λ item spells. absurd (apart text item n place spells refused))
 
--- what is told of the text is told of a refusal of shape
+-- what is written of the text is written of a refusal of shape
 pub of_shape : (text part : List ℕ) (number : ℕ) → IsShapeNumber number → IsPartOfText text part →
     IsExpectedPart text number part
 of_shape text part number shape (inl told) = inl (shape, told)
 of_shape text part number shape (inr free) = inr (free.0, λ _. free.1)
 
--- nothing is told of another refusal
+-- nothing is written of another refusal
 pub of_other : (text part : List ℕ) (number : ℕ) → (IsShapeNumber number → ⊥) → part ≡ [] →
     IsExpectedPart text number part
 of_other text part number other empty = inr (empty, λ shape. absurd (other shape))

@@ -8,13 +8,13 @@ use Rattle.crs_same.specs.Paths.{path_text}
 use Rattle.crs_canon.specs.ContentText.{IsContentText}
 use Rattle.crs_explain.specs.Escaped.{shown}
 
--- the line of a part that differs: its path, what stands there in the first CRS, and in the second
+-- the line of a part that differs: its path, its value in the first CRS, and in the second
 abbrev pub IsDifferenceLine : Level → DifferenceParts → List ℕ → Type 0
 IsDifferenceLine level part line =
     (first second : List ℕ) × IsContentText level part.first first × IsContentText level part.second second
     × (line ≡ path_text part.path ++ codes ": " ++ shown first ++ codes " | " ++ shown second ++ 10 ∷ [])
 
--- the lines of these parts, one behind the other
+-- the lines of these parts, one after the other
 abbrev pub AreDifferenceLines : Level → List DifferenceParts → List ℕ → Type 0
 AreDifferenceLines level [] text = text ≡ []
 AreDifferenceLines level (part ∷ parts) text =

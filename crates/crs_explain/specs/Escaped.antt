@@ -7,7 +7,7 @@ use Rattle.bstr.specs.Escape.{escape_byte}
 abbrev pub shown_byte : ℕ → List ℕ
 shown_byte b = if b == 32 || nat_le 128 b then b ∷ [] else escape_byte b
 
--- what stands at a part as a line shows it: `none` where nothing does
+-- the value of a part as a line shows it: `none` where there is nothing
 abbrev pub shown : List ℕ → List ℕ
 shown [] = codes "none"
 shown (b ∷ bytes) = flat_map shown_byte (b ∷ bytes)

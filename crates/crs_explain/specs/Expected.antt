@@ -1,4 +1,5 @@
--- What is told of the place where a fault of shape lies: the node, what is found, and all that could stand there.
+-- What is written of the place of a fault of shape: the node, what is found, and all that could
+-- come there.
 use Rattle.std.specs.Prelude.{◌≡◌, ◌++◌, ◌∷◌, [], ◌⊎◌, ℕ, List, Bool, codes, decimal, map, filter, slice_index_or}
 use Rattle.std.specs.Prelude.{if◌then◌else◌}
 use denote.Enum.Bare.{sameb}
@@ -35,15 +36,16 @@ abbrev pub names_of : List Class → Bool → List (List ℕ)
 names_of classes may_end =
     map class_name classes ++ (if may_end then codes "its closing delimiter" ∷ [] else [])
 
--- a line: the place of the node, what is found there, and exactly the names of the classes that could stand there
+-- a line: the place of the node, what is found there, and exactly the names of the classes that
+-- could come there
 pub record IsLineOf (expected : ExpectedParts) (classes : List Class) (line : List ℕ) : Type 0 where
   pub node : List ℕ
   pub found : List ℕ
   pub is_line : line ≡ node ++ codes "at " ++ decimal expected.place ++ codes ": found " ++ found
       ++ codes ", expected " ++ listed (names_of classes expected.may_end) ++ 10 ∷ []
 
--- of a refusal of shape the line of the fault of the text's item is told, with the classes in the order of the
--- table; of another number nothing
+-- of a refusal of shape the line of the fault of the text's item, with the classes in the order of
+-- the table; of another number nothing
 abbrev pub IsExpectedPart : List ℕ → ℕ → List ℕ → Type 0
 IsExpectedPart text number part =
     (IsShapeNumber number × ((item : Item) × SpellsNode text item × ((expected : ExpectedParts)

@@ -1,4 +1,4 @@
--- What is told of a text that is refused.
+-- How the refusal of a text is explained.
 use Rattle.std.specs.Prelude.{◌≡◌, ◌++◌, ◌∷◌, [], ℕ, List, codes, decimal}
 use Rattle.crs_text.specs.Refusal.{RefusedAt, refused_text}
 use Rattle.crs_text.specs.Position.{IsPosition}
@@ -11,8 +11,8 @@ head refusal position =
     refused_text refusal.number refusal.place ++ (codes ", line " ++ decimal position.line
     ++ codes ", column " ++ decimal position.column ++ 10 ∷ [])
 
--- the refusal of a text is told: the head, with the line and column of the place; a piece of the line; of
--- a refusal of shape what is expected; and sentences
+-- the explanation of a text's refusal: the head, with the line and column of the place; a piece of
+-- the line; of a refusal of shape what is expected; and sentences
 pub record IsExplained (text : List ℕ) (refusal : RefusedAt) (told : List ℕ) : Type 0 where
   pub position : Position
   pub is_position : IsPosition text refusal.place position

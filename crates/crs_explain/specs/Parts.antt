@@ -1,4 +1,4 @@
--- A bridge: what is told of items.
+-- A bridge: what is written of items.
 use Rattle.std.specs.Prelude.{◌≡◌, ◌⊎◌, ℕ, List, [], filter}
 use Rattle.crs_text.specs.Items.{Item}
 use Rattle.crs_text.specs.TextFault.{SpellsNode}

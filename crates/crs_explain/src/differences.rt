@@ -1,4 +1,4 @@
-//! All parts in which two CRSs differ, told to a person.
+//! All parts in which two CRSs differ, for a person to read.
 ghost use Rattle.std.specs.Prelude.{◌≡◌, ◌++◌, ℕ, List, IfOk, OnOk};
 ghost use Rattle.crs_canon.specs.ContentText.{IsContentText};
 ghost use Rattle.crs_explain.specs.Differing.{AreDifferenceLines, IsDifferenceLine, IsDifferencesText};
@@ -9,10 +9,11 @@ use crs_same::{Content, Difference, differences};
 use crs_value::{Crs, Level};
 use std::alloc::{AllocError, Global};
 
-/// A line for each part in which two CRSs differ at a level, in the order of the canonical text; none exactly where they
-/// are the same. A line is `PATH: FIRST | SECOND` and a line feed: what stands there in the first CRS and in the second as
-/// the canonical text writes it, of a set the members that the other CRS lacks, `none` where that is nothing; control
-/// characters and backslashes are escaped, as `\n` and `\\`. Profile.
+/// A line for each part in which two CRSs differ at a level, in the order of the canonical text; none exactly where
+/// they are the same. A line is `PATH: FIRST | SECOND` and a line feed: the values of the first CRS and of the second
+/// as the canonical text writes them, of a set the members that the other CRS lacks, `none` where that is nothing;
+/// control characters and backslashes are escaped, as `
+/// ` and `\\`. Profile.
 ///
 /// `AllocError`: there is no memory for it.
 pub fn differences_text<'a>(

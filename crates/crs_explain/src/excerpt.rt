@@ -4,12 +4,12 @@ use bstr::{ByteSlice, ByteVec};
 use crs_text::Position;
 use std::alloc::{AllocError, Global};
 
-// So many characters of the line are shown before the place, and from the place on.
+// How many characters of the line are shown before the place, and from the place on.
 const BEFORE: usize = 50;
 
 const BEHIND: usize = 25;
 
-// The most bytes that so many characters take.
+// The most bytes that so many characters have.
 const BYTES_BEFORE: usize = 200;
 
 const BYTES_BEHIND: usize = 100;

@@ -1,4 +1,4 @@
-//! What could stand where a fault of shape lies.
+//! What could come at the place of a fault of shape.
 ghost use Rattle.std.specs.Prelude.{◌≡◌, ◌++◌, ◌↔◌, [], ℕ, List, IfOk, IsTrue, filter, codes, decimal};
 ghost use Rattle.crs_shape.specs.FaultPlace.{IsShapeNumber};
 ghost use Rattle.crs_shape.specs.Expected.{may_come};
@@ -13,12 +13,12 @@ use crs_text::{Fault, Items, Keyword, laws, read_items};
 use itoa::Buffer;
 use std::alloc::{AllocError, Global};
 
-/// What is told of what could stand at a place.
+/// What is written of what could come at a place.
 #[derive(Drop)]
 pub(crate) struct ShapeTold {
     /// The line of a fault of shape; empty for another refusal.
     pub(crate) line: Vec<u8>,
-    /// The expected keyword that an unknown one is nearly.
+    /// The expected keyword that an unknown one nearly is.
     pub(crate) near: Option<Keyword>,
 }
 
@@ -31,7 +31,7 @@ fn nothing(alloc: Global) -> ShapeTold
     }
 }
 
-// What could stand at the place of a refusal of shape; nothing for another refusal.
+// What could come at the place of a refusal of shape; nothing for another refusal.
 pub(crate) fn expectation(
     alloc: Global,
     text: &[u8],

@@ -1,4 +1,4 @@
-//! What stands at a place of a well-formed text.
+//! What is at a place of a well-formed text.
 use std::alloc::{AllocError, Global};
 
 /// What begins at a place, or the delimiter that closes there.

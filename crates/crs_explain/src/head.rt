@@ -1,4 +1,4 @@
-//! The first line of what is told.
+//! The first line of an explanation.
 ghost use Rattle.std.specs.Prelude.{◌≡◌, ◌++◌, ◌∷◌, [], OnOk, codes, decimal};
 ghost use Rattle.crs_text.specs.Refusal.{refused_text};
 ghost use Rattle.crs_explain.specs.Explained.{head};

@@ -1,6 +1,6 @@
-//! A refusal of a text, and the parts in which two CRSs differ, told so that a person can act on them: where a text is
-//! refused, what stands there and what is expected, what the text most likely is; what stands at each part that differs. What
-//! stands above knows these texts as bytes, and nothing of how they are made.
+//! A refusal of a text, and the parts in which two CRSs differ, explained so that a person can act on them: where a
+//! text is refused, what is found there and what is expected, what the text most likely is; the values of each part
+//! that differs. Crates above know these texts as bytes, and nothing of how they are made.
 #![tactic(auto)]
 
 mod differences;

@@ -95,7 +95,7 @@ fn separator(may_end: bool) -> &'static [u8]
     if may_end { b", " } else { b" or " }
 }
 
-// The end of the node behind some words, where it may end.
+// The end of the node after some words, where it may end.
 fn append_end(words: &[u8], may_end: bool, out: &mut Vec<u8>) -> Result<(), AllocError>
     ensures { OnOk result (out.new.items ≡ (if may_end then out.old.items ++ words.now ++ codes "its closing delimiter" else out.old.items)) }
 {

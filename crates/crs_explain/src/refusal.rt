@@ -1,4 +1,4 @@
-//! The refusal of a text, told to a person.
+//! The refusal of a text, explained to a person.
 ghost use Rattle.std.specs.Prelude.{◌≤◌, IfOk, length};
 ghost use Rattle.crs_explain.specs.Explained.{IsExplained};
 
@@ -9,10 +9,10 @@ use crs_hint::{append_hints, append_opened, meaning};
 use crs_text::{Keyword, Refusal, open_delimiter, position_of};
 use std::alloc::{AllocError, Global};
 
-/// What is told of the refusal of a text, so that a person can repair the text: a line with the refusal and its line
-/// and column; the piece of that line with a caret under the place; for a refusal of shape a line with the node, what
-/// stands there and what is expected; for one of the text what is open; what the number means, and a hint where one
-/// holds. Each line has its line feed.
+/// Explains the refusal of a text, so that a person can repair the text: a line with the refusal and its line and
+/// column; the piece of that line with a caret under the place; for a refusal of shape a line with the node, what is
+/// found there and what is expected; for one of the text what is open; what the number means, and a hint where one
+/// applies. Each line has its line feed.
 ///
 /// `AllocError`: there is no memory for it. Time is linear in the text. Profile.
 pub fn refusal_text(alloc: Global, text: &[u8], refusal: Refusal) -> Result<Vec<u8>, AllocError>
@@ -54,7 +54,7 @@ fn sentences(
     Ok(out)
 }
 
-// What is open at the place, and which keyword an unknown one is nearly, a line each.
+// What is open at the place, and which keyword an unknown one nearly is, a line each.
 fn open_or_meant(
     alloc: Global,
     text: &[u8],

@@ -2,8 +2,8 @@
 use ucd_category::GeneralCategory;
 use unicode_width::UnicodeWidthChar;
 
-/// The character as it is shown: a blank for a tab, and the replacement character for what can't be printed, as control
-/// characters, ends of lines, and what turns the direction of a text around.
+/// The character as it is shown: a blank for a tab, and the replacement character for what can't be printed, such as
+/// control characters, ends of lines, and what reverses the direction of a text.
 pub(crate) fn shown(c: char) -> char {
     if c == '\t' {
         ' '

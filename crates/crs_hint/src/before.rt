@@ -1,4 +1,4 @@
-//! What stands before a place: a look at delimiters and quoted texts, token by token, with no memory asked for.
+//! What comes before a place: a look at delimiters and quoted texts, token by token, which takes no memory.
 ghost use Rattle.std.specs.Prelude.{◌≤◌};
 
 use crate::glance::{back, front, is_of_word, is_one_of, keyword_at, looked_at, rest};
@@ -13,7 +13,7 @@ const NONE: Open<'static> = Open {
     delimiter: b'[',
 };
 
-// Keywords of nodes that stand in a CRS or a base CRS alone.
+// Keywords of nodes that only a CRS or a base CRS has.
 const IN_CRS: [&[u8]; 16] = [
     b"DATUM",
     b"TRF",
@@ -65,7 +65,7 @@ const HOLDS_NONE: [&[u8]; 28] = [
     b"ID",
 ];
 
-/// What stands before a place, or begins there.
+/// What comes before a place, or begins there.
 #[derive(Drop)]
 pub(crate) struct Before<'a> {
     open: [Open<'a>; MOST],
@@ -75,12 +75,12 @@ pub(crate) struct Before<'a> {
     has_closed: bool,
     /// Where the first quoted text begins that has nodes inside.
     pub(crate) quote_missing: Option<usize>,
-    /// The first node that stands where none of its kind can, and the node that it stands in.
+    /// The first node that is where none of its kind can be, and the node that it is in.
     pub(crate) outside: Option<(Open<'a>, Open<'a>)>,
     ghost in_range: { depth ≤ 13 },
 }
 
-/// What stands before a place of a text.
+/// What comes before a place of a text.
 pub(crate) fn look_before(text: &[u8], place: usize) -> Before<'_> {
     let seen = front(text, place.saturating_add(400));
     let mut found = Before {
@@ -151,7 +151,7 @@ impl<'a> Before<'a> {
         }
     }
 
-    // A node that begins at the place itself counts too: what is missing may stand before it.
+    // A node that begins at the place itself counts too: what is missing may belong before it.
     fn enter(&mut self, node: Open<'a>, place: usize) -> bool {
         if node.begin > place {
             return false;
@@ -180,7 +180,7 @@ impl<'a> Before<'a> {
     }
 }
 
-/// The node whose opening delimiter stands at a place.
+/// The node whose opening delimiter is at a place.
 pub(crate) fn node_at(text: &[u8], at: usize, delimiter: u8) -> Open<'_> {
     let before = back(front(text, at), 100);
     let behind = before.trim_ascii_end();
@@ -208,7 +208,8 @@ fn from_letter(run: &[u8]) -> &[u8] {
     )
 }
 
-// Whether a quoted text has the end of a node in it, or the beginning of the next, as where a quote is missing.
+// Whether a quoted text contains the end of a node, or the beginning of the next, as it does where a quote is
+// missing.
 fn has_node(quoted: &[u8], opening: u8) -> bool {
     for (at, byte) in quoted.iter().enumerate() {
         if is_of_node(*byte, rest(quoted, at + 1), opening) {

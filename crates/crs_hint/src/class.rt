@@ -3,7 +3,7 @@ use crate::glance::{begins, is_one_of};
 use crate::hint::{Filled, Hint, Sentence};
 use crate::refused::NOT_HERE;
 
-/// A keyword, and what is told of its node.
+/// A keyword, and what to say of its node.
 struct Entry {
     keyword: &'static [u8],
     sentence: Sentence,
@@ -22,7 +22,7 @@ const OLD_CLASSES: [&[u8]; 8] = [
     b"VERTCS",
 ];
 
-// Parts of a CRS that are handed over by themselves.
+// Parts of a CRS that are given in place of one.
 const PARTS: [&[u8]; 20] = [
     b"DATUM",
     b"TRF",
@@ -165,7 +165,7 @@ pub(crate) fn by_class(keyword: &[u8]) -> Option<Hint<'_>> {
     entry_of(keyword, &OTHER_CLASSES)
 }
 
-/// What a node is that may not stand where it does, by its keyword.
+/// What a node is that isn't allowed where it is, by its keyword.
 pub(crate) fn by_keyword<'a>(number: u8, keyword: &[u8]) -> Option<Hint<'a>> {
     if number == NOT_HERE && is_one_of(keyword, &[b"BASEGEOGCRS", b"BASEGEODCRS"]) {
         return Some(Hint::of(Sentence::Derived));

@@ -25,7 +25,7 @@ pub(crate) fn by_delimiters<'a>(found: &Before<'a>, number: u8, rest: &[u8]) -> 
     }
 }
 
-// What stands behind a complete text.
+// What follows a complete text.
 fn behind_text(rest: &[u8]) -> Sentence {
     let is_node = !keyword_at(rest.strip_prefix(b",").unwrap_or(rest)).is_empty();
     if is_node {
@@ -51,7 +51,7 @@ fn by_open<'a>(found: &Before<'a>, number: u8, rest: &[u8]) -> Option<Hint<'a>> 
     None
 }
 
-// A closing delimiter that isn't the one of the opening delimiter.
+// A closing delimiter that doesn't match the opening delimiter.
 fn by_closing<'a>(open: Open<'a>, rest: &[u8]) -> Option<Hint<'a>> {
     let closing = if open.delimiter == b'[' { b']' } else { b')' };
     if begins_close(rest) && rest.first() != Some(&closing) {

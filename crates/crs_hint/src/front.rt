@@ -4,7 +4,7 @@ use crate::glance::{begins, digit_count, is_one_of, keyword_at, rest, word_at};
 use crate::hint::{Filled, Hint, Sentence};
 use crate::string::by_string;
 
-/// A kind of file that is no text: its first bytes, and what is told of it.
+/// A kind of file that is no text: its first bytes, and what to say of it.
 struct Format {
     first_bytes: &'static [u8],
     sentence: Sentence,
@@ -132,7 +132,7 @@ fn by_mark<'a>(front: &[u8]) -> Option<Hint<'a>> {
     Some(Hint::of(sentence))
 }
 
-// Whether each second byte of the first four is zero, and the others aren't.
+// Whether every second byte of the first four is zero, and the others aren't.
 fn is_utf16(front: &[u8]) -> bool {
     match front {
         [0, a, 0, b, ..] | [a, 0, b, 0, ..] => *a != 0 && *b != 0,
@@ -150,7 +150,7 @@ const GEOMETRIES: [&[u8]; 7] = [
     b"GEOMETRYCOLLECTION",
 ];
 
-// The kind of a geometry, behind an SRID too; empty where the text is none.
+// The kind of a geometry, after an SRID too; empty where the text is none.
 fn geometry_of(front: &[u8]) -> &[u8] {
     let text = behind_srid(front);
     let kind = word_at(text);
@@ -161,7 +161,7 @@ fn geometry_of(front: &[u8]) -> &[u8] {
     }
 }
 
-// The bytes behind `SRID=28992;`, or all.
+// The bytes after `SRID=28992;`, or all.
 fn behind_srid(front: &[u8]) -> &[u8] {
     let srid = srid_of(front);
     if srid.is_empty() {
@@ -174,7 +174,7 @@ fn behind_srid(front: &[u8]) -> &[u8] {
     }
 }
 
-/// `SRID=` with its digits, where a semicolon stands behind them; else empty.
+/// `SRID=` with its digits, where a semicolon follows them; else empty.
 pub(crate) fn srid_of(front: &[u8]) -> &[u8] {
     if !begins(front, b"SRID=") {
         return b"";
@@ -186,7 +186,7 @@ pub(crate) fn srid_of(front: &[u8]) -> &[u8] {
     }
 }
 
-// Whether coordinates, or `EMPTY`, stand behind the kind of a geometry.
+// Whether coordinates, or `EMPTY`, follow the kind of a geometry.
 fn has_coordinates(behind: &[u8]) -> bool {
     let text = behind.trim_ascii_start();
     if text.starts_with(b"(") || begins(text, b"EMPTY") {

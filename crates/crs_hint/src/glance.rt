@@ -1,6 +1,6 @@
 //! Short looks at bytes.
 
-/// A hint looks at so many bytes of the text's front, and from the place on.
+/// How many bytes a hint looks at, from the text's front and from the place on.
 const LOOKED_AT: usize = 400;
 
 /// The bytes from a place on, at most as many as a hint looks at.
@@ -8,7 +8,7 @@ pub(crate) fn looked_at(text: &[u8], place: usize) -> &[u8] {
     front(rest(text, place), LOOKED_AT)
 }
 
-/// The bytes behind so many.
+/// The bytes after so many.
 pub(crate) fn rest(text: &[u8], count: usize) -> &[u8] {
     match text.get(count..) {
         Some(rest) => rest,
@@ -49,7 +49,7 @@ pub(crate) fn is_one_of(word: &[u8], words: &[&[u8]]) -> bool {
     false
 }
 
-/// Whether a byte may stand in a word.
+/// Whether a byte may be part of a word.
 pub(crate) fn is_of_word(byte: u8) -> bool {
     byte.is_ascii_alphanumeric() || byte == b'_'
 }
@@ -69,7 +69,7 @@ pub(crate) fn digit_count(text: &[u8]) -> usize {
     text.iter().take_while(|it| it.is_ascii_digit()).count()
 }
 
-/// The keyword of the node that the bytes begin with, behind white space; empty where they begin with no node.
+/// The keyword of the node that the bytes begin with, after white space; empty where they begin with no node.
 pub(crate) fn keyword_at(text: &[u8]) -> &[u8] {
     let text = text.trim_ascii_start();
     let word = word_at(text);

@@ -1,13 +1,13 @@
 //! Hints.
 
-/// What is told of a text: a sentence, and what is filled in.
+/// What to say of a text: a sentence, and what is filled in.
 #[derive(Clone, Copy)]
 pub(crate) struct Hint<'a> {
     pub(crate) sentence: Sentence,
     pub(crate) filled: Filled<'a>,
 }
 
-/// The sentences of hints, named by what they tell.
+/// The sentences of hints, named by what they say.
 #[derive(Clone, Copy)]
 pub(crate) enum Sentence {
     Empty,
@@ -59,7 +59,7 @@ pub(crate) enum Sentence {
 #[derive(Clone, Copy)]
 pub(crate) enum Filled<'a> {
     Nothing,
-    /// Words of ours.
+    /// Words of the library's own.
     Words(&'static str),
     /// A piece of the text.
     Piece(&'a [u8]),
@@ -75,11 +75,11 @@ pub(crate) enum Filled<'a> {
     Byte(u8),
     /// A node, and by which delimiter it is closed.
     Closing(Open<'a>),
-    /// Two nodes, of which the first stands inside the second.
+    /// Two nodes, of which the first is inside the second.
     Inside(Open<'a>, Open<'a>),
     /// All delimiters that are open at the place of the refusal.
     AllOpen,
-    /// The same, each behind a comma.
+    /// The same, each after a comma.
     MoreOpen,
 }
 

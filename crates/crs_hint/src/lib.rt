@@ -1,6 +1,6 @@
-//! Why a text is refused, in sentences: what the number of a refusal means, and hints, which tell what the text is and
-//! what to do with it where that can be told from its bytes. What stands above knows the sentences alone.
-//! No clause says which hint holds: the sentences are data, and safety alone is proved.
+//! Why a text is refused, in sentences: what the number of a refusal means, and hints, which say what the text is and
+//! what to do with it where its bytes show that. Crates above know the sentences alone. No clause says which hint
+//! applies: the sentences are data, and safety alone is proved.
 #![tactic(auto)]
 
 mod before;

@@ -1,4 +1,4 @@
-//! What stands at the place of a refusal, or is missing before it.
+//! What is at the place of a refusal, or is missing before it.
 use crate::before::look_before;
 use crate::class::by_keyword;
 use crate::delimiter::by_delimiters;
@@ -6,7 +6,7 @@ use crate::glance::{back, digit_count, front, keyword_at, looked_at, rest};
 use crate::hint::{Filled, Hint, Sentence};
 use crate::refused::{BAD_CHARACTER, BAD_NUMBER, NOT_HERE, NOT_UTF8, UNKNOWN_KEYWORD};
 
-/// What stands at the place of a refusal, or is missing before it.
+/// What is at the place of a refusal, or is missing before it.
 pub(crate) fn by_place(text: &[u8], number: u8, place: usize) -> Option<Hint<'_>> {
     let there = looked_at(text, place);
     let hint = match number {
@@ -36,7 +36,7 @@ fn by_character<'a>(there: &[u8]) -> Option<Hint<'a>> {
     Some(Hint::of(sentence))
 }
 
-// What stands where a number was to begin.
+// What is where a number should begin.
 fn by_number<'a>(there: &[u8]) -> Option<Hint<'a>> {
     if is_date(there) {
         Some(Hint::of(Sentence::Date))
@@ -66,7 +66,7 @@ fn has_unit(there: &[u8]) -> bool {
     digits > 0 && unit.is_some_and(|it| it.is_ascii_alphabetic() && !it.eq_ignore_ascii_case(&b'e'))
 }
 
-// A number too many behind a number, as where a comma stands for a decimal point.
+// A number too many after a number, as where a comma is written for a decimal point.
 fn by_comma<'a>(before: &[u8], there: &[u8]) -> Option<Hint<'a>> {
     if begins_number(there) && ends_with_number(back(before, 100).trim_ascii_end()) {
         Some(Hint::of(Sentence::DecimalComma))

@@ -1,4 +1,4 @@
-//! The numbers of refusals that hints ask for.
+//! The numbers of refusals that hints depend on.
 
 /// A byte begins no token.
 pub(crate) const BAD_CHARACTER: u8 = 1;
@@ -16,5 +16,5 @@ pub(crate) const UNEXPECTED_END: u8 = 7;
 pub(crate) const LAST_OF_TEXT: u8 = 8;
 /// A node of a keyword that isn't known.
 pub(crate) const UNKNOWN_KEYWORD: u8 = 11;
-/// An item that may not stand where it does.
+/// An item that isn't allowed where it is.
 pub(crate) const NOT_HERE: u8 = 12;

@@ -1,7 +1,7 @@
 //! The words of hints.
 use crate::hint::Sentence;
 
-/// The words of a sentence before and behind what is filled in.
+/// The words of a sentence before and after what is filled in.
 #[derive(Clone, Copy)]
 pub(crate) struct Words {
     pub(crate) front: &'static str,

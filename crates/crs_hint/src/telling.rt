@@ -1,4 +1,4 @@
-//! Which hints hold of a refused text, and how they are written.
+//! Which hints apply to a refused text, and how they are written.
 use crate::before::{look_before, node_at};
 use crate::class::has_transformation;
 use crate::front::by_front;
@@ -11,9 +11,9 @@ use crate::string::transformation_of;
 use itoa::Buffer;
 use std::alloc::AllocError;
 
-/// Appends the hints that hold of a refused text, a sentence or more in one line with its line end; nothing where none
-/// holds. A hint looks at the text's first bytes, at the place of the refusal, and at what is open there.
-/// On `AllocError` a part of the line may be appended. Profile.
+/// Appends the hints that apply to a refused text, a sentence or more in one line with its line end; nothing where
+/// none applies. A hint looks at the text's first bytes, at the place of the refusal, and at what is open there. On
+/// `AllocError` a part of the line may be appended. Profile.
 pub fn append_hints(
     text: &[u8],
     number: u8,
@@ -40,8 +40,8 @@ pub fn append_hints(
     Ok(())
 }
 
-// What is told of the place beside what is told of the whole. Of a class that isn't read what is damaged is told, and
-// no more: in WKT1 a second text may follow.
+// What to say of the place beside what is said of the whole. Of a class that isn't read only what is damaged is said:
+// in WKT1 a second text may follow.
 fn beside<'a>(whole: Option<Hint<'a>>, there: Option<Hint<'a>>, number: u8) -> Option<Hint<'a>> {
     let Some(whole) = whole else {
         return there;
@@ -76,8 +76,8 @@ fn bound<'a>(whole: Option<Hint<'a>>, text: &'a [u8], front: &'a [u8]) -> Option
     }
 }
 
-/// Appends the node whose opening delimiter stands at this place, as `CS[ at 24`, where its keyword begins.
-/// On `AllocError` a part of it may be appended. Profile.
+/// Appends the node whose opening delimiter is at this place, as `CS[ at 24`, where its keyword begins. On
+/// `AllocError` a part of it may be appended. Profile.
 pub fn append_opened(text: &[u8], at: usize, out: &mut Vec<u8>) -> Result<(), AllocError> {
     let delimiter = rest(text, at).first().copied().unwrap_or(b'[');
     append_node(node_at(text, at, delimiter), out)
@@ -131,7 +131,7 @@ fn append_byte(byte: u8, out: &mut Vec<u8>) -> Result<(), AllocError> {
     out.extend_from_slice(&[b'0', b'x', high, low])
 }
 
-// As it is where no byte of it means more to a shell, else in single quotes.
+// The word as it is where a shell takes none of its bytes for anything else, else in single quotes.
 fn append_shell_word(piece: &[u8], out: &mut Vec<u8>) -> Result<(), AllocError> {
     if piece.iter().all(|it| is_plain(*it)) {
         return out.extend_from_slice(piece);
@@ -178,7 +178,7 @@ fn append_inside(node: Open<'_>, outer: Open<'_>, out: &mut Vec<u8>) -> Result<(
     append_node(outer, out)
 }
 
-// Each behind a comma, but for the first where the list begins with it.
+// Each after a comma, but for the first where the list begins with it.
 fn append_open(all: &[Open<'_>], is_begin: bool, out: &mut Vec<u8>) -> Result<(), AllocError> {
     let mut is_first = is_begin;
     for open in all {

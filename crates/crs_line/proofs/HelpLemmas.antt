@@ -1,4 +1,4 @@
--- A line that the command takes enters no `help`: that word is answered by an error.
+-- A line that the command takes enters no `help`: `clap` answers that word by an error.
 use Rattle.std.proofs.Common.{◌≡◌, ℕ, List, [], ◌∷◌, Option, Some, None, Bool, true, false, not, ◌||◌, cond, refl, codes, sym}
 use Rattle.std.specs.Str.{bytes_eq}
 use Rattle.std.specs.List.{fold}
@@ -119,7 +119,7 @@ pub stops_at_no_help : (words : List Text) → walk_passes (built desk).top (nam
 unfolding IsFree
 stops_at_no_help words passes = walk_is_free (built desk).top (names_of (built desk)) (walk_from nothing_held) words refl tt passes
 
--- a word that answers to `help` is `help`
+-- a word that means `help` is `help`
 pub answers_help : (word : Text) → is_help word ≡ false → bytes_eq (codes "help") word ≡ true → ⊥
 answers_help word free answers =
     let same : codes "help" ≡ word = (bytes_eq-Decides (codes "help") word).0 answers in

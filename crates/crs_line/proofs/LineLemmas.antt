@@ -60,7 +60,7 @@ waiting_at (Some (Some v)) = idle
 abbrev walk_at : Met → Walk
 walk_at at = record { held = held_at at; waiting = waiting_at at; position = 1; is_trailing = false; stopped = None }
 
--- no second text is there after the word
+-- no second text follows the word
 abbrev Lacks : Met → Text → Held × Step → Type 0
 Lacks at word met = is_given (codes "second") (finished rules (after_step rules word (walk_at at) met.0 met.1).held) ≡ false
 
@@ -214,7 +214,7 @@ short_flag_fails byte rest low passes =
     short_help_fails None (104 == byte || false) left (test left 0)
     (subst (λ x. bundle_step_passes rules false x (byte ∷ rest) 0 nothing_held test ≡ true) (first_char byte rest low) passes)
 
--- where a walk stands after a first word: before its first text
+-- where a walk is after a first word: before its first text
 abbrev Stands : Text → Held × Step → Type 0
 Stands word met = (at : Met) × (after_step rules word (walk_at None) met.0 met.1 ≡ walk_at at)
 
@@ -331,11 +331,11 @@ plain_turn s h waiting position word none usual =
           ∙ ap (λ b. b && step_passes s position to.0 to.1) met.1,
     )
 
--- a word after which the walk stands at `to`, and which passes
+-- a word after which the walk is at `to`, and which passes
 abbrev Goes : Shape → Walk → Text → Walk → Type 0
 Goes s from word to = (walked s.rules [] from word ≡ to) × (turn_passes s [] from word ≡ true)
 
--- words after which the walk stands at `to`, and which pass
+-- words after which the walk is at `to`, and which pass
 abbrev Runs : Shape → Walk → List Text → Walk → Type 0
 Runs s from words to = (fold (walked s.rules []) from words ≡ to) × (walk_passes s [] from words ≡ true)
 

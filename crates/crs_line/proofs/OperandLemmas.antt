@@ -364,7 +364,7 @@ pub level_read : (f : Found) (found : Option (Bor Text)) (usual text : Bor Text)
 level_read f found usual text is one full =
     ap (λ (t : Bor Text). t.now) is ∙ now_or found usual ∙ ap₂ unwrap_or (one ∙ first_value-rows f (codes "level")) full
 
--- the getter's text, or `false`, tells whether the flag `--lines` is there
+-- the getter's text, or `false`, says whether the flag `--lines` is there
 pub lines_read : (f : Found) (found : Option (Bor Text)) (usual text : Bor Text) → text ≡ unwrap_or found usual
     → option_map (λ s. s.now) found ≡ first_value f (codes "lines") → usual.now ≡ codes "false"
     → bytes_eq text.now (codes "true") ≡ has_lines (rows_of f)

@@ -19,7 +19,7 @@ use Rattle.clap.specs.declared.error.kind.ErrorKind.TheVariants as kind
 abbrev pub spare_operand : Text → Rule
 spare_operand id = record (new_rule id) { value_names = 1 }
 
--- an operand that has to be given, one word
+-- an operand that must be given, one word
 abbrev pub operand : Text → Rule
 operand id = record (spare_operand id) { required = true }
 
@@ -108,21 +108,21 @@ abbrev pub asked : List Text → Option Request
 asked words =
     if takes desk words then option_and_then request_of (subcommand_of desk words) else None
 
--- a word that is no flag: it begins with no hyphen, or is one
+-- a word that is no flag: it doesn't begin with a hyphen, or is one
 abbrev pub is_plain_word : Text → Bool
 is_plain_word [] = true
 is_plain_word (byte ∷ []) = true
 is_plain_word (byte ∷ next ∷ rest) = not (byte == 45)
 
 -- a line is refused only where the command doesn't take it, by an error that it gives for the
--- words; want of memory is told apart from that
+-- words; out of memory is another fault
 abbrev pub IsRefusal : List Text → RequestFault → Type 0
 IsRefusal words (Line error) =
     (kind_of error ≢ kind.OutOfMemory) × (takes desk words ≡ false)
     × IsAmong (kind_of error) (fault_of desk words)
 IsRefusal words (Memory error) = Unit {0}
 
--- `clap`'s error is handed on, but for want of memory
+-- `clap`'s error is handed on, unless it is out of memory
 abbrev pub HandsOn : Error → RequestFault → Type 0
 HandsOn error (Line shown) = (shown ≡ error) × (kind_of error ≢ kind.OutOfMemory)
 HandsOn error (Memory want) = kind_of error ≡ kind.OutOfMemory

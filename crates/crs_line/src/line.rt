@@ -171,7 +171,7 @@ fn explain_command<'a>(alloc: Global) -> Result<Command<'a>, AllocError>
         .arg(level_argument(alloc))
 }
 
-// An operand that has to be given, what help calls it, and what help says of it.
+// An operand that must be given, what help calls it, and what help says of it.
 fn needed_word<'a>(alloc: Global, id: &'a str, shown: &'a str, help: &'a str) -> Arg<'a>
     ensures rule { rule_of result ≡ operand id.entry.now }
     ensures local { result.global ≡ false }

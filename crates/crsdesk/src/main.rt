@@ -59,7 +59,7 @@ fn answer(rt: &HostRuntime, wanted: &Request) -> u8 {
     }
 }
 
-// None where there is no such level, which is judged before anything is read.
+// None where there is no such level; the level is judged before anything is read.
 fn outcome(rt: &HostRuntime, wanted: &Request) -> Option<Result<u8, RunFault>> {
     match wanted {
         Request::Canon { level, lines } => Some(canon(rt, level_of(level)?, *lines)),
@@ -117,7 +117,7 @@ fn same(
     run_same(rt.alloc(), level, a, b, &mut Sink::new(rt.stdout()))
 }
 
-// A text on standard input or in a word is explained, or of two texts all that differs.
+// Explains a text of standard input or of a word, or all parts in which two texts differ.
 fn explain(
     rt: &HostRuntime,
     level: Level,
@@ -155,7 +155,7 @@ fn explain_pair(
     run_explain_pair(rt.alloc(), level, a, b, &mut Sink::new(rt.stdout()))
 }
 
-// A word without an opening delimiter is no text. Where it names a file, that file's text was most likely meant.
+// A word without an opening delimiter is no text. Where it names a file, the user most likely meant that file's text.
 fn hint_at_file(rt: &HostRuntime, word: &LineWord) {
     let name = word.as_str();
     if !name.contains(['[', '(']) && Path::new(name).is_file(rt) {
@@ -173,7 +173,7 @@ fn group(rt: &HostRuntime, level: Level) -> Result<u8, RunFault> {
     Ok(u8::from(summary.refused > 0))
 }
 
-// A second failure, of standard error itself, can't be told to anyone.
+// A second failure, of standard error itself, can't be reported.
 fn report(rt: &HostRuntime, fault: &RunFault) -> u8 {
     let _ = eprintln!(rt; "crsdesk: {fault}");
     FAULT
