@@ -59,7 +59,7 @@ more_digits n ds l h =
 pub decimal_digits : (n : ℕ) → n < 10 ^ 64 → AreDigitsOf n (decimal n)
 decimal_digits n l = decimal_by_steps_wide AreDigitsOf one_digit more_digits n l
 
--- ---- digits that zeros are put in front of
+-- ---- digits with zeros put before them
 
 pub padded_digits : (k n : ℕ) (ds : List ℕ) → AreDigitsOf n ds → AreDigits (padded k ds)
 padded_digits k n ds h = digits-append (replicate (k - length ds) 48) ds (zeros_are_digits (k - length ds)) h.digits
@@ -88,7 +88,7 @@ ends-push [] d h = h
 ends-push (x ∷ []) d h = h
 ends-push (x ∷ y ∷ xs) d h = ends-push (y ∷ xs) d h
 
--- the whole part and the fraction of at least k + 1 digits, k of them behind the period
+-- the whole part and the fraction of at least k + 1 digits, k of them after the period
 pub whole_trim : (k n : ℕ) (ds : List ℕ) → AreDigitsOf n ds → 0 < n → IsTrim (take (length (padded (suc k) ds) - k) (padded (suc k) ds))
 whole_trim k n ds h some =
     let p = padded (suc k) ds in

@@ -12,7 +12,7 @@ use Rattle.crs_decimal.specs.Mantissa.{no_digits, with_digits}
 use Rattle.crs_decimal.proofs.MantissaLemmas.{shown, Shows, IsStripped, long_least, zero_scaled}
 use Rattle.crs_decimal.proofs.PowerLemmas.{power_next, power_grows}
 
--- the number after n's digits and these
+-- the number of n's digits with these after them
 abbrev pub value_after : ℕ → List ℕ → ℕ
 value_after n ds = fold (λ m d. m * 10 + (d - 48)) n ds
 

@@ -97,7 +97,7 @@ same_mantissa w x f g dw dx df dg tw tx nf ng e =
     let r = same_from_place (digits_value w) (digits_value a) (digits_value x) (digits_value b) (10 ^ length b) below (value-below b dg) (sym left ∙ n ∙ value-append x b) in
     (trim_one w x dw dx tw tx r.0, same_fraction f g nf ng (same_digits a b l df dg r.1))
 
--- a minus stands before no zero
+-- no zero has a minus before it
 minus_needed : (w : List ℕ) (f : Option (List ℕ)) → AreDigits w → AreDigits (fraction_digits f) → IsTrim w → IsFractionNeeded f → digits_value (w ++ fraction_digits f) ≡ 0 → (w ≢ 48 ∷ []) ⊎ (f ≢ None) → ⊥
 minus_needed w (Some ds) dw df t n z h = value_last w ds df n (ap (λ x. x % 10) z)
 minus_needed w None dw df t n z (inr h) = h refl

@@ -35,15 +35,15 @@ sign_for-length : (b : Bool) → length {A = ℕ} (if b then 45 ∷ [] else []) 
 sign_for-length true = omega arith
 sign_for-length false = omega arith
 
--- the parts of a whole number with n zeros behind its digits
+-- the parts of a whole number with n zeros after its digits
 abbrev whole_parts : Bool → List ℕ → ℕ → Parts
 whole_parts b ds n = record { sign = sign_for b; whole = ds ++ replicate n 48; fraction = None; exponent = None }
 
--- the parts of digits of which the last k stand behind a period
+-- the parts of digits of which the last k are after a period
 abbrev period_parts : Bool → List ℕ → ℕ → Parts
 period_parts b p k = record { sign = sign_for b; whole = take (length p - k) p; fraction = Some (drop (length p - k) p); exponent = None }
 
--- all that is wanted of the spelling of a value
+-- all that is asked of the spelling of a value
 pub record IsWritten (v : Value) (bs : List ℕ) : Type 0 where
   pub is_plain : IsPlain bs
   pub denotes : Denotes bs (exact v)

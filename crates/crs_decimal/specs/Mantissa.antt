@@ -11,7 +11,7 @@ no_digits = record { digits = 0; zeros = 0; is_long = false }
 abbrev pub fits : ℕ → ℕ → Bool
 fits digits zeros = nat_lt (digits * 10 ^ zeros) (10 ^ 38)
 
--- one more digit behind the mantissa; a mantissa that doesn't fit is marked as long
+-- one more digit after the mantissa; a mantissa that doesn't fit is marked as long
 abbrev pub with_digit : Mantissa → ℕ → Mantissa
 with_digit m d =
     if d == 0 then (if m.digits == 0 then m else record m { zeros = m.zeros + 1 })
@@ -19,6 +19,6 @@ with_digit m d =
     then record m { digits = m.digits * 10 ^ (m.zeros + 1) + d; zeros = 0 }
     else record m { is_long = true })
 
--- the digits behind the mantissa, one after another
+-- the digits after the mantissa, one after another
 abbrev pub with_digits : Mantissa → List ℕ → Mantissa
 with_digits m ds = fold (λ n d. with_digit n (d - 48)) m ds

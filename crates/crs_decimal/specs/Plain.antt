@@ -18,7 +18,7 @@ EndsTrim [] = ⊥
 EndsTrim (d ∷ []) = d ≢ 48
 EndsTrim (d ∷ e ∷ ds) = EndsTrim (e ∷ ds)
 
--- a minus stands only where the number isn't zero
+-- there is a minus only where the number isn't zero
 abbrev pub IsSignNeeded : Parts → Type 0
 IsSignNeeded p =
     (p.sign ≡ unsigned) ⊎ ((p.sign ≡ minus) × ((p.whole ≢ 48 ∷ []) ⊎ (p.fraction ≢ None)))
@@ -37,7 +37,7 @@ pub record IsPlain (bytes : List ℕ) : Type 0 where
   pub fraction : IsFractionNeeded parts.fraction
   pub exponent : parts.exponent ≡ None
 
--- what stands behind the bytes from before is a plain spelling of the value
+-- what follows the bytes from before is a plain spelling of the value
 pub record AppendsPlain (value : Value) (before after : List ℕ) : Type 0 where
   pub spelling : List ℕ
   pub appended : after ≡ before ++ spelling
@@ -48,7 +48,7 @@ pub record AppendsPlain (value : Value) (before after : List ℕ) : Type 0 where
 abbrev pub is_plain_byte : ℕ → Bool
 is_plain_byte b = is_digit b || b == 46 || b == 45
 
--- digits with zeros put in front where there are fewer than n
+-- digits with zeros before them where there are fewer than n
 abbrev pub padded : ℕ → List ℕ → List ℕ
 padded n ds = replicate (n - length ds) 48 ++ ds
 

@@ -20,8 +20,8 @@ pub record Exponent : Type 0 where
   pub sign : Sign
   pub digits : List ℕ
 
--- the parts of a number as they are written; the fraction is
--- what stands behind the period, if there is one
+-- the parts of a number as they are written; the fraction is what follows the period, if there is
+-- one
 pub record Parts : Type 0 where
   pub sign : Sign
   pub whole : List ℕ
@@ -38,7 +38,7 @@ abbrev pub exponent_text : Option Exponent → List ℕ
 exponent_text None = []
 exponent_text (Some e) = e.letter ∷ sign_text e.sign ++ e.digits
 
--- the bytes of the parts, one behind another
+-- the bytes of the parts, one after another
 abbrev pub parts_text : Parts → List ℕ
 parts_text p = sign_text p.sign ++ p.whole ++ fraction_text p.fraction ++ exponent_text p.exponent
 
@@ -65,7 +65,8 @@ IsExponent None = Unit {0}
 IsExponent (Some e) =
     IsTrue (e.letter == 69 || e.letter == 101) × AreDigits e.digits × (0 < length e.digits)
 
--- the parts are of the number form: digits where digits stand, at least one in the mantissa
+-- the parts are of the number form: the mantissa is digits, at least one, and an exponent has its
+-- letter and its digits
 pub record IsForm (p : Parts) : Type 0 where
   pub digits : AreDigits (mantissa p)
   pub some : 0 < length (mantissa p)
@@ -90,7 +91,8 @@ is_run_byte b =
 abbrev pub is_run_start : ℕ → Bool
 is_run_start b = is_digit b || b == 46 || b == 43 || b == 45
 
--- the bytes aren't none, start as a number does, and consist of what numbers and words consist of
+-- there is a byte, the first is one that a number starts with, and all are bytes of numbers and
+-- words
 abbrev pub IsRun : List ℕ → Type 0
 IsRun [] = ⊥
 IsRun (b ∷ bytes) = IsTrue (is_run_start b) × IsTrue (list_all is_run_byte (b ∷ bytes))

@@ -1,4 +1,4 @@
--- A bridge: bytes cut into the parts of a number as far as they go, and what is left behind them.
+-- A bridge: bytes cut into the parts of a number as far as they go, and what is left after them.
 use Rattle.std.specs.Prelude.{◌≡◌, ℕ, ◌<◌, ◌==◌, ◌||◌, Bool, if◌then◌else◌, List, [], ◌∷◌, length}
 use Rattle.std.specs.Prelude.{take, drop, Option}
 use Rattle.std.specs.Prelude.{Some, None}
@@ -10,7 +10,7 @@ use Rattle.crs_decimal.specs.Spelling.{mantissa}
 abbrev pub leading_digits : List ℕ → List ℕ
 leading_digits bytes = take (prefix_len is_digit bytes) bytes
 
--- what stands behind the digits in front
+-- what follows the digits in front
 abbrev pub behind_digits : List ℕ → List ℕ
 behind_digits bytes = drop (prefix_len is_digit bytes) bytes
 
@@ -19,7 +19,7 @@ abbrev pub sign_of : List ℕ → Sign
 sign_of [] = unsigned
 sign_of (b ∷ bytes) = if b == 43 then plus else (if b == 45 then minus else unsigned)
 
--- what stands behind the sign in front
+-- what follows the sign in front
 abbrev pub behind_sign : List ℕ → List ℕ
 behind_sign [] = []
 behind_sign (b ∷ bytes) = if b == 43 || b == 45 then bytes else b ∷ bytes
@@ -29,7 +29,7 @@ abbrev pub fraction_of : List ℕ → Option (List ℕ)
 fraction_of [] = None
 fraction_of (b ∷ bytes) = if b == 46 then Some (leading_digits bytes) else None
 
--- what stands behind the period and the digits in front
+-- what follows the period and the digits in front
 abbrev pub behind_fraction : List ℕ → List ℕ
 behind_fraction [] = []
 behind_fraction (b ∷ bytes) = if b == 46 then behind_digits bytes else b ∷ bytes
@@ -49,17 +49,17 @@ exponent_of (b ∷ bytes) =
       digits = leading_digits (behind_sign bytes);
     }) else None
 
--- what stands behind the exponent in front
+-- what follows the exponent in front
 abbrev pub behind_exponent : List ℕ → List ℕ
 behind_exponent [] = []
 behind_exponent (b ∷ bytes) =
     if is_exponent_letter b then behind_digits (behind_sign bytes) else b ∷ bytes
 
--- what stands behind the sign and the digits in front
+-- what follows the sign and the digits in front
 abbrev pub behind_whole : List ℕ → List ℕ
 behind_whole bytes = behind_digits (behind_sign bytes)
 
--- what stands behind the mantissa in front
+-- what follows the mantissa in front
 abbrev pub behind_mantissa : List ℕ → List ℕ
 behind_mantissa bytes = behind_fraction (behind_whole bytes)
 
@@ -72,7 +72,7 @@ parts_of bytes = record {
   exponent = exponent_of (behind_mantissa bytes);
 }
 
--- what stands behind the parts that the bytes begin with
+-- what follows the parts that the bytes begin with
 abbrev pub behind_parts : List ℕ → List ℕ
 behind_parts bytes = behind_exponent (behind_mantissa bytes)
 

@@ -45,7 +45,7 @@ abbrev pub down_of : ℤ → ℕ
 down_of (pos n) = 0
 down_of (negsuc n) = suc n
 
--- the number that the decimal stands for
+-- the number that the decimal denotes
 abbrev pub exact : Value → Number
 exact v =
     record { negative = v.negative; digits = v.digits; up = up_of v.power; down = down_of v.power }

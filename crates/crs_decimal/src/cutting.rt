@@ -61,7 +61,7 @@ pub(crate) fn read(bytes: &[u8]) -> Option<Spelled>
     })
 }
 
-// whether a minus stands in front, and what follows the sign
+// whether there is a minus in front, and what follows the sign
 #[inline(always)]
 pub(crate) fn split_sign(bytes: &[u8]) -> (bool, &[u8])
     ensures sign { result.0 ≡ is_minus (sign_of bytes.now) }
@@ -74,7 +74,7 @@ pub(crate) fn split_sign(bytes: &[u8]) -> (bool, &[u8])
     }
 }
 
-// the digits in front, taken behind the mantissa
+// the digits in front, taken after the mantissa
 fn split_digits(bytes: &[u8], before: Mantissa) -> Run
     requires { before.zeros + length bytes.now < 2 ^ 64 }
     ensures mantissa { result.mantissa ≡ with_digits before (leading_digits bytes.now) }
@@ -99,7 +99,7 @@ fn split_digits(bytes: &[u8], before: Mantissa) -> Run
     }
 }
 
-// the digits behind a period in front, if there is one
+// the digits after a period in front, if there is one
 fn split_fraction(bytes: &[u8], before: Mantissa) -> Run
     requires { before.zeros + length bytes.now < 2 ^ 64 }
     ensures mantissa { result.mantissa ≡ with_digits before (fraction_digits (fraction_of bytes.now)) }
@@ -118,7 +118,7 @@ fn split_fraction(bytes: &[u8], before: Mantissa) -> Run
     }
 }
 
-// the exponent in front, empty if there is none; None where its letter stands without digits
+// the exponent in front, empty if there is none; None where its letter has no digits
 fn split_exponent(bytes: &[u8]) -> Option<Exponent>
     ensures { MatchOption result
         (¬ (HasExponentDigits (exponent_of bytes.now)))
@@ -145,7 +145,7 @@ fn split_exponent(bytes: &[u8]) -> Option<Exponent>
     }
 }
 
-// the digits in front, and what stands behind them
+// the digits in front, and what follows them
 fn cut_digits(bytes: &[u8]) -> (&[u8], &[u8])
     ensures front { result.0.now ≡ leading_digits bytes.now }
     ensures digits { AreDigits result.0.now }

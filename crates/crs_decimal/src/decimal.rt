@@ -11,8 +11,8 @@ use std::marker::Model;
 #[derive(Clone, Copy, PartialEq, Eq, Debug)]
 pub struct Decimal {
     digits: u128,
-    // As wide as they are so that there is no gap: a struct with gaps is copied by overlapping loads,
-    // which wait for the stores before them.
+    // `Decimal` has no padding: a struct with padding is copied by overlapping loads, which stall on store
+    // forwarding.
     power: i64,
     // 1 below zero, 0 elsewhere
     sign: u64,
@@ -66,9 +66,9 @@ impl Decimal {
         }
     }
 
-    // This number, put together anew. Where one of two ways has its number in registers and the
-    // other in memory, the compiler merges them in memory, and a load there waits for the stores; of
-    // a number that is put together anew it merges the fields.
+    // This number, built anew. Where one of two ways leaves its number in registers and the other in memory, the
+    // compiler merges them in memory, and a load from there stalls on store forwarding; of a number that is built
+    // anew it merges the fields.
     #[inline(always)]
     pub(crate) fn rebuilt(self) -> Decimal
         ensures { result ≡ self }
@@ -112,7 +112,7 @@ impl Decimal {
         self.power as i32
     }
 
-    /// Whether this and the other are the same number, as `==` tells too.
+    /// Whether this and the other are the same number, as `==` says too.
     pub fn same_number(&self, other: &Decimal) -> bool
         ensures { IsTrue result ↔ SameNumber (exact self.now) (exact other.now) }
     {

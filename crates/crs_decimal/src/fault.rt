@@ -1,6 +1,6 @@
 use thiserror::Error;
 
-/// Why bytes are read as no number. Profile.
+/// Why bytes aren't read as a number. Profile.
 #[derive(Clone, Copy, Debug, PartialEq, Eq, Error)]
 pub enum NumberFault {
     /// The bytes don't have the form of a number.

@@ -14,8 +14,8 @@ use crate::decimal::Decimal;
 /// The most bytes of a short number.
 const LIMIT: usize = 19;
 
-/// All digits of a short number's mantissa as one whole number, how many of them are a fraction,
-/// and whether a minus stands in front.
+/// All digits of a short number's mantissa as one whole number, how many of them are a fraction, and whether there is
+/// a minus in front.
 #[derive(Clone, Copy)]
 pub(crate) struct Short {
     pub(crate) value: u64,
@@ -70,7 +70,7 @@ fn some_digits(digits: Digits, fraction: usize, negative: bool) -> Option<Short>
     })
 }
 
-// the digits in front of the bytes, behind those so far, and what stands behind them
+// the digits in front of the bytes, after those so far, and what follows them
 #[inline(always)]
 fn with_digits(before: Digits, bytes: &[u8]) -> (Digits, &[u8])
     requires few { before.count + length bytes.now ≤ 19 }

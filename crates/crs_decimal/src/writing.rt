@@ -113,7 +113,7 @@ impl Text {
         }
     }
 
-    // the digits with a period before the last `places` of them, zeros in front where they are few
+    // the digits with a period before the last `places` of them, and zeros in front where they are few
     fn push_with_period(&mut self, digits: &[u8], places: usize)
         requires digits { length self.old + length digits.now + 1 ≤ 79 }
         requires places { length self.old + places + 2 ≤ 79 }
