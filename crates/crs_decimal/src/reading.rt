@@ -76,7 +76,7 @@ impl Spelled<'_> {
         }
     }
 
-    // the powers of ten that the exponent stands for, above and below
+    // the powers of ten that the exponent means, above and below
     fn exponent_powers(&self) -> (usize, usize)
         requires digits { AreDigits self.now.exponent.now }
         requires few { length self.now.exponent.now ≤ 3 }
