@@ -1,4 +1,4 @@
--- What a reader that tells its bytes gave by the time it shows its end.
+-- What a reader whose bytes are known gave by the time it shows its end.
 use Rattle.std.proofs.Common.{◌≡◌, ℕ, ◌<◌, List, [], ◌++◌, length, refl, Option, Some, None, IfSome, Result, Ok, subst, ap, sym, ◌∙◌, append-nil}
 use Rattle.std.specs.Io.KnownBytes.{Consumes, ReadConsumes}
 

@@ -8,7 +8,7 @@ use Rattle.crs_group.specs.Catalogue.{Line, line_of}
 abbrev pub HasNoFeed : List ℕ → Type 0
 HasNoFeed bytes = IsTrue (list_all (λ b. not (b == 10)) bytes)
 
--- the bytes have a first line, and others behind its line feed
+-- the bytes have a first line, and others after its line feed
 abbrev pub IsSplit : List ℕ → List ℕ → List ℕ → Type 0
 IsSplit bytes line rest = (bytes ≡ line ++ 10 ∷ rest) × HasNoFeed line
 

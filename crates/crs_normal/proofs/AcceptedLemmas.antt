@@ -41,7 +41,7 @@ made-spells law level c most item value root made reads = record {
   reads = reads;
 }
 
--- the made item stands in its own written text
+-- the written text of a made item spells it, at the text's places
 made-stands : WrittenSpells → (level : Level) (c : Class) (item : Item) → IsMade level c 8 (at_place 0 item) →
     SpellsNode (item_text item) (at_place 0 item)
 made-stands written level c item made =

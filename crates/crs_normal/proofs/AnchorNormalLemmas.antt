@@ -1,5 +1,5 @@
--- The anchor of a normal reference frame and its epoch are the one form of their values: by their ranks the anchor stands
--- first.
+-- The anchor of a normal reference frame and its epoch are the one form of their values: by their
+-- ranks the anchor comes first.
 use Rattle.std.proofs.Common.{◌≡◌, ℕ, ◌≤◌, ◌||◌, length, Bool, true, false, inl, inr, ◌⊎◌, Option, Some, List, [], ◌∷◌, ◌++◌, codes, refl, ◌∙◌, ap, arith}
 use denote.Enum.Bare.{sameb}
 use Rattle.crs_decimal.specs.Value.{Value}
@@ -35,7 +35,7 @@ either-as c item s = by (sameb the_type class.Anchor s.at) refl s.taken
     by false e t =
         inr (named-so c item s.at class.AnchorEpoch s.named (or-false (sameb the_type class.AnchorEpoch s.at) t))
 
--- the anchors of a slot, and behind them the epochs
+-- the anchors of a slot, and after them the epochs
 record Anchored (c : Class) (m : ℕ) (front : List Item) : Type 0 where
   firsts : List Item
   epochs : List Item
@@ -91,7 +91,7 @@ found-epochs c m front s =
     ∙ those-last c class.AnchorEpoch s.epochs
     (as-class c class.AnchorEpoch class.AnchorEpoch true refl s.epochs s.as_epoch)
 
--- one of each at most stands in the slot of a node, and no other
+-- a node has at most one of each in the slot, and nothing else
 pub record IsAnchorSlot (d : Class) (items : Siblings) (front : List Item) : Type 0 where
   pub least : ℕ
   pub rest : Siblings

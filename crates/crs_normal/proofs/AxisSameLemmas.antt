@@ -1,4 +1,5 @@
--- Axes have one form exactly where they are the same, and the axis that is found at a position is the one there.
+-- Axes have one form exactly where they are the same, and the axis that is found at a position is
+-- the axis of that position.
 use Rattle.std.proofs.Common.{◌≡◌, ◌↔◌, ◌∙◌, ℕ, ◌+◌, ◌<◌, ◌^◌, inl, inr, Bool, true, false, List, [], ◌∷◌, Option, Some}
 use Rattle.std.proofs.Common.{None, refl, sym, ap, subst, if◌then◌else◌}
 use Rattle.std.proofs.lemmas.Bool.{false≢true}
@@ -141,7 +142,7 @@ abbrev IsOneAt : ℕ → List AxisParts → Type 0
 IsOneAt position axes = (x y : AxisParts) → HasAt position (λ axis. axis ≡ x) 1 axes →
     HasAt position (λ axis. axis ≡ y) 1 axes → x ≡ y
 
--- what holds of the axis at a position holds at that position, and the other way round
+-- what holds of the axis at a position holds at that position, and conversely
 at-agrees : (P : AxisParts → Type 0) (position : ℕ) (axes : List AxisParts) (axis : AxisParts) → IsOneAt position axes →
     HasAt position (λ x. x ≡ axis) 1 axes → P axis ↔ HasAt position P 1 axes
 at-agrees P position axes axis one at = (

@@ -11,13 +11,13 @@ use Rattle.crs_normal.specs.Closed.{IsClosed, closing_count, opening_count, unqu
 
 -- ---- a scanner, which finds the `]` that closes
 
--- behind a `]`: the rest where it closes the outermost `[`, else what is found within so many others
+-- after a `]`: the rest where it closes the outermost `[`, else what is found within so many others
 abbrev closed_by : ℕ → List ℕ → (ℕ → Option (List ℕ)) → Option (List ℕ)
 closed_by zero rest within = Some rest
 closed_by (suc depth) rest within = within depth
 
--- what stands behind the `]` that closes the outermost of the brackets that are open, of which so many are within it;
--- in quotes or not
+-- what follows the `]` that closes the outermost of the open brackets, with so many within it; in
+-- quotes or not
 abbrev behind : ℕ → Bool → List ℕ → Option (List ℕ)
 behind depth quoted [] = None
 behind depth quoted (b ∷ bytes) =
@@ -291,7 +291,7 @@ no-bracket : (b : ℕ) (bytes : List ℕ) → list_all is_word_byte (b ∷ bytes
 no-bracket b bytes e same =
     true-false (sym (and_parts (is_word_byte b) (list_all is_word_byte bytes) e).0 ∙ ap is_word_byte (sym same))
 
--- behind its word a text has one inside
+-- after its word a text has bytes that are inside
 split-once : (a b x y : List ℕ) → list_all is_word_byte a ≡ true → list_all is_word_byte b ≡ true →
     a ++ 91 ∷ x ≡ b ++ 91 ∷ y → x ≡ y
 split-once [] [] x y p q e = same-tail 91 91 x y e

@@ -15,7 +15,7 @@ use Rattle.crs_normal.specs.LowerLaws.{LowerLaws}
 use Rattle.crs_normal.specs.SpelledDynamic.{norm_deformation_model, norm_dynamic}
 use Rattle.crs_normal.proofs.PartSameLemmas.{options-agree, values-agree}
 
--- whatever the frame is beside which it stands
+-- whatever the frame beside it is
 pub dynamics-sound : (o : Option DynamicParts) (f : Frame) → IsDynamicOf o f → IfSome o IsDynamic
 dynamics-sound None f s = tt
 dynamics-sound (Some d) (frame.Datum datum) s = s

@@ -1,4 +1,4 @@
--- A text is normal, or isn't, where that was found of its item by computing.
+-- A text is normal, or isn't, as was computed of its item.
 use Rattle.std.proofs.Common.{◌≡◌, ℕ, List, Some, sym, ap, subst, ◌∙◌}
 use Rattle.crs_text.specs.Items.{Item, IsNode, depth}
 use Rattle.crs_text.specs.TextFault.{SpellsNode}
@@ -23,7 +23,7 @@ pub record TextLaws : Type 0 where
   pub written : WrittenSpells
   pub one_node : (bytes : List ℕ) (i j : Item) → SpellsNode bytes i → SpellsNode bytes j → i ≡ j
 
--- the item that stands in the text
+-- the item of the text
 abbrev pub placed : List ℕ → Item
 placed bytes = at_place 0 (item_of bytes)
 
@@ -68,7 +68,7 @@ is-otherwise l level c bytes r h = record {
       refutation (verdict l level c bytes) h (subst (λ d. IsNormalIn level d d (placed bytes)) of here);
 }
 
--- what a text of this class spells is read from the item that stands in it
+-- what a text of this class spells is read from its item
 pub read-here : (l : TextLaws) (c : Class) (bytes : List ℕ) → IsRead l c bytes → (crs : Crs) → Spells bytes crs →
     ReadsCrs c (placed bytes) crs
 read-here l c bytes r crs s =

@@ -1,4 +1,5 @@
--- Boxes and extents of a usage: their items read as them wherever they stand, and their one form agrees with sameness.
+-- Boxes and extents of a usage: their items read as them wherever they are, and their one form
+-- agrees with sameness.
 use Rattle.std.proofs.Common.{◌≡◌, ◌↔◌, ℕ, ◌+◌, true, codes, IfSome, Option, Some, None, inl, inr, refl, sym, ◌∙◌, ap}
 use Rattle.crs_decimal.specs.Value.{Value, IsNormal}
 use Rattle.crs_text.specs.Items.{End, More}

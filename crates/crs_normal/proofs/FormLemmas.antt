@@ -23,7 +23,7 @@ use Rattle.crs_normal.specs.SpelledItems.{each, node_from, opt}
 use Rattle.crs_normal.proofs.SetLemmas.{IsBelow, in_order-of}
 use Rattle.crs_normal.proofs.ViewLemmas.{View, unplaced_onto, same_class, view}
 
--- ---- the text of an item doesn't tell places
+-- ---- the text of an item doesn't depend on places
 
 node-text : (keyword a b c d : List ℕ) → a ≡ c → b ≡ d →
     keyword ++ 91 ∷ (a ++ (b ++ 93 ∷ [])) ≡ keyword ++ 91 ∷ (c ++ (d ++ 93 ∷ []))
@@ -210,7 +210,7 @@ written-ascend spell (i ∷ is) [] h up = absurd h
 written-ascend spell (i ∷ is) (v ∷ vs) h up =
     (below-written spell i v h.0 is vs h.1 up.0, written-ascend spell is vs h.1 up.1)
 
--- of what is read from no items there is none
+-- from no items nothing is read
 reads-none : {V : Type 0} (R : Item → V → Type 0) (items : List Item) (values : List V) → ReadsEach R items values →
     items ≡ [] → values ≡ []
 reads-none R [] [] reads none = refl

@@ -99,7 +99,7 @@ module _ (laws : LowerLaws) (sets : SetsDecide) (level : Level) where
 
   -- ---- prime meridians
 
-  -- the unit as it stands in the form
+  -- the unit as it is in the form
   abbrev unit_in : MeridianParts → Option UnitParts
   unit_in m = if is_zero m.longitude then None else norm_units level kinds.Angle m.unit
 
@@ -151,7 +151,7 @@ module _ (laws : LowerLaws) (sets : SetsDecide) (level : Level) where
       identifiers : (set_idents level a.identifiers ≡ set_idents level b.identifiers) ↔ SameIdents level a.identifiers b.identifiers
       identifiers = sets.idents level a.identifiers b.identifiers in-a.identifiers in-b.identifiers
 
-  -- a missing one has the form of what it stands for
+  -- a missing one has the form of its default
   given-formed : (m : Option MeridianParts) → norm_meridian level m ≡ Some (norm_given level (or_greenwich m))
   given-formed None = λ i. Some (record {
     name = codes "Greenwich";

@@ -1,5 +1,5 @@
--- What the checks say of a normal CRS: how many axes there are, of which type its system is, and what stands at its
--- end.
+-- What the checks say of a normal CRS: how many axes there are, of which type its system is, and
+-- what is at its end.
 use Rattle.std.proofs.Common.{◌≡◌, ◌≢◌, ℕ, suc, ◌+◌, ◌*◌, ◌^◌, ◌≤◌, ◌<◌, length, map, true, false, inl, inr, List, [], ◌∷◌, codes, refl, sym, ◌∙◌, ap, subst, arith}
 use Rattle.std.specs.Prelude.{nat_lt}
 use Rattle.std.proofs.lemmas.Bool.{ltb-true, ltb-false}
@@ -165,7 +165,7 @@ not-ellipsoidal level c [] good none x reads e = absurd reads
 not-ellipsoidal level c (cs ∷ more) good none x reads e =
     none.0 (head-word level c cs x good.0 reads ∙ ap (λ t. system_word t ∷ []) e)
 
--- ---- what stands at the end
+-- ---- what is at the end
 
 abbrev pub SameThose : Class → Item → List Item → Class → Type 0
 SameThose c item front d = those c d (arguments item) ≡ those c d (onto front End)

@@ -1,5 +1,5 @@
--- Identifiers: the item of one reads as it wherever it stands, equal texts are of equal identifiers, and the set of
--- them in order is one exactly where they are the same set.
+-- Identifiers: the item of one reads as it wherever it is, equal texts are of equal identifiers,
+-- and the sets of two lists in order are one list exactly where they are the same set.
 use Rattle.std.proofs.Common.{◌≡◌, ◌≤◌, ◌↔◌, ℕ, suc, ◌+◌, Bool, true, false, ◌&&◌, codes, if◌then◌else◌, Option, Some, None, List, [], length, map, map-id, nat_le, refl, ap, subst, arith}
 use Rattle.std.proofs.lemmas.Bool.{and_parts, leb-true}
 use Rattle.std.specs.List.{list_all}
@@ -62,7 +62,7 @@ code-over c d n t raw place = by (is_short raw)
     by true = n
     by false = t
 
--- ---- what stands behind the code
+-- ---- what follows the code
 
 abbrev behind-version : IdentParts → Siblings
 behind-version x = opt (text_node (codes "CITATION")) x.citation (opt (text_node (codes "URI")) x.uri End)

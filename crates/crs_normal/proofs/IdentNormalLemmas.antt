@@ -91,7 +91,7 @@ node-no-code at keyword is taken =
     clash : {b : Bool} → b ≡ false → b ≡ true → ⊥
     clash e f = let h : false ≡ true = sym e ∙ f in cc
 
--- a version, and what stands behind it
+-- a version, and what follows it
 version-unplaced : (front : List Item) (behind : Siblings) →
     Each (InSlot class.Identifier (optional_of (class.Number ∷ class.Text ∷ []))) front →
     length front ≤ 1 → single_of behind ≡ [] → (version : Option (List ℕ)) →
@@ -114,7 +114,7 @@ version-unplaced (leaf number place raw ∷ []) behind inside few none (Some v) 
 version-unplaced (leaf text place raw ∷ []) behind inside few none (Some v) reads codes rest after e =
     ap (λ i. More i rest) (as-text place raw v codes.0 reads) ∙ ap (More (code_item v)) e
 
--- nodes that stand next give no version
+-- nodes that come next give no version
 no-single : (d : Class) → ((kind : Kind) → sameb the_type (class_of_kind kind) d ≡ false) →
     (item : Item) (rest : Siblings) → InSlot class.Identifier (optional d) item →
     single_of (More item rest) ≡ []

@@ -1,5 +1,5 @@
--- Written items: that they are well formed and not too deep, what their arguments of a class are wherever they stand,
--- and that equal texts are of equal values.
+-- Written items: they are well formed and not too deep, their arguments of a class are the same
+-- wherever they are, and equal texts are of equal values.
 use Rattle.std.proofs.Common.{◌≡◌, ◌≤◌, ℕ, suc, ◌+◌, Bool, true, false, if◌then◌else◌, IfSome, Option, Some, None, List, [], ◌∷◌, length, refl, sym, subst, arith}
 use Rattle.crs_decimal.specs.Bounds.{IsInBounds}
 use Rattle.crs_decimal.specs.Plain.{plain}
@@ -64,7 +64,7 @@ pub value-fit : TextLaws → (n : ℕ) (v : Value) → IsNormal v → IsFit n (n
 value-fit laws n v h =
     let d = laws.denotes v h in fit-leaf n number 0 (plain v) (number-single laws (plain v) (d.0, d.1, d.2))
 
--- ---- arguments of a class, wherever the items stand
+-- ---- arguments of a class, wherever the items are
 
 -- the items of class d in a parent of class c are so
 abbrev pub Gives : Class → Class → (List Item → Type 0) → Siblings → Type 0

@@ -39,7 +39,7 @@ set-each {V} {A} norm spell P Q xs h f =
     spelled [] g = tt
     spelled (b ∷ bs) g = (g.0, spelled bs g.1)
 
--- behind which none of them stands
+-- after which none of them comes
 pub set-ascends : {A : Type 0} (spell : A → Item) (xs : List A) →
     Ascend (map spell (in_order (λ a. item_text (spell a)) xs) ++ [])
 set-ascends spell xs =

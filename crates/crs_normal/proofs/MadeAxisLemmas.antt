@@ -224,7 +224,7 @@ axis-made l level s k x f low high =
           (v.view class.Word) b;
     })
 
--- what stands in an axis at a position, as the checks of a system see it
+-- what is in an axis at a position, as the checks of a system see it
 pub record IsAxisItem (t : SystemType) (k : ℕ) (item : Item) : Type 0 where
   pub direction_in : Direction
   pub unit_in : UnitParts

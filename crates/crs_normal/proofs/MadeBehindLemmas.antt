@@ -1,4 +1,4 @@
--- What the CRSs with a coordinate system have behind their other parts is made: the system and the end.
+-- What CRSs with a coordinate system have after their other parts is made: the system and the end.
 use Rattle.std.proofs.Common.{◌≡◌, ◌≢◌, ℕ, suc, ◌≤◌, List, [], ◌∷◌, length, map, codes, Some, refl, sym, ap, subst, ◌∙◌, arith}
 use Rattle.std.proofs.lemmas.List.{append-nil}
 use Rattle.crs_decimal.specs.Number.{SameNumber, whole_number}

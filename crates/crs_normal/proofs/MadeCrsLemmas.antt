@@ -48,7 +48,7 @@ crs-made l each_at level (crs.Compound g) h p = compound-made l each_at level g 
 
 -- ---- a whole text
 
--- a text's item stands at the text's places
+-- a text's item is at the text's places
 mutual
   pub placed-twice : (p q : ℕ) (j : Item) → at_place p (at_place q j) ≡ at_place p j
   placed-twice p q (leaf kind place raw) = refl

@@ -82,7 +82,7 @@ anchor-epoch-made l level v h =
     (runs-fit (slots_of class.AnchorEpoch) (alone class.Number (number_item v) ∷ []) (fills-one refl, tt))
     (λ item. tt) (λ item fault b. b) h
 
--- what a reference frame has behind its name and its ellipsoid: the anchor, its epoch, identifiers
+-- what a reference frame has after its name and its ellipsoid: the anchor, its epoch, identifiers
 abbrev datum_rest : Level → DatumParts → List Run
 datum_rest level d =
     record { of = class.Anchor; items = given (text_node (codes "ANCHOR")) d.anchor } ∷

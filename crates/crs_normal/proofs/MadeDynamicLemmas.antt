@@ -1,4 +1,4 @@
--- Dynamic parts are made, and none stands beside an ensemble.
+-- Dynamic parts are made, and none is beside an ensemble.
 use Rattle.std.proofs.Common.{◌≡◌, ◌⊎◌, ℕ, ◌≤◌, Option, Some, None, List, [], ◌∷◌, codes, IfSome, inl, inr, refl, subst, arith}
 use Rattle.std.specs.Option.{option_map}
 use Rattle.crs_decimal.specs.Value.{Value, IsNormal}
@@ -108,7 +108,7 @@ dynamic-argument l level most parent (Some d) (frame.Ensemble held) deep named h
 abbrev pub dynamic_classes : List Class
 dynamic_classes = class.Dynamic ∷ class.GeodeticEnsemble ∷ class.VerticalEnsemble ∷ []
 
--- no dynamic part stands there, or no ensemble
+-- there is no dynamic part, or no ensemble
 abbrev pub IsSteady : Class → Item → Type 0
 IsSteady c item =
     (those c class.Dynamic (arguments item) ≡ []) ⊎ ((those c class.GeodeticEnsemble (arguments item) ≡ [])

@@ -74,7 +74,7 @@ geodetic_ensemble_runs level x e =
     (item_ellipsoid (norm_ellipsoid level x)) ∷
     alone class.EnsembleAccuracy (number_node (codes "ENSEMBLEACCURACY") e.accuracy) ∷ ids_run level e.identifiers ∷ []
 
--- the arguments behind an ensemble's name
+-- the arguments after an ensemble's name
 abbrev ensemble_others : Level → Option EllipsoidParts → EnsembleParts → Siblings
 ensemble_others level x e =
     each item_member (set_members level e.members) (opt item_ellipsoid (option_map (norm_ellipsoid level) x)

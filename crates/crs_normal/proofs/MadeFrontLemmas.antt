@@ -66,7 +66,7 @@ pub frame-left : (level : Level) (n : Item) (x : Option DynamicParts) (f : Frame
 frame-left level n x (frame.Datum d) j rest h = h
 frame-left level n x (frame.Ensemble e) j rest h = h
 
--- what stands in a CRS or base with a prime meridian
+-- what is in a CRS or base with a prime meridian
 abbrev pub geodetic_classes : List Class
 geodetic_classes = class.PrimeMeridian ∷ crs_classes
 
@@ -76,7 +76,7 @@ pub frame-shows : (level : Level) (c : Class) (item n : Item) (x : Option Dynami
 frame-shows level c item n x (frame.Datum d) j rest h = h
 frame-shows level c item n x (frame.Ensemble e) j rest h = h
 
--- no dynamic part stands beside an ensemble, where none of these stand behind the frame
+-- no dynamic part is beside an ensemble, where none of these come after the frame
 pub frame-steady : (level : Level) (c : Class) (item n : Item) (x : Option DynamicParts) (f : Frame) (j : Item)
     (rest : List Run) → IsDynamicOf x f → Each (λ e. items_in e rest ≡ []) dynamic_classes →
     Each (Shows c item (framed_runs level n x f j rest)) dynamic_classes → IsSteady c item

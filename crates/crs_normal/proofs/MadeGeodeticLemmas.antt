@@ -130,7 +130,7 @@ is-root types.Vertical = geodetic-root types.Vertical (λ e. cc)
 abbrev meridian_run : Level → GeodeticParts → Run
 meridian_run level g = record { of = class.PrimeMeridian; items = given item_meridian (norm_meridian level g.meridian) }
 
--- what a geodetic CRS has behind its frame
+-- what a geodetic CRS has after its frame
 abbrev geodetic_rest : Level → GeodeticParts → List Run
 geodetic_rest level g = meridian_run level g ∷ behind level g.system g.tail
 
@@ -278,7 +278,7 @@ geodetic-kept l level c keyword g r few h = record {
         (r.allows g.system.dimension h.dimension) q b
     no-break item fault t q y (inr (inr b)) = no-bad-dynamic c item fault y b
 
--- the arguments behind a CRS's name
+-- the arguments after a CRS's name
 abbrev geodetic_others : Level → GeodeticParts → Siblings
 geodetic_others level g =
     opt item_dynamic (option_map (norm_dynamic level) g.dynamic) (More (frame_item level g)

@@ -126,7 +126,7 @@ code-is number raw p h = inl (h, refl)
 code-is text raw p h = inr (h.0, refl)
 code-is word raw p h = absurd h
 
--- the version, if there is one, and the nodes behind it
+-- the version, if there is one, and the nodes after it
 abbrev behind : Kind → Option (List ℕ) → Option (List ℕ) → Option (List ℕ) → Siblings
 behind v version citation uri =
     line (given (λ raw. leaf v 0 raw) version) (line (given (text_node (codes "CITATION")) citation)
@@ -262,7 +262,7 @@ identifiers-made l level most parent identifiers deep named h =
     (idents-sound level identifiers h)
     (λ i q. as-argument level 2 most parent class.Identifier (item_ident i) deep named (ident-made l level i q))
 
--- nothing stands behind them that is one
+-- nothing after them is one
 pub identifiers-ascend : (level : Level) (identifiers : List IdentParts) → Ascend (map item_ident (set_idents level identifiers) ++ [])
 unfolding set_idents
 identifiers-ascend level identifiers = set-ascends item_ident (kept level identifiers)

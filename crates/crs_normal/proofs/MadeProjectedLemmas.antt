@@ -44,7 +44,7 @@ use Rattle.crs_normal.proofs.DimensionLemmas.{small-projected}
 
 -- ---- base CRSs
 
--- what a base has behind its frame
+-- what a base has after its frame
 abbrev base_rest : Level → BaseParts → List Run
 base_rest level b =
     record { of = class.PrimeMeridian; items = given item_meridian (norm_meridian level b.meridian) } ∷

@@ -246,7 +246,7 @@ head-made l level s h =
           fault (v.view class.Word) b;
     })
 
--- what stands in a node `CS`, as the checks of a system see it
+-- what is in a node `CS`, as the checks of a system see it
 pub record IsHeadItem (t : SystemType) (dimension : Value) (item : Item) : Type 0 where
   pub words : ArePlaced (those class.CoordinateSystem class.Word (arguments item)) (word_item (system_word t) ∷ [])
   pub numbers : ArePlaced (those class.CoordinateSystem class.Number (arguments item)) (number_item dimension ∷ [])

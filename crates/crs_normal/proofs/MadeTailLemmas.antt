@@ -141,7 +141,7 @@ tail-left level t = (
 
 -- ---- what the checks see of the end
 
--- no part of a usage stands bare, and there is one remark at most
+-- no part of a usage is bare, and there is one remark at most
 pub record IsTailSeen (c : Class) (item : Item) : Type 0 where
   pub scope : those c class.Scope (arguments item) ≡ []
   pub area : those c class.Area (arguments item) ≡ []

@@ -87,7 +87,7 @@ vertical-shows : (level : Level) (item n : Item) (x : Option DynamicParts) (f : 
 vertical-shows level item n x (frame.Datum d) j rest h = h
 vertical-shows level item n x (frame.Ensemble e) j rest h = h
 
--- no dynamic part stands beside an ensemble, where none of these stand behind the frame
+-- no dynamic part is beside an ensemble, where none of these come after the frame
 vertical-steady : (level : Level) (item n : Item) (x : Option DynamicParts) (f : Frame) (j : Item) (rest : List Run) →
     IsDynamicOf x f → Each (λ e. items_in e rest ≡ []) dynamic_classes →
     Each (Shows class.VerticalCrs item (framed_runs level n x f j rest)) dynamic_classes →
@@ -130,7 +130,7 @@ models_run level g = record {
       (set_geoid_models level g.geoid_models);
 }
 
--- what a vertical CRS has behind its frame
+-- what a vertical CRS has after its frame
 abbrev vertical_rest : Level → VerticalParts → List Run
 vertical_rest level g =
     alone class.CoordinateSystem (item_head (norm_system level g.system)) ∷ axes_run level g.system ∷ no_unit_run ∷

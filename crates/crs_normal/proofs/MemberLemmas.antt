@@ -1,5 +1,5 @@
--- Members of an ensemble and geoid models: their items read as them wherever they stand, and as sets they have one
--- form.
+-- Members of an ensemble and geoid models: their items read as them wherever they are, and as sets
+-- they have one form.
 use Rattle.std.proofs.Common.{◌≡◌, ◌↔◌, ℕ, ◌+◌, codes, List, refl, ap, arith}
 use Rattle.crs_text.specs.Items.{Item, End, More}
 use Rattle.crs_text.specs.Written.{at_place, item_text}

@@ -1,5 +1,5 @@
--- Units within the members of sets: their items read as them wherever they stand, and their one form agrees with
--- sameness.
+-- Units within the members of sets: their items read as them wherever they are, and their one form
+-- agrees with sameness.
 use Rattle.std.proofs.Common.{◌≡◌, ◌≤◌, ◌↔◌, ℕ, ◌+◌, false, codes, IfSome, Option, Some, None, is_some, List, [], length, true≢false, refl, sym, ◌∙◌, ap, arith}
 use Rattle.crs_decimal.specs.Value.{Value, IsNormal}
 use Rattle.crs_text.specs.Items.{Item, End, More}

@@ -1,4 +1,4 @@
--- Whether an item is well formed, and whether it is normal, found by computing.
+-- Whether an item is well formed, and whether it is normal, by computing.
 use Rattle.std.proofs.Common.{◌≡◌, ◌≢◌, ℕ, ◌+◌, ◌≤◌, Bool, true, false, List, [], ◌∷◌, ◌++◌, map, Option, Some, None, codes, decimal, if◌then◌else◌, inl, inr, refl, sym, ap, subst}
 use Rattle.std.specs.Cmp.Lexicographic.{slice_cmp}
 use Rattle.std.specs.Ordering.{nat_cmp}
@@ -30,7 +30,7 @@ abbrev put_if : Bool → Item → List Item → List Item
 put_if true x xs = x ∷ xs
 put_if false x xs = xs
 
--- computed at one pass
+-- computed in one pass
 abbrev found : Class → Class → Siblings → List Item
 found parent c End = []
 found parent c (More item items) = put_if (is_a parent c item) item (found parent c items)

@@ -1,6 +1,5 @@
--- Parameters: the item of one reads as it wherever it stands, its unit being of the class that its keyword names, and
--- as
--- sets they have one form.
+-- Parameters: the item of one reads as it wherever it is, with a unit of the class that its keyword
+-- names, and as sets they have one form.
 use Rattle.std.proofs.Common.{◌≡◌, ◌↔◌, ℕ, ◌+◌, Bool, true, false, codes, IfSome, Option, Some, None, List, [], ◌∷◌, refl, sym, ◌∙◌, ap, subst, arith}
 use Rattle.crs_decimal.specs.Value.{Value}
 use Rattle.crs_text.specs.Items.{Item, Siblings, End, More}
@@ -37,7 +36,7 @@ use Rattle.crs_normal.proofs.ReadNameLemmas.{keyword-names}
 abbrev parameter-items : List ℕ → Value → Siblings → Siblings
 parameter-items name value rest = More (text_item name) (More (number_item value) rest)
 
--- what is said of those behind the number holds of all arguments
+-- what is said of those after the number holds of all arguments
 behind-value : (d : Class) → is_class d (Some class.Text) ≡ false → is_class d (Some class.Number) ≡ false →
     (P : List Item → Type 0) →
     (name : List ℕ) (value : Value) (rest : Siblings) → Gives class.Parameter d P rest → Gives class.Parameter d P

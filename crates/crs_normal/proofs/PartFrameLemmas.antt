@@ -35,7 +35,7 @@ by-ellipsoid : (P : Option EllipsoidParts → Type 0) (o : Option EllipsoidParts
 by-ellipsoid P None none some = none refl
 by-ellipsoid P (Some x) none some = some x refl
 
--- ---- what stands of frames in a CRS
+-- ---- what holds of frames in a CRS
 
 abbrev pub GeodeticMade : Type 0
 GeodeticMade = (level : Level) (f : Frame) (place : ℕ) → IsGeodeticFrame f →
@@ -65,7 +65,7 @@ datum-back laws level d s p =
     (λ none. vertical-back laws level (frame.Datum d) (s, none) p)
     (λ x some. geodetic-back laws level (frame.Datum d) (s, some) p)
 
--- each is read where ellipsoids may stand
+-- each is read where ellipsoids may be
 pub datum-in-one : TextLaws → (level : Level) (d : DatumParts) → IsDatum d → (p : ℕ) →
     ReadsDatum class.GeodeticFrame (at_place p (item_own_datum (norm_datum level d))) (norm_datum level d)
 datum-in-one laws level d s p =

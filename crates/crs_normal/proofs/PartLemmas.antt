@@ -1,4 +1,5 @@
--- Values of one kind: from what stands of their one form and its item, what their spellings keep.
+-- Values of one kind: from the laws of their one form and its item, what their spellings have in
+-- common.
 use Rattle.std.proofs.Common.{◌≡◌, ◌↔◌, ◌≤◌, ◌∙◌, ℕ, Some, List, sym, ap, subst, arith}
 use Rattle.crs_text.specs.Items.{Item, IsNode, depth}
 use Rattle.crs_text.specs.Refusal.{RefusedAt}
@@ -56,7 +57,7 @@ pub unbroken-form : {V : Type 0} (level : Level) (c : Class) (Reads : Class → 
 unbroken-form level c Reads form own parent item value shaped normal free reads =
     own parent item value shaped normal reads
 
--- a normal item that is sound is what is written for the value that it says
+-- a normal item that is sound is what is written for the value that is read from it
 abbrev pub IsItsFormSound : {V : Type 0} → Level → Class → (Class → Item → V → Type 0) → (V → Item) → Type 0
 IsItsFormSound {V = V} level c Reads form =
     (item : Item) (value : V) → IsSound c item → IsNormalIn level c c item → Reads c item value → unplaced item ≡ form value
@@ -66,7 +67,7 @@ pub sound-form : {V : Type 0} (level : Level) (c : Class) (Reads : Class → Ite
 sound-form level c Reads form own item value sound normal reads =
     own c item value sound.shaped normal sound.unbroken reads
 
--- what stands of the values of one kind
+-- what holds of the values of one kind
 pub record IsKnownBy {V : Type 0} (c : V → Class) (N : V → Item → Type 0) (Reads : Class → Item → V → Type 0) (Is : V → Type 0) (Same : V → V → Type 0) (form : V → V) (item : V → Item) : Type 0 where
   pub decides : FormDecides Is form Same
   pub made : (x : V) → Is x → IsStanding (c x) (N x) (at_place 0 (item (form x)))
@@ -75,7 +76,7 @@ pub record IsKnownBy {V : Type 0} (c : V → Class) (N : V → Item → Type 0) 
   pub sound : (x : V) → Is x → IsReadAs Reads Is (c x)
   pub own : (x : V) → Is x → (i : Item) (v : V) → IsSound (c x) i → N x i → Reads (c x) i v → unplaced i ≡ item (form v)
 
--- the text of an item, of which the place doesn't count
+-- the text of an item, which doesn't depend on the place
 writable-at : (c : Class) (N : Item → Type 0) (i : Item) → IsStanding c N (at_place 0 i) → IsWritable (at_place 0 i)
 writable-at c N i m =
     let w : depth (at_place 0 i) ≤ 8 = m.within in

@@ -1,5 +1,5 @@
--- The end of a normal CRS: its arguments stand by rank, so that they are the geoid models, the usages, the identifiers
--- and the remark, one sort after the other.
+-- The end of a normal CRS: its arguments are in order of rank, so that they are the geoid models,
+-- the usages, the identifiers and the remark, one sort after the other.
 use Rattle.std.proofs.Common.{◌≡◌, ℕ, ◌≤◌, ◌||◌, Bool, true, false, inl, inr, ◌⊎◌, Option, Some, None, List, [], ◌∷◌, ◌++◌, if◌then◌else◌, refl, sym, ◌∙◌, ap, subst, arith}
 use denote.Enum.Bare.{sameb}
 use Rattle.crs_text.specs.Items.{Item, Siblings, End, More}
@@ -14,7 +14,7 @@ use Rattle.crs_normal.specs.NormalOwn.{Rise, rank}
 use Rattle.crs_value.specs.Sound.{Each}
 use Rattle.crs_normal.proofs.ViewLemmas.{InSlot, onto, same_class}
 
--- ---- ranks rise behind the first arguments too
+-- ---- ranks rise after the first arguments too
 
 pub rise-behind : (c : Class) (least : ℕ) (front : List Item) (rest : Siblings) → Rise c least (onto front rest) →
     (m : ℕ) × Rise c m rest

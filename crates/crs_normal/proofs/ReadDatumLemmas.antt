@@ -20,7 +20,7 @@ use Rattle.crs_normal.proofs.ReadFrameLemmas.{datum-read, ensemble-read}
 use Rattle.crs_normal.proofs.ReadWalkLemmas.{AllPass, IsIn, MayIn, Passes, ReadsBack, Segment, first-field, lacking, lay, pass-item, past, some-all}
 use Rattle.crs_normal.proofs.ReadNameLemmas.{keyword-names}
 
--- the frame is read from its item by the node that stands there
+-- the frame is read from its item by the node that is there
 abbrev pub FrameBack : Class → Class → List ℕ → Frame → Type 0
 FrameBack d e keyword (frame.Datum x) = ReadsBack (item_datum keyword) (ReadsDatum d) x
 FrameBack d e keyword (frame.Ensemble x) = ReadsBack item_ensemble (ReadsEnsemble e) x

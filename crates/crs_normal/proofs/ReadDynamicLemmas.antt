@@ -83,7 +83,7 @@ module _ (c : Class) (names : class_named c (codes "DYNAMIC") ≡ Some class.Dyn
   abbrev pub dynamic-segment : Segment c
   dynamic-segment = opt-segment c class.Dynamic item_dynamic dynamic-parts dynamic-in
 
-  -- whatever the frame is beside which it stands
+  -- whatever the frame beside it is
   pub dynamic-field : TextLaws → (f : Frame) → IsDynamicOf o f → (before after : List (Segment c)) →
       AllPass c class.Dynamic before → AllPass c class.Dynamic after →
       Gives c class.Dynamic (λ l. ReadsOptional (ReadsDynamic class.Dynamic) l dynamic-parts)

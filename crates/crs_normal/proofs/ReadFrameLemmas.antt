@@ -194,7 +194,7 @@ members-back level ms s =
     (ReadsBack item_member (ReadsMember class.Member))
     (λ m q. member-read (norm_member level m) (member-kept level m q)) ms s
 
--- in a class of reference frames, where the ellipsoid stands if there is one
+-- in a class of reference frames, where the ellipsoid is, if there is one
 module _ (laws : TextLaws) (c : Class) (keyword : List ℕ) (names : NamesId c) (anchors : class_named c (codes "ANCHOR") ≡ Some class.Anchor) (epochs : class_named c (codes "ANCHOREPOCH") ≡ Some class.AnchorEpoch) (level : Level) (d : DatumParts) (s : IsDatum d) (on : MayIn c class.Ellipsoid item_ellipsoid (option_map (norm_ellipsoid level) d.ellipsoid)) where
   abbrev datum-ellipsoid : Option EllipsoidParts
   datum-ellipsoid = option_map (norm_ellipsoid level) d.ellipsoid

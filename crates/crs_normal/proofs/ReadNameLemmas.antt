@@ -1,4 +1,4 @@
--- The class that a keyword names among the arguments of another, as it is found by computing.
+-- The class that a keyword names among the arguments of another, by computing.
 use Rattle.std.proofs.Common.{◌≡◌, ◌∙◌, ℕ, List, [], ◌∷◌, Option, Some, None, if◌then◌else◌, refl, ap}
 use Rattle.crs_shape.specs.declared.class.Class.{Class}
 use Rattle.crs_shape.specs.Keywords.{first_named, is_keyword, is_one_of, keywords_of}

@@ -13,7 +13,7 @@ use Rattle.crs_normal.specs.SpelledItems.{each, opt}
 use Rattle.crs_normal.proofs.ItemLemmas.{Gives, Lacks, gives-first}
 use Rattle.crs_normal.proofs.SetLemmas.{each-in_order}
 
--- the value is read from its item, wherever that stands
+-- the value is read from its item, wherever that is
 abbrev pub ReadsBack : {V : Type 0} → (V → Item) → (Item → V → Type 0) → V → Type 0
 ReadsBack spell R x = (place : ℕ) → R (at_place place (spell x)) x
 
@@ -116,7 +116,7 @@ module _ (c : Class) where
     passes = λ d n. pass-each d k spell xs e n;
   }
 
-  -- segments one behind the other
+  -- segments one after the other
   abbrev pub lay : List Segment → Siblings → Siblings
   lay [] rest = rest
   lay (s ∷ ss) rest = s.onto (lay ss rest)

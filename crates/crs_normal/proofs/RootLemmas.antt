@@ -1,4 +1,4 @@
--- By which keyword a CRS is written, and which class that names at the head of a text.
+-- By which keyword a CRS is written, and which class that names at the root of a text.
 use Rattle.std.proofs.Common.{◌≡◌, ℕ, Some, refl}
 use Rattle.crs_text.specs.Written.{at_place}
 use Rattle.crs_shape.specs.Keywords.{is_keyword, root_named}

@@ -1,4 +1,5 @@
--- Lists in ascending order of their bytes: their members, and that they are one list where their members are the same.
+-- Lists in ascending order of their bytes: their members; they are one list where their members are
+-- the same.
 use Rattle.std.proofs.Common.{◌≡◌, ◌↔◌, ◌⊎◌, ℕ, List, [], ◌∷◌, map, inl, inr, ⊎_elim, Ordering, Less, Equal, Greater, refl, sym, ◌∙◌, ap, subst, arith}
 use Rattle.std.specs.Cmp.Lexicographic.{slice_cmp}
 use Rattle.std.specs.Ordering.{nat_cmp, match_ordering, ordering_reverse, ordering_index}
@@ -30,7 +31,7 @@ by-order P a b c Less f g h = f refl
 by-order P a b c Equal f g h = g refl
 by-order P a b c Greater f g h = h refl
 
--- the bytes of the one are below those of the other
+-- the bytes of one are below those of the other
 abbrev pub IsBelow : {A : Type 0} → (A → List ℕ) → A → A → Type 0
 IsBelow bytes x y = Below (bytes x) (bytes y)
 

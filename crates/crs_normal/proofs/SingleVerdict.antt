@@ -1,4 +1,4 @@
--- Whether a single item is well formed, and whether it is normal where it stands, found by computing.
+-- Whether a single item is well formed, and whether it is normal where it is, by computing.
 use Rattle.std.proofs.Common.{◌≡◌, ℕ, zero, suc, ◌+◌, ◌-◌, ◌==◌, Bool, true, false, List, [], ◌∷◌, ◌++◌, length, take, fold, ℤ, pos, negsuc, Option, Some, None, codes, if◌then◌else◌, inl, inr, refl, sym, ap, subst, ◌∙◌, arith}
 use Rattle.std.specs.Prelude.{encode_utf8_all}
 use Rattle.std.specs.List.{list_all}
@@ -105,7 +105,7 @@ pub record NumberLaws : Type 0 where
   pub decimals : DecimalLaws
   pub one_form : (bytes : List ℕ) (p q : Parts) → SpellsNumber bytes p → SpellsNumber bytes q → p ≡ q
 
--- how many zeros stand at the end
+-- how many zeros there are at the end
 abbrev zeros : List ℕ → ℕ
 zeros ds = fold (λ n d. if d == 48 then n + 1 else 0) 0 ds
 

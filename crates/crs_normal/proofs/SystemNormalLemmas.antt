@@ -1,4 +1,4 @@
--- A normal coordinate system is the one form of its value: its axes stand by position.
+-- A normal coordinate system is the one form of its value: its axes are in order of position.
 use Rattle.std.proofs.Common.{◌≡◌, ℕ, suc, ◌+◌, ◌^◌, ◌≤◌, ◌<◌, length, true, false, Some, List, [], ◌∷◌, ◌++◌, if◌then◌else◌, decimal, refl, sym, ◌∙◌, ap, subst, arith, append_assoc, length-append}
 use Rattle.std.specs.Str.{bytes_eq}
 use Rattle.std.proofs.lemmas.Fmt.{decimal_injective}
@@ -85,7 +85,7 @@ not-here k j place axis n less within =
     apart : j ≡ k → ⊥
     apart e = omega arith
 
--- the axis behind those of the lower orders
+-- the axis after those of the lower orders
 axis-behind : (k j place : ℕ) (before : List AxisParts) (axis : AxisParts) (behind : List AxisParts) →
     AllNumbered j before → j + length before ≡ k → k < limit →
     IsNumbered k axis → axis_at k place (before ++ axis ∷ behind) ≡ Some axis

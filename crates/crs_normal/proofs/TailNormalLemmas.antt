@@ -85,7 +85,7 @@ sorted-of c k front s =
         (onto (s.models ++ (s.usages ++ (s.identifiers ++ s.remarks))) End)
     at d = ap (λ xs. those c d (onto xs End)) s.are
 
--- ---- no part of a usage stands bare
+-- ---- no part of a usage is bare
 
 some-other : {V : Type 0} {value : Option V} → value ≡ None → ¬ (IsSome value)
 some-other e some = cc

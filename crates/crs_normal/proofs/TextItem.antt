@@ -5,25 +5,25 @@ use Rattle.crs_text.specs.Items.{Item, leaf, Siblings, End, More}
 use Rattle.crs_text.specs.Tokens.{number, text, word}
 use Rattle.crs_normal.specs.SpelledItems.{node_from}
 
--- a node that is open: its keyword, and what stands before it in the node around it, the last first
+-- a node that is open: its keyword, and what comes before it in the node around it, the last first
 record Open : Type 0 where
   pub keyword : List ℕ
   pub before : List Item
 
--- what was read so far: whether the place is within quotes, the bytes of a single item, the arguments of the node that
--- is open, each with the last first, and the open nodes
+-- what was read so far: whether the place is within quotes, the bytes of a single item, the
+-- arguments of the open node, each with the last first, and the open nodes
 record Reader : Type 0 where
   pub quoted : Bool
   pub bytes : List ℕ
   pub arguments : List Item
   pub open_nodes : List Open
 
--- items of which the last stands first, before others
+-- items with the last first, before others
 abbrev siblings : List Item → Siblings → Siblings
 siblings [] rest = rest
 siblings (item ∷ items) rest = siblings items (More item rest)
 
--- the single item that bytes are, the first of which tells
+-- the single item that bytes are, by the first of them
 abbrev single : List ℕ → Item
 single [] = leaf word 0 []
 single (b ∷ bs) = leaf (if is_run_start b then number else word) 0 (b ∷ bs)
@@ -37,12 +37,12 @@ abbrev reader : Bool → List ℕ → List Item → List Open → Reader
 reader quoted bytes arguments open_nodes =
     record { quoted = quoted; bytes = bytes; arguments = arguments; open_nodes = open_nodes }
 
--- behind a closing delimiter the node is the last argument of the one around it
+-- after a closing delimiter the node is the last argument of the one around it
 abbrev closed : List Item → List Open → Reader
 closed items [] = reader false [] items []
 closed items (o ∷ os) = reader false [] (node_from o.keyword (siblings items End) ∷ o.before) os
 
--- behind a quote, within quotes or outside
+-- after a quote, within quotes or outside
 abbrev quote : Bool → Reader → Reader
 quote true r = reader false [] (leaf text 0 (reverse r.bytes) ∷ r.arguments) r.open_nodes
 quote false r = reader true [] r.arguments r.open_nodes
@@ -50,7 +50,8 @@ quote false r = reader true [] r.arguments r.open_nodes
 abbrev opened : Reader → Open
 opened r = record { keyword = reverse r.bytes; before = r.arguments }
 
--- behind a byte outside quotes: an opening delimiter, a comma, a closing one, or a byte of a single item
+-- after a byte outside quotes: an opening delimiter, a comma, a closing one, or a byte of a single
+-- item
 abbrev outside : Reader → ℕ → Reader
 outside r b =
     if b == 91 then reader false [] [] (opened r ∷ r.open_nodes)

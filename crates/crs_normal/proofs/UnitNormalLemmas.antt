@@ -55,7 +55,7 @@ idents-spelled level c items front k e up =
 
 -- ---- units
 
--- a keyword of the class is a kind's word, and that kind stays as it is where this one is asked
+-- a keyword of the class is a kind's word, and that kind is unchanged where this one is asked
 abbrev pub KindIn : UnitKind → Class → Type 0
 KindIn asked d = (keyword : List ℕ) → IsFirstKeyword d keyword →
     (k : UnitKind) × ((keyword ≡ unit_word k) × (kind_as asked k ≡ k))

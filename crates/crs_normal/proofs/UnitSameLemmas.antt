@@ -24,7 +24,7 @@ some-one a b e = cc
 pub none-formed : (level : Level) → set_idents level [] ≡ []
 none-formed level = none-form level [] (kept-none level)
 
--- one that is missing has the form of what it stands for
+-- one that is missing has the form of its default
 pub length-formed : (level : Level) (unit : Option UnitParts) → norm_length level unit ≡ norm_unit level kinds.Length (or_metre unit)
 length-formed level None = λ i. record {
   kind = kinds.Length;

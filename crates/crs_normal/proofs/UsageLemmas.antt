@@ -1,4 +1,4 @@
--- Usages: the item of one reads as it wherever it stands, and as sets they have one form.
+-- Usages: the item of one reads as it wherever it is, and as sets they have one form.
 use Rattle.std.proofs.Common.{◌≡◌, ◌↔◌, ◌⊎◌, ℕ, suc, ◌+◌, Bool, true, false, true≢false, codes, IfSome, IsSome, Option, Some, None, option_map, List, [], inl, inr, length, refl, sym, ◌∙◌, ap, subst, arith}
 use Rattle.crs_text.specs.Items.{Item, Siblings, End, More, IsNode, arguments}
 use Rattle.crs_text.specs.Tokens.{IsWord}
@@ -36,7 +36,7 @@ pub record IsWrittenUsage (u : UsageParts) : Type 0 where
   pub extent : IfSome u.extent IsWrittenExtent
   pub some : SaysSome u
 
--- ---- the parts, one behind the other
+-- ---- the parts, one after the other
 
 abbrev from-extent : UsageParts → Siblings
 from-extent u = opt item_extent u.extent End

@@ -13,7 +13,7 @@ use Rattle.crs_value.specs.Reading.{is_a, those}
 use Rattle.crs_normal.specs.Unplaced.{unplaced, all_unplaced}
 use Rattle.crs_value.specs.Sound.{Each}
 
--- these items, and others behind them
+-- these items, and others after them
 abbrev pub onto : List Item → Siblings → Siblings
 onto [] rest = rest
 onto (item ∷ items) rest = More item (onto items rest)
@@ -45,7 +45,7 @@ View c [] items = items ≡ End
 View c (slot ∷ slots) items =
     (front : List Item) × ((rest : Siblings) × (Front c slot front × ((items ≡ onto front rest) × View c slots rest)))
 
--- the items of a run of classes, and those behind
+-- the items of a run of classes, and those after it
 record Run (c : Class) (slot : SlotParts) (run after : List Class) (items : Siblings) : Type 0 where
   front : List Item
   rest : Siblings
@@ -213,7 +213,7 @@ those-chosen c d slot (k ∷ []) front e h f =
     all-those c d front (each-so (InSlot c slot) (λ i. is_a c d i ≡ true) (of-one c d k slot e h) front f.inside)
 those-chosen c d slot (k ∷ l ∷ ls) front e h f = refl
 
--- what stands in a slot that doesn't take the class is none of those
+-- what is in a slot that doesn't take the class is none of those
 those-picked : (c d : Class) (slot : SlotParts) (front : List Item) (rest : Siblings) → Front c slot front →
     those c d (onto front rest) ≡ picked c d slot front (those c d rest)
 those-picked c d slot front rest f =

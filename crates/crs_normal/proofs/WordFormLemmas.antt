@@ -1,5 +1,5 @@
--- No two kinds of unit, directions or types have one word, letter case aside; so a word in its own letters is told by
--- its value.
+-- No two kinds of unit, directions or types have one word, letter case aside; so a word in its own
+-- letters has one value.
 use Rattle.std.proofs.Common.{◌≡◌, ℕ, List, [], ◌∷◌, Option, Some, find, refl, sym, ap, ◌∙◌}
 use Rattle.std.specs.Str.{bytes_eq, str_to_ascii_lowercase}
 use Rattle.crs_value.specs.Words.{SpellsWord, direction_word, system_word, unit_word}

@@ -1,4 +1,4 @@
--- Lists in ascending order of their bytes, each bytes once.
+-- Lists in ascending order of their bytes, no bytes twice.
 use Rattle.std.specs.Prelude.{◌≡◌, ◌⊎◌, ℕ, List, [], ◌∷◌}
 use Rattle.std.specs.Cmp.Lexicographic.{slice_cmp}
 use Rattle.std.specs.Ordering.{nat_cmp}
@@ -10,11 +10,11 @@ abbrev pub IsIn : {A : Type 0} → A → List A → Type 0
 IsIn x [] = ⊥
 IsIn x (y ∷ ys) = (x ≡ y) ⊎ IsIn x ys
 
--- the one bytes are below the others
+-- the first bytes are below the second, compared byte by byte
 abbrev pub Below : List ℕ → List ℕ → Type 0
 Below a b = slice_cmp nat_cmp a b ≡ Less
 
--- each is below all behind it
+-- each member is below all after it
 abbrev pub Ascends : {A : Type 0} → (A → List ℕ) → List A → Type 0
 Ascends bytes [] = Unit {0}
 Ascends bytes (x ∷ xs) = Each (λ y. Below (bytes x) (bytes y)) xs × Ascends bytes xs

@@ -1,9 +1,8 @@
--- What the spellings of one kind of values keep.
+-- What the spellings of one kind of values have in common.
 use Rattle.std.specs.Prelude.{◌≡◌, ◌↔◌, ℕ, List}
 use Rattle.crs_normal.specs.Closed.{IsClosed}
 
--- values that are spelled so have one spelling each, which tells by its bytes which of them are the
--- same
+-- each value has one spelling, and two spellings are equal exactly where the values are the same
 pub record IsCanonicalForm {V : Type 0} (IsValue : V → Type 0) (Same : V → V → Type 0)
     (IsSpelling : V → List ℕ → Type 0) : Type 0 where
   -- each value has a spelling

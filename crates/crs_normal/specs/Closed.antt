@@ -3,7 +3,7 @@ use Rattle.std.specs.Prelude.{◌≡◌, ◌≢◌, ◌≤◌, ℕ, suc, ◌==�
 use Rattle.std.specs.Prelude.{List, [], ◌∷◌, ◌++◌, if◌then◌else◌}
 use Rattle.crs_text.specs.Tokens.{IsWord}
 
--- how often a byte stands outside quotes, in bytes that begin within quotes or not
+-- how often a byte occurs outside quotes, in bytes that begin within quotes or not
 abbrev pub unquoted : ℕ → Bool → List ℕ → ℕ
 unquoted byte quoted [] = 0
 unquoted byte quoted (b ∷ bytes) =
@@ -11,11 +11,11 @@ unquoted byte quoted (b ∷ bytes) =
     else (if quoted then unquoted byte true bytes
     else (if b == byte then suc (unquoted byte false bytes) else unquoted byte false bytes))
 
--- how many `[` stand outside quotes
+-- how many `[` there are outside quotes
 abbrev pub opening_count : List ℕ → ℕ
 opening_count bytes = unquoted 91 false bytes
 
--- how many `]` stand outside quotes
+-- how many `]` there are outside quotes
 abbrev pub closing_count : List ℕ → ℕ
 closing_count bytes = unquoted 93 false bytes
 

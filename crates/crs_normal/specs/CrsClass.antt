@@ -1,4 +1,4 @@
--- The class of a CRS's node: by which keyword a CRS is written.
+-- The class of a CRS's node, by whose keyword a CRS is written.
 use Rattle.crs_shape.specs.declared.class.Class.{Class}
 use Rattle.crs_shape.specs.declared.class.Class.TheVariants as class
 use Rattle.crs_value.specs.declared.values.crs.Crs.{Crs}
@@ -13,7 +13,7 @@ geodetic_class types.Cartesian = class.GeodeticCrs
 geodetic_class types.Spherical = class.GeodeticCrs
 geodetic_class types.Vertical = class.GeodeticCrs
 
--- a CRS is written as one of its kind
+-- a CRS is written as a node of its kind
 abbrev pub crs_class : Crs → Class
 crs_class (crs.Geodetic g) = geodetic_class g.system.system_type
 crs_class (crs.Projected p) = class.ProjectedCrs

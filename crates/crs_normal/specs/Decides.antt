@@ -1,5 +1,5 @@
--- A bridge: that one form decides sameness: two values have the same form exactly where they are
--- the same.
+-- A bridge: one form decides sameness: two values have the same form exactly where they are the
+-- same.
 use Rattle.std.specs.Prelude.{◌≡◌, ◌↔◌, ◌<◌, ◌^◌, length, Option, IfSome}
 use Rattle.crs_value.specs.Sound.{Each, IsIdent}
 use Rattle.crs_value.specs.SoundConversion.{IsGeoidModel, IsParameter}

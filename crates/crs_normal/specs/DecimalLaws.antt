@@ -1,4 +1,4 @@
--- A bridge: the laws of decimals that the laws of made items stand on, as one record.
+-- A bridge: the laws of decimals that the laws of made items need, as one record.
 use Rattle.std.specs.Prelude.{◌≡◌, ◌↔◌, ℕ, ◌<◌, ◌≤◌, List, length}
 use Rattle.crs_decimal.specs.Bounds.{Denotes, IsInBounds}
 use Rattle.crs_decimal.specs.Number.{Number, SameNumber}

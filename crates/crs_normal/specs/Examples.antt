@@ -133,7 +133,7 @@ AreNormal =
 abbrev pub name_alone : List ℕ
 name_alone = codes "VERTCRS[\"H\"]"
 
--- it is normal, and spells no CRS, for normal is what is asked beyond acceptance
+-- it is normal, and spells no CRS: acceptance is another condition
 abbrev pub NameAloneIsNormal : Type 0
 NameAloneIsNormal = IsNormalAtFull name_alone × ((crs : Crs) → ¬ (Spells name_alone crs))
 
@@ -190,7 +190,8 @@ with_remark =
     codes "VERTCRS[\"H\",VDATUM[\"D\"],CS[vertical,1],"
     ++ codes "AXIS[\"h\",up,ORDER[1],LENGTHUNIT[\"metre\",1]],REMARK[\"r\"]]"
 
--- these are normal where everything counts alone: what stands at the end, and identifiers anywhere
+-- these are normal where everything counts, and not by definition: what is at the end, and
+-- identifiers anywhere
 abbrev pub AreNormalAtFullAlone : Type 0
 AreNormalAtFullAlone =
     SaysMore unit_with_identifier
@@ -219,7 +220,7 @@ unit_of_no_kind =
     codes "VERTCRS[\"H\",VDATUM[\"D\"],CS[vertical,1],"
     ++ codes "AXIS[\"h\",up,ORDER[1],UNIT[\"metre\",1]]]"
 
--- a unit behind the axes
+-- a unit after the axes
 abbrev pub shared_unit : List ℕ
 shared_unit =
     codes "VERTCRS[\"H\",VDATUM[\"D\"],CS[vertical,1],"

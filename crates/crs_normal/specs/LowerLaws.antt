@@ -1,5 +1,5 @@
--- A bridge: what is taken from the lower crates: laws of numbers, of their spellings, and of the
--- axes of coordinate systems.
+-- A bridge: what the lower crates provide: laws of numbers, of their spellings, and of the axes of
+-- coordinate systems.
 use Rattle.std.specs.Prelude.{◌≡◌, ◌↔◌, ◌<◌, ◌≤◌, ℕ, ⊤, List, length}
 use Rattle.crs_decimal.specs.Bounds.{IsInBounds, Denotes}
 use Rattle.crs_decimal.specs.Number.{Number, SameNumber}

@@ -1,4 +1,4 @@
--- A bridge: what is shown of a made item: it is accepted and normal as one of its class.
+-- A bridge: what is shown of an item that was made: it is accepted and normal as one of its class.
 use Rattle.std.specs.Prelude.{◌≡◌, ◌⊎◌, ℕ, ◌≤◌}
 use Rattle.crs_text.specs.Items.{Item, depth, IsNode}
 use Rattle.crs_text.specs.Written.{AreFormed}
@@ -14,7 +14,7 @@ use Rattle.crs_value.specs.declared.values.unit_kind.UnitKind.{UnitKind}
 use Rattle.crs_value.specs.declared.values.unit_kind.UnitKind.TheVariants as kinds
 use Rattle.crs_normal.specs.Normal.{IsNormalIn}
 
--- the item has no fault of shape, breaks no check and is normal, in whichever node it stands
+-- the item has no fault of shape, breaks no check and is normal, in whichever node it is
 pub record IsMade (level : Level) (c : Class) (most : ℕ) (item : Item) : Type 0 where
   pub is_node : IsNode item
   pub formed : AreFormed item
@@ -23,7 +23,7 @@ pub record IsMade (level : Level) (c : Class) (most : ℕ) (item : Item) : Type 
   pub unbroken : (fault : RefusedAt) → ¬ (Breaks c item fault)
   pub normal : (parent : Class) → IsNormalIn level parent c item
 
--- a unit of this kind stands as one of this class
+-- a unit of this kind may be one of this class
 abbrev pub IsKindIn : Class → UnitKind → Type 0
 IsKindIn class.LengthUnit kind = kind ≡ kinds.Length
 IsKindIn class.AngleUnit kind = kind ≡ kinds.Angle

@@ -1,5 +1,5 @@
 -- Normal texts: the one spelling of a CRS, as a property of a text. It says what is asked beyond
--- acceptance; which arguments a node has and in which order they stand is the shape's.
+-- acceptance; which arguments a node has and in which order is the shape's.
 use Rattle.std.specs.Prelude.{◌≡◌, ◌⊎◌, ℕ, Some, List, [], ◌∷◌, codes}
 use Rattle.crs_decimal.specs.Plain.{IsPlain}
 use Rattle.crs_text.specs.declared.keyword.Keyword.{Keyword}
@@ -38,13 +38,14 @@ abbrev pub IsNumberIn : Class → List ℕ → Type 0
 IsNumberIn class.Identifier raw = Unit {0}
 IsNumberIn c raw = IsPlain raw
 
--- a type of coordinate system or a direction in a node of this class is in its own letters
+-- a type of coordinate system or a direction in a node of this class has its own letters, capitals
+-- and small ones
 abbrev pub IsWordIn : Class → List ℕ → Type 0
 IsWordIn class.CoordinateSystem raw = (system_type : SystemType) × (raw ≡ system_word system_type)
 IsWordIn class.Axis raw = (direction : Direction) × (raw ≡ direction_word direction)
 IsWordIn c raw = Unit {0}
 
--- a number, text or word stands so in a node of this class
+-- a number, text or word is written as a node of this class asks
 abbrev pub IsSingleIn : Class → Kind → List ℕ → Type 0
 IsSingleIn parent number raw = IsNumberIn parent raw
 IsSingleIn parent text raw = Unit {0}
@@ -63,8 +64,7 @@ abbrev pub AtLevel : Level → Class → Item → Type 0
 AtLevel level c item = KeepsAll level c (arguments item)
 
 -- a node of class `c` with this keyword has the first keyword of its class, nothing that the level
--- leaves out, what its class asks by itself, ascending sets, and arguments that are normal in this
--- sense
+-- leaves out, what its class asks of it, ascending sets, and normal arguments, in this sense
 pub record IsNormalNode (level : Level) (c : Class) (keyword : List ℕ) (item : Item)
     (AreNormal : Type 0) : Type 0 where
   pub first_keyword : IsFirstKeyword c keyword
@@ -89,7 +89,7 @@ abbrev mutual
       AtClass (class_in c item) (λ d. IsNormalIn level c d item) × AreNormalIn level c items
 
 -- a text that is its item written without white space and in square delimiters, and normal within;
--- that it is accepted, which `VERTCRS["H"]` isn't, is asked beside it
+-- that it is accepted, as `VERTCRS["H"]` isn't, is another condition
 pub record IsNormalText (level : Level) (bytes : List ℕ) : Type 0 where
   pub item : Item
   pub class_read : Class

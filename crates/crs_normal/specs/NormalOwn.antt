@@ -15,13 +15,13 @@ use Rattle.crs_value.specs.Reads.{single_of}
 use Rattle.crs_value.specs.Sound.{Each}
 use Rattle.crs_normal.specs.Ascending.{Ascends}
 
--- ---- what stands in a node, and what doesn't
+-- ---- what a node has, and what it lacks
 
--- an argument of class `d` stands in the node, which is of class `c`
+-- the node, of class `c`, has an argument of class `d`
 abbrev pub Has : Class → Class → Item → Type 0
 Has c d item = those c d (arguments item) ≢ []
 
--- no argument of class `d` stands in the node, which is of class `c`
+-- the node, of class `c`, has no argument of class `d`
 abbrev pub Lacks : Class → Class → Item → Type 0
 Lacks c d item = those c d (arguments item) ≡ []
 
@@ -35,7 +35,7 @@ words_in c item = map raw_of (those c class.Word (arguments item))
 
 -- ---- sets: identifiers, usages, members of an ensemble, parameters, geoid models
 
--- each is written before all behind it, by their bytes
+-- each is below all after it, by the bytes that they are written with
 abbrev pub Ascend : List Item → Type 0
 Ascend items = Ascends item_text items
 
@@ -61,18 +61,17 @@ abbrev pub AreOrdered : ℕ → List Item → Type 0
 AreOrdered k [] = Unit {0}
 AreOrdered k (axis ∷ axes) = HasOneOrder k axis × AreOrdered (k + 1) axes
 
--- the axes stand in the order of their positions, each has its own unit, and the node, of class
--- `c`, has none that they share
+-- the axes are in the order of their positions, each has its own unit, and the node, of class `c`,
+-- has none that they share
 pub record HasAxes (c : Class) (item : Item) : Type 0 where
   pub ordered : AreOrdered 1 (those c class.Axis (arguments item))
   pub own_units : Each (Has class.Axis class.AxisUnit) (those c class.Axis (arguments item))
   pub none_shared : Lacks c class.AxisUnit item
 
--- ---- the order of what may stand in any: at a CRS's end geoid models, usages, identifiers, a
--- remark, and no part of a usage stands bare; in a reference frame the anchor, its epoch,
--- identifiers
+-- ---- the order of what may come in any: at a CRS's end geoid models, usages, identifiers, a
+-- remark, and no part of a usage is bare; in a reference frame the anchor, its epoch, identifiers
 
--- where an argument of this class stands among those, what stands before them at 0
+-- the rank of an argument of this class among those, 0 for what comes before them
 abbrev pub rank : Class → ℕ
 rank class.GeoidModel = 1
 rank class.Anchor = 1
@@ -92,12 +91,12 @@ Rise c least (More item items) =
 abbrev pub bare_classes : List Class
 bare_classes = class.Scope ∷ class.Area ∷ class.BoundingBox ∷ class.VerticalExtent ∷ []
 
--- what ends the node, of class `c`, stands in order, and no part of a usage stands bare there
+-- what ends the node, of class `c`, is in order, and no part of a usage is bare there
 pub record HasTail (c : Class) (item : Item) : Type 0 where
   pub in_order : Rise c 0 (arguments item)
   pub none_bare : Each (λ d. Lacks c d item) bare_classes
 
--- ---- codes: 1 to 18 digits stand without quotes, everything else in quotes
+-- ---- codes: 1 to 18 digits are without quotes, everything else is in quotes
 
 -- 1 to 18 digits
 pub record IsShort (raw : List ℕ) : Type 0 where
@@ -130,8 +129,8 @@ LacksEllipsoidal c item =
     Each (λ cs. words_in class.CoordinateSystem cs ≢ codes "ellipsoidal" ∷ [])
     (those c class.CoordinateSystem (arguments item))
 
--- what is asked of a node of this class by itself: what has a usual value is written all the same,
--- and the arguments that may stand in several orders stand in one
+-- what is asked of a node of this class by itself: a value that is usual is written all the same,
+-- and arguments that may come in several orders come in one
 abbrev pub HasOwnForm : Class → Item → Type 0
 HasOwnForm class.GeodeticCrs item =
     LacksEllipsoidal class.GeodeticCrs item × Has class.GeodeticCrs class.PrimeMeridian item

@@ -10,8 +10,8 @@ use Rattle.crs_value.specs.declared.values.level.Level.{Level}
 use Rattle.crs_normal.specs.Unplaced.{unplaced}
 use Rattle.crs_normal.specs.Normal.{IsNormalIn}
 
--- a normal item of this class, in a node of any class, is what is written for the value that it
--- says
+-- a normal item of this class, in a node of any class, is what is written for the value that is
+-- read from it
 abbrev pub IsItsForm : {V : Type 0} → Level → Class → (Class → Item → V → Type 0) → (V → Item) →
     Type 0
 IsItsForm {V = V} level c Reads form =
@@ -19,7 +19,7 @@ IsItsForm {V = V} level c Reads form =
     Reads c item value →
     unplaced item ≡ form value
 
--- likewise of an item that breaks no check
+-- the same of an item that breaks no check
 abbrev pub IsItsFormUnbroken : {V : Type 0} → Level → Class → (Class → Item → V → Type 0) →
     (V → Item) → Type 0
 IsItsFormUnbroken {V = V} level c Reads form =

@@ -1,16 +1,16 @@
--- A bridge: lists in ascending order of their bytes, each bytes once.
+-- A bridge: lists in ascending order of their bytes, no bytes twice.
 use Rattle.std.specs.Prelude.{ℕ, List, [], ◌∷◌}
 use Rattle.std.specs.Cmp.Lexicographic.{slice_cmp}
 use Rattle.std.specs.Ordering.{nat_cmp, match_ordering}
 
--- one more member, where none has its bytes
+-- one more member, unless one has its bytes
 abbrev pub put : {A : Type 0} → (A → List ℕ) → A → List A → List A
 put bytes x [] = x ∷ []
 put bytes x (y ∷ ys) =
     match_ordering (slice_cmp nat_cmp (bytes x) (bytes y)) (x ∷ y ∷ ys) (y ∷ ys)
     (y ∷ put bytes x ys)
 
--- these members put among those that are in order, one by one from the first
+-- these members put among those that are in order, one after another
 abbrev pub put_all : {A : Type 0} → (A → List ℕ) → List A → List A → List A
 put_all bytes sorted [] = sorted
 put_all bytes sorted (x ∷ xs) = put_all bytes (put bytes x sorted) xs

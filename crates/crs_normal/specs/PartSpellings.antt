@@ -1,4 +1,4 @@
--- Which bytes are the one spelling of a node that stands by itself.
+-- Which bytes are the one spelling of a node by itself, outside a CRS.
 use Rattle.std.specs.Prelude.{ℕ, List, Option, Some, None}
 use Rattle.crs_shape.specs.declared.class.Class.{Class}
 use Rattle.crs_shape.specs.declared.class.Class.TheVariants as class

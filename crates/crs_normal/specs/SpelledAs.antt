@@ -1,4 +1,4 @@
--- Spellings: which bytes are the one spelling of a value that stands by itself.
+-- Spellings: which bytes are the one spelling of a value by itself.
 use Rattle.std.specs.Prelude.{◌≡◌, ℕ, List}
 use Rattle.crs_text.specs.Items.{Item}
 use Rattle.crs_text.specs.Refusal.{RefusedAt}
@@ -11,8 +11,8 @@ use Rattle.crs_value.specs.declared.values.level.Level.{Level}
 use Rattle.crs_normal.specs.Normal.{IsNormalIn}
 
 -- the bytes are a node of this class, written without white space and in square delimiters; it has
--- the shape of its class, breaks no check and is normal in this sense, and says a value that is the
--- same
+-- the shape of its class, breaks no check and is normal in this sense, and a value that is the same
+-- is read from it
 pub record IsSpelledBy {V : Type 0} (c : Class) (IsNormal : Item → Type 0)
     (Reads : Class → Item → V → Type 0) (Same : V → V → Type 0) (value : V) (bytes : List ℕ) : Type 0 where
   pub item : Item

@@ -1,5 +1,5 @@
--- A bridge: the pieces of which canonical items are made. All places are 0; a written text shows
--- none.
+-- A bridge: the pieces of which canonical items are made. All places are 0, since a written text
+-- doesn't depend on them.
 use Rattle.std.specs.Prelude.{ℕ, true, ◌&&◌, nat_le, Bool, List, [], ◌∷◌, Option, Some, None}
 use Rattle.std.specs.Prelude.{length, if◌then◌else◌}
 use Rattle.std.specs.List.{list_all}
@@ -48,7 +48,7 @@ abbrev pub each : {A : Type 0} → (A → Item) → List A → Siblings → Sibl
 each spell [] rest = rest
 each spell (value ∷ values) rest = More (spell value) (each spell values rest)
 
--- whether a code stands without quotes: it is 1 to 18 digits
+-- whether a code is written without quotes: it is 1 to 18 digits
 abbrev pub is_short : List ℕ → Bool
 is_short raw = list_all is_digit raw && nat_le 1 (length raw) && nat_le (length raw) 18
 

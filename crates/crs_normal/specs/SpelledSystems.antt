@@ -50,7 +50,7 @@ abbrev pub is_at : ℕ → ℕ → Option Value → Bool
 is_at position place None = place == position
 is_at position place (Some order) = is_number order position
 
--- the axis at a position, the first of these being written at this place
+-- the axis at a position, where the first of these is written at this place
 abbrev pub axis_at : ℕ → ℕ → List AxisParts → Option AxisParts
 axis_at position place [] = None
 axis_at position place (axis ∷ axes) =
@@ -89,7 +89,7 @@ item_axis axis =
     (opt item_axis_meridian axis.meridian (opt (number_node (codes "ORDER")) axis.order
     (opt item_unit axis.unit (each item_ident axis.identifiers End)))))
 
--- the node `CS`, and the axes behind it
+-- the node `CS`, without the axes that follow it
 abbrev pub item_head : SystemParts → Item
 item_head s =
     node_of (codes "CS") (word_item (system_word s.system_type))

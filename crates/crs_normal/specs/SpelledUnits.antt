@@ -29,7 +29,7 @@ set_idents level identifiers = in_order (λ i. item_text (item_ident i)) (kept l
 abbrev pub whole_value : ℕ → Value
 whole_value k = record { negative = false; digits = k; power = pos 0 }
 
--- a unit where this kind is asked
+-- a unit where this kind is asked, with the identifiers that the level keeps
 abbrev pub norm_unit : Level → UnitKind → UnitParts → UnitParts
 norm_unit level asked u =
     record {

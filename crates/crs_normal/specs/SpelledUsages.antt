@@ -12,7 +12,7 @@ use Rattle.crs_normal.specs.Ordered.{in_order}
 use Rattle.crs_normal.specs.SpelledItems.{each, node_from, node_of, number_item, opt, text_node}
 use Rattle.crs_normal.specs.SpelledUnits.{item_ident, item_unit, norm_length, set_idents}
 
--- the unit is written; an extent in a usage keeps the identifiers of its unit at each level
+-- a vertical extent, with its unit written; in a usage the unit keeps its identifiers at each level
 abbrev pub norm_extent : Level → ExtentParts → ExtentParts
 norm_extent level e =
     record { minimum = e.minimum; maximum = e.maximum; unit = Some (norm_length level e.unit) }
@@ -51,7 +51,8 @@ unfoldable pub set_usages : Level → List UsageParts → List UsageParts
 set_usages level usages =
     in_order (λ u. item_text (item_usage u)) (map norm_usage (kept level usages))
 
--- the bare parts are a usage like the others
+-- the end of a CRS: the usages and identifiers that the level keeps, as sets, the bare parts as one
+-- more usage
 abbrev pub norm_tail : Level → TailParts → TailParts
 norm_tail level t = record {
   usages = set_usages level (usages_of t);

@@ -1,4 +1,4 @@
--- A bridge: the laws of decimals and texts by which the text of an item tells what the item is.
+-- A bridge: the laws of decimals and texts by which an item is known from its text.
 use Rattle.std.specs.Prelude.{◌≡◌, ◌≤◌, ◌↔◌, ◌<◌, ℕ, List, length}
 use Rattle.crs_decimal.specs.Bounds.{Denotes, IsInBounds}
 use Rattle.crs_decimal.specs.Number.{SameNumber}

@@ -1,4 +1,4 @@
--- A bridge: that a text which is computed from a value is its one spelling.
+-- A bridge: a text that is computed from a value is its one spelling.
 use Rattle.std.specs.Prelude.{◌≡◌, ℕ, List}
 use Rattle.crs_normal.specs.CanonicalForm.{IsCanonicalForm}
 

@@ -6,7 +6,7 @@ use crs_decimal::laws::one_form;
 use crs_text::laws::{one_answer, written_items};
 
 /// Some texts are normal, one of which spells no CRS; those that differ from one of them in a point aren't. Some are
-/// normal by definition; those that have an identifier, a usage or a remark besides are normal at the full level alone.
+/// normal by definition; those that also have an identifier, a usage or a remark are normal at the full level alone.
 pub fn worked_examples()
     ensures normal { AreNormal }
     ensures beyond { NameAloneIsNormal }

@@ -1,4 +1,4 @@
-//! The item of a value's one form is accepted and normal, wherever it stands in a text.
+//! The item of a value's one form is accepted and normal, wherever it is in a text.
 ghost use Rattle.std.specs.Prelude.{ℕ, codes};
 ghost use Rattle.crs_shape.specs.declared.class.Class.{Class};
 ghost use Rattle.crs_shape.specs.declared.class.Class.TheVariants as class;

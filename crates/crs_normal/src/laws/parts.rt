@@ -1,4 +1,5 @@
-//! Nodes that stand by themselves: each has one spelling, and spellings are equal exactly where the nodes are the same.
+//! Nodes by themselves, outside a CRS: each has one spelling, and spellings are equal exactly where the nodes are the
+//! same.
 ghost use Rattle.std.specs.Prelude.{◌≡◌, ◌++◌, [], ℕ, List};
 ghost use Rattle.crs_text.specs.Items.{Item, IsNode};
 ghost use Rattle.crs_text.specs.Written.{AreFormed, item_text};
@@ -80,7 +81,7 @@ pub fn closed_texts()
     ensures front { (bytes more : List ℕ) → IsClosed bytes → IsClosed (bytes ++ more) → more ≡ [] }
 {}
 
-/// The spellings of identifiers that stand by themselves. Profile.
+/// The spellings of identifiers by themselves. Profile.
 pub fn identifiers_are_canonical()
     ensures { (level : Level) → IsWrittenForm IsIdent SameIdent (IsSpelledIdent level) (ident_text level) }
 {

@@ -1,4 +1,4 @@
-//! The one form of a value is read back from its item, wherever that stands in a text.
+//! The one form of a value is read back from its item, wherever that is in a text.
 ghost use Rattle.std.specs.Prelude.{◌≡◌, ℕ, Some};
 ghost use Rattle.crs_text.specs.Written.{at_place};
 ghost use Rattle.crs_shape.specs.declared.class.Class.TheVariants as class;
@@ -33,7 +33,7 @@ ghost use Rattle.crs_normal.specs.SpelledSystems.{norm_system};
 use crate::laws::sets::text_laws;
 use crate::laws::values::lower_laws;
 
-// Ellipsoids and prime meridians are read back from their items; Greenwich is where none is given.
+// Ellipsoids and prime meridians are read back from their items; a missing prime meridian is Greenwich.
 pub(super) fn frame_parts_are_read_back()
     ensures ellipsoid { (level : Level) (ellipsoid : EllipsoidParts) (place : ℕ) → IsEllipsoid ellipsoid →
         ReadsEllipsoid class.Ellipsoid (at_place place (item_ellipsoid (norm_ellipsoid level ellipsoid)))

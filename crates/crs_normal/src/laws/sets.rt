@@ -91,7 +91,7 @@ pub(super) fn same_usages_have_one_form()
     members_read_once();
 }
 
-// The item of a member's one form reads as that form, wherever it stands in a text.
+// The item of a member's one form reads as that form, wherever it is in a text.
 pub(super) fn members_are_read_back()
     ensures identifier { (ident : IdentParts) (place : ℕ) → IsIdent ident →
         ReadsIdent class.Identifier (at_place place (item_ident ident)) ident }
@@ -119,7 +119,7 @@ pub(super) fn members_are_read_back()
     text_laws();
 }
 
-// Members of which the one forms have equal texts have equal forms.
+// Members whose one forms have equal texts have equal forms.
 pub(super) fn member_texts_tell_members()
     ensures identifier { (a b : IdentParts) → IsIdent a → IsIdent b →
         item_text (item_ident a) ≡ item_text (item_ident b) → a ≡ b }

@@ -164,7 +164,7 @@ pub(super) fn same_dynamic_parts_have_one_form()
     sets_decide();
 }
 
-// Boxes, extents, usages and the ends of CRSs have one form exactly where they are the same; what stands bare at an end
+// Boxes, extents, usages and the ends of CRSs have one form exactly where they are the same; what is bare at an end
 // is a usage.
 pub(super) fn same_tails_have_one_form()
     ensures bounding_box { FormDecides IsBox (λ bounds. bounds) SameBox }
