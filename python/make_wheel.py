@@ -26,7 +26,7 @@ MOMENT = (1980, 1, 1, 0, 0, 0)
 
 
 def files(project: Mapping[str, str]) -> Dict[str, bytes]:
-    """What stands in the wheel, but the list of it."""
+    """The files of the wheel, but for its list of them."""
     library = pathlib.Path(os.environ.get("CRSDESK_LIBRARY", LIBRARY))
     if not library.is_file():
         raise SystemExit(f"crsdesk: there is no shared object {library}: tools/build_library.py makes it")
@@ -43,7 +43,7 @@ def files(project: Mapping[str, str]) -> Dict[str, bytes]:
 
 
 def extras() -> List[str]:
-    """The lines of the packages that are asked for by an extra of pyproject.toml."""
+    """The lines of the packages that an extra of pyproject.toml asks for."""
     text = (HERE / "pyproject.toml").read_text(encoding="utf-8")
     section = text.partition("[project.optional-dependencies]\n")[2].partition("\n[")[0]
     lines = []

@@ -28,7 +28,7 @@ LINES_HELP_OF_AUDIT = "it has a text a line, and so has a file of another suffix
 
 
 class Place(NamedTuple):
-    """Where a text stands: in a file, or with a number in one of its lines."""
+    """Where a text is: in a file, or in the line of a file that has this number."""
 
     name: str
     number: int = 0
@@ -59,7 +59,7 @@ class Run:
         self.ends(DIFFERS)
 
     def tell_fault(self, name: str, error: OSError) -> None:
-        """That a file can't be read."""
+        """Reports that a file can't be read."""
         self.tell(f"crsdesk: {named(name)}: {error.strerror}")
         self.ends(FAULT)
 
@@ -68,7 +68,7 @@ class Run:
         self.status = max(self.status, status)
 
     def texts(self, names: List[str], by_line: bool) -> Iterator[Tuple[Place, Optional[bytes]]]:
-        """Each text and where it stands; None of a file that can't be read, which is told."""
+        """Each text and where it is; None for a file that can't be read, which is reported."""
         for name in names:
             if by_line:
                 yield from self.lines(name)
@@ -76,7 +76,7 @@ class Run:
                 yield Place(name), self.text(name)
 
     def text(self, name: str) -> Optional[bytes]:
-        """A file's text; None where it can't be read, which is told."""
+        """A file's text; None where it can't be read, which is reported."""
         try:
             with opened(name) as file:
                 return file.read()
@@ -85,7 +85,7 @@ class Run:
             return None
 
     def lines(self, name: str) -> Iterator[Tuple[Place, bytes]]:
-        """Each line of a file, as it is read; where one can't be read, that is told, and no more come."""
+        """Each line of a file, as it is read; where one can't be read, that is reported, and no more come."""
         try:
             file = opened(name)
         except OSError as error:
@@ -107,7 +107,7 @@ class Run:
 
 
 def opened(name: str) -> BinaryIO:
-    """A file to read, which is closed behind it; standard input stays open."""
+    """A file to read, which is closed at the end; standard input stays open."""
     return open(sys.stdin.fileno() if name == "-" else name, "rb", closefd=name != "-")
 
 
@@ -166,7 +166,7 @@ def run_same(run: Run, asked: argparse.Namespace) -> None:
 
 def run_group(run: Run, asked: argparse.Namespace) -> None:
     catalogue = Catalogue(asked.level)
-    # What is told behind the groups. Of a catalogue of one file a line is its number, and blank ones aren't told.
+    # What is printed after the groups. In a catalogue of one file a line is its number, and blank ones aren't printed.
     blank: List[str] = []
     refusals: List[str] = []
     is_one = asked.lines and len(asked.files) == 1
@@ -271,7 +271,7 @@ def main(words: Optional[List[str]] = None) -> int:
 
 
 if __name__ == "__main__":
-    # A reader that has gone ends the run without a word, as it does other programs of the system.
+    # Where the reader of the output is gone the run ends silently, as other programs of the system do.
     signal.signal(signal.SIGPIPE, signal.SIG_DFL)
     signal.signal(signal.SIGINT, signal.SIG_DFL)
     sys.exit(main())

@@ -43,7 +43,7 @@ def bytes_of(text: Text) -> bytes:
 
 
 def advice_on(found: object) -> str:
-    """What to hand over in the place of what is no text, behind a semicolon; nothing where that isn't known."""
+    """What to pass instead of what is no text, after a semicolon; nothing where that isn't known."""
     package = type(found).__module__.partition(".")[0]
     if hasattr(found, "to_wkt") or hasattr(found, "ExportToWkt"):
         return f"; hand over its {TO_WKT.get(package, 'to_wkt()')}, in WKT2:2019 (Crs.from_user does)"
@@ -250,7 +250,7 @@ class Catalogue:
     """Texts by the CRS that they spell, at a level: the same CRS, the same group (docs/CATALOGUES.md).
 
     Groups are found by canonical texts, which are equal exactly where the CRSs are the same. A catalogue may be used by
-    several threads. Of a text that spells no CRS it keeps what is needed to tell why, and with ``keep_texts`` the text.
+    several threads. Of a text that spells no CRS it keeps what is needed to say why, and with ``keep_texts`` the text.
     ``ValueError`` for a level that isn't there.
     """
 
@@ -268,7 +268,7 @@ class Catalogue:
         """Adds a text under a name of any kind; without one it is the text's number, counted from 1.
 
         The answer is the number of its group, a new one where no text before spells the same CRS; None where the text
-        is blank (white space alone, or nothing) and stands nowhere. ``Refused`` where it spells no CRS: then it is
+        is blank (white space alone, or nothing). ``Refused`` where it spells no CRS: then it is
         listed in ``refused``, and the catalogue goes on. Where memory is refused to the library, it is as before.
         """
         try:

@@ -1,4 +1,4 @@
-"""A part in which two CRSs differ, as the library tells it in a line (crsdesk_differences)."""
+"""A part in which two CRSs differ, as the library writes it in a line (crsdesk_differences)."""
 
 from __future__ import annotations
 
@@ -22,7 +22,7 @@ class Difference:
                 lacks, joined by commas; None where the first has nothing there
     ``second``  the same of the second CRS
 
-    ``str`` of it is a line such as ``datum/kind: ENSEMBLE | DATUM``; nothing is written as ``none``, control characters
+    ``str`` of it is a line such as ``datum/kind: ENSEMBLE | DATUM``; a missing value is ``none``, control characters
     and backslashes are escaped, as ``\\n`` and ``\\x1B``.
     """
 
@@ -35,7 +35,7 @@ class Difference:
 
 
 def differences_of(lines: str) -> List[Difference]:
-    """The parts that the library's lines tell."""
+    """The parts of the library's lines."""
     return [difference_of(line) for line in lines.split("\n") if line]
 
 

@@ -13,7 +13,7 @@ from typing import Any, Callable, Dict, List, Optional, Tuple
 
 from ._refused import Refused
 
-# Where another shared object is to be taken than the package's own.
+# The variable that names another shared object than the package's own.
 LIBRARY = "CRSDESK_LIBRARY"
 OK, REFUSED, SECOND_REFUSED, NO_MEMORY, NO_LEVEL, NO_ROOM = range(6)
 KINDS = {1: "geodetic", 2: "geographic", 3: "projected", 4: "vertical", 5: "compound"}

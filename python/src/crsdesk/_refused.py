@@ -1,4 +1,4 @@
-"""The refusal of a text, told so that a person can mend the text. Its words are the library's (crsdesk_explain)."""
+"""The refusal of a text, explained so that a person can repair it. The words are the library's (crsdesk_explain)."""
 
 from __future__ import annotations
 
@@ -15,7 +15,7 @@ FROM_USER = "In Python, call Crs.from_user with the CRS that another package mak
 
 
 class Told(NamedTuple):
-    """The parts of what is told of a refusal."""
+    """The parts of an explanation."""
 
     line: int
     column: int
@@ -25,12 +25,12 @@ class Told(NamedTuple):
     hint: Optional[str]
 
 
-# Of a refusal that was made by hand nothing is told but what it was given.
+# The explanation of a refusal that was made by hand.
 NOTHING = Told(0, 0, "", (), "", None)
 
 
 def parts_of(told: str) -> Told:
-    """The parts of what the library tells of a refusal, whose lines docs/REFUSALS.md has."""
+    """The parts of the library's explanation of a refusal, whose lines docs/REFUSALS.md has."""
     head, *lines = told.split("\n")
     match = HEAD.fullmatch(head)
     if not match:
@@ -54,12 +54,12 @@ class Refused(ValueError):
                   text in UTF-8
     ``line``      the line of that byte, counted from 1; lines end at line feeds
     ``column``    the character of that line, counted from 1
-    ``expected``  what may stand at the place, such as ``("PRIMEM", "CS")``; of a refusal of shape (11 to 13) alone
+    ``expected``  what could come at the place, such as ``("PRIMEM", "CS")``; of a refusal of shape (11 to 13) alone
     ``text``      the text, as bytes; None where it isn't kept, as by a ``Catalogue``
     ``which``     ``"first"`` or ``"second"`` where two texts were handed over, else None
 
-    What is to be mended often stands before the place. ``str`` of a refusal has the piece of the text with a caret
-    under the place, what is expected there, what the number means, and hints where the text tells what it is.
+    The mistake is often before the place. ``str`` of a refusal has the piece of the text with a caret under the place,
+    what is expected there, what the number means, and hints where the text shows what it is.
     """
 
     __slots__ = ("_told", "is_of_crs", "name", "number", "place", "text", "which")
@@ -73,7 +73,7 @@ class Refused(ValueError):
         which: Optional[str] = None,
         told: Optional[str] = None,
     ) -> None:
-        # The text isn't an argument of the exception's, so that it goes where it isn't kept.
+        # The text isn't an argument of the exception, so that it is freed where it isn't kept.
         super().__init__(number, name, place, which)
         self.text = text
         self.number = number
@@ -86,9 +86,9 @@ class Refused(ValueError):
 
     @property
     def told(self) -> str:
-        """All that the library tells of it over some lines, asked once, when it is first wanted."""
+        """The library's explanation, some lines; asked for once, when it is first needed."""
         if self._told is None:
-            # The library's module raises refusals, so that it is imported behind this one.
+            # The library's module raises refusals, so it is imported after this one.
             from ._library import explain
 
             told = "" if self.text is None else explain(self.text).decode("utf-8", "replace").rstrip("\n")
@@ -112,7 +112,7 @@ class Refused(ValueError):
 
     @property
     def expected(self) -> Tuple[str, ...]:
-        """What may stand at the place: keywords, ``a number``, ``a text in quotes``, ``a word``, and ``its closing
+        """What could come at the place: keywords, ``a number``, ``a text in quotes``, ``a word``, and ``its closing
         delimiter`` where the node may end. Empty where the number isn't 11 to 13."""
         return parts_of(self.told).expected
 
@@ -124,7 +124,7 @@ class Refused(ValueError):
     @property
     def hint(self) -> Optional[str]:
         """What is open, which keyword was meant, what the text is and what to do with it, in a line or two; None where
-        none of it can be told."""
+        none of it is known."""
         return parts_of(self.told).hint
 
     @property
@@ -133,7 +133,7 @@ class Refused(ValueError):
         return f"refused {self.number} {self.name} at {self.place}"
 
     def piece(self) -> str:
-        """The piece of the line at the place, and below it a caret under the place, without a line end behind."""
+        """The piece of the line at the place, and below it a caret under the place, without a line end."""
         return parts_of(self.told).piece
 
     def told_of_file(self, line: int = 0) -> str:

@@ -5,7 +5,7 @@ from __future__ import annotations
 import re
 import shlex
 
-# Control characters, ends of lines and paragraphs, and what turns the direction of a text around.
+# Control characters, ends of lines and paragraphs, and what reverses the direction of a text.
 CONTROL = re.compile("[\x00-\x1f\x7f-\x9f\u2028\u2029\u202a-\u202e\u2066-\u2069]")
 ESCAPES = {"\0": "\\0", "\t": "\\t", "\n": "\\n", "\r": "\\r", "\\": "\\\\"}
 UNESCAPED = {escape[1]: character for character, escape in ESCAPES.items()}

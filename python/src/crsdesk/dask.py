@@ -27,11 +27,11 @@ from ._refused import Refused
 
 __all__ = ["Standing", "canon", "groups"]
 
-# So many partitions send their keys together: 32 to a shuffle in one step, and more only of more than 1,024 partitions.
+# How many partitions send their keys together: 32, so that a shuffle has one step; more above 1,024 partitions.
 TOGETHER = 32
-# What is sent of each group of a partition: the canonical text, and where its first text stands in the collection.
+# What is sent of each group of a partition: the canonical text, and where its first text is in the collection.
 KEYS = {"route": "int64", "text": "object", "partition": "int64", "first": "int64", "local": "int64"}
-# What it is told: its group by the partition's own number, and where the first text of all that are the same stands.
+# What it gets back: its group by the partition's own number, and where the first text of all that are the same is.
 FOUND = {"partition": "int64", "local": "int64", "first_partition": "int64", "first": "int64"}
 ANSWER = {"group": "Int64", "refusal": "object"}
 
@@ -41,10 +41,10 @@ Key = Tuple[str, int]
 
 
 class Standing(NamedTuple):
-    """Where a text stands.
+    """The place of a text.
 
-    ``group``    the number of its group; None where it stands in none
-    ``refusal``  why it spells no CRS, as ``refused 7 UnexpectedEnd at 11``; None where it stands in a group or is blank
+    ``group``    the number of its group; None where it is in none
+    ``refusal``  why it spells no CRS, as ``refused 7 UnexpectedEnd at 11``; None where it is in a group or is blank
     """
 
     group: Optional[int]
@@ -52,7 +52,7 @@ class Standing(NamedTuple):
 
 
 class Kept(NamedTuple):
-    """What is kept of a partition: the own group of each text, counted from 1, and 0 of one that stands in none; the
+    """What is kept of a partition: the own group of each text, counted from 1, and 0 of one that is in none; the
     refusals by place; and the index of a dataframe's column."""
 
     local: Any
@@ -168,7 +168,7 @@ def keys_frame(halves: List[Tuple[Kept, List[Key]]], begin: int) -> Any:
 
 
 def firsts(keys: Any) -> Any:
-    """Where the first text of each group stands, by whole canonical texts."""
+    """Where the first text of each group is, by whole canonical texts."""
     least: Dict[str, Tuple[int, int]] = {}
     rows = list(zip(keys["text"], keys["partition"], keys["first"]))
     for text, partition, first in rows:
@@ -190,7 +190,7 @@ def numbered(frames: List[Any], spans: List[Tuple[int, int]]) -> List[List[Any]]
     _, ranks = numpy.unique(places, axis=0, return_inverse=True)
     ends: Any = numpy.searchsorted(found["partition"].to_numpy(), numpy.arange(spans[-1][1] + 1))
     numbers = numpy.asarray(ranks).reshape(-1) + 1
-    # Copies: a part that is sent has not the whole behind it.
+    # Copies: a part that is sent must not keep the whole in memory.
     return [[numbers[ends[it] : ends[it + 1]].copy() for it in range(*span)] for span in spans]
 
 

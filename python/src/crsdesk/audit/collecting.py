@@ -1,7 +1,7 @@
 """The files of an archive, and the processes that read them.
 
-A process that ends in the middle of a file, as when a library fails on damaged bytes, is told of that file, and the
-rest goes on in another. No process outlives the run.
+Where a process ends in the middle of a file, as when a library fails on damaged bytes, that file is reported, and the
+rest goes on in another process. No process outlives the run.
 """
 
 from __future__ import annotations
@@ -18,7 +18,7 @@ from .reading import FOLDERS, File, Way, suffix_of, way_of
 
 Item = TypeVar("Item")
 Answer = TypeVar("Answer")
-# A process is handed so many items at a time, at most.
+# The most items that a process is handed at a time.
 MOST_ITEMS = 32
 
 
@@ -31,7 +31,7 @@ class Odd(NamedTuple):
 
 @dataclass
 class Listing:
-    """What stands below the paths that are asked for, in the order of the names' bytes.
+    """The files below the paths that are asked for, in the order of the names' bytes.
 
     ``unread``  folders that can't be listed
     ``passed``  links to folders that are listed already
@@ -94,7 +94,7 @@ def list_folder(top: str, seen: Set[Tuple[int, int]], listing: Listing, by_line:
 
 
 def work(connection: Any) -> None:
-    """What a process does: it answers each item of each batch, until nobody asks any more."""
+    """What a process does: it answers each item of each batch, until there are no more."""
     signal.signal(signal.SIGINT, signal.SIG_IGN)
     try:
         while True:
@@ -174,7 +174,7 @@ class Workers:
             yield number, answer
 
     def hand_out(self, function: Callable[[Item], Answer], items: Sequence[Item], waiting: Deque[int]) -> None:
-        """Hands items to the processes that have none: fewer at a time as fewer wait."""
+        """Hands items to the processes that have none: the fewer are left, the fewer at a time."""
         for worker in self.workers:
             if waiting and not worker.pending:
                 count = max(1, min(MOST_ITEMS, len(waiting) // (4 * self.jobs)))

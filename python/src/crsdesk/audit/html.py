@@ -1,8 +1,8 @@
 """The report as one page that needs no network and no scripts.
 
-Everything that comes from files goes through the templates, which escape it. The page forbids itself by its policy
-whatever isn't its own style and script. It has a bound: where a part of the report is longer than its room on the page,
-the page says how much more the data has.
+Everything that comes from files goes through the templates, which escape it. By its policy the page allows nothing but
+its own style and script. Its length is bounded: where a part of the report has no room on it, the page says how much
+more the data has.
 """
 
 from __future__ import annotations
@@ -139,7 +139,7 @@ def definitions_of(blocks: Any, definitions: Sequence[Definition]) -> Tuple[Part
 
 
 class Refusals(NamedTuple):
-    """Texts that are refused by one number: by what is told to do, those of the most texts first."""
+    """Texts that are refused by one number, by what to do with them, those of the most texts first."""
 
     number: int
     name: str

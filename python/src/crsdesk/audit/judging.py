@@ -43,7 +43,7 @@ class Spelled:
 @dataclass(frozen=True)
 class Refusal:
     """Why a text is refused, in the words of ``Refused``: ``place`` is its byte, ``piece`` the line with a caret below,
-    ``expected`` what may stand there, ``hint`` what the text most likely is and what to do, or nothing."""
+    ``expected`` what could come there, ``hint`` what the text most likely is and what to do, or nothing."""
 
     number: int
     name: str
@@ -78,7 +78,7 @@ class Told:
 
 
 def told_of(file: File) -> Told:
-    """What a file states. Each of its CRSs stands in the list once."""
+    """What a file states. Each of its CRSs is in the list once."""
     told = Told()
     known: Dict[str, int] = {}
     for found in read(file):
@@ -116,8 +116,8 @@ def spelled_by(crs: Crs) -> Spelled:
 
 
 def refusal_of(refused: Refused, line: int) -> Refusal:
-    """A refusal's words, as they are told of files."""
-    # Behind the head, the piece and what is expected.
+    """A refusal's words, as they are said of files."""
+    # After the head, the piece and what is expected.
     lines = refused.told_of_file(line).split("\n")[4 if refused.expected else 3 :]
     hint = "; ".join(it for it in lines if it != refused.meaning)
     return Refusal(
@@ -148,7 +148,7 @@ def facts_of(canonical: str) -> Tuple[str, Tuple[str, ...], Tuple[Box, ...]]:
 
 
 def nodes_of(canonical: str) -> Iterator[Tuple[int, str, List[str]]]:
-    """Each node of a canonical text where it ends: in how many nodes it stands, its keyword, and its own values."""
+    """Each node of a canonical text where it ends: in how many nodes it is, its keyword, and its own values."""
     open_nodes: List[Tuple[str, List[str]]] = [("", [])]
     word = ""
     for token in TOKEN.findall(canonical):

@@ -1,4 +1,4 @@
-"""Names and texts as a report shows them: each character is seen, and none does anything."""
+"""Names and texts as a report shows them: each character is visible, and none has an effect."""
 
 from __future__ import annotations
 

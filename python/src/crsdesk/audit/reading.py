@@ -1,7 +1,7 @@
 """What is in a file: the texts that it states, each with its layer or line.
 
-Nothing is written, looked up or fetched. A file is read the way that its name says (``Way``); what can't be read is told
-and stops nothing.
+Nothing is written, looked up or fetched. A file is read the way that its name says (``Way``); what can't be read is
+reported, and the rest goes on.
 """
 
 from __future__ import annotations
@@ -25,9 +25,9 @@ from .._crs import is_blank
 # The bound of the program `crsdesk` too.
 MOST_BYTES = 1_048_576
 MOST_LAYERS = 10_000
-# So many thousand steps of SQLite's machine may a database take: a view can be without end.
+# The most steps of SQLite's machine for a database, in thousands: a view can be endless.
 MOST_STEPS = 20_000
-# A database with a log is copied up to so many bytes.
+# The most bytes of a database with a log that is copied.
 MOST_COPIED = 1 << 30
 DATABASE = b"SQLite format 3\0"
 
@@ -142,14 +142,14 @@ def way_of(path: str, is_named: bool, by_line: bool, with_txt: bool) -> Optional
 
 
 def read(file: File) -> Iterator[Found]:
-    """What a file states. Whatever goes wrong in it is told of it."""
+    """What a file states, and whatever goes wrong in it."""
     try:
         yield from READERS[file.way](file.path)
     except OSError as error:
         yield Unread(error.strerror or str(error))
     except MemoryError:
         yield Unread("out of memory")
-    except Exception as error:  # whatever a library makes of damaged bytes
+    except Exception as error:  # any error that a library raises over damaged bytes
         yield Unread(f"{type(error).__name__}: {error}")
 
 
@@ -337,7 +337,7 @@ def read_data_set(path: str, member: str, names: Tuple[str, ...]) -> Iterator[Fo
 
 
 def told_by_gdal(error: RuntimeError, path: str) -> str:
-    """GDAL's words in one line, without the file's name, which is told before."""
+    """GDAL's words in one line, without the file's name, which is printed before."""
     words = " ".join(str(error).split())
     for name in (f"`{path}' ", f"{path}: ", f"{path}, "):
         words = words.replace(name, "")

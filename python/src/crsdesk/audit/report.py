@@ -14,7 +14,7 @@ FULL, DEFINITION = "full", "definition"
 
 
 class Place(NamedTuple):
-    """Where a text stands: its file, with the layer or member in it, or the line, counted from 1."""
+    """Where a text is: its file, with the layer or member in it, or the line, counted from 1."""
 
     file: str
     layer: str = ""
@@ -23,7 +23,7 @@ class Place(NamedTuple):
 
 @dataclass
 class Variant:
-    """A CRS with everything, and where it stands; ``number`` counts those of its definition.
+    """A CRS with everything, and where it is; ``number`` counts those of its definition.
 
     ``parts`` are those in which it differs from the first CRS of its definition: identifiers, usages, remarks.
     """
@@ -152,7 +152,7 @@ class Summary:
 
 @dataclass
 class Report:
-    """All that an audit tells."""
+    """All that an audit found."""
 
     paths: List[str]
     summary: Summary
@@ -239,7 +239,7 @@ def definitions_of(rows: Iterable[Tuple[Row, Optional[Spelled]]], report: Report
 
 
 def near_misses_of(definitions: Sequence[Definition]) -> List[NearMiss]:
-    """Definitions of one name; and those of one identifier, where no name has told them together."""
+    """Definitions of one name; and those of one identifier, where they don't share a name."""
     by_name: Dict[str, List[Definition]] = {}
     by_identifier: Dict[str, List[Definition]] = {}
     for definition in definitions:

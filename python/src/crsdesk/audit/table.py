@@ -12,7 +12,7 @@ HEAD = ("file", "layer", "line", "definition", "crs", "kind", "name", "refusal")
 
 
 def write_csv(report: Report, file: TextIO) -> None:
-    """Writes a head, and a row a text. ``crs`` is the definition's number and, behind a point, the CRS's in it."""
+    """Writes a head, and a row a text. ``crs`` is the definition's number and, after a point, the CRS's in it."""
     table = csv.writer(file, lineterminator="\r\n")
     table.writerow(HEAD)
     table.writerows(cells_of(row) for row in report.rows)

@@ -10,7 +10,7 @@ from .. import Difference
 from .names import counted, place_shown, visible
 from .report import Definition, NearMiss, Report, Summary
 
-# So many near misses, and so many parts and values' characters of each, are shown.
+# How many near misses are shown, and of each how many parts, and characters of a value.
 MOST_MISSES = 20
 MOST_PARTS = 8
 MOST_CHARACTERS = 60
@@ -76,7 +76,7 @@ def near_miss_lines(report: Report, miss: NearMiss) -> Iterator[str]:
 
 
 def told_of(definition: Definition) -> str:
-    """A definition in a line: its number, identifiers, and where it stands first."""
+    """A definition in a line: its number, identifiers, and where it is first."""
     identifiers = "".join(f" {visible(it)}" for it in definition.identifiers[:3])
     first = definition.variants[0].places[0]
     return f"{definition.number}{identifiers}: {counted(definition.texts, 'text')}, first {place_shown(first)}"
