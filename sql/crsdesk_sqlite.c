@@ -7,12 +7,12 @@
    crs_same(a, b [, level])      1 where both spell the same CRS, else 0; NULL where either spells none
    crs_difference(a, b [, level]) the path of the first part that differs, or the word same; NULL where either spells none
    crs_differences(a, b [, level]) all parts that differ, as JSON: [{"path":..,"first":..,"second":..},..], with null for
-                                 what stands in one alone; [] where they are the same; NULL where either spells none
+                                 what is in one alone; [] where they are the same; NULL where either spells none
    crs_refusal(text)             why a text spells no CRS, as: refused 7 UnexpectedEnd at 11; NULL of one that spells one
    crs_version()                 the version of crsdesk, as: 0.1.0
 
    A text is a TEXT or a BLOB of bytes; another value is its TEXT. A level is full, the usual one, or definition; another
-   is an error of SQL. NULL for any argument gives NULL. All functions are deterministic, so they may stand in indexes,
+   is an error of SQL. NULL for any argument gives NULL. All functions are deterministic, so they may be used in indexes,
    generated columns and checks. What the functions answer is crsdesk's; this file is tested and not proved. */
 #include <stddef.h>
 #include <stdint.h>
@@ -51,7 +51,7 @@ static int take_text(sqlite3_context *context, sqlite3_value *value, struct text
     return text->bytes != NULL;
 }
 
-/* Takes the level behind `texts` arguments, full where none stands there; answers 0, with an error, for another. */
+/* Takes the level after `texts` arguments, full where there is none; answers 0, with an error, for another. */
 static int take_level(sqlite3_context *context, int count, sqlite3_value **values, int texts, uint32_t *level)
 {
     const char *word;

@@ -1,5 +1,5 @@
 /* The lines of crsdesk_differences as JSON: an array of objects {"path", "first", "second"}, in the order of the lines,
-   with null where nothing stands. Of both extensions for SQL. */
+   with null where there is nothing. Of both extensions for SQL. */
 #ifndef CRSDESK_DIFFERENCES_H
 #define CRSDESK_DIFFERENCES_H
 

@@ -153,7 +153,7 @@ class Archive:
         return known._replace(text=respelled(known.text.encode(), self.chance.randrange(16)).decode())
 
     def state(self, known: Optional[Known], path: pathlib.Path, layer: str = "", line: int = 0) -> None:
-        """Writes down what stands in a place; None where nothing does."""
+        """Writes down what is in a place; None where nothing is."""
         place = [str(path), layer, line]
         if known is None:
             self.without.append(place)
@@ -242,7 +242,7 @@ class Archive:
         text = text_of(gdal.OpenEx(str(path)))
         self.state(Known(text, name, name), path, "" if kind in ("tif", "nc") else path.stem)
         if kind == "shp":
-            # What stands beside the shapefile: a text in WKT1, and two files that aren't read by themselves.
+            # What is beside the shapefile: a text in WKT1, and two files that aren't read by themselves.
             old = path.with_suffix(".prj")
             self.state(Known(old.read_text(encoding="utf-8"), number=11, place=0), old)
             self.files += 3

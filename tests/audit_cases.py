@@ -5,7 +5,7 @@
 
 audit_archive.py makes an archive whose groups, near misses and refusals are known; each form of the report is held
 against them. Then come files that can't be read, signals, and what isn't installed. run_audit.py runs it with a Python
-that has what the command needs. What isn't there is told as skipped, by name. Each case that fails has a line; the last
+that has what the command needs. What isn't there is named as skipped. Each case that fails has a line; the last
 line is 'N passed, M failed', and the status is 0 where M is 0.
 """
 from __future__ import annotations
@@ -439,7 +439,7 @@ def make_damaged_database(path: pathlib.Path) -> None:
 
 
 def make_logged_database(path: pathlib.Path) -> None:
-    """A database whose layer stands in its log alone, as a program that ended too soon leaves it."""
+    """A database whose layer is in its log alone, as a program that ended too soon leaves it."""
     path.parent.mkdir()
     with tempfile.TemporaryDirectory() as name, contextlib.closing(sqlite3.connect(f"{name}/a")) as base:
         base.execute("PRAGMA journal_mode = WAL")
@@ -605,7 +605,7 @@ def what_may_not_be_read_is_told() -> None:
 
 
 def the_rest_goes_on() -> None:
-    """What stands before and behind odd files and lines is read."""
+    """What comes before and after odd files and lines is read."""
     data = odd_data()
     places = [(it["file"], it.get("line")) for it in data["definitions"][0]["variants"][0]["places"]]
     assert ("./lines.txt", 1) in places and ("./lines.txt", 4) in places, places

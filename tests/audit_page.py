@@ -5,7 +5,7 @@
 
 The browser is Chromium, without a window, as Debian's chromium, chromium-driver and python3-selenium have it. With
 --measure it tells how long the page of 13,000 texts takes to open and to filter; with --picture it writes the picture
-of docs/AUDIT.md. What isn't there is told as skipped, by name. Each case that fails has a line; the last line is
+of docs/AUDIT.md. What isn't there is named as skipped. Each case that fails has a line; the last line is
 'N passed, M failed', and the status is 0 where M is 0.
 """
 from __future__ import annotations
@@ -35,7 +35,7 @@ MARKUP = '<b onclick="alert(1)">&amp;</b><script>alert(2)</script>'
 
 @contextlib.contextmanager
 def browser(*words: str, has_scripts: bool = True, size: str = "1200,1000") -> Iterator[Any]:
-    """A browser, which is closed behind it."""
+    """A browser, which is closed at the end."""
     from selenium import webdriver
     from selenium.webdriver.chrome.options import Options
     from selenium.webdriver.chrome.service import Service

@@ -6,11 +6,11 @@
 They are those that are named by the clauses of public calls, by what public types are seen as and by the public laws
 that docs/THEOREMS.md claims, and all that these are made of, down to the numbers, lists and the like of the toolchain's
 own library. How a type's fields show what it is seen as, and what holds of them, isn't among them: a caller has the
-clauses alone. Each must stand in a file of the table of words of docs/THEOREMS.md, and in none of those that it says
-are cited by proofs alone. And each definition, call, law and clause that docs/THEOREMS.md names must be there.
+clauses alone. Each must be in a file of the table of words of docs/THEOREMS.md, and in none of those that it says are
+cited by proofs alone. And each definition, call, law and clause that docs/THEOREMS.md names must be there.
 
 Prints the definitions and lines of each crate, and with -v each definition, its lines, whether it has a comment, and
-who cites it first; then what is wrong, and 'N passed, M failed'. The status is 0 where M is 0. Nothing is proved.
+what cites it first; then what is wrong, and 'N passed, M failed'. The status is 0 where M is 0. Nothing is proved.
 """
 import fnmatch
 import pathlib
@@ -29,7 +29,7 @@ LIBRARIES = (
 # A word of a definition or a clause.
 WORD = re.compile(r"[^\s(){}\[\],;.λ→×:=\"|]+")
 USE = re.compile(r"(?m)^\s*(?:pub )?(?:ghost )?use Rattle\.([\w.]+?)(?:\.\{([^}]*)\}| as (\S+?))?;?$")
-# The head of a definition: its indent, what stands before its name, whether it is a record, its name and the rest.
+# The head of a definition: its indent, what precedes its name, whether it is a record, its name and the rest.
 HEAD = re.compile(r"^(\s*)((?:(?:abbrev|unfoldable|pub|mutual)\s+)*)(record\s+|data\s+)?([^\s:=(){}]+)(.*)$")
 CLAUSE = re.compile(r"\b(requires|ensures)\*?\s*(?:\w+\s*)?\{|\bghost\s+(\w+)\s*[:=]\s*\{")
 FUNCTION = re.compile(r"(?m)^([ \t]*)(pub )?(?:unsafe )?(?:extern \"C\" )?fn (\w+)")
@@ -53,7 +53,7 @@ Scope = dict[str, Name]
 
 
 class Clause(NamedTuple):
-    """A clause that a reader sees, where it stands, and the names that it may use."""
+    """A clause that a reader sees, where it is, and the names that it may use."""
 
     where: str
     text: str
@@ -61,7 +61,7 @@ class Clause(NamedTuple):
 
 
 class Definition(NamedTuple):
-    """A definition's text without comments, and whether a comment stands before it."""
+    """A definition's text without comments, and whether a comment precedes it."""
 
     text: str
     lines: int
@@ -83,7 +83,7 @@ def imported(text: str) -> Scope:
 
 
 def cited(text: str, scope: Scope) -> Iterator[Name]:
-    """The names of a scope that stand in a text; of an operator all its parts."""
+    """The names of a scope that occur in a text; of an operator all its parts."""
     words = set(WORD.findall(text))
     for name, meant in scope.items():
         parts = [part for part in name.split("◌") if part]
@@ -97,7 +97,7 @@ def is_head(head: re.Match[str]) -> bool:
 
 
 def blocks(text: str) -> Iterator[tuple[re.Match[str], list[str], bool]]:
-    """Each definition of a file: its head, its lines without comments, and whether a comment stands before it."""
+    """Each definition of a file: its head, its lines without comments, and whether a comment precedes it."""
     head: Optional[re.Match[str]] = None
     lines: list[str] = []
     is_told = is_after_comment = False
@@ -121,7 +121,7 @@ def blocks(text: str) -> Iterator[tuple[re.Match[str], list[str], bool]]:
 
 
 class Specs:
-    """The definitions of a file, and which name is meant by each that stands in it."""
+    """The definitions of a file, and which definition each name in it means."""
 
     def __init__(self, crate: str, file: str) -> None:
         text = (CRATES / crate / "specs" / (file.replace(".", "/") + ".antt")).read_text(encoding="utf-8")
@@ -138,7 +138,7 @@ class Specs:
                         self.scope.setdefault(constructor, name)
 
     def meant(self, name: str) -> Name:
-        """The definition that a name stands for: of a constructor its type, of what is handed on where it comes from."""
+        """The definition that a name means: of a constructor its type, of an imported name its source."""
         return self.scope.get(name, self.whole._replace(name=name))
 
 
@@ -162,7 +162,7 @@ def clauses(text: str) -> Iterator[str]:
 
 
 def functions(text: str) -> Iterator[tuple[bool, str, str, int]]:
-    """Each function: whether it is public, its name, what stands before its body, and where it begins."""
+    """Each function: whether it is public, its name, what precedes its body, and where it begins."""
     for match in FUNCTION.finditer(text):
         body = re.compile(r"(?m)^" + match[1] + r"\{|\)[^\n{}]*\{$|\{\}$|;$").search(text, match.end())
         yield bool(match[2]), match[3], text[match.start() : body.start() + 1 if body else len(text)], match.start()
@@ -226,7 +226,7 @@ def clauses_of_impl(shown: str, kind: str, head: str, body: str, names: set[str]
 
 
 def believed(claims: set[str]) -> tuple[dict[Name, str], dict[tuple[str, str], Specs]]:
-    """Each definition that is reached from what is claimed, with who cites it first; and the files."""
+    """Each definition that is reached from what is claimed, with what cites it first; and the files."""
     files: dict[tuple[str, str], Specs] = {}
     reached: dict[Name, str] = {}
     open_ = [
@@ -309,7 +309,7 @@ def named(row: Row) -> Iterator[tuple[str, str]]:
 
 
 def claimed(row: Row) -> Iterator[str]:
-    """The calls, types and laws of a row of the claims, each behind its crate. A plain word is a clause, or a call."""
+    """The calls, types and laws of a row of the claims, each after its crate. A plain word is a clause, or a call."""
     for crate, path in named(row):
         if "::" in path or "_" in path:
             yield f"{crate}::{path.split('::')[-1]}"
@@ -358,7 +358,7 @@ def main() -> int:
         if (name.crate, name.file) in said.computing:
             wrong.append(f"{name} computes, and is cited by {by}")
         elif (name.crate, name.file) not in words:
-            wrong.append(f"{name} stands in no file of the table, and is cited by {by}")
+            wrong.append(f"{name} is in no file of the table, and is cited by {by}")
         elif not definition:
             wrong.append(f"{name} has no text that was found")
     for crate in LIBRARIES:

@@ -4,7 +4,7 @@
     big_catalogue.py CRSS SPELLINGS
 
 It has CRSS CRSs, each with a name of its own, and each of them is spelled SPELLINGS times, one to 16: white space
-and delimiters differ. The spellings of a CRS stand CRSS lines apart. So `crsdesk group` finds CRSS groups of SPELLINGS
+and delimiters differ. The spellings of a CRS are CRSS lines apart. So `crsdesk group` finds CRSS groups of SPELLINGS
 lines.
 """
 import os
@@ -27,7 +27,7 @@ REFUSED = (59, 78)
 
 
 def respelled(text, spelling):
-    """The text with `spelling % 8` spaces behind each comma, and round delimiters from 8 on."""
+    """The text with `spelling % 8` spaces after each comma, and round delimiters from 8 on."""
     out = bytearray()
     quoted = False
     for byte in text:
@@ -44,7 +44,7 @@ def respelled(text, spelling):
 
 
 def texts():
-    """Each text, as what stands before the end of its name and what stands behind."""
+    """Each text, as what comes before the end of its name and what comes after."""
     with open(os.path.join(ROOT, "examples/catalogue.txt"), "rb") as file:
         for number, line in enumerate(file.read().splitlines(), 1):
             if line.upper().startswith(HEADS) and number not in REFUSED:

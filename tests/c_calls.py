@@ -10,8 +10,8 @@ sanitizers; growths.c, which refuses each growth of memory in turn; and threads.
 thread under the thread sanitizer of the first compiler that has one. The header must do for C99 and for C++ with every
 warning an error, the shared object must need the C library alone, both must show the header's calls and nothing else,
 pkg-config must find them, and both must answer the version that the program crsdesk prints, where that is built. Where
-the library was built in this repository, headers whose structs differ from it must be told by the comparison that
-tools/build_library.py makes.
+the library was built in this repository, the comparison that tools/build_library.py makes must find headers whose
+structs differ from it.
 
 Each try has a line; the last line is 'N passed, M failed', and the status is 0 where M is 0.
 """
@@ -39,7 +39,7 @@ SANITIZERS = ["-g", "-O1", "-fsanitize=address,undefined", "-fno-sanitize-recove
 THREAD_SANITIZER = ["-std=gnu11", "-g", "-O1", "-fsanitize=thread"]
 ORDERS = ["lock", "atomic", "join"]
 SECONDS = 300
-# Edits of the header, and the struct of which each must be told.
+# Edits of the header, and the struct that the comparison must name.
 OTHER_LAYOUTS = [
     ("uint64_t hidden[32];", "uint64_t hidden[8];", "crsdesk_catalogue"),
     ("uint64_t hidden[32];", "unsigned char hidden[256];", "crsdesk_catalogue"),

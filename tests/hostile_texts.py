@@ -27,7 +27,7 @@ HEIGHT = b'VERTCRS["H",VDATUM["D"],' + SYSTEM
 
 
 def height(*parts):
-    """A vertical CRS with these parts behind its unit."""
+    """A vertical CRS with these parts after its unit."""
     return HEIGHT + b"".join(b"," + part for part in parts) + b"]"
 
 

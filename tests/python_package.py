@@ -6,7 +6,7 @@
 The rows of the .rows files beside it are asked of the package's calls; then come the package's own promises: how a
 refusal is told, hints, what no text is, hashing, threads, long texts, and the commands over files. run_python.py runs
 it with the package installed in a fresh environment. With --with, what is tried is its use beside another package:
-pandas, pyproj, rasterio or osgeo. What isn't there is told as skipped, by name. Each case that fails has a line; the last
+pandas, pyproj, rasterio or osgeo. What isn't there is named as skipped. Each case that fails has a line; the last
 line is 'N passed, M failed', and the status is 0 where M is 0.
 """
 from __future__ import annotations
@@ -119,7 +119,7 @@ def pair_fault(first: bytes, second: bytes, level: str) -> Optional[str]:
     if (parts[0].path if parts else None) != path:
         return f"the first part is {path}, the first of all {parts[:1]}"
     if any(part.first == part.second for part in parts) or len({part.path for part in parts}) < len(parts):
-        return f"parts that don't differ, or stand twice: {parts}"
+        return f"parts that don't differ, or are there twice: {parts}"
     one, other = Crs(first), Crs(second)
     for answered in (same(first, second, level), one.same(other, level), one.same(second, level)):
         if answered != (path is None):
@@ -678,7 +678,7 @@ def all_parts_of_all_pairs() -> None:
                 assert fault is None, (fault, first, second)
 
 
-# Each part that a CRS can have stands in one of these.
+# Each part that a CRS can have is in one of these.
 RICH = [
     'COMPOUNDCRS["C",PROJCRS["P",BASEGEOGCRS["B",DYNAMIC[FRAMEEPOCH[2010],MODEL["g",ID["X",1]]],DATUM["D",ELLIPSOID["E",'
     '6378137,298.25,LENGTHUNIT["metre",1,ID["X",2]],ID["X",3]],ANCHOR["a"],ANCHOREPOCH[2011],ID["X",4]],PRIMEM["Paris",'
@@ -792,7 +792,7 @@ def values_are_written_escaped() -> None:
 
 
 def values_of_any_characters() -> None:
-    """What separates the values of a line, and what escapes them, may stand in them."""
+    """What separates the values of a line, and what escapes them, may be in them."""
     values = [
         "none",
         " | ",
@@ -935,7 +935,7 @@ def examples_of_the_document(needs: str = "") -> None:
 
 
 def lacks(program: str, what: str) -> bool:
-    """Whether a program isn't there, which is told."""
+    """Whether a program isn't there, which is reported."""
     if shutil.which(program) is None:
         print(f"skipped: {program} isn't there: {what}")
         return True

@@ -6,11 +6,11 @@
 PROGRAM is the built crates/crs_rows, which with the word `trial` makes one call of the library; CRSDESK is the built
 program. Both are run with refuse_growth.c preloaded: with ample memory, then with the Nth growth refused, for N = 1,
 2, .. until a run meets no refusal. A growth is a call of malloc, realloc or aligned_alloc; a program's are counted
-from its beginning, a call's while it is made. Each answer must be want of memory or the answer that comes with ample
-memory. Behind want of memory, in the same process, all that the call was handed must be as before, and the same call
+from its beginning, a call's while it is made. Each answer must be out of memory or the answer that comes with ample
+memory. After out of memory, in the same process, all that the call was handed must be as before, and the same call
 made again must give the answer that comes with ample memory.
 
-growths/calls.rows has the calls. A row is a line 'case NAME', whose name stands once, a line '# REASON' or more, then
+growths/calls.rows has the calls. A row is a line 'case NAME', whose name is unique, a line '# REASON' or more, then
 
     call WORDS       the call
     part TEXT        a part of its input, in their order, with the escapes of run_cases.py
@@ -46,7 +46,7 @@ WANT = (2, b"", b"crsdesk: out of memory\n")
 
 
 class Wrong(Exception):
-    """What a row's run did that it may not do."""
+    """What a row's run did wrong."""
 
 
 class Call:
@@ -94,7 +94,7 @@ def calls_of(path):
     names = [call.name for call in calls]
     for call in calls:
         if not call.is_whole() or names.count(call.name) > 1:
-            sys.exit(f"{path.name}: {call.name} lacks a line, or its name stands twice")
+            sys.exit(f"{path.name}: {call.name} lacks a line, or its name is there twice")
     return calls
 
 

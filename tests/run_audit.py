@@ -5,7 +5,7 @@
 
 PREFIX has the shared object in lib/, as tools/build_library.py makes it (out/prefix where none is given). audit_cases.py
 and audit_page.py have what is tried; they are run by this Python, or the system's, whichever has jinja2 and rich. What
-isn't there is told as skipped, by name. Each case that fails has a line; the last line is 'N passed, M failed', and the
+isn't there is named as skipped. Each case that fails has a line; the last line is 'N passed, M failed', and the
 status is 0 where M is 0.
 """
 from __future__ import annotations

@@ -4,8 +4,8 @@
     run_dask.py [PREFIX [LINES]]
 
 PREFIX has the shared object in lib/, as tools/build_library.py makes them (out/prefix where none is given). What is tried
-stands in dask_package.py, which this Python runs or the system's, where one has dask with its dataframes and
-dask.distributed; elsewhere it is told as skipped. LINES are those of its large catalogue. The last line is 'N passed, M
+is in dask_package.py, which this Python runs or the system's, where one has dask with its dataframes and
+dask.distributed; elsewhere it is reported as skipped. LINES are those of its large catalogue. The last line is 'N passed, M
 failed', and the status is 0 where M is 0.
 """
 from __future__ import annotations

@@ -7,9 +7,9 @@ In a block that begins with the line ```console, a line '$ COMMAND' is run by th
 the lines '> MORE' directly below it, and the lines up to the next command are what it must print on standard output. A
 block that begins with the line ```console needs=TOOL[,TOOL..] is run where each TOOL is there, a program on the PATH,
 as python3:MODULE a module of that Python, as $NAME a variable of the environment, or a file of the repository, whose path
-has a slash; elsewhere its commands are told as skipped, by the tool's name. A block that begins with ```rust is code
-that must stand, line by line, in a file of crates/crs_examples/src, which the gate proves and runs; one that begins with
-```LANGUAGE of=FILE is code that must stand so in that file of the repository.
+has a slash; elsewhere its commands are reported as skipped, by the tool's name. A block that begins with ```rust is code
+that must be found, line by line, in a file of crates/crs_examples/src, which the gate proves and runs; one that begins
+with ```LANGUAGE of=FILE is code that must be found so in that file of the repository.
 
 Without files they are README.md and docs/*.md; README.md then has at most 1,300 words. Each command that prints
 something else has a line; the last line is 'N passed, M failed', and the status is 0 where M is 0.
@@ -78,7 +78,7 @@ def lacking(head):
 
 
 def faults_of(path, skipped):
-    """For each thing that is held against the repository why it fails, or None."""
+    """For each thing that is compared with the repository why it fails, or None."""
     for start, head, lines in blocks_of(path):
         place = f"{path.name}:{start}"
         if head.split(" ")[0] == "console":
@@ -92,12 +92,12 @@ def faults_of(path, skipped):
                 yield None if found == wanted else f"{place}: {command}: printed {found!r}, wanted {wanted!r}"
         elif head == "rust":
             text = "\n".join(lines) + "\n"
-            stands = any(text in file.read_text(encoding="utf-8") for file in EXAMPLES.rglob("*.rt"))
-            yield None if stands else f"{place}: this code stands in no file of {EXAMPLES.relative_to(ROOT)}"
+            is_found = any(text in file.read_text(encoding="utf-8") for file in EXAMPLES.rglob("*.rt"))
+            yield None if is_found else f"{place}: this code is in no file of {EXAMPLES.relative_to(ROOT)}"
         elif " of=" in head:
             file = ROOT / head.partition(" of=")[2]
-            stands = file.exists() and "\n".join(lines) + "\n" in file.read_text(encoding="utf-8")
-            yield None if stands else f"{place}: this code doesn't stand in {file.relative_to(ROOT)}"
+            is_found = file.exists() and "\n".join(lines) + "\n" in file.read_text(encoding="utf-8")
+            yield None if is_found else f"{place}: this code isn't in {file.relative_to(ROOT)}"
     if path == ROOT / "README.md":
         words = len(path.read_text(encoding="utf-8").split())
         yield None if words <= MOST_WORDS else f"{path.name}: {words} words, at most {MOST_WORDS}"

@@ -3,7 +3,7 @@
 
     run_install.py
 
-What isn't there is told as skipped, by name. Each case that fails has a line; the last line is 'N passed, M failed',
+What isn't there is named as skipped. Each case that fails has a line; the last line is 'N passed, M failed',
 and the status is 0 where M is 0.
 """
 from __future__ import annotations
@@ -89,7 +89,7 @@ def files_below(folder: pathlib.Path) -> Set[str]:
 
 
 def wanted_files(error: str) -> Set[str]:
-    """What an installation has; the extension is left out where SQLite's header isn't there, which it has told."""
+    """What an installation has; the extension is left out where SQLite's header isn't there, which it has reported."""
     lacks = "skipped: lib/crsdesk_sqlite.so" in error
     if lacks:
         print("skipped: sqlite3ext.h isn't there: lib/crsdesk_sqlite.so")
@@ -231,7 +231,7 @@ def try_uninstall(counts: Counts, prefix: pathlib.Path) -> None:
 
 
 def try_destdir(counts: Counts, folder: pathlib.Path) -> None:
-    """Below DESTDIR, in which a folder stands already: empty ones that weren't made stay."""
+    """Below DESTDIR, where a folder is there already: empty ones that weren't made stay."""
     stage = folder / "a stage"
     (stage / "usr/local/share/man").mkdir(parents=True)
     done = run([ROOT / "install"], DESTDIR=str(stage))

@@ -11,7 +11,7 @@ of the system's is touched. The server runs as nobody where root calls, and is r
 The rows of the .rows files beside this one are asked of the functions, as text and as bytea, in databases of three
 encodings; then come what no text is, levels, constraints, indexes, generated columns, a parallel plan over a million
 rows, a cancelled query, dump and restore, an update from each older version, entries of a GeoPackage, the commands that
-docs/SQL.md shows, and each growth of memory refused in turn. What isn't there is told as skipped, by name. Each case that
+docs/SQL.md shows, and each growth of memory refused in turn. What isn't there is named as skipped. Each case that
 fails has a line; the last line is 'N passed, M failed', and the status is 0 where M is 0.
 """
 from __future__ import annotations
@@ -141,7 +141,7 @@ class Server:
 
     @contextlib.contextmanager
     def running(self, **more: str) -> Iterator[None]:
-        """The server, from when it answers; ended behind."""
+        """The server, from when it answers; it is ended afterwards."""
         settings = {
             "listen_addresses": "",
             "unix_socket_directories": str(self.folder),
@@ -175,7 +175,7 @@ class Server:
                 server.wait(SECONDS)
 
     def printed(self, statements: List[Statement], database: str = "postgres", first: str = "") -> List[str]:
-        """What the program psql prints for each statement, and at last behind them; an error as 'Error: '."""
+        """What the program psql prints for each statement, and after all of them; an error as 'Error: '."""
         script = [f"{first}\n"]
         for index, (_, statement, _) in enumerate(statements):
             script.append(f"{statement}\n\\echo -- {index}\n")
@@ -200,7 +200,7 @@ class Server:
         *answers, rest = self.printed(statements, database, first)
         for (place, statement, wanted), got in zip(statements, answers):
             counts.compare(f"{database}: {place}: {statement[:100]}", got, wanted)
-        counts.compare(f"{database}: behind all statements", rest, "")
+        counts.compare(f"{database}: after all statements", rest, "")
 
     def make(self, database: str, encoding: str = "UTF8") -> None:
         """An empty database of an encoding."""
@@ -235,7 +235,7 @@ def try_symbols(counts: Counts, module: pathlib.Path, scripts: str) -> None:
 
 
 def try_version(counts: Counts, server: Server, prefix: pathlib.Path) -> None:
-    """crs_version tells the library that the extension holds; the extension's own version is that of its scripts."""
+    """crs_version is the library's that the extension holds; the extension's own version is that of its scripts."""
     told = (prefix / "lib" / "pkgconfig" / "crsdesk.pc").read_text(encoding="utf-8").split("\n")
     wanted = next(line.partition(": ")[2] for line in told if line.startswith("Version: "))
     asked = "SELECT crs_version(), extversion FROM pg_extension WHERE extname = 'crsdesk';"
@@ -405,7 +405,7 @@ def try_cancel(counts: Counts, server: Server) -> None:
                 "SET max_parallel_workers_per_gather = 2; SELECT count(crs_canon(a.wkt)) FROM million AS a, generate_series(1, 1000);",
                 "Error: canceling statement due to statement timeout",
             ),
-            ("behind it", f"SELECT crs_kind('{HEIGHT}');", "vertical"),
+            ("after it", f"SELECT crs_kind('{HEIGHT}');", "vertical"),
         ],
         "utf8",
     )

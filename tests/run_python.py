@@ -5,8 +5,8 @@
 
 PREFIX has the shared object in lib/, as tools/build_library.py makes it (out/prefix where none is given).
 The wheel is built by pip with no network. python_package.py has what is tried of the package, and what beside each package
-of BESIDE, by a Python that has it. mypy and black judge the code where they are there. What isn't there is told as
-skipped, by name. Each case that fails has a line; the last line
+of BESIDE, by a Python that has it. mypy and black judge the code where they are there. What isn't there is named as
+skipped. Each case that fails has a line; the last line
 is 'N passed, M failed', and the status is 0 where M is 0.
 """
 from __future__ import annotations

@@ -7,7 +7,7 @@ PREFIX has the header and the static library, as tools/build_library.py makes th
 is given). The extension is built anew as sql/out/crsdesk_sqlite.so, under all warnings. The rows of the .rows files
 beside it are asked of its functions by the program sqlite3, as TEXT and as BLOB; then come what no text is, levels,
 indexes, other encodings and long texts; all of it again under checks of memory; threads; and, where GDAL is there, a
-GeoPackage. What isn't there is told as skipped, by name. Each case that fails has a line; the last line is 'N passed, M
+GeoPackage. What isn't there is named as skipped. Each case that fails has a line; the last line is 'N passed, M
 failed', and the status is 0 where M is 0.
 """
 from __future__ import annotations
@@ -97,7 +97,7 @@ PLAN = "QUERY PLAN\n`--SEARCH t USING INDEX t_by_crs (<expr>=?)"
 
 
 def printed(extension: pathlib.Path, statements: List[Statement], first: str, preloaded: str) -> List[str]:
-    """What the program sqlite3 prints for each statement, and at last behind them."""
+    """What the program sqlite3 prints for each statement, and after all of them."""
     script = [f"{first}\n.load {extension}\n"]
     for index, (_, statement, _) in enumerate(statements):
         script.append(f"{statement}\n.print -- {index}\n")
@@ -120,7 +120,7 @@ def printed(extension: pathlib.Path, statements: List[Statement], first: str, pr
 
 
 def plain_error(text: str) -> str:
-    """An error without the place that sqlite3 puts before it and the piece that it puts behind."""
+    """An error without the place that sqlite3 puts before it and the piece that it puts after it."""
     line = text.split("\n")[0]
     for front in ("Runtime error near line ", "Parse error near line ", "Error: near line "):
         if line.startswith(front):
@@ -135,7 +135,7 @@ def try_statements(counts: Counts, extension: pathlib.Path, preloaded: str = "")
         *answers, rest = printed(extension, statements, first, preloaded)
         for (place, statement, wanted), got in zip(statements, answers):
             counts.compare(f"{place}: {first} {statement[:80]}", plain_error(got), wanted)
-        counts.compare("behind all statements", rest, "")
+        counts.compare("after all statements", rest, "")
 
 
 def try_sanitized(counts: Counts, prefix: pathlib.Path, folder: pathlib.Path) -> None:
@@ -163,7 +163,7 @@ def try_symbols(counts: Counts, extension: pathlib.Path) -> None:
 
 
 def try_version(counts: Counts, prefix: pathlib.Path, extension: pathlib.Path) -> None:
-    """It tells the version of the library that it holds."""
+    """It answers the version of the library that it holds."""
     told = (prefix / "lib" / "pkgconfig" / "crsdesk.pc").read_text(encoding="utf-8").split("\n")
     wanted = next(line.partition(": ")[2] for line in told if line.startswith("Version: "))
     found = printed(extension, [("the version", "SELECT crs_version(), typeof(crs_version());", "")], "", "")

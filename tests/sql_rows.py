@@ -26,7 +26,7 @@ class Dialect(NamedTuple):
     ``hex``      the bytes of a text in capital digits; nothing of NULL
     ``number``   a condition, as 1 or 0; nothing of NULL
     ``zeros``    a text of so many zeros
-    ``part``     what stands in the first object of a JSON array under a key, as a text; nothing where none does
+    ``part``     the value of a key in the first object of a JSON array, as a text; nothing where there is none
     ``is_none``  whether a JSON array has no members
     """
 

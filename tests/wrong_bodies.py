@@ -1,8 +1,8 @@
 #!/usr/bin/env python3
 """Checks, without proving, that each wrong body still applies to the sources.
 
-Each file of must-fail/ and of more-wrong-bodies/ has lines `file: PATH`, `old: TEXT` and `new: TEXT`: the old text
-stands in that file exactly once, after the pairs before it. A crate has at most twelve in must-fail/, which the gate
+Each file of must-fail/ and of more-wrong-bodies/ has lines `file: PATH`, `old: TEXT` and `new: TEXT`: the old text is
+in that file exactly once, after the pairs before it. A crate has at most twelve in must-fail/, which the gate
 tries; `./wrong-bodies` tries them all. Prints what does not apply, and `N passed, M failed`.
 """
 import pathlib
@@ -32,7 +32,7 @@ def fault_of(crate, edit):
                 return "a new text without a file and an old text"
             count = sources[path].count(old)
             if count != 1:
-                return f"its old text stands {count} times in {path}: {old}"
+                return f"its old text is there {count} times in {path}: {old}"
             sources[path] = sources[path].replace(old, text_of(line, "new"))
             old, pairs = None, pairs + 1
         elif line.strip():
@@ -48,7 +48,7 @@ def main(root):
         if len(gate) > MOST:
             faults.append(f"{crate.name}: {len(gate)} in must-fail, at most {MOST}")
         for name in {edit.name for edit in gate} & {edit.name for edit in further}:
-            faults.append(f"{crate.name}: {name} stands in both folders")
+            faults.append(f"{crate.name}: {name} is in both folders")
         for edit in gate + further:
             fault = fault_of(crate, edit)
             if fault is None:

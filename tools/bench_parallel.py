@@ -8,7 +8,7 @@ PREFIX has the header and the libraries, as build_library.py makes them (out/pre
 has LINES lines (100,000) by tests/big_catalogue.py, four spellings of each CRS. A line is printed for each: the seconds
 and the lines a second of the best of three runs, and the machine's load average before it. By Dask a bag of as many
 partitions as fit eight a worker is grouped, by PostgreSQL crs_canon is called for each row. It judges nothing. It takes a
-Python that has dask, and a server of PostgreSQL; what isn't there is told as skipped.
+Python that has dask, and a server of PostgreSQL; what isn't there is reported as skipped.
 """
 from __future__ import annotations
 

@@ -24,7 +24,7 @@ RUNS = 9
 
 
 def seconds(words: List[str], script: str) -> float:
-    """The processor's time that the program sqlite3 takes for the last statement of a script, as it tells by itself."""
+    """The processor's time that the program sqlite3 takes for the last statement of a script, as it reports it."""
     done = subprocess.run(words, input=script.encode(), stdout=subprocess.PIPE, check=True).stdout.decode()
     times = [line for line in done.split("\n") if line.startswith("Run Time:")]
     _, _, _, _, _, user, _, system = times[-1].split()

@@ -10,13 +10,13 @@ given, has
     include/crsdesk.h           the header
     lib/libcrsdesk.a            the static library, with the C functions of the toolchain's heap in it
     lib/libcrsdesk.so.0         the shared object, which needs the C library alone; libcrsdesk.so is the same file
-    lib/pkgconfig/crsdesk.pc    what pkg-config tells, by where it lies itself
+    lib/pkgconfig/crsdesk.pc    what pkg-config answers, relative to its own folder
 
 Both libraries show the calls of the header, and no other name. Before they are made, a C program compares the sizes and
 the fields of the header's structs with the library's own (crates/crs_c/layout.c). It takes a C compiler, cc, and ld,
 objcopy and nm.
 
-The status is 0 where they stand there; else 2, with a line on standard error.
+The status is 0 where they are there; else 2, with a line on standard error.
 """
 import os
 import pathlib
@@ -161,7 +161,7 @@ def link(made, kit, folder):
         shared.unlink(missing_ok=True)
         run("cc", "-shared", "-o", shared, *linker, "-Wl,--gc-sections", whole)
         run("strip", "--strip-unneeded", shared)
-    # Not a symbolic link, which the toolchain lets stand nowhere in the repository.
+    # Not a symbolic link: the toolchain allows none in the repository.
     (lib / "libcrsdesk.so").unlink(missing_ok=True)
     os.link(shared, lib / "libcrsdesk.so")
     shown = {line.split()[-1] for line in run("nm", "-D", "--defined-only", shared).splitlines()}

@@ -4,12 +4,12 @@
     build_postgresql.py [PREFIX [STAGE]]
 
 PREFIX has the header and the library, as build_library.py makes them (out/prefix where none is given).
-Below the folder STAGE, sql/out/postgresql where none is given, its files then stand under the paths at which the server
-looks for them; what stood in that folder before is gone. The server is that of the program that the environment variable
+Below the folder STAGE, sql/out/postgresql where none is given, its files are then under the paths at which the server
+looks for them; what was in that folder before is gone. The server is that of the program that the environment variable
 PG_CONFIG names, else of pg_config. It takes a C compiler, make, and the server's headers (Debian:
 postgresql-server-dev-15).
 
-The status is 0 where they stand there, 3 where pg_config, make or the headers aren't there, else 2, with a line on
+The status is 0 where they are there, 3 where pg_config, make or the headers aren't there, else 2, with a line on
 standard error.
 """
 import os
@@ -26,7 +26,7 @@ NO_HEADER = 3
 
 
 def folder_of(kind: str) -> pathlib.Path:
-    """A folder that pg_config tells, such as pkglibdir. OSError or CalledProcessError where it tells none."""
+    """A folder that pg_config names, such as pkglibdir. OSError or CalledProcessError where it names none."""
     words = [os.environ.get("PG_CONFIG", "pg_config"), f"--{kind}"]
     return pathlib.Path(subprocess.run(words, capture_output=True, text=True, check=True).stdout.strip())
 
@@ -51,7 +51,7 @@ def build(prefix: pathlib.Path, stage: pathlib.Path, flags: str) -> None:
             shutil.copy(file, scratch)
         words = ["make", "-s", "install", f"CRSDESK={prefix.resolve()}", f"DESTDIR={stage.resolve()}", f"COPT={flags}"]
         words.append(f"PG_CONFIG={os.environ.get('PG_CONFIG', 'pg_config')}")
-        # What make is told by its environment is for other builds.
+        # The environment's variables for make are meant for other builds.
         environment = {
             key: value for key, value in os.environ.items() if key not in ("MAKEFLAGS", "MFLAGS", "MAKELEVEL")
         }

@@ -8,7 +8,7 @@ proved before: so the gate proves it too. What is proved stays in the crate's ou
 A call after an interrupt or a change goes on from there; where nothing changed it proves nothing. Other runs of the
 toolchain in these crates wait, and so does this one.
 
-The status is 0 where the program stands there and is newer than its sources; else 2, with a line on standard error.
+The status is 0 where the program is there and is newer than its sources; else 2, with a line on standard error.
 """
 import contextlib
 import fcntl
@@ -30,8 +30,8 @@ MOST_JOBS = 4
 JOB_BYTES = 1_500_000_000
 TARGET = "x86_64-unknown-linux-gnu"
 BESIDE = 15
-# Seconds of each crate, as this script measured them on four cores and nothing else at work (docs/GATE.md): what is
-# left is told by them, and by how much slower or faster the crates before were.
+# Seconds of each crate, as this script measured them on four cores and nothing else at work (docs/GATE.md): the time
+# left is estimated by them, and by how much slower or faster the crates before were.
 KNOWN_SECONDS = {
     "crs_decimal": 22,
     "crs_text": 40,
@@ -326,7 +326,7 @@ def build():
             for crate in crates:
                 crate.stamp_now = crate.stamp()
             prove(crates, "the program")
-        # A source beside those that count may be newer: what stands here is as new as all of them.
+        # A source beside those that count may be newer: what is here is as new as all of them.
         os.utime(program)
 
 

@@ -4,10 +4,10 @@
     build_sqlite.py [PREFIX [FILE]]
 
 PREFIX has the header and the library, as build_library.py makes them (out/prefix where none is given).
-FILE, sql/out/crsdesk_sqlite.so where none is given, then stands alone: it needs the C library and nothing else. It
+FILE, sql/out/crsdesk_sqlite.so where none is given, then needs the C library and nothing else. It
 takes a C compiler, cc, and SQLite's header sqlite3ext.h (Debian: libsqlite3-dev).
 
-The status is 0 where it stands there, 3 where SQLite's header isn't there, else 2, with a line on standard error.
+The status is 0 where it is there, 3 where SQLite's header isn't there, else 2, with a line on standard error.
 """
 import pathlib
 import subprocess

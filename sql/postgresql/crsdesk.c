@@ -30,7 +30,7 @@ PG_MODULE_MAGIC;
 #define SHORT_ROOM 160
 /* How many bytes a `text` may have. */
 #define MOST_BYTES ((size_t)(MaxAllocSize - VARHDRSZ))
-/* How many bytes of a wrong level are told. */
+/* How many bytes of a wrong level an error shows. */
 #define TOLD_BYTES 40
 
 /* The bytes that the library judges. */
@@ -88,7 +88,7 @@ static void hold_code(uint32 code)
         elog(ERROR, "crsdesk: a code that isn't known: %u", code);
 }
 
-/* What the library wrote behind a header's room, as a `text` of the server's encoding. */
+/* What the library wrote after a header's room, as a `text` of the server's encoding. */
 static text *text_of(text *out, size_t length)
 {
     char *bytes = VARDATA(out), *converted;
@@ -194,7 +194,7 @@ static Datum difference_of(FunctionCallInfo fcinfo, bool first_is_text, bool sec
     PG_RETURN_TEXT_P(cstring_to_text_with_len(path, (int)length));
 }
 
-/* Whether a value of the lines of differences has a NUL byte, which stands there escaped. */
+/* Whether a value of the lines of differences has a NUL byte, which is escaped there. */
 static bool has_nul(const char *lines, size_t length)
 {
     size_t i;

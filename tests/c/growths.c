@@ -3,7 +3,7 @@
    A growth is a call of malloc, realloc or aligned_alloc, which this program has in the C library's place, so that the
    library calls them here, linked in or as a shared object. Each call is made with ample memory, and then with its
    first growth refused, its second, and so on until a call meets no refusal. Each must answer what it answers with
-   ample memory, or CRSDESK_NO_MEMORY with all that it was handed as before; and as many blocks must be in use behind
+   ample memory, or CRSDESK_NO_MEMORY with all that it was handed as before; and as many blocks must be in use after
    it as before. Each call has a line with its counts; the last line is 'N passed, M failed', and the status is 0 where
    M is 0. glibc alone: the real calls are those that it keeps under other names. */
 #define _GNU_SOURCE
@@ -151,7 +151,7 @@ static struct crsdesk_standing added(struct crsdesk_catalogue *catalogue, uint64
     return crsdesk_catalogue_add(catalogue, number, text, strlen(text));
 }
 
-/* A catalogue of four texts, of which one is refused; where each stands, and the lines of the first group. */
+/* A catalogue of four texts, of which one is refused; where each was placed, and the lines of the first group. */
 static uint32_t catalogue(const struct trial *it, struct places *to)
 {
     static const char refused_text[] = "GEOGCRS[\"A\"]";

@@ -17,7 +17,7 @@
 
 #include <crsdesk.h>
 
-/* What stands at the caller's places before a call. */
+/* What is at the caller's places before a call. */
 enum { UNTOLD = 0x5a5a5a5a, FILLER = 0xa5, THREADS = 4, STACK = 256 * 1024 };
 
 struct bytes {
@@ -219,7 +219,7 @@ static void without_level(struct asked asked, struct answer *answer)
     free(out);
 }
 
-/* The explanation of a text begins with the line of its refusal, and has the piece and a caret behind it; an accepted
+/* The explanation of a text begins with the line of its refusal, and has the piece and a caret after it; an accepted
    text has none. It is the same in each room. */
 static void explained(const struct asked *given, int is_refused, const struct crsdesk_refusal *told,
                       struct answer *answer)
@@ -286,7 +286,7 @@ static void all_parts(const struct asked *given, uint32_t code, const struct byt
     free(lines.at);
 }
 
-/* `same`, or `different` and the path; or the refusal behind `first` and `second`. */
+/* `same`, or `different` and the path; or the refusal after `first` and `second`. */
 static void answer_same(const struct bytes *first, const struct bytes *second, uint32_t level, struct answer *answer,
                         const char *const names[2])
 {
@@ -362,7 +362,7 @@ static int begins(const struct bytes *bytes, const char *text)
     return bytes->length >= length && memcmp(bytes->at, text, length) == 0;
 }
 
-/* What is before the first line end, and what is behind it. */
+/* What is before the first line end, and what is after it. */
 static struct bytes split(const struct bytes *input, struct bytes *rest)
 {
     const char *end = memchr(input->at, '\n', input->length);
@@ -569,7 +569,7 @@ static void answer_catalogue(const struct row *row, struct answer *answer)
     free(known.refused.text.at);
 }
 
-/* Whether the answer is the one that the row expects; a refusal may stand there without its name. */
+/* Whether the answer is the one that the row expects; a refusal may be there without its name. */
 static int is_expected(const struct row *row, const struct answer *answer)
 {
     if (answer->text.length == row->expect.length
@@ -642,7 +642,7 @@ static int is_right(const struct row *row, int tells)
     return right;
 }
 
-/* The bytes that a line of a row stands for: \n \r \t \\ and \xHH. */
+/* The bytes that a line of a row means: \n \r \t \\ and \xHH. */
 static void unescape(struct bytes *to, const char *at, size_t length)
 {
     to->at = grown(to->at, to->length + length + 1);

@@ -6,7 +6,7 @@
    first gives it back. What orders the turns is named: a mutex, a sequentially consistent atomic, or the end of one
    thread before the start of the next. In the end the catalogue must be that which one thread makes of the same texts.
 
-   Under a thread sanitizer a turn that isn't ordered behind the one before is seen where memory of the catalogue, which
+   Under a thread sanitizer a turn that isn't ordered after the one before is seen where memory of the catalogue, which
    another thread allocated, is grown or freed. `unordered` has turns by a relaxed atomic, which order nothing: there the
    sanitizer must speak, else it would see nothing in the other three either.
 
@@ -41,7 +41,7 @@ static struct crsdesk_standing add(struct crsdesk_catalogue *to, unsigned turn)
     return crsdesk_catalogue_add(to, turn, text, length);
 }
 
-/* Adds the text of a turn, and asks for the group in which it stands. */
+/* Adds the text of a turn, and asks for its group. */
 static void take_turn(unsigned turn)
 {
     char text[LENGTH];
