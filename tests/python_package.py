@@ -4,7 +4,7 @@
     python_package.py [--with PACKAGE]
 
 The rows of the .rows files beside it are asked of the package's calls; then come the package's own promises: how a
-refusal is told, hints, what no text is, hashing, threads, long texts, and the commands over files. run_python.py runs
+refusal is explained, hints, what no text is, hashing, threads, long texts, and the commands over files. run_python.py runs
 it with the package installed in a fresh environment. With --with, what is tried is its use beside another package:
 pandas, pyproj, rasterio or osgeo. What isn't there is named as skipped. Each case that fails has a line; the last
 line is 'N passed, M failed', and the status is 0 where M is 0.
@@ -554,7 +554,7 @@ def a_crs_goes_where_a_text_goes() -> None:
 
 
 def a_crs_of_another_package() -> None:
-    """It is asked for WKT2:2019, and its text is kept; a wrong call is told the right one."""
+    """It is asked for WKT2:2019, and its text is kept; the error of a wrong call names the right one."""
     for package in TO_WKT:
         crs = Crs.from_user(stand_in(package))
         assert crs == Crs(HEIGHT) and crs.text == HEIGHT.encode()
