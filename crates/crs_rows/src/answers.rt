@@ -8,7 +8,7 @@ use crate::{
 use crs_value::Level;
 use std::alloc::{AllocError, Global};
 
-/// Appends the answer of a call to an input, as a row writes it, the lines of the input having these ends; behind a
+/// Appends the answer of a call to an input, as a row writes it, the lines of the input having these ends; after a
 /// blank the call may have words, of which the last two may be `at definition`, its level.
 pub fn put_answer(
     out: &mut String,
@@ -28,7 +28,7 @@ pub fn put_answer(
     }
 }
 
-// A call and its level, which is Full where none stands behind it.
+// A call and its level, which is Full where no level follows it.
 fn split_level(call: &str) -> (&str, Level) {
     match call.strip_suffix(" at definition") {
         Some(call) => (call, Level::Definition),

@@ -39,7 +39,7 @@ fn put_call(out: &mut String, catalogue: &mut Catalogue, line: &[u8]) -> Result<
     }
 }
 
-// What stands before the first blank, and what stands behind it.
+// What comes before the first blank, and what comes after it.
 fn split_blank(line: &[u8]) -> (&[u8], &[u8]) {
     match line.iter().position(|byte| *byte == b' ') {
         Some(at) => (&line[..at], &line[at + 1..]),
@@ -57,7 +57,7 @@ fn number_of(digits: &[u8]) -> usize {
     number
 }
 
-/// Where a line was put.
+/// Where a line was placed.
 pub fn put_placed(out: &mut String, placed: Placed) -> Result<(), AllocError> {
     match placed {
         Placed::Blank => out.push_str("blank"),

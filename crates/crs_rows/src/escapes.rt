@@ -3,8 +3,7 @@ ghost use Rattle.std.specs.Prelude.{◌<◌, ◌≤◌, IfSome, length};
 
 use std::alloc::AllocError;
 
-/// Appends the bytes that a text stands for; false where it has another escape, with the bytes before it
-/// appended.
+/// Appends the bytes that a text means; false where it has another escape, with the bytes before it appended.
 pub fn put_bytes(out: &mut Vec<u8>, text: &[u8]) -> Result<bool, AllocError> {
     let mut rest = text;
     while let Some((byte, after)) = first_byte(rest) {
@@ -43,7 +42,7 @@ fn hex_digit(byte: u8) -> Option<u8>
     }
 }
 
-/// Appends a text that stands for the bytes, of visible ASCII characters and blanks.
+/// Appends a text that means the bytes, of visible ASCII characters and blanks.
 pub fn put_text(out: &mut String, bytes: &[u8]) -> Result<(), AllocError> {
     for byte in bytes {
         match *byte {

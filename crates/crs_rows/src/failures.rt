@@ -6,8 +6,9 @@ use std::alloc::{AllocError, Global};
 // No row reads or writes more often.
 const MOST: u32 = 10_000;
 
-/// Runs a command with its first read failing, then its second, and so on. Each run must end with `ReadFailed` by this
-/// read, with nothing written. How many did, and what the run behind them did, in which another thing or nothing fails.
+/// Runs a command with its first read failing, then its second, and so on. Each run must end with `ReadFailed` by
+/// this read, with nothing written. How many did, and what the run after them did, in which another thing or nothing
+/// fails.
 pub fn put_failed_reads(
     out: &mut String,
     alloc: Global,
@@ -28,8 +29,9 @@ pub fn put_failed_reads(
     out.push_str("no end of reads")
 }
 
-/// Runs a command with its first write failing, then its second, and so on. Each run must end with `WriteFailed`, with
-/// all written that the writes before took. How many did, and what the run behind them did, in which nothing fails.
+/// Runs a command with its first write failing, then its second, and so on. Each run must end with `WriteFailed`,
+/// with all written that the writes before took. How many did, and what the run after them did, in which nothing
+/// fails.
 pub fn put_failed_writes(
     out: &mut String,
     alloc: Global,

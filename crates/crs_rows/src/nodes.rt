@@ -79,7 +79,7 @@ fn put_node<T: Canonical>(
     put_text(out, &text)
 }
 
-// A set may append nothing, which is told as `nothing`.
+// A set may append nothing, which is written as `nothing`.
 fn put_set(
     out: &mut String,
     alloc: Global,

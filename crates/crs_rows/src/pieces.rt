@@ -77,7 +77,7 @@ fn answer(alloc: Global, text: &[u8]) -> Result<String, AllocError> {
     Ok(answer)
 }
 
-/// Feeds a piece; a refusal is told by `finish` again.
+/// Feeds a piece; `finish` answers its refusal again.
 pub fn feed(feeder: &mut Feeder, piece: &[u8]) -> Result<(), AllocError> {
     match feeder.feed(piece) {
         Ok(()) | Err(Fault::Refused(_)) => Ok(()),

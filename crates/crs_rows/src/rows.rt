@@ -110,7 +110,7 @@ impl<'t> Row<'t> {
     }
 }
 
-// The first word of a line, and what stands behind the blanks after it.
+// The first word of a line, and what follows the blanks after it.
 fn split_word(line: &str) -> (&str, &str) {
     match line.split_once(' ') {
         Some((word, rest)) => (word, rest.trim_start()),

@@ -133,7 +133,7 @@ fn put_summary(out: &mut String, summary: Summary) -> Result<(), AllocError> {
     )
 }
 
-// The fault of a run; want of memory is the error.
+// The fault of a run; the error is out of memory.
 fn put_fault(out: &mut String, fault: &RunFault) -> Result<(), AllocError> {
     match fault {
         RunFault::ReadFailed => out.push_str("fault ReadFailed"),

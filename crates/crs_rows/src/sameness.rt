@@ -98,8 +98,8 @@ pub fn paths_text(alloc: Global, differences: &Differences<'_, '_>) -> Result<Ve
     Ok(words)
 }
 
-/// All parts in which the CRSs of two texts differ, one a line of the text, each as its path and what stands there in
-/// the first and in the second, with a semicolon between two; else as `put_differences`.
+/// All parts in which the CRSs of two texts differ, one a line of the text, each as its path and its value in the
+/// first and in the second, with a semicolon between two; else as `put_differences`.
 pub fn put_values(
     out: &mut String,
     alloc: Global,
@@ -216,7 +216,7 @@ enum Outcome {
     OneWay,
 }
 
-/// What stands before the first line end, and what stands behind it.
+/// What comes before the first line end, and what comes after it.
 pub fn split_line(input: &[u8]) -> (&[u8], &[u8]) {
     match input.find_byte(b'\n') {
         Some(end) => (&input[..end], &input[end + 1..]),

@@ -79,9 +79,9 @@ pub fn put_keywords(out: &mut String, input: &[u8]) -> Result<(), AllocError> {
     }
 }
 
-/// The slots of the class that keywords lead to: each with the classes that may stand there by their first keywords, or
-/// as `number`, `text` and `word`, joined by `|`, and a mark: `?` where it may be left out, `+` where it may be
-/// repeated, `*` for both.
+/// The slots of the class that keywords lead to: each with the classes that are allowed there by their first
+/// keywords, or as `number`, `text` and `word`, joined by `|`, and a mark: `?` where it may be left out, `+` where it
+/// may be repeated, `*` for both.
 pub fn put_slots(out: &mut String, input: &[u8]) -> Result<(), AllocError> {
     match class_at(input) {
         Some(class) => {

@@ -8,7 +8,7 @@ use crs_decimal::Decimal;
 use crs_text::{Fault, ItemId, ItemKind, Items, Keyword, Refusal, read_items};
 use std::alloc::{AllocError, Global};
 
-// No item stands inside more delimiters than these.
+// No item is inside more delimiters than these.
 const DEPTH: u8 = 12;
 
 /// What is asked of each item.
@@ -22,7 +22,7 @@ pub enum Column {
     Number,
     /// How many items are in it, itself included.
     Size,
-    /// The place of the argument behind it in its node.
+    /// The place of the argument after it in its node.
     Next,
     /// The keyword that a word or a node's word is.
     Keyword,
@@ -55,7 +55,7 @@ pub fn put_read(out: &mut String, read: Result<Items<'_>, Fault>) -> Result<(), 
     put_answered(out, &answer)
 }
 
-/// What was found, or the refusal; want of memory is the error.
+/// What was found, or the refusal; the error is out of memory.
 pub fn answered<T>(found: Result<T, Fault>) -> Result<Result<T, Refusal>, AllocError> {
     match found {
         Ok(value) => Ok(Ok(value)),
@@ -117,7 +117,7 @@ fn put_short(out: &mut String, fault: Fault) -> Result<(), AllocError> {
     }
 }
 
-/// A fault's refusal; want of memory is the error.
+/// A fault's refusal; the error is out of memory.
 pub fn put_fault(out: &mut String, fault: Fault) -> Result<(), AllocError> {
     match fault {
         Fault::Refused(refusal) => put_refusal(out, refusal),

@@ -1,10 +1,10 @@
-//! One call that takes memory, made between two lines on standard output: whoever runs the program can then refuse a
-//! growth of memory to this call, and to nothing else.
+//! One call that takes memory, made between two lines on standard output, so that a test can refuse a growth of
+//! memory to this call, and to nothing else.
 //!
 //! Standard input is a line with the name of the call and then the parts of its input, a NUL byte between two. The
 //! program writes `call`, makes the call, and writes `answered`. Then it prints a line `answer` with the answer.
-//! Where that is `memory`, want of it, a line `kept` says whether all that the call was handed is as it was before,
-//! `yes` or `no`, and a line `again` has the answer of the same call made once more.
+//! Where that is `memory`, out of memory, a line `kept` says whether all that the call was handed is as it was
+//! before, `yes` or `no`, and a line `again` has the answer of the same call made once more.
 mod appending;
 mod catalogues;
 mod commands;

@@ -42,7 +42,7 @@ fn told(alloc: Global, catalogue: &Catalogue) -> Result<String, AllocError> {
     Ok(text)
 }
 
-// All that a catalogue tells: each group's lines and text, then the refused lines.
+// All that a catalogue answers: each group's lines and text, then the refused lines.
 fn put_catalogue(out: &mut String, catalogue: &Catalogue) -> Result<(), AllocError> {
     for group in 1..=catalogue.groups() {
         out.push_str("; ")?;
@@ -54,7 +54,7 @@ fn put_catalogue(out: &mut String, catalogue: &Catalogue) -> Result<(), AllocErr
     put_refused(out, catalogue.refused())
 }
 
-/// `Catalogue::add` of the last line, behind the others; lines are numbered from 1.
+/// `Catalogue::add` of the last line, after the others; lines are numbered from 1.
 pub fn try_add(rt: &(impl Print + AllocGlobal), lines: &[&[u8]]) -> io::Result<()> {
     let Some((text, others)) = lines.split_last() else {
         return Err(unusable());

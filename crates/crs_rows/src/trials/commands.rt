@@ -65,7 +65,7 @@ impl Trial for Run<'_> {
     }
 }
 
-/// How a run ended; want of memory is the error.
+/// How a run ended; the error is out of memory.
 pub fn ended<T: Drop>(outcome: Result<T, RunFault>) -> Result<Result<T, RunFault>, AllocError> {
     match &outcome {
         Err(RunFault::Memory) => Err(AllocError),
@@ -152,7 +152,7 @@ impl Trial for Words<'_> {
     }
 }
 
-// What the user is told.
+// What is said to the user.
 fn put_message(out: &mut String, fault: &RequestFault) -> Result<(), AllocError> {
     let message = format!(in *out.allocator(); "{fault}")?;
     out.push_str("message ")?;

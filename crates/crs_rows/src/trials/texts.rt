@@ -40,7 +40,7 @@ struct Feed<'p, 't> {
 impl Trial for Feed<'_, '_> {
     type Answer = Result<(), Refusal>;
 
-    // What the last piece is answered. Behind want of memory the refused piece is the next one again.
+    // What the last piece is answered. After out of memory the refused piece is the next one again.
     fn call(&mut self, _alloc: Global) -> Result<Self::Answer, AllocError> {
         let mut answer = Ok(());
         for piece in self.pieces.iter().skip(self.count) {
@@ -95,7 +95,7 @@ pub fn try_read(rt: &(impl Print + AllocGlobal), text: &[u8]) -> io::Result<()> 
     run(rt, &mut Whole { text })
 }
 
-/// `Feeder::feed` of the last piece, behind the others.
+/// `Feeder::feed` of the last piece, after the others.
 pub fn try_feed(rt: &(impl Print + AllocGlobal), pieces: &[&[u8]]) -> io::Result<()> {
     run_feed(rt, pieces, pieces.len().saturating_sub(1))
 }
@@ -105,7 +105,7 @@ pub fn try_feed_all(rt: &(impl Print + AllocGlobal), pieces: &[&[u8]]) -> io::Re
     run_feed(rt, pieces, 0)
 }
 
-/// `Feeder::finish` behind all pieces.
+/// `Feeder::finish` after all pieces.
 pub fn try_finish(rt: &(impl Print + AllocGlobal), pieces: &[&[u8]]) -> io::Result<()> {
     let feeder = fed(rt.alloc(), pieces, pieces.len())?;
     let before = finished(rt.alloc(), &feeder)?;

@@ -8,7 +8,7 @@ pub trait Trial {
     /// What the call answers where it has the memory, be it a refusal.
     type Answer: Drop;
 
-    /// Makes the call, and nothing else that takes memory. The error is want of memory.
+    /// Makes the call, and nothing else that takes memory. The error is out of memory.
     fn call(&mut self, alloc: Global) -> Result<Self::Answer, AllocError>;
 
     /// Whether all that the call is handed is as it was before the first call.
