@@ -34,8 +34,8 @@ fn walk_method<'b, 'a>(
     requires { length at ≤ 4 }
     ensures { Walked (parts_of_method at level a.now b.now) found.entry result }
 {
-    let found = found.text(&at, Step::Name, a.name, b.name);
-    found.identifiers(&at, level, &a.identifiers, &b.identifiers)
+    let found = found.text(at.then(Step::Name), a.name, b.name);
+    found.identifiers(at.then(Step::Id), level, &a.identifiers, &b.identifiers)
 }
 
 /// Whether two methods are the same: name and identifiers. ISO 19162:2019, "Map projection".
@@ -119,13 +119,12 @@ fn same_geoid_models<'a>(a: &[GeoidModel<'a>], b: &[GeoidModel<'a>], level: Leve
 #[tactic(auto, using(crate::proofs::WalkedLemmas::walked_rules))]
 fn walk_parameters<'b, 'a>(
     found: Found<'b, 'a>,
-    at: &Path,
+    at: Path,
     a: &'b [Parameter<'a>],
     b: &'b [Parameter<'a>],
     level: Level,
 ) -> Found<'b, 'a>
-    requires { length at.now < 5 }
-    ensures { Walked (sets (at.now ▸ step.Parameters) (SameParameter level) content.Parameters a.now b.now) found.entry result }
+    ensures { Walked (sets at (SameParameter level) content.Parameters a.now b.now) found.entry result }
 {
     if found.is_done() {
         return found;
@@ -134,7 +133,7 @@ fn walk_parameters<'b, 'a>(
         return found;
     }
     found.with(
-        at.then(Step::Parameters),
+        at,
         Content::Parameters(Members::new(a), Members::new(b)),
         Content::Parameters(Members::new(b), Members::new(a)),
     )
@@ -143,13 +142,12 @@ fn walk_parameters<'b, 'a>(
 #[tactic(auto, using(crate::proofs::WalkedLemmas::walked_rules))]
 pub(crate) fn walk_geoid_models<'b, 'a>(
     found: Found<'b, 'a>,
-    at: &Path,
+    at: Path,
     a: &'b [GeoidModel<'a>],
     b: &'b [GeoidModel<'a>],
     level: Level,
 ) -> Found<'b, 'a>
-    requires { length at.now < 5 }
-    ensures { Walked (sets (at.now ▸ step.Geoid) (SameGeoidModel level) content.GeoidModels a.now b.now) found.entry result }
+    ensures { Walked (sets at (SameGeoidModel level) content.GeoidModels a.now b.now) found.entry result }
 {
     if found.is_done() {
         return found;
@@ -158,7 +156,7 @@ pub(crate) fn walk_geoid_models<'b, 'a>(
         return found;
     }
     found.with(
-        at.then(Step::Geoid),
+        at,
         Content::GeoidModels(Members::new(a), Members::new(b)),
         Content::GeoidModels(Members::new(b), Members::new(a)),
     )
@@ -178,17 +176,17 @@ pub(crate) fn walk_conversion<'b, 'a>(
     if found.is_done() {
         return found;
     }
-    let found = found.text(&at, Step::Name, a.name, b.name);
+    let found = found.text(at.then(Step::Name), a.name, b.name);
     let method = at.then(Step::Method);
     let found = walk_method(found, method, &a.method, &b.method, level);
     let found = walk_parameters(
         found,
-        &at,
+        at.then(Step::Parameters),
         a.parameters.as_slice(),
         b.parameters.as_slice(),
         level,
     );
-    found.identifiers(&at, level, &a.identifiers, &b.identifiers)
+    found.identifiers(at.then(Step::Id), level, &a.identifiers, &b.identifiers)
 }
 
 /// Whether two conversions are the same: name, method, the set of parameters, and identifiers.

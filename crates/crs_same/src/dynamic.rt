@@ -58,13 +58,12 @@ pub fn same_dynamic<'a>(a: &Dynamic<'a>, b: &Dynamic<'a>, level: Level) -> bool
 #[tactic(auto, using(crate::proofs::WalkedLemmas::walked_rules))]
 fn walk_models<'b, 'a>(
     found: Found<'b, 'a>,
-    at: &Path,
+    at: Path,
     a: Option<&'b DeformationModel<'a>>,
     b: Option<&'b DeformationModel<'a>>,
     level: Level,
 ) -> Found<'b, 'a>
-    requires { length at.now < 5 }
-    ensures { Walked (optional (at.now ▸ step.Model) (SameDeformationModel level) content.Model
+    ensures { Walked (optional at (SameDeformationModel level) content.Model
         (option_copied a.entry) (option_copied b.entry)) found.entry result }
 {
     if found.is_done() {
@@ -73,11 +72,7 @@ fn walk_models<'b, 'a>(
     if same_models(a, b, level) {
         return found;
     }
-    found.with(
-        at.then(Step::Model),
-        Content::optional_model(a),
-        Content::optional_model(b),
-    )
+    found.with(at, Content::optional_model(a), Content::optional_model(b))
 }
 
 fn epoch_of(dynamic: &Option<Dynamic<'_>>) -> Option<Decimal>
@@ -109,6 +104,6 @@ pub(crate) fn walk_dynamic<'b, 'a>(
     requires { length at ≤ 4 }
     ensures { Walked (parts_of_dynamic at level a.now b.now) found.entry result }
 {
-    let found = found.optional_number(&at, Step::Epoch, &epoch_of(a), &epoch_of(b));
-    walk_models(found, &at, model_of(a), model_of(b), level)
+    let found = found.optional_number(at.then(Step::Epoch), &epoch_of(a), &epoch_of(b));
+    walk_models(found, at.then(Step::Model), model_of(a), model_of(b), level)
 }

@@ -207,45 +207,35 @@ impl<'b, 'a> Found<'b, 'a> {
         }
     }
 
-    // ---- over a part one step further
+    // ---- over the part at a path
 
     // Two things that are never the same, with their words.
     #[tactic(auto, using(crate::proofs::WalkedLemmas::walked_rules))]
-    pub(crate) fn unlike(
-        self,
-        at: &Path,
-        step: Step,
-        first: &'static str,
-        second: &'static str,
-    ) -> Found<'b, 'a>
-        requires { length at.now < 5 }
-        ensures { Walked (unlike (at.now ▸ step) first.now second.now) self.entry result }
+    pub(crate) fn unlike(self, at: Path, first: &'static str, second: &'static str) -> Found<'b, 'a>
+        ensures { Walked (unlike at first.now second.now) self.entry result }
     {
-        self.alone(at, step, Content::word(first), Content::word(second))
+        self.alone(at, Content::word(first), Content::word(second))
     }
 
     // A part that one side alone has.
     #[tactic(auto, using(crate::proofs::WalkedLemmas::walked_rules))]
     pub(crate) fn alone(
         self,
-        at: &Path,
-        step: Step,
+        at: Path,
         first: Content<'b, 'a>,
         second: Content<'b, 'a>,
     ) -> Found<'b, 'a>
-        requires { length at.now < 5 }
-        ensures { Walked (part (at.now ▸ step) ⊥ (first.entry) (second.entry)) self.entry result }
+        ensures { Walked (part at ⊥ (first.entry) (second.entry)) self.entry result }
     {
         if self.is_done() {
             return self;
         }
-        self.with(at.then(step), first, second)
+        self.with(at, first, second)
     }
 
     #[tactic(auto, using(crate::proofs::WalkedLemmas::walked_rules))]
-    pub(crate) fn text(self, at: &Path, step: Step, a: &'a [u8], b: &'a [u8]) -> Found<'b, 'a>
-        requires { length at.now < 5 }
-        ensures { Walked (texts (at.now ▸ step) a.now b.now) self.entry result }
+    pub(crate) fn text(self, at: Path, a: &'a [u8], b: &'a [u8]) -> Found<'b, 'a>
+        ensures { Walked (texts at a.now b.now) self.entry result }
     {
         if self.is_done() {
             return self;
@@ -253,19 +243,17 @@ impl<'b, 'a> Found<'b, 'a> {
         if same_text(a, b) {
             return self;
         }
-        self.with(at.then(step), Content::text(a), Content::text(b))
+        self.with(at, Content::text(a), Content::text(b))
     }
 
     #[tactic(auto, using(crate::proofs::WalkedLemmas::walked_rules))]
     pub(crate) fn optional_text(
         self,
-        at: &Path,
-        step: Step,
+        at: Path,
         a: Option<&'a [u8]>,
         b: Option<&'a [u8]>,
     ) -> Found<'b, 'a>
-        requires { length at.now < 5 }
-        ensures { Walked (optional_texts (at.now ▸ step) (option_copied a.entry) (option_copied b.entry)) self.entry result }
+        ensures { Walked (optional_texts at (option_copied a.entry) (option_copied b.entry)) self.entry result }
     {
         if self.is_done() {
             return self;
@@ -273,17 +261,12 @@ impl<'b, 'a> Found<'b, 'a> {
         if same_optional_text(a, b) {
             return self;
         }
-        self.with(
-            at.then(step),
-            Content::optional_text(a),
-            Content::optional_text(b),
-        )
+        self.with(at, Content::optional_text(a), Content::optional_text(b))
     }
 
     #[tactic(auto, using(crate::proofs::WalkedLemmas::walked_rules))]
-    pub(crate) fn number(self, at: &Path, step: Step, a: &Decimal, b: &Decimal) -> Found<'b, 'a>
-        requires { length at.now < 5 }
-        ensures { Walked (numbers (at.now ▸ step) a.now b.now) self.entry result }
+    pub(crate) fn number(self, at: Path, a: &Decimal, b: &Decimal) -> Found<'b, 'a>
+        ensures { Walked (numbers at a.now b.now) self.entry result }
     {
         if self.is_done() {
             return self;
@@ -291,19 +274,17 @@ impl<'b, 'a> Found<'b, 'a> {
         if same_value(a, b) {
             return self;
         }
-        self.with(at.then(step), Content::Number(*a), Content::Number(*b))
+        self.with(at, Content::Number(*a), Content::Number(*b))
     }
 
     #[tactic(auto, using(crate::proofs::WalkedLemmas::walked_rules))]
     pub(crate) fn optional_number(
         self,
-        at: &Path,
-        step: Step,
+        at: Path,
         a: &Option<Decimal>,
         b: &Option<Decimal>,
     ) -> Found<'b, 'a>
-        requires { length at.now < 5 }
-        ensures { Walked (optional_numbers (at.now ▸ step) a.now b.now) self.entry result }
+        ensures { Walked (optional_numbers at a.now b.now) self.entry result }
     {
         if self.is_done() {
             return self;
@@ -312,7 +293,7 @@ impl<'b, 'a> Found<'b, 'a> {
             return self;
         }
         self.with(
-            at.then(step),
+            at,
             Content::optional_number(*a),
             Content::optional_number(*b),
         )
@@ -321,13 +302,12 @@ impl<'b, 'a> Found<'b, 'a> {
     #[tactic(auto, using(crate::proofs::WalkedLemmas::walked_rules))]
     pub(crate) fn length(
         self,
-        at: &Path,
+        at: Path,
         level: Level,
         a: &'b Option<Unit<'a>>,
         b: &'b Option<Unit<'a>>,
     ) -> Found<'b, 'a>
-        requires { length at.now < 5 }
-        ensures { Walked (part (at.now ▸ step.Unit) (SameLength level a.now b.now) (length_unit a.now) (length_unit b.now)) self.entry result }
+        ensures { Walked (part at (SameLength level a.now b.now) (length_unit a.now) (length_unit b.now)) self.entry result }
     {
         if self.is_done() {
             return self;
@@ -335,25 +315,20 @@ impl<'b, 'a> Found<'b, 'a> {
         if same_length(a, b, level) {
             return self;
         }
-        self.with(
-            at.then(Step::Unit),
-            Content::length(a.as_ref()),
-            Content::length(b.as_ref()),
-        )
+        self.with(at, Content::length(a.as_ref()), Content::length(b.as_ref()))
     }
 
     // Units, each where a kind is asked; they are compared as where that of the first is.
     #[tactic(auto, using(crate::proofs::WalkedLemmas::walked_rules))]
     pub(crate) fn unit(
         self,
-        at: &Path,
+        at: Path,
         level: Level,
         asked: (UnitKind, UnitKind),
         a: Option<&'b Unit<'a>>,
         b: Option<&'b Unit<'a>>,
     ) -> Found<'b, 'a>
-        requires { length at.now < 5 }
-        ensures { Walked (units (at.now ▸ step.Unit) level asked.0 asked.1 (option_copied a.entry) (option_copied b.entry))
+        ensures { Walked (units at level asked.0 asked.1 (option_copied a.entry) (option_copied b.entry))
             self.entry result }
     {
         if self.is_done() {
@@ -363,7 +338,7 @@ impl<'b, 'a> Found<'b, 'a> {
             return self;
         }
         self.with(
-            at.then(Step::Unit),
+            at,
             Content::optional_unit(asked.0, a),
             Content::optional_unit(asked.1, b),
         )
@@ -372,13 +347,12 @@ impl<'b, 'a> Found<'b, 'a> {
     // The identifiers that the level keeps.
     pub(crate) fn identifiers(
         self,
-        at: &Path,
+        at: Path,
         level: Level,
         a: &'b List<Ident<'a>>,
         b: &'b List<Ident<'a>>,
     ) -> Found<'b, 'a>
-        requires { length at.now < 5 }
-        ensures { Walked (identifiers (at.now ▸ step.Id) level a.now b.now) self.entry result }
+        ensures { Walked (identifiers at level a.now b.now) self.entry result }
     {
         self.identifiers_of(at, level, a.as_slice(), b.as_slice())
     }
@@ -386,13 +360,12 @@ impl<'b, 'a> Found<'b, 'a> {
     #[tactic(auto, using(crate::proofs::WalkedLemmas::walked_rules))]
     pub(crate) fn identifiers_of(
         self,
-        at: &Path,
+        at: Path,
         level: Level,
         a: &'b [Ident<'a>],
         b: &'b [Ident<'a>],
     ) -> Found<'b, 'a>
-        requires { length at.now < 5 }
-        ensures { Walked (identifiers (at.now ▸ step.Id) level a.now b.now) self.entry result }
+        ensures { Walked (identifiers at level a.now b.now) self.entry result }
     {
         if self.is_done() {
             return self;
@@ -403,7 +376,7 @@ impl<'b, 'a> Found<'b, 'a> {
         let these = level.kept(a);
         let others = level.kept(b);
         self.with(
-            at.then(Step::Id),
+            at,
             Content::Identifiers(Members::new(these), Members::new(others)),
             Content::Identifiers(Members::new(others), Members::new(these)),
         )

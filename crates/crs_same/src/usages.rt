@@ -265,13 +265,12 @@ fn usages_of<'b, 'a>(tail: &'b Tail<'a>, level: Level) -> Usages<'b, 'a>
 #[tactic(auto, using(crate::proofs::WalkedLemmas::walked_rules))]
 fn walk_usages<'b, 'a>(
     found: Found<'b, 'a>,
-    at: &Path,
+    at: Path,
     a: &'b Tail<'a>,
     b: &'b Tail<'a>,
     level: Level,
 ) -> Found<'b, 'a>
-    requires { length at.now < 5 }
-    ensures { Walked (sets (at.now ▸ step.Usage) SameUsage content.Usages
+    ensures { Walked (sets at SameUsage content.Usages
         (kept level (usages_of a.now)) (kept level (usages_of b.now))) found.entry result }
 {
     if found.is_done() {
@@ -281,7 +280,7 @@ fn walk_usages<'b, 'a>(
         return found;
     }
     found.with(
-        at.then(Step::Usage),
+        at,
         Content::Usages(usages_of(a, level), usages_of(b, level)),
         Content::Usages(usages_of(b, level), usages_of(a, level)),
     )
@@ -301,11 +300,10 @@ pub(crate) fn walk_tail<'b, 'a>(
     if found.is_done() {
         return found;
     }
-    let found = walk_usages(found, &at, a, b, level);
-    let found = found.identifiers(&at, level, &a.identifiers, &b.identifiers);
+    let found = walk_usages(found, at.then(Step::Usage), a, b, level);
+    let found = found.identifiers(at.then(Step::Id), level, &a.identifiers, &b.identifiers);
     found.optional_text(
-        &at,
-        Step::Remark,
+        at.then(Step::Remark),
         level.kept_text(a.remark),
         level.kept_text(b.remark),
     )

@@ -1,10 +1,10 @@
 use Rattle.crs_same.specs.PartsOfCrs.{parts_of_method}
-use Rattle.crs_same.proofs.WalkedLemmas.{◌⟫◌}
+use Rattle.crs_same.proofs.WalkedLemmas.{via}
 use Rattle.crs_same.proofs.conversions.walk_method.Goals as goal
 
 pub returns : goal.returns
 unfolding parts_of_method
 returns c =
-    rw (← c.a.view_is, ← c.b.view_is)
-    (c.text-found.ensures ⟫
-    c.identifiers.ensures)
+    rw (← c.a.view_is, ← c.b.view_is) (
+    via c.text-found.result (rw (← c.then.ensures) c.text-found.ensures) (
+    rw (← c.then-2.ensures) c.identifiers.ensures))

@@ -1,15 +1,15 @@
 use Rattle.std.proofs.Common.{rules}
 use Rattle.crs_same.specs.PartsOfCrs.{parts_of_base}
-use Rattle.crs_same.proofs.WalkedLemmas.{◌⟫◌, via}
+use Rattle.crs_same.proofs.WalkedLemmas.{via}
 use Rattle.crs_same.proofs.crs.walk_base.Goals as goal
 
 pub returns : goal.returns
 unfolding parts_of_base
 returns c =
-    rw (← c.a.view_is, ← c.b.view_is)
-    (c.text-found.ensures ⟫
+    rw (← c.a.view_is, ← c.b.view_is) (
+    via c.text-found.result (rw (← c.then.ensures) c.text-found.ensures) (
     via c.walk_dynamic-found.result (rw (← c.then-dynamic.ensures) c.walk_dynamic-found.ensures) (
     via c.walk_frame-found.result (rw (← c.then-datum.ensures) c.walk_frame-found.ensures) (
     via c.walk_meridian-found.result (rw (← c.then-meridian.ensures) c.walk_meridian-found.ensures) (
-    via c.unit-found.result (search rules) (
-    c.identifiers.ensures)))))
+    via c.unit-found.result (rw (← c.then-unit.ensures) (search rules)) (
+    rw (← c.then-2.ensures) c.identifiers.ensures))))))

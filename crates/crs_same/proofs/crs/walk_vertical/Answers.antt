@@ -1,14 +1,14 @@
 use Rattle.crs_same.specs.PartsOfCrs.{parts_of_vertical}
-use Rattle.crs_same.proofs.WalkedLemmas.{◌⟫◌, via}
+use Rattle.crs_same.proofs.WalkedLemmas.{via}
 use Rattle.crs_same.proofs.crs.walk_vertical.Goals as goal
 
 pub returns : goal.returns
 unfolding parts_of_vertical
 returns c =
-    rw (← c.a.view_is, ← c.b.view_is)
-    (c.text-found.ensures ⟫
+    rw (← c.a.view_is, ← c.b.view_is) (
+    via c.text-found.result (rw (← c.then.ensures) c.text-found.ensures) (
     via c.walk_dynamic-found.result (rw (← c.then-dynamic.ensures) c.walk_dynamic-found.ensures) (
     via c.walk_frame-found.result (rw (← c.then-datum.ensures) c.walk_frame-found.ensures) (
     via c.walk_system-found.result (rw (← c.then-system.ensures) c.walk_system-found.ensures) (
-    via c.walk_geoid_models-found.result (rw (← c.as_slice.ensures, ← c.as_slice-2.ensures) c.walk_geoid_models-found.ensures) (
-    c.walk_tail.ensures)))))
+    via c.walk_geoid_models-found.result (rw (← c.then-geoid.ensures, ← c.as_slice.ensures, ← c.as_slice-2.ensures) c.walk_geoid_models-found.ensures) (
+    c.walk_tail.ensures))))))
