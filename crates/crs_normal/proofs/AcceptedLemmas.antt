@@ -13,7 +13,7 @@ use Rattle.crs_value.specs.ReadsCrs.{ReadsCrs}
 use Rattle.crs_value.specs.Spells.{SpellsCrs}
 use Rattle.crs_value.specs.SpellsText.{Spells}
 use Rattle.crs_normal.specs.CrsClass.{crs_class}
-use Rattle.crs_normal.specs.Made.{IsMade}
+use Rattle.crs_normal.specs.AcceptedNormal.{IsAcceptedNormal}
 use Rattle.crs_normal.specs.SpelledCrs.{item_crs, norm_crs}
 use Rattle.crs_normal.proofs.MadeCrsLemmas.{placed-twice}
 use Rattle.crs_normal.proofs.MadePlaceLemmas.{text-at}
@@ -32,7 +32,7 @@ free-at-root law c item root shaped fault (inr (d, (named, inside))) =
     (law d item).1 (subst (λ k. Shaped k item) same shaped) fault inside
 
 made-spells : NoFaultIsShape → (level : Level) (c : Class) (most : ℕ) (item : Item) (value : Crs) →
-    class_of_root item ≡ Some c → IsMade level c most item → ReadsCrs c item value → SpellsCrs item value
+    class_of_root item ≡ Some c → IsAcceptedNormal level c most item → ReadsCrs c item value → SpellsCrs item value
 made-spells law level c most item value root made reads = record {
   class_read = c;
   root = root;
@@ -42,7 +42,7 @@ made-spells law level c most item value root made reads = record {
 }
 
 -- the written text of a made item spells it, at the text's places
-made-stands : WrittenSpells → (level : Level) (c : Class) (item : Item) → IsMade level c 8 (at_place 0 item) →
+made-stands : WrittenSpells → (level : Level) (c : Class) (item : Item) → IsAcceptedNormal level c 8 (at_place 0 item) →
     SpellsNode (item_text item) (at_place 0 item)
 made-stands written level c item made =
     let w : depth (at_place 0 item) ≤ 8 = made.within in
@@ -53,7 +53,7 @@ made-stands written level c item made =
     (subst (SpellsNode (item_text (at_place 0 item))) (placed-twice 0 0 item) spelled)
 
 pub form-spells : NoFaultIsShape → WrittenSpells → (level : Level) (c : Crs) →
-    IsMade level (crs_class c) 8 (at_place 0 (item_crs (norm_crs level c))) →
+    IsAcceptedNormal level (crs_class c) 8 (at_place 0 (item_crs (norm_crs level c))) →
     ReadsCrs (crs_class c) (at_place 0 (item_crs (norm_crs level c))) (norm_crs level c) →
     Spells (item_text (item_crs (norm_crs level c))) (norm_crs level c)
 form-spells law written level c made reads =

@@ -19,8 +19,8 @@ use Rattle.crs_normal.proofs.CheckedLemmas.{as-few}
 use Rattle.crs_normal.proofs.FormLemmas.{Kept, kept-good, optional-spelled}
 use Rattle.crs_normal.proofs.LeafLemmas.{PlainIsOne, number-node-form, text-node-form}
 use Rattle.crs_normal.proofs.RankLemmas.{named-so, rise-as}
-use Rattle.crs_normal.proofs.SortLemmas.{as-class, unplaced-joined, nothing-behind, those-kept, those-last, those-none, those-passed}
-use Rattle.crs_normal.proofs.ViewLemmas.{InSlot, each-so, unplaced_onto, onto, or-false}
+use Rattle.crs_normal.proofs.SortLemmas.{as-class, without_places-joined, nothing-behind, those-kept, those-last, those-none, those-passed}
+use Rattle.crs_normal.proofs.ViewLemmas.{InSlot, each-so, without_places_onto, onto, or-false}
 
 -- an argument in the slot is an anchor or an epoch
 abbrev IsEither : Class → Item → Type 0
@@ -107,15 +107,15 @@ pub anchors-spelled : PlainIsOne → (level : Level) (d : Class) (items : Siblin
     ReadsOptional (ReadsTextOf class.Anchor) (those d class.Anchor items) anchor →
     ReadsOptional (ReadsNumberOf class.AnchorEpoch) (those d class.AnchorEpoch items) epoch →
     (rest after : Siblings) → rest ≡ after →
-    unplaced_onto front rest ≡ opt (text_node (codes "ANCHOR")) anchor (opt (number_node (codes "ANCHOREPOCH")) epoch
+    without_places_onto front rest ≡ opt (text_node (codes "ANCHOR")) anchor (opt (number_node (codes "ANCHOREPOCH")) epoch
     after)
 anchors-spelled law level d items k front a anchor epoch reads reads_epoch rest after same =
     let s = anchored d a.least front a.rest a.rise (each-so (InSlot d anchor_slot) (IsEither d) (either-as d) front a.inside)
     in
     let firsts = a.found ∙ found-firsts d a.least front s in
     let epochs = a.found_epochs ∙ found-epochs d a.least front s in
-    ap (λ xs. unplaced_onto xs rest) s.are
-    ∙ unplaced-joined s.firsts s.epochs rest
+    ap (λ xs. without_places_onto xs rest) s.are
+    ∙ without_places-joined s.firsts s.epochs rest
     ∙ optional-spelled level d class.Anchor (ReadsTextOf class.Anchor) (text_node (codes "ANCHOR"))
     (text-node-form level d class.Anchor (codes "ANCHOR") refl (λ bytes h. h))
     (those d class.Anchor items) s.firsts (kept-good level d class.Anchor items k) firsts

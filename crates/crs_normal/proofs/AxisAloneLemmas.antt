@@ -15,7 +15,7 @@ use Rattle.crs_value.specs.Words.{direction_word}
 use Rattle.crs_value.specs.declared.values.level.Level.{Level}
 use Rattle.crs_value.specs.declared.values.unit_kind.UnitKind.TheVariants as kinds
 use Rattle.crs_normal.specs.AxisAlone.{AreNormalArguments, IsNormalArgument, IsNormalAxis}
-use Rattle.crs_normal.specs.Unplaced.{unplaced}
+use Rattle.crs_normal.specs.WithoutPlaces.{without_places}
 use Rattle.crs_normal.specs.Normal.{IsNormalIn}
 use Rattle.crs_value.specs.Sound.{Each}
 use Rattle.crs_normal.specs.PartTexts.{norm_axis_alone}
@@ -26,7 +26,7 @@ use Rattle.crs_normal.proofs.AxisNormalLemmas.{axis_meridian-form, direction-for
 use Rattle.crs_normal.proofs.FormLemmas.{IsGood, node-spelled, one-spelled, optional-spelled}
 use Rattle.crs_normal.proofs.LeafLemmas.{PlainIsOne, number-node-form, text-form}
 use Rattle.crs_normal.proofs.UnitNormalLemmas.{idents-found-spelled, in-axis, in-plain, unit-form}
-use Rattle.crs_normal.proofs.ViewLemmas.{unplaced-spread, unplaced_onto, same_class, those-looked, view}
+use Rattle.crs_normal.proofs.ViewLemmas.{without_places-spread, without_places_onto, same_class, those-looked, view}
 
 -- ---- a unit of an axis as a plain unit
 
@@ -113,10 +113,10 @@ abbrev plain_item : Level → UnitParts → Item
 plain_item level u = item_unit (norm_unit level kinds.Plain u)
 
 unit-alone-form : PlainIsOne → (level : Level) (item : Item) (u : UnitParts) → IsFair level class.AxisUnit item →
-    ReadsUnit class.AxisUnit item u → unplaced item ≡ plain_item level u
+    ReadsUnit class.AxisUnit item u → without_places item ≡ plain_item level u
 unit-alone-form law level item u f reads = by f.normal
   where
-    by : IsNormalArgument level class.AxisUnit item → unplaced item ≡ plain_item level u
+    by : IsNormalArgument level class.AxisUnit item → without_places item ≡ plain_item level u
     by (inl h) =
         unit-form law level class.Axis class.AxisUnit kinds.Plain refl (in-axis kinds.Plain) (λ raw p. p) item u
         (record { shaped = f.shaped; normal = h }) reads
@@ -126,7 +126,7 @@ unit-alone-form law level item u f reads = by f.normal
 
 unit-alone-spelled : PlainIsOne → (level : Level) (found front : List Item) → Each (IsFair level class.AxisUnit) found →
     found ≡ front → length front ≤ 1 → (value : Option UnitParts) → ReadsOptional (ReadsUnit class.AxisUnit) found value →
-    (rest after : Siblings) → rest ≡ after → unplaced_onto front rest ≡ opt (plain_item level) value after
+    (rest after : Siblings) → rest ≡ after → without_places_onto front rest ≡ opt (plain_item level) value after
 unit-alone-spelled law level found front fair e few value reads rest after f =
     alone front few (subst (Each (IsFair level class.AxisUnit)) e fair) value
     (subst (λ (xs : List Item). ReadsOptional (ReadsUnit class.AxisUnit) xs value) e reads)
@@ -134,7 +134,7 @@ unit-alone-spelled law level found front fair e few value reads rest after f =
   where
     alone : (front : List Item) → length front ≤ 1 → Each (IsFair level class.AxisUnit) front →
         (value : Option UnitParts) → ReadsOptional (ReadsUnit class.AxisUnit) front value →
-        unplaced_onto front rest ≡ opt (plain_item level) value rest
+        without_places_onto front rest ≡ opt (plain_item level) value rest
     alone [] few fair None reads = refl
     alone [] few fair (Some v) reads = absurd reads
     alone (item ∷ items) few fair None reads = absurd reads
@@ -149,7 +149,7 @@ opt-plain level (Some u) rest = refl
 -- ---- the axis
 
 pub axis-alone-form : PlainIsOne → (level : Level) (item : Item) (x : AxisParts) → Shaped class.Axis item →
-    IsNormalAxis level item → ReadsAxis class.Axis item x → unplaced item ≡ item_axis (norm_axis_alone level x)
+    IsNormalAxis level item → ReadsAxis class.Axis item x → without_places item ≡ item_axis (norm_axis_alone level x)
 axis-alone-form law level (leaf kind place raw) x shaped normal reads = absurd normal
 axis-alone-form law level (node place keyword square first others close) x shaped normal reads =
     let d = class.Axis in
@@ -165,7 +165,7 @@ axis-alone-form law level (node place keyword square first others close) x shape
     let fair : (e : Class) → Each (IsFair level e) (those d e items) =
     λ e. those-fair level e (s.0 ∷ s.1.0) items are normal.normal_arguments in
     node-spelled place keyword _ square first others close _ normal.first_keyword
-    (unplaced-spread d (slots_of d) items v
+    (without_places-spread d (slots_of d) items v
     ∙ one-spelled level d class.Text ReadsText text_item (text-form level d) (those d class.Text items) v.0
     (each-good level class.Text (λ e. cc) (those d class.Text items) (fair class.Text))
     (those-looked d class.Text (slots_of d) items v) (v.1.1.0.not_more refl) x.name reads.name _ _

@@ -18,7 +18,7 @@ use Rattle.crs_value.specs.declared.values.system_type.SystemType.{SystemType}
 use Rattle.crs_value.specs.declared.values.unit_kind.UnitKind.{UnitKind}
 use Rattle.crs_value.specs.declared.values.unit_kind.UnitKind.TheVariants as kinds
 use Rattle.crs_same.specs.SameSystems.{own_or}
-use Rattle.crs_normal.specs.Unplaced.{unplaced}
+use Rattle.crs_normal.specs.WithoutPlaces.{without_places}
 use Rattle.crs_normal.specs.Normal.{IsNormalIn, IsWordIn}
 use Rattle.crs_normal.specs.NormalOwn.{Has, HasOneOrder, numbers_in}
 use Rattle.crs_value.specs.Sound.{Each}
@@ -26,9 +26,9 @@ use Rattle.crs_normal.specs.SpelledItems.{number_item, number_node, opt, text_it
 use Rattle.crs_normal.specs.SpelledSystems.{item_axis, item_axis_meridian, norm_axis, norm_axis_meridian, norm_axis_meridians}
 use Rattle.crs_normal.specs.SpelledUnits.{item_unit, norm_unit, norm_units, whole_value}
 use Rattle.crs_normal.proofs.FormLemmas.{Form, IsGood, kept-good, node-spelled, one-spelled, opened, optional-spelled}
-use Rattle.crs_normal.proofs.LeafLemmas.{PlainIsOne, unplaced-word-leaf, no-word, number-form, number-node-form, number-normal, text-form}
+use Rattle.crs_normal.proofs.LeafLemmas.{PlainIsOne, without_places-word-leaf, no-word, number-form, number-node-form, number-normal, text-form}
 use Rattle.crs_normal.proofs.UnitNormalLemmas.{idents-spelled, in-angle, in-axis, unit-form}
-use Rattle.crs_normal.proofs.ViewLemmas.{unplaced-spread, those-looked}
+use Rattle.crs_normal.proofs.ViewLemmas.{without_places-spread, those-looked}
 use Rattle.crs_normal.proofs.WordFormLemmas.{direction-one, type-one}
 
 -- ---- directions and types in their own letters
@@ -46,7 +46,7 @@ pub direction-form : (level : Level) →
 direction-form level item value good reads =
     let w = word-normal level class.Axis item good.shaped good.normal in
     let one = direction-one w.0 value (subst (λ (bytes : List ℕ). SpellsWord bytes (direction_word value)) w.1 reads) in
-    unplaced-word-leaf item good.shaped ∙ ap word_item (w.1 ∙ ap direction_word one)
+    without_places-word-leaf item good.shaped ∙ ap word_item (w.1 ∙ ap direction_word one)
 
 pub type-raw : (level : Level) (item : Item) (value : SystemType) →
     IsGood level class.CoordinateSystem class.Word item → ReadsType item value →
@@ -58,7 +58,7 @@ type-raw level item value good reads =
 
 pub type-form : (level : Level) →
     Form level class.CoordinateSystem class.Word ReadsType (λ t. word_item (system_word t))
-type-form level item value good reads = unplaced-word-leaf item good.shaped
+type-form level item value good reads = without_places-word-leaf item good.shaped
     ∙ ap word_item (type-raw level item value good reads)
 
 -- ---- the meridian of an axis
@@ -74,7 +74,7 @@ axis_meridian-form law level c (node place keyword square first others close) x 
     let v = o.slots in
     let v1 = v.1.1.1.1 in
     node-spelled place keyword _ square first others close _ o.written
-    (unplaced-spread d (slots_of d) items v
+    (without_places-spread d (slots_of d) items v
     ∙ one-spelled level d class.Number ReadsNumber number_item (number-form law level d (λ raw h. h))
     (those d class.Number items) v.0
     (kept-good level d class.Number items o.kept) (those-looked d class.Number (slots_of d) items v)
@@ -162,7 +162,7 @@ opt-own level system asked (i ∷ is) (Some u) some reads rest = refl
 pub axis-form : PlainIsOne → (level : Level) (c : Class) (system : SystemParts) (k : ℕ) (item : Item) (x : AxisParts) →
     IsGood level c class.Axis item →
     HasOneOrder k item → Has class.Axis class.AxisUnit item → ReadsAxis class.Axis item x →
-    (unplaced item ≡ item_axis (norm_axis level system k x)) × IsNumbered k x
+    (without_places item ≡ item_axis (norm_axis level system k x)) × IsNumbered k x
 unfolding norm_axis
 axis-form law level c system k (leaf kind place raw) x good ordered own reads = absurd reads.name
 axis-form law level c system k (node place keyword square first others close) x good ordered own reads =
@@ -179,7 +179,7 @@ axis-form law level c system k (node place keyword square first others close) x 
     let known = order-known law level k (those d class.Order items) x.order (kept-good level d class.Order items o.kept)
     ordered reads.order in (
       node-spelled place keyword _ square first others close _ o.written
-          (unplaced-spread d (slots_of d) items v
+          (without_places-spread d (slots_of d) items v
           ∙ one-spelled level d class.Text ReadsText text_item (text-form level d) (those d class.Text items) v.0
           (kept-good level d class.Text items o.kept)
           (those-looked d class.Text (slots_of d) items v) (v.1.1.0.not_more refl) x.name reads.name _ _

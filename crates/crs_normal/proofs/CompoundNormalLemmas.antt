@@ -13,7 +13,7 @@ use Rattle.crs_value.specs.declared.values.compound.Horizontal.TheVariants as ho
 use Rattle.crs_value.specs.declared.values.crs.Crs.{Crs}
 use Rattle.crs_value.specs.declared.values.crs.Crs.TheVariants as crs
 use Rattle.crs_value.specs.declared.values.level.Level.{Level}
-use Rattle.crs_normal.specs.Unplaced.{unplaced}
+use Rattle.crs_normal.specs.WithoutPlaces.{without_places}
 use Rattle.crs_normal.specs.NormalOwn.{Rise}
 use Rattle.crs_value.specs.Sound.{Each}
 use Rattle.crs_normal.specs.SpelledCrs.{item_compound, item_crs, item_horizontal, item_vertical, norm_compound, norm_crs, norm_horizontal, norm_vertical}
@@ -26,7 +26,7 @@ use Rattle.crs_normal.proofs.LeafLemmas.{text-form}
 use Rattle.crs_normal.proofs.PairLemmas.{Alone}
 use Rattle.crs_normal.proofs.ProjectedNormalLemmas.{projected-form, vertical-form}
 use Rattle.crs_normal.proofs.TailNormalLemmas.{tail-spelled}
-use Rattle.crs_normal.proofs.ViewLemmas.{alone, unplaced_onto, unplaced-spread, items-rebuilt, onto, slot-lacks, those-looked}
+use Rattle.crs_normal.proofs.ViewLemmas.{alone, without_places_onto, without_places-spread, items-rebuilt, onto, slot-lacks, those-looked}
 
 -- ---- the horizontal part
 
@@ -45,7 +45,7 @@ found-as level c d front found p k b is = k.are ∙ ap (λ xs. those c d (onto x
 abbrev HorizontalForm : Level → Class → Class → Item → Type 0
 HorizontalForm level c d item = (value : Horizontal) → IsGood level c d item → IsUnbroken d item →
     ReadsAsHorizontal d item value →
-    unplaced item ≡ item_horizontal (norm_horizontal level value)
+    without_places item ≡ item_horizontal (norm_horizontal level value)
 
 as_geodetic : Laws → (level : Level) (c : Class) (item : Item) → HorizontalForm level c class.GeodeticCrs item
 as_geodetic laws level c item (horizontal.Geodetic g) good free reads =
@@ -77,11 +77,11 @@ horizontal-spelled : Laws →
     ReadsElse (ReadsAsHorizontal class.GeodeticCrs) geodetic
     (ReadsElse (ReadsAsHorizontal class.GeographicCrs) geographic
     (ReadsFirst (ReadsAsHorizontal class.ProjectedCrs) projected)) value →
-    unplaced p.0 ≡ item_horizontal (norm_horizontal level value)
+    without_places p.0 ≡ item_horizontal (norm_horizontal level value)
 horizontal-spelled laws level c front f g h p k l m value reads = first (is_a c class.GeodeticCrs p.0) refl
   where
     third : (b : Bool) → is_a c class.ProjectedCrs p.0 ≡ b → ReadsFirst (ReadsAsHorizontal class.ProjectedCrs) h value →
-        unplaced p.0 ≡ item_horizontal (norm_horizontal level value)
+        without_places p.0 ≡ item_horizontal (norm_horizontal level value)
     third true is r =
         let at = found-as level c class.ProjectedCrs front h p m true is in
         as_projected laws level c p.0 value (subst (Each (IsGood level c class.ProjectedCrs)) at m.good).0
@@ -93,7 +93,7 @@ horizontal-spelled laws level c front f g h p k l m value reads = first (is_a c 
 
     second : (b : Bool) → is_a c class.GeographicCrs p.0 ≡ b →
         ReadsElse (ReadsAsHorizontal class.GeographicCrs) g (ReadsFirst (ReadsAsHorizontal class.ProjectedCrs) h)
-        value → unplaced p.0 ≡ item_horizontal (norm_horizontal level value)
+        value → without_places p.0 ≡ item_horizontal (norm_horizontal level value)
     second true is r =
         let at = found-as level c class.GeographicCrs front g p l true is in
         as_geographic laws level c p.0 value (subst (Each (IsGood level c class.GeographicCrs)) at l.good).0
@@ -106,7 +106,7 @@ horizontal-spelled laws level c front f g h p k l m value reads = first (is_a c 
         (ReadsFirst (ReadsAsHorizontal class.ProjectedCrs) h) value)
         (found-as level c class.GeographicCrs front g p l false is) r)
 
-    first : (b : Bool) → is_a c class.GeodeticCrs p.0 ≡ b → unplaced p.0 ≡ item_horizontal (norm_horizontal level value)
+    first : (b : Bool) → is_a c class.GeodeticCrs p.0 ≡ b → without_places p.0 ≡ item_horizontal (norm_horizontal level value)
     first true is =
         let at = found-as level c class.GeodeticCrs front f p k true is in
         as_geodetic laws level c p.0 value (subst (Each (IsGood level c class.GeodeticCrs)) at k.good).0
@@ -176,12 +176,12 @@ compound-form laws level c (node place keyword square first others close) x good
     })
     x.horizontal reads.horizontal in
     node-spelled place keyword _ square first others close _ o.written
-    (unplaced-spread d (slots_of d) items v
+    (without_places-spread d (slots_of d) items v
     ∙ one-spelled level d class.Text ReadsText text_item (text-form level d) (those d class.Text items) v.0
     (kept-good level d class.Text items k)
     (looked class.Text) (v.1.1.0.not_more refl) x.name reads.name _ _
-    (ap (λ xs. unplaced_onto xs (unplaced_onto v2.0 (unplaced_onto v3.0 End))) p.1
-    ∙ ap (λ i. More i (unplaced_onto v2.0 (unplaced_onto v3.0 End))) part
+    (ap (λ xs. without_places_onto xs (without_places_onto v2.0 (without_places_onto v3.0 End))) p.1
+    ∙ ap (λ i. More i (without_places_onto v2.0 (without_places_onto v3.0 End))) part
     ∙ ap (More (item_horizontal (norm_horizontal level x.horizontal)))
     (one-spelled level d class.VerticalCrs (Checked class.VerticalCrs (ReadsVertical class.VerticalCrs))
     (λ w. item_vertical (norm_vertical level w)) (vertical-form laws level d)
@@ -197,7 +197,7 @@ compound-form laws level c (node place keyword square first others close) x good
 
 pub crs-form : Laws → (level : Level) (parent c : Class) (item : Item) (value : Crs) → IsGood level parent c item →
     IsUnbroken c item → ReadsCrs c item value →
-    unplaced item ≡ item_crs (norm_crs level value)
+    without_places item ≡ item_crs (norm_crs level value)
 crs-form laws level parent class.GeodeticCrs item (crs.Geodetic x) good free reads =
     geodetic-form laws level parent item x good (free, reads.1)
 crs-form laws level parent class.GeographicCrs item (crs.Geodetic x) good free reads =

@@ -17,7 +17,7 @@ use Rattle.crs_normal.proofs.FormLemmas.{Form, IsGood, kept-good, node-spelled, 
 use Rattle.crs_normal.proofs.LeafLemmas.{PlainIsOne, number-node-form}
 use Rattle.crs_normal.proofs.NamedNormalLemmas.{deformation_model-form}
 use Rattle.crs_normal.proofs.PairLemmas.{opt-mapped}
-use Rattle.crs_normal.proofs.ViewLemmas.{unplaced_onto, unplaced-spread, those-looked}
+use Rattle.crs_normal.proofs.ViewLemmas.{without_places_onto, without_places-spread, those-looked}
 
 pub dynamic-form : PlainIsOne → (level : Level) (c : Class) →
     Form level c class.Dynamic (ReadsDynamic class.Dynamic) (λ d. item_dynamic (norm_dynamic level d))
@@ -29,7 +29,7 @@ dynamic-form law level c (node place keyword square first others close) x good r
     let v = o.slots in
     let v1 = v.1.1.1.1 in
     node-spelled place keyword _ square first others close _ o.written
-    (unplaced-spread d (slots_of d) items v
+    (without_places-spread d (slots_of d) items v
     ∙ one-spelled level d class.FrameEpoch (ReadsNumberOf class.FrameEpoch) (number_node (codes "FRAMEEPOCH"))
     (number-node-form law level d class.FrameEpoch (codes "FRAMEEPOCH") refl (λ bytes h. h) (λ raw h. h))
     (those d class.FrameEpoch items) v.0 (kept-good level d class.FrameEpoch items o.kept)
@@ -45,7 +45,7 @@ dynamic-form law level c (node place keyword square first others close) x good r
 pub dynamic-spelled : PlainIsOne → (level : Level) (c : Class) (found front : List Item) →
     Each (IsGood level c class.Dynamic) found → found ≡ front → length front ≤ 1 → (value : Option DynamicParts) →
     ReadsOptional (ReadsDynamic class.Dynamic) found value → (rest after : Siblings) → rest ≡ after →
-    unplaced_onto front rest ≡ opt item_dynamic (option_map (norm_dynamic level) value) after
+    without_places_onto front rest ≡ opt item_dynamic (option_map (norm_dynamic level) value) after
 dynamic-spelled law level c found front good e few value reads rest after f =
     optional-spelled level c class.Dynamic (ReadsDynamic class.Dynamic) (λ d. item_dynamic (norm_dynamic level d))
     (dynamic-form law level c) found front good e few value reads rest after f

@@ -21,7 +21,7 @@ use Rattle.crs_normal.proofs.FormLemmas.{Form, IsGood, kept-good, node-spelled, 
 use Rattle.crs_normal.proofs.LeafLemmas.{PlainIsOne, number-form, number-normal, text-form}
 use Rattle.crs_normal.proofs.PairLemmas.{Alone, opt-length, opt-units, two-spelled}
 use Rattle.crs_normal.proofs.UnitNormalLemmas.{idents-spelled, in-angle, in-length, unit-form}
-use Rattle.crs_normal.proofs.ViewLemmas.{alone, unplaced-spread, those-looked}
+use Rattle.crs_normal.proofs.ViewLemmas.{alone, without_places-spread, those-looked}
 
 pub ellipsoid-form : PlainIsOne → (level : Level) (c : Class) →
     Form level c class.Ellipsoid (ReadsEllipsoid class.Ellipsoid) (λ e. item_ellipsoid (norm_ellipsoid level e))
@@ -36,7 +36,7 @@ ellipsoid-form law level c (node place keyword square first others close) x good
     let v3 = v2.1.1.1.1 in
     let v4 = v3.1.1.1.1 in
     node-spelled place keyword _ square first others close _ o.written
-    (unplaced-spread d (slots_of d) items v
+    (without_places-spread d (slots_of d) items v
     ∙ one-spelled level d class.Text ReadsText text_item (text-form level d) (those d class.Text items) v.0
     (kept-good level d class.Text items o.kept)
     (those-looked d class.Text (slots_of d) items v) (v.1.1.0.not_more refl) x.name reads.name _ _
@@ -110,7 +110,7 @@ meridian-form law zero_plain level c (node place keyword square first others clo
     let v2 = v1.1.1.1.1 in
     let v3 = v2.1.1.1.1 in
     node-spelled place keyword _ square first others close _ o.written
-    (unplaced-spread d (slots_of d) items v
+    (without_places-spread d (slots_of d) items v
     ∙ one-spelled level d class.Text ReadsText text_item (text-form level d) (those d class.Text items) v.0
     (kept-good level d class.Text items o.kept)
     (those-looked d class.Text (slots_of d) items v) (v.1.1.0.not_more refl) x.name reads.name _ _

@@ -13,7 +13,7 @@ use Rattle.crs_value.specs.declared.values.frame.Frame.{Frame}
 use Rattle.crs_value.specs.declared.values.frame.Frame.TheVariants as frame
 use Rattle.crs_value.specs.declared.values.level.Level.{Level}
 use Rattle.crs_value.specs.declared.values.unit_kind.UnitKind.TheVariants as kinds
-use Rattle.crs_normal.specs.Unplaced.{unplaced}
+use Rattle.crs_normal.specs.WithoutPlaces.{without_places}
 use Rattle.crs_value.specs.Sound.{Each}
 use Rattle.crs_normal.specs.SpelledCrs.{item_base, norm_base}
 use Rattle.crs_normal.specs.SpelledFrames.{item_datum, item_ellipsoid, item_ensemble, item_frame, item_member, item_meridian, norm_datum, norm_ellipsoid, norm_ensemble, norm_frame, norm_given, norm_member, norm_meridian, set_members}
@@ -28,7 +28,7 @@ use Rattle.crs_normal.proofs.LeafLemmas.{PlainIsOne, number-node-form, text-form
 use Rattle.crs_normal.proofs.NamedNormalLemmas.{member-form}
 use Rattle.crs_normal.proofs.PairLemmas.{Alone, opt-mapped, opt-units}
 use Rattle.crs_normal.proofs.UnitNormalLemmas.{idents-spelled, in-angle, unit-form}
-use Rattle.crs_normal.proofs.ViewLemmas.{alone, unplaced_onto, unplaced-spread, onto, those-looked}
+use Rattle.crs_normal.proofs.ViewLemmas.{alone, without_places_onto, without_places-spread, onto, those-looked}
 
 pub geodetic_ensemble-form : PlainIsOne → (level : Level) (c : Class) →
     Form level c class.GeodeticEnsemble (ReadsEnsemble class.GeodeticEnsemble)
@@ -45,7 +45,7 @@ geodetic_ensemble-form law level c (node place keyword square first others close
     let v3 = v2.1.1.1.1 in
     let v4 = v3.1.1.1.1 in
     node-spelled place keyword _ square first others close _ o.written
-    (unplaced-spread d (slots_of d) items v
+    (without_places-spread d (slots_of d) items v
     ∙ one-spelled level d class.Text ReadsText text_item (text-form level d) (those d class.Text items) v.0
     (kept-good level d class.Text items o.kept)
     (those-looked d class.Text (slots_of d) items v) (v.1.1.0.not_more refl) x.name reads.name _ _
@@ -87,7 +87,7 @@ vertical_ensemble-form law level c (node place keyword square first others close
     let bare = none-read (ReadsEllipsoid class.Ellipsoid) (those d class.Ellipsoid items)
     (those-looked d class.Ellipsoid (slots_of d) items v) x.ellipsoid reads.ellipsoid in
     node-spelled place keyword _ square first others close _ o.written
-    (unplaced-spread d (slots_of d) items v
+    (without_places-spread d (slots_of d) items v
     ∙ one-spelled level d class.Text ReadsText text_item (text-form level d) (those d class.Text items) v.0
     (kept-good level d class.Text items o.kept)
     (those-looked d class.Text (slots_of d) items v) (v.1.1.0.not_more refl) x.name reads.name _ _
@@ -113,7 +113,7 @@ FrameForm d e keyword = (level : Level) (c : Class) (found others front : List I
     Each (IsGood level c d) found → Each (IsGood level c e) others → Each (IsUnbroken d) found → (value : Frame) →
     ReadsElse (ReadsAsDatum d) found (ReadsFirst (ReadsAsEnsemble e) others) value → (rest after : Siblings) →
     rest ≡ after →
-    unplaced_onto front rest ≡ More (item_frame keyword (norm_frame level value)) after
+    without_places_onto front rest ≡ More (item_frame keyword (norm_frame level value)) after
 
 frame-spelled : (d e : Class) (keyword : List ℕ) →
     ((level : Level) (c : Class) →
@@ -122,9 +122,9 @@ frame-spelled : (d e : Class) (keyword : List ℕ) →
     FrameForm d e keyword
 frame-spelled d e keyword datum ensemble level c found others front p are those_others good goods free value reads rest
     after same =
-    ap (λ xs. unplaced_onto xs rest) p.1
+    ap (λ xs. without_places_onto xs rest) p.1
     ∙ (elim (is_a c d p.0) as (λ b. is_a c d p.0 ≡ b →
-    More (unplaced p.0) rest ≡ More (item_frame keyword (norm_frame level value)) rest) [
+    More (without_places p.0) rest ≡ More (item_frame keyword (norm_frame level value)) rest) [
       | true ↦ λ is. ap (λ i. More i rest) (first true is refl)
       | false ↦ λ is. ap (λ i. More i rest) (first false is refl)
     ] refl)
@@ -134,17 +134,17 @@ frame-spelled d e keyword datum ensemble level c found others front p are those_
     listed x b is = ap (λ xs. those c x (onto xs End)) p.1 ∙ ap (λ t. if t then p.0 ∷ [] else []) is
 
     as_datum : (v : Frame) → Each (IsGood level c d) (p.0 ∷ []) → Each (IsUnbroken d) (p.0 ∷ []) →
-        ReadsAsDatum d p.0 v → unplaced p.0 ≡ item_frame keyword (norm_frame level v)
+        ReadsAsDatum d p.0 v → without_places p.0 ≡ item_frame keyword (norm_frame level v)
     as_datum (frame.Datum x) g f r = datum level c p.0 x g.0 (f.0, r)
     as_datum (frame.Ensemble x) g f r = absurd r
 
     as_ensemble : (v : Frame) → Each (IsGood level c e) (p.0 ∷ []) → ReadsAsEnsemble e p.0 v →
-        unplaced p.0 ≡ item_frame keyword (norm_frame level v)
+        without_places p.0 ≡ item_frame keyword (norm_frame level v)
     as_ensemble (frame.Datum x) g r = absurd r
     as_ensemble (frame.Ensemble x) g r = ensemble level c p.0 x g.0 r
 
     second : (b : Bool) → is_a c e p.0 ≡ b → ReadsFirst (ReadsAsEnsemble e) others value →
-        unplaced p.0 ≡ item_frame keyword (norm_frame level value)
+        without_places p.0 ≡ item_frame keyword (norm_frame level value)
     second true is r =
         let at = those_others ∙ listed e true is in
         as_ensemble value (subst (Each (IsGood level c e)) at goods)
@@ -152,7 +152,7 @@ frame-spelled d e keyword datum ensemble level c found others front p are those_
     second false is r = absurd
         (subst (λ (xs : List Item). ReadsFirst (ReadsAsEnsemble e) xs value) (those_others ∙ listed e false is) r)
 
-    first : (b : Bool) → is_a c d p.0 ≡ b → b ≡ b → unplaced p.0 ≡ item_frame keyword (norm_frame level value)
+    first : (b : Bool) → is_a c d p.0 ≡ b → b ≡ b → without_places p.0 ≡ item_frame keyword (norm_frame level value)
     first true is same_b =
         let at = are ∙ listed d true is in
         as_datum value (subst (Each (IsGood level c d)) at good) (subst (Each (IsUnbroken d)) at free)
@@ -201,7 +201,7 @@ base-form law zero_plain level c (node place keyword square first others close) 
     let free = those-unbroken d class.GeodeticFrame o.kept.classes items o.kept.shaped
     (λ fault b. checked.0 fault (inr b)) in
     node-spelled place keyword _ square first others close _ o.written
-    (unplaced-spread d (slots_of d) items v
+    (without_places-spread d (slots_of d) items v
     ∙ one-spelled level d class.Text ReadsText text_item (text-form level d) (those d class.Text items) v.0
     (kept-good level d class.Text items o.kept)
     (those-looked d class.Text (slots_of d) items v) (v.1.1.0.not_more refl) x.name reads.name _ _

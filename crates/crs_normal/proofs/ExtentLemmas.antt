@@ -17,7 +17,7 @@ use Rattle.crs_value.specs.Values.{BoxParts, ExtentParts, UnitParts}
 use Rattle.crs_value.specs.Words.{unit_word}
 use Rattle.crs_same.specs.SameUnits.{SameLength, kind_as, or_metre}
 use Rattle.crs_same.specs.SameUsages.{SameBox, SameExtent}
-use Rattle.crs_normal.specs.Fit.{IsFit}
+use Rattle.crs_normal.specs.FormedWithin.{IsFormedWithin}
 use Rattle.crs_normal.specs.SpelledItems.{number_item, opt}
 use Rattle.crs_normal.specs.SpelledUnits.{item_unit, metre, norm_length}
 use Rattle.crs_normal.specs.SpelledUsages.{item_box, item_extent, norm_extent}
@@ -61,7 +61,7 @@ box-read laws b s place = record {
   east = number-read laws b.east s.east 0;
 }
 
-pub box-fit : TextLaws → (b : BoxParts) → IsBox b → IsFit 1 (item_box b)
+pub box-fit : TextLaws → (b : BoxParts) → IsBox b → IsFormedWithin 1 (item_box b)
 box-fit laws b s =
     fit-node 0 (codes "BBOX") (number_item b.south)
     (More (number_item b.west) (More (number_item b.north) (More (number_item b.east) End))) (refl, refl)
@@ -124,7 +124,7 @@ extent-read laws e s place = record {
   unit = extent-unit laws e s (place + 14);
 }
 
-pub extent-fit : TextLaws → (e : ExtentParts) → IsWrittenExtent e → IsFit 4 (item_extent e)
+pub extent-fit : TextLaws → (e : ExtentParts) → IsWrittenExtent e → IsFormedWithin 4 (item_extent e)
 extent-fit laws e s =
     fit-node 3 (codes "VERTICALEXTENT") (number_item e.minimum)
     (More (number_item e.maximum) (opt item_unit e.unit End)) (refl, refl)

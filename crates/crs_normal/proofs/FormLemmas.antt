@@ -13,7 +13,7 @@ use Rattle.crs_value.specs.Reading.{is_a, those, ReadsFirst, ReadsOptional, Read
 use Rattle.crs_value.specs.Kept.{kept}
 use Rattle.crs_value.specs.KeptLaws.{kept-where_none}
 use Rattle.crs_value.specs.declared.values.level.Level.{Level}
-use Rattle.crs_normal.specs.Unplaced.{unplaced, all_unplaced}
+use Rattle.crs_normal.specs.WithoutPlaces.{without_places, all_without_places}
 use Rattle.crs_normal.specs.Normal.{IsNormalIn, AreNormalIn, IsFirstKeyword, KeepsAll}
 use Rattle.crs_normal.specs.NormalOwn.{Ascend, HasSets, HasOwnForm}
 use Rattle.crs_value.specs.Sound.{Each}
@@ -21,7 +21,7 @@ use Rattle.crs_normal.specs.Ascending.{Ascends}
 use Rattle.crs_normal.specs.Ordered.{in_order}
 use Rattle.crs_normal.specs.SpelledItems.{each, node_from, opt}
 use Rattle.crs_normal.proofs.SetLemmas.{IsBelow, in_order-of}
-use Rattle.crs_normal.proofs.ViewLemmas.{View, unplaced_onto, same_class, view}
+use Rattle.crs_normal.proofs.ViewLemmas.{View, without_places_onto, same_class, view}
 
 -- ---- the text of an item doesn't depend on places
 
@@ -33,17 +33,17 @@ more-text : (a b c d : List ℕ) → a ≡ c → b ≡ d → 44 ∷ (a ++ b) ≡
 more-text a b c d e f = cc
 
 mutual
-  pub unplaced-text : (item : Item) → item_text (unplaced item) ≡ item_text item
-  unplaced-text (leaf kind place raw) = refl
-  unplaced-text (node place keyword square first others close) =
-      node-text keyword (item_text (unplaced first)) (others_text (all_unplaced others)) (item_text first) (others_text others)
-      (unplaced-text first) (all-unplaced-text others)
+  pub without_places-text : (item : Item) → item_text (without_places item) ≡ item_text item
+  without_places-text (leaf kind place raw) = refl
+  without_places-text (node place keyword square first others close) =
+      node-text keyword (item_text (without_places first)) (others_text (all_without_places others)) (item_text first) (others_text others)
+      (without_places-text first) (all-without_places-text others)
 
-  all-unplaced-text : (items : Siblings) → others_text (all_unplaced items) ≡ others_text items
-  all-unplaced-text End = refl
-  all-unplaced-text (More item items) =
-      more-text (item_text (unplaced item)) (others_text (all_unplaced items)) (item_text item) (others_text items)
-      (unplaced-text item) (all-unplaced-text items)
+  all-without_places-text : (items : Siblings) → others_text (all_without_places items) ≡ others_text items
+  all-without_places-text End = refl
+  all-without_places-text (More item items) =
+      more-text (item_text (without_places item)) (others_text (all_without_places items)) (item_text item) (others_text items)
+      (without_places-text item) (all-without_places-text items)
 
 -- ---- the items of a class in a normal node are of its shape and normal
 
@@ -116,28 +116,28 @@ opened level parent c place keyword square first others close shaped normal =
 
 pub node-spelled : (place : ℕ) (keyword word : List ℕ) (square : Bool) (first : Item) (others : Siblings) (close : ℕ)
     (items : Siblings) → keyword ≡ word →
-    all_unplaced (More first others) ≡ items → unplaced (node place keyword square first others close) ≡ node_from word items
+    all_without_places (More first others) ≡ items → without_places (node place keyword square first others close) ≡ node_from word items
 node-spelled place keyword word square first others close items e f =
-    ap (λ w. node_from w (all_unplaced (More first others))) e ∙ ap (node_from word) f
+    ap (λ w. node_from w (all_without_places (More first others))) e ∙ ap (node_from word) f
 
 -- ---- what is written for the values
 
 -- the item of a class in another, without its places, is what is written for the value
 abbrev pub Form : {V : Type 0} → Level → Class → Class → (Item → V → Type 0) → (V → Item) → Type 0
 Form {V = V} level c d R spell = (item : Item) (value : V) → IsGood level c d item → R item value →
-    unplaced item ≡ spell value
+    without_places item ≡ spell value
 
 pub one-spelled : {V : Type 0} (level : Level) (c d : Class) (R : Item → V → Type 0) (spell : V → Item) →
     Form level c d R spell →
     (found front : List Item) → Each (IsGood level c d) found → found ≡ front → length front ≤ 1 → (value : V) →
     ReadsFirst R found value →
-    (rest after : Siblings) → rest ≡ after → unplaced_onto front rest ≡ More (spell value) after
+    (rest after : Siblings) → rest ≡ after → without_places_onto front rest ≡ More (spell value) after
 one-spelled {V = V} level c d R spell form found front good e few value reads rest after f =
     alone front few (subst (Each (IsGood level c d)) e good) (subst (λ (xs : List Item). ReadsFirst R xs value) e reads)
     ∙ ap (More (spell value)) f
   where
     alone : (front : List Item) → length front ≤ 1 → Each (IsGood level c d) front → ReadsFirst R front value →
-        unplaced_onto front rest ≡ More (spell value) rest
+        without_places_onto front rest ≡ More (spell value) rest
     alone [] few good reads = absurd reads
     alone (item ∷ []) few good reads = ap (λ i. More i rest) (form item value good.0 reads)
     alone (item ∷ other ∷ others) few good reads = absurd (omega arith)
@@ -146,13 +146,13 @@ pub optional-spelled : {V : Type 0} (level : Level) (c d : Class) (R : Item → 
     Form level c d R spell →
     (found front : List Item) → Each (IsGood level c d) found → found ≡ front → length front ≤ 1 → (value : Option V) →
     ReadsOptional R found value →
-    (rest after : Siblings) → rest ≡ after → unplaced_onto front rest ≡ opt spell value after
+    (rest after : Siblings) → rest ≡ after → without_places_onto front rest ≡ opt spell value after
 optional-spelled {V = V} level c d R spell form found front good e few value reads rest after f =
     alone front few (subst (Each (IsGood level c d)) e good) value
     (subst (λ (xs : List Item). ReadsOptional R xs value) e reads) ∙ ap (opt spell value) f
   where
     alone : (front : List Item) → length front ≤ 1 → Each (IsGood level c d) front → (value : Option V) →
-        ReadsOptional R front value → unplaced_onto front rest ≡ opt spell value rest
+        ReadsOptional R front value → without_places_onto front rest ≡ opt spell value rest
     alone [] few good None reads = refl
     alone [] few good (Some v) reads = absurd reads
     alone (item ∷ items) few good None reads = absurd reads
@@ -161,7 +161,7 @@ optional-spelled {V = V} level c d R spell form found front good e few value rea
 
 -- the items are what is written for the values
 abbrev pub AreWritten : {V : Type 0} → (V → Item) → List Item → List V → Type 0
-AreWritten spell items values = ReadsEach (λ item value. unplaced item ≡ spell value) items values
+AreWritten spell items values = ReadsEach (λ item value. without_places item ≡ spell value) items values
 
 pub each-written : {V W : Type 0} (level : Level) (c d : Class) (R : Item → V → Type 0) (spell : W → Item) (norm : V →
     W) → Form level c d R (λ v. spell (norm v)) →
@@ -175,25 +175,25 @@ each-written level c d R spell norm form (item ∷ items) good (v ∷ vs) reads 
 
 pub written-onto : {W : Type 0} (spell : W → Item) (items : List Item) (values : List W) →
     AreWritten spell items values → (rest after : Siblings) → rest ≡ after →
-    unplaced_onto items rest ≡ each spell values after
+    without_places_onto items rest ≡ each spell values after
 written-onto spell [] [] h rest after e = e
 written-onto spell [] (v ∷ vs) h rest after e = absurd h
 written-onto spell (item ∷ items) [] h rest after e = absurd h
 written-onto spell (item ∷ items) (v ∷ vs) h rest after e =
-    ap (λ i. More i (unplaced_onto items rest)) h.0 ∙ ap (More (spell v)) (written-onto spell items vs h.1 rest after e)
+    ap (λ i. More i (without_places_onto items rest)) h.0 ∙ ap (More (spell v)) (written-onto spell items vs h.1 rest after e)
 
-text-as : {W : Type 0} (spell : W → Item) (item : Item) (value : W) → unplaced item ≡ spell value →
+text-as : {W : Type 0} (spell : W → Item) (item : Item) (value : W) → without_places item ≡ spell value →
     item_text item ≡ item_text (spell value)
-text-as spell item value e = sym (unplaced-text item) ∙ ap item_text e
+text-as spell item value e = sym (without_places-text item) ∙ ap item_text e
 
-below-as : {W : Type 0} (spell : W → Item) (i j : Item) (v w : W) → unplaced i ≡ spell v → unplaced j ≡ spell w → IsBelow item_text i j →
+below-as : {W : Type 0} (spell : W → Item) (i j : Item) (v w : W) → without_places i ≡ spell v → without_places j ≡ spell w → IsBelow item_text i j →
     IsBelow (λ x. item_text (spell x)) v w
 below-as spell i j v w e f below =
     ap (λ (bytes : List ℕ). slice_cmp nat_cmp bytes (item_text (spell w))) (sym (text-as spell i v e))
     ∙ ap (slice_cmp nat_cmp (item_text i)) (sym (text-as spell j w f)) ∙ below
 
 -- ascending items are written for ascending values
-below-written : {W : Type 0} (spell : W → Item) (item : Item) (value : W) → unplaced item ≡ spell value →
+below-written : {W : Type 0} (spell : W → Item) (item : Item) (value : W) → without_places item ≡ spell value →
     (items : List Item) (values : List W) → AreWritten spell items values →
     Each (IsBelow item_text item) items → Each (IsBelow (λ w. item_text (spell w)) value) values
 below-written spell item value e [] [] h below = tt
@@ -230,10 +230,10 @@ pub set-spelled : {V W : Type 0} (level : Level) (c d : Class) (R : Item → V �
     (found front : List Item) → Each (IsGood level c d) found → found ≡ front → Ascend found → (values : List V) →
     ReadsEach R found values →
     (rest after : Siblings) → rest ≡ after →
-    unplaced_onto front rest ≡ each spell (in_order (λ w. item_text (spell w)) (map norm values)) after
+    without_places_onto front rest ≡ each spell (in_order (λ w. item_text (spell w)) (map norm values)) after
 set-spelled level c d R spell norm form found front good e up values reads rest after f =
     let written = each-written level c d R spell norm form found good values reads in
-    ap (λ xs. unplaced_onto xs rest) (sym e)
+    ap (λ xs. without_places_onto xs rest) (sym e)
     ∙ written-onto spell found (map norm values) written rest after f
     ∙ ap (λ ws. each spell ws after)
     (sym (in_order-of (λ w. item_text (spell w)) (map norm values)

@@ -21,7 +21,7 @@ use Rattle.crs_normal.proofs.LeafLemmas.{PlainIsOne, text-form}
 use Rattle.crs_normal.proofs.PairLemmas.{opt-mapped}
 use Rattle.crs_normal.proofs.RankLemmas.{rise-behind}
 use Rattle.crs_normal.proofs.UnitNormalLemmas.{idents-spelled}
-use Rattle.crs_normal.proofs.ViewLemmas.{unplaced-spread, items-rebuilt, onto, those-looked}
+use Rattle.crs_normal.proofs.ViewLemmas.{without_places-spread, items-rebuilt, onto, those-looked}
 
 -- ---- what a node of this class has by itself, where it breaks no check
 
@@ -66,7 +66,7 @@ geodetic_datum-form law level c (node place keyword square first others close) x
     let lower = rise-behind d rise.0 v1.0 (onto v2.0 (onto v3.0 End)) rise.1 in
     let few = single-anchor keyword place square first others close checked.0 in
     node-spelled place keyword _ square first others close _ o.written
-    (unplaced-spread d (slots_of d) items v
+    (without_places-spread d (slots_of d) items v
     ∙ one-spelled level d class.Text ReadsText text_item (text-form level d) (those d class.Text items) v.0
     (kept-good level d class.Text items o.kept)
     (those-looked d class.Text (slots_of d) items v) (v.1.1.0.not_more refl) x.name reads.name _ _
@@ -108,7 +108,7 @@ vertical_datum-form law level c (node place keyword square first others close) x
     let bare = none-read (ReadsEllipsoid class.Ellipsoid) (those d class.Ellipsoid items)
     (those-looked d class.Ellipsoid (slots_of d) items v) x.ellipsoid reads.ellipsoid in
     node-spelled place keyword _ square first others close _ o.written
-    (unplaced-spread d (slots_of d) items v
+    (without_places-spread d (slots_of d) items v
     ∙ one-spelled level d class.Text ReadsText text_item (text-form level d) (those d class.Text items) v.0
     (kept-good level d class.Text items o.kept)
     (those-looked d class.Text (slots_of d) items v) (v.1.1.0.not_more refl) x.name reads.name _ _

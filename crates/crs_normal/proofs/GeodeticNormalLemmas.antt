@@ -14,7 +14,7 @@ use Rattle.crs_value.specs.ReadsCrs.{ReadsGeodetic}
 use Rattle.crs_value.specs.declared.values.level.Level.{Level}
 use Rattle.crs_value.specs.declared.values.system_type.SystemType.{SystemType}
 use Rattle.crs_value.specs.declared.values.system_type.SystemType.TheVariants as types
-use Rattle.crs_normal.specs.Unplaced.{all_unplaced}
+use Rattle.crs_normal.specs.WithoutPlaces.{all_without_places}
 use Rattle.crs_normal.specs.NormalOwn.{Has, HasAxes, HasSets, HasTail, Rise}
 use Rattle.crs_value.specs.Sound.{Each}
 use Rattle.crs_normal.specs.SpelledConversions.{item_geoid_model, set_geoid_models}
@@ -35,7 +35,7 @@ use Rattle.crs_normal.proofs.LeafLemmas.{text-form}
 use Rattle.crs_normal.proofs.RankLemmas.{rise-behind}
 use Rattle.crs_normal.proofs.SystemNormalLemmas.{system-spelled}
 use Rattle.crs_normal.proofs.TailNormalLemmas.{EndsIn, tail-spelled}
-use Rattle.crs_normal.proofs.ViewLemmas.{View, alone, unplaced-spread, items-rebuilt, onto, slot-lacks, those-looked}
+use Rattle.crs_normal.proofs.ViewLemmas.{View, alone, without_places-spread, items-rebuilt, onto, slot-lacks, those-looked}
 
 -- ---- ends without geoid models
 
@@ -80,7 +80,7 @@ geodetic-args : Laws → (level : Level) (c : Class) (item : Item) → Kept leve
     Each (IsUnbroken class.GeodeticFrame) (those c class.GeodeticFrame (arguments item)) →
     length (those c class.Remark (arguments item)) ≤ 1 → (x : GeodeticParts) → length x.system.axes + 1 < 2 ^ 64 →
     ReadsGeodetic c item x →
-    all_unplaced (arguments item) ≡ geodetic_items (norm_geodetic level x)
+    all_without_places (arguments item) ≡ geodetic_items (norm_geodetic level x)
 geodetic-args laws level c item k sets has_meridian has_axes has_tail v free few x within reads =
     let law = laws.plain_one in
     let items = arguments item in
@@ -102,7 +102,7 @@ geodetic-args laws level c item k sets has_meridian has_axes has_tail v free few
     let found = found-of c item v7.0 (models
     ∙ sym (slot-lacks c class.GeoidModel tail v7.0 refl v7.1.1.0)) (looked class.Usage) (looked class.Identifier)
     (looked class.Remark) in
-    unplaced-spread c geodetic_slots items v
+    without_places-spread c geodetic_slots items v
     ∙ one-spelled level c class.Text ReadsText text_item (text-form level c) (those c class.Text items) v.0
     (kept-good level c class.Text items k)
     (looked class.Text) (v.1.1.0.not_more refl) x.name reads.name _ _

@@ -21,7 +21,7 @@ use Rattle.crs_value.specs.Sound.{Each, IsText, IsIdent}
 use Rattle.crs_value.specs.Values.{IdentParts}
 use Rattle.crs_same.specs.SameIdents.{SameIdent, SameIdents}
 use Rattle.crs_same.specs.Sets.{SameSet}
-use Rattle.crs_normal.specs.Fit.{IsFit}
+use Rattle.crs_normal.specs.FormedWithin.{IsFormedWithin}
 use Rattle.crs_normal.specs.Ordered.{in_order}
 use Rattle.crs_normal.specs.SpelledItems.{code_item, is_short, opt, text_item, text_node}
 use Rattle.crs_normal.specs.SpelledUnits.{item_ident, set_idents}
@@ -39,11 +39,11 @@ short-single laws raw t true e =
     let q = and_parts (list_all is_digit raw) (nat_le 1 (length raw)) p.0 in
     number-single laws raw (laws.digits raw q.0 (leb-true 1 (length raw) q.1) (leb-true (length raw) 18 p.1))
 
-pub code-fit : TextLaws → (n : ℕ) (raw : List ℕ) → IsText raw → IsFit n (code_item raw)
+pub code-fit : TextLaws → (n : ℕ) (raw : List ℕ) → IsText raw → IsFormedWithin n (code_item raw)
 code-fit laws n raw t =
     fit-leaf n (if is_short raw then number else text) 0 raw (short-single laws raw t (is_short raw) refl)
 
-pub text-fit : (n : ℕ) (raw : List ℕ) → IsText raw → IsFit n (text_item raw)
+pub text-fit : (n : ℕ) (raw : List ℕ) → IsText raw → IsFormedWithin n (text_item raw)
 text-fit n raw t = fit-leaf n text 0 raw t
 
 code-read : (raw : List ℕ) (place : ℕ) (rest : Siblings) →
@@ -172,10 +172,10 @@ ident-read x s place = record {
   uri = uri-read x s _;
 }
 
-pub source-fit : (n : ℕ) (keyword raw : List ℕ) → IsWord keyword → IsText raw → IsFit (suc n) (text_node keyword raw)
+pub source-fit : (n : ℕ) (keyword raw : List ℕ) → IsWord keyword → IsText raw → IsFormedWithin (suc n) (text_node keyword raw)
 source-fit n keyword raw w t = fit-node n keyword (text_item raw) End w (text-fit n raw t) (fit-end n)
 
-pub ident-fit : TextLaws → (x : IdentParts) → IsIdent x → IsFit 2 (item_ident x)
+pub ident-fit : TextLaws → (x : IdentParts) → IsIdent x → IsFormedWithin 2 (item_ident x)
 ident-fit laws x s =
     fit-node 1 (codes "ID") (text_item x.authority) (More (code_item x.code) (behind-code x)) (refl, refl)
     (text-fit 1 x.authority s.authority)
@@ -187,7 +187,7 @@ ident-fit laws x s =
     (fit-opt 1 (text_node (codes "URI")) IsText (λ raw t. source-fit 0 (codes "URI") raw (refl, refl) t) x.uri End
     s.uri (fit-end 1)))))
 
-pub writable : (n : ℕ) (item : Item) → n ≤ 12 → IsFit n item → IsNode item → IsWritable item
+pub writable : (n : ℕ) (item : Item) → n ≤ 12 → IsFormedWithin n item → IsNode item → IsWritable item
 writable n item l f is = record { formed = f.0; is_node = is; within = omega (arith, l, f.1) }
 
 -- ---- identifiers as a set

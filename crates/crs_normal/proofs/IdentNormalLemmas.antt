@@ -18,14 +18,14 @@ use Rattle.crs_value.specs.Reading.{is_a, those, ReadsFirst, ReadsOptional}
 use Rattle.crs_value.specs.Reads.{ReadsText, ReadsTextOf, ReadsIdent, single_of}
 use Rattle.crs_value.specs.Values.{IdentParts}
 use Rattle.crs_value.specs.declared.values.level.Level.{Level}
-use Rattle.crs_normal.specs.Unplaced.{unplaced, all_unplaced}
+use Rattle.crs_normal.specs.WithoutPlaces.{without_places, all_without_places}
 use Rattle.crs_normal.specs.NormalOwn.{IsCode, IsShort}
 use Rattle.crs_value.specs.Sound.{Each}
 use Rattle.crs_normal.specs.SpelledItems.{code_item, is_short, opt, text_item, text_node}
 use Rattle.crs_normal.specs.SpelledUnits.{item_ident}
 use Rattle.crs_normal.proofs.FormLemmas.{Form, Kept, kept-good, node-spelled, opened, optional-spelled}
-use Rattle.crs_normal.proofs.LeafLemmas.{unplaced-text-leaf, no-number, no-text, text-node-form}
-use Rattle.crs_normal.proofs.ViewLemmas.{InSlot, View, items-rebuilt, alone, unplaced_onto, unplaced-spread, of-one, onto, or-false, same_class, those-looked}
+use Rattle.crs_normal.proofs.LeafLemmas.{without_places-text-leaf, no-number, no-text, text-node-form}
+use Rattle.crs_normal.proofs.ViewLemmas.{InSlot, View, items-rebuilt, alone, without_places_onto, without_places-spread, of-one, onto, or-false, same_class, those-looked}
 
 -- ---- codes
 
@@ -66,13 +66,13 @@ no-word place bytes (inl h) = let k = h.1 in cc
 no-word place bytes (inr h) = let k = h.1 in cc
 
 -- a single item with the kind of a code is the code's one form
-code-unplaced : (item : Item) (rest : Siblings) (raw : List ℕ) (others : List Item) →
+code-without_places : (item : Item) (rest : Siblings) (raw : List ℕ) (others : List Item) →
     ReadsFirst ReadsText (single_of (More item rest)) raw →
-    Each IsCode (single_of (More item rest) ++ others) → (unplaced item ≡ code_item raw) × Each IsCode others
-code-unplaced (leaf number place bytes) rest raw others reads codes = (as-number place bytes raw codes.0 reads, codes.1)
-code-unplaced (leaf text place bytes) rest raw others reads codes = (as-text place bytes raw codes.0 reads, codes.1)
-code-unplaced (leaf word place bytes) rest raw others reads codes = absurd (no-word place bytes codes.0)
-code-unplaced (node place keyword square first items close) rest raw others reads codes = absurd reads
+    Each IsCode (single_of (More item rest) ++ others) → (without_places item ≡ code_item raw) × Each IsCode others
+code-without_places (leaf number place bytes) rest raw others reads codes = (as-number place bytes raw codes.0 reads, codes.1)
+code-without_places (leaf text place bytes) rest raw others reads codes = (as-text place bytes raw codes.0 reads, codes.1)
+code-without_places (leaf word place bytes) rest raw others reads codes = absurd (no-word place bytes codes.0)
+code-without_places (node place keyword square first items close) rest raw others reads codes = absurd reads
 
 -- ---- versions
 
@@ -92,26 +92,26 @@ node-no-code at keyword is taken =
     clash e f = let h : false ≡ true = sym e ∙ f in cc
 
 -- a version, and what follows it
-version-unplaced : (front : List Item) (behind : Siblings) →
+version-without_places : (front : List Item) (behind : Siblings) →
     Each (InSlot class.Identifier (optional_of (class.Number ∷ class.Text ∷ []))) front →
     length front ≤ 1 → single_of behind ≡ [] → (version : Option (List ℕ)) →
     ReadsOptional ReadsText (single_of (onto front behind)) version →
     Each IsCode (single_of (onto front behind)) → (rest after : Siblings) → rest ≡ after →
-    unplaced_onto front rest ≡ opt code_item version after
-version-unplaced [] behind inside few none None reads codes rest after e = e
-version-unplaced [] behind inside few none (Some v) reads codes rest after e =
+    without_places_onto front rest ≡ opt code_item version after
+version-without_places [] behind inside few none None reads codes rest after e = e
+version-without_places [] behind inside few none (Some v) reads codes rest after e =
     absurd (subst (λ (xs : List Item). ReadsOptional ReadsText xs (Some v)) none reads)
-version-unplaced (item ∷ other ∷ others) behind inside few none version reads codes rest after e = absurd (omega arith)
-version-unplaced (node place keyword square first items close ∷ []) behind inside few none version reads codes rest after e
+version-without_places (item ∷ other ∷ others) behind inside few none version reads codes rest after e = absurd (omega arith)
+version-without_places (node place keyword square first items close ∷ []) behind inside few none version reads codes rest after e
     =
     let s = inside.0 in absurd (node-no-code s.at keyword s.shaped.0 s.taken)
-version-unplaced (leaf word place raw ∷ []) behind inside few none version reads codes rest after e =
+version-without_places (leaf word place raw ∷ []) behind inside few none version reads codes rest after e =
     absurd (no-word place raw codes.0)
-version-unplaced (leaf number place raw ∷ []) behind inside few none None reads codes rest after e = absurd reads
-version-unplaced (leaf text place raw ∷ []) behind inside few none None reads codes rest after e = absurd reads
-version-unplaced (leaf number place raw ∷ []) behind inside few none (Some v) reads codes rest after e =
+version-without_places (leaf number place raw ∷ []) behind inside few none None reads codes rest after e = absurd reads
+version-without_places (leaf text place raw ∷ []) behind inside few none None reads codes rest after e = absurd reads
+version-without_places (leaf number place raw ∷ []) behind inside few none (Some v) reads codes rest after e =
     ap (λ i. More i rest) (as-number place raw v codes.0 reads) ∙ ap (More (code_item v)) e
-version-unplaced (leaf text place raw ∷ []) behind inside few none (Some v) reads codes rest after e =
+version-without_places (leaf text place raw ∷ []) behind inside few none (Some v) reads codes rest after e =
     ap (λ i. More i rest) (as-text place raw v codes.0 reads) ∙ ap (More (code_item v)) e
 
 -- nodes that come next give no version
@@ -154,11 +154,11 @@ first-of c d item rest value is reads =
     subst (λ (b : Bool). ReadsFirst ReadsText (if b then item ∷ those c d rest else those c d rest) value) is reads
 
 -- the arguments, where the authority and the code are these items
-text-unplaced : (item : Item) (rest : Siblings) → InSlot class.Identifier (one class.Text) item → (value : List ℕ) →
-    ReadsFirst ReadsText (those class.Identifier class.Text (More item rest)) value → unplaced item ≡ text_item value
-text-unplaced item rest s value reads =
+text-without_places : (item : Item) (rest : Siblings) → InSlot class.Identifier (one class.Text) item → (value : List ℕ) →
+    ReadsFirst ReadsText (those class.Identifier class.Text (More item rest)) value → without_places item ≡ text_item value
+text-without_places item rest s value reads =
     let at-text = same_class class.Text s.at (or-false (sameb the_type class.Text s.at) s.taken) in
-    unplaced-text-leaf item (subst (λ (x : Class). Shaped x item) (sym at-text) s.shaped)
+    without_places-text-leaf item (subst (λ (x : Class). Shaped x item) (sym at-text) s.shaped)
     ∙ ap text_item (first-of class.Identifier class.Text item rest value
     (of-one class.Identifier class.Text class.Text (one class.Text) refl refl item s) reads)
 
@@ -170,7 +170,7 @@ ident-args : (level : Level) (items : Siblings) → Kept level class.Identifier 
     ReadsOptional ReadsText (single_of (skip 2 items)) x.version →
     ReadsOptional (ReadsTextOf class.Citation) (those class.Identifier class.Citation items) x.citation →
     ReadsOptional (ReadsTextOf class.Uri) (those class.Identifier class.Uri items) x.uri →
-    all_unplaced items ≡ More (text_item x.authority)
+    all_without_places items ≡ More (text_item x.authority)
     (More (code_item x.code)
     (opt code_item x.version
     (opt (text_node (codes "CITATION")) x.citation (opt (text_node (codes "URI")) x.uri End))))
@@ -186,11 +186,11 @@ ident-args level items k v are_codes x authority code version citation uri =
     let are : items ≡ More a.0 (More b.0 rest) =
     items-rebuilt class.Identifier (slots_of class.Identifier) items v
     ∙ ap (λ xs. onto xs (onto v1.0 rest)) a.1 ∙ ap (λ xs. More a.0 (onto xs rest)) b.1 in
-    let coded = code-unplaced b.0 rest x.code (single_of rest)
+    let coded = code-without_places b.0 rest x.code (single_of rest)
     (subst (λ (is : Siblings). ReadsFirst ReadsText (single_of (skip 1 is)) x.code) are code)
     (subst (λ (is : Siblings). Each IsCode (single_of (skip 1 is) ++ single_of (skip 2 is))) are are_codes) in
     let text-first = (subst (Each (InSlot class.Identifier (one class.Text))) a.1 v.1.1.0.inside).0 in
-    let named = text-unplaced a.0 (More b.0 rest) text-first x.authority
+    let named = text-without_places a.0 (More b.0 rest) text-first x.authority
     (subst (λ (is : Siblings). ReadsFirst ReadsText (those class.Identifier class.Text is) x.authority) are authority)
     in
     let citations = optional-spelled level class.Identifier class.Citation (ReadsTextOf class.Citation)
@@ -203,11 +203,11 @@ ident-args level items k v are_codes x authority code version citation uri =
     (text-node-form level class.Identifier class.Uri (codes "URI") refl (λ bytes h. h))
     (those class.Identifier class.Uri items) v4.0 (kept-good level class.Identifier class.Uri items k)
     (those-looked class.Identifier class.Uri (slots_of class.Identifier) items v) (v4.1.1.0.not_more refl) x.uri uri in
-    unplaced-spread class.Identifier (slots_of class.Identifier) items v
-    ∙ ap (λ xs. unplaced_onto xs (unplaced_onto v1.0 (unplaced_onto v2.0 (unplaced_onto v3.0 (unplaced_onto v4.0 End))))) a.1
-    ∙ ap (λ xs. More (unplaced a.0) (unplaced_onto xs (unplaced_onto v2.0 (unplaced_onto v3.0 (unplaced_onto v4.0 End))))) b.1
+    without_places-spread class.Identifier (slots_of class.Identifier) items v
+    ∙ ap (λ xs. without_places_onto xs (without_places_onto v1.0 (without_places_onto v2.0 (without_places_onto v3.0 (without_places_onto v4.0 End))))) a.1
+    ∙ ap (λ xs. More (without_places a.0) (without_places_onto xs (without_places_onto v2.0 (without_places_onto v3.0 (without_places_onto v4.0 End))))) b.1
     ∙ three named coded.0
-    (version-unplaced v2.0 behind v2.1.1.0.inside (v2.1.1.0.not_more refl)
+    (version-without_places v2.0 behind v2.1.1.0.inside (v2.1.1.0.not_more refl)
     (behind-version v3.0 v4.0 v3.1.1.0.inside v4.1.1.0.inside) x.version
     (subst (λ (is : Siblings). ReadsOptional ReadsText (single_of (skip 2 is)) x.version) are version) coded.1
     _ _ (citations _ _ (uris End End refl)))

@@ -12,7 +12,7 @@ use Rattle.crs_text.specs.Written.{AreFormed, AreAllFormed, at_place, at_places,
 use Rattle.crs_shape.specs.declared.class.Class.{Class}
 use Rattle.crs_value.specs.Reading.{those, is_a, ReadsOptional, ReadsEach}
 use Rattle.crs_value.specs.Sound.{Each}
-use Rattle.crs_normal.specs.Fit.{IsFit}
+use Rattle.crs_normal.specs.FormedWithin.{IsFormedWithin}
 use Rattle.crs_normal.specs.SpelledItems.{each, node_of, node_from, number_item, opt}
 use Rattle.crs_normal.specs.TextLaws.{TextLaws}
 
@@ -24,27 +24,27 @@ AreFit n items = AreAllFormed items × (depths items ≤ n)
 pub fit-end : (n : ℕ) → AreFit n End
 fit-end n = (tt, omega arith)
 
-pub fit-more : (n : ℕ) (item : Item) (items : Siblings) → IsFit n item → AreFit n items → AreFit n (More item items)
+pub fit-more : (n : ℕ) (item : Item) (items : Siblings) → IsFormedWithin n item → AreFit n items → AreFit n (More item items)
 fit-more n item items f g = ((f.0, g.0), omega (arith, f.1, g.1))
 
-pub fit-leaf : (n : ℕ) (kind : Kind) (place : ℕ) (raw : List ℕ) → IsSingle kind raw → IsFit n (leaf kind place raw)
+pub fit-leaf : (n : ℕ) (kind : Kind) (place : ℕ) (raw : List ℕ) → IsSingle kind raw → IsFormedWithin n (leaf kind place raw)
 fit-leaf n kind place raw f = (f, omega arith)
 
-pub fit-node : (n : ℕ) (keyword : List ℕ) (first : Item) (others : Siblings) → IsWord keyword → IsFit n first →
+pub fit-node : (n : ℕ) (keyword : List ℕ) (first : Item) (others : Siblings) → IsWord keyword → IsFormedWithin n first →
     AreFit n others →
-    IsFit (suc n) (node_of keyword first others)
+    IsFormedWithin (suc n) (node_of keyword first others)
 fit-node n keyword first others w f g = ((w, f.0, g.0), omega (arith, f.1, g.1))
 
-pub fit-deeper : (m n : ℕ) (item : Item) → m ≤ n → IsFit m item → IsFit n item
+pub fit-deeper : (m n : ℕ) (item : Item) → m ≤ n → IsFormedWithin m item → IsFormedWithin n item
 fit-deeper m n item l f = (f.0, omega (arith, l, f.1))
 
-pub fit-opt : {A : Type 0} (n : ℕ) (spell : A → Item) (P : A → Type 0) → ((x : A) → P x → IsFit n (spell x)) →
+pub fit-opt : {A : Type 0} (n : ℕ) (spell : A → Item) (P : A → Type 0) → ((x : A) → P x → IsFormedWithin n (spell x)) →
     (o : Option A) (rest : Siblings) →
     IfSome o P → AreFit n rest → AreFit n (opt spell o rest)
 fit-opt n spell P f None rest p g = g
 fit-opt n spell P f (Some x) rest p g = fit-more n (spell x) rest (f x p) g
 
-pub fit-each : {A : Type 0} (n : ℕ) (spell : A → Item) (P : A → Type 0) → ((x : A) → P x → IsFit n (spell x)) →
+pub fit-each : {A : Type 0} (n : ℕ) (spell : A → Item) (P : A → Type 0) → ((x : A) → P x → IsFormedWithin n (spell x)) →
     (xs : List A) (rest : Siblings) →
     Each P xs → AreFit n rest → AreFit n (each spell xs rest)
 fit-each n spell P f [] rest p g = g
@@ -60,7 +60,7 @@ run-single (c ∷ cs) r b = (r.0, r.1, b)
 pub number-single : TextLaws → (raw : List ℕ) → IsInBounds raw → IsSingle number raw
 number-single laws raw b = run-single raw (laws.run raw (b.0, b.1)) b
 
-pub value-fit : TextLaws → (n : ℕ) (v : Value) → IsNormal v → IsFit n (number_item v)
+pub value-fit : TextLaws → (n : ℕ) (v : Value) → IsNormal v → IsFormedWithin n (number_item v)
 value-fit laws n v h =
     let d = laws.denotes v h in fit-leaf n number 0 (plain v) (number-single laws (plain v) (d.0, d.1, d.2))
 

@@ -13,11 +13,11 @@ use Rattle.crs_shape.specs.Slots.{SlotParts, one, slots_of}
 use Rattle.crs_value.specs.Reading.{those}
 use Rattle.crs_value.specs.Reads.{ReadsText, ReadsNumber, ReadsTextOf, ReadsNumberOf}
 use Rattle.crs_value.specs.declared.values.level.Level.{Level}
-use Rattle.crs_normal.specs.Unplaced.{unplaced}
+use Rattle.crs_normal.specs.WithoutPlaces.{without_places}
 use Rattle.crs_normal.specs.Normal.{IsNormalIn, IsNumberIn, IsFirstKeyword}
 use Rattle.crs_normal.specs.SpelledItems.{number_item, number_node, text_item, text_node}
 use Rattle.crs_normal.proofs.FormLemmas.{Form, kept-good, node-spelled, one-spelled, opened}
-use Rattle.crs_normal.proofs.ViewLemmas.{View, unplaced-spread, those-looked}
+use Rattle.crs_normal.proofs.ViewLemmas.{View, without_places-spread, those-looked}
 
 -- the law of plain spellings: a normal value has just one
 abbrev pub PlainIsOne : Type 0
@@ -35,25 +35,25 @@ pub no-word : (keyword : List ℕ) → is_keyword class.Word keyword ≡ false
 unfolding is_keyword
 no-word keyword = refl
 
-pub unplaced-text-leaf : (item : Item) → Shaped class.Text item → unplaced item ≡ leaf text 0 (raw_of item)
-unplaced-text-leaf (leaf number place raw) shaped = cc
-unplaced-text-leaf (leaf text place raw) shaped = refl
-unplaced-text-leaf (leaf word place raw) shaped = cc
-unplaced-text-leaf (node place keyword square first others close) shaped = let h : false ≡ true = sym (no-text keyword)
+pub without_places-text-leaf : (item : Item) → Shaped class.Text item → without_places item ≡ leaf text 0 (raw_of item)
+without_places-text-leaf (leaf number place raw) shaped = cc
+without_places-text-leaf (leaf text place raw) shaped = refl
+without_places-text-leaf (leaf word place raw) shaped = cc
+without_places-text-leaf (node place keyword square first others close) shaped = let h : false ≡ true = sym (no-text keyword)
     ∙ shaped.0 in cc
 
-pub unplaced-number-leaf : (item : Item) → Shaped class.Number item → unplaced item ≡ leaf number 0 (raw_of item)
-unplaced-number-leaf (leaf number place raw) shaped = refl
-unplaced-number-leaf (leaf text place raw) shaped = cc
-unplaced-number-leaf (leaf word place raw) shaped = cc
-unplaced-number-leaf (node place keyword square first others close) shaped = let h : false ≡ true = sym (no-number keyword)
+pub without_places-number-leaf : (item : Item) → Shaped class.Number item → without_places item ≡ leaf number 0 (raw_of item)
+without_places-number-leaf (leaf number place raw) shaped = refl
+without_places-number-leaf (leaf text place raw) shaped = cc
+without_places-number-leaf (leaf word place raw) shaped = cc
+without_places-number-leaf (node place keyword square first others close) shaped = let h : false ≡ true = sym (no-number keyword)
     ∙ shaped.0 in cc
 
-pub unplaced-word-leaf : (item : Item) → Shaped class.Word item → unplaced item ≡ leaf word 0 (raw_of item)
-unplaced-word-leaf (leaf number place raw) shaped = cc
-unplaced-word-leaf (leaf text place raw) shaped = cc
-unplaced-word-leaf (leaf word place raw) shaped = refl
-unplaced-word-leaf (node place keyword square first others close) shaped = let h : false ≡ true = sym (no-word keyword)
+pub without_places-word-leaf : (item : Item) → Shaped class.Word item → without_places item ≡ leaf word 0 (raw_of item)
+without_places-word-leaf (leaf number place raw) shaped = cc
+without_places-word-leaf (leaf text place raw) shaped = cc
+without_places-word-leaf (leaf word place raw) shaped = refl
+without_places-word-leaf (node place keyword square first others close) shaped = let h : false ≡ true = sym (no-word keyword)
     ∙ shaped.0 in cc
 
 pub number-normal : (level : Level) (c : Class) (item : Item) → Shaped class.Number item →
@@ -65,7 +65,7 @@ number-normal level c (node place keyword square first others close) shaped norm
     let h : false ≡ true = sym (no-number keyword) ∙ shaped.0 in absurd (cc)
 
 pub text-form : (level : Level) (c : Class) → Form level c class.Text ReadsText text_item
-text-form level c item value good reads = unplaced-text-leaf item good.shaped ∙ ap text_item reads
+text-form level c item value good reads = without_places-text-leaf item good.shaped ∙ ap text_item reads
 
 -- each number in a node of this class is plain
 abbrev pub ArePlain : Class → Type 0
@@ -74,7 +74,7 @@ ArePlain c = (raw : List ℕ) → IsNumberIn c raw → IsPlain raw
 pub number-form : PlainIsOne → (level : Level) (c : Class) → ArePlain c →
     Form level c class.Number ReadsNumber number_item
 number-form law level c plains item value good reads =
-    unplaced-number-leaf item good.shaped
+    without_places-number-leaf item good.shaped
     ∙ ap (leaf number 0) (law value (raw_of item) reads.0
     (plains (raw_of item) (number-normal level c item good.shaped good.normal)) reads.1)
 
@@ -89,7 +89,7 @@ text-node-form level c d keyword slots its (node place bytes square first others
     let items = More first others in
     let v = subst (λ (ss : List SlotParts). View d ss items) slots o.slots in
     node-spelled place bytes keyword square first others close (More (text_item value) End) (its bytes o.written)
-    (unplaced-spread d (one class.Text ∷ []) items v
+    (without_places-spread d (one class.Text ∷ []) items v
     ∙ one-spelled level d class.Text ReadsText text_item (text-form level d) (those d class.Text items) v.0
     (kept-good level d class.Text items o.kept)
     (those-looked d class.Text (one class.Text ∷ []) items v) (v.1.1.0.not_more refl) value reads End End refl)
@@ -104,7 +104,7 @@ number-node-form law level c d keyword slots its plains (node place bytes square
     let items = More first others in
     let v = subst (λ (ss : List SlotParts). View d ss items) slots o.slots in
     node-spelled place bytes keyword square first others close (More (number_item value) End) (its bytes o.written)
-    (unplaced-spread d (one class.Number ∷ []) items v
+    (without_places-spread d (one class.Number ∷ []) items v
     ∙ one-spelled level d class.Number ReadsNumber number_item (number-form law level d plains)
     (those d class.Number items) v.0
     (kept-good level d class.Number items o.kept)

@@ -26,7 +26,7 @@ use Rattle.crs_value.specs.Values.{AxisMeridianParts, AxisParts, SystemParts, Un
 use Rattle.crs_value.specs.Words.{direction_word, unit_word}
 use Rattle.crs_same.specs.SameSystems.{own_or}
 use Rattle.crs_normal.specs.DecimalLaws.{DecimalLaws}
-use Rattle.crs_normal.specs.Made.{IsKindIn, IsMade}
+use Rattle.crs_normal.specs.AcceptedNormal.{IsKindIn, IsAcceptedNormal}
 use Rattle.crs_normal.specs.SpelledItems.{each, number_item, number_node, opt, text_item, word_item}
 use Rattle.crs_normal.specs.SpelledSystems.{item_axis, item_axis_meridian, norm_axis, norm_axis_meridian, norm_axis_meridians}
 use Rattle.crs_normal.specs.SpelledUnits.{item_ident, item_unit, norm_unit, norm_units, set_idents, whole_value}
@@ -49,7 +49,7 @@ whole-normal (suc (suc (suc zero))) h m = refl
 whole-normal (suc (suc (suc (suc k)))) h m = absurd (omega arith)
 
 pub order-made : DecimalLaws → (level : Level) (v : Value) → IsNormal v → (p : ℕ) →
-    IsMade level class.Order 1 (at_place p (number_node (codes "ORDER") v))
+    IsAcceptedNormal level class.Order 1 (at_place p (number_node (codes "ORDER") v))
 unfolding is_keyword BreaksOwn
 order-made l level v h =
     number-node-made l level class.Order (codes "ORDER") v (refl, refl) refl refl
@@ -63,7 +63,7 @@ axis_meridian_runs level m = alone class.Number (number_item m.longitude) ∷ al
     (item_unit (norm_unit level kinds.Angle m.unit)) ∷ []
 
 pub axis-meridian-made : DecimalLaws → (level : Level) (m : AxisMeridianParts) → IsAxisMeridian m → (p : ℕ) →
-    IsMade level class.AxisMeridian 4 (at_place p (item_axis_meridian (norm_axis_meridian level m)))
+    IsAcceptedNormal level class.AxisMeridian 4 (at_place p (item_axis_meridian (norm_axis_meridian level m)))
 unfolding BreaksOwn class_named is_keyword
 axis-meridian-made l level m h =
     node-made level 3 class.AxisMeridian (codes "MERIDIAN") (number_item m.longitude)
@@ -194,7 +194,7 @@ axis-runs-made l level t shared k x f low high =
 
 pub axis-made : DecimalLaws → (level : Level) (s : SystemParts) (k : ℕ) (x : AxisParts) →
     Fits s.system_type s.unit x → 1 ≤ k → k ≤ 3 → (p : ℕ) →
-    IsMade level class.Axis 5 (at_place p (item_axis (norm_axis level s k x)))
+    IsAcceptedNormal level class.Axis 5 (at_place p (item_axis (norm_axis level s k x)))
 unfolding BreaksOwn is_keyword norm_axis
 axis-made l level s k x f low high =
     let asked : UnitKind = asked_kind s.system_type x.direction in

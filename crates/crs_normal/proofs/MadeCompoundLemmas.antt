@@ -28,7 +28,7 @@ use Rattle.crs_value.specs.Values.{TailParts}
 use Rattle.crs_same.specs.SameUsages.{usages_of}
 use Rattle.crs_normal.specs.DecimalLaws.{DecimalLaws}
 use Rattle.crs_normal.specs.CrsClass.{geodetic_class}
-use Rattle.crs_normal.specs.Made.{IsMade}
+use Rattle.crs_normal.specs.AcceptedNormal.{IsAcceptedNormal}
 use Rattle.crs_normal.specs.NormalOwn.{Ascend, set_classes}
 use Rattle.crs_normal.specs.SpelledCrs.{geodetic_keyword, item_compound, item_geodetic, item_projected, item_vertical, norm_compound, norm_geodetic, norm_projected, norm_vertical}
 use Rattle.crs_normal.specs.SpelledItems.{node_of, text_item}
@@ -79,7 +79,7 @@ geodetic-side l each_at level g h e plane = record {
   made = as-argument level 6 7 class.CompoundCrs class.GeographicCrs (item_geodetic (norm_geodetic level g))
       (omega arith)
       (subst (λ t. class_named class.CompoundCrs (geodetic_keyword t) ≡ Some class.GeographicCrs) (sym e) refl)
-      (λ p. subst (λ t. IsMade level (geodetic_class t) 6 (at_place p (item_geodetic (norm_geodetic level g)))) e
+      (λ p. subst (λ t. IsAcceptedNormal level (geodetic_class t) 6 (at_place p (item_geodetic (norm_geodetic level g)))) e
       (geodetic-made l each_at level g h p));
   fine = λ p b.
       let s = geodetic-seen l each_at level g h p in
@@ -202,7 +202,7 @@ compound-runs-made l each_at level b j name v t s n h g = (
 side-made : DecimalLaws → AxisEach →
     (level : Level) (b : Bool) (j : Item) (name : List ℕ) (v : VerticalParts) (t : TailParts) → IsSide level b j →
     IsText name → IsVertical v → IsTail t → (p : ℕ) →
-    IsMade level class.CompoundCrs 8 (at_place p (node_of (codes "COMPOUNDCRS") (text_item name)
+    IsAcceptedNormal level class.CompoundCrs 8 (at_place p (node_of (codes "COMPOUNDCRS") (text_item name)
     (More j (More (item_vertical (norm_vertical level v)) (tail_items (norm_tail level t))))))
 unfolding BreaksOwn is_keyword
 side-made l each_at level b j name v t s n h g =
@@ -235,11 +235,11 @@ side-made l each_at level b j name v t s n h g =
     })
 
 pub compound-made : DecimalLaws → AxisEach → (level : Level) (c : CompoundParts) → IsCompound c → (p : ℕ) →
-    IsMade level class.CompoundCrs 8 (at_place p (item_compound (norm_compound level c)))
+    IsAcceptedNormal level class.CompoundCrs 8 (at_place p (item_compound (norm_compound level c)))
 compound-made l each_at level c h p = by c.horizontal h.horizontal
   where
     by : (part : Horizontal) → IsHorizontal part →
-        IsMade level class.CompoundCrs 8
+        IsAcceptedNormal level class.CompoundCrs 8
         (at_place p (item_compound (norm_compound level (record c { horizontal = part }))))
     by (horizontal.Geodetic g) q =
         side-made l each_at level true (item_geodetic (norm_geodetic level g)) c.name c.vertical c.tail

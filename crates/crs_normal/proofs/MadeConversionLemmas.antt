@@ -17,7 +17,7 @@ use Rattle.crs_value.specs.Values.{UnitParts}
 use Rattle.crs_same.specs.SameUnits.{kind_as}
 use Rattle.crs_normal.specs.PartSpellings.{unit_class}
 use Rattle.crs_normal.specs.DecimalLaws.{DecimalLaws}
-use Rattle.crs_normal.specs.Made.{IsKindIn, IsMade}
+use Rattle.crs_normal.specs.AcceptedNormal.{IsKindIn, IsAcceptedNormal}
 use Rattle.crs_normal.specs.NormalOwn.{Ascend, set_classes}
 use Rattle.crs_normal.specs.SpelledConversions.{item_conversion, item_method, item_parameter, norm_conversion, norm_method, norm_parameter, set_parameters}
 use Rattle.crs_normal.specs.SpelledItems.{each, number_item, opt, text_item}
@@ -89,7 +89,7 @@ given-taken None = refl
 given-taken (Some u) = kind-taken (kind_as kinds.Plain u.kind)
 
 pub parameter-made : DecimalLaws → (level : Level) (m : ParameterParts) → IsParameter m → (p : ℕ) →
-    IsMade level class.Parameter 4 (at_place p (item_parameter (norm_parameter level m)))
+    IsAcceptedNormal level class.Parameter 4 (at_place p (item_parameter (norm_parameter level m)))
 unfolding BreaksOwn class_named is_keyword
 parameter-made l level m h =
     node-made level 3 class.Parameter (codes "PARAMETER") (text_item m.name)
@@ -147,7 +147,7 @@ unfolding set_parameters
 parameters-ascend level ps = set-ascends item_parameter (map (norm_parameter level) ps)
 
 pub conversion-made : DecimalLaws → (level : Level) (m : ConversionParts) → IsConversion m → (p : ℕ) →
-    IsMade level class.Conversion 5 (at_place p (item_conversion (norm_conversion level m)))
+    IsAcceptedNormal level class.Conversion 5 (at_place p (item_conversion (norm_conversion level m)))
 unfolding BreaksOwn class_named is_keyword
 conversion-made l level m h =
     node-made level 4 class.Conversion (codes "CONVERSION") (text_item m.name)

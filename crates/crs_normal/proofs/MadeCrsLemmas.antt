@@ -10,7 +10,7 @@ use Rattle.crs_value.specs.declared.values.level.Level.{Level}
 use Rattle.crs_value.specs.SoundCrs.{IsCrs}
 use Rattle.crs_normal.specs.DecimalLaws.{DecimalLaws}
 use Rattle.crs_normal.specs.CrsClass.{crs_class, geodetic_class}
-use Rattle.crs_normal.specs.Made.{IsMade}
+use Rattle.crs_normal.specs.AcceptedNormal.{IsAcceptedNormal}
 use Rattle.crs_normal.specs.Normal.{IsNormalText}
 use Rattle.crs_normal.specs.SpelledCrs.{item_crs, norm_crs}
 use Rattle.crs_normal.proofs.MadeBehindLemmas.{AxisEach}
@@ -21,7 +21,7 @@ use Rattle.crs_normal.proofs.MadeProjectedLemmas.{projected-made}
 use Rattle.crs_normal.proofs.MadeVerticalLemmas.{vertical-made}
 use Rattle.crs_normal.proofs.RootLemmas.{crs-rooted}
 
-deeper : (level : Level) (c : Class) (n : ℕ) (item : Item) → n ≤ 8 → IsMade level c n item → IsMade level c 8 item
+deeper : (level : Level) (c : Class) (n : ℕ) (item : Item) → n ≤ 8 → IsAcceptedNormal level c n item → IsAcceptedNormal level c 8 item
 deeper level c n item h m =
     let w : depth item ≤ n = m.within in
     record {
@@ -34,7 +34,7 @@ deeper level c n item h m =
     }
 
 pub crs-made : DecimalLaws → AxisEach → (level : Level) (c : Crs) → IsCrs c → (p : ℕ) →
-    IsMade level (crs_class c) 8 (at_place p (item_crs (norm_crs level c)))
+    IsAcceptedNormal level (crs_class c) 8 (at_place p (item_crs (norm_crs level c)))
 crs-made l each_at level (crs.Geodetic g) h p =
     deeper level (geodetic_class g.system.system_type) 6 (at_place p (item_crs (norm_crs level (crs.Geodetic g))))
     (omega arith) (geodetic-made l each_at level g h p)
@@ -87,7 +87,7 @@ pub crs-text-normal : DecimalLaws → AxisEach → WrittenSpells → (level : Le
     IsNormalText level (item_text (item_crs (norm_crs level c)))
 crs-text-normal l each_at written level c h =
     let i : Item = item_crs (norm_crs level c) in
-    let m : IsMade level (crs_class c) 8 (at_place 0 i) = crs-made l each_at level c h 0 in
+    let m : IsAcceptedNormal level (crs_class c) 8 (at_place 0 i) = crs-made l each_at level c h 0 in
     let w : depth (at_place 0 i) ≤ 8 = m.within in
     let few : depth (at_place 0 i) ≤ 12 = omega arith in
     let spelled : SpellsNode (item_text (at_place 0 i)) (at_place 0 (at_place 0 i)) = written (at_place 0 i)

@@ -20,7 +20,7 @@ use Rattle.crs_value.specs.Sound.{IsText}
 use Rattle.crs_value.specs.SoundFrames.{IsDatum, IsEllipsoid}
 use Rattle.crs_value.specs.Values.{DatumParts, EllipsoidParts}
 use Rattle.crs_normal.specs.DecimalLaws.{DecimalLaws}
-use Rattle.crs_normal.specs.Made.{IsMade}
+use Rattle.crs_normal.specs.AcceptedNormal.{IsAcceptedNormal}
 use Rattle.crs_normal.specs.Normal.{IsFirstKeyword}
 use Rattle.crs_normal.specs.NormalOwn.{HasOwnForm}
 use Rattle.crs_normal.specs.SpelledFrames.{item_ellipsoid, norm_ellipsoid}
@@ -40,7 +40,7 @@ pub number-node-made : DecimalLaws → (level : Level) (c : Class) (keyword : Li
     IsTrue (is_keyword c keyword) →
     IsFirstKeyword c keyword → Allowed (slots_of c) (class.Number ∷ []) → ((item : Item) → HasOwnForm c item) →
     ((item : Item) (fault : RefusedAt) → ¬ (BreaksOwn c item fault)) → IsNormal v → (p : ℕ) →
-    IsMade level c 1 (at_place p (number_node keyword v))
+    IsAcceptedNormal level c 1 (at_place p (number_node keyword v))
 number-node-made l level c keyword v letters known written allowed own unbroken h =
     node-made level 0 c keyword (number_item v) End (alone class.Number (number_item v) ∷ []) refl (record {
       letters = letters;
@@ -67,7 +67,7 @@ not-repeated spell (Some x) (item ∷ []) fault h b = b
 not-repeated spell (Some x) (item ∷ other ∷ items) fault h b = h.1
 
 anchor-made : (level : Level) (raw : List ℕ) → IsText raw → (p : ℕ) →
-    IsMade level class.Anchor 1 (at_place p (text_node (codes "ANCHOR") raw))
+    IsAcceptedNormal level class.Anchor 1 (at_place p (text_node (codes "ANCHOR") raw))
 unfolding is_keyword BreaksOwn
 anchor-made level raw h =
     text-node-made level class.Anchor (codes "ANCHOR") raw (refl, refl) refl refl
@@ -75,7 +75,7 @@ anchor-made level raw h =
     (λ item fault b. b) h
 
 anchor-epoch-made : DecimalLaws → (level : Level) (v : Value) → IsNormal v → (p : ℕ) →
-    IsMade level class.AnchorEpoch 1 (at_place p (number_node (codes "ANCHOREPOCH") v))
+    IsAcceptedNormal level class.AnchorEpoch 1 (at_place p (number_node (codes "ANCHOREPOCH") v))
 unfolding is_keyword BreaksOwn
 anchor-epoch-made l level v h =
     number-node-made l level class.AnchorEpoch (codes "ANCHOREPOCH") v (refl, refl) refl refl
@@ -157,7 +157,7 @@ geodetic-runs-made l level x d e h = (
 
 pub geodetic-datum-made : DecimalLaws → (level : Level) (x : Option EllipsoidParts) (d : DatumParts) → IsSome x →
     IfSome x IsEllipsoid → IsDatum d → (p : ℕ) →
-    IsMade level class.GeodeticFrame 5 (at_place p (node_of (codes "DATUM") (text_item d.name)
+    IsAcceptedNormal level class.GeodeticFrame 5 (at_place p (node_of (codes "DATUM") (text_item d.name)
     (opt item_ellipsoid (option_map (norm_ellipsoid level) x) (datum_others level d))))
 unfolding BreaksOwn is_keyword
 geodetic-datum-made l level None d some e h = absurd (cc some)
@@ -196,7 +196,7 @@ vertical-runs-made l level d h = (
 
 pub vertical-datum-made : DecimalLaws → (level : Level) (x : Option EllipsoidParts) (d : DatumParts) → IsNone x →
     IsDatum d → (p : ℕ) →
-    IsMade level class.VerticalFrame 5 (at_place p (node_of (codes "VDATUM") (text_item d.name)
+    IsAcceptedNormal level class.VerticalFrame 5 (at_place p (node_of (codes "VDATUM") (text_item d.name)
     (opt item_ellipsoid (option_map (norm_ellipsoid level) x) (datum_others level d))))
 unfolding BreaksOwn is_keyword
 vertical-datum-made l level (Some x) d none h = absurd (cc none)

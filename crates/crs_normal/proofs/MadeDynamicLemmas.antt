@@ -21,7 +21,7 @@ use Rattle.crs_value.specs.Sound.{Each}
 use Rattle.crs_value.specs.SoundDynamic.{IsDeformationModel, IsDynamic}
 use Rattle.crs_value.specs.SoundSingle.{IsDynamicOf}
 use Rattle.crs_normal.specs.DecimalLaws.{DecimalLaws}
-use Rattle.crs_normal.specs.Made.{IsMade}
+use Rattle.crs_normal.specs.AcceptedNormal.{IsAcceptedNormal}
 use Rattle.crs_normal.specs.SpelledDynamic.{item_deformation_model, item_dynamic, norm_deformation_model, norm_dynamic}
 use Rattle.crs_normal.specs.SpelledItems.{number_item, number_node, opt}
 use Rattle.crs_normal.proofs.MadeDatumLemmas.{number-node-made}
@@ -32,7 +32,7 @@ use Rattle.crs_normal.proofs.MadeNamedLemmas.{deformation-model-made}
 use Rattle.crs_normal.proofs.MadePlaceLemmas.{ArePlaced}
 
 frame-epoch-made : DecimalLaws → (level : Level) (v : Value) → IsNormal v → (p : ℕ) →
-    IsMade level class.FrameEpoch 1 (at_place p (number_node (codes "FRAMEEPOCH") v))
+    IsAcceptedNormal level class.FrameEpoch 1 (at_place p (number_node (codes "FRAMEEPOCH") v))
 unfolding is_keyword BreaksOwn
 frame-epoch-made l level v h =
     number-node-made l level class.FrameEpoch (codes "FRAMEEPOCH") v (refl, refl) refl refl
@@ -60,7 +60,7 @@ dynamic_runs level d =
     } ∷ []
 
 pub dynamic-made : DecimalLaws → (level : Level) (d : DynamicParts) → IsDynamic d → (p : ℕ) →
-    IsMade level class.Dynamic 4 (at_place p (item_dynamic (norm_dynamic level d)))
+    IsAcceptedNormal level class.Dynamic 4 (at_place p (item_dynamic (norm_dynamic level d)))
 unfolding BreaksOwn class_named is_keyword
 dynamic-made l level d h =
     node-made level 3 class.Dynamic (codes "DYNAMIC") (number_node (codes "FRAMEEPOCH") d.epoch)

@@ -22,7 +22,7 @@ use Rattle.crs_value.specs.Values.{EllipsoidParts, IdentParts, UnitParts}
 use Rattle.crs_value.specs.Words.{unit_word}
 use Rattle.crs_same.specs.SameUnits.{kind_as}
 use Rattle.crs_normal.specs.DecimalLaws.{DecimalLaws}
-use Rattle.crs_normal.specs.Made.{IsKindIn, IsMade}
+use Rattle.crs_normal.specs.AcceptedNormal.{IsKindIn, IsAcceptedNormal}
 use Rattle.crs_normal.specs.SpelledFrames.{item_ellipsoid, norm_ellipsoid}
 use Rattle.crs_normal.specs.SpelledItems.{each, number_item, opt, text_item}
 use Rattle.crs_normal.specs.SpelledUnits.{item_ident, item_unit, metre, norm_length, norm_unit, norm_units, set_idents}
@@ -161,7 +161,7 @@ ellipsoid-kept l level e h = record {
 }
 
 pub ellipsoid-made : DecimalLaws → (level : Level) (e : EllipsoidParts) → IsEllipsoid e → (p : ℕ) →
-    IsMade level class.Ellipsoid 4 (at_place p (item_ellipsoid (norm_ellipsoid level e)))
+    IsAcceptedNormal level class.Ellipsoid 4 (at_place p (item_ellipsoid (norm_ellipsoid level e)))
 ellipsoid-made l level e h =
     node-made level 3 class.Ellipsoid (codes "ELLIPSOID") (text_item e.name)
     (More (number_item e.semi_major_axis) (More (number_item e.inverse_flattening)

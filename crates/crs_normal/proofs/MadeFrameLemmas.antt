@@ -17,7 +17,7 @@ use Rattle.crs_value.specs.SoundFrames.{IsEllipsoid, IsEnsemble, IsMember}
 use Rattle.crs_value.specs.SoundSingle.{IsGeodeticFrame, IsVerticalFrame}
 use Rattle.crs_value.specs.Values.{EllipsoidParts, EnsembleParts, MemberParts}
 use Rattle.crs_normal.specs.DecimalLaws.{DecimalLaws}
-use Rattle.crs_normal.specs.Made.{IsMade, geodetic_frame_class, vertical_frame_class}
+use Rattle.crs_normal.specs.AcceptedNormal.{IsAcceptedNormal, geodetic_frame_class, vertical_frame_class}
 use Rattle.crs_normal.specs.NormalOwn.{Ascend}
 use Rattle.crs_normal.specs.SpelledFrames.{item_ellipsoid, item_frame, item_member, norm_ellipsoid, norm_frame, norm_member, set_members}
 use Rattle.crs_normal.specs.SpelledItems.{each, node_of, number_item, number_node, opt, text_item}
@@ -34,7 +34,7 @@ use Rattle.crs_normal.proofs.MadeNamedLemmas.{member-made}
 -- ---- ensembles
 
 accuracy-made : DecimalLaws → (level : Level) (v : Value) → IsNormal v → (p : ℕ) →
-    IsMade level class.EnsembleAccuracy 1 (at_place p (number_node (codes "ENSEMBLEACCURACY") v))
+    IsAcceptedNormal level class.EnsembleAccuracy 1 (at_place p (number_node (codes "ENSEMBLEACCURACY") v))
 unfolding is_keyword BreaksOwn
 accuracy-made l level v h =
     number-node-made l level class.EnsembleAccuracy (codes "ENSEMBLEACCURACY") v (refl, refl) refl refl
@@ -82,7 +82,7 @@ ensemble_others level x e =
 
 geodetic-ensemble-made : DecimalLaws → (level : Level) (x : Option EllipsoidParts) (e : EnsembleParts) → IsSome x →
     IfSome x IsEllipsoid → IsEnsemble e →
-    (p : ℕ) → IsMade level class.GeodeticEnsemble 5 (at_place p (node_of (codes "ENSEMBLE") (text_item e.name)
+    (p : ℕ) → IsAcceptedNormal level class.GeodeticEnsemble 5 (at_place p (node_of (codes "ENSEMBLE") (text_item e.name)
     (ensemble_others level x e)))
 unfolding BreaksOwn class_named is_keyword
 geodetic-ensemble-made l level None e some f h = absurd (cc some)
@@ -129,7 +129,7 @@ vertical_ensemble_runs level e =
 
 vertical-ensemble-made : DecimalLaws → (level : Level) (x : Option EllipsoidParts) (e : EnsembleParts) → IsNone x →
     IsEnsemble e →
-    (p : ℕ) → IsMade level class.VerticalEnsemble 5 (at_place p (node_of (codes "ENSEMBLE") (text_item e.name)
+    (p : ℕ) → IsAcceptedNormal level class.VerticalEnsemble 5 (at_place p (node_of (codes "ENSEMBLE") (text_item e.name)
     (ensemble_others level x e)))
 unfolding BreaksOwn class_named is_keyword
 vertical-ensemble-made l level (Some x) e none h = absurd (cc none)
@@ -165,11 +165,11 @@ vertical-ensemble-made l level None e none h =
 -- ---- frames
 
 pub geodetic-frame-made : DecimalLaws → (level : Level) (f : Frame) → IsGeodeticFrame f → (p : ℕ) →
-    IsMade level (geodetic_frame_class f) 5 (at_place p (item_frame (codes "DATUM") (norm_frame level f)))
+    IsAcceptedNormal level (geodetic_frame_class f) 5 (at_place p (item_frame (codes "DATUM") (norm_frame level f)))
 geodetic-frame-made l level (frame.Datum d) h = geodetic-datum-made l level d.ellipsoid d h.1 h.0.ellipsoid h.0
 geodetic-frame-made l level (frame.Ensemble e) h = geodetic-ensemble-made l level e.ellipsoid e h.1 h.0.ellipsoid h.0
 
 pub vertical-frame-made : DecimalLaws → (level : Level) (f : Frame) → IsVerticalFrame f → (p : ℕ) →
-    IsMade level (vertical_frame_class f) 5 (at_place p (item_frame (codes "VDATUM") (norm_frame level f)))
+    IsAcceptedNormal level (vertical_frame_class f) 5 (at_place p (item_frame (codes "VDATUM") (norm_frame level f)))
 vertical-frame-made l level (frame.Datum d) h = vertical-datum-made l level d.ellipsoid d h.1 h.0
 vertical-frame-made l level (frame.Ensemble e) h = vertical-ensemble-made l level e.ellipsoid e h.1 h.0

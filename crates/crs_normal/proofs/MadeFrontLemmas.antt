@@ -14,7 +14,7 @@ use Rattle.crs_value.specs.Sound.{Each}
 use Rattle.crs_value.specs.SoundSingle.{IsDynamicOf, IsGeodeticFrame}
 use Rattle.crs_value.specs.Values.{MeridianParts}
 use Rattle.crs_normal.specs.DecimalLaws.{DecimalLaws}
-use Rattle.crs_normal.specs.Made.{geodetic_frame_class}
+use Rattle.crs_normal.specs.AcceptedNormal.{geodetic_frame_class}
 use Rattle.crs_normal.specs.NormalOwn.{Ascend, rank, set_classes}
 use Rattle.crs_normal.specs.SpelledFrames.{item_frame, item_meridian, norm_frame, norm_meridian}
 use Rattle.crs_normal.proofs.MadeBehindLemmas.{Shows, crs_classes}

@@ -24,7 +24,7 @@ use Rattle.crs_value.specs.Words.{system_word}
 use Rattle.crs_same.specs.SameUsages.{usages_of}
 use Rattle.crs_normal.specs.DecimalLaws.{DecimalLaws}
 use Rattle.crs_normal.specs.CrsClass.{geodetic_class}
-use Rattle.crs_normal.specs.Made.{IsMade, geodetic_frame_class}
+use Rattle.crs_normal.specs.AcceptedNormal.{IsAcceptedNormal, geodetic_frame_class}
 use Rattle.crs_normal.specs.Normal.{IsFirstKeyword}
 use Rattle.crs_normal.specs.NormalOwn.{Ascend, Has, HasAxes, HasTail, HasOwnForm, rank, set_classes, words_in}
 use Rattle.crs_normal.specs.SpelledCrs.{geodetic_keyword, item_geodetic, norm_geodetic}
@@ -286,7 +286,7 @@ geodetic_others level g =
     (tail_items (norm_tail level g.tail)))))
 
 pub geodetic-made : DecimalLaws → AxisEach → (level : Level) (g : GeodeticParts) → IsGeodetic g → (p : ℕ) →
-    IsMade level (geodetic_class g.system.system_type) 6 (at_place p (item_geodetic (norm_geodetic level g)))
+    IsAcceptedNormal level (geodetic_class g.system.system_type) 6 (at_place p (item_geodetic (norm_geodetic level g)))
 geodetic-made l each_at level g h =
     node-made level 5 (geodetic_class g.system.system_type) (geodetic_keyword g.system.system_type) (text_item g.name)
     (geodetic_others level g) (geodetic_runs level g) (simp (opt-line, each-line))

@@ -18,7 +18,7 @@ use Rattle.crs_value.specs.Reads.{single_of}
 use Rattle.crs_value.specs.Sound.{Each, IsIdent, IsText}
 use Rattle.crs_value.specs.Values.{IdentParts}
 use Rattle.crs_normal.specs.DecimalLaws.{DecimalLaws}
-use Rattle.crs_normal.specs.Made.{IsMade}
+use Rattle.crs_normal.specs.AcceptedNormal.{IsAcceptedNormal}
 use Rattle.crs_normal.specs.Normal.{IsFirstKeyword}
 use Rattle.crs_normal.specs.NormalOwn.{Ascend, IsCode, HasOwnForm, set_classes}
 use Rattle.crs_normal.specs.Ordered.{in_order}
@@ -36,7 +36,7 @@ pub text-node-made : (level : Level) (c : Class) (keyword raw : List ℕ) → Is
     IsTrue (is_keyword c keyword) → IsFirstKeyword c keyword →
     Allowed (slots_of c) (class.Text ∷ []) → ((item : Item) → HasOwnForm c item) →
     ((item : Item) (fault : RefusedAt) → ¬ (BreaksOwn c item fault)) → IsText raw →
-    (p : ℕ) → IsMade level c 1 (at_place p (text_node keyword raw))
+    (p : ℕ) → IsAcceptedNormal level c 1 (at_place p (text_node keyword raw))
 text-node-made level c keyword raw letters known written allowed own unbroken h =
     node-made level 0 c keyword (text_item raw) End (alone class.Text (text_item raw) ∷ []) refl (record {
       letters = letters;
@@ -54,13 +54,13 @@ one-text : Allowed (slots_of class.Citation) (class.Text ∷ [])
 one-text = runs-fit (slots_of class.Citation) (alone class.Text (text_item []) ∷ []) (fills-one refl, tt)
 
 citation-made : (level : Level) (raw : List ℕ) → IsText raw → (p : ℕ) →
-    IsMade level class.Citation 1 (at_place p (text_node (codes "CITATION") raw))
+    IsAcceptedNormal level class.Citation 1 (at_place p (text_node (codes "CITATION") raw))
 unfolding is_keyword BreaksOwn
 citation-made level raw h = text-node-made level class.Citation (codes "CITATION") raw (refl, refl) refl refl one-text
     (λ item. tt) (λ item fault b. b) h
 
 uri-made : (level : Level) (raw : List ℕ) → IsText raw → (p : ℕ) →
-    IsMade level class.Uri 1 (at_place p (text_node (codes "URI") raw))
+    IsAcceptedNormal level class.Uri 1 (at_place p (text_node (codes "URI") raw))
 unfolding is_keyword BreaksOwn
 uri-made level raw h = text-node-made level class.Uri (codes "URI") raw (refl, refl) refl refl one-text (λ item. tt)
     (λ item fault b. b) h
@@ -228,7 +228,7 @@ ident-lines i =
     ∙ ap (line (given (λ raw. leaf (version_kind i.version) 0 raw) i.version)) (simp opt-line))
 
 pub ident-made : DecimalLaws → (level : Level) (i : IdentParts) → IsIdent i → (p : ℕ) →
-    IsMade level class.Identifier 2 (at_place p (item_ident i))
+    IsAcceptedNormal level class.Identifier 2 (at_place p (item_ident i))
 ident-made l level i h =
     node-made level 1 class.Identifier (codes "ID") (text_item i.authority)
     (More (code_item i.code) (opt code_item i.version (opt (text_node (codes "CITATION")) i.citation

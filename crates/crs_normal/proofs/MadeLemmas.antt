@@ -17,7 +17,7 @@ use Rattle.crs_value.specs.Kept.{kept}
 use Rattle.crs_value.specs.KeptLaws.{kept-none, kept-where_none}
 use Rattle.crs_value.specs.declared.values.level.Level.{Level}
 use Rattle.crs_value.specs.Reading.{is_same, those}
-use Rattle.crs_normal.specs.Made.{IsMade}
+use Rattle.crs_normal.specs.AcceptedNormal.{IsAcceptedNormal}
 use Rattle.crs_normal.specs.Normal.{AreNormalIn, AtLevel, IsNormalIn, IsFirstKeyword}
 use Rattle.crs_normal.specs.NormalOwn.{Ascend, HasOwnForm, set_classes}
 use Rattle.crs_value.specs.Sound.{Each}
@@ -282,7 +282,7 @@ node-at : (level : Level) (most : ℕ) (c : Class) (keyword : List ℕ) (first :
     (ds : List Class) (p : ℕ) →
     More first others ≡ lines runs → ds ≡ classes runs → AreMade (IsNormalIn level) most c ds (More first others) →
     IsKept level most c keyword runs →
-    IsMade level c (suc most) (at_place p (node_of keyword first others))
+    IsAcceptedNormal level c (suc most) (at_place p (node_of keyword first others))
 node-at level most c keyword first others runs [] p same ds h k = absurd h
 node-at level most c keyword first others runs (d ∷ ds) p same q h k =
     let f = h.0.fine (p + length keyword + 1) in
@@ -335,14 +335,14 @@ node-at level most c keyword first others runs (d ∷ ds) p same q h k =
 pub node-made : (level : Level) (most : ℕ) (c : Class) (keyword : List ℕ) (first : Item) (others : Siblings)
     (runs : List Run) →
     More first others ≡ lines runs → IsKept level most c keyword runs → (p : ℕ) →
-    IsMade level c (suc most) (at_place p (node_of keyword first others))
+    IsAcceptedNormal level c (suc most) (at_place p (node_of keyword first others))
 node-made level most c keyword first others runs same k p =
     node-at level most c keyword first others runs (classes runs) p same refl
     (subst (AreMade (IsNormalIn level) most c (classes runs)) (sym same) (made-lines (IsNormalIn level) most c runs k.made)) k
 
 -- a made node as an argument of another
 pub as-argument : (level : Level) (n most : ℕ) (parent c : Class) (j : Item) → n ≤ most → class_in parent j ≡ Some c →
-    ((p : ℕ) → IsMade level c n (at_place p j)) → Made level most parent c j
+    ((p : ℕ) → IsAcceptedNormal level c n (at_place p j)) → Made level most parent c j
 as-argument level n most parent c j h named made = record {
   named = named;
   fine = λ p. let m = made p in

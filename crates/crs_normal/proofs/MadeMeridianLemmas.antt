@@ -20,7 +20,7 @@ use Rattle.crs_value.specs.Sound.{Each, IsIdent, IsText}
 use Rattle.crs_value.specs.SoundFrames.{IsMeridian}
 use Rattle.crs_value.specs.Values.{IdentParts, MeridianParts, UnitParts}
 use Rattle.crs_normal.specs.DecimalLaws.{DecimalLaws}
-use Rattle.crs_normal.specs.Made.{IsMade}
+use Rattle.crs_normal.specs.AcceptedNormal.{IsAcceptedNormal}
 use Rattle.crs_normal.specs.NormalOwn.{HasNoUnitAtZero}
 use Rattle.crs_normal.specs.SpelledFrames.{greenwich, is_zero, item_meridian, norm_given, norm_meridian}
 use Rattle.crs_normal.specs.SpelledItems.{each, node_of, number_item, opt, text_item}
@@ -74,7 +74,7 @@ meridian-parts-made : DecimalLaws →
     IsText name → IsNormal v → (is_zero v ≡ true → unit ≡ None) →
     Each (Made level 3 class.PrimeMeridian class.AngleUnit) (given item_unit unit) →
     Each IsIdent identifiers → (p : ℕ) →
-    IsMade level class.PrimeMeridian 4 (at_place p (node_of (codes "PRIMEM") (text_item name)
+    IsAcceptedNormal level class.PrimeMeridian 4 (at_place p (node_of (codes "PRIMEM") (text_item name)
     (More (number_item v) (opt item_unit unit (each item_ident (set_idents level identifiers) End)))))
 unfolding BreaksOwn class_named is_keyword
 meridian-parts-made l level name v unit identifiers t n none u h =
@@ -110,7 +110,7 @@ given-at level true x h = tt
 given-at level false x h = h
 
 pub meridian-made : DecimalLaws → (level : Level) (m : MeridianParts) → IsMeridian m → (p : ℕ) →
-    IsMade level class.PrimeMeridian 4 (at_place p (item_meridian (norm_given level m)))
+    IsAcceptedNormal level class.PrimeMeridian 4 (at_place p (item_meridian (norm_given level m)))
 unfolding class_named is_keyword
 meridian-made l level m h =
     meridian-parts-made l level m.name m.longitude (if is_zero m.longitude then None else norm_units level kinds.Angle
@@ -128,9 +128,9 @@ abbrev greenwich-with : List IdentParts → MeridianParts
 greenwich-with identifiers = record { name = codes "Greenwich"; longitude = whole_value 0; unit = None; identifiers = identifiers }
 
 pub greenwich-made : DecimalLaws → (level : Level) (p : ℕ) →
-    IsMade level class.PrimeMeridian 4 (at_place p (item_meridian greenwich))
+    IsAcceptedNormal level class.PrimeMeridian 4 (at_place p (item_meridian greenwich))
 greenwich-made l level p =
-    subst (λ identifiers. IsMade level class.PrimeMeridian 4 (at_place p (item_meridian (greenwich-with identifiers))))
+    subst (λ identifiers. IsAcceptedNormal level class.PrimeMeridian 4 (at_place p (item_meridian (greenwich-with identifiers))))
     (none-form level [] (kept-none level))
     (meridian-parts-made l level (codes "Greenwich") (whole_value 0) None [] (
       (codes "Greenwich", refl),

@@ -19,7 +19,7 @@ use Rattle.crs_value.specs.SoundDynamic.{IsDeformationModel}
 use Rattle.crs_value.specs.SoundFrames.{IsMember}
 use Rattle.crs_value.specs.Values.{IdentParts, MemberParts}
 use Rattle.crs_normal.specs.DecimalLaws.{DecimalLaws}
-use Rattle.crs_normal.specs.Made.{IsMade}
+use Rattle.crs_normal.specs.AcceptedNormal.{IsAcceptedNormal}
 use Rattle.crs_normal.specs.Normal.{IsFirstKeyword}
 use Rattle.crs_normal.specs.NormalOwn.{HasOwnForm}
 use Rattle.crs_normal.specs.SpelledConversions.{item_geoid_model, item_method, norm_geoid_model, norm_method}
@@ -47,7 +47,7 @@ named_runs level name identifiers = alone class.Text (text_item name) ∷ ids_ru
 
 named-made : DecimalLaws → (level : Level) (c : Class) (keyword name : List ℕ) (identifiers : List IdentParts) →
     IsNamed c keyword → IsText name → Each IsIdent identifiers →
-    (p : ℕ) → IsMade level c 3 (at_place p (node_of keyword (text_item name) (each item_ident (set_idents level identifiers)
+    (p : ℕ) → IsAcceptedNormal level c 3 (at_place p (node_of keyword (text_item name) (each item_ident (set_idents level identifiers)
     End)))
 named-made l level c keyword name identifiers n t h =
     node-made level 2 c keyword (text_item name) (each item_ident (set_idents level identifiers) End)
@@ -113,19 +113,19 @@ is-deformation-model = record {
 }
 
 pub member-made : DecimalLaws → (level : Level) (m : MemberParts) → IsMember m → (p : ℕ) →
-    IsMade level class.Member 3 (at_place p (item_member (norm_member level m)))
+    IsAcceptedNormal level class.Member 3 (at_place p (item_member (norm_member level m)))
 member-made l level m h = named-made l level class.Member (codes "MEMBER") m.name m.identifiers is-member h.name h.identifiers
 
 pub method-made : DecimalLaws → (level : Level) (m : MethodParts) → IsMethod m → (p : ℕ) →
-    IsMade level class.Method 3 (at_place p (item_method (norm_method level m)))
+    IsAcceptedNormal level class.Method 3 (at_place p (item_method (norm_method level m)))
 method-made l level m h = named-made l level class.Method (codes "METHOD") m.name m.identifiers is-method h.name h.identifiers
 
 pub geoid-model-made : DecimalLaws → (level : Level) (g : GeoidModelParts) → IsGeoidModel g → (p : ℕ) →
-    IsMade level class.GeoidModel 3 (at_place p (item_geoid_model (norm_geoid_model level g)))
+    IsAcceptedNormal level class.GeoidModel 3 (at_place p (item_geoid_model (norm_geoid_model level g)))
 geoid-model-made l level g h = named-made l level class.GeoidModel (codes "GEOIDMODEL") g.name g.identifiers is-geoid-model
     h.name h.identifiers
 
 pub deformation-model-made : DecimalLaws → (level : Level) (m : DeformationModelParts) → IsDeformationModel m →
-    (p : ℕ) → IsMade level class.DeformationModel 3 (at_place p (item_deformation_model (norm_deformation_model level m)))
+    (p : ℕ) → IsAcceptedNormal level class.DeformationModel 3 (at_place p (item_deformation_model (norm_deformation_model level m)))
 deformation-model-made l level m h = named-made l level class.DeformationModel (codes "MODEL") m.name m.identifiers
     is-deformation-model h.name h.identifiers

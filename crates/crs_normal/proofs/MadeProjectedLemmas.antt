@@ -17,7 +17,7 @@ use Rattle.crs_value.specs.Reading.{those}
 use Rattle.crs_value.specs.SoundSingle.{IsBase, IsProjected}
 use Rattle.crs_same.specs.SameUsages.{usages_of}
 use Rattle.crs_normal.specs.DecimalLaws.{DecimalLaws}
-use Rattle.crs_normal.specs.Made.{IsMade}
+use Rattle.crs_normal.specs.AcceptedNormal.{IsAcceptedNormal}
 use Rattle.crs_normal.specs.SpelledConversions.{item_conversion, norm_conversion}
 use Rattle.crs_normal.specs.SpelledCrs.{item_base, item_projected, norm_base, norm_projected}
 use Rattle.crs_normal.specs.SpelledDynamic.{item_dynamic, norm_dynamic}
@@ -64,7 +64,7 @@ base-steady level b item h s =
     h.dynamic (refl, (refl, (refl, tt))) (views class.BaseCrs (base_runs level b) item dynamic_classes s)
 
 pub base-made : DecimalLaws → (level : Level) (b : BaseParts) → IsBase b → (p : ℕ) →
-    IsMade level class.BaseCrs 6 (at_place p (item_base (norm_base level b)))
+    IsAcceptedNormal level class.BaseCrs 6 (at_place p (item_base (norm_base level b)))
 unfolding BreaksOwn class_named is_keyword
 base-made l level b h =
     node-made level 5 class.BaseCrs (codes "BASEGEOGCRS") (text_item b.name)
@@ -238,7 +238,7 @@ projected_others level g =
     (system_items (norm_system level g.system) (tail_items (norm_tail level g.tail))))
 
 pub projected-made : DecimalLaws → AxisEach → (level : Level) (g : ProjectedParts) → IsProjected g → (p : ℕ) →
-    IsMade level class.ProjectedCrs 7 (at_place p (item_projected (norm_projected level g)))
+    IsAcceptedNormal level class.ProjectedCrs 7 (at_place p (item_projected (norm_projected level g)))
 projected-made l each_at level g h =
     node-made level 6 class.ProjectedCrs (codes "PROJCRS") (text_item g.name) (projected_others level g)
     (projected_runs level g) (simp (opt-line, each-line)) (projected-kept l level g (projected-few l each_at g h) h)

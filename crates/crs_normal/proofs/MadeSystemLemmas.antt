@@ -30,7 +30,7 @@ use Rattle.crs_value.specs.Values.{AxisParts, SystemParts, UnitParts}
 use Rattle.crs_value.specs.Words.{system_word}
 use Rattle.crs_same.specs.SameSystems.{HasAt, IsPositionOf, own_or}
 use Rattle.crs_normal.specs.DecimalLaws.{DecimalLaws}
-use Rattle.crs_normal.specs.Made.{IsMade}
+use Rattle.crs_normal.specs.AcceptedNormal.{IsAcceptedNormal}
 use Rattle.crs_normal.specs.SpelledItems.{each, number_item, word_item}
 use Rattle.crs_normal.specs.SpelledSystems.{axes_from, axis_at, is_at, item_axis, item_head, norm_axis, norm_system, with_axis}
 use Rattle.crs_normal.specs.SpelledUnits.{item_ident, set_idents, whole_value}
@@ -225,7 +225,7 @@ known-type t (x ∷ []) fault h (inr b) = b
 known-type t (x ∷ y ∷ words) fault h b = h.1
 
 pub head-made : DecimalLaws → (level : Level) (s : SystemParts) → IsSystem s → (p : ℕ) →
-    IsMade level class.CoordinateSystem 3 (at_place p (item_head (norm_system level s)))
+    IsAcceptedNormal level class.CoordinateSystem 3 (at_place p (item_head (norm_system level s)))
 unfolding BreaksOwn is_keyword
 head-made l level s h =
     node-made level 2 class.CoordinateSystem (codes "CS") (word_item (system_word s.system_type))

@@ -21,7 +21,7 @@ use Rattle.crs_value.specs.SoundUsages.{IsTail, IsUsage}
 use Rattle.crs_value.specs.Values.{TailParts, UsageParts}
 use Rattle.crs_same.specs.SameUsages.{usages_of, with_bare}
 use Rattle.crs_normal.specs.DecimalLaws.{DecimalLaws}
-use Rattle.crs_normal.specs.Made.{IsMade}
+use Rattle.crs_normal.specs.AcceptedNormal.{IsAcceptedNormal}
 use Rattle.crs_normal.specs.NormalOwn.{Ascend, HasTail}
 use Rattle.crs_normal.specs.Ordered.{in_order}
 use Rattle.crs_normal.specs.SpelledItems.{text_item, text_node}
@@ -70,7 +70,7 @@ usages-ascend level us = set-ascends item_usage (map norm_usage (kept level us))
 -- ---- the remark
 
 remark-made : (level : Level) (raw : List ℕ) → IsText raw → (p : ℕ) →
-    IsMade level class.Remark 1 (at_place p (text_node (codes "REMARK") raw))
+    IsAcceptedNormal level class.Remark 1 (at_place p (text_node (codes "REMARK") raw))
 unfolding is_keyword BreaksOwn
 remark-made level raw h =
     text-node-made level class.Remark (codes "REMARK") raw (refl, refl) refl refl

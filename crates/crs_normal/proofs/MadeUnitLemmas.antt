@@ -23,7 +23,7 @@ use Rattle.crs_value.specs.Sound.{IsUnit}
 use Rattle.crs_value.specs.Values.{UnitParts}
 use Rattle.crs_value.specs.Words.{unit_word}
 use Rattle.crs_normal.specs.DecimalLaws.{DecimalLaws}
-use Rattle.crs_normal.specs.Made.{IsKindIn, IsMade}
+use Rattle.crs_normal.specs.AcceptedNormal.{IsKindIn, IsAcceptedNormal}
 use Rattle.crs_normal.specs.Normal.{IsFirstKeyword}
 use Rattle.crs_normal.specs.NormalOwn.{HasOwnForm}
 use Rattle.crs_normal.specs.SpelledItems.{each, number_item, text_item}
@@ -145,7 +145,7 @@ unit-kept l level c kind u k h = record {
 
 pub unit-made : DecimalLaws → (level : Level) (c : Class) (kind : UnitKind) (u : UnitParts) → IsKindIn c kind →
     IsUnit u → (p : ℕ) →
-    IsMade level c 3 (at_place p (item_unit (unit_as level kind u)))
+    IsAcceptedNormal level c 3 (at_place p (item_unit (unit_as level kind u)))
 unit-made l level c kind u k h =
     node-made level 2 c (unit_word kind) (text_item u.name) (More (number_item u.factor)
     (each item_ident (set_idents level u.identifiers) End))

@@ -16,7 +16,7 @@ use Rattle.crs_value.specs.Sound.{Each, IsText}
 use Rattle.crs_value.specs.SoundUsages.{IsBox, IsExtent, IsUsage}
 use Rattle.crs_value.specs.Values.{BoxParts, ExtentParts, SaysSome, UsageParts}
 use Rattle.crs_normal.specs.DecimalLaws.{DecimalLaws}
-use Rattle.crs_normal.specs.Made.{IsMade}
+use Rattle.crs_normal.specs.AcceptedNormal.{IsAcceptedNormal}
 use Rattle.crs_normal.specs.SpelledItems.{node_from, number_item, opt, text_item, text_node}
 use Rattle.crs_normal.specs.SpelledUnits.{item_unit, norm_length}
 use Rattle.crs_normal.specs.SpelledUsages.{item_box, item_extent, item_usage, norm_extent, norm_usage}
@@ -27,7 +27,7 @@ use Rattle.crs_normal.proofs.MadeLeafLemmas.{number-made}
 use Rattle.crs_normal.proofs.MadeLemmas.{IsKept, Made, Run, alone, as-argument, given, keeps-none, lines, node-made, opt-line}
 
 scope-made : (level : Level) (raw : List ℕ) → IsText raw → (p : ℕ) →
-    IsMade level class.Scope 1 (at_place p (text_node (codes "SCOPE") raw))
+    IsAcceptedNormal level class.Scope 1 (at_place p (text_node (codes "SCOPE") raw))
 unfolding is_keyword BreaksOwn
 scope-made level raw h =
     text-node-made level class.Scope (codes "SCOPE") raw (refl, refl) refl refl
@@ -35,7 +35,7 @@ scope-made level raw h =
     (λ item fault b. b) h
 
 area-made : (level : Level) (raw : List ℕ) → IsText raw → (p : ℕ) →
-    IsMade level class.Area 1 (at_place p (text_node (codes "AREA") raw))
+    IsAcceptedNormal level class.Area 1 (at_place p (text_node (codes "AREA") raw))
 unfolding is_keyword BreaksOwn
 area-made level raw h =
     text-node-made level class.Area (codes "AREA") raw (refl, refl) refl refl
@@ -50,7 +50,7 @@ box_runs b =
     alone class.Number (number_item b.north) ∷ alone class.Number (number_item b.east) ∷ []
 
 pub box-made : DecimalLaws → (level : Level) (b : BoxParts) → IsBox b → (p : ℕ) →
-    IsMade level class.BoundingBox 1 (at_place p (item_box b))
+    IsAcceptedNormal level class.BoundingBox 1 (at_place p (item_box b))
 unfolding BreaksOwn class_named is_keyword
 box-made l level b h =
     node-made level 0 class.BoundingBox (codes "BBOX") (number_item b.south)
@@ -87,7 +87,7 @@ extent_runs level e =
     alone class.LengthUnit (item_unit (norm_length level e.unit)) ∷ []
 
 pub extent-made : DecimalLaws → (level : Level) (e : ExtentParts) → IsExtent e → (p : ℕ) →
-    IsMade level class.VerticalExtent 4 (at_place p (item_extent (norm_extent level e)))
+    IsAcceptedNormal level class.VerticalExtent 4 (at_place p (item_extent (norm_extent level e)))
 unfolding BreaksOwn class_named is_keyword
 extent-made l level e h =
     node-made level 3 class.VerticalExtent (codes "VERTICALEXTENT") (number_item e.minimum)
@@ -118,7 +118,7 @@ extent-made l level e h =
 -- a node that has an argument, whichever is its first
 from-made : (level : Level) (most : ℕ) (c : Class) (keyword : List ℕ) (js : Siblings) (runs : List Run) → js ≢ End →
     js ≡ lines runs →
-    IsKept level most c keyword runs → (p : ℕ) → IsMade level c (suc most) (at_place p (node_from keyword js))
+    IsKept level most c keyword runs → (p : ℕ) → IsAcceptedNormal level c (suc most) (at_place p (node_from keyword js))
 from-made level most c keyword End runs some same k p = absurd (some refl)
 from-made level most c keyword (More first others) runs some same k p = node-made level most c keyword first others
     runs same k p
@@ -159,7 +159,7 @@ extents-made l level (Some e) h = (
 )
 
 pub usage-made : DecimalLaws → (u : UsageParts) → IsUsage u → (p : ℕ) →
-    IsMade levels.Full class.Usage 5 (at_place p (item_usage (norm_usage u)))
+    IsAcceptedNormal levels.Full class.Usage 5 (at_place p (item_usage (norm_usage u)))
 unfolding BreaksOwn class_named is_keyword
 usage-made l u h =
     from-made levels.Full 4 class.Usage (codes "USAGE") (usage_items (norm_usage u)) (usage_runs (norm_usage u))

@@ -24,7 +24,7 @@ use Rattle.crs_value.specs.SoundConversion.{IsGeoidModel}
 use Rattle.crs_value.specs.SoundSingle.{IsDynamicOf, IsVertical}
 use Rattle.crs_same.specs.SameUsages.{usages_of}
 use Rattle.crs_normal.specs.DecimalLaws.{DecimalLaws}
-use Rattle.crs_normal.specs.Made.{IsMade, vertical_frame_class}
+use Rattle.crs_normal.specs.AcceptedNormal.{IsAcceptedNormal, vertical_frame_class}
 use Rattle.crs_normal.specs.NormalOwn.{Ascend, rank, set_classes}
 use Rattle.crs_normal.specs.SpelledConversions.{item_geoid_model, norm_geoid_model, set_geoid_models}
 use Rattle.crs_normal.specs.SpelledCrs.{item_vertical, norm_vertical}
@@ -278,7 +278,7 @@ vertical-kept l level g few h = record {
 }
 
 pub vertical-made : DecimalLaws → AxisEach → (level : Level) (g : VerticalParts) → IsVertical g → (p : ℕ) →
-    IsMade level class.VerticalCrs 6 (at_place p (item_vertical (norm_vertical level g)))
+    IsAcceptedNormal level class.VerticalCrs 6 (at_place p (item_vertical (norm_vertical level g)))
 vertical-made l each_at level g h =
     node-made level 5 class.VerticalCrs (codes "VERTCRS") (text_item g.name)
     (opt item_dynamic (option_map (norm_dynamic level) g.dynamic) (More (frame_item level g)

@@ -17,7 +17,7 @@ use Rattle.crs_value.specs.Values.{IdentParts, MemberParts}
 use Rattle.crs_same.specs.SameConversions.{SameGeoidModel}
 use Rattle.crs_same.specs.SameFrames.{SameMember}
 use Rattle.crs_same.specs.Sets.{SameSet}
-use Rattle.crs_normal.specs.Fit.{IsFit}
+use Rattle.crs_normal.specs.FormedWithin.{IsFormedWithin}
 use Rattle.crs_normal.specs.SpelledConversions.{item_geoid_model, norm_geoid_model, set_geoid_models}
 use Rattle.crs_normal.specs.SpelledFrames.{item_member, norm_member, set_members}
 use Rattle.crs_normal.specs.SpelledItems.{each, text_item}
@@ -46,7 +46,7 @@ pub member-read : (m : MemberParts) → IsMember m → (place : ℕ) →
     ReadsMember class.Member (at_place place (item_member m)) m
 member-read m s place = record { name = refl; identifiers = named-identifiers class.Member (keyword-names class.Member (codes "ID")) m.name m.identifiers s.identifiers (place + 6) }
 
-pub member-fit : TextLaws → (m : MemberParts) → IsMember m → IsFit 3 (item_member m)
+pub member-fit : TextLaws → (m : MemberParts) → IsMember m → IsFormedWithin 3 (item_member m)
 member-fit laws m s =
     fit-node 2 (codes "MEMBER") (text_item m.name) (each item_ident m.identifiers End) (refl, refl) (text-fit 2 m.name s.name)
     (identifiers-fit laws 2 (omega arith) m.identifiers s.identifiers)
@@ -91,7 +91,7 @@ pub geoid-read : (g : GeoidModelParts) → IsGeoidModel g → (place : ℕ) →
 geoid-read g s place =
     record { name = refl; identifiers = named-identifiers class.GeoidModel (keyword-names class.GeoidModel (codes "ID")) g.name g.identifiers s.identifiers (place + 10) }
 
-pub geoid-fit : TextLaws → (g : GeoidModelParts) → IsGeoidModel g → IsFit 3 (item_geoid_model g)
+pub geoid-fit : TextLaws → (g : GeoidModelParts) → IsGeoidModel g → IsFormedWithin 3 (item_geoid_model g)
 geoid-fit laws g s =
     fit-node 2 (codes "GEOIDMODEL") (text_item g.name) (each item_ident g.identifiers End) (refl, refl)
     (text-fit 2 g.name s.name)

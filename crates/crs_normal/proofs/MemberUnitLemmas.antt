@@ -18,7 +18,7 @@ use Rattle.crs_value.specs.Values.{IdentParts, UnitParts}
 use Rattle.crs_value.specs.Words.{unit_word}
 use Rattle.crs_same.specs.SameUnits.{SameUnit, SameValue}
 use Rattle.crs_same.specs.Sets.{BothOrNeither}
-use Rattle.crs_normal.specs.Fit.{IsFit}
+use Rattle.crs_normal.specs.FormedWithin.{IsFormedWithin}
 use Rattle.crs_normal.specs.SpelledItems.{each, number_item, text_item}
 use Rattle.crs_normal.specs.SpelledUnits.{item_ident, item_unit, norm_unit, norm_units}
 use Rattle.crs_normal.specs.TextLaws.{TextLaws}
@@ -82,7 +82,7 @@ unit-is-word : (k : UnitKind) → IsWord (unit_word k)
 unit-is-word kinds.Length = (refl, refl)
 unit-is-word other = (refl, refl)
 
-pub unit-fit : TextLaws → (u : UnitParts) → IsUnit u → IsFit 3 (item_unit u)
+pub unit-fit : TextLaws → (u : UnitParts) → IsUnit u → IsFormedWithin 3 (item_unit u)
 unit-fit laws u s =
     fit-node 2 (unit_word u.kind) (text_item u.name) (More (number_item u.factor) (each item_ident u.identifiers End))
     (unit-is-word u.kind) (text-fit 2 u.name s.name)

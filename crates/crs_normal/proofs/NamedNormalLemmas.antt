@@ -16,7 +16,7 @@ use Rattle.crs_value.specs.ReadsDynamic.{ReadsDeformationModel}
 use Rattle.crs_value.specs.Values.{IdentParts, UnitParts}
 use Rattle.crs_value.specs.declared.values.level.Level.{Level}
 use Rattle.crs_value.specs.declared.values.unit_kind.UnitKind.TheVariants as kinds
-use Rattle.crs_normal.specs.Unplaced.{unplaced}
+use Rattle.crs_normal.specs.WithoutPlaces.{without_places}
 use Rattle.crs_normal.specs.Normal.{IsFirstKeyword}
 use Rattle.crs_value.specs.Sound.{Each}
 use Rattle.crs_normal.specs.SpelledConversions.{item_conversion, item_geoid_model, item_method, item_parameter, norm_conversion, norm_geoid_model, norm_method, norm_parameter, set_parameters}
@@ -27,23 +27,23 @@ use Rattle.crs_normal.specs.SpelledUnits.{item_ident, item_unit, norm_units, set
 use Rattle.crs_normal.proofs.FormLemmas.{Form, IsGood, Kept, kept-good, node-spelled, one-spelled, opened, set-spelled}
 use Rattle.crs_normal.proofs.LeafLemmas.{ArePlain, PlainIsOne, number-form, text-form}
 use Rattle.crs_normal.proofs.UnitNormalLemmas.{KindIn, idents-spelled, in-angle, in-length, in-plain, in-scale, unit-form}
-use Rattle.crs_normal.proofs.ViewLemmas.{View, each-so, unplaced_onto, unplaced-spread, onto, same_class, those-looked}
+use Rattle.crs_normal.proofs.ViewLemmas.{View, each-so, without_places_onto, without_places-spread, onto, same_class, those-looked}
 
 -- a node of a name and identifiers
-named-unplaced : (level : Level) (c d : Class) (keyword : List ℕ) → slots_of d ≡ named_slots →
+named-without_places : (level : Level) (c d : Class) (keyword : List ℕ) → slots_of d ≡ named_slots →
     ((bytes : List ℕ) → IsFirstKeyword d bytes → bytes ≡ keyword) →
     (item : Item) → IsGood level c d item → (name : List ℕ) (identifiers : List IdentParts) → ReadsTextOf d item name →
     ReadsIds d item identifiers →
-    unplaced item ≡ node_of keyword (text_item name) (each item_ident (set_idents level identifiers) End)
-named-unplaced level c d keyword slots its (leaf kind place raw) good name identifiers a b = absurd a
-named-unplaced level c d keyword slots its (node place bytes square first others close) good name identifiers a b =
+    without_places item ≡ node_of keyword (text_item name) (each item_ident (set_idents level identifiers) End)
+named-without_places level c d keyword slots its (leaf kind place raw) good name identifiers a b = absurd a
+named-without_places level c d keyword slots its (node place bytes square first others close) good name identifiers a b =
     let o = opened level c d place bytes square first others close good.shaped good.normal in
     let items = More first others in
     let v = subst (λ (ss : List SlotParts). View d ss items) slots o.slots in
     let v1 = v.1.1.1.1 in
     node-spelled place bytes keyword square first others close
     (More (text_item name) (each item_ident (set_idents level identifiers) End)) (its bytes o.written)
-    (unplaced-spread d named_slots items v
+    (without_places-spread d named_slots items v
     ∙ one-spelled level d class.Text ReadsText text_item (text-form level d) (those d class.Text items) v.0
     (kept-good level d class.Text items o.kept)
     (those-looked d class.Text named_slots items v) (v.1.1.0.not_more refl) name a _ _
@@ -53,24 +53,24 @@ named-unplaced level c d keyword slots its (node place bytes square first others
 pub member-form : (level : Level) (c : Class) →
     Form level c class.Member (ReadsMember class.Member) (λ m. item_member (norm_member level m))
 member-form level c item x good reads =
-    named-unplaced level c class.Member (codes "MEMBER") refl (λ bytes h. h) item good x.name x.identifiers reads.name reads.identifiers
+    named-without_places level c class.Member (codes "MEMBER") refl (λ bytes h. h) item good x.name x.identifiers reads.name reads.identifiers
 
 pub method-form : (level : Level) (c : Class) →
     Form level c class.Method (ReadsMethod class.Method) (λ m. item_method (norm_method level m))
 method-form level c item x good reads =
-    named-unplaced level c class.Method (codes "METHOD") refl (λ bytes h. h) item good x.name x.identifiers reads.name reads.identifiers
+    named-without_places level c class.Method (codes "METHOD") refl (λ bytes h. h) item good x.name x.identifiers reads.name reads.identifiers
 
 pub geoid_model-form : (level : Level) (c : Class) →
     Form level c class.GeoidModel (ReadsGeoidModel class.GeoidModel) (λ g. item_geoid_model (norm_geoid_model level g))
 geoid_model-form level c item x good reads =
-    named-unplaced level c class.GeoidModel (codes "GEOIDMODEL") refl (λ bytes h. h) item good x.name x.identifiers reads.name
+    named-without_places level c class.GeoidModel (codes "GEOIDMODEL") refl (λ bytes h. h) item good x.name x.identifiers reads.name
     reads.identifiers
 
 pub deformation_model-form : (level : Level) (c : Class) →
     Form level c class.DeformationModel (ReadsDeformationModel class.DeformationModel)
     (λ m. item_deformation_model (norm_deformation_model level m))
 deformation_model-form level c item x good reads =
-    named-unplaced level c class.DeformationModel (codes "MODEL") refl (λ bytes h. h) item good x.name x.identifiers reads.name
+    named-without_places level c class.DeformationModel (codes "MODEL") refl (λ bytes h. h) item good x.name x.identifiers reads.name
     reads.identifiers
 
 -- ---- the unit of a parameter, of one of several classes
@@ -108,7 +108,7 @@ unit-of : PlainIsOne → (level : Level) (c : Class) (item : Item) → Kept leve
     length front ≤ 1 → (ds : List Class) → Each IsUnitIn ds →
     Each (λ d. those c d (arguments item) ≡ those c d (onto front End)) ds → Each (IsAmong c ds) front →
     (unit : Option UnitParts) → ReadsUnitOf ds c item unit →
-    (rest : Siblings) → unplaced_onto front rest ≡ opt item_unit (norm_units level kinds.Plain unit) rest
+    (rest : Siblings) → without_places_onto front rest ≡ opt item_unit (norm_units level kinds.Plain unit) rest
 unit-of law level c item k (i ∷ j ∷ more) few ds units found among unit reads rest = absurd (omega arith)
 unit-of law level c item k [] few [] units found among None reads rest = refl
 unit-of law level c item k [] few [] units found among (Some u) reads rest = absurd reads
@@ -119,7 +119,7 @@ unit-of law level c item k [] few (d ∷ ds) units found among unit reads rest =
     (subst (λ (xs : List Item). ReadsElse (ReadsAsUnit d) xs (ReadsUnitOf ds c item) unit) found.0 reads) rest
 unit-of law level c item k (i ∷ []) few (d ∷ ds) units found among unit reads rest =
     elim (is_a c d i) as (λ b. is_a c d i ≡ b →
-    More (unplaced i) rest ≡ opt item_unit (norm_units level kinds.Plain unit) rest) [
+    More (without_places i) rest ≡ opt item_unit (norm_units level kinds.Plain unit) rest) [
       | true ↦ λ is. this is unit
           (subst (λ (xs : List Item). ReadsElse (ReadsAsUnit d) xs (ReadsUnitOf ds c item) unit) (found.0
           ∙ picked true is) reads)
@@ -133,7 +133,7 @@ unit-of law level c item k (i ∷ []) few (d ∷ ds) units found among unit read
     picked b e = ap (λ t. if t then i ∷ [] else []) e
 
     this : is_a c d i ≡ true → (unit : Option UnitParts) → ReadsAsUnit d i unit →
-        More (unplaced i) rest ≡ opt item_unit (norm_units level kinds.Plain unit) rest
+        More (without_places i) rest ≡ opt item_unit (norm_units level kinds.Plain unit) rest
     this is None reads = absurd reads
     this is (Some u) reads =
         let good = subst (Each (IsGood level c d)) (found.0
@@ -168,7 +168,7 @@ parameter-form law level c (node place keyword square first others close) x good
     let v3 = v2.1.1.1.1 in
     let looked = λ (e : Class). those-looked d e (slots_of d) items v in
     node-spelled place keyword _ square first others close _ o.written
-    (unplaced-spread d (slots_of d) items v
+    (without_places-spread d (slots_of d) items v
     ∙ one-spelled level d class.Text ReadsText text_item (text-form level d) (those d class.Text items) v.0
     (kept-good level d class.Text items o.kept)
     (those-looked d class.Text (slots_of d) items v) (v.1.1.0.not_more refl) x.name reads.name _ _
@@ -176,7 +176,7 @@ parameter-form law level c (node place keyword square first others close) x good
     (those d class.Number items) v1.0
     (kept-good level d class.Number items o.kept) (those-looked d class.Number (slots_of d) items v)
     (v1.1.1.0.not_more refl) x.value reads.value _ _
-    (ap (unplaced_onto v2.0)
+    (ap (without_places_onto v2.0)
     (idents-spelled level d items v3.0 o.kept (those-looked d class.Identifier (slots_of d) items v) o.sets.0 x.identifiers
     reads.identifiers End End refl)
     ∙ unit-of law level d (node place keyword square first others close) o.kept v2.0 (v2.1.1.0.not_more refl)
@@ -198,7 +198,7 @@ conversion-form law level c (node place keyword square first others close) x goo
     let v2 = v1.1.1.1.1 in
     let v3 = v2.1.1.1.1 in
     node-spelled place keyword _ square first others close _ o.written
-    (unplaced-spread d (slots_of d) items v
+    (without_places-spread d (slots_of d) items v
     ∙ one-spelled level d class.Text ReadsText text_item (text-form level d) (those d class.Text items) v.0
     (kept-good level d class.Text items o.kept)
     (those-looked d class.Text (slots_of d) items v) (v.1.1.0.not_more refl) x.name reads.name _ _

@@ -11,13 +11,13 @@ use Rattle.crs_value.specs.Values.{UnitParts}
 use Rattle.crs_value.specs.declared.values.level.Level.{Level}
 use Rattle.crs_value.specs.declared.values.unit_kind.UnitKind.{UnitKind}
 use Rattle.crs_value.specs.declared.values.unit_kind.UnitKind.TheVariants as kinds
-use Rattle.crs_normal.specs.Unplaced.{unplaced}
+use Rattle.crs_normal.specs.WithoutPlaces.{without_places}
 use Rattle.crs_value.specs.Sound.{Each}
 use Rattle.crs_normal.specs.SpelledItems.{number_item, opt}
 use Rattle.crs_normal.specs.SpelledUnits.{item_unit, norm_length, norm_unit, norm_units}
 use Rattle.crs_normal.proofs.FormLemmas.{IsGood}
 use Rattle.crs_normal.proofs.LeafLemmas.{ArePlain, PlainIsOne, number-form}
-use Rattle.crs_normal.proofs.ViewLemmas.{and_then, unplaced_onto}
+use Rattle.crs_normal.proofs.ViewLemmas.{and_then, without_places_onto}
 
 abbrev pub Alone : List Item → Type 0
 Alone front = (item : Item) × (front ≡ item ∷ [])
@@ -28,7 +28,7 @@ pub two-spelled : PlainIsOne → (level : Level) (c : Class) → ArePlain c → 
     found ≡ and_then f g → Alone f → Alone g → (x y : Value) → ReadsFirst ReadsNumber (drop 0 found) x →
     ReadsFirst ReadsNumber (drop 1 found) y →
     (rest after : Siblings) → rest ≡ after →
-    unplaced_onto f (unplaced_onto g rest) ≡ More (number_item x) (More (number_item y) after)
+    without_places_onto f (without_places_onto g rest) ≡ More (number_item x) (More (number_item y) after)
 two-spelled law level c plains found f g good e p q x y a b rest after same =
     let are : found ≡ p.0 ∷ q.0 ∷ [] = e ∙ ap (λ xs. and_then xs g) p.1 ∙ ap (and_then (p.0 ∷ [])) q.1 in
     let goods = subst (Each (IsGood level c class.Number)) are good in
@@ -36,7 +36,7 @@ two-spelled law level c plains found f g good e p q x y a b rest after same =
     (subst (λ (xs : List Item). ReadsFirst ReadsNumber (drop 0 xs) x) are a) in
     let second = number-form law level c plains q.0 y goods.1.0
     (subst (λ (xs : List Item). ReadsFirst ReadsNumber (drop 1 xs) y) are b) in
-    ap (λ xs. unplaced_onto xs (unplaced_onto g rest)) p.1 ∙ ap (λ xs. More (unplaced p.0) (unplaced_onto xs rest)) q.1
+    ap (λ xs. without_places_onto xs (without_places_onto g rest)) p.1 ∙ ap (λ xs. More (without_places p.0) (without_places_onto xs rest)) q.1
     ∙ joined first second same
   where
     joined : {i j k l : Item} {m n : Siblings} → i ≡ j → k ≡ l → m ≡ n → More i (More k m) ≡ More j (More l n)
@@ -49,7 +49,7 @@ pub four-spelled : PlainIsOne → (level : Level) (c : Class) → ArePlain c →
     ReadsFirst ReadsNumber (drop 0 found) x → ReadsFirst ReadsNumber (drop 1 found) y →
     ReadsFirst ReadsNumber (drop 2 found) z → ReadsFirst ReadsNumber (drop 3 found) w →
     (rest after : Siblings) → rest ≡ after →
-    unplaced_onto f (unplaced_onto g (unplaced_onto h (unplaced_onto k rest))) ≡ More (number_item x)
+    without_places_onto f (without_places_onto g (without_places_onto h (without_places_onto k rest))) ≡ More (number_item x)
     (More (number_item y) (More (number_item z) (More (number_item w) after)))
 four-spelled law level c plains found f g h k good e p q r s x y z w a b d t rest after same =
     let are : found ≡ p.0 ∷ q.0 ∷ r.0 ∷ s.0 ∷ [] =
@@ -66,10 +66,10 @@ four-spelled law level c plains found f g h k good e p q r s x y z w a b d t res
     (subst (λ (xs : List Item). ReadsFirst ReadsNumber (drop 2 xs) z) are d) in
     let fourth = number-form law level c plains s.0 w goods.1.1.1.0
     (subst (λ (xs : List Item). ReadsFirst ReadsNumber (drop 3 xs) w) are t) in
-    ap (λ xs. unplaced_onto xs (unplaced_onto g (unplaced_onto h (unplaced_onto k rest)))) p.1
-    ∙ ap (λ xs. More (unplaced p.0) (unplaced_onto xs (unplaced_onto h (unplaced_onto k rest)))) q.1
-    ∙ ap (λ xs. More (unplaced p.0) (More (unplaced q.0) (unplaced_onto xs (unplaced_onto k rest)))) r.1
-    ∙ ap (λ xs. More (unplaced p.0) (More (unplaced q.0) (More (unplaced r.0) (unplaced_onto xs rest)))) s.1
+    ap (λ xs. without_places_onto xs (without_places_onto g (without_places_onto h (without_places_onto k rest)))) p.1
+    ∙ ap (λ xs. More (without_places p.0) (without_places_onto xs (without_places_onto h (without_places_onto k rest)))) q.1
+    ∙ ap (λ xs. More (without_places p.0) (More (without_places q.0) (without_places_onto xs (without_places_onto k rest)))) r.1
+    ∙ ap (λ xs. More (without_places p.0) (More (without_places q.0) (More (without_places r.0) (without_places_onto xs rest)))) s.1
     ∙ joined first second third fourth same
   where
     joined : {i j k l i' j' k' l' : Item} {m n : Siblings} → i ≡ i' → j ≡ j' → k ≡ k' → l ≡ l' → m ≡ n →

@@ -22,7 +22,7 @@ use Rattle.crs_value.specs.Words.{unit_word}
 use Rattle.crs_same.specs.SameConversions.{SameParameter}
 use Rattle.crs_same.specs.Sets.{SameSet}
 use Rattle.crs_normal.specs.PartSpellings.{unit_class}
-use Rattle.crs_normal.specs.Fit.{IsFit}
+use Rattle.crs_normal.specs.FormedWithin.{IsFormedWithin}
 use Rattle.crs_normal.specs.SpelledConversions.{item_parameter, norm_parameter, set_parameters}
 use Rattle.crs_normal.specs.SpelledItems.{each, node_of, number_item, opt, text_item}
 use Rattle.crs_normal.specs.SpelledUnits.{item_ident, item_unit, norm_units}
@@ -184,7 +184,7 @@ parameter-read laws p s place = record {
   identifiers = parameter-identifiers p s.identifiers (place + 9);
 }
 
-pub parameter-fit : TextLaws → (p : ParameterParts) → IsParameter p → IsFit 4 (item_parameter p)
+pub parameter-fit : TextLaws → (p : ParameterParts) → IsParameter p → IsFormedWithin 4 (item_parameter p)
 parameter-fit laws p s =
     fit-node 3 (codes "PARAMETER") (text_item p.name)
     (More (number_item p.value) (opt item_unit p.unit (each item_ident p.identifiers End))) (refl, refl)

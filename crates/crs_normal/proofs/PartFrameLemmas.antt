@@ -15,7 +15,7 @@ use Rattle.crs_value.specs.declared.values.level.Level.{Level}
 use Rattle.crs_same.specs.Parts.{AreSame}
 use Rattle.crs_same.specs.PartsOfFrames.{parts_of_datum, parts_of_ensemble, parts_of_frame}
 use Rattle.crs_normal.specs.WrittenForm.{IsWrittenForm}
-use Rattle.crs_normal.specs.Made.{IsMade, geodetic_frame_class, vertical_frame_class}
+use Rattle.crs_normal.specs.AcceptedNormal.{IsAcceptedNormal, geodetic_frame_class, vertical_frame_class}
 use Rattle.crs_normal.specs.OneForm.{IsItsForm, IsItsFormUnbroken}
 use Rattle.crs_normal.specs.PartSpellings.{IsFrame, IsSpelledDatum, IsSpelledEnsemble, IsSpelledFrame, datum_class, ensemble_class}
 use Rattle.crs_normal.specs.PartTexts.{datum_keyword, datum_text, ensemble_text, frame_text, item_own_datum}
@@ -39,19 +39,19 @@ by-ellipsoid P (Some x) none some = some x refl
 
 abbrev pub GeodeticMade : Type 0
 GeodeticMade = (level : Level) (f : Frame) (place : ℕ) → IsGeodeticFrame f →
-    IsMade level (geodetic_frame_class f) 5 (at_place place (item_frame (codes "DATUM") (norm_frame level f)))
+    IsAcceptedNormal level (geodetic_frame_class f) 5 (at_place place (item_frame (codes "DATUM") (norm_frame level f)))
 
 abbrev pub VerticalMade : Type 0
 VerticalMade = (level : Level) (f : Frame) (place : ℕ) → IsVerticalFrame f →
-    IsMade level (vertical_frame_class f) 5 (at_place place (item_frame (codes "VDATUM") (norm_frame level f)))
+    IsAcceptedNormal level (vertical_frame_class f) 5 (at_place place (item_frame (codes "VDATUM") (norm_frame level f)))
 
 -- ---- reference frames
 
 pub datum-made : GeodeticMade → VerticalMade → (level : Level) (d : DatumParts) → IsDatum d → (p : ℕ) →
-    IsMade level (datum_class d.ellipsoid) 5 (at_place p (item_own_datum (norm_datum level d)))
+    IsAcceptedNormal level (datum_class d.ellipsoid) 5 (at_place p (item_own_datum (norm_datum level d)))
 datum-made geodetic vertical level d s p =
     by-ellipsoid
-    (λ o. IsMade level (datum_class o) 5
+    (λ o. IsAcceptedNormal level (datum_class o) 5
     (at_place p (item_datum (datum_keyword (option_map (norm_ellipsoid level) o)) (norm_datum level d)))) d.ellipsoid
     (λ none. vertical level (frame.Datum d) p (s, none)) (λ x some. geodetic level (frame.Datum d) p (s, some))
 
@@ -115,9 +115,9 @@ datum-own geodetic vertical level own vertical-own d =
 -- ---- ensembles
 
 pub ensemble-made : GeodeticMade → VerticalMade → (level : Level) (e : EnsembleParts) → IsEnsemble e → (p : ℕ) →
-    IsMade level (ensemble_class e.ellipsoid) 5 (at_place p (item_ensemble (norm_ensemble level e)))
+    IsAcceptedNormal level (ensemble_class e.ellipsoid) 5 (at_place p (item_ensemble (norm_ensemble level e)))
 ensemble-made geodetic vertical level e s p =
-    by-ellipsoid (λ o. IsMade level (ensemble_class o) 5 (at_place p (item_ensemble (norm_ensemble level e)))) e.ellipsoid
+    by-ellipsoid (λ o. IsAcceptedNormal level (ensemble_class o) 5 (at_place p (item_ensemble (norm_ensemble level e)))) e.ellipsoid
     (λ none. vertical level (frame.Ensemble e) p (s, none)) (λ x some. geodetic level (frame.Ensemble e) p (s, some))
 
 pub ensemble-back : TextLaws → (level : Level) (e : EnsembleParts) → IsEnsemble e → (p : ℕ) →

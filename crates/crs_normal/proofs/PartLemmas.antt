@@ -13,14 +13,14 @@ use Rattle.crs_value.specs.Told.{IsReadAs, IsReadOnce}
 use Rattle.crs_normal.specs.WrittenForm.{IsWrittenForm}
 use Rattle.crs_normal.specs.Closed.{IsClosed}
 use Rattle.crs_normal.specs.Decides.{FormDecides}
-use Rattle.crs_normal.specs.Unplaced.{unplaced}
-use Rattle.crs_normal.specs.Made.{IsMade}
+use Rattle.crs_normal.specs.WithoutPlaces.{without_places}
+use Rattle.crs_normal.specs.AcceptedNormal.{IsAcceptedNormal}
 use Rattle.crs_normal.specs.Normal.{IsNormalIn}
 use Rattle.crs_normal.specs.OneForm.{IsItsForm, IsItsFormUnbroken}
 use Rattle.crs_normal.specs.SpelledAs.{IsSpelledAs, IsSpelledBy}
 use Rattle.crs_normal.specs.TextLaws.{TextLaws}
 use Rattle.crs_normal.proofs.ClosedLemmas.{node-closed}
-use Rattle.crs_normal.proofs.FormLemmas.{unplaced-text}
+use Rattle.crs_normal.proofs.FormLemmas.{without_places-text}
 use Rattle.crs_normal.proofs.ItemLemmas.{IsWritable, one-by-text}
 use Rattle.crs_normal.proofs.MadeCrsLemmas.{placed-twice}
 use Rattle.crs_normal.proofs.MadePlaceLemmas.{text-at}
@@ -39,7 +39,7 @@ pub record IsStanding (c : Class) (N : Item → Type 0) (item : Item) : Type 0 w
   pub unbroken : (fault : RefusedAt) → ¬ (Breaks c item fault)
   pub normal : N item
 
-pub made-stands : (level : Level) (c : Class) (n : ℕ) (item : Item) → n ≤ 8 → IsMade level c n item →
+pub made-stands : (level : Level) (c : Class) (n : ℕ) (item : Item) → n ≤ 8 → IsAcceptedNormal level c n item →
     IsStanding c (IsNormalIn level c c) item
 made-stands level c n item l made =
     let w : depth item ≤ n = made.within in
@@ -60,7 +60,7 @@ unbroken-form level c Reads form own parent item value shaped normal free reads 
 -- a normal item that is sound is what is written for the value that is read from it
 abbrev pub IsItsFormSound : {V : Type 0} → Level → Class → (Class → Item → V → Type 0) → (V → Item) → Type 0
 IsItsFormSound {V = V} level c Reads form =
-    (item : Item) (value : V) → IsSound c item → IsNormalIn level c c item → Reads c item value → unplaced item ≡ form value
+    (item : Item) (value : V) → IsSound c item → IsNormalIn level c c item → Reads c item value → without_places item ≡ form value
 
 pub sound-form : {V : Type 0} (level : Level) (c : Class) (Reads : Class → Item → V → Type 0) (form : V → Item) →
     IsItsFormUnbroken level c Reads form → IsItsFormSound level c Reads form
@@ -74,7 +74,7 @@ pub record IsKnownBy {V : Type 0} (c : V → Class) (N : V → Item → Type 0) 
   pub reads : (x : V) → Is x → Reads (c x) (at_place 0 (item (form x))) (form x)
   pub told : (a b : V) → Is a → Is b → item_text (item (form a)) ≡ item_text (item (form b)) → form a ≡ form b
   pub sound : (x : V) → Is x → IsReadAs Reads Is (c x)
-  pub own : (x : V) → Is x → (i : Item) (v : V) → IsSound (c x) i → N x i → Reads (c x) i v → unplaced i ≡ item (form v)
+  pub own : (x : V) → Is x → (i : Item) (v : V) → IsSound (c x) i → N x i → Reads (c x) i v → without_places i ≡ item (form v)
 
 -- the text of an item, which doesn't depend on the place
 writable-at : (c : Class) (N : Item → Type 0) (i : Item) → IsStanding c N (at_place 0 i) → IsWritable (at_place 0 i)
@@ -112,11 +112,11 @@ module _ {V : Type 0} (laws : TextLaws) (formed : SpelledFormed) (c : V → Clas
   form-twice : (x : V) → Is x → form x ≡ form (form x)
   form-twice x s =
       let m = known.made x s in
-      let f : unplaced (at-start x) ≡ item (form (form x)) =
+      let f : without_places (at-start x) ≡ item (form (form x)) =
       known.own x s (at-start x) (form x)
       (record { formed = m.formed; shaped = m.shaped; unbroken = m.unbroken }) m.normal (known.reads x s) in
       known.told x (form x) s (form-kept x s)
-      (sym (text-at 0 (item (form x))) ∙ sym (unplaced-text (at-start x)) ∙ ap item_text f)
+      (sym (text-at 0 (item (form x))) ∙ sym (without_places-text (at-start x)) ∙ ap item_text f)
 
   form-same : (x : V) → Is x → Same x (form x)
   form-same x s = (known.decides x (form x) s (form-kept x s)).0 (form-twice x s)
@@ -150,8 +150,8 @@ module _ {V : Type 0} (laws : TextLaws) (formed : SpelledFormed) (c : V → Clas
       let all : IsSound (c x) h.item =
       record { formed = formed bytes h.item h.spells; shaped = h.shaped; unbroken = h.unbroken } in
       let k : Is v = known.sound x s h.item v all h.reads in
-      let f : unplaced h.item ≡ item (form v) = known.own x s h.item v all h.normal h.reads in
-      h.written ∙ sym (unplaced-text h.item) ∙ ap item_text f
+      let f : without_places h.item ≡ item (form v) = known.own x s h.item v all h.normal h.reads in
+      h.written ∙ sym (without_places-text h.item) ∙ ap item_text f
       ∙ ap (λ y. item_text (item y)) (sym ((known.decides x v s k).1 h.same))
 
   pub canonical-by : IsWrittenForm Is Same (λ x. IsSpelledBy (c x) (N x) Reads Same x) (λ x. item_text (item (form x)))
@@ -179,7 +179,7 @@ canonical-form laws formed level c Reads Is Same form item known =
 pub record IsKnownOf {V : Type 0} (level : Level) (c : Class) (most : ℕ) (Reads : Class → Item → V → Type 0) (Is : V → Type 0) (Same : V → V → Type 0) (form : V → V) (item : V → Item) : Type 0 where
   pub few : most ≤ 8
   pub decides : FormDecides Is form Same
-  pub made : (x : V) (place : ℕ) → Is x → IsMade level c most (at_place place (item (form x)))
+  pub made : (x : V) (place : ℕ) → Is x → IsAcceptedNormal level c most (at_place place (item (form x)))
   pub reads : (x : V) (place : ℕ) → Is x → Reads c (at_place place (item (form x))) (form x)
   pub once : IsReadOnce Reads
   pub sound : IsReadAs Reads Is c

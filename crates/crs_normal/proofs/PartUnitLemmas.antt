@@ -9,7 +9,7 @@ use Rattle.crs_value.specs.declared.values.level.Level.{Level}
 use Rattle.crs_value.specs.declared.values.unit_kind.UnitKind.{UnitKind}
 use Rattle.crs_value.specs.declared.values.unit_kind.UnitKind.TheVariants as kinds
 use Rattle.crs_same.specs.SameUnits.{kind_as}
-use Rattle.crs_normal.specs.Made.{IsKindIn}
+use Rattle.crs_normal.specs.AcceptedNormal.{IsKindIn}
 use Rattle.crs_normal.specs.OneForm.{IsItsForm}
 use Rattle.crs_normal.specs.PartSpellings.{unit_class}
 use Rattle.crs_normal.specs.SpelledUnits.{item_unit, norm_unit}

@@ -26,7 +26,7 @@ use Rattle.crs_normal.proofs.LeafLemmas.{text-form}
 use Rattle.crs_normal.proofs.NamedNormalLemmas.{conversion-form}
 use Rattle.crs_normal.proofs.SystemNormalLemmas.{system-spelled}
 use Rattle.crs_normal.proofs.TailNormalLemmas.{tail-spelled}
-use Rattle.crs_normal.proofs.ViewLemmas.{alone, unplaced-spread, items-rebuilt, onto, slot-lacks, those-looked}
+use Rattle.crs_normal.proofs.ViewLemmas.{alone, without_places-spread, items-rebuilt, onto, slot-lacks, those-looked}
 
 pub projected-form : Laws → (level : Level) (c : Class) →
     Form level c class.ProjectedCrs (Checked class.ProjectedCrs (ReadsProjected class.ProjectedCrs))
@@ -67,7 +67,7 @@ projected-form laws level c (node place keyword square first others close) x goo
     ∙ sym (slot-lacks d class.GeoidModel tail v6.0 refl v6.1.1.0)) (looked class.Usage) (looked class.Identifier)
     (looked class.Remark) in
     node-spelled place keyword _ square first others close _ o.written
-    (unplaced-spread d (slots_of d) items v
+    (without_places-spread d (slots_of d) items v
     ∙ one-spelled level d class.Text ReadsText text_item (text-form level d) (those d class.Text items) v.0
     (kept-good level d class.Text items k)
     (looked class.Text) (v.1.1.0.not_more refl) x.name reads.name _ _
@@ -124,7 +124,7 @@ vertical-form laws level c (node place keyword square first others close) x good
     let found = found-of d item v6.0 (looked class.GeoidModel) (looked class.Usage) (looked class.Identifier)
     (looked class.Remark) in
     node-spelled place keyword _ square first others close _ o.written
-    (unplaced-spread d (slots_of d) items v
+    (without_places-spread d (slots_of d) items v
     ∙ one-spelled level d class.Text ReadsText text_item (text-form level d) (those d class.Text items) v.0
     (kept-good level d class.Text items k)
     (looked class.Text) (v.1.1.0.not_more refl) x.name reads.name _ _

@@ -6,12 +6,12 @@ use Rattle.crs_shape.specs.ShapeFault.{class_in}
 use Rattle.crs_shape.specs.Slots.{is_class}
 use Rattle.crs_value.specs.Reading.{is_a, those}
 use Rattle.crs_value.specs.Sound.{Each}
-use Rattle.crs_normal.specs.Unplaced.{unplaced}
-use Rattle.crs_normal.proofs.ViewLemmas.{each-so, unplaced_onto, onto}
+use Rattle.crs_normal.specs.WithoutPlaces.{without_places}
+use Rattle.crs_normal.proofs.ViewLemmas.{each-so, without_places_onto, onto}
 
-pub unplaced-joined : (a b : List Item) (rest : Siblings) → unplaced_onto (a ++ b) rest ≡ unplaced_onto a (unplaced_onto b rest)
-unplaced-joined [] b rest = refl
-unplaced-joined (x ∷ xs) b rest = ap (More (unplaced x)) (unplaced-joined xs b rest)
+pub without_places-joined : (a b : List Item) (rest : Siblings) → without_places_onto (a ++ b) rest ≡ without_places_onto a (without_places_onto b rest)
+without_places-joined [] b rest = refl
+without_places-joined (x ∷ xs) b rest = ap (More (without_places x)) (without_places-joined xs b rest)
 
 pub those-kept : (c d : Class) (a b : List Item) → Each (λ i. is_a c d i ≡ true) a →
     those c d (onto (a ++ b) End) ≡ a ++ those c d (onto b End)

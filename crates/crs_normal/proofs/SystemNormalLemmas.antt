@@ -20,7 +20,7 @@ use Rattle.crs_normal.proofs.AxisNormalLemmas.{IsNumbered, axis-form, type-form}
 use Rattle.crs_normal.proofs.FormLemmas.{Form, IsGood, Kept, kept-good, node-spelled, one-spelled, opened}
 use Rattle.crs_normal.proofs.LeafLemmas.{PlainIsOne, number-form}
 use Rattle.crs_normal.proofs.UnitNormalLemmas.{idents-spelled}
-use Rattle.crs_normal.proofs.ViewLemmas.{unplaced_onto, unplaced-spread, those-looked}
+use Rattle.crs_normal.proofs.ViewLemmas.{without_places_onto, without_places-spread, those-looked}
 
 -- ---- the axes at their positions
 
@@ -34,7 +34,7 @@ AllNumbered k (axis ∷ axes) = IsNumbered k axis × AllNumbered (k + 1) axes
 
 record AreAxes (level : Level) (system : SystemParts) (k : ℕ) (axes : List AxisParts) (items : List Item)
     (rest : Siblings) : Type 0 where
-  spelled : unplaced_onto items rest ≡ each item_axis (numbered level system k axes) rest
+  spelled : without_places_onto items rest ≡ each item_axis (numbered level system k axes) rest
   numbered_so : AllNumbered k axes
 
 axes-read : PlainIsOne →
@@ -49,7 +49,7 @@ axes-read law level c system k (i ∷ is) (x ∷ xs) good ordered own reads rest
     let this = axis-form law level c system k i x good.0 ordered.0 own.0 reads.0 in
     let more = axes-read law level c system (k + 1) is xs good.1 ordered.1 own.1 reads.1 rest in
     record {
-      spelled = ap (λ j. More j (unplaced_onto is rest)) this.0
+      spelled = ap (λ j. More j (without_places_onto is rest)) this.0
           ∙ ap (More (item_axis (norm_axis level system k x))) more.spelled;
       numbered_so = (this.1, more.numbered_so);
     }
@@ -150,7 +150,7 @@ head-form law level c (node place keyword square first others close) x good read
     let v1 = v.1.1.1.1 in
     let v2 = v1.1.1.1.1 in
     node-spelled place keyword _ square first others close _ o.written
-    (unplaced-spread d (slots_of d) items v
+    (without_places-spread d (slots_of d) items v
     ∙ one-spelled level d class.Word ReadsType (λ t. word_item (system_word t)) (type-form level)
     (those d class.Word items) v.0
     (kept-good level d class.Word items o.kept) (those-looked d class.Word (slots_of d) items v) (v.1.1.0.not_more refl)
@@ -169,7 +169,7 @@ pub system-spelled : PlainIsOne → (level : Level) (c : Class) (item : Item) �
     those c class.Axis (arguments item) ≡ axes →
     those c class.AxisUnit (arguments item) ≡ units → (x : SystemParts) → ReadsSystem c item x →
     length x.axes + 1 < 2 ^ 64 → (rest after : Siblings) → rest ≡ after →
-    unplaced_onto heads (unplaced_onto axes (unplaced_onto units rest)) ≡ system_items (norm_system level x) after
+    without_places_onto heads (without_places_onto axes (without_places_onto units rest)) ≡ system_items (norm_system level x) after
 system-spelled law level c item k has heads axes units e few f g x reads within rest after same =
     let items = arguments item in
     let read = axes-read law level c x 1 (those c class.Axis items) x.axes (kept-good level c class.Axis items k)
@@ -177,8 +177,8 @@ system-spelled law level c item k has heads axes units e few f g x reads within 
     one-spelled level c class.CoordinateSystem ReadsHead (λ s. item_head (norm_system level s)) (head-form law level c)
     (those c class.CoordinateSystem items) heads
     (kept-good level c class.CoordinateSystem items k) e few x reads.head _ _
-    (ap (λ us. unplaced_onto axes (unplaced_onto us rest)) (sym g ∙ has.none_shared)
-    ∙ ap (unplaced_onto axes) same ∙ ap (λ xs. unplaced_onto xs after) (sym f) ∙ read.spelled
+    (ap (λ us. without_places_onto axes (without_places_onto us rest)) (sym g ∙ has.none_shared)
+    ∙ ap (without_places_onto axes) same ∙ ap (λ xs. without_places_onto xs after) (sym f) ∙ read.spelled
     ∙ ap (λ xs. each item_axis xs after)
     (sym (from-numbered level x 1 [] x.axes refl tt read.numbered_so refl (more (length x.axes) within))))
   where

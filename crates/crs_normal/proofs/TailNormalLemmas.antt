@@ -26,10 +26,10 @@ use Rattle.crs_normal.proofs.FrameNormalLemmas.{none-read}
 use Rattle.crs_normal.proofs.LeafLemmas.{PlainIsOne, text-node-form}
 use Rattle.crs_normal.proofs.NamedNormalLemmas.{geoid_model-form}
 use Rattle.crs_normal.proofs.RankLemmas.{EndsAs, Split, split}
-use Rattle.crs_normal.proofs.SortLemmas.{as-class, unplaced-joined, nothing-behind, those-kept, those-last, those-none, those-passed}
+use Rattle.crs_normal.proofs.SortLemmas.{as-class, without_places-joined, nothing-behind, those-kept, those-last, those-none, those-passed}
 use Rattle.crs_normal.proofs.UnitNormalLemmas.{idents-spelled}
 use Rattle.crs_normal.proofs.UsageNormalLemmas.{usage-form}
-use Rattle.crs_normal.proofs.ViewLemmas.{unplaced_onto, onto}
+use Rattle.crs_normal.proofs.ViewLemmas.{without_places_onto, onto}
 
 -- ---- a front of several sorts
 
@@ -125,17 +125,17 @@ pub tail-spelled : PlainIsOne → (level : Level) (c : Class) (item : Item) → 
     (models : List GeoidModelParts) →
     ReadsEach (ReadsGeoidModel class.GeoidModel) (those c class.GeoidModel (arguments item)) models →
     (t : TailParts) → ReadsTail c item t →
-    unplaced_onto front End ≡ each item_geoid_model (set_geoid_models level models) (tail_items (norm_tail level t))
+    without_places_onto front End ≡ each item_geoid_model (set_geoid_models level models) (tail_items (norm_tail level t))
 unfolding set_geoid_models set_usages
 tail-spelled law level c item k sets has front n rise ends found few models read_models t reads =
     let items = arguments item in
     let s = split c n front rise ends in
     let o = sorted-of c n front s in
     let remarks = found class.Remark tt ∙ o.remarks in
-    ap (λ xs. unplaced_onto xs End) o.are
-    ∙ unplaced-joined s.models (s.usages ++ (s.identifiers ++ s.remarks)) End
-    ∙ ap (unplaced_onto s.models) (unplaced-joined s.usages (s.identifiers ++ s.remarks) End
-    ∙ ap (unplaced_onto s.usages) (unplaced-joined s.identifiers s.remarks End))
+    ap (λ xs. without_places_onto xs End) o.are
+    ∙ without_places-joined s.models (s.usages ++ (s.identifiers ++ s.remarks)) End
+    ∙ ap (without_places_onto s.models) (without_places-joined s.usages (s.identifiers ++ s.remarks) End
+    ∙ ap (without_places_onto s.usages) (without_places-joined s.identifiers s.remarks End))
     ∙ set-spelled level c class.GeoidModel (ReadsGeoidModel class.GeoidModel) item_geoid_model (norm_geoid_model level)
     (geoid_model-form level c)
     (those c class.GeoidModel items) s.models (kept-good level c class.GeoidModel items k) (found class.GeoidModel tt

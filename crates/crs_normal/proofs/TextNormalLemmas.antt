@@ -15,7 +15,7 @@ use Rattle.crs_normal.specs.Normal.{IsNormalIn, IsNormalText}
 use Rattle.crs_normal.specs.SpelledCrs.{item_crs, norm_crs}
 use Rattle.crs_normal.proofs.CheckedLemmas.{IsUnbroken}
 use Rattle.crs_normal.proofs.CompoundNormalLemmas.{crs-form}
-use Rattle.crs_normal.proofs.FormLemmas.{unplaced-text}
+use Rattle.crs_normal.proofs.FormLemmas.{without_places-text}
 use Rattle.crs_normal.proofs.HeadLemmas.{Laws}
 
 -- an item that isn't at fault has its shape, and a text spells one node
@@ -30,7 +30,7 @@ item-spelled : Laws → TextLaws → (level : Level) (c : Class) (item : Item) (
     Shaped c item → IsUnbroken c item → ReadsCrs c item value →
     item_text item ≡ item_text (item_crs (norm_crs level value))
 item-spelled laws texts level c item value normal shaped free reads =
-    sym (unplaced-text item) ∙ ap item_text
+    sym (without_places-text item) ∙ ap item_text
     (crs-form laws level c c item value (record { shaped = shaped; normal = normal }) free reads)
 
 pub text-form : Laws → TextLaws → (level : Level) (bytes : List ℕ) (value : Crs) → IsNormalText level bytes →

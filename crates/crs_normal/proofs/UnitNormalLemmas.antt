@@ -23,7 +23,7 @@ use Rattle.crs_normal.specs.SpelledUnits.{item_ident, item_unit, norm_unit, set_
 use Rattle.crs_normal.proofs.FormLemmas.{IsGood, Form, Kept, kept-good, node-spelled, one-spelled, opened, reads-kept, set-spelled}
 use Rattle.crs_normal.proofs.IdentNormalLemmas.{ident-form}
 use Rattle.crs_normal.proofs.LeafLemmas.{ArePlain, PlainIsOne, number-form, text-form}
-use Rattle.crs_normal.proofs.ViewLemmas.{View, unplaced_onto, unplaced-spread, those-looked}
+use Rattle.crs_normal.proofs.ViewLemmas.{View, without_places_onto, without_places-spread, those-looked}
 use Rattle.crs_normal.proofs.WordFormLemmas.{kind-one}
 
 map-same : {A : Type 0} (xs : List A) → map (λ x. x) xs ≡ xs
@@ -37,7 +37,7 @@ pub idents-found-spelled : (level : Level) (c : Class) (items : Siblings) (front
     Ascend (those c class.Identifier items) →
     kept level (those c class.Identifier items) ≡ those c class.Identifier items → (identifiers : List IdentParts) →
     ReadsEach (ReadsIdent class.Identifier) (those c class.Identifier items) identifiers →
-    (rest after : Siblings) → rest ≡ after → unplaced_onto front rest ≡ each item_ident (set_idents level identifiers) after
+    (rest after : Siblings) → rest ≡ after → without_places_onto front rest ≡ each item_ident (set_idents level identifiers) after
 unfolding set_idents
 idents-found-spelled level c items front good e up left identifiers reads rest after f =
     set-spelled level c class.Identifier (ReadsIdent class.Identifier) item_ident (λ x. x)
@@ -49,7 +49,7 @@ pub idents-spelled : (level : Level) (c : Class) (items : Siblings) (front : Lis
     those c class.Identifier items ≡ front →
     Ascend (those c class.Identifier items) → (identifiers : List IdentParts) →
     ReadsEach (ReadsIdent class.Identifier) (those c class.Identifier items) identifiers →
-    (rest after : Siblings) → rest ≡ after → unplaced_onto front rest ≡ each item_ident (set_idents level identifiers) after
+    (rest after : Siblings) → rest ≡ after → without_places_onto front rest ≡ each item_ident (set_idents level identifiers) after
 idents-spelled level c items front k e up =
     idents-found-spelled level c items front (kept-good level c class.Identifier items k) e up k.left.0
 
@@ -96,7 +96,7 @@ unit-form law level c d asked slots kind_in plains (node place keyword square fi
     let k = kind_in keyword o.written in
     node-spelled place keyword _ square first others close _
     (keyword-of asked keyword k.0 x.kind k.1.0 k.1.1 reads.kind)
-    (unplaced-spread d unit_slots items v
+    (without_places-spread d unit_slots items v
     ∙ one-spelled level d class.Text ReadsText text_item (text-form level d) (those d class.Text items) v.0
     (kept-good level d class.Text items o.kept)
     (those-looked d class.Text unit_slots items v) (v.1.1.0.not_more refl) x.name reads.name _ _

@@ -17,7 +17,7 @@ use Rattle.crs_value.specs.SoundUsages.{IsBox, IsExtent, IsUsage}
 use Rattle.crs_value.specs.Values.{BoxParts, ExtentParts, SaysSome, UsageParts}
 use Rattle.crs_same.specs.SameUsages.{SameBox, SameExtent, SameUsage}
 use Rattle.crs_same.specs.Sets.{SameSet}
-use Rattle.crs_normal.specs.Fit.{IsFit}
+use Rattle.crs_normal.specs.FormedWithin.{IsFormedWithin}
 use Rattle.crs_normal.specs.SpelledItems.{node_from, opt, text_node}
 use Rattle.crs_normal.specs.SpelledUsages.{item_box, item_extent, item_usage, norm_extent, norm_usage, set_usages}
 use Rattle.crs_normal.specs.TextLaws.{TextLaws}
@@ -139,12 +139,12 @@ module _ (laws : TextLaws) (u : UsageParts) (s : IsWrittenUsage u) where
 -- ---- well formed
 
 from-fit : (n : ℕ) (keyword : List ℕ) (items : Siblings) → IsWord keyword → AreFit n items →
-    IsFit (suc n) (node_from keyword items)
+    IsFormedWithin (suc n) (node_from keyword items)
 from-fit n keyword End w g = (w, omega arith)
 from-fit n keyword (More first others) w g =
     fit-node n keyword first others w (g.0.0, omega (arith, g.1)) (g.0.1, omega (arith, g.1))
 
-pub usage-fit : TextLaws → (u : UsageParts) → IsWrittenUsage u → IsFit 5 (item_usage u)
+pub usage-fit : TextLaws → (u : UsageParts) → IsWrittenUsage u → IsFormedWithin 5 (item_usage u)
 usage-fit laws u s =
     from-fit 4 (codes "USAGE") (from-scope u) (refl, refl)
     (fit-opt 4 (text_node (codes "SCOPE")) IsText (λ raw t. source-fit 3 (codes "SCOPE") raw (refl, refl) t) u.scope

@@ -18,7 +18,7 @@ use Rattle.crs_normal.proofs.LeafLemmas.{PlainIsOne, text-node-form}
 use Rattle.crs_normal.proofs.LevelLemmas.{normal-in}
 use Rattle.crs_normal.proofs.PairLemmas.{four-spelled, opt-length, opt-mapped, two-spelled}
 use Rattle.crs_normal.proofs.UnitNormalLemmas.{in-length, unit-form}
-use Rattle.crs_normal.proofs.ViewLemmas.{alone, unplaced-spread, those-looked}
+use Rattle.crs_normal.proofs.ViewLemmas.{alone, without_places-spread, those-looked}
 
 pub box-form : PlainIsOne → (level : Level) (c : Class) →
     Form level c class.BoundingBox (ReadsBox class.BoundingBox) item_box
@@ -32,7 +32,7 @@ box-form law level c (node place keyword square first others close) x good reads
     let v2 = v1.1.1.1.1 in
     let v3 = v2.1.1.1.1 in
     node-spelled place keyword _ square first others close _ o.written
-    (unplaced-spread d (slots_of d) items v
+    (without_places-spread d (slots_of d) items v
     ∙ four-spelled law level d (λ raw h. h) (those d class.Number items) v.0 v1.0 v2.0 v3.0
     (kept-good level d class.Number items o.kept)
     (those-looked d class.Number (slots_of d) items v) (alone v.0 v.1.1.0 refl refl) (alone v1.0 v1.1.1.0 refl refl)
@@ -51,7 +51,7 @@ extent-form law level c (node place keyword square first others close) x good re
     let v1 = v.1.1.1.1 in
     let v2 = v1.1.1.1.1 in
     node-spelled place keyword _ square first others close _ o.written
-    (unplaced-spread d (slots_of d) items v
+    (without_places-spread d (slots_of d) items v
     ∙ two-spelled law level d (λ raw h. h) (those d class.Number items) v.0 v1.0
     (kept-good level d class.Number items o.kept)
     (those-looked d class.Number (slots_of d) items v) (alone v.0 v.1.1.0 refl refl) (alone v1.0 v1.1.1.0 refl refl)
@@ -78,7 +78,7 @@ full-usage-form law c (node place keyword square first others close) x good read
     let v2 = v1.1.1.1.1 in
     let v3 = v2.1.1.1.1 in
     node-spelled place keyword (codes "USAGE") square first others close _ o.written
-    (unplaced-spread d (slots_of d) items v
+    (without_places-spread d (slots_of d) items v
     ∙ optional-spelled level d class.Scope (ReadsTextOf class.Scope) (text_node (codes "SCOPE"))
     (text-node-form level d class.Scope (codes "SCOPE") refl (λ bytes h. h))
     (those d class.Scope items) v.0 (kept-good level d class.Scope items o.kept)

@@ -10,7 +10,7 @@ use Rattle.crs_shape.specs.Shaped.{Shaped, AreShaped}
 use Rattle.crs_shape.specs.ShapeFault.{class_in}
 use Rattle.crs_shape.specs.Slots.{SlotParts, slots_of, takes, is_class}
 use Rattle.crs_value.specs.Reading.{is_a, those}
-use Rattle.crs_normal.specs.Unplaced.{unplaced, all_unplaced}
+use Rattle.crs_normal.specs.WithoutPlaces.{without_places, all_without_places}
 use Rattle.crs_value.specs.Sound.{Each}
 
 -- these items, and others after them
@@ -18,13 +18,13 @@ abbrev pub onto : List Item → Siblings → Siblings
 onto [] rest = rest
 onto (item ∷ items) rest = More item (onto items rest)
 
-abbrev pub unplaced_onto : List Item → Siblings → Siblings
-unplaced_onto [] rest = rest
-unplaced_onto (item ∷ items) rest = More (unplaced item) (unplaced_onto items rest)
+abbrev pub without_places_onto : List Item → Siblings → Siblings
+without_places_onto [] rest = rest
+without_places_onto (item ∷ items) rest = More (without_places item) (without_places_onto items rest)
 
-pub unplaced-onto : (front : List Item) (rest : Siblings) → all_unplaced (onto front rest) ≡ unplaced_onto front (all_unplaced rest)
-unplaced-onto [] rest = refl
-unplaced-onto (item ∷ items) rest = ap (More (unplaced item)) (unplaced-onto items rest)
+pub without_places-onto : (front : List Item) (rest : Siblings) → all_without_places (onto front rest) ≡ without_places_onto front (all_without_places rest)
+without_places-onto [] rest = refl
+without_places-onto (item ∷ items) rest = ap (More (without_places item)) (without_places-onto items rest)
 
 -- ---- the arguments in a slot
 
@@ -103,13 +103,13 @@ view c classes items allowed shaped =
 
 abbrev pub spread : (c : Class) (slots : List SlotParts) (items : Siblings) → View c slots items → Siblings
 spread c [] items v = End
-spread c (slot ∷ slots) items v = unplaced_onto v.0 (spread c slots v.1.0 v.1.1.1.1)
+spread c (slot ∷ slots) items v = without_places_onto v.0 (spread c slots v.1.0 v.1.1.1.1)
 
-pub unplaced-spread : (c : Class) (slots : List SlotParts) (items : Siblings) (v : View c slots items) →
-    all_unplaced items ≡ spread c slots items v
-unplaced-spread c [] items v = ap all_unplaced v
-unplaced-spread c (slot ∷ slots) items v =
-    ap all_unplaced v.1.1.1.0 ∙ unplaced-onto v.0 v.1.0 ∙ ap (unplaced_onto v.0) (unplaced-spread c slots v.1.0 v.1.1.1.1)
+pub without_places-spread : (c : Class) (slots : List SlotParts) (items : Siblings) (v : View c slots items) →
+    all_without_places items ≡ spread c slots items v
+without_places-spread c [] items v = ap all_without_places v
+without_places-spread c (slot ∷ slots) items v =
+    ap all_without_places v.1.1.1.0 ∙ without_places-onto v.0 v.1.0 ∙ ap (without_places_onto v.0) (without_places-spread c slots v.1.0 v.1.1.1.1)
 
 abbrev pub rebuilt : (c : Class) (slots : List SlotParts) (items : Siblings) → View c slots items → Siblings
 rebuilt c [] items v = End

@@ -1,3 +1,4 @@
+pub mod AcceptedNormal
 pub mod Ascending
 pub mod AxisAlone
 pub mod CanonicalForm
@@ -6,9 +7,8 @@ pub mod CrsClass
 pub mod Decides
 pub mod DecimalLaws
 pub mod Examples
-pub mod Fit
+pub mod FormedWithin
 pub mod LowerLaws
-pub mod Made
 pub mod Normal
 pub mod NormalOwn
 pub mod OneForm
@@ -25,5 +25,5 @@ pub mod SpelledSystems
 pub mod SpelledUnits
 pub mod SpelledUsages
 pub mod TextLaws
-pub mod Unplaced
+pub mod WithoutPlaces
 pub mod WrittenForm

@@ -7,7 +7,7 @@ use Rattle.crs_shape.specs.declared.class.Class.{Class}
 use Rattle.crs_shape.specs.Shaped.{Shaped}
 use Rattle.crs_value.specs.Checks.{Breaks}
 use Rattle.crs_value.specs.declared.values.level.Level.{Level}
-use Rattle.crs_normal.specs.Unplaced.{unplaced}
+use Rattle.crs_normal.specs.WithoutPlaces.{without_places}
 use Rattle.crs_normal.specs.Normal.{IsNormalIn}
 
 -- a normal item of this class, in a node of any class, is what is written for the value that is
@@ -17,7 +17,7 @@ abbrev pub IsItsForm : {V : Type 0} → Level → Class → (Class → Item → 
 IsItsForm {V = V} level c Reads form =
     (parent : Class) (item : Item) (value : V) → Shaped c item → IsNormalIn level parent c item →
     Reads c item value →
-    unplaced item ≡ form value
+    without_places item ≡ form value
 
 -- the same of an item that breaks no check
 abbrev pub IsItsFormUnbroken : {V : Type 0} → Level → Class → (Class → Item → V → Type 0) →
@@ -25,4 +25,4 @@ abbrev pub IsItsFormUnbroken : {V : Type 0} → Level → Class → (Class → I
 IsItsFormUnbroken {V = V} level c Reads form =
     (parent : Class) (item : Item) (value : V) → Shaped c item → IsNormalIn level parent c item →
     ((fault : RefusedAt) → ¬ (Breaks c item fault)) →
-    Reads c item value → unplaced item ≡ form value
+    Reads c item value → without_places item ≡ form value

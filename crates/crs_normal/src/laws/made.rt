@@ -26,7 +26,7 @@ ghost use Rattle.crs_value.specs.Values.{MemberParts, MeridianParts, UnitParts, 
 ghost use Rattle.crs_same.specs.SameUnits.{kind_as};
 ghost use Rattle.crs_normal.specs.DecimalLaws.{DecimalLaws};
 ghost use Rattle.crs_normal.specs.CrsClass.{crs_class, geodetic_class};
-ghost use Rattle.crs_normal.specs.Made.{IsKindIn, IsMade, geodetic_frame_class, vertical_frame_class};
+ghost use Rattle.crs_normal.specs.AcceptedNormal.{IsKindIn, IsAcceptedNormal, geodetic_frame_class, vertical_frame_class};
 ghost use Rattle.crs_normal.specs.SpelledConversions.{item_conversion, item_geoid_model, item_method, item_parameter};
 ghost use Rattle.crs_normal.specs.SpelledConversions.{norm_conversion, norm_geoid_model, norm_method, norm_parameter};
 ghost use Rattle.crs_normal.specs.SpelledCrs.{item_base, item_compound, item_crs, item_geodetic, item_projected};
@@ -61,7 +61,7 @@ pub(super) fn decimal_laws()
 // The item of an identifier.
 pub(super) fn made_identifier_is_normal()
     ensures { (level : Level) (ident : IdentParts) (place : ℕ) → IsIdent ident →
-        IsMade level class.Identifier 2 (at_place place (item_ident ident)) }
+        IsAcceptedNormal level class.Identifier 2 (at_place place (item_ident ident)) }
 {
     decimal_laws();
 }
@@ -70,7 +70,7 @@ pub(super) fn made_identifier_is_normal()
 pub(super) fn made_unit_is_normal()
     ensures { (level : Level) (c : Class) (asked : UnitKind) (unit : UnitParts) (place : ℕ) →
         IsKindIn c (kind_as asked unit.kind) → IsUnit unit →
-        IsMade level c 3 (at_place place (item_unit (norm_unit level asked unit))) }
+        IsAcceptedNormal level c 3 (at_place place (item_unit (norm_unit level asked unit))) }
 {
     decimal_laws();
 }
@@ -78,7 +78,7 @@ pub(super) fn made_unit_is_normal()
 // The item of an ellipsoid.
 pub(super) fn made_ellipsoid_is_normal()
     ensures { (level : Level) (ellipsoid : EllipsoidParts) (place : ℕ) → IsEllipsoid ellipsoid →
-        IsMade level class.Ellipsoid 4 (at_place place (item_ellipsoid (norm_ellipsoid level ellipsoid))) }
+        IsAcceptedNormal level class.Ellipsoid 4 (at_place place (item_ellipsoid (norm_ellipsoid level ellipsoid))) }
 {
     decimal_laws();
 }
@@ -86,7 +86,7 @@ pub(super) fn made_ellipsoid_is_normal()
 // The item of a prime meridian.
 pub(super) fn made_meridian_is_normal()
     ensures { (level : Level) (meridian : MeridianParts) (place : ℕ) → IsMeridian meridian →
-        IsMade level class.PrimeMeridian 4 (at_place place (item_meridian (norm_given level meridian))) }
+        IsAcceptedNormal level class.PrimeMeridian 4 (at_place place (item_meridian (norm_given level meridian))) }
 {
     decimal_laws();
 }
@@ -94,7 +94,7 @@ pub(super) fn made_meridian_is_normal()
 // The item of a member of an ensemble.
 pub(super) fn made_member_is_normal()
     ensures { (level : Level) (member : MemberParts) (place : ℕ) → IsMember member →
-        IsMade level class.Member 3 (at_place place (item_member (norm_member level member))) }
+        IsAcceptedNormal level class.Member 3 (at_place place (item_member (norm_member level member))) }
 {
     decimal_laws();
 }
@@ -102,7 +102,7 @@ pub(super) fn made_member_is_normal()
 // The item of a method.
 pub(super) fn made_method_is_normal()
     ensures { (level : Level) (method : MethodParts) (place : ℕ) → IsMethod method →
-        IsMade level class.Method 3 (at_place place (item_method (norm_method level method))) }
+        IsAcceptedNormal level class.Method 3 (at_place place (item_method (norm_method level method))) }
 {
     decimal_laws();
 }
@@ -110,7 +110,7 @@ pub(super) fn made_method_is_normal()
 // The item of a geoid model.
 pub(super) fn made_geoid_model_is_normal()
     ensures { (level : Level) (model : GeoidModelParts) (place : ℕ) → IsGeoidModel model →
-        IsMade level class.GeoidModel 3 (at_place place (item_geoid_model (norm_geoid_model level model))) }
+        IsAcceptedNormal level class.GeoidModel 3 (at_place place (item_geoid_model (norm_geoid_model level model))) }
 {
     decimal_laws();
 }
@@ -118,7 +118,7 @@ pub(super) fn made_geoid_model_is_normal()
 // The item of a deformation model.
 pub(super) fn made_deformation_model_is_normal()
     ensures { (level : Level) (model : DeformationModelParts) (place : ℕ) → IsDeformationModel model →
-        IsMade level class.DeformationModel 3
+        IsAcceptedNormal level class.DeformationModel 3
         (at_place place (item_deformation_model (norm_deformation_model level model))) }
 {
     decimal_laws();
@@ -127,7 +127,7 @@ pub(super) fn made_deformation_model_is_normal()
 // The item of a dynamic part.
 pub(super) fn made_dynamic_is_normal()
     ensures { (level : Level) (dynamic : DynamicParts) (place : ℕ) → IsDynamic dynamic →
-        IsMade level class.Dynamic 4 (at_place place (item_dynamic (norm_dynamic level dynamic))) }
+        IsAcceptedNormal level class.Dynamic 4 (at_place place (item_dynamic (norm_dynamic level dynamic))) }
 {
     decimal_laws();
 }
@@ -135,7 +135,7 @@ pub(super) fn made_dynamic_is_normal()
 // The item of a parameter.
 pub(super) fn made_parameter_is_normal()
     ensures { (level : Level) (parameter : ParameterParts) (place : ℕ) → IsParameter parameter →
-        IsMade level class.Parameter 4 (at_place place (item_parameter (norm_parameter level parameter))) }
+        IsAcceptedNormal level class.Parameter 4 (at_place place (item_parameter (norm_parameter level parameter))) }
 {
     decimal_laws();
 }
@@ -143,7 +143,7 @@ pub(super) fn made_parameter_is_normal()
 // The item of a conversion.
 pub(super) fn made_conversion_is_normal()
     ensures { (level : Level) (conversion : ConversionParts) (place : ℕ) → IsConversion conversion →
-        IsMade level class.Conversion 5 (at_place place (item_conversion (norm_conversion level conversion))) }
+        IsAcceptedNormal level class.Conversion 5 (at_place place (item_conversion (norm_conversion level conversion))) }
 {
     decimal_laws();
 }
@@ -151,7 +151,7 @@ pub(super) fn made_conversion_is_normal()
 // The item of a box of latitudes and longitudes.
 pub(super) fn made_box_is_normal()
     ensures { (level : Level) (bbox : BoxParts) (place : ℕ) → IsBox bbox →
-        IsMade level class.BoundingBox 1 (at_place place (item_box bbox)) }
+        IsAcceptedNormal level class.BoundingBox 1 (at_place place (item_box bbox)) }
 {
     decimal_laws();
 }
@@ -159,7 +159,7 @@ pub(super) fn made_box_is_normal()
 // The item of an extent in height.
 pub(super) fn made_extent_is_normal()
     ensures { (level : Level) (extent : ExtentParts) (place : ℕ) → IsExtent extent →
-        IsMade level class.VerticalExtent 4 (at_place place (item_extent (norm_extent level extent))) }
+        IsAcceptedNormal level class.VerticalExtent 4 (at_place place (item_extent (norm_extent level extent))) }
 {
     decimal_laws();
 }
@@ -167,7 +167,7 @@ pub(super) fn made_extent_is_normal()
 // The item of a usage by itself, of which every level keeps all.
 pub(super) fn made_usage_is_normal()
     ensures { (usage : UsageParts) (place : ℕ) → IsUsage usage →
-        IsMade levels.Full class.Usage 5 (at_place place (item_usage (norm_usage usage))) }
+        IsAcceptedNormal levels.Full class.Usage 5 (at_place place (item_usage (norm_usage usage))) }
 {
     decimal_laws();
 }
@@ -175,7 +175,7 @@ pub(super) fn made_usage_is_normal()
 // The item of a geodetic frame or ensemble.
 pub(super) fn made_geodetic_frame_is_normal()
     ensures { (level : Level) (frame : Frame) (place : ℕ) → IsGeodeticFrame frame →
-        IsMade level (geodetic_frame_class frame) 5 (at_place place (item_frame (codes "DATUM") (norm_frame level frame))) }
+        IsAcceptedNormal level (geodetic_frame_class frame) 5 (at_place place (item_frame (codes "DATUM") (norm_frame level frame))) }
 {
     decimal_laws();
 }
@@ -183,7 +183,7 @@ pub(super) fn made_geodetic_frame_is_normal()
 // The item of a vertical frame or ensemble.
 pub(super) fn made_vertical_frame_is_normal()
     ensures { (level : Level) (frame : Frame) (place : ℕ) → IsVerticalFrame frame →
-        IsMade level (vertical_frame_class frame) 5 (at_place place (item_frame (codes "VDATUM") (norm_frame level frame))) }
+        IsAcceptedNormal level (vertical_frame_class frame) 5 (at_place place (item_frame (codes "VDATUM") (norm_frame level frame))) }
 {
     decimal_laws();
 }
@@ -191,7 +191,7 @@ pub(super) fn made_vertical_frame_is_normal()
 // The item of the meridian of an axis.
 pub(super) fn made_axis_meridian_is_normal()
     ensures { (level : Level) (meridian : AxisMeridianParts) (place : ℕ) → IsAxisMeridian meridian →
-        IsMade level class.AxisMeridian 4 (at_place place (item_axis_meridian (norm_axis_meridian level meridian))) }
+        IsAcceptedNormal level class.AxisMeridian 4 (at_place place (item_axis_meridian (norm_axis_meridian level meridian))) }
 {
     decimal_laws();
 }
@@ -199,7 +199,7 @@ pub(super) fn made_axis_meridian_is_normal()
 // The item of a base CRS.
 pub(super) fn made_base_is_normal()
     ensures { (level : Level) (base : BaseParts) (place : ℕ) → IsBase base →
-        IsMade level class.BaseCrs 6 (at_place place (item_base (norm_base level base))) }
+        IsAcceptedNormal level class.BaseCrs 6 (at_place place (item_base (norm_base level base))) }
 {
     decimal_laws();
 }
@@ -207,7 +207,7 @@ pub(super) fn made_base_is_normal()
 // The item of a geodetic or geographic CRS.
 pub(super) fn made_geodetic_is_normal()
     ensures { (level : Level) (geodetic : GeodeticParts) (place : ℕ) → IsGeodetic geodetic →
-        IsMade level (geodetic_class geodetic.system.system_type) 6
+        IsAcceptedNormal level (geodetic_class geodetic.system.system_type) 6
         (at_place place (item_geodetic (norm_geodetic level geodetic))) }
 {
     decimal_laws();
@@ -217,7 +217,7 @@ pub(super) fn made_geodetic_is_normal()
 // The item of a projected CRS.
 pub(super) fn made_projected_is_normal()
     ensures { (level : Level) (projected : ProjectedParts) (place : ℕ) → IsProjected projected →
-        IsMade level class.ProjectedCrs 7 (at_place place (item_projected (norm_projected level projected))) }
+        IsAcceptedNormal level class.ProjectedCrs 7 (at_place place (item_projected (norm_projected level projected))) }
 {
     decimal_laws();
     one_axis_each();
@@ -226,7 +226,7 @@ pub(super) fn made_projected_is_normal()
 // The item of a vertical CRS.
 pub(super) fn made_vertical_is_normal()
     ensures { (level : Level) (vertical : VerticalParts) (place : ℕ) → IsVertical vertical →
-        IsMade level class.VerticalCrs 6 (at_place place (item_vertical (norm_vertical level vertical))) }
+        IsAcceptedNormal level class.VerticalCrs 6 (at_place place (item_vertical (norm_vertical level vertical))) }
 {
     decimal_laws();
     one_axis_each();
@@ -235,7 +235,7 @@ pub(super) fn made_vertical_is_normal()
 // The item of a compound CRS.
 pub(super) fn made_compound_is_normal()
     ensures { (level : Level) (compound : CompoundParts) (place : ℕ) → IsCompound compound →
-        IsMade level class.CompoundCrs 8 (at_place place (item_compound (norm_compound level compound))) }
+        IsAcceptedNormal level class.CompoundCrs 8 (at_place place (item_compound (norm_compound level compound))) }
 {
     decimal_laws();
     one_axis_each();
@@ -244,7 +244,7 @@ pub(super) fn made_compound_is_normal()
 // The item of a CRS.
 pub(super) fn made_crs_is_normal()
     ensures { (level : Level) (crs : Crs) (place : ℕ) → IsCrs crs →
-        IsMade level (crs_class crs) 8 (at_place place (item_crs (norm_crs level crs))) }
+        IsAcceptedNormal level (crs_class crs) 8 (at_place place (item_crs (norm_crs level crs))) }
 {
     decimal_laws();
     one_axis_each();

@@ -18,7 +18,7 @@ ghost use Rattle.crs_value.specs.declared.values.level.Level.{Level};
 ghost use Rattle.crs_value.specs.declared.values.unit_kind.UnitKind.{UnitKind};
 ghost use Rattle.crs_value.specs.declared.values.unit_kind.UnitKind.TheVariants as kinds;
 ghost use Rattle.crs_normal.specs.AxisAlone.{IsNormalAxis};
-ghost use Rattle.crs_normal.specs.Unplaced.{unplaced};
+ghost use Rattle.crs_normal.specs.WithoutPlaces.{without_places};
 ghost use Rattle.crs_normal.specs.Normal.{IsNormalIn, IsNormalText};
 ghost use Rattle.crs_normal.specs.NormalOwn.{Has, HasOneOrder};
 ghost use Rattle.crs_normal.specs.OneForm.{IsItsForm, IsItsFormUnbroken};
@@ -163,12 +163,12 @@ pub(super) fn normal_axis_is_its_form()
     ensures axis { (level : Level) (system : SystemParts) (parent : Class) (position : ℕ) (item : Item)
         (value : AxisParts) → Shaped class.Axis item → IsNormalIn level parent class.Axis item →
         HasOneOrder position item → Has class.Axis class.AxisUnit item → ReadsAxis class.Axis item value →
-        unplaced item ≡ item_axis (norm_axis level system position value) }
+        without_places item ≡ item_axis (norm_axis level system position value) }
 
     // By itself an axis may have a unit that is `UNIT`.
     ensures alone { (level : Level) (item : Item) (value : AxisParts) → Shaped class.Axis item →
         IsNormalAxis level item → ReadsAxis class.Axis item value →
-        unplaced item ≡ item_axis (norm_axis_alone level value) }
+        without_places item ≡ item_axis (norm_axis_alone level value) }
 {
     plain_is_the_one();
 }

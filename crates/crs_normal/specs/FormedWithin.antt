@@ -5,5 +5,5 @@ use Rattle.crs_text.specs.Items.{Item, depth}
 use Rattle.crs_text.specs.Written.{AreFormed}
 
 -- the item is well formed, and at most so many of its delimiters are open at once
-abbrev pub IsFit : ℕ → Item → Type 0
-IsFit n item = AreFormed item × (depth item ≤ n)
+abbrev pub IsFormedWithin : ℕ → Item → Type 0
+IsFormedWithin n item = AreFormed item × (depth item ≤ n)

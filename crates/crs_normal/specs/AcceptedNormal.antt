@@ -15,7 +15,7 @@ use Rattle.crs_value.specs.declared.values.unit_kind.UnitKind.TheVariants as kin
 use Rattle.crs_normal.specs.Normal.{IsNormalIn}
 
 -- the item has no fault of shape, breaks no check and is normal, in whichever node it is
-pub record IsMade (level : Level) (c : Class) (most : ℕ) (item : Item) : Type 0 where
+pub record IsAcceptedNormal (level : Level) (c : Class) (most : ℕ) (item : Item) : Type 0 where
   pub is_node : IsNode item
   pub formed : AreFormed item
   pub within : depth item ≤ most
