@@ -1,4 +1,4 @@
-/* Tells whether two files hold the same CRS, or which part differs first.
+/* Says whether two files hold the same CRS, or which part differs first.
 
        cc compare.c $(pkg-config --cflags --libs crsdesk) -o compare
        ./compare a.wkt b.wkt

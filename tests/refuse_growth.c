@@ -30,7 +30,7 @@ __attribute__((constructor)) static void begin(void)
     counts_all = is_counting = from && strcmp(from, "start") == 0;
 }
 
-/* Behind main: these programs end by its return alone. */
+/* After main: these programs end by its return alone. */
 __attribute__((destructor)) static void end(void)
 {
     char line[64];

@@ -173,14 +173,14 @@ static uint32_t call_differences(const struct asked *it, char *out, size_t room,
                                why);
 }
 
-/* This call has no refusal apart from its text; none is told. */
+/* This call has no refusal apart from its text; none is answered. */
 static uint32_t call_explain(const struct asked *it, char *out, size_t room, size_t *length, struct crsdesk_refusal *why)
 {
     (void)why;
     return crsdesk_explain(it->first, it->first_length, out, room, length);
 }
 
-/* This call has no refusal; none is told. */
+/* This call has no refusal; none is answered. */
 static uint32_t call_name(const struct asked *it, char *out, size_t room, size_t *length, struct crsdesk_refusal *why)
 {
     (void)why;
@@ -207,7 +207,7 @@ static void append_refusal(struct answer *answer, const struct crsdesk_refusal *
     free(name.at);
 }
 
-/* A level that isn't one must be told, with nothing changed. */
+/* A level that isn't one must be reported, with nothing changed. */
 static void without_level(struct asked asked, struct answer *answer)
 {
     char *out;

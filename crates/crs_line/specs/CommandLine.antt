@@ -43,7 +43,7 @@ check_shape = record (new_shape (codes "check")) { rules = lines_flag ∷ [] }
 abbrev pub group_shape : Shape
 group_shape = record (new_shape (codes "group")) { rules = level_option ∷ [] }
 
--- `same`, which wants a first text and a second, and takes a level
+-- `same`, which needs a first text and a second, and takes a level
 abbrev pub same_shape : Shape
 same_shape = record (new_shape (codes "same")) {
   rules = operand (codes "first") ∷ operand (codes "second") ∷ level_option ∷ [];
@@ -55,7 +55,7 @@ explain_shape = record (new_shape (codes "explain")) {
   rules = spare_operand (codes "first") ∷ spare_operand (codes "second") ∷ level_option ∷ [];
 }
 
--- `crsdesk` alone; it has a version, and wants one of its commands
+-- `crsdesk` alone; it has a version, and needs one of its commands
 abbrev pub lone_desk : App
 lone_desk =
     on_top (λ s. record s { has_version = true; subcommand_required = true })
