@@ -9,9 +9,9 @@ use Rattle.crs_value.specs.declared.values.crs.Crs.{Crs}
 use Rattle.crs_value.specs.declared.values.crs.Crs.TheVariants as crs
 use Rattle.crs_value.specs.declared.values.level.Level.TheVariants as levels
 use Rattle.crs_normal.specs.Examples as example
-use Rattle.crs_normal.proofs.ExampleLemmas.{IsRead, TextLaws, is-normal, is-otherwise, placed, read-here}
-use Rattle.crs_normal.proofs.NormalVerdict.{normal_in}
-use Rattle.crs_normal.proofs.Verdicts.{Fails, Holds}
+use Rattle.crs_normal.proofs.verdicts.ExampleLemmas.{IsRead, TextLaws, is-normal, is-otherwise, placed, read-here}
+use Rattle.crs_normal.proofs.verdicts.NormalVerdict.{normal_in}
+use Rattle.crs_normal.proofs.verdicts.Verdicts.{Fails, Holds}
 use Rattle.crs_normal.proofs.laws.examples.worked_examples.Goals as goal
 
 pub returns-clause-normal : goal.returns-clause-normal

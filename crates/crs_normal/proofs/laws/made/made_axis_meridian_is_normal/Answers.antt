@@ -1,4 +1,4 @@
-use Rattle.crs_normal.proofs.MadeAxisLemmas.{axis-meridian-made}
+use Rattle.crs_normal.proofs.made.AxisLemmas.{axis-meridian-made}
 use Rattle.crs_normal.proofs.laws.made.made_axis_meridian_is_normal.Goals as goal
 
 pub returns : goal.returns

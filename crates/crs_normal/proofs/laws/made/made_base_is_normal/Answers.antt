@@ -1,4 +1,4 @@
-use Rattle.crs_normal.proofs.MadeProjectedLemmas.{base-made}
+use Rattle.crs_normal.proofs.made.ProjectedLemmas.{base-made}
 use Rattle.crs_normal.proofs.laws.made.made_base_is_normal.Goals as goal
 
 pub returns : goal.returns

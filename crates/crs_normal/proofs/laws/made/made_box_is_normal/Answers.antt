@@ -1,4 +1,4 @@
-use Rattle.crs_normal.proofs.MadeUsageLemmas.{box-made}
+use Rattle.crs_normal.proofs.made.UsageLemmas.{box-made}
 use Rattle.crs_normal.proofs.laws.made.made_box_is_normal.Goals as goal
 
 pub returns : goal.returns

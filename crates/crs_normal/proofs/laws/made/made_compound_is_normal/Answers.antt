@@ -1,4 +1,4 @@
-use Rattle.crs_normal.proofs.MadeCompoundLemmas.{compound-made}
+use Rattle.crs_normal.proofs.made.CompoundLemmas.{compound-made}
 use Rattle.crs_normal.proofs.laws.made.made_compound_is_normal.Goals as goal
 
 pub returns : goal.returns

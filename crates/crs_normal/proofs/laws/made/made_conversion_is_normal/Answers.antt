@@ -1,4 +1,4 @@
-use Rattle.crs_normal.proofs.MadeConversionLemmas.{conversion-made}
+use Rattle.crs_normal.proofs.made.ConversionLemmas.{conversion-made}
 use Rattle.crs_normal.proofs.laws.made.made_conversion_is_normal.Goals as goal
 
 pub returns : goal.returns

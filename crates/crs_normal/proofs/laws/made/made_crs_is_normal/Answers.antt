@@ -1,4 +1,4 @@
-use Rattle.crs_normal.proofs.MadeCrsLemmas.{crs-made}
+use Rattle.crs_normal.proofs.made.CrsLemmas.{crs-made}
 use Rattle.crs_normal.proofs.laws.made.made_crs_is_normal.Goals as goal
 
 pub returns : goal.returns

@@ -1,4 +1,4 @@
-use Rattle.crs_normal.proofs.MadeNamedLemmas.{deformation-model-made}
+use Rattle.crs_normal.proofs.made.NamedLemmas.{deformation-model-made}
 use Rattle.crs_normal.proofs.laws.made.made_deformation_model_is_normal.Goals as goal
 
 pub returns : goal.returns

@@ -1,4 +1,4 @@
-use Rattle.crs_normal.proofs.MadeDynamicLemmas.{dynamic-made}
+use Rattle.crs_normal.proofs.made.DynamicLemmas.{dynamic-made}
 use Rattle.crs_normal.proofs.laws.made.made_dynamic_is_normal.Goals as goal
 
 pub returns : goal.returns

@@ -1,4 +1,4 @@
-use Rattle.crs_normal.proofs.MadeEllipsoidLemmas.{ellipsoid-made}
+use Rattle.crs_normal.proofs.made.EllipsoidLemmas.{ellipsoid-made}
 use Rattle.crs_normal.proofs.laws.made.made_ellipsoid_is_normal.Goals as goal
 
 pub returns : goal.returns

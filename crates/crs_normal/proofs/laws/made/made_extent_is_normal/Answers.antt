@@ -1,4 +1,4 @@
-use Rattle.crs_normal.proofs.MadeUsageLemmas.{extent-made}
+use Rattle.crs_normal.proofs.made.UsageLemmas.{extent-made}
 use Rattle.crs_normal.proofs.laws.made.made_extent_is_normal.Goals as goal
 
 pub returns : goal.returns

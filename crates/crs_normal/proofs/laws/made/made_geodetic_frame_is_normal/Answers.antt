@@ -1,4 +1,4 @@
-use Rattle.crs_normal.proofs.MadeFrameLemmas.{geodetic-frame-made}
+use Rattle.crs_normal.proofs.made.FrameLemmas.{geodetic-frame-made}
 use Rattle.crs_normal.proofs.laws.made.made_geodetic_frame_is_normal.Goals as goal
 
 pub returns : goal.returns

@@ -1,4 +1,4 @@
-use Rattle.crs_normal.proofs.MadeGeodeticLemmas.{geodetic-made}
+use Rattle.crs_normal.proofs.made.GeodeticLemmas.{geodetic-made}
 use Rattle.crs_normal.proofs.laws.made.made_geodetic_is_normal.Goals as goal
 
 pub returns : goal.returns

@@ -1,4 +1,4 @@
-use Rattle.crs_normal.proofs.MadeNamedLemmas.{geoid-model-made}
+use Rattle.crs_normal.proofs.made.NamedLemmas.{geoid-model-made}
 use Rattle.crs_normal.proofs.laws.made.made_geoid_model_is_normal.Goals as goal
 
 pub returns : goal.returns

@@ -1,4 +1,4 @@
-use Rattle.crs_normal.proofs.MadeIdentLemmas.{ident-made}
+use Rattle.crs_normal.proofs.made.IdentLemmas.{ident-made}
 use Rattle.crs_normal.proofs.laws.made.made_identifier_is_normal.Goals as goal
 
 pub returns : goal.returns

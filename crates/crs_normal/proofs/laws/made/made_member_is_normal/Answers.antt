@@ -1,4 +1,4 @@
-use Rattle.crs_normal.proofs.MadeNamedLemmas.{member-made}
+use Rattle.crs_normal.proofs.made.NamedLemmas.{member-made}
 use Rattle.crs_normal.proofs.laws.made.made_member_is_normal.Goals as goal
 
 pub returns : goal.returns

@@ -1,4 +1,4 @@
-use Rattle.crs_normal.proofs.MadeMeridianLemmas.{meridian-made}
+use Rattle.crs_normal.proofs.made.MeridianLemmas.{meridian-made}
 use Rattle.crs_normal.proofs.laws.made.made_meridian_is_normal.Goals as goal
 
 pub returns : goal.returns

@@ -1,4 +1,4 @@
-use Rattle.crs_normal.proofs.MadeNamedLemmas.{method-made}
+use Rattle.crs_normal.proofs.made.NamedLemmas.{method-made}
 use Rattle.crs_normal.proofs.laws.made.made_method_is_normal.Goals as goal
 
 pub returns : goal.returns

@@ -1,4 +1,4 @@
-use Rattle.crs_normal.proofs.MadeConversionLemmas.{parameter-made}
+use Rattle.crs_normal.proofs.made.ConversionLemmas.{parameter-made}
 use Rattle.crs_normal.proofs.laws.made.made_parameter_is_normal.Goals as goal
 
 pub returns : goal.returns

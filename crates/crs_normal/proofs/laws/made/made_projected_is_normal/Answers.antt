@@ -1,4 +1,4 @@
-use Rattle.crs_normal.proofs.MadeProjectedLemmas.{projected-made}
+use Rattle.crs_normal.proofs.made.ProjectedLemmas.{projected-made}
 use Rattle.crs_normal.proofs.laws.made.made_projected_is_normal.Goals as goal
 
 pub returns : goal.returns

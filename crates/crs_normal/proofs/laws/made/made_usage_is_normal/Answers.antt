@@ -1,4 +1,4 @@
-use Rattle.crs_normal.proofs.MadeUsageLemmas.{usage-made}
+use Rattle.crs_normal.proofs.made.UsageLemmas.{usage-made}
 use Rattle.crs_normal.proofs.laws.made.made_usage_is_normal.Goals as goal
 
 pub returns : goal.returns

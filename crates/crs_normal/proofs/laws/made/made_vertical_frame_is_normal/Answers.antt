@@ -1,4 +1,4 @@
-use Rattle.crs_normal.proofs.MadeFrameLemmas.{vertical-frame-made}
+use Rattle.crs_normal.proofs.made.FrameLemmas.{vertical-frame-made}
 use Rattle.crs_normal.proofs.laws.made.made_vertical_frame_is_normal.Goals as goal
 
 pub returns : goal.returns

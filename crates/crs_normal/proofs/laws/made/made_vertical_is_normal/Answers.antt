@@ -1,4 +1,4 @@
-use Rattle.crs_normal.proofs.MadeVerticalLemmas.{vertical-made}
+use Rattle.crs_normal.proofs.made.VerticalLemmas.{vertical-made}
 use Rattle.crs_normal.proofs.laws.made.made_vertical_is_normal.Goals as goal
 
 pub returns : goal.returns

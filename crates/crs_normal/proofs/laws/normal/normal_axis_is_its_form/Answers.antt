@@ -1,5 +1,5 @@
-use Rattle.crs_normal.proofs.AxisAloneLemmas.{axis-alone-form}
-use Rattle.crs_normal.proofs.AxisNormalLemmas.{axis-form, axis_meridian-form}
+use Rattle.crs_normal.proofs.parts.AxisAloneLemmas.{axis-alone-form}
+use Rattle.crs_normal.proofs.normal.AxisLemmas.{axis-form, axis_meridian-form}
 use Rattle.crs_normal.proofs.laws.normal.normal_axis_is_its_form.Goals as goal
 
 pub returns-clause-meridian : goal.returns-clause-meridian

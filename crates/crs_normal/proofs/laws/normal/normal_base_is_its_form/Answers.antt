@@ -1,4 +1,4 @@
-use Rattle.crs_normal.proofs.EnsembleNormalLemmas.{base-form}
+use Rattle.crs_normal.proofs.normal.EnsembleLemmas.{base-form}
 use Rattle.crs_normal.proofs.laws.normal.normal_base_is_its_form.Goals as goal
 
 pub returns : goal.returns

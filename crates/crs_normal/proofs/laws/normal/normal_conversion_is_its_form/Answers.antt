@@ -1,4 +1,4 @@
-use Rattle.crs_normal.proofs.NamedNormalLemmas.{conversion-form}
+use Rattle.crs_normal.proofs.normal.NamedLemmas.{conversion-form}
 use Rattle.crs_normal.proofs.laws.normal.normal_conversion_is_its_form.Goals as goal
 
 pub returns : goal.returns

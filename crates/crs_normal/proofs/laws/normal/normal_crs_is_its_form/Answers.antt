@@ -1,6 +1,6 @@
-use Rattle.crs_normal.proofs.CompoundNormalLemmas.{compound-form, crs-form}
-use Rattle.crs_normal.proofs.GeodeticNormalLemmas.{geodetic-form, geographic-form}
-use Rattle.crs_normal.proofs.ProjectedNormalLemmas.{projected-form, vertical-form}
+use Rattle.crs_normal.proofs.normal.CompoundLemmas.{compound-form, crs-form}
+use Rattle.crs_normal.proofs.normal.GeodeticLemmas.{geodetic-form, geographic-form}
+use Rattle.crs_normal.proofs.normal.ProjectedLemmas.{projected-form, vertical-form}
 use Rattle.crs_normal.proofs.laws.normal.normal_crs_is_its_form.Goals as goal
 
 pub returns-clause-geodetic : goal.returns-clause-geodetic

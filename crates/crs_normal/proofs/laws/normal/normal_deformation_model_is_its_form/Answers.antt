@@ -1,4 +1,4 @@
-use Rattle.crs_normal.proofs.NamedNormalLemmas.{deformation_model-form}
+use Rattle.crs_normal.proofs.normal.NamedLemmas.{deformation_model-form}
 use Rattle.crs_normal.proofs.laws.normal.normal_deformation_model_is_its_form.Goals as goal
 
 pub returns : goal.returns

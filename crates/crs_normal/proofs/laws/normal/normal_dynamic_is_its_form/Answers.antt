@@ -1,4 +1,4 @@
-use Rattle.crs_normal.proofs.DynamicNormalLemmas.{dynamic-form}
+use Rattle.crs_normal.proofs.normal.DynamicLemmas.{dynamic-form}
 use Rattle.crs_normal.proofs.laws.normal.normal_dynamic_is_its_form.Goals as goal
 
 pub returns : goal.returns

@@ -1,4 +1,4 @@
-use Rattle.crs_normal.proofs.EllipsoidNormalLemmas.{ellipsoid-form}
+use Rattle.crs_normal.proofs.normal.EllipsoidLemmas.{ellipsoid-form}
 use Rattle.crs_normal.proofs.laws.normal.normal_ellipsoid_is_its_form.Goals as goal
 
 pub returns : goal.returns

@@ -1,5 +1,5 @@
-use Rattle.crs_normal.proofs.EnsembleNormalLemmas.{geodetic_ensemble-form, vertical_ensemble-form}
-use Rattle.crs_normal.proofs.FrameNormalLemmas.{geodetic_datum-form, vertical_datum-form}
+use Rattle.crs_normal.proofs.normal.EnsembleLemmas.{geodetic_ensemble-form, vertical_ensemble-form}
+use Rattle.crs_normal.proofs.normal.FrameLemmas.{geodetic_datum-form, vertical_datum-form}
 use Rattle.crs_normal.proofs.laws.normal.normal_frame_is_its_form.Goals as goal
 
 pub returns-clause-datum : goal.returns-clause-datum

@@ -1,4 +1,4 @@
-use Rattle.crs_normal.proofs.IdentNormalLemmas.{ident-form}
+use Rattle.crs_normal.proofs.normal.IdentLemmas.{ident-form}
 use Rattle.crs_normal.proofs.laws.normal.normal_identifier_is_its_form.Goals as goal
 
 pub returns : goal.returns

@@ -1,4 +1,4 @@
-use Rattle.crs_normal.proofs.NamedNormalLemmas.{member-form}
+use Rattle.crs_normal.proofs.normal.NamedLemmas.{member-form}
 use Rattle.crs_normal.proofs.laws.normal.normal_member_is_its_form.Goals as goal
 
 pub returns : goal.returns

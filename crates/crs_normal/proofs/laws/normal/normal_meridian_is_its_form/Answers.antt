@@ -1,4 +1,4 @@
-use Rattle.crs_normal.proofs.EllipsoidNormalLemmas.{meridian-form}
+use Rattle.crs_normal.proofs.normal.EllipsoidLemmas.{meridian-form}
 use Rattle.crs_normal.proofs.laws.normal.normal_meridian_is_its_form.Goals as goal
 
 pub returns : goal.returns

@@ -1,4 +1,4 @@
-use Rattle.crs_normal.proofs.NamedNormalLemmas.{parameter-form}
+use Rattle.crs_normal.proofs.normal.NamedLemmas.{parameter-form}
 use Rattle.crs_normal.proofs.laws.normal.normal_parameter_is_its_form.Goals as goal
 
 pub returns : goal.returns

@@ -1,4 +1,4 @@
-use Rattle.crs_normal.proofs.TextNormalLemmas.{text-form}
+use Rattle.crs_normal.proofs.normal.TextLemmas.{text-form}
 use Rattle.crs_normal.proofs.laws.normal.normal_text_is_its_form.Goals as goal
 
 pub returns : goal.returns

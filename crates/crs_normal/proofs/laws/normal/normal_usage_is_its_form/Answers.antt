@@ -1,4 +1,4 @@
-use Rattle.crs_normal.proofs.UsageNormalLemmas.{box-form, extent-form, usage-form}
+use Rattle.crs_normal.proofs.normal.UsageLemmas.{box-form, extent-form, usage-form}
 use Rattle.crs_normal.proofs.laws.normal.normal_usage_is_its_form.Goals as goal
 
 pub returns-clause-bbox : goal.returns-clause-bbox

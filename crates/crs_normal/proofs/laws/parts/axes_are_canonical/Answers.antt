@@ -5,8 +5,8 @@ use Rattle.crs_same.specs.SameSystems.{SameAxisAlone}
 use Rattle.crs_normal.specs.AxisAlone.{IsNormalAxis}
 use Rattle.crs_normal.specs.PartTexts.{norm_axis_alone}
 use Rattle.crs_normal.specs.SpelledSystems.{item_axis}
-use Rattle.crs_normal.proofs.MadeAloneLemmas.{axis-stands}
-use Rattle.crs_normal.proofs.PartLemmas.{canonical-by, told-by}
+use Rattle.crs_normal.proofs.made.AloneLemmas.{axis-stands}
+use Rattle.crs_normal.proofs.parts.PartLemmas.{canonical-by, told-by}
 use Rattle.crs_normal.proofs.laws.parts.axes_are_canonical.Goals as goal
 
 pub returns : goal.returns

@@ -1,4 +1,4 @@
-use Rattle.crs_normal.proofs.ClosedLemmas.{closed-alone, node-closed}
+use Rattle.crs_normal.proofs.texts.ClosedLemmas.{closed-alone, node-closed}
 use Rattle.crs_normal.proofs.laws.parts.closed_texts.Goals as goal
 
 pub returns-clause-node : goal.returns-clause-node

@@ -9,8 +9,8 @@ use Rattle.crs_normal.specs.Normal.{IsNormalIn}
 use Rattle.crs_normal.specs.PartSpellings.{datum_class, ensemble_class}
 use Rattle.crs_normal.specs.PartTexts.{item_own_datum}
 use Rattle.crs_normal.specs.SpelledFrames.{item_ensemble, norm_datum, norm_ensemble}
-use Rattle.crs_normal.proofs.PartFrameLemmas.{datum-back, datum-in-one, datum-made, datum-own, datum-sound, ensemble-back, ensemble-in-one, ensemble-made, ensemble-own, ensemble-sound}
-use Rattle.crs_normal.proofs.PartLemmas.{canonical-form, made-stands, told-by}
+use Rattle.crs_normal.proofs.parts.PartFrameLemmas.{datum-back, datum-in-one, datum-made, datum-own, datum-sound, ensemble-back, ensemble-in-one, ensemble-made, ensemble-own, ensemble-sound}
+use Rattle.crs_normal.proofs.parts.PartLemmas.{canonical-form, made-stands, told-by}
 use Rattle.crs_normal.proofs.laws.parts.datums_are_canonical.Goals as goal
 
 pub returns-clause-datum : goal.returns-clause-datum

@@ -5,7 +5,7 @@ use Rattle.crs_value.specs.SoundDynamic.{IsDeformationModel, IsDynamic}
 use Rattle.crs_same.specs.SameCrs.{SameDynamic}
 use Rattle.crs_same.specs.SameDynamic.{SameDeformationModel}
 use Rattle.crs_normal.specs.SpelledDynamic.{item_deformation_model, item_dynamic, norm_deformation_model, norm_dynamic}
-use Rattle.crs_normal.proofs.PartLemmas.{canonical-of, unbroken-form}
+use Rattle.crs_normal.proofs.parts.PartLemmas.{canonical-of, unbroken-form}
 use Rattle.crs_normal.proofs.laws.parts.dynamic_parts_are_canonical.Goals as goal
 
 pub returns-clause-deformation_model : goal.returns-clause-deformation_model

@@ -9,7 +9,7 @@ use Rattle.crs_same.specs.SameFrames.{SameMember}
 use Rattle.crs_same.specs.SameSystems.{SameAxisMeridian}
 use Rattle.crs_normal.specs.SpelledFrames.{item_ellipsoid, item_member, item_meridian, norm_ellipsoid, norm_given, norm_member}
 use Rattle.crs_normal.specs.SpelledSystems.{item_axis_meridian, norm_axis_meridian}
-use Rattle.crs_normal.proofs.PartLemmas.{canonical-of, some-decides, unbroken-form}
+use Rattle.crs_normal.proofs.parts.PartLemmas.{canonical-of, some-decides, unbroken-form}
 use Rattle.crs_normal.proofs.laws.parts.frame_parts_are_canonical.Goals as goal
 
 pub returns-clause-ellipsoid : goal.returns-clause-ellipsoid

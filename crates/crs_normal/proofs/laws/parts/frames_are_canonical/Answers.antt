@@ -1,4 +1,4 @@
-use Rattle.crs_normal.proofs.PartFrameLemmas.{frames-canonical}
+use Rattle.crs_normal.proofs.parts.PartFrameLemmas.{frames-canonical}
 use Rattle.crs_normal.proofs.laws.parts.frames_are_canonical.Goals as goal
 
 pub returns : goal.returns

@@ -1,4 +1,4 @@
-use Rattle.crs_normal.proofs.PartKindLemmas.{horizontals-canonical}
+use Rattle.crs_normal.proofs.parts.PartKindLemmas.{horizontals-canonical}
 use Rattle.crs_normal.proofs.laws.parts.horizontals_are_canonical.Goals as goal
 
 pub returns : goal.returns

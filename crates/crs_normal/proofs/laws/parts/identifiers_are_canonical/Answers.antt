@@ -5,8 +5,8 @@ use Rattle.crs_value.specs.Sound.{IsIdent}
 use Rattle.crs_value.specs.declared.values.level.Level.TheVariants as levels
 use Rattle.crs_same.specs.SameIdents.{SameIdent}
 use Rattle.crs_normal.specs.SpelledUnits.{item_ident}
-use Rattle.crs_normal.proofs.IdentLemmas.{ident-agrees}
-use Rattle.crs_normal.proofs.PartLemmas.{canonical-form, made-stands, sound-form, unbroken-form}
+use Rattle.crs_normal.proofs.members.IdentLemmas.{ident-agrees}
+use Rattle.crs_normal.proofs.parts.PartLemmas.{canonical-form, made-stands, sound-form, unbroken-form}
 use Rattle.crs_normal.proofs.laws.parts.identifiers_are_canonical.Goals as goal
 
 pub returns : goal.returns

@@ -10,9 +10,9 @@ use Rattle.crs_same.specs.PartsOfCrs.{parts_of_base, parts_of_geodetic, parts_of
 use Rattle.crs_same.specs.PartsOfCrs.{parts_of_vertical, parts_of_compound}
 use Rattle.crs_normal.specs.CrsClass.{geodetic_class}
 use Rattle.crs_normal.specs.SpelledCrs.{item_base, item_compound, item_geodetic, item_projected, item_vertical, norm_base, norm_compound, norm_geodetic, norm_projected, norm_vertical}
-use Rattle.crs_normal.proofs.PartKindLemmas.{geodetic-told, own-geodetic}
-use Rattle.crs_normal.proofs.PartLemmas.{canonical-form, canonical-of, made-stands, sound-form}
-use Rattle.crs_normal.proofs.RootLemmas.{is-geodetic}
+use Rattle.crs_normal.proofs.parts.PartKindLemmas.{geodetic-told, own-geodetic}
+use Rattle.crs_normal.proofs.parts.PartLemmas.{canonical-form, canonical-of, made-stands, sound-form}
+use Rattle.crs_normal.proofs.texts.RootLemmas.{is-geodetic}
 use Rattle.crs_normal.proofs.laws.parts.kinds_are_canonical.Goals as goal
 
 pub returns-clause-base : goal.returns-clause-base

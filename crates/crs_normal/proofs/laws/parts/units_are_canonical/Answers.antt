@@ -5,8 +5,8 @@ use Rattle.crs_value.specs.declared.values.unit_kind.UnitKind.TheVariants as kin
 use Rattle.crs_same.specs.SameUnits.{SameUnit}
 use Rattle.crs_normal.specs.PartSpellings.{unit_class}
 use Rattle.crs_normal.specs.SpelledUnits.{item_unit, norm_unit}
-use Rattle.crs_normal.proofs.PartLemmas.{canonical-form, made-stands, sound-form, unbroken-form}
-use Rattle.crs_normal.proofs.PartUnitLemmas.{is-unit_class, kind-in, names-id, own-unit}
+use Rattle.crs_normal.proofs.parts.PartLemmas.{canonical-form, made-stands, sound-form, unbroken-form}
+use Rattle.crs_normal.proofs.parts.PartUnitLemmas.{is-unit_class, kind-in, names-id, own-unit}
 use Rattle.crs_normal.proofs.laws.parts.units_are_canonical.Goals as goal
 
 pub returns : goal.returns

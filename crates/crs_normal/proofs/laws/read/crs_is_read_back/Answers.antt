@@ -1,5 +1,5 @@
-use Rattle.crs_normal.proofs.ReadCompoundLemmas.{crs-read}
-use Rattle.crs_normal.proofs.RootLemmas.{crs-rooted}
+use Rattle.crs_normal.proofs.read.CompoundLemmas.{crs-read}
+use Rattle.crs_normal.proofs.texts.RootLemmas.{crs-rooted}
 use Rattle.crs_normal.proofs.laws.read.crs_is_read_back.Goals as goal
 
 pub returns-clause-root : goal.returns-clause-root

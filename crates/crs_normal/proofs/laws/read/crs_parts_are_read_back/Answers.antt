@@ -1,7 +1,7 @@
-use Rattle.crs_normal.proofs.ReadCrsLemmas.{base-read}
-use Rattle.crs_normal.proofs.ReadDynamicLemmas.{deformation-model-read, dynamic-read}
-use Rattle.crs_normal.proofs.ReadEndLemmas.{conversion-read, method-read}
-use Rattle.crs_normal.proofs.ReadSystemLemmas.{axis-alone-read, axis-meridian-read, head-read}
+use Rattle.crs_normal.proofs.read.CrsLemmas.{base-read}
+use Rattle.crs_normal.proofs.read.DynamicLemmas.{deformation-model-read, dynamic-read}
+use Rattle.crs_normal.proofs.read.EndLemmas.{conversion-read, method-read}
+use Rattle.crs_normal.proofs.read.SystemLemmas.{axis-alone-read, axis-meridian-read, head-read}
 use Rattle.crs_normal.proofs.laws.read.crs_parts_are_read_back.Goals as goal
 
 pub returns-clause-along : goal.returns-clause-along

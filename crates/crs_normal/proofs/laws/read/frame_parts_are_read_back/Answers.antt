@@ -1,4 +1,4 @@
-use Rattle.crs_normal.proofs.ReadFrameLemmas.{ellipsoid-read, given-read, greenwich-read}
+use Rattle.crs_normal.proofs.read.FrameLemmas.{ellipsoid-read, given-read, greenwich-read}
 use Rattle.crs_normal.proofs.laws.read.frame_parts_are_read_back.Goals as goal
 
 pub returns-clause-ellipsoid : goal.returns-clause-ellipsoid

@@ -1,8 +1,8 @@
-use Rattle.crs_normal.proofs.IdentLemmas.{ident-told}
-use Rattle.crs_normal.proofs.MemberLemmas.{geoid-kept, geoid-told, member-kept, member-told}
-use Rattle.crs_normal.proofs.MemberUnitLemmas.{unit-kept, unit-told}
-use Rattle.crs_normal.proofs.ParameterLemmas.{parameter-kept, parameter-told}
-use Rattle.crs_normal.proofs.UsageLemmas.{usage-kept, usage-told}
+use Rattle.crs_normal.proofs.members.IdentLemmas.{ident-told}
+use Rattle.crs_normal.proofs.members.MemberLemmas.{geoid-kept, geoid-told, member-kept, member-told}
+use Rattle.crs_normal.proofs.members.MemberUnitLemmas.{unit-kept, unit-told}
+use Rattle.crs_normal.proofs.members.ParameterLemmas.{parameter-kept, parameter-told}
+use Rattle.crs_normal.proofs.members.UsageLemmas.{usage-kept, usage-told}
 use Rattle.crs_normal.specs.SpelledConversions.{norm_geoid_model, norm_parameter}
 use Rattle.crs_normal.specs.SpelledFrames.{norm_member}
 use Rattle.crs_normal.specs.SpelledUnits.{norm_unit}

@@ -1,9 +1,9 @@
-use Rattle.crs_normal.proofs.ExtentLemmas.{box-read, extent-kept, extent-read}
-use Rattle.crs_normal.proofs.IdentLemmas.{ident-read}
-use Rattle.crs_normal.proofs.MemberLemmas.{geoid-kept, geoid-read, member-kept, member-read}
-use Rattle.crs_normal.proofs.MemberUnitLemmas.{unit-kept, unit-read}
-use Rattle.crs_normal.proofs.ParameterLemmas.{parameter-kept, parameter-read}
-use Rattle.crs_normal.proofs.UsageLemmas.{usage-kept, usage-read}
+use Rattle.crs_normal.proofs.members.ExtentLemmas.{box-read, extent-kept, extent-read}
+use Rattle.crs_normal.proofs.members.IdentLemmas.{ident-read}
+use Rattle.crs_normal.proofs.members.MemberLemmas.{geoid-kept, geoid-read, member-kept, member-read}
+use Rattle.crs_normal.proofs.members.MemberUnitLemmas.{unit-kept, unit-read}
+use Rattle.crs_normal.proofs.members.ParameterLemmas.{parameter-kept, parameter-read}
+use Rattle.crs_normal.proofs.members.UsageLemmas.{usage-kept, usage-read}
 use Rattle.crs_normal.specs.SpelledConversions.{norm_geoid_model, norm_parameter}
 use Rattle.crs_normal.specs.SpelledFrames.{norm_member}
 use Rattle.crs_normal.specs.SpelledUnits.{norm_unit}

@@ -1,4 +1,4 @@
-use Rattle.crs_normal.proofs.MemberLemmas.{geoids-agree}
+use Rattle.crs_normal.proofs.members.MemberLemmas.{geoids-agree}
 use Rattle.crs_normal.proofs.laws.sets.same_geoid_models_have_one_form.Goals as goal
 
 pub returns : goal.returns

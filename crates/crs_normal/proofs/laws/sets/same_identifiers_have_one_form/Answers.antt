@@ -1,4 +1,4 @@
-use Rattle.crs_normal.proofs.IdentLemmas.{idents-agree}
+use Rattle.crs_normal.proofs.members.IdentLemmas.{idents-agree}
 use Rattle.crs_normal.proofs.laws.sets.same_identifiers_have_one_form.Goals as goal
 
 pub returns : goal.returns

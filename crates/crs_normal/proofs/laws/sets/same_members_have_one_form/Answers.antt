@@ -1,4 +1,4 @@
-use Rattle.crs_normal.proofs.MemberLemmas.{members-agree}
+use Rattle.crs_normal.proofs.members.MemberLemmas.{members-agree}
 use Rattle.crs_normal.proofs.laws.sets.same_members_have_one_form.Goals as goal
 
 pub returns : goal.returns

@@ -1,4 +1,4 @@
-use Rattle.crs_normal.proofs.ParameterLemmas.{parameters-agree}
+use Rattle.crs_normal.proofs.members.ParameterLemmas.{parameters-agree}
 use Rattle.crs_normal.proofs.laws.sets.same_parameters_have_one_form.Goals as goal
 
 pub returns : goal.returns

@@ -1,4 +1,4 @@
-use Rattle.crs_normal.proofs.UsageLemmas.{usages-agree}
+use Rattle.crs_normal.proofs.members.UsageLemmas.{usages-agree}
 use Rattle.crs_normal.proofs.laws.sets.same_usages_have_one_form.Goals as goal
 
 pub returns : goal.returns

@@ -1,6 +1,6 @@
 use Rattle.std.proofs.Common.{subst, sym}
 use Rattle.crs_normal.specs.Closed.{IsClosed}
-use Rattle.crs_normal.proofs.ClosedLemmas.{node-closed}
+use Rattle.crs_normal.proofs.texts.ClosedLemmas.{node-closed}
 use Rattle.crs_normal.proofs.laws.texts.normal_text_is_closed_node.Goals as goal
 
 pub returns-clause-closed : goal.returns-clause-closed

@@ -1,4 +1,4 @@
-use Rattle.crs_normal.proofs.AcceptedLemmas.{form-spells}
+use Rattle.crs_normal.proofs.texts.AcceptedLemmas.{form-spells}
 use Rattle.crs_normal.proofs.laws.texts.written_form_is_accepted.Goals as goal
 
 pub returns : goal.returns

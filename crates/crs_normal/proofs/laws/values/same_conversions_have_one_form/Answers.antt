@@ -1,6 +1,6 @@
-use Rattle.crs_normal.proofs.ConversionSameLemmas.{conversion-agrees, geoid-model-agrees, method-agrees}
-use Rattle.crs_normal.proofs.ConversionSameLemmas.{parameter-agrees}
-use Rattle.crs_normal.proofs.PartSameLemmas.{decides-parts}
+use Rattle.crs_normal.proofs.same.ConversionLemmas.{conversion-agrees, geoid-model-agrees, method-agrees}
+use Rattle.crs_normal.proofs.same.ConversionLemmas.{parameter-agrees}
+use Rattle.crs_normal.proofs.same.PartLemmas.{decides-parts}
 use Rattle.crs_normal.proofs.laws.values.same_conversions_have_one_form.Goals as goal
 
 pub returns-clause-method : goal.returns-clause-method

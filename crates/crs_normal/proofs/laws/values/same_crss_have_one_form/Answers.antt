@@ -1,5 +1,5 @@
-use Rattle.crs_normal.proofs.CrsSameLemmas.{crs-agrees}
-use Rattle.crs_normal.proofs.PartSameLemmas.{decides-parts}
+use Rattle.crs_normal.proofs.same.CrsLemmas.{crs-agrees}
+use Rattle.crs_normal.proofs.same.PartLemmas.{decides-parts}
 use Rattle.crs_normal.proofs.laws.values.same_crss_have_one_form.Goals as goal
 
 pub returns : goal.returns

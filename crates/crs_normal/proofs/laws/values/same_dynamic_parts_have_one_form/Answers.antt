@@ -1,5 +1,5 @@
-use Rattle.crs_normal.proofs.DynamicSameLemmas.{deformation-model-agrees, dynamic-agrees}
-use Rattle.crs_normal.proofs.PartSameLemmas.{decides-parts}
+use Rattle.crs_normal.proofs.same.DynamicLemmas.{deformation-model-agrees, dynamic-agrees}
+use Rattle.crs_normal.proofs.same.PartLemmas.{decides-parts}
 use Rattle.crs_normal.proofs.laws.values.same_dynamic_parts_have_one_form.Goals as goal
 
 pub returns-clause-deformation_model : goal.returns-clause-deformation_model

@@ -1,6 +1,6 @@
-use Rattle.crs_normal.proofs.FrameSameLemmas.{datum-agrees, ellipsoid-agrees, ensemble-agrees, geodetic-frame-agrees}
-use Rattle.crs_normal.proofs.FrameSameLemmas.{given-agrees, member-agrees, meridian-agrees, vertical-frame-agrees}
-use Rattle.crs_normal.proofs.PartSameLemmas.{decides-parts}
+use Rattle.crs_normal.proofs.same.FrameLemmas.{datum-agrees, ellipsoid-agrees, ensemble-agrees, geodetic-frame-agrees}
+use Rattle.crs_normal.proofs.same.FrameLemmas.{given-agrees, member-agrees, meridian-agrees, vertical-frame-agrees}
+use Rattle.crs_normal.proofs.same.PartLemmas.{decides-parts}
 use Rattle.crs_normal.proofs.laws.values.same_frames_have_one_form.Goals as goal
 
 pub returns-clause-ellipsoid : goal.returns-clause-ellipsoid

@@ -1,6 +1,6 @@
-use Rattle.crs_normal.proofs.AxisSameLemmas.{axis-agrees, axis-alone-agrees, axis-meridians-agree}
-use Rattle.crs_normal.proofs.SystemSameLemmas.{system-agrees}
-use Rattle.crs_normal.proofs.PartSameLemmas.{decides-parts}
+use Rattle.crs_normal.proofs.same.AxisLemmas.{axis-agrees, axis-alone-agrees, axis-meridians-agree}
+use Rattle.crs_normal.proofs.same.SystemLemmas.{system-agrees}
+use Rattle.crs_normal.proofs.same.PartLemmas.{decides-parts}
 use Rattle.crs_normal.proofs.laws.values.same_systems_have_one_form.Goals as goal
 
 pub returns-clause-meridian : goal.returns-clause-meridian

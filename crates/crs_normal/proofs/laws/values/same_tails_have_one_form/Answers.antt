@@ -1,5 +1,5 @@
-use Rattle.crs_normal.proofs.TailSameLemmas.{box-agrees, extent-agrees, tail-agrees, usage-agrees}
-use Rattle.crs_normal.proofs.PartSameLemmas.{decides-parts}
+use Rattle.crs_normal.proofs.same.TailLemmas.{box-agrees, extent-agrees, tail-agrees, usage-agrees}
+use Rattle.crs_normal.proofs.same.PartLemmas.{decides-parts}
 use Rattle.crs_normal.proofs.laws.values.same_tails_have_one_form.Goals as goal
 
 pub returns-clause-bounding_box : goal.returns-clause-bounding_box

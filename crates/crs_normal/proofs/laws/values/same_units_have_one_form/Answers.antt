@@ -1,4 +1,4 @@
-use Rattle.crs_normal.proofs.UnitSameLemmas.{length-agrees, unit-agrees, units-agree}
+use Rattle.crs_normal.proofs.same.UnitLemmas.{length-agrees, unit-agrees, units-agree}
 use Rattle.crs_normal.proofs.laws.values.same_units_have_one_form.Goals as goal
 
 pub returns-clause-one : goal.returns-clause-one

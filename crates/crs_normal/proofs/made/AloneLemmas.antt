@@ -1,0 +1,267 @@
+-- An axis by itself is accepted, and normal but for a unit that is `UNIT`.
+use Rattle.std.proofs.Common.{◌≡◌, ◌≢◌, ℕ, suc, ◌+◌, ◌≤◌, IsTrue, Option, Some, None, List, [], ◌∷◌, codes, IfSome, length, inl, inr, refl, sym, subst, ◌∙◌, arith}
+use Rattle.crs_decimal.specs.Value.{Value, IsNormal}
+use Rattle.crs_text.specs.Items.{Item, Siblings, End, More, IsNode, arguments, depth, depths}
+use Rattle.crs_text.specs.Refusal.{RefusedAt}
+use Rattle.crs_text.specs.Tokens.{IsWord}
+use Rattle.crs_text.specs.Written.{AreFormed, at_place, at_places, item_text}
+use Rattle.crs_shape.specs.declared.class.Class.{Class}
+use Rattle.crs_shape.specs.declared.class.Class.TheVariants as class
+use Rattle.crs_shape.specs.Keywords.{is_keyword}
+use Rattle.crs_shape.specs.Shape.{Allowed}
+use Rattle.crs_shape.specs.ShapeFault.{class_in}
+use Rattle.crs_shape.specs.Shaped.{Shaped}
+use Rattle.crs_shape.specs.Slots.{class_named, slots_of}
+use Rattle.crs_value.specs.Checks.{Breaks, Own as BreaksOwn}
+use Rattle.crs_value.specs.declared.values.level.Level.{Level}
+use Rattle.crs_value.specs.declared.values.unit_kind.UnitKind.{UnitKind}
+use Rattle.crs_value.specs.declared.values.unit_kind.UnitKind.TheVariants as kinds
+use Rattle.crs_value.specs.Reading.{those}
+use Rattle.crs_value.specs.Sound.{Each, IsAxis, IsAxisUnit, IsUnit}
+use Rattle.crs_value.specs.Values.{AxisParts, UnitParts}
+use Rattle.crs_value.specs.Words.{direction_word}
+use Rattle.crs_same.specs.SameUnits.{kind_as}
+use Rattle.crs_normal.specs.AxisAlone.{AreNormalArguments, IsNormalArgument, IsNormalAxis}
+use Rattle.crs_normal.specs.DecimalLaws.{DecimalLaws}
+use Rattle.crs_normal.specs.Normal.{IsNormalIn}
+use Rattle.crs_normal.specs.NormalOwn.{set_classes}
+use Rattle.crs_normal.specs.PartTexts.{norm_axis_alone}
+use Rattle.crs_normal.specs.SpelledItems.{each, node_of, number_item, number_node, opt, text_item, word_item}
+use Rattle.crs_normal.specs.SpelledSystems.{item_axis, item_axis_meridian, norm_axis_meridians}
+use Rattle.crs_normal.specs.SpelledUnits.{item_ident, item_unit, norm_units, set_idents}
+use Rattle.crs_normal.proofs.made.AxisLemmas.{axis-meridians-made, known-direction, order-made}
+use Rattle.crs_normal.proofs.made.FitLemmas.{fills-any, fills-one, fills-optional, runs-fit}
+use Rattle.crs_normal.proofs.made.IdentLemmas.{identifiers-ascend, identifiers-left, identifiers-made, ids_run}
+use Rattle.crs_normal.proofs.made.LeafLemmas.{text-made, word-made}
+use Rattle.crs_normal.proofs.made.NodeLemmas.{AreMade, Made, MadeBy, Run, RunsMadeBy, Sees, all-formed, all-shaped, all-unbroken, all-within, alone, as-argument, at-class, at-level, classes, each-line, each-set, given, lines, made-lines, opt-line, sees-by, unbroken-node}
+use Rattle.crs_normal.proofs.made.PlaceLemmas.{class-at}
+use Rattle.crs_normal.proofs.made.UnitLemmas.{unit-kept, unit-made, unit_as, unit_runs}
+use Rattle.crs_normal.proofs.made.WordLemmas.{direction-letters}
+use Rattle.crs_normal.proofs.parts.PartLemmas.{IsStanding}
+use Rattle.crs_normal.proofs.read.NameLemmas.{keyword-names}
+
+-- ---- nodes that are accepted
+
+-- the item is accepted as one of its class
+record Stands (c : Class) (most : ℕ) (item : Item) : Type 0 where
+  is_node : IsNode item
+  formed : AreFormed item
+  within : depth item ≤ most
+  shaped : Shaped c item
+  unbroken : (fault : RefusedAt) → ¬ (Breaks c item fault)
+
+module _ (N : Class → Class → Item → Type 0) (most : ℕ) (c : Class) (keyword : List ℕ) (first : Item) (others : Siblings) (runs : List Run) (same : More first others ≡ lines runs) (letters : IsWord keyword) (known : IsTrue (is_keyword c keyword)) (made : RunsMadeBy N most c runs) (allowed : Allowed (slots_of c) (classes runs)) (unbroken : (item : Item) (fault : RefusedAt) → Sees c runs item → ¬ (BreaksOwn c item fault)) where
+  stands-at : (ds : List Class) (p : ℕ) → ds ≡ classes runs → AreMade N most c ds (More first others) →
+      Stands c (suc most) (at_place p (node_of keyword first others))
+  stands-at [] p q h = absurd h
+  stands-at (d ∷ ds) p q h =
+      let f = h.0.fine (p + length keyword + 1) in
+      let s : ℕ = p + length keyword + 1 + length (item_text first) in
+      let i : Item = at_place p (node_of keyword first others) in
+      let n : class_in c (at_place (p + length keyword + 1) first) ≡ Some d =
+      class-at c (p + length keyword + 1) first ∙ h.0.named in
+      let deep : depths (at_places s others) ≤ most = all-within N most c s ds others h.1 in
+      let high : depth (at_place (p + length keyword + 1) first) ≤ most = f.within in
+      record {
+        is_node = tt;
+        formed = (letters, f.formed, all-formed N most c s ds others h.1);
+        within = omega arith;
+        shaped = (
+          known,
+          (d, (ds, (n, (f.shaped, (all-shaped N most c s ds others h.1, subst (Allowed (slots_of c)) (sym q) allowed))))),
+        );
+        unbroken = λ fault b. unbroken-node c fault d (at_place (p + length keyword + 1) first) f.unbroken n
+            (all-unbroken N most c fault s ds others h.1)
+            (unbroken i fault (sees-by N most c keyword first others runs p same made)) b;
+      }
+
+  node-stands : (p : ℕ) → Stands c (suc most) (at_place p (node_of keyword first others))
+  node-stands p =
+      stands-at (classes runs) p refl (subst (AreMade N most c (classes runs)) (sym same) (made-lines N most c runs made))
+
+-- ---- the arguments of an axis by itself
+
+abbrev AsArgument : Level → Class → Class → Item → Type 0
+AsArgument level parent d item = IsNormalArgument level d item
+
+made-alone : (level : Level) (most : ℕ) (d : Class) (j : Item) → Made level most class.Axis d j →
+    MadeBy (AsArgument level) most class.Axis d j
+made-alone level most d j m = record {
+  named = m.named;
+  fine = λ p. let f = m.fine p in record {
+    formed = f.formed;
+    within = f.within;
+    shaped = f.shaped;
+    unbroken = f.unbroken;
+    normal = inl f.normal;
+  };
+}
+
+each-alone : (level : Level) (most : ℕ) (d : Class) (js : List Item) → Each (Made level most class.Axis d) js →
+    Each (MadeBy (AsArgument level) most class.Axis d) js
+each-alone level most d [] m = tt
+each-alone level most d (j ∷ js) m = (made-alone level most d j m.0, each-alone level most d js m.1)
+
+all-normal-alone : (level : Level) (most s : ℕ) (ds : List Class) (js : Siblings) →
+    AreMade (AsArgument level) most class.Axis ds js → AreNormalArguments level (at_places s js)
+all-normal-alone level most s [] End h = tt
+all-normal-alone level most s [] (More j js) h = absurd h
+all-normal-alone level most s (d ∷ ds) End h = tt
+all-normal-alone level most s (d ∷ ds) (More j js) h = (
+  at-class (λ e. IsNormalArgument level e (at_place (s + 1) j)) (class_in class.Axis (at_place (s + 1) j)) d
+      (class-at class.Axis (s + 1) j ∙ h.0.named) (h.0.fine (s + 1)).normal,
+  all-normal-alone level most (s + 1 + length (item_text j)) ds js h.1,
+)
+
+-- ---- its unit
+
+module _ (l : DecimalLaws) (level : Level) (u : UnitParts) (h : IsUnit u) where
+  -- `UNIT` is accepted as a unit of an axis
+  plain-stands : (p : ℕ) → Stands class.AxisUnit 3 (at_place p (item_unit (unit_as level kinds.Plain u)))
+  unfolding is_keyword
+  plain-stands p =
+      let k = unit-kept l level class.AxisUnit kinds.Length u (inl refl) h in
+      node-stands (IsNormalIn level) 2 class.AxisUnit (codes "UNIT") (text_item u.name)
+      (More (number_item u.factor) (each item_ident (set_idents level u.identifiers) End)) (unit_runs level u) (simp each-line)
+      (refl, refl) refl k.made k.allowed k.unbroken p
+
+  plain-alone : MadeBy (AsArgument level) 4 class.Axis class.AxisUnit (item_unit (unit_as level kinds.Plain u))
+  plain-alone = record {
+    named = keyword-names class.Axis (codes "UNIT");
+    fine = λ p.
+        let s = plain-stands p in
+        let w : depth (at_place p (item_unit (unit_as level kinds.Plain u))) ≤ 3 = s.within in
+        record {
+          formed = s.formed;
+          within = omega arith;
+          shaped = s.shaped;
+          unbroken = s.unbroken;
+          normal = inr (refl, (unit-made l level class.PlainUnit kinds.Plain u refl h p).normal class.Axis);
+        };
+  }
+
+  unit-alone : (kind : UnitKind) → kind ≢ kinds.Scale →
+      MadeBy (AsArgument level) 4 class.Axis class.AxisUnit (item_unit (unit_as level (kind_as kinds.Plain kind) u))
+  unit-alone kinds.Length n =
+      made-alone level 4 class.AxisUnit (item_unit (unit_as level kinds.Length u))
+      (as-argument level 3 4 class.Axis class.AxisUnit (item_unit (unit_as level kinds.Length u)) (omega arith)
+      (keyword-names class.Axis (codes "LENGTHUNIT")) (unit-made l level class.AxisUnit kinds.Length u (inl refl) h))
+  unit-alone kinds.Angle n =
+      made-alone level 4 class.AxisUnit (item_unit (unit_as level kinds.Angle u))
+      (as-argument level 3 4 class.Axis class.AxisUnit (item_unit (unit_as level kinds.Angle u)) (omega arith)
+      (keyword-names class.Axis (codes "ANGLEUNIT")) (unit-made l level class.AxisUnit kinds.Angle u (inr refl) h))
+  unit-alone kinds.Scale n = absurd (n refl)
+  unit-alone kinds.Plain n = plain-alone
+
+units-alone : DecimalLaws → (level : Level) (o : Option UnitParts) → IfSome o IsAxisUnit →
+    Each (MadeBy (AsArgument level) 4 class.Axis class.AxisUnit) (given item_unit (norm_units level kinds.Plain o))
+units-alone l level None h = tt
+units-alone l level (Some u) h = (unit-alone l level u h.0 u.kind h.1, tt)
+
+orders-alone : DecimalLaws → (level : Level) (o : Option Value) → IfSome o IsNormal →
+    Each (Made level 4 class.Axis class.Order) (given (number_node (codes "ORDER")) o)
+unfolding class_named is_keyword
+orders-alone l level None h = tt
+orders-alone l level (Some v) h = (
+  as-argument level 1 4 class.Axis class.Order (number_node (codes "ORDER") v) (omega arith) refl
+      (order-made l level v h),
+  tt,
+)
+
+-- ---- the axis
+
+module _ (l : DecimalLaws) (level : Level) (x : AxisParts) (h : IsAxis x) where
+  abbrev alone_runs : List Run
+  alone_runs =
+      alone class.Text (text_item x.name) ∷ alone class.Word (word_item (direction_word x.direction)) ∷
+      record { of = class.AxisMeridian; items = given item_axis_meridian (norm_axis_meridians level x.meridian) } ∷
+      record { of = class.Order; items = given (number_node (codes "ORDER")) x.order } ∷
+      record { of = class.AxisUnit; items = given item_unit (norm_units level kinds.Plain x.unit) } ∷
+      ids_run level x.identifiers ∷ []
+
+  abbrev alone_others : Siblings
+  alone_others =
+      More (word_item (direction_word x.direction)) (opt item_axis_meridian (norm_axis_meridians level x.meridian)
+      (opt (number_node (codes "ORDER")) x.order (opt item_unit (norm_units level kinds.Plain x.unit)
+      (each item_ident (set_idents level x.identifiers) End))))
+
+  alone-lines : More (text_item x.name) alone_others ≡ lines alone_runs
+  alone-lines = simp (opt-line, each-line)
+
+  alone-made : RunsMadeBy (AsArgument level) 4 class.Axis alone_runs
+  unfolding class_named is_keyword
+  alone-made = (
+    (made-alone level 4 class.Text (text_item x.name) (text-made level 4 class.Axis x.name h.name), tt),
+    (
+      (
+        made-alone level 4 class.Word (word_item (direction_word x.direction))
+            (word-made level 4 class.Axis (direction_word x.direction) (direction-letters x.direction)
+            (x.direction, refl)),
+        tt,
+      ),
+      (
+        each-alone level 4 class.AxisMeridian (given item_axis_meridian (norm_axis_meridians level x.meridian))
+            (axis-meridians-made l level x.meridian h.meridian),
+        (
+          each-alone level 4 class.Order (given (number_node (codes "ORDER")) x.order)
+              (orders-alone l level x.order h.order),
+          (
+            units-alone l level x.unit h.unit,
+            (
+              each-alone level 4 class.Identifier (ids_run level x.identifiers).items
+                  (identifiers-made l level 4 class.Axis x.identifiers (omega arith) refl h.identifiers),
+              tt,
+            ),
+          ),
+        ),
+      ),
+    ),
+  )
+
+  alone-allowed : Allowed (slots_of class.Axis) (classes alone_runs)
+  alone-allowed = runs-fit (slots_of class.Axis) alone_runs (
+    fills-one refl,
+    (
+      fills-one refl,
+      (
+        fills-optional item_axis_meridian (norm_axis_meridians level x.meridian) refl,
+        (
+          fills-optional (number_node (codes "ORDER")) x.order refl,
+          (fills-optional item_unit (norm_units level kinds.Plain x.unit) refl, (fills-any refl, tt)),
+        ),
+      ),
+    ),
+  )
+
+  alone-unbroken : (item : Item) (fault : RefusedAt) → Sees class.Axis alone_runs item → ¬ (BreaksOwn class.Axis item fault)
+  unfolding BreaksOwn
+  alone-unbroken item fault s b =
+      known-direction x.direction (those class.Axis class.Word (arguments item)) fault (s.view class.Word) b
+
+  pub axis-stands : IsStanding class.Axis (IsNormalAxis level) (at_place 0 (item_axis (norm_axis_alone level x)))
+  unfolding is_keyword
+  axis-stands =
+      let s = node-stands (AsArgument level) 4 class.Axis (codes "AXIS") (text_item x.name) alone_others alone_runs
+      alone-lines (refl, refl) refl alone-made alone-allowed alone-unbroken 0 in
+      let i : Item = at_place 0 (item_axis (norm_axis_alone level x)) in
+      let w : depth i ≤ 5 = s.within in
+      let look : Sees class.Axis alone_runs i =
+      sees-by (AsArgument level) 4 class.Axis (codes "AXIS") (text_item x.name) alone_others alone_runs 0 alone-lines
+      alone-made in
+      record {
+        is_node = s.is_node;
+        formed = s.formed;
+        within = omega arith;
+        shaped = s.shaped;
+        unbroken = s.unbroken;
+        normal = record {
+          first_keyword = refl;
+          at_level = at-level level class.Axis alone_runs i look (identifiers-left level x.identifiers);
+          own_form = tt;
+          ascending_sets = each-set class.Axis alone_runs i set_classes look
+              (identifiers-ascend level x.identifiers, (tt, (tt, (tt, (tt, tt)))));
+          normal_arguments = all-normal-alone level 4 4 (classes alone_runs) (More (text_item x.name) alone_others)
+              (subst (AreMade (AsArgument level) 4 class.Axis (classes alone_runs)) (sym alone-lines)
+              (made-lines (AsArgument level) 4 class.Axis alone_runs alone-made));
+        };
+      }

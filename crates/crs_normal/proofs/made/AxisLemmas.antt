@@ -1,0 +1,253 @@
+-- Axes at their positions are made.
+use Rattle.std.proofs.Common.{◌≡◌, ℕ, zero, suc, ◌≤◌, Option, Some, None, List, [], ◌∷◌, codes, IfSome, inl, inr, refl, sym, ap, subst, ◌∙◌, arith}
+use Rattle.crs_decimal.specs.Value.{Value, IsNormal}
+use Rattle.crs_text.specs.Items.{Item, Siblings, End, More, arguments}
+use Rattle.crs_text.specs.Refusal.{RefusedAt}
+use Rattle.crs_text.specs.Written.{at_place}
+use Rattle.crs_shape.specs.declared.class.Class.TheVariants as class
+use Rattle.crs_shape.specs.Keywords.{is_keyword}
+use Rattle.crs_shape.specs.Slots.{class_named, slots_of}
+use Rattle.crs_value.specs.BadOrder.{orders_in}
+use Rattle.crs_value.specs.BadUnit.{asked_kind, units_in, kind_by_direction}
+use Rattle.crs_value.specs.UnknownWord.{UnknownDirection}
+use Rattle.crs_value.specs.Break.{AnyOf}
+use Rattle.crs_value.specs.Checks.{Own as BreaksOwn}
+use Rattle.crs_value.specs.declared.values.direction.Direction.{Direction}
+use Rattle.crs_value.specs.declared.values.direction.Direction.TheVariants as direction
+use Rattle.crs_value.specs.declared.values.level.Level.{Level}
+use Rattle.crs_value.specs.declared.values.system_type.SystemType.{SystemType}
+use Rattle.crs_value.specs.declared.values.system_type.SystemType.TheVariants as types
+use Rattle.crs_value.specs.declared.values.unit_kind.UnitKind.{UnitKind}
+use Rattle.crs_value.specs.declared.values.unit_kind.UnitKind.TheVariants as kinds
+use Rattle.crs_value.specs.Reading.{those}
+use Rattle.crs_value.specs.Reads.{ReadsDirection}
+use Rattle.crs_value.specs.Sound.{Each, IsAxis, IsAxisMeridian, IsUnitOf}
+use Rattle.crs_value.specs.Values.{AxisMeridianParts, AxisParts, SystemParts, UnitParts}
+use Rattle.crs_value.specs.Words.{direction_word, unit_word}
+use Rattle.crs_same.specs.SameSystems.{own_or}
+use Rattle.crs_normal.specs.DecimalLaws.{DecimalLaws}
+use Rattle.crs_normal.specs.AcceptedNormal.{IsKindIn, IsAcceptedNormal}
+use Rattle.crs_normal.specs.SpelledItems.{each, number_item, number_node, opt, text_item, word_item}
+use Rattle.crs_normal.specs.SpelledSystems.{item_axis, item_axis_meridian, norm_axis, norm_axis_meridian, norm_axis_meridians}
+use Rattle.crs_normal.specs.SpelledUnits.{item_ident, item_unit, norm_unit, norm_units, set_idents, whole_value}
+use Rattle.crs_normal.proofs.made.DatumLemmas.{number-node-made}
+use Rattle.crs_normal.proofs.made.EllipsoidLemmas.{suits-kind, unit-argument}
+use Rattle.crs_normal.proofs.made.FitLemmas.{fills-any, fills-one, fills-optional, runs-fit}
+use Rattle.crs_normal.proofs.made.IdentLemmas.{identifiers-ascend, identifiers-left, identifiers-made, ids_run}
+use Rattle.crs_normal.proofs.made.LeafLemmas.{number-made, text-made, word-made}
+use Rattle.crs_normal.proofs.made.NodeLemmas.{Made, Run, RunsMade, alone, as-argument, each-line, given, keeps-none, lines, node-made, opt-line, sees}
+use Rattle.crs_normal.proofs.made.PlaceLemmas.{ArePlaced}
+use Rattle.crs_normal.proofs.made.WordLemmas.{direction-letters}
+
+-- ---- positions
+
+pub whole-normal : (k : ℕ) → 1 ≤ k → k ≤ 3 → IsNormal (whole_value k)
+whole-normal zero h m = absurd (omega arith)
+whole-normal (suc zero) h m = refl
+whole-normal (suc (suc zero)) h m = refl
+whole-normal (suc (suc (suc zero))) h m = refl
+whole-normal (suc (suc (suc (suc k)))) h m = absurd (omega arith)
+
+pub order-made : DecimalLaws → (level : Level) (v : Value) → IsNormal v → (p : ℕ) →
+    IsAcceptedNormal level class.Order 1 (at_place p (number_node (codes "ORDER") v))
+unfolding is_keyword BreaksOwn
+order-made l level v h =
+    number-node-made l level class.Order (codes "ORDER") v (refl, refl) refl refl
+    (runs-fit (slots_of class.Order) (alone class.Number (number_item v) ∷ []) (fills-one refl, tt)) (λ item. tt)
+    (λ item fault b. b) h
+
+-- ---- the meridian of an axis
+
+abbrev axis_meridian_runs : Level → AxisMeridianParts → List Run
+axis_meridian_runs level m = alone class.Number (number_item m.longitude) ∷ alone class.AngleUnit
+    (item_unit (norm_unit level kinds.Angle m.unit)) ∷ []
+
+pub axis-meridian-made : DecimalLaws → (level : Level) (m : AxisMeridianParts) → IsAxisMeridian m → (p : ℕ) →
+    IsAcceptedNormal level class.AxisMeridian 4 (at_place p (item_axis_meridian (norm_axis_meridian level m)))
+unfolding BreaksOwn class_named is_keyword
+axis-meridian-made l level m h =
+    node-made level 3 class.AxisMeridian (codes "MERIDIAN") (number_item m.longitude)
+    (More (item_unit (norm_unit level kinds.Angle m.unit)) End)
+    (axis_meridian_runs level m) refl (record {
+      letters = (refl, refl);
+      known = refl;
+      written = refl;
+      made = (
+        (number-made l level 3 class.AxisMeridian m.longitude h.longitude, tt),
+        (
+          (
+            unit-argument l level 3 class.AxisMeridian class.AngleUnit kinds.Angle m.unit (omega arith) refl refl
+                (suits-kind kinds.Angle m.unit.kind h.unit.1) h.unit.0,
+            tt,
+          ),
+          tt,
+        ),
+      );
+      allowed = runs-fit (slots_of class.AxisMeridian) (axis_meridian_runs level m) (fills-one refl, (fills-one refl, tt));
+      sets = (tt, (tt, (tt, (tt, (tt, tt)))));
+      left = keeps-none level;
+      own = λ item s. tt;
+      unbroken = λ item fault s b. b;
+    })
+
+pub axis-meridians-made : DecimalLaws → (level : Level) (x : Option AxisMeridianParts) → IfSome x IsAxisMeridian →
+    Each (Made level 4 class.Axis class.AxisMeridian) (given item_axis_meridian (norm_axis_meridians level x))
+unfolding class_named is_keyword
+axis-meridians-made l level None h = tt
+axis-meridians-made l level (Some m) h = (
+  as-argument level 4 4 class.Axis class.AxisMeridian (item_axis_meridian (norm_axis_meridian level m)) (omega arith)
+      refl (axis-meridian-made l level m h),
+  tt,
+)
+
+-- ---- the unit of an axis
+
+vertical-in : (d : Direction) → IsKindIn class.AxisUnit (kind_by_direction d)
+vertical-in direction.Up = inl refl
+vertical-in direction.Down = inl refl
+vertical-in other = inr refl
+
+asked-in : (t : SystemType) (d : Direction) → IsKindIn class.AxisUnit (asked_kind t d)
+asked-in types.Cartesian d = inl refl
+asked-in types.Ellipsoidal d = vertical-in d
+asked-in types.Spherical d = vertical-in d
+asked-in types.Vertical d = inl refl
+
+axis-names : (kind : UnitKind) → IsKindIn class.AxisUnit kind →
+    class_named class.Axis (unit_word kind) ≡ Some class.AxisUnit
+unfolding class_named is_keyword
+axis-names kind (inl e) = subst (λ k. class_named class.Axis (unit_word k) ≡ Some class.AxisUnit) (sym e) refl
+axis-names kind (inr e) = subst (λ k. class_named class.Axis (unit_word k) ≡ Some class.AxisUnit) (sym e) refl
+
+-- ---- axes
+
+-- an axis has a unit of the asked kind, its own or this shared one
+pub record Fits (system_type : SystemType) (shared : Option UnitParts) (x : AxisParts) : Type 0 where
+  pub axis : IsAxis x
+  pub unit : UnitParts
+  pub given_unit : own_or x.unit shared ≡ Some unit
+  pub suits : IsUnitOf (asked_kind system_type x.direction) unit
+
+abbrev axis_runs : Level → UnitKind → ℕ → AxisParts → UnitParts → List Run
+axis_runs level asked k x u =
+    alone class.Text (text_item x.name) ∷ alone class.Word (word_item (direction_word x.direction)) ∷
+    record { of = class.AxisMeridian; items = given item_axis_meridian (norm_axis_meridians level x.meridian) } ∷
+    alone class.Order (number_node (codes "ORDER") (whole_value k)) ∷ alone class.AxisUnit
+    (item_unit (norm_unit level asked u)) ∷ ids_run level x.identifiers ∷ []
+
+abbrev axis_others : Level → UnitKind → ℕ → AxisParts → Option UnitParts → Siblings
+axis_others level asked k x w =
+    More (word_item (direction_word x.direction)) (opt item_axis_meridian (norm_axis_meridians level x.meridian)
+    (opt (number_node (codes "ORDER")) (Some (whole_value k)) (opt item_unit (norm_units level asked w)
+    (each item_ident (set_idents level x.identifiers) End))))
+
+axis-lines : (level : Level) (asked : UnitKind) (k : ℕ) (x : AxisParts) (w : Option UnitParts) (u : UnitParts) →
+    w ≡ Some u →
+    More (text_item x.name) (axis_others level asked k x w) ≡ lines (axis_runs level asked k x u)
+axis-lines level asked k x w u e = ap (λ w. More (text_item x.name) (axis_others level asked k x w)) e
+    ∙ simp (opt-line, each-line)
+
+pub known-direction : (d : Direction) (words : List Item) (fault : RefusedAt) →
+    ArePlaced words (word_item (direction_word d) ∷ []) →
+    ¬ (AnyOf UnknownDirection words fault)
+known-direction d [] fault h b = h
+known-direction d (x ∷ []) fault h (inl b) = b.1 d (subst (λ i. ReadsDirection i d) (sym h.0.1) refl)
+known-direction d (x ∷ []) fault h (inr b) = b
+known-direction d (x ∷ y ∷ words) fault h b = h.1
+
+axis-runs-made : DecimalLaws → (level : Level) (t : SystemType) (shared : Option UnitParts) (k : ℕ) (x : AxisParts)
+    (f : Fits t shared x) → 1 ≤ k → k ≤ 3 →
+    RunsMade level 4 class.Axis (axis_runs level (asked_kind t x.direction) k x f.unit)
+unfolding class_named is_keyword
+axis-runs-made l level t shared k x f low high =
+    let asked : UnitKind = asked_kind t x.direction in
+    let inside : IsKindIn class.AxisUnit asked = asked-in t x.direction in (
+      (text-made level 4 class.Axis x.name f.axis.name, tt),
+      (
+        (
+          word-made level 4 class.Axis (direction_word x.direction) (direction-letters x.direction)
+              (x.direction, refl),
+          tt,
+        ),
+        (
+          axis-meridians-made l level x.meridian f.axis.meridian,
+          (
+            (
+              as-argument level 1 4 class.Axis class.Order (number_node (codes "ORDER") (whole_value k)) (omega arith)
+                  refl
+                  (order-made l level (whole_value k) (whole-normal k low high)),
+              tt,
+            ),
+            (
+              (
+                unit-argument l level 4 class.Axis class.AxisUnit asked f.unit (omega arith) (axis-names asked inside)
+                    inside
+                    (suits-kind asked f.unit.kind f.suits.1) f.suits.0,
+                tt,
+              ),
+              (identifiers-made l level 4 class.Axis x.identifiers (omega arith) refl f.axis.identifiers, tt),
+            ),
+          ),
+        ),
+      ),
+    )
+
+pub axis-made : DecimalLaws → (level : Level) (s : SystemParts) (k : ℕ) (x : AxisParts) →
+    Fits s.system_type s.unit x → 1 ≤ k → k ≤ 3 → (p : ℕ) →
+    IsAcceptedNormal level class.Axis 5 (at_place p (item_axis (norm_axis level s k x)))
+unfolding BreaksOwn is_keyword norm_axis
+axis-made l level s k x f low high =
+    let asked : UnitKind = asked_kind s.system_type x.direction in
+    node-made level 4 class.Axis (codes "AXIS") (text_item x.name) (axis_others level asked k x (own_or x.unit s.unit))
+    (axis_runs level asked k x f.unit) (axis-lines level asked k x (own_or x.unit s.unit) f.unit f.given_unit) (record {
+      letters = (refl, refl);
+      known = refl;
+      written = refl;
+      made = axis-runs-made l level s.system_type s.unit k x f low high;
+      allowed = runs-fit (slots_of class.Axis) (axis_runs level asked k x f.unit) (
+        fills-one refl,
+        (
+          fills-one refl,
+          (
+            fills-optional item_axis_meridian (norm_axis_meridians level x.meridian) refl,
+            (
+              fills-optional (number_node (codes "ORDER")) (Some (whole_value k)) refl,
+              (fills-optional item_unit (Some (norm_unit level asked f.unit)) refl, (fills-any refl, tt)),
+            ),
+          ),
+        ),
+      );
+      sets = (identifiers-ascend level x.identifiers, (tt, (tt, (tt, (tt, tt)))));
+      left = identifiers-left level x.identifiers;
+      own = λ item v. tt;
+      unbroken = λ item fault v b. known-direction x.direction (those class.Axis class.Word (arguments item)) fault
+          (v.view class.Word) b;
+    })
+
+-- what is in an axis at a position, as the checks of a system see it
+pub record IsAxisItem (t : SystemType) (k : ℕ) (item : Item) : Type 0 where
+  pub direction_in : Direction
+  pub unit_in : UnitParts
+  pub words : ArePlaced (those class.Axis class.Word (arguments item)) (word_item (direction_word direction_in) ∷ [])
+  pub orders : ArePlaced (orders_in item) (number_node (codes "ORDER") (whole_value k) ∷ [])
+  pub units : ArePlaced (units_in item) (item_unit unit_in ∷ [])
+  pub kind : unit_in.kind ≡ asked_kind t direction_in
+
+pub axis-seen : DecimalLaws → (level : Level) (s : SystemParts) (k : ℕ) (x : AxisParts) →
+    Fits s.system_type s.unit x → 1 ≤ k → k ≤ 3 → (p : ℕ) →
+    IsAxisItem s.system_type k (at_place p (item_axis (norm_axis level s k x)))
+unfolding norm_axis
+axis-seen l level s k x f low high p =
+    let asked : UnitKind = asked_kind s.system_type x.direction in
+    let look = sees level 4 class.Axis (codes "AXIS") (text_item x.name) (axis_others level asked k x
+    (own_or x.unit s.unit))
+    (axis_runs level asked k x f.unit) p (axis-lines level asked k x (own_or x.unit s.unit) f.unit f.given_unit)
+    (axis-runs-made l level s.system_type s.unit k x f low high) in
+    record {
+      direction_in = x.direction;
+      unit_in = norm_unit level asked f.unit;
+      words = look.view class.Word;
+      orders = look.view class.Order;
+      units = look.view class.AxisUnit;
+      kind = suits-kind asked f.unit.kind f.suits.1;
+    }

@@ -1,0 +1,171 @@
+-- What CRSs with a coordinate system have after their other parts is made: the system and the end.
+use Rattle.std.proofs.Common.{◌≡◌, ◌≢◌, ℕ, suc, ◌≤◌, List, [], ◌∷◌, length, map, codes, Some, refl, sym, ap, subst, ◌∙◌, arith}
+use Rattle.std.proofs.lemmas.List.{append-nil}
+use Rattle.crs_decimal.specs.Number.{SameNumber, whole_number}
+use Rattle.crs_decimal.specs.Value.{exact}
+use Rattle.crs_text.specs.Items.{Item, arguments}
+use Rattle.crs_shape.specs.declared.class.Class.{Class}
+use Rattle.crs_shape.specs.declared.class.Class.TheVariants as class
+use Rattle.crs_shape.specs.Slots.{class_named}
+use Rattle.crs_value.specs.BadSystem.{IsOneOf}
+use Rattle.crs_value.specs.Kept.{kept_one}
+use Rattle.crs_value.specs.declared.values.level.Level.{Level}
+use Rattle.crs_value.specs.declared.values.system_type.SystemType.{SystemType}
+use Rattle.crs_value.specs.Reading.{those}
+use Rattle.crs_value.specs.Sound.{Each}
+use Rattle.crs_value.specs.SoundSystem.{IsSystem}
+use Rattle.crs_value.specs.SoundUsages.{IsTail}
+use Rattle.crs_value.specs.Values.{AxisParts, SystemParts, TailParts}
+use Rattle.crs_normal.specs.DecimalLaws.{DecimalLaws}
+use Rattle.crs_normal.specs.SpelledSystems.{axes_from, item_axis, item_head, norm_system}
+use Rattle.crs_normal.proofs.made.CheckLemmas.{IsSystemSeen}
+use Rattle.crs_normal.proofs.made.EllipsoidLemmas.{placed-none}
+use Rattle.crs_normal.proofs.made.NodeLemmas.{Made, Run, RunsMade, alone, as-argument, items_in}
+use Rattle.crs_normal.proofs.made.PlaceLemmas.{ArePlaced}
+use Rattle.crs_normal.proofs.made.SystemLemmas.{HasEach, IsHeadItem, all-axes, all-count, axes-made, axes-seen, few-axes, head-made, head-seen}
+use Rattle.crs_normal.proofs.made.TailLemmas.{IsTailSeen, NamesTail, tail-runs-made, tail_runs}
+
+-- each position of each system has an axis
+abbrev pub AxisEach : Type 0
+AxisEach = (s : SystemParts) → IsSystem s → HasEach s
+
+-- a system with few axes
+pub record IsFew (s : SystemParts) : Type 0 where
+  pub system : IsSystem s
+  pub each_at : HasEach s
+  pub few : length s.axes ≤ 3
+
+pub few-system : DecimalLaws → AxisEach → (dimensions : SystemType → List ℕ) →
+    ((t : SystemType) → Each (λ m. m ≤ 3) (dimensions t)) →
+    (s : SystemParts) → IsSystem s → IsOneOf s.dimension (dimensions s.system_type) → IsFew s
+few-system l each_at dimensions small s h one = record {
+  system = h;
+  each_at = each_at s h;
+  few = few-axes l s.dimension (length s.axes) (dimensions s.system_type) (small s.system_type) one h.count;
+}
+
+abbrev pub axis_items : Level → SystemParts → List Item
+axis_items level s = map item_axis (axes_from level s 1 (length s.axes))
+
+abbrev pub axes_run : Level → SystemParts → Run
+axes_run level s = record { of = class.Axis; items = axis_items level s }
+
+-- no unit is shared
+abbrev pub no_unit_run : Run
+no_unit_run = record { of = class.AxisUnit; items = [] }
+
+-- the system of a CRS and its end
+abbrev pub behind : Level → SystemParts → TailParts → List Run
+behind level s t = alone class.CoordinateSystem (item_head (norm_system level s)) ∷ axes_run level s ∷ no_unit_run ∷
+    tail_runs level t
+
+-- a class of CRS names the nodes of its system
+pub record NamesSystem (c : Class) : Type 0 where
+  pub head : class_named c (codes "CS") ≡ Some class.CoordinateSystem
+  pub axis : class_named c (codes "AXIS") ≡ Some class.Axis
+
+pub head-argument : DecimalLaws → (level : Level) (most : ℕ) (c : Class) (s : SystemParts) → 3 ≤ most →
+    NamesSystem c → IsSystem s →
+    Made level most c class.CoordinateSystem (item_head (norm_system level s))
+head-argument l level most c s deep n h =
+    as-argument level 3 most c class.CoordinateSystem (item_head (norm_system level s)) deep n.head
+    (head-made l level s h)
+
+pub axes-argument : DecimalLaws → (level : Level) (most : ℕ) (c : Class) (s : SystemParts) → 5 ≤ most →
+    NamesSystem c → IsFew s →
+    Each (Made level most c class.Axis) (axis_items level s)
+axes-argument l level most c s deep n h =
+    let e : length (axes_from level s 1 (length s.axes)) ≡ length s.axes = all-count l level s h.system h.each_at
+    h.few in
+    let f : length s.axes ≤ 3 = h.few in
+    axes-made l level s most c 1 (axes_from level s 1 (length s.axes)) deep n.axis
+    (all-axes l level s h.system h.each_at h.few) (omega arith) (omega arith)
+
+map-some : {A B : Type 0} (f : A → B) (xs : List A) (n : ℕ) → length xs ≡ suc n → map f xs ≢ []
+map-some f [] n e q = absurd (omega arith)
+map-some f (x ∷ xs) n e q = cc
+
+some-axes : {B : Type 0} (f : AxisParts → B) (xs ys : List AxisParts) → length xs ≡ length ys → ys ≢ [] → map f xs ≢ []
+some-axes f xs [] e h = absurd (h refl)
+some-axes f xs (y ∷ ys) e h = map-some f xs (length ys) e
+
+pub axes-some : DecimalLaws → (level : Level) (s : SystemParts) → IsFew s → axis_items level s ≢ []
+axes-some l level s h =
+    some-axes item_axis (axes_from level s 1 (length s.axes)) s.axes (all-count l level s h.system h.each_at h.few)
+    h.system.some
+
+pub behind-made : DecimalLaws → (level : Level) (most : ℕ) (c : Class) (s : SystemParts) (t : TailParts) → 5 ≤ most →
+    NamesSystem c → NamesTail c →
+    IsFew s → IsTail t → RunsMade level most c (behind level s t)
+behind-made l level most c s t deep n m h g =
+    let three : 3 ≤ most = omega arith in (
+      (head-argument l level most c s three n h.system, tt),
+      (axes-argument l level most c s deep n h, (tt, tail-runs-made l level most c t deep m g)),
+    )
+
+-- ---- what the checks see
+
+-- the classes that the checks of a CRS look for
+abbrev pub tail_classes : List Class
+tail_classes = class.Scope ∷ class.Area ∷ class.BoundingBox ∷ class.VerticalExtent ∷ class.Remark ∷ []
+
+abbrev pub crs_classes : List Class
+crs_classes = class.CoordinateSystem ∷ class.Axis ∷ class.AxisUnit ∷ tail_classes
+
+-- the arguments of a class are those of these runs
+abbrev pub Shows : Class → Item → List Run → Class → Type 0
+Shows c item runs e = ArePlaced (those c e (arguments item)) (items_in e runs)
+
+pub tail-seen : (level : Level) (c : Class) (item : Item) (t : TailParts) →
+    Each (Shows c item (tail_runs level t)) tail_classes → IsTailSeen c item
+tail-seen level c item t v = record {
+  scope = placed-none (those c class.Scope (arguments item)) v.0;
+  area = placed-none (those c class.Area (arguments item)) v.1.0;
+  bbox = placed-none (those c class.BoundingBox (arguments item)) v.1.1.0;
+  extent = placed-none (those c class.VerticalExtent (arguments item)) v.1.1.1.0;
+  remarks = kept_one level t.remark;
+  remark = v.1.1.1.1.0;
+}
+
+placed-length : (items js : List Item) → ArePlaced items js → length items ≡ length js
+placed-length [] [] h = refl
+placed-length [] (j ∷ js) h = absurd h
+placed-length (x ∷ items) [] h = absurd h
+placed-length (x ∷ items) (j ∷ js) h = ap suc (placed-length items js h.1)
+
+mapped-length : {A B : Type 0} (f : A → B) (xs : List A) → length (map f xs) ≡ length xs
+mapped-length f [] = refl
+mapped-length f (x ∷ xs) = ap suc (mapped-length f xs)
+
+system-of : DecimalLaws → (level : Level) (s : SystemParts) (systems axes units : List Item) → IsFew s →
+    ArePlaced systems (item_head (norm_system level s) ∷ []) → ArePlaced axes (axis_items level s) → units ≡ [] →
+    IsSystemSeen s.system_type s.dimension systems axes units
+system-of l level s [] axes units h p q none = absurd p
+system-of l level s (x ∷ y ∷ systems) axes units h p q none = absurd p.1
+system-of l level s (x ∷ []) axes units h p q none =
+    let e : length (axes_from level s 1 (length s.axes)) ≡ length s.axes = all-count l level s h.system h.each_at
+    h.few in
+    let n : length axes ≡ length s.axes =
+    placed-length axes (axis_items level s) q ∙ mapped-length item_axis (axes_from level s 1 (length s.axes)) ∙ e in
+    let f : length s.axes ≤ 3 = h.few in
+    record {
+      head = x;
+      is_head = subst (IsHeadItem s.system_type s.dimension) (sym p.0.1) (head-seen l level s h.system p.0.0);
+      systems_are = refl;
+      axes_are = axes-seen l level s 1 axes (axes_from level s 1 (length s.axes)) q
+          (all-axes l level s h.system h.each_at h.few) (omega arith) (omega arith);
+      few = omega arith;
+      count = subst (λ m. SameNumber (exact s.dimension) (whole_number m)) (sym n) h.system.count;
+      none_shared = none;
+    }
+
+pub system-seen : DecimalLaws → (level : Level) (c : Class) (item : Item) (s : SystemParts) (t : TailParts) → IsFew s →
+    Each (Shows c item (behind level s t)) crs_classes →
+    IsSystemSeen s.system_type s.dimension (those c class.CoordinateSystem (arguments item))
+    (those c class.Axis (arguments item))
+    (those c class.AxisUnit (arguments item))
+system-seen l level c item s t h v =
+    system-of l level s (those c class.CoordinateSystem (arguments item)) (those c class.Axis (arguments item))
+    (those c class.AxisUnit (arguments item)) h v.0
+    (subst (ArePlaced (those c class.Axis (arguments item))) (append-nil (axis_items level s)) v.1.0)
+    (placed-none (those c class.AxisUnit (arguments item)) v.1.1.0)

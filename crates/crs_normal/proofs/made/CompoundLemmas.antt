@@ -1,0 +1,251 @@
+-- Compound CRSs are made, and with them all CRSs.
+use Rattle.std.proofs.Common.{◌≡◌, ◌⊎◌, ℕ, Bool, true, false, Some, List, [], ◌∷◌, codes, inl, inr, refl, sym, subst, ◌∙◌, arith}
+use Rattle.crs_decimal.specs.Number.{SameNumber, whole_number}
+use Rattle.crs_decimal.specs.Value.{Value, IsNormal, exact}
+use Rattle.crs_text.specs.Items.{Item, More, arguments}
+use Rattle.crs_text.specs.Refusal.{RefusedAt}
+use Rattle.crs_text.specs.Written.{at_place}
+use Rattle.crs_shape.specs.declared.class.Class.{Class}
+use Rattle.crs_shape.specs.declared.class.Class.TheVariants as class
+use Rattle.crs_shape.specs.Keywords.{is_keyword}
+use Rattle.crs_shape.specs.Slots.{class_named, one, one_of, tail, takes}
+use Rattle.crs_value.specs.BadComponent.{BadComponent, IsNotEllipsoidal, IsNotHorizontal, IsNotPlane}
+use Rattle.crs_value.specs.Break.{AnyOf, FirstIs}
+use Rattle.crs_value.specs.Checks.{OfCompound, Own as BreaksOwn, horizontal_classes}
+use Rattle.crs_value.specs.CompoundValues.{CompoundParts}
+use Rattle.crs_value.specs.CrsValues.{GeodeticParts, ProjectedParts, VerticalParts}
+use Rattle.crs_value.specs.declared.values.compound.Horizontal.{Horizontal}
+use Rattle.crs_value.specs.declared.values.compound.Horizontal.TheVariants as horizontal
+use Rattle.crs_value.specs.declared.values.level.Level.{Level}
+use Rattle.crs_value.specs.declared.values.system_type.SystemType.{SystemType}
+use Rattle.crs_value.specs.declared.values.system_type.SystemType.TheVariants as types
+use Rattle.crs_value.specs.Reading.{those}
+use Rattle.crs_value.specs.Sound.{Each, IsText}
+use Rattle.crs_value.specs.SoundCompound.{IsCompound, IsHorizontal, IsPlane}
+use Rattle.crs_value.specs.SoundSingle.{IsGeodetic, IsProjected, IsVertical}
+use Rattle.crs_value.specs.SoundUsages.{IsTail}
+use Rattle.crs_value.specs.Values.{TailParts}
+use Rattle.crs_same.specs.SameUsages.{usages_of}
+use Rattle.crs_normal.specs.DecimalLaws.{DecimalLaws}
+use Rattle.crs_normal.specs.CrsClass.{geodetic_class}
+use Rattle.crs_normal.specs.AcceptedNormal.{IsAcceptedNormal}
+use Rattle.crs_normal.specs.NormalOwn.{Ascend, set_classes}
+use Rattle.crs_normal.specs.SpelledCrs.{geodetic_keyword, item_compound, item_geodetic, item_projected, item_vertical, norm_compound, norm_geodetic, norm_projected, norm_vertical}
+use Rattle.crs_normal.specs.SpelledItems.{node_of, text_item}
+use Rattle.crs_normal.specs.SpelledUsages.{norm_tail, tail_items}
+use Rattle.crs_normal.proofs.made.BehindLemmas.{AxisEach, Shows, tail-seen, tail_classes}
+use Rattle.crs_normal.proofs.made.CheckLemmas.{first-number, word-type}
+use Rattle.crs_normal.proofs.made.FitLemmas.{fills-one, fit-before, last-fits}
+use Rattle.crs_normal.proofs.made.GeodeticLemmas.{end_classes, geodetic-made, geodetic-seen}
+use Rattle.crs_normal.proofs.made.IdentLemmas.{identifiers-ascend}
+use Rattle.crs_normal.proofs.made.LeafLemmas.{text-made}
+use Rattle.crs_normal.proofs.made.NodeLemmas.{KeepsRuns, Made, Run, RunsMade, alone, as-argument, classes, each-line, items_in, node-made, opt-line, views}
+use Rattle.crs_normal.proofs.made.PlaceLemmas.{ArePlaced}
+use Rattle.crs_normal.proofs.made.ProjectedLemmas.{projected-made, projected-seen}
+use Rattle.crs_normal.proofs.made.SystemLemmas.{IsHeadItem}
+use Rattle.crs_normal.proofs.made.RiseLemmas.{RunsRise}
+use Rattle.crs_normal.proofs.made.TailLemmas.{IsTailSeen, has-tail, no-repeats, tail-fits, tail-left, tail-runs-made, tail_runs, usages-ascend}
+use Rattle.crs_normal.proofs.made.VerticalLemmas.{vertical-made}
+
+-- ---- horizontal parts: geographic or projected
+
+abbrev side_class : Bool → Class
+side_class true = class.GeographicCrs
+side_class false = class.ProjectedCrs
+
+-- a CRS that a compound may have as its horizontal part
+record IsSide (level : Level) (geographic : Bool) (j : Item) : Type 0 where
+  made : Made level 7 class.CompoundCrs (side_class geographic) j
+  fine : (p : ℕ) → ¬ (FirstIs (IsNotHorizontal (side_class geographic))
+      (those (side_class geographic) class.CoordinateSystem (arguments (at_place p j))))
+
+is-plane : DecimalLaws → (t : SystemType) (d : Value) (cs : Item) → IsHeadItem t d cs → IsNormal d →
+    SameNumber (exact d) (whole_number 2) → ¬ (IsNotPlane cs)
+is-plane l t d cs h n same b =
+    let f : b.0 ≡ d = first-number l d b.0 (those class.CoordinateSystem class.Number (arguments cs)) n h.numbers
+    b.1.0 in
+    b.1.1 (subst (λ v. SameNumber (exact v) (whole_number 2)) (sym f) same)
+
+is-ellipsoidal : (t : SystemType) (d : Value) (cs : Item) → IsHeadItem t d cs → t ≡ types.Ellipsoidal →
+    ¬ (IsNotEllipsoidal cs)
+is-ellipsoidal t d cs h e b =
+    b.1.1 (sym (word-type t b.0 (those class.CoordinateSystem class.Word (arguments cs)) h.words b.1.0) ∙ e)
+
+geodetic-side : DecimalLaws → AxisEach → (level : Level) (g : GeodeticParts) → IsGeodetic g →
+    g.system.system_type ≡ types.Ellipsoidal → IsPlane g.system →
+    IsSide level true (item_geodetic (norm_geodetic level g))
+unfolding class_named is_keyword
+geodetic-side l each_at level g h e plane = record {
+  made = as-argument level 6 7 class.CompoundCrs class.GeographicCrs (item_geodetic (norm_geodetic level g))
+      (omega arith)
+      (subst (λ t. class_named class.CompoundCrs (geodetic_keyword t) ≡ Some class.GeographicCrs) (sym e) refl)
+      (λ p. subst (λ t. IsAcceptedNormal level (geodetic_class t) 6 (at_place p (item_geodetic (norm_geodetic level g)))) e
+      (geodetic-made l each_at level g h p));
+  fine = λ p b.
+      let s = geodetic-seen l each_at level g h p in
+      let are = subst (λ t. those (geodetic_class t) class.CoordinateSystem
+      (arguments (at_place p (item_geodetic (norm_geodetic level g)))) ≡ s.head ∷ []) e s.systems_are in
+      by s.head s.is_head (subst (λ cs. FirstIs (IsNotHorizontal class.GeographicCrs) cs) are b);
+}
+  where
+    by : (cs : Item) → IsHeadItem g.system.system_type g.system.dimension cs → ¬ (IsNotEllipsoidal cs ⊎ IsNotPlane cs)
+    by cs q (inl b) = is-ellipsoidal g.system.system_type g.system.dimension cs q e b
+    by cs q (inr b) = is-plane l g.system.system_type g.system.dimension cs q h.system.dimension plane b
+
+projected-side : DecimalLaws → AxisEach → (level : Level) (g : ProjectedParts) → IsProjected g → IsPlane g.system →
+    IsSide level false (item_projected (norm_projected level g))
+unfolding class_named is_keyword
+projected-side l each_at level g h plane = record {
+  made = as-argument level 7 7 class.CompoundCrs class.ProjectedCrs (item_projected (norm_projected level g))
+      (omega arith) refl
+      (projected-made l each_at level g h);
+  fine = λ p b.
+      let s = projected-seen l each_at level g h p in
+      is-plane l g.system.system_type g.system.dimension s.head s.is_head h.system.dimension plane
+      (subst (λ cs. FirstIs (IsNotHorizontal class.ProjectedCrs) cs) s.systems_are b);
+}
+
+-- ---- compound CRSs of such a part
+
+abbrev compound_runs : Level → Bool → Item → List ℕ → VerticalParts → TailParts → List Run
+compound_runs level b j name v t =
+    alone class.Text (text_item name) ∷ alone (side_class b) j ∷ alone class.VerticalCrs
+    (item_vertical (norm_vertical level v)) ∷ tail_runs level t
+
+side-taken : (b : Bool) → takes (one_of horizontal_classes) (side_class b) ≡ true
+side-taken true = refl
+side-taken false = refl
+
+side-sets : (level : Level) (b : Bool) (j : Item) (name : List ℕ) (v : VerticalParts) (t : TailParts) →
+    Each (λ d. Ascend (items_in d (compound_runs level b j name v t))) set_classes
+side-sets level true j name v t = (identifiers-ascend level t.identifiers, (usages-ascend level (usages_of t), (tt, (tt, (tt, tt)))))
+side-sets level false j name v t = (identifiers-ascend level t.identifiers, (usages-ascend level (usages_of t), (tt, (tt, (tt, tt)))))
+
+side-left : (level : Level) (b : Bool) (j : Item) (name : List ℕ) (v : VerticalParts) (t : TailParts) →
+    KeepsRuns level (compound_runs level b j name v t)
+side-left level true j name v t = tail-left level t
+side-left level false j name v t = tail-left level t
+
+side-rise : (level : Level) (b : Bool) (j : Item) (name : List ℕ) (v : VerticalParts) (t : TailParts) →
+    RunsRise 0 (compound_runs level b j name v t)
+side-rise level true j name v t =
+    (omega arith, (omega arith, (omega arith, (omega arith, (omega arith, (omega arith, tt))))))
+side-rise level false j name v t =
+    (omega arith, (omega arith, (omega arith, (omega arith, (omega arith, (omega arith, tt))))))
+
+side-shows : (level : Level) (b : Bool) (j : Item) (name : List ℕ) (v : VerticalParts) (t : TailParts) (item : Item) →
+    Each (Shows class.CompoundCrs item (compound_runs level b j name v t)) tail_classes →
+    Each (Shows class.CompoundCrs item (tail_runs level t)) tail_classes
+side-shows level true j name v t item h = h
+side-shows level false j name v t item h = h
+
+not-bad-part : (c : Class) (j : Item) (items : List Item) (fault : RefusedAt) → ArePlaced items (j ∷ []) →
+    ((p : ℕ) → ¬ (FirstIs (IsNotHorizontal c) (those c class.CoordinateSystem (arguments (at_place p j))))) →
+    ¬ (AnyOf (BadComponent c) items fault)
+not-bad-part c j [] fault h f b = b
+not-bad-part c j (x ∷ y ∷ items) fault h f b = h.1
+not-bad-part c j (x ∷ []) fault h f (inl b) =
+    f h.0.0 (subst (λ i. FirstIs (IsNotHorizontal c) (those c class.CoordinateSystem (arguments i))) h.0.1 b.1)
+not-bad-part c j (x ∷ []) fault h f (inr b) = b
+
+no-part : (c : Class) (items : List Item) (fault : RefusedAt) → ArePlaced items [] → ¬ (AnyOf (BadComponent c) items fault)
+no-part c [] fault h b = b
+no-part c (x ∷ items) fault h b = h
+
+compound-breaks : (level : Level) (b : Bool) (j : Item) (name : List ℕ) (v : VerticalParts) (t : TailParts)
+    (item : Item) (fault : RefusedAt) → IsSide level b j →
+    Each (Shows class.CompoundCrs item (compound_runs level b j name v t)) horizontal_classes →
+    IsTailSeen class.CompoundCrs item →
+    ¬ (OfCompound (arguments item) fault)
+compound-breaks level b j name v t item fault s h q (inl k) = no-repeats class.CompoundCrs item fault q k
+compound-breaks level true j name v t item fault s h q (inr (inl k)) =
+    no-part class.GeodeticCrs (those class.CompoundCrs class.GeodeticCrs (arguments item)) fault h.0 k
+compound-breaks level true j name v t item fault s h q (inr (inr (inl k))) =
+    not-bad-part class.GeographicCrs j (those class.CompoundCrs class.GeographicCrs (arguments item)) fault h.1.0
+    s.fine k
+compound-breaks level true j name v t item fault s h q (inr (inr (inr (inl k)))) =
+    no-part class.ProjectedCrs (those class.CompoundCrs class.ProjectedCrs (arguments item)) fault h.1.1.0 k
+compound-breaks level true j name v t item fault s h q (inr (inr (inr (inr k)))) = k
+compound-breaks level false j name v t item fault s h q (inr (inl k)) =
+    no-part class.GeodeticCrs (those class.CompoundCrs class.GeodeticCrs (arguments item)) fault h.0 k
+compound-breaks level false j name v t item fault s h q (inr (inr (inl k))) =
+    no-part class.GeographicCrs (those class.CompoundCrs class.GeographicCrs (arguments item)) fault h.1.0 k
+compound-breaks level false j name v t item fault s h q (inr (inr (inr (inl k)))) =
+    not-bad-part class.ProjectedCrs j (those class.CompoundCrs class.ProjectedCrs (arguments item)) fault h.1.1.0
+    s.fine k
+compound-breaks level false j name v t item fault s h q (inr (inr (inr (inr k)))) = k
+
+compound-runs-made : DecimalLaws → AxisEach →
+    (level : Level) (b : Bool) (j : Item) (name : List ℕ) (v : VerticalParts) (t : TailParts) → IsSide level b j →
+    IsText name → IsVertical v → IsTail t → RunsMade level 7 class.CompoundCrs (compound_runs level b j name v t)
+unfolding class_named is_keyword
+compound-runs-made l each_at level b j name v t s n h g = (
+  (text-made level 7 class.CompoundCrs name n, tt),
+  (
+    (s.made, tt),
+    (
+      (
+        as-argument level 6 7 class.CompoundCrs class.VerticalCrs (item_vertical (norm_vertical level v)) (omega arith)
+            refl (vertical-made l each_at level v h),
+        tt,
+      ),
+      tail-runs-made l level 7 class.CompoundCrs t (omega arith) (record {
+        usage = refl;
+        ident = refl;
+        remark =
+            refl;
+      }) g,
+    ),
+  ),
+)
+
+side-made : DecimalLaws → AxisEach →
+    (level : Level) (b : Bool) (j : Item) (name : List ℕ) (v : VerticalParts) (t : TailParts) → IsSide level b j →
+    IsText name → IsVertical v → IsTail t → (p : ℕ) →
+    IsAcceptedNormal level class.CompoundCrs 8 (at_place p (node_of (codes "COMPOUNDCRS") (text_item name)
+    (More j (More (item_vertical (norm_vertical level v)) (tail_items (norm_tail level t))))))
+unfolding BreaksOwn is_keyword
+side-made l each_at level b j name v t s n h g =
+    let made : RunsMade level 7 class.CompoundCrs (compound_runs level b j name v t) =
+    compound-runs-made l each_at level b j name v t s n h g in
+    node-made level 7 class.CompoundCrs (codes "COMPOUNDCRS") (text_item name)
+    (More j (More (item_vertical (norm_vertical level v)) (tail_items (norm_tail level t))))
+    (compound_runs level b j name v t) (simp (opt-line, each-line)) (record {
+      letters = (refl, refl);
+      known = refl;
+      written = refl;
+      made = made;
+      allowed = fit-before (one class.Text ∷ one_of horizontal_classes ∷ one class.VerticalCrs ∷ []) (tail ∷ [])
+          (alone class.Text (text_item name) ∷ alone (side_class b) j ∷ alone class.VerticalCrs
+          (item_vertical (norm_vertical level v)) ∷ [])
+          (tail_runs level t) (fills-one refl, (fills-one (side-taken b), (fills-one refl, tt)))
+          (last-fits end_classes (classes (tail_runs level t)) (tail-fits end_classes level t refl refl refl));
+      sets = side-sets level b j name v t;
+      left = side-left level b j name v t;
+      own = λ item q.
+          has-tail level 7 class.CompoundCrs (compound_runs level b j name v t) item q made
+          (side-rise level b j name v t)
+          (tail-seen level class.CompoundCrs item t (side-shows level b j name v t item
+          (views class.CompoundCrs (compound_runs level b j name v t) item tail_classes q)));
+      unbroken = λ item fault q k.
+          compound-breaks level b j name v t item fault s (views class.CompoundCrs (compound_runs level b j name v t)
+          item horizontal_classes q)
+          (tail-seen level class.CompoundCrs item t (side-shows level b j name v t item
+          (views class.CompoundCrs (compound_runs level b j name v t) item tail_classes q))) k;
+    })
+
+pub compound-made : DecimalLaws → AxisEach → (level : Level) (c : CompoundParts) → IsCompound c → (p : ℕ) →
+    IsAcceptedNormal level class.CompoundCrs 8 (at_place p (item_compound (norm_compound level c)))
+compound-made l each_at level c h p = by c.horizontal h.horizontal
+  where
+    by : (part : Horizontal) → IsHorizontal part →
+        IsAcceptedNormal level class.CompoundCrs 8
+        (at_place p (item_compound (norm_compound level (record c { horizontal = part }))))
+    by (horizontal.Geodetic g) q =
+        side-made l each_at level true (item_geodetic (norm_geodetic level g)) c.name c.vertical c.tail
+        (geodetic-side l each_at level g q.0 q.1 q.2)
+        h.name h.vertical h.tail p
+    by (horizontal.Projected g) q =
+        side-made l each_at level false (item_projected (norm_projected level g)) c.name c.vertical c.tail
+        (projected-side l each_at level g q.0 q.1)
+        h.name h.vertical h.tail p

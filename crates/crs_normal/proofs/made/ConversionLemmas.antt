@@ -1,0 +1,186 @@
+-- Parameters and conversions are made.
+use Rattle.std.proofs.Common.{◌≡◌, ℕ, ◌++◌, true, Option, Some, None, List, [], ◌∷◌, map, codes, IfSome, refl, arith}
+use Rattle.crs_text.specs.Items.{End, More}
+use Rattle.crs_text.specs.Written.{at_place}
+use Rattle.crs_shape.specs.declared.class.Class.{Class}
+use Rattle.crs_shape.specs.declared.class.Class.TheVariants as class
+use Rattle.crs_shape.specs.Keywords.{is_keyword}
+use Rattle.crs_shape.specs.Slots.{class_named, optional_of, slots_of, takes}
+use Rattle.crs_value.specs.Checks.{Own as BreaksOwn}
+use Rattle.crs_value.specs.ConversionValues.{ConversionParts, ParameterParts}
+use Rattle.crs_value.specs.declared.values.level.Level.{Level}
+use Rattle.crs_value.specs.declared.values.unit_kind.UnitKind.{UnitKind}
+use Rattle.crs_value.specs.declared.values.unit_kind.UnitKind.TheVariants as kinds
+use Rattle.crs_value.specs.Sound.{Each, IsUnit}
+use Rattle.crs_value.specs.SoundConversion.{IsConversion, IsParameter}
+use Rattle.crs_value.specs.Values.{UnitParts}
+use Rattle.crs_same.specs.SameUnits.{kind_as}
+use Rattle.crs_normal.specs.PartSpellings.{unit_class}
+use Rattle.crs_normal.specs.DecimalLaws.{DecimalLaws}
+use Rattle.crs_normal.specs.AcceptedNormal.{IsKindIn, IsAcceptedNormal}
+use Rattle.crs_normal.specs.NormalOwn.{Ascend, set_classes}
+use Rattle.crs_normal.specs.SpelledConversions.{item_conversion, item_method, item_parameter, norm_conversion, norm_method, norm_parameter, set_parameters}
+use Rattle.crs_normal.specs.SpelledItems.{each, number_item, opt, text_item}
+use Rattle.crs_normal.specs.SpelledUnits.{item_ident, item_unit, norm_unit, norm_units, set_idents}
+use Rattle.crs_normal.proofs.made.AscendLemmas.{set-ascends, set-each}
+use Rattle.crs_normal.proofs.made.FitLemmas.{fills-any, fills-one, fills-optional, runs-fit}
+use Rattle.crs_normal.proofs.made.IdentLemmas.{identifiers-ascend, identifiers-left, identifiers-made, ids_run}
+use Rattle.crs_normal.proofs.made.LeafLemmas.{number-made, text-made}
+use Rattle.crs_normal.proofs.made.NodeLemmas.{KeepsRuns, Made, Run, alone, as-argument, each-line, given, items_in, node-made, opt-line}
+use Rattle.crs_normal.proofs.made.NamedLemmas.{method-made}
+use Rattle.crs_normal.proofs.made.UnitLemmas.{unit-made}
+use Rattle.crs_normal.proofs.members.ParameterLemmas.{named-as}
+
+-- ---- parameters: the class of the unit is that of its keyword
+
+abbrev given_class : Option UnitParts → Class
+given_class None = class.PlainUnit
+given_class (Some u) = unit_class (kind_as kinds.Plain u.kind)
+
+kind-in : (k : UnitKind) → IsKindIn (unit_class k) k
+kind-in kinds.Length = refl
+kind-in other = refl
+
+parameter-unit : DecimalLaws → (level : Level) (x : Option UnitParts) → IfSome x IsUnit →
+    Each (Made level 3 class.Parameter (given_class x)) (given item_unit (norm_units level kinds.Plain x))
+parameter-unit l level None h = tt
+parameter-unit l level (Some u) h =
+    let k : UnitKind = kind_as kinds.Plain u.kind in (
+      as-argument level 3 3 class.Parameter (unit_class k) (item_unit (norm_unit level kinds.Plain u)) (omega arith)
+          (named-as k)
+          (unit-made l level (unit_class k) k u (kind-in k) h),
+      tt,
+    )
+
+abbrev parameter_runs : Level → Class → ParameterParts → List Run
+parameter_runs level c p =
+    alone class.Text (text_item p.name) ∷ alone class.Number (number_item p.value) ∷
+    record { of = c; items = given item_unit (norm_units level kinds.Plain p.unit) } ∷ ids_run level p.identifiers ∷ []
+
+kind-sets : (level : Level) (k : UnitKind) (p : ParameterParts) →
+    Each (λ d. Ascend (items_in d (parameter_runs level (unit_class k) p))) set_classes
+kind-sets level kinds.Length p = (identifiers-ascend level p.identifiers, (tt, (tt, (tt, (tt, tt)))))
+kind-sets level other p = (identifiers-ascend level p.identifiers, (tt, (tt, (tt, (tt, tt)))))
+
+parameter-sets : (level : Level) (x : Option UnitParts) (p : ParameterParts) →
+    Each (λ d. Ascend (items_in d (parameter_runs level (given_class x) p))) set_classes
+parameter-sets level None p = kind-sets level kinds.Plain p
+parameter-sets level (Some u) p = kind-sets level (kind_as kinds.Plain u.kind) p
+
+kind-left : (level : Level) (k : UnitKind) (p : ParameterParts) →
+    KeepsRuns level (parameter_runs level (unit_class k) p)
+kind-left level kinds.Length p = identifiers-left level p.identifiers
+kind-left level other p = identifiers-left level p.identifiers
+
+parameter-left : (level : Level) (x : Option UnitParts) (p : ParameterParts) →
+    KeepsRuns level (parameter_runs level (given_class x) p)
+parameter-left level None p = kind-left level kinds.Plain p
+parameter-left level (Some u) p = kind-left level (kind_as kinds.Plain u.kind) p
+
+abbrev unit_classes : List Class
+unit_classes = class.PlainUnit ∷ class.LengthUnit ∷ class.AngleUnit ∷ class.ScaleUnit ∷ []
+
+kind-taken : (k : UnitKind) → takes (optional_of unit_classes) (unit_class k) ≡ true
+kind-taken kinds.Length = refl
+kind-taken other = refl
+
+given-taken : (x : Option UnitParts) → takes (optional_of unit_classes) (given_class x) ≡ true
+given-taken None = refl
+given-taken (Some u) = kind-taken (kind_as kinds.Plain u.kind)
+
+pub parameter-made : DecimalLaws → (level : Level) (m : ParameterParts) → IsParameter m → (p : ℕ) →
+    IsAcceptedNormal level class.Parameter 4 (at_place p (item_parameter (norm_parameter level m)))
+unfolding BreaksOwn class_named is_keyword
+parameter-made l level m h =
+    node-made level 3 class.Parameter (codes "PARAMETER") (text_item m.name)
+    (More (number_item m.value) (opt item_unit (norm_units level kinds.Plain m.unit)
+    (each item_ident (set_idents level m.identifiers) End)))
+    (parameter_runs level (given_class m.unit) m) (simp (opt-line, each-line)) (record {
+      letters = (refl, refl);
+      known = refl;
+      written = refl;
+      made = (
+        (text-made level 3 class.Parameter m.name h.name, tt),
+        (
+          (number-made l level 3 class.Parameter m.value h.value, tt),
+          (
+            parameter-unit l level m.unit h.unit,
+            (
+              identifiers-made l level 3 class.Parameter m.identifiers (omega arith) refl h.identifiers,
+              tt,
+            ),
+          ),
+        ),
+      );
+      allowed = runs-fit (slots_of class.Parameter) (parameter_runs level (given_class m.unit) m) (
+        fills-one refl,
+        (
+          fills-one refl,
+          (fills-optional item_unit (norm_units level kinds.Plain m.unit) (given-taken m.unit), (fills-any refl, tt)),
+        ),
+      );
+      sets = parameter-sets level m.unit m;
+      left = parameter-left level m.unit m;
+      own = λ item s. tt;
+      unbroken = λ item fault s b. b;
+    })
+
+-- ---- conversions
+
+abbrev conversion_runs : Level → ConversionParts → List Run
+conversion_runs level m =
+    alone class.Text (text_item m.name) ∷ alone class.Method (item_method (norm_method level m.method)) ∷
+    record { of = class.Parameter; items = map item_parameter (set_parameters level m.parameters) } ∷
+    ids_run level m.identifiers ∷ []
+
+parameters-made : DecimalLaws → (level : Level) (ps : List ParameterParts) → Each IsParameter ps →
+    Each (Made level 4 class.Conversion class.Parameter) (map item_parameter (set_parameters level ps))
+unfolding set_parameters class_named is_keyword
+parameters-made l level ps h =
+    set-each (norm_parameter level) item_parameter IsParameter (Made level 4 class.Conversion class.Parameter) ps h
+    (λ m q. as-argument level 4 4 class.Conversion class.Parameter (item_parameter (norm_parameter level m))
+    (omega arith) refl (parameter-made l level m q))
+
+parameters-ascend : (level : Level) (ps : List ParameterParts) →
+    Ascend (map item_parameter (set_parameters level ps) ++ [])
+unfolding set_parameters
+parameters-ascend level ps = set-ascends item_parameter (map (norm_parameter level) ps)
+
+pub conversion-made : DecimalLaws → (level : Level) (m : ConversionParts) → IsConversion m → (p : ℕ) →
+    IsAcceptedNormal level class.Conversion 5 (at_place p (item_conversion (norm_conversion level m)))
+unfolding BreaksOwn class_named is_keyword
+conversion-made l level m h =
+    node-made level 4 class.Conversion (codes "CONVERSION") (text_item m.name)
+    (More (item_method (norm_method level m.method))
+    (each item_parameter (set_parameters level m.parameters) (each item_ident (set_idents level m.identifiers) End)))
+    (conversion_runs level m) (simp each-line) (record {
+      letters = (refl, refl);
+      known = refl;
+      written = refl;
+      made = (
+        (text-made level 4 class.Conversion m.name h.name, tt),
+        (
+          (
+            as-argument level 3 4 class.Conversion class.Method (item_method (norm_method level m.method))
+                (omega arith) refl (method-made l level m.method h.method),
+            tt,
+          ),
+          (
+            parameters-made l level m.parameters h.parameters,
+            (
+              identifiers-made l level 4 class.Conversion m.identifiers (omega arith)
+                  refl h.identifiers,
+              tt,
+            ),
+          ),
+        ),
+      );
+      allowed = runs-fit (slots_of class.Conversion) (conversion_runs level m) (
+        fills-one refl,
+        (fills-one refl, (fills-any refl, (fills-any refl, tt))),
+      );
+      sets = (identifiers-ascend level m.identifiers, (tt, (tt, (parameters-ascend level m.parameters, (tt, tt)))));
+      left = identifiers-left level m.identifiers;
+      own = λ item s. tt;
+      unbroken = λ item fault s b. b;
+    })

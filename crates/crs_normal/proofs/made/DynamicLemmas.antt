@@ -1,0 +1,128 @@
+-- Dynamic parts are made, and none is beside an ensemble.
+use Rattle.std.proofs.Common.{◌≡◌, ◌⊎◌, ℕ, ◌≤◌, Option, Some, None, List, [], ◌∷◌, codes, IfSome, inl, inr, refl, subst, arith}
+use Rattle.std.specs.Option.{option_map}
+use Rattle.crs_decimal.specs.Value.{Value, IsNormal}
+use Rattle.crs_text.specs.Items.{Item, End, arguments}
+use Rattle.crs_text.specs.Refusal.{RefusedAt}
+use Rattle.crs_text.specs.Written.{at_place}
+use Rattle.crs_shape.specs.declared.class.Class.{Class}
+use Rattle.crs_shape.specs.declared.class.Class.TheVariants as class
+use Rattle.crs_shape.specs.Keywords.{is_keyword}
+use Rattle.crs_shape.specs.Slots.{class_named, slots_of}
+use Rattle.crs_value.specs.BadDynamic.{BadDynamic, IsUnsteady}
+use Rattle.crs_value.specs.Break.{AnyOf}
+use Rattle.crs_value.specs.Checks.{Own as BreaksOwn}
+use Rattle.crs_value.specs.declared.values.frame.Frame.{Frame}
+use Rattle.crs_value.specs.declared.values.frame.Frame.TheVariants as frame
+use Rattle.crs_value.specs.declared.values.level.Level.{Level}
+use Rattle.crs_value.specs.DynamicValues.{DeformationModelParts, DynamicParts}
+use Rattle.crs_value.specs.Reading.{those}
+use Rattle.crs_value.specs.Sound.{Each}
+use Rattle.crs_value.specs.SoundDynamic.{IsDeformationModel, IsDynamic}
+use Rattle.crs_value.specs.SoundSingle.{IsDynamicOf}
+use Rattle.crs_normal.specs.DecimalLaws.{DecimalLaws}
+use Rattle.crs_normal.specs.AcceptedNormal.{IsAcceptedNormal}
+use Rattle.crs_normal.specs.SpelledDynamic.{item_deformation_model, item_dynamic, norm_deformation_model, norm_dynamic}
+use Rattle.crs_normal.specs.SpelledItems.{number_item, number_node, opt}
+use Rattle.crs_normal.proofs.made.DatumLemmas.{number-node-made}
+use Rattle.crs_normal.proofs.made.EllipsoidLemmas.{placed-none}
+use Rattle.crs_normal.proofs.made.FitLemmas.{fills-one, fills-optional, runs-fit}
+use Rattle.crs_normal.proofs.made.NodeLemmas.{Made, Run, alone, as-argument, given, keeps-none, node-made, opt-line}
+use Rattle.crs_normal.proofs.made.NamedLemmas.{deformation-model-made}
+use Rattle.crs_normal.proofs.made.PlaceLemmas.{ArePlaced}
+
+frame-epoch-made : DecimalLaws → (level : Level) (v : Value) → IsNormal v → (p : ℕ) →
+    IsAcceptedNormal level class.FrameEpoch 1 (at_place p (number_node (codes "FRAMEEPOCH") v))
+unfolding is_keyword BreaksOwn
+frame-epoch-made l level v h =
+    number-node-made l level class.FrameEpoch (codes "FRAMEEPOCH") v (refl, refl) refl refl
+    (runs-fit (slots_of class.FrameEpoch) (alone class.Number (number_item v) ∷ []) (fills-one refl, tt))
+    (λ item. tt) (λ item fault b. b) h
+
+model-argument : DecimalLaws → (level : Level) (x : Option DeformationModelParts) → IfSome x IsDeformationModel →
+    class_named class.Dynamic (codes "MODEL") ≡ Some class.DeformationModel →
+    Each (Made level 3 class.Dynamic class.DeformationModel)
+    (given item_deformation_model (option_map (norm_deformation_model level) x))
+model-argument l level None h named = tt
+model-argument l level (Some m) h named = (
+  as-argument level 3 3 class.Dynamic class.DeformationModel
+      (item_deformation_model (norm_deformation_model level m)) (omega arith) named
+      (deformation-model-made l level m h),
+  tt,
+)
+
+abbrev dynamic_runs : Level → DynamicParts → List Run
+dynamic_runs level d =
+    alone class.FrameEpoch (number_node (codes "FRAMEEPOCH") d.epoch) ∷
+    record {
+      of = class.DeformationModel;
+      items = given item_deformation_model (option_map (norm_deformation_model level) d.model);
+    } ∷ []
+
+pub dynamic-made : DecimalLaws → (level : Level) (d : DynamicParts) → IsDynamic d → (p : ℕ) →
+    IsAcceptedNormal level class.Dynamic 4 (at_place p (item_dynamic (norm_dynamic level d)))
+unfolding BreaksOwn class_named is_keyword
+dynamic-made l level d h =
+    node-made level 3 class.Dynamic (codes "DYNAMIC") (number_node (codes "FRAMEEPOCH") d.epoch)
+    (opt item_deformation_model (option_map (norm_deformation_model level) d.model) End)
+    (dynamic_runs level d) (simp opt-line) (record {
+      letters = (refl, refl);
+      known = refl;
+      written = refl;
+      made = (
+        (
+          as-argument level 1 3 class.Dynamic class.FrameEpoch (number_node (codes "FRAMEEPOCH") d.epoch)
+              (omega arith) refl (frame-epoch-made l level d.epoch h.epoch),
+          tt,
+        ),
+        (model-argument l level d.model h.model refl, tt),
+      );
+      allowed = runs-fit (slots_of class.Dynamic) (dynamic_runs level d) (
+        fills-one refl,
+        (fills-optional item_deformation_model (option_map (norm_deformation_model level) d.model) refl, tt),
+      );
+      sets = (tt, (tt, (tt, (tt, (tt, tt)))));
+      left = keeps-none level;
+      own = λ item s. tt;
+      unbroken = λ item fault s b. b;
+    })
+
+-- ---- dynamic parts as arguments
+
+-- the dynamic part of a CRS or base, if it has one
+abbrev pub dynamic_run : Level → Option DynamicParts → Run
+dynamic_run level x = record { of = class.Dynamic; items = given item_dynamic (option_map (norm_dynamic level) x) }
+
+pub dynamic-argument : DecimalLaws → (level : Level) (most : ℕ) (parent : Class) (x : Option DynamicParts) (f : Frame) →
+    4 ≤ most → class_named parent (codes "DYNAMIC") ≡ Some class.Dynamic → IsDynamicOf x f →
+    Each (Made level most parent class.Dynamic) (given item_dynamic (option_map (norm_dynamic level) x))
+dynamic-argument l level most parent None f deep named h = tt
+dynamic-argument l level most parent (Some d) (frame.Datum held) deep named h = (
+  as-argument level 4 most parent class.Dynamic (item_dynamic (norm_dynamic level d)) deep named
+      (dynamic-made l level d h),
+  tt,
+)
+dynamic-argument l level most parent (Some d) (frame.Ensemble held) deep named h = absurd h
+
+-- the classes that the check of dynamic parts looks for
+abbrev pub dynamic_classes : List Class
+dynamic_classes = class.Dynamic ∷ class.GeodeticEnsemble ∷ class.VerticalEnsemble ∷ []
+
+-- there is no dynamic part, or no ensemble
+abbrev pub IsSteady : Class → Item → Type 0
+IsSteady c item =
+    (those c class.Dynamic (arguments item) ≡ []) ⊎ ((those c class.GeodeticEnsemble (arguments item) ≡ [])
+    × (those c class.VerticalEnsemble (arguments item) ≡ []))
+
+-- where none is written, none is found
+pub none-shown : (items js : List Item) → js ≡ [] → ArePlaced items js → items ≡ []
+none-shown items js none h = placed-none items (subst (ArePlaced items) none h)
+
+none-unsteady : (items : List Item) (fault : RefusedAt) → items ≡ [] → ¬ (AnyOf IsUnsteady items fault)
+none-unsteady [] fault none b = b
+none-unsteady (item ∷ items) fault none b = absurd (cc)
+
+pub no-bad-dynamic : (c : Class) (item : Item) (fault : RefusedAt) → IsSteady c item → ¬ (BadDynamic c item fault)
+no-bad-dynamic c item fault (inl none) b = none-unsteady (those c class.Dynamic (arguments item)) fault none b.1
+no-bad-dynamic c item fault (inr none) (inl some, b) = some none.0
+no-bad-dynamic c item fault (inr none) (inr some, b) = some none.1

@@ -1,0 +1,169 @@
+-- Units in the nodes that have them, and ellipsoids, are made.
+use Rattle.std.proofs.Common.{◌≡◌, ◌≢◌, ℕ, ◌≤◌, true, false, Option, Some, None, List, [], ◌∷◌, codes, IfSome, inl, inr, refl, sym, ap, subst, ◌∙◌, arith}
+use Rattle.std.specs.Prelude.{IsUtf8}
+use Rattle.crs_decimal.specs.Value.{Value, IsNormal}
+use Rattle.crs_text.specs.Items.{Item, End, More, arguments}
+use Rattle.crs_text.specs.Refusal.{RefusedAt}
+use Rattle.crs_text.specs.Written.{at_place}
+use Rattle.crs_shape.specs.declared.class.Class.{Class}
+use Rattle.crs_shape.specs.declared.class.Class.TheVariants as class
+use Rattle.crs_shape.specs.Keywords.{is_keyword}
+use Rattle.crs_shape.specs.Slots.{class_named, slots_of}
+use Rattle.crs_value.specs.BadValue.{IsAboveZero}
+use Rattle.crs_value.specs.Checks.{OfEllipsoid, Own as BreaksOwn}
+use Rattle.crs_value.specs.KeptLaws.{kept-none}
+use Rattle.crs_value.specs.declared.values.level.Level.{Level}
+use Rattle.crs_value.specs.declared.values.unit_kind.UnitKind.{UnitKind}
+use Rattle.crs_value.specs.declared.values.unit_kind.UnitKind.TheVariants as kinds
+use Rattle.crs_value.specs.Reading.{those}
+use Rattle.crs_value.specs.Sound.{Each, IsUnit, IsUnitOf, Suits}
+use Rattle.crs_value.specs.SoundFrames.{IsEllipsoid}
+use Rattle.crs_value.specs.Values.{EllipsoidParts, IdentParts, UnitParts}
+use Rattle.crs_value.specs.Words.{unit_word}
+use Rattle.crs_same.specs.SameUnits.{kind_as}
+use Rattle.crs_normal.specs.DecimalLaws.{DecimalLaws}
+use Rattle.crs_normal.specs.AcceptedNormal.{IsKindIn, IsAcceptedNormal}
+use Rattle.crs_normal.specs.SpelledFrames.{item_ellipsoid, norm_ellipsoid}
+use Rattle.crs_normal.specs.SpelledItems.{each, number_item, opt, text_item}
+use Rattle.crs_normal.specs.SpelledUnits.{item_ident, item_unit, metre, norm_length, norm_unit, norm_units, set_idents}
+use Rattle.crs_normal.proofs.members.IdentLemmas.{none-form}
+use Rattle.crs_normal.proofs.made.FitLemmas.{fills-any, fills-one, fills-optional, runs-fit}
+use Rattle.crs_normal.proofs.made.IdentLemmas.{identifiers-ascend, identifiers-left, identifiers-made, ids_run}
+use Rattle.crs_normal.proofs.made.LeafLemmas.{number-made, text-made}
+use Rattle.crs_normal.proofs.made.NodeLemmas.{IsKept, Made, Run, alone, as-argument, each-line, given, node-made}
+use Rattle.crs_normal.proofs.made.PlaceLemmas.{ArePlaced}
+use Rattle.crs_normal.proofs.made.UnitLemmas.{not-below, reads-one, unit-made, unit_as}
+
+-- ---- units
+
+pub suits-kind : (asked kind : UnitKind) → Suits asked kind → kind_as asked kind ≡ asked
+suits-kind asked kind (inr e) = ap (kind_as asked) e
+suits-kind asked kind (inl e) = ap (kind_as asked) e ∙ itself asked
+  where
+    itself : (k : UnitKind) → kind_as k k ≡ k
+    itself kinds.Length = refl
+    itself other = refl
+
+-- a unit of the asked kind as an argument
+pub unit-argument : DecimalLaws → (level : Level) (most : ℕ) (parent c : Class) (asked : UnitKind) (u : UnitParts) →
+    3 ≤ most →
+    class_named parent (unit_word asked) ≡ Some c → IsKindIn c asked → kind_as asked u.kind ≡ asked → IsUnit u →
+    Made level most parent c (item_unit (norm_unit level asked u))
+unit-argument l level most parent c asked u deep named k same h =
+    subst (λ kind. Made level most parent c (item_unit (unit_as level kind u))) (sym same)
+    (as-argument level 3 most parent c (item_unit (unit_as level asked u)) deep named (unit-made l level c asked u k h))
+
+pub given-unit : DecimalLaws → (level : Level) (most : ℕ) (parent c : Class) (asked : UnitKind) (x : Option UnitParts)
+    → 3 ≤ most →
+    class_named parent (unit_word asked) ≡ Some c → IsKindIn c asked → IfSome x (IsUnitOf asked) →
+    Each (Made level most parent c) (given item_unit (norm_units level asked x))
+given-unit l level most parent c asked None deep named k h = tt
+given-unit l level most parent c asked (Some u) deep named k h =
+    (unit-argument l level most parent c asked u deep named k (suits-kind asked u.kind h.1) h.0, tt)
+
+metre-name : IsUtf8 (codes "metre")
+unfolding lib.Utf8.encode
+metre-name = (codes "metre", (refl, refl))
+
+metre-unit : IsUnit metre
+metre-unit = record {
+  name = ((codes "metre", refl), metre-name);
+  factor = refl;
+  above_zero = (refl, λ e. cc);
+  identifiers = tt;
+}
+
+abbrev metre-with : List IdentParts → UnitParts
+metre-with identifiers = record { kind = metre.kind; name = metre.name; factor = metre.factor; identifiers = identifiers }
+
+-- a unit of length, which is the metre where none is written
+pub length-argument : DecimalLaws → (level : Level) (most : ℕ) (parent : Class) (x : Option UnitParts) → 3 ≤ most →
+    class_named parent (codes "LENGTHUNIT") ≡ Some class.LengthUnit → IfSome x (IsUnitOf kinds.Length) →
+    Made level most parent class.LengthUnit (item_unit (norm_length level x))
+length-argument l level most parent None deep named h =
+    subst (λ identifiers. Made level most parent class.LengthUnit (item_unit (metre-with identifiers)))
+    (none-form level [] (kept-none level))
+    (unit-argument l level most parent class.LengthUnit kinds.Length metre deep named refl refl metre-unit)
+length-argument l level most parent (Some u) deep named h =
+    unit-argument l level most parent class.LengthUnit kinds.Length u deep named refl
+    (suits-kind kinds.Length u.kind h.1) h.0
+
+pub placed-some : (items js : List Item) (j : Item) → ArePlaced items (j ∷ js) → items ≢ []
+placed-some [] js j h e = h
+placed-some (item ∷ items) js j h e = cc
+
+pub placed-none : (items : List Item) → ArePlaced items [] → items ≡ []
+placed-none [] h = refl
+placed-none (item ∷ items) h = absurd h
+
+-- ---- ellipsoids
+
+ellipsoid-numbers : DecimalLaws → (a f : Value) (numbers : List Item) (fault : RefusedAt) →
+    ArePlaced numbers (number_item a ∷ number_item f ∷ []) →
+    IsNormal a → IsAboveZero a → IsNormal f → f.negative ≡ false → ¬ (OfEllipsoid numbers fault)
+ellipsoid-numbers l a f [] fault h n z m s b = h
+ellipsoid-numbers l a f (x ∷ []) fault h n z m s b = h.1
+ellipsoid-numbers l a f (x ∷ y ∷ []) fault h n z m s (inl b) = not-below l a (x ∷ []) fault n z (h.0, tt) b
+ellipsoid-numbers l a f (x ∷ y ∷ []) fault h n z m s (inr (inl b)) =
+    let e : b.1.0 ≡ f = reads-one l f b.1.0 y h.1.0.0 m h.1.0.1 b.1.1.0 in
+    let k : true ≡ false = sym b.1.1.1 ∙ ap (λ v. v.negative) e ∙ s in cc
+ellipsoid-numbers l a f (x ∷ y ∷ []) fault h n z m s (inr (inr b)) = b
+ellipsoid-numbers l a f (x ∷ y ∷ w ∷ others) fault h n z m s b = h.1.1
+
+abbrev ellipsoid_runs : Level → EllipsoidParts → List Run
+ellipsoid_runs level e =
+    alone class.Text (text_item e.name) ∷ alone class.Number (number_item e.semi_major_axis) ∷
+    alone class.Number (number_item e.inverse_flattening) ∷ alone class.LengthUnit
+    (item_unit (norm_length level e.unit)) ∷ ids_run level e.identifiers ∷ []
+
+ellipsoid-kept : DecimalLaws → (level : Level) (e : EllipsoidParts) → IsEllipsoid e →
+    IsKept level 3 class.Ellipsoid (codes "ELLIPSOID") (ellipsoid_runs level e)
+unfolding BreaksOwn class_named is_keyword
+ellipsoid-kept l level e h = record {
+  letters = (refl, refl);
+  known = refl;
+  written = refl;
+  made = (
+    (text-made level 3 class.Ellipsoid e.name h.name, tt),
+    (
+      (number-made l level 3 class.Ellipsoid e.semi_major_axis h.semi_major_axis, tt),
+      (
+        (number-made l level 3 class.Ellipsoid e.inverse_flattening h.inverse_flattening, tt),
+        (
+          (length-argument l level 3 class.Ellipsoid e.unit (omega arith) refl h.unit, tt),
+          (identifiers-made l level 3 class.Ellipsoid e.identifiers (omega arith) refl h.identifiers, tt),
+        ),
+      ),
+    ),
+  );
+  allowed = runs-fit (slots_of class.Ellipsoid) (ellipsoid_runs level e) (
+    fills-one refl,
+    (
+      fills-one refl,
+      (
+        fills-one refl,
+        (
+          fills-optional item_unit (Some (norm_length level e.unit))
+              refl,
+          (fills-any refl, tt),
+        ),
+      ),
+    ),
+  );
+  sets = (identifiers-ascend level e.identifiers, (tt, (tt, (tt, (tt, tt)))));
+  left = identifiers-left level e.identifiers;
+  own = λ item s. placed-some (those class.Ellipsoid class.LengthUnit (arguments item)) []
+      (item_unit (norm_length level e.unit)) (s.view class.LengthUnit);
+  unbroken = λ item fault s b.
+      ellipsoid-numbers l e.semi_major_axis e.inverse_flattening (those class.Ellipsoid class.Number (arguments item))
+      fault (s.view class.Number)
+      h.semi_major_axis h.above_zero h.inverse_flattening h.not_negative b;
+}
+
+pub ellipsoid-made : DecimalLaws → (level : Level) (e : EllipsoidParts) → IsEllipsoid e → (p : ℕ) →
+    IsAcceptedNormal level class.Ellipsoid 4 (at_place p (item_ellipsoid (norm_ellipsoid level e)))
+ellipsoid-made l level e h =
+    node-made level 3 class.Ellipsoid (codes "ELLIPSOID") (text_item e.name)
+    (More (number_item e.semi_major_axis) (More (number_item e.inverse_flattening)
+    (opt item_unit (Some (norm_length level e.unit)) (each item_ident (set_idents level e.identifiers) End))))
+    (ellipsoid_runs level e) (simp each-line) (ellipsoid-kept l level e h)

@@ -1,0 +1,101 @@
+-- What geodetic CRSs and base CRSs have in front is made: the name, the dynamic part and the frame.
+use Rattle.std.proofs.Common.{◌≡◌, ◌≢◌, ℕ, ◌≤◌, ◌++◌, true, Option, Some, None, List, [], ◌∷◌, codes, inl, inr, refl}
+use Rattle.crs_text.specs.Items.{Item, arguments}
+use Rattle.crs_shape.specs.declared.class.Class.{Class}
+use Rattle.crs_shape.specs.declared.class.Class.TheVariants as class
+use Rattle.crs_shape.specs.ShapeFault.{class_in}
+use Rattle.crs_shape.specs.Slots.{class_named, one_of, takes}
+use Rattle.crs_value.specs.declared.values.frame.Frame.{Frame}
+use Rattle.crs_value.specs.declared.values.frame.Frame.TheVariants as frame
+use Rattle.crs_value.specs.declared.values.level.Level.{Level}
+use Rattle.crs_value.specs.DynamicValues.{DynamicParts}
+use Rattle.crs_value.specs.Reading.{those}
+use Rattle.crs_value.specs.Sound.{Each}
+use Rattle.crs_value.specs.SoundSingle.{IsDynamicOf, IsGeodeticFrame}
+use Rattle.crs_value.specs.Values.{MeridianParts}
+use Rattle.crs_normal.specs.DecimalLaws.{DecimalLaws}
+use Rattle.crs_normal.specs.AcceptedNormal.{geodetic_frame_class}
+use Rattle.crs_normal.specs.NormalOwn.{Ascend, rank, set_classes}
+use Rattle.crs_normal.specs.SpelledFrames.{item_frame, item_meridian, norm_frame, norm_meridian}
+use Rattle.crs_normal.proofs.made.BehindLemmas.{Shows, crs_classes}
+use Rattle.crs_normal.proofs.made.DynamicLemmas.{IsSteady, dynamic_classes, dynamic_run, none-shown}
+use Rattle.crs_normal.proofs.made.FrameLemmas.{geodetic-frame-made}
+use Rattle.crs_normal.proofs.made.NodeLemmas.{KeepsRuns, Made, Run, alone, as-argument, given, items_in}
+use Rattle.crs_normal.proofs.made.PlaceLemmas.{ArePlaced}
+
+-- ---- the frame as an argument, of one class or the other
+
+-- a class names the nodes of a geodetic frame
+pub record NamesFrame (c : Class) : Type 0 where
+  pub datum : class_named c (codes "DATUM") ≡ Some class.GeodeticFrame
+  pub ensemble : class_named c (codes "ENSEMBLE") ≡ Some class.GeodeticEnsemble
+
+frame-named : (level : Level) (c : Class) (f : Frame) → NamesFrame c →
+    class_in c (item_frame (codes "DATUM") (norm_frame level f)) ≡ Some (geodetic_frame_class f)
+frame-named level c (frame.Datum d) n = n.datum
+frame-named level c (frame.Ensemble e) n = n.ensemble
+
+pub frame-argument : DecimalLaws → (level : Level) (most : ℕ) (c : Class) (f : Frame) → 5 ≤ most → NamesFrame c →
+    IsGeodeticFrame f →
+    Made level most c (geodetic_frame_class f) (item_frame (codes "DATUM") (norm_frame level f))
+frame-argument l level most c f deep n h =
+    as-argument level 5 most c (geodetic_frame_class f) (item_frame (codes "DATUM") (norm_frame level f)) deep
+    (frame-named level c f n) (geodetic-frame-made l level f h)
+
+pub frame-taken : (f : Frame) →
+    takes (one_of (class.GeodeticFrame ∷ class.GeodeticEnsemble ∷ [])) (geodetic_frame_class f) ≡ true
+frame-taken (frame.Datum d) = refl
+frame-taken (frame.Ensemble e) = refl
+
+-- the name, the dynamic part and the frame of a CRS or base, and these
+abbrev pub framed_runs : Level → Item → Option DynamicParts → Frame → Item → List Run → List Run
+framed_runs level n x f j rest = alone class.Text n ∷ dynamic_run level x ∷ alone (geodetic_frame_class f) j ∷ rest
+
+pub frame-rank : (f : Frame) → rank (geodetic_frame_class f) ≡ 0
+frame-rank (frame.Datum d) = refl
+frame-rank (frame.Ensemble e) = refl
+
+pub frame-sets : (level : Level) (n : Item) (x : Option DynamicParts) (f : Frame) (j : Item) (rest : List Run) →
+    Each (λ d. Ascend (items_in d rest)) set_classes →
+    Each (λ d. Ascend (items_in d (framed_runs level n x f j rest))) set_classes
+frame-sets level n x (frame.Datum d) j rest h = h
+frame-sets level n x (frame.Ensemble e) j rest h = h
+
+pub frame-left : (level : Level) (n : Item) (x : Option DynamicParts) (f : Frame) (j : Item) (rest : List Run) →
+    KeepsRuns level rest → KeepsRuns level (framed_runs level n x f j rest)
+frame-left level n x (frame.Datum d) j rest h = h
+frame-left level n x (frame.Ensemble e) j rest h = h
+
+-- what is in a CRS or base with a prime meridian
+abbrev pub geodetic_classes : List Class
+geodetic_classes = class.PrimeMeridian ∷ crs_classes
+
+pub frame-shows : (level : Level) (c : Class) (item n : Item) (x : Option DynamicParts) (f : Frame) (j : Item)
+    (rest : List Run) → Each (Shows c item (framed_runs level n x f j rest)) geodetic_classes →
+    Each (Shows c item rest) geodetic_classes
+frame-shows level c item n x (frame.Datum d) j rest h = h
+frame-shows level c item n x (frame.Ensemble e) j rest h = h
+
+-- no dynamic part is beside an ensemble, where none of these come after the frame
+pub frame-steady : (level : Level) (c : Class) (item n : Item) (x : Option DynamicParts) (f : Frame) (j : Item)
+    (rest : List Run) → IsDynamicOf x f → Each (λ e. items_in e rest ≡ []) dynamic_classes →
+    Each (Shows c item (framed_runs level n x f j rest)) dynamic_classes → IsSteady c item
+frame-steady level c item n None (frame.Datum d) j rest h none v =
+    inl (none-shown (those c class.Dynamic (arguments item)) (items_in class.Dynamic rest) none.0 v.0)
+frame-steady level c item n None (frame.Ensemble e) j rest h none v =
+    inl (none-shown (those c class.Dynamic (arguments item)) (items_in class.Dynamic rest) none.0 v.0)
+frame-steady level c item n (Some x) (frame.Datum d) j rest h none v =
+    inr (
+      none-shown (those c class.GeodeticEnsemble (arguments item)) (items_in class.GeodeticEnsemble rest) none.1.0
+          v.1.0,
+      none-shown (those c class.VerticalEnsemble (arguments item)) (items_in class.VerticalEnsemble rest) none.1.1.0
+          v.1.1.0,
+    )
+frame-steady level c item n (Some x) (frame.Ensemble e) j rest h none v = absurd h
+
+pub meridian-there : (level : Level) (m : Option MeridianParts) (items : List Item) →
+    ArePlaced items (given item_meridian (norm_meridian level m) ++ []) → items ≢ []
+meridian-there level None [] h e = h
+meridian-there level None (x ∷ items) h e = cc
+meridian-there level (Some m) [] h e = h
+meridian-there level (Some m) (x ∷ items) h e = cc

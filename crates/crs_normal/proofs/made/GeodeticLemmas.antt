@@ -1,0 +1,316 @@
+-- Geodetic and geographic CRSs are made.
+use Rattle.std.proofs.Common.{◌≡◌, ◌≢◌, ℕ, IsTrue, Some, None, List, [], ◌∷◌, map, codes, inl, inr, refl, sym, ap, subst, ◌∙◌, arith}
+use Rattle.std.specs.Option.{option_map}
+use Rattle.crs_decimal.specs.Value.{Value}
+use Rattle.crs_text.specs.Items.{Item, Siblings, More, arguments, raw_of}
+use Rattle.crs_text.specs.Refusal.{RefusedAt}
+use Rattle.crs_text.specs.Tokens.{IsWord}
+use Rattle.crs_text.specs.Written.{at_place}
+use Rattle.crs_shape.specs.declared.class.Class.{Class}
+use Rattle.crs_shape.specs.declared.class.Class.TheVariants as class
+use Rattle.crs_shape.specs.Keywords.{is_keyword}
+use Rattle.crs_shape.specs.Shape.{Allowed}
+use Rattle.crs_shape.specs.Slots.{class_named, geodetic_slots, one, one_of, optional, slots_of, some, tail}
+use Rattle.crs_value.specs.BadSystem.{IsOneOf, geodetic_dimensions, geographic_dimensions}
+use Rattle.crs_value.specs.Checks.{OfCrs, Own as BreaksOwn}
+use Rattle.crs_value.specs.CrsValues.{GeodeticParts}
+use Rattle.crs_value.specs.declared.values.level.Level.{Level}
+use Rattle.crs_value.specs.declared.values.system_type.SystemType.{SystemType}
+use Rattle.crs_value.specs.declared.values.system_type.SystemType.TheVariants as types
+use Rattle.crs_value.specs.Reading.{those}
+use Rattle.crs_value.specs.Sound.{Each}
+use Rattle.crs_value.specs.SoundSingle.{IsGeodetic}
+use Rattle.crs_value.specs.Words.{system_word}
+use Rattle.crs_same.specs.SameUsages.{usages_of}
+use Rattle.crs_normal.specs.DecimalLaws.{DecimalLaws}
+use Rattle.crs_normal.specs.CrsClass.{geodetic_class}
+use Rattle.crs_normal.specs.AcceptedNormal.{IsAcceptedNormal, geodetic_frame_class}
+use Rattle.crs_normal.specs.Normal.{IsFirstKeyword}
+use Rattle.crs_normal.specs.NormalOwn.{Ascend, Has, HasAxes, HasTail, HasOwnForm, rank, set_classes, words_in}
+use Rattle.crs_normal.specs.SpelledCrs.{geodetic_keyword, item_geodetic, norm_geodetic}
+use Rattle.crs_normal.specs.SpelledDynamic.{item_dynamic, norm_dynamic}
+use Rattle.crs_normal.specs.SpelledFrames.{item_frame, item_meridian, norm_frame, norm_meridian}
+use Rattle.crs_normal.specs.SpelledItems.{opt, text_item, word_item}
+use Rattle.crs_normal.specs.SpelledSystems.{item_head, norm_system, system_items}
+use Rattle.crs_normal.specs.SpelledUnits.{item_unit}
+use Rattle.crs_normal.specs.SpelledUsages.{norm_tail, tail_items}
+use Rattle.crs_normal.proofs.made.BehindLemmas.{AxisEach, IsFew, NamesSystem, Shows, axes-some, axes_run, behind, behind-made, few-system, no_unit_run, system-seen, tail-seen}
+use Rattle.crs_normal.proofs.made.CheckLemmas.{IsSystemSeen, has-axes, no-bad-systems}
+use Rattle.crs_normal.proofs.made.DynamicLemmas.{IsSteady, dynamic-argument, dynamic_classes, no-bad-dynamic}
+use Rattle.crs_normal.proofs.made.FitLemmas.{fills-one, fills-optional, fills-some, fit-before, last-fits}
+use Rattle.crs_normal.proofs.made.FrontLemmas.{NamesFrame, frame-argument, frame-left, frame-rank, frame-sets, frame-shows, frame-steady, frame-taken, framed_runs, geodetic_classes, meridian-there}
+use Rattle.crs_normal.proofs.made.IdentLemmas.{identifiers-ascend}
+use Rattle.crs_normal.proofs.made.LeafLemmas.{text-made}
+use Rattle.crs_normal.proofs.made.NodeLemmas.{IsKept, Run, RunsMade, Sees, alone, classes, each-line, given, items_in, node-made, opt-line, sees, views}
+use Rattle.crs_normal.proofs.made.PlaceLemmas.{ArePlaced}
+use Rattle.crs_normal.proofs.made.MeridianLemmas.{meridian-argument}
+use Rattle.crs_normal.proofs.made.RiseLemmas.{RunsRise}
+use Rattle.crs_normal.proofs.made.TailLemmas.{IsTailSeen, NamesTail, has-tail, no-repeats, tail-fits, tail-left, tail_runs, usages-ascend}
+use Rattle.crs_normal.proofs.normal.DimensionLemmas.{small-geodetic}
+
+-- ---- the class of a CRS by the type of its system
+
+-- a class and keyword for CRSs with a system of this type
+record IsRootClass (t : SystemType) (c : Class) (keyword : List ℕ) : Type 0 where
+  letters : IsWord keyword
+  known : IsTrue (is_keyword c keyword)
+  written : IsFirstKeyword c keyword
+  slots : slots_of c ≡ geodetic_slots
+  frames : NamesFrame c
+  systems : NamesSystem c
+  tails : NamesTail c
+  dynamic : class_named c (codes "DYNAMIC") ≡ Some class.Dynamic
+  meridian : class_named c (codes "PRIMEM") ≡ Some class.PrimeMeridian
+  dimensions : SystemType → List ℕ
+  allows : (d : Value) → IsOneOf d (geodetic_dimensions t) → IsOneOf d (dimensions t)
+  breaks : (item : Item) (fault : RefusedAt) → BreaksOwn c item fault → OfCrs dimensions c item fault
+  own : (item : Item) → Each (λ cs. words_in class.CoordinateSystem cs ≡ system_word t ∷ [])
+      (those c class.CoordinateSystem (arguments item)) →
+      Has c class.PrimeMeridian item → HasAxes c item → HasTail c item → HasOwnForm c item
+
+other-words : (w : List ℕ) (items : List Item) → w ≢ codes "ellipsoidal" →
+    Each (λ cs. words_in class.CoordinateSystem cs ≡ w ∷ []) items →
+    Each (λ cs. words_in class.CoordinateSystem cs ≢ codes "ellipsoidal" ∷ []) items
+other-words w [] n h = tt
+other-words w (x ∷ items) n h = (
+  λ e. let k : w ∷ [] ≡ codes "ellipsoidal" ∷ [] = sym h.0 ∙ e in let q : w ≡ codes "ellipsoidal" = cc in n q,
+  other-words w items n h.1,
+)
+
+geodetic-root : (t : SystemType) → system_word t ≢ codes "ellipsoidal" →
+    IsRootClass t class.GeodeticCrs (codes "GEODCRS")
+unfolding BreaksOwn class_named is_keyword
+geodetic-root t n = record {
+  letters = (refl, refl);
+  known = refl;
+  written = refl;
+  slots = refl;
+  frames = record { datum = refl; ensemble = refl };
+  systems = record { head = refl; axis = refl };
+  tails = record { usage = refl; ident = refl; remark = refl };
+  dynamic = refl;
+  meridian = refl;
+  dimensions = geodetic_dimensions;
+  allows = λ d h. h;
+  breaks = λ item fault b. b;
+  own = λ item words meridian axes end. (
+    other-words (system_word t) (those class.GeodeticCrs class.CoordinateSystem (arguments item)) n words,
+    meridian,
+    axes,
+    end,
+  );
+}
+
+geographic-root : IsRootClass types.Ellipsoidal class.GeographicCrs (codes "GEOGCRS")
+unfolding BreaksOwn class_named is_keyword
+geographic-root = record {
+  letters = (refl, refl);
+  known = refl;
+  written = refl;
+  slots = refl;
+  frames = record { datum = refl; ensemble = refl };
+  systems = record { head = refl; axis = refl };
+  tails = record { usage = refl; ident = refl; remark = refl };
+  dynamic = refl;
+  meridian = refl;
+  dimensions = geographic_dimensions;
+  allows = λ d h. h;
+  breaks = λ item fault b. b;
+  own = λ item words meridian axes end. (meridian, axes, end);
+}
+
+is-root : (t : SystemType) → IsRootClass t (geodetic_class t) (geodetic_keyword t)
+is-root types.Cartesian = geodetic-root types.Cartesian (λ e. cc)
+is-root types.Ellipsoidal = geographic-root
+is-root types.Spherical = geodetic-root types.Spherical (λ e. cc)
+is-root types.Vertical = geodetic-root types.Vertical (λ e. cc)
+
+-- ---- the CRSs
+
+abbrev meridian_run : Level → GeodeticParts → Run
+meridian_run level g = record { of = class.PrimeMeridian; items = given item_meridian (norm_meridian level g.meridian) }
+
+-- what a geodetic CRS has after its frame
+abbrev geodetic_rest : Level → GeodeticParts → List Run
+geodetic_rest level g = meridian_run level g ∷ behind level g.system g.tail
+
+abbrev frame_item : Level → GeodeticParts → Item
+frame_item level g = item_frame (codes "DATUM") (norm_frame level g.frame)
+
+abbrev geodetic_runs : Level → GeodeticParts → List Run
+geodetic_runs level g =
+    framed_runs level (text_item g.name) g.dynamic g.frame (frame_item level g) (geodetic_rest level g)
+
+abbrev pub end_classes : List Class
+end_classes =
+    class.Usage ∷ class.Scope ∷ class.Area ∷ class.BoundingBox ∷ class.VerticalExtent ∷ class.Identifier ∷
+    class.Remark ∷ []
+
+geodetic-allowed : DecimalLaws → (level : Level) (g : GeodeticParts) → IsFew g.system →
+    Allowed geodetic_slots (classes (geodetic_runs level g))
+geodetic-allowed l level g few =
+    fit-before (one class.Text ∷ optional class.Dynamic ∷ one_of (class.GeodeticFrame ∷ class.GeodeticEnsemble ∷ []) ∷
+    optional class.PrimeMeridian ∷
+    one class.CoordinateSystem ∷ some class.Axis ∷ optional class.AxisUnit ∷ []) (tail ∷ [])
+    (framed_runs level (text_item g.name) g.dynamic g.frame (frame_item level g) (meridian_run level g ∷
+    alone class.CoordinateSystem (item_head (norm_system level g.system)) ∷ axes_run level g.system ∷ no_unit_run ∷ []))
+    (tail_runs level g.tail) (
+      fills-one refl,
+      (
+        fills-optional item_dynamic (option_map (norm_dynamic level) g.dynamic) refl,
+        (
+          fills-one (frame-taken g.frame),
+          (
+            fills-optional item_meridian (norm_meridian level g.meridian) refl,
+            (
+              fills-one refl,
+              (fills-some refl (axes-some l level g.system few), (fills-optional item_unit None refl, tt)),
+            ),
+          ),
+        ),
+      ),
+    )
+    (last-fits end_classes (classes (tail_runs level g.tail)) (tail-fits end_classes level g.tail refl refl refl))
+
+pub end-sets : (level : Level) (g : GeodeticParts) →
+    Each (λ d. Ascend (items_in d (geodetic_rest level g))) set_classes
+end-sets level g = (identifiers-ascend level g.tail.identifiers, (usages-ascend level (usages_of g.tail), (tt, (tt, (tt, tt)))))
+
+geodetic-runs-made : DecimalLaws → (level : Level) (c : Class) (keyword : List ℕ) (g : GeodeticParts) →
+    IsRootClass g.system.system_type c keyword →
+    IsFew g.system → IsGeodetic g → RunsMade level 5 c (geodetic_runs level g)
+geodetic-runs-made l level c keyword g r few h = (
+  (text-made level 5 c g.name h.name, tt),
+  (
+    dynamic-argument l level 5 c g.dynamic g.frame (omega arith) r.dynamic h.dynamic,
+    (
+      (frame-argument l level 5 c g.frame (omega arith) r.frames h.frame, tt),
+      (
+        meridian-argument l level 5 c g.meridian (omega arith) r.meridian h.meridian,
+        behind-made l level 5 c g.system g.tail (omega arith) r.systems r.tails few h.tail,
+      ),
+    ),
+  ),
+)
+
+geodetic-rise : (level : Level) (g : GeodeticParts) → RunsRise 0 (geodetic_runs level g)
+geodetic-rise level g =
+    let e : rank (geodetic_frame_class g.frame) ≡ 0 = frame-rank g.frame in (
+      omega arith,
+      (
+        omega arith,
+        (
+          omega arith,
+          (
+            omega arith,
+            (omega arith, (omega arith, (omega arith, (omega arith, (omega arith, (omega arith, tt)))))),
+          ),
+        ),
+      ),
+    )
+
+-- the word of each node `CS`
+system-words : (t : SystemType) (d : Value) (systems axes units : List Item) → IsSystemSeen t d systems axes units →
+    Each (λ cs. words_in class.CoordinateSystem cs ≡ system_word t ∷ []) systems
+system-words t d systems axes units s =
+    subst (λ cs. Each (λ i. words_in class.CoordinateSystem i ≡ system_word t ∷ []) cs) (sym s.systems_are)
+    (word (those class.CoordinateSystem class.Word (arguments s.head)) s.is_head.words, tt)
+  where
+    word : (words : List Item) → ArePlaced words (word_item (system_word t) ∷ []) →
+        map raw_of words ≡ system_word t ∷ []
+    word [] p = absurd p
+    word (x ∷ []) p = ap (λ i. raw_of i ∷ []) p.0.1
+    word (x ∷ y ∷ words) p = absurd p.1
+
+geodetic-kept : DecimalLaws → (level : Level) (c : Class) (keyword : List ℕ) (g : GeodeticParts) →
+    IsRootClass g.system.system_type c keyword →
+    IsFew g.system → IsGeodetic g → IsKept level 5 c keyword (geodetic_runs level g)
+geodetic-kept l level c keyword g r few h = record {
+  letters = r.letters;
+  known = r.known;
+  written = r.written;
+  made = geodetic-runs-made l level c keyword g r few h;
+  allowed = subst (λ slots. Allowed slots (classes (geodetic_runs level g))) (sym r.slots)
+      (geodetic-allowed l level g few);
+  sets = frame-sets level (text_item g.name) g.dynamic g.frame (frame_item level g) (geodetic_rest level g)
+      (end-sets level g);
+  left = frame-left level (text_item g.name) g.dynamic g.frame (frame_item level g) (geodetic_rest level g)
+      (tail-left level g.tail);
+  own = λ item s.
+      let v = shown item s in
+      let seen = system-seen l level c item g.system g.tail few v.1 in
+      r.own item
+      (system-words g.system.system_type g.system.dimension (those c class.CoordinateSystem (arguments item))
+      (those c class.Axis (arguments item))
+      (those c class.AxisUnit (arguments item)) seen)
+      (meridian-there level g.meridian (those c class.PrimeMeridian (arguments item)) v.0)
+      (has-axes c item g.system.system_type g.system.dimension seen)
+      (has-tail level 5 c (geodetic_runs level g) item s (geodetic-runs-made l level c keyword g r few h)
+      (geodetic-rise level g)
+      (tail-seen level c item g.tail v.1.1.1.1));
+  unbroken = λ item fault s b.
+      let v = shown item s in
+      no-break item fault (tail-seen level c item g.tail v.1.1.1.1) (system-seen l level c item g.system g.tail few
+      v.1) (steady item s) (r.breaks item fault b);
+}
+  where
+    shown : (item : Item) → Sees c (geodetic_runs level g) item →
+        Each (Shows c item (geodetic_rest level g)) geodetic_classes
+    shown item s =
+        frame-shows level c item (text_item g.name) g.dynamic g.frame (frame_item level g) (geodetic_rest level g)
+        (views c (geodetic_runs level g) item geodetic_classes s)
+
+    steady : (item : Item) → Sees c (geodetic_runs level g) item → IsSteady c item
+    steady item s =
+        frame-steady level c item (text_item g.name) g.dynamic g.frame (frame_item level g) (geodetic_rest level g)
+        h.dynamic (refl, (refl, (refl, tt))) (views c (geodetic_runs level g) item dynamic_classes s)
+
+    no-break : (item : Item) (fault : RefusedAt) → IsTailSeen c item →
+        IsSystemSeen g.system.system_type g.system.dimension
+        (those c class.CoordinateSystem (arguments item)) (those c class.Axis (arguments item))
+        (those c class.AxisUnit (arguments item)) → IsSteady c item →
+        ¬ (OfCrs r.dimensions c item fault)
+    no-break item fault t q y (inl b) = no-repeats c item fault t b
+    no-break item fault t q y (inr (inl b)) =
+        no-bad-systems l r.dimensions g.system.system_type g.system.dimension (those c class.CoordinateSystem
+        (arguments item))
+        (those c class.Axis (arguments item)) (those c class.AxisUnit (arguments item)) fault h.system.dimension
+        (r.allows g.system.dimension h.dimension) q b
+    no-break item fault t q y (inr (inr b)) = no-bad-dynamic c item fault y b
+
+-- the arguments after a CRS's name
+abbrev geodetic_others : Level → GeodeticParts → Siblings
+geodetic_others level g =
+    opt item_dynamic (option_map (norm_dynamic level) g.dynamic) (More (frame_item level g)
+    (opt item_meridian (norm_meridian level g.meridian) (system_items (norm_system level g.system)
+    (tail_items (norm_tail level g.tail)))))
+
+pub geodetic-made : DecimalLaws → AxisEach → (level : Level) (g : GeodeticParts) → IsGeodetic g → (p : ℕ) →
+    IsAcceptedNormal level (geodetic_class g.system.system_type) 6 (at_place p (item_geodetic (norm_geodetic level g)))
+geodetic-made l each_at level g h =
+    node-made level 5 (geodetic_class g.system.system_type) (geodetic_keyword g.system.system_type) (text_item g.name)
+    (geodetic_others level g) (geodetic_runs level g) (simp (opt-line, each-line))
+    (geodetic-kept l level (geodetic_class g.system.system_type) (geodetic_keyword g.system.system_type) g
+    (is-root g.system.system_type)
+    (few-system l each_at geodetic_dimensions small-geodetic g.system h.system h.dimension) h)
+
+-- the system of a CRS, as the checks of a compound see it
+pub geodetic-seen : DecimalLaws → AxisEach → (level : Level) (g : GeodeticParts) → IsGeodetic g → (p : ℕ) →
+    IsSystemSeen g.system.system_type g.system.dimension
+    (those (geodetic_class g.system.system_type) class.CoordinateSystem
+    (arguments (at_place p (item_geodetic (norm_geodetic level g)))))
+    (those (geodetic_class g.system.system_type) class.Axis
+    (arguments (at_place p (item_geodetic (norm_geodetic level g)))))
+    (those (geodetic_class g.system.system_type) class.AxisUnit
+    (arguments (at_place p (item_geodetic (norm_geodetic level g)))))
+geodetic-seen l each_at level g h p =
+    let c : Class = geodetic_class g.system.system_type in
+    let item : Item = at_place p (item_geodetic (norm_geodetic level g)) in
+    let few : IsFew g.system = few-system l each_at geodetic_dimensions small-geodetic g.system h.system h.dimension in
+    let s : Sees c (geodetic_runs level g) item =
+    sees level 5 c (geodetic_keyword g.system.system_type) (text_item g.name) (geodetic_others level g)
+    (geodetic_runs level g) p (simp (opt-line, each-line))
+    (geodetic-runs-made l level c (geodetic_keyword g.system.system_type) g (is-root g.system.system_type) few h) in
+    system-seen l level c item g.system g.tail few
+    (frame-shows level c item (text_item g.name) g.dynamic g.frame (frame_item level g) (geodetic_rest level g)
+    (views c (geodetic_runs level g) item geodetic_classes s)).1

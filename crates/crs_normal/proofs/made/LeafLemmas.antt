@@ -1,0 +1,117 @@
+-- Single items that are made: texts, numbers, words and codes.
+use Rattle.std.proofs.Common.{◌≡◌, ℕ, ◌≤◌, ◌<◌, ◌&&◌, Bool, true, false, IsTrue, List, [], ◌∷◌, length, if◌then◌else◌, refl, sym, ◌∙◌, arith}
+use Rattle.std.specs.Prelude.{nat_le}
+use Rattle.std.specs.List.{list_all}
+use Rattle.std.proofs.lemmas.Bool.{le-leb, leb-true}
+use Rattle.crs_decimal.specs.Bounds.{Denotes, IsInBounds}
+use Rattle.crs_decimal.specs.Plain.{IsPlain, plain}
+use Rattle.crs_decimal.specs.Spelling.{IsRun, is_digit}
+use Rattle.crs_decimal.specs.Value.{Value, IsNormal, exact}
+use Rattle.crs_text.specs.Items.{leaf}
+use Rattle.crs_text.specs.Tokens.{Kind, number, text, word, IsSingle, IsWord}
+use Rattle.crs_shape.specs.declared.class.Class.{Class}
+use Rattle.crs_shape.specs.declared.class.Class.TheVariants as class
+use denote.Enum.Bare.{sameb}
+use Rattle.crs_shape.specs.contracts.class.Class.{the_type}
+use Rattle.crs_shape.specs.ShapeFault.{class_of_kind}
+use Rattle.crs_value.specs.declared.values.level.Level.{Level}
+use Rattle.crs_value.specs.Sound.{IsText}
+use Rattle.crs_normal.specs.DecimalLaws.{DecimalLaws}
+use Rattle.crs_normal.specs.Normal.{IsNumberIn, IsSingleIn, IsWordIn}
+use Rattle.crs_normal.specs.NormalOwn.{IsShort}
+use Rattle.crs_normal.specs.SpelledItems.{is_short, number_item, text_item, word_item}
+use Rattle.crs_normal.proofs.made.NodeLemmas.{Made}
+
+leaf-made : (level : Level) (most : ℕ) (parent : Class) (kind : Kind) (raw : List ℕ) → IsSingle kind raw →
+    IsSingleIn parent kind raw →
+    IsTrue (sameb the_type (class_of_kind kind) (class_of_kind kind)) → Made level most parent (class_of_kind kind)
+    (leaf kind 0 raw)
+leaf-made level most parent kind raw formed normal same = record {
+  named = refl;
+  fine = λ p. record { formed = formed; within = omega arith; shaped = same; unbroken = λ fault b. b; normal = normal };
+}
+
+pub text-made : (level : Level) (most : ℕ) (parent : Class) (raw : List ℕ) → IsText raw →
+    Made level most parent class.Text (text_item raw)
+text-made level most parent raw h = leaf-made level most parent text raw h tt refl
+
+number-in : (c : Class) (raw : List ℕ) → IsPlain raw → IsNumberIn c raw
+number-in class.Identifier raw h = tt
+number-in c raw h = h
+
+pub run-single : (raw : List ℕ) → IsRun raw → IsInBounds raw → IsSingle number raw
+run-single [] h b = absurd h
+run-single (d ∷ ds) h b = (h.0, h.1, b)
+
+pub number-made : DecimalLaws → (level : Level) (most : ℕ) (parent : Class) (v : Value) → IsNormal v →
+    Made level most parent class.Number (number_item v)
+number-made l level most parent v n =
+    let d : Denotes (plain v) (exact v) = l.denotes v n in
+    leaf-made level most parent number (plain v) (run-single (plain v) (l.as_run (plain v) (d.0, d.1)) (d.0, d.1, d.2))
+    (number-in parent (plain v) (l.is_plain v n)) refl
+
+pub word-made : (level : Level) (most : ℕ) (parent : Class) (raw : List ℕ) → IsWord raw → IsWordIn parent raw →
+    Made level most parent class.Word (word_item raw)
+word-made level most parent raw h w = leaf-made level most parent word raw h w refl
+
+-- ---- codes
+
+-- a code or version of this kind
+abbrev pub IsCodeKind : Kind → List ℕ → Type 0
+IsCodeKind number raw = IsShort raw
+IsCodeKind text raw = ¬ (IsShort raw) × IsText raw
+IsCodeKind word raw = ⊥
+
+both : (a b : Bool) → a ≡ true → b ≡ true → (a && b) ≡ true
+both true b p q = q
+both false b p q = p
+
+left : (a b : Bool) → (a && b) ≡ true → a ≡ true
+left true b h = refl
+left false b h = h
+
+right : (a b : Bool) → (a && b) ≡ true → b ≡ true
+right true b h = h
+right false b h = cc
+
+pub short-true : (raw : List ℕ) → IsShort raw → is_short raw ≡ true
+short-true raw h =
+    both (list_all is_digit raw && nat_le 1 (length raw)) (nat_le (length raw) 18)
+    (both (list_all is_digit raw) (nat_le 1 (length raw)) h.digits (le-leb 1 (length raw) h.some))
+    (le-leb (length raw) 18 h.few)
+
+pub true-short : (raw : List ℕ) → is_short raw ≡ true → IsShort raw
+true-short raw h =
+    let l = left (list_all is_digit raw && nat_le 1 (length raw)) (nat_le (length raw) 18) h in
+    record {
+      digits = left (list_all is_digit raw) (nat_le 1 (length raw)) l;
+      some = leb-true 1 (length raw) (right (list_all is_digit raw) (nat_le 1 (length raw)) l);
+      few = leb-true (length raw) 18 (right (list_all is_digit raw && nat_le 1 (length raw)) (nat_le (length raw) 18)
+          h);
+    }
+
+-- the kind that a code or version is written as
+abbrev pub code_kind : List ℕ → Kind
+code_kind raw = if is_short raw then number else text
+
+pub code-kind : (raw : List ℕ) → IsText raw → IsCodeKind (code_kind raw) raw
+code-kind raw h = by (is_short raw) refl
+  where
+    by : (b : Bool) → is_short raw ≡ b → IsCodeKind (if b then number else text) raw
+    by true e = true-short raw e
+    by false e = (λ s. let k : true ≡ false = sym (short-true raw s) ∙ e in cc, h)
+
+code-single : DecimalLaws → (kind : Kind) (raw : List ℕ) → IsCodeKind kind raw → IsSingle kind raw
+code-single l number raw h =
+    let s : 0 < length raw = let k : 1 ≤ length raw = h.some in omega arith in
+    let b : IsInBounds raw = l.digits_alone raw h.digits s h.few in
+    run-single raw (l.as_run raw (b.0, b.1)) b
+code-single l text raw h = h.1
+code-single l word raw h = absurd h
+
+pub code-made : DecimalLaws → (level : Level) (most : ℕ) (kind : Kind) (raw : List ℕ) → IsCodeKind kind raw →
+    Made level most class.Identifier (class_of_kind kind) (leaf kind 0 raw)
+code-made l level most number raw h = leaf-made level most class.Identifier number raw (code-single l number raw h)
+    tt refl
+code-made l level most text raw h = leaf-made level most class.Identifier text raw (code-single l text raw h) tt refl
+code-made l level most word raw h = absurd h

@@ -1,0 +1,74 @@
+-- Items at other places: their classes, their texts and their order are the same.
+use Rattle.std.proofs.Common.{◌≡◌, ℕ, ◌+◌, Bool, true, false, List, [], ◌∷◌, ◌++◌, length, if◌then◌else◌, refl, sym, ap, ap₂, subst, ◌∙◌}
+use Rattle.std.specs.Cmp.Lexicographic.{slice_cmp}
+use Rattle.std.specs.Ordering.{nat_cmp}
+use Rattle.crs_text.specs.Items.{Item, leaf, node, Siblings, End, More}
+use Rattle.crs_text.specs.Written.{at_place, at_places, item_text, others_text}
+use Rattle.crs_shape.specs.declared.class.Class.{Class}
+use Rattle.crs_shape.specs.ShapeFault.{class_in}
+use Rattle.crs_shape.specs.Slots.{is_class}
+use Rattle.crs_value.specs.Reading.{those}
+use Rattle.crs_normal.specs.NormalOwn.{Ascend}
+use Rattle.crs_value.specs.Sound.{Each}
+use Rattle.crs_normal.proofs.members.SetLemmas.{IsBelow}
+
+pub class-at : (c : Class) (p : ℕ) (j : Item) → class_in c (at_place p j) ≡ class_in c j
+class-at c p (leaf kind place raw) = refl
+class-at c p (node place keyword square first others close) = refl
+
+mutual
+  pub text-at : (p : ℕ) (j : Item) → item_text (at_place p j) ≡ item_text j
+  text-at p (leaf kind place raw) = refl
+  text-at p (node place keyword square first others close) =
+      let f = text-at (p + length keyword + 1) first in
+      let o = texts-at (p + length keyword + 1 + length (item_text first)) others in
+      λ i. keyword ++ 91 ∷ (f i ++ (o i ++ 93 ∷ []))
+
+  pub texts-at : (p : ℕ) (js : Siblings) → others_text (at_places p js) ≡ others_text js
+  texts-at p End = refl
+  texts-at p (More j js) =
+      let f = text-at (p + 1) j in
+      let o = texts-at (p + 1 + length (item_text j)) js in
+      λ i. 44 ∷ (f i ++ o i)
+
+-- these items are those, each at some place
+abbrev pub ArePlaced : List Item → List Item → Type 0
+ArePlaced [] [] = Unit {0}
+ArePlaced [] (j ∷ js) = ⊥
+ArePlaced (x ∷ xs) [] = ⊥
+ArePlaced (x ∷ xs) (j ∷ js) = ((p : ℕ) × (x ≡ at_place p j)) × ArePlaced xs js
+
+if-placed : (b : Bool) (p : ℕ) (j : Item) (xs js : List Item) → ArePlaced xs js →
+    ArePlaced (if b then at_place p j ∷ xs else xs) (if b then j ∷ js else js)
+if-placed true p j xs js h = ((p, refl), h)
+if-placed false p j xs js h = h
+
+pub those-placed : (c e : Class) (s : ℕ) (js : Siblings) → ArePlaced (those c e (at_places s js)) (those c e js)
+those-placed c e s End = tt
+those-placed c e s (More (leaf kind place raw) js) =
+    if-placed (is_class e (class_in c (leaf kind place raw))) (s + 1) (leaf kind place raw)
+    (those c e (at_places (s + 1 + length (item_text (leaf kind place raw))) js)) (those c e js)
+    (those-placed c e (s + 1 + length (item_text (leaf kind place raw))) js)
+those-placed c e s (More (node place keyword square first others close) js) =
+    let j : Item = node place keyword square first others close in
+    if-placed (is_class e (class_in c j)) (s + 1) j
+    (those c e (at_places (s + 1 + length (item_text j)) js)) (those c e js)
+    (those-placed c e (s + 1 + length (item_text j)) js)
+
+placed-below : (p : ℕ) (j : Item) (xs js : List Item) → ArePlaced xs js → Each (IsBelow item_text j) js →
+    Each (IsBelow item_text (at_place p j)) xs
+placed-below p j [] [] h b = tt
+placed-below p j [] (k ∷ ks) h b = tt
+placed-below p j (x ∷ xs) [] h b = absurd h
+placed-below p j (x ∷ xs) (k ∷ ks) h b =
+    (ap₂ (slice_cmp nat_cmp) (text-at p j) (ap item_text h.0.1 ∙ text-at h.0.0 k) ∙ b.0, placed-below p j xs ks h.1 b.1)
+
+pub placed-ascend : (xs js : List Item) → ArePlaced xs js → Ascend js → Ascend xs
+placed-ascend [] [] h a = tt
+placed-ascend [] (j ∷ js) h a = tt
+placed-ascend (x ∷ xs) [] h a = absurd h
+placed-ascend (x ∷ xs) (j ∷ js) h a =
+    subst (λ y. Each (IsBelow item_text y) xs × Ascend xs) (sym h.0.1) (
+      placed-below h.0.0 j xs js h.1 a.0,
+      placed-ascend xs js h.1 a.1,
+    )

@@ -1,0 +1,276 @@
+-- The axes of a system at their positions, and its node `CS`, are made.
+use Rattle.std.proofs.Common.{◌≡◌, ℕ, zero, suc, ◌+◌, ◌*◌, ◌≤◌, Bool, true, false, Option, Some, None, List, [], ◌∷◌, length, map, codes, decimal, IfSome, if◌then◌else◌, inl, inr, refl, sym, ap, subst, ◌∙◌, arith}
+use Rattle.std.specs.Prelude.{IsSomeAnd, ⊤}
+use Rattle.std.proofs.lemmas.Bool.Decides.{Decides-eqb}
+use Rattle.std.proofs.lemmas.List.{append-nil}
+use Rattle.std.proofs.lemmas.Slice.Eq.{bytes_eq-Decides}
+use Rattle.crs_decimal.specs.Number.{SameNumber, whole_number}
+use Rattle.crs_decimal.specs.Plain.{plain}
+use Rattle.crs_decimal.specs.Value.{Value, IsNormal, exact}
+use Rattle.crs_text.specs.Items.{Item, End, More, arguments}
+use Rattle.crs_text.specs.Refusal.{RefusedAt}
+use Rattle.crs_text.specs.Written.{at_place}
+use Rattle.crs_shape.specs.declared.class.Class.{Class}
+use Rattle.crs_shape.specs.declared.class.Class.TheVariants as class
+use Rattle.crs_shape.specs.Keywords.{is_keyword}
+use Rattle.crs_shape.specs.Slots.{class_named, slots_of}
+use Rattle.crs_value.specs.BadSystem.{IsOneOf}
+use Rattle.crs_value.specs.BadUnit.{asked_kind}
+use Rattle.crs_value.specs.UnknownWord.{UnknownType}
+use Rattle.crs_value.specs.Break.{AnyOf}
+use Rattle.crs_value.specs.Checks.{Own as BreaksOwn}
+use Rattle.crs_value.specs.declared.values.level.Level.{Level}
+use Rattle.crs_value.specs.declared.values.system_type.SystemType.{SystemType}
+use Rattle.crs_value.specs.declared.values.unit_kind.UnitKind.{UnitKind}
+use Rattle.crs_value.specs.Reading.{those}
+use Rattle.crs_value.specs.Reads.{ReadsType}
+use Rattle.crs_value.specs.Sound.{Each, IsAxis, IsAxisUnit, Suits}
+use Rattle.crs_value.specs.SoundSystem.{HasUnits, IsSystem, SuitsAxis}
+use Rattle.crs_value.specs.Values.{AxisParts, SystemParts, UnitParts}
+use Rattle.crs_value.specs.Words.{system_word}
+use Rattle.crs_same.specs.SameSystems.{HasAt, IsPositionOf, own_or}
+use Rattle.crs_normal.specs.DecimalLaws.{DecimalLaws}
+use Rattle.crs_normal.specs.AcceptedNormal.{IsAcceptedNormal}
+use Rattle.crs_normal.specs.SpelledItems.{each, number_item, word_item}
+use Rattle.crs_normal.specs.SpelledSystems.{axes_from, axis_at, is_at, item_axis, item_head, norm_axis, norm_system, with_axis}
+use Rattle.crs_normal.specs.SpelledUnits.{item_ident, set_idents, whole_value}
+use Rattle.crs_normal.proofs.made.AxisLemmas.{Fits, IsAxisItem, axis-made, axis-seen, whole-normal}
+use Rattle.crs_normal.proofs.made.FitLemmas.{fills-any, fills-one, runs-fit}
+use Rattle.crs_normal.proofs.made.IdentLemmas.{identifiers-ascend, identifiers-left, identifiers-made, ids_run}
+use Rattle.crs_normal.proofs.made.LeafLemmas.{number-made, word-made}
+use Rattle.crs_normal.proofs.made.NodeLemmas.{Made, Run, RunsMade, alone, as-argument, each-line, node-made, sees}
+use Rattle.crs_normal.proofs.made.PlaceLemmas.{ArePlaced}
+use Rattle.crs_normal.proofs.made.WordLemmas.{system-letters}
+
+-- ---- each axis has a unit that fits
+
+own-fit : (t : SystemType) (x : AxisParts) → IsAxis x → IsSomeAnd x.unit (SuitsAxis t x) → Fits t None x
+own-fit t x a s = by x.unit refl s a.unit
+  where
+    by : (w : Option UnitParts) → x.unit ≡ w → IsSomeAnd w (SuitsAxis t x) → IfSome w IsAxisUnit → Fits t None x
+    by None e s h = absurd s
+    by (Some u) e s h = record { axis = a; unit = u; given_unit = ap (λ w. own_or w None) e; suits = (h.0, s) }
+
+own-fits : (t : SystemType) (xs : List AxisParts) → Each IsAxis xs → Each (λ x. IsSomeAnd x.unit (SuitsAxis t x)) xs →
+    Each (Fits t None) xs
+own-fits t [] a s = tt
+own-fits t (x ∷ xs) a s = (own-fit t x a.0 s.0, own-fits t xs a.1 s.1)
+
+shared-fits : (t : SystemType) (u : UnitParts) (kind : UnitKind) (xs : List AxisParts) → IsAxisUnit u →
+    Suits kind u.kind → Each IsAxis xs →
+    Each (λ x. x.unit ≡ None) xs → Each (λ x. asked_kind t x.direction ≡ kind) xs → Each (Fits t (Some u)) xs
+shared-fits t u kind [] h s a n k = tt
+shared-fits t u kind (x ∷ xs) h s a n k = (
+  record {
+    axis = a.0;
+    unit = u;
+    given_unit = ap (λ w. own_or w (Some u)) n.0;
+    suits = (h.0, subst (λ asked. Suits asked u.kind) (sym k.0) s);
+  },
+  shared-fits t u kind xs h s a.1 n.1 k.1,
+)
+
+fits : (t : SystemType) (xs : List AxisParts) (shared : Option UnitParts) → Each IsAxis xs →
+    IfSome shared IsAxisUnit → HasUnits t xs shared →
+    Each (Fits t shared) xs
+fits t xs None a h u = own-fits t xs a u
+fits t xs (Some shared) a h u = shared-fits t shared u.1.0 xs h u.1.1.1 a u.0 u.1.1.0
+
+-- ---- the axis at a position
+
+at-true : DecimalLaws → (k place : ℕ) (order : Option Value) → IsNormal (whole_value k) → IfSome order IsNormal →
+    IsPositionOf k place order →
+    is_at k place order ≡ true
+at-true l k place None n h e = (Decides-eqb place k).1 e
+at-true l k place (Some v) n h e =
+    let same : v ≡ whole_value k = (l.normal_one v (whole_value k) h n).0 e in
+    (bytes_eq-Decides (plain v) (decimal k)).1 (ap plain same ∙ append-nil (decimal k))
+
+found : DecimalLaws → (k place : ℕ) (xs : List AxisParts) → IsNormal (whole_value k) → Each IsAxis xs →
+    HasAt k (λ axis. ⊤) place xs →
+    (x : AxisParts) × (axis_at k place xs ≡ Some x)
+found l k place [] n a h = absurd h
+found l k place (x ∷ xs) n a (inl h) =
+    (x, ap (λ b. if b then Some x else axis_at k (place + 1) xs) (at-true l k place x.order n a.0.order h.0))
+found l k place (x ∷ xs) n a (inr h) = by (is_at k place x.order) (found l k (place + 1) xs n a.1 h)
+  where
+    by : (b : Bool) → ((y : AxisParts) × (axis_at k (place + 1) xs ≡ Some y)) →
+        (y : AxisParts) × ((if b then Some x else axis_at k (place + 1) xs) ≡ Some y)
+    by true later = (x, refl)
+    by false later = later
+
+found-of : (P : AxisParts → Type 0) (k place : ℕ) (xs : List AxisParts) (x : AxisParts) → Each P xs →
+    axis_at k place xs ≡ Some x → P x
+found-of P k place [] x h e = cc
+found-of P k place (y ∷ ys) x h e = by (is_at k place y.order) e (λ q. found-of P k (place + 1) ys x h.1 q)
+  where
+    by : (b : Bool) → (if b then Some y else axis_at k (place + 1) ys) ≡ Some x →
+        (axis_at k (place + 1) ys ≡ Some x → P x) → P x
+    by true q later = let same : y ≡ x = cc in subst P same h.0
+    by false q later = later q
+
+-- these are axes of the system at the positions from k on
+abbrev pub AreAxes : Level → SystemParts → ℕ → List AxisParts → Type 0
+AreAxes level s k [] = Unit {0}
+AreAxes level s k (a ∷ rest) = ((x : AxisParts) × (Fits s.system_type s.unit x × (a ≡ norm_axis level s k x)))
+    × AreAxes level s (k + 1) rest
+
+-- each position of the system has an axis
+abbrev pub HasEach : SystemParts → Type 0
+HasEach s = (k : ℕ) → 1 ≤ k → k ≤ length s.axes → HasAt k (λ axis. ⊤) 1 s.axes
+
+module _ (l : DecimalLaws) (level : Level) (s : SystemParts) (h : IsSystem s) (each_at : HasEach s)
+    (few : length s.axes ≤ 3) where
+  axis-found : (k : ℕ) → 1 ≤ k → k ≤ length s.axes →
+      (x : AxisParts) × (Fits s.system_type s.unit x × (axis_at k 1 s.axes ≡ Some x))
+  axis-found k low high =
+      let f = found l k 1 s.axes (whole-normal k low (omega arith)) h.axes (each_at k low high) in (
+        f.0,
+        (
+          found-of (Fits s.system_type s.unit) k 1 s.axes f.0 (fits s.system_type s.axes s.unit h.axes h.unit
+              h.units) f.1,
+          f.1,
+        ),
+      )
+
+  axes-are : (m k : ℕ) → 1 ≤ k → k + m ≤ length s.axes + 1 → AreAxes level s k (axes_from level s k m)
+  axes-are zero k low high = tt
+  axes-are (suc m) k low high =
+      let f = axis-found k low (omega arith) in
+      let low_next : 1 ≤ k + 1 = omega arith in
+      let high_next : (k + 1) + m ≤ length s.axes + 1 = omega arith in
+      subst (λ o. AreAxes level s k (with_axis level s k o (axes_from level s (k + 1) m))) (sym f.1.1)
+      ((f.0, (f.1.0, refl)), axes-are m (k + 1) low_next high_next)
+
+  axes-count : (m k : ℕ) → 1 ≤ k → k + m ≤ length s.axes + 1 → length (axes_from level s k m) ≡ m
+  axes-count zero k low high = refl
+  axes-count (suc m) k low high =
+      let f = axis-found k low (omega arith) in
+      let low_next : 1 ≤ k + 1 = omega arith in
+      let high_next : (k + 1) + m ≤ length s.axes + 1 = omega arith in
+      subst (λ o. length (with_axis level s k o (axes_from level s (k + 1) m)) ≡ suc m) (sym f.1.1)
+      (ap suc (axes-count m (k + 1) low_next high_next))
+
+  -- all of them
+  pub all-axes : AreAxes level s 1 (axes_from level s 1 (length s.axes))
+  all-axes = axes-are (length s.axes) 1 (omega arith) (omega arith)
+
+  pub all-count : length (axes_from level s 1 (length s.axes)) ≡ length s.axes
+  all-count = axes-count (length s.axes) 1 (omega arith) (omega arith)
+
+pub axes-made : DecimalLaws → (level : Level) (s : SystemParts) (most : ℕ) (parent : Class) (k : ℕ)
+    (rest : List AxisParts) → 5 ≤ most →
+    class_named parent (codes "AXIS") ≡ Some class.Axis → AreAxes level s k rest → 1 ≤ k → k + length rest ≤ 4 →
+    Each (Made level most parent class.Axis) (map item_axis rest)
+unfolding norm_axis
+axes-made l level s most parent k [] deep named h low high = tt
+axes-made l level s most parent k (a ∷ rest) deep named h low high =
+    let low_next : 1 ≤ k + 1 = omega arith in
+    let high_next : (k + 1) + length rest ≤ 4 = omega arith in
+    let small : k ≤ 3 = omega arith in (
+      subst (λ b. Made level most parent class.Axis (item_axis b)) (sym h.0.1.1)
+          (as-argument level 5 most parent class.Axis (item_axis (norm_axis level s k h.0.0)) deep named
+          (axis-made l level s k h.0.0 h.0.1.0 low small)),
+      axes-made l level s most parent (k + 1) rest deep named h.1 low_next high_next,
+    )
+
+-- these items are axes with the orders from k on
+abbrev pub AreAxisItems : SystemType → ℕ → List Item → Type 0
+AreAxisItems t k [] = Unit {0}
+AreAxisItems t k (item ∷ items) = IsAxisItem t k item × AreAxisItems t (k + 1) items
+
+pub axes-seen : DecimalLaws → (level : Level) (s : SystemParts) (k : ℕ) (items : List Item) (rest : List AxisParts) →
+    ArePlaced items (map item_axis rest) →
+    AreAxes level s k rest → 1 ≤ k → k + length rest ≤ 4 → AreAxisItems s.system_type k items
+axes-seen l level s k [] [] p h low high = tt
+axes-seen l level s k [] (a ∷ rest) p h low high = tt
+axes-seen l level s k (item ∷ items) [] p h low high = absurd p
+axes-seen l level s k (item ∷ items) (a ∷ rest) p h low high =
+    let low_next : 1 ≤ k + 1 = omega arith in
+    let high_next : (k + 1) + length rest ≤ 4 = omega arith in
+    let small : k ≤ 3 = omega arith in (
+      subst (IsAxisItem s.system_type k) (sym (p.0.1 ∙ ap (λ b. at_place p.0.0 (item_axis b)) h.0.1.1))
+          (axis-seen l level s k h.0.0 h.0.1.0 low small p.0.0),
+      axes-seen l level s (k + 1) items rest p.1 h.1 low_next high_next,
+    )
+
+-- ---- the node `CS`
+
+abbrev head_runs : Level → SystemParts → List Run
+head_runs level s = alone class.Word (word_item (system_word s.system_type)) ∷ alone class.Number
+    (number_item s.dimension) ∷ ids_run level s.identifiers ∷ []
+
+head-runs-made : DecimalLaws → (level : Level) (s : SystemParts) → IsSystem s →
+    RunsMade level 2 class.CoordinateSystem (head_runs level s)
+unfolding class_named is_keyword
+head-runs-made l level s h = (
+  (
+    word-made level 2 class.CoordinateSystem (system_word s.system_type) (system-letters s.system_type) (
+      s.system_type,
+      refl,
+    ),
+    tt,
+  ),
+  (
+    (number-made l level 2 class.CoordinateSystem s.dimension h.dimension, tt),
+    (identifiers-made l level 2 class.CoordinateSystem s.identifiers (omega arith) refl h.identifiers, tt),
+  ),
+)
+
+known-type : (t : SystemType) (words : List Item) (fault : RefusedAt) →
+    ArePlaced words (word_item (system_word t) ∷ []) → ¬ (AnyOf UnknownType words fault)
+known-type t [] fault h b = h
+known-type t (x ∷ []) fault h (inl b) = b.1 t (subst (λ i. ReadsType i t) (sym h.0.1) refl)
+known-type t (x ∷ []) fault h (inr b) = b
+known-type t (x ∷ y ∷ words) fault h b = h.1
+
+pub head-made : DecimalLaws → (level : Level) (s : SystemParts) → IsSystem s → (p : ℕ) →
+    IsAcceptedNormal level class.CoordinateSystem 3 (at_place p (item_head (norm_system level s)))
+unfolding BreaksOwn is_keyword
+head-made l level s h =
+    node-made level 2 class.CoordinateSystem (codes "CS") (word_item (system_word s.system_type))
+    (More (number_item s.dimension) (each item_ident (set_idents level s.identifiers) End)) (head_runs level s)
+    (simp each-line) (record {
+      letters = (refl, refl);
+      known = refl;
+      written = refl;
+      made = head-runs-made l level s h;
+      allowed = runs-fit (slots_of class.CoordinateSystem) (head_runs level s) (
+        fills-one refl,
+        (fills-one refl, (fills-any refl, tt)),
+      );
+      sets = (identifiers-ascend level s.identifiers, (tt, (tt, (tt, (tt, tt)))));
+      left = identifiers-left level s.identifiers;
+      own = λ item v. tt;
+      unbroken = λ item fault v b. known-type s.system_type (those class.CoordinateSystem class.Word (arguments item))
+          fault (v.view class.Word) b;
+    })
+
+-- what is in a node `CS`, as the checks of a system see it
+pub record IsHeadItem (t : SystemType) (dimension : Value) (item : Item) : Type 0 where
+  pub words : ArePlaced (those class.CoordinateSystem class.Word (arguments item)) (word_item (system_word t) ∷ [])
+  pub numbers : ArePlaced (those class.CoordinateSystem class.Number (arguments item)) (number_item dimension ∷ [])
+
+pub head-seen : DecimalLaws → (level : Level) (s : SystemParts) → IsSystem s → (p : ℕ) →
+    IsHeadItem s.system_type s.dimension (at_place p (item_head (norm_system level s)))
+head-seen l level s h p =
+    let look = sees level 2 class.CoordinateSystem (codes "CS") (word_item (system_word s.system_type))
+    (More (number_item s.dimension) (each item_ident (set_idents level s.identifiers) End)) (head_runs level s) p
+    (simp each-line) (head-runs-made l level s h) in
+    record { words = look.view class.Word; numbers = look.view class.Number }
+
+-- ---- the number of axes
+
+-- a number that is one of a few small ones and is this whole number too is small
+pub few-axes : DecimalLaws → (v : Value) (n : ℕ) (ns : List ℕ) → Each (λ m. m ≤ 3) ns → IsOneOf v ns →
+    SameNumber (exact v) (whole_number n) → n ≤ 3
+few-axes l v n [] few h s = absurd h
+few-axes l v n (m ∷ ns) few (inl h) s =
+    let t : SameNumber (whole_number n) (whole_number m) =
+    l.transitive (whole_number n) (exact v) (whole_number m) (l.symmetric (exact v) (whole_number n) s) h in
+    let e : n * 1 ≡ m * 1 = t.0 in
+    let k : m ≤ 3 = few.0 in
+    omega arith
+few-axes l v n (m ∷ ns) few (inr h) s = few-axes l v n ns few.1 h s
+
+-- ---- axes by themselves

@@ -1,0 +1,152 @@
+-- Units are made.
+use Rattle.std.proofs.Common.{◌≡◌, ℕ, true, Some, List, [], ◌∷◌, codes, inl, inr, refl, sym, ap, subst, arith}
+use Rattle.crs_decimal.specs.Plain.{plain}
+use Rattle.crs_decimal.specs.Value.{Value, IsNormal}
+use Rattle.crs_text.specs.Items.{Item, End, More, arguments}
+use Rattle.crs_text.specs.Refusal.{RefusedAt}
+use Rattle.crs_text.specs.Tokens.{IsWord}
+use Rattle.crs_text.specs.Written.{at_place}
+use Rattle.crs_shape.specs.declared.class.Class.{Class}
+use Rattle.crs_shape.specs.declared.class.Class.TheVariants as class
+use Rattle.crs_shape.specs.Keywords.{is_keyword}
+use Rattle.crs_shape.specs.Shape.{Allowed}
+use Rattle.crs_shape.specs.Slots.{class_named, slots_of, unit_slots}
+use Rattle.crs_value.specs.BadValue.{IsAboveZero, NotAbove}
+use Rattle.crs_value.specs.Break.{AnyOf}
+use Rattle.crs_value.specs.Checks.{OfUnit, Own as BreaksOwn}
+use Rattle.crs_value.specs.declared.values.level.Level.{Level}
+use Rattle.crs_value.specs.declared.values.unit_kind.UnitKind.{UnitKind}
+use Rattle.crs_value.specs.declared.values.unit_kind.UnitKind.TheVariants as kinds
+use Rattle.crs_value.specs.Reading.{those}
+use Rattle.crs_value.specs.Reads.{ReadsNumber}
+use Rattle.crs_value.specs.Sound.{IsUnit}
+use Rattle.crs_value.specs.Values.{UnitParts}
+use Rattle.crs_value.specs.Words.{unit_word}
+use Rattle.crs_normal.specs.DecimalLaws.{DecimalLaws}
+use Rattle.crs_normal.specs.AcceptedNormal.{IsKindIn, IsAcceptedNormal}
+use Rattle.crs_normal.specs.Normal.{IsFirstKeyword}
+use Rattle.crs_normal.specs.NormalOwn.{HasOwnForm}
+use Rattle.crs_normal.specs.SpelledItems.{each, number_item, text_item}
+use Rattle.crs_normal.specs.SpelledUnits.{item_ident, item_unit, set_idents}
+use Rattle.crs_normal.proofs.made.FitLemmas.{fills-any, fills-one, runs-fit}
+use Rattle.crs_normal.proofs.made.IdentLemmas.{identifiers-ascend, identifiers-left, identifiers-made, ids_run}
+use Rattle.crs_normal.proofs.made.LeafLemmas.{number-made, text-made}
+use Rattle.crs_normal.proofs.made.NodeLemmas.{IsKept, Run, alone, classes, each-line, node-made}
+use Rattle.crs_normal.proofs.made.PlaceLemmas.{ArePlaced}
+
+-- ---- numbers
+
+-- a number that is written plainly reads as its value alone
+pub reads-one : DecimalLaws → (v value : Value) (item : Item) (p : ℕ) → IsNormal v →
+    item ≡ at_place p (number_item v) → ReadsNumber item value → value ≡ v
+reads-one l v value item p n e r =
+    let d : ReadsNumber (at_place p (number_item v)) value = subst (λ i. ReadsNumber i value) e r in
+    l.denotes_one (plain v) value v d.0 n d.1 (l.denotes v n)
+
+pub not-below : DecimalLaws → (v : Value) (items : List Item) (fault : RefusedAt) → IsNormal v → IsAboveZero v →
+    ArePlaced items (number_item v ∷ []) →
+    ¬ (AnyOf NotAbove items fault)
+not-below l v [] fault n a h b = b
+not-below l v (item ∷ items) fault n a h (inl b) =
+    b.1.1.1 (subst IsAboveZero (sym (reads-one l v b.1.0 item h.0.0 n h.0.1 b.1.1.0)) a)
+not-below l v (item ∷ []) fault n a h (inr b) = b
+not-below l v (item ∷ other ∷ items) fault n a h (inr b) = absurd h.1
+
+-- ---- units
+
+unit-slots : (c : Class) (kind : UnitKind) → IsKindIn c kind → slots_of c ≡ unit_slots
+unit-slots class.LengthUnit kind h = refl
+unit-slots class.AngleUnit kind h = refl
+unit-slots class.ScaleUnit kind h = refl
+unit-slots class.PlainUnit kind h = refl
+unit-slots class.AxisUnit kind h = refl
+unit-slots other kind h = absurd h
+
+unit-known : (c : Class) (kind : UnitKind) → IsKindIn c kind → is_keyword c (unit_word kind) ≡ true
+unfolding is_keyword
+unit-known class.LengthUnit kind h = subst (λ k. is_keyword class.LengthUnit (unit_word k) ≡ true) (sym h) refl
+unit-known class.AngleUnit kind h = subst (λ k. is_keyword class.AngleUnit (unit_word k) ≡ true) (sym h) refl
+unit-known class.ScaleUnit kind h = subst (λ k. is_keyword class.ScaleUnit (unit_word k) ≡ true) (sym h) refl
+unit-known class.PlainUnit kind h = subst (λ k. is_keyword class.PlainUnit (unit_word k) ≡ true) (sym h) refl
+unit-known class.AxisUnit kind (inl h) = subst (λ k. is_keyword class.AxisUnit (unit_word k) ≡ true) (sym h) refl
+unit-known class.AxisUnit kind (inr h) = subst (λ k. is_keyword class.AxisUnit (unit_word k) ≡ true) (sym h) refl
+unit-known other kind h = absurd h
+
+unit-written : (c : Class) (kind : UnitKind) → IsKindIn c kind → IsFirstKeyword c (unit_word kind)
+unit-written class.LengthUnit kind h = ap unit_word h
+unit-written class.AngleUnit kind h = ap unit_word h
+unit-written class.ScaleUnit kind h = ap unit_word h
+unit-written class.PlainUnit kind h = ap unit_word h
+unit-written class.AxisUnit kind (inl h) = inl (ap unit_word h)
+unit-written class.AxisUnit kind (inr h) = inr (ap unit_word h)
+unit-written other kind h = absurd h
+
+unit-letters : (kind : UnitKind) → IsWord (unit_word kind)
+unit-letters kinds.Length = (refl, refl)
+unit-letters other = (refl, refl)
+
+unit-own : (c : Class) (kind : UnitKind) (item : Item) → IsKindIn c kind → HasOwnForm c item
+unit-own class.LengthUnit kind item h = tt
+unit-own class.AngleUnit kind item h = tt
+unit-own class.ScaleUnit kind item h = tt
+unit-own class.PlainUnit kind item h = tt
+unit-own class.AxisUnit kind item h = tt
+unit-own other kind item h = absurd h
+
+unit-breaks : (c : Class) (kind : UnitKind) (item : Item) (fault : RefusedAt) → IsKindIn c kind →
+    BreaksOwn c item fault → OfUnit c item fault
+unfolding BreaksOwn
+unit-breaks class.LengthUnit kind item fault h b = b
+unit-breaks class.AngleUnit kind item fault h b = b
+unit-breaks class.ScaleUnit kind item fault h b = b
+unit-breaks class.PlainUnit kind item fault h b = b
+unit-breaks class.AxisUnit kind item fault h b = b
+unit-breaks other kind item fault h b = absurd h
+
+unit-names-id : (c : Class) (kind : UnitKind) → IsKindIn c kind → class_named c (codes "ID") ≡ Some class.Identifier
+unfolding class_named is_keyword
+unit-names-id class.LengthUnit kind h = refl
+unit-names-id class.AngleUnit kind h = refl
+unit-names-id class.ScaleUnit kind h = refl
+unit-names-id class.PlainUnit kind h = refl
+unit-names-id class.AxisUnit kind h = refl
+unit-names-id other kind h = absurd h
+
+abbrev pub unit_runs : Level → UnitParts → List Run
+unit_runs level u = alone class.Text (text_item u.name) ∷ alone class.Number (number_item u.factor) ∷
+    ids_run level u.identifiers ∷ []
+
+-- a unit in its one form, of this kind
+abbrev pub unit_as : Level → UnitKind → UnitParts → UnitParts
+unit_as level kind u = record { kind = kind; name = u.name; factor = u.factor; identifiers = set_idents level u.identifiers }
+
+pub unit-kept : DecimalLaws → (level : Level) (c : Class) (kind : UnitKind) (u : UnitParts) → IsKindIn c kind → IsUnit u →
+    IsKept level 2 c (unit_word kind) (unit_runs level u)
+unit-kept l level c kind u k h = record {
+  letters = unit-letters kind;
+  known = unit-known c kind k;
+  written = unit-written c kind k;
+  made = (
+    (text-made level 2 c u.name h.name, tt),
+    (
+      (number-made l level 2 c u.factor h.factor, tt),
+      (identifiers-made l level 2 c u.identifiers (omega arith) (unit-names-id c kind k) h.identifiers, tt),
+    ),
+  );
+  allowed = subst (λ slots. Allowed slots (classes (unit_runs level u))) (sym (unit-slots c kind k))
+      (runs-fit unit_slots (unit_runs level u) (fills-one refl, (fills-one refl, (fills-any refl, tt))));
+  sets = (identifiers-ascend level u.identifiers, (tt, (tt, (tt, (tt, tt)))));
+  left = identifiers-left level u.identifiers;
+  own = λ item s. unit-own c kind item k;
+  unbroken = λ item fault s b.
+      not-below l u.factor (those c class.Number (arguments item)) fault h.factor h.above_zero (s.view class.Number)
+      (unit-breaks c kind item fault k b);
+}
+
+pub unit-made : DecimalLaws → (level : Level) (c : Class) (kind : UnitKind) (u : UnitParts) → IsKindIn c kind →
+    IsUnit u → (p : ℕ) →
+    IsAcceptedNormal level c 3 (at_place p (item_unit (unit_as level kind u)))
+unit-made l level c kind u k h =
+    node-made level 2 c (unit_word kind) (text_item u.name) (More (number_item u.factor)
+    (each item_ident (set_idents level u.identifiers) End))
+    (unit_runs level u) (simp each-line) (unit-kept l level c kind u k h)

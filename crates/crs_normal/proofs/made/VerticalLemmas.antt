@@ -1,0 +1,288 @@
+-- Vertical CRSs are made.
+use Rattle.std.proofs.Common.{◌≡◌, ℕ, ◌++◌, true, Option, Some, None, List, [], ◌∷◌, map, codes, inl, inr, refl, arith}
+use Rattle.std.specs.Option.{option_map}
+use Rattle.crs_text.specs.Items.{Item, More, arguments}
+use Rattle.crs_text.specs.Refusal.{RefusedAt}
+use Rattle.crs_text.specs.Written.{at_place}
+use Rattle.crs_shape.specs.declared.class.Class.{Class}
+use Rattle.crs_shape.specs.declared.class.Class.TheVariants as class
+use Rattle.crs_shape.specs.Keywords.{is_keyword}
+use Rattle.crs_shape.specs.Shape.{Allowed}
+use Rattle.crs_shape.specs.ShapeFault.{class_in}
+use Rattle.crs_shape.specs.Slots.{any_of, class_named, one, one_of, optional, slots_of, some, takes, vertical_tail}
+use Rattle.crs_value.specs.BadSystem.{vertical_dimensions}
+use Rattle.crs_value.specs.Checks.{OfCrs, Own as BreaksOwn}
+use Rattle.crs_value.specs.ConversionValues.{GeoidModelParts}
+use Rattle.crs_value.specs.CrsValues.{VerticalParts}
+use Rattle.crs_value.specs.declared.values.frame.Frame.{Frame}
+use Rattle.crs_value.specs.declared.values.frame.Frame.TheVariants as frame
+use Rattle.crs_value.specs.declared.values.level.Level.{Level}
+use Rattle.crs_value.specs.DynamicValues.{DynamicParts}
+use Rattle.crs_value.specs.Reading.{those}
+use Rattle.crs_value.specs.Sound.{Each}
+use Rattle.crs_value.specs.SoundConversion.{IsGeoidModel}
+use Rattle.crs_value.specs.SoundSingle.{IsDynamicOf, IsVertical}
+use Rattle.crs_same.specs.SameUsages.{usages_of}
+use Rattle.crs_normal.specs.DecimalLaws.{DecimalLaws}
+use Rattle.crs_normal.specs.AcceptedNormal.{IsAcceptedNormal, vertical_frame_class}
+use Rattle.crs_normal.specs.NormalOwn.{Ascend, rank, set_classes}
+use Rattle.crs_normal.specs.SpelledConversions.{item_geoid_model, norm_geoid_model, set_geoid_models}
+use Rattle.crs_normal.specs.SpelledCrs.{item_vertical, norm_vertical}
+use Rattle.crs_normal.specs.SpelledDynamic.{item_dynamic, norm_dynamic}
+use Rattle.crs_normal.specs.SpelledFrames.{item_frame, norm_frame}
+use Rattle.crs_normal.specs.SpelledItems.{each, opt, text_item}
+use Rattle.crs_normal.specs.SpelledSystems.{item_head, norm_system, system_items}
+use Rattle.crs_normal.specs.SpelledUnits.{item_unit}
+use Rattle.crs_normal.specs.SpelledUsages.{norm_tail, tail_items}
+use Rattle.crs_normal.proofs.made.AscendLemmas.{set-ascends, set-each}
+use Rattle.crs_normal.proofs.made.BehindLemmas.{AxisEach, IsFew, NamesSystem, Shows, axes-argument, axes-some, axes_run, behind, crs_classes, few-system, head-argument, no_unit_run, system-seen, tail-seen}
+use Rattle.crs_normal.proofs.made.CheckLemmas.{IsSystemSeen, has-axes, no-bad-systems}
+use Rattle.crs_normal.proofs.made.DynamicLemmas.{IsSteady, dynamic-argument, dynamic_classes, dynamic_run, no-bad-dynamic, none-shown}
+use Rattle.crs_normal.proofs.made.FitLemmas.{fills-one, fills-optional, fills-some, fit-before, last-fits, taken-more}
+use Rattle.crs_normal.proofs.made.FrameLemmas.{vertical-frame-made}
+use Rattle.crs_normal.proofs.made.GeodeticLemmas.{end_classes}
+use Rattle.crs_normal.proofs.made.IdentLemmas.{identifiers-ascend}
+use Rattle.crs_normal.proofs.made.LeafLemmas.{text-made}
+use Rattle.crs_normal.proofs.made.NodeLemmas.{IsKept, KeepsRuns, Made, Run, RunsMade, Sees, alone, as-argument, classes, each-line, items_in, node-made, opt-line, views}
+use Rattle.crs_normal.proofs.made.NamedLemmas.{geoid-model-made}
+use Rattle.crs_normal.proofs.made.RiseLemmas.{RunsRise}
+use Rattle.crs_normal.proofs.made.TailLemmas.{IsTailSeen, has-tail, no-repeats, tail-fits, tail-left, tail-runs-made, tail_runs, usages-ascend}
+use Rattle.crs_normal.proofs.normal.DimensionLemmas.{small-vertical}
+
+-- ---- the frame, of one class or the other
+
+vertical-named : (level : Level) (f : Frame) →
+    class_in class.VerticalCrs (item_frame (codes "VDATUM") (norm_frame level f)) ≡ Some (vertical_frame_class f)
+unfolding class_named is_keyword
+vertical-named level (frame.Datum d) = refl
+vertical-named level (frame.Ensemble e) = refl
+
+vertical-taken : (f : Frame) → takes (one_of (class.VerticalFrame ∷ class.VerticalEnsemble ∷ [])) (vertical_frame_class f)
+    ≡ true
+vertical-taken (frame.Datum d) = refl
+vertical-taken (frame.Ensemble e) = refl
+
+vertical-rank : (f : Frame) → rank (vertical_frame_class f) ≡ 0
+vertical-rank (frame.Datum d) = refl
+vertical-rank (frame.Ensemble e) = refl
+
+-- the name, the dynamic part and the frame of a vertical CRS, and these
+abbrev framed_runs : Level → Item → Option DynamicParts → Frame → Item → List Run → List Run
+framed_runs level n x f j rest = alone class.Text n ∷ dynamic_run level x ∷ alone (vertical_frame_class f) j ∷ rest
+
+vertical-sets : (level : Level) (n : Item) (x : Option DynamicParts) (f : Frame) (j : Item) (rest : List Run) →
+    Each (λ d. Ascend (items_in d rest)) set_classes →
+    Each (λ d. Ascend (items_in d (framed_runs level n x f j rest))) set_classes
+vertical-sets level n x (frame.Datum d) j rest h = h
+vertical-sets level n x (frame.Ensemble e) j rest h = h
+
+vertical-left : (level : Level) (n : Item) (x : Option DynamicParts) (f : Frame) (j : Item) (rest : List Run) →
+    KeepsRuns level rest → KeepsRuns level (framed_runs level n x f j rest)
+vertical-left level n x (frame.Datum d) j rest h = h
+vertical-left level n x (frame.Ensemble e) j rest h = h
+
+vertical-shows : (level : Level) (item n : Item) (x : Option DynamicParts) (f : Frame) (j : Item) (rest : List Run) →
+    Each (Shows class.VerticalCrs item (framed_runs level n x f j rest)) crs_classes →
+    Each (Shows class.VerticalCrs item rest) crs_classes
+vertical-shows level item n x (frame.Datum d) j rest h = h
+vertical-shows level item n x (frame.Ensemble e) j rest h = h
+
+-- no dynamic part is beside an ensemble, where none of these come after the frame
+vertical-steady : (level : Level) (item n : Item) (x : Option DynamicParts) (f : Frame) (j : Item) (rest : List Run) →
+    IsDynamicOf x f → Each (λ e. items_in e rest ≡ []) dynamic_classes →
+    Each (Shows class.VerticalCrs item (framed_runs level n x f j rest)) dynamic_classes →
+    IsSteady class.VerticalCrs item
+vertical-steady level item n None (frame.Datum d) j rest h none v =
+    inl (none-shown (those class.VerticalCrs class.Dynamic (arguments item)) (items_in class.Dynamic rest) none.0 v.0)
+vertical-steady level item n None (frame.Ensemble e) j rest h none v =
+    inl (none-shown (those class.VerticalCrs class.Dynamic (arguments item)) (items_in class.Dynamic rest) none.0 v.0)
+vertical-steady level item n (Some x) (frame.Datum d) j rest h none v =
+    inr (
+      none-shown (those class.VerticalCrs class.GeodeticEnsemble (arguments item))
+          (items_in class.GeodeticEnsemble rest) none.1.0 v.1.0,
+      none-shown (those class.VerticalCrs class.VerticalEnsemble (arguments item))
+          (items_in class.VerticalEnsemble rest) none.1.1.0 v.1.1.0,
+    )
+vertical-steady level item n (Some x) (frame.Ensemble e) j rest h none v = absurd h
+
+-- ---- geoid models
+
+models-made : DecimalLaws → (level : Level) (gs : List GeoidModelParts) → Each IsGeoidModel gs →
+    Each (Made level 5 class.VerticalCrs class.GeoidModel) (map item_geoid_model (set_geoid_models level gs))
+unfolding set_geoid_models class_named is_keyword
+models-made l level gs h =
+    set-each (norm_geoid_model level) item_geoid_model IsGeoidModel (Made level 5 class.VerticalCrs class.GeoidModel)
+    gs h
+    (λ g q. as-argument level 3 5 class.VerticalCrs class.GeoidModel (item_geoid_model (norm_geoid_model level g))
+    (omega arith) refl (geoid-model-made l level g q))
+
+models-ascend : (level : Level) (gs : List GeoidModelParts) →
+    Ascend (map item_geoid_model (set_geoid_models level gs) ++ [])
+unfolding set_geoid_models
+models-ascend level gs = set-ascends item_geoid_model (map (norm_geoid_model level) gs)
+
+-- ---- vertical CRSs
+
+abbrev models_run : Level → VerticalParts → Run
+models_run level g = record {
+  of = class.GeoidModel;
+  items = map item_geoid_model
+      (set_geoid_models level g.geoid_models);
+}
+
+-- what a vertical CRS has after its frame
+abbrev vertical_rest : Level → VerticalParts → List Run
+vertical_rest level g =
+    alone class.CoordinateSystem (item_head (norm_system level g.system)) ∷ axes_run level g.system ∷ no_unit_run ∷
+    models_run level g ∷ tail_runs level g.tail
+
+abbrev frame_item : Level → VerticalParts → Item
+frame_item level g = item_frame (codes "VDATUM") (norm_frame level g.frame)
+
+abbrev vertical_runs : Level → VerticalParts → List Run
+vertical_runs level g =
+    framed_runs level (text_item g.name) g.dynamic g.frame (frame_item level g) (vertical_rest level g)
+
+abbrev model_classes : List Class
+model_classes = class.GeoidModel ∷ end_classes
+
+vertical-allowed : DecimalLaws → (level : Level) (g : VerticalParts) → IsFew g.system →
+    Allowed (slots_of class.VerticalCrs) (classes (vertical_runs level g))
+vertical-allowed l level g few =
+    fit-before (one class.Text ∷ optional class.Dynamic ∷ one_of (class.VerticalFrame ∷ class.VerticalEnsemble ∷ []) ∷
+    one class.CoordinateSystem ∷ some class.Axis ∷
+    optional class.AxisUnit ∷ []) (vertical_tail ∷ [])
+    (framed_runs level (text_item g.name) g.dynamic g.frame (frame_item level g)
+    (alone class.CoordinateSystem (item_head (norm_system level g.system)) ∷ axes_run level g.system ∷ no_unit_run ∷ []))
+    (models_run level g ∷ tail_runs level g.tail) (
+      fills-one refl,
+      (
+        fills-optional item_dynamic (option_map (norm_dynamic level) g.dynamic) refl,
+        (
+          fills-one (vertical-taken g.frame),
+          (
+            fills-one refl,
+            (fills-some refl (axes-some l level g.system few), (fills-optional item_unit None refl, tt)),
+          ),
+        ),
+      ),
+    )
+    (last-fits model_classes (classes (models_run level g ∷ tail_runs level g.tail))
+    (taken-more (any_of model_classes) class.GeoidModel (map item_geoid_model (set_geoid_models level g.geoid_models))
+    (classes (tail_runs level g.tail)) refl
+    (tail-fits model_classes level g.tail refl refl refl)))
+
+vertical-runs-made : DecimalLaws → (level : Level) (g : VerticalParts) → IsFew g.system → IsVertical g →
+    RunsMade level 5 class.VerticalCrs (vertical_runs level g)
+unfolding class_named is_keyword
+vertical-runs-made l level g few h =
+    let names : NamesSystem class.VerticalCrs = record { head = refl; axis = refl } in (
+      (text-made level 5 class.VerticalCrs g.name h.name, tt),
+      (
+        dynamic-argument l level 5 class.VerticalCrs g.dynamic g.frame (omega arith) refl h.dynamic,
+        (
+          (
+            as-argument level 5 5 class.VerticalCrs (vertical_frame_class g.frame) (frame_item level g) (omega arith)
+                (vertical-named level g.frame) (vertical-frame-made l level g.frame h.frame),
+            tt,
+          ),
+          (
+            (head-argument l level 5 class.VerticalCrs g.system (omega arith) names few.system, tt),
+            (
+              axes-argument l level 5 class.VerticalCrs g.system (omega arith) names few,
+              (
+                tt,
+                (
+                  models-made l level g.geoid_models h.geoid_models,
+                  tail-runs-made l level 5 class.VerticalCrs g.tail (omega arith)
+                      (record { usage = refl; ident = refl; remark = refl }) h.tail,
+                ),
+              ),
+            ),
+          ),
+        ),
+      ),
+    )
+
+vertical-rise : (level : Level) (g : VerticalParts) → RunsRise 0 (vertical_runs level g)
+vertical-rise level g =
+    let e : rank (vertical_frame_class g.frame) ≡ 0 = vertical-rank g.frame in (
+      omega arith,
+      (
+        omega arith,
+        (
+          omega arith,
+          (
+            omega arith,
+            (omega arith, (omega arith, (omega arith, (omega arith, (omega arith, (omega arith, tt)))))),
+          ),
+        ),
+      ),
+    )
+
+vertical-breaks : DecimalLaws → (g : VerticalParts) (item : Item) (fault : RefusedAt) → IsVertical g →
+    IsTailSeen class.VerticalCrs item →
+    IsSystemSeen g.system.system_type g.system.dimension (those class.VerticalCrs class.CoordinateSystem
+    (arguments item))
+    (those class.VerticalCrs class.Axis (arguments item)) (those class.VerticalCrs class.AxisUnit (arguments item)) →
+    IsSteady class.VerticalCrs item →
+    ¬ (OfCrs vertical_dimensions class.VerticalCrs item fault)
+vertical-breaks l g item fault h t q y (inl b) = no-repeats class.VerticalCrs item fault t b
+vertical-breaks l g item fault h t q y (inr (inl b)) =
+    no-bad-systems l vertical_dimensions g.system.system_type g.system.dimension
+    (those class.VerticalCrs class.CoordinateSystem (arguments item))
+    (those class.VerticalCrs class.Axis (arguments item)) (those class.VerticalCrs class.AxisUnit (arguments item))
+    fault
+    h.system.dimension h.dimension q b
+vertical-breaks l g item fault h t q y (inr (inr b)) = no-bad-dynamic class.VerticalCrs item fault y b
+
+vertical-shown : (level : Level) (g : VerticalParts) (item : Item) →
+    Sees class.VerticalCrs (vertical_runs level g) item →
+    Each (Shows class.VerticalCrs item (behind level g.system g.tail)) crs_classes
+vertical-shown level g item s =
+    vertical-shows level item (text_item g.name) g.dynamic g.frame (frame_item level g) (vertical_rest level g)
+    (views class.VerticalCrs (vertical_runs level g) item crs_classes s)
+
+vertical-kept : DecimalLaws → (level : Level) (g : VerticalParts) → IsFew g.system → IsVertical g →
+    IsKept level 5 class.VerticalCrs (codes "VERTCRS") (vertical_runs level g)
+unfolding BreaksOwn is_keyword
+vertical-kept l level g few h = record {
+  letters = (refl, refl);
+  known = refl;
+  written = refl;
+  made = vertical-runs-made l level g few h;
+  allowed = vertical-allowed l level g few;
+  sets = vertical-sets level (text_item g.name) g.dynamic g.frame (frame_item level g) (vertical_rest level g) (
+    identifiers-ascend level g.tail.identifiers,
+    (
+      usages-ascend level (usages_of g.tail),
+      (tt, (tt, (models-ascend level g.geoid_models, tt))),
+    ),
+  );
+  left = vertical-left level (text_item g.name) g.dynamic g.frame (frame_item level g) (vertical_rest level g)
+      (tail-left level g.tail);
+  own = λ item s.
+      let v = vertical-shown level g item s in (
+        has-axes class.VerticalCrs item g.system.system_type g.system.dimension
+            (system-seen l level class.VerticalCrs item g.system g.tail few v),
+        has-tail level 5 class.VerticalCrs (vertical_runs level g) item s (vertical-runs-made l level g few h)
+            (vertical-rise level g)
+            (tail-seen level class.VerticalCrs item g.tail v.1.1.1),
+      );
+  unbroken = λ item fault s b.
+      let v = vertical-shown level g item s in
+      vertical-breaks l g item fault h (tail-seen level class.VerticalCrs item g.tail v.1.1.1)
+      (system-seen l level class.VerticalCrs item g.system g.tail few v)
+      (vertical-steady level item (text_item g.name) g.dynamic g.frame (frame_item level g) (vertical_rest level g)
+      h.dynamic (refl, (refl, (refl, tt))) (views class.VerticalCrs (vertical_runs level g) item dynamic_classes s)) b;
+}
+
+pub vertical-made : DecimalLaws → AxisEach → (level : Level) (g : VerticalParts) → IsVertical g → (p : ℕ) →
+    IsAcceptedNormal level class.VerticalCrs 6 (at_place p (item_vertical (norm_vertical level g)))
+vertical-made l each_at level g h =
+    node-made level 5 class.VerticalCrs (codes "VERTCRS") (text_item g.name)
+    (opt item_dynamic (option_map (norm_dynamic level) g.dynamic) (More (frame_item level g)
+    (system_items (norm_system level g.system) (each item_geoid_model (set_geoid_models level g.geoid_models)
+    (tail_items (norm_tail level g.tail))))))
+    (vertical_runs level g) (simp (opt-line, each-line))
+    (vertical-kept l level g (few-system l each_at vertical_dimensions small-vertical g.system h.system h.dimension) h)

@@ -1,0 +1,157 @@
+-- Boxes and extents of a usage: their items read as them wherever they are, and their one form
+-- agrees with sameness.
+use Rattle.std.proofs.Common.{◌≡◌, ◌↔◌, ℕ, ◌+◌, true, codes, IfSome, Option, Some, None, inl, inr, refl, sym, ◌∙◌, ap}
+use Rattle.crs_decimal.specs.Value.{Value, IsNormal}
+use Rattle.crs_text.specs.Items.{End, More}
+use Rattle.crs_text.specs.Written.{at_place}
+use Rattle.crs_shape.specs.declared.class.Class.TheVariants as class
+use Rattle.crs_shape.specs.Slots.{class_named, is_class}
+use Rattle.crs_value.specs.declared.values.level.Level.{Level}
+use Rattle.crs_value.specs.declared.values.unit_kind.UnitKind.{UnitKind}
+use Rattle.crs_value.specs.declared.values.unit_kind.UnitKind.TheVariants as kinds
+use Rattle.crs_value.specs.Reading.{ReadsOptional}
+use Rattle.crs_value.specs.Reads.{ReadsBox, ReadsExtent, ReadsUnit}
+use Rattle.crs_value.specs.Sound.{IsUnit, IsUnitOf, Suits}
+use Rattle.crs_value.specs.SoundUsages.{IsBox, IsExtent}
+use Rattle.crs_value.specs.Values.{BoxParts, ExtentParts, UnitParts}
+use Rattle.crs_value.specs.Words.{unit_word}
+use Rattle.crs_same.specs.SameUnits.{SameLength, kind_as, or_metre}
+use Rattle.crs_same.specs.SameUsages.{SameBox, SameExtent}
+use Rattle.crs_normal.specs.FormedWithin.{IsFormedWithin}
+use Rattle.crs_normal.specs.SpelledItems.{number_item, opt}
+use Rattle.crs_normal.specs.SpelledUnits.{item_unit, metre, norm_length}
+use Rattle.crs_normal.specs.SpelledUsages.{item_box, item_extent, norm_extent}
+use Rattle.crs_normal.specs.TextLaws.{TextLaws}
+use Rattle.crs_normal.proofs.members.IdentLemmas.{ReadsIdentOnce}
+use Rattle.crs_normal.proofs.texts.ItemLemmas.{Gives, IsOf, fit-end, fit-more, fit-node, fit-opt, gives-over, lacks-end, opt-read, value-fit}
+use Rattle.crs_normal.proofs.members.MemberUnitLemmas.{number-read, unit-agrees, unit-fit, unit-kept, unit-read, values-agree}
+use Rattle.crs_normal.proofs.read.NameLemmas.{keyword-names}
+use Rattle.crs_normal.proofs.same.UnitLemmas.{given-length, length-formed, metre-is}
+
+-- ---- units of length, where a missing one is the metre
+
+-- a unit of length by its own keyword
+abbrev pub IsLength : UnitParts → Type 0
+IsLength u = IsUnit u × (u.kind ≡ kinds.Length)
+
+length-kind : (k : UnitKind) → Suits kinds.Length k → kind_as kinds.Length k ≡ kinds.Length
+length-kind k (inl e) = ap (kind_as kinds.Length) e
+length-kind k (inr e) = ap (kind_as kinds.Length) e
+
+pub length-kept : (level : Level) (o : Option UnitParts) → IfSome o (IsUnitOf kinds.Length) →
+    IsLength (norm_length level o)
+length-kept level None s = (metre-is, refl)
+length-kept level (Some u) s = (unit-kept level kinds.Length u s.0, length-kind u.kind s.1)
+
+pub length-agrees : TextLaws → ReadsIdentOnce → (level : Level) (a b : Option UnitParts) →
+    IfSome a (IsUnitOf kinds.Length) → IfSome b (IsUnitOf kinds.Length) →
+    (norm_length level a ≡ norm_length level b) ↔ SameLength level a b
+length-agrees laws once level a b p q =
+    let same = unit-agrees laws once level kinds.Length (or_metre a) (or_metre b) (given-length a p) (given-length b q) in
+    (λ e. same.0 (sym (length-formed level a) ∙ e ∙ length-formed level b), λ s. length-formed level a ∙ same.1 s ∙ sym (length-formed level b))
+
+-- ---- boxes
+
+pub box-read : TextLaws → (b : BoxParts) → IsBox b → (place : ℕ) →
+    ReadsBox class.BoundingBox (at_place place (item_box b)) b
+box-read laws b s place = record {
+  south = number-read laws b.south s.south 0;
+  west = number-read laws b.west s.west 0;
+  north = number-read laws b.north s.north 0;
+  east = number-read laws b.east s.east 0;
+}
+
+pub box-fit : TextLaws → (b : BoxParts) → IsBox b → IsFormedWithin 1 (item_box b)
+box-fit laws b s =
+    fit-node 0 (codes "BBOX") (number_item b.south)
+    (More (number_item b.west) (More (number_item b.north) (More (number_item b.east) End))) (refl, refl)
+    (value-fit laws 0 b.south s.south)
+    (fit-more 0 (number_item b.west) (More (number_item b.north) (More (number_item b.east) End))
+    (value-fit laws 0 b.west s.west)
+    (fit-more 0 (number_item b.north) (More (number_item b.east) End) (value-fit laws 0 b.north s.north)
+    (fit-more 0 (number_item b.east) End (value-fit laws 0 b.east s.east) (fit-end 0))))
+
+abbrev box-made : Value → Value → Value → Value → BoxParts
+box-made x0 x1 x2 x3 = record { south = x0; west = x1; north = x2; east = x3 }
+
+pub box-agrees : TextLaws → (a b : BoxParts) → IsBox a → IsBox b → (a ≡ b) ↔ SameBox a b
+box-agrees laws a b p q =
+    let south = values-agree laws a.south b.south p.south q.south in
+    let west = values-agree laws a.west b.west p.west q.west in
+    let north = values-agree laws a.north b.north p.north q.north in
+    let east = values-agree laws a.east b.east p.east q.east in (
+      λ e. record {
+        south = south.0 (ap (λ x. x.south) e);
+        west = west.0 (ap (λ x. x.west) e);
+        north = north.0 (ap (λ x. x.north) e);
+        east = east.0 (ap (λ x. x.east) e);
+      },
+      λ s. λ i. box-made (south.1 s.south i) (west.1 s.west i) (north.1 s.north i) (east.1 s.east i),
+    )
+
+-- ---- extents
+
+-- an extent whose unit, if it is written, is of length by its own keyword
+pub record IsWrittenExtent (e : ExtentParts) : Type 0 where
+  pub minimum : IsNormal e.minimum
+  pub maximum : IsNormal e.maximum
+  pub unit : IfSome e.unit IsLength
+
+length-is : (u : UnitParts) → IsLength u → IsOf true class.VerticalExtent class.LengthUnit (item_unit u)
+length-is u s place =
+    ap (λ k. is_class class.LengthUnit (class_named class.VerticalExtent (unit_word k))) s.1 ∙
+    ap (is_class class.LengthUnit) (keyword-names class.VerticalExtent (codes "LENGTHUNIT"))
+
+extent-unit : TextLaws → (e : ExtentParts) → IsWrittenExtent e →
+    Gives class.VerticalExtent class.LengthUnit (λ l. ReadsOptional (ReadsUnit class.LengthUnit) l e.unit)
+    (More (number_item e.minimum) (More (number_item e.maximum) (opt item_unit e.unit End)))
+extent-unit laws e s =
+    gives-over class.VerticalExtent class.LengthUnit (λ l. ReadsOptional (ReadsUnit class.LengthUnit) l e.unit)
+    (number_item e.minimum)
+    (More (number_item e.maximum) (opt item_unit e.unit End)) (λ place. refl)
+    (gives-over class.VerticalExtent class.LengthUnit (λ l. ReadsOptional (ReadsUnit class.LengthUnit) l e.unit)
+    (number_item e.maximum)
+    (opt item_unit e.unit End) (λ place. refl)
+    (opt-read class.VerticalExtent class.LengthUnit item_unit IsLength (ReadsUnit class.LengthUnit) length-is
+    (λ u q. unit-read laws class.LengthUnit (keyword-names class.LengthUnit (codes "ID")) u q.0) e.unit End s.unit
+    (lacks-end class.VerticalExtent class.LengthUnit)))
+
+pub extent-read : TextLaws → (e : ExtentParts) → IsWrittenExtent e → (place : ℕ) →
+    ReadsExtent class.VerticalExtent (at_place place (item_extent e)) e
+extent-read laws e s place = record {
+  minimum = number-read laws e.minimum s.minimum 0;
+  maximum = number-read laws e.maximum s.maximum 0;
+  unit = extent-unit laws e s (place + 14);
+}
+
+pub extent-fit : TextLaws → (e : ExtentParts) → IsWrittenExtent e → IsFormedWithin 4 (item_extent e)
+extent-fit laws e s =
+    fit-node 3 (codes "VERTICALEXTENT") (number_item e.minimum)
+    (More (number_item e.maximum) (opt item_unit e.unit End)) (refl, refl)
+    (value-fit laws 3 e.minimum s.minimum)
+    (fit-more 3 (number_item e.maximum) (opt item_unit e.unit End) (value-fit laws 3 e.maximum s.maximum)
+    (fit-opt 3 item_unit IsLength (λ u q. unit-fit laws u q.0) e.unit End s.unit (fit-end 3)))
+
+pub extent-kept : (level : Level) (e : ExtentParts) → IsExtent e → IsWrittenExtent (norm_extent level e)
+extent-kept level e s = record { minimum = s.minimum; maximum = s.maximum; unit = length-kept level e.unit s.unit }
+
+abbrev extent-made : Value → Value → UnitParts → ExtentParts
+extent-made x0 x1 x2 = record { minimum = x0; maximum = x1; unit = Some x2 }
+
+abbrev unit-or : UnitParts → Option UnitParts → UnitParts
+unit-or u None = u
+unit-or u (Some v) = v
+
+pub extent-agrees : TextLaws → ReadsIdentOnce → (level : Level) (a b : ExtentParts) → IsExtent a → IsExtent b →
+    (norm_extent level a ≡ norm_extent level b) ↔ SameExtent level a b
+extent-agrees laws once level a b p q =
+    let minimum = values-agree laws a.minimum b.minimum p.minimum q.minimum in
+    let maximum = values-agree laws a.maximum b.maximum p.maximum q.maximum in
+    let unit = length-agrees laws once level a.unit b.unit p.unit q.unit in (
+      λ e. record {
+        minimum = minimum.0 (ap (λ x. x.minimum) e);
+        maximum = maximum.0 (ap (λ x. x.maximum) e);
+        unit = unit.0 (ap (λ x. unit-or metre x.unit) e);
+      },
+      λ s. λ i. extent-made (minimum.1 s.minimum i) (maximum.1 s.maximum i) (unit.1 s.unit i),
+    )

@@ -1,0 +1,156 @@
+-- Units within the members of sets: their items read as them wherever they are, and their one form
+-- agrees with sameness.
+use Rattle.std.proofs.Common.{◌≡◌, ◌≤◌, ◌↔◌, ℕ, ◌+◌, false, codes, IfSome, Option, Some, None, is_some, List, [], length, true≢false, refl, sym, ◌∙◌, ap, arith}
+use Rattle.crs_decimal.specs.Value.{Value, IsNormal}
+use Rattle.crs_text.specs.Items.{Item, End, More}
+use Rattle.crs_text.specs.Tokens.{IsWord}
+use Rattle.crs_text.specs.Written.{at_place, item_text}
+use Rattle.crs_shape.specs.declared.class.Class.{Class}
+use Rattle.crs_shape.specs.declared.class.Class.TheVariants as class
+use Rattle.crs_shape.specs.Slots.{class_named, is_class}
+use Rattle.crs_value.specs.declared.values.level.Level.{Level}
+use Rattle.crs_value.specs.declared.values.unit_kind.UnitKind.{UnitKind}
+use Rattle.crs_value.specs.declared.values.unit_kind.UnitKind.TheVariants as kinds
+use Rattle.crs_value.specs.Reading.{ReadsEach}
+use Rattle.crs_value.specs.Reads.{ReadsIdent, ReadsNumber, ReadsUnit}
+use Rattle.crs_value.specs.Sound.{Each, IsIdent, IsUnit}
+use Rattle.crs_value.specs.Values.{IdentParts, UnitParts}
+use Rattle.crs_value.specs.Words.{unit_word}
+use Rattle.crs_same.specs.SameUnits.{SameUnit, SameValue}
+use Rattle.crs_same.specs.Sets.{BothOrNeither}
+use Rattle.crs_normal.specs.FormedWithin.{IsFormedWithin}
+use Rattle.crs_normal.specs.SpelledItems.{each, number_item, text_item}
+use Rattle.crs_normal.specs.SpelledUnits.{item_ident, item_unit, norm_unit, norm_units}
+use Rattle.crs_normal.specs.TextLaws.{TextLaws}
+use Rattle.crs_normal.proofs.members.IdentLemmas.{ReadsIdentOnce, ident-fit, ident-read, idents-agree, idents-kept, text-fit, writable}
+use Rattle.crs_normal.proofs.texts.ItemLemmas.{AreFit, IsOf, Gives, each-over, each-read, fit-deeper, fit-each, fit-end, fit-more, fit-node, gives-over, lacks-end, told, value-fit}
+use Rattle.crs_normal.proofs.read.NameLemmas.{keyword-names}
+
+-- ---- the identifiers of a node
+
+-- in a parent of this class `ID` is an identifier
+abbrev pub NamesId : Class → Type 0
+NamesId c = class_named c (codes "ID") ≡ Some class.Identifier
+
+pub id-over : (c d : Class) → NamesId c → is_class d (Some class.Identifier) ≡ false → (x : IdentParts) →
+    IsOf false c d (item_ident x)
+id-over c d e n x place = ap (is_class d) e ∙ n
+
+pub identifiers-over : (c d : Class) → NamesId c → is_class d (Some class.Identifier) ≡ false →
+    (P : List Item → Type 0) (identifiers : List IdentParts) →
+    P [] → Gives c d P (each item_ident identifiers End)
+identifiers-over c d e n P identifiers p = each-over c d item_ident (id-over c d e n) P identifiers End (λ start. p)
+
+pub identifiers-read : (c : Class) → NamesId c → (identifiers : List IdentParts) → Each IsIdent identifiers →
+    Gives c class.Identifier (λ l. ReadsEach (ReadsIdent class.Identifier) l identifiers) (each item_ident identifiers End)
+identifiers-read c e identifiers s =
+    each-read c class.Identifier item_ident IsIdent (ReadsIdent class.Identifier)
+    (λ x q place. ap (is_class class.Identifier) e) ident-read identifiers End s
+    (lacks-end c class.Identifier)
+
+pub identifiers-fit : TextLaws → (n : ℕ) → 2 ≤ n → (identifiers : List IdentParts) → Each IsIdent identifiers →
+    AreFit n (each item_ident identifiers End)
+identifiers-fit laws n l identifiers s =
+    fit-each n item_ident IsIdent (λ x q. fit-deeper 2 n (item_ident x) l (ident-fit laws x q)) identifiers End s (fit-end n)
+
+-- ---- numbers
+
+pub number-read : TextLaws → (v : Value) → IsNormal v → (place : ℕ) → ReadsNumber (at_place place (number_item v)) v
+number-read laws v h place = (h, laws.denotes v h)
+
+pub values-agree : TextLaws → (a b : Value) → IsNormal a → IsNormal b → (a ≡ b) ↔ SameValue a b
+unfolding SameValue
+values-agree laws a b p q = ((laws.one_value a b p q).1, (laws.one_value a b p q).0)
+
+-- ---- units
+
+pub unit-read : TextLaws → (c : Class) → NamesId c → (u : UnitParts) → IsUnit u → (place : ℕ) →
+    ReadsUnit c (at_place place (item_unit u)) u
+unit-read laws c e u s place = record {
+  kind = refl;
+  name = refl;
+  factor = number-read laws u.factor s.factor 0;
+  identifiers =
+      gives-over c class.Identifier (λ l. ReadsEach (ReadsIdent class.Identifier) l u.identifiers) (text_item u.name)
+      (More (number_item u.factor) (each item_ident u.identifiers End)) (λ p. refl)
+      (gives-over c class.Identifier (λ l. ReadsEach (ReadsIdent class.Identifier) l u.identifiers) (number_item u.factor)
+      (each item_ident u.identifiers End) (λ p. refl)
+      (identifiers-read c e u.identifiers s.identifiers)) (place + length (unit_word u.kind));
+}
+
+unit-is-word : (k : UnitKind) → IsWord (unit_word k)
+unit-is-word kinds.Length = (refl, refl)
+unit-is-word other = (refl, refl)
+
+pub unit-fit : TextLaws → (u : UnitParts) → IsUnit u → IsFormedWithin 3 (item_unit u)
+unit-fit laws u s =
+    fit-node 2 (unit_word u.kind) (text_item u.name) (More (number_item u.factor) (each item_ident u.identifiers End))
+    (unit-is-word u.kind) (text-fit 2 u.name s.name)
+    (fit-more 2 (number_item u.factor) (each item_ident u.identifiers End) (value-fit laws 2 u.factor s.factor)
+    (identifiers-fit laws 2 (omega arith) u.identifiers s.identifiers))
+
+abbrev pub ReadsUnitOnce : Type 0
+ReadsUnitOnce = (c : Class) (item : Item) (a b : UnitParts) → ReadsUnit c item a → ReadsUnit c item b → a ≡ b
+
+-- the class is any in which `ID` is an identifier
+pub unit-told : TextLaws → ReadsUnitOnce → (a b : UnitParts) → IsUnit a → IsUnit b →
+    item_text (item_unit a) ≡ item_text (item_unit b) → a ≡ b
+unit-told laws once =
+    told item_unit (ReadsUnit class.LengthUnit) IsUnit laws (once class.LengthUnit)
+    (λ x s. writable 3 (item_unit x) (omega arith) (unit-fit laws x s) tt)
+    (unit-read laws class.LengthUnit (keyword-names class.LengthUnit (codes "ID")))
+
+pub unit-kept : (level : Level) (asked : UnitKind) (u : UnitParts) → IsUnit u → IsUnit (norm_unit level asked u)
+unit-kept level asked u s = record {
+  name = s.name;
+  factor = s.factor;
+  above_zero = s.above_zero;
+  identifiers = idents-kept level u.identifiers s.identifiers;
+}
+
+abbrev unit-made : UnitKind → List ℕ → Value → List IdentParts → UnitParts
+unit-made x0 x1 x2 x3 = record { kind = x0; name = x1; factor = x2; identifiers = x3 }
+
+pub unit-agrees : TextLaws → ReadsIdentOnce → (level : Level) (asked : UnitKind) (a b : UnitParts) → IsUnit a →
+    IsUnit b →
+    (norm_unit level asked a ≡ norm_unit level asked b) ↔ SameUnit asked level a b
+unit-agrees laws once level asked a b p q =
+    let identifiers = idents-agree laws once level a.identifiers b.identifiers p.identifiers q.identifiers in
+    let factors = values-agree laws a.factor b.factor p.factor q.factor in (
+      λ e. record {
+        kind = ap (λ x. x.kind) e;
+        name = ap (λ x. x.name) e;
+        factor = factors.0 (ap (λ x. x.factor) e);
+        identifiers = identifiers.0 (ap (λ x. x.identifiers) e);
+      },
+      λ s. λ i. unit-made (s.kind i) (s.name i) (factors.1 s.factor i) (identifiers.1 s.identifiers i),
+    )
+
+-- parts that may be missing agree where the parts do
+pub option-agrees : {A B : Type 0} (norm : A → B) (Q : A → Type 0) (Same : A → A → Type 0) →
+    ((a b : A) → Q a → Q b → (norm a ≡ norm b) ↔ Same a b) →
+    (opts : Option A → Option B) → (opts None ≡ None) → ((a : A) → opts (Some a) ≡ Some (norm a)) → (a b : Option A) →
+    IfSome a Q → IfSome b Q →
+    (opts a ≡ opts b) ↔ BothOrNeither Same a b
+option-agrees norm Q Same agree opts n s None None p q = (λ e. tt, λ h. refl)
+option-agrees norm Q Same agree opts n s None (Some b) p q =
+    (λ e. absurd (true≢false (ap is_some (sym (sym n ∙ e ∙ s b)))), λ h. absurd h)
+option-agrees norm Q Same agree opts n s (Some a) None p q =
+    (λ e. absurd (true≢false (ap is_some (sym (s a) ∙ e ∙ n))), λ h. absurd h)
+option-agrees {B = B} norm Q Same agree opts n s (Some a) (Some b) p q =
+    let h = agree a b p q in
+    (λ e. h.0 (inside (norm a) (norm b) (sym (s a) ∙ e ∙ s b)), λ t. s a ∙ ap (λ x. Some x) (h.1 t) ∙ sym (s b))
+  where
+    inside : (x y : B) → Some x ≡ Some y → x ≡ y
+    inside x y e = ap (or x) e
+      where
+        or : B → Option B → B
+        or z None = z
+        or z (Some w) = w
+
+pub units-agree : TextLaws → ReadsIdentOnce → (level : Level) (asked : UnitKind) (a b : Option UnitParts) →
+    IfSome a IsUnit → IfSome b IsUnit →
+    (norm_units level asked a ≡ norm_units level asked b) ↔ BothOrNeither (SameUnit asked level) a b
+units-agree laws once level asked a b p q =
+    option-agrees (norm_unit level asked) IsUnit (SameUnit asked level) (unit-agrees laws once level asked)
+    (norm_units level asked) refl (λ u. refl) a b p q

@@ -1,0 +1,56 @@
+-- Arguments of a node that breaks no check break none.
+use Rattle.std.proofs.Common.{◌≡◌, ◌≤◌, length, drop, true, false, inl, inr, Option, Some, List, [], ◌∷◌, if◌then◌else◌, refl, sym, ◌∙◌, ap, subst, arith}
+use Rattle.crs_text.specs.Items.{Item, Siblings, End, More}
+use Rattle.crs_text.specs.Refusal.{RefusedAt}
+use Rattle.crs_shape.specs.declared.class.Class.{Class}
+use Rattle.crs_shape.specs.Shaped.{AreShaped}
+use Rattle.crs_shape.specs.ShapeFault.{class_in}
+use Rattle.crs_shape.specs.Slots.{is_class}
+use Rattle.crs_value.specs.Break.{AnyOf}
+use Rattle.crs_value.specs.Checks.{AtClass, Breaks, BreaksAmong}
+use Rattle.crs_value.specs.Reading.{is_a, those, ReadsFirst}
+use Rattle.crs_value.specs.RepeatedPart.{IsRepeated}
+use Rattle.crs_value.specs.Sound.{Each}
+use Rattle.crs_normal.proofs.read.ViewLemmas.{same_class}
+
+abbrev pub IsUnbroken : Class → Item → Type 0
+IsUnbroken c item = (fault : RefusedAt) → ¬ (Breaks c item fault)
+
+-- the item breaks no check, and this is read from it
+abbrev pub Checked : {V : Type 0} → Class → (Item → V → Type 0) → Item → V → Type 0
+Checked c R item value = IsUnbroken c item × R item value
+
+unbroken-as : (c d : Class) (item : Item) (e : Class) → class_in c item ≡ Some e → is_a c d item ≡ true →
+    ((fault : RefusedAt) → ¬ (AtClass (class_in c item) (λ x. Breaks x item fault))) → IsUnbroken d item
+unbroken-as c d item e named is free fault broken =
+    let same : e ≡ d = same_class e d (sym (ap (is_class d) named) ∙ is) in
+    let P : Option Class → Type 0 = λ o. AtClass o (λ x. Breaks x item fault) in
+    free fault (subst P (sym named) (subst (λ (x : Class). Breaks x item fault) (sym same) broken))
+
+pub those-unbroken : (c d : Class) (classes : List Class) (items : Siblings) → AreShaped c classes items →
+    ((fault : RefusedAt) → ¬ (BreaksAmong c items fault)) →
+    Each (IsUnbroken d) (those c d items)
+those-unbroken c d classes End shaped free = tt
+those-unbroken c d [] (More item items) shaped free = absurd shaped
+those-unbroken c d (e ∷ es) (More item items) shaped free =
+    let rest = those-unbroken c d es items shaped.1.1 (λ fault b. free fault (inr b)) in
+    elim (is_a c d item) as (λ b. is_a c d item ≡ b →
+    Each (IsUnbroken d) (if b then item ∷ those c d items else those c d items)) [
+      | true ↦ λ is. (unbroken-as c d item e shaped.0 is (λ fault b. free fault (inl b)), rest)
+      | false ↦ λ is. rest
+    ] refl
+
+pub first-checked : {V : Type 0} (d : Class) (R : Item → V → Type 0) (items : List Item) (value : V) →
+    Each (IsUnbroken d) items → ReadsFirst R items value →
+    ReadsFirst (Checked d R) items value
+first-checked d R [] value free reads = absurd reads
+first-checked d R (item ∷ items) value free reads = (free.0, reads)
+
+-- what may be there once alone
+pub once-only : (found : List Item) → ((fault : RefusedAt) → ¬ (AnyOf IsRepeated (drop 1 found) fault)) → length found ≤ 1
+once-only [] free = omega arith
+once-only (item ∷ []) free = omega arith
+once-only (item ∷ other ∷ others) free = absurd (free _ (inl refl))
+
+pub as-few : (found front : List Item) → found ≡ front → length found ≤ 1 → length front ≤ 1
+as-few found front e few = let h = ap length e in omega arith

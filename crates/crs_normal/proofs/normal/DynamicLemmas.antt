@@ -1,0 +1,52 @@
+-- Normal dynamic parts are the one form of their values.
+use Rattle.std.proofs.Common.{◌≡◌, ◌≤◌, length, Option, List, codes, refl, ◌∙◌}
+use Rattle.std.specs.Option.{option_map}
+use Rattle.crs_text.specs.Items.{Item, leaf, node, Siblings, End, More}
+use Rattle.crs_shape.specs.declared.class.Class.{Class}
+use Rattle.crs_shape.specs.declared.class.Class.TheVariants as class
+use Rattle.crs_shape.specs.Slots.{slots_of}
+use Rattle.crs_value.specs.DynamicValues.{DynamicParts}
+use Rattle.crs_value.specs.Reading.{those, ReadsOptional}
+use Rattle.crs_value.specs.Reads.{ReadsNumberOf}
+use Rattle.crs_value.specs.ReadsDynamic.{ReadsDeformationModel, ReadsDynamic}
+use Rattle.crs_value.specs.Sound.{Each}
+use Rattle.crs_value.specs.declared.values.level.Level.{Level}
+use Rattle.crs_normal.specs.SpelledDynamic.{item_deformation_model, item_dynamic, norm_deformation_model, norm_dynamic}
+use Rattle.crs_normal.specs.SpelledItems.{number_node, opt}
+use Rattle.crs_normal.proofs.normal.FormLemmas.{Form, IsGood, kept-good, node-spelled, one-spelled, opened, optional-spelled}
+use Rattle.crs_normal.proofs.normal.LeafLemmas.{PlainIsOne, number-node-form}
+use Rattle.crs_normal.proofs.normal.NamedLemmas.{deformation_model-form}
+use Rattle.crs_normal.proofs.members.PairLemmas.{opt-mapped}
+use Rattle.crs_normal.proofs.read.ViewLemmas.{without_places_onto, without_places-spread, those-looked}
+
+pub dynamic-form : PlainIsOne → (level : Level) (c : Class) →
+    Form level c class.Dynamic (ReadsDynamic class.Dynamic) (λ d. item_dynamic (norm_dynamic level d))
+dynamic-form law level c (leaf kind place raw) x good reads = absurd reads.epoch
+dynamic-form law level c (node place keyword square first others close) x good reads =
+    let d = class.Dynamic in
+    let o = opened level c d place keyword square first others close good.shaped good.normal in
+    let items = More first others in
+    let v = o.slots in
+    let v1 = v.1.1.1.1 in
+    node-spelled place keyword _ square first others close _ o.written
+    (without_places-spread d (slots_of d) items v
+    ∙ one-spelled level d class.FrameEpoch (ReadsNumberOf class.FrameEpoch) (number_node (codes "FRAMEEPOCH"))
+    (number-node-form law level d class.FrameEpoch (codes "FRAMEEPOCH") refl (λ bytes h. h) (λ raw h. h))
+    (those d class.FrameEpoch items) v.0 (kept-good level d class.FrameEpoch items o.kept)
+    (those-looked d class.FrameEpoch (slots_of d) items v) (v.1.1.0.not_more refl) x.epoch reads.epoch _ _
+    (optional-spelled level d class.DeformationModel (ReadsDeformationModel class.DeformationModel)
+    (λ m. item_deformation_model (norm_deformation_model level m)) (deformation_model-form level d)
+    (those d class.DeformationModel items) v1.0 (kept-good level d class.DeformationModel items o.kept)
+    (those-looked d class.DeformationModel (slots_of d) items v) (v1.1.1.0.not_more refl) x.model reads.model End End
+    refl
+    ∙ opt-mapped item_deformation_model (norm_deformation_model level) x.model End))
+
+-- the dynamic part of a CRS or base, if it has one
+pub dynamic-spelled : PlainIsOne → (level : Level) (c : Class) (found front : List Item) →
+    Each (IsGood level c class.Dynamic) found → found ≡ front → length front ≤ 1 → (value : Option DynamicParts) →
+    ReadsOptional (ReadsDynamic class.Dynamic) found value → (rest after : Siblings) → rest ≡ after →
+    without_places_onto front rest ≡ opt item_dynamic (option_map (norm_dynamic level) value) after
+dynamic-spelled law level c found front good e few value reads rest after f =
+    optional-spelled level c class.Dynamic (ReadsDynamic class.Dynamic) (λ d. item_dynamic (norm_dynamic level d))
+    (dynamic-form law level c) found front good e few value reads rest after f
+    ∙ opt-mapped item_dynamic (norm_dynamic level) value after

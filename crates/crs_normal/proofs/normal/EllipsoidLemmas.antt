@@ -1,0 +1,132 @@
+-- Normal ellipsoids and prime meridians are the one form of their values.
+use Rattle.std.proofs.Common.{◌≡◌, ℕ, ◌&&◌, map, Bool, true, false, Option, Some, None, List, [], ◌∷◌, if◌then◌else◌, codes, refl, ◌∙◌, ap, subst}
+use Rattle.std.specs.Prelude.{ℤ, pos, negsuc}
+use Rattle.std.proofs.lemmas.Bool.{and_parts, eqb-true}
+use Rattle.crs_decimal.specs.Plain.{plain}
+use Rattle.crs_decimal.specs.Value.{Value, IsNormal, is_normal, is_power, zero}
+use Rattle.crs_text.specs.Items.{Item, leaf, node, Siblings, End, More, raw_of}
+use Rattle.crs_shape.specs.declared.class.Class.{Class}
+use Rattle.crs_shape.specs.declared.class.Class.TheVariants as class
+use Rattle.crs_shape.specs.Slots.{slots_of}
+use Rattle.crs_value.specs.Reading.{those, ReadsFirst, ReadsOptional}
+use Rattle.crs_value.specs.Reads.{ReadsEllipsoid, ReadsMeridian, ReadsNumber, ReadsText, ReadsUnit}
+use Rattle.crs_value.specs.Values.{UnitParts}
+use Rattle.crs_value.specs.declared.values.level.Level.{Level}
+use Rattle.crs_value.specs.declared.values.unit_kind.UnitKind.TheVariants as kinds
+use Rattle.crs_value.specs.Sound.{Each}
+use Rattle.crs_normal.specs.SpelledFrames.{is_zero, item_ellipsoid, item_meridian, norm_ellipsoid, norm_given}
+use Rattle.crs_normal.specs.SpelledItems.{number_item, opt, text_item}
+use Rattle.crs_normal.specs.SpelledUnits.{item_unit, norm_unit, norm_units}
+use Rattle.crs_normal.proofs.normal.FormLemmas.{Form, IsGood, kept-good, node-spelled, one-spelled, opened, optional-spelled}
+use Rattle.crs_normal.proofs.normal.LeafLemmas.{PlainIsOne, number-form, number-normal, text-form}
+use Rattle.crs_normal.proofs.members.PairLemmas.{Alone, opt-length, opt-units, two-spelled}
+use Rattle.crs_normal.proofs.normal.UnitLemmas.{idents-spelled, in-angle, in-length, unit-form}
+use Rattle.crs_normal.proofs.read.ViewLemmas.{alone, without_places-spread, those-looked}
+
+pub ellipsoid-form : PlainIsOne → (level : Level) (c : Class) →
+    Form level c class.Ellipsoid (ReadsEllipsoid class.Ellipsoid) (λ e. item_ellipsoid (norm_ellipsoid level e))
+ellipsoid-form law level c (leaf kind place raw) x good reads = absurd reads.name
+ellipsoid-form law level c (node place keyword square first others close) x good reads =
+    let d = class.Ellipsoid in
+    let o = opened level c d place keyword square first others close good.shaped good.normal in
+    let items = More first others in
+    let v = o.slots in
+    let v1 = v.1.1.1.1 in
+    let v2 = v1.1.1.1.1 in
+    let v3 = v2.1.1.1.1 in
+    let v4 = v3.1.1.1.1 in
+    node-spelled place keyword _ square first others close _ o.written
+    (without_places-spread d (slots_of d) items v
+    ∙ one-spelled level d class.Text ReadsText text_item (text-form level d) (those d class.Text items) v.0
+    (kept-good level d class.Text items o.kept)
+    (those-looked d class.Text (slots_of d) items v) (v.1.1.0.not_more refl) x.name reads.name _ _
+    (two-spelled law level d (λ raw h. h) (those d class.Number items) v1.0 v2.0
+    (kept-good level d class.Number items o.kept)
+    (those-looked d class.Number (slots_of d) items v) (alone v1.0 v1.1.1.0 refl refl) (alone v2.0 v2.1.1.0 refl refl)
+    x.semi_major_axis x.inverse_flattening reads.semi_major_axis reads.inverse_flattening _ _
+    (optional-spelled level d class.LengthUnit (ReadsUnit class.LengthUnit)
+    (λ u. item_unit (norm_unit level kinds.Length u))
+    (unit-form law level d class.LengthUnit kinds.Length refl (in-length kinds.Length) (λ raw h. h))
+    (those d class.LengthUnit items) v3.0 (kept-good level d class.LengthUnit items o.kept)
+    (those-looked d class.LengthUnit (slots_of d) items v) (v3.1.1.0.not_more refl) x.unit reads.unit _ _
+    (idents-spelled level d items v4.0 o.kept (those-looked d class.Identifier (slots_of d) items v) o.sets.0 x.identifiers
+    reads.identifiers End End refl)
+    ∙ opt-length (ReadsUnit class.LengthUnit) level (those d class.LengthUnit items) x.unit o.own reads.unit _)))
+
+-- ---- prime meridians
+
+-- zero has one normal value
+no-digits : (n : Bool) (p : ℤ) → is_normal (record { negative = n; digits = 0; power = p }) ≡ true →
+    ◌≡◌ {A = Value} (record { negative = n; digits = 0; power = p }) zero
+no-digits true p h = let k : false ≡ true = (and_parts (true && is_power p) false h).1 in absurd (cc)
+no-digits false (pos n) h =
+    ap (λ (m : ℕ). record { negative = false; digits = 0; power = pos m }) (eqb-true n 0 (and_parts _ _ h).1)
+no-digits false (negsuc n) h = let k : false ≡ true = (and_parts (true && is_power (negsuc n)) false h).1 in absurd (cc)
+
+zero-is : (v : Value) → IsNormal v → is_zero v ≡ true → v ≡ zero
+zero-is v normal e =
+    let d = eqb-true v.digits 0 e in
+    let same : v ≡ record { negative = v.negative; digits = 0; power = v.power } =
+    ap (λ (m : ℕ). record { negative = v.negative; digits = m; power = v.power }) d in
+    same ∙ no-digits v.negative v.power (subst (λ (w : Value). is_normal w ≡ true) same normal)
+
+abbrev pub ZeroPlain : Type 0
+ZeroPlain = plain zero ≡ codes "0"
+
+-- the bytes of a meridian's longitude 0
+zero-written : PlainIsOne → ZeroPlain → (level : Level) (found front : List Item) →
+    Each (IsGood level class.PrimeMeridian class.Number) found →
+    found ≡ front → Alone front → (v : Value) → ReadsFirst ReadsNumber found v → is_zero v ≡ true →
+    map raw_of found ≡ codes "0" ∷ []
+zero-written law zero_plain level found front good e p v reads is =
+    let are = e ∙ p.1 in
+    let g = (subst (Each (IsGood level class.PrimeMeridian class.Number)) are good).0 in
+    let r = subst (λ (xs : List Item). ReadsFirst ReadsNumber xs v) are reads in
+    ap (map raw_of) are
+    ∙ ap (λ (bytes : List ℕ). bytes ∷ [])
+    (law v (raw_of p.0) r.0 (number-normal level class.PrimeMeridian p.0 g.shaped g.normal) r.1
+    ∙ ap plain (zero-is v r.0 is) ∙ zero_plain)
+
+-- a unit that isn't there at longitude 0
+opt-angle : (level : Level) (is_at_zero : Bool) (found : List Item) (unit : Option UnitParts) →
+    (is_at_zero ≡ true → found ≡ []) →
+    ReadsOptional (ReadsUnit class.AngleUnit) found unit → (rest : Siblings) →
+    opt (λ u. item_unit (norm_unit level kinds.Angle u)) unit rest ≡ opt item_unit
+    (if is_at_zero then None else norm_units level kinds.Angle unit) rest
+opt-angle level false found unit none reads rest = opt-units level kinds.Angle unit rest
+opt-angle level true found None none reads rest = refl
+opt-angle level true found (Some u) none reads rest =
+    absurd (subst (λ (xs : List Item). ReadsOptional (ReadsUnit class.AngleUnit) xs (Some u)) (none refl) reads)
+
+pub meridian-form : PlainIsOne → ZeroPlain → (level : Level) (c : Class) →
+    Form level c class.PrimeMeridian (ReadsMeridian class.PrimeMeridian) (λ m. item_meridian (norm_given level m))
+meridian-form law zero_plain level c (leaf kind place raw) x good reads = absurd reads.name
+meridian-form law zero_plain level c (node place keyword square first others close) x good reads =
+    let d = class.PrimeMeridian in
+    let o = opened level c d place keyword square first others close good.shaped good.normal in
+    let items = More first others in
+    let v = o.slots in
+    let v1 = v.1.1.1.1 in
+    let v2 = v1.1.1.1.1 in
+    let v3 = v2.1.1.1.1 in
+    node-spelled place keyword _ square first others close _ o.written
+    (without_places-spread d (slots_of d) items v
+    ∙ one-spelled level d class.Text ReadsText text_item (text-form level d) (those d class.Text items) v.0
+    (kept-good level d class.Text items o.kept)
+    (those-looked d class.Text (slots_of d) items v) (v.1.1.0.not_more refl) x.name reads.name _ _
+    (one-spelled level d class.Number ReadsNumber number_item (number-form law level d (λ raw h. h))
+    (those d class.Number items) v1.0
+    (kept-good level d class.Number items o.kept) (those-looked d class.Number (slots_of d) items v)
+    (v1.1.1.0.not_more refl) x.longitude reads.longitude _ _
+    (optional-spelled level d class.AngleUnit (ReadsUnit class.AngleUnit)
+    (λ u. item_unit (norm_unit level kinds.Angle u))
+    (unit-form law level d class.AngleUnit kinds.Angle refl (in-angle kinds.Angle) (λ raw h. h))
+    (those d class.AngleUnit items) v2.0 (kept-good level d class.AngleUnit items o.kept)
+    (those-looked d class.AngleUnit (slots_of d) items v) (v2.1.1.0.not_more refl) x.unit reads.unit _ _
+    (idents-spelled level d items v3.0 o.kept (those-looked d class.Identifier (slots_of d) items v) o.sets.0 x.identifiers
+    reads.identifiers End End refl)
+    ∙ opt-angle level (is_zero x.longitude) (those d class.AngleUnit items) x.unit
+    (λ e. o.own (zero-written law zero_plain level (those d class.Number items) v1.0
+    (kept-good level d class.Number items o.kept)
+    (those-looked d class.Number (slots_of d) items v) (alone v1.0 v1.1.1.0 refl refl) x.longitude reads.longitude e))
+    reads.unit _)))

@@ -1,0 +1,240 @@
+-- From the arguments of a normal node to what is written for what is read from them.
+use Rattle.std.proofs.Common.{◌≡◌, ℕ, ◌≤◌, length, map, Bool, true, false, Option, Some, None, List, [], ◌∷◌, ◌++◌, if◌then◌else◌, refl, sym, ◌∙◌, ap, subst, arith}
+use Rattle.std.specs.Cmp.Lexicographic.{slice_cmp}
+use Rattle.std.specs.Ordering.{nat_cmp}
+use Rattle.crs_text.specs.Items.{Item, leaf, node, Siblings, End, More, arguments}
+use Rattle.crs_text.specs.Written.{item_text, others_text}
+use Rattle.crs_shape.specs.declared.class.Class.{Class}
+use Rattle.crs_shape.specs.Shaped.{Shaped, AreShaped}
+use Rattle.crs_shape.specs.ShapeFault.{class_in}
+use Rattle.crs_shape.specs.Slots.{slots_of, is_class}
+use Rattle.crs_value.specs.Checks.{AtClass}
+use Rattle.crs_value.specs.Reading.{is_a, those, ReadsFirst, ReadsOptional, ReadsEach}
+use Rattle.crs_value.specs.Kept.{kept}
+use Rattle.crs_value.specs.KeptLaws.{kept-where_none}
+use Rattle.crs_value.specs.declared.values.level.Level.{Level}
+use Rattle.crs_normal.specs.WithoutPlaces.{without_places, all_without_places}
+use Rattle.crs_normal.specs.Normal.{IsNormalIn, AreNormalIn, IsFirstKeyword, KeepsAll}
+use Rattle.crs_normal.specs.NormalOwn.{Ascend, HasSets, HasOwnForm}
+use Rattle.crs_value.specs.Sound.{Each}
+use Rattle.crs_normal.specs.Ascending.{Ascends}
+use Rattle.crs_normal.specs.Ordered.{in_order}
+use Rattle.crs_normal.specs.SpelledItems.{each, node_from, opt}
+use Rattle.crs_normal.proofs.members.SetLemmas.{IsBelow, in_order-of}
+use Rattle.crs_normal.proofs.read.ViewLemmas.{View, without_places_onto, same_class, view}
+
+-- ---- the text of an item doesn't depend on places
+
+node-text : (keyword a b c d : List ℕ) → a ≡ c → b ≡ d →
+    keyword ++ 91 ∷ (a ++ (b ++ 93 ∷ [])) ≡ keyword ++ 91 ∷ (c ++ (d ++ 93 ∷ []))
+node-text keyword a b c d e f = cc
+
+more-text : (a b c d : List ℕ) → a ≡ c → b ≡ d → 44 ∷ (a ++ b) ≡ 44 ∷ (c ++ d)
+more-text a b c d e f = cc
+
+mutual
+  pub without_places-text : (item : Item) → item_text (without_places item) ≡ item_text item
+  without_places-text (leaf kind place raw) = refl
+  without_places-text (node place keyword square first others close) =
+      node-text keyword (item_text (without_places first)) (others_text (all_without_places others)) (item_text first) (others_text others)
+      (without_places-text first) (all-without_places-text others)
+
+  all-without_places-text : (items : Siblings) → others_text (all_without_places items) ≡ others_text items
+  all-without_places-text End = refl
+  all-without_places-text (More item items) =
+      more-text (item_text (without_places item)) (others_text (all_without_places items)) (item_text item) (others_text items)
+      (without_places-text item) (all-without_places-text items)
+
+-- ---- the items of a class in a normal node are of its shape and normal
+
+pub record IsGood (level : Level) (c d : Class) (item : Item) : Type 0 where
+  pub shaped : Shaped d item
+  pub normal : IsNormalIn level c d item
+
+pub record Kept (level : Level) (c : Class) (items : Siblings) : Type 0 where
+  pub classes : List Class
+  pub shaped : AreShaped c classes items
+  pub normal : AreNormalIn level c items
+  pub left : KeepsAll level c items
+
+good-as : (level : Level) (c d : Class) (item : Item) (e : Class) → class_in c item ≡ Some e → Shaped e item →
+    AtClass (class_in c item) (λ x. IsNormalIn level c x item) → is_a c d item ≡ true → IsGood level c d item
+good-as level c d item e named shaped normal is =
+    let same : e ≡ d = same_class e d (sym (ap (is_class d) named) ∙ is) in
+    let P : Option Class → Type 0 = λ o. AtClass o (λ x. IsNormalIn level c x item) in
+    record {
+      shaped = subst (λ (x : Class). Shaped x item) same shaped;
+      normal = subst (λ (x : Class). IsNormalIn level c x item) same (subst P named normal);
+    }
+
+those-good : (level : Level) (c d : Class) (classes : List Class) (items : Siblings) → AreShaped c classes items →
+    AreNormalIn level c items →
+    Each (IsGood level c d) (those c d items)
+those-good level c d classes End shaped normal = tt
+those-good level c d [] (More item items) shaped normal = absurd shaped
+those-good level c d (e ∷ es) (More item items) shaped normal =
+    let rest = those-good level c d es items shaped.1.1 normal.1 in
+    elim (is_a c d item) as (λ b. is_a c d item ≡ b →
+    Each (IsGood level c d) (if b then item ∷ those c d items else those c d items)) [
+      | true ↦ λ is. (good-as level c d item e shaped.0 shaped.1.0 normal.0 is, rest)
+      | false ↦ λ is. rest
+    ] refl
+
+pub kept-good : (level : Level) (c d : Class) (items : Siblings) → Kept level c items →
+    Each (IsGood level c d) (those c d items)
+kept-good level c d items k = those-good level c d k.classes items k.shaped k.normal
+
+-- ---- a node, opened
+
+pub record Opened (level : Level) (c : Class) (item : Item) (keyword : List ℕ) : Type 0 where
+  pub written : IsFirstKeyword c keyword
+  pub own : HasOwnForm c item
+  pub sets : HasSets c item
+  pub kept : Kept level c (arguments item)
+  pub slots : View c (slots_of c) (arguments item)
+
+pub opened : (level : Level) (parent c : Class) (place : ℕ) (keyword : List ℕ) (square : Bool) (first : Item)
+    (others : Siblings) (close : ℕ) →
+    Shaped c (node place keyword square first others close) →
+    IsNormalIn level parent c (node place keyword square first others close) →
+    Opened level c (node place keyword square first others close) keyword
+opened level parent c place keyword square first others close shaped normal =
+    let s = shaped.1 in
+    let are : AreShaped c (s.0 ∷ s.1.0) (More first others) = (s.1.1.0, (s.1.1.1.0, s.1.1.1.1.0)) in
+    record {
+      written = normal.first_keyword;
+      own = normal.own_form;
+      sets = normal.ascending_sets;
+      kept = record {
+        classes = s.0 ∷ s.1.0;
+        shaped = are;
+        normal = normal.normal_arguments;
+        left = normal.at_level;
+      };
+      slots = view c (s.0 ∷ s.1.0) (More first others) s.1.1.1.1.1 are;
+    }
+
+pub node-spelled : (place : ℕ) (keyword word : List ℕ) (square : Bool) (first : Item) (others : Siblings) (close : ℕ)
+    (items : Siblings) → keyword ≡ word →
+    all_without_places (More first others) ≡ items → without_places (node place keyword square first others close) ≡ node_from word items
+node-spelled place keyword word square first others close items e f =
+    ap (λ w. node_from w (all_without_places (More first others))) e ∙ ap (node_from word) f
+
+-- ---- what is written for the values
+
+-- the item of a class in another, without its places, is what is written for the value
+abbrev pub Form : {V : Type 0} → Level → Class → Class → (Item → V → Type 0) → (V → Item) → Type 0
+Form {V = V} level c d R spell = (item : Item) (value : V) → IsGood level c d item → R item value →
+    without_places item ≡ spell value
+
+pub one-spelled : {V : Type 0} (level : Level) (c d : Class) (R : Item → V → Type 0) (spell : V → Item) →
+    Form level c d R spell →
+    (found front : List Item) → Each (IsGood level c d) found → found ≡ front → length front ≤ 1 → (value : V) →
+    ReadsFirst R found value →
+    (rest after : Siblings) → rest ≡ after → without_places_onto front rest ≡ More (spell value) after
+one-spelled {V = V} level c d R spell form found front good e few value reads rest after f =
+    alone front few (subst (Each (IsGood level c d)) e good) (subst (λ (xs : List Item). ReadsFirst R xs value) e reads)
+    ∙ ap (More (spell value)) f
+  where
+    alone : (front : List Item) → length front ≤ 1 → Each (IsGood level c d) front → ReadsFirst R front value →
+        without_places_onto front rest ≡ More (spell value) rest
+    alone [] few good reads = absurd reads
+    alone (item ∷ []) few good reads = ap (λ i. More i rest) (form item value good.0 reads)
+    alone (item ∷ other ∷ others) few good reads = absurd (omega arith)
+
+pub optional-spelled : {V : Type 0} (level : Level) (c d : Class) (R : Item → V → Type 0) (spell : V → Item) →
+    Form level c d R spell →
+    (found front : List Item) → Each (IsGood level c d) found → found ≡ front → length front ≤ 1 → (value : Option V) →
+    ReadsOptional R found value →
+    (rest after : Siblings) → rest ≡ after → without_places_onto front rest ≡ opt spell value after
+optional-spelled {V = V} level c d R spell form found front good e few value reads rest after f =
+    alone front few (subst (Each (IsGood level c d)) e good) value
+    (subst (λ (xs : List Item). ReadsOptional R xs value) e reads) ∙ ap (opt spell value) f
+  where
+    alone : (front : List Item) → length front ≤ 1 → Each (IsGood level c d) front → (value : Option V) →
+        ReadsOptional R front value → without_places_onto front rest ≡ opt spell value rest
+    alone [] few good None reads = refl
+    alone [] few good (Some v) reads = absurd reads
+    alone (item ∷ items) few good None reads = absurd reads
+    alone (item ∷ []) few good (Some v) reads = ap (λ i. More i rest) (form item v good.0 reads)
+    alone (item ∷ other ∷ others) few good (Some v) reads = absurd (omega arith)
+
+-- the items are what is written for the values
+abbrev pub AreWritten : {V : Type 0} → (V → Item) → List Item → List V → Type 0
+AreWritten spell items values = ReadsEach (λ item value. without_places item ≡ spell value) items values
+
+pub each-written : {V W : Type 0} (level : Level) (c d : Class) (R : Item → V → Type 0) (spell : W → Item) (norm : V →
+    W) → Form level c d R (λ v. spell (norm v)) →
+    (items : List Item) → Each (IsGood level c d) items → (values : List V) → ReadsEach R items values →
+    AreWritten spell items (map norm values)
+each-written level c d R spell norm form [] good [] reads = tt
+each-written level c d R spell norm form [] good (v ∷ vs) reads = absurd reads
+each-written level c d R spell norm form (item ∷ items) good [] reads = absurd reads
+each-written level c d R spell norm form (item ∷ items) good (v ∷ vs) reads =
+    (form item v good.0 reads.0, each-written level c d R spell norm form items good.1 vs reads.1)
+
+pub written-onto : {W : Type 0} (spell : W → Item) (items : List Item) (values : List W) →
+    AreWritten spell items values → (rest after : Siblings) → rest ≡ after →
+    without_places_onto items rest ≡ each spell values after
+written-onto spell [] [] h rest after e = e
+written-onto spell [] (v ∷ vs) h rest after e = absurd h
+written-onto spell (item ∷ items) [] h rest after e = absurd h
+written-onto spell (item ∷ items) (v ∷ vs) h rest after e =
+    ap (λ i. More i (without_places_onto items rest)) h.0 ∙ ap (More (spell v)) (written-onto spell items vs h.1 rest after e)
+
+text-as : {W : Type 0} (spell : W → Item) (item : Item) (value : W) → without_places item ≡ spell value →
+    item_text item ≡ item_text (spell value)
+text-as spell item value e = sym (without_places-text item) ∙ ap item_text e
+
+below-as : {W : Type 0} (spell : W → Item) (i j : Item) (v w : W) → without_places i ≡ spell v → without_places j ≡ spell w → IsBelow item_text i j →
+    IsBelow (λ x. item_text (spell x)) v w
+below-as spell i j v w e f below =
+    ap (λ (bytes : List ℕ). slice_cmp nat_cmp bytes (item_text (spell w))) (sym (text-as spell i v e))
+    ∙ ap (slice_cmp nat_cmp (item_text i)) (sym (text-as spell j w f)) ∙ below
+
+-- ascending items are written for ascending values
+below-written : {W : Type 0} (spell : W → Item) (item : Item) (value : W) → without_places item ≡ spell value →
+    (items : List Item) (values : List W) → AreWritten spell items values →
+    Each (IsBelow item_text item) items → Each (IsBelow (λ w. item_text (spell w)) value) values
+below-written spell item value e [] [] h below = tt
+below-written spell item value e [] (v ∷ vs) h below = absurd h
+below-written spell item value e (i ∷ is) [] h below = tt
+below-written spell item value e (i ∷ is) (v ∷ vs) h below =
+    (below-as spell item i value v e h.0 below.0, below-written spell item value e is vs h.1 below.1)
+
+written-ascend : {W : Type 0} (spell : W → Item) (items : List Item) (values : List W) → AreWritten spell items values →
+    Ascend items → Ascends (λ w. item_text (spell w)) values
+written-ascend spell [] [] h up = tt
+written-ascend spell [] (v ∷ vs) h up = absurd h
+written-ascend spell (i ∷ is) [] h up = absurd h
+written-ascend spell (i ∷ is) (v ∷ vs) h up =
+    (below-written spell i v h.0 is vs h.1 up.0, written-ascend spell is vs h.1 up.1)
+
+-- from no items nothing is read
+reads-none : {V : Type 0} (R : Item → V → Type 0) (items : List Item) (values : List V) → ReadsEach R items values →
+    items ≡ [] → values ≡ []
+reads-none R [] [] reads none = refl
+reads-none R [] (v ∷ vs) reads none = absurd reads
+reads-none R (item ∷ items) values reads none = absurd (cc)
+
+-- what is read from items that the level keeps, it keeps
+pub reads-kept : {V : Type 0} (level : Level) (R : Item → V → Type 0) (items : List Item) (values : List V) →
+    ReadsEach R items values →
+    kept level items ≡ items → kept level values ≡ values
+reads-kept level R items values reads =
+    kept-where_none level items values (reads-none R items values reads)
+
+-- a set, in order
+pub set-spelled : {V W : Type 0} (level : Level) (c d : Class) (R : Item → V → Type 0) (spell : W → Item) (norm : V →
+    W) → Form level c d R (λ v. spell (norm v)) →
+    (found front : List Item) → Each (IsGood level c d) found → found ≡ front → Ascend found → (values : List V) →
+    ReadsEach R found values →
+    (rest after : Siblings) → rest ≡ after →
+    without_places_onto front rest ≡ each spell (in_order (λ w. item_text (spell w)) (map norm values)) after
+set-spelled level c d R spell norm form found front good e up values reads rest after f =
+    let written = each-written level c d R spell norm form found good values reads in
+    ap (λ xs. without_places_onto xs rest) (sym e)
+    ∙ written-onto spell found (map norm values) written rest after f
+    ∙ ap (λ ws. each spell ws after)
+    (sym (in_order-of (λ w. item_text (spell w)) (map norm values)
+    (written-ascend spell found (map norm values) written up)))

@@ -1,0 +1,202 @@
+-- The end of a normal CRS: its arguments are in order of rank, so that they are the geoid models,
+-- the usages, the identifiers and the remark, one sort after the other.
+use Rattle.std.proofs.Common.{◌≡◌, ℕ, ◌≤◌, ◌||◌, Bool, true, false, inl, inr, ◌⊎◌, Option, Some, None, List, [], ◌∷◌, ◌++◌, if◌then◌else◌, refl, sym, ◌∙◌, ap, subst, arith}
+use denote.Enum.Bare.{sameb}
+use Rattle.crs_text.specs.Items.{Item, Siblings, End, More}
+use Rattle.crs_shape.specs.contracts.class.Class.{the_type}
+use Rattle.crs_shape.specs.declared.class.Class.{Class}
+use Rattle.crs_shape.specs.declared.class.Class.TheVariants as class
+use Rattle.crs_shape.specs.ShapeFault.{class_in}
+use Rattle.crs_shape.specs.Slots.{is_class, tail, vertical_tail}
+use Rattle.crs_value.specs.Checks.{AtClass}
+use Rattle.crs_value.specs.Reading.{is_a, those}
+use Rattle.crs_normal.specs.NormalOwn.{Rise, rank}
+use Rattle.crs_value.specs.Sound.{Each}
+use Rattle.crs_normal.proofs.read.ViewLemmas.{InSlot, onto, same_class}
+
+-- ---- ranks rise after the first arguments too
+
+pub rise-behind : (c : Class) (least : ℕ) (front : List Item) (rest : Siblings) → Rise c least (onto front rest) →
+    (m : ℕ) × Rise c m rest
+rise-behind c least [] rest rise = (least, rise)
+rise-behind c least (item ∷ items) rest rise = by (class_in c item) (λ k h. rise-behind c k items rest h) rise
+  where
+    by : (o : Option Class) → ((k : ℕ) → Rise c k (onto items rest) → (m : ℕ) × Rise c m rest) →
+        AtClass o (λ d. (least ≤ rank d) × Rise c (rank d) (onto items rest)) →
+        (m : ℕ) × Rise c m rest
+    by None more h = absurd h
+    by (Some d) more h = more (rank d) h.1
+
+-- ---- the classes at the end
+
+abbrev pub EndsAs : Class → Item → Type 0
+EndsAs c item =
+    (class_in c item ≡ Some class.GeoidModel) ⊎ ((class_in c item ≡ Some class.Usage)
+    ⊎ ((class_in c item ≡ Some class.Identifier) ⊎ (class_in c item ≡ Some class.Remark)))
+
+-- no argument is a part of a usage
+pub record HasNoBare (c : Class) (item : Item) : Type 0 where
+  pub scope : is_a c class.Scope item ≡ false
+  pub area : is_a c class.Area item ≡ false
+  pub bbox : is_a c class.BoundingBox item ≡ false
+  pub extent : is_a c class.VerticalExtent item ≡ false
+
+test : {P : Type 0} (b rest : Bool) → (b ≡ true → P) → (rest ≡ true → P) → (b || rest) ≡ true → P
+test true rest f g h = f refl
+test false rest f g h = g h
+
+pub named-so : (c : Class) (item : Item) (at d : Class) → class_in c item ≡ Some at → sameb the_type d at ≡ true →
+    class_in c item ≡ Some d
+named-so c item at d named e = named ∙ ap (λ x. Some x) (sym (same_class d at e))
+
+clash : {P : Type 0} {b : Bool} → b ≡ false → b ≡ true → P
+clash e f = let h : false ≡ true = sym e ∙ f in absurd (cc)
+
+pub end-as : (c : Class) (item : Item) → HasNoBare c item → InSlot c tail item → EndsAs c item
+end-as c item none s =
+    test _ _ (λ e. inr (inl (named-so c item s.at class.Usage s.named e)))
+    (test _ _ (λ e. clash none.scope (ap (is_class class.Scope) (named-so c item s.at class.Scope s.named e)))
+    (test _ _ (λ e. clash none.area (ap (is_class class.Area) (named-so c item s.at class.Area s.named e)))
+    (test _ _ (λ e. clash none.bbox
+    (ap (is_class class.BoundingBox) (named-so c item s.at class.BoundingBox s.named e)))
+    (test _ _ (λ e. clash none.extent
+    (ap (is_class class.VerticalExtent) (named-so c item s.at class.VerticalExtent s.named e)))
+    (test _ _ (λ e. inr (inr (inl (named-so c item s.at class.Identifier s.named e))))
+    (test _ _ (λ e. inr (inr (inr (named-so c item s.at class.Remark s.named e)))) (λ e. let h : false ≡ true = e in
+    absurd (cc)))))))) s.taken
+
+pub vertical_end-as : (c : Class) (item : Item) → HasNoBare c item → InSlot c vertical_tail item → EndsAs c item
+vertical_end-as c item none s =
+    test _ _ (λ e. inl (named-so c item s.at class.GeoidModel s.named e))
+    (λ e. end-as c item none (record { at = s.at; named = s.named; shaped = s.shaped; taken = e })) s.taken
+
+pub none-here : (c d : Class) (front : List Item) → those c d (onto front End) ≡ [] →
+    Each (λ item. is_a c d item ≡ false) front
+none-here c d [] e = tt
+none-here c d (item ∷ items) e =
+    elim (is_a c d item) as (λ b. is_a c d item ≡ b →
+    (if b then item ∷ those c d (onto items End) else those c d (onto items End)) ≡ [] →
+    (is_a c d item ≡ false) × Each (λ i. is_a c d i ≡ false) items) [
+      | true ↦ λ is h. absurd (cc)
+      | false ↦ λ is h. (is, none-here c d items h)
+    ] refl e
+
+-- ---- one sort after the other
+
+pub record Split (c : Class) (m : ℕ) (front : List Item) : Type 0 where
+  pub models : List Item
+  pub usages : List Item
+  pub identifiers : List Item
+  pub remarks : List Item
+  pub are : front ≡ models ++ (usages ++ (identifiers ++ remarks))
+  pub as_model : Each (λ i. class_in c i ≡ Some class.GeoidModel) models
+  pub as_usage : Each (λ i. class_in c i ≡ Some class.Usage) usages
+  pub as_id : Each (λ i. class_in c i ≡ Some class.Identifier) identifiers
+  pub as_remark : Each (λ i. class_in c i ≡ Some class.Remark) remarks
+  pub no_model : 2 ≤ m → models ≡ []
+  pub no_usage : 3 ≤ m → usages ≡ []
+  pub no_id : 4 ≤ m → identifiers ≡ []
+
+pub rise-as : (c : Class) (m : ℕ) (item : Item) (rest : Siblings) (d : Class) → class_in c item ≡ Some d →
+    Rise c m (More item rest) → (m ≤ rank d) × Rise c (rank d) rest
+rise-as c m item rest d named rise =
+    subst (λ (o : Option Class). AtClass o (λ x. (m ≤ rank x) × Rise c (rank x) rest)) named rise
+
+pub split : (c : Class) (m : ℕ) (front : List Item) → Rise c m (onto front End) → Each (EndsAs c) front →
+    Split c m front
+split c m [] rise ends = record {
+  models = [];
+  usages = [];
+  identifiers = [];
+  remarks = [];
+  are = refl;
+  as_model = tt;
+  as_usage = tt;
+  as_id = tt;
+  as_remark = tt;
+  no_model = λ h. refl;
+  no_usage = λ h. refl;
+  no_id = λ h. refl;
+}
+split c m (item ∷ items) rise (inl named, ends) =
+    let r = rise-as c m item (onto items End) class.GeoidModel named rise in
+    let s = split c 1 items r.1 ends in
+    let low : m ≤ 1 = r.0 in
+    record {
+      models = item ∷ s.models;
+      usages = s.usages;
+      identifiers = s.identifiers;
+      remarks = s.remarks;
+      are = ap (λ xs. item ∷ xs) s.are;
+      as_model = (named, s.as_model);
+      as_usage = s.as_usage;
+      as_id = s.as_id;
+      as_remark = s.as_remark;
+      no_model = λ h. absurd (omega arith);
+      no_usage = λ h. absurd (omega arith);
+      no_id = λ h. absurd (omega arith);
+    }
+split c m (item ∷ items) rise (inr (inl named), ends) =
+    let r = rise-as c m item (onto items End) class.Usage named rise in
+    let s = split c 2 items r.1 ends in
+    let low : m ≤ 2 = r.0 in
+    let no_models = s.no_model (omega arith) in
+    record {
+      models = [];
+      usages = item ∷ s.usages;
+      identifiers = s.identifiers;
+      remarks = s.remarks;
+      are = ap (λ xs. item ∷ xs) (s.are ∙ ap (λ xs. xs ++ (s.usages ++ (s.identifiers ++ s.remarks))) no_models);
+      as_model = tt;
+      as_usage = (named, s.as_usage);
+      as_id = s.as_id;
+      as_remark = s.as_remark;
+      no_model = λ h. refl;
+      no_usage = λ h. absurd (omega arith);
+      no_id = λ h. absurd (omega arith);
+    }
+split c m (item ∷ items) rise (inr (inr (inl named)), ends) =
+    let r = rise-as c m item (onto items End) class.Identifier named rise in
+    let s = split c 3 items r.1 ends in
+    let low : m ≤ 3 = r.0 in
+    let no_models = s.no_model (omega arith) in
+    let no_usages = s.no_usage (omega arith) in
+    record {
+      models = [];
+      usages = [];
+      identifiers = item ∷ s.identifiers;
+      remarks = s.remarks;
+      are = ap (λ xs. item ∷ xs)
+          (s.are ∙ ap (λ xs. xs ++ (s.usages ++ (s.identifiers ++ s.remarks))) no_models
+          ∙ ap (λ xs. xs ++ (s.identifiers ++ s.remarks)) no_usages);
+      as_model = tt;
+      as_usage = tt;
+      as_id = (named, s.as_id);
+      as_remark = s.as_remark;
+      no_model = λ h. refl;
+      no_usage = λ h. refl;
+      no_id = λ h. absurd (omega arith);
+    }
+split c m (item ∷ items) rise (inr (inr (inr named)), ends) =
+    let r = rise-as c m item (onto items End) class.Remark named rise in
+    let s = split c 4 items r.1 ends in
+    let no_models = s.no_model (omega arith) in
+    let no_usages = s.no_usage (omega arith) in
+    let no_ids = s.no_id (omega arith) in
+    record {
+      models = [];
+      usages = [];
+      identifiers = [];
+      remarks = item ∷ s.remarks;
+      are = ap (λ xs. item ∷ xs)
+          (s.are ∙ ap (λ xs. xs ++ (s.usages ++ (s.identifiers ++ s.remarks))) no_models
+          ∙ ap (λ xs. xs ++ (s.identifiers ++ s.remarks)) no_usages
+          ∙ ap (λ xs. xs ++ s.remarks) no_ids);
+      as_model = tt;
+      as_usage = tt;
+      as_id = tt;
+      as_remark = (named, s.as_remark);
+      no_model = λ h. refl;
+      no_usage = λ h. refl;
+      no_id = λ h. refl;
+    }

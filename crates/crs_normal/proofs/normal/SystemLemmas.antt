@@ -1,0 +1,186 @@
+-- A normal coordinate system is the one form of its value: its axes are in order of position.
+use Rattle.std.proofs.Common.{◌≡◌, ℕ, suc, ◌+◌, ◌^◌, ◌≤◌, ◌<◌, length, true, false, Some, List, [], ◌∷◌, ◌++◌, if◌then◌else◌, decimal, refl, sym, ◌∙◌, ap, subst, arith, append_assoc, length-append}
+use Rattle.std.specs.Str.{bytes_eq}
+use Rattle.std.proofs.lemmas.Fmt.{decimal_injective}
+use Rattle.std.proofs.lemmas.Slice.Eq.{bytes_eq-Decides}
+use Rattle.crs_text.specs.Items.{Item, leaf, node, Siblings, End, More, arguments}
+use Rattle.crs_shape.specs.declared.class.Class.{Class}
+use Rattle.crs_shape.specs.declared.class.Class.TheVariants as class
+use Rattle.crs_shape.specs.Slots.{slots_of}
+use Rattle.crs_value.specs.Reading.{those, ReadsEach}
+use Rattle.crs_value.specs.Reads.{ReadsAxis, ReadsHead, ReadsNumber, ReadsSystem, ReadsType}
+use Rattle.crs_value.specs.Values.{AxisParts, SystemParts}
+use Rattle.crs_value.specs.Words.{system_word}
+use Rattle.crs_value.specs.declared.values.level.Level.{Level}
+use Rattle.crs_normal.specs.NormalOwn.{AreOrdered, Has, HasAxes}
+use Rattle.crs_value.specs.Sound.{Each}
+use Rattle.crs_normal.specs.SpelledItems.{each, number_item, word_item}
+use Rattle.crs_normal.specs.SpelledSystems.{axes_from, axis_at, is_at, item_axis, item_head, norm_axis, norm_system, system_items, with_axis}
+use Rattle.crs_normal.proofs.normal.AxisLemmas.{IsNumbered, axis-form, type-form}
+use Rattle.crs_normal.proofs.normal.FormLemmas.{Form, IsGood, Kept, kept-good, node-spelled, one-spelled, opened}
+use Rattle.crs_normal.proofs.normal.LeafLemmas.{PlainIsOne, number-form}
+use Rattle.crs_normal.proofs.normal.UnitLemmas.{idents-spelled}
+use Rattle.crs_normal.proofs.read.ViewLemmas.{without_places_onto, without_places-spread, those-looked}
+
+-- ---- the axes at their positions
+
+abbrev numbered : Level → SystemParts → ℕ → List AxisParts → List AxisParts
+numbered level system k [] = []
+numbered level system k (axis ∷ axes) = norm_axis level system k axis ∷ numbered level system (k + 1) axes
+
+abbrev AllNumbered : ℕ → List AxisParts → Type 0
+AllNumbered k [] = Unit {0}
+AllNumbered k (axis ∷ axes) = IsNumbered k axis × AllNumbered (k + 1) axes
+
+record AreAxes (level : Level) (system : SystemParts) (k : ℕ) (axes : List AxisParts) (items : List Item)
+    (rest : Siblings) : Type 0 where
+  spelled : without_places_onto items rest ≡ each item_axis (numbered level system k axes) rest
+  numbered_so : AllNumbered k axes
+
+axes-read : PlainIsOne →
+    (level : Level) (c : Class) (system : SystemParts) (k : ℕ) (items : List Item) (axes : List AxisParts) →
+    Each (IsGood level c class.Axis) items →
+    AreOrdered k items → Each (Has class.Axis class.AxisUnit) items → ReadsEach (ReadsAxis class.Axis) items axes →
+    (rest : Siblings) → AreAxes level system k axes items rest
+axes-read law level c system k [] [] good ordered own reads rest = record { spelled = refl; numbered_so = tt }
+axes-read law level c system k [] (x ∷ xs) good ordered own reads rest = absurd reads
+axes-read law level c system k (i ∷ is) [] good ordered own reads rest = absurd reads
+axes-read law level c system k (i ∷ is) (x ∷ xs) good ordered own reads rest =
+    let this = axis-form law level c system k i x good.0 ordered.0 own.0 reads.0 in
+    let more = axes-read law level c system (k + 1) is xs good.1 ordered.1 own.1 reads.1 rest in
+    record {
+      spelled = ap (λ j. More j (without_places_onto is rest)) this.0
+          ∙ ap (More (item_axis (norm_axis level system k x))) more.spelled;
+      numbered_so = (this.1, more.numbered_so);
+    }
+
+abbrev limit : ℕ
+limit = 2 ^ 64
+
+same-bytes : (xs : List ℕ) → bytes_eq xs xs ≡ true
+same-bytes xs = (bytes_eq-Decides xs xs).1 refl
+
+equal-bytes : (xs ys : List ℕ) → bytes_eq xs ys ≡ true → xs ≡ ys
+equal-bytes xs ys e = (bytes_eq-Decides xs ys).0 e
+
+at-order : (k j place : ℕ) (axis : AxisParts) → IsNumbered j axis →
+    is_at k place axis.order ≡ bytes_eq (decimal j) (decimal k)
+at-order k j place axis n = ap (is_at k place) n.order ∙ ap (λ bytes. bytes_eq bytes (decimal k)) n.spelled
+
+at-here : (k place : ℕ) (axis : AxisParts) → IsNumbered k axis → is_at k place axis.order ≡ true
+at-here k place axis n = at-order k k place axis n ∙ same-bytes (decimal k)
+
+not-here : (k j place : ℕ) (axis : AxisParts) → IsNumbered j axis → j < k → k < limit → is_at k place axis.order ≡ false
+not-here k j place axis n less within =
+    at-order k j place axis n
+    ∙ (elim (bytes_eq (decimal j) (decimal k)) as (λ b. bytes_eq (decimal j) (decimal k) ≡ b → b ≡ false) [
+      | true ↦ λ e. absurd (apart
+          (decimal_injective j k (below less within) within (equal-bytes (decimal j) (decimal k) e)))
+      | false ↦ λ e. refl
+    ] refl)
+  where
+    below : {m : ℕ} → j < k → k < m → j < m
+    below p q = omega arith
+
+    apart : j ≡ k → ⊥
+    apart e = omega arith
+
+-- the axis after those of the lower orders
+axis-behind : (k j place : ℕ) (before : List AxisParts) (axis : AxisParts) (behind : List AxisParts) →
+    AllNumbered j before → j + length before ≡ k → k < limit →
+    IsNumbered k axis → axis_at k place (before ++ axis ∷ behind) ≡ Some axis
+axis-behind k j place [] axis behind numbered_so e within n =
+    ap (λ b. if b then Some axis else axis_at k (place + 1) behind) (at-here k place axis n)
+axis-behind k j place (b ∷ bs) axis behind numbered_so e within n =
+    ap (λ t. if t then Some b else axis_at k (place + 1) (bs ++ axis ∷ behind))
+    (not-here k j place b numbered_so.0 less within)
+    ∙ axis-behind k (j + 1) (place + 1) bs axis behind numbered_so.1 step within n
+  where
+    less : j < k
+    less = let h : length (b ∷ bs) ≡ suc (length bs) = refl in omega arith
+
+    step : (j + 1) + length bs ≡ k
+    step = let h : length (b ∷ bs) ≡ suc (length bs) = refl in omega arith
+
+numbered-more : (j k : ℕ) (before : List AxisParts) (axis : AxisParts) → AllNumbered j before → j + length before ≡ k →
+    IsNumbered k axis → AllNumbered j (before ++ axis ∷ [])
+numbered-more j k [] axis numbered_so e n = (subst (λ m. IsNumbered m axis) (sym (here e)) n, tt)
+  where
+    here : j + 0 ≡ k → j ≡ k
+    here h = omega arith
+numbered-more j k (b ∷ bs) axis numbered_so e n = (numbered_so.0, numbered-more (j + 1) k bs axis numbered_so.1 step n)
+  where
+    step : (j + 1) + length bs ≡ k
+    step = let h : length (b ∷ bs) ≡ suc (length bs) = refl in omega arith
+
+from-numbered : (level : Level) (system : SystemParts) (k : ℕ) (before axes : List AxisParts) →
+    system.axes ≡ before ++ axes → AllNumbered 1 before → AllNumbered k axes →
+    1 + length before ≡ k → k + length axes < limit →
+    axes_from level system k (length axes) ≡ numbered level system k axes
+from-numbered level system k before [] are lower numbered_so e within = refl
+from-numbered level system k before (axis ∷ axes) are lower numbered_so e within =
+    ap (λ found. with_axis level system k found (axes_from level system (k + 1) (length axes)))
+    (ap (axis_at k 1) are ∙ axis-behind k 1 1 before axis axes lower e within_k numbered_so.0)
+    ∙ ap (λ xs. norm_axis level system k axis ∷ xs)
+    (from-numbered level system (k + 1) (before ++ axis ∷ []) axes (are ∙ sym (append_assoc before (axis ∷ []) axes))
+    (numbered-more 1 k before axis lower e numbered_so.0) numbered_so.1 longer within_more)
+  where
+    suc-length : length (axis ∷ axes) ≡ suc (length axes)
+    suc-length = refl
+
+    within_k : k < limit
+    within_k = let h = suc-length in omega arith
+
+    within_more : (k + 1) + length axes < limit
+    within_more = let h = suc-length in omega arith
+
+    longer : 1 + length (before ++ axis ∷ []) ≡ k + 1
+    longer = let h = length-append before (axis ∷ []) in let o : length (axis ∷ []) ≡ 1 = refl in omega arith
+
+-- ---- systems
+
+head-form : PlainIsOne → (level : Level) (c : Class) →
+    Form level c class.CoordinateSystem ReadsHead (λ s. item_head (norm_system level s))
+head-form law level c (leaf kind place raw) x good reads = absurd reads.dimension
+head-form law level c (node place keyword square first others close) x good reads =
+    let d = class.CoordinateSystem in
+    let o = opened level c d place keyword square first others close good.shaped good.normal in
+    let items = More first others in
+    let v = o.slots in
+    let v1 = v.1.1.1.1 in
+    let v2 = v1.1.1.1.1 in
+    node-spelled place keyword _ square first others close _ o.written
+    (without_places-spread d (slots_of d) items v
+    ∙ one-spelled level d class.Word ReadsType (λ t. word_item (system_word t)) (type-form level)
+    (those d class.Word items) v.0
+    (kept-good level d class.Word items o.kept) (those-looked d class.Word (slots_of d) items v) (v.1.1.0.not_more refl)
+    x.system_type reads.system_type _ _
+    (one-spelled level d class.Number ReadsNumber number_item (number-form law level d (λ raw h. h))
+    (those d class.Number items) v1.0
+    (kept-good level d class.Number items o.kept) (those-looked d class.Number (slots_of d) items v)
+    (v1.1.1.0.not_more refl) x.dimension reads.dimension _ _
+    (idents-spelled level d items v2.0 o.kept (those-looked d class.Identifier (slots_of d) items v) o.sets.0 x.identifiers
+    reads.identifiers End End refl)))
+
+-- the node `CS`, the axes and no shared unit
+pub system-spelled : PlainIsOne → (level : Level) (c : Class) (item : Item) → Kept level c (arguments item) →
+    HasAxes c item → (heads axes units : List Item) →
+    those c class.CoordinateSystem (arguments item) ≡ heads → length heads ≤ 1 →
+    those c class.Axis (arguments item) ≡ axes →
+    those c class.AxisUnit (arguments item) ≡ units → (x : SystemParts) → ReadsSystem c item x →
+    length x.axes + 1 < 2 ^ 64 → (rest after : Siblings) → rest ≡ after →
+    without_places_onto heads (without_places_onto axes (without_places_onto units rest)) ≡ system_items (norm_system level x) after
+system-spelled law level c item k has heads axes units e few f g x reads within rest after same =
+    let items = arguments item in
+    let read = axes-read law level c x 1 (those c class.Axis items) x.axes (kept-good level c class.Axis items k)
+    has.ordered has.own_units reads.axes after in
+    one-spelled level c class.CoordinateSystem ReadsHead (λ s. item_head (norm_system level s)) (head-form law level c)
+    (those c class.CoordinateSystem items) heads
+    (kept-good level c class.CoordinateSystem items k) e few x reads.head _ _
+    (ap (λ us. without_places_onto axes (without_places_onto us rest)) (sym g ∙ has.none_shared)
+    ∙ ap (without_places_onto axes) same ∙ ap (λ xs. without_places_onto xs after) (sym f) ∙ read.spelled
+    ∙ ap (λ xs. each item_axis xs after)
+    (sym (from-numbered level x 1 [] x.axes refl tt read.numbered_so refl (more (length x.axes) within))))
+  where
+    more : (n : ℕ) → n + 1 < 2 ^ 64 → 1 + n < 2 ^ 64
+    more n h = omega arith

@@ -1,0 +1,157 @@
+-- The end of a normal CRS is the one form of its value.
+use Rattle.std.proofs.Common.{IsSome, List, None, Option, Some, ℕ, [], ap, ap₂, codes, false, inl, inr, length, map, refl, sym, true, ◌++◌, ◌∙◌, ◌≡◌, ◌≤◌}
+use Rattle.crs_text.specs.Items.{Item, End, arguments}
+use Rattle.crs_shape.specs.declared.class.Class.{Class}
+use Rattle.crs_shape.specs.declared.class.Class.TheVariants as class
+use Rattle.crs_value.specs.ConversionValues.{GeoidModelParts}
+use Rattle.crs_value.specs.Reading.{those, ReadsEach, ReadsOptional}
+use Rattle.crs_value.specs.Reads.{ReadsBare, ReadsTail, ReadsTextOf, ReadsUsage}
+use Rattle.crs_value.specs.ReadsConversion.{ReadsGeoidModel}
+use Rattle.crs_value.specs.Values.{SaysSome, TailParts, UsageParts}
+use Rattle.crs_value.specs.Kept.{kept}
+use Rattle.crs_value.specs.KeptLaws.{kept-where_none-one}
+use Rattle.crs_value.specs.declared.values.level.Level.{Level}
+use Rattle.crs_same.specs.SameUsages.{usages_of, with_bare}
+use Rattle.crs_normal.specs.NormalOwn.{HasSets, HasTail, Rise}
+use Rattle.crs_value.specs.Sound.{Each}
+use Rattle.crs_normal.specs.Ordered.{in_order}
+use Rattle.crs_text.specs.Written.{item_text}
+use Rattle.crs_normal.specs.SpelledConversions.{item_geoid_model, norm_geoid_model, set_geoid_models}
+use Rattle.crs_normal.specs.SpelledItems.{each, opt, text_node}
+use Rattle.crs_normal.specs.SpelledUnits.{item_ident, set_idents}
+use Rattle.crs_normal.specs.SpelledUsages.{item_usage, norm_tail, norm_usage, set_usages, tail_items}
+use Rattle.crs_normal.proofs.normal.CheckedLemmas.{as-few}
+use Rattle.crs_normal.proofs.normal.FormLemmas.{Kept, kept-good, optional-spelled, reads-kept, set-spelled}
+use Rattle.crs_normal.proofs.normal.FrameLemmas.{none-read}
+use Rattle.crs_normal.proofs.normal.LeafLemmas.{PlainIsOne, text-node-form}
+use Rattle.crs_normal.proofs.normal.NamedLemmas.{geoid_model-form}
+use Rattle.crs_normal.proofs.normal.RankLemmas.{EndsAs, Split, split}
+use Rattle.crs_normal.proofs.normal.SortLemmas.{as-class, without_places-joined, nothing-behind, those-kept, those-last, those-none, those-passed}
+use Rattle.crs_normal.proofs.normal.UnitLemmas.{idents-spelled}
+use Rattle.crs_normal.proofs.normal.UsageLemmas.{usage-form}
+use Rattle.crs_normal.proofs.read.ViewLemmas.{without_places_onto, onto}
+
+-- ---- a front of several sorts
+
+record Sorted (c : Class) (front : List Item) (m u i r : List Item) : Type 0 where
+  are : front ≡ m ++ (u ++ (i ++ r))
+  models : those c class.GeoidModel (onto front End) ≡ m
+  usages : those c class.Usage (onto front End) ≡ u
+  identifiers : those c class.Identifier (onto front End) ≡ i
+  remarks : those c class.Remark (onto front End) ≡ r
+
+sorted-of : (c : Class) (k : ℕ) (front : List Item) (s : Split c k front) →
+    Sorted c front s.models s.usages s.identifiers s.remarks
+sorted-of c k front s =
+    let m = s.models in
+    let u = s.usages in
+    let i = s.identifiers in
+    let r = s.remarks in
+    record {
+      are = s.are;
+      models = at class.GeoidModel
+          ∙ those-kept c class.GeoidModel m (u ++ (i ++ r))
+          (as-class c class.GeoidModel class.GeoidModel true refl m s.as_model)
+          ∙ ap (λ xs. m ++ xs) (those-passed c class.GeoidModel u (i ++ r)
+          (as-class c class.Usage class.GeoidModel false refl u s.as_usage)
+          ∙ those-passed c class.GeoidModel i r (as-class c class.Identifier class.GeoidModel false refl i s.as_id)
+          ∙ those-none c class.GeoidModel r (as-class c class.Remark class.GeoidModel false refl r s.as_remark))
+          ∙ nothing-behind m;
+      usages = at class.Usage
+          ∙ those-passed c class.Usage m (u ++ (i ++ r))
+          (as-class c class.GeoidModel class.Usage false refl m s.as_model)
+          ∙ those-kept c class.Usage u (i ++ r) (as-class c class.Usage class.Usage true refl u s.as_usage)
+          ∙ ap (λ xs. u ++ xs) (those-passed c class.Usage i r
+          (as-class c class.Identifier class.Usage false refl i s.as_id)
+          ∙ those-none c class.Usage r (as-class c class.Remark class.Usage false refl r s.as_remark))
+          ∙ nothing-behind u;
+      identifiers = at class.Identifier
+          ∙ those-passed c class.Identifier m (u ++ (i ++ r))
+          (as-class c class.GeoidModel class.Identifier false refl m s.as_model)
+          ∙ those-passed c class.Identifier u (i ++ r) (as-class c class.Usage class.Identifier false refl u s.as_usage)
+          ∙ those-kept c class.Identifier i r (as-class c class.Identifier class.Identifier true refl i s.as_id)
+          ∙ ap (λ xs. i ++ xs) (those-none c class.Identifier r
+          (as-class c class.Remark class.Identifier false refl r s.as_remark))
+          ∙ nothing-behind i;
+      remarks = at class.Remark
+          ∙ those-passed c class.Remark m (u ++ (i ++ r))
+          (as-class c class.GeoidModel class.Remark false refl m s.as_model)
+          ∙ those-passed c class.Remark u (i ++ r) (as-class c class.Usage class.Remark false refl u s.as_usage)
+          ∙ those-passed c class.Remark i r (as-class c class.Identifier class.Remark false refl i s.as_id)
+          ∙ those-last c class.Remark r (as-class c class.Remark class.Remark true refl r s.as_remark);
+    }
+  where
+    at : (d : Class) → those c d (onto front End) ≡ those c d
+        (onto (s.models ++ (s.usages ++ (s.identifiers ++ s.remarks))) End)
+    at d = ap (λ xs. those c d (onto xs End)) s.are
+
+-- ---- no part of a usage is bare
+
+some-other : {V : Type 0} {value : Option V} → value ≡ None → ¬ (IsSome value)
+some-other e some = cc
+
+usages-bare : (c : Class) (item : Item) → HasTail c item → (t : TailParts) → ReadsTail c item t → usages_of t ≡ t.usages
+usages-bare c item has t reads = by t.bare_parts reads.bare_parts
+  where
+    lacks : {V : Type 0} (R : Item → V → Type 0) (found : List Item) → found ≡ [] → (value : Option V) →
+        ReadsOptional R found value → ¬ (IsSome value)
+    lacks R found e value read some = some-other (none-read R found e value read) some
+
+    none : (u : UsageParts) → ReadsUsage c item u → ¬ (SaysSome u)
+    none u read (inl h) = lacks _ _ has.none_bare.0 u.scope read.scope h
+    none u read (inr (inl h)) = lacks _ _ has.none_bare.1.0 u.area read.area h
+    none u read (inr (inr (inl h))) = lacks _ _ has.none_bare.1.1.0 u.bbox read.bbox h
+    none u read (inr (inr (inr h))) = lacks _ _ has.none_bare.1.1.1.0 u.extent read.extent h
+
+    by : (bare : Option UsageParts) → ReadsBare c item bare → with_bare bare t.usages ≡ t.usages
+    by None read = refl
+    by (Some u) read = absurd (none u read.0 read.1)
+
+-- ---- tails
+
+abbrev pub EndsIn : Class → Type 0
+EndsIn class.GeoidModel = Unit {0}
+EndsIn class.Usage = Unit {0}
+EndsIn class.Identifier = Unit {0}
+EndsIn class.Remark = Unit {0}
+EndsIn other = ⊥
+
+-- the arguments at the end: geoid models, if there are any, and the tail
+pub tail-spelled : PlainIsOne → (level : Level) (c : Class) (item : Item) → Kept level c (arguments item) →
+    HasSets c item → HasTail c item → (front : List Item) (k : ℕ) →
+    Rise c k (onto front End) → Each (EndsAs c) front →
+    ((d : Class) → EndsIn d → those c d (arguments item) ≡ those c d (onto front End)) →
+    length (those c class.Remark (arguments item)) ≤ 1 →
+    (models : List GeoidModelParts) →
+    ReadsEach (ReadsGeoidModel class.GeoidModel) (those c class.GeoidModel (arguments item)) models →
+    (t : TailParts) → ReadsTail c item t →
+    without_places_onto front End ≡ each item_geoid_model (set_geoid_models level models) (tail_items (norm_tail level t))
+unfolding set_geoid_models set_usages
+tail-spelled law level c item k sets has front n rise ends found few models read_models t reads =
+    let items = arguments item in
+    let s = split c n front rise ends in
+    let o = sorted-of c n front s in
+    let remarks = found class.Remark tt ∙ o.remarks in
+    ap (λ xs. without_places_onto xs End) o.are
+    ∙ without_places-joined s.models (s.usages ++ (s.identifiers ++ s.remarks)) End
+    ∙ ap (without_places_onto s.models) (without_places-joined s.usages (s.identifiers ++ s.remarks) End
+    ∙ ap (without_places_onto s.usages) (without_places-joined s.identifiers s.remarks End))
+    ∙ set-spelled level c class.GeoidModel (ReadsGeoidModel class.GeoidModel) item_geoid_model (norm_geoid_model level)
+    (geoid_model-form level c)
+    (those c class.GeoidModel items) s.models (kept-good level c class.GeoidModel items k) (found class.GeoidModel tt
+    ∙ o.models)
+    sets.1.1.1.1.0 models read_models _ _
+    (set-spelled level c class.Usage (ReadsUsage class.Usage) item_usage norm_usage (usage-form law level c)
+    (those c class.Usage items) s.usages (kept-good level c class.Usage items k) (found class.Usage tt
+    ∙ o.usages) sets.1.0 t.usages reads.usages _ _
+    (idents-spelled level c items s.identifiers k (found class.Identifier tt ∙ o.identifiers) sets.0 t.identifiers reads.identifiers _ _
+    (optional-spelled level c class.Remark (ReadsTextOf class.Remark) (text_node (codes "REMARK"))
+    (text-node-form level c class.Remark (codes "REMARK") refl (λ bytes h. h))
+    (those c class.Remark items) s.remarks (kept-good level c class.Remark items k) remarks (as-few _ _ remarks few)
+    t.remark reads.remark End End refl))
+    ∙ ap₂ (λ us remark. each item_usage (in_order (λ u. item_text (item_usage u)) (map norm_usage us))
+    (each item_ident (set_idents level t.identifiers) (opt (text_node (codes "REMARK")) remark End)))
+    (sym (ap (kept level) (usages-bare c item has t reads)
+    ∙ reads-kept level (ReadsUsage class.Usage) (those c class.Usage items) t.usages reads.usages k.left.1.0))
+    (sym (kept-where_none-one level (those c class.Remark items) t.remark
+    (λ e. none-read (ReadsTextOf class.Remark) (those c class.Remark items) e t.remark reads.remark) k.left.1.1.0)))

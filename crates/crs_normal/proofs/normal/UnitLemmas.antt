@@ -1,0 +1,108 @@
+-- Normal units and lists of identifiers are the one form of their values.
+use Rattle.std.proofs.Common.{◌≡◌, ℕ, map, inl, inr, List, [], ◌∷◌, refl, sym, ◌∙◌, ap, subst}
+use Rattle.crs_text.specs.Items.{Item, leaf, node, Siblings, End, More}
+use Rattle.crs_text.specs.Written.{item_text}
+use Rattle.crs_shape.specs.declared.class.Class.{Class}
+use Rattle.crs_shape.specs.declared.class.Class.TheVariants as class
+use Rattle.crs_shape.specs.Slots.{SlotParts, slots_of, unit_slots}
+use Rattle.crs_value.specs.Reading.{those, ReadsEach}
+use Rattle.crs_value.specs.Reads.{ReadsIdent, ReadsNumber, ReadsText, ReadsUnit}
+use Rattle.crs_value.specs.Values.{IdentParts}
+use Rattle.crs_value.specs.Words.{SpellsWord, unit_word}
+use Rattle.crs_value.specs.Kept.{kept}
+use Rattle.crs_value.specs.declared.values.level.Level.{Level}
+use Rattle.crs_value.specs.declared.values.unit_kind.UnitKind.{UnitKind}
+use Rattle.crs_value.specs.declared.values.unit_kind.UnitKind.TheVariants as kinds
+use Rattle.crs_same.specs.SameUnits.{kind_as}
+use Rattle.crs_normal.specs.Normal.{IsFirstKeyword}
+use Rattle.crs_normal.specs.NormalOwn.{Ascend}
+use Rattle.crs_value.specs.Sound.{Each}
+use Rattle.crs_normal.specs.Ordered.{in_order}
+use Rattle.crs_normal.specs.SpelledItems.{each, number_item, text_item}
+use Rattle.crs_normal.specs.SpelledUnits.{item_ident, item_unit, norm_unit, set_idents}
+use Rattle.crs_normal.proofs.normal.FormLemmas.{IsGood, Form, Kept, kept-good, node-spelled, one-spelled, opened, reads-kept, set-spelled}
+use Rattle.crs_normal.proofs.normal.IdentLemmas.{ident-form}
+use Rattle.crs_normal.proofs.normal.LeafLemmas.{ArePlain, PlainIsOne, number-form, text-form}
+use Rattle.crs_normal.proofs.read.ViewLemmas.{View, without_places_onto, without_places-spread, those-looked}
+use Rattle.crs_normal.proofs.texts.WordFormLemmas.{kind-one}
+
+map-same : {A : Type 0} (xs : List A) → map (λ x. x) xs ≡ xs
+map-same [] = refl
+map-same (x ∷ xs) = ap (λ ys. x ∷ ys) (map-same xs)
+
+-- the identifiers in a slot
+pub idents-found-spelled : (level : Level) (c : Class) (items : Siblings) (front : List Item) →
+    Each (IsGood level c class.Identifier) (those c class.Identifier items) →
+    those c class.Identifier items ≡ front →
+    Ascend (those c class.Identifier items) →
+    kept level (those c class.Identifier items) ≡ those c class.Identifier items → (identifiers : List IdentParts) →
+    ReadsEach (ReadsIdent class.Identifier) (those c class.Identifier items) identifiers →
+    (rest after : Siblings) → rest ≡ after → without_places_onto front rest ≡ each item_ident (set_idents level identifiers) after
+unfolding set_idents
+idents-found-spelled level c items front good e up left identifiers reads rest after f =
+    set-spelled level c class.Identifier (ReadsIdent class.Identifier) item_ident (λ x. x)
+    (ident-form level c) (those c class.Identifier items) front good e up identifiers reads rest after f
+    ∙ ap (λ xs. each item_ident (in_order (λ i. item_text (item_ident i)) xs) after) (map-same identifiers
+    ∙ sym (reads-kept level (ReadsIdent class.Identifier) (those c class.Identifier items) identifiers reads left))
+
+pub idents-spelled : (level : Level) (c : Class) (items : Siblings) (front : List Item) → Kept level c items →
+    those c class.Identifier items ≡ front →
+    Ascend (those c class.Identifier items) → (identifiers : List IdentParts) →
+    ReadsEach (ReadsIdent class.Identifier) (those c class.Identifier items) identifiers →
+    (rest after : Siblings) → rest ≡ after → without_places_onto front rest ≡ each item_ident (set_idents level identifiers) after
+idents-spelled level c items front k e up =
+    idents-found-spelled level c items front (kept-good level c class.Identifier items k) e up k.left.0
+
+-- ---- units
+
+-- a keyword of the class is a kind's word, and that kind is unchanged where this one is asked
+abbrev pub KindIn : UnitKind → Class → Type 0
+KindIn asked d = (keyword : List ℕ) → IsFirstKeyword d keyword →
+    (k : UnitKind) × ((keyword ≡ unit_word k) × (kind_as asked k ≡ k))
+
+pub in-length : (asked : UnitKind) → KindIn asked class.LengthUnit
+in-length asked keyword e = (kinds.Length, (e, refl))
+
+pub in-angle : (asked : UnitKind) → KindIn asked class.AngleUnit
+in-angle asked keyword e = (kinds.Angle, (e, refl))
+
+pub in-scale : (asked : UnitKind) → KindIn asked class.ScaleUnit
+in-scale asked keyword e = (kinds.Scale, (e, refl))
+
+pub in-plain : KindIn kinds.Plain class.PlainUnit
+in-plain keyword e = (kinds.Plain, (e, refl))
+
+pub in-axis : (asked : UnitKind) → KindIn asked class.AxisUnit
+in-axis asked keyword (inl e) = (kinds.Length, (e, refl))
+in-axis asked keyword (inr e) = (kinds.Angle, (e, refl))
+
+keyword-of : (asked : UnitKind) (keyword : List ℕ) (k kind : UnitKind) → keyword ≡ unit_word k → kind_as asked k ≡ k →
+    SpellsWord keyword (unit_word kind) →
+    keyword ≡ unit_word (kind_as asked kind)
+keyword-of asked keyword k kind e same spells =
+    let one = kind-one k kind (subst (λ (w : List ℕ). SpellsWord w (unit_word kind)) e spells) in
+    e ∙ ap unit_word (sym same ∙ ap (kind_as asked) one)
+
+pub unit-form : PlainIsOne → (level : Level) (c d : Class) (asked : UnitKind) → slots_of d ≡ unit_slots →
+    KindIn asked d → ArePlain d →
+    Form level c d (ReadsUnit d) (λ u. item_unit (norm_unit level asked u))
+unit-form law level c d asked slots kind_in plains (leaf kind place raw) x good reads = absurd reads.name
+unit-form law level c d asked slots kind_in plains (node place keyword square first others close) x good reads =
+    let o = opened level c d place keyword square first others close good.shaped good.normal in
+    let items = More first others in
+    let v = subst (λ (ss : List SlotParts). View d ss items) slots o.slots in
+    let v1 = v.1.1.1.1 in
+    let v2 = v1.1.1.1.1 in
+    let k = kind_in keyword o.written in
+    node-spelled place keyword _ square first others close _
+    (keyword-of asked keyword k.0 x.kind k.1.0 k.1.1 reads.kind)
+    (without_places-spread d unit_slots items v
+    ∙ one-spelled level d class.Text ReadsText text_item (text-form level d) (those d class.Text items) v.0
+    (kept-good level d class.Text items o.kept)
+    (those-looked d class.Text unit_slots items v) (v.1.1.0.not_more refl) x.name reads.name _ _
+    (one-spelled level d class.Number ReadsNumber number_item (number-form law level d plains)
+    (those d class.Number items) v1.0
+    (kept-good level d class.Number items o.kept) (those-looked d class.Number unit_slots items v)
+    (v1.1.1.0.not_more refl) x.factor reads.factor _ _
+    (idents-spelled level d items v2.0 o.kept (those-looked d class.Identifier unit_slots items v) o.sets.0 x.identifiers
+    reads.identifiers End End refl)))

@@ -1,0 +1,108 @@
+-- Normal boxes, extents and usages are the one form of their values.
+use Rattle.std.proofs.Common.{◌≡◌, true, false, codes, refl, ◌∙◌}
+use Rattle.crs_text.specs.Items.{leaf, node, End, More}
+use Rattle.crs_text.specs.Tokens.{number, text, word}
+use Rattle.crs_shape.specs.declared.class.Class.{Class}
+use Rattle.crs_shape.specs.declared.class.Class.TheVariants as class
+use Rattle.crs_shape.specs.Slots.{slots_of}
+use Rattle.crs_value.specs.Reading.{those}
+use Rattle.crs_value.specs.Reads.{ReadsBox, ReadsExtent, ReadsTextOf, ReadsUnit, ReadsUsage}
+use Rattle.crs_value.specs.declared.values.level.Level.{Level}
+use Rattle.crs_value.specs.declared.values.level.Level.TheVariants as levels
+use Rattle.crs_value.specs.declared.values.unit_kind.UnitKind.TheVariants as kinds
+use Rattle.crs_normal.specs.SpelledItems.{text_node}
+use Rattle.crs_normal.specs.SpelledUnits.{item_unit, norm_unit}
+use Rattle.crs_normal.specs.SpelledUsages.{item_box, item_extent, item_usage, norm_extent, norm_usage}
+use Rattle.crs_normal.proofs.normal.FormLemmas.{Form, kept-good, node-spelled, opened, optional-spelled}
+use Rattle.crs_normal.proofs.normal.LeafLemmas.{PlainIsOne, text-node-form}
+use Rattle.crs_normal.proofs.normal.LevelLemmas.{normal-in}
+use Rattle.crs_normal.proofs.members.PairLemmas.{four-spelled, opt-length, opt-mapped, two-spelled}
+use Rattle.crs_normal.proofs.normal.UnitLemmas.{in-length, unit-form}
+use Rattle.crs_normal.proofs.read.ViewLemmas.{alone, without_places-spread, those-looked}
+
+pub box-form : PlainIsOne → (level : Level) (c : Class) →
+    Form level c class.BoundingBox (ReadsBox class.BoundingBox) item_box
+box-form law level c (leaf kind place raw) x good reads = absurd reads.south
+box-form law level c (node place keyword square first others close) x good reads =
+    let d = class.BoundingBox in
+    let o = opened level c d place keyword square first others close good.shaped good.normal in
+    let items = More first others in
+    let v = o.slots in
+    let v1 = v.1.1.1.1 in
+    let v2 = v1.1.1.1.1 in
+    let v3 = v2.1.1.1.1 in
+    node-spelled place keyword _ square first others close _ o.written
+    (without_places-spread d (slots_of d) items v
+    ∙ four-spelled law level d (λ raw h. h) (those d class.Number items) v.0 v1.0 v2.0 v3.0
+    (kept-good level d class.Number items o.kept)
+    (those-looked d class.Number (slots_of d) items v) (alone v.0 v.1.1.0 refl refl) (alone v1.0 v1.1.1.0 refl refl)
+    (alone v2.0 v2.1.1.0 refl refl)
+    (alone v3.0 v3.1.1.0 refl refl) x.south x.west x.north x.east reads.south reads.west reads.north reads.east End End
+    refl)
+
+pub extent-form : PlainIsOne → (level : Level) (c : Class) →
+    Form level c class.VerticalExtent (ReadsExtent class.VerticalExtent) (λ e. item_extent (norm_extent level e))
+extent-form law level c (leaf kind place raw) x good reads = absurd reads.minimum
+extent-form law level c (node place keyword square first others close) x good reads =
+    let d = class.VerticalExtent in
+    let o = opened level c d place keyword square first others close good.shaped good.normal in
+    let items = More first others in
+    let v = o.slots in
+    let v1 = v.1.1.1.1 in
+    let v2 = v1.1.1.1.1 in
+    node-spelled place keyword _ square first others close _ o.written
+    (without_places-spread d (slots_of d) items v
+    ∙ two-spelled law level d (λ raw h. h) (those d class.Number items) v.0 v1.0
+    (kept-good level d class.Number items o.kept)
+    (those-looked d class.Number (slots_of d) items v) (alone v.0 v.1.1.0 refl refl) (alone v1.0 v1.1.1.0 refl refl)
+    x.minimum x.maximum reads.minimum reads.maximum _ _
+    (optional-spelled level d class.LengthUnit (ReadsUnit class.LengthUnit)
+    (λ u. item_unit (norm_unit level kinds.Length u))
+    (unit-form law level d class.LengthUnit kinds.Length refl (in-length kinds.Length) (λ raw h. h))
+    (those d class.LengthUnit items) v2.0 (kept-good level d class.LengthUnit items o.kept)
+    (those-looked d class.LengthUnit (slots_of d) items v) (v2.1.1.0.not_more refl) x.unit reads.unit End End refl
+    ∙ opt-length (ReadsUnit class.LengthUnit) level (those d class.LengthUnit items) x.unit o.own reads.unit End))
+
+full-usage-form : PlainIsOne → (c : Class) →
+    Form levels.Full c class.Usage (ReadsUsage class.Usage) (λ u. item_usage (norm_usage u))
+full-usage-form law c (leaf number place raw) x good reads = let h : false ≡ true = good.shaped in cc
+full-usage-form law c (leaf text place raw) x good reads = let h : false ≡ true = good.shaped in cc
+full-usage-form law c (leaf word place raw) x good reads = let h : false ≡ true = good.shaped in cc
+full-usage-form law c (node place keyword square first others close) x good reads =
+    let level = levels.Full in
+    let d = class.Usage in
+    let o = opened level c d place keyword square first others close good.shaped good.normal in
+    let items = More first others in
+    let v = o.slots in
+    let v1 = v.1.1.1.1 in
+    let v2 = v1.1.1.1.1 in
+    let v3 = v2.1.1.1.1 in
+    node-spelled place keyword (codes "USAGE") square first others close _ o.written
+    (without_places-spread d (slots_of d) items v
+    ∙ optional-spelled level d class.Scope (ReadsTextOf class.Scope) (text_node (codes "SCOPE"))
+    (text-node-form level d class.Scope (codes "SCOPE") refl (λ bytes h. h))
+    (those d class.Scope items) v.0 (kept-good level d class.Scope items o.kept)
+    (those-looked d class.Scope (slots_of d) items v) (v.1.1.0.not_more refl)
+    x.scope reads.scope _ _
+    (optional-spelled level d class.Area (ReadsTextOf class.Area) (text_node (codes "AREA"))
+    (text-node-form level d class.Area (codes "AREA") refl (λ bytes h. h))
+    (those d class.Area items) v1.0 (kept-good level d class.Area items o.kept)
+    (those-looked d class.Area (slots_of d) items v) (v1.1.1.0.not_more refl)
+    x.area reads.area _ _
+    (optional-spelled level d class.BoundingBox (ReadsBox class.BoundingBox) item_box (box-form law level d)
+    (those d class.BoundingBox items) v2.0 (kept-good level d class.BoundingBox items o.kept)
+    (those-looked d class.BoundingBox (slots_of d) items v)
+    (v2.1.1.0.not_more refl) x.bbox reads.bbox _ _
+    (optional-spelled level d class.VerticalExtent (ReadsExtent class.VerticalExtent)
+    (λ e. item_extent (norm_extent level e)) (extent-form law level d)
+    (those d class.VerticalExtent items) v3.0 (kept-good level d class.VerticalExtent items o.kept)
+    (those-looked d class.VerticalExtent (slots_of d) items v)
+    (v3.1.1.0.not_more refl) x.extent reads.extent End End refl
+    ∙ opt-mapped item_extent (norm_extent level) x.extent End))))
+
+-- with all that it holds, at each level
+pub usage-form : PlainIsOne → (level : Level) (c : Class) →
+    Form level c class.Usage (ReadsUsage class.Usage) (λ u. item_usage (norm_usage u))
+usage-form law level c item x good reads =
+    full-usage-form law c item x
+    (record { shaped = good.shaped; normal = normal-in level c class.Usage item good.normal }) reads

@@ -1,0 +1,5 @@
+pub mod AxisAloneLemmas
+pub mod PartFrameLemmas
+pub mod PartKindLemmas
+pub mod PartLemmas
+pub mod PartUnitLemmas

@@ -1,0 +1,192 @@
+-- An axis by itself, normal but for a unit that is `UNIT`, is the one form of its value.
+use Rattle.std.proofs.Common.{◌≡◌, ◌≢◌, ◌≤◌, length, true, false, IsTrue, Option, Some, None, List, [], ◌∷◌, codes, if◌then◌else◌, inl, inr, refl, sym, ◌∙◌, ap, subst, arith}
+use Rattle.crs_text.specs.Items.{Item, leaf, node, Siblings, End, More, arguments}
+use Rattle.crs_shape.specs.declared.class.Class.{Class}
+use Rattle.crs_shape.specs.declared.class.Class.TheVariants as class
+use Rattle.crs_shape.specs.Keywords.{is_keyword}
+use Rattle.crs_shape.specs.Shaped.{AreShaped, Shaped}
+use Rattle.crs_shape.specs.ShapeFault.{class_in}
+use Rattle.crs_shape.specs.Slots.{class_named, is_class, slots_of}
+use Rattle.crs_value.specs.Checks.{AtClass}
+use Rattle.crs_value.specs.Reading.{ReadsEach, ReadsFirst, ReadsOptional, is_a, those}
+use Rattle.crs_value.specs.Reads.{ReadsAxis, ReadsAxisMeridian, ReadsDirection, ReadsIdent, ReadsNumber, ReadsNumberOf, ReadsText, ReadsUnit}
+use Rattle.crs_value.specs.Values.{AxisParts, UnitParts}
+use Rattle.crs_value.specs.Words.{direction_word}
+use Rattle.crs_value.specs.declared.values.level.Level.{Level}
+use Rattle.crs_value.specs.declared.values.unit_kind.UnitKind.TheVariants as kinds
+use Rattle.crs_normal.specs.AxisAlone.{AreNormalArguments, IsNormalArgument, IsNormalAxis}
+use Rattle.crs_normal.specs.WithoutPlaces.{without_places}
+use Rattle.crs_normal.specs.Normal.{IsNormalIn}
+use Rattle.crs_value.specs.Sound.{Each}
+use Rattle.crs_normal.specs.PartTexts.{norm_axis_alone}
+use Rattle.crs_normal.specs.SpelledItems.{number_node, opt, text_item, word_item}
+use Rattle.crs_normal.specs.SpelledSystems.{item_axis, item_axis_meridian, norm_axis_meridian}
+use Rattle.crs_normal.specs.SpelledUnits.{item_unit, norm_unit, norm_units}
+use Rattle.crs_normal.proofs.normal.AxisLemmas.{axis_meridian-form, direction-form, opt-meridians}
+use Rattle.crs_normal.proofs.normal.FormLemmas.{IsGood, node-spelled, one-spelled, optional-spelled}
+use Rattle.crs_normal.proofs.normal.LeafLemmas.{PlainIsOne, number-node-form, text-form}
+use Rattle.crs_normal.proofs.normal.UnitLemmas.{idents-found-spelled, in-axis, in-plain, unit-form}
+use Rattle.crs_normal.proofs.read.ViewLemmas.{without_places-spread, without_places_onto, same_class, those-looked, view}
+
+-- ---- a unit of an axis as a plain unit
+
+named-alike : (i : Item) → class_in class.AxisUnit i ≡ class_in class.PlainUnit i
+unfolding class_named
+named-alike (leaf kind place raw) = refl
+named-alike (node place keyword square first others close) = refl
+
+those-alike : (e : Class) (items : Siblings) → those class.AxisUnit e items ≡ those class.PlainUnit e items
+those-alike e End = refl
+those-alike e (More i items) =
+    ap (λ o. if is_class e o then i ∷ those class.AxisUnit e items else those class.AxisUnit e items) (named-alike i)
+    ∙ ap (λ xs. if is_class e (class_in class.PlainUnit i) then i ∷ xs else xs) (those-alike e items)
+
+shaped-alike : (ds : List Class) (items : Siblings) → AreShaped class.AxisUnit ds items → AreShaped class.PlainUnit ds items
+shaped-alike [] End h = tt
+shaped-alike [] (More i items) h = h
+shaped-alike (d ∷ ds) End h = h
+shaped-alike (d ∷ ds) (More i items) h = (sym (named-alike i) ∙ h.0, (h.1.0, shaped-alike ds items h.1.1))
+
+as-plain : (level : Level) (item : Item) → Shaped class.AxisUnit item → IsNormalIn level class.Axis class.PlainUnit item →
+    (u : UnitParts) → ReadsUnit class.AxisUnit item u → Shaped class.PlainUnit item
+unfolding is_keyword
+as-plain level (leaf kind place raw) shaped normal u reads = absurd reads.name
+as-plain level (node place keyword square first others close) shaped normal u reads =
+    let s = shaped.1 in (
+      subst (λ w. IsTrue (is_keyword class.PlainUnit w)) (sym normal.first_keyword) refl,
+      (s.0, (s.1.0, (sym (named-alike first) ∙ s.1.1.0, (s.1.1.1.0, (shaped-alike s.1.0 others s.1.1.1.1.0, s.1.1.1.1.1))))),
+    )
+
+plain-reads : (item : Item) (u : UnitParts) → ReadsUnit class.AxisUnit item u → ReadsUnit class.PlainUnit item u
+plain-reads item u r = record {
+  kind = r.kind;
+  name = subst (λ xs. ReadsFirst ReadsText xs u.name) (those-alike class.Text (arguments item)) r.name;
+  factor = subst (λ xs. ReadsFirst ReadsNumber xs u.factor) (those-alike class.Number (arguments item)) r.factor;
+  identifiers = subst (λ xs. ReadsEach (ReadsIdent class.Identifier) xs u.identifiers) (those-alike class.Identifier (arguments item)) r.identifiers;
+}
+
+-- ---- the arguments of an axis by itself
+
+record IsFair (level : Level) (d : Class) (item : Item) : Type 0 where
+  shaped : Shaped d item
+  normal : IsNormalArgument level d item
+
+fair-as : (level : Level) (d : Class) (item : Item) (e : Class) → class_in class.Axis item ≡ Some e → Shaped e item →
+    AtClass (class_in class.Axis item) (λ x. IsNormalArgument level x item) → is_a class.Axis d item ≡ true →
+    IsFair level d item
+fair-as level d item e named shaped normal is =
+    let same : e ≡ d = same_class e d (sym (ap (is_class d) named) ∙ is) in
+    let P : Option Class → Type 0 = λ o. AtClass o (λ x. IsNormalArgument level x item) in
+    record {
+      shaped = subst (λ (x : Class). Shaped x item) same shaped;
+      normal = subst (λ (x : Class). IsNormalArgument level x item) same (subst P named normal);
+    }
+
+those-fair : (level : Level) (d : Class) (classes : List Class) (items : Siblings) → AreShaped class.Axis classes items →
+    AreNormalArguments level items → Each (IsFair level d) (those class.Axis d items)
+those-fair level d classes End shaped normal = tt
+those-fair level d [] (More item items) shaped normal = absurd shaped
+those-fair level d (e ∷ es) (More item items) shaped normal =
+    let rest = those-fair level d es items shaped.1.1 normal.1 in
+    elim (is_a class.Axis d item) as (λ b. is_a class.Axis d item ≡ b →
+    Each (IsFair level d) (if b then item ∷ those class.Axis d items else those class.Axis d items)) [
+      | true ↦ λ is. (fair-as level d item e shaped.0 shaped.1.0 normal.0 is, rest)
+      | false ↦ λ is. rest
+    ] refl
+
+good-of : (level : Level) (d : Class) → d ≢ class.AxisUnit → (item : Item) → IsFair level d item →
+    IsGood level class.Axis d item
+good-of level d other item f = record { shaped = f.shaped; normal = by f.normal }
+  where
+    by : IsNormalArgument level d item → IsNormalIn level class.Axis d item
+    by (inl h) = h
+    by (inr h) = absurd (other h.0)
+
+each-good : (level : Level) (d : Class) → d ≢ class.AxisUnit → (items : List Item) → Each (IsFair level d) items →
+    Each (IsGood level class.Axis d) items
+each-good level d other [] h = tt
+each-good level d other (item ∷ items) h = (good-of level d other item h.0, each-good level d other items h.1)
+
+-- ---- its unit
+
+abbrev plain_item : Level → UnitParts → Item
+plain_item level u = item_unit (norm_unit level kinds.Plain u)
+
+unit-alone-form : PlainIsOne → (level : Level) (item : Item) (u : UnitParts) → IsFair level class.AxisUnit item →
+    ReadsUnit class.AxisUnit item u → without_places item ≡ plain_item level u
+unit-alone-form law level item u f reads = by f.normal
+  where
+    by : IsNormalArgument level class.AxisUnit item → without_places item ≡ plain_item level u
+    by (inl h) =
+        unit-form law level class.Axis class.AxisUnit kinds.Plain refl (in-axis kinds.Plain) (λ raw p. p) item u
+        (record { shaped = f.shaped; normal = h }) reads
+    by (inr h) =
+        unit-form law level class.Axis class.PlainUnit kinds.Plain refl in-plain (λ raw p. p) item u
+        (record { shaped = as-plain level item f.shaped h.1 u reads; normal = h.1 }) (plain-reads item u reads)
+
+unit-alone-spelled : PlainIsOne → (level : Level) (found front : List Item) → Each (IsFair level class.AxisUnit) found →
+    found ≡ front → length front ≤ 1 → (value : Option UnitParts) → ReadsOptional (ReadsUnit class.AxisUnit) found value →
+    (rest after : Siblings) → rest ≡ after → without_places_onto front rest ≡ opt (plain_item level) value after
+unit-alone-spelled law level found front fair e few value reads rest after f =
+    alone front few (subst (Each (IsFair level class.AxisUnit)) e fair) value
+    (subst (λ (xs : List Item). ReadsOptional (ReadsUnit class.AxisUnit) xs value) e reads)
+    ∙ ap (opt (plain_item level) value) f
+  where
+    alone : (front : List Item) → length front ≤ 1 → Each (IsFair level class.AxisUnit) front →
+        (value : Option UnitParts) → ReadsOptional (ReadsUnit class.AxisUnit) front value →
+        without_places_onto front rest ≡ opt (plain_item level) value rest
+    alone [] few fair None reads = refl
+    alone [] few fair (Some v) reads = absurd reads
+    alone (item ∷ items) few fair None reads = absurd reads
+    alone (item ∷ []) few fair (Some v) reads = ap (λ i. More i rest) (unit-alone-form law level item v fair.0 reads)
+    alone (item ∷ other ∷ others) few fair (Some v) reads = absurd (omega arith)
+
+opt-plain : (level : Level) (o : Option UnitParts) (rest : Siblings) →
+    opt (plain_item level) o rest ≡ opt item_unit (norm_units level kinds.Plain o) rest
+opt-plain level None rest = refl
+opt-plain level (Some u) rest = refl
+
+-- ---- the axis
+
+pub axis-alone-form : PlainIsOne → (level : Level) (item : Item) (x : AxisParts) → Shaped class.Axis item →
+    IsNormalAxis level item → ReadsAxis class.Axis item x → without_places item ≡ item_axis (norm_axis_alone level x)
+axis-alone-form law level (leaf kind place raw) x shaped normal reads = absurd normal
+axis-alone-form law level (node place keyword square first others close) x shaped normal reads =
+    let d = class.Axis in
+    let items = More first others in
+    let s = shaped.1 in
+    let are : AreShaped d (s.0 ∷ s.1.0) items = (s.1.1.0, (s.1.1.1.0, s.1.1.1.1.0)) in
+    let v = view d (s.0 ∷ s.1.0) items s.1.1.1.1.1 are in
+    let v1 = v.1.1.1.1 in
+    let v2 = v1.1.1.1.1 in
+    let v3 = v2.1.1.1.1 in
+    let v4 = v3.1.1.1.1 in
+    let v5 = v4.1.1.1.1 in
+    let fair : (e : Class) → Each (IsFair level e) (those d e items) =
+    λ e. those-fair level e (s.0 ∷ s.1.0) items are normal.normal_arguments in
+    node-spelled place keyword _ square first others close _ normal.first_keyword
+    (without_places-spread d (slots_of d) items v
+    ∙ one-spelled level d class.Text ReadsText text_item (text-form level d) (those d class.Text items) v.0
+    (each-good level class.Text (λ e. cc) (those d class.Text items) (fair class.Text))
+    (those-looked d class.Text (slots_of d) items v) (v.1.1.0.not_more refl) x.name reads.name _ _
+    (one-spelled level d class.Word ReadsDirection (λ w. word_item (direction_word w)) (direction-form level)
+    (those d class.Word items) v1.0
+    (each-good level class.Word (λ e. cc) (those d class.Word items) (fair class.Word))
+    (those-looked d class.Word (slots_of d) items v) (v1.1.1.0.not_more refl) x.direction reads.direction _ _
+    (optional-spelled level d class.AxisMeridian (ReadsAxisMeridian class.AxisMeridian)
+    (λ m. item_axis_meridian (norm_axis_meridian level m)) (axis_meridian-form law level d)
+    (those d class.AxisMeridian items) v2.0
+    (each-good level class.AxisMeridian (λ e. cc) (those d class.AxisMeridian items) (fair class.AxisMeridian))
+    (those-looked d class.AxisMeridian (slots_of d) items v) (v2.1.1.0.not_more refl) x.meridian reads.meridian _ _
+    (optional-spelled level d class.Order (ReadsNumberOf class.Order) (number_node (codes "ORDER"))
+    (number-node-form law level d class.Order (codes "ORDER") refl (λ bytes h. h) (λ raw h. h))
+    (those d class.Order items) v3.0
+    (each-good level class.Order (λ e. cc) (those d class.Order items) (fair class.Order))
+    (those-looked d class.Order (slots_of d) items v) (v3.1.1.0.not_more refl) x.order reads.order _ _
+    (unit-alone-spelled law level (those d class.AxisUnit items) v4.0 (fair class.AxisUnit)
+    (those-looked d class.AxisUnit (slots_of d) items v) (v4.1.1.0.not_more refl) x.unit reads.unit _ _
+    (idents-found-spelled level d items v5.0
+    (each-good level class.Identifier (λ e. cc) (those d class.Identifier items) (fair class.Identifier))
+    (those-looked d class.Identifier (slots_of d) items v) normal.ascending_sets.0 normal.at_level.0 x.identifiers reads.identifiers End End refl)
+    ∙ opt-plain level x.unit _))
+    ∙ opt-meridians level x.meridian _)))

@@ -1,0 +1,74 @@
+-- CRSs of each kind by themselves, and the horizontal parts of compound CRSs.
+use Rattle.std.proofs.Common.{◌≡◌, ◌↔◌}
+use Rattle.crs_shape.specs.declared.class.Class.{Class}
+use Rattle.crs_shape.specs.declared.class.Class.TheVariants as class
+use Rattle.crs_text.specs.Written.{item_text}
+use Rattle.crs_value.specs.CrsValues.{GeodeticParts}
+use Rattle.crs_value.specs.ReadsCrs.{ReadsGeodetic}
+use Rattle.crs_value.specs.SoundCrs.{IsCrs}
+use Rattle.crs_value.specs.SoundSingle.{IsGeodetic, IsProjected}
+use Rattle.crs_value.specs.declared.values.compound.Horizontal.{Horizontal}
+use Rattle.crs_value.specs.declared.values.compound.Horizontal.TheVariants as horizontal
+use Rattle.crs_value.specs.declared.values.crs.Crs.{Crs}
+use Rattle.crs_value.specs.declared.values.crs.Crs.TheVariants as crs
+use Rattle.crs_value.specs.declared.values.level.Level.{Level}
+use Rattle.crs_value.specs.declared.values.system_type.SystemType.{SystemType}
+use Rattle.crs_value.specs.declared.values.system_type.SystemType.TheVariants as types
+use Rattle.crs_same.specs.Parts.{AreSame}
+use Rattle.crs_same.specs.PartsOfCrs.{parts_of_geodetic, parts_of_projected, parts_of_horizontal}
+use Rattle.crs_same.specs.SameCrs.{SameCrs}
+use Rattle.crs_normal.specs.WrittenForm.{IsWrittenForm}
+use Rattle.crs_normal.specs.Decides.{FormDecides}
+use Rattle.crs_normal.specs.CrsClass.{geodetic_class}
+use Rattle.crs_normal.specs.OneForm.{IsItsFormUnbroken}
+use Rattle.crs_normal.specs.PartSpellings.{IsHorizontalPart, IsSpelledGeodetic, IsSpelledHorizontal, IsSpelledProjected}
+use Rattle.crs_normal.specs.PartTexts.{geodetic_text, horizontal_text, projected_text}
+use Rattle.crs_normal.specs.SpelledCrs.{item_crs, item_geodetic, norm_crs, norm_geodetic}
+use Rattle.crs_normal.proofs.texts.WrittenFormLemmas.{IsOneText, one-text, written-form}
+
+abbrev IsOwnGeodetic : Level → Class → Type 0
+IsOwnGeodetic level c = IsItsFormUnbroken level c ReadsGeodetic (λ g. item_geodetic (norm_geodetic level g))
+
+pub own-geodetic : (level : Level) → IsOwnGeodetic level class.GeodeticCrs → IsOwnGeodetic level class.GeographicCrs →
+    (t : SystemType) → IsOwnGeodetic level (geodetic_class t)
+own-geodetic level geodetic geographic types.Cartesian = geodetic
+own-geodetic level geodetic geographic types.Ellipsoidal = geographic
+own-geodetic level geodetic geographic types.Spherical = geodetic
+own-geodetic level geodetic geographic types.Vertical = geodetic
+
+-- texts of CRSs are equal exactly where the CRSs are the same
+abbrev pub TextsDecide : Level → Type 0
+TextsDecide level = (a b : Crs) → IsCrs a → IsCrs b →
+    (item_text (item_crs (norm_crs level a)) ≡ item_text (item_crs (norm_crs level b))) ↔ SameCrs level a b
+
+pub geodetic-told : (level : Level) → TextsDecide level →
+    FormDecides IsGeodetic (norm_geodetic level) (AreSame parts_of_geodetic level) →
+    (a b : GeodeticParts) → IsGeodetic a → IsGeodetic b → geodetic_text level a ≡ geodetic_text level b →
+    norm_geodetic level a ≡ norm_geodetic level b
+unfolding AreSame SameCrs
+geodetic-told level decide forms a b p q e = (forms a b p q).1 ((decide (crs.Geodetic a) (crs.Geodetic b) p q).0 e)
+
+module _ (level : Level) (decide : TextsDecide level) (geodetic_texts : IsWrittenForm IsGeodetic (AreSame parts_of_geodetic level) (IsSpelledGeodetic level) (geodetic_text level)) (projected_texts : IsWrittenForm IsProjected (AreSame parts_of_projected level) (IsSpelledProjected level) (projected_text level)) where
+  geodetics : IsOneText IsGeodetic (AreSame parts_of_geodetic level) (IsSpelledGeodetic level) (geodetic_text level)
+  geodetics = one-text IsGeodetic (AreSame parts_of_geodetic level) (IsSpelledGeodetic level) (geodetic_text level) geodetic_texts
+
+  projecteds : IsOneText IsProjected (AreSame parts_of_projected level) (IsSpelledProjected level) (projected_text level)
+  projecteds = one-text IsProjected (AreSame parts_of_projected level) (IsSpelledProjected level) (projected_text level) projected_texts
+
+  horizontals-equal : (a b : Horizontal) → IsHorizontalPart a → IsHorizontalPart b →
+      (horizontal_text level a ≡ horizontal_text level b) ↔ AreSame parts_of_horizontal level a b
+  unfolding AreSame SameCrs parts_of_horizontal
+  horizontals-equal (horizontal.Geodetic a) (horizontal.Geodetic b) p q = geodetics.equal_bytes a b p q
+  horizontals-equal (horizontal.Geodetic a) (horizontal.Projected b) p q =
+      (λ e. (decide (crs.Geodetic a) (crs.Projected b) p q).0 e, λ none. absurd none)
+  horizontals-equal (horizontal.Projected a) (horizontal.Geodetic b) p q =
+      (λ e. (decide (crs.Projected a) (crs.Geodetic b) p q).0 e, λ none. absurd none)
+  horizontals-equal (horizontal.Projected a) (horizontal.Projected b) p q = projecteds.equal_bytes a b p q
+
+  pub horizontals-canonical : IsWrittenForm IsHorizontalPart (AreSame parts_of_horizontal level) (IsSpelledHorizontal level) (horizontal_text level)
+  horizontals-canonical = written-form IsHorizontalPart (AreSame parts_of_horizontal level) (IsSpelledHorizontal level) (horizontal_text level) (record {
+    spelled = elim [ horizontal.Geodetic g ↦ λ s. geodetics.spelled g s | horizontal.Projected p ↦ λ s. projecteds.spelled p s ];
+    one = elim [ horizontal.Geodetic g ↦ λ bytes s h. geodetics.one g bytes s h | horizontal.Projected p ↦ λ bytes s h. projecteds.one p bytes s h ];
+    equal_bytes = horizontals-equal;
+    closed = elim [ horizontal.Geodetic g ↦ λ s. geodetics.closed g s | horizontal.Projected p ↦ λ s. projecteds.closed p s ];
+  })

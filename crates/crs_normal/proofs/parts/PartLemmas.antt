@@ -1,0 +1,212 @@
+-- Values of one kind: from the laws of their one form and its item, what their spellings have in
+-- common.
+use Rattle.std.proofs.Common.{◌≡◌, ◌↔◌, ◌≤◌, ◌∙◌, ℕ, Some, List, sym, ap, subst, arith}
+use Rattle.crs_text.specs.Items.{Item, IsNode, depth}
+use Rattle.crs_text.specs.Refusal.{RefusedAt}
+use Rattle.crs_text.specs.TextFault.{SpellsNode}
+use Rattle.crs_text.specs.Written.{AreFormed, at_place, item_text}
+use Rattle.crs_shape.specs.declared.class.Class.{Class}
+use Rattle.crs_shape.specs.Shaped.{Shaped}
+use Rattle.crs_value.specs.Checks.{Breaks, IsSound}
+use Rattle.crs_value.specs.declared.values.level.Level.{Level}
+use Rattle.crs_value.specs.Told.{IsReadAs, IsReadOnce}
+use Rattle.crs_normal.specs.WrittenForm.{IsWrittenForm}
+use Rattle.crs_normal.specs.Closed.{IsClosed}
+use Rattle.crs_normal.specs.Decides.{FormDecides}
+use Rattle.crs_normal.specs.WithoutPlaces.{without_places}
+use Rattle.crs_normal.specs.AcceptedNormal.{IsAcceptedNormal}
+use Rattle.crs_normal.specs.Normal.{IsNormalIn}
+use Rattle.crs_normal.specs.OneForm.{IsItsForm, IsItsFormUnbroken}
+use Rattle.crs_normal.specs.SpelledAs.{IsSpelledAs, IsSpelledBy}
+use Rattle.crs_normal.specs.TextLaws.{TextLaws}
+use Rattle.crs_normal.proofs.texts.ClosedLemmas.{node-closed}
+use Rattle.crs_normal.proofs.normal.FormLemmas.{without_places-text}
+use Rattle.crs_normal.proofs.texts.ItemLemmas.{IsWritable, one-by-text}
+use Rattle.crs_normal.proofs.made.CrsLemmas.{placed-twice}
+use Rattle.crs_normal.proofs.made.PlaceLemmas.{text-at}
+use Rattle.crs_normal.proofs.texts.WrittenFormLemmas.{written-form}
+
+-- items are formed where a text spells them
+abbrev pub SpelledFormed : Type 0
+SpelledFormed = (bytes : List ℕ) (item : Item) → SpellsNode bytes item → AreFormed item
+
+-- an item that is accepted as one of its class, and normal in this sense
+pub record IsStanding (c : Class) (N : Item → Type 0) (item : Item) : Type 0 where
+  pub is_node : IsNode item
+  pub formed : AreFormed item
+  pub within : depth item ≤ 8
+  pub shaped : Shaped c item
+  pub unbroken : (fault : RefusedAt) → ¬ (Breaks c item fault)
+  pub normal : N item
+
+pub made-stands : (level : Level) (c : Class) (n : ℕ) (item : Item) → n ≤ 8 → IsAcceptedNormal level c n item →
+    IsStanding c (IsNormalIn level c c) item
+made-stands level c n item l made =
+    let w : depth item ≤ n = made.within in
+    record {
+      is_node = made.is_node;
+      formed = made.formed;
+      within = omega arith;
+      shaped = made.shaped;
+      unbroken = made.unbroken;
+      normal = made.normal c;
+    }
+
+pub unbroken-form : {V : Type 0} (level : Level) (c : Class) (Reads : Class → Item → V → Type 0) (form : V → Item) →
+    IsItsForm level c Reads form → IsItsFormUnbroken level c Reads form
+unbroken-form level c Reads form own parent item value shaped normal free reads =
+    own parent item value shaped normal reads
+
+-- a normal item that is sound is what is written for the value that is read from it
+abbrev pub IsItsFormSound : {V : Type 0} → Level → Class → (Class → Item → V → Type 0) → (V → Item) → Type 0
+IsItsFormSound {V = V} level c Reads form =
+    (item : Item) (value : V) → IsSound c item → IsNormalIn level c c item → Reads c item value → without_places item ≡ form value
+
+pub sound-form : {V : Type 0} (level : Level) (c : Class) (Reads : Class → Item → V → Type 0) (form : V → Item) →
+    IsItsFormUnbroken level c Reads form → IsItsFormSound level c Reads form
+sound-form level c Reads form own item value sound normal reads =
+    own c item value sound.shaped normal sound.unbroken reads
+
+-- what holds of the values of one kind
+pub record IsKnownBy {V : Type 0} (c : V → Class) (N : V → Item → Type 0) (Reads : Class → Item → V → Type 0) (Is : V → Type 0) (Same : V → V → Type 0) (form : V → V) (item : V → Item) : Type 0 where
+  pub decides : FormDecides Is form Same
+  pub made : (x : V) → Is x → IsStanding (c x) (N x) (at_place 0 (item (form x)))
+  pub reads : (x : V) → Is x → Reads (c x) (at_place 0 (item (form x))) (form x)
+  pub told : (a b : V) → Is a → Is b → item_text (item (form a)) ≡ item_text (item (form b)) → form a ≡ form b
+  pub sound : (x : V) → Is x → IsReadAs Reads Is (c x)
+  pub own : (x : V) → Is x → (i : Item) (v : V) → IsSound (c x) i → N x i → Reads (c x) i v → without_places i ≡ item (form v)
+
+-- the text of an item, which doesn't depend on the place
+writable-at : (c : Class) (N : Item → Type 0) (i : Item) → IsStanding c N (at_place 0 i) → IsWritable (at_place 0 i)
+writable-at c N i m =
+    let w : depth (at_place 0 i) ≤ 8 = m.within in
+    record { formed = m.formed; is_node = m.is_node; within = omega arith }
+
+-- equal texts are of equal values, where all are read as items of one class
+pub told-by : {V : Type 0} → TextLaws → (c : V → Class) (N : V → Item → Type 0) (d : Class) (Reads : Class → Item → V → Type 0) (Is : V → Type 0) (form : V → V) (item : V → Item) →
+    ((a b : V) (i : Item) → Reads d i a → Reads d i b → a ≡ b) →
+    ((x : V) → Is x → IsStanding (c x) (N x) (at_place 0 (item (form x)))) →
+    ((x : V) → Is x → Reads d (at_place 0 (item (form x))) (form x)) →
+    (a b : V) → Is a → Is b → item_text (item (form a)) ≡ item_text (item (form b)) → form a ≡ form b
+told-by laws c N d Reads Is form item once made reads a b p q e =
+    let i = item (form a) in
+    let j = item (form b) in
+    let same : at_place 0 i ≡ at_place 0 j =
+    sym (placed-twice 0 0 i)
+    ∙ one-by-text laws (at_place 0 i) (at_place 0 j) (writable-at (c a) (N a) i (made a p))
+    (writable-at (c b) (N b) j (made b q)) (text-at 0 i ∙ e ∙ sym (text-at 0 j))
+    ∙ placed-twice 0 0 j in
+    once (form a) (form b) (at_place 0 j) (subst (λ k. Reads d k (form a)) same (reads a p)) (reads b q)
+
+module _ {V : Type 0} (laws : TextLaws) (formed : SpelledFormed) (c : V → Class) (N : V → Item → Type 0) (Reads : Class → Item → V → Type 0) (Is : V → Type 0) (Same : V → V → Type 0) (form : V → V) (item : V → Item) (known : IsKnownBy c N Reads Is Same form item) where
+  abbrev at-start : V → Item
+  at-start x = at_place 0 (item (form x))
+
+  form-kept : (x : V) → Is x → Is (form x)
+  form-kept x s =
+      let m = known.made x s in
+      known.sound x s (at-start x) (form x)
+      (record { formed = m.formed; shaped = m.shaped; unbroken = m.unbroken }) (known.reads x s)
+
+  -- the form of a value is its own
+  form-twice : (x : V) → Is x → form x ≡ form (form x)
+  form-twice x s =
+      let m = known.made x s in
+      let f : without_places (at-start x) ≡ item (form (form x)) =
+      known.own x s (at-start x) (form x)
+      (record { formed = m.formed; shaped = m.shaped; unbroken = m.unbroken }) m.normal (known.reads x s) in
+      known.told x (form x) s (form-kept x s)
+      (sym (text-at 0 (item (form x))) ∙ sym (without_places-text (at-start x)) ∙ ap item_text f)
+
+  form-same : (x : V) → Is x → Same x (form x)
+  form-same x s = (known.decides x (form x) s (form-kept x s)).0 (form-twice x s)
+
+  stands : (x : V) → Is x → SpellsNode (item_text (item (form x))) (at-start x)
+  stands x s =
+      let w = writable-at (c x) (N x) (item (form x)) (known.made x s) in
+      subst (λ b. SpellsNode b (at-start x)) (text-at 0 (item (form x)))
+      (subst (SpellsNode (item_text (at-start x))) (placed-twice 0 0 (item (form x)))
+      (laws.spells (at-start x) w.formed w.is_node w.within))
+
+  form-spelled : (x : V) → Is x → IsSpelledBy (c x) (N x) Reads Same x (item_text (item (form x)))
+  form-spelled x s =
+      let m = known.made x s in
+      record {
+        item = at-start x;
+        spells = stands x s;
+        written = sym (text-at 0 (item (form x)));
+        shaped = m.shaped;
+        unbroken = m.unbroken;
+        normal = m.normal;
+        read = form x;
+        reads = known.reads x s;
+        same = form-same x s;
+      }
+
+  form-one : (x : V) (bytes : List ℕ) → Is x → IsSpelledBy (c x) (N x) Reads Same x bytes →
+      bytes ≡ item_text (item (form x))
+  form-one x bytes s h =
+      let v = h.read in
+      let all : IsSound (c x) h.item =
+      record { formed = formed bytes h.item h.spells; shaped = h.shaped; unbroken = h.unbroken } in
+      let k : Is v = known.sound x s h.item v all h.reads in
+      let f : without_places h.item ≡ item (form v) = known.own x s h.item v all h.normal h.reads in
+      h.written ∙ sym (without_places-text h.item) ∙ ap item_text f
+      ∙ ap (λ y. item_text (item y)) (sym ((known.decides x v s k).1 h.same))
+
+  pub canonical-by : IsWrittenForm Is Same (λ x. IsSpelledBy (c x) (N x) Reads Same x) (λ x. item_text (item (form x)))
+  canonical-by =
+      written-form Is Same (λ x. IsSpelledBy (c x) (N x) Reads Same x) (λ x. item_text (item (form x))) (record {
+        spelled = form-spelled;
+        one = form-one;
+        equal_bytes = λ a b p q. (
+          λ e. (known.decides a b p q).0 (known.told a b p q e),
+          λ same. ap (λ y. item_text (item y)) ((known.decides a b p q).1 same),
+        );
+        closed = λ x s.
+            let m = known.made x s in
+            subst IsClosed (text-at 0 (item (form x))) (node-closed (at-start x) m.formed m.is_node);
+      })
+
+pub canonical-form : {V : Type 0} → TextLaws → SpelledFormed → (level : Level) (c : V → Class) (Reads : Class → Item → V → Type 0) (Is : V → Type 0) (Same : V → V → Type 0) (form : V → V) (item : V → Item) →
+    IsKnownBy c (λ x. IsNormalIn level (c x) (c x)) Reads Is Same form item →
+    IsWrittenForm Is Same (λ x. IsSpelledAs level (c x) Reads Same x) (λ x. item_text (item (form x)))
+canonical-form laws formed level c Reads Is Same form item known =
+    canonical-by laws formed c (λ x. IsNormalIn level (c x) (c x)) Reads Is Same form item known
+
+-- ---- values of which all items are of one class
+
+pub record IsKnownOf {V : Type 0} (level : Level) (c : Class) (most : ℕ) (Reads : Class → Item → V → Type 0) (Is : V → Type 0) (Same : V → V → Type 0) (form : V → V) (item : V → Item) : Type 0 where
+  pub few : most ≤ 8
+  pub decides : FormDecides Is form Same
+  pub made : (x : V) (place : ℕ) → Is x → IsAcceptedNormal level c most (at_place place (item (form x)))
+  pub reads : (x : V) (place : ℕ) → Is x → Reads c (at_place place (item (form x))) (form x)
+  pub once : IsReadOnce Reads
+  pub sound : IsReadAs Reads Is c
+  pub own : IsItsFormUnbroken level c Reads (λ v. item (form v))
+
+pub canonical-of : {V : Type 0} → TextLaws → SpelledFormed → (level : Level) (c : Class) (most : ℕ) (Reads : Class → Item → V → Type 0) (Is : V → Type 0) (Same : V → V → Type 0) (form : V → V) (item : V → Item) →
+    IsKnownOf level c most Reads Is Same form item →
+    IsWrittenForm Is Same (λ x. IsSpelledAs level c Reads Same x) (λ x. item_text (item (form x)))
+canonical-of laws formed level c most Reads Is Same form item k =
+    canonical-form laws formed level (λ x. c) Reads Is Same form item (record {
+      decides = k.decides;
+      made = λ x s. made-stands level c most (at_place 0 (item (form x))) k.few (k.made x 0 s);
+      reads = λ x s. k.reads x 0 s;
+      told = told-by laws (λ x. c) (λ x. IsNormalIn level c c) c Reads Is form item (λ a b i. k.once c i a b)
+          (λ x s. made-stands level c most (at_place 0 (item (form x))) k.few (k.made x 0 s))
+          (λ x s. k.reads x 0 s);
+      sound = λ x s. k.sound;
+      own = λ x s. sound-form level c Reads (λ v. item (form v)) k.own;
+    })
+
+-- a form that is decided within a part that may be missing
+some-same : {A : Type 0} (a b : A) → Some a ≡ Some b → a ≡ b
+some-same a b e = cc
+
+pub some-decides : {V : Type 0} (Is : V → Type 0) (form : V → V) (Same : V → V → Type 0) →
+    ((a b : V) → Is a → Is b → (Some (form a) ≡ Some (form b)) ↔ Same a b) → FormDecides Is form Same
+some-decides Is form Same h a b p q = (
+  λ e. (h a b p q).0 (ap (λ x. Some x) e),
+  λ same. some-same (form a) (form b) ((h a b p q).1 same),
+)

@@ -1,0 +1,9 @@
+pub mod AxisLemmas
+pub mod ConversionLemmas
+pub mod CrsLemmas
+pub mod DynamicLemmas
+pub mod FrameLemmas
+pub mod PartLemmas
+pub mod SystemLemmas
+pub mod TailLemmas
+pub mod UnitLemmas

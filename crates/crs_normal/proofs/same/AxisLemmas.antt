@@ -1,0 +1,205 @@
+-- Axes have one form exactly where they are the same, and the axis that is found at a position is
+-- the axis of that position.
+use Rattle.std.proofs.Common.{◌≡◌, ◌↔◌, ◌∙◌, ℕ, ◌+◌, ◌<◌, ◌^◌, inl, inr, Bool, true, false, List, [], ◌∷◌, Option, Some}
+use Rattle.std.proofs.Common.{None, refl, sym, ap, subst, if◌then◌else◌}
+use Rattle.std.proofs.lemmas.Bool.{false≢true}
+use Rattle.std.proofs.lemmas.Bool.Decides.{Decides-eqb}
+use Rattle.crs_decimal.specs.Value.{Value, IsNormal}
+use Rattle.crs_value.specs.BadUnit.{asked_kind}
+use Rattle.crs_value.specs.Sound.{Each, IsAxis, IsAxisMeridian, IsAxisUnit, IsUnit}
+use Rattle.crs_value.specs.Values.{AxisMeridianParts, AxisParts, SystemParts, UnitParts}
+use Rattle.crs_value.specs.declared.values.level.Level.{Level}
+use Rattle.crs_value.specs.declared.values.unit_kind.UnitKind.{UnitKind}
+use Rattle.crs_value.specs.declared.values.unit_kind.UnitKind.TheVariants as kinds
+use Rattle.crs_value.specs.declared.values.unit_kind.UnitKind.TheVariants as kinds
+use Rattle.crs_same.specs.Agreement.{AgreeAxis}
+use Rattle.crs_same.specs.SameSystems.{HasAt, IsPositionOf, SameAxisAlone, SameAxisMeridian, own_or}
+use Rattle.crs_same.specs.SameUnits.{SameUnit, SameValue}
+use Rattle.crs_same.specs.Sets.{BothOrNeither}
+use Rattle.crs_normal.specs.Decides.{FormDecides, Maybe, SetsDecide}
+use Rattle.crs_normal.specs.LowerLaws.{LowerLaws}
+use Rattle.crs_normal.specs.PartTexts.{norm_axis_alone}
+use Rattle.crs_normal.specs.SpelledSystems.{axis_at, is_at, norm_axis, norm_axis_meridian, norm_axis_meridians}
+use Rattle.crs_normal.specs.SpelledUnits.{norm_units, whole_value}
+use Rattle.crs_normal.proofs.same.PartLemmas.{options-agree, values-agree}
+use Rattle.crs_normal.proofs.same.UnitLemmas.{unit-agrees, units-agree}
+use Rattle.crs_normal.proofs.texts.WholeLemmas.{number-tested}
+
+-- ---- two axes
+
+own-sound : (own shared : Option UnitParts) → Maybe IsAxisUnit own → Maybe IsAxisUnit shared →
+    Maybe IsUnit (own_or own shared)
+own-sound (Some own) shared in-own in-shared = in-own.0
+own-sound None (Some shared) in-own in-shared = in-shared.0
+own-sound None None in-own in-shared = tt
+
+plain-unit : (own : Option UnitParts) → Maybe IsAxisUnit own → Maybe IsUnit own
+plain-unit None s = tt
+plain-unit (Some u) s = s.0
+
+module _ (laws : LowerLaws) (sets : SetsDecide) (level : Level) where
+  pub axis-meridian-agrees : FormDecides IsAxisMeridian (norm_axis_meridian level) (SameAxisMeridian level)
+  axis-meridian-agrees a b in-a in-b =
+      let longitude = values-agree laws a.longitude b.longitude in-a.longitude in-b.longitude in
+      let unit = unit-agrees laws sets level kinds.Angle a.unit b.unit in-a.unit.0 in-b.unit.0 in (
+        λ e. record {
+          longitude = longitude.0 (ap (λ (x : AxisMeridianParts). x.longitude) e);
+          unit = unit.0 (ap (λ (x : AxisMeridianParts). x.unit) e);
+        },
+        λ s. λ i. record { longitude = longitude.1 s.longitude i; unit = unit.1 s.unit i },
+      )
+
+  pub axis-meridians-agree : FormDecides (Maybe IsAxisMeridian) (norm_axis_meridians level)
+      (BothOrNeither (SameAxisMeridian level))
+  axis-meridians-agree =
+      options-agree IsAxisMeridian (norm_axis_meridian level) (SameAxisMeridian level) axis-meridian-agrees
+      (norm_axis_meridians level) refl (λ m. refl)
+
+  -- two axes by themselves
+  pub axis-alone-agrees : FormDecides IsAxis (norm_axis_alone level) (SameAxisAlone level)
+  axis-alone-agrees x y in-x in-y =
+      let meridian = axis-meridians-agree x.meridian y.meridian in-x.meridian in-y.meridian in
+      let order =
+      options-agree IsNormal (λ v. v) SameValue (values-agree laws) (λ o. o) refl (λ v. refl) x.order y.order in-x.order
+      in-y.order in
+      let unit = units-agree laws sets level kinds.Plain x.unit y.unit (plain-unit x.unit in-x.unit)
+      (plain-unit y.unit in-y.unit) in
+      let identifiers = sets.idents level x.identifiers y.identifiers in-x.identifiers in-y.identifiers in (
+        λ e. record {
+          name = ap (λ (z : AxisParts). z.name) e;
+          direction = ap (λ (z : AxisParts). z.direction) e;
+          meridian = meridian.0 (ap (λ (z : AxisParts). z.meridian) e);
+          order = order.0 (ap (λ (z : AxisParts). z.order) e);
+          unit = unit.0 (ap (λ (z : AxisParts). z.unit) e);
+          identifiers = identifiers.0 (ap (λ (z : AxisParts). z.identifiers) e);
+        },
+        λ s. λ i. record {
+          name = s.name i;
+          direction = s.direction i;
+          meridian = meridian.1 s.meridian i;
+          order = order.1 s.order i;
+          unit = unit.1 s.unit i;
+          identifiers = identifiers.1 s.identifiers i;
+        },
+      )
+
+  -- the units of two axes that ask for one kind
+  axis-units-agree : (a b : SystemParts) (x y : AxisParts) (asked : UnitKind) → Maybe IsAxisUnit a.unit →
+      Maybe IsAxisUnit b.unit → IsAxis x → IsAxis y →
+      (norm_units level asked (own_or x.unit a.unit) ≡ norm_units level asked (own_or y.unit b.unit))
+      ↔ BothOrNeither (SameUnit asked level) (own_or x.unit a.unit) (own_or y.unit b.unit)
+  axis-units-agree a b x y asked unit-a unit-b in-x in-y =
+      units-agree laws sets level asked (own_or x.unit a.unit) (own_or y.unit b.unit)
+      (own-sound x.unit a.unit in-x.unit unit-a) (own-sound y.unit b.unit in-y.unit unit-b)
+
+  -- at the same position of two systems of one type
+  pub axis-agrees : (a b : SystemParts) (k : ℕ) (x y : AxisParts) → a.system_type ≡ b.system_type →
+      Maybe IsAxisUnit a.unit → Maybe IsAxisUnit b.unit → IsAxis x → IsAxis y →
+      (norm_axis level a k x ≡ norm_axis level b k y) ↔ AgreeAxis level a b x y
+  unfolding norm_axis AgreeAxis
+  axis-agrees a b k x y type unit-a unit-b in-x in-y =
+      let asked = asked_kind a.system_type x.direction in
+      let second = own_or y.unit b.unit in
+      let meridian = axis-meridians-agree x.meridian y.meridian in-x.meridian in-y.meridian in
+      let units = axis-units-agree a b x y asked unit-a unit-b in-x in-y in
+      let moved : x.direction ≡ y.direction →
+      norm_units level asked second ≡ norm_units level (asked_kind b.system_type y.direction) second =
+      λ e. λ i. norm_units level (asked_kind (type i) (e i)) second in
+      let identifiers = sets.idents level x.identifiers y.identifiers in-x.identifiers in-y.identifiers in (
+        λ e. record {
+          name = ap (λ (z : AxisParts). z.name) e;
+          direction = ap (λ (z : AxisParts). z.direction) e;
+          meridian = meridian.0 (ap (λ (z : AxisParts). z.meridian) e);
+          unit = units.0 (ap (λ (z : AxisParts). z.unit) e ∙ sym (moved (ap (λ (z : AxisParts). z.direction) e)));
+          identifiers = identifiers.0 (ap (λ (z : AxisParts). z.identifiers) e);
+        },
+        λ s. λ i. record {
+          name = s.name i;
+          direction = s.direction i;
+          meridian = meridian.1 s.meridian i;
+          order = Some (whole_value k);
+          unit = (units.1 s.unit ∙ moved s.direction) i;
+          identifiers = identifiers.1 s.identifiers i;
+        },
+      )
+
+-- ---- the axes at a position
+
+has-mapped : (P Q : AxisParts → Type 0) (position place : ℕ) (axes : List AxisParts) →
+    ((axis : AxisParts) → P axis → Q axis) →
+    HasAt position P place axes → HasAt position Q place axes
+has-mapped P Q position place [] on h = absurd h
+has-mapped P Q position place (axis ∷ axes) on (inl h) = inl (h.0, on axis h.1)
+has-mapped P Q position place (axis ∷ axes) on (inr h) = inr (has-mapped P Q position (place + 1) axes on h)
+
+which : (P : AxisParts → Type 0) (position place : ℕ) (axes : List AxisParts) → HasAt position P place axes →
+    (axis : AxisParts) × P axis × HasAt position (λ x. x ≡ axis) place axes
+which P position place [] h = absurd h
+which P position place (axis ∷ axes) (inl h) = (axis, h.1, inl (h.0, refl))
+which P position place (axis ∷ axes) (inr h) = let w = which P position (place + 1) axes h in (w.0, w.1, inr w.2)
+
+abbrev IsOneAt : ℕ → List AxisParts → Type 0
+IsOneAt position axes = (x y : AxisParts) → HasAt position (λ axis. axis ≡ x) 1 axes →
+    HasAt position (λ axis. axis ≡ y) 1 axes → x ≡ y
+
+-- what holds of the axis at a position holds at that position, and conversely
+at-agrees : (P : AxisParts → Type 0) (position : ℕ) (axes : List AxisParts) (axis : AxisParts) → IsOneAt position axes →
+    HasAt position (λ x. x ≡ axis) 1 axes → P axis ↔ HasAt position P 1 axes
+at-agrees P position axes axis one at = (
+  λ p. has-mapped (λ x. x ≡ axis) P position 1 axes (λ x e. subst P (sym e) p) at,
+  λ h. let w = which P position 1 axes h in subst P (one w.0 axis w.2 at) w.1,
+)
+
+pub both-agree : (R : AxisParts → AxisParts → Type 0) (position : ℕ) (xs ys : List AxisParts) (x y : AxisParts) →
+    IsOneAt position xs → IsOneAt position ys →
+    HasAt position (λ axis. axis ≡ x) 1 xs → HasAt position (λ axis. axis ≡ y) 1 ys → R x y
+    ↔ HasAt position (λ a. HasAt position (λ b. R a b) 1 ys) 1 xs
+both-agree R position xs ys x y one-x one-y at-x at-y =
+    let inner : R x y ↔ HasAt position (λ b. R x b) 1 ys = at-agrees (λ b. R x b) position ys y one-y at-y in
+    let outer : HasAt position (λ b. R x b) 1 ys ↔ HasAt position (λ a. HasAt position (λ b. R a b) 1 ys) 1 xs =
+    at-agrees (λ a. HasAt position (λ b. R a b) 1 ys) position xs x one-x at-x in
+    (λ r. outer.0 (inner.0 r), λ h. inner.1 (outer.1 h))
+
+pub sound-at : (position place : ℕ) (axes : List AxisParts) (axis : AxisParts) → Each IsAxis axes →
+    HasAt position (λ x. x ≡ axis) place axes → IsAxis axis
+sound-at position place [] axis sound h = absurd h
+sound-at position place (x ∷ axes) axis sound (inl h) = subst IsAxis h.1 sound.0
+sound-at position place (x ∷ axes) axis sound (inr h) = sound-at position (place + 1) axes axis sound.1 h
+
+-- ---- the axis that is found
+
+-- the first axis for which the test holds, and it has this position
+pub record Found (position place : ℕ) (axes : List AxisParts) : Type 0 where
+  pub axis : AxisParts
+  pub is : axis_at position place axes ≡ Some axis
+  pub at : HasAt position (λ x. x ≡ axis) place axes
+
+place-tested : LowerLaws → (position place : ℕ) (order : Option Value) → position < 10 ^ 18 → Maybe IsNormal order →
+    (is_at position place order ≡ true) ↔ IsPositionOf position place order
+place-tested laws position place None less normal = Decides-eqb place position
+place-tested laws position place (Some order) less normal = number-tested laws order position normal less
+
+found-here-or-behind : (P : AxisParts → Type 0) (position place : ℕ) (axis : AxisParts) (axes : List AxisParts) →
+    (is_at position place axis.order ≡ true) ↔ IsPositionOf position place axis.order →
+    (HasAt position P (place + 1) axes → Found position (place + 1) axes) →
+    HasAt position P place (axis ∷ axes) → Found position place (axis ∷ axes)
+found-here-or-behind P position place axis axes tested behind h = by (is_at position place axis.order) refl
+  where
+    taken : (t : Bool) → is_at position place axis.order ≡ t →
+        axis_at position place (axis ∷ axes) ≡ (if t then Some axis else axis_at position (place + 1) axes)
+    taken t e = ap (λ u. if u then Some axis else axis_at position (place + 1) axes) e
+
+    by : (t : Bool) → is_at position place axis.order ≡ t → Found position place (axis ∷ axes)
+    by true e = record { axis = axis; is = taken true e; at = inl (tested.0 e, refl) }
+    by false e = elim h [
+      | inl g ↦ absurd (false≢true (sym e ∙ tested.1 g.0))
+      | inr g ↦ let r = behind g in record { axis = r.axis; is = taken false e ∙ r.is; at = inr r.at }
+    ]
+
+pub found : LowerLaws → (P : AxisParts → Type 0) (position place : ℕ) (axes : List AxisParts) → position < 10 ^ 18 →
+    Each IsAxis axes →
+    HasAt position P place axes → Found position place axes
+found laws P position place [] less sound h = absurd h
+found laws P position place (axis ∷ axes) less sound h =
+    found-here-or-behind P position place axis axes (place-tested laws position place axis.order less sound.0.order)
+    (found laws P position (place + 1) axes less sound.1) h

@@ -1,0 +1,248 @@
+-- Coordinate reference systems have one form exactly where they agree.
+use Rattle.std.proofs.Common.{◌≤◌, ◌≡◌, ℕ, ◌*◌, ◌<◌, ◌^◌, inl, inr, List, [], ◌∷◌, length, refl, ap, subst, arith}
+use Rattle.crs_decimal.specs.Number.{SameNumber, whole_number}
+use Rattle.crs_decimal.specs.Value.{exact}
+use Rattle.crs_value.specs.BadSystem.{IsOneOf, geodetic_dimensions, projected_dimensions, vertical_dimensions}
+use Rattle.crs_value.specs.CompoundValues.{CompoundParts}
+use Rattle.crs_value.specs.CrsValues.{BaseParts, GeodeticParts, ProjectedParts, VerticalParts}
+use Rattle.crs_value.specs.ReadsCrs.{kind_by}
+use Rattle.crs_value.specs.Sound.{Each}
+use Rattle.crs_value.specs.SoundCompound.{IsCompound, IsHorizontal}
+use Rattle.crs_value.specs.SoundCrs.{IsCrs}
+use Rattle.crs_value.specs.SoundSingle.{IsBase, IsGeodetic, IsProjected, IsVertical}
+use Rattle.crs_value.specs.SoundSystem.{IsSystem}
+use Rattle.crs_value.specs.Values.{SystemParts}
+use Rattle.crs_value.specs.declared.values.compound.Horizontal.{Horizontal}
+use Rattle.crs_value.specs.declared.values.compound.Horizontal.TheVariants as horizontal
+use Rattle.crs_value.specs.declared.values.crs.Crs.TheVariants as crs
+use Rattle.crs_value.specs.declared.values.level.Level.{Level}
+use Rattle.crs_value.specs.declared.values.unit_kind.UnitKind.TheVariants as kinds
+use Rattle.crs_same.specs.Agreement.{AgreeBase, AgreeCompound, AgreeCrs, AgreeGeodetic, AgreeHorizontal, AgreeProjected, AgreeVertical, AgreeSystem}
+use Rattle.crs_same.specs.SameCrs.{IsHorizontalPart}
+use Rattle.crs_normal.specs.Decides.{FormDecides, IsNumbered, SetsDecide}
+use Rattle.crs_normal.specs.LowerLaws.{LowerLaws}
+use Rattle.crs_normal.specs.SpelledCrs.{norm_base, norm_compound, norm_crs, norm_geodetic, norm_horizontal}
+use Rattle.crs_normal.specs.SpelledCrs.{norm_projected, norm_vertical}
+use Rattle.crs_normal.proofs.same.ConversionLemmas.{conversion-agrees}
+use Rattle.crs_normal.proofs.normal.DimensionLemmas.{small-geodetic, small-projected, small-vertical}
+use Rattle.crs_normal.proofs.same.DynamicLemmas.{dynamics-agree, dynamics-sound}
+use Rattle.crs_normal.proofs.same.FrameLemmas.{geodetic-frame-agrees, meridian-agrees, vertical-frame-agrees}
+use Rattle.crs_normal.proofs.same.SystemLemmas.{system-agrees}
+use Rattle.crs_normal.proofs.same.TailLemmas.{tail-agrees}
+use Rattle.crs_normal.proofs.same.UnitLemmas.{units-of-agree}
+
+-- ---- the number of axes is small
+
+abbrev IsSmall : ℕ → Type 0
+IsSmall n = n ≤ 3
+
+wholes-same : (m n : ℕ) → SameNumber (whole_number m) (whole_number n) → m ≡ n
+wholes-same m n h = let s : m * 1 ≡ n * 1 = h.0 in omega (arith, s)
+
+small-numbered : (n : ℕ) → IsSmall n → n < 10 ^ 18
+small-numbered n l = omega arith
+
+numbered : LowerLaws → (system : SystemParts) → IsSystem system → (ns : List ℕ) → Each IsSmall ns →
+    IsOneOf system.dimension ns → IsNumbered system
+numbered laws system sound [] small one = absurd one
+numbered laws system sound (n ∷ ns) small (inl s) =
+    let e : n ≡ length system.axes = wholes-same n (length system.axes)
+    (laws.transitive (whole_number n) (exact system.dimension) (whole_number (length system.axes))
+    (laws.symmetric (exact system.dimension) (whole_number n) s) sound.count) in
+    (sound, small-numbered (length system.axes) (subst IsSmall e small.0))
+numbered laws system sound (n ∷ ns) small (inr s) = numbered laws system sound ns small.1 s
+
+geodetic-numbered : LowerLaws → (g : GeodeticParts) → IsGeodetic g → IsNumbered g.system
+geodetic-numbered laws g sound =
+    let type = g.system.system_type in
+    numbered laws g.system sound.system (geodetic_dimensions type) (small-geodetic type) sound.dimension
+
+projected-numbered : LowerLaws → (p : ProjectedParts) → IsProjected p → IsNumbered p.system
+projected-numbered laws p sound =
+    let type = p.system.system_type in
+    numbered laws p.system sound.system (projected_dimensions type) (small-projected type) sound.dimension
+
+vertical-numbered : LowerLaws → (v : VerticalParts) → IsVertical v → IsNumbered v.system
+vertical-numbered laws v sound =
+    let type = v.system.system_type in
+    numbered laws v.system sound.system (vertical_dimensions type) (small-vertical type) sound.dimension
+
+module _ (laws : LowerLaws) (sets : SetsDecide) (level : Level) where
+  -- ---- geodetic and geographic CRSs
+
+  pub geodetic-agrees : FormDecides IsGeodetic (norm_geodetic level) (AgreeGeodetic level)
+  geodetic-agrees a b in-a in-b =
+      let dynamic =
+      dynamics-agree laws sets level a.dynamic b.dynamic (dynamics-sound a.dynamic a.frame in-a.dynamic)
+      (dynamics-sound b.dynamic b.frame in-b.dynamic) in
+      let frame = geodetic-frame-agrees laws sets level a.frame b.frame in-a.frame in-b.frame in
+      let meridian = meridian-agrees laws sets level a.meridian b.meridian in-a.meridian in-b.meridian in
+      let numbered-a = geodetic-numbered laws a in-a in
+      let numbered-b = geodetic-numbered laws b in-b in
+      let system = system-agrees laws sets level a.system b.system numbered-a numbered-b in
+      let tail = tail-agrees sets level a.tail b.tail in-a.tail in-b.tail in (
+        λ e. let alike : AgreeSystem level a.system b.system = system.0 (ap (λ (x : GeodeticParts). x.system) e) in
+            record {
+              kind = ap kind_by alike.system_type;
+              name = ap (λ (x : GeodeticParts). x.name) e;
+              dynamic = dynamic.0 (ap (λ (x : GeodeticParts). x.dynamic) e);
+              frame = frame.0 (ap (λ (x : GeodeticParts). x.frame) e);
+              meridian = meridian.0 (ap (λ (x : GeodeticParts). x.meridian) e);
+              system = alike;
+              tail = tail.0 (ap (λ (x : GeodeticParts). x.tail) e);
+            },
+        λ s. λ i. record {
+          name = s.name i;
+          dynamic = dynamic.1 s.dynamic i;
+          frame = frame.1 s.frame i;
+          meridian = meridian.1 s.meridian i;
+          system = system.1 s.system i;
+          tail = tail.1 s.tail i;
+        },
+      )
+
+  -- ---- projected CRSs
+
+  pub base-agrees : FormDecides IsBase (norm_base level) (AgreeBase level)
+  base-agrees a b in-a in-b =
+      let dynamic =
+      dynamics-agree laws sets level a.dynamic b.dynamic (dynamics-sound a.dynamic a.frame in-a.dynamic)
+      (dynamics-sound b.dynamic b.frame in-b.dynamic) in
+      let frame = geodetic-frame-agrees laws sets level a.frame b.frame in-a.frame in-b.frame in
+      let meridian = meridian-agrees laws sets level a.meridian b.meridian in-a.meridian in-b.meridian in
+      let unit = units-of-agree laws sets level kinds.Angle kinds.Angle a.unit b.unit in-a.unit in-b.unit in
+      let identifiers = sets.idents level a.identifiers b.identifiers in-a.identifiers in-b.identifiers in (
+        λ e. record {
+          name = ap (λ (x : BaseParts). x.name) e;
+          dynamic = dynamic.0 (ap (λ (x : BaseParts). x.dynamic) e);
+          frame = frame.0 (ap (λ (x : BaseParts). x.frame) e);
+          meridian = meridian.0 (ap (λ (x : BaseParts). x.meridian) e);
+          unit = unit.0 (ap (λ (x : BaseParts). x.unit) e);
+          identifiers = identifiers.0 (ap (λ (x : BaseParts). x.identifiers) e);
+        },
+        λ s. λ i. record {
+          name = s.name i;
+          dynamic = dynamic.1 s.dynamic i;
+          frame = frame.1 s.frame i;
+          meridian = meridian.1 s.meridian i;
+          unit = unit.1 s.unit i;
+          identifiers = identifiers.1 s.identifiers i;
+        },
+      )
+
+  pub projected-agrees : FormDecides IsProjected (norm_projected level) (AgreeProjected level)
+  projected-agrees a b in-a in-b =
+      let base = base-agrees a.base b.base in-a.base in-b.base in
+      let conversion = conversion-agrees laws sets level a.conversion b.conversion in-a.conversion in-b.conversion in
+      let numbered-a = projected-numbered laws a in-a in
+      let numbered-b = projected-numbered laws b in-b in
+      let system = system-agrees laws sets level a.system b.system numbered-a numbered-b in
+      let tail = tail-agrees sets level a.tail b.tail in-a.tail in-b.tail in (
+        λ e. record {
+          name = ap (λ (x : ProjectedParts). x.name) e;
+          base = base.0 (ap (λ (x : ProjectedParts). x.base) e);
+          conversion = conversion.0 (ap (λ (x : ProjectedParts). x.conversion) e);
+          system = system.0 (ap (λ (x : ProjectedParts). x.system) e);
+          tail = tail.0 (ap (λ (x : ProjectedParts). x.tail) e);
+        },
+        λ s. λ i. record {
+          name = s.name i;
+          base = base.1 s.base i;
+          conversion = conversion.1 s.conversion i;
+          system = system.1 s.system i;
+          tail = tail.1 s.tail i;
+        },
+      )
+
+  -- ---- vertical CRSs
+
+  pub vertical-agrees : FormDecides IsVertical (norm_vertical level) (AgreeVertical level)
+  vertical-agrees a b in-a in-b =
+      let dynamic =
+      dynamics-agree laws sets level a.dynamic b.dynamic (dynamics-sound a.dynamic a.frame in-a.dynamic)
+      (dynamics-sound b.dynamic b.frame in-b.dynamic) in
+      let frame = vertical-frame-agrees laws sets level a.frame b.frame in-a.frame in-b.frame in
+      let numbered-a = vertical-numbered laws a in-a in
+      let numbered-b = vertical-numbered laws b in-b in
+      let system = system-agrees laws sets level a.system b.system numbered-a numbered-b in
+      let models = sets.geoid_models level a.geoid_models b.geoid_models in-a.geoid_models in-b.geoid_models in
+      let tail = tail-agrees sets level a.tail b.tail in-a.tail in-b.tail in (
+        λ e. record {
+          name = ap (λ (x : VerticalParts). x.name) e;
+          dynamic = dynamic.0 (ap (λ (x : VerticalParts). x.dynamic) e);
+          frame = frame.0 (ap (λ (x : VerticalParts). x.frame) e);
+          system = system.0 (ap (λ (x : VerticalParts). x.system) e);
+          geoid_models = models.0 (ap (λ (x : VerticalParts). x.geoid_models) e);
+          tail = tail.0 (ap (λ (x : VerticalParts). x.tail) e);
+        },
+        λ s. λ i. record {
+          name = s.name i;
+          dynamic = dynamic.1 s.dynamic i;
+          frame = frame.1 s.frame i;
+          system = system.1 s.system i;
+          geoid_models = models.1 s.geoid_models i;
+          tail = tail.1 s.tail i;
+        },
+      )
+
+  -- ---- compound CRSs
+
+  pub horizontal-agrees : FormDecides IsHorizontal (norm_horizontal level) (AgreeHorizontal level)
+  horizontal-agrees (horizontal.Geodetic a) (horizontal.Geodetic b) in-a in-b = (
+    λ e. (geodetic-agrees a b in-a.0 in-b.0).0 cc,
+    λ s. ap (λ x. horizontal.Geodetic x) ((geodetic-agrees a b in-a.0 in-b.0).1 s),
+  )
+  horizontal-agrees (horizontal.Geodetic a) (horizontal.Projected b) in-a in-b = (λ e. cc, λ s. absurd s)
+  horizontal-agrees (horizontal.Projected a) (horizontal.Geodetic b) in-a in-b = (λ e. cc, λ s. absurd s)
+  horizontal-agrees (horizontal.Projected a) (horizontal.Projected b) in-a in-b = (
+    λ e. (projected-agrees a b in-a.0 in-b.0).0 cc,
+    λ s. ap (λ x. horizontal.Projected x) ((projected-agrees a b in-a.0 in-b.0).1 s),
+  )
+
+  pub compound-agrees : FormDecides IsCompound (norm_compound level) (AgreeCompound level)
+  compound-agrees a b in-a in-b =
+      let plane = horizontal-agrees a.horizontal b.horizontal in-a.horizontal in-b.horizontal in
+      let height = vertical-agrees a.vertical b.vertical in-a.vertical in-b.vertical in
+      let tail = tail-agrees sets level a.tail b.tail in-a.tail in-b.tail in (
+        λ e. record {
+          name = ap (λ (x : CompoundParts). x.name) e;
+          horizontal = plane.0 (ap (λ (x : CompoundParts). x.horizontal) e);
+          vertical = height.0 (ap (λ (x : CompoundParts). x.vertical) e);
+          tail = tail.0 (ap (λ (x : CompoundParts). x.tail) e);
+        },
+        λ s. λ i. record {
+          name = s.name i;
+          horizontal = plane.1 s.horizontal i;
+          vertical = height.1 s.vertical i;
+          tail = tail.1 s.tail i;
+        },
+      )
+
+  -- ---- all
+
+  pub crs-agrees : FormDecides IsCrs (norm_crs level) (AgreeCrs level)
+  crs-agrees (crs.Geodetic a) (crs.Geodetic b) in-a in-b = (
+    λ e. let s : AgreeGeodetic level a b = (geodetic-agrees a b in-a in-b).0 cc in record { kind = s.kind; parts = s },
+    λ s. ap (λ x. crs.Geodetic x) ((geodetic-agrees a b in-a in-b).1 s.parts),
+  )
+  crs-agrees (crs.Projected a) (crs.Projected b) in-a in-b = (
+    λ e. record { kind = refl; parts = (projected-agrees a b in-a in-b).0 cc },
+    λ s. ap (λ x. crs.Projected x) ((projected-agrees a b in-a in-b).1 s.parts),
+  )
+  crs-agrees (crs.Vertical a) (crs.Vertical b) in-a in-b = (
+    λ e. record { kind = refl; parts = (vertical-agrees a b in-a in-b).0 cc },
+    λ s. ap (λ x. crs.Vertical x) ((vertical-agrees a b in-a in-b).1 s.parts),
+  )
+  crs-agrees (crs.Compound a) (crs.Compound b) in-a in-b = (
+    λ e. record { kind = refl; parts = (compound-agrees a b in-a in-b).0 cc },
+    λ s. ap (λ x. crs.Compound x) ((compound-agrees a b in-a in-b).1 s.parts),
+  )
+  crs-agrees (crs.Geodetic a) other in-a in-b = (λ e. cc, λ s. absurd s.parts)
+  crs-agrees (crs.Projected a) other in-a in-b = (λ e. cc, λ s. absurd s.parts)
+  crs-agrees (crs.Vertical a) other in-a in-b = (λ e. cc, λ s. absurd s.parts)
+  crs-agrees (crs.Compound a) other in-a in-b = (λ e. cc, λ s. absurd s.parts)
+
+-- the horizontal part of a compound CRS is one by itself
+pub by-itself : (a : Horizontal) → IsHorizontal a → IsHorizontalPart a
+by-itself (horizontal.Geodetic a) sound = sound.0
+by-itself (horizontal.Projected a) sound = sound.0

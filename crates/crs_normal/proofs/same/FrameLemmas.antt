@@ -1,0 +1,256 @@
+-- Ellipsoids, prime meridians, reference frames and ensembles have one form exactly where they are the same.
+use Rattle.std.proofs.Common.{◌≡◌, ◌↔◌, ◌∙◌, ◌⊎◌, ◌*◌, ℕ, inl, inr, Bool, true, false, Option, Some, None, codes, refl, sym, ap}
+use Rattle.std.proofs.Common.{arith, if◌then◌else◌}
+use Rattle.std.specs.Option.{option_map}
+use Rattle.std.proofs.lemmas.Bool.{eqb-true, false≢true}
+use Rattle.crs_decimal.specs.Value.{Value, IsNormal}
+use Rattle.crs_value.specs.SoundFrames.{IsDatum, IsEllipsoid, IsEnsemble, IsMember, IsMeridian}
+use Rattle.crs_value.specs.SoundSingle.{IsGeodeticFrame, IsVerticalFrame}
+use Rattle.crs_value.specs.Values.{DatumParts, EllipsoidParts, EnsembleParts, MemberParts, MeridianParts, UnitParts}
+use Rattle.crs_value.specs.declared.values.frame.Frame.{Frame}
+use Rattle.crs_value.specs.declared.values.frame.Frame.TheVariants as frame
+use Rattle.crs_value.specs.declared.values.level.Level.{Level}
+use Rattle.crs_value.specs.declared.values.unit_kind.UnitKind.TheVariants as kinds
+use Rattle.crs_same.specs.Agreement.{AgreeDatum, AgreeEllipsoid, AgreeEnsemble, AgreeFrame, AgreeGiven, AgreeMeridian}
+use Rattle.crs_same.specs.PartsOfFrames.{or_greenwich}
+use Rattle.crs_same.specs.SameFrames.{IsZero}
+use Rattle.crs_same.specs.SameFrames.{SameMember}
+use Rattle.crs_same.specs.SameIdents.{SameIdents}
+use Rattle.crs_same.specs.SameUnits.{SameUnit, SameValue}
+use Rattle.crs_same.specs.Sets.{BothOrNeither}
+use Rattle.crs_normal.specs.Decides.{FormDecides, Maybe, SetsDecide}
+use Rattle.crs_normal.specs.LowerLaws.{LowerLaws}
+use Rattle.crs_normal.specs.SpelledFrames.{greenwich, is_zero, norm_datum, norm_ellipsoid, norm_ensemble, norm_frame}
+use Rattle.crs_normal.specs.SpelledFrames.{norm_given, norm_member, norm_meridian}
+use Rattle.crs_normal.specs.SpelledUnits.{norm_length, norm_units, set_idents, whole_value}
+use Rattle.crs_normal.proofs.same.PartLemmas.{options-agree, values-agree}
+use Rattle.crs_normal.proofs.same.UnitLemmas.{length-agrees, none-formed, some-one, units-of-agree, whole-agrees}
+
+-- ---- a missing prime meridian
+
+greenwich-is : IsMeridian greenwich
+unfolding lib.Utf8.encode
+greenwich-is = record {
+  name = ((codes "Greenwich", refl), (codes "Greenwich", (refl, refl)));
+  longitude = refl;
+  unit = tt;
+  identifiers = tt;
+}
+
+given-is : (m : Option MeridianParts) → Maybe IsMeridian m → IsMeridian (or_greenwich m)
+given-is None is = greenwich-is
+given-is (Some m) is = is
+
+-- ---- longitude 0
+
+scaled : (d x y : ℕ) → d ≡ 0 → d * x ≡ 0 * y
+scaled d x y e = let f : d * x ≡ 0 * x = ap (λ n. n * x) e in omega (arith, f)
+
+zero-agrees : LowerLaws → (v : Value) → IsNormal v → (is_zero v ≡ true) ↔ IsZero v
+zero-agrees laws v in-v = (
+  λ e. let none : v.digits ≡ 0 = eqb-true v.digits 0 e in (scaled v.digits _ _ none, inr (none, refl)),
+  λ s. ap is_zero ((whole-agrees laws 0 refl v in-v).1 s),
+)
+
+-- parts that count where the test fails, which is the same on both sides
+counted : {A : Type 0} (p q : Bool) (x y : Option A) → p ≡ q → ((if p then None else x) ≡ (if q then None else y))
+    ↔ ((p ≡ true) ⊎ (x ≡ y))
+counted true true x y e = (λ f. inl refl, λ s. refl)
+counted true false x y e = absurd (false≢true (sym e))
+counted false true x y e = absurd (false≢true e)
+counted false false x y e = (
+  λ f. inr f,
+  λ s. elim s [
+    | inl f ↦ absurd (false≢true f)
+    | inr f ↦ f
+  ],
+)
+
+module _ (laws : LowerLaws) (sets : SetsDecide) (level : Level) where
+  pub ellipsoid-agrees : FormDecides IsEllipsoid (norm_ellipsoid level) (AgreeEllipsoid level)
+  ellipsoid-agrees a b in-a in-b =
+      let axis = values-agree laws a.semi_major_axis b.semi_major_axis in-a.semi_major_axis in-b.semi_major_axis in
+      let flattening =
+      values-agree laws a.inverse_flattening b.inverse_flattening in-a.inverse_flattening in-b.inverse_flattening in
+      let unit = length-agrees laws sets level a.unit b.unit in-a.unit in-b.unit in
+      let identifiers = sets.idents level a.identifiers b.identifiers in-a.identifiers in-b.identifiers in (
+        λ e. record {
+          name = ap (λ (x : EllipsoidParts). x.name) e;
+          semi_major_axis = axis.0 (ap (λ (x : EllipsoidParts). x.semi_major_axis) e);
+          inverse_flattening = flattening.0 (ap (λ (x : EllipsoidParts). x.inverse_flattening) e);
+          unit = unit.0 (some-one (norm_length level a.unit) (norm_length level b.unit)
+              (ap (λ (x : EllipsoidParts). x.unit) e));
+          identifiers = identifiers.0 (ap (λ (x : EllipsoidParts). x.identifiers) e);
+        },
+        λ s. λ i. record {
+          name = s.name i;
+          semi_major_axis = axis.1 s.semi_major_axis i;
+          inverse_flattening = flattening.1 s.inverse_flattening i;
+          unit = Some (unit.1 s.unit i);
+          identifiers = identifiers.1 s.identifiers i;
+        },
+      )
+
+  pub ellipsoids-agree : FormDecides (Maybe IsEllipsoid) (option_map (norm_ellipsoid level))
+      (BothOrNeither (AgreeEllipsoid level))
+  ellipsoids-agree =
+      options-agree IsEllipsoid (norm_ellipsoid level) (AgreeEllipsoid level) ellipsoid-agrees
+      (option_map (norm_ellipsoid level)) refl (λ x. refl)
+
+  -- ---- prime meridians
+
+  -- the unit as it is in the form
+  abbrev unit_in : MeridianParts → Option UnitParts
+  unit_in m = if is_zero m.longitude then None else norm_units level kinds.Angle m.unit
+
+  pub given-agrees : FormDecides IsMeridian (norm_given level) (AgreeGiven level)
+  given-agrees a b in-a in-b = (
+    λ e. let at : a.longitude ≡ b.longitude = ap (λ (x : MeridianParts). x.longitude) e in
+        record {
+          name = ap (λ (x : MeridianParts). x.name) e;
+          longitude = longitude.0 at;
+          unit = (unit at).0 (ap (λ (x : MeridianParts). x.unit) e);
+          identifiers = identifiers.0 (ap (λ (x : MeridianParts). x.identifiers) e);
+        },
+    λ s. λ i. record {
+      name = s.name i;
+      longitude = longitude.1 s.longitude i;
+      unit = (unit (longitude.1 s.longitude)).1 s.unit i;
+      identifiers = identifiers.1 s.identifiers i;
+    },
+  )
+    where
+      longitude : (a.longitude ≡ b.longitude) ↔ SameValue a.longitude b.longitude
+      longitude = values-agree laws a.longitude b.longitude in-a.longitude in-b.longitude
+
+      zero-a : (is_zero a.longitude ≡ true) ↔ IsZero a.longitude
+      zero-a = zero-agrees laws a.longitude in-a.longitude
+
+      angles : (norm_units level kinds.Angle a.unit ≡ norm_units level kinds.Angle b.unit)
+          ↔ BothOrNeither (SameUnit kinds.Angle level) a.unit b.unit
+      angles = units-of-agree laws sets level kinds.Angle kinds.Angle a.unit b.unit in-a.unit in-b.unit
+
+      tested : a.longitude ≡ b.longitude → (unit_in a ≡ unit_in b)
+          ↔ ((is_zero a.longitude ≡ true) ⊎ (norm_units level kinds.Angle a.unit ≡ norm_units level kinds.Angle b.unit))
+      tested at = counted (is_zero a.longitude) (is_zero b.longitude) (norm_units level kinds.Angle a.unit)
+          (norm_units level kinds.Angle b.unit) (ap is_zero at)
+
+      unit : a.longitude ≡ b.longitude → (unit_in a ≡ unit_in b)
+          ↔ (IsZero a.longitude ⊎ BothOrNeither (SameUnit kinds.Angle level) a.unit b.unit)
+      unit at = (
+        λ e. elim ((tested at).0 e) [
+          | inl z ↦ inl (zero-a.0 z)
+          | inr u ↦ inr (angles.0 u)
+        ],
+        λ s. elim s [
+          | inl z ↦ (tested at).1 (inl (zero-a.1 z))
+          | inr u ↦ (tested at).1 (inr (angles.1 u))
+        ],
+      )
+
+      identifiers : (set_idents level a.identifiers ≡ set_idents level b.identifiers) ↔ SameIdents level a.identifiers b.identifiers
+      identifiers = sets.idents level a.identifiers b.identifiers in-a.identifiers in-b.identifiers
+
+  -- a missing one has the form of its default
+  given-formed : (m : Option MeridianParts) → norm_meridian level m ≡ Some (norm_given level (or_greenwich m))
+  given-formed None = λ i. Some (record {
+    name = codes "Greenwich";
+    longitude = whole_value 0;
+    unit = None;
+    identifiers = sym (none-formed level) i;
+  })
+  given-formed (Some m) = refl
+
+  pub meridian-agrees : FormDecides (Maybe IsMeridian) (norm_meridian level) (AgreeMeridian level)
+  meridian-agrees a b in-a in-b =
+      let same = given-agrees (or_greenwich a) (or_greenwich b) (given-is a in-a) (given-is b in-b) in (
+        λ e. same.0 (some-one (norm_given level (or_greenwich a)) (norm_given level (or_greenwich b)) (sym (given-formed a) ∙ e ∙ given-formed b)),
+        λ s. given-formed a ∙ ap (λ m. Some m) (same.1 s) ∙ sym (given-formed b),
+      )
+
+  -- ---- frames
+
+  pub member-agrees : FormDecides IsMember (norm_member level) (SameMember level)
+  member-agrees a b in-a in-b =
+      let identifiers = sets.idents level a.identifiers b.identifiers in-a.identifiers in-b.identifiers in (
+        λ e. record { name = ap (λ (x : MemberParts). x.name) e; identifiers = identifiers.0 (ap (λ (x : MemberParts). x.identifiers) e) },
+        λ s. λ i. record { name = s.name i; identifiers = identifiers.1 s.identifiers i },
+      )
+
+  epochs-agree : FormDecides (Maybe IsNormal) (λ epoch. epoch) (BothOrNeither SameValue)
+  epochs-agree =
+      options-agree IsNormal (λ value. value) SameValue (values-agree laws) (λ epoch. epoch) refl (λ x. refl)
+
+  pub datum-agrees : FormDecides IsDatum (norm_datum level) (AgreeDatum level)
+  datum-agrees a b in-a in-b =
+      let ellipsoid = ellipsoids-agree a.ellipsoid b.ellipsoid in-a.ellipsoid in-b.ellipsoid in
+      let epoch = epochs-agree a.anchor_epoch b.anchor_epoch in-a.anchor_epoch in-b.anchor_epoch in
+      let identifiers = sets.idents level a.identifiers b.identifiers in-a.identifiers in-b.identifiers in (
+        λ e. record {
+          name = ap (λ (x : DatumParts). x.name) e;
+          ellipsoid = ellipsoid.0 (ap (λ (x : DatumParts). x.ellipsoid) e);
+          anchor = ap (λ (x : DatumParts). x.anchor) e;
+          anchor_epoch = epoch.0 (ap (λ (x : DatumParts). x.anchor_epoch) e);
+          identifiers = identifiers.0 (ap (λ (x : DatumParts). x.identifiers) e);
+        },
+        λ s. λ i. record {
+          name = s.name i;
+          ellipsoid = ellipsoid.1 s.ellipsoid i;
+          anchor = s.anchor i;
+          anchor_epoch = epoch.1 s.anchor_epoch i;
+          identifiers = identifiers.1 s.identifiers i;
+        },
+      )
+
+  pub ensemble-agrees : FormDecides IsEnsemble (norm_ensemble level) (AgreeEnsemble level)
+  ensemble-agrees a b in-a in-b =
+      let members = sets.members level a.members b.members in-a.members in-b.members in
+      let ellipsoid = ellipsoids-agree a.ellipsoid b.ellipsoid in-a.ellipsoid in-b.ellipsoid in
+      let accuracy = values-agree laws a.accuracy b.accuracy in-a.accuracy in-b.accuracy in
+      let identifiers = sets.idents level a.identifiers b.identifiers in-a.identifiers in-b.identifiers in (
+        λ e. record {
+          name = ap (λ (x : EnsembleParts). x.name) e;
+          members = members.0 (ap (λ (x : EnsembleParts). x.members) e);
+          ellipsoid = ellipsoid.0 (ap (λ (x : EnsembleParts). x.ellipsoid) e);
+          accuracy = accuracy.0 (ap (λ (x : EnsembleParts). x.accuracy) e);
+          identifiers = identifiers.0 (ap (λ (x : EnsembleParts). x.identifiers) e);
+        },
+        λ s. λ i. record {
+          name = s.name i;
+          members = members.1 s.members i;
+          ellipsoid = ellipsoid.1 s.ellipsoid i;
+          accuracy = accuracy.1 s.accuracy i;
+          identifiers = identifiers.1 s.identifiers i;
+        },
+      )
+
+  -- either sort of frame
+  abbrev IsFrame : Frame → Type 0
+  IsFrame (frame.Datum d) = IsDatum d
+  IsFrame (frame.Ensemble e) = IsEnsemble e
+
+  frame-agrees : FormDecides IsFrame (norm_frame level) (AgreeFrame level)
+  frame-agrees (frame.Datum a) (frame.Datum b) in-a in-b = (
+    λ e. (datum-agrees a b in-a in-b).0 cc,
+    λ s. ap (λ d. frame.Datum d) ((datum-agrees a b in-a in-b).1 s),
+  )
+  frame-agrees (frame.Datum a) (frame.Ensemble b) in-a in-b = (λ e. cc, λ s. absurd s)
+  frame-agrees (frame.Ensemble a) (frame.Datum b) in-a in-b = (λ e. cc, λ s. absurd s)
+  frame-agrees (frame.Ensemble a) (frame.Ensemble b) in-a in-b = (
+    λ e. (ensemble-agrees a b in-a in-b).0 cc,
+    λ s. ap (λ d. frame.Ensemble d) ((ensemble-agrees a b in-a in-b).1 s),
+  )
+
+  geodetic-is : (f : Frame) → IsGeodeticFrame f → IsFrame f
+  geodetic-is (frame.Datum d) sound = sound.0
+  geodetic-is (frame.Ensemble e) sound = sound.0
+
+  vertical-is : (f : Frame) → IsVerticalFrame f → IsFrame f
+  vertical-is (frame.Datum d) sound = sound.0
+  vertical-is (frame.Ensemble e) sound = sound.0
+
+  pub geodetic-frame-agrees : FormDecides IsGeodeticFrame (norm_frame level) (AgreeFrame level)
+  geodetic-frame-agrees a b in-a in-b = frame-agrees a b (geodetic-is a in-a) (geodetic-is b in-b)
+
+  pub vertical-frame-agrees : FormDecides IsVerticalFrame (norm_frame level) (AgreeFrame level)
+  vertical-frame-agrees a b in-a in-b = frame-agrees a b (vertical-is a in-a) (vertical-is b in-b)

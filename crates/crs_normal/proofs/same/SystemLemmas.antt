@@ -1,0 +1,117 @@
+-- Coordinate systems have one form exactly where they are the same.
+use Rattle.std.proofs.Common.{◌≡◌, ◌↔◌, ◌∙◌, ℕ, zero, suc, ◌+◌, ◌<◌, ◌≤◌, ◌⊎◌, inl, inr, List, ◌∷◌, None, length, refl}
+use Rattle.std.proofs.Common.{sym, ap, subst, arith}
+use Rattle.std.specs.Prelude.{⊤}
+use Rattle.std.proofs.lemmas.Bool.{cases_lt}
+use Rattle.crs_value.specs.Values.{AxisParts, SystemParts}
+use Rattle.crs_value.specs.declared.values.level.Level.{Level}
+use Rattle.crs_same.specs.SameIdents.{SameIdents}
+use Rattle.crs_same.specs.Agreement.{AgreeAt, AgreeAxes, AgreeAxis, AgreeSystem}
+use Rattle.crs_same.specs.SameUnits.{SameValue}
+use Rattle.crs_normal.specs.Decides.{FormDecides, IsNumbered, SetsDecide}
+use Rattle.crs_normal.specs.LowerLaws.{LowerLaws}
+use Rattle.crs_normal.specs.SpelledSystems.{axes_from, norm_axis, norm_system, with_axis}
+use Rattle.crs_normal.specs.SpelledUnits.{set_idents}
+use Rattle.crs_normal.proofs.same.AxisLemmas.{Found, axis-agrees, both-agree, found, sound-at}
+use Rattle.crs_normal.proofs.same.PartLemmas.{values-agree}
+
+-- lists with a first member
+heads-agree : {P Q : Type 0} (x y : AxisParts) (xs ys : List AxisParts) → (x ≡ y) ↔ P → (xs ≡ ys) ↔ Q →
+    ((x ∷ xs) ≡ (y ∷ ys)) ↔ (P × Q)
+heads-agree x y xs ys head tail = (λ e. (head.0 cc, tail.0 cc), λ s. λ i. head.1 s.0 i ∷ tail.1 s.1 i)
+
+module _ (laws : LowerLaws) (sets : SetsDecide) (level : Level) where
+  found-at : (system : SystemParts) → IsNumbered system → (k : ℕ) → 1 ≤ k → k ≤ length system.axes →
+      Found k 1 system.axes
+  found-at system sound k first last =
+      found laws (λ axis. ⊤) k 1 system.axes (omega (arith, sound.1)) sound.0.axes
+      (laws.some_axis system sound.0 k first last)
+
+  position-agrees : (a b : SystemParts) (k : ℕ) → IsNumbered a → IsNumbered b → a.system_type ≡ b.system_type →
+      (x : Found k 1 a.axes) (y : Found k 1 b.axes) →
+      (norm_axis level a k x.axis ≡ norm_axis level b k y.axis) ↔ AgreeAt level a b k
+  position-agrees a b k in-a in-b type x y =
+      let axes : (norm_axis level a k x.axis ≡ norm_axis level b k y.axis) ↔ AgreeAxis level a b x.axis y.axis =
+      axis-agrees laws sets level a b k x.axis y.axis type in-a.0.unit in-b.0.unit
+      (sound-at k 1 a.axes x.axis in-a.0.axes x.at) (sound-at k 1 b.axes y.axis in-b.0.axes y.at) in
+      let both : AgreeAxis level a b x.axis y.axis ↔ AgreeAt level a b k =
+      both-agree (λ p q. AgreeAxis level a b p q) k a.axes b.axes x.axis y.axis (laws.one_axis a in-a.0 k)
+      (laws.one_axis b in-b.0 k) x.at y.at in
+      (λ e. both.0 (axes.0 e), λ s. axes.1 (both.1 s))
+
+  -- the axes at `n` positions from k on
+  abbrev SameFrom : SystemParts → SystemParts → ℕ → ℕ → Type 0
+  SameFrom a b k n = (p : ℕ) → k ≤ p → p < k + n → AgreeAt level a b p
+
+  from-agrees : (a b : SystemParts) (k n : ℕ) → AgreeAt level a b k × SameFrom a b (k + 1) n ↔ SameFrom a b k (suc n)
+  from-agrees a b k n = (
+    λ s p least most. by s p least most (cases_lt k p),
+    λ s. (s k (omega arith) (omega arith), λ p least most. s p (omega (arith, least)) (omega (arith, most))),
+  )
+    where
+      by : AgreeAt level a b k × SameFrom a b (k + 1) n → (p : ℕ) → k ≤ p → p < k + suc n → (k < p) ⊎ (p ≤ k) →
+          AgreeAt level a b p
+      by s p least most (inl more) = s.1 p (omega (arith, more)) (omega (arith, most))
+      by s p least most (inr less) = let e : k ≡ p = omega (arith, least, less) in subst (λ q. AgreeAt level a b q) e s.0
+
+  axes-agree : (a b : SystemParts) → IsNumbered a → IsNumbered b → a.system_type ≡ b.system_type →
+      length a.axes ≡ length b.axes →
+      (k n : ℕ) → 1 ≤ k → k + n ≤ suc (length a.axes) → (axes_from level a k n ≡ axes_from level b k n)
+      ↔ SameFrom a b k n
+  axes-agree a b in-a in-b type long k zero first last =
+      (λ e p least most. absurd (omega (arith, least, most)), λ s. refl)
+  axes-agree a b in-a in-b type long k (suc n) first last =
+      let x = found-at a in-a k first (omega (arith, last)) in
+      let y = found-at b in-b k first (omega (arith, last, long)) in
+      let rest = axes-agree a b in-a in-b type long (k + 1) n (omega arith) (omega (arith, last)) in
+      let of-a : axes_from level a k (suc n) ≡ norm_axis level a k x.axis ∷ axes_from level a (k + 1) n =
+      ap (λ f. with_axis level a k f (axes_from level a (k + 1) n)) x.is in
+      let of-b : axes_from level b k (suc n) ≡ norm_axis level b k y.axis ∷ axes_from level b (k + 1) n =
+      ap (λ f. with_axis level b k f (axes_from level b (k + 1) n)) y.is in
+      let lists =
+      heads-agree (norm_axis level a k x.axis) (norm_axis level b k y.axis) (axes_from level a (k + 1) n)
+      (axes_from level b (k + 1) n)
+      (position-agrees a b k in-a in-b type x y) rest in (
+        λ e. (from-agrees a b k n).0 (lists.0 (sym of-a ∙ e ∙ of-b)),
+        λ s. of-a ∙ lists.1 ((from-agrees a b k n).1 s) ∙ sym of-b,
+      )
+
+  all-agree : (a b : SystemParts) → IsNumbered a → IsNumbered b → a.system_type ≡ b.system_type →
+      length a.axes ≡ length b.axes →
+      (axes_from level a 1 (length a.axes) ≡ axes_from level b 1 (length b.axes)) ↔ AgreeAxes level a b
+  all-agree a b in-a in-b type long =
+      let count : axes_from level b 1 (length a.axes) ≡ axes_from level b 1 (length b.axes) =
+      ap (λ n. axes_from level b 1 n) long in
+      let each = axes-agree a b in-a in-b type long 1 (length a.axes) (omega arith) (omega arith) in (
+        λ e p least most. each.0 (e ∙ sym count) p least (omega (arith, most)),
+        λ s. each.1 (λ p least most. s p least (omega (arith, most))) ∙ count,
+      )
+
+  pub system-agrees : FormDecides IsNumbered (norm_system level) (AgreeSystem level)
+  system-agrees a b in-a in-b = (
+    λ e. let type : a.system_type ≡ b.system_type = ap (λ (x : SystemParts). x.system_type) e in
+        let size : SameValue a.dimension b.dimension = dimension.0 (ap (λ (x : SystemParts). x.dimension) e) in
+        record {
+          system_type = type;
+          dimension = size;
+          identifiers = identifiers.0 (ap (λ (x : SystemParts). x.identifiers) e);
+          axes = (axes type size).0 (ap (λ (x : SystemParts). x.axes) e);
+        },
+    λ s. λ i. record {
+      system_type = s.system_type i;
+      dimension = dimension.1 s.dimension i;
+      identifiers = identifiers.1 s.identifiers i;
+      axes = (axes s.system_type s.dimension).1 s.axes i;
+      unit = None;
+    },
+  )
+    where
+      dimension : (a.dimension ≡ b.dimension) ↔ SameValue a.dimension b.dimension
+      dimension = values-agree laws a.dimension b.dimension in-a.0.dimension in-b.0.dimension
+
+      identifiers : (set_idents level a.identifiers ≡ set_idents level b.identifiers) ↔ SameIdents level a.identifiers b.identifiers
+      identifiers = sets.idents level a.identifiers b.identifiers in-a.0.identifiers in-b.0.identifiers
+
+      axes : a.system_type ≡ b.system_type → SameValue a.dimension b.dimension →
+          (axes_from level a 1 (length a.axes) ≡ axes_from level b 1 (length b.axes)) ↔ AgreeAxes level a b
+      axes type size = all-agree a b in-a in-b type (laws.as_many a b in-a.0 in-b.0 size)

@@ -1,0 +1,88 @@
+-- Units have one form exactly where they are the same: alone, as an asked kind, and where a missing one is the metre.
+use Rattle.std.proofs.Common.{◌≡◌, ◌↔◌, ◌∙◌, ℕ, [], Option, Some, None, codes, refl, sym, ap, arith}
+use Rattle.crs_decimal.specs.Number.{SameNumber, whole_number}
+use Rattle.crs_decimal.specs.Value.{Value, IsNormal, exact}
+use Rattle.crs_value.specs.Sound.{IsUnit, IsUnitOf}
+use Rattle.crs_value.specs.Values.{UnitParts}
+use Rattle.crs_value.specs.KeptLaws.{kept-none}
+use Rattle.crs_value.specs.declared.values.level.Level.{Level}
+use Rattle.crs_value.specs.declared.values.unit_kind.UnitKind.{UnitKind}
+use Rattle.crs_value.specs.declared.values.unit_kind.UnitKind.TheVariants as kinds
+use Rattle.crs_same.specs.SameUnits.{SameLength, SameUnit, or_metre}
+use Rattle.crs_same.specs.Sets.{BothOrNeither}
+use Rattle.crs_normal.specs.Decides.{FormDecides, Maybe, SetsDecide}
+use Rattle.crs_normal.specs.LowerLaws.{LowerLaws}
+use Rattle.crs_normal.specs.SpelledUnits.{metre, norm_length, norm_unit, norm_units, set_idents, whole_value}
+use Rattle.crs_normal.proofs.members.IdentLemmas.{none-form}
+use Rattle.crs_normal.proofs.same.PartLemmas.{options-agree, values-agree}
+
+pub some-one : {A : Type 0} (a b : A) → Some a ≡ Some b → a ≡ b
+some-one a b e = cc
+
+-- ---- no identifiers, and a missing unit of length
+
+pub none-formed : (level : Level) → set_idents level [] ≡ []
+none-formed level = none-form level [] (kept-none level)
+
+-- one that is missing has the form of its default
+pub length-formed : (level : Level) (unit : Option UnitParts) → norm_length level unit ≡ norm_unit level kinds.Length (or_metre unit)
+length-formed level None = λ i. record {
+  kind = kinds.Length;
+  name = codes "metre";
+  factor = whole_value 1;
+  identifiers = sym (none-formed level) i;
+}
+length-formed level (Some unit) = refl
+
+pub metre-is : IsUnit metre
+unfolding lib.Utf8.encode
+metre-is = record {
+  name = ((codes "metre", refl), (codes "metre", (refl, refl)));
+  factor = refl;
+  above_zero = (refl, λ e. absurd (omega arith));
+  identifiers = tt;
+}
+
+pub given-length : (unit : Option UnitParts) → Maybe (IsUnitOf kinds.Length) unit → IsUnit (or_metre unit)
+given-length None is = metre-is
+given-length (Some unit) is = is.0
+
+-- ---- whole numbers
+
+pub whole-agrees : LowerLaws → (k : ℕ) → IsNormal (whole_value k) → (v : Value) → IsNormal v → (v ≡ whole_value k)
+    ↔ SameNumber (exact v) (whole_number k)
+whole-agrees laws k normal v in-v = let same = laws.normal_is_one v (whole_value k) in-v normal in (same.1, same.0)
+
+-- ---- units
+
+module _ (laws : LowerLaws) (sets : SetsDecide) (level : Level) where
+  pub unit-agrees : (asked : UnitKind) → FormDecides IsUnit (norm_unit level asked) (SameUnit asked level)
+  unit-agrees asked a b in-a in-b =
+      let factor = values-agree laws a.factor b.factor in-a.factor in-b.factor in
+      let identifiers = sets.idents level a.identifiers b.identifiers in-a.identifiers in-b.identifiers in (
+        λ e. record {
+          kind = ap (λ (u : UnitParts). u.kind) e;
+          name = ap (λ (u : UnitParts). u.name) e;
+          factor = factor.0 (ap (λ (u : UnitParts). u.factor) e);
+          identifiers = identifiers.0 (ap (λ (u : UnitParts). u.identifiers) e);
+        },
+        λ s. λ i. record { kind = s.kind i; name = s.name i; factor = factor.1 s.factor i; identifiers = identifiers.1 s.identifiers i },
+      )
+
+  pub units-agree : (asked : UnitKind) →
+      FormDecides (Maybe IsUnit) (norm_units level asked) (BothOrNeither (SameUnit asked level))
+  units-agree asked =
+      options-agree IsUnit (norm_unit level asked) (SameUnit asked level) (unit-agrees asked)
+      (norm_units level asked) refl (λ u. refl)
+
+  -- where a kind is asked as well
+  pub units-of-agree : (kind asked : UnitKind) →
+      FormDecides (Maybe (IsUnitOf kind)) (norm_units level asked) (BothOrNeither (SameUnit asked level))
+  units-of-agree kind asked =
+      options-agree (IsUnitOf kind) (norm_unit level asked) (SameUnit asked level)
+      (λ a b in-a in-b. unit-agrees asked a b in-a.0 in-b.0) (norm_units level asked) refl (λ u. refl)
+
+  pub length-agrees : FormDecides (Maybe (IsUnitOf kinds.Length)) (norm_length level) (SameLength level)
+  length-agrees a b in-a in-b =
+      let same = unit-agrees kinds.Length (or_metre a) (or_metre b) (given-length a in-a) (given-length b in-b) in
+      (λ e. same.0 (sym (length-formed level a) ∙ e ∙ length-formed level b), λ s. length-formed level a ∙ same.1 s ∙ sym (length-formed level b))

@@ -1,0 +1,7 @@
+pub mod AcceptedLemmas
+pub mod ClosedLemmas
+pub mod ItemLemmas
+pub mod RootLemmas
+pub mod WholeLemmas
+pub mod WordFormLemmas
+pub mod WrittenFormLemmas

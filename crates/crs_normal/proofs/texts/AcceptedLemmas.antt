@@ -1,0 +1,66 @@
+-- The written form of a CRS is an accepted text, which spells the CRS's one form.
+use Rattle.std.proofs.Common.{◌≡◌, ◌↔◌, ◌≤◌, ◌∙◌, ℕ, Some, None, sym, subst, arith, inl, inr}
+use Rattle.crs_text.specs.Items.{Item, depth}
+use Rattle.crs_text.specs.Refusal.{RefusedAt}
+use Rattle.crs_text.specs.TextFault.{SpellsNode}
+use Rattle.crs_text.specs.Written.{WrittenSpells, at_place, item_text}
+use Rattle.crs_shape.specs.declared.class.Class.{Class}
+use Rattle.crs_shape.specs.ShapeFault.{AtRoot, Inside, IsFree, class_of_root}
+use Rattle.crs_shape.specs.Shaped.{Shaped}
+use Rattle.crs_value.specs.declared.values.crs.Crs.{Crs}
+use Rattle.crs_value.specs.declared.values.level.Level.{Level}
+use Rattle.crs_value.specs.ReadsCrs.{ReadsCrs}
+use Rattle.crs_value.specs.Spells.{SpellsCrs}
+use Rattle.crs_value.specs.SpellsText.{Spells}
+use Rattle.crs_normal.specs.CrsClass.{crs_class}
+use Rattle.crs_normal.specs.AcceptedNormal.{IsAcceptedNormal}
+use Rattle.crs_normal.specs.SpelledCrs.{item_crs, norm_crs}
+use Rattle.crs_normal.proofs.made.CrsLemmas.{placed-twice}
+use Rattle.crs_normal.proofs.made.PlaceLemmas.{text-at}
+use Rattle.crs_normal.proofs.texts.RootLemmas.{crs-rooted}
+
+abbrev pub NoFaultIsShape : Type 0
+NoFaultIsShape = (c : Class) (item : Item) → IsFree (Inside c item) ↔ Shaped c item
+
+-- an item of the shape of its root's class has no fault at its root
+free-at-root : NoFaultIsShape → (c : Class) (item : Item) → class_of_root item ≡ Some c → Shaped c item →
+    (fault : RefusedAt) → AtRoot item fault → ⊥
+free-at-root law c item root shaped fault (inl (none, misplaced)) = let e : None ≡ Some c = sym none ∙ root in cc
+free-at-root law c item root shaped fault (inr (d, (named, inside))) =
+    let e : Some c ≡ Some d = sym root ∙ named in
+    let same : c ≡ d = cc in
+    (law d item).1 (subst (λ k. Shaped k item) same shaped) fault inside
+
+made-spells : NoFaultIsShape → (level : Level) (c : Class) (most : ℕ) (item : Item) (value : Crs) →
+    class_of_root item ≡ Some c → IsAcceptedNormal level c most item → ReadsCrs c item value → SpellsCrs item value
+made-spells law level c most item value root made reads = record {
+  class_read = c;
+  root = root;
+  shaped = free-at-root law c item root made.shaped;
+  unbroken = made.unbroken;
+  reads = reads;
+}
+
+-- the written text of a made item spells it, at the text's places
+made-stands : WrittenSpells → (level : Level) (c : Class) (item : Item) → IsAcceptedNormal level c 8 (at_place 0 item) →
+    SpellsNode (item_text item) (at_place 0 item)
+made-stands written level c item made =
+    let w : depth (at_place 0 item) ≤ 8 = made.within in
+    let few : depth (at_place 0 item) ≤ 12 = omega arith in
+    let spelled : SpellsNode (item_text (at_place 0 item)) (at_place 0 (at_place 0 item)) =
+    written (at_place 0 item) made.formed made.is_node few in
+    subst (λ b. SpellsNode b (at_place 0 item)) (text-at 0 item)
+    (subst (SpellsNode (item_text (at_place 0 item))) (placed-twice 0 0 item) spelled)
+
+pub form-spells : NoFaultIsShape → WrittenSpells → (level : Level) (c : Crs) →
+    IsAcceptedNormal level (crs_class c) 8 (at_place 0 (item_crs (norm_crs level c))) →
+    ReadsCrs (crs_class c) (at_place 0 (item_crs (norm_crs level c))) (norm_crs level c) →
+    Spells (item_text (item_crs (norm_crs level c))) (norm_crs level c)
+form-spells law written level c made reads =
+    let i : Item = item_crs (norm_crs level c) in (
+      at_place 0 i,
+      (
+        made-stands written level (crs_class c) i made,
+        made-spells law level (crs_class c) 8 (at_place 0 i) (norm_crs level c) (crs-rooted level c 0) made reads,
+      ),
+    )

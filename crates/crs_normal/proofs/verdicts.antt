@@ -1,0 +1,5 @@
+pub mod ExampleLemmas
+pub mod NormalVerdict
+pub mod SingleVerdict
+pub mod TextItem
+pub mod Verdicts

@@ -1,0 +1,222 @@
+-- Whether a single item is well formed, and whether it is normal where it is, by computing.
+use Rattle.std.proofs.Common.{◌≡◌, ℕ, zero, suc, ◌+◌, ◌-◌, ◌==◌, Bool, true, false, List, [], ◌∷◌, ◌++◌, length, take, fold, ℤ, pos, negsuc, Option, Some, None, codes, if◌then◌else◌, inl, inr, refl, sym, ap, subst, ◌∙◌, arith}
+use Rattle.std.specs.Prelude.{encode_utf8_all}
+use Rattle.std.specs.List.{list_all}
+use Rattle.std.specs.Str.{all_scalars, str_to_ascii_lowercase}
+use Rattle.crs_decimal.specs.Bounds.{IsInBounds, digits_value, Denotes}
+use Rattle.crs_decimal.specs.Plain.{IsFractionNeeded, IsPlain, plain}
+use Rattle.crs_decimal.specs.Spelling.{Parts, SpellsNumber, unsigned}
+use Rattle.crs_decimal.specs.Value.{Value, IsNormal, exact, is_normal, zero as zero_value}
+use Rattle.crs_text.specs.Items.{Item, leaf, node}
+use Rattle.crs_text.specs.declared.items.ItemKind.TheVariants as kinds
+use Rattle.crs_text.specs.Quoted.{doubled}
+use Rattle.crs_text.specs.Tokens.{Kind, number, text, word, IsSingle, IsWord, is_letter, is_word_byte}
+use Rattle.crs_shape.specs.declared.class.Class.{Class}
+use Rattle.crs_shape.specs.declared.class.Class.TheVariants as class
+use Rattle.crs_value.specs.Sound.{IsText}
+use Rattle.crs_value.specs.declared.values.direction.Direction.{Direction}
+use Rattle.crs_value.specs.declared.values.system_type.SystemType.{SystemType}
+use Rattle.crs_value.specs.Words.{direction_word, system_word}
+use Rattle.crs_normal.specs.DecimalLaws.{DecimalLaws}
+use Rattle.crs_normal.specs.Normal.{IsNumberIn, IsSingleIn, IsWordIn}
+use Rattle.crs_normal.specs.NormalOwn.{IsCode, IsShort}
+use Rattle.crs_normal.specs.SpelledItems.{is_short}
+use Rattle.crs_normal.proofs.made.LeafLemmas.{run-single, short-true, true-short}
+use Rattle.crs_normal.proofs.texts.WordFormLemmas.{direction-known, direction_of, type-known, type_of}
+use Rattle.crs_normal.proofs.verdicts.Verdicts.{Verdict, both, equal, or_else, refuted_by, shown_by, tested, via}
+
+-- ---- codes
+
+pub is-long : (raw : List ℕ) → is_short raw ≡ false → ¬ (IsShort raw)
+is-long raw e s = let k : true ≡ false = sym (short-true raw s) ∙ e in cc
+
+pub number-code : (raw : List ℕ) → IsCode (leaf number 0 raw) → IsShort raw
+number-code raw (inl h) = h.0
+number-code raw (inr h) = let k : kinds.Number ≡ kinds.Text = h.1 in cc
+
+pub text-code : (raw : List ℕ) → IsCode (leaf text 0 raw) → ¬ (IsShort raw)
+text-code raw (inl h) = let k : kinds.Text ≡ kinds.Number = h.1 in cc
+text-code raw (inr h) = h.0
+
+pub short-or-long : (raw : List ℕ) → ¬ (IsShort raw) → is_short raw ≡ false
+short-or-long raw long = by (is_short raw) refl
+  where
+    by : (b : Bool) → is_short raw ≡ b → b ≡ false
+    by true e = absurd (long (true-short raw e))
+    by false e = refl
+
+pub true-false : true ≡ false → ⊥
+true-false e = cc
+
+abbrev is_false : (b : Bool) → Verdict (b ≡ false)
+is_false false = Some (inl refl)
+is_false true = Some (inr true-false)
+
+abbrev pub is_code : (item : Item) → Verdict (IsCode item)
+is_code (leaf number place raw) =
+    tested (is_short raw) (λ e. inl (true-short raw e, refl)) (λ h. short-true raw (number-code raw h))
+is_code (leaf text place raw) =
+    via (λ e. inr (is-long raw e, refl)) (λ h. short-or-long raw (text-code raw h)) (is_false (is_short raw))
+is_code (leaf word place raw) = None
+is_code (node place keyword square first others close) = None
+
+-- ---- words
+
+pub no-type : (raw : List ℕ) → type_of (str_to_ascii_lowercase raw) ≡ None → ¬ ((t : SystemType) × (raw ≡ system_word t))
+no-type raw e h =
+    let k : None ≡ Some h.0 = sym e ∙ ap (λ w. type_of (str_to_ascii_lowercase w)) h.1 ∙ type-known h.0 in cc
+
+pub other-type : (raw : List ℕ) (t : SystemType) → type_of (str_to_ascii_lowercase raw) ≡ Some t →
+    (u : SystemType) × (raw ≡ system_word u) → raw ≡ system_word t
+other-type raw t e h =
+    let k : Some t ≡ Some h.0 = sym e ∙ ap (λ w. type_of (str_to_ascii_lowercase w)) h.1 ∙ type-known h.0 in
+    let l : h.0 ≡ t = cc in h.1 ∙ ap system_word l
+
+abbrev word_of_type : (raw : List ℕ) (found : Option SystemType) → type_of (str_to_ascii_lowercase raw) ≡ found →
+    Verdict ((t : SystemType) × (raw ≡ system_word t))
+word_of_type raw None e = Some (inr (no-type raw e))
+word_of_type raw (Some t) e = via (λ p. (t, p)) (other-type raw t e) (equal raw (system_word t))
+
+pub no-direction : (raw : List ℕ) → direction_of (str_to_ascii_lowercase raw) ≡ None →
+    ¬ ((d : Direction) × (raw ≡ direction_word d))
+no-direction raw e h =
+    let k : None ≡ Some h.0 = sym e ∙ ap (λ w. direction_of (str_to_ascii_lowercase w)) h.1 ∙ direction-known h.0 in cc
+
+pub other-direction : (raw : List ℕ) (d : Direction) → direction_of (str_to_ascii_lowercase raw) ≡ Some d →
+    (u : Direction) × (raw ≡ direction_word u) → raw ≡ direction_word d
+other-direction raw d e h =
+    let k : Some d ≡ Some h.0 = sym e ∙ ap (λ w. direction_of (str_to_ascii_lowercase w)) h.1 ∙ direction-known h.0 in
+    let l : h.0 ≡ d = cc in h.1 ∙ ap direction_word l
+
+abbrev word_of_direction : (raw : List ℕ) (found : Option Direction) →
+    direction_of (str_to_ascii_lowercase raw) ≡ found → Verdict ((d : Direction) × (raw ≡ direction_word d))
+word_of_direction raw None e = Some (inr (no-direction raw e))
+word_of_direction raw (Some d) e = via (λ p. (d, p)) (other-direction raw d e) (equal raw (direction_word d))
+
+abbrev word_in : (c : Class) (raw : List ℕ) → Verdict (IsWordIn c raw)
+word_in class.CoordinateSystem raw = word_of_type raw (type_of (str_to_ascii_lowercase raw)) refl
+word_in class.Axis raw = word_of_direction raw (direction_of (str_to_ascii_lowercase raw)) refl
+word_in c raw = Some (inl tt)
+
+-- ---- numbers
+
+-- what is known of numbers
+pub record NumberLaws : Type 0 where
+  pub decimals : DecimalLaws
+  pub one_form : (bytes : List ℕ) (p q : Parts) → SpellsNumber bytes p → SpellsNumber bytes q → p ≡ q
+
+-- how many zeros there are at the end
+abbrev zeros : List ℕ → ℕ
+zeros ds = fold (λ n d. if d == 48 then n + 1 else 0) 0 ds
+
+abbrev power_by : ℕ → ℤ
+power_by zero = pos 0
+power_by (suc n) = negsuc n
+
+abbrev without_zeros : List ℕ → ℕ → Bool → Value
+without_zeros ds n true = zero_value
+without_zeros ds n false = record { negative = false; digits = digits_value (take (length ds - n) ds); power = pos n }
+
+-- the value of digits, and of digits with a period among them; of any other bytes some value
+abbrev value_of : List ℕ → List ℕ → Value
+value_of ds [] = without_zeros ds (zeros ds) (zeros ds == length ds)
+value_of ds (e ∷ es) = record { negative = false; digits = digits_value (ds ++ e ∷ es); power = power_by (length (e ∷ es)) }
+
+abbrev before_period : List ℕ → List ℕ
+before_period [] = []
+before_period (d ∷ ds) = if d == 46 then [] else d ∷ before_period ds
+
+abbrev behind_period : List ℕ → List ℕ
+behind_period [] = []
+behind_period (d ∷ ds) = if d == 46 then ds else behind_period ds
+
+abbrev below_zero : Value → Value
+below_zero v = record { negative = true; digits = v.digits; power = v.power }
+
+abbrev value_from : List ℕ → Value
+value_from [] = zero_value
+value_from (d ∷ ds) =
+    if d == 45 then below_zero (value_of (before_period ds) (behind_period ds))
+    else value_of (before_period (d ∷ ds)) (behind_period (d ∷ ds))
+
+-- the bytes are the plain spelling of a value
+abbrev IsPlainOf : List ℕ → Type 0
+IsPlainOf raw = IsNormal (value_from raw) × (raw ≡ plain (value_from raw))
+
+abbrev plain_of : (raw : List ℕ) → Verdict (IsPlainOf raw)
+plain_of raw =
+    both (tested (is_normal (value_from raw)) (λ e. e) (λ e. e)) (equal raw (plain (value_from raw)))
+
+pub plain-is-plain : NumberLaws → (raw : List ℕ) → IsPlainOf raw → IsPlain raw
+plain-is-plain l raw h = subst IsPlain (sym h.1) (l.decimals.is_plain (value_from raw) h.0)
+
+pub plain-is-single : NumberLaws → (raw : List ℕ) → IsPlainOf raw → IsSingle number raw
+plain-is-single l raw h =
+    let v : Value = value_from raw in
+    let d : Denotes (plain v) (exact v) = l.decimals.denotes v h.0 in
+    subst (IsSingle number) (sym h.1)
+    (run-single (plain v) (l.decimals.as_run (plain v) (d.0, d.1)) (d.0, d.1, d.2))
+
+-- ---- the one number here that isn't plain
+
+abbrev one_point_zero : Parts
+one_point_zero = record { sign = unsigned; whole = codes "1"; fraction = Some (codes "0"); exponent = None }
+
+spells-one : SpellsNumber (codes "1.0") one_point_zero
+spells-one = (refl, record { digits = refl; some = omega arith; exponent = tt })
+
+one-in-bounds : IsInBounds (codes "1.0")
+one-in-bounds = (
+  one_point_zero,
+  spells-one,
+  record {
+    mantissa_digits = omega arith;
+    exponent_digits = omega arith;
+    measured = inr (1, 1, (refl, λ e. cc), omega arith, omega arith, omega arith);
+  },
+)
+
+pub one-is-single : (raw : List ℕ) → raw ≡ codes "1.0" → IsSingle number raw
+one-is-single raw e = subst (IsSingle number) (sym e) (refl, refl, one-in-bounds)
+
+pub one-is-not-plain : NumberLaws → (raw : List ℕ) → raw ≡ codes "1.0" → ¬ (IsPlain raw)
+one-is-not-plain l raw e h =
+    let p : IsPlain (codes "1.0") = subst IsPlain e h in
+    let k : p.parts ≡ one_point_zero = l.one_form (codes "1.0") p.parts one_point_zero p.spells spells-one in
+    let f : IsFractionNeeded (Some (codes "0")) = subst (λ q. IsFractionNeeded q.fraction) k p.fraction in f refl
+
+abbrev is_plain_number : NumberLaws → (raw : List ℕ) → Verdict (IsPlain raw)
+is_plain_number l raw =
+    or_else (shown_by (plain-is-plain l raw) (plain_of raw))
+    (refuted_by (one-is-not-plain l raw) (equal raw (codes "1.0")))
+
+abbrev is_single_number : NumberLaws → (raw : List ℕ) → Verdict (IsSingle number raw)
+is_single_number l raw =
+    or_else (shown_by (plain-is-single l raw) (plain_of raw))
+    (shown_by (one-is-single raw) (equal raw (codes "1.0")))
+
+-- ---- single items
+
+abbrev number_in : NumberLaws → (c : Class) (raw : List ℕ) → Verdict (IsNumberIn c raw)
+number_in l class.Identifier raw = Some (inl tt)
+number_in l c raw = is_plain_number l raw
+
+abbrev pub single_in : NumberLaws → (c : Class) (kind : Kind) (raw : List ℕ) → Verdict (IsSingleIn c kind raw)
+single_in l c number raw = number_in l c raw
+single_in l c text raw = Some (inl tt)
+single_in l c word raw = word_in c raw
+
+abbrev pub is_word : (raw : List ℕ) → Verdict (IsWord raw)
+is_word [] = Some (inr (λ h. h))
+is_word (b ∷ bs) = both (tested (is_letter b) (λ e. e) (λ e. e)) (tested (list_all is_word_byte bs) (λ e. e) (λ e. e))
+
+-- a text without a quote, whose bytes are its characters
+abbrev is_text : (raw : List ℕ) → Verdict (IsText raw)
+is_text raw =
+    shown_by (λ h. ((raw, h.0), (raw, (h.1.0, h.1.1)))) (both (equal raw (doubled raw))
+    (both (tested (all_scalars raw) (λ e. e) (λ e. e)) (equal (encode_utf8_all raw) raw)))
+
+abbrev pub is_single : NumberLaws → (kind : Kind) (raw : List ℕ) → Verdict (IsSingle kind raw)
+is_single l number raw = is_single_number l raw
+is_single l text raw = is_text raw
+is_single l word raw = is_word raw
