@@ -6,8 +6,9 @@
 They are those that are named by the clauses of public calls, by what public types are seen as and by the public laws
 that docs/THEOREMS.md claims, and all that these are made of, down to the numbers, lists and the like of the toolchain's
 own library. How a type's fields show what it is seen as, and what holds of them, isn't among them: a caller has the
-clauses alone. Each must be in a file of the table of words of docs/THEOREMS.md, and in none of those that it says are
-cited by proofs alone. And each definition, call, law and clause that docs/THEOREMS.md names must be there.
+clauses alone. Each must be in a file of the table of words of docs/THEOREMS.md, in none of those that it says are cited
+by proofs alone, and below a sentence, a comment. And each definition, call, law and clause that docs/THEOREMS.md names
+must be there.
 
 Prints the definitions and lines of each crate, and with -v each definition, its lines, whether it has a comment, and
 what cites it first; then what is wrong, and 'N passed, M failed'. The status is 0 where M is 0. Nothing is proved.
@@ -361,6 +362,8 @@ def main() -> int:
             wrong.append(f"{name} is in no file of the table, and is cited by {by}")
         elif not definition:
             wrong.append(f"{name} has no text that was found")
+        elif is_bare:
+            wrong.append(f"{name} has no sentence before it, and is cited by {by}")
     for crate in LIBRARIES:
         print(f"{crate}: %d definitions, %d lines, %d without a comment" % counts.get(crate, (0, 0, 0)))
     print("together: %d definitions, %d lines, %d without a comment" % tuple(map(sum, zip(*counts.values()))))

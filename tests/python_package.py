@@ -119,7 +119,7 @@ def pair_fault(first: bytes, second: bytes, level: str) -> Optional[str]:
     if (parts[0].path if parts else None) != path:
         return f"the first part is {path}, the first of all {parts[:1]}"
     if any(part.first == part.second for part in parts) or len({part.path for part in parts}) < len(parts):
-        return f"parts that don't differ, or are there twice: {parts}"
+        return f"parts that don't differ, or are repeated: {parts}"
     one, other = Crs(first), Crs(second)
     for answered in (same(first, second, level), one.same(other, level), one.same(second, level)):
         if answered != (path is None):

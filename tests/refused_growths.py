@@ -94,7 +94,7 @@ def calls_of(path):
     names = [call.name for call in calls]
     for call in calls:
         if not call.is_whole() or names.count(call.name) > 1:
-            sys.exit(f"{path.name}: {call.name} lacks a line, or its name is there twice")
+            sys.exit(f"{path.name}: {call.name} lacks a line, or its name is repeated")
     return calls
 
 

@@ -5,7 +5,7 @@
 
 Each case that fails has a line; the last line is 'N passed, M failed', and the status is 0 where M is 0.
 
-A file holds cases, with an empty line between two. A case is a line 'case NAME', whose name is there once in its file,
+A file holds cases, with an empty line between two. A case is a line 'case NAME', whose name is unique in its file,
 a line '# REASON' or more, and then, each in its own line and in this order, as far as needed:
 
     word TEXT        a word of the command line, without the program's name
@@ -104,7 +104,7 @@ def cases_of(path):
             if key == b"case":
                 name = rest.decode()
                 if name in names or not name:
-                    raise ValueError(f"the name {name!r} is there twice or is empty")
+                    raise ValueError(f"the name {name!r} is repeated or empty")
                 names.add(name)
                 cases.append(Case(place, name))
             elif line and cases:

@@ -32,7 +32,7 @@ def fault_of(crate, edit):
                 return "a new text without a file and an old text"
             count = sources[path].count(old)
             if count != 1:
-                return f"its old text is there {count} times in {path}: {old}"
+                return f"its old text occurs {count} times in {path}: {old}"
             sources[path] = sources[path].replace(old, text_of(line, "new"))
             old, pairs = None, pairs + 1
         elif line.strip():

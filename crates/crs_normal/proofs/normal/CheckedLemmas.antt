@@ -46,7 +46,7 @@ pub first-checked : {V : Type 0} (d : Class) (R : Item → V → Type 0) (items 
 first-checked d R [] value free reads = absurd reads
 first-checked d R (item ∷ items) value free reads = (free.0, reads)
 
--- what may be there once alone
+-- what may not be repeated
 pub once-only : (found : List Item) → ((fault : RefusedAt) → ¬ (AnyOf IsRepeated (drop 1 found) fault)) → length found ≤ 1
 once-only [] free = omega arith
 once-only (item ∷ []) free = omega arith
