@@ -51,7 +51,10 @@ fn is_of_value(
 
 fn is_of_crs(alloc: Global, level: Level, crs: &Crs<'_>, text: &Canon) -> Result<bool, AllocError> {
     let own = canon_of(alloc, crs, level)?;
-    Ok(own.level() == level && own.same(text) && appends(alloc, level, crs, text.bytes())?)
+    if own.level() != level || !own.same(text) {
+        return Ok(false);
+    }
+    appends(alloc, level, crs, text.bytes())
 }
 
 // Whether a node by itself appends this text, and no other.

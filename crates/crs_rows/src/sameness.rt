@@ -5,7 +5,7 @@ use crate::verticals::first_axis;
 use bstr::ByteSlice;
 use crs_canon::write_content;
 use crs_same::parts::same_axis;
-use crs_same::{Difference, Differences, Path, differences, first_part, same};
+use crs_same::{Content, Difference, Differences, Path, differences, first_part, same};
 use crs_value::{Axis, Crs, Level, read};
 use std::alloc::{AllocError, Global};
 
@@ -157,11 +157,20 @@ fn put_value(
 ) -> Result<(), AllocError> {
     difference.path().write(text)?;
     text.extend_from_slice(b": ")?;
-    let (first, second) = if turned {
-        (difference.second(), difference.first())
+    if turned {
+        put_contents(text, alloc, difference.second(), difference.first(), level)
     } else {
-        (difference.first(), difference.second())
-    };
+        put_contents(text, alloc, difference.first(), difference.second(), level)
+    }
+}
+
+fn put_contents(
+    text: &mut Vec<u8>,
+    alloc: Global,
+    first: &Content<'_, '_>,
+    second: &Content<'_, '_>,
+    level: Level,
+) -> Result<(), AllocError> {
     write_content(first, alloc, level, text)?;
     text.extend_from_slice(b" | ")?;
     write_content(second, alloc, level, text)

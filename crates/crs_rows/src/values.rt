@@ -4,13 +4,16 @@ use crate::numbers::put_spelling;
 use crate::pieces::agree;
 use crate::texts::put_fault;
 use crate::verticals::first_axis;
-use crs_text::{Fault, read_items};
+use crs_text::{Items, read_items};
 use crs_value::{Axis, Crs, Kind, read, value_of};
 use std::alloc::{AllocError, Global};
 
 /// `kind` and the kind of the CRS that a text spells, or its refusal.
 pub fn put_read(out: &mut String, alloc: Global, input: &[u8]) -> Result<(), AllocError> {
-    put_value(out, read(alloc, input))
+    match read(alloc, input) {
+        Ok(crs) => put_kind(out, crs.kind()),
+        Err(fault) => put_fault(out, fault),
+    }
 }
 
 /// The kind of the CRS that a text's items spell, or the refusal; `another answer in pieces` where a cut into pieces gives one.
@@ -19,22 +22,15 @@ pub fn put_value_of(out: &mut String, alloc: Global, input: &[u8]) -> Result<(),
         return out.push_str("another answer in pieces");
     }
     match read_items(alloc, input) {
-        Ok(items) => put_value(out, value_of(alloc, &items)),
+        Ok(items) => put_kind_of(out, alloc, &items),
         Err(fault) => put_fault(out, fault),
     }
 }
 
-fn put_value(out: &mut String, value: Result<Crs<'_>, Fault>) -> Result<(), AllocError> {
-    match kind_of(value) {
-        Ok(kind) => put_kind(out, kind),
+fn put_kind_of(out: &mut String, alloc: Global, items: &Items<'_>) -> Result<(), AllocError> {
+    match value_of(alloc, items) {
+        Ok(crs) => put_kind(out, crs.kind()),
         Err(fault) => put_fault(out, fault),
-    }
-}
-
-fn kind_of(value: Result<Crs<'_>, Fault>) -> Result<Kind, Fault> {
-    match value {
-        Ok(crs) => Ok(crs.kind()),
-        Err(fault) => Err(fault),
     }
 }
 

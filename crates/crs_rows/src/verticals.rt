@@ -1,5 +1,7 @@
 //! Parts of a vertical CRS: None where it has no such part, and for another CRS.
-use crs_value::{Axis, Crs, DeformationModel, Dynamic, Extent, Ident, Usage, Vertical};
+use crs_value::{
+    Axis, Crs, DeformationModel, Dynamic, Extent, Frame, Ident, Unit, Usage, Vertical,
+};
 
 /// The vertical CRS itself.
 pub fn vertical_of<'v, 'a>(crs: &'v Crs<'a>) -> Option<&'v Vertical<'a>> {
@@ -12,6 +14,16 @@ pub fn vertical_of<'v, 'a>(crs: &'v Crs<'a>) -> Option<&'v Vertical<'a>> {
 /// Its first axis.
 pub fn first_axis<'v, 'a>(crs: &'v Crs<'a>) -> Option<&'v Axis<'a>> {
     vertical_of(crs)?.system.axes.as_slice().first()
+}
+
+/// The unit of its first axis.
+pub fn first_unit<'v, 'a>(crs: &'v Crs<'a>) -> Option<&'v Unit<'a>> {
+    first_axis(crs)?.unit.as_ref()
+}
+
+/// Its reference frame or ensemble.
+pub fn frame_of<'v, 'a>(crs: &'v Crs<'a>) -> Option<&'v Frame<'a>> {
+    Some(&vertical_of(crs)?.frame)
 }
 
 /// Its dynamic part.

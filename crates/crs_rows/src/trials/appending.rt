@@ -3,11 +3,11 @@ use crate::escapes::put_text;
 use crate::trials::trial::{Trial, run};
 use crate::trials::unusable;
 use crate::trials::values::crs_of;
-use crate::verticals::{first_axis, first_ident, first_usage, idents_of, vertical_of};
+use crate::verticals::{first_axis, first_ident, first_unit, first_usage, frame_of, idents_of};
 use crs_canon::{Canonical, Set};
 use crs_decimal::Decimal;
 use crs_same::{Path, first_part};
-use crs_value::{Axis, Crs, Frame, Ident, Level, Unit, Usage};
+use crs_value::{Crs, Ident, Level};
 use std::alloc::{AllocError, Global};
 use std::io;
 
@@ -15,43 +15,54 @@ use std::io;
 const BEFORE: &[u8] = b"before:";
 
 // What is appended.
-#[derive(Clone, Copy)]
-enum Part<'v, 'a> {
-    Number(&'v Decimal),
-    Path(&'v Path),
-    Crs(&'v Crs<'a>),
-    Axis(&'v Axis<'a>),
-    Unit(&'v Unit<'a>),
-    Frame(&'v Frame<'a>),
-    Usage(&'v Usage<'a>),
-    Ident(&'v Ident<'a>),
-    Idents(&'v [Ident<'a>]),
+trait Appended: Sized {
+    fn append(&self, alloc: Global, out: &mut Vec<u8>) -> Result<(), AllocError>;
 }
 
-impl Part<'_, '_> {
-    fn append(&self, alloc: Global, out: &mut Vec<u8>) -> Result<(), AllocError> {
-        match self {
-            Part::Number(number) => number.write(out),
-            Part::Path(path) => path.write(out),
-            Part::Crs(crs) => crs.write(alloc, Level::Full, out),
-            Part::Axis(axis) => axis.write(alloc, Level::Full, out),
-            Part::Unit(unit) => unit.write(alloc, Level::Full, out),
-            Part::Frame(frame) => frame.write(alloc, Level::Full, out),
-            Part::Usage(usage) => usage.write(alloc, Level::Full, out),
-            Part::Ident(ident) => ident.write(alloc, Level::Full, out),
-            Part::Idents(idents) => Set::of(idents).write(alloc, Level::Full, out),
-        }
+impl Appended for Decimal {
+    fn append(&self, _alloc: Global, out: &mut Vec<u8>) -> Result<(), AllocError> {
+        self.write(out)
     }
 }
 
-// A part appended to a vector that has no room left.
+impl Appended for Path {
+    fn append(&self, _alloc: Global, out: &mut Vec<u8>) -> Result<(), AllocError> {
+        self.write(out)
+    }
+}
+
+// A node by itself.
+#[derive(Clone, Copy)]
+struct Node<'v, T> {
+    node: &'v T,
+}
+
+impl<T: Canonical> Appended for Node<'_, T> {
+    fn append(&self, alloc: Global, out: &mut Vec<u8>) -> Result<(), AllocError> {
+        self.node.write(alloc, Level::Full, out)
+    }
+}
+
+// Identifiers, as a set.
+#[derive(Clone, Copy)]
+struct Idents<'v, 'a> {
+    idents: &'v [Ident<'a>],
+}
+
+impl Appended for Idents<'_, '_> {
+    fn append(&self, alloc: Global, out: &mut Vec<u8>) -> Result<(), AllocError> {
+        Set::of(self.idents).write(alloc, Level::Full, out)
+    }
+}
+
+// Something appended to a vector that has no room left.
 #[derive(Drop)]
-struct Append<'v, 'a> {
-    part: Part<'v, 'a>,
+struct Append<'v, T> {
+    part: &'v T,
     out: Vec<u8>,
 }
 
-impl Trial for Append<'_, '_> {
+impl<T: Appended> Trial for Append<'_, T> {
     type Answer = ();
 
     fn call(&mut self, alloc: Global) -> Result<(), AllocError> {
@@ -67,7 +78,7 @@ impl Trial for Append<'_, '_> {
     }
 }
 
-fn run_append(rt: &(impl Print + AllocGlobal), part: Part<'_, '_>) -> io::Result<()> {
+fn run_append<T: Appended>(rt: &(impl Print + AllocGlobal), part: &T) -> io::Result<()> {
     let mut out = BEFORE.to_vec(rt.alloc())?;
     out.shrink_to_fit();
     run(rt, &mut Append { part, out })
@@ -76,7 +87,7 @@ fn run_append(rt: &(impl Print + AllocGlobal), part: Part<'_, '_>) -> io::Result
 /// `Decimal::write` of the number that a text spells.
 pub fn try_number(rt: &(impl Print + AllocGlobal), text: &[u8]) -> io::Result<()> {
     match Decimal::parse(text) {
-        Ok(number) => run_append(rt, Part::Number(&number)),
+        Ok(number) => run_append(rt, &number),
         Err(_) => Err(unusable()),
     }
 }
@@ -106,7 +117,7 @@ fn try_path_between<'a>(
     second: &Crs<'a>,
 ) -> io::Result<()> {
     match first_part(first, second, Level::Full) {
-        Some(path) => run_append(rt, Part::Path(&path)),
+        Some(path) => run_append(rt, &path),
         None => Err(unusable()),
     }
 }
@@ -115,21 +126,32 @@ fn try_path_between<'a>(
 /// `unit` of that, its `frame`, its first `usage` or `identifier`; `Set::write` of its `identifiers`.
 pub fn try_part(rt: &(impl Print + AllocGlobal), word: &str, text: &[u8]) -> io::Result<()> {
     let crs = crs_of(rt.alloc(), text)?;
-    match part_of(&crs, word) {
-        Some(part) => run_append(rt, part),
+    try_part_of(rt, word, &crs)
+}
+
+fn try_part_of(rt: &(impl Print + AllocGlobal), word: &str, crs: &Crs<'_>) -> io::Result<()> {
+    match word {
+        "crs" => try_node(rt, Some(crs)),
+        "axis" => try_node(rt, first_axis(crs)),
+        "unit" => try_node(rt, first_unit(crs)),
+        "frame" => try_node(rt, frame_of(crs)),
+        "usage" => try_node(rt, first_usage(crs)),
+        "identifier" => try_node(rt, first_ident(crs)),
+        "identifiers" => try_idents(rt, idents_of(crs)),
+        _ => Err(unusable()),
+    }
+}
+
+fn try_node<T: Canonical>(rt: &(impl Print + AllocGlobal), node: Option<&T>) -> io::Result<()> {
+    match node {
+        Some(node) => run_append(rt, &Node { node }),
         None => Err(unusable()),
     }
 }
 
-fn part_of<'v, 'a>(crs: &'v Crs<'a>, word: &str) -> Option<Part<'v, 'a>> {
-    match word {
-        "crs" => Some(Part::Crs(crs)),
-        "axis" => Some(Part::Axis(first_axis(crs)?)),
-        "unit" => Some(Part::Unit(first_axis(crs)?.unit.as_ref()?)),
-        "frame" => Some(Part::Frame(&vertical_of(crs)?.frame)),
-        "usage" => Some(Part::Usage(first_usage(crs)?)),
-        "identifier" => Some(Part::Ident(first_ident(crs)?)),
-        "identifiers" => Some(Part::Idents(idents_of(crs)?)),
-        _ => None,
+fn try_idents(rt: &(impl Print + AllocGlobal), idents: Option<&[Ident<'_>]>) -> io::Result<()> {
+    match idents {
+        Some(idents) => run_append(rt, &Idents { idents }),
+        None => Err(unusable()),
     }
 }
