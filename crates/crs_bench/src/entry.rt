@@ -34,7 +34,14 @@ fn entry_of<'t>(alloc: Global, stage: Stage, text: &'t [u8]) -> Result<Entry<'t>
         crs: None,
     };
     match stage {
-        Stage::Items | Stage::Feed(_) | Stage::Read | Stage::Text | Stage::Group | Stage::Run => {}
+        Stage::Items
+        | Stage::Feed(_)
+        | Stage::Read
+        | Stage::CheckText
+        | Stage::CanonText
+        | Stage::SameText
+        | Stage::Group
+        | Stage::Run => {}
         Stage::Shape | Stage::Judge | Stage::Value => entry.items = accepted(read_items(
             alloc, text,
         ))?,

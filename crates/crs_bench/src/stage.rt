@@ -8,7 +8,7 @@ use crs_group::{Catalogue, Placed, RunFault, Sink, Source, Summary, run_group};
 use crs_same::same;
 use crs_shape::fit_root;
 use crs_text::{Fault, Feeder, Items, read_items};
-use crs_value::{Crs, Level, judge, read, value_of};
+use crs_value::{Crs, Level, judge, kind_of, read, value_of};
 use std::alloc::{AllocError, Global};
 use std::io;
 
@@ -32,8 +32,12 @@ pub enum Stage {
     Same,
     /// From the value: its canonical text.
     Canon,
+    /// From the text: whether it spells a CRS, and of which kind.
+    CheckText,
     /// From the text: its canonical text.
-    Text,
+    CanonText,
+    /// From the text and the next one: whether they spell the same CRS.
+    SameText,
     /// From the text: its group among those of the texts before it.
     Group,
     /// From the lines of all texts: what the command writes of them.
@@ -41,7 +45,7 @@ pub enum Stage {
 }
 
 /// All stages, in the order in which they are run.
-pub const STAGES: [Stage; 13] = [
+pub const STAGES: [Stage; 15] = [
     Stage::Items,
     Stage::Feed(1),
     Stage::Feed(16),
@@ -52,7 +56,9 @@ pub const STAGES: [Stage; 13] = [
     Stage::Read,
     Stage::Same,
     Stage::Canon,
-    Stage::Text,
+    Stage::CheckText,
+    Stage::CanonText,
+    Stage::SameText,
     Stage::Group,
     Stage::Run,
 ];
@@ -76,7 +82,9 @@ impl Stage {
             Stage::Read => "read",
             Stage::Same => "same",
             Stage::Canon => "canon",
-            Stage::Text => "canon-text",
+            Stage::CheckText => "check-text",
+            Stage::CanonText => "canon-text",
+            Stage::SameText => "same-text",
             Stage::Group => "group",
             Stage::Run => "run-group",
         }
@@ -86,9 +94,9 @@ impl Stage {
     pub fn counted(self) -> &'static str {
         match self {
             Stage::Items | Stage::Feed(_) | Stage::Shape | Stage::Judge | Stage::Value => "items",
-            Stage::Read => "CRSs",
-            Stage::Same => "same",
-            Stage::Canon | Stage::Text => "bytes",
+            Stage::Read | Stage::CheckText => "CRSs",
+            Stage::Same | Stage::SameText => "same",
+            Stage::Canon | Stage::CanonText => "bytes",
             Stage::Group | Stage::Run => "groups",
         }
     }
@@ -116,7 +124,9 @@ impl Stage {
             Stage::Read => whole(alloc, entry.text),
             Stage::Same => Ok(compared(entry, next)),
             Stage::Canon => canonical(alloc, entry),
-            Stage::Text => spelled(alloc, entry.text),
+            Stage::CheckText => checked(alloc, entry.text),
+            Stage::CanonText => spelled(alloc, entry.text),
+            Stage::SameText => matched(alloc, entry.text, next.text),
             Stage::Group | Stage::Run => placed(before, entry.text),
         }
     }
@@ -217,6 +227,29 @@ fn canonical(alloc: Global, entry: &Entry<'_>) -> Result<Outcome, AllocError> {
 fn spelled(alloc: Global, text: &[u8]) -> Result<Outcome, AllocError> {
     match accepted(canon(alloc, text, Level::Full))? {
         Some(canon) => Ok(Outcome::Accepted(canon.bytes().len())),
+        None => Ok(Outcome::Refused),
+    }
+}
+
+fn checked(alloc: Global, text: &[u8]) -> Result<Outcome, AllocError> {
+    match accepted(read_items(alloc, text))? {
+        Some(items) => match kind_of(&items) {
+            Ok(_kind) => Ok(Outcome::Accepted(1)),
+            Err(_refusal) => Ok(Outcome::Refused),
+        },
+        None => Ok(Outcome::Refused),
+    }
+}
+
+fn matched(alloc: Global, text: &[u8], next: &[u8]) -> Result<Outcome, AllocError> {
+    match accepted(read(alloc, text))? {
+        Some(crs) => match accepted(read(alloc, next))? {
+            Some(other) => {
+                let one = same(&crs, &other, Level::Full);
+                Ok(Outcome::Accepted(usize::from(one)))
+            }
+            None => Ok(Outcome::Refused),
+        },
         None => Ok(Outcome::Refused),
     }
 }

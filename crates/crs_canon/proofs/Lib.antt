@@ -8,6 +8,7 @@ pub mod PlainLemmas
 pub mod SetLemmas
 pub mod SetSameLemmas
 pub mod SetTextLemmas
+pub mod SpanLemmas
 pub mod SpellingLemmas
 pub mod SystemLemmas
 pub mod TextLemmas

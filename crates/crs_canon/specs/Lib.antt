@@ -7,3 +7,4 @@ pub mod MainTheorem
 pub mod Members
 pub mod Openings
 pub mod SetText
+pub mod Spans

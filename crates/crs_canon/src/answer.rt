@@ -1,5 +1,5 @@
 //! The canonical text of a CRS, and of a text that spells one.
-ghost use Rattle.std.specs.Prelude.{◌≡◌, IfOk, MatchResult};
+ghost use Rattle.std.specs.Prelude.{◌≡◌, [], IfOk, MatchResult};
 ghost use Rattle.crs_value.specs.SpellsText.{IsFaultOfText, Spells};
 ghost use Rattle.crs_canon.specs.Canonical.{IsCanonicalOf, IsCanonicalText};
 
@@ -10,6 +10,7 @@ use crs_text::Fault;
 use crs_value::laws::crs_is_sound;
 use crs_value::{Crs, Level, read};
 use std::alloc::{AllocError, Global};
+use std::mem;
 
 // The room that is taken at first for the text of a CRS whose source isn't known.
 const ROOM: usize = 1024;
@@ -24,20 +25,53 @@ pub fn canon(alloc: Global, text: &[u8], level: Level) -> Result<Canon, Fault>
     ensures answer { MatchResult result (λ canon. IsCanonicalOf level text.now canon.bytes) (IsFaultOfText text.now) }
     ensures level { IfOk result (λ canon. canon.level ≡ level) }
 {
-    match read(alloc, text) {
-        Ok(crs) => canon_of_spelled(alloc, text, &crs, level),
+    let mut room = Vec::new(alloc);
+    match canon_in(alloc, text, level, &mut room) {
+        Ok(canon) => Ok(canon.without_spare_room()),
         Err(fault) => Err(fault),
     }
 }
 
-// The canonical text of the CRS that a text spells.
-#[tactic(auto, using(crate::proofs::MainLemmas::of_spelled))]
-fn canon_of_spelled(alloc: Global, text: &[u8], crs: &Crs<'_>, level: Level) -> Result<Canon, Fault>
-    requires { Spells text.now crs.now }
+/// As `canon`, in the memory of `room`, whose bytes are lost: `Canon::into_bytes` gives it back. So many texts, one
+/// after the other, need no further memory for their canonical texts. Profile.
+pub fn canon_in(
+    alloc: Global,
+    text: &[u8],
+    level: Level,
+    room: &mut Vec<u8>,
+) -> Result<Canon, Fault>
     ensures answer { MatchResult result (λ canon. IsCanonicalOf level text.now canon.bytes) (IsFaultOfText text.now) }
     ensures level { IfOk result (λ canon. canon.level ≡ level) }
 {
-    match written(alloc, crs, level, text.len()) {
+    match read(alloc, text) {
+        Ok(crs) => canon_of_spelled(taken(alloc, room), text, &crs, level),
+        Err(fault) => Err(fault),
+    }
+}
+
+// The memory of a vector, without its bytes.
+fn taken(alloc: Global, room: &mut Vec<u8>) -> Vec<u8>
+    ensures { result.items ≡ [] }
+{
+    let mut bytes = mem::replace(room, Vec::new(alloc));
+    bytes.clear();
+    bytes
+}
+
+// The canonical text of the CRS that a text spells, in an empty vector.
+#[tactic(auto, using(crate::proofs::MainLemmas::of_spelled))]
+fn canon_of_spelled(
+    bytes: Vec<u8>,
+    text: &[u8],
+    crs: &Crs<'_>,
+    level: Level,
+) -> Result<Canon, Fault>
+    requires empty { bytes.items ≡ [] }
+    requires spells { Spells text.now crs.now }
+    ensures answer { MatchResult result (λ canon. IsCanonicalOf level text.now canon.bytes) (IsFaultOfText text.now) }
+    ensures level { IfOk result (λ canon. canon.level ≡ level) }
+{
+    match written(bytes, crs, level, text.len()) {
         Ok(canon) => Ok(canon),
         Err(error) => Err(Fault::Memory(error)),
     }
@@ -50,19 +84,24 @@ pub fn canon_of(alloc: Global, crs: &Crs<'_>, level: Level) -> Result<Canon, All
     ensures text { IfOk result (λ canon. IsCanonicalText level crs.now canon.bytes) }
     ensures level { IfOk result (λ canon. canon.level ≡ level) }
 {
-    written(alloc, crs, level, ROOM)
+    let canon = written(Vec::new(alloc), crs, level, ROOM)?;
+    Ok(canon.without_spare_room())
 }
 
-// The canonical text of a CRS, with room for so many bytes at first.
-fn written(alloc: Global, crs: &Crs<'_>, level: Level, room: usize) -> Result<Canon, AllocError>
+// The canonical text of a CRS in an empty vector, which has room for so many bytes at first.
+fn written(
+    mut bytes: Vec<u8>,
+    crs: &Crs<'_>,
+    level: Level,
+    room: usize,
+) -> Result<Canon, AllocError>
+    requires { bytes.items ≡ [] }
     ensures text { IfOk result (λ canon. IsCanonicalText level crs.now canon.bytes) }
     ensures level { IfOk result (λ canon. canon.level ≡ level) }
 {
     crs_is_sound(crs);
     crss_are_canonical();
-    let mut bytes = Vec::with_capacity(alloc, room)?;
+    bytes.reserve(room)?;
     write_crs(&mut bytes, crs, level)?;
-    // Whoever keeps many holds no room that none needs.
-    bytes.shrink_to_fit();
     Ok(Canon::new(bytes, level))
 }

@@ -44,6 +44,21 @@ impl Canon {
         self.level
     }
 
+    /// The canonical text, with the memory that it stands in.
+    pub fn into_bytes(self) -> Vec<u8>
+        ensures { result.items ≡ self.bytes }
+    {
+        self.bytes
+    }
+
+    /// The same in no more memory than it needs: whoever keeps many holds no room that none needs.
+    pub fn without_spare_room(mut self) -> Canon
+        ensures { result ≡ self }
+    {
+        self.bytes.shrink_to_fit();
+        self
+    }
+
     /// Whether levels and texts are equal: of two answers of `canon`, whether they are of one level and the two texts
     /// spell the same CRS at it (`laws::answers_are_equal_where_same`).
     pub fn same(&self, other: &Canon) -> bool

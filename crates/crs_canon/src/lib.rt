@@ -9,9 +9,10 @@ mod lacking;
 pub mod laws;
 mod set;
 mod set_view;
+mod spans;
 mod spelling;
 
-pub use answer::{canon, canon_of};
+pub use answer::{canon, canon_in, canon_of};
 pub use canon_text::Canon;
 pub use canonical::Canonical;
 pub use content::write_content;

@@ -4,7 +4,9 @@ ghost use Rattle.crs_value.specs.declared.values.level.Level.{Level};
 ghost use Rattle.crs_normal.specs.Ordered.{put, put_all};
 ghost use Rattle.crs_canon.specs.Members.{set_text, spellings};
 ghost use Rattle.crs_canon.specs.SetText.{commas};
+ghost use Rattle.crs_canon.specs.Spans.{AreAllPut, AreInOrder, IsPutAmong};
 
+use crate::spans::{Span, put_last, write_spans};
 use crate::spelling::texts::append;
 use crs_value::Level;
 use std::alloc::{AllocError, Global};
@@ -13,6 +15,12 @@ use std::collections::BTreeSet;
 /// The room that a member's spelling is given at first, which most don't exceed: a vector that grows from nothing is
 /// copied several times on its way there.
 pub(crate) const MEMBER_ROOM: usize = 128;
+
+// So many members are few: each is compared with all that are there.
+const FEW: usize = 16;
+
+// The room that the spellings of a few members are given at first.
+const FEW_ROOM: usize = 1024;
 
 // A value that may be a member of a set.
 pub(crate) trait Spell: Sized {
@@ -71,6 +79,57 @@ pub(crate) fn write_sorted(out: &mut Vec<u8>, sorted: &BTreeSet<Vec<u8>>) -> Res
     Ok(())
 }
 
+// Puts a member's spelling among the others.
+fn gather_span<T: Spell>(
+    bytes: &mut Vec<u8>,
+    spans: &mut Vec<Span>,
+    member: &T,
+    level: Level,
+) -> Result<(), AllocError>
+    requires { AreInOrder bytes.old.items spans.old.items }
+    ensures { OnOk result (IsPutAmong (T.spelling level member.now) bytes.old.items spans.old.items
+        bytes.new.items spans.new.items) }
+{
+    let start = bytes.len();
+    member.write(bytes, level)?;
+    put_last(bytes, spans, start)
+}
+
+fn gather_spans<T: Spell>(
+    bytes: &mut Vec<u8>,
+    spans: &mut Vec<Span>,
+    members: &[T],
+    level: Level,
+) -> Result<(), AllocError>
+    requires { AreInOrder bytes.old.items spans.old.items }
+    ensures { OnOk result (AreAllPut (map (T.spelling level) members.now) bytes.old.items spans.old.items
+        bytes.new.items spans.new.items) }
+{
+    for member in members {
+        gather_span(bytes, spans, member, level)?;
+    }
+    Ok(())
+}
+
+// Two members or a few more.
+#[tactic(auto, unfolding(crate::specs::Members::set_text))]
+fn write_few<T: Spell>(
+    out: &mut Vec<u8>,
+    first: &T,
+    others: &[T],
+    level: Level,
+) -> Result<(), AllocError>
+    ensures { OnOk result (out.new.items
+        ≡ out.old.items ++ set_text (map (T.spelling level) (first.now ∷ others.now))) }
+{
+    let alloc = *out.allocator();
+    let mut bytes = Vec::with_capacity(alloc, FEW_ROOM)?;
+    let mut spans = Vec::with_capacity(alloc, FEW)?;
+    gather_span(&mut bytes, &mut spans, first, level)?;
+    gather_spans(&mut bytes, &mut spans, others, level)?;
+    write_spans(out, &bytes, &spans)
+}
+
 // Two members or more.
 #[tactic(auto, unfolding(crate::specs::Members::set_text))]
 fn write_many<T: Spell>(
@@ -102,6 +161,7 @@ pub(crate) fn write_set_with<T: Spell>(
 {
     match others {
         [] => write_member(out, first, level),
+        _ if others.len() < FEW => write_few(out, first, others, level),
         _ => write_many(out, first, others, level),
     }
 }
