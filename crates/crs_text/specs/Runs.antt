@@ -1,7 +1,9 @@
 -- A bridge: runs that are passed over sixteen bytes at a time.
-use Rattle.std.specs.Prelude.{◌≡◌, ℕ, ◌==◌, ◌&&◌, Bool, if◌then◌else◌, List, ◌∷◌, drop}
+use Rattle.std.specs.Prelude.{◌≡◌, ℕ, ◌==◌, ◌&&◌, Bool, if◌then◌else◌, List, ◌∷◌, ◌++◌, drop, length}
+use Rattle.std.specs.Prelude.{Option}
 use Rattle.std.specs.Int.{w64, trailing_zeros}
 use Rattle.std.specs.Char.{is_ascii}
+use Rattle.crs_decimal.specs.Spelling.{Sign, sign_text, fraction_text, fraction_digits, AreDigits}
 use Rattle.crs_text.specs.Quoted.{StopsAt, is_plain, is_quote}
 
 -- an ASCII byte that isn't a quote
@@ -15,3 +17,14 @@ first_set lanes = if lanes == 0 then 16 else trailing_zeros w64 lanes
 -- a quote comes first, and no other behind it
 abbrev pub IsClosing : List ℕ → Type 0
 IsClosing bytes = (bytes ≡ 34 ∷ drop 1 bytes) × StopsAt is_quote (drop 1 bytes)
+
+-- a sign of so many bytes comes first, of none where none is written
+abbrev pub IsSigned : List ℕ → ℕ → Type 0
+IsSigned left n =
+    (sign : Sign) × (left ≡ sign_text sign ++ drop n left) × (n ≡ length (sign_text sign))
+
+-- a fraction of so many bytes comes first, of none where none is written
+abbrev pub IsFractional : List ℕ → ℕ → Type 0
+IsFractional left n =
+    (fraction : Option (List ℕ)) × (left ≡ fraction_text fraction ++ drop n left)
+    × AreDigits (fraction_digits fraction) × (n ≡ length (fraction_text fraction))

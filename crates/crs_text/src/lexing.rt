@@ -1,14 +1,14 @@
 //! The token in front of what is left of a text, or its flaw. Runs are found as a whole, not byte by byte.
-ghost use Rattle.std.specs.Prelude.{◌≡◌, ◌+◌, ◌≤◌, ◌<◌, length, take, drop, MatchOption, MatchBool, IsTrue, ◌∷◌};
+ghost use Rattle.std.specs.Prelude.{◌≡◌, ◌+◌, ◌≤◌, ◌<◌, length, take, drop, MatchOption, MatchBool, IsTrue, IfSome, ◌∷◌};
 ghost use Rattle.std.specs.List.{prefix_len};
 ghost use Rattle.crs_text.specs.Quoted.{BeginsWith, IsInside, IsShutAt, StopsAt, is_plain, is_quote};
 ghost use Rattle.crs_text.specs.Tokens as tokens;
 ghost use Rattle.crs_decimal.specs.Spelling as spelling;
 ghost use Rattle.crs_text.specs.Lexing.{IsLexed};
-ghost use Rattle.crs_text.specs.Runs.{IsClosing};
+ghost use Rattle.crs_text.specs.Runs.{IsClosing, IsSigned, IsFractional};
 
 use crate::refusal::Reason;
-use crate::runs::{plain_ascii_length, run_length, word_length};
+use crate::runs::{digit_length, ends_run, plain_ascii_length, run_length, word_length};
 use crate::utf8::{Utf8Form, judge};
 use bstr::ByteSlice;
 use crs_decimal::{Decimal, NumberFault};
@@ -95,18 +95,30 @@ fn is_closing(bytes: &[u8]) -> bool
     !begins_with_quote(rest_of(bytes, 1))
 }
 
-// The quoted text that begins what is left. Most are ASCII with no quote inside.
+/// The length of the quoted text that begins what is left, if it is ASCII with no quote inside, as most are.
+#[inline(always)]
+pub(crate) fn plain_text_length(left: &[u8]) -> Option<usize>
+    requires { left.now ≡ 34 ∷ drop 1 left.now }
+    ensures { IfSome result (λ n. IsLexed left.now (Lexed.Text n)) }
+{
+    let after = rest_of(left, 1);
+    let length = plain_ascii_length(after);
+    if is_closing(rest_of(after, length)) {
+        Some(length)
+    } else {
+        None
+    }
+}
+
+// The quoted text that begins what is left.
 #[inline(always)]
 fn quoted(left: &[u8]) -> Lexed
     requires { left.now ≡ 34 ∷ drop 1 left.now }
     ensures { IsLexed left.now result }
 {
-    let after = rest_of(left, 1);
-    let length = plain_ascii_length(after);
-    if is_closing(rest_of(after, length)) {
-        Lexed::Text { length }
-    } else {
-        any_quoted(left)
+    match plain_text_length(left) {
+        Some(length) => Lexed::Text { length },
+        None => any_quoted(left),
     }
 }
 
@@ -155,12 +167,100 @@ fn run(left: &[u8]) -> Lexed
     }
 }
 
+// The most bytes of a number that is told by its form alone: with so many digits it is in bounds.
+const PLAIN_LIMIT: usize = 38;
+
+fn begins_with_minus(bytes: &[u8]) -> bool
+    ensures { IsTrue result → bytes.now ≡ 45 ∷ drop 1 bytes.now }
+{
+    match bytes {
+        [b'-', ..] => true,
+        _ => false,
+    }
+}
+
+fn begins_with_plus(bytes: &[u8]) -> bool
+    ensures { IsTrue result → bytes.now ≡ 43 ∷ drop 1 bytes.now }
+{
+    match bytes {
+        [b'+', ..] => true,
+        _ => false,
+    }
+}
+
+fn begins_with_point(bytes: &[u8]) -> bool
+    ensures { IsTrue result → bytes.now ≡ 46 ∷ drop 1 bytes.now }
+{
+    match bytes {
+        [b'.', ..] => true,
+        _ => false,
+    }
+}
+
+#[inline(always)]
+fn sign_length(left: &[u8]) -> usize
+    ensures signed { IsSigned left.now result }
+    ensures within { result ≤ length left.now }
+{
+    if begins_with_minus(left) {
+        return 1;
+    }
+    if begins_with_plus(left) {
+        return 1;
+    }
+    0
+}
+
+#[inline(always)]
+fn fraction_length(left: &[u8]) -> usize
+    ensures fraction { IsFractional left.now result }
+    ensures within { result ≤ length left.now }
+{
+    if begins_with_point(left) {
+        return 1 + digit_length(rest_of(left, 1));
+    }
+    0
+}
+
+/// The length of the number that begins what is left, if it has digits, no exponent, and few enough digits to be in
+/// bounds whatever they are, as most have.
+#[inline(always)]
+pub(crate) fn plain_number_length(left: &[u8]) -> Option<usize>
+    ensures { IfSome result (λ n. IsLexed left.now (Lexed.Number n)) }
+{
+    let start = sign_length(left);
+    let unsigned = rest_of(left, start);
+    let whole = digit_length(unsigned);
+    if whole == 0 {
+        return None;
+    }
+    let behind = rest_of(unsigned, whole);
+    let fraction = fraction_length(behind);
+    if whole + fraction > PLAIN_LIMIT {
+        return None;
+    }
+    if ends_run(rest_of(behind, fraction)) {
+        Some(start + whole + fraction)
+    } else {
+        None
+    }
+}
+
+/// The length of the word that begins what is left.
+#[inline(always)]
+pub(crate) fn single_word_length(left: &[u8]) -> usize
+    requires { BeginsWith tokens.is_letter left.now }
+    ensures { IsLexed left.now (Lexed.Word result) }
+{
+    word_length(left)
+}
+
 #[inline(always)]
 fn single_word(left: &[u8]) -> Lexed
     requires { BeginsWith tokens.is_letter left.now }
     ensures { IsLexed left.now result }
 {
-    let length = word_length(left);
+    let length = single_word_length(left);
     Lexed::Word { length }
 }
 

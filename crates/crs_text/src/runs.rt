@@ -1,6 +1,7 @@
 //! How far runs of bytes go, sixteen bytes at a time.
-ghost use Rattle.std.specs.Prelude.{◌≡◌, ◌≤◌, length};
+ghost use Rattle.std.specs.Prelude.{◌≡◌, ◌≤◌, length, IsTrue};
 ghost use Rattle.std.specs.List.{prefix_len};
+ghost use Rattle.crs_text.specs.Quoted.{StopsAt};
 ghost use Rattle.crs_text.specs.Runs.{first_set, is_plain_ascii};
 ghost use Rattle.crs_text.specs.Tokens as tokens;
 ghost use Rattle.crs_decimal.specs.Spelling as spelling;
@@ -19,12 +20,27 @@ pub(crate) fn is_white(byte: u8) -> bool
     byte == b' ' || byte == b'\t' || byte == b'\n' || byte == b'\r'
 }
 
+/// Whether a byte is a letter.
+#[inline(always)]
+pub(crate) fn is_letter(byte: u8) -> bool
+    ensures { result ≡ tokens.is_letter byte }
+{
+    matches!(byte, b'A'..=b'Z' | b'a'..=b'z')
+}
+
 fn is_word_byte(byte: u8) -> bool
     ensures { result ≡ tokens.is_word_byte byte }
 {
     matches!(byte, b'A'..=b'Z' | b'a'..=b'z' | b'0'..=b'9' | b'_')
 }
 
+fn is_digit(byte: u8) -> bool
+    ensures { result ≡ spelling.is_digit byte }
+{
+    matches!(byte, b'0'..=b'9')
+}
+
+#[inline(always)]
 fn is_run_byte(byte: u8) -> bool
     ensures { result ≡ spelling.is_run_byte byte }
 {
@@ -72,6 +88,14 @@ fn run_lanes(block: u8x16) -> usize
 }
 
 #[inline(always)]
+fn digit_lanes(block: u8x16) -> usize
+    ensures { result ≡ prefix_len spelling.is_digit block }
+{
+    let digits = block - u8x16::splat(b'0');
+    first_set(digits.simd_ge(u8x16::splat(10)).to_bitmask())
+}
+
+#[inline(always)]
 fn plain_ascii_lanes(block: u8x16) -> usize
     ensures { result ≡ prefix_len is_plain_ascii block }
 {
@@ -99,6 +123,13 @@ fn last_run_length(left: &[u8]) -> usize
     ensures { result ≡ prefix_len spelling.is_run_byte left.now }
 {
     left.iter().take_while(|b| is_run_byte(**b)).count()
+}
+
+#[inline(never)]
+fn last_digit_length(left: &[u8]) -> usize
+    ensures { result ≡ prefix_len spelling.is_digit left.now }
+{
+    left.iter().take_while(|b| is_digit(**b)).count()
 }
 
 #[inline(never)]
@@ -138,6 +169,36 @@ pub(crate) fn run_length(left: &[u8]) -> usize
         at += LANES;
     }
     at + last_run_length(rest_of(left, at))
+}
+
+/// How many digits come first.
+#[inline(always)]
+pub(crate) fn digit_length(left: &[u8]) -> usize
+    ensures value { result ≡ prefix_len spelling.is_digit left.now }
+    ensures within { result ≤ length left.now }
+{
+    let mut at = 0;
+    while left.len() - at >= LANES {
+        let count = digit_lanes(u8x16::from_slice(&left[at..]));
+        if count < LANES {
+            return at + count;
+        }
+        at += LANES;
+    }
+    at + last_digit_length(rest_of(left, at))
+}
+
+/// Whether a number in front of these bytes ends there.
+#[inline(always)]
+pub(crate) fn ends_run(bytes: &[u8]) -> bool
+    ensures { IsTrue result → StopsAt spelling.is_run_byte bytes.now }
+{
+    match bytes {
+        [] => true,
+        // Most numbers end at one of these.
+        [b',' | b']', ..] => true,
+        [byte, ..] => !is_run_byte(*byte),
+    }
 }
 
 /// How many bytes come before the first that is a quote or isn't ASCII.

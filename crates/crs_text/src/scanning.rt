@@ -1,5 +1,5 @@
 //! One pass over the text: each token is found, and the table takes it or refuses it.
-ghost use Rattle.std.specs.Prelude.{◌≡◌, ◌+◌, ◌≤◌, ◌<◌, length, drop, MatchResult};
+ghost use Rattle.std.specs.Prelude.{◌≡◌, ◌+◌, ◌≤◌, ◌<◌, ◌∷◌, length, drop, MatchResult};
 ghost use Rattle.crs_text.specs.Tokens.{Forms, comma, opening, closing, is_white};
 ghost use Rattle.std.specs.List.{prefix_len};
 ghost use Rattle.crs_text.specs.TextFault.{reason_number, IsFlaw, IsTextFault};
@@ -11,9 +11,11 @@ ghost use Rattle.crs_text.specs.Lexing.{IsLexed};
 
 use crate::fault::Fault;
 use crate::items::ItemKind;
-use crate::lexing::{Lexed, front_of, rest_of, token_at};
+use crate::lexing::{
+    Lexed, front_of, plain_number_length, plain_text_length, rest_of, single_word_length, token_at,
+};
 use crate::refusal::Reason;
-use crate::runs::{is_white, white_length};
+use crate::runs::{is_letter, is_white, white_length};
 use crate::table::{Opened, Table};
 
 fn unexpected(at: usize) -> Fault
@@ -117,6 +119,57 @@ fn flawed(text: &[u8], at: usize, reason: Reason, skip: usize) -> Fault
     Fault::Refused(reason.at(at + skip))
 }
 
+#[inline(always)]
+fn take_number(
+    table: &mut Table,
+    text: &[u8],
+    at: usize,
+    count: usize,
+    taken: &mut usize,
+) -> Result<(), Fault>
+    requires more { at < length text.now }
+    requires lexed { IsLexed (drop at text.now) (Lexed.Number count) }
+    ensures { MatchResult result (λ _. IsTaken text.now at table.old table.new taken.new)
+        (IsStoppedBy text.now at table.old) }
+{
+    let raw = front_of(rest_of(text, at), count);
+    take_single(table, text, at, ItemKind::Number, raw, count, taken)
+}
+
+#[inline(always)]
+fn take_text(
+    table: &mut Table,
+    text: &[u8],
+    at: usize,
+    count: usize,
+    taken: &mut usize,
+) -> Result<(), Fault>
+    requires more { at < length text.now }
+    requires lexed { IsLexed (drop at text.now) (Lexed.Text count) }
+    ensures { MatchResult result (λ _. IsTaken text.now at table.old table.new taken.new)
+        (IsStoppedBy text.now at table.old) }
+{
+    let raw = front_of(rest_of(rest_of(text, at), 1), count);
+    take_single(table, text, at, ItemKind::Text, raw, count + 2, taken)
+}
+
+#[inline(always)]
+fn take_word(
+    table: &mut Table,
+    text: &[u8],
+    at: usize,
+    count: usize,
+    taken: &mut usize,
+) -> Result<(), Fault>
+    requires more { at < length text.now }
+    requires lexed { IsLexed (drop at text.now) (Lexed.Word count) }
+    ensures { MatchResult result (λ _. IsTaken text.now at table.old table.new taken.new)
+        (IsStoppedBy text.now at table.old) }
+{
+    let raw = front_of(rest_of(text, at), count);
+    take_single(table, text, at, ItemKind::Word, raw, count, taken)
+}
+
 /// What begins at this place, if it is a token that the table takes; `taken` is how many bytes it has.
 #[inline(always)]
 pub(crate) fn take_lexed(
@@ -132,18 +185,9 @@ pub(crate) fn take_lexed(
         (IsStoppedBy text.now at table.old) }
 {
     match lexed {
-        Lexed::Number { length } => {
-            let raw = front_of(rest_of(text, at), length);
-            take_single(table, text, at, ItemKind::Number, raw, length, taken)
-        }
-        Lexed::Text { length } => {
-            let raw = front_of(rest_of(rest_of(text, at), 1), length);
-            take_single(table, text, at, ItemKind::Text, raw, length + 2, taken)
-        }
-        Lexed::Word { length } => {
-            let raw = front_of(rest_of(text, at), length);
-            take_single(table, text, at, ItemKind::Word, raw, length, taken)
-        }
+        Lexed::Number { length } => take_number(table, text, at, length, taken),
+        Lexed::Text { length } => take_text(table, text, at, length, taken),
+        Lexed::Word { length } => take_word(table, text, at, length, taken),
         Lexed::Comma => take_comma(table, text, at, taken),
         Lexed::Opening { square } => take_opening(table, text, at, square, taken),
         Lexed::Closing { square } => take_closing(table, text, at, square, taken),
@@ -151,18 +195,73 @@ pub(crate) fn take_lexed(
     }
 }
 
-// The token at this place, if the table takes it.
+// The token at this place, if the table takes it, whatever it is.
+#[inline(never)]
+fn take_any(table: &mut Table, text: &[u8], at: usize, taken: &mut usize) -> Result<(), Fault>
+    requires { at < length text.now }
+    ensures { MatchResult result (λ _. IsTaken text.now at table.old table.new taken.new)
+        (IsStoppedBy text.now at table.old) }
+{
+    take_lexed(table, text, at, token_at(rest_of(text, at)), taken)
+}
+
+#[inline(always)]
+fn take_quoted(table: &mut Table, text: &[u8], at: usize, taken: &mut usize) -> Result<(), Fault>
+    requires within { at < length text.now }
+    requires quote { drop at text.now ≡ 34 ∷ drop 1 (drop at text.now) }
+    ensures { MatchResult result (λ _. IsTaken text.now at table.old table.new taken.new)
+        (IsStoppedBy text.now at table.old) }
+{
+    match plain_text_length(rest_of(text, at)) {
+        Some(count) => take_text(table, text, at, count, taken),
+        None => take_any(table, text, at, taken),
+    }
+}
+
+#[inline(always)]
+fn take_run(table: &mut Table, text: &[u8], at: usize, taken: &mut usize) -> Result<(), Fault>
+    requires { at < length text.now }
+    ensures { MatchResult result (λ _. IsTaken text.now at table.old table.new taken.new)
+        (IsStoppedBy text.now at table.old) }
+{
+    match plain_number_length(rest_of(text, at)) {
+        Some(count) => take_number(table, text, at, count, taken),
+        None => take_any(table, text, at, taken),
+    }
+}
+
+// The token at this place, if the table takes it: by tests in a row, which are predicted better than one jump to many
+// places, and without telling what it is before it is taken.
 #[inline(always)]
 fn take_token(table: &mut Table, text: &[u8], at: usize, taken: &mut usize) -> Result<(), Fault>
     requires { at < length text.now }
     ensures { MatchResult result (λ _. IsTaken text.now at table.old table.new taken.new)
         (IsStoppedBy text.now at table.old) }
 {
-    // A fourth of all tokens are commas.
-    if text[at] == b',' {
+    let first = text[at];
+    if first == b',' {
         return take_comma(table, text, at, taken);
     }
-    take_lexed(table, text, at, token_at(rest_of(text, at)), taken)
+    if is_letter(first) {
+        let count = single_word_length(rest_of(text, at));
+        return take_word(table, text, at, count, taken);
+    }
+    if first == b'"' {
+        return take_quoted(table, text, at, taken);
+    }
+    if first == b'[' {
+        return take_opening(table, text, at, true, taken);
+    }
+    if first == b']' {
+        return take_closing(table, text, at, true, taken);
+    }
+    if first == b'(' {
+        return take_opening(table, text, at, false, taken);
+    }
+    if first == b')' {
+        return take_closing(table, text, at, false, taken);
+    }
+    take_run(table, text, at, taken)
 }
 
 /// Where the white space that begins at `end` has an end.

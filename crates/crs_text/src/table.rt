@@ -79,6 +79,7 @@ fn position_after(kind: ItemKind) -> Position
 }
 
 // The keyword that raw bytes of this kind are.
+#[inline(always)]
 fn keyword_at(kind: ItemKind, raw: &[u8]) -> Option<Keyword>
     ensures { result ≡ keyword_at kind raw.now }
 {

@@ -1,0 +1,138 @@
+-- A sign or none, digits, a fraction or none: with at most 38 digits that is a number in bounds, whatever the digits are.
+use Rattle.std.proofs.Common.{◌≡◌, ℕ, ◌+◌, ◌*◌, ◌%◌, ◌^◌, ◌<◌, ◌≤◌, ◌⊎◌, inl, inr, Bool, true, false, cond, IsTrue, List, [], ◌∷◌, ◌++◌, length, take, drop, Option, None, Some, refl, sym, ap, subst, ◌∙◌, append_assoc, arith}
+use Rattle.std.specs.List.{list_all, prefix_len}
+use Rattle.std.proofs.lemmas.Bool.{cases_eq, cases_lt, and_from}
+use Rattle.std.proofs.lemmas.List.{length-append, length-take, append-nil, take-append-drop, take_at, drop_at, drop-drop}
+use Rattle.std.proofs.lemmas.List.Folds.{list_all-append}
+use Rattle.std.proofs.lemmas.List.Sums.{prefix_len-le-length}
+use Rattle.std.proofs.Math.Nat.{mul-le-mul_right}
+use Rattle.crs_decimal.specs.Spelling.{Sign, sign_text, fraction_text, fraction_digits, Parts, IsForm, AreDigits, mantissa, parts_text, is_digit, is_run_byte, is_run_start, IsRun, SpellsNumber}
+use Rattle.crs_decimal.specs.Bounds.{digits_value, Strips, number_of, IsMeasured, IsBounded, IsInBounds}
+use Rattle.crs_decimal.specs.Mantissa.{no_digits, with_digits}
+use Rattle.crs_decimal.proofs.DigitLemmas.{value-below}
+use Rattle.crs_decimal.proofs.MantissaLemmas.{shown, Shows, IsStripped, long_least, zero_scaled}
+use Rattle.crs_decimal.proofs.PowerLemmas.{power_grows}
+use Rattle.crs_decimal.proofs.RunLemmas.{form_is_run}
+use Rattle.crs_text.specs.Quoted.{StopsAt, BeginsWith}
+use Rattle.crs_text.specs.Runs.{IsSigned, IsFractional}
+use Rattle.crs_text.specs.Lexing.{IsLexed}
+use Rattle.crs_text.specs.declared.lexing.Lexed.TheVariants.{Number}
+use Rattle.crs_text.proofs.LexedLemmas.{prefix_taken}
+
+abbrev IsSmall : ℕ → Type 0
+IsSmall n = (n ≡ 0) ⊎ ((m k : ℕ) × Strips n m k × (m < 10 ^ 38) × (k ≤ 40))
+
+few_zeros : (d z n : ℕ) → n ≡ d * 10 ^ z → 0 < d → n < 10 ^ 38 → z ≤ 40
+few_zeros d z n e some small = elim (cases_lt 40 z) [
+  | inl l ↦ let p = power_grows 40 z (omega arith) in
+      let q : 1 * 10 ^ z ≤ d * 10 ^ z = mul-le-mul_right (10 ^ z) some in absurd (omega arith)
+  | inr l ↦ l
+]
+
+small_measured : (b : Bool) (n d z : ℕ) → Shows b n d z → n < 10 ^ 38 → IsSmall n
+small_measured true n d z s small = let l = long_least n s.0 in absurd (omega arith)
+small_measured false n d z s small = by s.2
+  where
+    by : IsStripped d z → IsSmall n
+    by (inl e) =
+        let some : 0 < d = elim (cases_eq d 0) [ inl f ↦ absurd (e (ap (λ x. x % 10) f)) | inr f ↦ omega arith ] in
+        inr (d, z, (s.0, e), s.1, few_zeros d z n s.0 some small)
+    by (inr e) = inl (s.0 ∙ zero_scaled d z e.0)
+
+digits_small : (ds : List ℕ) → AreDigits ds → length ds ≤ 38 → IsSmall (digits_value ds)
+digits_small ds h l =
+    let m = with_digits no_digits ds in
+    let below = value-below ds h in
+    let most = power_grows (length ds) 38 l in
+    small_measured m.is_long (digits_value ds) m.digits m.zeros (shown ds h) (omega arith)
+
+all_joined : (xs ys : List ℕ) → AreDigits xs → AreDigits ys → AreDigits (xs ++ ys)
+all_joined xs ys h k = list_all-append is_digit xs ys ∙ and_from _ _ h k
+
+-- the parts of such a number
+module _ (sign : Sign) (whole : List ℕ) (fraction : Option (List ℕ)) (digits : AreDigits whole) (some : 0 < length whole) (others : AreDigits (fraction_digits fraction))
+    (few : length whole + length (fraction_digits fraction) ≤ 38) where
+  abbrev pub parts : Parts
+  parts = record { sign = sign; whole = whole; fraction = fraction; exponent = None }
+
+  all_digits : AreDigits (mantissa parts)
+  all_digits = all_joined whole (fraction_digits fraction) digits others
+
+  count : length (mantissa parts) ≡ length whole + length (fraction_digits fraction)
+  count = length-append whole (fraction_digits fraction)
+
+  plain_bounded : IsBounded parts
+  plain_bounded = record { mantissa_digits = omega (arith, count, few); exponent_digits = omega arith; measured = measured (digits_small (mantissa parts) all_digits (omega (arith, count, few))) }
+    where
+      measured : IsSmall (digits_value (mantissa parts)) → ((number_of parts).digits ≡ 0) ⊎ IsMeasured (number_of parts)
+      measured (inl e) = inl e
+      measured (inr (m, k, t, u, v)) = inr (m, k, t, u, omega (arith, few), omega arith)
+
+  plain_form : IsForm parts
+  plain_form = record { digits = all_digits; some = omega (arith, count, some); exponent = tt }
+
+  pub plain_spelled : (p : Parts) × SpellsNumber (parts_text parts) p × IsBounded p
+  plain_spelled = (parts, (refl, plain_form), plain_bounded)
+
+taken_from : (left raw rest : List ℕ) (n : ℕ) → left ≡ raw ++ rest → n ≡ length raw → take n left ≡ raw
+taken_from left raw rest n e l = ap (take n) e ∙ take_at raw rest n (sym l)
+
+left_from : (left raw rest : List ℕ) (n : ℕ) → left ≡ raw ++ rest → n ≡ length raw → drop n left ≡ rest
+left_from left raw rest n e l = ap (drop n) e ∙ drop_at raw rest n (sym l)
+
+starts_run : (raw : List ℕ) → IsRun raw → BeginsWith is_run_start raw
+starts_run [] h = h
+starts_run (b ∷ bs) h = h.0
+
+is_run_all : (raw : List ℕ) → IsRun raw → list_all is_run_byte raw ≡ true
+is_run_all [] h = absurd h
+is_run_all (b ∷ bs) h = h.1
+
+number_front : (left raw rest : List ℕ) (n : ℕ) → left ≡ raw ++ rest → n ≡ length raw → ((p : Parts) × SpellsNumber raw p × IsBounded p) → StopsAt is_run_byte rest → IsLexed left (Number n)
+number_front left raw rest n e l s ends =
+    let run : IsRun raw = form_is_run raw (s.0, s.1) in
+    let bounds : IsInBounds raw = s in
+    let front = sym (taken_from left raw rest n e l) in
+    let behind = sym (left_from left raw rest n e l) in (
+      record {
+        spelled = sym (take-append-drop n left);
+        formed = subst (λ (z : List ℕ). BeginsWith is_run_start z × IsTrue (list_all is_run_byte z) × IsInBounds z) front (starts_run raw run, is_run_all raw run, bounds);
+        ends = subst (StopsAt is_run_byte) behind ends;
+      },
+      omega (arith, l, ap length e, length-append raw rest),
+    )
+
+fraction_short : (fraction : Option (List ℕ)) → length (fraction_digits fraction) ≤ length (fraction_text fraction)
+fraction_short None = omega arith
+fraction_short (Some ds) = omega arith
+
+joined : (left sign whole fraction rest one two : List ℕ) → left ≡ sign ++ one → one ≡ whole ++ two → two ≡ fraction ++ rest → left ≡ (((sign ++ whole) ++ fraction) ++ []) ++ rest
+joined left sign whole fraction rest one two a b c =
+    a ∙ ap (λ z. sign ++ z) (b ∙ ap (λ z. whole ++ z) c) ∙ sym (append_assoc sign whole (fraction ++ rest)) ∙ sym (append_assoc (sign ++ whole) fraction rest)
+    ∙ ap (λ z. z ++ rest) (sym (append-nil ((sign ++ whole) ++ fraction)))
+
+pub plain_lexed : (left : List ℕ) (s w f : ℕ) → IsSigned left s → w ≡ prefix_len is_digit (drop s left) → 0 < w → IsFractional (drop w (drop s left)) f → w + f ≤ 38
+    → StopsAt is_run_byte (drop f (drop w (drop s left))) → IsLexed left (Number (s + w + f))
+plain_lexed left s w f (sign, sign_is, sign_long) w_is some (fraction, fraction_is, others, fraction_long) few ends =
+    let one = drop s left in
+    let two = drop w one in
+    let whole = take w one in
+    let rest = drop f two in
+    let long : length whole ≡ w = omega (arith, length-take w one, prefix_len-le-length is_digit one, w_is) in
+    let digits : AreDigits whole = subst (λ k. AreDigits (take k one)) (sym w_is) (prefix_taken is_digit one) in
+    let raw = ((sign_text sign ++ whole) ++ fraction_text fraction) ++ [] in
+    let split : left ≡ raw ++ rest = joined left (sign_text sign) whole (fraction_text fraction) rest one two sign_is (sym (take-append-drop w one)) fraction_is in
+    let size : s + w + f ≡ length raw =
+    omega (arith, sign_long, long, fraction_long, length-append ((sign_text sign ++ whole) ++ fraction_text fraction) [], length-append (sign_text sign ++ whole) (fraction_text fraction), length-append (sign_text sign) whole) in
+    number_front left raw rest (s + w + f) split size
+    (plain_spelled sign whole fraction digits (omega (arith, long, some)) others (omega (arith, long, few, fraction_long, fraction_short fraction))) ends
+
+-- a period and the digits behind it
+pub fraction_front : (left : List ℕ) (n : ℕ) → left ≡ 46 ∷ drop 1 left → n ≡ prefix_len is_digit (drop 1 left) → IsFractional left (1 + n)
+fraction_front left n e n_is =
+    let one = drop 1 left in (
+      Some (take n one),
+      e ∙ ap (λ (z : List ℕ). 46 ∷ z) (sym (take-append-drop n one) ∙ ap (λ z. take n one ++ z) (drop-drop n 1 left)),
+      subst (λ k. AreDigits (take k one)) (sym n_is) (prefix_taken is_digit one),
+      omega (arith, length-take n one, prefix_len-le-length is_digit one, n_is),
+    )
