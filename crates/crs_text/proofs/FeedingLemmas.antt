@@ -63,7 +63,7 @@ run_rules = (all_short is_run_byte, λ left le s. let e = all_full is_run_byte l
 
 -- ---- what is settled in front of what is left
 
--- whatever stands in front of what is left is settled
+-- whatever begins what is left is settled
 pub record AllSettled (total : ℕ) (left : List ℕ) : Type 0 where
   pub token : (t : Token) (rest : List ℕ) → Forms total t left rest → IsSettled t rest
   pub flaw : (r : Reason) (k : ℕ) → IsFlaw r left k → IsFlawSettled r left
@@ -384,7 +384,7 @@ module _ (after : List ℕ) (known : ℕ) where
         (tail, whole),
       )
 
--- ---- behind the piece
+-- ---- after the piece
 
 longer_to : (before piece : List ℕ) (table : Flat) (at from : ℕ) → IsSettledTo before table at → IsAfterWhite (drop at (before ++ piece)) (drop from (before ++ piece)) → from ≤ length (before ++ piece)
     → IsSettledTo (before ++ piece) table from

@@ -76,7 +76,7 @@ leaf-rows kind place raw f fs = go kind
     go text = rw (one, deep) refl
     go word = rw (one, deep) refl
 
--- the table of a state behind a complete item, which may be a word alone
+-- the table of a state after a complete item, which may be a word alone
 abbrev flat_behind : Item → List Frame → Position → Flat
 flat_behind item fs position = record { rows = rows_of_frames fs ++ rows (length fs) item; opens = opens_of fs; position = position }
 

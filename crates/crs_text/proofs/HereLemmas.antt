@@ -1,4 +1,5 @@
--- The rows of a tree, one by one: what an item's row says, and where its arguments and the argument after it stand.
+-- The rows of a tree, one by one: what an item's row says, and where its arguments and the argument
+-- after it are.
 use Rattle.std.proofs.Common.{◌≡◌, ℕ, zero, suc, ◌+◌, ◌≤◌, ◌<◌, List, [], ◌∷◌, ◌++◌, length, drop, map, refl, sym, ◌∙◌, ap, subst, append_assoc, length-append, arith}
 use Rattle.std.proofs.Math.Seq.{drop-append_seam}
 use Rattle.std.proofs.lemmas.List.{append-nil, map-append}
@@ -90,13 +91,13 @@ rows-heres tree = rows-heres_in tree 0
 pub items-heres : (tree : Item) → map items_at (heres tree) ≡ More tree End ∷ inside tree
 items-heres tree = ap (λ l. More tree End ∷ l) (items-heres_in tree 0)
 
--- the first of these items stands first in the list
+-- the first of these items is first in the list
 abbrev pub Begins : Siblings → List Here → Type 0
 Begins End hs = Unit {0}
 Begins (More item items) [] = ⊥
 Begins (More item items) (h ∷ hs) = items_at h ≡ More item items
 
--- what stands behind an item and all in it: the next argument, as deep, or something less deep
+-- what follows an item and all in it: the next argument, as deep, or something less deep
 abbrev pub Continues : ℕ → Siblings → List Here → Type 0
 Continues depth End [] = Unit {0}
 Continues depth End (h ∷ hs) = h.depth < depth

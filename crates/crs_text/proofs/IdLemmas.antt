@@ -10,7 +10,7 @@ use Rattle.crs_text.specs.Rows.{rows, row_of}
 use Rattle.crs_text.specs.declared.table.Row.{Row}
 use Rattle.crs_text.proofs.HereLemmas.{Here, items_at, row_at, heres, Begins, Continues, IsLinked, AreLinked, linked-heres, linked-drop, rows-heres, items-heres}
 
--- the item of a number, and what stands behind it in the order in which the items begin
+-- the item of a number, and what follows it in the order in which the items begin
 record Spot (tree : Item) (id : ℕ) : Type 0 where
   it : Here
   behind : List Here
@@ -75,7 +75,7 @@ size_within tree id lt =
     let d = length-drop id (heres tree) in
     omega (arith, l.within)
 
--- what stands behind a number is a spot of its own
+-- what follows a number is a spot of its own
 spot_behind : (tree : Item) (at : ℕ) (h : Here) (hs : List Here) → drop at (heres tree) ≡ h ∷ hs → (here tree at ≡ items_at h) × ((d : Row) → get_or (rows 0 tree) at d ≡ row_at h)
 spot_behind tree at h hs e =
     let len = length-heres tree in
@@ -93,7 +93,7 @@ at_from_begins tree at (More item items) (x ∷ hs) e some h =
     let is = (spot_behind tree at x hs e).0 ∙ h in
     (is, λ no. let k : More item items ≡ End = sym is ∙ no in cc)
 
--- the first argument stands directly behind its node
+-- the first argument comes directly after its node
 pub first_at : (tree : Item) (id : ℕ) → id < length (rows 0 tree) → arguments (first_of (here tree id)) ≢ End →
     IsAt tree (arguments (first_of (here tree id))) (Some (id + 1))
 first_at tree id lt some =
@@ -119,7 +119,7 @@ continues_at tree id lt d =
     sym (drop-drop (size_of s.it.item) id (heres tree)) ∙ ap (λ l. drop (size_of s.it.item) l) s.is in
     rw (size, rest, depth, behind) l.next
 
--- no item stands behind
+-- no item follows
 pub next_none : (tree : Item) (id : ℕ) → id < length (rows 0 tree) → length (rows 0 tree) ≤ id + size_of (first_of (here tree id)) → rest_of (here tree id) ≡ End
 next_none tree id lt end =
     let none : Row = row_of 0 tree in
@@ -128,7 +128,7 @@ next_none tree id lt end =
     let nil : drop at (heres tree) ≡ [] = drop_of_length-le (heres tree) (omega arith) in
     none_from_continues (get_or (rows 0 tree) id none).depth (rest_of (here tree id)) (subst (λ l. Continues (get_or (rows 0 tree) id none).depth (rest_of (here tree id)) l) nil (continues_at tree id lt none))
 
--- an item stands behind: as deep it is the next argument, else there is none
+-- an item follows: as deep it is the next argument, else there is none
 next_by_depth : (tree : Item) (at depth : ℕ) (items : Siblings) (hs : List Here) (d : Row) → drop at (heres tree) ≡ hs → at < length (rows 0 tree) → Continues depth items hs →
     ((get_or (rows 0 tree) at d).depth ≡ depth → IsAt tree items (Some at)) × ((get_or (rows 0 tree) at d).depth ≢ depth → items ≡ End)
 next_by_depth tree at depth items [] d e lt h =

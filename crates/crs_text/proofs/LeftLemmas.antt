@@ -1,4 +1,4 @@
--- In front of what is left of a text stands a token or a flaw.
+-- What is left of a text begins with a token or a flaw.
 use Rattle.std.proofs.Common.{◌≡◌, ℕ, ◌+◌, ◌-◌, ◌≤◌, true, false, ◌||◌, ◌==◌, eqb, List, [], ◌∷◌, ◌++◌, length, take, drop, Option, Some, None, refl, sym, ap, subst, ◌∙◌, append_assoc, arith, inl, inr, ◌⊎◌}
 use Rattle.std.specs.List.{prefix_len}
 use Rattle.std.specs.Str.{IsValidUpTo}
@@ -55,7 +55,7 @@ at_quote (d ∷ ds) next = elim (cases_Bool (eqb d 34)) [
   | inr e ↦ inl ([], d ∷ ds, record { parts = refl; inside = ([], refl); ends = e })
 ]
 
--- the bytes, and those behind the first of them
+-- the bytes, and those after the first of them
 shut_or_open_from : (after : List ℕ) → IsShutOrOpen after × IsShutOrOpen (drop 1 after)
 shut_or_open_from [] = (inr ([], refl), inr ([], refl))
 shut_or_open_from (c ∷ cs) =

@@ -77,7 +77,7 @@ length-opens text (p ∷ ps) ts a =
 closed_append : (ts us : List Token) → IsClosed ts → IsClosed us → IsClosed (ts ++ us)
 closed_append ts us a b = λ held. fold-append open_after held ts us ∙ ap (λ h. fold open_after h us) (a held) ∙ b held
 
--- closed tokens behind leave open what is
+-- closed tokens that follow leave open what is
 open_extend : (text places : List ℕ) (ts us : List Token) → AreOpen text places ts → IsClosed us → AreOpen text places (ts ++ us)
 open_extend text [] ts us a c = opens-append ts us ∙ ap (λ h. fold open_after h us) a ∙ c []
 open_extend text (p ∷ ps) ts us a c = (
@@ -138,7 +138,7 @@ passed_some text at before behind n p =
 
 -- ---- from place to place
 
--- behind 12 open delimiters no further one is opened
+-- inside 12 open delimiters no further one is opened
 no_thirteenth : (last : Option Token) (held : List Bool) (square : Bool) → length held ≡ 12 → MayFollow last held (opening square) → ⊥
 no_thirteenth None held square e m = m
 no_thirteenth (Some (single tokens.number place raw)) [] square e m = m
@@ -172,7 +172,7 @@ module _ (text : List ℕ) (place at : ℕ) (places : List ℕ) (nested : IsNest
       front_token (length text) u us (drop at text) left (fronts_dark (length text) nested.tokens text (drop at text) nested.fronts)
       (subst (λ z. Fronts (length text) (drop at text) z left) e g.fronts)
 
-  -- they don't end where a token stands in front of the place
+  -- they don't end where a token begins before the place
   no_end : (before : List Token) (left rest : List ℕ) (t : Token) (l : LeadsTo text place before left) → at < place → Forms (length text) t (drop at text) rest
       → (nested.ahead before left l).more ≡ [] → ⊥
   no_end before left rest t l lt f e =
@@ -274,7 +274,7 @@ leads_from_node text item place s e = record {
   flaw = inl refl;
 }
 
--- behind a node nothing is open
+-- after a node nothing is open
 pub none_open : (text : List ℕ) (item : Item) (place : ℕ) (answer : Option ℕ) → SpellsNode text item → place ≡ length text → IsAnswered text place answer → answer ≡ None
 none_open text item place answer s e a = go answer (a s.0 [] (leads_from_node text item place s e))
   where

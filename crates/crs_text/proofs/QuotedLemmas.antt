@@ -169,7 +169,7 @@ quote_at after at quote e lt =
 pub same_split : (xs : List ℕ) (n : ℕ) (ys : List ℕ) → drop n xs ≡ ys → xs ≡ take n xs ++ ys
 same_split xs n ys e = sym (take-append-drop n xs) ∙ ap (λ z. take n xs ++ z) e
 
--- the closing quote: no other quote stands behind it
+-- the closing quote: no other quote follows it
 pub shut_at : (after : List ℕ) (at quote : ℕ) → at ≤ length after → IsInside (take at after) → quote ≡ at + prefix_len is_plain (drop at after) → quote < length after
     → StopsAt is_quote (drop (quote + 1) after) → IsShut after (take quote after) (drop (quote + 1) after)
 shut_at after at quote le inside e lt ends =
@@ -190,6 +190,6 @@ past_doubled after at quote le inside e lt tail f =
     let two : take 2 (drop quote after) ≡ 34 ∷ 34 ∷ [] = ap (take 2) (quote_at after at quote e lt ∙ ap (λ (z : List ℕ). 34 ∷ z) f) in
     (i.0 ++ 34 ∷ [], take-add quote 2 after ∙ ap (λ z. take quote after ++ z) two ∙ ap (λ z. z ++ 34 ∷ 34 ∷ []) i.1 ∙ sym (doubled-append i.0 (34 ∷ [])))
 
--- a byte stands there
+-- there is a byte
 pub within_at : (bytes tail : List ℕ) (b n : ℕ) → drop n bytes ≡ b ∷ tail → n < length bytes
 within_at bytes tail b n e = omega (arith, length-drop n bytes, ap length e)

@@ -247,7 +247,7 @@ pub fault_of_stop : (bytes : List ℕ) (at : ℕ) (table : Flat) (fault : Fault)
 fault_of_stop bytes at table (faults.Refused r) reached s = refused_at bytes at table r reached s
 fault_of_stop bytes at table (faults.Memory e) reached s = tt
 
--- what is left behind tokens is no longer than the bytes
+-- what is left after tokens is no longer than the bytes
 pub fronts_short : (total : ℕ) (ts : List Token) (bytes left : List ℕ) → Fronts total bytes ts left → length left ≤ length bytes
 fronts_short total [] bytes left p = omega (arith, ap length p.parts, length-append p.white left)
 fronts_short total (t ∷ ts) bytes left p =

@@ -24,7 +24,7 @@ use Rattle.crs_text.proofs.FeedingLemmas.{AllSettled, token_all, flaw_all, settl
 abbrev pub IsSettledEither : List ℕ → Type 0
 IsSettledEither bytes = ((n place : ℕ) × IsSettledRefusal bytes n place) ⊎ IsTakenSoFar bytes
 
--- a byte stands behind the token where one is wanted, or doesn't
+-- a byte follows the token where one is asked for, or doesn't
 settled_or_not : (t : Token) (rest : List ℕ) → IsSettled t rest ⊎ ¬ (IsSettled t rest)
 settled_or_not (single kind place raw) [] = inr (λ some. some refl)
 settled_or_not (single kind place raw) (b ∷ bs) = inl (λ e. absurd cc)
@@ -78,7 +78,7 @@ module _ (bytes : List ℕ) where
       (settled_stop (length bytes) (b ∷ bs) r ts k (flaw_all (length bytes) (b ∷ bs) r k f s) (λ e. absurd cc) (stop_flaw r (length bytes) ts (b ∷ bs) k f))
   at_flaw ts b bs table r k within fronts shows f (inr not) = held ts (b ∷ bs) table fronts shows (flaw_held (length bytes) (b ∷ bs) ts r k f not)
 
-  -- what holds behind some tokens with at most so many bytes left
+  -- what holds after some tokens with at most so many bytes left
   abbrev IsDecided : ℕ → Type 0
   IsDecided fuel = (ts : List Token) (left : List ℕ) (table : Flat) → length left ≤ fuel → length left ≤ length bytes → SettledFronts (length bytes) bytes ts left → Shows ts table → IsSettledEither bytes
 

@@ -118,7 +118,7 @@ white_twice bytes left more further p q = record {
   ends = q.ends;
 }
 
--- more bytes come behind settled tokens
+-- more bytes come after settled tokens
 pub fronts_longer : (total : ℕ) (ts : List Token) (bytes left more further : List ℕ) → SettledFronts total bytes ts left → IsAfterWhite (left ++ more) further
     → SettledFronts (total + length more) (bytes ++ more) ts further
 fronts_longer total [] bytes left more further p w = white_twice bytes left more further p w
@@ -160,7 +160,7 @@ no_token_longer : (left more : List ℕ) → BeginsNoToken left → BeginsNoToke
 no_token_longer [] more b = absurd b
 no_token_longer (x ∷ xs) more b = b
 
--- what stands behind an opening quote, through the closing one: its front stays
+-- what follows an opening quote, through the closing one: its front is unchanged
 pub through_front : (after inside : List ℕ) → Through after inside → (rest : List ℕ) × (after ≡ inside ++ rest)
 through_front after inside (inl s) =
     (s.1, s.2.parts ∙ sym (append_assoc s.0 (34 ∷ []) s.1) ∙ ap (λ z. z ++ s.1) (sym s.3))

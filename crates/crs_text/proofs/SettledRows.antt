@@ -17,7 +17,7 @@ use Rattle.crs_text.proofs.FeedingLemmas.{fronts_more, token_held, run_held}
 abbrev opened : List Token
 opened = single tokens.word 0 (codes "VERTCRS") ∷ opening true ∷ []
 
--- and the name "H" behind it
+-- and the name "H" after it
 abbrev with_name : List Token
 with_name = opened ++ single tokens.text 8 (codes "H") ∷ []
 

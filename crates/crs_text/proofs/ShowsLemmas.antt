@@ -1,4 +1,4 @@
--- The table that tokens lead to tells which token may follow, and whether they are a whole node.
+-- The table that tokens lead to shows which token may follow, and whether they are a whole node.
 use Rattle.std.proofs.Common.{◌≡◌, Bool, true, false, Option, Some, None, List, [], ◌∷◌, ◌++◌, refl, sym, ◌∙◌, ap}
 use Rattle.std.specs.Option.{option_map}
 use Rattle.crs_text.specs.Tokens.{Token, opening}
@@ -60,7 +60,7 @@ deep_from_shows ts f g square h o = go h.0 h.1 (sym (ap (λ f. f.position) h.2) 
 pub none_from_deep : (f g : Flat) (square : Bool) → IsOpened f square TooDeep g → flat_step f (opening square) ≡ None
 none_from_deep f g square o = rw (o.0, o.1) refl
 
--- an opening delimiter that may not stand there at all
+-- an opening delimiter that isn't allowed there at all
 pub refused_from_shows : (ts : List Token) (f g : Flat) (square : Bool) → Shows ts f → IsOpened f square Refused g → ¬ (IsViableAtAnyDepth (ts ++ opening square ∷ []))
 refused_from_shows ts f g square h o v =
     let w = worded_from_deep ts h.0 square h.1 v in

@@ -15,7 +15,7 @@ abbrev pub AreSound : ℕ → List Frame → Type 0
 AreSound limit [] = Unit {0}
 AreSound limit (f ∷ fs) = EachFits limit (suc (length fs)) f.before × (suc (length fs) ≤ limit) × AreSound limit fs
 
--- an item after which no opening delimiter may stand: the root is a node, and no other is a word
+-- an item after which no opening delimiter is allowed: the root is a node, and no other is a word
 abbrev pub IsEnded : List Frame → Item → Type 0
 IsEnded [] item = IsNode item
 IsEnded (f ∷ fs) (leaf number place raw) = Unit {0}

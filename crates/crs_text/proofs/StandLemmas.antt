@@ -1,4 +1,4 @@
--- The raw bytes of a text's tokens stand in it at their places.
+-- A text has the raw bytes of its tokens at their places.
 use Rattle.std.proofs.Common.{◌≡◌, ℕ, suc, List, [], ◌∷◌, ◌++◌, length, take, drop, refl, sym, ap, subst, ◌∙◌, append_assoc, arith}
 use Rattle.std.proofs.lemmas.List.{length-append, drop_at}
 use Rattle.std.proofs.Math.Seq.{take-append_seam}

@@ -24,7 +24,7 @@ too_deep_refused ts comma h v = h
 too_deep_refused ts (opening square) h v = h.1 v
 too_deep_refused ts (closing place square) h v = h
 
--- where it stops, no viable token stands
+-- where it stops, there is no viable token
 pub stop_no_token : (r : Reason) (total : ℕ) (ts : List Token) (left : List ℕ) (k : ℕ) (t : Token) (rest : List ℕ) → IsStop r total ts left k → Forms total t left rest → IsViable (ts ++ t ∷ []) → ⊥
 stop_no_token Unexpected total ts left k t rest s f v =
     s.3 (subst (λ z. IsViable (ts ++ z ∷ [])) (Forms-one total t s.0 left rest s.1 f s.2).0 v)

@@ -1,4 +1,5 @@
--- A table over its source gives back the item whose rows it has, and each row's raw bytes stand in the source.
+-- A table over its source gives back the item whose rows it has, and the source has each row's raw
+-- bytes.
 use Rattle.std.proofs.Common.{◌≡◌, ℕ, zero, suc, ◌+◌, ◌≤◌, ◌<◌, List, [], ◌∷◌, ◌++◌, length, get_or, take, drop, map, refl, sym, ◌∙◌, ap, subst, arith}
 use Rattle.std.proofs.lemmas.List.{map-append, get_or-map}
 use Rattle.crs_decimal.specs.Bounds.{IsInBounds}
@@ -118,7 +119,7 @@ stands_here source (leaf text place raw) h = h.0
 stands_here source (leaf word place raw) h = h.0
 stands_here source (node place keyword square first others close) h = h.0
 
--- the raw bytes of each item stand in the source
+-- the source has the raw bytes of each item
 pub stands : (source : List ℕ) (tree : Item) (id : ℕ) → AllStand source (tokens tree) → id < length (rows 0 tree) → StandsHere source (first_of (here tree id))
 stands source tree id = each_item (TokenStands source) (StandsHere source) (stands_here source) tree id
 

@@ -9,7 +9,7 @@ use Rattle.std.proofs.str.Valid.{longer}
 use Rattle.crs_text.proofs.Utf8CutLemmas.{HasNoFront, completion, not_completed, IsCut-from_error_len, error_len_from_IsCut}
 use Rattle.crs_text.specs.Utf8.{IsUtf8Front, IsLongestUtf8}
 
--- an ASCII byte stands in no sequence but its own
+-- an ASCII byte is in no sequence but its own
 pub IsUtf8-before_ascii : (raw rest : List ℕ) (b : ℕ) → b < 128 → IsUtf8 (raw ++ b ∷ rest) → IsUtf8 raw
 IsUtf8-before_ascii raw rest b low u =
     let at = get_or_at raw b rest 0 (length raw) refl in
@@ -37,7 +37,7 @@ not-IsUtf8Front-before_quote raw ill f = ill (IsUtf8-before_quote raw f.0 (rw ap
 pub IsUtf8-from_front_at_quote : (raw : List ℕ) → IsUtf8Front (raw ++ 34 ∷ []) → IsUtf8 (raw ++ 34 ∷ [])
 IsUtf8-from_front_at_quote raw f = IsUtf8-at_quote raw (IsUtf8-before_quote raw f.0 (rw append_assoc at f.1))
 
--- behind the longest front no further one begins
+-- after the longest front no further one begins
 HasNoFront-behind : (bytes : List ℕ) (n : ℕ) → IsValidUpTo bytes n → HasNoFront (drop n bytes)
 HasNoFront-behind bytes n v w some u = v.longest (n + w) (omega arith) (longer bytes n w v.front u)
 
@@ -76,7 +76,7 @@ IsLongestUtf8-from bytes n v = record {
   longest = λ m _ u. elim (cases_lt n m) [ inl more ↦ absurd (v.longest m more u) | inr le ↦ le ];
 }
 
--- m bytes of a list with more behind it, where m reaches over its end
+-- m bytes of a list with more after it, where m reaches past its end
 take_over : (bytes more : List ℕ) (m : ℕ) → length bytes ≤ m → take m (bytes ++ more) ≡ bytes ++ take (m - length bytes) more
 take_over bytes more m le =
     let n = length bytes in

@@ -15,7 +15,7 @@ abbrev pub IsInPlace : List Frame → Item → Type 0
 IsInPlace [] item = IsNode item
 IsInPlace (f ∷ fs) item = Unit {0}
 
--- the state behind an item's last token
+-- the state after an item's last token
 abbrev pub ended : Item → List Frame → State
 ended (leaf kind place raw) fs = behind_leaf kind place raw fs
 ended (node place keyword square first others close) fs = after (node place keyword square first others close) fs

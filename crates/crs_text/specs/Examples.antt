@@ -38,7 +38,7 @@ vertical =
 abbrev pub AreSized : Type 0
 AreSized = (size_of vertical ≡ 13) × (size_of datum ≡ 2) × (size_of system ≡ 3) × (size_of axis ≡ 6)
 
--- the second argument is item 2; behind it come items 4 and 7, and then none; item 12 is the last
+-- the second argument is item 2; after it come items 4 and 7, and then none; item 12 is the last
 abbrev pub AreFoundByNumber : Type 0
 AreFoundByNumber =
     (here vertical 2 ≡ skip 1 (arguments vertical))
@@ -53,7 +53,7 @@ abbrev pub nested : ℕ → List Token
 nested zero = []
 nested (suc n) = single word 0 (codes "a") ∷ opening true ∷ nested n
 
--- behind 12 open delimiters a word has no room for one more, behind 11 it has
+-- inside 12 open delimiters a word has no room for one more, inside 11 it has
 abbrev pub AreLimited : Type 0
 AreLimited =
     IsFull (nested 12 ++ single word 24 (codes "a") ∷ [])

@@ -24,7 +24,7 @@ use Rattle.crs_text.specs.declared.feeding.Held.{Held}
 use Rattle.crs_text.specs.declared.fault.Fault.{Fault}
 use Rattle.crs_text.specs.declared.fault.Fault.TheVariants as faults
 
--- the flaw in front of what is left is settled
+-- the flaw at the front of what is left is settled
 abbrev pub IsFlawSettled : Reason → List ℕ → Type 0
 IsFlawSettled BadCharacter left = Unit {0}
 IsFlawSettled BadNumber left = IsRunSettled left
@@ -35,7 +35,7 @@ IsFlawSettled Unexpected left = ⊥
 IsFlawSettled UnexpectedEnd left = ⊥
 IsFlawSettled TooDeep left = ⊥
 
--- what stands in front of what is left, a token or a flaw, is settled
+-- the token or the flaw at the front of what is left is settled
 abbrev pub IsLexedSettled : List ℕ → Lexed → Type 0
 IsLexedSettled left (lexed.Number n) = n < length left
 IsLexedSettled left (lexed.Text n) = n + 2 < length left
@@ -45,24 +45,24 @@ IsLexedSettled left (lexed.Opening square) = Unit {0}
 IsLexedSettled left (lexed.Closing square) = Unit {0}
 IsLexedSettled left (lexed.Flaw reason skip) = IsFlawSettled reason left
 
--- nothing settled stands in front of what is left of a text of this length, behind these tokens
+-- what is left of a text of this length, after these tokens, begins with nothing that is settled
 pub record IsUnsettled (total : ℕ) (ts : List Token) (left : List ℕ) : Type 0 where
   pub no_token : (t : Token) (rest : List ℕ) → ¬ (FormsSettled total t left rest)
   pub no_stop : (r : Reason) (k : ℕ) → ¬ (IsSettledStop r total ts left k)
 
--- the table shows the settled tokens before this place, at which no white space stands
+-- the table shows the settled tokens before this place, at which there is no white space
 pub record IsSettledTo (text : List ℕ) (table : Flat) (at : ℕ) : Type 0 where
   pub tokens : List Token
   pub shows : Shows tokens table
   pub fronts : SettledFronts (length text) text tokens (drop at text)
   pub within : at ≤ length text
 
--- so many of the bytes behind an opening quote are inside the text
+-- so many of the bytes after an opening quote are inside the text
 abbrev pub IsInsideTo : List ℕ → ℕ → Type 0
 IsInsideTo after n = (n ≤ length after) × IsInside (take n after)
 
--- so many of the bytes behind an opening quote are inside the text,
--- and no more stand behind them than a quote that may be doubled yet
+-- so many of the bytes after an opening quote are inside the text, and no more follow them than a
+-- quote that may still be doubled
 abbrev pub IsOpenTo : List ℕ → ℕ → Type 0
 IsOpenTo after n = IsInsideTo after n × ((drop n after ≡ []) ⊎ (drop n after ≡ 34 ∷ []))
 
@@ -70,7 +70,7 @@ IsOpenTo after n = IsInsideTo after n × ((drop n after ≡ []) ⊎ (drop n afte
 abbrev pub IsValidTo : List ℕ → ℕ → Type 0
 IsValidTo after n = (n ≤ length after) × IsUtf8 (take n after)
 
--- what is left and isn't settled: nothing is known; a word or a run to the end; a quote, behind
+-- what is left and isn't settled: nothing is known; a word or a run to the end; a quote, after
 -- which so many bytes are inside the text, and so many are well-formed
 abbrev pub IsPendingIn : List ℕ → Pending → Type 0
 IsPendingIn left pending.Unknown = Unit {0}
@@ -83,7 +83,7 @@ IsPendingIn left (pending.Text inside valid) =
 abbrev pub IsPendingBefore : List ℕ → List ℕ → Pending → Type 0
 IsPendingBefore left piece p = (before : List ℕ) × (left ≡ before ++ piece) × IsPendingIn before p
 
--- nothing settled stands in front of what is left, whatever the text and the tokens before
+-- what is left begins with nothing that is settled, whatever the text and the tokens before
 abbrev pub IsUnsettledIn : List ℕ → Type 0
 IsUnsettledIn left =
     (total : ℕ) → length left ≤ total → (ts : List Token) → IsUnsettled total ts left
@@ -92,7 +92,7 @@ IsUnsettledIn left =
 abbrev pub StaysPending : List ℕ → Pending → Type 0
 StaysPending left p = IsPendingIn left p × IsUnsettledIn left × StopsAt is_white left
 
--- nothing settled stands at this place, whatever tokens stand before it
+-- nothing is settled at this place, whatever tokens come before it
 abbrev pub IsUnsettledAt : List ℕ → ℕ → Type 0
 IsUnsettledAt text at = (ts : List Token) → IsUnsettled (length text) ts (drop at text)
 
@@ -107,7 +107,7 @@ abbrev pub IsFedBefore : List ℕ → List ℕ → Flat → Held → Type 0
 IsFedBefore text piece table held =
     (before : List ℕ) × (text ≡ before ++ piece) × IsFedTo before table held
 
--- where a settled token stands the next place, else what is pending here
+-- after a settled token the next place, else what is pending here
 abbrev pub IsStepFrom : List ℕ → ℕ → Flat → Flat → Option ℕ → Type 0
 IsStepFrom text at before behind None = (behind ≡ before) × IsUnsettledAt text at
 IsStepFrom text at before behind (Some next) = IsSettledTo text behind next × (at < next)

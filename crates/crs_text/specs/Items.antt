@@ -59,8 +59,7 @@ pub record AreNode (item : Item) (ts : List Token) : Type 0 where
   pub within : depth item ≤ 12
   pub are : ts ≡ tokens item
 
--- these tokens begin with no opening delimiter, so that a word
--- in front of them is an item by itself
+-- these tokens begin with no opening delimiter, so that a word before them is an item by itself
 abbrev pub BeginsNoNode : List Token → Type 0
 BeginsNoNode [] = Unit {0}
 BeginsNoNode (single kind place raw ∷ ts) = Unit {0}
@@ -160,8 +159,7 @@ here tree id = slice_index_or (More tree End ∷ inside tree) id End
 abbrev pub HasId : Item → ℕ → Type 0
 HasId tree id = here tree id ≢ End
 
--- the number of the first of these items, which stand in the
--- tree; none where there are no such items
+-- the number of the first of these items, which are in the tree; none where there are no such items
 abbrev pub IsAt : Item → Siblings → Option ℕ → Type 0
 IsAt tree items None = items ≡ End
 IsAt tree items (Some id) = (here tree id ≡ items) × HasId tree id

@@ -1,4 +1,4 @@
--- A bridge: what stands in front of what is left of a text: a token, or a flaw.
+-- A bridge: what begins what is left of a text: a token, or a flaw.
 use Rattle.std.specs.Prelude.{◌≡◌, ℕ, ◌+◌, ◌≤◌, List, ◌∷◌, ◌++◌, length, take, drop}
 use Rattle.crs_text.specs.Quoted.{StopsAt}
 use Rattle.crs_text.specs.Tokens.{Kind, number, text, word, IsSingle, single_spelling, opening_byte}
@@ -9,7 +9,7 @@ use Rattle.crs_text.specs.declared.lexing.Lexed.{Lexed}
 use Rattle.crs_text.specs.declared.lexing.Lexed.TheVariants.{Number, Text, Word, Comma, Opening}
 use Rattle.crs_text.specs.declared.lexing.Lexed.TheVariants.{Closing, Flaw}
 
--- a single token with these raw bytes stands in front of the rest
+-- what is left begins with a single token of these raw bytes, and the rest comes after it
 pub record StandsBefore (kind : Kind) (raw left rest : List ℕ) : Type 0 where
   pub spelled : left ≡ single_spelling kind raw ++ rest
   pub formed : IsSingle kind raw

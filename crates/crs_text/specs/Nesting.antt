@@ -13,7 +13,7 @@ abbrev pub places_held : ℕ → List ℕ → List ℕ
 places_held zero places = []
 places_held (suc depth) places = slice_index_or places depth 0 ∷ places_held depth places
 
--- the places behind a token at this place
+-- the places after a token at this place
 abbrev pub places_after : ℕ → List ℕ → Token → List ℕ
 places_after at places (single kind place raw) = places
 places_after at places comma = places
@@ -26,14 +26,14 @@ abbrev pub innermost_of : List ℕ → Option ℕ
 innermost_of [] = None
 innermost_of (last ∷ places) = Some last
 
--- a token of n bytes stands at this place, and is counted
+-- a token of n bytes is at this place, and is counted
 pub record IsPassed (text : List ℕ) (at : ℕ) (before behind : List ℕ) (n : ℕ) : Type 0 where
   pub token : Token
   pub forms : Forms (length text) token (drop at text) (drop (at + n) text)
   pub places : behind ≡ places_after at before token
   pub within : at + n ≤ length text
 
--- nothing is counted at this place: a flaw stands there, or an opening delimiter where 12 are open
+-- nothing is counted at this place: there is a flaw, or an opening delimiter inside 12 open ones
 abbrev pub IsHalted : List ℕ → ℕ → List ℕ → List ℕ → Type 0
 IsHalted text at before behind =
     (behind ≡ before)
@@ -41,13 +41,13 @@ IsHalted text at before behind =
     ⊎ ((square : Bool) × (rest : List ℕ) × Forms (length text) (opening square) (drop at text) rest
     × (length before ≡ 12)))
 
--- these are the places of the delimiters that are open behind these first tokens of the text
+-- these are the places of the delimiters that are open after these first tokens of the text
 abbrev pub AreOpen : List ℕ → List ℕ → List Token → Type 0
 AreOpen text [] ts = opens ts ≡ []
 AreOpen text (place ∷ places) ts = (i : IsInnermost text ts place) × AreOpen text places i.outer
 
--- these viable tokens stand in front of what is left, which begins at the place, or with
--- ill-formed UTF-8 at it
+-- after these viable tokens what is left begins at the place, or with a text whose UTF-8 is
+-- ill-formed there
 pub record LeadsTo (text : List ℕ) (place : ℕ) (before : List Token) (left : List ℕ) : Type 0 where
   pub fronts : Fronts (length text) text before left
   pub viable : IsViable before

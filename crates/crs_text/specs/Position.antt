@@ -1,4 +1,4 @@
--- Where a place of a text stands for a person: its line, and the character in the line.
+-- A place of a text as a person counts it: its line, and the character in the line.
 use Rattle.std.specs.Prelude.{◌≡◌, ℕ, ◌+◌, ◌⊎◌, ◌&&◌, ◌==◌, nat_le, not, Bool, List, [], ◌∷◌}
 use Rattle.std.specs.Prelude.{◌++◌, length, count_by}
 use Rattle.crs_text.specs.declared.position.Position.{Position}
@@ -15,16 +15,16 @@ continues b = nat_le 128 b && nat_le b 191
 abbrev pub characters : List ℕ → ℕ
 characters bytes = count_by (λ b. not (continues b)) bytes
 
--- a line begins behind these bytes: there are none, or the last is a line feed
+-- a line begins after these bytes: there are none, or the last is a line feed
 abbrev pub BeginsLine : List ℕ → Type 0
 BeginsLine before = (before ≡ []) ⊎ ((lines : List ℕ) × (before ≡ lines ++ 10 ∷ []))
 
--- a line ends in front of these bytes: there are none, or the first is a line feed
+-- a line ends before these bytes: there are none, or the first is a line feed
 abbrev pub EndsLine : List ℕ → Type 0
 EndsLine after = (after ≡ []) ⊎ ((lines : List ℕ) × (after ≡ 10 ∷ lines))
 
--- the place stands so in the text: before its line come so many others, and before it in its line
--- so many characters; a line goes from a line feed or the text's beginning to the next or its end
+-- before the line of the place there are so many others, and before the place in its line so many
+-- characters; a line goes from a line feed or the text's beginning to the next or its end
 pub record IsPosition (text : List ℕ) (place : ℕ) (position : Position) : Type 0 where
   pub before : List ℕ
   pub left : List ℕ

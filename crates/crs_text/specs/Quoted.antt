@@ -8,7 +8,7 @@ abbrev pub doubled : List ℕ → List ℕ
 doubled [] = []
 doubled (c ∷ cs) = if c == 34 then 34 ∷ 34 ∷ doubled cs else c ∷ doubled cs
 
--- what may stand between the quotes of a text: its characters, each quote doubled
+-- what may be between the quotes of a text: its characters, each quote doubled
 abbrev pub IsInside : List ℕ → Type 0
 IsInside raw = (characters : List ℕ) × (raw ≡ doubled characters)
 

@@ -70,7 +70,7 @@ rows_of_frames (f ∷ fs) =
 abbrev pub open_of : Frame → List Frame → ℕ → Open
 open_of f fs n = record { row = length (rows_of_frames fs); square = f.square; count = n }
 
--- the open nodes, in each of which an argument has begun behind the complete ones
+-- the open nodes, in each of which an argument has begun after the complete ones
 abbrev pub opens_of : List Frame → List Open
 opens_of [] = []
 opens_of (f ∷ fs) = open_of f fs (suc (length f.before)) ∷ opens_of fs

@@ -14,7 +14,7 @@ is_plain_ascii b = is_plain b && is_ascii b
 abbrev pub first_set : ℕ → ℕ
 first_set lanes = if lanes == 0 then 16 else trailing_zeros w64 lanes
 
--- a quote comes first, and no other behind it
+-- a quote comes first, and no other after it
 abbrev pub IsClosing : List ℕ → Type 0
 IsClosing bytes = (bytes ≡ 34 ∷ drop 1 bytes) × StopsAt is_quote (drop 1 bytes)
 

@@ -12,7 +12,7 @@ use Rattle.crs_text.specs.declared.items.ItemKind.{ItemKind}
 use Rattle.crs_text.specs.declared.fault.Fault.{Fault}
 use Rattle.crs_text.specs.declared.fault.Fault.TheVariants as faults
 
--- the table shows the tokens before this place, at which no white space stands
+-- the table shows the tokens before this place, at which there is no white space
 pub record IsReached (text : List ℕ) (table : Flat) (at : ℕ) : Type 0 where
   pub tokens : List Token
   pub shows : Shows tokens table
@@ -39,8 +39,7 @@ abbrev pub IsStoppedBy : List ℕ → ℕ → Flat → Fault → Type 0
 IsStoppedBy text at table (faults.Refused refusal) = IsStopped text at table refusal
 IsStoppedBy text at table (faults.Memory e) = Unit {0}
 
--- a single token of this kind stands here, with these raw
--- bytes and as many bytes in all as `size` says
+-- a single token of this kind is here, with these raw bytes and as many bytes in all as `size` says
 pub record IsSingleAt (text : List ℕ) (at : ℕ) (kind : ItemKind) (raw : List ℕ)
     (size : ℕ) : Type 0 where
   pub of_kind : Kind

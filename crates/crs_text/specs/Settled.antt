@@ -13,15 +13,14 @@ use Rattle.crs_text.specs.declared.refusal.Reason.TheVariants.{BadCharacter, Bad
 use Rattle.crs_text.specs.declared.refusal.Reason.TheVariants.{NotUtf8, OpenText}
 use Rattle.crs_text.specs.declared.refusal.Reason.TheVariants.{Unexpected, UnexpectedEnd, TooDeep}
 
--- a number, text or word is settled once a byte stands behind it, a comma or delimiter at once
+-- a number, text or word is settled once a byte follows it, a comma or delimiter at once
 abbrev pub IsSettled : Token → List ℕ → Type 0
 IsSettled (single kind place raw) rest = rest ≢ []
 IsSettled comma rest = Unit {0}
 IsSettled (opening square) rest = Unit {0}
 IsSettled (closing place square) rest = Unit {0}
 
--- a settled token stands in front of what is left of a text of
--- this length, and the rest comes after it
+-- what is left of a text of this length begins with a settled token, and the rest comes after it
 pub record FormsSettled (total : ℕ) (t : Token) (left rest : List ℕ) : Type 0 where
   pub forms : Forms total t left rest
   pub settled : IsSettled t rest
@@ -34,12 +33,12 @@ SettledFronts total bytes (t ∷ ts) left =
     (at rest : List ℕ) × IsAfterWhite bytes at × FormsSettled total t at rest
     × SettledFronts total rest ts left
 
--- a run is settled once a byte stands in what is left that it doesn't take
+-- a run is settled once what is left has a byte that it doesn't take
 abbrev pub IsRunSettled : List ℕ → Type 0
 IsRunSettled left = IsFalse (list_all is_run_byte left)
 
--- why nothing goes on after these tokens, whatever comes
--- behind what is left of a text of this length
+-- why nothing goes on after these tokens, whatever comes after what is left of a text of this
+-- length
 abbrev pub IsSettledStop : Reason → ℕ → List Token → List ℕ → ℕ → Type 0
 IsSettledStop BadCharacter total ts left skip = IsFlaw BadCharacter left skip
 IsSettledStop BadNumber total ts left skip = IsFlaw BadNumber left skip × IsRunSettled left
@@ -56,8 +55,8 @@ IsSettledStop UnexpectedEnd total ts left skip = ⊥
 IsSettledStop TooDeep total ts left skip =
     (t : Token) × (rest : List ℕ) × FormsSettled total t left rest × IsTooDeep ts t × (skip ≡ 0)
 
--- the bytes are refused with this number at this place, whatever comes
--- behind them: the settled tokens before are viable, and there it stops
+-- the bytes are refused with this number at this place, whatever comes after them: the settled
+-- tokens before are viable, and there it stops
 pub record IsSettledRefusal (bytes : List ℕ) (number place : ℕ) : Type 0 where
   pub reason : Reason
   pub before : List Token
@@ -69,22 +68,22 @@ pub record IsSettledRefusal (bytes : List ℕ) (number place : ℕ) : Type 0 whe
   pub is_number : number ≡ reason_number reason
   pub is_place : place + length left ≡ length bytes + skip
 
--- nothing that is settled refuses the bytes: the settled tokens
--- in front of them are viable, and no refusal is settled
+-- nothing that is settled refuses the bytes: the settled tokens before are viable, and no refusal
+-- is settled
 pub record IsTakenSoFar (bytes : List ℕ) : Type 0 where
   pub viable : (ts : List Token) (left : List ℕ) → SettledFronts (length bytes) bytes ts left →
       IsViable ts
   pub unrefused : (number place : ℕ) → ¬ (IsSettledRefusal bytes number place)
 
--- why a piece behind these bytes isn't taken, and which bytes are held
--- then: the refusal is settled, and was so before where the piece isn't
--- held; want of memory leaves the bytes, which nothing settled refuses
+-- why a piece after these bytes isn't taken, and which bytes are held then: the refusal is settled,
+-- and was settled before where the piece isn't held; out of memory, the bytes are as before, and
+-- nothing settled refuses them
 abbrev pub IsPieceFault : List ℕ → List ℕ → List ℕ → Fault → Type 0
 IsPieceFault bytes piece held (faults.Refused refusal) =
     IsSettledRefusal held refusal.number refusal.place × ((held ≡ bytes ++ piece) ⊎ (held ≡ bytes))
 IsPieceFault bytes piece held (faults.Memory e) = (held ≡ bytes) × IsTakenSoFar bytes
 
--- where the fault is want of memory, nothing settled refuses the bytes
+-- where the fault is out of memory, nothing settled refuses the bytes
 abbrev pub IsWantUnrefused : List ℕ → Fault → Type 0
 IsWantUnrefused bytes (faults.Refused refusal) = Unit {0}
 IsWantUnrefused bytes (faults.Memory e) = IsTakenSoFar bytes

@@ -14,8 +14,8 @@ pub record Frame : Type 0 where
   pub square : Bool
   pub before : List Item
 
--- how far the tokens have come, in the nodes that are open: an item has to come; or a word has
--- come, which may begin a node; or an item is complete
+-- how far the tokens have come, in the nodes that are open: an item must come; or a word has come,
+-- which may begin a node; or an item is complete
 pub data State : Type 0 where
   wants : List Frame → State
   worded : (place : ℕ) (raw : List ℕ) → List Frame → State
@@ -51,9 +51,9 @@ behind_leaf number place raw fs = after (leaf number place raw) fs
 behind_leaf text place raw fs = after (leaf text place raw) fs
 behind_leaf word place raw fs = worded place raw fs
 
--- the state after a token behind a complete item: a comma lets the
--- next argument come, and the closing delimiter of the node that the
--- item stands in completes that node; no other token may stand there
+-- the state after a token that follows a complete item: a comma lets the next argument come, and
+-- the closing delimiter of the node that the item is in completes that node; no other token is
+-- allowed
 abbrev pub behind_item : Item → List Frame → Token → Option State
 behind_item item [] t = None
 behind_item item (f ∷ fs) (single kind place raw) = None
@@ -63,8 +63,8 @@ behind_item item (f ∷ fs) (closing place square) =
     only_if (same_square square f.square)
     (after (gather f.place f.keyword f.square f.before item End place) fs)
 
--- the state after one token more, with no more than `limit`
--- delimiters open; none where it may not stand there
+-- the state after one token more, with no more than `limit` delimiters open; none where it isn't
+-- allowed
 abbrev pub step : ℕ → State → Token → Option State
 step limit (wants []) (single number place raw) = None
 step limit (wants []) (single text place raw) = None
@@ -85,7 +85,7 @@ move limit s t = option_and_then (λ n. step limit n t) s
 abbrev pub run : ℕ → State → List Token → Option State
 run limit s ts = fold (move limit) (Some s) ts
 
--- the tokens of complete arguments, the last first, each with a comma behind it
+-- the tokens of complete arguments, the last first, each with a comma after it
 abbrev pub before_tokens : List Item → List Token
 before_tokens [] = []
 before_tokens (item ∷ before) = before_tokens before ++ (tokens item ++ comma ∷ [])

@@ -21,11 +21,11 @@ pub record Flat : Type 0 where
   pub opens : List Open
   pub position : Position
 
--- an open node that stands where there is none
+-- an open node, in place of one that isn't there
 abbrev pub no_open : Open
 no_open = record { row = 0; square = false; count = 0 }
 
--- a row that stands where there is none
+-- a row, in place of one that isn't there
 abbrev pub no_row : Row
 no_row = record {
   kind = Node;
@@ -102,7 +102,7 @@ with_leaf f kind place raw = record {
   position = position_after kind;
 }
 
--- the table after a number, a text or a word; none where it may not stand there
+-- the table after a number, a text or a word; none where it isn't allowed
 abbrev pub flat_single : Flat → ItemKind → ℕ → List ℕ → Option Flat
 flat_single f kind place raw =
     if may_begin f.position f.opens kind then Some (with_leaf f kind place raw) else None
@@ -115,7 +115,7 @@ may_go_on AfterWord (o ∷ os) = true
 may_go_on AfterItem [] = false
 may_go_on AfterItem (o ∷ os) = true
 
--- the table after a comma; none where it may not stand there
+-- the table after a comma; none where it isn't allowed
 abbrev pub flat_comma : Flat → Option Flat
 flat_comma f =
     if may_go_on f.position f.opens
@@ -138,7 +138,7 @@ with_open f square = record {
   position = BeforeItem;
 }
 
--- the table after an opening delimiter; none where it may not stand there, or is one too many
+-- the table after an opening delimiter; none where it isn't allowed, or is one too many
 abbrev pub flat_open : Flat → Bool → Option Flat
 flat_open f square =
     if is_after_word f.position && nat_lt (length f.opens) 12 then Some (with_open f square)
@@ -167,13 +167,13 @@ with_close f place = closed f.opens
       position = AfterItem;
     }
 
--- the table after a closing delimiter; none where it may not stand there
+-- the table after a closing delimiter; none where it isn't allowed
 abbrev pub flat_close : Flat → ℕ → Bool → Option Flat
 flat_close f place square =
     if may_go_on f.position f.opens && has_square f.opens square then Some (with_close f place)
     else None
 
--- the table after one token more; none where it may not stand there
+-- the table after one token more; none where it isn't allowed
 abbrev pub flat_step : Flat → Token → Option Flat
 flat_step f (single kind place raw) = flat_single f (item_kind kind) place raw
 flat_step f comma = flat_comma f
@@ -185,7 +185,7 @@ abbrev pub IsStep : Option Flat → Bool → Flat → Flat → Type 0
 IsStep None taken before behind = (taken ≡ false) × (behind ≡ before)
 IsStep (Some next) taken before behind = (taken ≡ true) × (behind ≡ next)
 
--- how an opening delimiter is met: too deep where it stands after a word and 12 are open
+-- how an opening delimiter is met: too deep where it follows a word inside 12 open ones
 abbrev pub IsOpened : Flat → Bool → Opened → Flat → Type 0
 IsOpened before square Taken behind = flat_open before square ≡ Some behind
 IsOpened before square TooDeep behind =
@@ -207,8 +207,8 @@ abbrev pub AreRoomy : ℕ → List Open → Type 0
 AreRoomy n [] = Unit {0}
 AreRoomy n (o ∷ os) = (o.row + o.count < n) × AreRoomy n os
 
--- each open node has its row and below it as many as it has
--- arguments, and behind a word there is a row
+-- each open node has its row and below it as many as it has arguments, and after a word there is a
+-- row
 pub record IsRoomy (f : Flat) : Type 0 where
   pub opens : AreRoomy (length f.rows) f.opens
   pub word : f.position ≡ AfterWord → 0 < length f.rows

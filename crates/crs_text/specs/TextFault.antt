@@ -54,7 +54,7 @@ pub record IsFirstRun (left run rest : List ℕ) : Type 0 where
   pub taken : IsTrue (list_all is_run_byte run)
   pub ends : StopsAt is_run_byte rest
 
--- no token can be formed in front of what is left; the fault lies `skip` bytes further on
+-- no token can be formed at the front of what is left; the fault is `skip` bytes further on
 abbrev pub IsFlaw : Reason → List ℕ → ℕ → Type 0
 IsFlaw BadCharacter left skip = BeginsNoToken left × (skip ≡ 0)
 IsFlaw BadNumber left skip =
@@ -96,8 +96,8 @@ IsStop UnexpectedEnd total ts left skip = (left ≡ []) × IsNoNode ts × (skip 
 IsStop TooDeep total ts left skip =
     (t : Token) × (rest : List ℕ) × Forms total t left rest × IsTooDeep ts t × (skip ≡ 0)
 
--- the text is refused with this number at this place: the
--- tokens before are viable, and there it stops
+-- the text is refused with this number at this place: the tokens before are viable, and there it
+-- stops
 pub record RefusesText (bytes : List ℕ) (number place : ℕ) : Type 0 where
   pub reason : Reason
   pub before : List Token

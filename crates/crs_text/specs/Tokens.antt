@@ -81,8 +81,8 @@ IsFormed comma = Unit {0}
 IsFormed (opening square) = Unit {0}
 IsFormed (closing place square) = Unit {0}
 
--- a byte that a token of this kind would take if it stood
--- behind it; of a text the quote, which would be doubled
+-- a byte that a token of this kind would take if it came next; of a text the quote, which would be
+-- doubled
 abbrev pub takes_byte : Kind → ℕ → Bool
 takes_byte number = is_run_byte
 takes_byte text = is_quote
@@ -102,7 +102,7 @@ IsPlaced total comma left = Unit {0}
 IsPlaced total (opening square) left = Unit {0}
 IsPlaced total (closing place square) left = place + length left ≡ total
 
--- the token stands in front of what is left of a text of this length, and the rest comes after it
+-- what is left of a text of this length begins with the token, and the rest comes after it
 pub record Forms (total : ℕ) (t : Token) (left rest : List ℕ) : Type 0 where
   pub spelled : left ≡ spelling t ++ rest
   pub formed : IsFormed t

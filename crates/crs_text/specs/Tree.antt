@@ -76,7 +76,7 @@ only-join : (items later : Siblings) → only (count items) (join items later) �
 only-join End later = refl
 only-join (More item items) later = ap (λ is. More item is) (only-join items later)
 
--- of joined items those behind the first ones, as many as the former are, are the later
+-- of joined items those after the first ones, as many as the former are, are the later
 skip-join : (items later : Siblings) → skip (count items) (join items later) ≡ later
 skip-join End later = refl
 skip-join (More item items) later = skip-join items later
@@ -117,7 +117,7 @@ mutual
       ∙ forest-parts item (parts_of_items items ++ ps)
       ∙ ap (λ is. More item is) (forest-parts_of_items items ps)
 
--- parts with none behind them are the parts
+-- parts with none after them are the parts
 append-none : (ps : List ItemPart) → ps ++ [] ≡ ps
 append-none [] = refl
 append-none (p ∷ ps) = ap (λ qs. p ∷ qs) (append-none ps)
@@ -175,7 +175,7 @@ part_code =
 abbrev pub item_code : Coded Item
 item_code = code_by (List ItemPart) (coded_list part_code) parts tree tree-parts
 
--- where the raw bytes of an item begin: those of a quoted text behind its quote
+-- where the raw bytes of an item begin: those of a quoted text after its quote
 abbrev pub raw_place : ItemKind → ℕ → ℕ
 raw_place Number place = place
 raw_place Text place = suc place
@@ -197,13 +197,12 @@ part source r = record {
 unfoldable pub tree_of : List ℕ → List Row → Item
 tree_of source table = tree (map (part source) table)
 
--- these bytes stand in the source from this place on
+-- the source has these bytes from this place on
 pub record StandsAt (source : List ℕ) (place : ℕ) (raw : List ℕ) : Type 0 where
   pub within : place + length raw ≤ length source
   pub bytes : raw ≡ take (length raw) (drop place source)
 
--- the raw bytes of a token stand in the source at its place,
--- those of a quoted text behind its quote
+-- the source has the raw bytes of a token at its place, those of a quoted text after its quote
 abbrev pub TokenStands : List ℕ → Token → Type 0
 TokenStands source (single number place raw) = StandsAt source place raw
 TokenStands source (single text place raw) = StandsAt source (suc place) raw
@@ -217,11 +216,11 @@ abbrev pub EachToken : (Token → Type 0) → List Token → Type 0
 EachToken P [] = Unit {0}
 EachToken P (t ∷ ts) = P t × EachToken P ts
 
--- all these tokens stand in the source
+-- the source has all these tokens
 abbrev pub AllStand : List ℕ → List Token → Type 0
 AllStand source ts = EachToken (TokenStands source) ts
 
--- the rows are those of a node whose tokens are well formed and stand in the source
+-- the rows are those of a node whose tokens are well formed and in the source
 pub record IsTable (source : List ℕ) (table : List Row) (item : Item) : Type 0 where
   pub rows : table ≡ rows 0 item
   pub stand : AllStand source (tokens item)

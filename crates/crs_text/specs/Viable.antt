@@ -1,4 +1,4 @@
--- What can still become a text, and which token may stand next.
+-- What can still become a text, and which token may come next.
 use Rattle.std.specs.Prelude.{◌≡◌, ℕ, ◌<◌, ◌⊎◌, Bool, Option, Some, None, List, [], ◌∷◌, ◌++◌}
 use Rattle.std.specs.Prelude.{length}
 use Rattle.std.specs.List.{fold, last_or}
@@ -61,7 +61,7 @@ GoesOn square comma = Unit {0}
 GoesOn square (opening other) = ⊥
 GoesOn square (closing place other) = other ≡ square
 
--- which token may stand after a last one, with these delimiters open
+-- which token may follow a last one, with these delimiters open
 abbrev pub MayFollow : Option Token → List Bool → Token → Type 0
 -- at the start a word
 MayFollow None held t = IsWordToken t
@@ -79,7 +79,7 @@ MayFollow (Some _) [] t = ⊥
 -- after any other token a comma or the closing delimiter of the last open one
 MayFollow (Some _) (square ∷ held) t = GoesOn square t
 
--- this token may stand after these tokens, which are viable
+-- this token may follow these tokens, which are viable
 abbrev pub Allows : List Token → Token → Type 0
 Allows ts t = MayFollow (last_of ts) (opens ts) t
 

@@ -1,4 +1,4 @@
-//! Why a call gave no answer: a refusal, or want of memory.
+//! Why a call gave no answer: a refusal, or out of memory.
 ghost use Rattle.std.specs.Prelude.{◌≡◌};
 
 use crate::refusal::Refusal;
@@ -19,7 +19,7 @@ pub enum Fault {
 impl Fault {
     ghost use Rattle.crs_text.specs.Fault.{refusal_of};
 
-    /// The refusal, if that is why.
+    /// The refusal, if that is the reason.
     pub fn refusal(&self) -> Option<Refusal>
         ensures { result ≡ refusal_of self.now }
     {

@@ -52,9 +52,9 @@ impl Feeder {
         }
     }
 
-    /// Takes the next piece of the text. Ok says that nothing settled refuses what came so far: a number, text
-    /// or word is settled once a byte has come behind it; a comma, a delimiter and a byte that begins no token
-    /// at once; ill-formed UTF-8 once no more bytes mend it.
+    /// Takes the next piece of the text. Ok says that nothing settled refuses what came so far: a number, text or
+    /// word is settled once a byte follows it; a comma, a delimiter and a byte that begins no token at once;
+    /// ill-formed UTF-8 once no continuation can be valid.
     ///
     /// `Refused`: a refusal with a number from 1 to 8 is settled, that of every text that begins so; every
     /// later call answers it, and no later piece is held. `Memory`: the piece counts as not fed.

@@ -27,7 +27,7 @@ pub(crate) enum Pending {
     Word,
     /// Bytes that a number could take, to the end.
     Run,
-    /// An opening quote: so many bytes behind it are inside the text, so many are well-formed UTF-8.
+    /// An opening quote: so many bytes after it are inside the text, so many are well-formed UTF-8.
     Text { inside: usize, valid: usize },
 }
 
@@ -38,7 +38,7 @@ pub(crate) struct Held {
     pub(crate) pending: Pending,
 }
 
-// Whether a byte stands there that a number wouldn't take.
+// Whether there is a byte that a number wouldn't take.
 #[tactic(auto, using(crate::proofs::FeedingLemmas::run_rules))]
 fn is_settled_run(left: &[u8]) -> bool
     ensures { MatchBool result (IsRunSettled left.now) (¬ (IsRunSettled left.now)) }
@@ -69,7 +69,7 @@ fn is_settled(left: &[u8], lexed: Lexed) -> bool
     }
 }
 
-// The settled token at this place, taken with the white space behind it; None where none is settled.
+// The settled token at this place, taken with the white space after it; None where none is settled.
 fn settle(table: &mut Table, text: &[u8], at: usize) -> Result<Option<usize>, Fault>
     requires more { at < length text.now }
     requires reached { IsSettledTo text.now table.old at }
@@ -129,8 +129,8 @@ fn valid_to(after: &[u8], known: usize) -> Option<usize>
     }
 }
 
-// How many of the bytes are inside the text, where so many are known to be; None where it is closed and a
-// byte stands behind the quote.
+// How many of the bytes are inside the text, where so many are known to be; None where it is closed and a byte
+// follows the quote.
 fn open_to(after: &[u8], known: usize) -> Option<usize>
     requires { IsInsideTo after.now known }
     ensures { IfSome result (IsOpenTo after.now) }
@@ -203,7 +203,7 @@ fn stays_run(left: &[u8], piece: &[u8]) -> Option<Pending>
     }
 }
 
-// What is pending in front of what is left, as far as a look at it shows.
+// What is pending at the front of what is left, as far as a look at it shows.
 fn pending_of(left: &[u8]) -> Pending
     ensures { IsPendingIn left.now result }
 {

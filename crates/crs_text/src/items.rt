@@ -90,7 +90,7 @@ impl<'a> Items<'a> {
         self.rows[id.0]
     }
 
-    /// The item that the others stand in.
+    /// The item that all others are in.
     pub fn root(&self) -> ItemId
         ensures root { here self.now result ≡ More self.now End }
         ensures contained { HasId self.now result }
@@ -194,7 +194,7 @@ impl<'a> Items<'a> {
         }
     }
 
-    // The first argument stands directly behind its node.
+    // The first argument comes directly after its node.
     fn first_arg(&self, id: ItemId) -> Option<ItemId>
         requires { HasId self.now id }
         ensures { IsAt self.now (arguments (first_of (here self.now id))) result }
@@ -234,7 +234,7 @@ impl<'a> Items<'a> {
     }
 }
 
-// Where the raw bytes begin: those of a quoted text behind its quote.
+// Where the raw bytes begin: those of a quoted text after its quote.
 fn raw_place(kind: ItemKind, place: usize) -> usize
     requires { raw_place kind place < 2 ^ 64 }
     ensures { result ≡ raw_place kind place }

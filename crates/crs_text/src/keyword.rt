@@ -6,8 +6,8 @@ ghost use Rattle.crs_text.specs.Keywords.{keyword_of, spelling_of};
 ghost use Rattle.crs_text.specs.KeywordTable.{as_spelled, spelled, of_length, first_among, is_capital, AreCapitals};
 ghost use Rattle.crs_text.specs.KeywordTable.{AreSpellings, AreSameWithin};
 
-/// A keyword, under its spelling: letter case doesn't count, and one thing may have several keywords.
-/// ISO 19162:2019; what each stands for is the profile's choice.
+/// A keyword, under its spelling: letter case doesn't count, and one thing may have several keywords. ISO 19162:2019;
+/// what each means is the profile's choice.
 #[derive(Clone, Copy, Debug, PartialEq, Eq)]
 pub enum Keyword {
     /// `ID`: identifier.
@@ -122,7 +122,7 @@ const BLOCK: usize = 8;
 const HALF_BLOCK: usize = 4;
 
 // The keywords with their bytes, in capitals, by how many these are; of each length the frequent ones go first. The
-// bytes stand here alone: each table is made of these rows by a macro.
+// bytes are here alone: a macro makes each table from these rows.
 macro_rules! keywords {
     ($table:ident, $asked:expr) => {
         $table! {

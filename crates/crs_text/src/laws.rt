@@ -79,7 +79,7 @@ pub fn settled_refusals()
     ensures one { (bytes : List ℕ) (n m place other : ℕ) →
         IsSettledRefusal bytes n place → IsSettledRefusal bytes m other → (n ≡ m) × (place ≡ other) }
 
-    // Whatever bytes come.
+    // Whatever bytes follow.
     ensures stays { (bytes more : List ℕ) (n place : ℕ) → IsSettledRefusal bytes n place →
         IsSettledRefusal (bytes ++ more) n place × RefusesText (bytes ++ more) n place }
     ensures apart { (bytes : List ℕ) (n place : ℕ) → IsSettledRefusal bytes n place → ¬ (IsTakenSoFar bytes) }

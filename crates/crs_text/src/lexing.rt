@@ -1,4 +1,4 @@
-//! The token in front of what is left of a text, or its flaw. Runs are found as a whole, not byte by byte.
+//! The token at the front of what is left of a text, or its flaw. Runs are found as a whole, not byte by byte.
 ghost use Rattle.std.specs.Prelude.{◌≡◌, ◌+◌, ◌≤◌, ◌<◌, length, take, drop, MatchOption, MatchBool, IsTrue, IfSome, ◌∷◌};
 ghost use Rattle.std.specs.List.{prefix_len};
 ghost use Rattle.crs_text.specs.Quoted.{BeginsWith, IsInside, IsShutAt, StopsAt, is_plain, is_quote};
@@ -13,7 +13,7 @@ use crate::utf8::{Utf8Form, judge};
 use bstr::ByteSlice;
 use crs_decimal::{Decimal, NumberFault};
 
-/// What stands in front of what is left; lengths count the raw bytes of a single token.
+/// What begins what is left; lengths count the raw bytes of a single token.
 #[derive(Clone, Copy)]
 pub(crate) enum Lexed {
     Number { length: usize },
@@ -84,7 +84,7 @@ pub(crate) fn closing_quote(after: &[u8]) -> Option<usize>
     None
 }
 
-// Whether a quote comes first, and no other behind it.
+// Whether a quote comes first, and no other after it.
 #[inline(always)]
 fn is_closing(bytes: &[u8]) -> bool
     ensures { IsTrue result → IsClosing bytes.now }
@@ -147,7 +147,7 @@ fn closed(left: &[u8], length: usize) -> Lexed
 {
     match judge(front_of(rest_of(left, 1), length + 1)) {
         Utf8Form::WellFormed => Lexed::Text { length },
-        // A quote cuts no sequence: what ends in one is well-formed or ill-formed.
+        // A quote ends every sequence: bytes that end in one are well-formed or ill-formed.
         Utf8Form::Cut => Lexed::Text { length },
         Utf8Form::IllFormed { valid } => flaw(Reason::NotUtf8, valid + 1),
     }

@@ -1,5 +1,5 @@
-//! Tokens and items of a well-formed text, or the first fault with its place. What stands above knows the
-//! items and the refusals alone: no byte of a text is read elsewhere.
+//! Tokens and items of a well-formed text, or the first fault with its place. Crates above know the items and the
+//! refusals alone: no byte of a text is read elsewhere.
 #![tactic(auto)]
 
 mod fault;

@@ -13,7 +13,7 @@ use crate::runs::white_length;
 use crate::scanning::after_white;
 use std::marker::Model;
 
-/// The most delimiters that are open at once in front of a refusal. Profile.
+/// The most delimiters that are open at once before a refusal. Profile.
 const LIMIT: usize = 12;
 
 /// The places of the delimiters that are open, in the order in which they were opened.

@@ -1,13 +1,12 @@
-//! Where a place of a text stands for a person: its line and its column.
+//! A place of a text as a person counts it: its line and its column.
 ghost use Rattle.std.specs.Prelude.{◌≡◌, ◌≤◌, not, length, take, drop};
 ghost use Rattle.crs_text.specs.Position.{feeds, continues, characters, BeginsLine, EndsLine, IsPosition};
 
 use crate::lexing::{front_of, rest_of};
 use bstr::ByteSlice;
 
-/// Where a place of a text stands: its line, counted from 1, and its column, which counts the line's
-/// characters from 1; and where the line's bytes begin and end, the line feed not among them, so that
-/// `&text[begin..end]` is the line. Profile.
+/// Where a place of a text is: its line, counted from 1, and its column, which counts the line's characters from 1;
+/// and where the line's bytes begin and end, without the line feed, so that `&text[begin..end]` is the line. Profile.
 #[derive(Clone, Copy, Debug, PartialEq, Eq)]
 pub struct Position {
     pub line: usize,
@@ -61,7 +60,7 @@ fn first_line(bytes: &[u8]) -> usize
     }
 }
 
-/// Where this place of the text stands; the text's end is a place too.
+/// Where this place of the text is; the text's end is a place too.
 ///
 /// A line ends at a line feed alone: a carriage return is a character of its line. A byte from 128 to
 /// 191 continues a character, and isn't counted. Time is linear in the text. Profile.

@@ -10,7 +10,7 @@ use crate::scanning::scan;
 use crate::table::Table;
 use std::alloc::Global;
 
-/// Most texts have fewer items than one in so many bytes; for more the rows grow.
+/// Most texts have fewer items than one in so many bytes; for others the table of rows grows.
 const BYTES_A_ROW: usize = 8;
 
 /// The items of a text, which borrow it.

@@ -8,7 +8,7 @@ use std::marker::Model;
 /// Profile.
 #[derive(Clone, Copy, Debug, PartialEq, Eq)]
 pub struct Refusal {
-    // A word, so that no gap is copied with a refusal.
+    // As wide as a machine word, so that a refusal has no padding, which would be copied with it.
     number: u64,
     place: usize,
 }
@@ -35,7 +35,7 @@ pub(crate) enum Reason {
     BadNumber,
     /// A number is out of bounds.
     NumberRange,
-    /// No well-formed UTF-8 goes on so.
+    /// No well-formed UTF-8 continues so.
     NotUtf8,
     /// A quoted text has no end.
     OpenText,
@@ -43,7 +43,7 @@ pub(crate) enum Reason {
     Unexpected,
     /// The text ends too early.
     UnexpectedEnd,
-    /// An opening delimiter stands inside 12 open ones.
+    /// An opening delimiter is inside 12 open ones.
     TooDeep,
 }
 

@@ -24,8 +24,8 @@ fn unexpected(at: usize) -> Fault
     Fault::Refused(Reason::Unexpected.at(at))
 }
 
-// How many bytes were taken comes back by reference, as does the place that is reached: a count and a fault that share
-// the room of one answer are kept byte by byte, which costs some four instructions a token.
+// How many bytes were taken comes back by reference, as does the place that is reached: a count and a fault that
+// share the room of one answer are kept byte by byte, which costs some four instructions a token.
 
 // A number, text or word of `size` bytes, which has these raw bytes.
 #[inline(always)]
@@ -280,7 +280,7 @@ pub(crate) fn after_white(text: &[u8], end: usize) -> usize
     at
 }
 
-/// Takes the token at this place and the white space behind it, and moves the place behind both.
+/// Takes the token at this place and the white space after it, and moves the place past both.
 #[inline(always)]
 pub(crate) fn advance(table: &mut Table, text: &[u8], at: &mut usize) -> Result<(), Fault>
     requires more { at.old < length text.now }

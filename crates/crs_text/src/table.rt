@@ -31,14 +31,14 @@ pub(crate) enum Position {
 #[derive(Clone, Copy)]
 pub(crate) enum Opened {
     Taken,
-    /// It stands after a word, and as many as may be are open.
+    /// It follows a word, and as many as may be are open.
     TooDeep,
     Refused,
 }
 
-/// An item: its first byte's place, the length of its raw bytes, which begin there or behind a
-/// quote; a node's closing delimiter, its count of arguments and of all items in it, itself
-/// included; how many delimiters are open around it; and the keyword that a word or a node's word is.
+/// An item: its first byte's place, the length of its raw bytes, which begin there or after a quote; a node's closing
+/// delimiter, its count of arguments and of all items in it, itself included; how many delimiters are open around it;
+/// and the keyword that a word or a node's word is.
 #[derive(Clone, Copy)]
 pub(crate) struct Row {
     pub(crate) place: usize,

@@ -1,4 +1,4 @@
-//! The bytes behind an opening quote, judged as UTF-8.
+//! The bytes after an opening quote, judged as UTF-8.
 ghost use Rattle.crs_text.specs.Utf8Form.{HasUtf8Form};
 
 use bstr::validate;
