@@ -1,4 +1,4 @@
--- What could stand where the fault lies, as the loop over an item's arguments finds it.
+-- What could come at a fault of shape, as the loop over an item's arguments finds it.
 use Rattle.std.proofs.Common.{◌≡◌, ◌≢◌, ℕ, ◌<◌, inl, inr, Bool, true, false, ◌&&◌, Option, Some, None, List, [], ◌∷◌, ◌++◌, drop, filter, map, option_map, refl, sym, ◌∙◌, ap, subst, arith, rules}
 use Rattle.std.specs.List.{list_any}
 use Rattle.std.proofs.lemmas.Map.Views.{any-filter_same}
@@ -72,8 +72,8 @@ follows parent place before slots r e is = record {
 
 -- ---- the loop
 
--- what the loop keeps: what is free of faults from the next argument on leaves the item free, and what could
--- stand where the fault lies there could stand where that of the item does
+-- what the loop keeps: what is free of faults from the next argument on leaves the item free, and
+-- what could come at the fault there could come at that of the item
 pub record Going (tree : Item) (class : Class) (item : Item) (slots : List SlotParts) (next : Option ℕ) : Type 0 where
   pub close : ℕ
   pub before : List Class
@@ -114,7 +114,7 @@ going_at tree c item slots next other going e = subst (Going tree c item slots) 
 
 -- what an argument's step says
 
--- no class stands where there is no step
+-- no class is there where there is no step
 none_stands : (parent : Class) (before : List Class) (slots : List SlotParts) (item : Item) → Reached (slots_of parent) before slots → None ≡ step_of parent slots item →
     (d : Class) → Stands parent before item d → ⊥
 none_stands parent before slots item r e d stands = by (after slots d) refl
@@ -174,7 +174,7 @@ free_later c d close before (More item items) some stands free later =
     exact-free c before item (λ x f. Inside x item f) (λ b f. Among c close b items f) d stands.named stands free later
 
 module _ (tree : Item) (c : Class) (item : Item) (slots : List SlotParts) (id : ℕ) (going : Going tree c item slots (Some id)) where
-  -- an argument that may not stand there
+  -- an argument that isn't allowed there
   pub going_wrong : (e : ExpectedParts) → None ≡ step_of c slots (first_of (here tree id)) →
       e ≡ record { parent = Some c; place = place_of item; classes = filter (may_go slots) every_class; may_end = may_end slots } → ExpectedIn c item e
   going_wrong e none is =
@@ -209,7 +209,7 @@ module _ (tree : Item) (c : Class) (item : Item) (slots : List SlotParts) (id : 
           less = omega (arith, rest-less tree id next going.has at, going.less);
         }
 
--- all arguments stand
+-- all arguments are allowed
 
 pub going_end : (tree : Item) (c : Class) (item : Item) (slots : List SlotParts) (b : Bool) → Going tree c item slots None → b ≡ may_end slots → b ≡ true → IsFree (Inside c item)
 going_end tree c item slots b going e t = going.free (end-free c going.close going.before slots going.reached (sym e ∙ t))

@@ -86,7 +86,7 @@ rest-less tree id next has at =
     let same : sizes (from tree next) ≡ sizes (rest_of (here tree id)) = ap sizes (from_at tree (rest_of (here tree id)) next at) in
     omega (arith, sizes-first (here tree id) has, size-above (first_of (here tree id)))
 
--- an argument that may not stand there
+-- an argument that isn't allowed there
 pub going_wrong : (tree : Item) (c : Class) (item : Item) (close : ℕ) (slots : List SlotParts) (id : ℕ) → Going tree c item close slots (Some id) →
     None ≡ step_of c slots (first_of (here tree id)) → Some (misplaced (first_of (here tree id))) ≡ first_inside c item
 going_wrong tree c item close slots id going e =

@@ -78,7 +78,7 @@ named parent k =
     same_class-true (find (is_part parent) (classes_of k)) (class_named parent (spelling_of k))
     (every-class (is_named (classes_of k) (spelling_of k)) (every-keyword is_named_everywhere all_named k) parent)
 
--- and what it names at the head of a text
+-- and what it names at the root of a text
 abbrev is_named_root : Keyword → Bool
 is_named_root k = same_class (find is_root (classes_of k)) (root_named (spelling_of k))
 

@@ -1,4 +1,4 @@
--- Faults of shape have their numbers, and lie at places of the item; those are bytes of the text.
+-- Faults of shape have their numbers, and are at places of the item; those are bytes of the text.
 use Rattle.std.proofs.Common.{◌≡◌, ◌≢◌, ℕ, zero, suc, ◌+◌, ◌<◌, ◌≤◌, length, slice_index_or, Bool, true, false, if◌then◌else◌, inl, inr, List, [], ◌∷◌, ◌++◌, refl, sym, ap, subst, arith}
 use Rattle.crs_text.specs.Tokens.{Kind, number, text, word, Token, single, comma, opening, closing, IsSingle, single_spelling, Forms, Fronts}
 use Rattle.crs_text.specs.Items.{Item, leaf, node, Siblings, End, More, HasId, first_of, here, inside, inside_items, tokens, others_tokens}
@@ -75,7 +75,7 @@ root-placed item fault (inl x) =
     as-other (IsPlaceIn item) fault (misplaced item) x.1 (misplaced-among (IsPlaceIn item) item (λ p q. q))
 root-placed item fault (inr x) = inside-placed x.0 item fault x.1.1
 
--- ---- items that stand in a tree
+-- ---- items of a tree
 
 module _ (P : ℕ → Type 0) where
   abbrev Covered : List Siblings → Type 0

@@ -125,7 +125,7 @@ after-apart (s ∷ ss) c next apart e =
     by_many true b e = ap not e
     by_many false b e = refl
 
--- an argument of this class may stand there, and the rest is allowed by the slots that are left
+-- an argument of this class is allowed there, and the rest is allowed by the slots that are left
 abbrev pub Goes : List SlotParts → Class → List Class → Type 0
 Goes ss c cs = (next : List SlotParts) × ((after ss c ≡ Some next) × Allowed next cs)
 
@@ -175,7 +175,7 @@ goes-along (s ∷ ss) apart ((d ∷ run) ∷ runs) fit c cs e =
     let Q : List Class → Type 0 = λ x. Goes (s ∷ ss) d x in
     subst P same (subst Q rest (goes-here s ss d run runs fit.0.taken.0 fit.0 fit.1))
 
--- a class may go in front where it may stand
+-- a class may come first where it is allowed
 fills-more : (s : SlotParts) (d : Class) (run : List Class) → s.many ≡ true → takes s d ≡ true → AllTaken (again s) run → Fills s (d ∷ run)
 fills-more s d run many taken h = record {
   taken = (taken, taken-more run h);

@@ -20,18 +20,19 @@ abbrev pub or_later : Option RefusedAt → Option RefusedAt → Option RefusedAt
 or_later None later = later
 or_later (Some fault) later = Some fault
 
--- the class of an argument and the slots that are left after it, where it may stand there
+-- the class of an argument and the slots that are left after it, where it is allowed there
 abbrev pub step_to : Class → Option (List SlotParts) → Option (Class × List SlotParts)
 step_to c None = None
 step_to c (Some next) = Some (c, next)
 
--- the class of an argument of this class and the slots that
--- are left after it, where it has one and may stand there
+-- the class of an argument of this class and the slots that are left after it, where it has one and
+-- is allowed there
 abbrev pub step_as : List SlotParts → Option Class → Option (Class × List SlotParts)
 step_as slots None = None
 step_as slots (Some c) = step_to c (after slots c)
 
--- the class of an item in its parent and the slots that are left after it, where it may stand there
+-- the class of an item in its parent and the slots that are left after it, where it is allowed
+-- there
 abbrev pub step_of : Class → List SlotParts → Item → Option (Class × List SlotParts)
 step_of parent slots item = step_as slots (class_in parent item)
 

@@ -21,11 +21,11 @@ classes_by (Some k) = classes_of k
 abbrev pub is_among : Class → List Class → Bool
 is_among c classes = list_any (λ d. sameb the_type d c) classes
 
--- whether arguments of a class may stand in a parent
+-- whether arguments of a class are allowed in a parent
 abbrev pub is_part : Class → Class → Bool
 is_part parent c = list_any (λ s. takes s c) (slots_of parent)
 
--- the classes of the arguments that may stand in a parent
+-- the classes of the arguments that are allowed in a parent
 abbrev pub argument_classes : Class → List Class
 argument_classes parent = flat_map (λ s. s.classes) (slots_of parent)
 

@@ -63,7 +63,7 @@ keywords_of class.Remark = keyword.Remark ∷ []
 abbrev pub has_keyword : Class → Keyword → Bool
 has_keyword c k = list_any (λ j. sameb the_type j k) (keywords_of c)
 
--- All classes. Where several of those that have a keyword may stand in one parent, it names the
+-- All classes. Where several of those that have a keyword are allowed in one parent, it names the
 -- first there: so a unit that doesn't say its kind goes before those that do.
 abbrev pub every_class : List Class
 every_class =
@@ -100,6 +100,6 @@ first_named (c ∷ cs) word = if is_keyword c word then Some c else first_named 
 unfoldable pub is_known : List ℕ → Bool
 is_known word = list_any (λ c. is_keyword c word) every_class
 
--- the class that a word names at the head of a text
+-- the class that a word names at the root of a text
 unfoldable pub root_named : List ℕ → Option Class
 root_named word = first_named root_classes word

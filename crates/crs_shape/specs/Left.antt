@@ -1,4 +1,4 @@
--- A bridge: what may come where a walk stands in the slots of a class.
+-- A bridge: what may come where a walk is in the slots of a class.
 use Rattle.std.specs.Prelude.{Bool, true, false, Option, Some, None, List, drop, filter}
 use Rattle.crs_shape.specs.declared.class.Class.{Class}
 use Rattle.crs_shape.specs.declared.fitting.Walk.{Walk}
@@ -19,7 +19,7 @@ has_some (Some a) = true
 abbrev pub may_go : List SlotParts → Class → Bool
 may_go slots c = has_some (after slots c)
 
--- the classes of the arguments that may come, in a parent or at the head of a text
+-- the classes of the arguments that may come, in a parent or at the root of a text
 abbrev pub classes_left : Option Class → Walk → List Class
 classes_left None walk = root_classes
 classes_left (Some parent) walk = filter (may_go (slots_left parent walk)) every_class

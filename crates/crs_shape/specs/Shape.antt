@@ -37,7 +37,7 @@ Allowed slots classes = (runs : List (List Class)) × (Fit slots runs × (classe
 abbrev pub Begins : List SlotParts → List Class → Type 0
 Begins slots classes = (more : List Class) × Allowed slots (classes ++ more)
 
--- whether a class stands in a slot that can be reached over optional slots alone
+-- whether a class is in a slot that can be reached over optional slots alone
 abbrev pub reaches : List SlotParts → Class → Bool
 reaches [] c = false
 reaches (slot ∷ slots) c = takes slot c || (not slot.required && reaches slots c)
@@ -47,8 +47,8 @@ abbrev pub has_class : List Class → Bool
 has_class [] = false
 has_class (c ∷ cs) = true
 
--- Every slot has a class, and no class of an optional or repeated slot
--- stands in a later slot that can be reached over optional slots alone.
+-- Every slot has a class, and no class of an optional or repeated slot is in a later slot that can
+-- be reached over optional slots alone.
 abbrev pub is_apart : List SlotParts → Bool
 is_apart [] = true
 is_apart (slot ∷ slots) =

@@ -30,8 +30,8 @@ abbrev pub is_of : Class → Item → Bool
 is_of c (leaf kind place raw) = sameb the_type (class_of_kind kind) c
 is_of c (node place keyword square first others close) = is_keyword c keyword
 
--- an item that may not stand where it does is refused at its first
--- byte: 11 if it is a node whose keyword no class has, else 12
+-- an item that isn't allowed where it is, is refused at its first byte: 11 if it is a node whose
+-- keyword no class has, else 12
 abbrev pub misplaced : Item → RefusedAt
 misplaced (leaf kind place raw) = record { number = 12; place = place }
 misplaced (node place keyword square first others close) =
@@ -49,14 +49,14 @@ IsFree Fault = (fault : RefusedAt) → Fault fault → ⊥
 abbrev pub IsOnly : (RefusedAt → Type 0) → RefusedAt → Type 0
 IsOnly Fault fault = Fault fault × ((other : RefusedAt) → Fault other → other ≡ fault)
 
--- an argument, after others of the classes `before`, may stand there as this class: it is of the
+-- an argument, after others of the classes `before`, is allowed there as this class: it is of the
 -- class in its parent, and an allowed list begins so
 pub record Stands (parent : Class) (before : List Class) (item : Item) (c : Class) : Type 0 where
   pub named : class_in parent item ≡ Some c
   pub begins : Begins (slots_of parent) (before ++ c ∷ [])
 
--- Where a fault may lie at an argument that comes after others of the classes `before`: the argument
--- itself, if it may not stand there; else inside it; else, if it is free inside, after it.
+-- Where a fault may be at an argument that comes after others of the classes `before`: the argument
+-- itself, if it isn't allowed there; else inside it; else, if it is free inside, after it.
 abbrev pub AtArgument : Class → List Class → Item → Type 0 → (Class → Type 0) → (Class → Type 0) →
     (List Class → Type 0) → Type 0
 AtArgument parent before item Own Within Free Later =
@@ -76,7 +76,7 @@ abbrev mutual
       × AtArgument c [] first (fault ≡ misplaced first) (λ d. Inside d first fault)
       (λ d. IsFree (λ f. Inside d first f)) (λ before. Among c close before others fault))
 
-  -- the fault of a node's arguments that stand after others of the classes `before`
+  -- the fault of a node's arguments that come after others of the classes `before`
   pub Among : Class → ℕ → List Class → Siblings → RefusedAt → Type 0
   Among c close before End fault = (Allowed (slots_of c) before → ⊥) × (fault ≡ missing close)
   Among c close before (More item items) fault =

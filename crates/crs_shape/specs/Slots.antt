@@ -51,13 +51,13 @@ any c = any_of (c ∷ [])
 abbrev pub some : Class → SlotParts
 some c = some_of (c ∷ [])
 
--- what may stand at a CRS's end
+-- what may be at a CRS's end
 abbrev pub tail : SlotParts
 tail =
     any_of (class.Usage ∷ class.Scope ∷ class.Area ∷ class.BoundingBox ∷ class.VerticalExtent
     ∷ class.Identifier ∷ class.Remark ∷ [])
 
--- what may stand at a vertical CRS's end
+-- what may be at a vertical CRS's end
 abbrev pub vertical_tail : SlotParts
 vertical_tail =
     any_of (class.GeoidModel ∷ class.Usage ∷ class.Scope ∷ class.Area ∷ class.BoundingBox

@@ -17,7 +17,7 @@ left false slots = slots
 left true [] = []
 left true (slot ∷ slots) = again slot ∷ slots
 
--- the slots that are left after one more argument, of this class; None where it may not stand there
+-- the slots that are left after one more argument, of this class; None where it isn't allowed there
 abbrev pub after : List SlotParts → Class → Option (List SlotParts)
 after [] c = None
 after (slot ∷ slots) c =

@@ -1,5 +1,5 @@
-//! Sets of classes, as words with a bit for each class: the test of a bit is one step, where a `match` over
-//! classes jumps, and the jump is often foretold wrongly.
+//! Sets of classes, as words with a bit for each class: the test of a bit is one step, where a `match` over classes
+//! is an often mispredicted branch.
 ghost use Rattle.std.specs.Prelude.{◌≡◌};
 ghost use Rattle.crs_shape.specs.ClassSet.{bit_of, has_bit};
 

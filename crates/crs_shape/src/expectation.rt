@@ -1,4 +1,4 @@
-//! What could stand where a fault of shape lies.
+//! What could come at a fault of shape.
 ghost use Rattle.std.specs.Prelude.{◌≡◌, Some, None};
 ghost use Rattle.crs_shape.specs.Keywords.{every_class};
 ghost use Rattle.crs_shape.specs.Expected.{may_come};
@@ -10,12 +10,12 @@ use crate::keyword::is_root;
 use crate::table::row;
 use std::marker::Model;
 
-/// What could stand where a fault of shape lies: which classes of arguments in which node. Profile.
+/// What could come at a fault of shape: which classes of arguments in which node. Profile.
 #[derive(Drop)]
 pub struct Expected {
     parent: Option<Class>,
     place: usize,
-    // where the walk over the parent's slots stands
+    // where the walk over the parent's slots is
     walk: Walk,
 }
 
@@ -34,7 +34,7 @@ impl Model for Expected {
 }
 
 impl Expected {
-    // What may come where this walk stands, in a node of this class, or at the head of a text.
+    // What may come where this walk is, in a node of this class, or at the root of a text.
     pub(crate) fn new(parent: Option<Class>, place: usize, walk: Walk) -> Self
         ensures { result ≡ record {
           parent = parent;
@@ -50,7 +50,7 @@ impl Expected {
         }
     }
 
-    /// The class of the node in which the fault lies; None where the text's own class is at fault.
+    /// The class of the node in which the fault is; None where the text's own class is at fault.
     pub fn parent(&self) -> Option<Class>
         ensures { result ≡ self.now.parent }
     {
@@ -64,7 +64,7 @@ impl Expected {
         self.place
     }
 
-    /// Whether an argument of this class could stand where the fault lies, or a text of this class at the head.
+    /// Whether an argument of this class could come at the fault, or a text of this class at the root.
     pub fn has(&self, class: Class) -> bool
         ensures { result ≡ may_come self.now class }
     {
@@ -74,7 +74,7 @@ impl Expected {
         }
     }
 
-    /// Whether the node's closing delimiter could stand where the fault lies.
+    /// Whether the node's closing delimiter could come at the fault.
     pub fn may_end(&self) -> bool
         ensures { result ≡ self.now.may_end }
     {
@@ -85,7 +85,7 @@ impl Expected {
     }
 }
 
-// Whether an argument of this class may come where this walk stands.
+// Whether an argument of this class may come where this walk is.
 fn may_go(walk: Walk, parent: Class, class: Class) -> bool
     ensures { result ≡ may_go (slots_left parent walk) class }
 {

@@ -1,4 +1,4 @@
-//! Where the fault of a shape lies, and what could stand there.
+//! Where the fault of a shape is, and what could come there.
 ghost use Rattle.std.specs.Prelude.{◌≡◌, false, IsTrue, MatchOption};
 ghost use Rattle.crs_text.specs.Items.{first_of, here, HasId};
 ghost use Rattle.crs_shape.specs.Expected.{ExpectedIn, ExpectedAtRoot};
@@ -10,9 +10,9 @@ use crate::fitting::{Walk, class_at_root, step};
 use crate::table::row;
 use crs_text::{ItemId, Items};
 
-/// What could stand where the fault lies for which `fit_root` refuses the items: the node whose argument
-/// may not stand there, or whose arguments aren't complete, and exactly the classes with which an allowed
-/// list goes on behind the arguments before. None: the items have the shape of a CRS.
+/// What could come at the fault for which `fit_root` refuses the items: the node whose argument isn't allowed there,
+/// or whose arguments aren't complete, and exactly the classes with which an allowed list goes on after the arguments
+/// before. None: the items have the shape of a CRS.
 ///
 /// It takes no memory; time is linear in the items. Profile.
 pub fn expected(items: &Items<'_>) -> Option<Expected>
@@ -25,7 +25,7 @@ pub fn expected(items: &Items<'_>) -> Option<Expected>
     }
 }
 
-// What could stand where the fault lies in an item of this class.
+// What could come at the fault of an item of this class.
 fn expected_within(items: &Items<'_>, id: ItemId, class: Class) -> Option<Expected>
     requires has { HasId items.now id }
     requires class { IsTrue (is_of class (first_of (here items.now id))) }
@@ -55,7 +55,7 @@ fn expected_within(items: &Items<'_>, id: ItemId, class: Class) -> Option<Expect
     }
 }
 
-// A walk that has no argument behind it.
+// A walk before the first argument.
 fn start() -> Walk
     ensures { result ≡ record { at = 0; filled = false } }
 {

@@ -18,9 +18,9 @@ use crs_text::{ItemId, ItemKind, Items, Refusal, laws};
 
 /// Whether an item has the shape of a class. Takes no memory; the time is linear in the item.
 ///
-/// The error is the first fault in text order: 11 or 12 at the first byte of an item that may not stand
-/// where it does, 11 if it is a node whose keyword is unknown; 13 at the closing delimiter of a node
-/// whose arguments aren't complete. Profile.
+/// The error is the first fault in text order: 11 or 12 at the first byte of an item that isn't allowed where it is,
+/// 11 if it is a node whose keyword is unknown; 13 at the closing delimiter of a node whose arguments aren't
+/// complete. Profile.
 pub fn fit(items: &Items<'_>, id: ItemId, class: Class) -> Result<(), Refusal>
     requires { HasId items.now id }
     ensures { MatchResult
@@ -110,7 +110,7 @@ fn fault_within(items: &Items<'_>, id: ItemId, class: Class, close: usize) -> Op
     }
 }
 
-// The class of an argument in its parent and the walk after it; None where it may not stand there.
+// The class of an argument in its parent and the walk after it; None where it isn't allowed there.
 pub(crate) fn step(
     items: &Items<'_>,
     argument: ItemId,
@@ -184,7 +184,7 @@ fn refusal(number: u8, place: usize) -> Refusal
     Refusal::new(number, place).unwrap()
 }
 
-// Where a walk over a row of slots stands: before slot number `at`, which has an argument already if `filled`.
+// Where a walk over a row of slots is: before slot number `at`, which has an argument already if `filled`.
 #[derive(Clone, Copy)]
 pub(crate) struct Walk {
     pub(crate) at: usize,
@@ -192,7 +192,7 @@ pub(crate) struct Walk {
 }
 
 impl Walk {
-    // The walk after one more argument, of this class; None where it may not stand there.
+    // The walk after one more argument, of this class; None where it isn't allowed there.
     pub(crate) fn after(self, row: &[Slot], class: Class) -> Option<Walk>
         requires { All HasSet row.now }
         ensures { option_map (λ w. left_of row.now w) result ≡ after (left_of row.now self) class }

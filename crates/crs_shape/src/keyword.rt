@@ -28,8 +28,7 @@ pub fn keywords(class: Class) -> &'static [Keyword]
     rows!(keywords_of, class)
 }
 
-/// The class that this keyword names at the head of a text; None where it is no CRS's keyword.
-/// Profile.
+/// The class that this keyword names at the root of a text; None where it is no CRS's keyword. Profile.
 pub fn root_class(keyword: &[u8]) -> Option<Class>
     ensures { result ≡ root_named keyword.now }
 {
@@ -37,7 +36,7 @@ pub fn root_class(keyword: &[u8]) -> Option<Class>
     root_by(Keyword::of(keyword))
 }
 
-// The class that a keyword names at the head of a text.
+// The class that a keyword names at the root of a text.
 pub(crate) fn root_by(keyword: Option<Keyword>) -> Option<Class>
     ensures { result ≡ find is_root (classes_by keyword) }
 {

@@ -11,8 +11,8 @@ ghost use Rattle.crs_shape.specs.ShapeFault.{IsFree, Inside, AtRoot};
 ghost use Rattle.crs_shape.specs.Shaped.{Shaped};
 ghost use Rattle.crs_shape.specs.Slots.{SlotParts, slots_of};
 
-/// In every row of the tables each slot has a class, and no class of an optional or repeated slot
-/// stands in a later slot that can be reached over optional slots alone.
+/// In every row of the tables each slot has a class, and no class of an optional or repeated slot is in a later slot
+/// that can be reached over optional slots alone.
 pub fn tables_are_apart()
     ensures { (class : Class) → IsTrue (is_apart (slots_of class)) }
 {}
@@ -35,8 +35,8 @@ pub fn fault_at_root_is_one()
     ensures either { (item : Item) → IsFree (AtRoot item) ⊎ ((fault : RefusedAt) × AtRoot item fault) }
 {}
 
-/// A fault of shape has the number 11, 12 or 13, and lies at the first byte of an item or at the closing delimiter of a
-/// node: of the item that is judged, or of one that stands in it. Profile.
+/// A fault of shape has the number 11, 12 or 13, and is at the first byte of an item or at the closing delimiter of a
+/// node: of the item that is judged, or of one within it. Profile.
 pub fn fault_is_within()
     ensures inside { (class : Class) (item : Item) (fault : RefusedAt) → Inside class item fault →
         IsShapeNumber fault.number × IsPlaceIn item fault.place }

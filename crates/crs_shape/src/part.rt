@@ -1,5 +1,5 @@
-//! Which classes may stand in which, from the same rows as the slots: one test here spares a walk over these for each
-//! keyword.
+//! Which classes are allowed in which, from the same rows as the slots: one test here saves a walk over these for
+//! each keyword.
 ghost use Rattle.std.specs.Prelude.{◌≡◌};
 ghost use Rattle.crs_shape.specs.ClassSet.{set_of};
 ghost use Rattle.crs_shape.specs.KeywordTable.{is_part, argument_classes};
@@ -17,14 +17,14 @@ macro_rules! parts_of {
     };
 }
 
-// Whether arguments of this class may stand in a parent of that class.
+// Whether arguments of this class are allowed in a parent of that class.
 pub(crate) fn is_part(parent: Class, class: Class) -> bool
     ensures { result ≡ is_part parent class }
 {
     parts(parent).has(class)
 }
 
-// The classes of the arguments that may stand in a parent of this class.
+// The classes of the arguments that are allowed in a parent of this class.
 fn parts(parent: Class) -> ClassSet
     ensures { result.bits ≡ set_of (argument_classes parent) }
 {

@@ -1,5 +1,5 @@
 //! The rows of the tables: for each class its keywords, of which the first is the one that is written, and its slots.
-//! Each table is made of these rows by a macro, so that a class's keywords and slots stand here alone.
+//! A macro makes each table from these rows, so that a class's keywords and slots are written here alone.
 
 // `$table` has the rows, each with its classes, the keywords of each and their slots. A slot is for `one` argument,
 // `optional` (none or one), `some` (one or more) or `any` (any number, none included, in any order), of these classes.

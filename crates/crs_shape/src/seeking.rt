@@ -12,8 +12,8 @@ use crate::table::{class_by, is_class};
 use crs_text::{ItemId, ItemKind, Items, Keyword, laws};
 use std::marker::Model;
 
-/// What is sought among arguments: one of a class, in a parent of a class. What each argument is asked first
-/// is found once: its kind, and which keywords the class has. Profile.
+/// What is sought among arguments: one of a class, in a parent of a class. What each argument is tested for first is
+/// found once: its kind, and which keywords the class has. Profile.
 #[derive(Clone, Copy)]
 pub struct Sought {
     keywords: KeywordSet,
@@ -77,8 +77,8 @@ impl Sought {
     }
 }
 
-/// Whether an item is of that class in a parent of this class; it asks for less than `class_in`. Whoever asks it of
-/// many items has a `Sought` for them all. Profile.
+/// Whether an item is of that class in a parent of this class; a cheaper test than `class_in`. To test many items,
+/// build one `Sought`. Profile.
 pub fn stands_as(items: &Items<'_>, id: ItemId, parent: Class, class: Class) -> bool
     requires { HasId items.now id }
     ensures { result ≡ is_class class (class_in parent (first_of (here items.now id))) }

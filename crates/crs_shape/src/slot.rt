@@ -21,28 +21,28 @@ pub struct Slot {
 }
 
 impl Slot {
-    /// The classes of the arguments that may stand here.
+    /// The classes of the arguments that are allowed here.
     pub fn classes(&self) -> &'static [Class]
         ensures { result.now ≡ (shown self.now).classes }
     {
         self.classes
     }
 
-    /// Whether at least one argument has to stand here.
+    /// Whether at least one argument must be here.
     pub fn required(&self) -> bool
         ensures { result ≡ (shown self.now).required }
     {
         self.required
     }
 
-    /// Whether more than one argument may stand here.
+    /// Whether more than one argument is allowed here.
     pub fn many(&self) -> bool
         ensures { result ≡ (shown self.now).many }
     {
         self.many
     }
 
-    // Whether arguments of this class may stand here.
+    // Whether arguments of this class are allowed here.
     pub(crate) fn takes(&self, class: Class) -> bool
         requires { HasSet self.now }
         ensures { result ≡ takes (shown self.now) class }
@@ -51,7 +51,7 @@ impl Slot {
     }
 }
 
-// Whether it is one of these classes. Mostly the first is the one, so that a plain loop is quicker than `contains`.
+// Whether it is one of these classes. Mostly it is the first, so a plain loop is quicker than `contains`.
 pub(crate) fn has(classes: &[Class], class: Class) -> bool
     ensures { result ≡ list_any (λ d. sameb the_type d class) classes.now }
 {

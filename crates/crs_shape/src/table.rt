@@ -40,8 +40,8 @@ macro_rules! slots_of {
 }
 
 /// The slots of a class, in order; none for an item that isn't a node.
-/// ISO 19162:2019, the part of the standard that stands above each row; tails and anchors in any
-/// order are the profile's.
+/// ISO 19162:2019, the part of the standard that is named above each row; tails and anchors in any order are the
+/// profile's.
 pub fn slots(class: Class) -> &'static [Slot]
     ensures { map shown result.now ≡ slots_of class }
 {
@@ -56,8 +56,8 @@ pub(crate) fn row(class: Class) -> &'static [Slot]
     rows!(slots_of, class)
 }
 
-/// The class that this keyword names in a parent of this class; None where it names none. Of an item that was
-/// read, `class_in` tells it without a look at the keyword's bytes. Profile.
+/// The class that this keyword names in a parent of this class; None where it names none. Of an item that was read,
+/// `class_in` answers it without a look at the keyword's bytes. Profile.
 pub fn class_of(parent: Class, keyword: &[u8]) -> Option<Class>
     ensures { result ≡ class_named parent keyword.now }
 {
@@ -83,8 +83,8 @@ fn first_part(parent: Class, classes: &[Class]) -> Option<Class>
     None
 }
 
-/// Whether this keyword names that class in a parent of this class; it asks for less than `class_of`
-/// where the keyword is none of that class. Profile.
+/// Whether this keyword names that class in a parent of this class; a cheaper test than `class_of` where the
+/// keyword is none of that class. Profile.
 pub fn keyword_names(parent: Class, keyword: &[u8], class: Class) -> bool
     ensures { result ≡ is_class class (class_named parent keyword.now) }
 {
