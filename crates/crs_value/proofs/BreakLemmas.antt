@@ -193,7 +193,7 @@ breaking-end tree c item least at so none =
     let P : Siblings → Type 0 = λ is. IsLeast (BreaksAmong c is) least in
     subst P (sym e) so.is_least
 
--- what stands in a node and its own checks are all
+-- what is in a node, and its own checks, are all
 pub breaks-whole : (c : Class) (item : Item) (least : Option RefusedAt) → kind_of_item item ≡ kinds.Node → IsLeast (λ f. BreaksAmong c (arguments item) f ⊎ Own c item f) least →
     IsLeast (Breaks c item) least
 breaks-whole c (leaf number place raw) least is h = cc

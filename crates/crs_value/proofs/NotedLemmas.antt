@@ -50,7 +50,7 @@ one-end : (tree : Item) (parent c : Class) (all : Siblings) (found : Option ℕ)
 one-end tree parent c all None at so none = so ∙ ap (λ o. those parent c (ahead tree o)) none
 one-end tree parent c all (Some id) at so none = so
 
--- how many of a class are left, behind one that is of the class or not
+-- how many of a class are left, after one that is of the class or not
 one-more : (b : Bool) (tree : Item) (parent c : Class) (id : ℕ) (at : Option ℕ) → HasId tree id → is_a parent c (item_at tree id) ≡ b → IsAt tree (rest_of (here tree id)) at →
     length (those parent c (here tree id)) ≡ one_if b + length (those parent c (ahead tree at))
 one-more true tree parent c id at has e next =

@@ -34,7 +34,7 @@ split-within total [] us h = (tt, h)
 split-within total (t ∷ ts) us h = let s = split-within total ts us h.1 in ((h.0, s.0), s.1)
 
 abbrev mutual
-  -- the places of an item and of all that stands in it are within a text of this length
+  -- the places of an item and of all that is in it are within a text of this length
   pub Within : ℕ → Item → Type 0
   Within total (leaf kind place raw) = place ≤ total
   Within total (node place keyword square first others close) = (place ≤ total) × ((close ≤ total) × (Within total first × AreWithin total others))

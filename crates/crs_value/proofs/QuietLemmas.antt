@@ -1,4 +1,4 @@
--- Classes whose items break no check, whatever stands in them.
+-- Classes whose items break no check, whatever is in them.
 use Rattle.std.proofs.Common.{◌≡◌, ℕ, ◌&&◌, Bool, true, false, inl, inr, ◌⊎◌, Option, Some, None, List, [], ◌∷◌, if◌then◌else◌, refl, sym, ◌∙◌, ap, subst}
 use Rattle.std.specs.List.{list_all, list_any}
 use Rattle.std.proofs.lemmas.Bool.{or_cases}
@@ -35,17 +35,17 @@ one-found c d (e ∷ es) found = elim (or_cases (is_same c d) (list_any (is_same
   | inr h ↦ inr (one-found c e es h)
 ]
 
--- the nodes that break no check, behind the first, as the program names them
+-- the nodes that break no check, after the first, as the program names them
 abbrev pub later_quiet : List Class
 later_quiet =
     class.Member ∷ class.EnsembleAccuracy ∷ class.Anchor ∷ class.AnchorEpoch ∷ class.Dynamic ∷ class.FrameEpoch ∷ class.DeformationModel ∷ class.Order ∷ class.Method ∷ class.GeoidModel ∷ class.Scope ∷ class.Area ∷ class.BoundingBox
     ∷ class.Identifier ∷ class.Citation ∷ class.Uri ∷ class.Remark ∷ []
 
--- those that take such nodes alone, behind the first, as the program names them
+-- those that take such nodes alone, after the first, as the program names them
 abbrev pub later_quiet_within : List Class
 later_quiet_within = class.AngleUnit ∷ class.ScaleUnit ∷ class.PlainUnit ∷ class.AxisUnit ∷ class.CoordinateSystem ∷ class.VerticalFrame ∷ []
 
--- a text, a word and those nodes, which stand behind a number
+-- a text, a word and those nodes, which follow a number
 abbrev quiet_others : List Class
 quiet_others = class.Text ∷ class.Word ∷ class.VerticalEnsemble ∷ later_quiet
 
@@ -104,7 +104,7 @@ named-quiet (s ∷ ss) name d all e =
       | Some x ↦ λ f. first-quiet s.classes name d both.0 (f ∙ (rw f at e))
     ] refl
 
--- what stands in an item of a class that takes such classes alone is of such a class
+-- what is in an item of a class that takes such classes alone is of such a class
 class-quiet : (c : Class) (item : Item) (d : Class) → is_quiet_within c ≡ true → class_in c item ≡ Some d → is_quiet d ≡ true
 unfolding class_named
 class-quiet c (leaf number place raw) d quiet e = subst (λ x. is_quiet x ≡ true) (some-class e) refl

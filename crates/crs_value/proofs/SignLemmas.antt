@@ -1,4 +1,4 @@
--- What the first bytes of a number's spelling tell of its sign.
+-- What the first bytes of a number's spelling show of its sign.
 use Rattle.std.proofs.Common.{◌≡◌, ◌≢◌, ℕ, zero, suc, ◌+◌, ◌-◌, ◌*◌, ◌^◌, ◌<◌, ◌≤◌, ◌&&◌, cond, Bool, true, false, inl, inr, ◌⊎◌, Option, Some, None, List, [], ◌∷◌, ◌++◌, fold, refl, sym, ◌∙◌, ap, subst, append_assoc, arith, ◌||◌, ◌==◌}
 use Rattle.std.specs.List.{find}
 use Rattle.std.proofs.Math.Nat.{mul_assoc, pow-suc}
@@ -54,7 +54,8 @@ fold-some : (ds : List ℕ) (n : ℕ) → 0 < n → 0 < fold (λ m d. m * 10 + (
 fold-some [] n some = some
 fold-some (d ∷ ds) n some = fold-some ds (n * 10 + (d - 48)) (omega (arith, some))
 
--- digits, and what stands behind them: the first byte that tells is a digit that isn't 0, or stands behind
+-- digits, and what follows them: the first byte that decides is a digit that isn't 0, or comes
+-- after them
 telling-in : (ds rest : List ℕ) (b : ℕ) → find is_telling (ds ++ rest) ≡ Some b → 49 ≤ b → ((n : ℕ) → 0 < fold (λ m d. m * 10 + (d - 48)) n ds) ⊎ (find is_telling rest ≡ Some b)
 telling-in [] rest b e low = inr e
 telling-in (d ∷ ds) rest b e low =

@@ -1,4 +1,4 @@
--- What sound dynamic parts say is sound, and none stands beside an ensemble.
+-- What sound dynamic parts say is sound, and none is beside an ensemble.
 use Rattle.std.proofs.Common.{◌≢◌, inl, Option, Some, None, List, [], ◌∷◌, refl}
 use Rattle.std.specs.Prelude.{IfSome}
 use Rattle.crs_decimal.specs.Value.{IsNormal}

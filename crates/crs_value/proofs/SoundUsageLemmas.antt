@@ -110,7 +110,7 @@ node-tells law c same =
     tells-as ReadsUsage IsUsage c class.Usage same
     (λ item value sound reads. usage-tells class.Usage item value sound reads (says-some law item value sound reads))
 
--- ---- what stands bare
+-- ---- what is bare
 
 unread : {V : Type 0} (R : Item → V → Type 0) (items : List Item) → ReadsOptional R items None → items ≡ []
 unread R [] reads = refl

@@ -7,7 +7,7 @@ use Rattle.crs_shape.specs.declared.class.Class.TheVariants as class
 use Rattle.crs_value.specs.Reading.{those}
 use Rattle.crs_value.specs.Break.{at, AnyOf}
 
--- an ensemble stands among the arguments
+-- an ensemble is among the arguments
 abbrev pub HasEnsemble : Class → Item → Type 0
 HasEnsemble c item =
     (those c class.GeodeticEnsemble (arguments item) ≢ [])
@@ -17,7 +17,7 @@ HasEnsemble c item =
 abbrev pub IsUnsteady : Item → RefusedAt → Type 0
 IsUnsteady part fault = fault ≡ at 29 part
 
--- an ensemble stands among the arguments, and beside it a dynamic part, which is refused
+-- an ensemble is among the arguments, and beside it a dynamic part, which is refused
 abbrev pub BadDynamic : Class → Item → RefusedAt → Type 0
 BadDynamic c item fault =
     HasEnsemble c item × AnyOf IsUnsteady (those c class.Dynamic (arguments item)) fault

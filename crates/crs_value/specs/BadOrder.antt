@@ -10,7 +10,7 @@ use Rattle.crs_value.specs.Reading.{Each, OneIs, those, ReadsFirst}
 use Rattle.crs_value.specs.Reads.{ReadsNumberOf}
 use Rattle.crs_value.specs.Break.{at, AnyOf}
 
--- the orders that stand on an axis
+-- the orders that are on an axis
 abbrev pub orders_in : Item → List Item
 orders_in axis = those class.Axis class.Order (arguments axis)
 
@@ -52,15 +52,15 @@ IsWrongOrder n before order =
 abbrev pub IsBadOrder : ℕ → List Item → Item → RefusedAt → Type 0
 IsBadOrder n before order fault = (fault ≡ at 26 order) × IsWrongOrder n before order
 
--- the bad orders of these axes, behind those before
+-- the bad orders of these axes, which follow others
 abbrev pub BadOrders : ℕ → List Item → List Item → RefusedAt → Type 0
 BadOrders n before [] fault = ⊥
 BadOrders n before (axis ∷ axes) fault =
     AnyOf (IsBadOrder n before) (orders_in axis) fault
     ⊎ BadOrders n (before ++ axis ∷ []) axes fault
 
--- some axes have an order, and this one lacks it; or all have
--- one, and this is no position or stands twice
+-- some axes have an order, and this one lacks it; or all have one, and this is no position or is
+-- repeated
 abbrev pub BadOrder : List Item → RefusedAt → Type 0
 BadOrder axes fault =
     (SomeHasOrder axes × AnyOf LacksOrder axes fault)

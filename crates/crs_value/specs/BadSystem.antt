@@ -19,7 +19,8 @@ geodetic_dimensions types.Ellipsoidal = 2 ∷ 3 ∷ []
 geodetic_dimensions types.Spherical = 2 ∷ 3 ∷ []
 geodetic_dimensions types.Vertical = []
 
--- the dimensions that a CRS which is called geographic may have with each type of coordinate system
+-- the dimensions that a CRS with the keyword of a geographic one may have with each type of
+-- coordinate system
 abbrev pub geographic_dimensions : SystemType → List ℕ
 geographic_dimensions types.Ellipsoidal = 2 ∷ 3 ∷ []
 geographic_dimensions other = []

@@ -1,4 +1,4 @@
--- 27: a unit that is missing, doesn't fit, or stands beside a shared one.
+-- 27: a unit that is missing, doesn't fit, or is beside a shared one.
 use Rattle.std.specs.Prelude.{◌≡◌, List, [], ◌∷◌, ◌⊎◌}
 use Rattle.crs_text.specs.Items.{Item, arguments}
 use Rattle.crs_text.specs.Refusal.{RefusedAt}
@@ -38,7 +38,7 @@ Asks cs axis kind =
 abbrev pub Fits : Item → UnitKind → Type 0
 Fits unit kind = ReadsKind unit kinds.Plain ⊎ ReadsKind unit kind
 
--- the units that stand on an axis
+-- the units that are on an axis
 abbrev pub units_in : Item → List Item
 units_in axis = those class.Axis class.AxisUnit (arguments axis)
 
@@ -55,7 +55,7 @@ Misfits cs axis unit fault =
 abbrev pub BadOwnUnit : Item → Item → RefusedAt → Type 0
 BadOwnUnit cs axis fault = LacksUnit axis fault ⊎ AnyOf (Misfits cs axis) (units_in axis) fault
 
--- a unit that stands beside a shared one
+-- a unit that is beside a shared one
 abbrev pub IsSuperfluous : Item → RefusedAt → Type 0
 IsSuperfluous unit fault = fault ≡ at 27 unit
 

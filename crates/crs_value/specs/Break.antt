@@ -21,8 +21,8 @@ FirstIs Is (item ∷ items) = Is item
 abbrev pub IsBefore : RefusedAt → RefusedAt → Type 0
 IsBefore a b = (a.number < b.number) ⊎ ((a.number ≡ b.number) × (a.place ≤ b.place))
 
--- the first of the faults: the lowest number, and of these the
--- least place; none where there is no fault
+-- the first of the faults: the lowest number, and of these the least place; none where there is no
+-- fault
 abbrev pub IsLeast : (RefusedAt → Type 0) → Option RefusedAt → Type 0
 IsLeast Fault None = (fault : RefusedAt) → ¬ (Fault fault)
 IsLeast Fault (Some least) =

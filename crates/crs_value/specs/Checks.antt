@@ -22,11 +22,11 @@ use Rattle.crs_value.specs.BadOrder.{BadOrder}
 use Rattle.crs_value.specs.BadUnit.{BadUnit}
 use Rattle.crs_value.specs.BadValue.{NotAbove, IsNegative}
 
--- what may stand once alone at a CRS's end
+-- what may not be repeated at a CRS's end
 abbrev pub once : List Class
 once = class.Scope ∷ class.Area ∷ class.BoundingBox ∷ class.VerticalExtent ∷ class.Remark ∷ []
 
--- what may stand once alone in a reference frame
+-- what may not be repeated in a reference frame
 abbrev pub anchors : List Class
 anchors = class.Anchor ∷ class.AnchorEpoch ∷ []
 

@@ -1,5 +1,5 @@
--- What holds at each level of that which is kept. Whatever is proved
--- of it elsewhere is proved by these laws, and of no level by itself.
+-- What holds at each level of that which is kept. What is proved of it elsewhere is proved by these
+-- laws, and of no level by itself.
 use Rattle.std.specs.Prelude.{◌≡◌, List, [], Option, None, IfSome, refl}
 use Rattle.std.proofs.Common.{sym}
 use Rattle.crs_value.specs.Sound.{Each}
@@ -12,7 +12,7 @@ pub kept-none : {A : Type 0} (level : Level) → kept {A = A} level [] ≡ []
 kept-none levels.Full = refl
 kept-none levels.Definition = refl
 
--- members are put together and then kept, or the other way round
+-- members are put together and then kept, or kept and then put together
 pub kept-joined : {A B : Type 0} (join : Option A → List A → List B) → join None [] ≡ [] →
     (level : Level)
     (member : Option A) (members : List A) →

@@ -149,8 +149,8 @@ pub record ReadsExtent (c : Class) (item : Item) (parts : ExtentParts) : Type 0 
   pub maximum : ReadsNumberAt 1 c item parts.maximum
   pub unit : ReadsIfAny ReadsUnit class.LengthUnit c item parts.unit
 
--- a usage, whose parts stand in a node `USAGE` or bare at a CRS's end:
--- its scope, area, box and extent in height, where they are written
+-- a usage, whose parts are in a node `USAGE` or bare at a CRS's end: its scope, area, box and
+-- extent in height, where they are written
 pub record ReadsUsage (c : Class) (item : Item) (parts : UsageParts) : Type 0 where
   pub scope : ReadsIfAny ReadsTextOf class.Scope c item parts.scope
   pub area : ReadsIfAny ReadsTextOf class.Area c item parts.area
@@ -164,13 +164,13 @@ pub record LacksUsage (c : Class) (item : Item) : Type 0 where
   pub bbox : those c class.BoundingBox (arguments item) ≡ []
   pub extent : those c class.VerticalExtent (arguments item) ≡ []
 
--- the usage whose parts stand bare at a CRS's end, if any part does
+-- the usage whose parts are bare at a CRS's end, if any part is
 abbrev pub ReadsBare : Class → Item → Option UsageParts → Type 0
 ReadsBare c item None = LacksUsage c item
 ReadsBare c item (Some parts) = ReadsUsage c item parts × SaysSome parts
 
--- the end of a CRS: its usages, the one whose parts stand bare,
--- if any does, its identifiers, and its remark, if one is written
+-- the end of a CRS: its usages, the one whose parts are bare, if any is, its identifiers, and its
+-- remark, if one is written
 pub record ReadsTail (c : Class) (item : Item) (parts : TailParts) : Type 0 where
   pub usages : ReadsAll ReadsUsage class.Usage c item parts.usages
   pub bare_parts : ReadsBare c item parts.bare_parts

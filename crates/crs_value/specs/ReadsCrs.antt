@@ -123,7 +123,7 @@ abbrev pub kind_by : SystemType → Kind
 kind_by types.Ellipsoidal = kind.Geographic
 kind_by other = kind.Geodetic
 
--- the kind of a CRS; whether a geodetic one is geographic is told by its coordinate system
+-- the kind of a CRS; a geodetic one is geographic or not by its coordinate system
 abbrev pub kind_of : Crs → Kind
 kind_of (crs.Geodetic geodetic) = kind_by geodetic.system.system_type
 kind_of (crs.Projected projected) = kind.Projected

@@ -6,7 +6,7 @@ use Rattle.crs_shape.specs.declared.class.Class.{Class}
 use Rattle.crs_value.specs.Reading.{OneIs, those}
 use Rattle.crs_value.specs.Break.{at, AnyOf}
 
--- a part that stands behind another of its class is refused at its first byte
+-- a part that follows another of its class is refused at its first byte
 abbrev pub IsRepeated : Item → RefusedAt → Type 0
 IsRepeated item fault = fault ≡ at 22 item
 

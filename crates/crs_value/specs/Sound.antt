@@ -10,7 +10,7 @@ use Rattle.crs_value.specs.NamedValues.{IdentParts, NamedParts}
 use Rattle.crs_value.specs.Values.{UnitParts, AxisMeridianParts, AxisParts}
 pub use Rattle.crs_value.specs.Reading.{Each}
 
--- what may stand between the quotes of a text: characters in UTF-8, each quote among them doubled
+-- what may be between the quotes of a text: characters in UTF-8, each quote among them doubled
 abbrev pub IsText : List ℕ → Type 0
 IsText text = IsInside text × IsUtf8 text
 
@@ -45,11 +45,11 @@ kind_as asked kinds.Length = kinds.Length
 kind_as asked kinds.Angle = kinds.Angle
 kind_as asked kinds.Scale = kinds.Scale
 
--- a kind of unit that stands for the asked one: that kind itself, or the plain one
+-- a kind of unit that fits the asked one: that kind itself, or the plain one
 abbrev pub Suits : UnitKind → UnitKind → Type 0
 Suits asked kind = (kind ≡ asked) ⊎ (kind ≡ kinds.Plain)
 
--- a unit that stands for one of the asked kind
+-- a unit that fits the asked kind
 abbrev pub IsUnitOf : UnitKind → UnitParts → Type 0
 IsUnitOf asked unit = IsUnit unit × Suits asked unit.kind
 
@@ -59,7 +59,7 @@ IsAxisUnit unit = IsUnit unit × (unit.kind ≢ kinds.Scale)
 
 -- ---- axes
 
--- what is asked of the meridian of an axis: its unit stands for one of angle
+-- what is asked of the meridian of an axis: its unit fits one of angle
 pub record IsAxisMeridian (meridian : AxisMeridianParts) : Type 0 where
   pub longitude : IsNormal meridian.longitude
   pub unit : IsUnitOf kinds.Angle meridian.unit

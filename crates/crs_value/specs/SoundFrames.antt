@@ -8,7 +8,7 @@ use Rattle.crs_value.specs.Values.{EllipsoidParts, MeridianParts, DatumParts, En
 pub use Rattle.crs_value.specs.Sound.{IsNamed as IsMember}
 
 -- what is asked of an ellipsoid: its semi-major axis is above zero, its inverse flattening isn't
--- negative, and its unit, if it has one, stands for one of length
+-- negative, and its unit, if it has one, fits one of length
 pub record IsEllipsoid (ellipsoid : EllipsoidParts) : Type 0 where
   pub name : IsText ellipsoid.name
   pub semi_major_axis : IsNormal ellipsoid.semi_major_axis
@@ -18,7 +18,7 @@ pub record IsEllipsoid (ellipsoid : EllipsoidParts) : Type 0 where
   pub unit : IfSome ellipsoid.unit (IsUnitOf kinds.Length)
   pub identifiers : Each IsIdent ellipsoid.identifiers
 
--- what is asked of a prime meridian: its unit, if it has one, stands for one of angle
+-- what is asked of a prime meridian: its unit, if it has one, fits one of angle
 pub record IsMeridian (meridian : MeridianParts) : Type 0 where
   pub name : IsText meridian.name
   pub longitude : IsNormal meridian.longitude

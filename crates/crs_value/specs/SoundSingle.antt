@@ -24,7 +24,7 @@ abbrev pub IsVerticalFrame : Frame → Type 0
 IsVerticalFrame (frame.Datum datum) = IsDatum datum × IsNone datum.ellipsoid
 IsVerticalFrame (frame.Ensemble ensemble) = IsEnsemble ensemble × IsNone ensemble.ellipsoid
 
--- a dynamic part stands beside a reference frame alone
+-- a dynamic part is beside a reference frame alone
 abbrev pub IsDynamicOf : Option DynamicParts → Frame → Type 0
 IsDynamicOf None held = Unit {0}
 IsDynamicOf (Some dynamic) (frame.Datum datum) = IsDynamic dynamic
@@ -41,8 +41,7 @@ pub record IsGeodetic (geodetic : GeodeticParts) : Type 0 where
   pub dimension : IsAllowed geodetic_dimensions geodetic.system
   pub tail : IsTail geodetic.tail
 
--- what is asked of the base CRS of a projected one: its unit,
--- if it has one, stands for one of angle
+-- what is asked of the base CRS of a projected one: its unit, if it has one, fits one of angle
 pub record IsBase (base : BaseParts) : Type 0 where
   pub name : IsText base.name
   pub dynamic : IsDynamicOf base.dynamic base.frame

@@ -38,11 +38,11 @@ abbrev pub own_or : Option UnitParts → Option UnitParts → Option UnitParts
 own_or (Some own) shared = Some own
 own_or None shared = shared
 
--- the unit of an axis stands for the kind that the axis asks for
+-- the unit of an axis fits the kind that the axis asks for
 abbrev pub SuitsAxis : SystemType → AxisParts → UnitParts → Type 0
 SuitsAxis system_type axis unit = Suits (asked_kind system_type axis.direction) unit.kind
 
--- a shared unit stands for the one kind that all axes ask for
+-- a shared unit fits the one kind that all axes ask for
 abbrev pub SuitsAll : SystemType → List AxisParts → UnitParts → Type 0
 SuitsAll system_type axes unit =
     (kind : UnitKind)

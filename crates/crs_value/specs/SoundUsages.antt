@@ -12,7 +12,7 @@ pub record IsBox (box : BoxParts) : Type 0 where
   pub north : IsNormal box.north
   pub east : IsNormal box.east
 
--- what is asked of an extent in height: its unit, if it has one, stands for one of length
+-- what is asked of an extent in height: its unit, if it has one, fits one of length
 pub record IsExtent (extent : ExtentParts) : Type 0 where
   pub minimum : IsNormal extent.minimum
   pub maximum : IsNormal extent.maximum

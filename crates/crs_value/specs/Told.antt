@@ -1,5 +1,5 @@
--- What items of one kind of node tell: one value at most, and
--- of well-formed accepted items only what is asked of it.
+-- What is read from items of one kind of node: one value at most, and from well-formed accepted
+-- items only what is asked of it.
 use Rattle.std.specs.Prelude.{◌≡◌}
 use Rattle.crs_text.specs.Items.{Item}
 use Rattle.crs_shape.specs.declared.class.Class.{Class}

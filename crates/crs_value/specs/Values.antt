@@ -95,8 +95,7 @@ abbrev pub SaysSome : UsageParts → Type 0
 SaysSome usage =
     IsSome usage.scope ⊎ (IsSome usage.area ⊎ (IsSome usage.bbox ⊎ IsSome usage.extent))
 
--- a CRS's end: its usages, the one whose parts stand bare, if
--- any does, its identifiers and its remark
+-- a CRS's end: its usages, the one whose parts are bare, if any is, its identifiers and its remark
 pub record TailParts : Type 0 where
   pub usages : List UsageParts
   pub bare_parts : Option UsageParts

@@ -83,7 +83,7 @@ pub(crate) fn any_from<C: Check>(
     least
 }
 
-// The break of a node's argument of a class that may stand in it once, which was found where there is one.
+// The break of a node's argument of a class that it may have once, which was found where there is one.
 pub(crate) fn only_from<C: Check>(
     check: &C,
     items: &Items<'_>,
@@ -107,7 +107,7 @@ pub(crate) fn only_from<C: Check>(
     }
 }
 
-// The break of a node's argument of a class that may stand in it once, which is looked for here.
+// The break of a node's argument of a class that it may have once, which is looked for here.
 pub(crate) fn only_of<C: Check>(
     check: &C,
     items: &Items<'_>,

@@ -84,7 +84,7 @@ pub fn spelled_is_sound()
     crs_shape::laws::slots_count();
 }
 
-/// Every CRS, whoever made it, is all that is asked of one. Profile.
+/// Every CRS, also one made by hand, is all that is asked of one. Profile.
 pub fn crs_is_sound(crs: &Crs<'_>)
     ensures { IsCrs crs.now }
 {

@@ -1,5 +1,5 @@
-//! Values of texts: what a text of the right shape says, exactly as it is written, or the check that it
-//! breaks. Layers above know the values alone, and no item.
+//! Values of texts: what a text of the right shape says, exactly as it is written, or the check that it breaks.
+//! Crates above know the values alone, and no item.
 #![tactic(auto)]
 
 mod checks;

@@ -100,7 +100,7 @@ fn bad_part(items: &Items<'_>, id: ItemId, class: Class) -> Option<Refusal>
     only_of(&Component { class }, items, id, Class::CompoundCrs, class)
 }
 
-// The checks of a compound CRS: what may stand once, and its horizontal part.
+// The checks of a compound CRS: what may not be repeated, and its horizontal part.
 pub(crate) fn compound(items: &Items<'_>, id: ItemId) -> Option<Refusal>
     requires has { HasId items.now id }
     requires shaped { Shaped Class.CompoundCrs (item_at items.now id) }

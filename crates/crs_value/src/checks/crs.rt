@@ -1,4 +1,4 @@
-//! The checks of a whole CRS: what may stand once, and its coordinate system.
+//! The checks of a whole CRS: what may not be repeated, and its coordinate system.
 ghost use Rattle.std.specs.Prelude.{◌≡◌, ◌<◌, ◌⊎◌, IfSome, Some};
 ghost use Rattle.crs_text.specs.Items.{HasId, arguments};
 ghost use Rattle.crs_shape.specs.Shaped.{Shaped};

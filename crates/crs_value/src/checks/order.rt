@@ -153,7 +153,7 @@ fn some_has_order(items: &Items<'_>, class: Class, axis: Option<ItemId>) -> bool
     false
 }
 
-// 26: the first order that is no position or stands twice.
+// 26: the first order that is no position or is repeated.
 fn bad_orders(items: &Items<'_>, crs: ItemId, class: Class, firsts: &Firsts) -> Option<Refusal>
     requires crs { HasId items.now crs }
     requires shaped { Shaped class (item_at items.now crs) }

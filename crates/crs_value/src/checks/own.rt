@@ -1,4 +1,4 @@
-//! The checks that a node breaks by itself, and with what stands in it.
+//! The checks that a node breaks by itself, and with what is in it.
 ghost use Rattle.std.specs.Prelude.{◌↔◌, ◌⊎◌, IsTrue, None};
 ghost use Rattle.crs_text.specs.Items.{Item, HasId, arguments};
 ghost use Rattle.crs_shape.specs.Shaped.{Shaped};
@@ -81,7 +81,7 @@ fn own(items: &Items<'_>, id: ItemId, class: Class, inside: Option<Refusal>) -> 
     lesser(inside, own_of_part(items, id, class))
 }
 
-// Whether an item of this class breaks no check, whatever stands in it: then it needn't be walked through.
+// Whether an item of this class breaks no check, whatever is in it: then it needn't be walked through.
 fn breaks_nothing(class: Class) -> bool
     ensures { IsTrue result → ((item : Item) → IsLeast (Breaks class item) None) }
 {
@@ -108,7 +108,7 @@ fn breaks_nothing(class: Class) -> bool
     )
 }
 
-// Whether what stands in an item of this class breaks no check: then only its own checks are left.
+// Whether what is in an item of this class breaks no check: then only its own checks are left.
 fn breaks_nothing_within(class: Class) -> bool
     ensures { IsTrue result → ((item : Item) → IsLeast (BreaksAmong class (arguments item)) None) }
 {

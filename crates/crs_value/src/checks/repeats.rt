@@ -1,4 +1,4 @@
-//! The checks of what may stand once.
+//! The checks of what may not be repeated.
 ghost use Rattle.crs_text.specs.Items.{HasId, arguments, rest_of, here};
 ghost use Rattle.crs_shape.specs.Shaped.{Shaped};
 ghost use Rattle.crs_value.specs.Break.{AnyOf, IsLeast};
@@ -34,7 +34,7 @@ pub(crate) fn repeated_anchors(items: &Items<'_>, id: ItemId, parent: Class) -> 
     lesser(repeats(items, id, parent, Class::Anchor), epochs)
 }
 
-// The first node of this class after the first one, which was found. Mostly there is none to look behind.
+// The first node of this class after the first one, which was found. Mostly there is none.
 #[inline(always)]
 fn again(
     items: &Items<'_>,
@@ -54,7 +54,7 @@ fn again(
     }
 }
 
-// The first node of this class behind this one.
+// The first node of this class after this one.
 #[inline(never)]
 fn behind(items: &Items<'_>, id: ItemId, parent: Class, class: Class) -> Option<Refusal>
     requires has { HasId items.now id }

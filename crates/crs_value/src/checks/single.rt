@@ -1,4 +1,4 @@
-//! The checks of words, of numbers, and of parts that may stand once.
+//! The checks of words, of numbers, and of parts that may not be repeated.
 ghost use Rattle.std.specs.Prelude.{◌≡◌, ◌≤◌, ◌≢◌, IsTrue, ◌↔◌, None};
 ghost use Rattle.std.specs.List.{find};
 ghost use Rattle.crs_text.specs.Items.{HasId};
@@ -36,7 +36,7 @@ fn is_telling(byte: u8) -> bool
     byte != b'0' && byte != b'.' && byte != b'+'
 }
 
-// The first byte that tells whether a number is above zero.
+// The first byte that shows whether a number is above zero.
 fn first_telling(bytes: &[u8]) -> Option<u8>
     ensures { result ≡ find is_telling bytes.now }
 {
@@ -48,7 +48,7 @@ fn first_telling(bytes: &[u8]) -> Option<u8>
     None
 }
 
-// Whether a digit that isn't 0 comes first, or behind zeros, a period and a plus alone: then the number is above zero,
+// Whether a digit that isn't 0 comes first, or after zeros, a period and a plus alone: then the number is above zero,
 // and needn't be read.
 fn begins_above_zero(items: &Items<'_>, id: ItemId) -> bool
     requires { HasId items.now id }
@@ -116,7 +116,7 @@ impl Check for UnknownDirection {
     }
 }
 
-// 22: a part that stands once more.
+// 22: a repeated part.
 pub(crate) struct Repeated;
 
 impl Check for Repeated {
@@ -131,7 +131,7 @@ impl Check for Repeated {
     }
 }
 
-// 28: a number that has to be above zero.
+// 28: a number that must be above zero.
 pub(crate) struct AboveZero;
 
 impl Check for AboveZero {

@@ -113,7 +113,7 @@ impl Check for OwnUnit {
     }
 }
 
-// 27: a unit that stands beside a shared one.
+// 27: a unit that is beside a shared one.
 #[derive(Drop)]
 struct Superfluous;
 
@@ -250,7 +250,7 @@ fn bad_shared(
     }
 }
 
-// 27: a unit that is missing, doesn't fit, or stands beside a shared one.
+// 27: a unit that is missing, doesn't fit, or is beside a shared one.
 pub(crate) fn bad_unit(
     items: &Items<'_>,
     crs: ItemId,

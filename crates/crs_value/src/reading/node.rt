@@ -160,7 +160,7 @@ pub(crate) fn text<'a>(items: &Items<'a>, id: ItemId, class: Class) -> &'a [u8]
     items.raw(required(items, id, class, Class::Text))
 }
 
-// The text of a node that may stand in another.
+// The text of a node that may be in another.
 pub(crate) fn optional_text<'a>(
     items: &Items<'a>,
     id: ItemId,
@@ -175,7 +175,7 @@ pub(crate) fn optional_text<'a>(
     optional_text_from(items, id, parent, class, first(items, id, parent, class))
 }
 
-// The text of a node that may stand in another, the first of its class having been looked for.
+// The text of a node that may be in another, the first of its class having been looked for.
 pub(crate) fn optional_text_from<'a>(
     items: &Items<'a>,
     _id: ItemId,
@@ -222,7 +222,7 @@ pub(crate) fn number(items: &Items<'_>, id: ItemId, class: Class) -> Decimal
     decimal_of(items, required(items, id, class, Class::Number))
 }
 
-// The number of a node that may stand in another.
+// The number of a node that may be in another.
 pub(crate) fn optional_number(
     items: &Items<'_>,
     id: ItemId,
@@ -238,7 +238,7 @@ pub(crate) fn optional_number(
     Some(number(items, found, class))
 }
 
-// The number of a node that has to stand in another.
+// The number of a node that must be in another.
 pub(crate) fn one_number(items: &Items<'_>, id: ItemId, parent: Class, class: Class) -> Decimal
     requires has { HasId items.now id }
     requires shaped { Shaped parent (item_at items.now id) }

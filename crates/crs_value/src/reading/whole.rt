@@ -20,8 +20,8 @@ use crs_shape::Class;
 use crs_text::{Fault, ItemId, Items};
 use std::alloc::Global;
 
-// Memory is set for all that a function may hold, when it is entered. So each kind of CRS is read by a function of
-// its own, which isn't inlined, and its value goes at once where the answer stands.
+// A function clears the memory of all its locals when it is entered. So each kind of CRS is read by a function of its
+// own, which isn't inlined, and its value goes at once to the place of the answer.
 
 #[inline(never)]
 fn geodetic<'a>(
@@ -80,7 +80,7 @@ fn compound<'a>(alloc: Global, items: &Items<'a>, id: ItemId) -> Result<Crs<'a>,
     }
 }
 
-// The value of a whole text of this class; a fault is want of memory.
+// The value of a whole text of this class; a fault is out of memory.
 pub(crate) fn read_crs<'a>(
     alloc: Global,
     items: &Items<'a>,

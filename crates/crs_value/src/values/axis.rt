@@ -50,7 +50,7 @@ impl<'a> Model for Axis<'a> {
     ghost invariant = { λ a. IsAxis (view a) };
 }
 
-// By hand, so that whoever drops one calls this, and proves nothing of its parts.
+// Hand-written: a derived drop is expanded wherever a value is dropped, which slows the proofs.
 impl Drop for Axis<'_> {
     fn drop(self) {
         let Axis {
@@ -84,7 +84,7 @@ impl<'a> Model for AxisMeridian<'a> {
     ghost invariant = { λ m. IsAxisMeridian (view m) };
 }
 
-// By hand, so that whoever drops one calls this, and proves nothing of its parts.
+// Hand-written: a derived drop is expanded wherever a value is dropped, which slows the proofs.
 impl Drop for AxisMeridian<'_> {
     fn drop(self) {
         let AxisMeridian {

@@ -25,7 +25,7 @@ pub enum Horizontal<'a> {
     Projected(Projected<'a>),
 }
 
-// By hand, so that whoever drops one calls this, and proves nothing of its parts.
+// Hand-written: a derived drop is expanded wherever a value is dropped, which slows the proofs.
 impl Drop for Horizontal<'_> {
     fn drop(self) {
         match self {
@@ -40,8 +40,8 @@ impl Drop for Horizontal<'_> {
 pub struct Compound<'a> {
     /// The name.
     pub name: &'a [u8],
-    /// The horizontal part, geographic or projected, of dimension 2; apart, so that a CRS of another kind needs no room
-    /// for two.
+    /// The horizontal part, geographic or projected, of dimension 2; boxed, so that a CRS of another kind needs no
+    /// room for two.
     pub horizontal: Box<Horizontal<'a>>,
     /// The vertical part.
     pub vertical: Vertical<'a>,
@@ -65,7 +65,7 @@ impl<'a> Model for Compound<'a> {
     ghost invariant = { λ c. IsCompound (view c) };
 }
 
-// By hand, so that whoever drops one calls this, and proves nothing of its parts.
+// Hand-written: a derived drop is expanded wherever a value is dropped, which slows the proofs.
 impl Drop for Compound<'_> {
     fn drop(self) {
         let Compound {

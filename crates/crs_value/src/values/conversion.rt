@@ -40,7 +40,7 @@ impl<'a> Model for Conversion<'a> {
     ghost invariant = { λ c. IsConversion (view c) };
 }
 
-// By hand, so that whoever drops one calls this, and proves nothing of its parts.
+// Hand-written: a derived drop is expanded wherever a value is dropped, which slows the proofs.
 impl Drop for Conversion<'_> {
     fn drop(self) {
         let Conversion {
@@ -72,7 +72,7 @@ impl<'a> Model for Method<'a> {
     ghost invariant = { λ m. IsNamed (view m) };
 }
 
-// By hand, so that whoever drops one calls this, and proves nothing of its parts.
+// Hand-written: a derived drop is expanded wherever a value is dropped, which slows the proofs.
 impl Drop for Method<'_> {
     fn drop(self) {
         let Method {
@@ -106,7 +106,7 @@ impl<'a> Model for Parameter<'a> {
     ghost invariant = { λ p. IsParameter (view p) };
 }
 
-// By hand, so that whoever drops one calls this, and proves nothing of its parts.
+// Hand-written: a derived drop is expanded wherever a value is dropped, which slows the proofs.
 impl Drop for Parameter<'_> {
     fn drop(self) {
         let Parameter {

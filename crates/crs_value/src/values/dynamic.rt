@@ -28,7 +28,7 @@ impl<'a> Model for Dynamic<'a> {
     ghost invariant = { λ d. IsDynamic (view d) };
 }
 
-// By hand, so that whoever drops one calls this, and proves nothing of its parts.
+// Hand-written: a derived drop is expanded wherever a value is dropped, which slows the proofs.
 impl Drop for Dynamic<'_> {
     fn drop(self) {
         let Dynamic { epoch: _, model: _ } = self;
@@ -54,7 +54,7 @@ impl<'a> Model for DeformationModel<'a> {
     ghost invariant = { λ m. IsNamed (view m) };
 }
 
-// By hand, so that whoever drops one calls this, and proves nothing of its parts.
+// Hand-written: a derived drop is expanded wherever a value is dropped, which slows the proofs.
 impl Drop for DeformationModel<'_> {
     fn drop(self) {
         let DeformationModel {

@@ -42,7 +42,7 @@ impl<'a> Model for Ellipsoid<'a> {
     ghost invariant = { λ e. IsEllipsoid (view e) };
 }
 
-// By hand, so that whoever drops one calls this, and proves nothing of its parts.
+// Hand-written: a derived drop is expanded wherever a value is dropped, which slows the proofs.
 impl Drop for Ellipsoid<'_> {
     fn drop(self) {
         let Ellipsoid {

@@ -20,7 +20,7 @@ pub enum Frame<'a> {
     Ensemble(Ensemble<'a>),
 }
 
-// By hand, so that whoever drops one calls this, and proves nothing of its parts.
+// Hand-written: a derived drop is expanded wherever a value is dropped, which slows the proofs.
 impl Drop for Frame<'_> {
     fn drop(self) {
         match self {
@@ -63,7 +63,7 @@ impl<'a> Model for Datum<'a> {
     ghost invariant = { λ d. IsDatum (view d) };
 }
 
-// By hand, so that whoever drops one calls this, and proves nothing of its parts.
+// Hand-written: a derived drop is expanded wherever a value is dropped, which slows the proofs.
 impl Drop for Datum<'_> {
     fn drop(self) {
         let Datum {
@@ -108,7 +108,7 @@ impl<'a> Model for Ensemble<'a> {
     ghost invariant = { λ e. IsEnsemble (view e) };
 }
 
-// By hand, so that whoever drops one calls this, and proves nothing of its parts.
+// Hand-written: a derived drop is expanded wherever a value is dropped, which slows the proofs.
 impl Drop for Ensemble<'_> {
     fn drop(self) {
         let Ensemble {
@@ -140,7 +140,7 @@ impl<'a> Model for Member<'a> {
     ghost invariant = { λ m. IsNamed (view m) };
 }
 
-// By hand, so that whoever drops one calls this, and proves nothing of its parts.
+// Hand-written: a derived drop is expanded wherever a value is dropped, which slows the proofs.
 impl Drop for Member<'_> {
     fn drop(self) {
         let Member {

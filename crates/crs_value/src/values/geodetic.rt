@@ -27,7 +27,7 @@ pub struct Geodetic<'a> {
     pub dynamic: Option<Dynamic<'a>>,
     /// The geodetic frame or ensemble.
     pub frame: Frame<'a>,
-    /// The prime meridian; None where none is written, which stands for Greenwich.
+    /// The prime meridian; None where none is written, which means Greenwich.
     pub meridian: Option<Meridian<'a>>,
     /// The coordinate system.
     pub system: System<'a>,
@@ -53,7 +53,7 @@ impl<'a> Model for Geodetic<'a> {
     ghost invariant = { λ g. IsGeodetic (view g) };
 }
 
-// By hand, so that whoever drops one calls this, and proves nothing of its parts.
+// Hand-written: a derived drop is expanded wherever a value is dropped, which slows the proofs.
 impl Drop for Geodetic<'_> {
     fn drop(self) {
         let Geodetic {

@@ -11,9 +11,8 @@ use crs_text::{ItemId, ItemKind, Items};
 use std::alloc::{AllocError, Global};
 use std::marker::Model;
 
-/// An identifier, `ID[authority, code, (version), (citation), (uri)]`. A text is what stands between
-/// its quotes, each quote among them doubled; code and version are their characters, quoted or not.
-/// ISO 19162:2019, "Identifier".
+/// An identifier, `ID[authority, code, (version), (citation), (uri)]`. A text is what is between its quotes, each
+/// quote among them doubled; code and version are their characters, quoted or not. ISO 19162:2019, "Identifier".
 #[derive(Drop)]
 pub struct Ident<'a> {
     /// The authority that gave the code.
@@ -46,7 +45,7 @@ impl<'a> Model for Ident<'a> {
     ghost invariant = { λ i. IsIdent (view i) };
 }
 
-// What stands at this place among the arguments, if that is no node.
+// What is at this place among the arguments, if that is no node.
 fn single<'a>(items: &Items<'a>, id: ItemId, k: usize) -> Option<&'a [u8]>
     requires { HasId items.now id }
     ensures { ReadsOptional ReadsText (single_of (skip k (arguments (item_at items.now id))))

@@ -17,7 +17,7 @@ impl<T> Model for List<T> {
     ghost view = { λ a. a.members.items };
 }
 
-// By hand, so that whoever drops one calls this, and proves nothing of its parts.
+// Hand-written: a derived drop is expanded wherever a value is dropped, which slows the proofs.
 impl<T: Drop> Drop for List<T> {
     fn drop(self) {
         let List { members: _ } = self;
@@ -40,7 +40,7 @@ impl<T> List<T> {
         }
     }
 
-    // Want of memory leaves the list as it was.
+    // Out of memory, the list is as before.
     pub(crate) fn push(&mut self, member: T) -> Result<(), AllocError>
     where
         T: Drop,

@@ -49,7 +49,7 @@ impl<'a> Model for Projected<'a> {
     ghost invariant = { λ p. IsProjected (view p) };
 }
 
-// By hand, so that whoever drops one calls this, and proves nothing of its parts.
+// Hand-written: a derived drop is expanded wherever a value is dropped, which slows the proofs.
 impl Drop for Projected<'_> {
     fn drop(self) {
         let Projected {
@@ -71,7 +71,7 @@ pub struct Base<'a> {
     pub dynamic: Option<Dynamic<'a>>,
     /// The geodetic frame or ensemble.
     pub frame: Frame<'a>,
-    /// The prime meridian; None where none is written, which stands for Greenwich.
+    /// The prime meridian; None where none is written, which means Greenwich.
     pub meridian: Option<Meridian<'a>>,
     /// The unit of its angles.
     pub unit: Option<Unit<'a>>,
@@ -97,7 +97,7 @@ impl<'a> Model for Base<'a> {
     ghost invariant = { λ b. IsBase (view b) };
 }
 
-// By hand, so that whoever drops one calls this, and proves nothing of its parts.
+// Hand-written: a derived drop is expanded wherever a value is dropped, which slows the proofs.
 impl Drop for Base<'_> {
     fn drop(self) {
         let Base {

@@ -53,7 +53,7 @@ impl<'a> Model for System<'a> {
     ghost invariant = { λ s. IsSystem (view s) };
 }
 
-// By hand, so that whoever drops one calls this, and proves nothing of its parts.
+// Hand-written: a derived drop is expanded wherever a value is dropped, which slows the proofs.
 impl Drop for System<'_> {
     fn drop(self) {
         let System {

@@ -38,7 +38,7 @@ impl<'a> Model for Unit<'a> {
     ghost invariant = { λ u. IsUnit (view u) };
 }
 
-// By hand, so that whoever drops one calls this, and proves nothing of its parts.
+// Hand-written: a derived drop is expanded wherever a value is dropped, which slows the proofs.
 impl Drop for Unit<'_> {
     fn drop(self) {
         let Unit {

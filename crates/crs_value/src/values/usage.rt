@@ -21,8 +21,8 @@ use crs_text::{ItemId, Items};
 use std::alloc::{AllocError, Global};
 use std::marker::Model;
 
-/// A usage, `USAGE[(scope), (area), (box), (extent)]`, with one part at least; or the parts of one that
-/// stand bare at a CRS's end, as in the 2015 edition. ISO 19162:2019, "Scope and extent".
+/// A usage, `USAGE[(scope), (area), (box), (extent)]`, with one part at least; or the parts of one that are bare at a
+/// CRS's end, as in the 2015 edition. ISO 19162:2019, "Scope and extent".
 pub struct Usage<'a> {
     /// What the CRS is for.
     pub scope: Option<&'a [u8]>,
@@ -51,7 +51,7 @@ impl<'a> Model for Usage<'a> {
     ghost invariant = { λ u. IsUsage (view u) };
 }
 
-// By hand, so that whoever drops one calls this, and proves nothing of its parts.
+// Hand-written: a derived drop is expanded wherever a value is dropped, which slows the proofs.
 impl Drop for Usage<'_> {
     fn drop(self) {
         let Usage {
@@ -109,7 +109,7 @@ impl<'a> Model for Extent<'a> {
     ghost invariant = { λ e. IsExtent (view e) };
 }
 
-// By hand, so that whoever drops one calls this, and proves nothing of its parts.
+// Hand-written: a derived drop is expanded wherever a value is dropped, which slows the proofs.
 impl Drop for Extent<'_> {
     fn drop(self) {
         let Extent {
@@ -125,7 +125,7 @@ impl Drop for Extent<'_> {
 pub struct Tail<'a> {
     /// The usages, as written.
     pub usages: List<Usage<'a>>,
-    /// The usage whose parts stand bare, None where no part does.
+    /// The usage whose parts are bare, None where no part is.
     pub bare_parts: Option<Usage<'a>>,
     /// The identifiers, as written.
     pub identifiers: List<Ident<'a>>,
@@ -145,7 +145,7 @@ impl<'a> Model for Tail<'a> {
     ghost invariant = { λ t. IsTail (view t) };
 }
 
-// By hand, so that whoever drops one calls this, and proves nothing of its parts.
+// Hand-written: a derived drop is expanded wherever a value is dropped, which slows the proofs.
 impl Drop for Tail<'_> {
     fn drop(self) {
         let Tail {
@@ -246,7 +246,7 @@ fn says_some(
     scope.is_some() || area.is_some() || bbox.is_some() || extent.is_some()
 }
 
-// The usage whose parts stand bare at a CRS's end, None where no part does.
+// The usage whose parts are bare at a CRS's end, None where no part is.
 fn bare_usage<'a>(
     alloc: Global,
     items: &Items<'a>,

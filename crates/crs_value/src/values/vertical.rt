@@ -49,7 +49,7 @@ impl<'a> Model for Vertical<'a> {
     ghost invariant = { λ v. IsVertical (view v) };
 }
 
-// By hand, so that whoever drops one calls this, and proves nothing of its parts.
+// Hand-written: a derived drop is expanded wherever a value is dropped, which slows the proofs.
 impl Drop for Vertical<'_> {
     fn drop(self) {
         let Vertical {
@@ -82,7 +82,7 @@ impl<'a> Model for GeoidModel<'a> {
     ghost invariant = { λ g. IsNamed (view g) };
 }
 
-// By hand, so that whoever drops one calls this, and proves nothing of its parts.
+// Hand-written: a derived drop is expanded wherever a value is dropped, which slows the proofs.
 impl Drop for GeoidModel<'_> {
     fn drop(self) {
         let GeoidModel {
