@@ -7,7 +7,7 @@ use Rattle.crs_same.specs.declared.step.Step.{Step}
 use Rattle.crs_same.specs.Parts.{Parts, PartsOf, none, part, ◌⨾◌, within, AllSame, AreSame, First}
 use Rattle.crs_same.specs.Walked.{Walks, Walked}
 
--- those that stand in something stand in one thing
+-- those that are within something are within one thing
 abbrev pub IsSettled : Parts → Type 0
 IsSettled none = Unit {0}
 IsSettled (part path Same first second) = Unit {0}

@@ -1,4 +1,4 @@
--- Numbers from 1 to n, each at most once: if there are n of them, each stands among them.
+-- Numbers from 1 to n, each at most once: if there are n of them, each is among them.
 use Rattle.std.proofs.Common.{◌≡◌, ◌≢◌, ℕ, zero, suc, ◌≤◌, length, List, [], ◌∷◌, ◌⊎◌, inl, inr, ap, sym, subst, arith}
 
 -- from 1 to this number

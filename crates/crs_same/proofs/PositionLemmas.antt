@@ -62,7 +62,7 @@ module _ (symmetric : (a b : Number) → SameNumber a b → SameNumber b a)
       same : SameNumber (exact v) (exact o)
       same = transitive (exact v) (whole_number k) (exact o) (subst P e sv) (symmetric (exact o) (whole_number k) so)
 
-  -- no axis has a position that a value which isn't among the orders stands for
+  -- no axis has a position whose number isn't among the orders
   abbrev Free : List Value → List ℕ → Type 0
   Free os ks = (v : Value) (j : ℕ) → IsNormal v → SameNumber (exact v) (whole_number j) → Each (λ o. v ≢ o) os → Lacks j ks
 

@@ -24,7 +24,7 @@ r ⊗ s = record {
   transitive = λ a b c p q. (r.transitive a b c p.0 q.0, s.transitive a b c p.1 q.1);
 }
 
--- a relation that another one is in other words
+-- a relation that another one states in other words
 pub in-words : {A : Type 0} {R S : A → A → Type 0} → IsSameness S → ((a b : A) → R a b → S a b) →
     ((a b : A) → S a b → R a b) → IsSameness R
 in-words s there back = record {
@@ -33,7 +33,8 @@ in-words s there back = record {
   transitive = λ a b c p q. back a c (s.transitive a b c (there a b p) (there b c q));
 }
 
--- where all parts are the same exactly where the values agree: of the former from the latter, and back
+-- where all parts are the same exactly where the values agree: the former from the latter, and
+-- conversely
 pub same-as : {A : Type 0} {S R : A → A → Type 0} → ((a b : A) → S a b ↔ R a b) → IsSameness R → IsSameness S
 same-as is r = in-words r (λ a b. (is a b).0) (λ a b. (is a b).1)
 

@@ -9,14 +9,14 @@ has_at Same x [] at y e s = absurd cc
 has_at Same x (z ∷ ys) zero y e s = let k : z ≡ y = cc in inl (subst (λ it. Same x it) (sym k) s)
 has_at Same x (z ∷ ys) (suc at) y e s = inr (has_at Same x ys at y e s)
 
--- who is the same as one that has a same one has it too
+-- if x is the same as y and y has a counterpart, so has x
 has_from : {V : Type 0} (Same : V → V → Type 0) → IsSameness Same → (x y : V) (zs : List V)
     → Same x y → HasSame Same y zs → HasSame Same x zs
 has_from Same law x y [] same h = absurd h
 has_from Same law x y (z ∷ zs) same (inl other) = inl (law.transitive x y z same other)
 has_from Same law x y (z ∷ zs) same (inr h) = inr (has_from Same law x y zs same h)
 
--- who is the same as one of those that have a same one has one
+-- if x is the same as one of some members that have counterparts, so has x
 pub has_over : {V : Type 0} (Same : V → V → Type 0) → IsSameness Same → (x : V) (ys zs : List V)
     → HasSame Same x ys → AllHaveSame Same ys zs → HasSame Same x zs
 has_over Same law x [] zs h all = absurd h
@@ -30,7 +30,7 @@ all_suc Same (z ∷ xs) ys zero x e within all h = (subst (λ it. HasSame Same i
 all_suc Same (z ∷ xs) ys (suc count) x e within all h =
     (all.0, all_suc Same xs ys count x e (le_of_suc-le-suc within) all.1 h)
 
--- one more has a same one
+-- one more has a counterpart
 pub all_more : {V : Type 0} (Same : V → V → Type 0) (xs ys : List V) (count : ℕ) (x : V) → x ≡ get_or xs count x
     → count < length xs → AllHaveSame Same (take count xs) ys → HasSame Same x ys → AllHaveSame Same (take (count + 1) xs) ys
 all_more Same xs ys count x e within all h =

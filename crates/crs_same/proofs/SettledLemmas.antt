@@ -1,4 +1,4 @@
--- What stands in something among the parts of two values stands in one thing.
+-- What is within something among the parts of two values is within one thing.
 use Rattle.std.proofs.Common.{◌≡◌, ℕ, zero, suc, max, Option, Some, None, List, [], length, refl, ap}
 use Rattle.crs_value.specs.declared.values.compound.Horizontal.{Horizontal}
 use Rattle.crs_value.specs.declared.values.compound.Horizontal.TheVariants as horizontal

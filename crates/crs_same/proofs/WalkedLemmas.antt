@@ -72,7 +72,7 @@ walks-both these others (found.All paths) between new (inr (front, is, first)) s
         inr (front ++ back, was ∙ ap found.All (append_assoc paths front back), (front, back, refl, first, rest))
 walks-both these others (found.Refused error) between new first second = subst (λ f. Walks others f new) first second
 
--- over the parts that stand in the one
+-- over the parts that are within the one
 walks-within : {X : Type 0} (Is : X → Type 0) (parts : X → Parts) (x : X) (old new : Found) → Is x → Walks (parts x) old new →
     Walks (within Is parts) old new
 walks-within Is parts x (found.First None) new is (path, was, first) = (path, was, (x, is, first))

@@ -1,11 +1,11 @@
--- What stands at a part of a CRS that may be missing.
+-- The value of a part of a CRS that may be missing.
 use Rattle.std.specs.Prelude.{Option, Some, None}
 use Rattle.crs_value.specs.declared.values.unit_kind.UnitKind.TheVariants as kinds
 use Rattle.crs_value.specs.Values.{UnitParts}
 use Rattle.crs_same.specs.declared.content.Content.{Content}
 use Rattle.crs_same.specs.declared.content.Content.TheVariants as content
 
--- what stands at a part that may be missing
+-- the value of a part that may be missing
 abbrev pub given : {V : Type 0} → (V → Content) → Option V → Content
 given what None = content.Nothing
 given what (Some value) = what value

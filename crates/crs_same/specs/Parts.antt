@@ -1,4 +1,4 @@
--- The parts of two values in order, each with its path, what is asked of it and what stands there in
+-- The parts of two values in order, each with its path, what is asked of it and its value in
 -- either; what is the first part that differs, and which parts differ.
 use Rattle.std.specs.Prelude.{◌≡◌, Option, Some, None, List, [], ◌∷◌, ◌++◌, ◌⊎◌}
 use Rattle.crs_value.specs.declared.values.level.Level.{Level}
@@ -11,9 +11,9 @@ infixr 10 ◌⨾◌
 abbrev pub ◌▸◌ : List Step → Step → List Step
 at ▸ step = at ++ step ∷ []
 
--- The parts of two values: none; one, with its path, what holds where it is the same in both, and what
--- stands there in the first and in the second; some and then others; or those that stand in something
--- of which a property holds.
+-- The parts of two values: none; one, with its path, what holds where it is the same in both, and
+-- its value in the first and in the second; some and then others; or those within something of
+-- which a property holds.
 pub data Parts : Type 1 where
   none : Parts
   part : List Step → Type 0 → (first second : Content) → Parts
@@ -37,7 +37,7 @@ First (these ⨾ others) (Some found) =
     First these (Some found) ⊎ (First these None × First others (Some found))
 First (within {X} Is parts) found = (x : X) × Is x × First (parts x) found
 
--- a part that differs: its path, and what stands there in the first value and in the second
+-- a part that differs: its path, and its value in the first and in the second
 pub record DifferenceParts : Type 0 where
   pub path : List Step
   pub first : Content

@@ -21,12 +21,12 @@ parts_of_axis at level a b x y =
     (asked_kind b.system_type y.direction) (own_or x.unit a.unit) (own_or y.unit b.unit)
     ⨾ identifiers (at ▸ step.Id) level x.identifiers y.identifiers
 
--- this axis, of these, stands at this position, or none does
+-- this axis, of these, is at this position, or none is
 abbrev pub StandsAt : ℕ → List AxisParts → Option AxisParts → Type 0
 StandsAt position axes None = ¬ HasAt position (λ other. ⊤) 1 axes
 StandsAt position axes (Some axis) = HasAt position (λ other. other ≡ axis) 1 axes
 
--- the parts of the axes that stand at this position, of which each may be missing
+-- the parts of the axes that are at this position, of which each may be missing
 abbrev pub parts_at : List Step → Level → SystemParts → SystemParts → ℕ → Parts
 parts_at at level a b position =
     within (StandsAt position a.axes) (λ x. within (StandsAt position b.axes) (λ y.

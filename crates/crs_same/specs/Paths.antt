@@ -38,17 +38,17 @@ step_text step.Direction = codes "direction"
 step_text step.Method = codes "method"
 step_text step.Parameters = codes "parameters"
 
--- the texts of the steps with strokes between them
+-- the texts of the steps with slashes between them
 abbrev pub path_text : List Step → List ℕ
 path_text = join_by step_text (codes "/")
 
 -- ---- bridges: what is written step by step
 
--- the digits behind the word of a step
+-- the digits after the word of a step
 abbrev pub step_digits : Step → List ℕ
 step_digits (step.Axis position) = decimal position
 step_digits other = []
 
--- each of these steps behind a stroke
+-- each of these steps after a slash
 abbrev pub further_text : List Step → List ℕ
 further_text = flat_map (λ step. codes "/" ++ step_text step)

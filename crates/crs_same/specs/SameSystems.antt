@@ -1,4 +1,4 @@
--- When axes by themselves are the same, and which axis stands at a position.
+-- When axes by themselves are the same, and which axis is at a position.
 use Rattle.std.specs.Prelude.{◌≡◌, ℕ, ◌+◌, Option, Some, None, List, [], ◌∷◌, ◌⊎◌}
 use Rattle.crs_decimal.specs.Number.{SameNumber, whole_number}
 use Rattle.crs_decimal.specs.Value.{Value, exact}

@@ -13,8 +13,8 @@ use Rattle.crs_same.specs.SameIdents.{SameIdents}
 unfoldable pub SameValue : Value → Value → Type 0
 SameValue a b = SameNumber (exact a) (exact b)
 
--- two units are the same where this kind is asked: `UNIT` stands for
--- that kind, and kind, name, factor and identifiers are the same
+-- two units are the same where this kind is asked: `UNIT` is of that kind, and kind, name, factor
+-- and identifiers are the same
 pub record SameUnit (asked : UnitKind) (level : Level) (a b : UnitParts) : Type 0 where
   pub kind : kind_as asked a.kind ≡ kind_as asked b.kind
   pub name : a.name ≡ b.name

@@ -30,7 +30,7 @@ pub record SameUsage (a b : UsageParts) : Type 0 where
 
 -- ---- the end of a CRS
 
--- these usages, and the one whose parts stand bare, if there is one
+-- these usages, and the one whose parts are bare, if there is one
 abbrev pub with_bare : Option UsageParts → List UsageParts → List UsageParts
 with_bare None usages = usages
 with_bare (Some bare) usages = bare ∷ usages

@@ -1,4 +1,4 @@
--- Single parts of two values, by what stands there, and the parts of nodes that may be missing.
+-- Single parts of two values, by their values, and the parts of nodes that may be missing.
 use Rattle.std.specs.Prelude.{◌≡◌, ℕ, List, Option, Some, None}
 use Rattle.crs_decimal.specs.Value.{Value}
 use Rattle.crs_value.specs.declared.values.level.Level.{Level}
@@ -44,7 +44,7 @@ abbrev pub optional_numbers : List Step → Option Value → Option Value → Pa
 optional_numbers path = optional path SameValue content.Number
 
 -- two units of which each may be missing, each where a kind is asked; they are compared as where
--- that of the first is
+-- the first one's kind is
 abbrev pub units : List Step → Level → (asked other : UnitKind) → (a b : Option UnitParts) → Parts
 units path level asked other a b =
     part path (BothOrNeither (SameUnit asked level) a b)

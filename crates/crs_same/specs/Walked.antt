@@ -13,7 +13,7 @@ IsDone (found.First (Some path)) = Unit {0}
 IsDone (found.All before) = ⊥
 IsDone (found.Refused error) = Unit {0}
 
--- no memory was there for a part
+-- there was no memory for a part
 abbrev pub IsRefused : Found → Type 0
 IsRefused (found.Refused error) = Unit {0}
 IsRefused other = ⊥

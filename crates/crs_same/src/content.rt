@@ -1,4 +1,4 @@
-//! What stands at a part of a CRS, borrowed from it.
+//! The value of a part of a CRS, borrowed from it.
 ghost use Rattle.std.specs.Prelude.{◌≡◌};
 ghost use Rattle.std.specs.Option.{option_copied};
 ghost use Rattle.crs_same.specs.declared.content.Content.TheVariants as content;
@@ -99,7 +99,7 @@ impl<'b, T> Members<'b, T> {
     }
 }
 
-/// The usages at the end of a CRS; the parts that stand bare are together one. Profile.
+/// The usages at the end of a CRS; the parts that are bare are together one. Profile.
 #[derive(Drop)]
 pub struct Usages<'b, 'a> {
     bare: Option<&'b Usage<'a>>,
@@ -124,7 +124,7 @@ impl<'b, 'a> Usages<'b, 'a> {
         Usages { bare, usages }
     }
 
-    /// The one whose parts stand bare, if there is one, and the others.
+    /// The one whose parts are bare, if there is one, and the others.
     pub fn parts(&self) -> (Option<&'b Usage<'a>>, &'b [Usage<'a>])
         ensures { with_bare (option_copied result.0) result.1.now ≡ self.now }
     {
@@ -132,7 +132,7 @@ impl<'b, 'a> Usages<'b, 'a> {
     }
 }
 
-/// What stands at a part of one of two CRSs. A set comes with the members that the other CRS has there. Profile.
+/// The value of a part of one of two CRSs. A set comes with the members that the other CRS has there. Profile.
 #[derive(Drop)]
 pub enum Content<'b, 'a> {
     /// Nothing.
@@ -145,7 +145,7 @@ pub enum Content<'b, 'a> {
     Number(Decimal),
     /// A unit where a kind is asked, which `UNIT` is of.
     Unit(UnitKind, Borrowed<'b, Unit<'a>>),
-    /// The metre, which a missing unit of length stands for.
+    /// The metre, the default of a missing unit of length.
     Metre,
     /// The meridian that an axis goes along.
     Meridian(Borrowed<'b, AxisMeridian<'a>>),

@@ -337,7 +337,7 @@ pub fn first_part<'a>(a: &Crs<'a>, b: &Crs<'a>, level: Level) -> Option<Path>
     walk_crs(Found::first(), a, b, level).into_first()
 }
 
-/// All parts in which two CRSs differ, in the order of the canonical text, each with what stands there in either; none
+/// All parts in which two CRSs differ, in the order of the canonical text, each with its value in either; none
 /// exactly where they are the same. A set is one part, and so is a unit. Profile.
 ///
 /// `AllocError`: there is no memory for them.

@@ -23,7 +23,7 @@ use crs_value::{Ident, Level, List, Unit, UnitKind};
 use std::alloc::{AllocError, Global};
 use std::marker::Model;
 
-/// A part in which two CRSs differ: the path to it, and what stands there in either. Profile.
+/// A part in which two CRSs differ: the path to it, and its value in either. Profile.
 #[derive(Drop)]
 pub struct Difference<'b, 'a> {
     path: Path,
@@ -47,14 +47,14 @@ impl<'b, 'a> Difference<'b, 'a> {
         &self.path
     }
 
-    /// What stands there in the first CRS.
+    /// Its value in the first CRS.
     pub fn first(&self) -> &Content<'b, 'a>
         ensures { result.now ≡ self.now.first }
     {
         &self.first
     }
 
-    /// What stands there in the second CRS.
+    /// Its value in the second CRS.
     pub fn second(&self) -> &Content<'b, 'a>
         ensures { result.now ≡ self.now.second }
     {
@@ -185,7 +185,7 @@ impl<'b, 'a> Found<'b, 'a> {
         }
     }
 
-    // With one part more, in which these stand.
+    // With one part more, which has these values.
     pub(crate) fn with(
         self,
         path: Path,

@@ -1,4 +1,4 @@
-//! Where the same member may stand, by keys. It takes no memory: of a long list so many members at once stand in a table
+//! Where the same member may be, by keys. It takes no memory: of a long list so many members at once are in a table
 //! of fixed size. No promise rests on a guess.
 
 ghost use Rattle.std.specs.Prelude.{◌<◌};
@@ -7,14 +7,14 @@ use crate::keys::{slot_of, used};
 use crate::sets::Member;
 use crs_value::Level;
 
-// So many members stand in the table at once, and so many slots it has.
+// How many members are in the table at once, and how many slots it has.
 const MEMBERS: usize = 1024;
 
 const SLOTS: usize = 2048;
 
 const NOWHERE: usize = usize::MAX;
 
-// Where one may stand that is the same as a member.
+// Where a member that is the same may be.
 #[derive(Clone, Copy)]
 pub(crate) struct Guess {
     // Among the others, the first place of its key.
@@ -23,7 +23,7 @@ pub(crate) struct Guess {
     pub(crate) before: usize,
 }
 
-// The guesses for some members that stand one behind the other.
+// The guesses for some members that follow one another.
 #[derive(Drop)]
 pub(crate) struct Guesses {
     // The first of these members, and the end of them.

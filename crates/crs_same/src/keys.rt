@@ -7,7 +7,7 @@ use crs_decimal::Decimal;
 use crs_value::{BoundingBox, Extent, Ident, Level, Unit};
 use std::hash::{DefaultHasher, Hasher};
 
-// So many keys of identifiers are told apart, in so many slots.
+// How many keys of identifiers are kept apart, and in how many slots.
 const MOST: usize = 512;
 
 const SLOTS: usize = 1024;
@@ -87,7 +87,7 @@ impl Key {
         }
     }
 
-    // A unit without its kind, which may be said by where it stands.
+    // A unit without its kind, which its place may say.
     fn put_unit(&mut self, unit: &Unit<'_>, level: Level) {
         self.put_text(unit.name);
         self.put_number(&unit.factor);
@@ -165,7 +165,7 @@ pub(crate) fn used(key: u64) -> u64 {
     key | 1
 }
 
-// The slot that has this key, or the free one where it would stand.
+// The slot that has this key, or the free one where it would be.
 pub(crate) fn slot_of(keys: &[u64], key: u64) -> usize
     requires { 0 < length keys.now }
     ensures { result < length keys.now }

@@ -62,7 +62,7 @@ pub(crate) fn zero_is_one_number()
     laws::same_number_is_equivalence();
 }
 
-/// All parts of two values are the same exactly where the values agree, field by field: what proofs stand on.
+/// All parts of two values are the same exactly where the values agree, field by field: proofs rest on this.
 pub fn parts_agree_where_same()
     ensures { (level : Level) → AgreeWhereSame level }
 {

@@ -9,7 +9,7 @@ use std::marker::Model;
 // the steps of the longest path
 const MOST: usize = 5;
 
-/// Where a part stands in a CRS: the steps to it, at most five. Profile.
+/// Where a part is in a CRS: the steps to it, at most five. Profile.
 #[derive(Drop)]
 pub struct Path {
     steps: [Step; MOST],

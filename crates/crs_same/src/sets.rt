@@ -7,7 +7,7 @@ ghost use Rattle.crs_same.specs.Sets.{HasSame, AllHaveSame, SameSet};
 use crate::guesses::Guesses;
 use crs_value::Level;
 
-// Among so few a same member is looked for one by one.
+// Up to so many members, a same one is looked for one by one.
 pub(crate) const FEW: usize = 32;
 
 // A value that may be a member of a set.
@@ -48,7 +48,7 @@ fn all_have_same<T: Member>(members: &[T], others: &[T], level: Level) -> bool
 }
 
 // Whether each of many members has a same one among many others, in time that grows with the sum of their lengths as
-// long as keys tell members apart.
+// long as keys distinguish members.
 fn all_of_many_have_same<T: Member>(members: &[T], others: &[T], level: Level) -> bool
     ensures { IsTrue result ↔ AllHaveSame (T.Same level) members.now others.now }
 {
