@@ -118,7 +118,7 @@ module _ {V : Type 0} (IsSpelling : V → List ℕ → Type 0) where
         λ p. ⊎_elim (λ q. inl (q, p.1)) (λ q. inr (rest.1 (q, p.1))) p.0,
       )
 
-  -- what is put into empty sets is told by the spellings
+  -- what is put into empty sets is known by the spellings
   put-tells : ((texts : List (List ℕ)) (text : List ℕ) → IsIn text (in_order (λ text. text) texts) ↔ IsIn text texts) →
       (values : List V) (keys : List (List ℕ)) → ArePut IsSpelling values [] keys → (text : List ℕ) →
       IsIn text keys ↔ SpellsOneOf IsSpelling values text

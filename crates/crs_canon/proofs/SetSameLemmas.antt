@@ -1,4 +1,5 @@
--- The text of a set tells its members, so that two sets have one text exactly where they are the same.
+-- The text of a set shows its members, so that two sets have one text exactly where they are the
+-- same.
 use Rattle.std.proofs.Common.{◌≡◌, ◌↔◌, ◌⊎◌, ℕ, List, [], ◌∷◌, ◌++◌, inl, inr, refl, sym, ◌∙◌, ap, subst}
 use Rattle.crs_value.specs.Sound.{Each}
 use Rattle.crs_same.specs.Sets.{AllHaveSame, HasSame, SameSet}
@@ -7,7 +8,7 @@ use Rattle.crs_normal.specs.CanonicalForm.{IsCanonicalForm}
 use Rattle.crs_normal.specs.Closed.{IsClosed}
 use Rattle.crs_canon.specs.SetText.{HaveOneTextWhereSame, IsSetText, SpellsOneOf, commas, comma_separated}
 
--- ---- closed texts behind one another
+-- ---- closed texts after one another
 
 -- no closed text is the front of another
 abbrev pub NoFront : Type 0
@@ -22,7 +23,7 @@ same-tail x y xs ys e = cc
 none-some : (x : ℕ) (xs : List ℕ) → [] ≡ x ∷ xs → ⊥
 none-some x xs e = cc
 
--- the one goes on to the other, and what stands behind begins with what is between
+-- the one goes on to the other, and what follows begins with what is between
 abbrev GoesOn : List ℕ → List ℕ → List ℕ → List ℕ → Type 0
 GoesOn a b r s = (more : List ℕ) × (b ≡ a ++ more) × (r ≡ more ++ s)
 

@@ -24,7 +24,7 @@ module _ {V : Type 0} (IsSpelling : V → List ℕ → Type 0) where
     all_put = gathered old new key start a.spelling e f a.appended;
   }
 
-  -- one more is put in behind those that are there
+  -- one more is put in after those that are there
   pub more-put : (value : V) (values : List V) (a b c : List (List ℕ)) → ArePut IsSpelling (value ∷ []) a b →
       ArePut IsSpelling values b c → ArePut IsSpelling (value ∷ values) a c
   more-put value values a b c p q = by p.texts p.spelled p.all_put

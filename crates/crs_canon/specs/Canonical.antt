@@ -22,7 +22,7 @@ pub record IsCanonicalText (level : Level) (crs : Crs) (bytes : List ℕ) : Type
 abbrev pub IsCanonicalOf : Level → List ℕ → List ℕ → Type 0
 IsCanonicalOf level text bytes = (crs : Crs) × Spells text crs × IsCanonicalText level crs bytes
 
--- what stands behind the bytes from before is a spelling
+-- what follows the bytes from before is a spelling
 pub record AppendsSpelling (IsSpelling : List ℕ → Type 0) (before after : List ℕ) : Type 0 where
   pub spelling : List ℕ
   pub appended : after ≡ before ++ spelling

@@ -1,4 +1,4 @@
--- What is written for what stands at a part of a CRS.
+-- What is written for the value of a part of a CRS.
 use Rattle.std.specs.Prelude.{◌≡◌, ℕ, List, [], ◌++◌, codes}
 use Rattle.crs_decimal.specs.Bounds.{Denotes}
 use Rattle.crs_decimal.specs.Plain.{IsPlain}
@@ -20,7 +20,7 @@ abbrev pub IsLackingText : {V : Type 0} → (V → List ℕ → Type 0) → List
 IsLackingText IsSpelling xs others =
     IsSetText (λ x text. IsSpelling x text × (¬ (SpellsOneOf IsSpelling others text))) xs
 
--- the bytes are what is written for what stands at a part: of a unit its spelling where this kind is
+-- the bytes are what is written for the value of a part: of a unit its spelling where this kind is
 -- asked, which `UNIT` is of; of a set its members that the other lacks
 abbrev pub IsContentText : Level → Content → List ℕ → Type 0
 IsContentText level content.Nothing = λ bytes. bytes ≡ []

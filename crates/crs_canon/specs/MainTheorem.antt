@@ -20,7 +20,7 @@ pub record IsItsRefusal (text : List ℕ) (refusal : RefusedAt) : Type 0 where
   pub refused : Refuses text refusal
   pub alone : (other : RefusedAt) → Refuses text other → other ≡ refusal
 
--- the headline at a level, over all texts
+-- the main theorem at a level, over all texts
 pub record MainTheorem (level : Level) : Type 0 where
   -- each accepted text has a canonical text, and just one
   pub there : (text : List ℕ) → IsAccepted text → (bytes : List ℕ) × IsCanonicalOf level text bytes

@@ -6,7 +6,7 @@ use Rattle.std.specs.declared.alloc.Global.{Global}
 use Rattle.crs_normal.specs.Ordered.{in_order, put_all}
 use Rattle.crs_canon.specs.SetText.{commas}
 
--- a set behind other arguments
+-- a set after other arguments
 unfoldable pub set_text : List (List ℕ) → List ℕ
 set_text spellings = commas (in_order (λ bytes. bytes) spellings)
 
@@ -39,7 +39,7 @@ pub record ArePut {V : Type 0} (IsSpelling : V → List ℕ → Type 0) (values 
   pub spelled : AreSpellingsOf IsSpelling values texts
   pub all_put : after ≡ put_all (λ bytes. bytes) before texts
 
--- the spellings of the values, each once and in order, are appended in this way
+-- the spellings of the values, each once and in order, are appended so
 pub record AppendsAll {V : Type 0} (write : List (List ℕ) → List ℕ)
     (IsSpelling : V → List ℕ → Type 0)
     (values : List V) (before after : List ℕ) : Type 0 where

@@ -7,12 +7,12 @@ use Rattle.crs_text.specs.Written.{item_text, others_text}
 abbrev pub opened : List ℕ → List ℕ → List ℕ
 opened opening text = opening ++ (text ++ 34 ∷ [])
 
--- a node of one text behind its opening, if there is one
+-- a node of one text after its opening, if there is one
 abbrev pub text_behind : List ℕ → Option (List ℕ) → List ℕ
 text_behind opening None = []
 text_behind opening (Some text) = opened opening text ++ 93 ∷ []
 
--- a node of a name and of arguments behind it
+-- a node of a name and of arguments after it
 abbrev pub named_node : List ℕ → List ℕ → Siblings → List ℕ
 named_node opening name others = opened opening name ++ (others_text others ++ 93 ∷ [])
 

@@ -4,12 +4,12 @@ use Rattle.std.specs.Prelude.{◌≡◌, ◌↔◌, ◌⊎◌, ℕ, List, [], �
 use Rattle.crs_same.specs.Sets.{SameSet}
 use Rattle.crs_normal.specs.Ascending.{Ascends, IsIn}
 
--- the texts behind one another, a comma before each
+-- the texts after one another, a comma before each
 abbrev pub commas : List (List ℕ) → List ℕ
 commas [] = []
 commas (bytes ∷ others) = 44 ∷ (bytes ++ commas others)
 
--- the texts behind one another, a comma between two
+-- the texts after one another, a comma between two
 abbrev pub comma_separated : List (List ℕ) → List ℕ
 comma_separated [] = []
 comma_separated (bytes ∷ others) = bytes ++ commas others

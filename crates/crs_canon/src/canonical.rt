@@ -50,7 +50,7 @@ pub trait Canonical: Sized {
         ensures form { (level : Level) → IsCanonicalForm IsValue (Same level) (IsSpelling level) };
 }
 
-// Appends a text that was written behind a comma, without the comma.
+// Appends a text that was written after a comma, without the comma.
 pub(crate) fn append_argument(out: &mut Vec<u8>, text: &[u8]) -> Result<(), AllocError>
     ensures { (bytes : List ℕ) → text.now ≡ 44 ∷ bytes → MatchResult result
         (λ _. out.new.items ≡ out.old.items ++ bytes)

@@ -1,4 +1,4 @@
-//! What stands at a part of a CRS, as the canonical text writes it.
+//! The value of a part of a CRS, as the canonical text writes it.
 ghost use Rattle.std.specs.Prelude.{◌≡◌, MatchResult, OnOk};
 ghost use Rattle.crs_value.specs.declared.values.level.Level.TheVariants as levels;
 ghost use Rattle.crs_same.specs.declared.content.Content.TheVariants as content;
@@ -105,10 +105,10 @@ fn append_usages(
     append_lacking(alloc, out, &sorted, &other)
 }
 
-/// Appends what stands at a part of a CRS, as the canonical text at a level writes it: nothing; a word; a text in its
-/// quotes; a number in its plain spelling; a node; or of a set the members of which the other CRS has no same one, each
-/// once, in ascending order of their bytes, a comma between two. A unit has the keyword of its kind, which where `UNIT`
-/// is written is the asked one. Profile.
+/// Appends the value of a part of a CRS, as the canonical text at a level writes it: nothing; a word; a text in its
+/// quotes; a number in its plain spelling; a node; or of a set the members of which the other CRS has no same one,
+/// each once, in ascending order of their bytes, a comma between two. A unit has the keyword of its kind, which where
+/// `UNIT` is written is the asked one. Profile.
 ///
 /// `AllocError`: there is no memory for it, and `out` is as before.
 pub fn write_content(

@@ -77,7 +77,7 @@ pub fn equal_canons_are_one()
     ensures hash { (a b : CanonicalText) → canons_equal a b ≡ true → canon_writes a ≡ canon_writes b }
 {}
 
-/// No spelling of a node is empty, and none is the front of another of its kind. The node stands for its kind.
+/// No spelling of a node is empty, and none is the front of another of its kind. The node is one of the kind.
 /// Profile.
 pub fn spellings_stand_alone<T: Canonical>(node: &T)
     ensures some { (level : Level) (value : T) (bytes : List ℕ) → T.IsValue value →
@@ -90,7 +90,7 @@ pub fn spellings_stand_alone<T: Canonical>(node: &T)
 }
 
 /// The texts of two sets of nodes of one kind are equal, byte for byte, exactly where the sets are the same. The node
-/// stands for the kind. Profile.
+/// is one of the kind. Profile.
 pub fn set_texts_are_equal_where_same<T: Canonical>(node: &T)
     ensures { (level : Level) (a b : List T) → Each T.IsValue a → Each T.IsValue b →
         HaveOneTextWhereSame (T.Same level) (T.IsSpelling level) a b }

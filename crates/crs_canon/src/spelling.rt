@@ -1,5 +1,5 @@
-//! Writers: each appends the text of the one form of a value to `out`. Where memory runs out, nothing is promised of
-//! `out`; whoever calls from outside cuts it back.
+//! Writers: each appends the text of the one form of a value to `out`. Out of memory, nothing is promised of `out`;
+//! the public calls cut it back.
 
 pub(crate) mod axis;
 pub(crate) mod conversion;

@@ -17,7 +17,8 @@ use crs_value::laws::crs_is_sound;
 use crs_value::{Crs, Level};
 use std::alloc::{AllocError, Global};
 
-// The text that is written for a CRS is its canonical text, which is one and closed, and tells which CRSs are the same.
+// The text that is written for a CRS is its canonical text, which is one and closed, and shows which CRSs are the
+// same.
 pub(crate) fn crss_are_canonical()
     ensures { (level : Level) → IsWrittenForm IsCrs (SameCrs level) (IsCanonicalText level) (crs_text level) }
 {

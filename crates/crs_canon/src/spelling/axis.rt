@@ -28,7 +28,7 @@ fn write_whole(out: &mut Vec<u8>, number: u64) -> Result<(), AllocError>
     append(out, digits.format(number).as_bytes())
 }
 
-// Behind a comma.
+// After a comma.
 fn write_order(out: &mut Vec<u8>, order: u64) -> Result<(), AllocError>
     ensures { OnOk result (out.new.items
         ≡ out.old.items ++ 44 ∷ item_text (number_node (codes "ORDER") (whole_value order))) }
@@ -38,7 +38,7 @@ fn write_order(out: &mut Vec<u8>, order: u64) -> Result<(), AllocError>
     append(out, b"]")
 }
 
-// Behind a comma.
+// After a comma.
 fn write_direction(out: &mut Vec<u8>, direction: Direction) -> Result<(), AllocError>
     ensures { OnOk result (out.new.items
         ≡ out.old.items ++ 44 ∷ item_text (word_item (direction_word direction))) }
@@ -47,7 +47,7 @@ fn write_direction(out: &mut Vec<u8>, direction: Direction) -> Result<(), AllocE
     append(out, direction.word().as_bytes())
 }
 
-// Behind a comma.
+// After a comma.
 pub(crate) fn write_axis_meridian(
     out: &mut Vec<u8>,
     meridian: &AxisMeridian<'_>,
@@ -158,7 +158,7 @@ fn write_from_direction(
     write_from_meridian(out, system, axis, position, level)
 }
 
-// Behind a comma; the axis of a system at this position.
+// After a comma; the axis of a system at this position.
 #[tactic(auto, unfolding(crs_normal::specs::SpelledSystems::norm_axis))]
 pub(crate) fn write_axis(
     out: &mut Vec<u8>,
@@ -177,7 +177,7 @@ pub(crate) fn write_axis(
 
 // ---- an axis by itself
 
-// Behind a comma.
+// After a comma.
 fn write_own_order(out: &mut Vec<u8>, order: &Decimal) -> Result<(), AllocError>
     ensures { OnOk result (out.new.items
         ≡ out.old.items ++ 44 ∷ item_text (number_node (codes "ORDER") order.now)) }

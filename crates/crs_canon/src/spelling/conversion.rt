@@ -16,7 +16,7 @@ use crate::spelling::unit::write_optional_unit;
 use crs_value::{Conversion, GeoidModel, Level, List, Method, Parameter, UnitKind};
 use std::alloc::AllocError;
 
-// Behind a comma.
+// After a comma.
 pub(crate) fn write_method(
     out: &mut Vec<u8>,
     method: &Method<'_>,
@@ -120,7 +120,7 @@ fn write_from_method(
     write_from_parameters(out, conversion, level)
 }
 
-// Behind a comma.
+// After a comma.
 pub(crate) fn write_conversion(
     out: &mut Vec<u8>,
     conversion: &Conversion<'_>,

@@ -171,7 +171,7 @@ fn write_base_from_dynamic(
     write_base_from_frame(out, base, level)
 }
 
-// Behind a comma.
+// After a comma.
 pub(crate) fn write_base(out: &mut Vec<u8>, base: &Base<'_>, level: Level) -> Result<(), AllocError>
     ensures { OnOk result (out.new.items ≡ out.old.items ++ 44 ∷ item_text (item_base (norm_base level base.now))) }
 {

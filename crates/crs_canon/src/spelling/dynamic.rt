@@ -12,7 +12,7 @@ use crate::spelling::texts::{append, open_number};
 use crs_value::{DeformationModel, Dynamic, Level};
 use std::alloc::AllocError;
 
-// Behind a comma.
+// After a comma.
 pub(crate) fn write_deformation_model(
     out: &mut Vec<u8>,
     model: &DeformationModel<'_>,
@@ -38,7 +38,7 @@ fn write_optional_model(
     }
 }
 
-// Behind a comma.
+// After a comma.
 pub(crate) fn write_dynamic(
     out: &mut Vec<u8>,
     dynamic: &Dynamic<'_>,

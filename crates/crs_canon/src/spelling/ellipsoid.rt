@@ -55,7 +55,7 @@ fn write_from_axis(
     write_from_flattening(out, ellipsoid, level)
 }
 
-// Behind a comma.
+// After a comma.
 pub(crate) fn write_ellipsoid(
     out: &mut Vec<u8>,
     ellipsoid: &Ellipsoid<'_>,

@@ -196,7 +196,7 @@ pub(crate) fn write_ensemble(
     append(out, b"]")
 }
 
-// Behind a comma.
+// After a comma.
 pub(crate) fn write_geodetic_frame(
     out: &mut Vec<u8>,
     frame: &Frame<'_>,
@@ -211,7 +211,7 @@ pub(crate) fn write_geodetic_frame(
     }
 }
 
-// Behind a comma.
+// After a comma.
 pub(crate) fn write_vertical_frame(
     out: &mut Vec<u8>,
     frame: &Frame<'_>,

@@ -19,7 +19,7 @@ fn write_greenwich(out: &mut Vec<u8>) -> Result<(), AllocError>
     append(out, b",PRIMEM[\"Greenwich\",0]")
 }
 
-// At longitude 0 a unit says nothing.
+// At longitude 0 a unit has no meaning.
 fn write_unit_of(out: &mut Vec<u8>, meridian: &Meridian<'_>, level: Level) -> Result<(), AllocError>
     ensures { OnOk result (out.new.items ≡ out.old.items ++ others_text (opt item_unit
         (if is_zero meridian.now.longitude then None else norm_units level kinds.Angle meridian.now.unit) End)) }

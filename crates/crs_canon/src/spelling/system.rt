@@ -1,4 +1,4 @@
-//! Coordinate systems: their axes stand by position.
+//! Coordinate systems: their axes are in order of position.
 ghost use Rattle.std.specs.Prelude.{◌≡◌, ◌∷◌, ◌++◌, [], ◌<◌, OnOk, length};
 ghost use Rattle.std.specs.Option.{option_copied};
 ghost use Rattle.crs_text.specs.Items.{End, More};
@@ -96,7 +96,7 @@ fn open_head(out: &mut Vec<u8>, system: &System<'_>) -> Result<(), AllocError>
     append(out, system.system_type.word().as_bytes())
 }
 
-// Behind a comma.
+// After a comma.
 fn write_head(out: &mut Vec<u8>, system: &System<'_>, level: Level) -> Result<(), AllocError>
     ensures { OnOk result (out.new.items
         ≡ out.old.items ++ 44 ∷ item_text (item_head (norm_system level system.now))) }

@@ -63,7 +63,7 @@ pub(crate) fn open_number(
     write_decimal(out, value)
 }
 
-// A number behind a comma.
+// A number after a comma.
 pub(crate) fn write_number(out: &mut Vec<u8>, value: &Decimal) -> Result<(), AllocError>
     ensures { OnOk result (out.new.items ≡ out.old.items ++ 44 ∷ item_text (number_item value.now)) }
 {
@@ -77,14 +77,14 @@ fn are_digits(raw: &[u8]) -> bool
     raw.iter().all(|byte| byte.is_ascii_digit())
 }
 
-// Whether a code stands without quotes.
+// Whether a code is written without quotes.
 fn is_short(raw: &[u8]) -> bool
     ensures { result ≡ is_short raw.now }
 {
     are_digits(raw) && 1 <= raw.len() && raw.len() <= 18
 }
 
-// A code or a version behind a comma.
+// A code or a version after a comma.
 pub(crate) fn write_code(out: &mut Vec<u8>, raw: &[u8]) -> Result<(), AllocError>
     ensures { OnOk result (out.new.items ≡ out.old.items ++ others_text (More (code_item raw.now) End)) }
 {

@@ -33,7 +33,7 @@ fn write_from_factor(out: &mut Vec<u8>, unit: &Unit<'_>, level: Level) -> Result
     write_idents(out, &unit.identifiers, level)
 }
 
-// Behind a comma; where this kind is asked, which `UNIT` is of.
+// After a comma; where this kind is asked, which `UNIT` is of.
 pub(crate) fn write_unit(
     out: &mut Vec<u8>,
     asked: UnitKind,

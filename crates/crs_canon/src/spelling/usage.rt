@@ -49,7 +49,7 @@ fn write_from_west(out: &mut Vec<u8>, bbox: &BoundingBox) -> Result<(), AllocErr
     write_from_north(out, bbox)
 }
 
-// Behind a comma.
+// After a comma.
 pub(crate) fn write_box(out: &mut Vec<u8>, bbox: &BoundingBox) -> Result<(), AllocError>
     ensures { OnOk result (out.new.items ≡ out.old.items ++ 44 ∷ item_text (item_box bbox.now)) }
 {
@@ -80,7 +80,7 @@ fn write_from_maximum(
     write_length(out, extent.unit.as_ref(), level)
 }
 
-// Behind a comma.
+// After a comma.
 pub(crate) fn write_extent(
     out: &mut Vec<u8>,
     extent: &Extent<'_>,
@@ -141,7 +141,7 @@ fn open_at(out: &mut Vec<u8>, at: usize)
     out[at] = b'[';
 }
 
-// Delimiters around the arguments that stand from this place on, the first in the place of a comma.
+// Delimiters around the arguments from this place on; the opening one replaces the first comma.
 fn enclose(out: &mut Vec<u8>, at: usize) -> Result<(), AllocError>
     ensures { (front : List ℕ) (items : Siblings) → out.old.items ≡ front ++ others_text items →
         length front ≡ at → OnOk result (out.new.items ≡ front ++ enclosed items) }
