@@ -10,11 +10,13 @@ use Rattle.crs_value.specs.contracts.values.level.Level.{the_type}
 use Rattle.crs_canon.specs.Canonical.{CanonicalText}
 use Rattle.crs_canon.specs.Equality.{canon_writes, canons_equal}
 
+-- the test is an equivalence
 pub canons-equivalence : IsEquivalence canons_equal
 canons-equivalence =
     and_equiv (on_equiv (λ canon. tag_of the_type canon.level) nat_eq_equiv)
     (on_equiv (λ canon. canon.bytes) nat_list_eq_equiv)
 
+-- the test holds exactly of equal canonical texts
 pub canons-decide : (a b : CanonicalText) → (canons_equal a b ≡ true) ↔ (a ≡ b)
 canons-decide a b = (equal, back)
   where
@@ -29,5 +31,6 @@ canons-decide a b = (equal, back)
     back : a ≡ b → canons_equal a b ≡ true
     back one = ap (λ canon. canons_equal canon b) one ∙ canons-equivalence.refl b
 
+-- canonical texts that pass the test give a hash the same bytes
 pub canons-hash : (a b : CanonicalText) → canons_equal a b ≡ true → canon_writes a ≡ canon_writes b
 canons-hash a b so = ap canon_writes ((canons-decide a b).0 so)

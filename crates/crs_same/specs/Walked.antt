@@ -33,6 +33,7 @@ Walks parts (found.All before) new =
     ⊎ ((further : List DifferenceParts) × (new ≡ found.All (before ++ further)) × Differences parts further)
 Walks parts (found.Refused error) new = new ≡ found.Refused error
 
+-- what is found over these parts, as one fact
 pub record Walked (parts : Parts) (old new : Found) : Type 0 where
   pub walks : Walks parts old new
 
@@ -42,6 +43,7 @@ TellsOf one (found.First before) new = new ≡ found.First (Some one.path)
 TellsOf one (found.All before) new = IsRefused new ⊎ (new ≡ found.All (before ++ one ∷ []))
 TellsOf one (found.Refused error) new = ⊥
 
+-- more was looked for, and this is found with one part more, which differs: its path and both values
 pub record Told (path : List Step) (first second : Content) (old new : Found) : Type 0 where
   pub more : ¬ IsDone old
   pub tells : TellsOf (record { path = path; first = first; second = second }) old new

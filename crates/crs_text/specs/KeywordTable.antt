@@ -17,6 +17,7 @@ pub record Spelled : Type 0 where
 abbrev pub as_spelled : Spelling → Spelled
 as_spelled s = record { word = s.word.now; named = s.keyword }
 
+-- a keyword with its spelling
 abbrev pub spelled : Keyword → Spelled
 spelled k = record { word = spelling_of k; named = k }
 
@@ -38,6 +39,7 @@ is_capital c = nat_le 65 c && nat_le c 90
 abbrev pub AreCapitals : List ℕ → Type 0
 AreCapitals word = (k : ℕ) → k < length word → IsTrue (is_capital (slice_index word k))
 
+-- the word of each is capitals
 abbrev pub AreSpellings : List Spelled → Type 0
 AreSpellings [] = Unit {0}
 AreSpellings (s ∷ ss) = AreCapitals s.word × AreSpellings ss
