@@ -5,10 +5,10 @@ use Rattle.crs_text.specs.Refusal.{RefusedAt}
 use Rattle.crs_shape.specs.declared.class.Class.{Class}
 use denote.Enum.Bare.{sameb, same_true, true_same}
 use Rattle.crs_shape.specs.contracts.class.Class.{the_type}
-use Rattle.crs_shape.specs.Keywords.{is_keyword, first_named}
+use Rattle.crs_shape.specs.Keywords.{is_keyword, first_named, root_classes, root_named}
 use Rattle.crs_shape.specs.Slots.{SlotParts, slots_of, named_in, class_named, is_class}
 use Rattle.crs_shape.specs.Walk.{after, may_end}
-use Rattle.crs_shape.specs.ShapeFault.{class_of_kind, class_in, is_of, misplaced, missing}
+use Rattle.crs_shape.specs.ShapeFault.{class_of_kind, class_in, class_of_root, is_of, misplaced, missing}
 use Rattle.crs_shape.specs.FirstFault.{or_later, step_to, step_of, fault_by, fault_from, first_inside, first_in_arguments}
 
 -- the items from one on, where there is one
@@ -172,6 +172,11 @@ class-is_of : (parent c : Class) (item : Item) → class_in parent item ≡ Some
 unfolding class_named
 class-is_of parent c (leaf kind place raw) e = true_same the_type (class_of_kind kind) c cc
 class-is_of parent c (node place keyword square first others close) e = named-has (slots_of parent) keyword c e
+
+pub root-is_of : (c : Class) (item : Item) → class_of_root item ≡ Some c → is_of c item ≡ true
+unfolding root_named
+root-is_of c (leaf kind place raw) e = cc
+root-is_of c (node place keyword square first others close) e = first-has root_classes keyword c e
 
 pub step-is_of : (parent c : Class) (slots left : List SlotParts) (item : Item) → Some (c, left) ≡ step_of parent slots item → is_of c item ≡ true
 step-is_of parent c slots left item e =

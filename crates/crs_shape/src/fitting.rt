@@ -53,7 +53,9 @@ pub fn fit_root(items: &Items<'_>) -> Result<Class, Refusal>
     }
 }
 
-pub(crate) fn class_at_root(items: &Items<'_>, id: ItemId) -> Option<Class>
+/// The class that an item's keyword names at the head of a text; None where it names none, and for an item that is
+/// no node. Profile.
+pub fn class_at_root(items: &Items<'_>, id: ItemId) -> Option<Class>
     requires { HasId items.now id }
     ensures { result ≡ class_of_root (first_of (here items.now id)) }
 {

@@ -1,15 +1,19 @@
 //! The laws of shapes.
-ghost use Rattle.std.specs.Prelude.{◌≡◌, ◌<◌, ◌≤◌, ◌↔◌, ◌⊎◌, ℕ, Bool, IsTrue, List, length};
-ghost use Rattle.crs_text.specs.Items.{Item, HasId, first_of, here};
+ghost use Rattle.std.specs.Prelude.{◌≡◌, ◌<◌, ◌≤◌, ◌↔◌, ◌⊎◌, ℕ, Bool, IsTrue, List, Some, length};
+ghost use Rattle.std.specs.List.{find};
+ghost use Rattle.crs_text.specs.Items.{Item, HasId, first_of, here, kind_of_item, keyword_in};
 ghost use Rattle.crs_text.specs.Refusal.{RefusedAt};
 ghost use Rattle.crs_text.specs.TextFault.{SpellsNode};
 ghost use Rattle.crs_shape.specs.declared.class.Class.{Class};
 ghost use Rattle.crs_shape.specs.Counts.{how_many, least, most, is_bounded};
 ghost use Rattle.crs_shape.specs.FaultPlace.{IsPlaceIn, IsShapeNumber};
+ghost use Rattle.crs_shape.specs.KeywordTable.{classes_by, is_among, is_part};
 ghost use Rattle.crs_shape.specs.Shape.{Allowed, Fit, joined, is_apart};
-ghost use Rattle.crs_shape.specs.ShapeFault.{IsFree, Inside, AtRoot};
+ghost use Rattle.crs_shape.specs.ShapeFault.{IsFree, Inside, AtRoot, class_in, class_of_root, is_of};
 ghost use Rattle.crs_shape.specs.Shaped.{Shaped};
 ghost use Rattle.crs_shape.specs.Slots.{SlotParts, slots_of};
+
+use crs_text::{ItemKind, laws};
 
 /// In every row of the tables each slot has a class, and no class of an optional or repeated slot is in a later slot
 /// that can be reached over optional slots alone.
@@ -28,6 +32,18 @@ pub fn fits_one_way()
 pub fn no_fault_is_shape()
     ensures { (class : Class) (item : Item) → IsFree (Inside class item) ↔ Shaped class item }
 {}
+
+/// In a parent the keyword of a node names the first of the classes that have it and may stand there, and a node is of
+/// the classes that have its keyword. At the head of a text it names a class that has it.
+pub fn keywords_name_classes()
+    ensures named { (parent : Class) (item : Item) → kind_of_item item ≡ ItemKind.Node →
+        class_in parent item ≡ find (is_part parent) (classes_by (keyword_in item)) }
+    ensures own { (class : Class) (item : Item) → kind_of_item item ≡ ItemKind.Node →
+        is_of class item ≡ is_among class (classes_by (keyword_in item)) }
+    ensures root { (class : Class) (item : Item) → class_of_root item ≡ Some class → IsTrue (is_of class item) }
+{
+    laws::keywords_are_spelled();
+}
 
 /// A whole text has one fault of shape, or none.
 pub fn fault_at_root_is_one()

@@ -19,7 +19,7 @@ mod table;
 pub use class::Class;
 pub use expectation::{Expected, classes};
 pub use expecting::expected;
-pub use fitting::{class_in, fit, fit_root};
+pub use fitting::{class_at_root, class_in, fit, fit_root};
 pub use keyword::{keywords, known, root_class};
 pub use near::nearest;
 pub use seeking::{Sought, stands_as};

@@ -7,6 +7,7 @@ pub mod CrsLemmas
 pub mod DecideLemmas
 pub mod DynamicLemmas
 pub mod EitherLemmas
+pub mod FillingLemmas
 pub mod FrameLemmas
 pub mod IdentLemmas
 pub mod KindLemmas
@@ -38,6 +39,7 @@ pub mod SoundUsageLemmas
 pub mod SpellsLemmas
 pub mod SystemLemmas
 pub mod TextLemmas
+pub mod UnitFillingLemmas
 pub mod UnitLemmas
 pub mod WhetherLemmas
 pub mod WordLemmas

@@ -14,7 +14,7 @@ use Rattle.crs_value.specs.Checks.{AtClass, Own, Breaks, BreaksAmong}
 use Rattle.crs_value.specs.Reading.{is_same}
 use Rattle.crs_value.proofs.ArgumentLemmas.{same_class}
 
-and-both : (a b : Bool) → (a && b) ≡ true → (a ≡ true) × (b ≡ true)
+pub and-both : (a b : Bool) → (a && b) ≡ true → (a ≡ true) × (b ≡ true)
 and-both true b e = (refl, e)
 and-both false b e = cc
 

@@ -11,6 +11,7 @@ pub mod CompoundValues
 pub mod ConversionValues
 pub mod CrsValues
 pub mod DynamicValues
+pub mod Filling
 pub mod FirstByte
 pub mod Found
 pub mod Kept

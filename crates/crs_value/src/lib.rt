@@ -5,6 +5,7 @@
 mod checks;
 pub mod laws;
 mod reading;
+mod sound;
 mod values;
 
 pub use reading::value::{judge, kind_of, read, value_of};

@@ -43,7 +43,7 @@ fn has_system(class: Class) -> bool
 
 // The checks that a node of a class without a coordinate system breaks by itself.
 #[tactic(auto, unfolding(crate::specs::Checks::Own))]
-fn own_of_part(items: &Items<'_>, id: ItemId, class: Class) -> Option<Refusal>
+pub(crate) fn own_of_part(items: &Items<'_>, id: ItemId, class: Class) -> Option<Refusal>
     requires has { HasId items.now id }
     requires shaped { Shaped class (item_at items.now id) }
     requires part { ¬ (HasSystem class) }
@@ -68,7 +68,12 @@ fn own_of_part(items: &Items<'_>, id: ItemId, class: Class) -> Option<Refusal>
 }
 
 // The first break within a node of this class, `inside`, and among its own checks.
-fn own(items: &Items<'_>, id: ItemId, class: Class, inside: Option<Refusal>) -> Option<Refusal>
+pub(crate) fn own(
+    items: &Items<'_>,
+    id: ItemId,
+    class: Class,
+    inside: Option<Refusal>,
+) -> Option<Refusal>
     requires has { HasId items.now id }
     requires shaped { Shaped class (item_at items.now id) }
     requires inside { IsLeast (BreaksAmong class (arguments (item_at items.now id))) inside }

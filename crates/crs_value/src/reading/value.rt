@@ -8,6 +8,7 @@ ghost use Rattle.crs_value.specs.SpellsText.{Spells, IsFaultOfText};
 
 use crate::checks::own::first_break;
 use crate::reading::whole::{kind_of_root, read_crs};
+use crate::sound::crs::sound_root;
 use crate::values::crs::{Crs, Kind};
 use crs_shape::{Class, fit_root};
 use crs_text::{Fault, Items, Refusal, read_items};
@@ -18,6 +19,23 @@ use std::alloc::Global;
 /// The items are refused where `value_of` refuses them, with the same number and place. Time is linear in the items.
 /// ISO 19162:2019, "Coordinate reference systems"; the checks are the profile's.
 pub fn judge(items: &Items<'_>) -> Result<Class, Refusal>
+    ensures answer { MatchResult result (λ _. (value : Crs) × SpellsCrs items.now value) (RefusesCrs items.now) }
+    ensures class { IfOk result (λ class. class_of_root items.now ≡ Some class) }
+{
+    crs_shape::laws::no_fault_is_shape();
+    crs_shape::laws::slots_count();
+    crs_decimal::laws::denotes_some();
+    let root = items.root();
+    items.formed(root);
+    match sound_root(items) {
+        Some(class) => Ok(class),
+        None => judge_in_full(items),
+    }
+}
+
+// The same by two walks, one for the shape and one for the checks, which find the first fault.
+#[inline(never)]
+fn judge_in_full(items: &Items<'_>) -> Result<Class, Refusal>
     ensures answer { MatchResult result (λ _. (value : Crs) × SpellsCrs items.now value) (RefusesCrs items.now) }
     ensures class { IfOk result (λ class. class_of_root items.now ≡ Some class) }
 {

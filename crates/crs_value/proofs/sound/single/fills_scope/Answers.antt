@@ -1,0 +1,12 @@
+use Rattle.std.proofs.Common.{refl}
+use Rattle.crs_shape.specs.declared.class.Class.TheVariants as class
+use Rattle.crs_value.specs.Reading.{item_at}
+use Rattle.crs_value.proofs.FillingLemmas.{fill-arguments, fill-none}
+use Rattle.crs_value.proofs.sound.single.fills_scope.Goals as goal
+
+pub returns : goal.returns
+returns c = λ yes.
+    let tree = c.args.items.now in
+    fill-arguments tree class.Scope _ (item_at tree c.args.id) c.arg.result c.arg.ensures
+    (c.in-Some.ensures.1 class.Scope _ refl _
+    (fill-none tree class.Scope _ (c.is_end.ensures yes)))

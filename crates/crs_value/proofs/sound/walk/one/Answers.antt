@@ -1,0 +1,14 @@
+use Rattle.crs_text.specs.Items.{rest_of, here}
+use Rattle.crs_value.proofs.ArgumentLemmas.{holds_at}
+use Rattle.crs_value.proofs.FillingLemmas.{passes-one, passes-at, has-some}
+use Rattle.crs_value.proofs.sound.walk.one.Goals as goal
+
+pub returns-then-is : goal.returns-then-is
+returns-then-is g c =
+    let tree = c.args.items.now in
+    let id = c.in-Some.id in (
+      holds_at tree (rest_of (here tree id)) c.next.result c.next.ensures,
+      λ d slot stands. passes-at tree d slot c.args.at _ c.next.result c.in-Some.is
+          (passes-one tree d slot id c.next.result (has-some tree c.args.at id c.in-Some.is c.requires) c.next.ensures
+          (c.is.ensures c.if-is.true d slot stands)),
+    )

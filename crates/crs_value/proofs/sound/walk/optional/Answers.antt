@@ -1,0 +1,20 @@
+use Rattle.std.proofs.Common.{None, Some}
+use Rattle.crs_value.proofs.FillingLemmas.{passes-none, passes-one, passes-at, has-some}
+use Rattle.crs_value.proofs.sound.walk.optional.Goals as goal
+
+pub returns-in_default-clause-passes : goal.returns-in_default-clause-passes
+returns-in_default-clause-passes g c = λ d slot stands free.
+    passes-at c.args.items.now d slot c.args.at None None c.in_default.is (passes-none c.args.items.now d slot None free)
+
+pub returns-then-is-clause-passes : goal.returns-then-is-clause-passes
+returns-then-is-clause-passes g c = λ d slot stands free.
+    let tree = c.args.items.now in
+    let id = c.in-Some.id in
+    passes-at tree d slot c.args.at _ c.next.result c.in-Some.is
+    (passes-one tree d slot id c.next.result (has-some tree c.args.at id c.in-Some.is c.requires) c.next.ensures
+    (c.is.ensures c.if-is.true d slot stands))
+
+pub returns-else-is-clause-passes : goal.returns-else-is-clause-passes
+returns-else-is-clause-passes g c = λ d slot stands free.
+    let tree = c.args.items.now in
+    passes-at tree d slot c.args.at _ (Some c.in-Some.id) c.in-Some.is (passes-none tree d slot (Some c.in-Some.id) free)
