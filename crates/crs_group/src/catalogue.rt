@@ -1,9 +1,11 @@
 //! The catalogue: groups by their canonical texts, and the refused lines.
 ghost use Rattle.std.specs.Prelude.{◌≡◌, ◌+◌, ◌<◌, [], ◌∷◌, ◌++◌, List, Some, length};
-ghost use Rattle.std.specs.Prelude.{IfOk, OnErr, OnOk};
+ghost use Rattle.std.specs.Prelude.{IfOk, MatchResult, OnErr, OnOk};
 ghost use Rattle.std.specs.Option.{option_copied, option_map};
 ghost use Rattle.std.specs.List.{list_all};
 ghost use Rattle.crs_text.specs.Tokens.{is_white};
+ghost use Rattle.crs_value.specs.SpellsText.{IsFaultOfText};
+ghost use Rattle.crs_canon.specs.Canonical.{IsCanonicalOf};
 ghost use Rattle.crs_group.specs.Catalogue.{Line, line_of, nth};
 ghost use Rattle.crs_group.specs.GroupTexts.{IsCatalogue, IsCatalogueOf, then_line};
 ghost use Rattle.crs_group.specs.Partition.{PlacedLine};
@@ -11,7 +13,7 @@ ghost use Rattle.crs_group.specs.Putting.{IsPut, IsRefused};
 
 use crate::groups::Groups;
 use crate::placed::Placed;
-use crs_canon::{Canon, canon, laws};
+use crs_canon::{Canon, canon_in, laws};
 use crs_text::{Fault, Refusal};
 use crs_value::Level;
 use std::alloc::{AllocError, Global};
@@ -24,6 +26,8 @@ pub struct Catalogue {
     level: Level,
     groups: Groups,
     refused: Vec<(u64, Refusal)>,
+    // The memory of a canonical text that isn't kept, for that of the next line.
+    room: Vec<u8>,
 }
 
 impl Model for Catalogue {
@@ -50,6 +54,7 @@ impl Catalogue {
             level,
             groups: Groups::new(alloc),
             refused: Vec::new(alloc),
+            room: Vec::new(alloc),
         }
     }
 
@@ -103,7 +108,7 @@ impl Catalogue {
         if is_blank(text) {
             return Ok(Placed::Blank);
         }
-        match canon(self.alloc, text, self.level) {
+        match self.canon(text) {
             Ok(canon) => self.put(line, canon),
             Err(fault) => self.refuse(line, fault),
         }
@@ -116,6 +121,16 @@ impl Catalogue {
         &self.groups
     }
 
+    // The canonical text of a line, in the room.
+    fn canon(&mut self, text: &[u8]) -> Result<Canon, Fault>
+        ensures answer { MatchResult result (λ canon. IsCanonicalOf self.old.level text.now canon.bytes)
+            (IsFaultOfText text.now) }
+        ensures level { IfOk result (λ canon. canon.level ≡ self.old.level) }
+        ensures unchanged { self.new ≡ self.old }
+    {
+        canon_in(self.alloc, text, self.level, &mut self.room)
+    }
+
     // Puts a line into the group of its text.
     fn put(&mut self, line: u64, canon: Canon) -> Result<Placed, AllocError>
         ensures groups { IfOk result (IsPut canon line self.old.groups self.new.groups) }
@@ -126,11 +141,13 @@ impl Catalogue {
         let count = self.groups.len();
         match self.groups.position(&canon) {
             Some(at) => {
+                self.room = canon.into_bytes();
                 self.groups.join(at, line)?;
                 Ok(Placed::Group(at + 1))
             }
             None => {
-                self.groups.open(self.alloc, line, canon)?;
+                self.groups
+                    .open(self.alloc, line, canon.without_spare_room())?;
                 Ok(Placed::Group(count + 1))
             }
         }

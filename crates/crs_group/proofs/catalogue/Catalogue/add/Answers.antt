@@ -1,5 +1,8 @@
-use Rattle.std.proofs.Common.{◌≡◌, sym, ◌∙◌, rules}
+use Rattle.std.proofs.Common.{◌≡◌, ap, refl, subst, sym, ◌∙◌}
+use Rattle.std.specs.Prelude.{IfOk}
 use Rattle.crs_group.proofs.CatalogueLemmas.{blank-added, is-black, lines-added, lines-result, put-result, refuse-result}
+use Rattle.crs_group.specs.Catalogue.{CatalogueParts}
+use Rattle.crs_group.specs.Putting.{IsPut, IsRefused}
 use Rattle.crs_group.specs.declared.placed.Placed.TheVariants.{Blank}
 use Rattle.crs_group.proofs.catalogue.Catalogue.add.Goals as goal
 
@@ -11,18 +14,27 @@ returns-then-is_blank-clause-catalogue c placed whole =
 
 pub returns-in-Ok-clause-catalogue : goal.returns-in-Ok-clause-catalogue
 returns-in-Ok-clause-catalogue c =
-    let level : c.self.inside.level ≡ c.args.self.now.level = search rules in
+    let same : c.canon.new.self ≡ c.args.self.now = c.canon.ensures.unchanged in
     put-result c.args.self.now c.put.new.self
-    (c.main_theorem.ensures c.args.self.now.level) c.self.inside.level level c.args.line c.args.text.now c.in-Ok.canon c.put.result
+    (c.main_theorem.ensures c.args.self.now.level) c.args.self.now.level refl c.args.line c.args.text.now c.in-Ok.canon c.put.result
     (is-black c.args.text.now c.is_blank.result c.if-is_blank.false c.is_blank.ensures)
-    c.in-Ok.ensures.answer c.in-Ok.ensures.level c.put.ensures.groups c.put.ensures.level c.put.ensures.refused
+    c.in-Ok.ensures.answer c.in-Ok.ensures.level
+    (subst (λ (s : CatalogueParts). IfOk c.put.result (IsPut c.in-Ok.canon c.args.line s.groups c.put.new.self.groups)) same
+    c.put.ensures.groups)
+    (c.put.ensures.level ∙ ap (λ (s : CatalogueParts). s.level) same)
+    (c.put.ensures.refused ∙ ap (λ (s : CatalogueParts). s.refused) same)
 
 pub returns-in-Err-clause-catalogue : goal.returns-in-Err-clause-catalogue
 returns-in-Err-clause-catalogue c =
+    let same : c.canon.new.self ≡ c.args.self.now = c.canon.ensures.unchanged in
     refuse-result c.args.self.now c.refuse.new.self
     (c.main_theorem.ensures c.args.self.now.level) c.args.line c.args.text.now c.in-Err.fault c.refuse.result
     (is-black c.args.text.now c.is_blank.result c.if-is_blank.false c.is_blank.ensures)
-    c.in-Err.ensures.answer c.refuse.ensures.refused c.refuse.ensures.level c.refuse.ensures.groups
+    c.in-Err.ensures.answer
+    (subst (λ (s : CatalogueParts). IfOk c.refuse.result (IsRefused c.in-Err.fault c.args.line s.refused c.refuse.new.self.refused)) same
+    c.refuse.ensures.refused)
+    (c.refuse.ensures.level ∙ ap (λ (s : CatalogueParts). s.level) same)
+    (c.refuse.ensures.groups ∙ ap (λ (s : CatalogueParts). s.groups) same)
 
 pub returns-then-is_blank-clause-lines : goal.returns-then-is_blank-clause-lines
 returns-then-is_blank-clause-lines c =
