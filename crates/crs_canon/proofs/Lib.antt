@@ -1,4 +1,9 @@
 pub mod ContentLemmas
+pub mod DirectCrsLemmas
+pub mod DirectLemmas
+pub mod DirectPartLemmas
+pub mod DirectSetLemmas
+pub mod DirectAxisLemmas
 pub mod EncloseLemmas
 pub mod LackingLemmas
 pub mod LevelLemmas

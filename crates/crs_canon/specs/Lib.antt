@@ -1,5 +1,6 @@
 pub mod Canonical
 pub mod ContentText
+pub mod Direct
 pub mod CrsText
 pub mod Equality
 pub mod EqualityLaws

@@ -1,14 +1,20 @@
 //! The canonical text of a CRS, and of a text that spells one.
-ghost use Rattle.std.specs.Prelude.{◌≡◌, [], IfOk, MatchResult};
-ghost use Rattle.crs_value.specs.SpellsText.{IsFaultOfText, Spells};
+ghost use Rattle.std.specs.Prelude.{◌≡◌, [], IfOk, MatchResult, Some};
+ghost use Rattle.crs_text.specs.TextFault.{SpellsNode};
+ghost use Rattle.crs_shape.specs.ShapeFault.{class_of_root};
+ghost use Rattle.crs_value.specs.Spells.{SpellsCrs};
+ghost use Rattle.crs_value.specs.SpellsText.{IsFaultOfText};
+ghost use Rattle.crs_value.specs.declared.values.crs.Crs.{Crs};
 ghost use Rattle.crs_canon.specs.Canonical.{IsCanonicalOf, IsCanonicalText};
 
 use crate::canon_text::Canon;
 use crate::canonical::crss_are_canonical;
+use crate::direct::crs::write_crs as write_crs_at;
 use crate::spelling::crs::write_crs;
-use crs_text::Fault;
-use crs_value::laws::crs_is_sound;
-use crs_value::{Crs, Level, read};
+use crs_shape::Class;
+use crs_text::{Fault, Items, read_items};
+use crs_value::laws::{crs_is_sound, spelled_is_sound};
+use crs_value::{Crs, Level, judge};
 use std::alloc::{AllocError, Global};
 use std::mem;
 
@@ -43,9 +49,30 @@ pub fn canon_in(
     ensures answer { MatchResult result (λ canon. IsCanonicalOf level text.now canon.bytes) (IsFaultOfText text.now) }
     ensures level { IfOk result (λ canon. canon.level ≡ level) }
 {
-    match read(alloc, text) {
-        Ok(crs) => canon_of_spelled(taken(alloc, room), text, &crs, level),
+    match read_items(alloc, text) {
+        Ok(items) => canon_of_items(alloc, text, &items, level, room),
         Err(fault) => Err(fault),
+    }
+}
+
+// The canonical text of the CRS that the items of a text spell.
+fn canon_of_items(
+    alloc: Global,
+    text: &[u8],
+    items: &Items<'_>,
+    level: Level,
+    room: &mut Vec<u8>,
+) -> Result<Canon, Fault>
+    requires { SpellsNode text.now items.now }
+    ensures answer { MatchResult result (λ canon. IsCanonicalOf level text.now canon.bytes) (IsFaultOfText text.now) }
+    ensures level { IfOk result (λ canon. canon.level ≡ level) }
+{
+    match judge(items) {
+        Ok(class) => match written_from(taken(alloc, room), items, class, level, text.len()) {
+            Ok(canon) => Ok(canon),
+            Err(error) => Err(Fault::Memory(error)),
+        },
+        Err(refusal) => Err(Fault::Refused(refusal)),
     }
 }
 
@@ -58,23 +85,27 @@ fn taken(alloc: Global, room: &mut Vec<u8>) -> Vec<u8>
     bytes
 }
 
-// The canonical text of the CRS that a text spells, in an empty vector.
-#[tactic(auto, using(crate::proofs::MainLemmas::of_spelled))]
-fn canon_of_spelled(
-    bytes: Vec<u8>,
-    text: &[u8],
-    crs: &Crs<'_>,
+// The canonical text of the CRS of this class that items spell, in an empty vector, which has room for so many bytes
+// at first.
+fn written_from(
+    mut bytes: Vec<u8>,
+    items: &Items<'_>,
+    class: Class,
     level: Level,
-) -> Result<Canon, Fault>
-    requires empty { bytes.items ≡ [] }
-    requires spells { Spells text.now crs.now }
-    ensures answer { MatchResult result (λ canon. IsCanonicalOf level text.now canon.bytes) (IsFaultOfText text.now) }
+    room: usize,
+) -> Result<Canon, AllocError>
+    requires { bytes.items ≡ [] }
+    ensures text { IfOk result (λ canon. (crs : Crs) → SpellsCrs items.now crs → class_of_root items.now ≡ Some class →
+        IsCanonicalText level crs canon.bytes) }
     ensures level { IfOk result (λ canon. canon.level ≡ level) }
 {
-    match written(bytes, crs, level, text.len()) {
-        Ok(canon) => Ok(canon),
-        Err(error) => Err(Fault::Memory(error)),
-    }
+    let root = items.root();
+    items.formed(root);
+    spelled_is_sound();
+    crss_are_canonical();
+    bytes.reserve(room)?;
+    write_crs_at(&mut bytes, items, root, class, level)?;
+    Ok(Canon::new(bytes, level))
 }
 
 /// The canonical text of a CRS at a level: it is normal, accepted, and spells a CRS that is the same.

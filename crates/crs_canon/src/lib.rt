@@ -5,6 +5,7 @@ mod answer;
 mod canon_text;
 mod canonical;
 mod content;
+mod direct;
 mod lacking;
 pub mod laws;
 mod set;

@@ -29,7 +29,7 @@ fn write_whole(out: &mut Vec<u8>, number: u64) -> Result<(), AllocError>
 }
 
 // After a comma.
-fn write_order(out: &mut Vec<u8>, order: u64) -> Result<(), AllocError>
+pub(crate) fn write_order(out: &mut Vec<u8>, order: u64) -> Result<(), AllocError>
     ensures { OnOk result (out.new.items
         ≡ out.old.items ++ 44 ∷ item_text (number_node (codes "ORDER") (whole_value order))) }
 {
@@ -39,7 +39,7 @@ fn write_order(out: &mut Vec<u8>, order: u64) -> Result<(), AllocError>
 }
 
 // After a comma.
-fn write_direction(out: &mut Vec<u8>, direction: Direction) -> Result<(), AllocError>
+pub(crate) fn write_direction(out: &mut Vec<u8>, direction: Direction) -> Result<(), AllocError>
     ensures { OnOk result (out.new.items
         ≡ out.old.items ++ 44 ∷ item_text (word_item (direction_word direction))) }
 {

@@ -92,7 +92,7 @@ fn write_from_dynamic(
     write_from_frame(out, geodetic, level)
 }
 
-fn geodetic_opening(system_type: SystemType) -> &'static str
+pub(crate) fn geodetic_opening(system_type: SystemType) -> &'static str
     ensures { result.now ≡ geodetic_keyword system_type ++ 91 ∷ 34 ∷ [] }
 {
     match system_type {

@@ -13,7 +13,7 @@ use crate::spelling::unit::write_optional_unit;
 use crs_value::{Level, Meridian, UnitKind};
 use std::alloc::AllocError;
 
-fn write_greenwich(out: &mut Vec<u8>) -> Result<(), AllocError>
+pub(crate) fn write_greenwich(out: &mut Vec<u8>) -> Result<(), AllocError>
     ensures { OnOk result (out.new.items ≡ out.old.items ++ 44 ∷ item_text (item_meridian greenwich)) }
 {
     append(out, b",PRIMEM[\"Greenwich\",0]")

@@ -27,7 +27,7 @@ fn is_number(value: &Decimal, number: u64) -> bool
 }
 
 // Whether an axis that is written at this place, from 1 on, has this position.
-fn is_at(position: u64, place: u64, order: Option<Decimal>) -> bool
+pub(crate) fn is_at(position: u64, place: u64, order: Option<Decimal>) -> bool
     ensures { result ≡ is_at position place order }
 {
     match order {

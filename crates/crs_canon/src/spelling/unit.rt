@@ -13,7 +13,7 @@ use crate::spelling::texts::{append, open_text, write_number};
 use crs_value::{Level, Unit, UnitKind};
 use std::alloc::AllocError;
 
-fn unit_opening(kind: UnitKind) -> &'static str
+pub(crate) fn unit_opening(kind: UnitKind) -> &'static str
     ensures { result.now ≡ 44 ∷ (unit_word kind ++ 91 ∷ 34 ∷ []) }
 {
     match kind {
@@ -67,7 +67,7 @@ pub(crate) fn write_optional_unit(
     }
 }
 
-fn write_metre(out: &mut Vec<u8>) -> Result<(), AllocError>
+pub(crate) fn write_metre(out: &mut Vec<u8>) -> Result<(), AllocError>
     ensures { OnOk result (out.new.items ≡ out.old.items ++ 44 ∷ item_text (item_unit metre)) }
 {
     append(out, b",LENGTHUNIT[\"metre\",1]")

@@ -142,7 +142,7 @@ fn open_at(out: &mut Vec<u8>, at: usize)
 }
 
 // Delimiters around the arguments from this place on; the opening one replaces the first comma.
-fn enclose(out: &mut Vec<u8>, at: usize) -> Result<(), AllocError>
+pub(crate) fn enclose(out: &mut Vec<u8>, at: usize) -> Result<(), AllocError>
     ensures { (front : List ℕ) (items : Siblings) → out.old.items ≡ front ++ others_text items →
         length front ≡ at → OnOk result (out.new.items ≡ front ++ enclosed items) }
 {

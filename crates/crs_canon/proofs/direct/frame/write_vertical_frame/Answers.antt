@@ -1,0 +1,16 @@
+use Rattle.std.proofs.Common.{ℕ, Option, codes, subst}
+use Rattle.std.proofs.lemmas.Result.{on_ok_weaker}
+use Rattle.crs_text.specs.Items.{arguments}
+use Rattle.crs_shape.specs.declared.class.Class.TheVariants as class
+use Rattle.crs_value.specs.Reading.{item_at, those, IsFound}
+use Rattle.crs_canon.proofs.DirectPartLemmas.{ensemble-written}
+use Rattle.crs_canon.proofs.direct.frame.write_vertical_frame.Goals as goal
+
+pub returns-in-None : goal.returns-in-None
+returns-in-None c =
+    let tree = c.args.items.now in
+    let item = item_at tree c.args.id in
+    let P : Option ℕ → Type 0 = λ at. IsFound tree c.args.class class.VerticalFrame (those c.args.class class.VerticalFrame (arguments item)) at in
+    on_ok_weaker c.write_ensemble_of.result
+    (ensemble-written (codes "VDATUM") c.args.level class.VerticalFrame class.VerticalEnsemble c.args.class item c.args.out.now.items c.write_ensemble_of.new.out.items
+    (subst P c.in-None.is c.first.ensures)) c.write_ensemble_of.ensures

@@ -1,0 +1,13 @@
+use Rattle.crs_text.specs.Items.{arguments}
+use Rattle.crs_value.specs.Reading.{item_at, those, IsFound}
+use Rattle.std.proofs.Common.{ℕ, Option, subst}
+use Rattle.crs_canon.proofs.DirectSetLemmas.{none-written}
+use Rattle.crs_canon.proofs.direct.set.write_set.Goals as goal
+
+pub returns-in-None : goal.returns-in-None
+returns-in-None g c =
+    let tree = c.args.items.now in
+    let xs = those c.args.parent c.args.class (arguments (item_at tree c.args.id)) in
+    let P : Option ℕ → Type 0 = λ at. IsFound tree c.args.parent c.args.class xs at in
+    none-written (g.T.SpellAt.Reads c.args.class) (g.T.SpellAt.spelling c.args.level) xs c.args.out.now.items
+    (subst P c.in-None.is c.first.ensures)

@@ -1,0 +1,142 @@
+//! Identifiers, and nodes that have a name and identifiers alone.
+ghost use Rattle.std.specs.Prelude.{◌≡◌, ◌∷◌, ◌++◌, IsTrue, IsFalse, OnOk};
+ghost use Rattle.std.specs.Option.{option_copied};
+ghost use Rattle.crs_text.specs.Items.{HasId, arguments, skip, End, More};
+ghost use Rattle.crs_text.specs.Written.{item_text, others_text};
+ghost use Rattle.crs_value.specs.Reading.{item_at, ReadsFirst, ReadsIfAny, ReadsOne, ReadsOptional};
+ghost use Rattle.crs_value.specs.Reads.{ReadsIds, ReadsIdent, ReadsText, single_of};
+ghost use Rattle.crs_value.specs.ReadsNamed.{ReadsNamed};
+ghost use Rattle.crs_value.specs.declared.values.level.Level.TheVariants as levels;
+ghost use Rattle.crs_normal.specs.SpelledItems.{code_item, each, opt};
+ghost use Rattle.crs_normal.specs.SpelledUnits.{item_ident, set_idents};
+ghost use Rattle.crs_canon.specs.Direct.{Writes};
+ghost use Rattle.crs_canon.specs.Openings.{named_node};
+
+use crate::direct::lookup::{first, open_text_of, write_text_of};
+use crate::direct::set::{SpellAt, write_set};
+use crate::spelling::texts::{append, write_code};
+use crs_shape::Class;
+use crs_text::{ItemId, ItemKind, Items};
+use crs_value::{Ident, Level};
+use std::alloc::AllocError;
+
+// Whether the level keeps identifiers, usages and remarks.
+pub(crate) fn keeps(level: Level) -> bool
+    ensures full { IsTrue result → level ≡ levels.Full }
+    ensures definition { IsFalse result → level ≡ levels.Definition }
+{
+    matches!(level, Level::Full)
+}
+
+// What stands at this place among the arguments, if that is no node.
+fn single<'a>(items: &Items<'a>, id: ItemId, k: usize) -> Option<&'a [u8]>
+    requires { HasId items.now id }
+    ensures { ReadsOptional ReadsText (single_of (skip k (arguments (item_at items.now id))))
+        (option_copied result) }
+{
+    let found = items.arg(id, k)?;
+    match items.kind(found) {
+        ItemKind::Number | ItemKind::Text | ItemKind::Word => Some(items.raw(found)),
+        ItemKind::Node => None,
+    }
+}
+
+// The code, behind a comma.
+fn write_code_of(out: &mut Vec<u8>, items: &Items<'_>, id: ItemId) -> Result<(), AllocError>
+    requires { HasId items.now id }
+    ensures { OnOk result (Writes (ReadsFirst ReadsText (single_of (skip 1 (arguments (item_at items.now id)))))
+        (λ raw. others_text (More (code_item raw) End)) out.old.items out.new.items) }
+{
+    match single(items, id, 1) {
+        None => Ok(()),
+        Some(code) => write_code(out, code),
+    }
+}
+
+// The version, if there is one, behind a comma.
+fn write_version_of(out: &mut Vec<u8>, items: &Items<'_>, id: ItemId) -> Result<(), AllocError>
+    requires { HasId items.now id }
+    ensures { OnOk result (Writes (ReadsOptional ReadsText (single_of (skip 2 (arguments (item_at items.now id)))))
+        (λ raw. others_text (opt code_item raw End)) out.old.items out.new.items) }
+{
+    match single(items, id, 2) {
+        None => Ok(()),
+        Some(version) => write_code(out, version),
+    }
+}
+
+pub(crate) fn write_ident(
+    out: &mut Vec<u8>,
+    items: &Items<'_>,
+    id: ItemId,
+    class: Class,
+) -> Result<(), AllocError>
+    requires { HasId items.now id }
+    ensures { OnOk result (Writes (ReadsIdent class (item_at items.now id)) (λ i. item_text (item_ident i))
+        out.old.items out.new.items) }
+{
+    open_text_of(out, b"ID[\"", items, id, class)?;
+    write_code_of(out, items, id)?;
+    write_version_of(out, items, id)?;
+    write_text_of(out, b",CITATION[\"", items, id, class, Class::Citation)?;
+    write_text_of(out, b",URI[\"", items, id, class, Class::Uri)?;
+    append(out, b"]")
+}
+
+impl<'a> SpellAt<'a> for Ident<'a> {
+    ghost use Rattle.crs_text.specs.Written.{item_text};
+    ghost use Rattle.crs_value.specs.Reads.{ReadsIdent};
+    ghost use Rattle.crs_normal.specs.SpelledUnits.{item_ident};
+
+    ghost Reads = { λ c item i. ReadsIdent c item i };
+
+    ghost spelling = { λ level i. item_text (item_ident i) };
+
+    fn write_at(
+        out: &mut Vec<u8>,
+        items: &Items<'a>,
+        id: ItemId,
+        class: Class,
+        _level: Level,
+    ) -> Result<(), AllocError> {
+        write_ident(out, items, id, class)
+    }
+}
+
+// The identifiers that the level keeps of a node.
+pub(crate) fn write_idents(
+    out: &mut Vec<u8>,
+    items: &Items<'_>,
+    id: ItemId,
+    class: Class,
+    level: Level,
+) -> Result<(), AllocError>
+    requires { HasId items.now id }
+    ensures { OnOk result (Writes (ReadsIds class (item_at items.now id))
+        (λ ids. others_text (each item_ident (set_idents level ids) End)) out.old.items out.new.items) }
+{
+    if keeps(level) {
+        write_set::<Ident<'_>>(out, items, id, class, Class::Identifier, level)
+    } else {
+        Ok(())
+    }
+}
+
+// A node of a name and identifiers.
+pub(crate) fn write_named(
+    out: &mut Vec<u8>,
+    opening: &[u8],
+    items: &Items<'_>,
+    id: ItemId,
+    class: Class,
+    level: Level,
+) -> Result<(), AllocError>
+    requires { HasId items.now id }
+    ensures { OnOk result (Writes (ReadsNamed class (item_at items.now id))
+        (λ n. named_node opening.now n.name (each item_ident (set_idents level n.identifiers) End))
+        out.old.items out.new.items) }
+{
+    open_text_of(out, opening, items, id, class)?;
+    write_idents(out, items, id, class, level)?;
+    append(out, b"]")
+}

@@ -1,0 +1,155 @@
+//! Numbers.
+ghost use Rattle.std.specs.Prelude.{◌≡◌, ◌∷◌, ◌++◌, [], OnOk, Some};
+ghost use Rattle.crs_decimal.specs.Plain.{plain};
+ghost use Rattle.crs_decimal.specs.Value.{Value};
+ghost use Rattle.crs_text.specs.Items.{HasId};
+ghost use Rattle.crs_text.specs.Written.{item_text};
+ghost use Rattle.crs_value.specs.Reading.{item_at, ReadsOne};
+ghost use Rattle.crs_value.specs.Reads.{ReadsNumber, ReadsNumberAt, ReadsNumberOf};
+ghost use Rattle.crs_normal.specs.SpelledItems.{number_item};
+ghost use Rattle.crs_canon.specs.Direct.{Writes};
+
+use crate::direct::lookup::{first, nth};
+use crate::spelling::texts::{append, open_number};
+use crs_decimal::Decimal;
+use crs_shape::Class;
+use crs_text::{ItemId, Items};
+use std::alloc::AllocError;
+
+// The value of a number.
+pub(crate) fn decimal_at(items: &Items<'_>, id: ItemId) -> Option<Decimal>
+    requires { HasId items.now id }
+    ensures { (value : Value) → ReadsNumber (item_at items.now id) value → result ≡ Some value }
+{
+    crs_decimal::laws::denotes_one();
+    match Decimal::parse(items.raw(id)) {
+        Ok(value) => Some(value),
+        Err(_) => None,
+    }
+}
+
+// The number of a node.
+pub(crate) fn number_of(items: &Items<'_>, id: ItemId, class: Class) -> Option<Decimal>
+    requires { HasId items.now id }
+    ensures { (value : Value) → ReadsNumberOf class (item_at items.now id) value → result ≡ Some value }
+{
+    decimal_at(items, first(items, id, class, Class::Number)?)
+}
+
+// A number behind an opening or a comma.
+fn open_number_at(
+    out: &mut Vec<u8>,
+    opening: &[u8],
+    items: &Items<'_>,
+    id: ItemId,
+) -> Result<(), AllocError>
+    requires { HasId items.now id }
+    ensures { OnOk result (Writes (ReadsNumber (item_at items.now id)) (λ v. opening.now ++ plain v)
+        out.old.items out.new.items) }
+{
+    match decimal_at(items, id) {
+        None => Ok(()),
+        Some(value) => open_number(out, opening, &value),
+    }
+}
+
+// Number `k` of a node's numbers, the first being 0, behind an opening or a comma.
+pub(crate) fn open_nth_number(
+    out: &mut Vec<u8>,
+    opening: &[u8],
+    items: &Items<'_>,
+    id: ItemId,
+    class: Class,
+    k: usize,
+) -> Result<(), AllocError>
+    requires { HasId items.now id }
+    ensures { OnOk result (Writes (ReadsNumberAt k class (item_at items.now id)) (λ v. opening.now ++ plain v)
+        out.old.items out.new.items) }
+{
+    match nth(items, id, class, Class::Number, k) {
+        None => Ok(()),
+        Some(found) => open_number_at(out, opening, items, found),
+    }
+}
+
+// The number of a node behind an opening or a comma.
+pub(crate) fn open_number_of(
+    out: &mut Vec<u8>,
+    opening: &[u8],
+    items: &Items<'_>,
+    id: ItemId,
+    class: Class,
+) -> Result<(), AllocError>
+    requires { HasId items.now id }
+    ensures { OnOk result (Writes (ReadsNumberOf class (item_at items.now id)) (λ v. opening.now ++ plain v)
+        out.old.items out.new.items) }
+{
+    match first(items, id, class, Class::Number) {
+        None => Ok(()),
+        Some(found) => open_number_at(out, opening, items, found),
+    }
+}
+
+// The number of a node behind a comma.
+pub(crate) fn write_number_of(
+    out: &mut Vec<u8>,
+    items: &Items<'_>,
+    id: ItemId,
+    class: Class,
+) -> Result<(), AllocError>
+    requires { HasId items.now id }
+    ensures { OnOk result (Writes (ReadsNumberOf class (item_at items.now id)) (λ v. 44 ∷ item_text (number_item v))
+        out.old.items out.new.items) }
+{
+    open_number_of(out, b",", items, id, class)
+}
+
+// Number `k` of a node's numbers behind a comma.
+pub(crate) fn write_nth_number(
+    out: &mut Vec<u8>,
+    items: &Items<'_>,
+    id: ItemId,
+    class: Class,
+    k: usize,
+) -> Result<(), AllocError>
+    requires { HasId items.now id }
+    ensures { OnOk result (Writes (ReadsNumberAt k class (item_at items.now id)) (λ v. 44 ∷ item_text (number_item v))
+        out.old.items out.new.items) }
+{
+    open_nth_number(out, b",", items, id, class, k)
+}
+
+// A node of one number that stands in another, behind its opening.
+pub(crate) fn write_number_node(
+    out: &mut Vec<u8>,
+    opening: &[u8],
+    items: &Items<'_>,
+    id: ItemId,
+    class: Class,
+) -> Result<(), AllocError>
+    requires { HasId items.now id }
+    ensures { OnOk result (Writes (ReadsNumberOf class (item_at items.now id)) (λ v. opening.now ++ (plain v ++ 93 ∷ []))
+        out.old.items out.new.items) }
+{
+    open_number_of(out, opening, items, id, class)?;
+    append(out, b"]")
+}
+
+// The number of the node of this class that has to stand in another, in its own node behind an opening.
+pub(crate) fn write_one_number(
+    out: &mut Vec<u8>,
+    opening: &[u8],
+    items: &Items<'_>,
+    id: ItemId,
+    parent: Class,
+    class: Class,
+) -> Result<(), AllocError>
+    requires { HasId items.now id }
+    ensures { OnOk result (Writes (ReadsOne ReadsNumberOf class parent (item_at items.now id))
+        (λ v. opening.now ++ (plain v ++ 93 ∷ [])) out.old.items out.new.items) }
+{
+    match first(items, id, parent, class) {
+        None => Ok(()),
+        Some(found) => write_number_node(out, opening, items, found, class),
+    }
+}
