@@ -51,7 +51,7 @@ impl Canon {
         self.bytes
     }
 
-    /// The same in no more memory than it needs: whoever keeps many holds no room that none needs.
+    /// The same text in no more memory than it needs, for callers that keep many.
     pub fn without_spare_room(mut self) -> Canon
         ensures { result ≡ self }
     {
