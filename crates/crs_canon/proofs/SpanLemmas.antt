@@ -8,7 +8,7 @@ use Rattle.std.proofs.lemmas.List.{append_assoc, drop-append-le, drop_more, get_
 use Rattle.crs_value.specs.Sound.{Each}
 use Rattle.crs_normal.specs.Ascending.{Ascends, Below}
 use Rattle.crs_normal.specs.Ordered.{put, put_all}
-use Rattle.crs_normal.proofs.SetLemmas.{in_order-ascends, in_order-of}
+use Rattle.crs_normal.proofs.members.SetLemmas.{in_order-ascends, in_order-of}
 use Rattle.crs_canon.specs.Spans.{AreInOrder, AreWithin, IsPutAmong, IsWithin, text_at, texts_at}
 use Rattle.crs_canon.specs.declared.spans.Span.{Span}
 
