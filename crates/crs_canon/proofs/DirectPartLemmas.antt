@@ -84,7 +84,7 @@ pub usages-dropped : (level : Level) → level ≡ levels.Definition → (bare :
 usages-dropped level e bare usages =
     usages-written level bare usages ∙ ap (λ l. usages_text (kept_one l bare) (kept l usages)) e ∙ empty-text
 
--- where no part stands bare there is no bare usage
+-- where no part is bare there is no bare usage
 lacks-one : {V : Type 0} (R : Item → V → Type 0) (items : List Item) (value : Option V) → items ≡ [] → ReadsOptional R items value → ¬ (IsSome value)
 lacks-one R items None e h some = let n : false ≡ true = some in let h : ⊥ = cc in h
 lacks-one R items (Some v) e h some = let P : List Item → Type 0 = λ xs. ReadsOptional R xs (Some v) in subst P e h

@@ -1,4 +1,4 @@
--- A bridge: texts in order by where they stand among their bytes.
+-- A bridge: texts in order by where they are among their bytes.
 use Rattle.std.specs.Prelude.{◌≡◌, ◌≤◌, ℕ, List, length, map, slice_range}
 use Rattle.crs_value.specs.Sound.{Each}
 use Rattle.crs_normal.specs.Ascending.{Ascends}

@@ -44,7 +44,7 @@ impl Canon {
         self.level
     }
 
-    /// The canonical text, with the memory that it stands in.
+    /// The canonical text, with the memory that it is in.
     pub fn into_bytes(self) -> Vec<u8>
         ensures { result.items ≡ self.bytes }
     {

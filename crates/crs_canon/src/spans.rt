@@ -1,5 +1,5 @@
-//! A few texts in ascending order of their bytes, each once: their bytes behind one another as they came, and in order
-//! where each stands among them. A set of few members needs no more than these two vectors.
+//! A few texts in ascending order of their bytes, each once: their bytes one after another as they came, and in order
+//! where each is among them. A set of few members needs no more than these two vectors.
 ghost use Rattle.std.specs.Prelude.{◌≡◌, ◌≤◌, ◌++◌, ◌∷◌, MatchOption, OnOk, drop, length, take};
 ghost use Rattle.crs_normal.specs.Ordered.{put};
 ghost use Rattle.crs_canon.specs.SetText.{commas};
@@ -9,7 +9,7 @@ use crate::spelling::texts::append;
 use std::alloc::AllocError;
 use std::cmp::Ordering;
 
-// Where a text stands among bytes.
+// Where a text is among bytes.
 #[derive(Clone, Copy)]
 pub(crate) struct Span {
     start: usize,

@@ -33,8 +33,8 @@ pub fn no_fault_is_shape()
     ensures { (class : Class) (item : Item) → IsFree (Inside class item) ↔ Shaped class item }
 {}
 
-/// In a parent the keyword of a node names the first of the classes that have it and may stand there, and a node is of
-/// the classes that have its keyword. At the head of a text it names a class that has it.
+/// In a parent the keyword of a node names the first of the classes that have it and are allowed there, and a node is
+/// of the classes that have its keyword. At the head of a text it names a class that has it.
 pub fn keywords_name_classes()
     ensures named { (parent : Class) (item : Item) → kind_of_item item ≡ ItemKind.Node →
         class_in parent item ≡ find (is_part parent) (classes_by (keyword_in item)) }

@@ -244,7 +244,7 @@ own-none class.CoordinateSystem item e f h = let k : true ≡ false = e in cc
 own-none class.Axis item e f h = let k : true ≡ false = e in cc
 own-none other item e f h = h
 
--- ---- all that may stand in a slot
+-- ---- all that a slot takes
 
 again-same : (slot : SlotParts) → slot.required ≡ false → slot ≡ again slot
 again-same slot e = ap (λ r. record { classes = slot.classes; required = r; many = slot.many }) e

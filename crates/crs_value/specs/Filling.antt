@@ -24,7 +24,7 @@ pub record IsClean (c : Class) (item : Item) : Type 0 where
   pub shaped : Shaped c item
   pub unbroken : (fault : RefusedAt) → ¬ (Breaks c item fault)
 
--- the item may stand in this slot of a node of a class, and is clean there
+-- this slot of a node of a class takes the item, which is clean there
 pub record IsTaken (c : Class) (slot : SlotParts) (item : Item) : Type 0 where
   pub named : Class
   pub is : class_in c item ≡ Some named

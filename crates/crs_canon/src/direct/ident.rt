@@ -28,7 +28,7 @@ pub(crate) fn keeps(level: Level) -> bool
     matches!(level, Level::Full)
 }
 
-// What stands at this place among the arguments, if that is no node.
+// The argument at this place, if it is no node.
 fn single<'a>(items: &Items<'a>, id: ItemId, k: usize) -> Option<&'a [u8]>
     requires { HasId items.now id }
     ensures { ReadsOptional ReadsText (single_of (skip k (arguments (item_at items.now id))))

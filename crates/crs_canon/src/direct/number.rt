@@ -119,7 +119,7 @@ pub(crate) fn write_nth_number(
     open_nth_number(out, b",", items, id, class, k)
 }
 
-// A node of one number that stands in another, behind its opening.
+// A node of one number inside another, after its opening.
 pub(crate) fn write_number_node(
     out: &mut Vec<u8>,
     opening: &[u8],
@@ -135,7 +135,7 @@ pub(crate) fn write_number_node(
     append(out, b"]")
 }
 
-// The number of the node of this class that has to stand in another, in its own node behind an opening.
+// The number of the node of this class that another must have, in its own node after an opening.
 pub(crate) fn write_one_number(
     out: &mut Vec<u8>,
     opening: &[u8],

@@ -1,4 +1,4 @@
-//! Coordinate systems: their axes stand by position.
+//! Coordinate systems: their axes are in order of position.
 ghost use Rattle.std.specs.Prelude.{◌≡◌, ◌∷◌, ◌++◌, [], List, Option, OnOk, Some, length};
 ghost use Rattle.crs_text.specs.Items.{HasId, End, More, arguments};
 ghost use Rattle.crs_text.specs.Written.{item_text, others_text};

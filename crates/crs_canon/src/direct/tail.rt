@@ -28,7 +28,7 @@ fn has(items: &Items<'_>, id: ItemId, parent: Class, class: Class) -> bool
     first(items, id, parent, class).is_some()
 }
 
-// Whether a part of a usage stands bare.
+// Whether a part of a usage is bare.
 fn has_bare(items: &Items<'_>, id: ItemId, class: Class) -> bool
     requires { HasId items.now id }
     ensures { IsFalse result ↔ LacksUsage class (item_at items.now id) }

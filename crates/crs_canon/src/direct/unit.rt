@@ -52,7 +52,7 @@ pub(crate) fn write_unit(
     append(out, b"]")
 }
 
-// The unit of this class that has to stand in a node.
+// The unit of this class that a node must have.
 pub(crate) fn write_one_unit(
     out: &mut Vec<u8>,
     asked: UnitKind,

@@ -18,7 +18,7 @@ use crate::sound::walk::{Part, any, is_end, is_node, is_unbroken, leaf, one, opt
 use crs_shape::{Class, class_at_root, laws};
 use crs_text::{ItemId, ItemKind, Items, Keyword};
 
-// What may stand at the end of a vertical CRS, but for an extent in height.
+// What a vertical CRS may end with, but for an extent in height.
 pub(crate) struct VerticalTail;
 
 impl Part for VerticalTail {

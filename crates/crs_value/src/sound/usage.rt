@@ -104,7 +104,7 @@ impl Part for Usage {
     }
 }
 
-// What may stand at the end of a CRS, but for an extent in height.
+// What a CRS may end with, but for an extent in height.
 pub(crate) struct Tail;
 
 impl Part for Tail {

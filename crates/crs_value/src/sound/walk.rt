@@ -1,4 +1,4 @@
-//! A walk over the arguments of a node of a known class: each call passes over what stands in one slot.
+//! A walk over the arguments of a node of a known class: each call passes over what fills one slot.
 ghost use Rattle.std.specs.Prelude.{◌≡◌, IfSome, IsTrue, None, true, false};
 ghost use Rattle.crs_text.specs.Items.{HasId, kind_of_item};
 ghost use Rattle.crs_shape.specs.declared.class.Class.{Class};
@@ -9,7 +9,7 @@ ghost use Rattle.crs_value.specs.Reading.{item_at, Holds};
 
 use crs_text::{ItemId, ItemKind, Items, Refusal};
 
-// What may stand in a slot, where it breaks no check.
+// What a slot takes, where it breaks no check.
 pub(crate) trait Part {
     ghost Stands: { Class → SlotParts → Type 0 };
 
