@@ -25,7 +25,7 @@ const ROOM: usize = 1024;
 /// same. Of two answers at one level the bytes are equal exactly where the two texts spell the same CRS
 /// (`laws::answers_are_equal_where_same`).
 ///
-/// `Refused`: the text spells no CRS; number and place are those of `read`. `Memory`: there is no memory for the value
+/// `Refused`: the text spells no CRS; number and place are those of `read`. `Memory`: there is no memory for the items
 /// or for the canonical text. Profile.
 pub fn canon(alloc: Global, text: &[u8], level: Level) -> Result<Canon, Fault>
     ensures answer { MatchResult result (λ canon. IsCanonicalOf level text.now canon.bytes) (IsFaultOfText text.now) }
@@ -38,8 +38,8 @@ pub fn canon(alloc: Global, text: &[u8], level: Level) -> Result<Canon, Fault>
     }
 }
 
-/// As `canon`, in the memory of `room`, whose bytes are lost: `Canon::into_bytes` gives it back. So many texts, one
-/// after the other, need no further memory for their canonical texts. Profile.
+/// As `canon`, in the memory of `room`, whose bytes are lost where a text is accepted: `Canon::into_bytes` gives it back.
+/// So many texts, one after the other, need no further memory for their canonical texts. Profile.
 pub fn canon_in(
     alloc: Global,
     text: &[u8],
