@@ -395,7 +395,7 @@ FILE_HINTS: List[Tuple[object, str]] = [
     (b'VERTCRS["H\xe9"]', "iconv -f ISO-8859-1 -t UTF-8 FILE"),
     (HEIGHT.replace('"', "&quot;"), "sed 's/&quot;/\"/g' FILE"),
     (HEIGHT.replace('"', '\\"'), "sed 's/\\\\\"/\"/g' FILE"),
-    ("./a.wkt", "name that file instead"),
+    ("./a.wkt", "the text in that file"),
     (HEIGHT + "\n" + HEIGHT, "a file has one text"),
 ]
 

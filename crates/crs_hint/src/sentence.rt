@@ -113,7 +113,7 @@ fn of_notation(sentence: Sentence) -> Words {
             ").",
         ),
         _ => told(
-            "What stands in the file is a file's name, most likely: name that file instead.",
+            "This is the name of a file, most likely: what is wanted is the text in that file.",
             "",
         ),
     }

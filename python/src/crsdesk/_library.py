@@ -49,7 +49,7 @@ def load() -> ctypes.CDLL:
     try:
         library = ctypes.CDLL(path)
     except OSError as error:
-        raise ImportError(f"crsdesk needs its shared object: {error}") from None
+        raise ImportError(f"crsdesk needs its shared object, beside it or where {LIBRARY} says: {error}") from None
     text, size, number, place = ctypes.c_char_p, ctypes.c_size_t, ctypes.c_uint32, ctypes.c_void_p
     arguments: Dict[str, List[Any]] = {
         "check": [text, size, place, place],
