@@ -4,7 +4,7 @@ use Rattle.std.specs.Prelude.{MatchResult}
 use Rattle.crs_text.specs.Refusal.{RefusedAt}
 use Rattle.crs_value.specs.declared.values.crs.Kind.{Kind}
 use Rattle.crs_value.specs.SpellsText.{SpellsKind, Refuses}
-use Rattle.crs_group.specs.Streams.{SourceState, SinkState}
+use Rattle.crs_streams.specs.Streams.{SourceState, SinkState}
 use Rattle.crs_desk.specs.Ending.{IsWritten, IsAnswered}
 use Rattle.crs_desk.specs.Output.{IsCheckOutput, WritesFound}
 use Rattle.crs_desk.specs.Pieces.{IsHeldOf, IsWholeHeld}

@@ -3,13 +3,13 @@ use Rattle.std.proofs.Common.{◌≡◌, ◌⊎◌, ◌+◌, ◌<◌, ◌≤◌,
 use Rattle.std.specs.Prelude.{◌==◌, max}
 use Rattle.std.specs.Io.KnownBytes.{Appends}
 use Rattle.std.proofs.KnownBytes.{Appends-trans}
-use Rattle.crs_group.specs.Lines.{AreLines, HasNoFeed, IsSplit, IsTextOf}
-use Rattle.crs_group.specs.LongLines.{EndsInFeed, HasShortLines, feeds}
-use Rattle.crs_group.specs.Streams.{SinkState}
-use Rattle.crs_group.specs.declared.fault.RunFault.{RunFault}
-use Rattle.crs_group.specs.declared.fault.RunFault.TheVariants.{ReadFailed, WriteFailed, TooLong, TooManyReads, Memory}
-use Rattle.crs_group.proofs.CutLemmas.{none-kept, some-kept}
-use Rattle.crs_group.proofs.FeedLemmas.{feeds-append, feeds-none, plain-append, short-ended, short-line, short-more}
+use Rattle.crs_streams.specs.Lines.{AreLines, HasNoFeed, IsSplit, IsTextOf}
+use Rattle.crs_streams.specs.LongLines.{EndsInFeed, HasShortLines, feeds}
+use Rattle.crs_streams.specs.Streams.{SinkState}
+use Rattle.crs_streams.specs.declared.fault.RunFault.{RunFault}
+use Rattle.crs_streams.specs.declared.fault.RunFault.TheVariants.{ReadFailed, WriteFailed, TooLong, TooManyReads, Memory}
+use Rattle.crs_desk.proofs.GroupCutLemmas.{none-kept, some-kept}
+use Rattle.crs_desk.proofs.FeedLemmas.{feeds-append, feeds-none, plain-append, short-ended, short-line, short-more}
 use Rattle.crs_desk.specs.LinesRun.{AreOutputs, HasSent, IsFrontOutput, Outputs}
 use Rattle.crs_desk.specs.LineCutting.{CutterParts, IsCut, IsEmptied, IsFlushed, IsHealthy, IsKept, IsLinesCut, IsNotKept, IsPut, IsPutOut, IsStopped, IsWrittenOut, PutsLine, WriterParts}
 use Rattle.crs_desk.proofs.LineOutputLemmas.{lines-append, outputs-append}

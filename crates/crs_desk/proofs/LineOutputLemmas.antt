@@ -1,9 +1,9 @@
 -- What is written for lines one after another.
 use Rattle.std.proofs.Common.{◌≡◌, ◌⊎◌, ◌+◌, ◌++◌, ◌∷◌, [], ℕ, List, length, inl, inr, ap, subst, sym, ◌∙◌, arith, append_assoc, length-append}
 use Rattle.std.specs.Prelude.{max}
-use Rattle.crs_group.specs.Lines.{AreLines, HasNoFeed}
-use Rattle.crs_group.specs.LongLines.{EndsInFeed, feeds}
-use Rattle.crs_group.proofs.FeedLemmas.{feeds-append, feeds-none}
+use Rattle.crs_streams.specs.Lines.{AreLines, HasNoFeed}
+use Rattle.crs_streams.specs.LongLines.{EndsInFeed, feeds}
+use Rattle.crs_desk.proofs.FeedLemmas.{feeds-append, feeds-none}
 use Rattle.crs_desk.specs.LinesRun.{AreOutputs, IsLinesOutput, Outputs}
 
 max-assoc : (a b c : ℕ) → max a (max b c) ≡ max (max a b) c

@@ -3,11 +3,11 @@
 use Rattle.std.proofs.Common.{◌≡◌, ◌+◌, ◌<◌, ◌≤◌, ◌*◌, ◌^◌, ◌++◌, [], ℕ, List, Option, Some, None, true, false, ap, subst, sym, refl, ◌∙◌, arith, Result, Ok, Err}
 use Rattle.std.specs.Prelude.{IfErr, IfOk, IsErr}
 use Rattle.std.specs.Io.KnownBytes.{Consumes, Keeps, ReadConsumes}
-use Rattle.crs_group.specs.GroupRun.{HasGiven}
-use Rattle.crs_group.specs.LongLines.{HasShortLines}
-use Rattle.crs_group.specs.Streams.{CountsRead, SinkState, SourceState, fresh_sink, fresh_source}
-use Rattle.crs_group.specs.declared.fault.RunFault.{RunFault}
-use Rattle.crs_group.specs.declared.fault.RunFault.TheVariants.{ReadFailed, WriteFailed, TooLong, TooManyReads, Memory}
+use Rattle.crs_streams.specs.Given.{HasGiven}
+use Rattle.crs_streams.specs.LongLines.{HasShortLines}
+use Rattle.crs_streams.specs.Streams.{CountsRead, SinkState, SourceState, fresh_sink, fresh_source}
+use Rattle.crs_streams.specs.declared.fault.RunFault.{RunFault}
+use Rattle.crs_streams.specs.declared.fault.RunFault.TheVariants.{ReadFailed, WriteFailed, TooLong, TooManyReads, Memory}
 use Rattle.crs_desk.specs.LinesRun.{IsLinesAnswered, IsLinesFault, Outputs}
 use Rattle.crs_desk.specs.LineCutting.{CutterParts, IsHealthy, IsLinesCut, IsReadThrough, IsStopped, IsWrittenOut}
 use Rattle.crs_desk.proofs.LineCutLemmas.{cut-fits, cut-healthy, cut-none, cut-sent-all, cut-short, cutter_of, sent-end, stopped-first}

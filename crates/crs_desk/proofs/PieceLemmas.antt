@@ -16,8 +16,8 @@ use Rattle.crs_value.specs.declared.values.crs.Kind.{Kind}
 use Rattle.crs_value.specs.ReadsCrs.{kind_of}
 use Rattle.crs_value.specs.Spells.{SpellsCrs, RefusesCrs}
 use Rattle.crs_value.specs.SpellsText.{SpellsKind, Refuses}
-use Rattle.crs_group.specs.GroupRun.{HasGiven}
-use Rattle.crs_group.specs.Streams.{CountsRead, SourceState}
+use Rattle.crs_streams.specs.Given.{HasGiven}
+use Rattle.crs_streams.specs.Streams.{CountsRead, SourceState}
 use Rattle.crs_desk.specs.Pieces.{IsHeld, IsWholeHeld}
 
 -- what a source has given, with one more read

@@ -1,5 +1,9 @@
 pub mod Ending
 pub mod ExplainOutput
+pub mod GroupCutting
+pub mod GroupOutput
+pub mod GroupReading
+pub mod GroupRun
 pub mod LineCutting
 pub mod LinesRun
 pub mod Output

@@ -1,13 +1,13 @@
 -- A bridge: bytes that are cut into lines piece by piece, and what is written for them.
 use Rattle.std.specs.Prelude.{◌≡◌, ◌+◌, ◌<◌, ◌≤◌, ◌⊎◌, ◌++◌, [], ℕ, List, Bool, true, false, length, max}
 use Rattle.std.specs.Io.KnownBytes.{Appends}
-use Rattle.crs_group.specs.GroupRun.{HasGivenAll}
-use Rattle.crs_group.specs.Lines.{AreLines, HasNoFeed, IsTextOf}
-use Rattle.crs_group.specs.LongLines.{EndsInFeed, HasShortLines, IsTooLong, feeds}
-use Rattle.crs_group.specs.Streams.{AppendsFront, SinkState, SourceState}
-use Rattle.crs_group.specs.declared.fault.RunFault.{RunFault}
-use Rattle.crs_group.specs.declared.fault.RunFault.TheVariants.{ReadFailed, WriteFailed, TooLong}
-use Rattle.crs_group.specs.declared.fault.RunFault.TheVariants.{TooManyReads, Memory}
+use Rattle.crs_streams.specs.Given.{HasGivenAll}
+use Rattle.crs_streams.specs.Lines.{AreLines, HasNoFeed, IsTextOf}
+use Rattle.crs_streams.specs.LongLines.{EndsInFeed, HasShortLines, IsTooLong, feeds}
+use Rattle.crs_streams.specs.Streams.{AppendsFront, SinkState, SourceState}
+use Rattle.crs_streams.specs.declared.fault.RunFault.{RunFault}
+use Rattle.crs_streams.specs.declared.fault.RunFault.TheVariants.{ReadFailed, WriteFailed, TooLong}
+use Rattle.crs_streams.specs.declared.fault.RunFault.TheVariants.{TooManyReads, Memory}
 use Rattle.crs_desk.specs.LinesRun.{AreOutputs, HasSent, IsFrontOutput, IsLineOutput, IsLinesOutput}
 use Rattle.crs_desk.specs.LinesRun.{Outputs}
 

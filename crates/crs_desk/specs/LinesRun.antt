@@ -3,13 +3,13 @@ use Rattle.std.specs.Prelude.{◌≡◌, ◌⊎◌, ◌++◌, ◌^◌, [], ◌�
 use Rattle.std.specs.List.{list_all}
 use Rattle.std.specs.Io.KnownBytes.{Appends}
 use Rattle.crs_text.specs.Tokens.{is_white}
-use Rattle.crs_group.specs.GroupRun.{HasGiven, HasGivenAll}
-use Rattle.crs_group.specs.Lines.{AreLines}
-use Rattle.crs_group.specs.LongLines.{EndsInFeed, HasShortLines, IsTooLong}
-use Rattle.crs_group.specs.Streams.{SourceState, SinkState}
-use Rattle.crs_group.specs.declared.fault.RunFault.{RunFault}
-use Rattle.crs_group.specs.declared.fault.RunFault.TheVariants.{ReadFailed, WriteFailed, TooLong}
-use Rattle.crs_group.specs.declared.fault.RunFault.TheVariants.{TooManyReads, Memory}
+use Rattle.crs_streams.specs.Given.{HasGiven, HasGivenAll}
+use Rattle.crs_streams.specs.Lines.{AreLines}
+use Rattle.crs_streams.specs.LongLines.{EndsInFeed, HasShortLines, IsTooLong}
+use Rattle.crs_streams.specs.Streams.{SourceState, SinkState}
+use Rattle.crs_streams.specs.declared.fault.RunFault.{RunFault}
+use Rattle.crs_streams.specs.declared.fault.RunFault.TheVariants.{ReadFailed, WriteFailed, TooLong}
+use Rattle.crs_streams.specs.declared.fault.RunFault.TheVariants.{TooManyReads, Memory}
 use Rattle.crs_desk.specs.Output.{IsLine}
 
 -- what a command writes for a text, and its status

@@ -1,7 +1,7 @@
 //! The end of a run: a command's answer is written, with its status.
 ghost use Rattle.std.specs.Prelude.{◌≡◌, ◌↔◌, ℕ, List, IfOk, IfErr, IsErrOf, false, true};
 ghost use Rattle.crs_desk.specs.Ending.{IsWritten, IsWriteFault};
-ghost use Rattle.crs_group.specs.Streams.{fresh_sink};
+ghost use Rattle.crs_streams.specs.Streams.{fresh_sink};
 
 use crate::{RunFault, Sink};
 use std::alloc::{AllocError, Global};

@@ -1,7 +1,7 @@
 ghost use Rattle.std.specs.Prelude.{◌≡◌, ◌<◌, ◌≤◌, ◌++◌, ◌∷◌, ◌↔◌, [], IfOk, IfErr, IsErrOf, codes, true, false};
 ghost use Rattle.crs_desk.specs.Ending.{IsAnswered, IsRunFault};
 ghost use Rattle.crs_desk.specs.Output.{IsCheckOutput, kind_word};
-ghost use Rattle.crs_group.specs.Streams.{fresh_sink, fresh_source};
+ghost use Rattle.crs_streams.specs.Streams.{fresh_sink, fresh_source};
 
 use crate::answer::{Answer, write_answer};
 use crate::judging::judged;

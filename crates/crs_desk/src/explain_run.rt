@@ -4,7 +4,7 @@ ghost use Rattle.crs_value.specs.SpellsText.{Refuses};
 ghost use Rattle.crs_desk.specs.Ending.{IsAnswered, IsRunFault, IsWritten, IsWriteFault};
 ghost use Rattle.crs_desk.specs.ExplainOutput.{IsExplainOutput, IsExplainPairOutput, ExplainsRefusalOf};
 ghost use Rattle.crs_desk.specs.ExplainOutput.{ExplainsWhetherSame};
-ghost use Rattle.crs_group.specs.Streams.{fresh_sink, fresh_source};
+ghost use Rattle.crs_streams.specs.Streams.{fresh_sink, fresh_source};
 
 use crate::answer::{Answer, write_answer};
 use crate::check_run::accepted_line;

@@ -2,14 +2,14 @@
 //! within a piece is read in place; of others the bytes are kept until their line feed comes.
 ghost use Rattle.std.specs.Prelude.{◌≡◌, ◌+◌, ◌^◌, ◌<◌, ◌≤◌, ◌++◌, ◌∷◌, [], ℕ, List, length};
 ghost use Rattle.std.specs.Prelude.{IfErr, IfOk, IsFalse, IsTrue, OnOk, false, true};
-ghost use Rattle.crs_group.specs.Lines.{HasNoFeed};
-ghost use Rattle.crs_group.specs.Streams.{SinkState};
+ghost use Rattle.crs_streams.specs.Lines.{HasNoFeed};
+ghost use Rattle.crs_streams.specs.Streams.{SinkState};
 ghost use Rattle.crs_desk.specs.LineCutting.{IsKept, IsLinesCut, IsNotKept, IsPut, IsPutOut, IsStopped, IsWrittenOut, PutsLine};
 
 use crate::line_output::LineCommand;
 use crate::line_writer::LineWriter;
 use crate::{RunFault, Sink};
-use crs_group::{MAX_LINE, split_line, text_of};
+use crs_streams::{MAX_LINE, split_line, text_of};
 use std::alloc::{AllocError, Global};
 use std::io::Write;
 use std::marker::Model;

@@ -1,6 +1,6 @@
 //! Runs over lines: each line of a source is a text, and what a command writes for it goes into a sink.
 ghost use Rattle.std.specs.Prelude.{◌≡◌, ◌≤◌, ◌^◌, ◌↔◌, [], IfErr, IfOk, IsErrOf, OnOk, false, length, true};
-ghost use Rattle.crs_group.specs.Streams.{fresh_sink, fresh_source};
+ghost use Rattle.crs_streams.specs.Streams.{fresh_sink, fresh_source};
 ghost use Rattle.crs_desk.specs.LineCutting.{IsReadThrough};
 ghost use Rattle.crs_desk.specs.LinesRun.{IsLinesAnswered, IsLinesFault};
 ghost use Rattle.crs_desk.specs.Output.{IsCanonOutput, IsCheckOutput};
@@ -8,7 +8,7 @@ ghost use Rattle.crs_desk.specs.Output.{IsCanonOutput, IsCheckOutput};
 use crate::line_cutter::LineCutter;
 use crate::line_output::{CanonLines, CheckLines, LineCommand};
 use crate::{Level, RunFault, Sink, Source};
-use crs_group::{MAX_COUNTED_READS, make_room};
+use crs_streams::{MAX_COUNTED_READS, make_room};
 use std::alloc::Global;
 use std::io::{Read, Write};
 

@@ -1,12 +1,12 @@
 //! Texts that are judged piece by piece, as they are read.
 ghost use Rattle.std.specs.Prelude.{◌≡◌, ◌≤◌, ◌++◌, [], ℕ, List, IfOk, IfErr, false, length};
-ghost use Rattle.crs_group.specs.Streams.{fresh_source};
+ghost use Rattle.crs_streams.specs.Streams.{fresh_source};
 ghost use Rattle.crs_desk.specs.Pieces.{IsHeld, IsHeldOf};
 ghost use Rattle.crs_desk.specs.Whole.{IsReadFault};
 
 use crate::text::MAX_BYTES;
 use crate::{RunFault, Source};
-use crs_group::{MAX_READS, make_room};
+use crs_streams::{MAX_READS, make_room};
 use crs_text::{Fault, Feeder};
 use std::alloc::Global;
 use std::io::Read;

@@ -2,8 +2,8 @@
 ghost use Rattle.std.specs.Prelude.{◌≡◌, ◌++◌, ◌∷◌, [], IfOk};
 ghost use Rattle.crs_text.specs.Refusal.{refused_text};
 
+use crs_streams::append_refusal;
 use crs_text::Refusal;
-use itoa::Buffer;
 use std::alloc::{AllocError, Global};
 
 // `refused N NAME at P` after these bytes, and a line end.
@@ -14,14 +14,8 @@ pub(crate) fn refused_line(
 ) -> Result<Vec<u8>, AllocError>
     ensures { IfOk result (λ line. line.items ≡ (front.now ++ refused_text refusal.number refusal.place) ++ 10 ∷ []) }
 {
-    let mut digits = Buffer::new();
     let mut line = Vec::from_slice(alloc, front)?;
-    line.extend_from_slice(b"refused ")?;
-    line.extend_from_slice(digits.format(refusal.number()).as_bytes())?;
-    line.push(b' ')?;
-    line.extend_from_slice(refusal.name().as_bytes())?;
-    line.extend_from_slice(b" at ")?;
-    line.extend_from_slice(digits.format(refusal.place()).as_bytes())?;
+    append_refusal(&mut line, refusal)?;
     line.extend_from_slice(b"\n")?;
     Ok(line)
 }

@@ -2,7 +2,7 @@ ghost use Rattle.std.specs.Prelude.{◌≡◌, ◌↔◌, ◌++◌, ◌∷◌, [
 ghost use Rattle.crs_same.specs.Paths.{path_text};
 ghost use Rattle.crs_desk.specs.Ending.{IsWritten, IsWriteFault};
 ghost use Rattle.crs_desk.specs.SameOutput.{IsSameOutput, WritesPart};
-ghost use Rattle.crs_group.specs.Streams.{fresh_sink};
+ghost use Rattle.crs_streams.specs.Streams.{fresh_sink};
 
 use crate::answer::{Answer, write_answer};
 use crate::pair::{Telling, pair_output};

@@ -1,9 +1,9 @@
 ghost use Rattle.std.specs.Prelude.{◌≡◌, ◌≤◌, [], IfOk, IfErr, false, vec_len};
-ghost use Rattle.crs_group.specs.Streams.{fresh_source};
+ghost use Rattle.crs_streams.specs.Streams.{fresh_source};
 ghost use Rattle.crs_desk.specs.Whole.{IsWhole, IsReadFault};
 
 use crate::{RunFault, Source};
-use crs_group::{MAX_READS, make_room};
+use crs_streams::{MAX_READS, make_room};
 use std::alloc::Global;
 use std::io::Read;
 

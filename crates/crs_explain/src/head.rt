@@ -1,8 +1,8 @@
 //! The first line of an explanation.
 ghost use Rattle.std.specs.Prelude.{◌≡◌, ◌++◌, ◌∷◌, [], OnOk, codes, decimal};
-ghost use Rattle.crs_text.specs.Refusal.{refused_text};
 ghost use Rattle.crs_explain.specs.Explained.{head};
 
+use crs_streams::append_refusal;
 use crs_text::{Position, Refusal};
 use itoa::Buffer;
 use std::alloc::AllocError;
@@ -15,21 +15,8 @@ pub(crate) fn append_head(
 ) -> Result<(), AllocError>
     ensures { OnOk result (out.new.items ≡ out.old.items ++ head refusal position) }
 {
-    append_refused(refusal, out)?;
+    append_refusal(out, refusal)?;
     append_position(position, out)
-}
-
-// `refused N NAME at P`
-fn append_refused(refusal: Refusal, out: &mut Vec<u8>) -> Result<(), AllocError>
-    ensures { OnOk result (out.new.items ≡ out.old.items ++ refused_text refusal.number refusal.place) }
-{
-    let mut digits = Buffer::new();
-    out.extend_from_slice(b"refused ")?;
-    out.extend_from_slice(digits.format(refusal.number()).as_bytes())?;
-    out.push(b' ')?;
-    out.extend_from_slice(refusal.name().as_bytes())?;
-    out.extend_from_slice(b" at ")?;
-    out.extend_from_slice(digits.format(refusal.place()).as_bytes())
 }
 
 // `, line L, column C`, and a line feed.

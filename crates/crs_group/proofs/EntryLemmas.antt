@@ -11,7 +11,6 @@ use Rattle.crs_canon.specs.EqualityLaws.{canons-decide}
 use Rattle.crs_group.specs.Catalogue.{GroupParts}
 use Rattle.crs_group.specs.Entries.{entry_group, groups_of}
 use Rattle.crs_group.specs.GroupTexts.{canons}
-use Rattle.crs_group.specs.Output.{group_line, group_lines}
 use Rattle.crs_group.specs.Putting.{IsJoined, IsNew, group_of}
 
 some-one : {A : Type 0} (a b : A) → Some a ≡ Some b → a ≡ b
@@ -23,28 +22,6 @@ none-some b h = cc
 pub on-err : {A E P : Type 0} (r : Result A E) → P → OnErr r P
 on-err (Ok x) p = tt
 on-err (Err e) p = p
-
--- the groups from a place on: the one with these lines, and those after it
-split-at : (groups : List GroupParts) (at : ℕ) (ns : List ℕ)
-    → slice_get (map (λ group. group.lines) groups) at ≡ Some ns
-    → (group : GroupParts) × (group.lines ≡ ns) × (drop at groups ≡ group ∷ drop (suc at) groups)
-split-at [] at ns h = absurd (none-some ns h)
-split-at (g ∷ gs) zero ns h = (g, some-one g.lines ns h, refl)
-split-at (g ∷ gs) (suc at) ns h = split-at gs at ns h
-
--- a further group is written
-pub group-step : (all now next : List ℕ) (groups : List GroupParts) (at : ℕ) (ns : List ℕ)
-    → slice_get (map (λ group. group.lines) groups) at ≡ Some ns
-    → ((group : GroupParts) → group.lines ≡ ns → next ≡ now ++ group_line (at + 1) group)
-    → now ++ group_lines (at + 1) (drop at groups) ≡ all
-    → next ++ group_lines (at + 1 + 1) (drop (at + 1) groups) ≡ all
-group-step all now next groups at ns here written so-far =
-    let (group, has, parts) = split-at groups at ns here in
-    ap (λ text. text ++ group_lines (at + 1 + 1) (drop (at + 1) groups)) (written group has)
-    ∙ append_assoc now (group_line (at + 1) group) (group_lines (at + 1 + 1) (drop (at + 1) groups))
-    ∙ ap (λ rest. now ++ group_lines (at + 1) rest)
-    (ap (λ n. group ∷ drop n groups) (add-one at) ∙ sym parts)
-    ∙ so-far
 
 module _ {V : Type 0} (lines : V → List ℕ) where
   pub length-groups : (es : List (CanonicalText × V)) → length (groups_of lines es) ≡ length es

@@ -1,12 +1,7 @@
 pub mod CatalogueLemmas
-pub mod CutLemmas
 pub mod EntryLemmas
-pub mod FeedLemmas
-pub mod LedgerLemmas
-pub mod LineLemmas
 pub mod ListLemmas
 pub mod OneCatalogueLemmas
 pub mod PartitionLemmas
 pub mod PlaceLemmas
-pub mod RunLemmas
 pub mod UnitedLemmas

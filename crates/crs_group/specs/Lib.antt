@@ -1,13 +1,6 @@
 pub mod Catalogue
-pub mod Cutting
 pub mod Entries
-pub mod GroupRun
 pub mod GroupTexts
-pub mod Lines
-pub mod LongLines
-pub mod Output
 pub mod Partition
 pub mod Putting
-pub mod Reading
-pub mod Streams
 pub mod United

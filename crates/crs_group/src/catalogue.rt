@@ -114,13 +114,6 @@ impl Catalogue {
         }
     }
 
-    // The groups in the order of their numbers.
-    pub(crate) fn all_groups(&self) -> &Groups
-        ensures { result.now ≡ self.now.groups }
-    {
-        &self.groups
-    }
-
     // The canonical text of a line, in the room.
     fn canon(&mut self, text: &[u8]) -> Result<Canon, Fault>
         ensures answer { MatchResult result (λ canon. IsCanonicalOf self.old.level text.now canon.bytes)

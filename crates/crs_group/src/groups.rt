@@ -1,6 +1,6 @@
 //! The groups of a catalogue: the numbers of the lines that have a canonical text, by the text, in the order in which
 //! the texts came.
-ghost use Rattle.std.specs.Prelude.{◌≡◌, ◌+◌, ◌^◌, ◌<◌, [], ◌∷◌, ◌++◌, Some, length, map, slice_get};
+ghost use Rattle.std.specs.Prelude.{◌≡◌, ◌+◌, ◌^◌, ◌<◌, [], ◌∷◌, ◌++◌, Some, length, slice_get};
 ghost use Rattle.std.specs.Prelude.{IfOk, IfSome, MatchOption, OnErr};
 ghost use Rattle.std.specs.Option.{option_copied, option_map};
 ghost use Rattle.crs_group.specs.GroupTexts.{canons};
@@ -51,14 +51,6 @@ impl Groups {
             Some((_, lines)) => Some(lines.as_slice()),
             None => None,
         }
-    }
-
-    // The lines of a group that is there.
-    pub(crate) fn lines_at(&self, at: usize) -> &[u64]
-        requires { at < length self.now }
-        ensures { slice_get (map (λ group. group.lines) self.now) at ≡ Some result.now }
-    {
-        self.lines[at].as_slice()
     }
 
     // The canonical text of the group at this place.

@@ -3,10 +3,9 @@ use crate::escapes::put_text;
 use crate::sameness::split_line;
 use crate::streams::{Manner, Page, Pieces};
 use crs_desk::{
-    Level, RunFault, Sink, Source, run_canon, run_canon_lines, run_check, run_check_lines,
+    Level, RunFault, Sink, Source, Summary, run_canon, run_canon_lines, run_check, run_check_lines,
     run_group, run_same,
 };
-use crs_group::Summary;
 use std::alloc::{AllocError, Global};
 
 /// A command that reads its input.

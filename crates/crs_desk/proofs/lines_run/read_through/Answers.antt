@@ -1,8 +1,8 @@
 use Rattle.std.proofs.Common.{◌≡◌, ◌++◌, [], arith, false, length, length-take, refl, rules, subst, sym, take, Ok}
 use Rattle.std.specs.Prelude.{IfErr, IsErr}
 use Rattle.std.proofs.lemmas.Result.{IfErr-weaker}
-use Rattle.crs_group.specs.declared.fault.RunFault.TheVariants.{ReadFailed}
-use Rattle.crs_group.proofs.RunLemmas.{given-read, taken-read}
+use Rattle.crs_streams.specs.declared.fault.RunFault.TheVariants.{ReadFailed}
+use Rattle.crs_desk.proofs.GroupRunLemmas.{given-read, taken-read}
 use Rattle.crs_desk.specs.LinesRun.{IsLinesFault}
 use Rattle.crs_desk.proofs.LineCutLemmas.{cut-none, stopped-first}
 use Rattle.crs_desk.proofs.LinesRunLemmas.{failed-read, fresh-healthy, given-none, lines-fit, many-reads, stopped-fault}

@@ -1,7 +1,7 @@
 use Rattle.std.proofs.Common.{◌≡◌, rules, subst, sym}
 use Rattle.std.specs.Prelude.{IfErr}
 use Rattle.std.proofs.lemmas.Result.{IfErr-weaker, IfOk-weaker}
-use Rattle.crs_group.specs.declared.fault.RunFault.TheVariants.{Memory}
+use Rattle.crs_streams.specs.declared.fault.RunFault.TheVariants.{Memory}
 use Rattle.crs_desk.specs.LinesRun.{IsLinesFault}
 use Rattle.crs_desk.proofs.LinesRunLemmas.{end-first, lines-answered, lines-fault, none-begun}
 use Rattle.crs_desk.proofs.lines_run.run_lines.Goals as goal

@@ -1,7 +1,7 @@
 use Rattle.std.proofs.Common.{◌≡◌, ◌++◌, ◌∷◌, ap, arith, false, length, length-append, rules, subst, sym}
 use Rattle.std.specs.Prelude.{IfErr}
 use Rattle.std.proofs.lemmas.Result.{IfErr-weaker, IfOk-weaker}
-use Rattle.crs_group.specs.Lines.{HasNoFeed}
+use Rattle.crs_streams.specs.Lines.{HasNoFeed}
 use Rattle.crs_desk.specs.LineCutting.{IsStopped}
 use Rattle.crs_desk.proofs.LineCutLemmas.{piece-end-stopped, piece-kept, piece-step, piece-stopped, split-small}
 use Rattle.crs_desk.proofs.line_cutter.LineCutter.take.Goals as goal

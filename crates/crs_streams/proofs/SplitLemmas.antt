@@ -1,0 +1,56 @@
+-- The first line feed among bytes, as it is searched for.
+use Rattle.std.proofs.Common.{◌≡◌, ◌⊎◌, ◌+◌, ◌-◌, ◌<◌, ◌++◌, ◌∷◌, [], ℕ, zero, suc, List, Some, None, true, false, length, take, drop, inl, inr, ap, subst, sym, refl, ◌∙◌, arith, length-drop}
+use Rattle.std.specs.Prelude.{◌==◌, slice_index}
+use Rattle.std.proofs.lemmas.Bool.{cases_Bool, eqb-true}
+use Rattle.std.proofs.lemmas.List.{take_all}
+use Rattle.bstr.specs.Find.{IsFirstByte, is_byte}
+use Rattle.crs_streams.specs.Lines.{HasNoFeed, IsSplit}
+use Rattle.crs_streams.proofs.LineLemmas.{feed-more, feed-rest, feed-test}
+
+cons-is : (a b : ℕ) (xs ys : List ℕ) → a ≡ b → xs ≡ ys → a ∷ xs ≡ b ∷ ys
+cons-is a b xs ys h t = cc
+
+pub plain-append : (a b : List ℕ) → HasNoFeed a → HasNoFeed b → HasNoFeed (a ++ b)
+plain-append [] b p q = q
+plain-append (x ∷ xs) b p q = feed-more x (xs ++ b) (feed-test x xs p) (plain-append xs b (feed-rest x xs p) q)
+
+-- the first feed, as it is searched for
+nowhere-plain : (bytes : List ℕ) → ((k : ℕ) → k < length bytes → ¬ ((slice_index bytes k == 10) ≡ true)) → HasNoFeed bytes
+nowhere-plain [] none = refl
+nowhere-plain (b ∷ bs) none =
+    feed-more b bs (by_test (cases_Bool (b == 10))) (nowhere-plain bs (λ k l. none (suc k) (omega arith)))
+  where
+    by_test : (((b == 10) ≡ true) ⊎ ((b == 10) ≡ false)) → (b == 10) ≡ false
+    by_test (inl is) = absurd (none 0 (omega arith) is)
+    by_test (inr other) = other
+
+split-at : (bytes : List ℕ) (at : ℕ) → at < length bytes → (slice_index bytes at == 10) ≡ true
+    → ((k : ℕ) → k < at → ¬ ((slice_index bytes k == 10) ≡ true))
+    → IsSplit bytes (take at bytes) (drop (suc at) bytes)
+split-at [] at within is before = absurd (omega arith)
+split-at (b ∷ bs) zero within is before = (cons-is b 10 bs bs (eqb-true b 10 is) refl, refl)
+split-at (b ∷ bs) (suc at) within is before =
+    let further = split-at bs at (omega arith) is (λ k l. before (suc k) (omega arith)) in (
+      cons-is b b bs _ refl further.0,
+      feed-more b (take at bs) (by_test (cases_Bool (b == 10))) further.1,
+    )
+  where
+    by_test : (((b == 10) ≡ true) ⊎ ((b == 10) ≡ false)) → (b == 10) ≡ false
+    by_test (inl yes-feed) = absurd (before 0 (omega arith) yes-feed)
+    by_test (inr other) = other
+
+split-found : (bytes : List ℕ) (at : ℕ) → IsFirstByte (is_byte 10) bytes (Some at)
+    → IsSplit bytes (take at bytes) (drop (suc at) bytes)
+split-found bytes at (none, is) = split-at bytes at none.high is (λ k l. none.before k (omega arith) l)
+
+-- as the code cuts them
+pub split-sliced : (bytes : List ℕ) (at : ℕ) → IsFirstByte (is_byte 10) bytes (Some at)
+    → IsSplit bytes (take at bytes) (take (length bytes - (at + 1)) (drop (at + 1) bytes))
+split-sliced bytes at found =
+    let next : at + 1 ≡ suc at = omega arith in
+    let all : take (length bytes - (at + 1)) (drop (at + 1) bytes) ≡ drop (at + 1) bytes =
+    take_all (length bytes - (at + 1)) (drop (at + 1) bytes) (omega (arith, length-drop (at + 1) bytes)) in
+    subst (IsSplit bytes (take at bytes)) (sym (all ∙ ap (λ n. drop n bytes) next)) (split-found bytes at found)
+
+pub split-none : (bytes : List ℕ) → IsFirstByte (is_byte 10) bytes None → HasNoFeed bytes
+split-none bytes none = nowhere-plain bytes (λ k l. none k (omega arith) l)

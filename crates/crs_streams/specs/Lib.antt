@@ -1,0 +1,4 @@
+pub mod Given
+pub mod Lines
+pub mod LongLines
+pub mod Streams

@@ -1,0 +1,34 @@
+-- The lines of some bytes.
+use Rattle.std.specs.Prelude.{◌≡◌, ◌⊎◌, ◌==◌, ◌++◌, ◌∷◌, [], ℕ, List, IsTrue, count_by, not}
+use Rattle.std.specs.List.{list_all}
+use Rattle.crs_text.specs.Tokens.{is_white}
+
+-- no line feed is among the bytes
+abbrev pub HasNoFeed : List ℕ → Type 0
+HasNoFeed bytes = IsTrue (list_all (λ b. not (b == 10)) bytes)
+
+-- the bytes have a first line, and others after its line feed
+abbrev pub IsSplit : List ℕ → List ℕ → List ℕ → Type 0
+IsSplit bytes line rest = (bytes ≡ line ++ 10 ∷ rest) × HasNoFeed line
+
+-- the last byte is a return
+abbrev pub EndsInReturn : List ℕ → Type 0
+EndsInReturn bytes = (front : List ℕ) × (bytes ≡ front ++ 13 ∷ [])
+
+-- the text of a line that ends at a line feed: its bytes before that, but for one return directly
+-- before the feed
+abbrev pub IsTextOf : List ℕ → List ℕ → Type 0
+IsTextOf bytes text = (bytes ≡ text ++ 13 ∷ []) ⊎ ((bytes ≡ text) × ¬ (EndsInReturn bytes))
+
+-- the texts of all lines: a line ends at a line feed, and what follows the last feed is one if it
+-- has a byte
+abbrev pub AreLines : List ℕ → List (List ℕ) → Type 0
+AreLines bytes [] = bytes ≡ []
+AreLines bytes (text ∷ texts) =
+    ((line : List ℕ) × (rest : List ℕ) ×
+    (bytes ≡ line ++ 10 ∷ rest) × HasNoFeed line × IsTextOf line text × AreLines rest texts)
+    ⊎ ((¬ (bytes ≡ [])) × HasNoFeed bytes × (text ≡ bytes) × (texts ≡ []))
+
+-- how many of the texts are white space alone, or nothing
+abbrev pub blank_in : List (List ℕ) → ℕ
+blank_in texts = count_by (λ text. list_all is_white text) texts

@@ -1,0 +1,28 @@
+//! Lines of bytes: where one ends, and its text.
+ghost use Rattle.std.specs.Prelude.{MatchOption};
+ghost use Rattle.crs_streams.specs.Lines.{HasNoFeed, IsSplit, IsTextOf};
+
+use bstr::ByteSlice;
+
+/// The most bytes of a line before its line feed. Profile.
+pub const MAX_LINE: usize = 1_048_576;
+
+/// The bytes before the first line feed, and those after it. `None`: there is no line feed.
+pub fn split_line(bytes: &[u8]) -> Option<(&[u8], &[u8])>
+    ensures { MatchOption result (HasNoFeed bytes.now) (λ parts. IsSplit bytes.now parts.0.now parts.1.now) }
+{
+    match bytes.find_byte(b'\n') {
+        Some(at) => Some((&bytes[..at], &bytes[at + 1..])),
+        None => None,
+    }
+}
+
+/// The text of a line that ended at a line feed, without a return at its end.
+pub fn text_of(line: &[u8]) -> &[u8]
+    ensures { IsTextOf line.now result.now }
+{
+    match line.split_last() {
+        Some((b'\r', text)) => text,
+        _ => line,
+    }
+}
