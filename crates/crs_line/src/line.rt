@@ -1,5 +1,6 @@
 ghost use Rattle.std.specs.Prelude.{◌≡◌, [], map, IfOk, IfErr, IsSome, Some, false, option_and_then};
-ghost use Rattle.clap.specs.Words.{app_of, fault_of, first_of, found_of, rows_of, rule_of, shape_of, subcommand_rows_of};
+ghost use Rattle.clap.specs.Words.{app_of, fault_of, first_of, found_of, rows_of, rule_of, shape_of};
+ghost use Rattle.clap.specs.Words.{subcommand_rows_of, with_subcommand};
 ghost use Rattle.clap.specs.Simple.{new_shape};
 ghost use Rattle.clap.specs.declared.builder.command.Command.TheViews.{out-Command as fields_of};
 ghost use Rattle.crs_line.specs.CommandLine.{HandsOn, IsRefusal, asked, desk, input_desk, lone_desk, operand};
@@ -87,9 +88,17 @@ fn desk_command<'a>(alloc: Global) -> Result<Command<'a>, AllocError>
     ensures shape { IfOk result (λ command. app_of command ≡ desk) }
     ensures globals { IfOk result (λ command. (fields_of command).has_globals ≡ false) }
 {
-    let same = same_command(alloc)?;
-    let explain = explain_command(alloc)?;
-    with_inputs(alloc)?.subcommand(same)?.subcommand(explain)
+    let command = with_same(alloc)?;
+    command.subcommand(explain_command(alloc)?)
+}
+
+// The commands that read standard input, and `same`.
+fn with_same<'a>(alloc: Global) -> Result<Command<'a>, AllocError>
+    ensures shape { IfOk result (λ command. app_of command ≡ with_subcommand input_desk same_shape) }
+    ensures globals { IfOk result (λ command. (fields_of command).has_globals ≡ false) }
+{
+    let command = with_inputs(alloc)?;
+    command.subcommand(same_command(alloc)?)
 }
 
 // The commands that read standard input.
@@ -151,11 +160,9 @@ fn same_command<'a>(alloc: Global) -> Result<Command<'a>, AllocError>
     ensures shape { IfOk result (λ command. shape_of command ≡ same_shape) }
     ensures globals { IfOk result (λ command. (fields_of command).has_globals ≡ false) }
 {
-    let first = needed_word(alloc, "first", "A", FIRST_HELP);
-    let second = needed_word(alloc, "second", "B", SECOND_HELP);
     lone_command(alloc, "same", SAME_ABOUT, SAME_STATUS)
-        .arg(first)?
-        .arg(second)?
+        .arg(needed_word(alloc, "first", "A", FIRST_HELP))?
+        .arg(needed_word(alloc, "second", "B", SECOND_HELP))?
         .arg(level_argument(alloc))
 }
 
@@ -163,11 +170,9 @@ fn explain_command<'a>(alloc: Global) -> Result<Command<'a>, AllocError>
     ensures shape { IfOk result (λ command. shape_of command ≡ explain_shape) }
     ensures globals { IfOk result (λ command. (fields_of command).has_globals ≡ false) }
 {
-    let first = spare_word(alloc, "first", "A", SPARE_FIRST_HELP);
-    let second = spare_word(alloc, "second", "B", SECOND_HELP);
     lone_command(alloc, "explain", EXPLAIN_ABOUT, EXPLAIN_STATUS)
-        .arg(first)?
-        .arg(second)?
+        .arg(spare_word(alloc, "first", "A", SPARE_FIRST_HELP))?
+        .arg(spare_word(alloc, "second", "B", SECOND_HELP))?
         .arg(level_argument(alloc))
 }
 

@@ -60,30 +60,30 @@ fn put_differences_from<'a>(
     second: &'a [u8],
 ) -> Result<(), AllocError> {
     match read(alloc, second) {
-        Ok(crs) => {
-            let forth = differences(alloc, first, &crs, level)?;
-            let back = differences(alloc, &crs, first, level)?;
-            put_paths(out, &forth, &back)
-        }
+        Ok(crs) => put_one_way_or(
+            out,
+            paths_between(alloc, first, &crs, level)?,
+            paths_between(alloc, &crs, first, level)?,
+        ),
         Err(fault) => put_fault(out, fault),
     }
 }
 
-fn put_paths(
-    out: &mut String,
-    forth: &Differences<'_, '_>,
-    back: &Differences<'_, '_>,
-) -> Result<(), AllocError> {
-    let forth = paths_text(*out.allocator(), forth)?;
-    let back = paths_text(*out.allocator(), back)?;
-    put_one_way_or(out, &forth, &back)
+fn paths_between<'a>(
+    alloc: Global,
+    a: &Crs<'a>,
+    b: &Crs<'a>,
+    level: Level,
+) -> Result<Vec<u8>, AllocError> {
+    let found = differences(alloc, a, b, level)?;
+    paths_text(alloc, &found)
 }
 
-fn put_one_way_or(out: &mut String, forth: &[u8], back: &[u8]) -> Result<(), AllocError> {
-    if forth != back {
+fn put_one_way_or(out: &mut String, forth: Vec<u8>, back: Vec<u8>) -> Result<(), AllocError> {
+    if forth.as_slice() != back.as_slice() {
         return out.push_str("one way");
     }
-    put_text(out, if forth.is_empty() { b"none" } else { forth })
+    put_text(out, if forth.is_empty() { b"none" } else { &forth })
 }
 
 /// The words of the paths, with a semicolon between two.
@@ -121,15 +121,24 @@ fn put_values_from<'a>(
     second: &'a [u8],
 ) -> Result<(), AllocError> {
     match read(alloc, second) {
-        Ok(crs) => {
-            let forth = differences(alloc, first, &crs, level)?;
-            let back = differences(alloc, &crs, first, level)?;
-            let forth = values_text(alloc, &forth, level, false)?;
-            let back = values_text(alloc, &back, level, true)?;
-            put_one_way_or(out, &forth, &back)
-        }
+        Ok(crs) => put_one_way_or(
+            out,
+            values_between(alloc, first, &crs, level, false)?,
+            values_between(alloc, &crs, first, level, true)?,
+        ),
         Err(fault) => put_fault(out, fault),
     }
+}
+
+fn values_between<'a>(
+    alloc: Global,
+    a: &Crs<'a>,
+    b: &Crs<'a>,
+    level: Level,
+    turned: bool,
+) -> Result<Vec<u8>, AllocError> {
+    let found = differences(alloc, a, b, level)?;
+    values_text(alloc, &found, level, turned)
 }
 
 fn values_text(
