@@ -6,7 +6,8 @@ use Rattle.crs_desk.specs.GroupCutting.{AreEnded, CutterParts, IsCutFault, IsCut
 use Rattle.crs_streams.specs.declared.fault.RunFault.{RunFault}
 use Rattle.crs_streams.specs.Lines.{AreLines, HasNoFeed, IsSplit}
 use Rattle.crs_streams.specs.LongLines.{HasShortLines, IsTooLong}
-use Rattle.crs_desk.proofs.FeedLemmas.{ended-begins, ended-feeds, ended-fits, ended-last, ended-lines, ended-more, plain-append, short-ended, short-line, short-more}
+use Rattle.crs_desk.proofs.FeedLemmas.{ended-begins, ended-feeds, ended-fits, ended-last, ended-lines, ended-more, short-ended, short-line, short-more}
+use Rattle.crs_streams.proofs.SplitLemmas.{plain-append}
 
 -- no byte was cut
 pub cut-none : (cutter : CutterParts) → cutter.partial ≡ [] → IsLedgerOf [] cutter.ledger → IsCutTo [] cutter

@@ -9,7 +9,8 @@ use Rattle.crs_streams.specs.Streams.{SinkState}
 use Rattle.crs_streams.specs.declared.fault.RunFault.{RunFault}
 use Rattle.crs_streams.specs.declared.fault.RunFault.TheVariants.{ReadFailed, WriteFailed, TooLong, TooManyReads, Memory}
 use Rattle.crs_desk.proofs.GroupCutLemmas.{none-kept, some-kept}
-use Rattle.crs_desk.proofs.FeedLemmas.{feeds-append, feeds-none, plain-append, short-ended, short-line, short-more}
+use Rattle.crs_desk.proofs.FeedLemmas.{feeds-append, feeds-none, short-ended, short-line, short-more}
+use Rattle.crs_streams.proofs.SplitLemmas.{plain-append}
 use Rattle.crs_desk.specs.LinesRun.{AreOutputs, HasSent, IsFrontOutput, Outputs}
 use Rattle.crs_desk.specs.LineCutting.{CutterParts, IsCut, IsEmptied, IsFlushed, IsHealthy, IsKept, IsLinesCut, IsNotKept, IsPut, IsPutOut, IsStopped, IsWrittenOut, PutsLine, WriterParts}
 use Rattle.crs_desk.proofs.LineOutputLemmas.{lines-append, outputs-append}
