@@ -23,21 +23,31 @@ pub fn append_hints(
     let front = looked_at(text.trim_ascii_start(), 0).trim_ascii_end();
     let whole = by_front(text, front);
     let there = beside(whole, by_place(text, number, place), number);
-    let mut is_first = true;
-    for hint in [whole, bound(whole, text, front), there]
-        .into_iter()
-        .flatten()
-    {
-        if !is_first {
-            out.push(b' ')?;
-        }
-        append_hint(hint, text, place, out)?;
-        is_first = false;
-    }
-    if !is_first {
+    let begin = out.len();
+    append_next(whole, text, place, begin, out)?;
+    append_next(bound(whole, text, front), text, place, begin, out)?;
+    append_next(there, text, place, begin, out)?;
+    if out.len() > begin {
         out.push(b'\n')?;
     }
     Ok(())
+}
+
+// A further hint of the line that begins here, if there is one.
+fn append_next(
+    hint: Option<Hint<'_>>,
+    text: &[u8],
+    place: usize,
+    begin: usize,
+    out: &mut Vec<u8>,
+) -> Result<(), AllocError> {
+    let Some(hint) = hint else {
+        return Ok(());
+    };
+    if out.len() > begin {
+        out.push(b' ')?;
+    }
+    append_hint(hint, text, place, out)
 }
 
 // What to say of the place beside what is said of the whole. Of a class that isn't read only what is damaged is said:
