@@ -1,14 +1,20 @@
 -- A word is one of capitals, letter case aside, where it is byte by byte; and the spellings are of capitals.
-use Rattle.std.proofs.Common.{◌≡◌, ℕ, zero, suc, ◌<◌, ◌↔◌, ◌==◌, ◌&&◌, ◌||◌, nat_eq, bit_and, IsTrue, filter, rules, not, Bool, true, false, if◌then◌else◌, List, [], ◌∷◌, length, map, get_or, refl, sym, ◌∙◌, ap, arith}
+use Rattle.std.proofs.Common.{◌≡◌, ℕ, zero, suc, ◌+◌, ◌≤◌, ◌%◌, ◌^◌, cond, nat_le, take, replicate, Fits, w8, ap₂, subst, Option, Some, ◌<◌, ◌↔◌, ◌==◌, ◌&&◌, ◌||◌, nat_eq, bit_and, IsTrue, filter, rules, not, Bool, true, false, if◌then◌else◌, List, [], ◌∷◌, length, map, get_or, refl, sym, ◌∙◌, ap, arith}
 use Rattle.std.proofs.Math.ListN.{get_or-map}
-use Rattle.std.proofs.lemmas.List.{length-map}
+use Rattle.std.proofs.lemmas.List.{length-map, take_all, take-take}
+use Rattle.std.proofs.lemmas.Simd.{zip2_splat, length-zip2, mask_l-mod, first_set_mask_l}
+use Rattle.std.proofs.lemmas.Slice.Eq.{bytes_eq-Decides}
+use Rattle.std.specs.Str.{str_to_ascii_lowercase}
+use lib.Lanes.{zip2, mask_l, top, Each1}
+use Rattle.crs_text.specs.Runs.{first_set}
+use Rattle.crs_text.specs.declared.keyword.Suspect.{Suspect}
 use Rattle.std.specs.Char.{to_ascii_lowercase}
-use Rattle.std.proofs.lemmas.Bool.{agree_below, agree_below_at}
-use Rattle.std.specs.List.{list_all}
+use Rattle.std.proofs.lemmas.Bool.{agree_below, agree_below_at, leb-true}
+use Rattle.std.specs.List.{list_all, prefix_len}
 use Rattle.crs_text.specs.declared.keyword.Keyword.{Keyword}
-use Rattle.crs_text.specs.Keywords.{spelling_of, every_keyword}
-use Rattle.crs_text.specs.KeywordTable.{spelled, of_length, is_capital, AreCapitals, AreSpellings, AreSameWithin}
-use Rattle.crs_text.proofs.KeywordLemmas.{and-left, and-right}
+use Rattle.crs_text.specs.Keywords.{spelling_of, every_keyword, keyword_of}
+use Rattle.crs_text.specs.KeywordTable.{spelled, of_length, is_capital, AreCapitals, AreSpellings, AreSameWithin, IsSuspect, AreSuspects}
+use Rattle.crs_text.proofs.KeywordLemmas.{and-left, and-right, keyword-spelled}
 
 same-lists : (xs ys : List ℕ) → length xs ≡ length ys → ((k : ℕ) → k < length xs → get_or xs k 0 ≡ get_or ys k 0) → xs ≡ ys
 same-lists [] [] e at = refl
@@ -84,3 +90,69 @@ are_spellings test (k ∷ ks) e =
 
 pub spellings_of_length : (n : ℕ) → AreSpellings (map spelled (of_length n))
 spellings_of_length n = are_spellings (λ k. length (spelling_of k) == n) every_keyword all_in_capitals
+
+-- Blocks of a word and of capitals
+
+-- how many bytes come before the first that isn't the capital in its place, letter case aside
+abbrev pub same_front : List ℕ → List ℕ → ℕ
+same_front [] letters = 0
+same_front (b ∷ bs) [] = 0
+same_front (b ∷ bs) (c ∷ cs) = if bit_and b 223 == c then suc (same_front bs cs) else 0
+
+capital_small : (c : ℕ) → is_capital c ≡ true → c < 256
+capital_small c e = let high = leb-true c 90 (and-right (nat_le 65 c) (nat_le c 90) e) in omega arith
+
+pub same_taken : (n : ℕ) (bs cs : List ℕ) → Each1 (Fits w8) bs → n ≤ same_front bs cs → list_all is_capital (take n cs) ≡ true →
+    map to_ascii_lowercase (take n cs) ≡ map to_ascii_lowercase (take n bs)
+same_taken zero bs cs fits less caps = refl
+same_taken (suc n) [] cs fits less caps = absurd (omega arith)
+same_taken (suc n) (b ∷ bs) [] fits less caps = absurd (omega arith)
+same_taken (suc n) (b ∷ bs) (c ∷ cs) fits less caps =
+    elim (bit_and b 223 == c)
+    as (λ t. (bit_and b 223 == c) ≡ t → suc n ≤ (if t then suc (same_front bs cs) else 0) →
+    map to_ascii_lowercase (take (suc n) (c ∷ cs)) ≡ map to_ascii_lowercase (take (suc n) (b ∷ bs))) [
+      | true ↦ λ e l.
+          let capital : is_capital c ≡ true = and-left (is_capital c) (list_all is_capital (take n cs)) caps in
+          let others = and-right (is_capital c) (list_all is_capital (take n cs)) caps in
+          let head : to_ascii_lowercase c ≡ to_ascii_lowercase b =
+          (tested (to_ascii_lowercase c) (to_ascii_lowercase b)).0 (sym (same_letter-byte c b (capital_small c capital) fits.0.fits capital) ∙ e) in
+          ap₂ (λ x (l : List ℕ). x ∷ l) head (same_taken n bs cs fits.1 (omega arith) others)
+      | false ↦ λ e l. absurd (omega arith)
+    ] refl less
+
+-- lanes that are set where the bytes differ
+pairs : (h : ℕ → ℕ → ℕ) → ((a b : ℕ) → not (top 7 (h a b)) ≡ (a == b)) → (bs cs : List ℕ) →
+    prefix_len (λ x. not (top 7 x)) (zip2 h (map (λ b. bit_and b 223) bs) cs) ≡ same_front bs cs
+pairs h is [] cs = refl
+pairs h is (b ∷ bs) [] = refl
+pairs h is (b ∷ bs) (c ∷ cs) = ap₂ (λ t n. cond t (1 + n) 0) (is (bit_and b 223) c) (pairs h is bs cs) ∙ counted_on (bit_and b 223 == c)
+  where
+    counted_on : (t : Bool) → cond t (1 + same_front bs cs) 0 ≡ cond t (suc (same_front bs cs)) 0
+    counted_on true = omega arith
+    counted_on false = refl
+
+pub paired : (h : ℕ → ℕ → ℕ) → ((a b : ℕ) → not (top 7 (h a b)) ≡ (a == b)) → (bs cs : List ℕ) (r : ℕ) → length bs ≡ 16 → length cs ≡ 16 →
+    r ≡ first_set (mask_l (map (top 7) (zip2 h (zip2 bit_and bs (replicate 16 223)) cs)) % 2 ^ 64) → r ≡ same_front bs cs
+paired h is bs cs r long wide found =
+    let z = zip2 h (map (λ b. bit_and b 223) bs) cs in
+    let cleared : zip2 bit_and bs (replicate 16 223) ≡ map (λ b. bit_and b 223) bs = zip2_splat {Y = ℕ} bit_and bs 16 223 long in
+    let size : length z ≡ 16 = length-zip2 h (map (λ b. bit_and b 223) bs) cs (omega (arith, length-map bs (λ b. bit_and b 223), long, wide)) ∙ length-map bs (λ b. bit_and b 223) ∙ long in
+    let mask : mask_l (map (top 7) (zip2 h (zip2 bit_and bs (replicate 16 223)) cs)) % 2 ^ 64 ≡ mask_l (map (top 7) z) =
+    ap (λ l. mask_l (map (top 7) (zip2 h l cs)) % 2 ^ 64) cleared ∙ mask_l-mod (map (top 7) z) 64 (omega (arith, length-map z (top 7), size)) in
+    found ∙ ap first_set mask ∙ first_set_mask_l (top 7) z 16 size (omega arith) ∙ pairs h is bs cs
+
+pub suspect_at : (ss : List Suspect) (i : ℕ) (d : Suspect) → AreSuspects ss → i < length ss → IsSuspect (get_or ss i d)
+suspect_at [] i d all less = absurd (omega arith)
+suspect_at (s ∷ ss) zero d all less = all.0
+suspect_at (s ∷ ss) (suc i) d all less = suspect_at ss i d all.1 (omega arith)
+
+-- the word in front whose block is that of a suspect
+pub suspect_is : (s : Suspect) (left : List ℕ) (n : ℕ) → IsSuspect s → s.length ≡ n → n ≤ 16 →
+    (IsTrue (list_all is_capital (take n (take 16 s.letters.now))) → map to_ascii_lowercase (take n (take 16 s.letters.now)) ≡ map to_ascii_lowercase (take n (take 16 left))) →
+    keyword_of (take n left) ≡ Some s.keyword
+suspect_is s left n is e few same =
+    let whole : take 16 s.letters.now ≡ s.letters.now = take_all 16 s.letters.now (omega (arith, is.1)) in
+    let spelled : take n (take 16 s.letters.now) ≡ spelling_of s.keyword = ap (take n) whole ∙ ap (λ k. take k s.letters.now) (sym e) ∙ is.0 in
+    let front : take n (take 16 left) ≡ take n left = take-take n 16 left few in
+    let letters = sym (ap (map to_ascii_lowercase) spelled) ∙ same (subst (λ l. list_all is_capital l ≡ true) (sym spelled) is.2) ∙ ap (map to_ascii_lowercase) front in
+    (keyword-spelled s.keyword (take n left)).0 ((bytes_eq-Decides (str_to_ascii_lowercase (spelling_of s.keyword)) (str_to_ascii_lowercase (take n left))).1 letters)

@@ -1,12 +1,14 @@
 -- A bridge: the keywords by the length of their spelling, for a quick look-up.
 use Rattle.std.specs.Prelude.{◌≡◌, ◌≤◌, ◌<◌, ◌==◌, ◌&&◌, nat_le, slice_index, ℕ, Bool, IsTrue}
-use Rattle.std.specs.Prelude.{length, filter}
+use Rattle.std.specs.Prelude.{length, filter, take}
+use Rattle.std.specs.List.{list_all}
 use Rattle.std.specs.Prelude.{Option, Some, None, List, [], ◌∷◌, if◌then◌else◌}
 use Rattle.std.specs.Char.{to_ascii_lowercase}
 use Rattle.std.specs.Str.{str_eq_ignore_ascii_case}
 use Rattle.crs_text.specs.Keywords.{spelling_of, every_keyword}
 use Rattle.crs_text.specs.declared.keyword.Keyword.{Keyword}
 use Rattle.crs_text.specs.declared.keyword.Spelling.{Spelling}
+use Rattle.crs_text.specs.declared.keyword.Suspect.{Suspect}
 
 -- a keyword and its spelling
 pub record Spelled : Type 0 where
@@ -49,3 +51,13 @@ abbrev pub AreSameWithin : List ℕ → List ℕ → ℕ → ℕ → Type 0
 AreSameWithin letters word low high =
     (k : ℕ) → low ≤ k → k < high →
     to_ascii_lowercase (slice_index letters k) ≡ to_ascii_lowercase (slice_index word k)
+
+-- a keyword's spelling in capitals, of which more bytes may stand behind it
+abbrev pub IsSuspect : Suspect → Type 0
+IsSuspect s =
+    (take s.length s.letters.now ≡ spelling_of s.keyword) × (length s.letters.now ≡ 16)
+    × IsTrue (list_all is_capital (spelling_of s.keyword))
+
+abbrev pub AreSuspects : List Suspect → Type 0
+AreSuspects [] = Unit {0}
+AreSuspects (s ∷ ss) = IsSuspect s × AreSuspects ss

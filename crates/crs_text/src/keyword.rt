@@ -1,10 +1,15 @@
 //! Keywords: the words that the grammar of well-known text gives a meaning, found by their spelling.
-ghost use Rattle.std.specs.Prelude.{◌≡◌, ◌+◌, ◌≤◌, ◌↔◌, IsTrue, length, map};
+ghost use Rattle.std.specs.Prelude.{◌≡◌, ℕ, ◌+◌, ◌≤◌, ◌<◌, ◌↔◌, IsTrue, IfSome, Some, length, map, take};
 ghost use Rattle.std.specs.Char.{to_ascii_lowercase};
 ghost use Rattle.std.specs.Str.{str_eq_ignore_ascii_case};
 ghost use Rattle.crs_text.specs.Keywords.{keyword_of, spelling_of};
 ghost use Rattle.crs_text.specs.KeywordTable.{as_spelled, spelled, of_length, first_among, is_capital, AreCapitals};
-ghost use Rattle.crs_text.specs.KeywordTable.{AreSpellings, AreSameWithin};
+ghost use Rattle.crs_text.specs.KeywordTable.{AreSpellings, AreSameWithin, IsSuspect, AreSuspects};
+ghost use Rattle.std.specs.List.{list_all};
+
+use crate::lexing::front_of;
+use crate::runs::first_set;
+use std::simd::prelude::*;
 
 /// A keyword, under its spelling: letter case doesn't count, and one thing may have several keywords. ISO 19162:2019;
 /// what each means is the profile's choice.
@@ -115,6 +120,9 @@ pub enum Keyword {
     /// `ENSEMBLEACCURACY`: accuracy of an ensemble.
     EnsembleAccuracy,
 }
+
+// The bit in which a small letter differs from its capital.
+const SMALL: u8 = 0x20;
 
 // Bytes that are compared at once.
 const BLOCK: usize = 8;
@@ -234,6 +242,236 @@ impl Keyword {
     }
 }
 
+/// How many bytes a keyword has at most, and how many of a word are looked at at once.
+const LANES: usize = 16;
+
+// A keyword, its letters in capitals with spaces behind them, and how many letters it has.
+#[derive(Clone, Copy)]
+struct Suspect {
+    letters: &'static [u8],
+    length: usize,
+    keyword: Keyword,
+}
+
+// rows of keywords, each with its length and its letters
+macro_rules! by_fingerprint {
+    ($($keyword:ident: $length:literal $letters:literal),* $(,)?) => {
+        &[$(Suspect { letters: $letters, length: $length, keyword: Keyword::$keyword }),*]
+    };
+}
+
+// For each fingerprint the keyword that has it; `ID` where none has.
+#[inline(always)]
+fn suspects() -> &'static [Suspect]
+    ensures rows { AreSuspects result.now }
+    ensures count { length result.now ≡ 128 }
+{
+    by_fingerprint! {
+        Id: 2 b"ID              ",
+        Meridian: 8 b"MERIDIAN        ",
+        Method: 6 b"METHOD          ",
+        Id: 2 b"ID              ",
+        Cs: 2 b"CS              ",
+        Id: 2 b"ID              ",
+        Model: 5 b"MODEL           ",
+        PrimeM: 6 b"PRIMEM          ",
+        Id: 2 b"ID              ",
+        VelocityGrid: 12 b"VELOCITYGRID    ",
+        Id: 2 b"ID              ",
+        Id: 2 b"ID              ",
+        Id: 2 b"ID              ",
+        Id: 2 b"ID              ",
+        Id: 2 b"ID              ",
+        GeogCrs: 7 b"GEOGCRS         ",
+        Id: 2 b"ID              ",
+        Id: 2 b"ID              ",
+        ProjCrs: 7 b"PROJCRS         ",
+        VerticalExtent: 14 b"VERTICALEXTENT  ",
+        Id: 2 b"ID              ",
+        Id: 2 b"ID              ",
+        Id: 2 b"ID              ",
+        Id: 2 b"ID              ",
+        Usage: 5 b"USAGE           ",
+        Id: 2 b"ID              ",
+        Id: 2 b"ID              ",
+        Id: 2 b"ID              ",
+        Order: 5 b"ORDER           ",
+        Id: 2 b"ID              ",
+        Id: 2 b"ID              ",
+        Id: 2 b"ID              ",
+        Id: 2 b"ID              ",
+        Id: 2 b"ID              ",
+        Conversion: 10 b"CONVERSION      ",
+        Id: 2 b"ID              ",
+        Ensemble: 8 b"ENSEMBLE        ",
+        GeodeticCrs: 11 b"GEODETICCRS     ",
+        Id: 2 b"ID              ",
+        Trf: 3 b"TRF             ",
+        EnsembleAccuracy: 16 b"ENSEMBLEACCURACY",
+        Id: 2 b"ID              ",
+        Id: 2 b"ID              ",
+        Id: 2 b"ID              ",
+        Id: 2 b"ID              ",
+        Id: 2 b"ID              ",
+        Id: 2 b"ID              ",
+        BBox: 4 b"BBOX            ",
+        VerticalCrs: 11 b"VERTICALCRS     ",
+        Spheroid: 8 b"SPHEROID        ",
+        Remark: 6 b"REMARK          ",
+        Id: 2 b"ID              ",
+        Id: 2 b"ID              ",
+        Id: 2 b"ID              ",
+        GeodCrs: 7 b"GEODCRS         ",
+        Id: 2 b"ID              ",
+        PlainUnit: 4 b"UNIT            ",
+        Id: 2 b"ID              ",
+        Datum: 5 b"DATUM           ",
+        Id: 2 b"ID              ",
+        Id: 2 b"ID              ",
+        Id: 2 b"ID              ",
+        Area: 4 b"AREA            ",
+        Id: 2 b"ID              ",
+        Id: 2 b"ID              ",
+        Axis: 4 b"AXIS            ",
+        Id: 2 b"ID              ",
+        Ellipsoid: 9 b"ELLIPSOID       ",
+        BaseGeogCrs: 11 b"BASEGEOGCRS     ",
+        Id: 2 b"ID              ",
+        ScaleUnit: 9 b"SCALEUNIT       ",
+        Id: 2 b"ID              ",
+        Id: 2 b"ID              ",
+        Vrf: 3 b"VRF             ",
+        Id: 2 b"ID              ",
+        Id: 2 b"ID              ",
+        Scope: 5 b"SCOPE           ",
+        Id: 2 b"ID              ",
+        Id: 2 b"ID              ",
+        Parameter: 9 b"PARAMETER       ",
+        AnchorEpoch: 11 b"ANCHOREPOCH     ",
+        Id: 2 b"ID              ",
+        Id: 2 b"ID              ",
+        Id: 2 b"ID              ",
+        Id: 2 b"ID              ",
+        Id: 2 b"ID              ",
+        GeographicCrs: 13 b"GEOGRAPHICCRS   ",
+        Id: 2 b"ID              ",
+        Id: 2 b"ID              ",
+        Id: 2 b"ID              ",
+        ProjectedCrs: 12 b"PROJECTEDCRS    ",
+        Projection: 10 b"PROJECTION      ",
+        Member: 6 b"MEMBER          ",
+        Id: 2 b"ID              ",
+        AngleUnit: 9 b"ANGLEUNIT       ",
+        Id: 2 b"ID              ",
+        Citation: 8 b"CITATION        ",
+        Id: 2 b"ID              ",
+        Id: 2 b"ID              ",
+        Id: 2 b"ID              ",
+        FrameEpoch: 10 b"FRAMEEPOCH      ",
+        Id: 2 b"ID              ",
+        Id: 2 b"ID              ",
+        VertCrs: 7 b"VERTCRS         ",
+        Id: 2 b"ID              ",
+        Id: 2 b"ID              ",
+        Id: 2 b"ID              ",
+        BaseGeodCrs: 11 b"BASEGEODCRS     ",
+        Id: 2 b"ID              ",
+        Id: 2 b"ID              ",
+        VDatum: 6 b"VDATUM          ",
+        VerticalDatum: 13 b"VERTICALDATUM   ",
+        GeodeticDatum: 13 b"GEODETICDATUM   ",
+        Id: 2 b"ID              ",
+        GeoidModel: 10 b"GEOIDMODEL      ",
+        PrimeMeridian: 13 b"PRIMEMERIDIAN   ",
+        Id: 2 b"ID              ",
+        Id: 2 b"ID              ",
+        Id: 2 b"ID              ",
+        Id: 2 b"ID              ",
+        Uri: 3 b"URI             ",
+        LengthUnit: 10 b"LENGTHUNIT      ",
+        Dynamic: 7 b"DYNAMIC         ",
+        Id: 2 b"ID              ",
+        CompoundCrs: 11 b"COMPOUNDCRS     ",
+        Anchor: 6 b"ANCHOR          ",
+        Id: 2 b"ID              ",
+        Id: 2 b"ID              ",
+    }
+}
+
+// A number that differs from keyword to keyword, letter case aside, of the word of so many bytes in front: by its first
+// two letters, the fourth from its end, and its length.
+#[inline(always)]
+fn fingerprint(left: &[u8], count: usize) -> usize
+    requires within { count ≤ 16 }
+    requires room { 16 ≤ length left.now }
+    ensures { result < 128 }
+{
+    let third = left[count.max(4) - 4];
+    let letters = u32::from(left[0]) | u32::from(left[1]) << 8 | u32::from(third) << 16;
+    let bits = (letters | (count as u32) << 24) & 0x1f1f_1f1f;
+    (bits.wrapping_mul(0xbbab_e631) >> 25) as usize % 128
+}
+
+// How many lanes come before the first where the bytes aren't these capitals, letter case aside.
+#[inline(always)]
+fn same_lanes(block: u8x16, letters: u8x16) -> usize
+    ensures { (n : ℕ) → n ≤ result → IsTrue (list_all is_capital (take n letters)) →
+        map to_ascii_lowercase (take n letters) ≡ map to_ascii_lowercase (take n block) }
+{
+    first_set((block & u8x16::splat(!SMALL)).simd_ne(letters).to_bitmask())
+}
+
+#[inline(always)]
+fn is_suspect(suspect: &Suspect, left: &[u8], count: usize) -> bool
+    requires suspect { IsSuspect suspect.now }
+    requires within { count ≤ 16 }
+    requires room { 16 ≤ length left.now }
+    ensures { IsTrue result → keyword_of (take count left.now) ≡ Some suspect.now.keyword }
+{
+    if suspect.length != count {
+        return false;
+    }
+    same_lanes(u8x16::from_slice(left), u8x16::from_slice(suspect.letters)) >= count
+}
+
+// The keyword that the word of so many bytes in front is, where that is seen at one look.
+#[inline(always)]
+fn suspected(left: &[u8], count: usize) -> Option<Keyword>
+    ensures { IfSome result (λ k. keyword_of (take count left.now) ≡ Some k) }
+{
+    if left.len() < LANES {
+        return None;
+    }
+    if count > LANES {
+        return None;
+    }
+    let suspect = &suspects()[fingerprint(left, count)];
+    if is_suspect(suspect, left, count) {
+        Some(suspect.keyword)
+    } else {
+        None
+    }
+}
+
+#[inline(never)]
+fn any_keyword(word: &[u8]) -> Option<Keyword>
+    ensures { result ≡ keyword_of word.now }
+{
+    Keyword::of(word)
+}
+
+/// The keyword that the first bytes are, as many as `count` says, letter case aside; `None` where they are none.
+#[inline(always)]
+pub(crate) fn front_keyword(left: &[u8], count: usize) -> Option<Keyword>
+    requires { count ≤ length left.now }
+    ensures { result ≡ keyword_of (take count left.now) }
+{
+    match suspected(left, count) {
+        Some(keyword) => Some(keyword),
+        None => any_keyword(front_of(left, count)),
+    }
+}
+
 fn first_among(spellings: &[Spelling], word: &[u8]) -> Option<Keyword>
     requires { AreSpellings (map as_spelled spellings.now) }
     ensures { result ≡ first_among (map as_spelled spellings.now) word.now }
@@ -299,9 +537,6 @@ fn same_block(letters: &[u8], word: &[u8], at: usize, size: usize) -> bool
     }
     same
 }
-
-// The bit in which a small letter differs from its capital.
-const SMALL: u8 = 0x20;
 
 #[inline(always)]
 fn same_letter(letter: u8, byte: u8) -> bool

@@ -53,9 +53,9 @@ fn is_plain_ascii(byte: u8) -> bool
     byte != b'"' && byte.is_ascii()
 }
 
-// How many lanes come before the first that is set.
+/// How many lanes come before the first that is set.
 #[inline(always)]
-fn first_set(lanes: u64) -> usize
+pub(crate) fn first_set(lanes: u64) -> usize
     ensures { result ≡ first_set lanes }
 {
     if lanes == 0 {

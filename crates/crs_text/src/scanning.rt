@@ -4,6 +4,7 @@ ghost use Rattle.crs_text.specs.Tokens.{Forms, comma, opening, closing, is_white
 ghost use Rattle.std.specs.List.{prefix_len};
 ghost use Rattle.crs_text.specs.TextFault.{reason_number, IsFlaw, IsTextFault};
 ghost use Rattle.crs_text.specs.Scan.{IsReached, IsTaken, IsStoppedBy, IsSingleAt, IsScanned};
+ghost use Rattle.crs_text.specs.Items.{keyword_at};
 ghost use Rattle.crs_text.specs.Table.{Flat, is_whole};
 ghost use Rattle.crs_text.specs.Rows.{flat};
 ghost use Rattle.crs_text.specs.State.{start};
@@ -11,6 +12,7 @@ ghost use Rattle.crs_text.specs.Lexing.{IsLexed};
 
 use crate::fault::Fault;
 use crate::items::ItemKind;
+use crate::keyword::{Keyword, front_keyword};
 use crate::lexing::{
     Lexed, front_of, plain_number_length, plain_text_length, rest_of, single_word_length, token_at,
 };
@@ -35,14 +37,16 @@ fn take_single(
     at: usize,
     kind: ItemKind,
     raw: &[u8],
+    keyword: Option<Keyword>,
     size: usize,
     taken: &mut usize,
 ) -> Result<(), Fault>
-    requires { IsSingleAt text.now at kind raw.now size }
+    requires single { IsSingleAt text.now at kind raw.now size }
+    requires keyword { keyword ≡ keyword_at kind raw.now }
     ensures { MatchResult result (λ _. IsTaken text.now at table.old table.new taken.new)
         (IsStoppedBy text.now at table.old) }
 {
-    match table.single(kind, at, raw) {
+    match table.single(kind, at, raw, keyword) {
         Ok(true) => {
             *taken = size;
             Ok(())
@@ -133,7 +137,7 @@ fn take_number(
         (IsStoppedBy text.now at table.old) }
 {
     let raw = front_of(rest_of(text, at), count);
-    take_single(table, text, at, ItemKind::Number, raw, count, taken)
+    take_single(table, text, at, ItemKind::Number, raw, None, count, taken)
 }
 
 #[inline(always)]
@@ -150,7 +154,7 @@ fn take_text(
         (IsStoppedBy text.now at table.old) }
 {
     let raw = front_of(rest_of(rest_of(text, at), 1), count);
-    take_single(table, text, at, ItemKind::Text, raw, count + 2, taken)
+    take_single(table, text, at, ItemKind::Text, raw, None, count + 2, taken)
 }
 
 #[inline(always)]
@@ -166,8 +170,10 @@ fn take_word(
     ensures { MatchResult result (λ _. IsTaken text.now at table.old table.new taken.new)
         (IsStoppedBy text.now at table.old) }
 {
-    let raw = front_of(rest_of(text, at), count);
-    take_single(table, text, at, ItemKind::Word, raw, count, taken)
+    let left = rest_of(text, at);
+    let keyword = front_keyword(left, count);
+    let raw = front_of(left, count);
+    take_single(table, text, at, ItemKind::Word, raw, keyword, count, taken)
 }
 
 /// What begins at this place, if it is a token that the table takes; `taken` is how many bytes it has.

@@ -48,8 +48,9 @@ pub(crate) struct Row {
     pub(crate) size: usize,
     pub(crate) kind: ItemKind,
     pub(crate) square: bool,
-    pub(crate) depth: u8,
     pub(crate) keyword: Option<Keyword>,
+    // As wide as it is so that the row has no gap, which would be written too.
+    pub(crate) depth: u32,
 }
 
 /// An open node: its row, its delimiter, and how many of its arguments have begun.
@@ -75,17 +76,6 @@ fn position_after(kind: ItemKind) -> Position
     match kind {
         ItemKind::Word => Position::AfterWord,
         ItemKind::Number | ItemKind::Text | ItemKind::Node => Position::AfterItem,
-    }
-}
-
-// The keyword that raw bytes of this kind are.
-#[inline(always)]
-fn keyword_at(kind: ItemKind, raw: &[u8]) -> Option<Keyword>
-    ensures { result ≡ keyword_at kind raw.now }
-{
-    match kind {
-        ItemKind::Number | ItemKind::Text => None,
-        ItemKind::Word | ItemKind::Node => Keyword::of(raw),
     }
 }
 
@@ -161,42 +151,51 @@ impl Table {
     // A number, text or word that is allowed.
     #[tactic(auto, using(crate::proofs::TableLemmas::held_rules))]
     #[inline(always)]
-    fn begin(&mut self, kind: ItemKind, place: usize, raw: &[u8]) -> Result<(), AllocError>
-        requires { may_begin self.old.position self.old.opens kind ≡ true }
+    fn begin(
+        &mut self,
+        kind: ItemKind,
+        place: usize,
+        raw: &[u8],
+        keyword: Option<Keyword>,
+    ) -> Result<(), AllocError>
+        requires allowed { may_begin self.old.position self.old.opens kind ≡ true }
+        requires keyword { keyword ≡ keyword_at kind raw.now }
         ensures ok { OnOk result (self.new ≡ with_leaf self.old kind place raw.now) }
         ensures err { OnErr result (self.new ≡ self.old) }
     {
         self.rows.push(Row {
             kind,
             square: false,
-            depth: self.depth as u8,
+            depth: self.depth as u32,
             place,
             length: raw.len(),
             close: 0,
             count: 0,
             size: 1,
-            keyword: keyword_at(kind, raw),
+            keyword,
         })?;
         self.count_argument();
         self.position = position_after(kind);
         Ok(())
     }
 
-    /// A number, text or word: whether it is allowed, and then its row is there.
+    /// A number, text or word, and the keyword that it is: whether it is allowed, and then its row is there.
     #[inline(always)]
     pub(crate) fn single(
         &mut self,
         kind: ItemKind,
         place: usize,
         raw: &[u8],
+        keyword: Option<Keyword>,
     ) -> Result<bool, AllocError>
+        requires { keyword ≡ keyword_at kind raw.now }
         ensures ok { IfOk result (λ taken. IsStep (flat_single self.old kind place raw.now) taken self.old self.new) }
         ensures err { OnErr result (IsSome (flat_single self.old kind place raw.now) × (self.new ≡ self.old)) }
     {
         if !self.may_begin(kind) {
             return Ok(false);
         }
-        self.begin(kind, place, raw)?;
+        self.begin(kind, place, raw, keyword)?;
         Ok(true)
     }
 
