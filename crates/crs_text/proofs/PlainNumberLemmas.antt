@@ -6,7 +6,7 @@ use Rattle.std.proofs.lemmas.List.{length-append, length-take, append-nil, take-
 use Rattle.std.proofs.lemmas.List.Folds.{list_all-append}
 use Rattle.std.proofs.lemmas.List.Sums.{prefix_len-le-length}
 use Rattle.std.proofs.Math.Nat.{mul-le-mul_right}
-use Rattle.crs_decimal.specs.Spelling.{Sign, sign_text, fraction_text, fraction_digits, Parts, IsForm, AreDigits, mantissa, parts_text, is_digit, is_run_byte, is_run_start, IsRun, SpellsNumber}
+use Rattle.crs_decimal.specs.Spelling.{Sign, unsigned, sign_text, fraction_text, fraction_digits, Parts, IsForm, AreDigits, mantissa, parts_text, is_digit, is_run_byte, is_run_start, IsRun, SpellsNumber}
 use Rattle.crs_decimal.specs.Bounds.{digits_value, Strips, number_of, IsMeasured, IsBounded, IsInBounds}
 use Rattle.crs_decimal.specs.Mantissa.{no_digits, with_digits}
 use Rattle.crs_decimal.proofs.DigitLemmas.{value-below}
@@ -14,7 +14,7 @@ use Rattle.crs_decimal.proofs.MantissaLemmas.{shown, Shows, IsStripped, long_lea
 use Rattle.crs_decimal.proofs.PowerLemmas.{power_grows}
 use Rattle.crs_decimal.proofs.RunLemmas.{form_is_run}
 use Rattle.crs_text.specs.Quoted.{StopsAt, BeginsWith}
-use Rattle.crs_text.specs.Runs.{IsSigned, IsFractional}
+use Rattle.crs_text.specs.Runs.{IsOneDigit, IsSigned, IsFractional}
 use Rattle.crs_text.specs.Lexing.{IsLexed}
 use Rattle.crs_text.specs.declared.lexing.Lexed.TheVariants.{Number}
 use Rattle.crs_text.proofs.LexedLemmas.{prefix_taken}
@@ -126,6 +126,12 @@ plain_lexed left s w f (sign, sign_is, sign_long) w_is some (fraction, fraction_
     omega (arith, sign_long, long, fraction_long, length-append ((sign_text sign ++ whole) ++ fraction_text fraction) [], length-append (sign_text sign ++ whole) (fraction_text fraction), length-append (sign_text sign) whole) in
     number_front left raw rest (s + w + f) split size
     (plain_spelled sign whole fraction digits (omega (arith, long, some)) others (omega (arith, long, few, fraction_long, fraction_short fraction))) ends
+
+-- one digit by itself
+pub one_digit_lexed : (left : List ℕ) → IsOneDigit left → IsLexed left (Number 1)
+one_digit_lexed [] h = absurd h
+one_digit_lexed (b ∷ rest) h =
+    number_front (b ∷ rest) (b ∷ []) rest 1 refl refl (plain_spelled unsigned (b ∷ []) None (and_from _ _ h.0 refl) (omega arith) refl (omega arith)) h.1
 
 -- a period and the digits behind it
 pub fraction_front : (left : List ℕ) (n : ℕ) → left ≡ 46 ∷ drop 1 left → n ≡ prefix_len is_digit (drop 1 left) → IsFractional left (1 + n)

@@ -12,7 +12,7 @@ use Rattle.crs_text.specs.Rows.{Shows, flat}
 use Rattle.crs_text.specs.State.{start, after}
 use Rattle.crs_text.specs.Lexing.{IsLexed, StandsBefore}
 use Rattle.crs_text.specs.Refusal.{RefusedAt}
-use Rattle.crs_text.specs.Scan.{IsReached, IsTaken, IsStopped, IsStoppedBy, IsSingleAt}
+use Rattle.crs_text.specs.Scan.{IsReached, IsPassed, IsTaken, IsStopped, IsStoppedBy, IsSingleAt}
 use Rattle.crs_text.specs.declared.fault.Fault.{Fault}
 use Rattle.crs_text.specs.declared.fault.Fault.TheVariants as faults
 use Rattle.crs_text.specs.declared.refusal.Reason.{Reason}
@@ -186,6 +186,17 @@ reached_next text at n w before behind r t e = record {
       (subst (λ z. IsAfterWhite (drop (at + n) text) z) (drop-drop w (at + n) text) (after_white (drop (at + n) text) w e));
   within = omega (arith, prefix_len-le-length is_white (drop (at + n) text), length-drop (at + n) text, t.within, e);
 }
+
+-- a token that was taken is passed
+pub passed_next : (text : List ℕ) (at n : ℕ) (before behind : Flat) → IsReached text before at → IsTaken text at before behind n → IsPassed text behind (at + n)
+passed_next text at n before behind r t =
+    (reached_next text at n (prefix_len is_white (drop (at + n) text)) before behind r t refl, t.within)
+
+-- so is one that comes right behind it
+pub passed_on : (text : List ℕ) (at n : ℕ) (before behind : Flat) → IsPassed text before at → prefix_len is_white (drop at text) ≡ 0 → IsTaken text at before behind n → IsPassed text behind (at + n)
+passed_on text at n before behind p none t =
+    let e : at + prefix_len is_white (drop at text) ≡ at = omega (arith, none) in
+    passed_next text at n before behind (subst (IsReached text before) e p.0) t
 
 pub refused_at : (text : List ℕ) (at : ℕ) (table : Flat) (r : RefusedAt) → IsReached text table at → IsStopped text at table r → RefusesText text r.number r.place
 refused_at text at table r reached s = record {

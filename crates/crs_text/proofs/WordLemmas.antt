@@ -1,5 +1,5 @@
 -- A word is one of capitals, letter case aside, where it is byte by byte; and the spellings are of capitals.
-use Rattle.std.proofs.Common.{◌≡◌, ℕ, zero, suc, ◌+◌, ◌≤◌, ◌%◌, ◌^◌, cond, nat_le, take, replicate, Fits, w8, ap₂, subst, Option, Some, ◌<◌, ◌↔◌, ◌==◌, ◌&&◌, ◌||◌, nat_eq, bit_and, IsTrue, filter, rules, not, Bool, true, false, if◌then◌else◌, List, [], ◌∷◌, length, map, get_or, refl, sym, ◌∙◌, ap, arith}
+use Rattle.std.proofs.Common.{◌≡◌, ℕ, zero, suc, ◌+◌, ◌≤◌, ◌%◌, ◌^◌, cond, nat_le, take, replicate, Fits, w8, ap₂, subst, Option, None, Some, ◌<◌, ◌↔◌, ◌==◌, ◌&&◌, ◌||◌, nat_eq, bit_and, IsTrue, filter, rules, not, Bool, true, false, if◌then◌else◌, List, [], ◌∷◌, length, map, get_or, refl, sym, ◌∙◌, ap, arith}
 use Rattle.std.proofs.Math.ListN.{get_or-map}
 use Rattle.std.proofs.lemmas.List.{length-map, take_all, take-take}
 use Rattle.std.proofs.lemmas.Simd.{zip2_splat, length-zip2, mask_l-mod, first_set_mask_l}
@@ -13,8 +13,8 @@ use Rattle.std.proofs.lemmas.Bool.{agree_below, agree_below_at, leb-true}
 use Rattle.std.specs.List.{list_all, prefix_len}
 use Rattle.crs_text.specs.declared.keyword.Keyword.{Keyword}
 use Rattle.crs_text.specs.Keywords.{spelling_of, every_keyword, keyword_of}
-use Rattle.crs_text.specs.KeywordTable.{spelled, of_length, is_capital, AreCapitals, AreSpellings, AreSameWithin, IsSuspect, AreSuspects}
-use Rattle.crs_text.proofs.KeywordLemmas.{and-left, and-right, keyword-spelled}
+use Rattle.crs_text.specs.KeywordTable.{spelled, of_length, first_among, is_capital, AreCapitals, AreSpellings, AreSameWithin, IsSuspect, AreSuspects}
+use Rattle.crs_text.proofs.KeywordLemmas.{and-left, and-right, keyword-spelled, keyword_of-table}
 
 same-lists : (xs ys : List ℕ) → length xs ≡ length ys → ((k : ℕ) → k < length xs → get_or xs k 0 ≡ get_or ys k 0) → xs ≡ ys
 same-lists [] [] e at = refl
@@ -90,6 +90,10 @@ are_spellings test (k ∷ ks) e =
 
 pub spellings_of_length : (n : ℕ) → AreSpellings (map spelled (of_length n))
 spellings_of_length n = are_spellings (λ k. length (spelling_of k) == n) every_keyword all_in_capitals
+
+-- no keyword has one letter
+pub no_keyword : (word : List ℕ) → length word ≡ 1 → None ≡ keyword_of word
+no_keyword word e = sym (ap (λ n. first_among (map spelled (of_length n)) word) e) ∙ keyword_of-table word
 
 -- Blocks of a word and of capitals
 

@@ -1,9 +1,10 @@
 -- A bridge: runs that are passed over sixteen bytes at a time.
 use Rattle.std.specs.Prelude.{◌≡◌, ℕ, ◌==◌, ◌&&◌, Bool, if◌then◌else◌, List, ◌∷◌, ◌++◌, drop, length}
-use Rattle.std.specs.Prelude.{Option}
+use Rattle.std.specs.Prelude.{Option, [], IsTrue}
 use Rattle.std.specs.Int.{w64, trailing_zeros}
 use Rattle.std.specs.Char.{is_ascii}
-use Rattle.crs_decimal.specs.Spelling.{Sign, sign_text, fraction_text, fraction_digits, AreDigits}
+use Rattle.crs_decimal.specs.Spelling.{Sign, sign_text, fraction_text, fraction_digits, AreDigits, is_digit, is_run_byte}
+use Rattle.crs_text.specs.Tokens.{is_word_byte}
 use Rattle.crs_text.specs.Quoted.{StopsAt, is_plain, is_quote}
 
 -- an ASCII byte that isn't a quote
@@ -17,6 +18,16 @@ first_set lanes = if lanes == 0 then 16 else trailing_zeros w64 lanes
 -- a quote comes first, and no other after it
 abbrev pub IsClosing : List ℕ → Type 0
 IsClosing bytes = (bytes ≡ 34 ∷ drop 1 bytes) × StopsAt is_quote (drop 1 bytes)
+
+-- a digit comes first, and then no byte of a number
+abbrev pub IsOneDigit : List ℕ → Type 0
+IsOneDigit [] = ⊥
+IsOneDigit (b ∷ rest) = IsTrue (is_digit b) × StopsAt is_run_byte rest
+
+-- a byte comes first, and then none of a word
+abbrev pub IsOneByte : List ℕ → Type 0
+IsOneByte [] = ⊥
+IsOneByte (b ∷ rest) = StopsAt is_word_byte rest
 
 -- a sign of so many bytes comes first, of none where none is written
 abbrev pub IsSigned : List ℕ → ℕ → Type 0

@@ -1,6 +1,7 @@
 -- A bridge: how far the scan has come.
 use Rattle.std.specs.Prelude.{◌≡◌, ℕ, ◌+◌, ◌≤◌, List, [], length, drop, Some}
-use Rattle.crs_text.specs.Tokens.{Kind, Token, single, Forms, Fronts}
+use Rattle.std.specs.List.{prefix_len}
+use Rattle.crs_text.specs.Tokens.{Kind, Token, single, Forms, Fronts, is_white}
 use Rattle.crs_text.specs.TextFault.{reason_number, IsStop, SpellsNode}
 use Rattle.crs_text.specs.Table.{Flat, flat_step, item_kind}
 use Rattle.crs_text.specs.Rows.{Shows, flat}
@@ -18,6 +19,11 @@ pub record IsReached (text : List ℕ) (table : Flat) (at : ℕ) : Type 0 where
   pub shows : Shows tokens table
   pub fronts : Fronts (length text) text tokens (drop at text)
   pub within : at ≤ length text
+
+-- the table shows the tokens before this place, at which white space may come
+abbrev pub IsPassed : List ℕ → Flat → ℕ → Type 0
+IsPassed text table at =
+    IsReached text table (at + prefix_len is_white (drop at text)) × (at ≤ length text)
 
 -- the table takes the token of n bytes at this place
 pub record IsTaken (text : List ℕ) (at : ℕ) (before behind : Flat) (n : ℕ) : Type 0 where

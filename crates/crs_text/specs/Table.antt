@@ -90,10 +90,6 @@ abbrev pub counted : List Open → List Open
 counted [] = []
 counted (o ∷ os) = record o { count = o.count + 1 } ∷ os
 
--- the table with one argument more in the last opened node
-abbrev pub counted_in : Flat → Flat
-counted_in f = record { rows = f.rows; opens = counted f.opens; position = f.position }
-
 -- the table with a row for a single item, as one argument more
 abbrev pub with_leaf : Flat → ItemKind → ℕ → List ℕ → Flat
 with_leaf f kind place raw = record {

@@ -466,6 +466,10 @@ pub(crate) fn front_keyword(left: &[u8], count: usize) -> Option<Keyword>
     requires { count ≤ length left.now }
     ensures { result ≡ keyword_of (take count left.now) }
 {
+    // The shortest keyword has two letters.
+    if count == 1 {
+        return None;
+    }
     match suspected(left, count) {
         Some(keyword) => Some(keyword),
         None => any_keyword(front_of(left, count)),

@@ -5,10 +5,10 @@ ghost use Rattle.crs_text.specs.Quoted.{BeginsWith, IsInside, IsShutAt, StopsAt,
 ghost use Rattle.crs_text.specs.Tokens as tokens;
 ghost use Rattle.crs_decimal.specs.Spelling as spelling;
 ghost use Rattle.crs_text.specs.Lexing.{IsLexed};
-ghost use Rattle.crs_text.specs.Runs.{IsClosing, IsSigned, IsFractional};
+ghost use Rattle.crs_text.specs.Runs.{IsClosing, IsOneByte, IsOneDigit, IsSigned, IsFractional};
 
 use crate::refusal::Reason;
-use crate::runs::{digit_length, ends_run, plain_ascii_length, run_length, word_length};
+use crate::runs::{digit_length, ends_run, is_digit, plain_ascii_length, run_length, word_length};
 use crate::utf8::{Utf8Form, judge};
 use bstr::ByteSlice;
 use crs_decimal::{Decimal, NumberFault};
@@ -222,12 +222,26 @@ fn fraction_length(left: &[u8]) -> usize
     0
 }
 
+// Whether one digit comes first, and then a byte that is behind most such numbers.
+#[inline(always)]
+fn is_one_digit(left: &[u8]) -> bool
+    ensures { IsTrue result → IsOneDigit left.now }
+{
+    match left {
+        [digit, b',' | b']', ..] => is_digit(*digit),
+        _ => false,
+    }
+}
+
 /// The length of the number that begins what is left, if it has digits, no exponent, and few enough digits to be in
 /// bounds whatever they are, as most have.
 #[inline(always)]
 pub(crate) fn plain_number_length(left: &[u8]) -> Option<usize>
     ensures { IfSome result (λ n. IsLexed left.now (Lexed.Number n)) }
 {
+    if is_one_digit(left) {
+        return Some(1);
+    }
     let start = sign_length(left);
     let unsigned = rest_of(left, start);
     let whole = digit_length(unsigned);
@@ -246,12 +260,26 @@ pub(crate) fn plain_number_length(left: &[u8]) -> Option<usize>
     }
 }
 
+// Whether one byte comes first, and then one that is behind most words of one letter.
+#[inline(always)]
+fn is_one_byte(left: &[u8]) -> bool
+    ensures { IsTrue result → IsOneByte left.now }
+{
+    match left {
+        [_, b',' | b'[' | b']', ..] => true,
+        _ => false,
+    }
+}
+
 /// The length of the word that begins what is left.
 #[inline(always)]
 pub(crate) fn single_word_length(left: &[u8]) -> usize
     requires { BeginsWith tokens.is_letter left.now }
     ensures { IsLexed left.now (Lexed.Word result) }
 {
+    if is_one_byte(left) {
+        return 1;
+    }
     word_length(left)
 }
 

@@ -25,7 +25,7 @@ pub(crate) fn is_white(byte: u8) -> bool
 pub(crate) fn is_letter(byte: u8) -> bool
     ensures { result ≡ tokens.is_letter byte }
 {
-    matches!(byte, b'A'..=b'Z' | b'a'..=b'z')
+    (byte | 0x20).wrapping_sub(b'a') < 26
 }
 
 fn is_word_byte(byte: u8) -> bool
@@ -34,7 +34,9 @@ fn is_word_byte(byte: u8) -> bool
     matches!(byte, b'A'..=b'Z' | b'a'..=b'z' | b'0'..=b'9' | b'_')
 }
 
-fn is_digit(byte: u8) -> bool
+/// Whether a byte is a digit.
+#[inline(always)]
+pub(crate) fn is_digit(byte: u8) -> bool
     ensures { result ≡ spelling.is_digit byte }
 {
     matches!(byte, b'0'..=b'9')

@@ -1,9 +1,9 @@
 //! One pass over the text: each token is found, and the table takes it or refuses it.
-ghost use Rattle.std.specs.Prelude.{◌≡◌, ◌+◌, ◌≤◌, ◌<◌, ◌∷◌, length, drop, MatchResult};
+ghost use Rattle.std.specs.Prelude.{◌≡◌, ◌+◌, ◌≤◌, ◌<◌, ◌∷◌, length, drop, true, MatchResult, MatchBool};
 ghost use Rattle.crs_text.specs.Tokens.{Forms, comma, opening, closing, is_white};
 ghost use Rattle.std.specs.List.{prefix_len};
 ghost use Rattle.crs_text.specs.TextFault.{reason_number, IsFlaw, IsTextFault};
-ghost use Rattle.crs_text.specs.Scan.{IsReached, IsTaken, IsStoppedBy, IsSingleAt, IsScanned};
+ghost use Rattle.crs_text.specs.Scan.{IsReached, IsPassed, IsTaken, IsStoppedBy, IsSingleAt, IsScanned};
 ghost use Rattle.crs_text.specs.Items.{keyword_at};
 ghost use Rattle.crs_text.specs.Table.{Flat, is_whole};
 ghost use Rattle.crs_text.specs.Rows.{flat};
@@ -211,6 +211,23 @@ fn take_any(table: &mut Table, text: &[u8], at: usize, taken: &mut usize) -> Res
     take_lexed(table, text, at, token_at(rest_of(text, at)), taken)
 }
 
+// The same, by a count of its own, so that the count of the common tokens is kept in no memory.
+#[inline(always)]
+fn take_other(table: &mut Table, text: &[u8], at: usize, taken: &mut usize) -> Result<(), Fault>
+    requires { at < length text.now }
+    ensures { MatchResult result (λ _. IsTaken text.now at table.old table.new taken.new)
+        (IsStoppedBy text.now at table.old) }
+{
+    let mut count = 0;
+    match take_any(table, text, at, &mut count) {
+        Ok(()) => {
+            *taken = count;
+            Ok(())
+        }
+        Err(fault) => Err(fault),
+    }
+}
+
 #[inline(always)]
 fn take_quoted(table: &mut Table, text: &[u8], at: usize, taken: &mut usize) -> Result<(), Fault>
     requires within { at < length text.now }
@@ -220,7 +237,7 @@ fn take_quoted(table: &mut Table, text: &[u8], at: usize, taken: &mut usize) -> 
 {
     match plain_text_length(rest_of(text, at)) {
         Some(count) => take_text(table, text, at, count, taken),
-        None => take_any(table, text, at, taken),
+        None => take_other(table, text, at, taken),
     }
 }
 
@@ -232,41 +249,60 @@ fn take_run(table: &mut Table, text: &[u8], at: usize, taken: &mut usize) -> Res
 {
     match plain_number_length(rest_of(text, at)) {
         Some(count) => take_number(table, text, at, count, taken),
-        None => take_any(table, text, at, taken),
+        None => take_other(table, text, at, taken),
     }
 }
 
+// What often comes right behind a token, and is then taken with it.
+#[derive(Clone, Copy)]
+enum Behind {
+    Nothing,
+    Comma,
+    OpeningOrComma,
+}
+
 // The token at this place, if the table takes it: by tests in a row, which are predicted better than one jump to many
-// places, and without telling what it is before it is taken.
+// places, and without telling what it is before it is taken. `behind` is a hint.
 #[inline(always)]
-fn take_token(table: &mut Table, text: &[u8], at: usize, taken: &mut usize) -> Result<(), Fault>
+fn take_token(
+    table: &mut Table,
+    text: &[u8],
+    at: usize,
+    taken: &mut usize,
+    behind: &mut Behind,
+) -> Result<(), Fault>
     requires { at < length text.now }
     ensures { MatchResult result (λ _. IsTaken text.now at table.old table.new taken.new)
         (IsStoppedBy text.now at table.old) }
 {
     let first = text[at];
-    if first == b',' {
-        return take_comma(table, text, at, taken);
+    if first == b'"' {
+        *behind = Behind::Comma;
+        return take_quoted(table, text, at, taken);
     }
     if is_letter(first) {
+        *behind = Behind::OpeningOrComma;
         let count = single_word_length(rest_of(text, at));
         return take_word(table, text, at, count, taken);
     }
-    if first == b'"' {
-        return take_quoted(table, text, at, taken);
-    }
-    if first == b'[' {
-        return take_opening(table, text, at, true, taken);
-    }
     if first == b']' {
+        *behind = Behind::Comma;
         return take_closing(table, text, at, true, taken);
+    }
+    if first == b',' {
+        return take_comma(table, text, at, taken);
     }
     if first == b'(' {
         return take_opening(table, text, at, false, taken);
     }
     if first == b')' {
+        *behind = Behind::Comma;
         return take_closing(table, text, at, false, taken);
     }
+    if first == b'[' {
+        return take_opening(table, text, at, true, taken);
+    }
+    *behind = Behind::Comma;
     take_run(table, text, at, taken)
 }
 
@@ -286,7 +322,82 @@ pub(crate) fn after_white(text: &[u8], end: usize) -> usize
     at
 }
 
-/// Takes the token at this place and the white space after it, and moves the place past both.
+#[inline(always)]
+fn takes_comma(table: &mut Table, text: &[u8], at: usize) -> bool
+    requires within { at < length text.now }
+    requires forms { Forms (length text.now) comma (drop at text.now) (drop (at + 1) text.now) }
+    ensures { MatchBool result (IsTaken text.now at table.old table.new 1) (table.new ≡ table.old) }
+{
+    table.comma()
+}
+
+#[inline(always)]
+fn takes_opening(table: &mut Table, text: &[u8], at: usize) -> bool
+    requires within { at < length text.now }
+    requires forms { Forms (length text.now) (opening true) (drop at text.now) (drop (at + 1) text.now) }
+    ensures { MatchBool result (IsTaken text.now at table.old table.new 1) (table.new ≡ table.old) }
+{
+    match table.open(true) {
+        Opened::Taken => true,
+        Opened::TooDeep => false,
+        Opened::Refused => false,
+    }
+}
+
+// The place behind a comma that comes here, if the table takes it.
+#[inline(always)]
+fn past_comma(table: &mut Table, text: &[u8], at: usize) -> usize
+    requires { IsPassed text.now table.old at }
+    ensures passed { IsPassed text.now table.new result }
+    ensures further { at ≤ result }
+{
+    if at == text.len() {
+        return at;
+    }
+    if text[at] != b',' {
+        return at;
+    }
+    if takes_comma(table, text, at) {
+        at + 1
+    } else {
+        at
+    }
+}
+
+// The place behind a square delimiter or a comma that comes here, if the table takes it.
+#[inline(always)]
+fn past_opening(table: &mut Table, text: &[u8], at: usize) -> usize
+    requires { IsPassed text.now table.old at }
+    ensures passed { IsPassed text.now table.new result }
+    ensures further { at ≤ result }
+{
+    if at == text.len() {
+        return at;
+    }
+    if text[at] != b'[' {
+        return past_comma(table, text, at);
+    }
+    if takes_opening(table, text, at) {
+        at + 1
+    } else {
+        at
+    }
+}
+
+#[inline(always)]
+fn past(table: &mut Table, text: &[u8], at: usize, behind: Behind) -> usize
+    requires { IsPassed text.now table.old at }
+    ensures passed { IsPassed text.now table.new result }
+    ensures further { at ≤ result }
+{
+    match behind {
+        Behind::Nothing => at,
+        Behind::Comma => past_comma(table, text, at),
+        Behind::OpeningOrComma => past_opening(table, text, at),
+    }
+}
+
+/// Takes the token at this place, at times the next, too, and the white space behind, and moves the place past them.
 #[inline(always)]
 pub(crate) fn advance(table: &mut Table, text: &[u8], at: &mut usize) -> Result<(), Fault>
     requires more { at.old < length text.now }
@@ -297,9 +408,11 @@ pub(crate) fn advance(table: &mut Table, text: &[u8], at: &mut usize) -> Result<
 {
     let start = *at;
     let mut taken = 0;
-    match take_token(table, text, start, &mut taken) {
+    let mut behind = Behind::Nothing;
+    match take_token(table, text, start, &mut taken, &mut behind) {
         Ok(()) => {
-            *at = after_white(text, start + taken);
+            let end = past(table, text, start + taken, behind);
+            *at = after_white(text, end);
             Ok(())
         }
         Err(fault) => Err(fault),

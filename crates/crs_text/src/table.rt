@@ -1,6 +1,6 @@
 ghost use Rattle.std.specs.Prelude.{◌≡◌, ◌+◌, ◌-◌, ◌<◌, ◌≤◌, ◌&&◌, true, IsSome, IfOk, OnOk, OnErr};
 ghost use Rattle.std.specs.Prelude.{[], length};
-ghost use Rattle.crs_text.specs.Table.{AreRoomy, counted, counted_in, position_after, may_begin, with_leaf};
+ghost use Rattle.crs_text.specs.Table.{position_after, may_begin, with_leaf};
 ghost use Rattle.crs_text.specs.Table.{flat_single, may_go_on, flat_comma, with_open, has_square};
 ghost use Rattle.crs_text.specs.Table.{with_close, flat_close, IsStep, IsOpened, is_whole};
 ghost use Rattle.crs_text.specs.Items.{keyword_at};
@@ -132,22 +132,6 @@ impl Table {
         }
     }
 
-    // One argument more in the last opened node.
-    #[tactic(auto, using(crate::proofs::TableLemmas::held_rules))]
-    #[inline(always)]
-    fn count_argument(&mut self)
-        requires { AreRoomy (length self.old.rows) (counted self.old.opens) }
-        ensures { self.new ≡ counted_in self.old }
-    {
-        if self.depth > 0 {
-            let top = self.opens[self.depth - 1];
-            self.opens[self.depth - 1] = Open {
-                count: top.count + 1,
-                ..top
-            };
-        }
-    }
-
     // A number, text or word that is allowed.
     #[tactic(auto, using(crate::proofs::TableLemmas::held_rules))]
     #[inline(always)]
@@ -163,10 +147,11 @@ impl Table {
         ensures ok { OnOk result (self.new ≡ with_leaf self.old kind place raw.now) }
         ensures err { OnErr result (self.new ≡ self.old) }
     {
+        let depth = self.depth;
         self.rows.push(Row {
             kind,
             square: false,
-            depth: self.depth as u32,
+            depth: depth as u32,
             place,
             length: raw.len(),
             close: 0,
@@ -174,7 +159,9 @@ impl Table {
             size: 1,
             keyword,
         })?;
-        self.count_argument();
+        if depth > 0 {
+            self.opens[depth - 1].count += 1;
+        }
         self.position = position_after(kind);
         Ok(())
     }
@@ -235,11 +222,10 @@ impl Table {
             square,
             ..word
         };
-        self.opens[self.depth] = Open {
-            row: at,
-            square,
-            count: 0,
-        };
+        let open = &mut self.opens[self.depth];
+        open.row = at;
+        open.count = 0;
+        open.square = square;
         self.depth += 1;
         self.position = Position::BeforeItem;
     }
@@ -274,13 +260,10 @@ impl Table {
     {
         let top = self.opens[self.depth - 1];
         let size = self.rows.len() - top.row;
-        let row = self.rows[top.row];
-        self.rows[top.row] = Row {
-            close: place,
-            count: top.count,
-            size,
-            ..row
-        };
+        let row = &mut self.rows[top.row];
+        row.close = place;
+        row.count = top.count;
+        row.size = size;
         self.depth -= 1;
         self.position = Position::AfterItem;
     }

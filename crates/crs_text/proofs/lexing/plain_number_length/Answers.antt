@@ -3,7 +3,7 @@ use Rattle.std.specs.List.{prefix_len}
 use Rattle.crs_decimal.specs.Spelling.{is_digit, is_run_byte}
 use Rattle.crs_text.specs.Quoted.{StopsAt}
 use Rattle.crs_text.specs.Runs.{IsFractional}
-use Rattle.crs_text.proofs.PlainNumberLemmas.{plain_lexed}
+use Rattle.crs_text.proofs.PlainNumberLemmas.{plain_lexed, one_digit_lexed}
 use Rattle.crs_text.proofs.lexing.plain_number_length.Goals as goal
 
 pub returns-then-ends_run : goal.returns-then-ends_run
@@ -15,3 +15,6 @@ returns-then-ends_run c =
     plain_lexed c.args.left.now s w f c.sign_length-start.ensures.signed (c.digit_length-whole.ensures.value ∙ ap (prefix_len is_digit) c.rest_of-unsigned.ensures) (omega (arith, c.if-whole-eq0.false))
     (subst (λ z. IsFractional z f) behind c.fraction_length-fraction.ensures.fraction) (omega (arith, c.if-whole-fraction-gt-PLAIN_LIMIT.false))
     (subst (StopsAt is_run_byte) (c.rest_of.ensures ∙ ap (drop f) behind) (c.ends_run.ensures c.if-ends_run.true))
+
+pub returns-then-is_one_digit : goal.returns-then-is_one_digit
+returns-then-is_one_digit c = one_digit_lexed c.args.left.now (c.is_one_digit.ensures c.if-is_one_digit.true)

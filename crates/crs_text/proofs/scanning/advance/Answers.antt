@@ -2,15 +2,18 @@ use Rattle.std.proofs.Common.{◌+◌, refl, sym, subst, arith, drop}
 use Rattle.std.specs.List.{prefix_len}
 use Rattle.crs_text.specs.Tokens.{is_white}
 use Rattle.crs_text.specs.Scan.{IsReached}
-use Rattle.crs_text.proofs.ScanLemmas.{reached_next, taken_some, fault_of_stop}
+use Rattle.crs_text.proofs.ScanLemmas.{passed_next, taken_some, fault_of_stop}
 use Rattle.crs_text.proofs.scanning.advance.Goals as goal
 
+pub past-end-requires : goal.past-end-requires
+past-end-requires c =
+    passed_next c.args.text.now c.args.at.now c.take_token.new.taken c.args.table.now c.take_token.new.table c.requires.reached c.in-Ok.ensures
+
 pub returns-in-Ok : goal.returns-in-Ok
-returns-in-Ok c =
-    let r = reached_next c.args.text.now c.args.at.now c.take_token.new.taken (prefix_len is_white (drop (c.args.at.now + c.take_token.new.taken) c.args.text.now)) c.args.table.now c.take_token.new.table c.requires.reached c.in-Ok.ensures refl in (
-      subst (IsReached c.args.text.now c.take_token.new.table) (sym c.after_white.ensures) r,
-      omega (arith, taken_some c.args.text.now c.args.at.now c.take_token.new.taken c.args.table.now c.take_token.new.table c.in-Ok.ensures, c.after_white.ensures),
-    )
+returns-in-Ok c = (
+  subst (IsReached c.args.text.now c.past-end.new.table) (sym c.after_white.ensures) c.past-end.ensures.passed.0,
+  omega (arith, taken_some c.args.text.now c.args.at.now c.take_token.new.taken c.args.table.now c.take_token.new.table c.in-Ok.ensures, c.after_white.ensures, c.past-end.ensures.further),
+)
 
 pub returns-in-Err : goal.returns-in-Err
 returns-in-Err c = fault_of_stop c.args.text.now c.args.at.now c.args.table.now c.in-Err.fault c.requires.reached c.in-Err.ensures
