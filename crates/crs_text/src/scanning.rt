@@ -211,7 +211,7 @@ fn take_any(table: &mut Table, text: &[u8], at: usize, taken: &mut usize) -> Res
     take_lexed(table, text, at, token_at(rest_of(text, at)), taken)
 }
 
-// The same, by a count of its own, so that the count of the common tokens is kept in no memory.
+// The same with a count of its own, so that the count of common tokens can stay in a register.
 #[inline(always)]
 fn take_other(table: &mut Table, text: &[u8], at: usize, taken: &mut usize) -> Result<(), Fault>
     requires { at < length text.now }
@@ -397,7 +397,7 @@ fn past(table: &mut Table, text: &[u8], at: usize, behind: Behind) -> usize
     }
 }
 
-/// Takes the token at this place, at times the next, too, and the white space behind, and moves the place past them.
+/// Takes the token at this place, and a comma or a delimiter right behind it; moves the place past them and white space.
 #[inline(always)]
 pub(crate) fn advance(table: &mut Table, text: &[u8], at: &mut usize) -> Result<(), Fault>
     requires more { at.old < length text.now }

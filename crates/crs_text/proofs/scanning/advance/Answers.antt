@@ -1,6 +1,4 @@
-use Rattle.std.proofs.Common.{◌+◌, refl, sym, subst, arith, drop}
-use Rattle.std.specs.List.{prefix_len}
-use Rattle.crs_text.specs.Tokens.{is_white}
+use Rattle.std.proofs.Common.{sym, subst, arith}
 use Rattle.crs_text.specs.Scan.{IsReached}
 use Rattle.crs_text.proofs.ScanLemmas.{passed_next, taken_some, fault_of_stop}
 use Rattle.crs_text.proofs.scanning.advance.Goals as goal
