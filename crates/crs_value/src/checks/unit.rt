@@ -203,7 +203,8 @@ fn fits_as(
         AllAsk (item_at items.now cs) (those class Class.Axis (arguments (item_at items.now crs))) kind
         × Fits (item_at items.now unit) kind) }
 {
-    all_ask(items, crs, class, cs, kind) && fits(items, unit, kind)
+    // Mostly the unit says its kind, which is asked first: then the axes are asked for that kind alone.
+    fits(items, unit, kind) && all_ask(items, crs, class, cs, kind)
 }
 
 fn shared_fits(items: &Items<'_>, crs: ItemId, class: Class, cs: ItemId, unit: ItemId) -> bool
