@@ -9,7 +9,7 @@ ghost use Rattle.crs_value.specs.Reading.{item_at};
 
 use crate::checks::own::{own, own_of_part};
 use crate::sound::conversion::Conversion;
-use crate::sound::frame::{Frame, Meridian, VerticalFrame};
+use crate::sound::frame::{Dynamic, Frame, Meridian, VerticalFrame};
 use crate::sound::ident::{GeoidModel, Ident};
 use crate::sound::system::{Axis, System};
 use crate::sound::unit::{Angle, AxisUnit};
@@ -18,7 +18,7 @@ use crate::sound::walk::{Part, any, is_end, is_node, is_unbroken, leaf, one, opt
 use crs_shape::{Class, class_at_root, laws};
 use crs_text::{ItemId, ItemKind, Items, Keyword};
 
-// What a vertical CRS may end with, but for an extent in height.
+// What a vertical CRS may end with.
 pub(crate) struct VerticalTail;
 
 impl Part for VerticalTail {
@@ -33,6 +33,7 @@ impl Part for VerticalTail {
         × (stand (keywords.Scope ∷ []) (is_same classes.Scope) c slot ≡ true)
         × (stand (keywords.Area ∷ []) (is_same classes.Area) c slot ≡ true)
         × (stand (keywords.BBox ∷ []) (is_same classes.BoundingBox) c slot ≡ true)
+        × (stand (keywords.VerticalExtent ∷ []) (is_same classes.VerticalExtent) c slot ≡ true)
         × (stand (keywords.Usage ∷ []) (is_same classes.Usage) c slot ≡ true)
         × (stand (keywords.Remark ∷ []) (is_same classes.Remark) c slot ≡ true)) };
 
@@ -44,7 +45,7 @@ impl Part for VerticalTail {
     }
 }
 
-// Whether the arguments are those of a geodetic or geographic CRS that isn't dynamic.
+// Whether the arguments are those of a geodetic or geographic CRS.
 fn fills_geodetic(items: &Items<'_>, id: ItemId) -> bool
     requires { HasId items.now id }
     ensures geodetic { IsTrue result → Fill Class.GeodeticCrs (slots_of Class.GeodeticCrs)
@@ -55,7 +56,8 @@ fn fills_geodetic(items: &Items<'_>, id: ItemId) -> bool
     let Some(named) = leaf(items, items.arg(id, 0), ItemKind::Text) else {
         return false;
     };
-    let Some(frame) = one::<Frame>(items, named) else {
+    let dynamic = optional::<Dynamic>(items, named);
+    let Some(frame) = one::<Frame>(items, dynamic) else {
         return false;
     };
     let meridian = optional::<Meridian>(items, frame);
@@ -76,7 +78,7 @@ fn is_base(keyword: Option<Keyword>) -> bool
     matches!(keyword, Some(Keyword::BaseGeogCrs | Keyword::BaseGeodCrs))
 }
 
-// Whether the arguments are those of a base CRS that isn't dynamic.
+// Whether the arguments are those of a base CRS.
 fn fills_base(items: &Items<'_>, id: ItemId) -> bool
     requires { HasId items.now id }
     ensures { IsTrue result → Fill Class.BaseCrs (slots_of Class.BaseCrs) (arguments (item_at items.now id)) }
@@ -84,7 +86,8 @@ fn fills_base(items: &Items<'_>, id: ItemId) -> bool
     let Some(named) = leaf(items, items.arg(id, 0), ItemKind::Text) else {
         return false;
     };
-    let Some(frame) = one::<Frame>(items, named) else {
+    let dynamic = optional::<Dynamic>(items, named);
+    let Some(frame) = one::<Frame>(items, dynamic) else {
         return false;
     };
     let meridian = optional::<Meridian>(items, frame);
@@ -93,7 +96,7 @@ fn fills_base(items: &Items<'_>, id: ItemId) -> bool
     is_end(end)
 }
 
-// A base CRS that isn't dynamic.
+// A base CRS.
 pub(crate) struct Base;
 
 impl Part for Base {
@@ -184,7 +187,7 @@ fn is_vertical(keyword: Option<Keyword>) -> bool
     matches!(keyword, Some(Keyword::VertCrs | Keyword::VerticalCrs))
 }
 
-// Whether the arguments are those of a vertical CRS that isn't dynamic.
+// Whether the arguments are those of a vertical CRS.
 fn fills_vertical(items: &Items<'_>, id: ItemId) -> bool
     requires { HasId items.now id }
     ensures { IsTrue result → Fill Class.VerticalCrs (slots_of Class.VerticalCrs)
@@ -193,7 +196,8 @@ fn fills_vertical(items: &Items<'_>, id: ItemId) -> bool
     let Some(named) = leaf(items, items.arg(id, 0), ItemKind::Text) else {
         return false;
     };
-    let Some(frame) = one::<VerticalFrame>(items, named) else {
+    let dynamic = optional::<Dynamic>(items, named);
+    let Some(frame) = one::<VerticalFrame>(items, dynamic) else {
         return false;
     };
     let Some(system) = one::<System>(items, frame) else {
@@ -207,7 +211,7 @@ fn fills_vertical(items: &Items<'_>, id: ItemId) -> bool
     is_end(end)
 }
 
-// A vertical CRS that isn't dynamic.
+// A vertical CRS.
 pub(crate) struct Vertical;
 
 impl Part for Vertical {

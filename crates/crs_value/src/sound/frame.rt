@@ -7,8 +7,8 @@ ghost use Rattle.crs_value.specs.Filling.{Fill, is_one};
 ghost use Rattle.crs_value.specs.Reading.{item_at};
 
 use crate::checks::own::own_of_part;
-use crate::sound::ident::{Ident, Member};
-use crate::sound::single::{Accuracy, Anchor};
+use crate::sound::ident::{DeformationModel, Ident, Member};
+use crate::sound::single::{Accuracy, Anchor, AnchorEpoch, FrameEpoch};
 use crate::sound::unit::{Angle, Length};
 use crate::sound::walk::{Part, any, is_end, is_node, is_unbroken, leaf, one, optional, some};
 use crs_shape::{Class, laws};
@@ -116,6 +116,27 @@ impl Part for Meridian {
     }
 }
 
+// An anchor or its epoch.
+pub(crate) struct Tie;
+
+impl Part for Tie {
+    ghost use Rattle.std.specs.Prelude.{◌≡◌, true, [], ◌∷◌};
+    ghost use Rattle.crs_text.specs.declared.keyword.Keyword.TheVariants as keywords;
+    ghost use Rattle.crs_shape.specs.declared.class.Class.TheVariants as classes;
+    ghost use Rattle.crs_value.specs.Filling.{stand};
+    ghost use Rattle.crs_value.specs.Reading.{is_same};
+
+    ghost Stands = { λ c slot. (stand (keywords.Anchor ∷ []) (is_same classes.Anchor) c slot ≡ true)
+        × (stand (keywords.AnchorEpoch ∷ []) (is_same classes.AnchorEpoch) c slot ≡ true) };
+
+    fn is(items: &Items<'_>, id: ItemId) -> bool {
+        if Anchor::is(items, id) {
+            return true;
+        }
+        AnchorEpoch::is(items, id)
+    }
+}
+
 fn is_datum(keyword: Option<Keyword>) -> bool
     ensures { result ≡ is_one (Keyword.Datum ∷ Keyword.Trf ∷ Keyword.GeodeticDatum ∷ []) keyword }
 {
@@ -125,7 +146,7 @@ fn is_datum(keyword: Option<Keyword>) -> bool
     )
 }
 
-// Whether the arguments are those of a geodetic reference frame, without an epoch of its anchor.
+// Whether the arguments are those of a geodetic reference frame.
 fn fills_datum(items: &Items<'_>, id: ItemId) -> bool
     requires { HasId items.now id }
     ensures { IsTrue result → Fill Class.GeodeticFrame (slots_of Class.GeodeticFrame)
@@ -137,12 +158,12 @@ fn fills_datum(items: &Items<'_>, id: ItemId) -> bool
     let Some(ellipsoid) = one::<Ellipsoid>(items, named) else {
         return false;
     };
-    let anchors = any::<Anchor>(items, ellipsoid);
-    let end = any::<Ident>(items, anchors);
+    let ties = any::<Tie>(items, ellipsoid);
+    let end = any::<Ident>(items, ties);
     is_end(end)
 }
 
-// A geodetic reference frame, without an epoch of its anchor.
+// A geodetic reference frame.
 pub(crate) struct Datum;
 
 impl Part for Datum {
@@ -179,7 +200,7 @@ fn is_vertical_datum(keyword: Option<Keyword>) -> bool
     )
 }
 
-// Whether the arguments are those of a vertical reference frame, without an epoch of its anchor.
+// Whether the arguments are those of a vertical reference frame.
 fn fills_vertical_datum(items: &Items<'_>, id: ItemId) -> bool
     requires { HasId items.now id }
     ensures { IsTrue result → Fill Class.VerticalFrame (slots_of Class.VerticalFrame)
@@ -188,12 +209,12 @@ fn fills_vertical_datum(items: &Items<'_>, id: ItemId) -> bool
     let Some(named) = leaf(items, items.arg(id, 0), ItemKind::Text) else {
         return false;
     };
-    let anchors = any::<Anchor>(items, named);
-    let end = any::<Ident>(items, anchors);
+    let ties = any::<Tie>(items, named);
+    let end = any::<Ident>(items, ties);
     is_end(end)
 }
 
-// A vertical reference frame, without an epoch of its anchor.
+// A vertical reference frame.
 pub(crate) struct VerticalDatum;
 
 impl Part for VerticalDatum {
@@ -365,5 +386,47 @@ impl Part for VerticalFrame {
             return true;
         }
         VerticalEnsemble::is(items, id)
+    }
+}
+
+fn is_dynamic(keyword: Option<Keyword>) -> bool
+    ensures { result ≡ is_one (Keyword.Dynamic ∷ []) keyword }
+{
+    matches!(keyword, Some(Keyword::Dynamic))
+}
+
+// Whether the arguments are those of a dynamic part.
+fn fills_dynamic(items: &Items<'_>, id: ItemId) -> bool
+    requires { HasId items.now id }
+    ensures { IsTrue result → Fill Class.Dynamic (slots_of Class.Dynamic) (arguments (item_at items.now id)) }
+{
+    let Some(epoch) = one::<FrameEpoch>(items, items.arg(id, 0)) else {
+        return false;
+    };
+    let end = optional::<DeformationModel>(items, epoch);
+    is_end(end)
+}
+
+// A dynamic part.
+pub(crate) struct Dynamic;
+
+impl Part for Dynamic {
+    ghost use Rattle.std.specs.Prelude.{◌≡◌, true, [], ◌∷◌};
+    ghost use Rattle.crs_text.specs.declared.keyword.Keyword.TheVariants as keywords;
+    ghost use Rattle.crs_shape.specs.declared.class.Class.TheVariants as classes;
+    ghost use Rattle.crs_value.specs.Filling.{stand};
+    ghost use Rattle.crs_value.specs.Reading.{is_same};
+
+    ghost Stands = { λ c slot. stand (keywords.Dynamic ∷ []) (is_same classes.Dynamic) c slot ≡ true };
+
+    fn is(items: &Items<'_>, id: ItemId) -> bool {
+        laws::keywords_name_classes();
+        if !is_node(items, id) {
+            return false;
+        }
+        if !is_dynamic(items.keyword(id)) {
+            return false;
+        }
+        fills_dynamic(items, id)
     }
 }

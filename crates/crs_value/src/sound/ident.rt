@@ -2,11 +2,12 @@
 ghost use Rattle.std.specs.Prelude.{◌≡◌, IfSome, IsTrue, true, false, [], ◌∷◌};
 ghost use Rattle.crs_text.specs.Items.{HasId, arguments};
 ghost use Rattle.crs_shape.specs.declared.class.Class.{Class};
-ghost use Rattle.crs_shape.specs.Slots.{SlotParts, slots_of};
-ghost use Rattle.crs_value.specs.Filling.{Fill, Passes, is_one, takes_leaf};
-ghost use Rattle.crs_value.specs.Reading.{item_at, Holds};
+ghost use Rattle.crs_shape.specs.Slots.{SlotParts, any, named_slots, slots_of};
+ghost use Rattle.crs_value.specs.Filling.{Fill, Passes, is_one, stand, takes_leaf};
+ghost use Rattle.crs_value.specs.Reading.{item_at, is_same, Holds};
 
-use crate::sound::walk::{Part, any, is_end, is_node, leaf};
+use crate::sound::single::{Citation, Uri};
+use crate::sound::walk::{Part, any, is_end, is_node, leaf, optional};
 use crs_shape::{Class, laws};
 use crs_text::{ItemId, ItemKind, Items, Keyword};
 
@@ -46,7 +47,7 @@ fn is_ident(keyword: Option<Keyword>) -> bool
     matches!(keyword, Some(Keyword::Id))
 }
 
-// Whether the arguments are those of an identifier, without citation and URI.
+// Whether the arguments are those of an identifier.
 fn fills_ident(items: &Items<'_>, id: ItemId) -> bool
     requires { HasId items.now id }
     ensures { IsTrue result → Fill Class.Identifier (slots_of Class.Identifier)
@@ -58,11 +59,13 @@ fn fills_ident(items: &Items<'_>, id: ItemId) -> bool
     let Some(rest) = value(items, code) else {
         return false;
     };
-    let end = version(items, rest);
+    let versioned = version(items, rest);
+    let cited = optional::<Citation>(items, versioned);
+    let end = optional::<Uri>(items, cited);
     is_end(end)
 }
 
-// An identifier, without citation and URI.
+// An identifier.
 pub(crate) struct Ident;
 
 impl Part for Ident {
@@ -86,22 +89,24 @@ impl Part for Ident {
     }
 }
 
-fn is_member(keyword: Option<Keyword>) -> bool
-    ensures { result ≡ is_one (Keyword.Member ∷ []) keyword }
-{
-    matches!(keyword, Some(Keyword::Member))
-}
-
-// Whether the arguments are those of a member of an ensemble.
-fn fills_member(items: &Items<'_>, id: ItemId) -> bool
+// Whether the arguments are a name and identifiers.
+fn fills_named(items: &Items<'_>, id: ItemId) -> bool
     requires { HasId items.now id }
-    ensures { IsTrue result → Fill Class.Member (slots_of Class.Member) (arguments (item_at items.now id)) }
+    ensures { IsTrue result → (c : Class) →
+        stand (Keyword.Id ∷ []) (is_same Class.Identifier) c (any Class.Identifier) ≡ true →
+        Fill c named_slots (arguments (item_at items.now id)) }
 {
     let Some(named) = leaf(items, items.arg(id, 0), ItemKind::Text) else {
         return false;
     };
     let end = any::<Ident>(items, named);
     is_end(end)
+}
+
+fn is_member(keyword: Option<Keyword>) -> bool
+    ensures { result ≡ is_one (Keyword.Member ∷ []) keyword }
+{
+    matches!(keyword, Some(Keyword::Member))
 }
 
 // A member of an ensemble.
@@ -124,7 +129,7 @@ impl Part for Member {
         if !is_member(items.keyword(id)) {
             return false;
         }
-        fills_member(items, id)
+        fills_named(items, id)
     }
 }
 
@@ -132,18 +137,6 @@ fn is_method(keyword: Option<Keyword>) -> bool
     ensures { result ≡ is_one (Keyword.Method ∷ Keyword.Projection ∷ []) keyword }
 {
     matches!(keyword, Some(Keyword::Method | Keyword::Projection))
-}
-
-// Whether the arguments are those of a method.
-fn fills_method(items: &Items<'_>, id: ItemId) -> bool
-    requires { HasId items.now id }
-    ensures { IsTrue result → Fill Class.Method (slots_of Class.Method) (arguments (item_at items.now id)) }
-{
-    let Some(named) = leaf(items, items.arg(id, 0), ItemKind::Text) else {
-        return false;
-    };
-    let end = any::<Ident>(items, named);
-    is_end(end)
 }
 
 // A method.
@@ -167,7 +160,7 @@ impl Part for Method {
         if !is_method(items.keyword(id)) {
             return false;
         }
-        fills_method(items, id)
+        fills_named(items, id)
     }
 }
 
@@ -175,19 +168,6 @@ fn is_geoid_model(keyword: Option<Keyword>) -> bool
     ensures { result ≡ is_one (Keyword.GeoidModel ∷ []) keyword }
 {
     matches!(keyword, Some(Keyword::GeoidModel))
-}
-
-// Whether the arguments are those of a geoid model.
-fn fills_geoid_model(items: &Items<'_>, id: ItemId) -> bool
-    requires { HasId items.now id }
-    ensures { IsTrue result → Fill Class.GeoidModel (slots_of Class.GeoidModel)
-        (arguments (item_at items.now id)) }
-{
-    let Some(named) = leaf(items, items.arg(id, 0), ItemKind::Text) else {
-        return false;
-    };
-    let end = any::<Ident>(items, named);
-    is_end(end)
 }
 
 // A geoid model.
@@ -210,6 +190,36 @@ impl Part for GeoidModel {
         if !is_geoid_model(items.keyword(id)) {
             return false;
         }
-        fills_geoid_model(items, id)
+        fills_named(items, id)
+    }
+}
+
+fn is_model(keyword: Option<Keyword>) -> bool
+    ensures { result ≡ is_one (Keyword.Model ∷ Keyword.VelocityGrid ∷ []) keyword }
+{
+    matches!(keyword, Some(Keyword::Model | Keyword::VelocityGrid))
+}
+
+// A deformation model.
+pub(crate) struct DeformationModel;
+
+impl Part for DeformationModel {
+    ghost use Rattle.std.specs.Prelude.{◌≡◌, true, [], ◌∷◌};
+    ghost use Rattle.crs_text.specs.declared.keyword.Keyword.TheVariants as keywords;
+    ghost use Rattle.crs_shape.specs.declared.class.Class.TheVariants as classes;
+    ghost use Rattle.crs_value.specs.Filling.{stand};
+    ghost use Rattle.crs_value.specs.Reading.{is_same};
+
+    ghost Stands = { λ c slot. stand (keywords.Model ∷ keywords.VelocityGrid ∷ []) (is_same classes.DeformationModel) c slot ≡ true };
+
+    fn is(items: &Items<'_>, id: ItemId) -> bool {
+        laws::keywords_name_classes();
+        if !is_node(items, id) {
+            return false;
+        }
+        if !is_model(items.keyword(id)) {
+            return false;
+        }
+        fills_named(items, id)
     }
 }

@@ -2,29 +2,30 @@
 ghost use Rattle.std.specs.Prelude.{◌≡◌, IsTrue, true, false, [], ◌∷◌};
 ghost use Rattle.crs_text.specs.Items.{HasId, arguments};
 ghost use Rattle.crs_shape.specs.declared.class.Class.{Class};
-ghost use Rattle.crs_shape.specs.Slots.{slots_of};
-ghost use Rattle.crs_value.specs.Filling.{Fill, is_one};
+ghost use Rattle.crs_shape.specs.Slots.{SlotParts};
+ghost use Rattle.crs_value.specs.Filling.{Fill, is_one, takes_leaf};
 ghost use Rattle.crs_value.specs.Reading.{item_at};
 
 use crate::sound::walk::{Part, is_end, is_node, leaf};
 use crs_shape::{Class, laws};
 use crs_text::{ItemId, ItemKind, Items, Keyword};
 
+// Whether the one argument is of this kind.
+fn fills_leaf(items: &Items<'_>, id: ItemId, kind: ItemKind) -> bool
+    requires { HasId items.now id }
+    ensures { IsTrue result → (c : Class) (slot : SlotParts) → takes_leaf slot kind ≡ true →
+        Fill c (slot ∷ []) (arguments (item_at items.now id)) }
+{
+    let Some(end) = leaf(items, items.arg(id, 0), kind) else {
+        return false;
+    };
+    is_end(end)
+}
+
 fn is_scope(keyword: Option<Keyword>) -> bool
     ensures { result ≡ is_one (Keyword.Scope ∷ []) keyword }
 {
     matches!(keyword, Some(Keyword::Scope))
-}
-
-// Whether the arguments are those of a scope.
-fn fills_scope(items: &Items<'_>, id: ItemId) -> bool
-    requires { HasId items.now id }
-    ensures { IsTrue result → Fill Class.Scope (slots_of Class.Scope) (arguments (item_at items.now id)) }
-{
-    let Some(end) = leaf(items, items.arg(id, 0), ItemKind::Text) else {
-        return false;
-    };
-    is_end(end)
 }
 
 // A scope.
@@ -47,7 +48,7 @@ impl Part for Scope {
         if !is_scope(items.keyword(id)) {
             return false;
         }
-        fills_scope(items, id)
+        fills_leaf(items, id, ItemKind::Text)
     }
 }
 
@@ -55,17 +56,6 @@ fn is_area(keyword: Option<Keyword>) -> bool
     ensures { result ≡ is_one (Keyword.Area ∷ []) keyword }
 {
     matches!(keyword, Some(Keyword::Area))
-}
-
-// Whether the arguments are those of an area.
-fn fills_area(items: &Items<'_>, id: ItemId) -> bool
-    requires { HasId items.now id }
-    ensures { IsTrue result → Fill Class.Area (slots_of Class.Area) (arguments (item_at items.now id)) }
-{
-    let Some(end) = leaf(items, items.arg(id, 0), ItemKind::Text) else {
-        return false;
-    };
-    is_end(end)
 }
 
 // An area.
@@ -88,7 +78,7 @@ impl Part for Area {
         if !is_area(items.keyword(id)) {
             return false;
         }
-        fills_area(items, id)
+        fills_leaf(items, id, ItemKind::Text)
     }
 }
 
@@ -96,17 +86,6 @@ fn is_remark(keyword: Option<Keyword>) -> bool
     ensures { result ≡ is_one (Keyword.Remark ∷ []) keyword }
 {
     matches!(keyword, Some(Keyword::Remark))
-}
-
-// Whether the arguments are those of a remark.
-fn fills_remark(items: &Items<'_>, id: ItemId) -> bool
-    requires { HasId items.now id }
-    ensures { IsTrue result → Fill Class.Remark (slots_of Class.Remark) (arguments (item_at items.now id)) }
-{
-    let Some(end) = leaf(items, items.arg(id, 0), ItemKind::Text) else {
-        return false;
-    };
-    is_end(end)
 }
 
 // A remark.
@@ -129,7 +108,7 @@ impl Part for Remark {
         if !is_remark(items.keyword(id)) {
             return false;
         }
-        fills_remark(items, id)
+        fills_leaf(items, id, ItemKind::Text)
     }
 }
 
@@ -137,17 +116,6 @@ fn is_anchor(keyword: Option<Keyword>) -> bool
     ensures { result ≡ is_one (Keyword.Anchor ∷ []) keyword }
 {
     matches!(keyword, Some(Keyword::Anchor))
-}
-
-// Whether the arguments are those of an anchor.
-fn fills_anchor(items: &Items<'_>, id: ItemId) -> bool
-    requires { HasId items.now id }
-    ensures { IsTrue result → Fill Class.Anchor (slots_of Class.Anchor) (arguments (item_at items.now id)) }
-{
-    let Some(end) = leaf(items, items.arg(id, 0), ItemKind::Text) else {
-        return false;
-    };
-    is_end(end)
 }
 
 // An anchor.
@@ -170,7 +138,7 @@ impl Part for Anchor {
         if !is_anchor(items.keyword(id)) {
             return false;
         }
-        fills_anchor(items, id)
+        fills_leaf(items, id, ItemKind::Text)
     }
 }
 
@@ -178,17 +146,6 @@ fn is_order(keyword: Option<Keyword>) -> bool
     ensures { result ≡ is_one (Keyword.Order ∷ []) keyword }
 {
     matches!(keyword, Some(Keyword::Order))
-}
-
-// Whether the arguments are those of an order.
-fn fills_order(items: &Items<'_>, id: ItemId) -> bool
-    requires { HasId items.now id }
-    ensures { IsTrue result → Fill Class.Order (slots_of Class.Order) (arguments (item_at items.now id)) }
-{
-    let Some(end) = leaf(items, items.arg(id, 0), ItemKind::Number) else {
-        return false;
-    };
-    is_end(end)
 }
 
 // An order.
@@ -211,7 +168,7 @@ impl Part for Order {
         if !is_order(items.keyword(id)) {
             return false;
         }
-        fills_order(items, id)
+        fills_leaf(items, id, ItemKind::Number)
     }
 }
 
@@ -219,18 +176,6 @@ fn is_accuracy(keyword: Option<Keyword>) -> bool
     ensures { result ≡ is_one (Keyword.EnsembleAccuracy ∷ []) keyword }
 {
     matches!(keyword, Some(Keyword::EnsembleAccuracy))
-}
-
-// Whether the arguments are those of an accuracy.
-fn fills_accuracy(items: &Items<'_>, id: ItemId) -> bool
-    requires { HasId items.now id }
-    ensures { IsTrue result → Fill Class.EnsembleAccuracy (slots_of Class.EnsembleAccuracy)
-        (arguments (item_at items.now id)) }
-{
-    let Some(end) = leaf(items, items.arg(id, 0), ItemKind::Number) else {
-        return false;
-    };
-    is_end(end)
 }
 
 // An accuracy.
@@ -254,6 +199,126 @@ impl Part for Accuracy {
         if !is_accuracy(items.keyword(id)) {
             return false;
         }
-        fills_accuracy(items, id)
+        fills_leaf(items, id, ItemKind::Number)
+    }
+}
+
+fn is_citation(keyword: Option<Keyword>) -> bool
+    ensures { result ≡ is_one (Keyword.Citation ∷ []) keyword }
+{
+    matches!(keyword, Some(Keyword::Citation))
+}
+
+// A citation.
+pub(crate) struct Citation;
+
+impl Part for Citation {
+    ghost use Rattle.std.specs.Prelude.{◌≡◌, true, [], ◌∷◌};
+    ghost use Rattle.crs_text.specs.declared.keyword.Keyword.TheVariants as keywords;
+    ghost use Rattle.crs_shape.specs.declared.class.Class.TheVariants as classes;
+    ghost use Rattle.crs_value.specs.Filling.{stand};
+    ghost use Rattle.crs_value.specs.Reading.{is_same};
+
+    ghost Stands = { λ c slot. stand (keywords.Citation ∷ []) (is_same classes.Citation) c slot ≡ true };
+
+    fn is(items: &Items<'_>, id: ItemId) -> bool {
+        laws::keywords_name_classes();
+        if !is_node(items, id) {
+            return false;
+        }
+        if !is_citation(items.keyword(id)) {
+            return false;
+        }
+        fills_leaf(items, id, ItemKind::Text)
+    }
+}
+
+fn is_uri(keyword: Option<Keyword>) -> bool
+    ensures { result ≡ is_one (Keyword.Uri ∷ []) keyword }
+{
+    matches!(keyword, Some(Keyword::Uri))
+}
+
+// A URI.
+pub(crate) struct Uri;
+
+impl Part for Uri {
+    ghost use Rattle.std.specs.Prelude.{◌≡◌, true, [], ◌∷◌};
+    ghost use Rattle.crs_text.specs.declared.keyword.Keyword.TheVariants as keywords;
+    ghost use Rattle.crs_shape.specs.declared.class.Class.TheVariants as classes;
+    ghost use Rattle.crs_value.specs.Filling.{stand};
+    ghost use Rattle.crs_value.specs.Reading.{is_same};
+
+    ghost Stands = { λ c slot. stand (keywords.Uri ∷ []) (is_same classes.Uri) c slot ≡ true };
+
+    fn is(items: &Items<'_>, id: ItemId) -> bool {
+        laws::keywords_name_classes();
+        if !is_node(items, id) {
+            return false;
+        }
+        if !is_uri(items.keyword(id)) {
+            return false;
+        }
+        fills_leaf(items, id, ItemKind::Text)
+    }
+}
+
+fn is_anchor_epoch(keyword: Option<Keyword>) -> bool
+    ensures { result ≡ is_one (Keyword.AnchorEpoch ∷ []) keyword }
+{
+    matches!(keyword, Some(Keyword::AnchorEpoch))
+}
+
+// The epoch of an anchor.
+pub(crate) struct AnchorEpoch;
+
+impl Part for AnchorEpoch {
+    ghost use Rattle.std.specs.Prelude.{◌≡◌, true, [], ◌∷◌};
+    ghost use Rattle.crs_text.specs.declared.keyword.Keyword.TheVariants as keywords;
+    ghost use Rattle.crs_shape.specs.declared.class.Class.TheVariants as classes;
+    ghost use Rattle.crs_value.specs.Filling.{stand};
+    ghost use Rattle.crs_value.specs.Reading.{is_same};
+
+    ghost Stands = { λ c slot. stand (keywords.AnchorEpoch ∷ []) (is_same classes.AnchorEpoch) c slot ≡ true };
+
+    fn is(items: &Items<'_>, id: ItemId) -> bool {
+        laws::keywords_name_classes();
+        if !is_node(items, id) {
+            return false;
+        }
+        if !is_anchor_epoch(items.keyword(id)) {
+            return false;
+        }
+        fills_leaf(items, id, ItemKind::Number)
+    }
+}
+
+fn is_frame_epoch(keyword: Option<Keyword>) -> bool
+    ensures { result ≡ is_one (Keyword.FrameEpoch ∷ []) keyword }
+{
+    matches!(keyword, Some(Keyword::FrameEpoch))
+}
+
+// The epoch of a reference frame.
+pub(crate) struct FrameEpoch;
+
+impl Part for FrameEpoch {
+    ghost use Rattle.std.specs.Prelude.{◌≡◌, true, [], ◌∷◌};
+    ghost use Rattle.crs_text.specs.declared.keyword.Keyword.TheVariants as keywords;
+    ghost use Rattle.crs_shape.specs.declared.class.Class.TheVariants as classes;
+    ghost use Rattle.crs_value.specs.Filling.{stand};
+    ghost use Rattle.crs_value.specs.Reading.{is_same};
+
+    ghost Stands = { λ c slot. stand (keywords.FrameEpoch ∷ []) (is_same classes.FrameEpoch) c slot ≡ true };
+
+    fn is(items: &Items<'_>, id: ItemId) -> bool {
+        laws::keywords_name_classes();
+        if !is_node(items, id) {
+            return false;
+        }
+        if !is_frame_epoch(items.keyword(id)) {
+            return false;
+        }
+        fills_leaf(items, id, ItemKind::Number)
     }
 }

@@ -1,7 +1,7 @@
 use Rattle.std.proofs.Common.{refl}
 use Rattle.crs_shape.specs.declared.class.Class.TheVariants as class
 use Rattle.crs_value.specs.Reading.{item_at}
-use Rattle.crs_value.proofs.FillingLemmas.{fill-arguments, fill-none, fill-skip}
+use Rattle.crs_value.proofs.FillingLemmas.{fill-arguments, fill-none}
 use Rattle.crs_value.proofs.sound.crs.fills_base.Goals as goal
 
 pub returns : goal.returns
@@ -9,7 +9,7 @@ returns c = λ yes.
     let tree = c.args.items.now in
     fill-arguments tree class.BaseCrs _ (item_at tree c.args.id) c.arg.result c.arg.ensures
     (c.in-Some.ensures.1 class.BaseCrs _ refl _
-    (fill-skip class.BaseCrs _ _ _ refl
+    (c.optional-dynamic.ensures.passes class.BaseCrs _ refl refl _
     (c.in-Some-one.ensures.1 class.BaseCrs _ (refl, refl) _
     (c.optional-meridian.ensures.passes class.BaseCrs _ refl refl _
     (c.optional-unit.ensures.passes class.BaseCrs _ refl refl _

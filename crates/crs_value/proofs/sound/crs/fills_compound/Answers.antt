@@ -11,5 +11,5 @@ returns c = λ yes.
     (c.in-Some.ensures.1 class.CompoundCrs _ refl _
     (c.in-Some-one.ensures.1 class.CompoundCrs _ (refl, refl, refl) _
     (c.in-Some-one-2.ensures.1 class.CompoundCrs _ refl _
-    (c.any-end.ensures.passes class.CompoundCrs _ (refl, refl, refl, refl, refl, refl) refl refl _
+    (c.any-end.ensures.passes class.CompoundCrs _ (refl, refl, refl, refl, refl, refl, refl) refl refl _
     (fill-none tree class.CompoundCrs _ (c.is_end.ensures yes))))))

@@ -14,5 +14,5 @@ returns c = λ yes.
     (c.in-Some-one-3.ensures.1 class.ProjectedCrs _ refl _
     (c.in-Some-some.ensures.1 class.ProjectedCrs _ refl refl refl _
     (c.optional-unit.ensures.passes class.ProjectedCrs _ refl refl _
-    (c.any-end.ensures.passes class.ProjectedCrs _ (refl, refl, refl, refl, refl, refl) refl refl _
+    (c.any-end.ensures.passes class.ProjectedCrs _ (refl, refl, refl, refl, refl, refl, refl) refl refl _
     (fill-none tree class.ProjectedCrs _ (c.is_end.ensures yes)))))))))

@@ -1,7 +1,7 @@
 use Rattle.std.proofs.Common.{refl}
 use Rattle.crs_shape.specs.declared.class.Class.TheVariants as class
 use Rattle.crs_value.specs.Reading.{item_at}
-use Rattle.crs_value.proofs.FillingLemmas.{fill-arguments, fill-none, fill-skip}
+use Rattle.crs_value.proofs.FillingLemmas.{fill-arguments, fill-none}
 use Rattle.crs_value.proofs.sound.crs.fills_vertical.Goals as goal
 
 pub returns : goal.returns
@@ -9,10 +9,10 @@ returns c = λ yes.
     let tree = c.args.items.now in
     fill-arguments tree class.VerticalCrs _ (item_at tree c.args.id) c.arg.result c.arg.ensures
     (c.in-Some.ensures.1 class.VerticalCrs _ refl _
-    (fill-skip class.VerticalCrs _ _ _ refl
+    (c.optional-dynamic.ensures.passes class.VerticalCrs _ refl refl _
     (c.in-Some-one.ensures.1 class.VerticalCrs _ (refl, refl) _
     (c.in-Some-one-2.ensures.1 class.VerticalCrs _ refl _
     (c.in-Some-some.ensures.1 class.VerticalCrs _ refl refl refl _
     (c.optional-unit.ensures.passes class.VerticalCrs _ refl refl _
-    (c.any-end.ensures.passes class.VerticalCrs _ (refl, (refl, refl, refl, refl, refl, refl)) refl refl _
+    (c.any-end.ensures.passes class.VerticalCrs _ (refl, (refl, refl, refl, refl, refl, refl, refl)) refl refl _
     (fill-none tree class.VerticalCrs _ (c.is_end.ensures yes)))))))))

@@ -1,7 +1,7 @@
 use Rattle.std.proofs.Common.{refl}
 use Rattle.crs_shape.specs.declared.class.Class.TheVariants as class
 use Rattle.crs_value.specs.Reading.{item_at}
-use Rattle.crs_value.proofs.FillingLemmas.{fill-arguments, fill-none, fill-skip}
+use Rattle.crs_value.proofs.FillingLemmas.{fill-arguments, fill-none}
 use Rattle.crs_value.proofs.sound.ident.fills_ident.Goals as goal
 
 pub returns : goal.returns
@@ -10,5 +10,7 @@ returns c = λ yes.
     fill-arguments tree class.Identifier _ (item_at tree c.args.id) c.arg.result c.arg.ensures
     (c.in-Some.ensures.1 class.Identifier _ refl _
     (c.in-Some-value.ensures.1 class.Identifier _ refl refl _
-    (c.version-end.ensures.passes class.Identifier _ refl refl refl _
-    (fill-skip class.Identifier _ _ _ refl (fill-skip class.Identifier _ _ _ refl (fill-none tree class.Identifier _ (c.is_end.ensures yes)))))))
+    (c.version-versioned.ensures.passes class.Identifier _ refl refl refl _
+    (c.optional-cited.ensures.passes class.Identifier _ refl refl _
+    (c.optional-end.ensures.passes class.Identifier _ refl refl _
+    (fill-none tree class.Identifier _ (c.is_end.ensures yes)))))))

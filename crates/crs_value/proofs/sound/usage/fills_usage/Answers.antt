@@ -1,7 +1,7 @@
 use Rattle.std.proofs.Common.{refl}
 use Rattle.crs_shape.specs.declared.class.Class.TheVariants as class
 use Rattle.crs_value.specs.Reading.{item_at}
-use Rattle.crs_value.proofs.FillingLemmas.{fill-arguments, fill-none, fill-skip}
+use Rattle.crs_value.proofs.FillingLemmas.{fill-arguments, fill-none}
 use Rattle.crs_value.proofs.sound.usage.fills_usage.Goals as goal
 
 pub returns : goal.returns
@@ -10,5 +10,6 @@ returns c = λ yes.
     fill-arguments tree class.Usage _ (item_at tree c.args.id) c.arg.result c.arg.ensures
     (c.optional-scope.ensures.passes class.Usage _ refl refl _
     (c.optional-area.ensures.passes class.Usage _ refl refl _
+    (c.optional-bounds.ensures.passes class.Usage _ refl refl _
     (c.optional-end.ensures.passes class.Usage _ refl refl _
-    (fill-skip class.Usage _ _ _ refl (fill-none tree class.Usage _ (c.is_end.ensures yes))))))
+    (fill-none tree class.Usage _ (c.is_end.ensures yes))))))

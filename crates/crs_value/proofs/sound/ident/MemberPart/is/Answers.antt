@@ -11,4 +11,4 @@ returns c = λ yes d slot stands.
     plain-taken c.keywords_name_classes.ensures.named c.keywords_name_classes.ensures.own (keyword.Member ∷ []) class.Member d slot
     (item_at c.args.items.now c.args.id) refl refl stands (c.is_node.ensures c.if-not-is_node.false)
     (ap (is_one (keyword.Member ∷ [])) (sym c.keyword.ensures) ∙ sym c.is_member.ensures ∙ c.if-not-is_member.false)
-    (c.fills_member.ensures yes)
+    (c.fills_named.ensures yes class.Member refl)

@@ -11,4 +11,4 @@ returns c = λ yes d slot stands.
     plain-taken c.keywords_name_classes.ensures.named c.keywords_name_classes.ensures.own (keyword.Method ∷ keyword.Projection ∷ []) class.Method d slot
     (item_at c.args.items.now c.args.id) refl refl stands (c.is_node.ensures c.if-not-is_node.false)
     (ap (is_one (keyword.Method ∷ keyword.Projection ∷ [])) (sym c.keyword.ensures) ∙ sym c.is_method.ensures ∙ c.if-not-is_method.false)
-    (c.fills_method.ensures yes)
+    (c.fills_named.ensures yes class.Method refl)

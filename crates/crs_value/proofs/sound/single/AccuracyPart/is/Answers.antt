@@ -11,4 +11,4 @@ returns c = λ yes d slot stands.
     plain-taken c.keywords_name_classes.ensures.named c.keywords_name_classes.ensures.own (keyword.EnsembleAccuracy ∷ []) class.EnsembleAccuracy d slot
     (item_at c.args.items.now c.args.id) refl refl stands (c.is_node.ensures c.if-not-is_node.false)
     (ap (is_one (keyword.EnsembleAccuracy ∷ [])) (sym c.keyword.ensures) ∙ sym c.is_accuracy.ensures ∙ c.if-not-is_accuracy.false)
-    (c.fills_accuracy.ensures yes)
+    (c.fills_leaf.ensures yes class.EnsembleAccuracy _ refl)

@@ -11,4 +11,4 @@ returns c = λ yes d slot stands.
     plain-taken c.keywords_name_classes.ensures.named c.keywords_name_classes.ensures.own (keyword.Anchor ∷ []) class.Anchor d slot
     (item_at c.args.items.now c.args.id) refl refl stands (c.is_node.ensures c.if-not-is_node.false)
     (ap (is_one (keyword.Anchor ∷ [])) (sym c.keyword.ensures) ∙ sym c.is_anchor.ensures ∙ c.if-not-is_anchor.false)
-    (c.fills_anchor.ensures yes)
+    (c.fills_leaf.ensures yes class.Anchor _ refl)

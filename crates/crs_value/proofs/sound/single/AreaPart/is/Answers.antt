@@ -11,4 +11,4 @@ returns c = λ yes d slot stands.
     plain-taken c.keywords_name_classes.ensures.named c.keywords_name_classes.ensures.own (keyword.Area ∷ []) class.Area d slot
     (item_at c.args.items.now c.args.id) refl refl stands (c.is_node.ensures c.if-not-is_node.false)
     (ap (is_one (keyword.Area ∷ [])) (sym c.keyword.ensures) ∙ sym c.is_area.ensures ∙ c.if-not-is_area.false)
-    (c.fills_area.ensures yes)
+    (c.fills_leaf.ensures yes class.Area _ refl)

@@ -11,4 +11,4 @@ returns c = λ yes d slot stands.
     plain-taken c.keywords_name_classes.ensures.named c.keywords_name_classes.ensures.own (keyword.Scope ∷ []) class.Scope d slot
     (item_at c.args.items.now c.args.id) refl refl stands (c.is_node.ensures c.if-not-is_node.false)
     (ap (is_one (keyword.Scope ∷ [])) (sym c.keyword.ensures) ∙ sym c.is_scope.ensures ∙ c.if-not-is_scope.false)
-    (c.fills_scope.ensures yes)
+    (c.fills_leaf.ensures yes class.Scope _ refl)
