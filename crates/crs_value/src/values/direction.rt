@@ -1,4 +1,4 @@
-ghost use Rattle.std.specs.Prelude.{◌≡◌};
+ghost use Rattle.std.specs.Prelude.{◌≡◌, IfSome};
 ghost use Rattle.crs_value.specs.Reading.{IsReading};
 ghost use Rattle.crs_value.specs.Words.{direction_word, SpellsWord};
 
@@ -77,6 +77,44 @@ const DIRECTIONS: [Direction; 22] = [
     Direction::Unspecified,
 ];
 
+// The direction, if the word spells it.
+#[inline(always)]
+fn if_spelled(word: &[u8], direction: Direction) -> Option<Direction>
+    ensures { IfSome result (λ value. SpellsWord word.now (direction_word value)) }
+{
+    if direction.word().as_bytes().eq_ignore_ascii_case(word) {
+        Some(direction)
+    } else {
+        None
+    }
+}
+
+// The direction that a word spells, if it is the one that most words with its first letter, or else with its last, are.
+fn common(word: &[u8]) -> Option<Direction>
+    ensures { IfSome result (λ value. SpellsWord word.now (direction_word value)) }
+{
+    match word.first()? {
+        b'n' | b'N' => if_spelled(word, Direction::North),
+        b'e' | b'E' => if_spelled(word, Direction::East),
+        b'u' | b'U' => if_spelled(word, Direction::Up),
+        b's' | b'S' => if_spelled(word, Direction::South),
+        b'w' | b'W' => if_spelled(word, Direction::West),
+        b'd' | b'D' => if_spelled(word, Direction::Down),
+        _ => geocentric(word),
+    }
+}
+
+// The geocentric direction that a word spells.
+fn geocentric(word: &[u8]) -> Option<Direction>
+    ensures { IfSome result (λ value. SpellsWord word.now (direction_word value)) }
+{
+    match word.last()? {
+        b'x' | b'X' => if_spelled(word, Direction::GeocentricX),
+        b'y' | b'Y' => if_spelled(word, Direction::GeocentricY),
+        _ => if_spelled(word, Direction::GeocentricZ),
+    }
+}
+
 impl Direction {
     /// The word that a text has for the direction, as it is written.
     pub fn word(&self) -> &'static str
@@ -110,6 +148,16 @@ impl Direction {
 
     // the direction that a word spells, letter case aside
     pub(crate) fn read(word: &[u8]) -> Option<Direction>
+        ensures { IsReading (λ value. SpellsWord word.now (direction_word value)) result }
+    {
+        match common(word) {
+            Some(direction) => Some(direction),
+            None => Direction::sought(word),
+        }
+    }
+
+    // the same, each direction being compared
+    fn sought(word: &[u8]) -> Option<Direction>
         ensures { IsReading (λ value. SpellsWord word.now (direction_word value)) result }
     {
         for direction in DIRECTIONS {
