@@ -52,7 +52,9 @@ fn first_of(old: Option<ItemId>, id: ItemId) -> Option<ItemId>
 }
 
 impl Firsts {
-    // One argument more, of this class.
+    // One argument more, of this class. Inlined, it would keep all fields in registers over the walk, and the
+    // processor has too few of them.
+    #[inline(never)]
     fn note(&mut self, class: Class, id: ItemId)
         requires { IsTrue (is_same Class.Axis class) → self.old.axes + 1 < 2 ^ 64 }
         ensures system { self.new.system ≡ noted (is_same Class.CoordinateSystem class) self.old.system id }
