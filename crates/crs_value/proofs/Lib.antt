@@ -20,6 +20,7 @@ pub mod OneCrsLemmas
 pub mod OneLemmas
 pub mod OrderLemmas
 pub mod OwnLemmas
+pub mod PlacedLemmas
 pub mod PlaceLemmas
 pub mod QuietLemmas
 pub mod ReadyLemmas

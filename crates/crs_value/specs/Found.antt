@@ -1,9 +1,12 @@
 -- A bridge: arguments of one class from one on, as the program
 -- goes through them, and classes of which one is read.
-use Rattle.std.specs.Prelude.{◌≡◌, ℕ, List, [], ◌∷◌, Option, Some, None}
+use Rattle.std.specs.Prelude.{◌≡◌, ℕ, ◌+◌, List, [], ◌∷◌, Option, Some, None}
+use Rattle.crs_decimal.specs.Number.{SameNumber, whole_number}
+use Rattle.crs_decimal.specs.Value.{Value, exact}
 use Rattle.crs_text.specs.Items.{Item, rest_of, here}
 use Rattle.crs_shape.specs.declared.class.Class.{Class}
 use Rattle.crs_shape.specs.Shaped.{Shaped}
+use Rattle.crs_value.specs.BadOrder.{orders_in, ReadsOrder}
 use Rattle.crs_value.specs.Reading.{Each, OneIs, item_at, those}
 
 -- the arguments of a class from a found one on; none where none is found
@@ -18,3 +21,16 @@ AllShaped c items = Each (Shaped c) items
 -- the class is one of these
 abbrev pub IsAmong : List Class → Class → Type 0
 IsAmong ds c = OneIs (λ d. c ≡ d) ds
+
+-- the only order of an axis is this number
+pub record HasPlace (n : ℕ) (axis : Item) : Type 0 where
+  pub order : Item
+  pub only : orders_in axis ≡ order ∷ []
+  pub value : Value
+  pub reads : ReadsOrder order value
+  pub same : SameNumber (exact value) (whole_number n)
+
+-- these axes have the orders from this number on, one after another
+abbrev pub AreInOrder : ℕ → List Item → Type 0
+AreInOrder n [] = Unit {0}
+AreInOrder n (axis ∷ axes) = HasPlace n axis × AreInOrder (n + 1) axes

@@ -5,7 +5,7 @@ ghost use Rattle.crs_shape.specs.Shaped.{Shaped};
 ghost use Rattle.crs_value.specs.BadOrder.{IsPosition, HasThis, OneHas, LacksOrder, orders_in, SomeHasOrder, BadOrders};
 ghost use Rattle.crs_value.specs.BadOrder.{BadOrder};
 ghost use Rattle.crs_value.specs.Break.{AnyOf, IsLeast};
-ghost use Rattle.crs_value.specs.Found.{from_found, AllShaped};
+ghost use Rattle.crs_value.specs.Found.{from_found, AllShaped, AreInOrder, HasPlace};
 ghost use Rattle.crs_value.specs.Noted.{AreFirsts};
 ghost use Rattle.crs_value.specs.Reading.{item_at, Holds, those};
 
@@ -185,6 +185,40 @@ fn bad_orders(items: &Items<'_>, crs: ItemId, class: Class, firsts: &Firsts) -> 
     least
 }
 
+// Whether the order of an axis is this one.
+fn has_place(items: &Items<'_>, axis: ItemId, place: usize) -> bool
+    requires has { HasId items.now axis }
+    requires shaped { Shaped Class.Axis (item_at items.now axis) }
+    ensures { IsTrue result → HasPlace place (item_at items.now axis) }
+{
+    crs_shape::laws::slots_count();
+    match first(items, axis, Class::Axis, Class::Order) {
+        None => false,
+        Some(order) => number(items, order, Class::Order).is_whole(place as u64),
+    }
+}
+
+// Whether the axes from this one on, no more than `count`, have the orders from 1 on, one after another.
+fn in_order(items: &Items<'_>, class: Class, from: Option<ItemId>, count: usize) -> bool
+    requires holds { Holds items.now from }
+    requires shaped { AllShaped Class.Axis (from_found items.now class Class.Axis from) }
+    ensures { IsTrue result → AreInOrder 1 (from_found items.now class Class.Axis from) }
+{
+    let mut at = from;
+    let mut place = 0usize;
+    while let Some(axis) = at {
+        if place >= count {
+            return false;
+        }
+        place += 1;
+        if !has_place(items, axis, place) {
+            return false;
+        }
+        at = later(items, axis, class, Class::Axis);
+    }
+    true
+}
+
 // 26: an axis that lacks an order beside one that has it, or the first bad order.
 pub(crate) fn bad_order(
     items: &Items<'_>,
@@ -197,6 +231,11 @@ pub(crate) fn bad_order(
     requires firsts { AreFirsts items.now class (arguments (item_at items.now crs)) firsts.now }
     ensures { IsLeast (BadOrder (those class Class.Axis (arguments (item_at items.now crs)))) result }
 {
+    laws::denotes_one();
+    laws::same_number_is_equivalence();
+    if in_order(items, class, firsts.axis, firsts.axes) {
+        return None;
+    }
     match any_from(&Orderless, items, firsts.axis, class, Class::Axis) {
         None => bad_orders(items, crs, class, firsts),
         Some(lacks) => beside(items, class, firsts.axis, lacks),

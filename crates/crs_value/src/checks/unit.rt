@@ -5,7 +5,7 @@ ghost use Rattle.crs_shape.specs.Shaped.{Shaped};
 ghost use Rattle.crs_value.specs.BadUnit.{Asks, Fits, AllAsk, SharedFits, BadShared, BadUnit};
 ghost use Rattle.crs_value.specs.Break.{IsLeast};
 ghost use Rattle.crs_value.specs.Reading.{item_at, those, IsFound, IsReading, ReadsFirst};
-ghost use Rattle.crs_value.specs.Reads.{ReadsDirection};
+ghost use Rattle.crs_value.specs.Reads.{HasType, ReadsDirection};
 
 use crate::checks::system::type_of;
 use crate::checks::{Check, any_from, lesser, only_from, only_of, refusal_at};
@@ -29,14 +29,18 @@ fn direction_of(items: &Items<'_>, axis: ItemId) -> Option<Direction>
 }
 
 // The kind of unit that an axis asks for; None where a word isn't known.
-fn asked(items: &Items<'_>, cs: ItemId, axis: ItemId) -> Option<UnitKind>
-    requires cs { HasId items.now cs }
+fn asked(
+    items: &Items<'_>,
+    _cs: ItemId,
+    system_type: Option<SystemType>,
+    axis: ItemId,
+) -> Option<UnitKind>
     requires axis { HasId items.now axis }
-    requires system { Shaped Class.CoordinateSystem (item_at items.now cs) }
+    requires system { IsReading (HasType (item_at items.now _cs)) system_type }
     requires shaped { Shaped Class.Axis (item_at items.now axis) }
-    ensures { IsReading (Asks (item_at items.now cs) (item_at items.now axis)) result }
+    ensures { IsReading (Asks (item_at items.now _cs) (item_at items.now axis)) result }
 {
-    let system_type = type_of(items, cs)?;
+    let system_type = system_type?;
     let direction = direction_of(items, axis)?;
     Some(system_type.asked_kind(direction))
 }
@@ -56,6 +60,7 @@ fn fits(items: &Items<'_>, unit: ItemId, kind: UnitKind) -> bool
 #[derive(Drop)]
 pub(crate) struct Misfit {
     cs: ItemId,
+    system_type: Option<SystemType>,
     axis: ItemId,
 }
 
@@ -64,16 +69,17 @@ impl Check for Misfit {
     ghost use Rattle.crs_shape.specs.Shaped.{Shaped};
     ghost use Rattle.crs_shape.specs.declared.class.Class.TheVariants as classes;
     ghost use Rattle.crs_value.specs.BadUnit.{Misfits};
-    ghost use Rattle.crs_value.specs.Reading.{item_at};
+    ghost use Rattle.crs_value.specs.Reading.{item_at, IsReading};
+    ghost use Rattle.crs_value.specs.Reads.{HasType};
 
-    ghost Fits = { λ s tree class. HasId tree s.cs × HasId tree s.axis
-        × Shaped classes.CoordinateSystem (item_at tree s.cs)
+    ghost Fits = { λ s tree class. HasId tree s.axis
+        × IsReading (HasType (item_at tree s.cs)) s.system_type
         × Shaped classes.Axis (item_at tree s.axis) };
 
     ghost Broken = { λ s tree item f. Misfits (item_at tree s.cs) (item_at tree s.axis) item f };
 
     fn check(&self, items: &Items<'_>, id: ItemId, _class: Class) -> Option<Refusal> {
-        let kind = asked(items, self.cs, self.axis)?;
+        let kind = asked(items, self.cs, self.system_type, self.axis)?;
         if fits(items, id, kind) {
             None
         } else {
@@ -86,17 +92,17 @@ impl Check for Misfit {
 #[derive(Drop)]
 struct OwnUnit {
     cs: ItemId,
+    system_type: Option<SystemType>,
 }
 
 impl Check for OwnUnit {
     ghost use Rattle.std.specs.Prelude.{◌≡◌};
-    ghost use Rattle.crs_text.specs.Items.{HasId};
-    ghost use Rattle.crs_shape.specs.Shaped.{Shaped};
     ghost use Rattle.crs_shape.specs.declared.class.Class.TheVariants as classes;
     ghost use Rattle.crs_value.specs.BadUnit.{BadOwnUnit};
-    ghost use Rattle.crs_value.specs.Reading.{item_at};
+    ghost use Rattle.crs_value.specs.Reading.{item_at, IsReading};
+    ghost use Rattle.crs_value.specs.Reads.{HasType};
 
-    ghost Fits = { λ s tree class. HasId tree s.cs × Shaped classes.CoordinateSystem (item_at tree s.cs)
+    ghost Fits = { λ s tree class. IsReading (HasType (item_at tree s.cs)) s.system_type
         × (class ≡ classes.Axis) };
 
     ghost Broken = { λ s tree item f. BadOwnUnit (item_at tree s.cs) item f };
@@ -107,6 +113,7 @@ impl Check for OwnUnit {
         };
         let misfit = Misfit {
             cs: self.cs,
+            system_type: self.system_type,
             axis: id,
         };
         only_from(&misfit, items, id, Class::Axis, Class::AxisUnit, Some(unit))
@@ -148,17 +155,23 @@ impl Check for NoUnit {
 }
 
 // Whether all axes ask for this kind of unit.
-fn all_ask(items: &Items<'_>, crs: ItemId, class: Class, cs: ItemId, kind: UnitKind) -> bool
-    requires cs { HasId items.now cs }
+fn all_ask(
+    items: &Items<'_>,
+    crs: ItemId,
+    class: Class,
+    cs: ItemId,
+    system_type: Option<SystemType>,
+    kind: UnitKind,
+) -> bool
     requires crs { HasId items.now crs }
-    requires system { Shaped Class.CoordinateSystem (item_at items.now cs) }
+    requires system { IsReading (HasType (item_at items.now cs)) system_type }
     requires shaped { Shaped class (item_at items.now crs) }
     ensures { IsTrue result ↔ AllAsk (item_at items.now cs) (those class Class.Axis (arguments
         (item_at items.now crs))) kind }
 {
     let mut at = first(items, crs, class, Class::Axis);
     while let Some(axis) = at {
-        if !asks(items, cs, axis, kind) {
+        if !asks(items, cs, system_type, axis, kind) {
             return false;
         }
         at = later(items, axis, class, Class::Axis);
@@ -172,14 +185,19 @@ fn same_kind(a: UnitKind, b: UnitKind) -> bool
     a == b
 }
 
-fn asks(items: &Items<'_>, cs: ItemId, axis: ItemId, kind: UnitKind) -> bool
-    requires cs { HasId items.now cs }
+fn asks(
+    items: &Items<'_>,
+    cs: ItemId,
+    system_type: Option<SystemType>,
+    axis: ItemId,
+    kind: UnitKind,
+) -> bool
     requires axis { HasId items.now axis }
-    requires system { Shaped Class.CoordinateSystem (item_at items.now cs) }
+    requires system { IsReading (HasType (item_at items.now cs)) system_type }
     requires shaped { Shaped Class.Axis (item_at items.now axis) }
     ensures { IsTrue result ↔ Asks (item_at items.now cs) (item_at items.now axis) kind }
 {
-    match asked(items, cs, axis) {
+    match asked(items, cs, system_type, axis) {
         None => false,
         Some(asked) => same_kind(asked, kind),
     }
@@ -191,41 +209,47 @@ fn fits_as(
     crs: ItemId,
     class: Class,
     cs: ItemId,
+    system_type: Option<SystemType>,
     unit: ItemId,
     kind: UnitKind,
 ) -> bool
-    requires cs { HasId items.now cs }
     requires crs { HasId items.now crs }
     requires unit { HasId items.now unit }
-    requires system { Shaped Class.CoordinateSystem (item_at items.now cs) }
+    requires system { IsReading (HasType (item_at items.now cs)) system_type }
     requires shaped { Shaped class (item_at items.now crs) }
     ensures { IsTrue result ↔ (
         AllAsk (item_at items.now cs) (those class Class.Axis (arguments (item_at items.now crs))) kind
         × Fits (item_at items.now unit) kind) }
 {
     // Mostly the unit says its kind, which is asked first: then the axes are asked for that kind alone.
-    fits(items, unit, kind) && all_ask(items, crs, class, cs, kind)
+    fits(items, unit, kind) && all_ask(items, crs, class, cs, system_type, kind)
 }
 
-fn shared_fits(items: &Items<'_>, crs: ItemId, class: Class, cs: ItemId, unit: ItemId) -> bool
-    requires cs { HasId items.now cs }
+fn shared_fits(
+    items: &Items<'_>,
+    crs: ItemId,
+    class: Class,
+    cs: ItemId,
+    system_type: Option<SystemType>,
+    unit: ItemId,
+) -> bool
     requires crs { HasId items.now crs }
     requires unit { HasId items.now unit }
-    requires system { Shaped Class.CoordinateSystem (item_at items.now cs) }
+    requires system { IsReading (HasType (item_at items.now cs)) system_type }
     requires shaped { Shaped class (item_at items.now crs) }
     ensures { IsTrue result ↔ SharedFits (item_at items.now cs) (those class Class.Axis (arguments
         (item_at items.now crs))) (item_at items.now unit) }
 {
-    if fits_as(items, crs, class, cs, unit, UnitKind::Length) {
+    if fits_as(items, crs, class, cs, system_type, unit, UnitKind::Length) {
         return true;
     }
-    if fits_as(items, crs, class, cs, unit, UnitKind::Angle) {
+    if fits_as(items, crs, class, cs, system_type, unit, UnitKind::Angle) {
         return true;
     }
-    if fits_as(items, crs, class, cs, unit, UnitKind::Scale) {
+    if fits_as(items, crs, class, cs, system_type, unit, UnitKind::Scale) {
         return true;
     }
-    fits_as(items, crs, class, cs, unit, UnitKind::Plain)
+    fits_as(items, crs, class, cs, system_type, unit, UnitKind::Plain)
 }
 
 // 27: a shared unit that doesn't fit.
@@ -234,17 +258,17 @@ fn bad_shared(
     crs: ItemId,
     class: Class,
     cs: ItemId,
+    system_type: Option<SystemType>,
     unit: ItemId,
 ) -> Option<Refusal>
-    requires cs { HasId items.now cs }
     requires crs { HasId items.now crs }
     requires unit { HasId items.now unit }
-    requires system { Shaped Class.CoordinateSystem (item_at items.now cs) }
+    requires system { IsReading (HasType (item_at items.now cs)) system_type }
     requires shaped { Shaped class (item_at items.now crs) }
     ensures { IsLeast (BadShared (item_at items.now cs) (those class Class.Axis (arguments
         (item_at items.now crs))) (item_at items.now unit)) result }
 {
-    if shared_fits(items, crs, class, cs, unit) {
+    if shared_fits(items, crs, class, cs, system_type, unit) {
         None
     } else {
         Some(refusal_at(items, unit, 27))
@@ -271,11 +295,18 @@ pub(crate) fn bad_unit(
     ensures { IsLeast (BadUnit (those class Class.Axis (arguments (item_at items.now crs)))
         (those class Class.AxisUnit (arguments (item_at items.now crs))) (item_at items.now cs)) result }
 {
+    let system_type = type_of(items, cs);
     match unit {
-        None => any_from(&OwnUnit { cs }, items, axis, class, Class::Axis),
+        None => any_from(
+            &OwnUnit { cs, system_type },
+            items,
+            axis,
+            class,
+            Class::Axis,
+        ),
         Some(unit) => lesser(
             any_from(&NoUnit, items, axis, class, Class::Axis),
-            bad_shared(items, crs, class, cs, unit),
+            bad_shared(items, crs, class, cs, system_type, unit),
         ),
     }
 }

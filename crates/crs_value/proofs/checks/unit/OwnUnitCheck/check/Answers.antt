@@ -8,7 +8,7 @@ use Rattle.crs_value.proofs.checks.unit.OwnUnitCheck.check.Goals as goal
 pub only_from-requires-clause-shaped : goal.only_from-requires-clause-shaped
 only_from-requires-clause-shaped c =
     let P : Class → Type 0 = λ x. Shaped x (item_at c.args.items.now c.args.id) in
-    subst P c.requires.fits.2 c.requires.shaped
+    subst P c.requires.fits.1 c.requires.shaped
 
 pub returns : goal.returns
 returns c =
