@@ -46,6 +46,18 @@ walks-told path Same first second (found.All before) new differs more (inr told)
     inr (record { path = path; first = first; second = second } ∷ [], told, (differs, refl, refl))
 walks-told path Same first second (found.Refused error) new differs more told = absurd told
 
+-- over one part that differs, from what is found over one that is never the same
+walks-differing : (path : List Step) (Same : Type 0) (first second : Content) (old new : Found) → ¬ Same →
+    Walks (part path ⊥ first second) old new → Walks (part path Same first second) old new
+walks-differing path Same first second (found.First None) new differs (None, was, same) = absurd same
+walks-differing path Same first second (found.First None) new differs (Some other, was, (never, is)) = (Some other, was, (differs, is))
+walks-differing path Same first second (found.First (Some before)) new differs walked = walked
+walks-differing path Same first second (found.All before) new differs (inl refused) = inl refused
+walks-differing path Same first second (found.All before) new differs (inr ([], was, same)) = absurd same
+walks-differing path Same first second (found.All before) new differs (inr (one ∷ further, was, (never, is, last))) =
+    inr (one ∷ further, was, (differs, is, last))
+walks-differing path Same first second (found.Refused error) new differs walked = walked
+
 -- over these parts and others
 walks-both : (these others : Parts) (old between new : Found) → Walks these old between → Walks others between new →
     Walks (these ⨾ others) old new
@@ -99,6 +111,11 @@ pub told : {path : List Step} {Same : Type 0} {first second : Content} {old new 
 told {path} {Same} {first} {second} {old} {new} differs it =
     record { walks = walks-told path Same first second old new differs it.more it.tells }
 
+pub differing : {path : List Step} {Same : Type 0} {first second : Content} {old new : Found} → ¬ Same →
+    Walked (part path ⊥ first second) old new → Walked (part path Same first second) old new
+differing {path} {Same} {first} {second} {old} {new} differs walked =
+    record { walks = walks-differing path Same first second old new differs walked.walks }
+
 pub nothing : {old : Found} → Walked none old old
 nothing {old} = record { walks = walks-none old }
 
@@ -130,6 +147,8 @@ more-axes at level a b count {old} {between} {new} first second =
     is = omega arith
 
 pub ruleset walked_rules = (done, same, told)
+
+pub ruleset part_rules = (done, same, differing)
 
 -- ---- what a walk for the first part that differs ends with
 

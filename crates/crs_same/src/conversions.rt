@@ -34,8 +34,8 @@ fn walk_method<'b, 'a>(
     requires { length at ≤ 4 }
     ensures { Walked (parts_of_method at level a.now b.now) found.entry result }
 {
-    let found = found.text(at.then(Step::Name), a.name, b.name);
-    found.identifiers(at.then(Step::Id), level, &a.identifiers, &b.identifiers)
+    let found = found.text(&at, Step::Name, a.name, b.name);
+    found.identifiers(&at, Step::Id, level, &a.identifiers, &b.identifiers)
 }
 
 /// Whether two methods are the same: name and identifiers. ISO 19162:2019, "Map projection".
@@ -116,7 +116,7 @@ fn same_geoid_models<'a>(a: &[GeoidModel<'a>], b: &[GeoidModel<'a>], level: Leve
     same_set(a, b, level)
 }
 
-#[tactic(auto, using(crate::proofs::WalkedLemmas::walked_rules))]
+#[tactic(auto, using(crate::proofs::WalkedLemmas::part_rules))]
 fn walk_parameters<'b, 'a>(
     found: Found<'b, 'a>,
     at: Path,
@@ -132,14 +132,14 @@ fn walk_parameters<'b, 'a>(
     if same_parameters(a, b, level) {
         return found;
     }
-    found.with(
+    found.differing(
         at,
         Content::Parameters(Members::new(a), Members::new(b)),
         Content::Parameters(Members::new(b), Members::new(a)),
     )
 }
 
-#[tactic(auto, using(crate::proofs::WalkedLemmas::walked_rules))]
+#[tactic(auto, using(crate::proofs::WalkedLemmas::part_rules))]
 pub(crate) fn walk_geoid_models<'b, 'a>(
     found: Found<'b, 'a>,
     at: Path,
@@ -155,7 +155,7 @@ pub(crate) fn walk_geoid_models<'b, 'a>(
     if same_geoid_models(a, b, level) {
         return found;
     }
-    found.with(
+    found.differing(
         at,
         Content::GeoidModels(Members::new(a), Members::new(b)),
         Content::GeoidModels(Members::new(b), Members::new(a)),
@@ -176,7 +176,7 @@ pub(crate) fn walk_conversion<'b, 'a>(
     if found.is_done() {
         return found;
     }
-    let found = found.text(at.then(Step::Name), a.name, b.name);
+    let found = found.text(&at, Step::Name, a.name, b.name);
     let method = at.then(Step::Method);
     let found = walk_method(found, method, &a.method, &b.method, level);
     let found = walk_parameters(
@@ -186,7 +186,7 @@ pub(crate) fn walk_conversion<'b, 'a>(
         b.parameters.as_slice(),
         level,
     );
-    found.identifiers(at.then(Step::Id), level, &a.identifiers, &b.identifiers)
+    found.identifiers(&at, Step::Id, level, &a.identifiers, &b.identifiers)
 }
 
 /// Whether two conversions are the same: name, method, the set of parameters, and identifiers.

@@ -58,18 +58,17 @@ fn geodetic_kind(system_type: SystemType) -> Kind
     }
 }
 
-#[tactic(auto, using(crate::proofs::WalkedLemmas::walked_rules))]
-fn walk_kind<'b, 'a>(found: Found<'b, 'a>, at: Path, a: SystemType, b: SystemType) -> Found<'b, 'a>
-    ensures { Walked (words at kind_word (kind_by a) (kind_by b)) found.entry result }
+#[tactic(auto, using(crate::proofs::WalkedLemmas::part_rules))]
+fn walk_kind<'b, 'a>(found: Found<'b, 'a>, at: &Path, a: SystemType, b: SystemType) -> Found<'b, 'a>
+    requires { length at.now < 5 }
+    ensures { Walked (words (at.now ▸ step.Kind) kind_word (kind_by a) (kind_by b)) found.entry result }
 {
-    if found.is_done() {
-        return found;
-    }
     if same_geodetic_kind(a, b) {
         return found;
     }
-    found.with(
+    found.alone(
         at,
+        Step::Kind,
         Content::word(kind_word(geodetic_kind(a))),
         Content::word(kind_word(geodetic_kind(b))),
     )
@@ -86,9 +85,8 @@ fn walk_geodetic<'b, 'a>(
     requires { length at ≤ 2 }
     ensures { Walked (parts_of_geodetic at level a.now b.now) found.entry result }
 {
-    let kind = at.then(Step::Kind);
-    let found = walk_kind(found, kind, a.system.system_type, b.system.system_type);
-    let found = found.text(at.then(Step::Name), a.name, b.name);
+    let found = walk_kind(found, &at, a.system.system_type, b.system.system_type);
+    let found = found.text(&at, Step::Name, a.name, b.name);
     let dynamic = at.then(Step::Dynamic);
     let found = walk_dynamic(found, dynamic, &a.dynamic, &b.dynamic, level);
     let datum = at.then(Step::Datum);
@@ -122,7 +120,7 @@ fn walk_base<'b, 'a>(
     requires { length at ≤ 2 }
     ensures { Walked (parts_of_base at level a.now b.now) found.entry result }
 {
-    let found = found.text(at.then(Step::Name), a.name, b.name);
+    let found = found.text(&at, Step::Name, a.name, b.name);
     let dynamic = at.then(Step::Dynamic);
     let found = walk_dynamic(found, dynamic, &a.dynamic, &b.dynamic, level);
     let datum = at.then(Step::Datum);
@@ -132,7 +130,7 @@ fn walk_base<'b, 'a>(
     let asked = (UnitKind::Angle, UnitKind::Angle);
     let unit = at.then(Step::Unit);
     let found = found.unit(unit, level, asked, a.unit.as_ref(), b.unit.as_ref());
-    found.identifiers(at.then(Step::Id), level, &a.identifiers, &b.identifiers)
+    found.identifiers(&at, Step::Id, level, &a.identifiers, &b.identifiers)
 }
 
 /// Whether two base CRSs are the same: name, dynamic part, frame, prime meridian, the units in both or in neither, and
@@ -154,7 +152,7 @@ fn walk_projected<'b, 'a>(
     requires { length at ≤ 1 }
     ensures { Walked (parts_of_projected at level a.now b.now) found.entry result }
 {
-    let found = found.text(at.then(Step::Name), a.name, b.name);
+    let found = found.text(&at, Step::Name, a.name, b.name);
     let base = at.then(Step::Base);
     let found = walk_base(found, base, &a.base, &b.base, level);
     let conversion = at.then(Step::Conversion);
@@ -185,7 +183,7 @@ fn walk_vertical<'b, 'a>(
     requires { length at ≤ 2 }
     ensures { Walked (parts_of_vertical at level a.now b.now) found.entry result }
 {
-    let found = found.text(at.then(Step::Name), a.name, b.name);
+    let found = found.text(&at, Step::Name, a.name, b.name);
     let dynamic = at.then(Step::Dynamic);
     let found = walk_dynamic(found, dynamic, &a.dynamic, &b.dynamic, level);
     let datum = at.then(Step::Datum);
@@ -242,7 +240,8 @@ fn walk_horizontal<'b, 'a>(
         ),
         (Horizontal::Geodetic(_), Horizontal::Projected(_))
         | (Horizontal::Projected(_), Horizontal::Geodetic(_)) => found.unlike(
-            at.then(Step::Kind),
+            &at,
+            Step::Kind,
             horizontal_word(a),
             horizontal_word(b),
         ),
@@ -274,7 +273,7 @@ fn walk_compound<'b, 'a>(
     requires { length at ≤ 0 }
     ensures { Walked (parts_of_compound at level a.now b.now) found.entry result }
 {
-    let found = found.text(at.then(Step::Name), a.name, b.name);
+    let found = found.text(&at, Step::Name, a.name, b.name);
     let horizontal = at.then(Step::Horizontal);
     let found = walk_horizontal(found, horizontal, &a.horizontal, &b.horizontal, level);
     let vertical = at.then(Step::Vertical);
@@ -298,11 +297,8 @@ fn walk_kinds<'b, 'a>(found: Found<'b, 'a>, a: &'b Crs<'a>, b: &'b Crs<'a>) -> F
     ensures { Walked (unlike ([] ▸ step.Kind) (kind_word (kind_of a.now)) (kind_word (kind_of b.now)))
         found.entry result }
 {
-    found.unlike(
-        Path::start().then(Step::Kind),
-        kind_word(a.kind()),
-        kind_word(b.kind()),
-    )
+    let at = Path::start();
+    found.unlike(&at, Step::Kind, kind_word(a.kind()), kind_word(b.kind()))
 }
 
 fn walk_crs<'b, 'a>(

@@ -104,6 +104,6 @@ pub(crate) fn walk_dynamic<'b, 'a>(
     requires { length at ≤ 4 }
     ensures { Walked (parts_of_dynamic at level a.now b.now) found.entry result }
 {
-    let found = found.optional_number(at.then(Step::Epoch), &epoch_of(a), &epoch_of(b));
+    let found = found.optional_number(&at, Step::Epoch, &epoch_of(a), &epoch_of(b));
     walk_models(found, at.then(Step::Model), model_of(a), model_of(b), level)
 }

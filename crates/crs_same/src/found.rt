@@ -207,19 +207,9 @@ impl<'b, 'a> Found<'b, 'a> {
         }
     }
 
-    // ---- over the part at a path
-
-    // Two things that are never the same, with their words.
+    // With a part more that is never the same, unless nothing more is looked for.
     #[tactic(auto, using(crate::proofs::WalkedLemmas::walked_rules))]
-    pub(crate) fn unlike(self, at: Path, first: &'static str, second: &'static str) -> Found<'b, 'a>
-        ensures { Walked (unlike at first.now second.now) self.entry result }
-    {
-        self.alone(at, Content::word(first), Content::word(second))
-    }
-
-    // A part that one side alone has.
-    #[tactic(auto, using(crate::proofs::WalkedLemmas::walked_rules))]
-    pub(crate) fn alone(
+    pub(crate) fn differing(
         self,
         at: Path,
         first: Content<'b, 'a>,
@@ -233,89 +223,124 @@ impl<'b, 'a> Found<'b, 'a> {
         self.with(at, first, second)
     }
 
+    // ---- over the part that is this step further
+
+    // Two things that are never the same, with their words.
     #[tactic(auto, using(crate::proofs::WalkedLemmas::walked_rules))]
-    pub(crate) fn text(self, at: Path, a: &'a [u8], b: &'a [u8]) -> Found<'b, 'a>
-        ensures { Walked (texts at a.now b.now) self.entry result }
+    pub(crate) fn unlike(
+        self,
+        at: &Path,
+        step: Step,
+        first: &'static str,
+        second: &'static str,
+    ) -> Found<'b, 'a>
+        requires { length at.now < 5 }
+        ensures { Walked (unlike (at.now ▸ step) first.now second.now) self.entry result }
     {
-        if self.is_done() {
-            return self;
-        }
+        self.alone(at, step, Content::word(first), Content::word(second))
+    }
+
+    // A part that is never the same, as one that one side alone has.
+    pub(crate) fn alone(
+        self,
+        at: &Path,
+        step: Step,
+        first: Content<'b, 'a>,
+        second: Content<'b, 'a>,
+    ) -> Found<'b, 'a>
+        requires { length at.now < 5 }
+        ensures { Walked (part (at.now ▸ step) ⊥ (first.entry) (second.entry)) self.entry result }
+    {
+        self.differing(at.then(step), first, second)
+    }
+
+    #[tactic(auto, using(crate::proofs::WalkedLemmas::part_rules))]
+    pub(crate) fn text(self, at: &Path, step: Step, a: &'a [u8], b: &'a [u8]) -> Found<'b, 'a>
+        requires { length at.now < 5 }
+        ensures { Walked (texts (at.now ▸ step) a.now b.now) self.entry result }
+    {
         if same_text(a, b) {
             return self;
         }
-        self.with(at, Content::text(a), Content::text(b))
+        self.alone(at, step, Content::text(a), Content::text(b))
     }
 
-    #[tactic(auto, using(crate::proofs::WalkedLemmas::walked_rules))]
+    #[tactic(auto, using(crate::proofs::WalkedLemmas::part_rules))]
     pub(crate) fn optional_text(
         self,
-        at: Path,
+        at: &Path,
+        step: Step,
         a: Option<&'a [u8]>,
         b: Option<&'a [u8]>,
     ) -> Found<'b, 'a>
-        ensures { Walked (optional_texts at (option_copied a.entry) (option_copied b.entry)) self.entry result }
+        requires { length at.now < 5 }
+        ensures { Walked (optional_texts (at.now ▸ step) (option_copied a.entry) (option_copied b.entry)) self.entry result }
     {
-        if self.is_done() {
-            return self;
-        }
         if same_optional_text(a, b) {
             return self;
         }
-        self.with(at, Content::optional_text(a), Content::optional_text(b))
+        self.alone(
+            at,
+            step,
+            Content::optional_text(a),
+            Content::optional_text(b),
+        )
     }
 
-    #[tactic(auto, using(crate::proofs::WalkedLemmas::walked_rules))]
-    pub(crate) fn number(self, at: Path, a: &Decimal, b: &Decimal) -> Found<'b, 'a>
-        ensures { Walked (numbers at a.now b.now) self.entry result }
+    #[tactic(auto, using(crate::proofs::WalkedLemmas::part_rules))]
+    pub(crate) fn number(self, at: &Path, step: Step, a: &Decimal, b: &Decimal) -> Found<'b, 'a>
+        requires { length at.now < 5 }
+        ensures { Walked (numbers (at.now ▸ step) a.now b.now) self.entry result }
     {
-        if self.is_done() {
-            return self;
-        }
         if same_value(a, b) {
             return self;
         }
-        self.with(at, Content::Number(*a), Content::Number(*b))
+        self.alone(at, step, Content::Number(*a), Content::Number(*b))
     }
 
-    #[tactic(auto, using(crate::proofs::WalkedLemmas::walked_rules))]
+    #[tactic(auto, using(crate::proofs::WalkedLemmas::part_rules))]
     pub(crate) fn optional_number(
         self,
-        at: Path,
+        at: &Path,
+        step: Step,
         a: &Option<Decimal>,
         b: &Option<Decimal>,
     ) -> Found<'b, 'a>
-        ensures { Walked (optional_numbers at a.now b.now) self.entry result }
+        requires { length at.now < 5 }
+        ensures { Walked (optional_numbers (at.now ▸ step) a.now b.now) self.entry result }
     {
-        if self.is_done() {
-            return self;
-        }
         if same_optional_value(*a, *b) {
             return self;
         }
-        self.with(
+        self.alone(
             at,
+            step,
             Content::optional_number(*a),
             Content::optional_number(*b),
         )
     }
 
-    #[tactic(auto, using(crate::proofs::WalkedLemmas::walked_rules))]
+    #[tactic(auto, using(crate::proofs::WalkedLemmas::part_rules))]
     pub(crate) fn length(
         self,
-        at: Path,
+        at: &Path,
+        step: Step,
         level: Level,
         a: &'b Option<Unit<'a>>,
         b: &'b Option<Unit<'a>>,
     ) -> Found<'b, 'a>
-        ensures { Walked (part at (SameLength level a.now b.now) (length_unit a.now) (length_unit b.now)) self.entry result }
+        requires { length at.now < 5 }
+        ensures { Walked (part (at.now ▸ step) (SameLength level a.now b.now) (length_unit a.now) (length_unit b.now)) self.entry result }
     {
-        if self.is_done() {
-            return self;
-        }
         if same_length(a, b, level) {
             return self;
         }
-        self.with(at, Content::length(a.as_ref()), Content::length(b.as_ref()))
+        self.alone(
+            at,
+            step,
+            Content::length(a.as_ref()),
+            Content::length(b.as_ref()),
+        )
     }
 
     // Units, each where a kind is asked; they are compared as where that of the first is.
@@ -347,25 +372,29 @@ impl<'b, 'a> Found<'b, 'a> {
     // The identifiers that the level keeps.
     pub(crate) fn identifiers(
         self,
-        at: Path,
+        at: &Path,
+        step: Step,
         level: Level,
         a: &'b List<Ident<'a>>,
         b: &'b List<Ident<'a>>,
     ) -> Found<'b, 'a>
-        ensures { Walked (identifiers at level a.now b.now) self.entry result }
+        requires { length at.now < 5 }
+        ensures { Walked (identifiers (at.now ▸ step) level a.now b.now) self.entry result }
     {
-        self.identifiers_of(at, level, a.as_slice(), b.as_slice())
+        self.identifiers_of(at, step, level, a.as_slice(), b.as_slice())
     }
 
-    #[tactic(auto, using(crate::proofs::WalkedLemmas::walked_rules))]
+    #[tactic(auto, using(crate::proofs::WalkedLemmas::part_rules))]
     pub(crate) fn identifiers_of(
         self,
-        at: Path,
+        at: &Path,
+        step: Step,
         level: Level,
         a: &'b [Ident<'a>],
         b: &'b [Ident<'a>],
     ) -> Found<'b, 'a>
-        ensures { Walked (identifiers at level a.now b.now) self.entry result }
+        requires { length at.now < 5 }
+        ensures { Walked (identifiers (at.now ▸ step) level a.now b.now) self.entry result }
     {
         if self.is_done() {
             return self;
@@ -375,8 +404,9 @@ impl<'b, 'a> Found<'b, 'a> {
         }
         let these = level.kept(a);
         let others = level.kept(b);
-        self.with(
+        self.alone(
             at,
+            step,
             Content::Identifiers(Members::new(these), Members::new(others)),
             Content::Identifiers(Members::new(others), Members::new(these)),
         )

@@ -41,19 +41,16 @@ fn walk_ellipsoid<'b, 'a>(
     requires { length at ≤ 4 }
     ensures { Walked (parts_of_ellipsoid at level a.now b.now) found.entry result }
 {
-    let found = found.text(at.then(Step::Name), a.name, b.name);
+    let found = found.text(&at, Step::Name, a.name, b.name);
+    let found = found.number(&at, Step::SemiMajor, &a.semi_major_axis, &b.semi_major_axis);
     let found = found.number(
-        at.then(Step::SemiMajor),
-        &a.semi_major_axis,
-        &b.semi_major_axis,
-    );
-    let found = found.number(
-        at.then(Step::Flattening),
+        &at,
+        Step::Flattening,
         &a.inverse_flattening,
         &b.inverse_flattening,
     );
-    let found = found.length(at.then(Step::Unit), level, &a.unit, &b.unit);
-    found.identifiers(at.then(Step::Id), level, &a.identifiers, &b.identifiers)
+    let found = found.length(&at, Step::Unit, level, &a.unit, &b.unit);
+    found.identifiers(&at, Step::Id, level, &a.identifiers, &b.identifiers)
 }
 
 // Of frames: an ellipsoid in both, or in neither.
@@ -70,16 +67,8 @@ fn walk_ellipsoids<'b, 'a>(
     match (a, b) {
         (None, None) => found,
         (Some(x), Some(y)) => walk_ellipsoid(found, at, x, y, level),
-        (None, Some(y)) => found.alone(
-            at.then(Step::Name),
-            Content::Nothing,
-            Content::text(y.name),
-        ),
-        (Some(x), None) => found.alone(
-            at.then(Step::Name),
-            Content::text(x.name),
-            Content::Nothing,
-        ),
+        (None, Some(y)) => found.alone(&at, Step::Name, Content::Nothing, Content::text(y.name)),
+        (Some(x), None) => found.alone(&at, Step::Name, Content::text(x.name), Content::Nothing),
     }
 }
 
@@ -138,10 +127,10 @@ fn walk_given<'b, 'a>(
     requires { length at ≤ 4 }
     ensures { Walked (parts_of_given at level a.now b.now) found.entry result }
 {
-    let found = found.text(at.then(Step::Name), a.name, b.name);
-    let found = found.number(at.then(Step::Longitude), &a.longitude, &b.longitude);
+    let found = found.text(&at, Step::Name, a.name, b.name);
+    let found = found.number(&at, Step::Longitude, &a.longitude, &b.longitude);
     let found = walk_meridian_units(found, at.then(Step::Unit), a, b, level);
-    found.identifiers(at.then(Step::Id), level, &a.identifiers, &b.identifiers)
+    found.identifiers(&at, Step::Id, level, &a.identifiers, &b.identifiers)
 }
 
 fn no_identifiers<'b, 'a>() -> &'b [Ident<'a>]
@@ -160,14 +149,11 @@ fn walk_before_greenwich<'b, 'a>(
     requires { length at ≤ 4 }
     ensures { Walked (parts_of_given at level meridian.now (or_greenwich None)) found.entry result }
 {
-    let found = found.text(at.then(Step::Name), meridian.name, b"Greenwich");
-    let found = found.number(
-        at.then(Step::Longitude),
-        &meridian.longitude,
-        &Decimal::zero(),
-    );
+    let found = found.text(&at, Step::Name, meridian.name, b"Greenwich");
+    let found = found.number(&at, Step::Longitude, &meridian.longitude, &Decimal::zero());
     found.identifiers_of(
-        at.then(Step::Id),
+        &at,
+        Step::Id,
         level,
         meridian.identifiers.as_slice(),
         no_identifiers(),
@@ -184,14 +170,11 @@ fn walk_behind_greenwich<'b, 'a>(
     requires { length at ≤ 4 }
     ensures { Walked (parts_of_given at level (or_greenwich None) meridian.now) found.entry result }
 {
-    let found = found.text(at.then(Step::Name), b"Greenwich", meridian.name);
-    let found = found.number(
-        at.then(Step::Longitude),
-        &Decimal::zero(),
-        &meridian.longitude,
-    );
+    let found = found.text(&at, Step::Name, b"Greenwich", meridian.name);
+    let found = found.number(&at, Step::Longitude, &Decimal::zero(), &meridian.longitude);
     found.identifiers_of(
-        at.then(Step::Id),
+        &at,
+        Step::Id,
         level,
         no_identifiers(),
         meridian.identifiers.as_slice(),
@@ -259,7 +242,7 @@ fn same_members<'a>(a: &[Member<'a>], b: &[Member<'a>], level: Level) -> bool
     same_set(a, b, level)
 }
 
-#[tactic(auto, using(crate::proofs::WalkedLemmas::walked_rules))]
+#[tactic(auto, using(crate::proofs::WalkedLemmas::part_rules))]
 fn walk_members<'b, 'a>(
     found: Found<'b, 'a>,
     at: Path,
@@ -275,7 +258,7 @@ fn walk_members<'b, 'a>(
     if same_members(a, b, level) {
         return found;
     }
-    found.with(
+    found.differing(
         at,
         Content::Members(Members::new(a), Members::new(b)),
         Content::Members(Members::new(b), Members::new(a)),
@@ -292,12 +275,12 @@ fn walk_datum<'b, 'a>(
     requires { length at ≤ 3 }
     ensures { Walked (parts_of_datum at level a.now b.now) found.entry result }
 {
-    let found = found.text(at.then(Step::Name), a.name, b.name);
+    let found = found.text(&at, Step::Name, a.name, b.name);
     let below = at.then(Step::Ellipsoid);
     let found = walk_ellipsoids(found, below, &a.ellipsoid, &b.ellipsoid, level);
-    let found = found.optional_text(at.then(Step::Anchor), a.anchor, b.anchor);
-    let found = found.optional_number(at.then(Step::AnchorEpoch), &a.anchor_epoch, &b.anchor_epoch);
-    found.identifiers(at.then(Step::Id), level, &a.identifiers, &b.identifiers)
+    let found = found.optional_text(&at, Step::Anchor, a.anchor, b.anchor);
+    let found = found.optional_number(&at, Step::AnchorEpoch, &a.anchor_epoch, &b.anchor_epoch);
+    found.identifiers(&at, Step::Id, level, &a.identifiers, &b.identifiers)
 }
 
 fn walk_ensemble<'b, 'a>(
@@ -310,7 +293,7 @@ fn walk_ensemble<'b, 'a>(
     requires { length at ≤ 3 }
     ensures { Walked (parts_of_ensemble at level a.now b.now) found.entry result }
 {
-    let found = found.text(at.then(Step::Name), a.name, b.name);
+    let found = found.text(&at, Step::Name, a.name, b.name);
     let found = walk_members(
         found,
         at.then(Step::Members),
@@ -320,8 +303,8 @@ fn walk_ensemble<'b, 'a>(
     );
     let below = at.then(Step::Ellipsoid);
     let found = walk_ellipsoids(found, below, &a.ellipsoid, &b.ellipsoid, level);
-    let found = found.number(at.then(Step::Accuracy), &a.accuracy, &b.accuracy);
-    found.identifiers(at.then(Step::Id), level, &a.identifiers, &b.identifiers)
+    let found = found.number(&at, Step::Accuracy, &a.accuracy, &b.accuracy);
+    found.identifiers(&at, Step::Id, level, &a.identifiers, &b.identifiers)
 }
 
 // The keyword of a reference frame.
@@ -346,11 +329,11 @@ fn walk_datum_beside<'b, 'a>(
     requires { length at ≤ 3 }
     ensures { Walked (parts_of_frame at level (frame.Datum a.now) (frame.Ensemble b.now)) found.entry result }
 {
-    let found = found.unlike(at.then(Step::Kind), datum_word(&a.ellipsoid), "ENSEMBLE");
-    let found = found.text(at.then(Step::Name), a.name, b.name);
+    let found = found.unlike(&at, Step::Kind, datum_word(&a.ellipsoid), "ENSEMBLE");
+    let found = found.text(&at, Step::Name, a.name, b.name);
     let below = at.then(Step::Ellipsoid);
     let found = walk_ellipsoids(found, below, &a.ellipsoid, &b.ellipsoid, level);
-    found.identifiers(at.then(Step::Id), level, &a.identifiers, &b.identifiers)
+    found.identifiers(&at, Step::Id, level, &a.identifiers, &b.identifiers)
 }
 
 // An ensemble beside a reference frame: what both have.
@@ -365,11 +348,11 @@ fn walk_ensemble_beside<'b, 'a>(
     requires { length at ≤ 3 }
     ensures { Walked (parts_of_frame at level (frame.Ensemble a.now) (frame.Datum b.now)) found.entry result }
 {
-    let found = found.unlike(at.then(Step::Kind), "ENSEMBLE", datum_word(&b.ellipsoid));
-    let found = found.text(at.then(Step::Name), a.name, b.name);
+    let found = found.unlike(&at, Step::Kind, "ENSEMBLE", datum_word(&b.ellipsoid));
+    let found = found.text(&at, Step::Name, a.name, b.name);
     let below = at.then(Step::Ellipsoid);
     let found = walk_ellipsoids(found, below, &a.ellipsoid, &b.ellipsoid, level);
-    found.identifiers(at.then(Step::Id), level, &a.identifiers, &b.identifiers)
+    found.identifiers(&at, Step::Id, level, &a.identifiers, &b.identifiers)
 }
 
 #[tactic(auto, unfolding(crate::specs::PartsOfFrames::parts_of_frame))]

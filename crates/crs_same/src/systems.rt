@@ -56,35 +56,41 @@ fn same_type(a: SystemType, b: SystemType) -> bool
     a == b
 }
 
-#[tactic(auto, using(crate::proofs::WalkedLemmas::walked_rules))]
+#[tactic(auto, using(crate::proofs::WalkedLemmas::part_rules))]
 fn walk_direction<'b, 'a>(
     found: Found<'b, 'a>,
-    at: Path,
+    at: &Path,
     a: Direction,
     b: Direction,
 ) -> Found<'b, 'a>
-    ensures { Walked (words at direction_word a b) found.entry result }
+    requires { length at.now < 5 }
+    ensures { Walked (words (at.now ▸ step.Direction) direction_word a b) found.entry result }
 {
-    if found.is_done() {
-        return found;
-    }
     if same_direction(a, b) {
         return found;
     }
-    found.with(at, Content::word(a.word()), Content::word(b.word()))
+    found.alone(
+        at,
+        Step::Direction,
+        Content::word(a.word()),
+        Content::word(b.word()),
+    )
 }
 
-#[tactic(auto, using(crate::proofs::WalkedLemmas::walked_rules))]
-fn walk_type<'b, 'a>(found: Found<'b, 'a>, at: Path, a: SystemType, b: SystemType) -> Found<'b, 'a>
-    ensures { Walked (words at system_word a b) found.entry result }
+#[tactic(auto, using(crate::proofs::WalkedLemmas::part_rules))]
+fn walk_type<'b, 'a>(found: Found<'b, 'a>, at: &Path, a: SystemType, b: SystemType) -> Found<'b, 'a>
+    requires { length at.now < 5 }
+    ensures { Walked (words (at.now ▸ step.SystemType) system_word a b) found.entry result }
 {
-    if found.is_done() {
-        return found;
-    }
     if same_type(a, b) {
         return found;
     }
-    found.with(at, Content::word(a.word()), Content::word(b.word()))
+    found.alone(
+        at,
+        Step::SystemType,
+        Content::word(a.word()),
+        Content::word(b.word()),
+    )
 }
 
 #[tactic(auto, using(crate::proofs::WalkedLemmas::walked_rules))]
@@ -128,15 +134,15 @@ fn walk_axis<'b, 'a>(
     if found.is_done() {
         return found;
     }
-    let found = found.text(at.then(Step::Name), x.name, y.name);
-    let found = walk_direction(found, at.then(Step::Direction), x.direction, y.direction);
+    let found = found.text(&at, Step::Name, x.name, y.name);
+    let found = walk_direction(found, &at, x.direction, y.direction);
     let meridian = at.then(Step::Meridian);
     let found = walk_axis_meridians(found, meridian, &x.meridian, &y.meridian, level);
     let asked = a.system_type.asked_kind(x.direction);
     let other = b.system_type.asked_kind(y.direction);
     let unit = at.then(Step::Unit);
     let found = found.unit(unit, level, (asked, other), a.unit_of(x), b.unit_of(y));
-    found.identifiers(at.then(Step::Id), level, &x.identifiers, &y.identifiers)
+    found.identifiers(&at, Step::Id, level, &x.identifiers, &y.identifiers)
 }
 
 // Whether an axis that is written at this place, from 1 on, has this position.
@@ -180,16 +186,8 @@ fn walk_both<'b, 'a>(
     match (x, y) {
         (None, None) => found,
         (Some(x), Some(y)) => walk_axis(found, at, a, b, x, y, level),
-        (None, Some(y)) => found.alone(
-            at.then(Step::Name),
-            Content::Nothing,
-            Content::text(y.name),
-        ),
-        (Some(x), None) => found.alone(
-            at.then(Step::Name),
-            Content::text(x.name),
-            Content::Nothing,
-        ),
+        (None, Some(y)) => found.alone(&at, Step::Name, Content::Nothing, Content::text(y.name)),
+        (Some(x), None) => found.alone(&at, Step::Name, Content::text(x.name), Content::Nothing),
     }
 }
 
@@ -245,14 +243,9 @@ pub(crate) fn walk_system<'b, 'a>(
     requires { length at ≤ 3 }
     ensures { Walked (parts_of_system at level a.now b.now) found.entry result }
 {
-    let found = walk_type(
-        found,
-        at.then(Step::SystemType),
-        a.system_type,
-        b.system_type,
-    );
-    let found = found.number(at.then(Step::Dimension), &a.dimension, &b.dimension);
-    let found = found.identifiers(at.then(Step::Id), level, &a.identifiers, &b.identifiers);
+    let found = walk_type(found, &at, a.system_type, b.system_type);
+    let found = found.number(&at, Step::Dimension, &a.dimension, &b.dimension);
+    let found = found.identifiers(&at, Step::Id, level, &a.identifiers, &b.identifiers);
     walk_axes(found, at, a, b, level)
 }
 

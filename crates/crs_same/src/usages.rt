@@ -262,7 +262,7 @@ fn usages_of<'b, 'a>(tail: &'b Tail<'a>, level: Level) -> Usages<'b, 'a>
     )
 }
 
-#[tactic(auto, using(crate::proofs::WalkedLemmas::walked_rules))]
+#[tactic(auto, using(crate::proofs::WalkedLemmas::part_rules))]
 fn walk_usages<'b, 'a>(
     found: Found<'b, 'a>,
     at: Path,
@@ -273,13 +273,10 @@ fn walk_usages<'b, 'a>(
     ensures { Walked (sets at SameUsage content.Usages
         (kept level (usages_of a.now)) (kept level (usages_of b.now))) found.entry result }
 {
-    if found.is_done() {
-        return found;
-    }
     if same_usages(a, b, level) {
         return found;
     }
-    found.with(
+    found.differing(
         at,
         Content::Usages(usages_of(a, level), usages_of(b, level)),
         Content::Usages(usages_of(b, level), usages_of(a, level)),
@@ -301,9 +298,10 @@ pub(crate) fn walk_tail<'b, 'a>(
         return found;
     }
     let found = walk_usages(found, at.then(Step::Usage), a, b, level);
-    let found = found.identifiers(at.then(Step::Id), level, &a.identifiers, &b.identifiers);
+    let found = found.identifiers(&at, Step::Id, level, &a.identifiers, &b.identifiers);
     found.optional_text(
-        at.then(Step::Remark),
+        &at,
+        Step::Remark,
         level.kept_text(a.remark),
         level.kept_text(b.remark),
     )

@@ -7,10 +7,10 @@ pub returns : goal.returns
 unfolding parts_of_conversion
 returns c =
     rw (← c.a.view_is, ← c.b.view_is) (
-    via c.text-found.result (rw (← c.then.ensures) c.text-found.ensures) (
+    via c.text-found.result c.text-found.ensures (
     via c.walk_method-found.result (rw (← c.then-method.ensures) c.walk_method-found.ensures) (
-    via c.walk_parameters-found.result (rw (← c.then-2.ensures, ← c.as_slice.ensures, ← c.as_slice-2.ensures) c.walk_parameters-found.ensures) (
-    rw (← c.then-3.ensures) c.identifiers.ensures))))
+    via c.walk_parameters-found.result (rw (← c.then.ensures, ← c.as_slice.ensures, ← c.as_slice-2.ensures) c.walk_parameters-found.ensures) (
+    c.identifiers.ensures))))
 
 pub returns-then-is_done : goal.returns-then-is_done
 returns-then-is_done c = done (search rules)

@@ -6,5 +6,5 @@ pub returns : goal.returns
 unfolding parts_of_method
 returns c =
     rw (← c.a.view_is, ← c.b.view_is) (
-    via c.text-found.result (rw (← c.then.ensures) c.text-found.ensures) (
-    rw (← c.then-2.ensures) c.identifiers.ensures))
+    via c.text-found.result c.text-found.ensures (
+    c.identifiers.ensures))

@@ -6,7 +6,7 @@ use Rattle.crs_same.proofs.crs.walk_compound.Goals as goal
 pub returns : goal.returns
 unfolding parts_of_compound
 returns c =
-    via c.text-found.result (rw (← c.a.view_is, ← c.b.view_is, ← c.then.ensures) c.text-found.ensures) (
+    via c.text-found.result (rw (← c.a.view_is, ← c.b.view_is) c.text-found.ensures) (
     via c.walk_horizontal-found.result (rw (← c.then-horizontal.ensures) (search rules)) (
     via c.walk_vertical-found.result (rw (← c.then-vertical.ensures) (search rules)) (
     search rules)))

@@ -6,8 +6,8 @@ use Rattle.crs_same.proofs.crs.walk_geodetic.Goals as goal
 pub returns : goal.returns
 unfolding parts_of_geodetic
 returns c =
-    via c.walk_kind-found.result (rw (← c.a.view_is, ← c.b.view_is, ← c.a-inside.view_is, ← c.b-inside.view_is, ← c.then-kind.ensures) c.walk_kind-found.ensures) (
-    via c.text-found.result (rw (← c.a.view_is, ← c.b.view_is, ← c.a-inside.view_is, ← c.b-inside.view_is, ← c.then.ensures) c.text-found.ensures) (
+    via c.walk_kind-found.result (rw (← c.a.view_is, ← c.b.view_is, ← c.a-inside.view_is, ← c.b-inside.view_is) c.walk_kind-found.ensures) (
+    via c.text-found.result (rw (← c.a.view_is, ← c.b.view_is, ← c.a-inside.view_is, ← c.b-inside.view_is) c.text-found.ensures) (
     via c.walk_dynamic-found.result (rw (← c.then-dynamic.ensures) (search rules)) (
     via c.walk_frame-found.result (rw (← c.then-datum.ensures) (search rules)) (
     via c.walk_meridian-found.result (rw (← c.then-meridian.ensures) (search rules)) (

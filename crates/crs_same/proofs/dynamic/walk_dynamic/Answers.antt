@@ -6,5 +6,5 @@ use Rattle.crs_same.proofs.dynamic.walk_dynamic.Goals as goal
 pub returns : goal.returns
 unfolding parts_of_dynamic
 returns c =
-    via c.optional_number-found.result (rw (← c.then.ensures) (search rules)) (
-    rw (← c.then-2.ensures) (search rules))
+    via c.optional_number-found.result (search rules) (
+    rw (← c.then.ensures) (search rules))

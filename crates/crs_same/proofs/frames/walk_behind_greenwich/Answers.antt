@@ -4,7 +4,7 @@ use Rattle.crs_same.proofs.frames.walk_behind_greenwich.Goals as goal
 
 pub returns : goal.returns
 returns c =
-    via c.text-found.result (rw (← c.meridian.view_is, ← c.then.ensures) c.text-found.ensures) (
-    via c.number-found.result (rw (← c.then-2.ensures) (search rules)) (
+    via c.text-found.result (rw (← c.meridian.view_is) c.text-found.ensures) (
+    via c.number-found.result (search rules) (
     via c.number-found.result (same (inl (refl, inl refl)))
-    (rw (← c.then-3.ensures) (search rules))))
+    (search rules)))

@@ -4,8 +4,8 @@ use Rattle.crs_same.proofs.frames.walk_datum.Goals as goal
 pub returns : goal.returns
 returns c =
     rw (← c.a.view_is, ← c.b.view_is) (
-    via c.text-found.result (rw (← c.then.ensures) c.text-found.ensures) (
+    via c.text-found.result c.text-found.ensures (
     via c.walk_ellipsoids-found.result (rw (← c.then-below.ensures) c.walk_ellipsoids-found.ensures) (
-    via c.optional_text-found.result (rw (← c.then-2.ensures) c.optional_text-found.ensures) (
-    via c.optional_number-found.result (rw (← c.then-3.ensures) c.optional_number-found.ensures) (
-    rw (← c.then-4.ensures) c.identifiers.ensures)))))
+    via c.optional_text-found.result c.optional_text-found.ensures (
+    via c.optional_number-found.result c.optional_number-found.ensures (
+    c.identifiers.ensures)))))

@@ -6,7 +6,7 @@ pub returns : goal.returns
 unfolding parts_of_frame
 returns c =
     rw (← c.a.view_is, ← c.b.view_is) (
-    via c.unlike-found.result (rw (← c.then.ensures, ← c.datum_word.ensures) c.unlike-found.ensures) (
-    via c.text-found.result (rw (← c.then-2.ensures) c.text-found.ensures) (
+    via c.unlike-found.result (rw (← c.datum_word.ensures) c.unlike-found.ensures) (
+    via c.text-found.result c.text-found.ensures (
     via c.walk_ellipsoids-found.result (rw (← c.then-below.ensures) c.walk_ellipsoids-found.ensures) (
-    rw (← c.then-3.ensures) c.identifiers.ensures))))
+    c.identifiers.ensures))))

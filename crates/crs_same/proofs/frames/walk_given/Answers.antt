@@ -3,7 +3,7 @@ use Rattle.crs_same.proofs.frames.walk_given.Goals as goal
 
 pub returns : goal.returns
 returns c =
-    via c.text-found.result (rw (← c.a.view_is, ← c.b.view_is, ← c.then.ensures) c.text-found.ensures) (
-    via c.number-found.result (rw (← c.a.view_is, ← c.b.view_is, ← c.then-2.ensures) c.number-found.ensures) (
-    via c.walk_meridian_units-found.result (rw (← c.then-3.ensures) c.walk_meridian_units-found.ensures) (
-    rw (← c.a.view_is, ← c.b.view_is, ← c.then-4.ensures) c.identifiers.ensures)))
+    via c.text-found.result (rw (← c.a.view_is, ← c.b.view_is) c.text-found.ensures) (
+    via c.number-found.result (rw (← c.a.view_is, ← c.b.view_is) c.number-found.ensures) (
+    via c.walk_meridian_units-found.result (rw (← c.then.ensures) c.walk_meridian_units-found.ensures) (
+    rw (← c.a.view_is, ← c.b.view_is) c.identifiers.ensures)))

@@ -7,11 +7,11 @@ pub returns : goal.returns
 unfolding parts_of_axis
 returns c =
     rw (← c.a.view_is, ← c.b.view_is, ← c.x.view_is, ← c.y.view_is) (
-    via c.text-found.result (rw (← c.then.ensures) c.text-found.ensures) (
-    via c.walk_direction-found.result (rw (← c.then-2.ensures) c.walk_direction-found.ensures) (
+    via c.text-found.result c.text-found.ensures (
+    via c.walk_direction-found.result c.walk_direction-found.ensures (
     via c.walk_axis_meridians-found.result (rw (← c.then-meridian.ensures) c.walk_axis_meridians-found.ensures) (
     via c.unit-found.result (rw (← c.then-unit.ensures) (search rules)) (
-    rw (← c.then-3.ensures) c.identifiers.ensures)))))
+    c.identifiers.ensures)))))
 
 pub returns-then-is_done : goal.returns-then-is_done
 returns-then-is_done c = done (search rules)

@@ -5,7 +5,7 @@ use Rattle.crs_same.proofs.systems.walk_system.Goals as goal
 pub returns : goal.returns
 unfolding parts_of_system
 returns c =
-    via c.walk_type-found.result (rw (← c.a.view_is, ← c.b.view_is, ← c.then.ensures) c.walk_type-found.ensures) (
-    via c.number-found.result (rw (← c.a.view_is, ← c.b.view_is, ← c.then-2.ensures) c.number-found.ensures) (
-    via c.identifiers-found.result (rw (← c.a.view_is, ← c.b.view_is, ← c.then-3.ensures) c.identifiers-found.ensures) (
+    via c.walk_type-found.result (rw (← c.a.view_is, ← c.b.view_is) c.walk_type-found.ensures) (
+    via c.number-found.result (rw (← c.a.view_is, ← c.b.view_is) c.number-found.ensures) (
+    via c.identifiers-found.result (rw (← c.a.view_is, ← c.b.view_is) c.identifiers-found.ensures) (
     c.walk_axes.ensures)))

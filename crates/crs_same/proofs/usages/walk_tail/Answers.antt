@@ -7,8 +7,8 @@ pub returns : goal.returns
 unfolding parts_of_tail
 returns c =
     via c.walk_usages-found.result (rw (← c.then.ensures) c.walk_usages-found.ensures) (
-    via c.identifiers-found.result (rw (← c.a.view_is, ← c.b.view_is, ← c.then-2.ensures) c.identifiers-found.ensures) (
-    rw (← c.a.view_is, ← c.b.view_is, ← c.then-3.ensures, ← c.kept_text.ensures, ← c.kept_text-2.ensures) c.optional_text.ensures))
+    via c.identifiers-found.result (rw (← c.a.view_is, ← c.b.view_is) c.identifiers-found.ensures) (
+    rw (← c.a.view_is, ← c.b.view_is, ← c.kept_text.ensures, ← c.kept_text-2.ensures) c.optional_text.ensures))
 
 pub returns-then-is_done : goal.returns-then-is_done
 returns-then-is_done c = done (search rules)
