@@ -2,6 +2,7 @@ pub mod ContentLemmas
 pub mod DirectCrsLemmas
 pub mod DirectLemmas
 pub mod DirectPartLemmas
+pub mod DirectPlainLemmas
 pub mod DirectSetLemmas
 pub mod DirectAxisLemmas
 pub mod EncloseLemmas

@@ -11,6 +11,7 @@ pub(crate) mod ident;
 pub(crate) mod lookup;
 pub(crate) mod meridian;
 pub(crate) mod number;
+pub(crate) mod plain;
 pub(crate) mod set;
 pub(crate) mod system;
 pub(crate) mod tail;

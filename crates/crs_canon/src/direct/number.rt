@@ -1,8 +1,8 @@
 //! Numbers.
 ghost use Rattle.std.specs.Prelude.{◌≡◌, ◌∷◌, ◌++◌, [], OnOk, Some};
-ghost use Rattle.crs_decimal.specs.Plain.{plain};
+ghost use Rattle.crs_decimal.specs.Plain.{IsPlain, plain};
 ghost use Rattle.crs_decimal.specs.Value.{Value};
-ghost use Rattle.crs_text.specs.Items.{HasId};
+ghost use Rattle.crs_text.specs.Items.{HasId, raw_of};
 ghost use Rattle.crs_text.specs.Written.{item_text};
 ghost use Rattle.crs_value.specs.Reading.{item_at, ReadsOne};
 ghost use Rattle.crs_value.specs.Reads.{ReadsNumber, ReadsNumberAt, ReadsNumberOf};
@@ -10,6 +10,7 @@ ghost use Rattle.crs_normal.specs.SpelledItems.{number_item};
 ghost use Rattle.crs_canon.specs.Direct.{Writes};
 
 use crate::direct::lookup::{first, nth};
+use crate::direct::plain::is_plain;
 use crate::spelling::texts::{append, open_number};
 use crs_decimal::Decimal;
 use crs_shape::Class;
@@ -36,8 +37,44 @@ pub(crate) fn number_of(items: &Items<'_>, id: ItemId, class: Class) -> Option<D
     decimal_at(items, first(items, id, class, Class::Number)?)
 }
 
-// A number behind an opening or a comma.
+// A number behind an opening or a comma. Most stand in their plain spelling already.
 fn open_number_at(
+    out: &mut Vec<u8>,
+    opening: &[u8],
+    items: &Items<'_>,
+    id: ItemId,
+) -> Result<(), AllocError>
+    requires { HasId items.now id }
+    ensures { OnOk result (Writes (ReadsNumber (item_at items.now id)) (λ v. opening.now ++ plain v)
+        out.old.items out.new.items) }
+{
+    let raw = items.raw(id);
+    if is_plain(raw) {
+        open_plain(out, opening, items, id)
+    } else {
+        open_decimal_at(out, opening, items, id)
+    }
+}
+
+// A number that is plain.
+fn open_plain(
+    out: &mut Vec<u8>,
+    opening: &[u8],
+    items: &Items<'_>,
+    id: ItemId,
+) -> Result<(), AllocError>
+    requires has { HasId items.now id }
+    requires plain { IsPlain (raw_of (item_at items.now id)) }
+    ensures { OnOk result (Writes (ReadsNumber (item_at items.now id)) (λ v. opening.now ++ plain v)
+        out.old.items out.new.items) }
+{
+    crs_decimal::laws::plain_is_the_one();
+    append(out, opening)?;
+    append(out, items.raw(id))
+}
+
+// A number as it is read.
+fn open_decimal_at(
     out: &mut Vec<u8>,
     opening: &[u8],
     items: &Items<'_>,

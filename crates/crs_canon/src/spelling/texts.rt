@@ -71,7 +71,7 @@ pub(crate) fn write_number(out: &mut Vec<u8>, value: &Decimal) -> Result<(), All
     write_decimal(out, value)
 }
 
-fn are_digits(raw: &[u8]) -> bool
+pub(crate) fn are_digits(raw: &[u8]) -> bool
     ensures { result ≡ list_all is_digit raw.now }
 {
     raw.iter().all(|byte| byte.is_ascii_digit())
