@@ -1,5 +1,6 @@
 pub mod ContentLemmas
 pub mod DirectCrsLemmas
+pub mod DirectFlatLemmas
 pub mod DirectLemmas
 pub mod DirectPartLemmas
 pub mod DirectPlainLemmas

@@ -2,7 +2,7 @@
 use Rattle.std.specs.Prelude.{◌≡◌, ℕ, List, [], ◌∷◌, ◌++◌, Option, Some, None}
 use Rattle.crs_decimal.specs.Plain.{EndsTrim}
 use Rattle.crs_decimal.specs.Spelling.{AreDigits}
-use Rattle.crs_text.specs.Items.{Item}
+use Rattle.crs_text.specs.Items.{Item, Siblings, leaf, node, End, More}
 use Rattle.crs_shape.specs.declared.class.Class.{Class}
 use Rattle.crs_value.specs.Reading.{item_at}
 
@@ -19,3 +19,9 @@ IsReadAt {V = V} Reads c tree value (Some id) = (read : V) × (value ≡ Some re
 abbrev pub IsPlainRest : List ℕ → Type 0
 IsPlainRest [] = Unit {0}
 IsPlainRest (b ∷ digits) = (b ≡ 46) × AreDigits digits × EndsTrim digits
+
+-- none of these items is a node
+abbrev pub AreLeaves : Siblings → Type 0
+AreLeaves End = Unit {0}
+AreLeaves (More (leaf kind place raw) items) = AreLeaves items
+AreLeaves (More (node place keyword square first others close) items) = ⊥

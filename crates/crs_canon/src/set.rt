@@ -17,10 +17,10 @@ use std::collections::BTreeSet;
 pub(crate) const MEMBER_ROOM: usize = 128;
 
 // So many members are few: each is compared with all that are there.
-const FEW: usize = 16;
+pub(crate) const FEW: usize = 16;
 
 // The room that the spellings of a few members are given at first.
-const FEW_ROOM: usize = 1024;
+pub(crate) const FEW_ROOM: usize = 1024;
 
 // A value that may be a member of a set.
 pub(crate) trait Spell: Sized {

@@ -1,18 +1,19 @@
 //! Identifiers, and nodes that have a name and identifiers alone.
-ghost use Rattle.std.specs.Prelude.{◌≡◌, ◌∷◌, ◌++◌, IsTrue, IsFalse, OnOk};
+ghost use Rattle.std.specs.Prelude.{◌≡◌, ◌∷◌, ◌++◌, ℕ, IsTrue, IsFalse, List, OnOk, Option, codes, map};
 ghost use Rattle.std.specs.Option.{option_copied};
 ghost use Rattle.crs_text.specs.Items.{HasId, arguments, skip, End, More};
 ghost use Rattle.crs_text.specs.Written.{item_text, others_text};
 ghost use Rattle.crs_value.specs.Reading.{item_at, ReadsFirst, ReadsIfAny, ReadsOne, ReadsOptional};
-ghost use Rattle.crs_value.specs.Reads.{ReadsIds, ReadsIdent, ReadsText, single_of};
+ghost use Rattle.crs_value.specs.Reads.{ReadsIds, ReadsIdent, ReadsText, ReadsTextOf, single_of};
 ghost use Rattle.crs_value.specs.ReadsNamed.{ReadsNamed};
 ghost use Rattle.crs_value.specs.declared.values.level.Level.TheVariants as levels;
-ghost use Rattle.crs_normal.specs.SpelledItems.{code_item, each, opt};
+ghost use Rattle.crs_normal.specs.SpelledItems.{code_item, each, opt, text_node};
 ghost use Rattle.crs_normal.specs.SpelledUnits.{item_ident, set_idents};
 ghost use Rattle.crs_canon.specs.Direct.{Writes};
+ghost use Rattle.crs_canon.specs.Members.{set_text};
 ghost use Rattle.crs_canon.specs.Openings.{named_node};
 
-use crate::direct::lookup::{first, open_text_of, write_text_of};
+use crate::direct::lookup::{is_flat, open_text_of, write_text_of};
 use crate::direct::set::{SpellAt, write_set};
 use crate::spelling::texts::{append, write_code};
 use crs_shape::Class;
@@ -65,6 +66,26 @@ fn write_version_of(out: &mut Vec<u8>, items: &Items<'_>, id: ItemId) -> Result<
     }
 }
 
+// The citation and the URI, those that there are, each behind a comma.
+fn write_references(
+    out: &mut Vec<u8>,
+    items: &Items<'_>,
+    id: ItemId,
+    class: Class,
+) -> Result<(), AllocError>
+    requires { HasId items.now id }
+    ensures { OnOk result ((citation uri : Option (List ℕ)) →
+        ReadsIfAny ReadsTextOf Class.Citation class (item_at items.now id) citation →
+        ReadsIfAny ReadsTextOf Class.Uri class (item_at items.now id) uri → out.new.items ≡ out.old.items ++ others_text
+        (opt (text_node (codes "CITATION")) citation (opt (text_node (codes "URI")) uri End))) }
+{
+    if is_flat(items, id) {
+        return Ok(());
+    }
+    write_text_of(out, b",CITATION[\"", items, id, class, Class::Citation)?;
+    write_text_of(out, b",URI[\"", items, id, class, Class::Uri)
+}
+
 pub(crate) fn write_ident(
     out: &mut Vec<u8>,
     items: &Items<'_>,
@@ -78,8 +99,7 @@ pub(crate) fn write_ident(
     open_text_of(out, b"ID[\"", items, id, class)?;
     write_code_of(out, items, id)?;
     write_version_of(out, items, id)?;
-    write_text_of(out, b",CITATION[\"", items, id, class, Class::Citation)?;
-    write_text_of(out, b",URI[\"", items, id, class, Class::Uri)?;
+    write_references(out, items, id, class)?;
     append(out, b"]")
 }
 
@@ -103,6 +123,24 @@ impl<'a> SpellAt<'a> for Ident<'a> {
     }
 }
 
+// The identifiers of a node.
+fn write_all_idents(
+    out: &mut Vec<u8>,
+    items: &Items<'_>,
+    id: ItemId,
+    class: Class,
+    level: Level,
+) -> Result<(), AllocError>
+    requires { HasId items.now id }
+    ensures { OnOk result (Writes (ReadsIds class (item_at items.now id))
+        (λ ids. set_text (map (λ i. item_text (item_ident i)) ids)) out.old.items out.new.items) }
+{
+    if is_flat(items, id) {
+        return Ok(());
+    }
+    write_set::<Ident<'_>>(out, items, id, class, Class::Identifier, level)
+}
+
 // The identifiers that the level keeps of a node.
 pub(crate) fn write_idents(
     out: &mut Vec<u8>,
@@ -116,7 +154,7 @@ pub(crate) fn write_idents(
         (λ ids. others_text (each item_ident (set_idents level ids) End)) out.old.items out.new.items) }
 {
     if keeps(level) {
-        write_set::<Ident<'_>>(out, items, id, class, Class::Identifier, level)
+        write_all_idents(out, items, id, class, level)
     } else {
         Ok(())
     }

@@ -1,15 +1,23 @@
 //! The arguments of a node, by their class.
-ghost use Rattle.std.specs.Prelude.{◌≡◌, ◌∷◌, ◌++◌, OnOk, drop};
+ghost use Rattle.std.specs.Prelude.{◌≡◌, ◌∷◌, ◌++◌, IsTrue, OnOk, drop};
 ghost use Rattle.crs_text.specs.Items.{arguments, rest_of, here, HasId};
 ghost use Rattle.crs_value.specs.Reading.{item_at, ahead, Holds, those, IsFound, ReadsIfAny};
 ghost use Rattle.crs_value.specs.Reads.{ReadsTextOf};
-ghost use Rattle.crs_canon.specs.Direct.{Writes};
+ghost use Rattle.crs_canon.specs.Direct.{AreLeaves, Writes};
 ghost use Rattle.crs_canon.specs.Openings.{opened, text_behind};
 
 use crate::spelling::texts::{append, open_text};
 use crs_shape::{Class, Sought};
 use crs_text::{ItemId, Items};
 use std::alloc::AllocError;
+
+// Whether no argument of a node is a node, as most are that have no identifiers.
+pub(crate) fn is_flat(items: &Items<'_>, id: ItemId) -> bool
+    requires { HasId items.now id }
+    ensures { IsTrue result → AreLeaves (arguments (item_at items.now id)) }
+{
+    items.size(id).saturating_sub(1) == items.arg_count(id)
+}
 
 // The first argument of this class from this one on.
 fn found(items: &Items<'_>, from: Option<ItemId>, parent: Class, class: Class) -> Option<ItemId>

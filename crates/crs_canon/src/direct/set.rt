@@ -9,15 +9,20 @@ ghost use Rattle.crs_normal.specs.Ordered.{put, put_all};
 ghost use Rattle.crs_canon.specs.Direct.{Writes};
 ghost use Rattle.crs_canon.specs.Members.{set_text, spellings};
 ghost use Rattle.crs_canon.specs.SetText.{commas};
+ghost use Rattle.crs_canon.specs.Spans.{AreInOrder, texts_at};
 
 use crate::direct::lookup::{first, later};
-use crate::set::{MEMBER_ROOM, write_sorted};
+use crate::set::{FEW, FEW_ROOM, MEMBER_ROOM, write_sorted};
+use crate::spans::{Span, put, write_spans};
 use crate::spelling::texts::append;
 use crs_shape::Class;
 use crs_text::{ItemId, Items};
 use crs_value::Level;
 use std::alloc::{AllocError, Global};
 use std::collections::BTreeSet;
+
+// A node of fewer arguments has few members of each set.
+const FEW_ARGUMENTS: usize = 32;
 
 // A value that may be a member of a set, and that is read from a node.
 pub(crate) trait SpellAt<'a>: Sized {
@@ -95,6 +100,83 @@ fn gather_from<'a, T: SpellAt<'a>>(
     Ok(())
 }
 
+// Puts a member's spelling among the others; it is spelled in `room` first, whose bytes are lost.
+fn gather_span<'a, T: SpellAt<'a>>(
+    bytes: &mut Vec<u8>,
+    spans: &mut Vec<Span>,
+    room: &mut Vec<u8>,
+    items: &Items<'a>,
+    id: ItemId,
+    class: Class,
+    level: Level,
+) -> Result<(), AllocError>
+    requires has { HasId items.now id }
+    requires order { AreInOrder bytes.old.items spans.old.items }
+    ensures order { OnOk result (AreInOrder bytes.new.items spans.new.items) }
+    ensures texts { OnOk result ((value : T) → T.Reads class (item_at items.now id) value →
+        texts_at bytes.new.items spans.new.items
+        ≡ put (λ b. b) (T.spelling level value) (texts_at bytes.old.items spans.old.items)) }
+{
+    room.clear();
+    T::write_at(room, items, id, class, level)?;
+    put(bytes, spans, room)
+}
+
+// Puts the spellings of the members from this one on among the others.
+fn gather_spans<'a, T: SpellAt<'a>>(
+    bytes: &mut Vec<u8>,
+    spans: &mut Vec<Span>,
+    room: &mut Vec<u8>,
+    items: &Items<'a>,
+    from: Option<ItemId>,
+    parent: Class,
+    class: Class,
+    level: Level,
+) -> Result<(), AllocError>
+    requires holds { Holds items.now from }
+    requires order { AreInOrder bytes.old.items spans.old.items }
+    ensures order { OnOk result (AreInOrder bytes.new.items spans.new.items) }
+    ensures texts { OnOk result ((values : List T) →
+        ReadsEach (T.Reads class) (from_found items.now parent class from) values →
+        texts_at bytes.new.items spans.new.items
+        ≡ put_all (λ b. b) (texts_at bytes.old.items spans.old.items) (map (T.spelling level) values)) }
+{
+    let mut at = from;
+    while let Some(id) = at {
+        gather_span::<T>(bytes, spans, room, items, id, class, level)?;
+        at = later(items, id, parent, class);
+    }
+    Ok(())
+}
+
+// A member of its own class, and a few others.
+fn write_few<'a, T: SpellAt<'a>>(
+    out: &mut Vec<u8>,
+    items: &Items<'a>,
+    id: ItemId,
+    own: Class,
+    from: Option<ItemId>,
+    parent: Class,
+    class: Class,
+    level: Level,
+) -> Result<(), AllocError>
+    requires has { HasId items.now id }
+    requires holds { Holds items.now from }
+    ensures { OnOk result ((value : T) (values : List T) → T.Reads own (item_at items.now id) value →
+        ReadsEach (T.Reads class) (from_found items.now parent class from) values →
+        out.new.items ≡ out.old.items ++ set_text (map (T.spelling level) (value ∷ values))) }
+{
+    let alloc = *out.allocator();
+    let mut room = Vec::with_capacity(alloc, MEMBER_ROOM)?;
+    let mut bytes = Vec::with_capacity(alloc, FEW_ROOM)?;
+    let mut spans = Vec::with_capacity(alloc, FEW)?;
+    gather_span::<T>(&mut bytes, &mut spans, &mut room, items, id, own, level)?;
+    gather_spans::<T>(
+        &mut bytes, &mut spans, &mut room, items, from, parent, class, level,
+    )?;
+    write_spans(out, &bytes, &spans)
+}
+
 // A member of its own class, and others.
 fn write_many<'a, T: SpellAt<'a>>(
     out: &mut Vec<u8>,
@@ -119,7 +201,14 @@ fn write_many<'a, T: SpellAt<'a>>(
     write_sorted(out, &sorted)
 }
 
-// A set of a member of its own class, and others. Most have no others, and need no order.
+// Whether a node has few arguments, so that each of its sets is of a few members.
+pub(crate) fn are_few(items: &Items<'_>, id: ItemId) -> bool
+    requires { HasId items.now id }
+{
+    items.arg_count(id) < FEW_ARGUMENTS
+}
+
+// A set of a member of its own class, and others, which may be a few alone. Most have no others, and need no order.
 pub(crate) fn write_set_with<'a, T: SpellAt<'a>>(
     out: &mut Vec<u8>,
     items: &Items<'a>,
@@ -129,6 +218,7 @@ pub(crate) fn write_set_with<'a, T: SpellAt<'a>>(
     parent: Class,
     class: Class,
     level: Level,
+    few: bool,
 ) -> Result<(), AllocError>
     requires has { HasId items.now id }
     requires holds { Holds items.now from }
@@ -138,7 +228,13 @@ pub(crate) fn write_set_with<'a, T: SpellAt<'a>>(
 {
     match from {
         None => write_member::<T>(out, items, id, own, level),
-        Some(_) => write_many::<T>(out, items, id, own, from, parent, class, level),
+        Some(_) => {
+            if few {
+                write_few::<T>(out, items, id, own, from, parent, class, level)
+            } else {
+                write_many::<T>(out, items, id, own, from, parent, class, level)
+            }
+        }
     }
 }
 
@@ -159,7 +255,8 @@ pub(crate) fn write_set<'a, T: SpellAt<'a>>(
         None => Ok(()),
         Some(found) => {
             let others = later(items, found, parent, class);
-            write_set_with::<T>(out, items, found, class, others, parent, class, level)
+            let few = are_few(items, id);
+            write_set_with::<T>(out, items, found, class, others, parent, class, level, few)
         }
     }
 }

@@ -14,7 +14,7 @@ ghost use Rattle.crs_canon.specs.Members.{set_text};
 
 use crate::direct::ident::{keeps, write_idents};
 use crate::direct::lookup::{first, write_text_of};
-use crate::direct::set::{write_set, write_set_with};
+use crate::direct::set::{are_few, write_set, write_set_with};
 use crs_shape::Class;
 use crs_text::{ItemId, Items};
 use crs_value::{Level, Usage};
@@ -55,7 +55,18 @@ fn write_all_usages(
 {
     if has_bare(items, id, class) {
         let usages = first(items, id, class, Class::Usage);
-        write_set_with::<Usage<'_>>(out, items, id, class, usages, class, Class::Usage, level)
+        let few = are_few(items, id);
+        write_set_with::<Usage<'_>>(
+            out,
+            items,
+            id,
+            class,
+            usages,
+            class,
+            Class::Usage,
+            level,
+            few,
+        )
     } else {
         write_set::<Usage<'_>>(out, items, id, class, Class::Usage, level)
     }

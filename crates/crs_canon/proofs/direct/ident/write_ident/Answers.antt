@@ -3,7 +3,7 @@ use Rattle.std.proofs.lemmas.Result.{on_ok_weaker}
 use Rattle.crs_text.specs.Items.{End, More, Siblings}
 use Rattle.crs_normal.specs.SpelledItems.{code_item, opt, text_node}
 use Rattle.crs_canon.proofs.PieceLemmas.{then-opt}
-use Rattle.crs_canon.proofs.DirectLemmas.{closed, last-text, then-one, then-text}
+use Rattle.crs_canon.proofs.DirectLemmas.{closed, then-one}
 use Rattle.crs_canon.proofs.direct.ident.write_ident.Goals as goal
 
 pub returns : goal.returns
@@ -13,17 +13,15 @@ returns c = on_ok_weaker c.append.result (λ closes. record {
       let s0 = c.open_text_of.new.out.items in
       let s1 = c.write_code_of.new.out.items in
       let s2 = c.write_version_of.new.out.items in
-      let s3 = c.write_text_of.new.out.items in
-      let s4 = c.write_text_of-2.new.out.items in
+      let s3 = c.write_references.new.out.items in
       let r4 : Siblings = opt (text_node (codes "URI")) i.uri End in
       let r3 : Siblings = opt (text_node (codes "CITATION")) i.citation r4 in
       let r2 : Siblings = opt code_item i.version r3 in
       let r1 : Siblings = More (code_item i.code) r2 in
-      closed (codes "ID[\"") i.authority r1 out s0 s4 c.append.new.out.items
+      closed (codes "ID[\"") i.authority r1 out s0 s3 c.append.new.out.items
       (c.in_ok-open_text_of.ensures.writes i.authority r.authority)
-      (then-one (code_item i.code) r2 s0 s1 s4 (c.in_ok-write_code_of.ensures.writes i.code r.code)
-      (then-opt code_item i.version r3 s1 s2 s4 (c.in_ok-write_version_of.ensures.writes i.version r.version)
-      (then-text (codes "CITATION") i.citation r4 s2 s3 s4 (c.in_ok-write_text_of.ensures.writes i.citation r.citation)
-      (last-text (codes "URI") i.uri s3 s4 (c.in_ok-write_text_of-2.ensures.writes i.uri r.uri)))))
+      (then-one (code_item i.code) r2 s0 s1 s3 (c.in_ok-write_code_of.ensures.writes i.code r.code)
+      (then-opt code_item i.version r3 s1 s2 s3 (c.in_ok-write_version_of.ensures.writes i.version r.version)
+      (c.in_ok-write_references.ensures i.citation i.uri r.citation r.uri)))
       closes;
 }) c.append.ensures
