@@ -1,8 +1,8 @@
 //! Numbers.
 ghost use Rattle.std.specs.Prelude.{◌≡◌, ◌∷◌, ◌++◌, [], OnOk, Some};
-ghost use Rattle.crs_decimal.specs.Plain.{IsPlain, plain};
+ghost use Rattle.crs_decimal.specs.Plain.{plain};
 ghost use Rattle.crs_decimal.specs.Value.{Value};
-ghost use Rattle.crs_text.specs.Items.{HasId, raw_of};
+ghost use Rattle.crs_text.specs.Items.{HasId};
 ghost use Rattle.crs_text.specs.Written.{item_text};
 ghost use Rattle.crs_value.specs.Reading.{item_at, ReadsOne};
 ghost use Rattle.crs_value.specs.Reads.{ReadsNumber, ReadsNumberAt, ReadsNumberOf};
@@ -10,7 +10,7 @@ ghost use Rattle.crs_normal.specs.SpelledItems.{number_item};
 ghost use Rattle.crs_canon.specs.Direct.{Writes};
 
 use crate::direct::lookup::{first, nth};
-use crate::direct::plain::is_plain;
+use crate::direct::plain::plain_of;
 use crate::spelling::texts::{append, open_number};
 use crs_decimal::Decimal;
 use crs_shape::Class;
@@ -37,7 +37,7 @@ pub(crate) fn number_of(items: &Items<'_>, id: ItemId, class: Class) -> Option<D
     decimal_at(items, first(items, id, class, Class::Number)?)
 }
 
-// A number behind an opening or a comma. Most stand in their plain spelling already.
+// A number behind an opening or a comma. Most stand in their plain spelling already, but for a plus or zeros.
 fn open_number_at(
     out: &mut Vec<u8>,
     opening: &[u8],
@@ -48,29 +48,19 @@ fn open_number_at(
     ensures { OnOk result (Writes (ReadsNumber (item_at items.now id)) (λ v. opening.now ++ plain v)
         out.old.items out.new.items) }
 {
-    let raw = items.raw(id);
-    if is_plain(raw) {
-        open_plain(out, opening, items, id)
-    } else {
-        open_decimal_at(out, opening, items, id)
+    crs_decimal::laws::plain_is_the_one();
+    match plain_of(items.raw(id)) {
+        None => open_decimal_at(out, opening, items, id),
+        Some(spelling) => open_plain(out, opening, spelling),
     }
 }
 
-// A number that is plain.
-fn open_plain(
-    out: &mut Vec<u8>,
-    opening: &[u8],
-    items: &Items<'_>,
-    id: ItemId,
-) -> Result<(), AllocError>
-    requires has { HasId items.now id }
-    requires plain { IsPlain (raw_of (item_at items.now id)) }
-    ensures { OnOk result (Writes (ReadsNumber (item_at items.now id)) (λ v. opening.now ++ plain v)
-        out.old.items out.new.items) }
+// A plain spelling.
+fn open_plain(out: &mut Vec<u8>, opening: &[u8], spelling: &[u8]) -> Result<(), AllocError>
+    ensures { OnOk result (out.new.items ≡ out.old.items ++ (opening.now ++ spelling.now)) }
 {
-    crs_decimal::laws::plain_is_the_one();
     append(out, opening)?;
-    append(out, items.raw(id))
+    append(out, spelling)
 }
 
 // A number as it is read.

@@ -1,9 +1,12 @@
-//! Numbers that are written as they stand, since they are plain already.
-ghost use Rattle.std.specs.Prelude.{◌≡◌, ◌≤◌, IsTrue, length, take, drop};
+//! Numbers that are written as they stand, or as a part of what stands there.
+ghost use Rattle.std.specs.Prelude.{◌≡◌, ◌≢◌, ◌<◌, ◌≤◌, ◌∷◌, ◌+◌, ◌-◌, ◌==◌, ◌++◌, if◌then◌else◌, IfSome, IsTrue};
+ghost use Rattle.std.specs.Prelude.{length, take, drop, replicate, slice_index_or};
 ghost use Rattle.std.specs.List.{prefix_len};
+ghost use Rattle.crs_decimal.specs.Bounds.{Denotes};
+ghost use Rattle.crs_decimal.specs.Number.{Number};
 ghost use Rattle.crs_decimal.specs.Plain.{EndsTrim, IsPlain, IsTrim};
 ghost use Rattle.crs_decimal.specs.Spelling.{AreDigits, is_digit};
-ghost use Rattle.crs_canon.specs.Direct.{IsPlainRest};
+ghost use Rattle.crs_canon.specs.Direct.{IsPlainRest, IsUnsigned};
 
 use crate::spelling::texts::are_digits;
 
@@ -64,11 +67,83 @@ fn is_rest_plain(rest: &[u8]) -> bool
     }
 }
 
-// Whether these bytes are a plain spelling, as far as it is told at a glance: with a minus in front they are never
-// taken for one.
-pub(crate) fn is_plain(raw: &[u8]) -> bool
-    ensures { IsTrue result → IsPlain raw.now }
+// Whether these bytes are a plain spelling without a sign.
+fn is_unsigned(raw: &[u8]) -> bool
+    ensures { IsTrue result → IsUnsigned raw.now }
 {
     let count = digits_len(raw);
     begins_trim(front_of(raw, count)) && is_rest_plain(rest_of(raw, count))
+}
+
+// Whether these bytes, of which there are several, are a plain spelling behind a minus.
+fn is_below_zero(rest: &[u8]) -> bool
+    ensures { IsTrue result → IsPlain (45 ∷ rest.now) }
+{
+    rest.len() > 1 && is_unsigned(rest)
+}
+
+// Up to where a fraction's last digit is that isn't a zero.
+fn kept_len(fraction: &[u8]) -> usize
+    ensures bound { result ≤ length fraction.now }
+    ensures zeros { fraction.now ≡ take result fraction.now ++ replicate (length fraction.now - result) 48 }
+    ensures ends { 0 < result → slice_index_or fraction.now (result - 1) 0 ≢ 48 }
+{
+    let mut end = fraction.len();
+    while end > 0 && fraction[end - 1] == b'0' {
+        end -= 1;
+    }
+    end
+}
+
+// So many digits in front, and a period and so many digits behind them where there are any.
+fn front_with(raw: &[u8], count: usize, kept: usize) -> &[u8]
+    requires { count + (1 + kept) ≤ length raw.now }
+    ensures { result.now ≡ (if kept == 0 then take count raw.now else take (count + (1 + kept)) raw.now) }
+{
+    if kept == 0 {
+        &raw[..count]
+    } else {
+        &raw[..count + (1 + kept)]
+    }
+}
+
+// The plain spelling of the number that bytes spell, which have no sign, where it is told at a glance: these bytes, or
+// those of them without the zeros that a fraction ends in.
+fn unsigned_plain(raw: &[u8]) -> Option<&[u8]>
+    ensures plain { IfSome result (λ part. IsUnsigned part.now) }
+    ensures same { IfSome result (λ part. (number : Number) → Denotes raw.now number → Denotes part.now number) }
+{
+    let count = digits_len(raw);
+    if !begins_trim(front_of(raw, count)) {
+        return None;
+    }
+    match rest_of(raw, count).split_first() {
+        None => Some(raw),
+        Some((period, fraction)) => {
+            if *period == b'.' && are_digits(fraction) {
+                Some(front_with(raw, count, kept_len(fraction)))
+            } else {
+                None
+            }
+        }
+    }
+}
+
+// The plain spelling of the number that bytes spell, where it is told at a glance and is part of them.
+pub(crate) fn plain_of(raw: &[u8]) -> Option<&[u8]>
+    ensures plain { IfSome result (λ part. IsPlain part.now) }
+    ensures same { IfSome result (λ part. (number : Number) → Denotes raw.now number → Denotes part.now number) }
+{
+    match raw.split_first() {
+        None => None,
+        Some((sign, rest)) => {
+            if *sign == b'+' {
+                unsigned_plain(rest)
+            } else if *sign == b'-' {
+                if is_below_zero(rest) { Some(raw) } else { None }
+            } else {
+                unsigned_plain(raw)
+            }
+        }
+    }
 }

@@ -2,7 +2,7 @@ use Rattle.std.proofs.Common.{ap, drop, subst, take, ◌∙◌}
 use Rattle.crs_decimal.specs.Plain.{IsTrim}
 use Rattle.crs_canon.specs.Direct.{IsPlainRest}
 use Rattle.crs_canon.proofs.DirectPlainLemmas.{plain-by}
-use Rattle.crs_canon.proofs.direct.plain.is_plain.Goals as goal
+use Rattle.crs_canon.proofs.direct.plain.is_unsigned.Goals as goal
 
 pub returns-then-begins_trim : goal.returns-then-begins_trim
 returns-then-begins_trim c = λ h.
