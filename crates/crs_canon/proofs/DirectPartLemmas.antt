@@ -1,7 +1,7 @@
 -- What is written of parts that may be missing, of one of several classes, or that a level doesn't keep.
 use Rattle.std.proofs.Common.{◌≡◌, ℕ, List, [], ◌∷◌, ◌++◌, Option, Some, None, true, false, IsSome, inl, inr, map, refl, sym, ap, subst, ◌∙◌}
 use Rattle.std.proofs.lemmas.List.{append-nil}
-use Rattle.crs_text.specs.Items.{Item, Siblings, End, arguments}
+use Rattle.crs_text.specs.Items.{Item, End, arguments}
 use Rattle.crs_text.specs.Written.{item_text, others_text}
 use Rattle.crs_shape.specs.declared.class.Class.{Class}
 use Rattle.crs_value.specs.Kept.{kept, kept_one}
@@ -10,7 +10,7 @@ use Rattle.crs_shape.specs.declared.class.Class.TheVariants as class
 use Rattle.crs_value.specs.Reads.{LacksUsage, ReadsBare, ReadsBox, ReadsEnsemble, ReadsExtent, ReadsTextOf, ReadsUnit, ReadsUsage}
 use Rattle.crs_value.specs.ReadsConversion.{ReadsAsUnit, ReadsUnitOf}
 use Rattle.crs_value.specs.ReadsCrs.{ReadsAsDatum, ReadsAsEnsemble, ReadsFrame}
-use Rattle.crs_value.specs.Values.{EnsembleParts, IdentParts, SaysSome, UnitParts, UsageParts}
+use Rattle.crs_value.specs.Values.{IdentParts, SaysSome, UnitParts, UsageParts}
 use Rattle.crs_value.specs.declared.values.frame.Frame.{Frame}
 use Rattle.crs_value.specs.declared.values.frame.Frame.TheVariants as frame
 use Rattle.crs_value.specs.declared.values.level.Level.{Level}

@@ -1,4 +1,4 @@
-use Rattle.std.proofs.Common.{◌≡◌, [], ap, subst, sym, ◌∙◌, rules}
+use Rattle.std.proofs.Common.{◌≡◌, [], ap, subst, ◌∙◌, rules}
 use Rattle.crs_text.specs.Items.{first_of}
 use Rattle.crs_text.specs.Written.{AreFormed}
 use Rattle.crs_value.specs.Reading.{item_at}

@@ -1,4 +1,4 @@
-use Rattle.std.proofs.Common.{◌<◌, length, arith, rules}
+use Rattle.std.proofs.Common.{◌<◌, length, rules}
 use Rattle.crs_canon.proofs.DirectPlainLemmas.{below-zero}
 use Rattle.crs_canon.proofs.direct.plain.is_below_zero.Goals as goal
 

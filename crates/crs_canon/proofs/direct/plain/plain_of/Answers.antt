@@ -1,4 +1,4 @@
-use Rattle.std.proofs.Common.{◌≡◌, ℕ, arith}
+use Rattle.std.proofs.Common.{◌≡◌, arith}
 use Rattle.std.proofs.lemmas.Option.{IfSome_then}
 use Rattle.crs_canon.proofs.DirectPlainLemmas.{behind-plus}
 use Rattle.crs_canon.proofs.direct.plain.plain_of.Goals as goal

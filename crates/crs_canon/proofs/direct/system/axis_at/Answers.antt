@@ -1,10 +1,10 @@
-use Rattle.std.proofs.Common.{ℕ, Option, false, subst, sym, arith, ◌∙◌}
+use Rattle.std.proofs.Common.{ℕ, Option, subst, sym, arith, ◌∙◌}
 use Rattle.crs_text.specs.Items.{arguments}
 use Rattle.crs_shape.specs.declared.class.Class.TheVariants as class
 use Rattle.crs_value.specs.Reading.{item_at, those}
 use Rattle.crs_value.specs.Reads.{ReadsAxis}
 use Rattle.crs_value.proofs.SystemLemmas.{those-few}
-use Rattle.crs_canon.proofs.DirectAxisLemmas.{Seeking, counting-less, seeking-end, seeking-first, seeking-found, seeking-on}
+use Rattle.crs_canon.proofs.DirectAxisLemmas.{Seeking, counting-less, seeking-first, seeking-on}
 use Rattle.crs_canon.proofs.direct.system.axis_at.Goals as goal
 
 pub loop-at-init : goal.loop-at-init

@@ -1,4 +1,4 @@
-use Rattle.std.proofs.Common.{◌≡◌, ◌+◌, ◌-◌, ◌++◌, length, arith, ◌∙◌}
+use Rattle.std.proofs.Common.{◌+◌, ◌-◌, ◌++◌, length, arith}
 use Rattle.crs_text.specs.Items.{End, arguments}
 use Rattle.crs_text.specs.Written.{others_text}
 use Rattle.crs_shape.specs.declared.class.Class.TheVariants as class
