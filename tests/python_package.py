@@ -862,7 +862,7 @@ print(check(sys.argv[1]))
 """
 
 
-def want_of_memory() -> None:
+def out_of_memory() -> None:
     """A call to which memory is refused says so, and the next call is answered."""
     done = subprocess.run(
         [sys.executable, "-c", SCARCE, HEIGHT], capture_output=True, text=True, timeout=60, check=False
@@ -1285,7 +1285,7 @@ PROMISES = [
     nul_bytes,
     empty_texts,
     long_texts,
-    want_of_memory,
+    out_of_memory,
     lock_is_released,
     four_threads,
     four_threads_on_one_catalogue,

@@ -44,8 +44,8 @@ KNOWN_SECONDS = {
     "crs_group": 40,
     "crs_hint": 60,
     "crs_explain": 40,
-    "crs_line": 58,
-    "crs_desk": 50,
+    "crs_command_line": 58,
+    "crs_commands": 50,
     "crs_c": 40,
     "crsdesk": 58,
 }

@@ -4,7 +4,7 @@ use crate::catalogue::{Bytes, Counted};
 use crate::entry::{Entry, accepted};
 use crate::tally::Outcome;
 use crs_canon::{canon, canon_of};
-use crs_desk::{RunFault, Sink, Source, Summary, run_group};
+use crs_commands::{RunFault, Sink, Source, Summary, run_group};
 use crs_group::{Catalogue, Placed};
 use crs_same::same;
 use crs_shape::fit_root;

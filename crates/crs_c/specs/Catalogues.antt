@@ -10,9 +10,9 @@ use Rattle.crs_group.specs.Partition.{PlacedLine}
 use Rattle.crs_group.specs.declared.placed.Placed.{Placed}
 use Rattle.crs_group.specs.declared.placed.Placed.TheVariants as placed
 use Rattle.crs_c.specs.declared.refused.Refused.{Refused}
-use Rattle.crs_c.specs.declared.standing.Numbered.{Numbered}
-use Rattle.crs_c.specs.declared.standing.Piece.{Piece}
-use Rattle.crs_c.specs.declared.standing.Standing.{Standing}
+use Rattle.crs_c.specs.declared.catalogue_answers.Numbered.{Numbered}
+use Rattle.crs_c.specs.declared.catalogue_answers.Piece.{Piece}
+use Rattle.crs_c.specs.declared.catalogue_answers.Standing.{Standing}
 use Rattle.crs_c.specs.Codes.{level_numbered}
 use Rattle.crs_c.specs.Refusals.{place_and_number}
 

@@ -4,13 +4,13 @@ use denote.Param.{layout}
 use Rattle.std.specs.Prelude.{replicate}
 use Rattle.crs_c.specs.declared.layout.Sizes.{Sizes}
 use Rattle.crs_c.specs.declared.refused.Refused.{Refused}
-use Rattle.crs_c.specs.declared.standing.Numbered.{Numbered}
-use Rattle.crs_c.specs.declared.standing.Piece.{Piece}
-use Rattle.crs_c.specs.declared.standing.Standing.{Standing}
+use Rattle.crs_c.specs.declared.catalogue_answers.Numbered.{Numbered}
+use Rattle.crs_c.specs.declared.catalogue_answers.Piece.{Piece}
+use Rattle.crs_c.specs.declared.catalogue_answers.Standing.{Standing}
 use Rattle.crs_c.specs.contracts.refused.Refused as refused
-use Rattle.crs_c.specs.contracts.standing.Standing as standing
-use Rattle.crs_c.specs.contracts.standing.Numbered as numbered
-use Rattle.crs_c.specs.contracts.standing.Piece as piece
+use Rattle.crs_c.specs.contracts.catalogue_answers.Standing as standing
+use Rattle.crs_c.specs.contracts.catalogue_answers.Numbered as numbered
+use Rattle.crs_c.specs.contracts.catalogue_answers.Piece as piece
 use Rattle.crs_group.specs.contracts.catalogue.Catalogue as catalogue
 
 -- the bytes that a catalogue and each struct takes, and the alignment of a catalogue

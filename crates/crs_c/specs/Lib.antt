@@ -4,7 +4,7 @@ pub mod Canon
 pub mod Catalogues
 pub mod Check
 pub mod Codes
-pub mod Compared
+pub mod Comparison
 pub mod Explain
 pub mod FirstPart
 pub mod Layout

@@ -1,7 +1,7 @@
 //! All parts in which two texts differ.
 ghost use Rattle.std.specs.Prelude.{MatchResult};
 ghost use Rattle.crs_value.specs.SpellsText.{IsFaultOfText};
-ghost use Rattle.crs_c.specs.Compared.{AreLinesBehind};
+ghost use Rattle.crs_c.specs.Comparison.{AreLinesBehind};
 ghost use Rattle.crs_c.specs.Buffers.{Gives};
 ghost use Rattle.crs_c.specs.Explain.{IsDifferencesAnswer};
 ghost use Rattle.crs_explain.specs.Differing.{IsDifferencesText};

@@ -5,7 +5,7 @@ ghost use Rattle.crs_c.specs.Pairs.{IsPairAnswer, IsSecondAnswer};
 
 use crate::buffer::give;
 use crate::codes::{NO_LEVEL, NO_MEMORY, REFUSED, SECOND_REFUSED, level_numbered};
-use crate::compared::compared_with;
+use crate::comparison::compared_with;
 use crate::refused::{Refused, tell};
 use crs_same::Path;
 use crs_value::{Crs, Level, read};

@@ -3,8 +3,8 @@
 ghost use Rattle.std.specs.Prelude.{◌≡◌};
 ghost use Rattle.crs_c.specs.Layout.{marked_line, marked_piece, marked_refusal, marked_standing, sizes};
 
+use crate::catalogue_answers::{Numbered, Piece, Standing};
 use crate::refused::Refused;
-use crate::standing::{Numbered, Piece, Standing};
 use crs_group::Catalogue;
 use std::mem::{align_of, size_of};
 

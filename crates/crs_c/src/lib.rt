@@ -5,24 +5,25 @@
 mod buffer;
 mod canon;
 mod catalogue;
+mod catalogue_answers;
+mod catalogue_calls;
 mod check;
 mod codes;
-mod compared;
+mod comparison;
 mod differences;
 mod explain;
 mod first_part;
-mod holding;
 mod layout;
 mod names;
 mod refused;
 mod same;
-mod standing;
 
 pub use canon::crsdesk_canon;
 pub use catalogue::{
     Room, crsdesk_catalogue_add, crsdesk_catalogue_free, crsdesk_catalogue_groups,
     crsdesk_catalogue_line, crsdesk_catalogue_new, crsdesk_catalogue_piece,
 };
+pub use catalogue_answers::{Numbered, Piece, Standing};
 pub use check::crsdesk_check;
 pub use differences::crsdesk_differences;
 pub use explain::crsdesk_explain;
@@ -34,4 +35,3 @@ pub use layout::{
 pub use names::{crsdesk_refusal_name, crsdesk_version};
 pub use refused::Refused;
 pub use same::crsdesk_same;
-pub use standing::{Numbered, Piece, Standing};

@@ -3,7 +3,7 @@ ghost use Rattle.crs_c.specs.Pairs.{IsPairAnswer, IsSecondAnswer};
 ghost use Rattle.crs_c.specs.Same.{IsSameAnswer, TellsSame};
 
 use crate::codes::{NO_LEVEL, OK, REFUSED, SECOND_REFUSED, level_numbered};
-use crate::compared::{compared_with, is_nothing};
+use crate::comparison::{compared_with, is_nothing};
 use crate::refused::{Refused, tell};
 use crs_value::{Crs, Level, read};
 use std::alloc::Global;

@@ -2,7 +2,7 @@
 use Rattle.std.proofs.Common.{◌≡◌, ℕ, List, [], ◌∷◌, ◌++◌, Option, Some, None, map, refl, sym, ap, subst, ◌∙◌}
 use Rattle.crs_text.specs.Items.{Item, rest_of, here}
 use Rattle.crs_shape.specs.declared.class.Class.{Class}
-use Rattle.crs_value.specs.Found.{from_found}
+use Rattle.crs_value.specs.FoundArguments.{from_found}
 use Rattle.crs_value.specs.Reading.{item_at, those, Holds, IsFound, ReadsEach}
 use Rattle.crs_normal.specs.Ordered.{put, put_all}
 use Rattle.std.proofs.lemmas.List.{append-nil}

@@ -6,8 +6,8 @@ ghost use Rattle.crs_explain.specs.Expected.{IsLineOf, IsExpectedPart};
 ghost use Rattle.crs_explain.specs.Parts.{IsPartOf, IsPartOfText, IsLineTold};
 ghost use Rattle.crs_shape.specs.Keywords.{every_class};
 
-use crate::found::{found_at, word_at};
-use crate::naming::append_listed;
+use crate::class_names::append_listed;
+use crate::place::{found_at, word_at};
 use crs_shape::{Class, Expected, classes, expected, nearest};
 use crs_text::{Fault, Items, Keyword, laws, read_items};
 use itoa::Buffer;

@@ -3,13 +3,13 @@
 //! that differs. Crates above know these texts as bytes, and nothing of how they are made.
 #![tactic(auto)]
 
+mod class_names;
 mod differences;
 mod escape;
 mod excerpt;
 mod expected;
-mod found;
 mod head;
-mod naming;
+mod place;
 mod refusal;
 mod shown;
 

@@ -1,6 +1,6 @@
 //! Catalogues of lines.
 use crate::escapes::put_text;
-use crs_desk::Level;
+use crs_commands::Level;
 use crs_group::{Catalogue, Placed};
 use crs_text::Refusal;
 use std::alloc::{AllocError, Global};

@@ -1,6 +1,6 @@
 //! The reading of command lines.
 use crate::escapes::put_text;
-use crs_desk::{LineWord, Request, RequestFault, request};
+use crs_commands::{LineWord, Request, RequestFault, request};
 use std::alloc::{AllocError, Global};
 use std::str;
 

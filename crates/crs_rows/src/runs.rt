@@ -2,7 +2,7 @@
 use crate::escapes::put_text;
 use crate::sameness::split_line;
 use crate::streams::{Manner, Page, Pieces};
-use crs_desk::{
+use crs_commands::{
     Level, RunFault, Sink, Source, Summary, run_canon, run_canon_lines, run_check, run_check_lines,
     run_group, run_same,
 };

@@ -6,7 +6,7 @@ use denote.Enum.Bare.{sameb, same_true}
 use Rattle.crs_shape.specs.contracts.class.Class.{the_type}
 use Rattle.crs_shape.specs.declared.class.Class.{Class}
 use Rattle.crs_shape.specs.Slots.{SlotParts}
-use Rattle.crs_shape.specs.Shape.{AllTaken, Fills, Fit, joined, Allowed}
+use Rattle.crs_shape.specs.Shape.{AllTaken, Fills, AllFilled, joined, Allowed}
 use Rattle.crs_shape.specs.Counts.{one_if, how_many, least, most, is_bounded}
 use Rattle.crs_shape.proofs.BoolLemmas.{or-none-left, or-none-right, or-other, and-left, and-right}
 
@@ -55,7 +55,7 @@ slot-least p s run f =
       | false ↦ λ e. omega arith
     ] refl
 
-fit-least : (p : Class → Bool) (ss : List SlotParts) (runs : List (List Class)) → Fit ss runs → least p ss ≤ how_many p (joined runs)
+fit-least : (p : Class → Bool) (ss : List SlotParts) (runs : List (List Class)) → AllFilled ss runs → least p ss ≤ how_many p (joined runs)
 fit-least p [] [] fit = omega arith
 fit-least p [] (run ∷ runs) fit = absurd fit
 fit-least p (s ∷ ss) [] fit = absurd fit
@@ -89,7 +89,7 @@ slot-most p s run f bounded =
     single true h = cc
     single false h = refl
 
-fit-most : (p : Class → Bool) (ss : List SlotParts) (runs : List (List Class)) → Fit ss runs → is_bounded p ss ≡ true → how_many p (joined runs) ≤ most p ss
+fit-most : (p : Class → Bool) (ss : List SlotParts) (runs : List (List Class)) → AllFilled ss runs → is_bounded p ss ≡ true → how_many p (joined runs) ≤ most p ss
 fit-most p [] [] fit bounded = omega arith
 fit-most p [] (run ∷ runs) fit bounded = absurd fit
 fit-most p (s ∷ ss) [] fit bounded = absurd fit

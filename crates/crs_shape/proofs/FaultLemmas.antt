@@ -5,7 +5,7 @@ use Rattle.crs_text.specs.Refusal.{RefusedAt}
 use Rattle.crs_shape.specs.declared.class.Class.{Class}
 use Rattle.crs_shape.specs.Keywords.{is_keyword}
 use Rattle.crs_shape.specs.Slots.{SlotParts, slots_of}
-use Rattle.crs_shape.specs.Shape.{Fit, joined, Allowed, Begins, is_apart}
+use Rattle.crs_shape.specs.Shape.{AllFilled, joined, Allowed, Begins, is_apart}
 use Rattle.crs_shape.specs.Walk.{after, may_end}
 use Rattle.crs_shape.specs.ShapeFault.{class_in, is_of, misplaced, missing, IsFree, IsOnly, Stands, Inside, Among, class_of_root, AtRoot}
 use Rattle.crs_shape.specs.FirstFault.{ArgumentFault, or_later, step_to, step_as, fault_by, fault_from, first_inside, first_in_arguments}
@@ -53,7 +53,7 @@ reached-more row before slots next c r e = record {
 pub reached-begins : (row : List SlotParts) (before : List Class) (slots next : List SlotParts) (c : Class) → Reached row before slots → after slots c ≡ Some next →
     Begins row (before ++ c ∷ [])
 reached-begins row before slots next c r e =
-    let some : (runs : List (List Class)) × Fit next runs = allows-some next (after-apart slots c next r.apart e) in
+    let some : (runs : List (List Class)) × AllFilled next runs = allows-some next (after-apart slots c next r.apart e) in
     (joined some.0, (reached-more row before slots next c r e).back (joined some.0) (some.0, (some.1, refl)))
 
 pub reached-not : (row : List SlotParts) (before : List Class) (slots : List SlotParts) (c : Class) → Reached row before slots → after slots c ≡ None →

@@ -5,7 +5,7 @@ use denote.Enum.Bare.{sameb, same_true, true_same}
 use Rattle.crs_shape.specs.contracts.class.Class.{the_type}
 use Rattle.crs_shape.specs.declared.class.Class.{Class}
 use Rattle.crs_shape.specs.Slots.{SlotParts, takes}
-use Rattle.crs_shape.specs.Shape.{AllTaken, Fills, Fit, joined, Allowed, reaches, has_class, is_apart}
+use Rattle.crs_shape.specs.Shape.{AllTaken, Fills, AllFilled, joined, Allowed, reaches, has_class, is_apart}
 use Rattle.crs_shape.specs.Walk.{again, after, may_end}
 use Rattle.crs_shape.proofs.BoolLemmas.{or-left, or-right, or-none-left, or-none-right, or-other, and-left, and-right, and-both, not-true, not-false, false-unless}
 
@@ -36,7 +36,7 @@ free-none : (s : SlotParts) → Fills s [] → s.required ≡ false
 free-none s f = false-unless s.required (λ e. let h : 1 ≤ 0 = f.enough e in absurd (omega (arith, h)))
 
 -- the first of all the classes in slots is reached by them
-reaches-first : (ss : List SlotParts) (runs : List (List Class)) (c : Class) (cs : List Class) → Fit ss runs → joined runs ≡ c ∷ cs →
+reaches-first : (ss : List SlotParts) (runs : List (List Class)) (c : Class) (cs : List Class) → AllFilled ss runs → joined runs ≡ c ∷ cs →
     reaches ss c ≡ true
 reaches-first [] [] c cs fit e = cc
 reaches-first [] (run ∷ runs) c cs fit e = absurd fit
@@ -50,7 +50,7 @@ reaches-first (s ∷ ss) ((d ∷ run) ∷ runs) c cs fit e =
 -- at most one way
 
 same_run : (s : SlotParts) (ss : List SlotParts) → ((c : Class) → takes s c ≡ true → reaches ss c ≡ false) →
-    (a b : List Class) (xs ys : List (List Class)) → AllTaken s a → AllTaken s b → Fit ss xs → Fit ss ys →
+    (a b : List Class) (xs ys : List (List Class)) → AllTaken s a → AllTaken s b → AllFilled ss xs → AllFilled ss ys →
     a ++ joined xs ≡ b ++ joined ys → a ≡ b
 same_run s ss loose [] [] xs ys p q fx fy e = refl
 same_run s ss loose [] (d ∷ b) xs ys p q fx fy e =
@@ -74,7 +74,7 @@ single_run (c ∷ []) (d ∷ d2 ∷ b) xs ys p q r s e = absurd (omega arith)
 single_run (c ∷ []) (d ∷ []) xs ys p q r s e = cc
 
 first_run : (s : SlotParts) (ss : List SlotParts) → is_apart (s ∷ ss) ≡ true → (a b : List Class) (xs ys : List (List Class)) →
-    Fills s a → Fills s b → Fit ss xs → Fit ss ys → a ++ joined xs ≡ b ++ joined ys → a ≡ b
+    Fills s a → Fills s b → AllFilled ss xs → AllFilled ss ys → a ++ joined xs ≡ b ++ joined ys → a ≡ b
 first_run s ss apart a b xs ys fa fb fx fy e =
     elim (s.required && not s.many) as (λ t. (s.required && not s.many) ≡ t → a ≡ b) [
       | true ↦ λ single.
@@ -88,7 +88,7 @@ cut_front : (a xs ys : List Class) → a ++ xs ≡ a ++ ys → xs ≡ ys
 cut_front [] xs ys e = e
 cut_front (c ∷ a) xs ys e = let rest : a ++ xs ≡ a ++ ys = cc in cut_front a xs ys rest
 
-pub one_way : (ss : List SlotParts) → is_apart ss ≡ true → (a b : List (List Class)) → Fit ss a → Fit ss b → joined a ≡ joined b → a ≡ b
+pub one_way : (ss : List SlotParts) → is_apart ss ≡ true → (a b : List (List Class)) → AllFilled ss a → AllFilled ss b → joined a ≡ joined b → a ≡ b
 one_way [] apart [] [] fa fb e = refl
 one_way [] apart [] (y ∷ ys) fa fb e = absurd fb
 one_way [] apart (x ∷ xs) b fa fb e = absurd fa
@@ -145,7 +145,7 @@ few-none s d [] few f = refl
 few-none s d (x ∷ run) few f = let h : length (d ∷ (x ∷ run)) ≤ 1 = f.not_more few in absurd (omega arith)
 
 goes-here : (s : SlotParts) (ss : List SlotParts) (d : Class) (run : List Class) (runs : List (List Class)) → takes s d ≡ true →
-    Fills s (d ∷ run) → Fit ss runs → Goes (s ∷ ss) d (run ++ joined runs)
+    Fills s (d ∷ run) → AllFilled ss runs → Goes (s ∷ ss) d (run ++ joined runs)
 goes-here s ss d run runs taken f fit =
     elim s.many as (λ m. s.many ≡ m → Goes (s ∷ ss) d (run ++ joined runs)) [
       | true ↦ λ many. (again s ∷ ss, (rw (taken, many) refl, (run ∷ runs, ((fills-again s d run many f, fit), refl))))
@@ -156,7 +156,7 @@ after-skip : (s : SlotParts) (ss : List SlotParts) (c : Class) (next : List Slot
     after ss c ≡ Some next → after (s ∷ ss) c ≡ Some next
 after-skip s ss c next missed free e = rw (missed, free) e
 
-pub goes-along : (ss : List SlotParts) → is_apart ss ≡ true → (runs : List (List Class)) → Fit ss runs → (c : Class) (cs : List Class) →
+pub goes-along : (ss : List SlotParts) → is_apart ss ≡ true → (runs : List (List Class)) → AllFilled ss runs → (c : Class) (cs : List Class) →
     joined runs ≡ c ∷ cs → Goes ss c cs
 goes-along [] apart [] fit c cs e = cc
 goes-along [] apart (run ∷ runs) fit c cs e = absurd fit
@@ -231,11 +231,11 @@ takes-own s e = own s.classes e
     own [] h = cc
     own (c ∷ cs) h = (c, or-left _ _ (true_same the_type c c refl))
 
-pub allows-some : (ss : List SlotParts) → is_apart ss ≡ true → (runs : List (List Class)) × Fit ss runs
+pub allows-some : (ss : List SlotParts) → is_apart ss ≡ true → (runs : List (List Class)) × AllFilled ss runs
 allows-some [] apart = ([], tt)
 allows-some (s ∷ ss) apart =
     let d : (d : Class) × (takes s d ≡ true) = takes-own s (apart-class s ss apart) in
-    let below : (runs : List (List Class)) × Fit ss runs = allows-some ss (apart-tail s ss apart) in
+    let below : (runs : List (List Class)) × AllFilled ss runs = allows-some ss (apart-tail s ss apart) in
     ((d.0 ∷ []) ∷ below.0, (fills-one s d.0 d.1, below.1))
 
 -- where the walk may end
@@ -245,7 +245,7 @@ end-allowed (s ∷ ss) e =
     let below : Allowed ss [] = end-allowed ss (and-right _ _ e) in
     ([] ∷ below.0, ((fills-none s (not-true _ (and-left _ _ e)), below.1.0), below.1.1))
 
-pub allowed-end : (ss : List SlotParts) (runs : List (List Class)) → Fit ss runs → [] ≡ joined runs → may_end ss ≡ true
+pub allowed-end : (ss : List SlotParts) (runs : List (List Class)) → AllFilled ss runs → [] ≡ joined runs → may_end ss ≡ true
 allowed-end [] [] fit e = refl
 allowed-end [] (run ∷ runs) fit e = absurd fit
 allowed-end (s ∷ ss) [] fit e = absurd fit

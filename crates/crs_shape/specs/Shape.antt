@@ -18,11 +18,11 @@ pub record Fills (slot : SlotParts) (run : List Class) : Type 0 where
   pub not_more : IsFalse slot.many → length run ≤ 1
 
 -- for each slot, in order, a list of classes that fills it
-abbrev pub Fit : List SlotParts → List (List Class) → Type 0
-Fit [] [] = Unit {0}
-Fit [] (run ∷ runs) = ⊥
-Fit (slot ∷ slots) [] = ⊥
-Fit (slot ∷ slots) (run ∷ runs) = Fills slot run × Fit slots runs
+abbrev pub AllFilled : List SlotParts → List (List Class) → Type 0
+AllFilled [] [] = Unit {0}
+AllFilled [] (run ∷ runs) = ⊥
+AllFilled (slot ∷ slots) [] = ⊥
+AllFilled (slot ∷ slots) (run ∷ runs) = Fills slot run × AllFilled slots runs
 
 -- these lists of classes, one after another
 abbrev pub joined : List (List Class) → List Class
@@ -31,7 +31,7 @@ joined (run ∷ runs) = run ++ joined runs
 
 -- a list of classes that the slots allow
 abbrev pub Allowed : List SlotParts → List Class → Type 0
-Allowed slots classes = (runs : List (List Class)) × (Fit slots runs × (classes ≡ joined runs))
+Allowed slots classes = (runs : List (List Class)) × (AllFilled slots runs × (classes ≡ joined runs))
 
 -- an allowed list begins with these classes
 abbrev pub Begins : List SlotParts → List Class → Type 0

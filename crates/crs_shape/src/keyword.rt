@@ -6,7 +6,7 @@ ghost use Rattle.crs_shape.specs.Keywords.{keywords_of, is_known, root_named};
 ghost use Rattle.crs_shape.specs.Shape.{has_class};
 
 use crate::class::Class;
-use crate::naming::classes_by;
+use crate::keyword_classes::classes_by;
 use crate::rows::rows;
 use crate::slot::has;
 use crs_text::{Keyword, laws};

@@ -8,7 +8,7 @@ ghost use Rattle.crs_shape.specs.declared.class.Class.{Class};
 ghost use Rattle.crs_shape.specs.Counts.{how_many, least, most, is_bounded};
 ghost use Rattle.crs_shape.specs.FaultPlace.{IsPlaceIn, IsShapeNumber};
 ghost use Rattle.crs_shape.specs.KeywordTable.{classes_by, is_among, is_part};
-ghost use Rattle.crs_shape.specs.Shape.{Allowed, Fit, joined, is_apart};
+ghost use Rattle.crs_shape.specs.Shape.{Allowed, AllFilled, joined, is_apart};
 ghost use Rattle.crs_shape.specs.ShapeFault.{IsFree, Inside, AtRoot, class_in, class_of_root, is_of};
 ghost use Rattle.crs_shape.specs.Shaped.{Shaped};
 ghost use Rattle.crs_shape.specs.Slots.{SlotParts, slots_of};
@@ -24,7 +24,7 @@ pub fn tables_are_apart()
 /// A list of classes fits slots that are apart in at most one way.
 pub fn fits_one_way()
     ensures { (slots : List SlotParts) → IsTrue (is_apart slots) → (a b : List (List Class)) →
-        Fit slots a → Fit slots b → joined a ≡ joined b → a ≡ b }
+        AllFilled slots a → AllFilled slots b → joined a ≡ joined b → a ≡ b }
 {}
 
 /// An item has no fault of shape exactly where it is of its class and its arguments are an allowed

@@ -8,7 +8,7 @@ ghost use Rattle.crs_shape.specs.Slots.{shown, slots_of, class_named, is_class};
 use crate::class::Class;
 use crate::class_set::{ClassSet, set};
 use crate::keyword::has_keyword;
-use crate::naming::classes_by;
+use crate::keyword_classes::classes_by;
 use crate::part::is_part;
 use crate::rows::rows;
 use crate::slot::Slot;

@@ -15,7 +15,7 @@ use Rattle.crs_shape.specs.Shape.{Allowed}
 use Rattle.crs_shape.specs.Shaped.{Shaped, AreShaped}
 use Rattle.crs_shape.specs.ShapeFault.{class_in, class_of_kind}
 use Rattle.crs_shape.specs.Slots.{SlotParts, slots_of, is_class}
-use Rattle.crs_value.specs.Found.{from_found, AllShaped}
+use Rattle.crs_value.specs.FoundArguments.{from_found, AllShaped}
 use Rattle.crs_value.specs.Checks.{AtClass, Breaks, BreaksAmong, IsSound}
 use Rattle.crs_value.specs.Reading.{item_at, is_same, is_a, those, ahead, Holds, IsFound}
 

@@ -14,7 +14,7 @@ pub mod KindLemmas
 pub mod KnownLemmas
 pub mod LeastLemmas
 pub mod NodeLemmas
-pub mod NotedLemmas
+pub mod FirstArgumentsLemmas
 pub mod NumberLemmas
 pub mod OneCrsLemmas
 pub mod OneLemmas

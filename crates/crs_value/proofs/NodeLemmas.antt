@@ -5,7 +5,7 @@ use Rattle.crs_shape.specs.declared.class.Class.{Class}
 use Rattle.crs_shape.specs.Counts.{least}
 use Rattle.crs_shape.specs.Slots.{slots_of}
 use Rattle.crs_shape.specs.Shaped.{Shaped}
-use Rattle.crs_value.specs.Found.{from_found, AllShaped}
+use Rattle.crs_value.specs.FoundArguments.{from_found, AllShaped}
 use Rattle.crs_value.specs.Checks.{IsSound}
 use Rattle.crs_value.specs.Reading.{item_at, is_same, those, Holds, IsFound, ReadsFirst, ReadsOptional, ReadsEach}
 use Rattle.crs_value.proofs.ArgumentLemmas.{AllSound, SlotsCount, arguments-many, found-is, found-holds, all-sound, arguments-sound, all-shaped, arguments-shaped}

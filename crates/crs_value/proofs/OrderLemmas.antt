@@ -9,7 +9,7 @@ use Rattle.crs_shape.specs.declared.class.Class.TheVariants as class
 use Rattle.crs_shape.specs.Shaped.{Shaped}
 use Rattle.crs_value.specs.BadOrder.{orders_in, SomeHasOrder, AllHaveOrder, LacksOrder, ReadsOrder, IsPosition, HasThis, OneHas, IsWrongOrder, IsBadOrder, BadOrders, BadOrder}
 use Rattle.crs_value.specs.Break.{at, AnyOf, IsLeast}
-use Rattle.crs_value.specs.Found.{from_found, AllShaped}
+use Rattle.crs_value.specs.FoundArguments.{from_found, AllShaped}
 use Rattle.crs_value.specs.Least.{lesser}
 use Rattle.crs_value.specs.Reading.{item_at, those, Holds, IsFound, ReadsFirst}
 use Rattle.crs_value.specs.Reads.{ReadsNumber}

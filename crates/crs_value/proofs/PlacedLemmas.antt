@@ -9,7 +9,7 @@ use Rattle.crs_shape.specs.declared.class.Class.TheVariants as class
 use Rattle.crs_shape.specs.Shaped.{Shaped}
 use Rattle.crs_value.specs.BadOrder.{orders_in, LacksOrder, ReadsOrder, HasThis, OneHas, IsBadOrder, BadOrders, BadOrder}
 use Rattle.crs_value.specs.Break.{AnyOf, IsLeast}
-use Rattle.crs_value.specs.Found.{from_found, AllShaped, HasPlace, AreInOrder}
+use Rattle.crs_value.specs.FoundArguments.{from_found, AllShaped, HasPlace, AreInOrder}
 use Rattle.crs_value.specs.Reading.{item_at, those, Holds, IsFound, ReadsFirst}
 use Rattle.crs_value.proofs.ArgumentLemmas.{SlotsBound, arguments-few, nothing, found-is, found-holds, all-shaped}
 use Rattle.crs_value.proofs.CheckLemmas.{DenotesOne}

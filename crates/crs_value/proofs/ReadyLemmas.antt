@@ -9,7 +9,7 @@ use Rattle.crs_text.specs.declared.items.ItemKind.TheVariants as item_kinds
 use Rattle.crs_shape.specs.declared.class.Class.{Class}
 use Rattle.crs_shape.specs.declared.class.Class.TheVariants as class
 use Rattle.crs_shape.specs.Shaped.{Shaped}
-use Rattle.crs_value.specs.Found.{AllShaped}
+use Rattle.crs_value.specs.FoundArguments.{AllShaped}
 use Rattle.crs_value.specs.Reading.{is_a, those, ReadsFirst}
 use Rattle.crs_value.specs.Reads.{ReadsNumber}
 use Rattle.crs_value.proofs.ArgumentLemmas.{arguments-shaped, shaped-number}

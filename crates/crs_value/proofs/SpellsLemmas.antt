@@ -10,7 +10,7 @@ use Rattle.crs_shape.specs.ShapeFault.{IsFree, Inside, AtRoot, class_of_root}
 use Rattle.crs_value.specs.declared.values.crs.Crs.{Crs}
 use Rattle.crs_value.specs.Break.{IsLeast}
 use Rattle.crs_value.specs.Checks.{Breaks, IsSound}
-use Rattle.crs_value.specs.Found.{IsAmong}
+use Rattle.crs_value.specs.FoundArguments.{IsAmong}
 use Rattle.crs_value.specs.ReadsCrs.{ReadsCrs}
 use Rattle.crs_value.specs.Spells.{SpellsCrs, BreaksFirst, RefusesCrs}
 use Rattle.crs_value.proofs.CheckLemmas.{DenotesOne}

@@ -8,7 +8,7 @@ use Rattle.crs_value.specs.declared.values.unit_kind.UnitKind.{UnitKind}
 use Rattle.crs_value.specs.declared.values.unit_kind.UnitKind.TheVariants as kinds
 use Rattle.crs_value.specs.BadUnit.{asked_kind, Asks, Fits, units_in, Misfits, BadOwnUnit, HasOwnUnit, BadShared, BadUnit, AllAsk}
 use Rattle.crs_value.specs.Break.{at, AnyOf, IsLeast}
-use Rattle.crs_value.specs.Found.{from_found, AllShaped}
+use Rattle.crs_value.specs.FoundArguments.{from_found, AllShaped}
 use Rattle.crs_value.specs.Least.{lesser}
 use Rattle.crs_value.specs.Reading.{item_at, those, Holds, IsFound}
 use Rattle.crs_value.specs.Reads.{ReadsDirection}

@@ -12,13 +12,14 @@ pub mod ConversionValues
 pub mod CrsValues
 pub mod DynamicValues
 pub mod Filling
+pub mod FirstArguments
 pub mod FirstByte
-pub mod Found
+pub mod FoundArguments
 pub mod Kept
 pub mod KeptLaws
 pub mod Least
 pub mod NamedValues
-pub mod Noted
+pub mod ReadOnce
 pub mod Reading
 pub mod Reads
 pub mod ReadsConversion
@@ -37,7 +38,6 @@ pub mod SoundSystem
 pub mod SoundUsages
 pub mod Spells
 pub mod SpellsText
-pub mod Told
 pub mod UnknownWord
 pub mod Values
 pub mod Words

@@ -15,7 +15,7 @@ ghost use Rattle.crs_text.specs.Refusal.{RefusedAt, is_refusal};
 ghost use Rattle.crs_shape.specs.declared.class.Class.{Class};
 ghost use Rattle.crs_shape.specs.Shaped.{Shaped};
 ghost use Rattle.crs_value.specs.Break.{at, AnyOf, IsLeast};
-ghost use Rattle.crs_value.specs.Found.{from_found, AllShaped};
+ghost use Rattle.crs_value.specs.FoundArguments.{from_found, AllShaped};
 ghost use Rattle.crs_value.specs.Least.{is_before, lesser};
 ghost use Rattle.crs_value.specs.Reading.{item_at, Holds, IsFound, TakesOne, those};
 

@@ -9,7 +9,7 @@ ghost use Rattle.crs_value.specs.ReadsConversion.{ReadsParameter, ReadsGeoidMode
 ghost use Rattle.crs_value.specs.SoundCrs.{IsCrs};
 ghost use Rattle.crs_value.specs.Spells.{SpellsCrs, RefusesCrs};
 ghost use Rattle.crs_value.specs.SpellsText.{Spells, Refuses, IsRefusalNumber};
-ghost use Rattle.crs_value.specs.Told.{IsReadOnce};
+ghost use Rattle.crs_value.specs.ReadOnce.{IsReadOnce};
 
 pub mod parts;
 

@@ -4,7 +4,7 @@
 
 mod filling;
 
-use crs_desk::{
+use crs_commands::{
     Level, LineWord, Request, RequestFault, RunFault, Sink, Source, request, run_canon,
     run_canon_lines, run_check, run_check_lines, run_explain, run_explain_pair, run_explain_text,
     run_group, run_same,

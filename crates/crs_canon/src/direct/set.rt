@@ -2,7 +2,7 @@
 ghost use Rattle.std.specs.Prelude.{◌≡◌, ◌∷◌, ◌++◌, [], ℕ, List, map, OnOk};
 ghost use Rattle.crs_text.specs.Items.{Item, HasId};
 ghost use Rattle.crs_shape.specs.declared.class.Class.{Class};
-ghost use Rattle.crs_value.specs.Found.{from_found};
+ghost use Rattle.crs_value.specs.FoundArguments.{from_found};
 ghost use Rattle.crs_value.specs.Reading.{Holds, item_at, ReadsAll, ReadsEach};
 ghost use Rattle.crs_value.specs.declared.values.level.Level.{Level};
 ghost use Rattle.crs_normal.specs.Ordered.{put, put_all};

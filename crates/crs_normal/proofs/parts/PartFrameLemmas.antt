@@ -7,7 +7,7 @@ use Rattle.crs_shape.specs.declared.class.Class.TheVariants as class
 use Rattle.crs_value.specs.Reads.{ReadsDatum, ReadsEnsemble}
 use Rattle.crs_value.specs.SoundFrames.{IsDatum, IsEnsemble}
 use Rattle.crs_value.specs.SoundSingle.{IsGeodeticFrame, IsVerticalFrame}
-use Rattle.crs_value.specs.Told.{IsReadAs}
+use Rattle.crs_value.specs.ReadOnce.{IsReadAs}
 use Rattle.crs_value.specs.Values.{DatumParts, EllipsoidParts, EnsembleParts}
 use Rattle.crs_value.specs.declared.values.frame.Frame.{Frame}
 use Rattle.crs_value.specs.declared.values.frame.Frame.TheVariants as frame

@@ -5,7 +5,7 @@ use denote.Enum.Bare.{sameb, same_true}
 use Rattle.crs_text.specs.Items.{Item, Siblings, End, More}
 use Rattle.crs_shape.specs.contracts.class.Class.{the_type}
 use Rattle.crs_shape.specs.declared.class.Class.{Class}
-use Rattle.crs_shape.specs.Shape.{AllTaken, Fills, Fit, joined, Allowed}
+use Rattle.crs_shape.specs.Shape.{AllTaken, Fills, AllFilled, joined, Allowed}
 use Rattle.crs_shape.specs.Shaped.{Shaped, AreShaped}
 use Rattle.crs_shape.specs.ShapeFault.{class_in}
 use Rattle.crs_shape.specs.Slots.{SlotParts, slots_of, takes, is_class}
@@ -75,7 +75,7 @@ none-left : (c : Class) (items : Siblings) → AreShaped c [] items → items �
 none-left c End shaped = refl
 none-left c (More item items) shaped = absurd shaped
 
-view-of : (c : Class) (slots : List SlotParts) (runs : List (List Class)) (items : Siblings) → Fit slots runs →
+view-of : (c : Class) (slots : List SlotParts) (runs : List (List Class)) (items : Siblings) → AllFilled slots runs →
     AreShaped c (joined runs) items → View c slots items
 view-of c [] [] items fit shaped = none-left c items shaped
 view-of c [] (run ∷ runs) items fit shaped = absurd fit

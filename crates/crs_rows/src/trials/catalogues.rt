@@ -4,7 +4,7 @@ use crate::runs::{put_grouped, put_written};
 use crate::trials::commands::{ended, make_page};
 use crate::trials::trial::{Trial, run};
 use crate::trials::unusable;
-use crs_desk::{Level, RunFault, Sink, Source, Summary, run_group};
+use crs_commands::{Level, RunFault, Sink, Source, Summary, run_group};
 use crs_group::{Catalogue, Placed};
 use std::alloc::{AllocError, Global};
 use std::io;

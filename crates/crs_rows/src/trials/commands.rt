@@ -4,7 +4,7 @@ use crate::lines::put_asked;
 use crate::runs::{put_outcome, put_written};
 use crate::trials::trial::{Trial, run};
 use crate::trials::unusable;
-use crs_desk::{
+use crs_commands::{
     Level, Request, RequestFault, RunFault, Sink, Source, request, run_canon, run_canon_lines,
     run_check, run_check_lines, run_explain, run_explain_pair, run_same,
 };

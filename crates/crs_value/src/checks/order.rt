@@ -5,8 +5,8 @@ ghost use Rattle.crs_shape.specs.Shaped.{Shaped};
 ghost use Rattle.crs_value.specs.BadOrder.{IsPosition, HasThis, OneHas, LacksOrder, orders_in, SomeHasOrder, BadOrders};
 ghost use Rattle.crs_value.specs.BadOrder.{BadOrder};
 ghost use Rattle.crs_value.specs.Break.{AnyOf, IsLeast};
-ghost use Rattle.crs_value.specs.Found.{from_found, AllShaped, AreInOrder, HasPlace};
-ghost use Rattle.crs_value.specs.Noted.{AreFirsts};
+ghost use Rattle.crs_value.specs.FoundArguments.{from_found, AllShaped, AreInOrder, HasPlace};
+ghost use Rattle.crs_value.specs.FirstArguments.{AreFirsts};
 ghost use Rattle.crs_value.specs.Reading.{item_at, Holds, those};
 
 use crate::checks::{Check, any_from, lesser, only_of, refusal_at};

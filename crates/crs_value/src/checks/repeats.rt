@@ -3,8 +3,8 @@ ghost use Rattle.crs_text.specs.Items.{HasId, arguments, rest_of, here};
 ghost use Rattle.crs_shape.specs.Shaped.{Shaped};
 ghost use Rattle.crs_value.specs.Break.{AnyOf, IsLeast};
 ghost use Rattle.crs_value.specs.Checks.{anchors, once};
-ghost use Rattle.crs_value.specs.Found.{AllShaped};
-ghost use Rattle.crs_value.specs.Noted.{AreFirsts};
+ghost use Rattle.crs_value.specs.FoundArguments.{AllShaped};
+ghost use Rattle.crs_value.specs.FirstArguments.{AreFirsts};
 ghost use Rattle.crs_value.specs.RepeatedPart.{IsRepeated, Repeats, RepeatsAny};
 ghost use Rattle.crs_value.specs.Reading.{item_at, those, IsFound};
 

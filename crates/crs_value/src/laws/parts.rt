@@ -18,7 +18,7 @@ ghost use Rattle.crs_value.specs.SoundSingle.{IsBase, IsGeodetic, IsGeodeticFram
 ghost use Rattle.crs_value.specs.SoundSingle.{IsVerticalFrame};
 ghost use Rattle.crs_value.specs.SoundUsages.{IsBox, IsExtent, IsUsage};
 ghost use Rattle.crs_value.specs.declared.values.frame.Frame.TheVariants as frame;
-ghost use Rattle.crs_value.specs.Told.{IsReadAs, IsReadOnce};
+ghost use Rattle.crs_value.specs.ReadOnce.{IsReadAs, IsReadOnce};
 
 /// An item is read as one axis at most, of whatever class it is; likewise the other nodes that aren't members of sets.
 /// Profile.

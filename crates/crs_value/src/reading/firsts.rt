@@ -2,7 +2,7 @@
 ghost use Rattle.std.specs.Prelude.{◌≡◌, ◌+◌, ◌^◌, ◌<◌, true, IsTrue};
 ghost use Rattle.crs_text.specs.Items.{HasId, arguments};
 ghost use Rattle.crs_shape.specs.Counts.{one_if};
-ghost use Rattle.crs_value.specs.Noted.{AreFirsts, noted};
+ghost use Rattle.crs_value.specs.FirstArguments.{AreFirsts, first_with};
 ghost use Rattle.crs_value.specs.Reading.{is_same, item_at};
 
 use crs_shape::{Class, class_in};
@@ -43,7 +43,7 @@ const NONE: Firsts = Firsts {
 
 // The first of a class, if this is a further one.
 fn first_of(old: Option<ItemId>, id: ItemId) -> Option<ItemId>
-    ensures { result ≡ noted true old id }
+    ensures { result ≡ first_with true old id }
 {
     match old {
         None => Some(id),
@@ -57,18 +57,18 @@ impl Firsts {
     #[inline(never)]
     fn note(&mut self, class: Class, id: ItemId)
         requires { IsTrue (is_same Class.Axis class) → self.old.axes + 1 < 2 ^ 64 }
-        ensures system { self.new.system ≡ noted (is_same Class.CoordinateSystem class) self.old.system id }
-        ensures axis { self.new.axis ≡ noted (is_same Class.Axis class) self.old.axis id }
+        ensures system { self.new.system ≡ first_with (is_same Class.CoordinateSystem class) self.old.system id }
+        ensures axis { self.new.axis ≡ first_with (is_same Class.Axis class) self.old.axis id }
         ensures axes { self.new.axes ≡ self.old.axes + one_if (is_same Class.Axis class) }
-        ensures unit { self.new.unit ≡ noted (is_same Class.AxisUnit class) self.old.unit id }
-        ensures scope { self.new.scope ≡ noted (is_same Class.Scope class) self.old.scope id }
-        ensures area { self.new.area ≡ noted (is_same Class.Area class) self.old.area id }
-        ensures bbox { self.new.bbox ≡ noted (is_same Class.BoundingBox class) self.old.bbox id }
-        ensures extent { self.new.extent ≡ noted (is_same Class.VerticalExtent class) self.old.extent id }
-        ensures remark { self.new.remark ≡ noted (is_same Class.Remark class) self.old.remark id }
-        ensures usage { self.new.usage ≡ noted (is_same Class.Usage class) self.old.usage id }
-        ensures identifier { self.new.identifier ≡ noted (is_same Class.Identifier class) self.old.identifier id }
-        ensures dynamic { self.new.dynamic ≡ noted (is_same Class.Dynamic class) self.old.dynamic id }
+        ensures unit { self.new.unit ≡ first_with (is_same Class.AxisUnit class) self.old.unit id }
+        ensures scope { self.new.scope ≡ first_with (is_same Class.Scope class) self.old.scope id }
+        ensures area { self.new.area ≡ first_with (is_same Class.Area class) self.old.area id }
+        ensures bbox { self.new.bbox ≡ first_with (is_same Class.BoundingBox class) self.old.bbox id }
+        ensures extent { self.new.extent ≡ first_with (is_same Class.VerticalExtent class) self.old.extent id }
+        ensures remark { self.new.remark ≡ first_with (is_same Class.Remark class) self.old.remark id }
+        ensures usage { self.new.usage ≡ first_with (is_same Class.Usage class) self.old.usage id }
+        ensures identifier { self.new.identifier ≡ first_with (is_same Class.Identifier class) self.old.identifier id }
+        ensures dynamic { self.new.dynamic ≡ first_with (is_same Class.Dynamic class) self.old.dynamic id }
     {
         match class {
             Class::CoordinateSystem => self.system = first_of(self.system, id),

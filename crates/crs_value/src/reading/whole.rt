@@ -3,7 +3,7 @@ ghost use Rattle.std.specs.Prelude.{◌≡◌, MatchResult};
 ghost use Rattle.crs_text.specs.Items.{HasId};
 ghost use Rattle.crs_shape.specs.Keywords.{root_classes};
 ghost use Rattle.crs_value.specs.Checks.{IsSound};
-ghost use Rattle.crs_value.specs.Found.{IsAmong};
+ghost use Rattle.crs_value.specs.FoundArguments.{IsAmong};
 ghost use Rattle.crs_value.specs.Reading.{item_at};
 ghost use Rattle.crs_value.specs.ReadsCrs.{IsGeodeticClass, ReadsCrs, kind_of};
 ghost use Rattle.crs_value.specs.Spells.{IsFaultOf};

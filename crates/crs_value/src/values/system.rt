@@ -3,7 +3,7 @@ ghost use Rattle.std.specs.Prelude.{◌≡◌, IfOk};
 ghost use Rattle.std.specs.Option.{option_copied};
 ghost use Rattle.crs_text.specs.Items.{HasId, arguments};
 ghost use Rattle.crs_value.specs.Checks.{IsSound, HasSystem};
-ghost use Rattle.crs_value.specs.Noted.{AreFirsts};
+ghost use Rattle.crs_value.specs.FirstArguments.{AreFirsts};
 ghost use Rattle.crs_value.specs.Reading.{item_at, those, Requires, ReadsFirst};
 ghost use Rattle.crs_value.specs.Reads.{HasType, ReadsType, ReadsSystem};
 ghost use Rattle.crs_value.specs.SoundSystem.{own_or};

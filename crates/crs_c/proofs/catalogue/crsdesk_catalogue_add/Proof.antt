@@ -5,14 +5,14 @@ use Rattle.crs_c.specs.Catalogues.{IsAdded}
 use Rattle.crs_group.specs.Catalogue.{CatalogueParts}
 use Rattle.crs_group.specs.contracts.catalogue.Catalogue as catalogue
 use Rattle.crs_group.proofs.catalogue.Catalogue.TheLaws.{the_row_laws}
-use Rattle.crs_c.specs.contracts.standing.Standing as standing
-use Rattle.crs_c.specs.declared.standing.Standing.{Standing}
-use Rattle.crs_c.proofs.standing.Standing.TheLaws as standing_laws
+use Rattle.crs_c.specs.contracts.catalogue_answers.Standing as standing
+use Rattle.crs_c.specs.declared.catalogue_answers.Standing.{Standing}
+use Rattle.crs_c.proofs.catalogue_answers.Standing.TheLaws as standing_laws
 use Rattle.crs_c.specs.contracts.catalogue.crsdesk_catalogue_add as f
 use Rattle.crs_c.proofs.catalogue.crsdesk_catalogue_add.Statement.{statement}
 use Rattle.crs_c.proofs.catalogue.crsdesk_catalogue_add.Code as code
-use Rattle.crs_c.specs.contracts.holding.added as g
-use Rattle.crs_c.proofs.holding.added.Met.{met}
+use Rattle.crs_c.specs.contracts.catalogue_calls.added as g
+use Rattle.crs_c.proofs.catalogue_calls.added.Met.{met}
 
 abbrev stayed : Stays f.ended.signature.params f.ended.kept
 stayed = (stay_dropped _ yes, (stay_dropped _ yes, (stay_dropped _ yes, tt)))
@@ -46,7 +46,7 @@ crsdesk_catalogue_add_spec 𝓤 𝓛 𝓜 𝓡 wired =
     nothing ! $ move ! (3 ∷ 0 ∷ []) $ join ! $ owned ! u64 _ (uint_Makes 𝓛 w64) i _ (refl, are.1.0.1) $ join ! $ move ! (1 ∷ 0 ∷ []) $ join ! $
     move ! (2 ∷ 0 ∷ []) $ join ! $ nothing ! $ move ! (1 ∷ 0 ∷ []) $
     use2 𝓛 (raw (G.pre z)) (id⊢ 𝓤 _) $
-    calls_at ! (framed 𝓤 𝓛.H 𝓜 (tables 𝓤 𝓛.H 𝓜 𝓡 𝓡.env)) G (met 𝓤 𝓛 𝓜 𝓡 (code.calls-crs_c::holding::added 𝓡.env wired)) z
+    calls_at ! (framed 𝓤 𝓛.H 𝓜 (tables 𝓤 𝓛.H 𝓜 𝓡 𝓡.env)) G (met 𝓤 𝓛 𝓜 𝓡 (code.calls-crs_c::catalogue_calls::added 𝓡.env wired)) z
     (and_then ! (get ! refl) (and_then ! (get ! refl) (and_then ! (get ! refl) (no_more !)))) (λ u.
     use1 𝓛 (later (some (λ (r : CatalogueParts × Standing). ((‵ (flft κ q) ⊛ ‵ ftrue) ⊛ ‵ ((Tuple (R ∷ P ∷ [])).own_val r (u ∷ []))) ⊛
     some (λ (ws : Lasts g.ended κs (n, (i, (s, tt)))). ‵ (lasts g.ended κs (n, (i, (s, tt))) ws) ⊛ raw (fact 𝓤 (IsAdded i s.now n r.0 r.1)))))) (id⊢ 𝓤 _) $

@@ -1,5 +1,5 @@
 use Rattle.std.proofs.Common.{Option, ℕ, subst}
-use Rattle.crs_value.specs.Found.{from_found}
+use Rattle.crs_value.specs.FoundArguments.{from_found}
 use Rattle.crs_value.proofs.CheckLemmas.{Checked, checked-on}
 use Rattle.crs_value.proofs.checks.any_from.Goals as goal
 

@@ -1,5 +1,5 @@
 use Rattle.std.proofs.Common.{ℕ, Option, subst}
-use Rattle.crs_value.specs.Found.{from_found}
+use Rattle.crs_value.specs.FoundArguments.{from_found}
 use Rattle.crs_canon.specs.Members.{spellings}
 use Rattle.crs_canon.proofs.DirectSetLemmas.{Gathering, gathering-end, gathering-first, gathering-on}
 use Rattle.crs_canon.proofs.direct.set.gather_from.Goals as goal

@@ -1,5 +1,5 @@
 use Rattle.std.proofs.Common.{length}
-use Rattle.crs_value.specs.Found.{from_found}
+use Rattle.crs_value.specs.FoundArguments.{from_found}
 use Rattle.crs_canon.specs.Spans.{AreInOrder, texts_at}
 use Rattle.crs_canon.proofs.DirectSetLemmas.{Gathering}
 use Rattle.crs_canon.proofs.direct.set.gather_spans.Given as goal

@@ -1,6 +1,6 @@
 use Rattle.std.proofs.Common.{ap}
 use Rattle.std.proofs.lemmas.Result.{on_ok_weaker}
-use Rattle.crs_value.specs.Found.{from_found}
+use Rattle.crs_value.specs.FoundArguments.{from_found}
 use Rattle.crs_canon.proofs.DirectSetLemmas.{alone-written}
 use Rattle.crs_canon.proofs.direct.set.write_set_with.Goals as goal
 

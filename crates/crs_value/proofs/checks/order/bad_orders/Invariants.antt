@@ -1,7 +1,7 @@
 use Rattle.std.proofs.Common.{length}
 use Rattle.crs_text.specs.Items.{arguments}
 use Rattle.crs_shape.specs.declared.class.Class.TheVariants as class
-use Rattle.crs_value.specs.Found.{from_found}
+use Rattle.crs_value.specs.FoundArguments.{from_found}
 use Rattle.crs_value.specs.Reading.{item_at, those}
 use Rattle.crs_value.proofs.OrderLemmas.{Ordering}
 use Rattle.crs_value.proofs.checks.order.bad_orders.Given as goal

@@ -1,6 +1,6 @@
 use Rattle.std.proofs.Common.{refl}
 use Rattle.crs_shape.specs.declared.class.Class.TheVariants as class
-use Rattle.crs_value.specs.Found.{from_found}
+use Rattle.crs_value.specs.FoundArguments.{from_found}
 use Rattle.crs_value.proofs.OrderLemmas.{order-some, order-none}
 use Rattle.crs_value.proofs.checks.order.beside.Goals as goal
 

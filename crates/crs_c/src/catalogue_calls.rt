@@ -1,0 +1,139 @@
+//! What each call does to a catalogue, which it takes by value and hands back.
+ghost use Rattle.std.specs.Prelude.{◌≡◌, ◌≤◌, length, take, drop};
+ghost use Rattle.crs_c.specs.Catalogues.{IsAdded, IsMadeEmpty, IsPiece, IsPieceAt, line_at};
+
+use crate::catalogue_answers::{Numbered, Piece, Standing, no_refusal, standing_of};
+use crate::codes::{NO_LEVEL, NO_MEMORY, NO_NUMBER, OK, level_numbered};
+use crs_group::Catalogue;
+use crs_value::Level;
+use std::alloc::Global;
+
+#[tactic(auto, unfolding(crate::specs::Catalogues::IsMadeEmpty))]
+pub(crate) fn made(alloc: Global, level: u32) -> (Catalogue, u32)
+    ensures { IsMadeEmpty level result.0 result.1 }
+{
+    match level_numbered(level) {
+        Some(level) => (Catalogue::new(alloc, level), OK),
+        None => (Catalogue::new(alloc, Level::Full), NO_LEVEL),
+    }
+}
+
+#[tactic(auto, unfolding(crate::specs::Catalogues::IsAdded))]
+pub(crate) fn added(held: Catalogue, number: u64, text: &[u8]) -> (Catalogue, Standing)
+    ensures { IsAdded number text.now held result.0 result.1 }
+{
+    let mut held = held;
+    match held.add(number, text) {
+        Ok(place) => (held, standing_of(place)),
+        Err(_) => {
+            let told = Standing {
+                group: 0,
+                refused: no_refusal(),
+                code: NO_MEMORY,
+            };
+            (held, told)
+        }
+    }
+}
+
+pub(crate) fn counted(held: Catalogue) -> (Catalogue, usize)
+    ensures same { result.0 ≡ held }
+    ensures count { result.1 ≡ length held.groups }
+{
+    let count = held.groups();
+    (held, count)
+}
+
+pub(crate) fn looked_up(held: Catalogue, group: usize, index: usize) -> (Catalogue, Numbered)
+    ensures same { result.0 ≡ held }
+    ensures found { result.1 ≡ line_at held group index }
+{
+    let found = line_of(&held, group, index);
+    (held, found)
+}
+
+fn line_of(catalogue: &Catalogue, group: usize, index: usize) -> Numbered
+    ensures { result ≡ line_at catalogue.now group index }
+{
+    let found = match catalogue.lines(group) {
+        Some(lines) => lines.get(index),
+        None => None,
+    };
+    match found {
+        Some(number) => Numbered {
+            number: *number,
+            code: OK,
+        },
+        None => Numbered {
+            number: 0,
+            code: NO_NUMBER,
+        },
+    }
+}
+
+pub(crate) fn cut(held: Catalogue, group: usize, from: usize) -> (Catalogue, Piece)
+    ensures same { result.0 ≡ held }
+    ensures piece { IsPieceAt held group from result.1 }
+{
+    let piece = piece_at(&held, group, from);
+    (held, piece)
+}
+
+fn piece_at(catalogue: &Catalogue, group: usize, from: usize) -> Piece
+    ensures { IsPieceAt catalogue.now group from result }
+{
+    match catalogue.text(group) {
+        Some(text) => piece_of(text, from),
+        None => Piece {
+            bytes: [0; 240],
+            length: 0,
+            code: NO_NUMBER,
+        },
+    }
+}
+
+fn piece_of(text: &[u8], from: usize) -> Piece
+    ensures { IsPiece from result text.now }
+{
+    let piece = front_of(rest_of(text, from));
+    let mut bytes = [0; 240];
+    let (front, _) = bytes.split_at_mut(piece.len());
+    front.copy_from_slice(piece);
+    Piece {
+        bytes,
+        length: piece.len(),
+        code: OK,
+    }
+}
+
+#[tactic(auto, using(std::proofs::lemmas::List::drop_all))]
+fn rest_of(text: &[u8], from: usize) -> &[u8]
+    ensures { result.now ≡ drop from text.now }
+{
+    if from >= text.len() {
+        return &[];
+    }
+    let (_, rest) = text.split_at(from);
+    rest
+}
+
+fn front_of(text: &[u8]) -> &[u8]
+    ensures value { result.now ≡ take 240 text.now }
+    ensures at_most { length result.now ≤ 240 }
+{
+    if text.len() <= 240 {
+        return text;
+    }
+    let (front, _) = text.split_at(240);
+    front
+}
+
+// Drops a catalogue.
+pub(crate) fn let_go(held: Catalogue) {
+    let_go_anywhere(held);
+}
+
+// By this bound the prover shows that another thread than the one that made a catalogue may use and drop it.
+fn let_go_anywhere<T: Send + Drop>(held: T) {
+    drop(held);
+}

@@ -1,0 +1,123 @@
+-- A line that the command takes asks for something.
+use Rattle.std.proofs.Common.{◌≡◌, ◌≢◌, List, [], ◌∷◌, Option, Some, None, IsSome, Bool, true, false, ◌||◌, inl, inr, cond, ap, ◌∙◌, refl, subst, sym, is_some, option_and_then, option_map}
+use Rattle.std.specs.Prelude.{find}
+use Rattle.std.specs.Option.{option_map_or}
+use Rattle.clap.specs.Words.{App, HasKind, HasMatchesOf, IsAmong, Row, Shape, Text, app_of, built, fault_of, is_simple, is_simple_and_free, kind_of, subcommand_of, subcommand_rows_of, takes}
+use Rattle.clap.specs.Simple.{argument_words, entered, label_of, names_of, rows_at}
+use Rattle.clap.specs.Takes.{entered_passes, level_passes, settle_passes, walk_passes}
+use Rattle.clap.specs.Walk.{answers_to, nothing_held, stop_after, walk, walk_from}
+use Rattle.clap.specs.declared.builder.command.Command.{Command}
+use Rattle.clap.specs.declared.parser.matches.ArgMatches.{ArgMatches}
+use Rattle.clap.specs.declared.error.Error.{Error}
+use Rattle.clap.specs.declared.error.kind.ErrorKind.TheVariants as kind
+use Rattle.clap.proofs.WalkLemmas.{both}
+use Rattle.crs_command_line.specs.declared.requests.RequestFault.{RequestFault}
+use Rattle.crs_command_line.specs.declared.requests.RequestFault.TheVariants.{Line, Memory}
+use Rattle.crs_command_line.proofs.HelpLemmas.{IsFree, answers_help, stops_at_no_help}
+use Rattle.crs_command_line.proofs.OperandLemmas.{texts_there}
+use Rattle.crs_command_line.specs.CommandLine.{HandsOn, IsRefusal, asked, desk, request_of}
+
+-- the words are a request of the shape, where it answers and takes them
+IsKnown : (Shape → Bool) → List Text → Shape → Type 0
+IsKnown answers words s = answers s ≡ true → level_passes s [] nothing_held words false ≡ true → IsSome (request_of (rows_at s words))
+
+AreKnown : (Shape → Bool) → List Text → List Shape → Type 0
+AreKnown answers words [] = Unit {0}
+AreKnown answers words (s ∷ shapes) = IsKnown answers words s × AreKnown answers words shapes
+
+entered_at : List Text → Option Shape → Option (Text × List Row)
+entered_at words found = option_map (λ s. rows_at s words) found
+
+passes_at : List Text → Option Shape → Bool
+passes_at words found = option_map_or (λ s. level_passes s [] nothing_held words false) found true
+
+known_here : (words : List Text) (here : Bool) (s : Shape) (others : Option Shape)
+    → (here ≡ true → level_passes s [] nothing_held words false ≡ true → IsSome (request_of (rows_at s words)))
+    → (passes_at words others ≡ true → IsSome (entered_at words others) → IsSome (option_and_then request_of (entered_at words others)))
+    → passes_at words (cond here (Some s) others) ≡ true → IsSome (entered_at words (cond here (Some s) others))
+    → IsSome (option_and_then request_of (entered_at words (cond here (Some s) others)))
+unfolding entered_at passes_at
+known_here words true s others known rest passes some = known refl passes
+known_here words false s others known rest passes some = rest passes some
+
+known_among : (words : List Text) (answers : Shape → Bool) (shapes : List Shape) → AreKnown answers words shapes
+    → passes_at words (find answers shapes) ≡ true → IsSome (entered_at words (find answers shapes))
+    → IsSome (option_and_then request_of (entered_at words (find answers shapes)))
+unfolding IsKnown AreKnown entered_at passes_at
+known_among words answers [] known passes some = cc
+known_among words answers (s ∷ shapes) known passes some =
+    known_here words (answers s) s (find answers shapes) known.0 (known_among words answers shapes known.1) passes some
+
+or_false : (b : Bool) → (b || false) ≡ true → b ≡ true
+or_false true h = refl
+or_false false h = h
+
+stop_asks : (stop : Option (Text × List Text)) → IsFree stop → entered_passes (built desk) stop ≡ true → IsSome (entered (built desk) stop)
+    → IsSome (option_and_then request_of (entered (built desk) stop))
+unfolding IsKnown AreKnown entered_at passes_at IsFree
+stop_asks None free passes some = cc
+stop_asks (Some stop) free passes some =
+    known_among stop.1 (λ s. answers_to stop.0 (label_of s)) (built desk).subs (
+      (λ answers taken. refl),
+      (
+        (λ answers taken. refl),
+        (
+          (λ answers taken. refl),
+          (
+            (λ answers taken. texts_there stop.1 taken),
+            (
+              (λ answers taken. refl),
+              ((λ answers taken. absurd (answers_help stop.0 free (or_false _ answers))), tt),
+            ),
+          ),
+        ),
+      ),
+    ) passes some
+
+line_asks : (words : List Text) → takes desk words ≡ true → IsSome (option_and_then request_of (subcommand_of desk words))
+line_asks words taken =
+    let a : App = built desk in
+    let given = argument_words desk words in
+    let stop = stop_after a.top.rules (names_of a) given in
+    let end = (walk a.top.rules (names_of a) nothing_held given).held in
+    let levels = both (entered_passes a stop) (level_passes a.top (names_of a) nothing_held given (is_some (entered a stop))) taken in
+    let walks = both (walk_passes a.top (names_of a) (walk_from nothing_held) given) _ levels.1 in
+    let settles = both (settle_passes a.top.rules a.top.args_override_self end) _ walks.1 in
+    let some : is_some (entered a stop) ≡ true = (both (is_some (entered a stop)) _ settles.1).0 in
+    stop_asks stop (stops_at_no_help given walks.0) levels.0 some
+
+asked_if : (words : List Text) → takes desk words ≡ true → asked words ≡ option_and_then request_of (subcommand_of desk words)
+asked_if words taken = ap (λ is. cond is (option_and_then request_of (subcommand_of desk words)) None) taken
+
+pub taken_asks : (words : List Text) → takes desk words ≡ true → IsSome (asked words)
+taken_asks words taken = subst IsSome (sym (asked_if words taken)) (line_asks words taken)
+
+pub asked_is : (command : Command) (words : List Text) (matches : ArgMatches) → app_of command ≡ desk
+    → HasMatchesOf (app_of command) words matches → takes desk words ≡ true
+    → asked words ≡ option_and_then request_of (subcommand_rows_of matches)
+asked_is command words matches shape found taken =
+    let same : subcommand_rows_of matches ≡ subcommand_of desk words = (found (ap is_simple shape)).1 ∙ ap (λ (a : App). subcommand_of a words) shape in
+    asked_if words taken ∙ sym (ap (λ rows. option_and_then request_of rows) same)
+
+pub no_fault : (command : Command) (words : List Text) → app_of command ≡ desk
+    → (is_simple_and_free (app_of command) ≡ true → fault_of (app_of command) words ≡ []) → fault_of desk words ≡ []
+no_fault command words shape kinds = ap (λ (a : App). fault_of a words) (sym shape) ∙ kinds (ap is_simple_and_free shape)
+
+false_unless : (b : Bool) → b ≢ true → b ≡ false
+false_unless true h = absurd (h refl)
+false_unless false h = refl
+
+among : (words : List Text) (error : Error) → kind_of error ≢ kind.OutOfMemory → HasKind (fault_of desk words) error → IsAmong (kind_of error) (fault_of desk words)
+among words error other fails = elim fails [
+  | inl memory ↦ absurd (other memory)
+  | inr given ↦ given
+]
+
+pub is_refusal : (words : List Text) (error : Error) (fault : RequestFault)
+    → (takes desk words ≡ true → kind_of error ≡ kind.OutOfMemory) → HasKind (fault_of desk words) error
+    → HandsOn error fault → IsRefusal words fault
+is_refusal words error (Line shown) passes fails handed =
+    let P : Error → Type 0 = λ e. (kind_of e ≢ kind.OutOfMemory) × (takes desk words ≡ false) × IsAmong (kind_of e) (fault_of desk words) in
+    subst P (sym handed.0)
+    (handed.1, false_unless (takes desk words) (λ taken. handed.1 (passes taken)), among words error handed.1 fails)
+is_refusal words error (Memory want) passes fails handed = tt

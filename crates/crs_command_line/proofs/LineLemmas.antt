@@ -1,0 +1,643 @@
+-- Which lines are taken, word by word.
+use Rattle.std.proofs.Common.{◌≡◌, ◌≢◌, ◌<◌, ap₂, nat_lt, subst, ℕ, List, [], ◌∷◌, ◌++◌, length, Option, Some, None, Bool, true, false, not, ◌&&◌, ◌||◌, cond, refl, codes, zero, suc, drop, ap, ◌∙◌, sym, true≢false, option_and_then}
+use Rattle.std.specs.Prelude.{◌==◌, encode_utf8, slice_get}
+use Rattle.std.specs.Option.{option_map_or}
+use Rattle.std.specs.Str.{bytes_eq, chars, chars_after, continuation_len, lead_bits}
+use Rattle.std.proofs.lemmas.Bool.{eqb-true, lt-ltb}
+use Rattle.clap.specs.Lexer.{long_of, long_of_rest, name_and_value, short_of, short_of_rest, strip_byte}
+use Rattle.clap.specs.Words.{Row, Rule, Shape, Text, subcommand_of, takes}
+use Rattle.std.specs.List.{fold, list_all}
+use Rattle.std.proofs.lemmas.Slice.Eq.{bytes_eq-Decides}
+use Rattle.clap.specs.Simple.{filled, filled_from, help_rule, new_shape, with_index}
+use Rattle.clap.specs.Walk.{Held, Outcome, Step, Waiting, Walk, done, waits, plain, refused, idle, option, next, trailing, subcommand, value, after_flag, after_step, bundle_met, bundle_step, finished, long_met, long_or_other, nothing_held, plain_word, rows_after, settled, short_or_plain, subcommand_met, subcommand_or_other, used, walk_from, walked, word_met}
+use Rattle.clap.specs.Takes.{bundle_passes, bundle_step_passes, default_passes, flag_word_passes, flags_pass, is_given, is_valid, level_passes, long_passes, other_passes, settle_passes, short_passes, step_passes, turn_passes, walk_passes, word_passes}
+use Rattle.clap.proofs.OnLiterals.{clap_on_literals}
+use Rattle.clap.proofs.WalkLemmas.{both}
+use Rattle.crs_command_line.specs.CommandLine.{asked, desk, explain_of, has_lines, is_plain_word, level_of, level_option, lines_flag, request_of, same_of, spare_operand}
+use Rattle.crs_command_line.specs.declared.requests.Request.{Request}
+use Rattle.crs_command_line.specs.declared.requests.Request.TheVariants.{Canon, Check, Same, Group, Explain}
+use Rattle.crs_command_line.proofs.OperandLemmas.{built_same, second_given}
+
+-- ---- after `--`
+
+pub texts_after_dashes : (program first second : Text)
+    → asked (program ∷ codes "same" ∷ codes "--" ∷ first ∷ second ∷ []) ≡ Some (Same (codes "full") first second)
+unfolding clap_on_literals
+texts_after_dashes program first second = refl
+
+-- ---- no text
+
+pub no_text : (program : Text) → takes desk (program ∷ codes "same" ∷ []) ≡ false
+unfolding clap_on_literals
+no_text program = refl
+
+-- ---- one word
+
+abbrev rules : List Rule
+rules = built_same.rules
+
+-- `--level`, and the flag that asks for help, as `clap` builds them
+abbrev level : Rule
+level = with_index 3 (filled level_option)
+
+abbrev help : Rule
+help = with_index 3 (filled help_rule)
+
+-- what a walk of `same` met before its first text: nothing; or `--level`, alone or with a level
+abbrev Met : Type 0
+Met = Option (Option Text)
+
+abbrev held_at : Met → Held
+held_at None = nothing_held
+held_at (Some None) = record { rows = []; pending = Some (codes "level", []); skip = 0 }
+held_at (Some (Some v)) = record { rows = used level (v ∷ []) []; pending = None; skip = 0 }
+
+abbrev waiting_at : Met → Waiting
+waiting_at None = idle
+waiting_at (Some None) = option (codes "level")
+waiting_at (Some (Some v)) = idle
+
+abbrev walk_at : Met → Walk
+walk_at at = record { held = held_at at; waiting = waiting_at at; position = 1; is_trailing = false; stopped = None }
+
+-- no second text follows the word
+abbrev Lacks : Met → Text → Held × Step → Type 0
+Lacks at word met = is_given (codes "second") (finished rules (after_step rules word (walk_at at) met.0 met.1).held) ≡ false
+
+stays_lacks : (at : Met) (word : Text) (step : Step) → Lacks at word (held_at at, step)
+stays_lacks None word (next waiting) = refl
+stays_lacks None word (trailing position) = refl
+stays_lacks None word (subcommand name) = refl
+stays_lacks None word value = refl
+stays_lacks (Some None) word (next waiting) = refl
+stays_lacks (Some None) word (trailing position) = refl
+stays_lacks (Some None) word (subcommand name) = refl
+stays_lacks (Some None) word value = refl
+stays_lacks (Some (Some v)) word (next waiting) = refl
+stays_lacks (Some (Some v)) word (trailing position) = refl
+stays_lacks (Some (Some v)) word (subcommand name) = refl
+stays_lacks (Some (Some v)) word value = refl
+
+plain_lacks : (at : Met) (word : Text) → Lacks at word (plain_word rules (waiting_at at) word (held_at at))
+plain_lacks None word = refl
+plain_lacks (Some None) word = refl
+plain_lacks (Some (Some v)) word = refl
+
+flag_lacks : (at : Met) (word : Text) (outcome : Outcome) → Lacks at word (after_flag rules (waiting_at at) word (held_at at) outcome)
+flag_lacks at word done = stays_lacks at word (next idle)
+flag_lacks at word (waits id) = stays_lacks at word (next (option id))
+flag_lacks at word plain = plain_lacks at word
+flag_lacks at word refused = plain_lacks at word
+
+-- the flags of `same` are a level and the call for help
+abbrev flag_named : Bool → Bool → Option Rule
+flag_named is_level is_help = cond is_level (Some level) (cond is_help (Some help) None)
+
+help_fails : (at : Met) (is_help : Bool) (v : Option Text) → long_passes rules false (flag_named false is_help) v (held_at at) ≡ true → ⊥
+help_fails at true (Some v) passes = cc
+help_fails None true None passes = cc
+help_fails (Some None) true None passes = cc
+help_fails (Some (Some u)) true None passes = cc
+help_fails at false v passes = cc
+
+level_lacks : (at : Met) (word : Text) (v : Option Text) → long_passes rules false (Some level) v (held_at at) ≡ true
+    → let met = long_met rules (Some level) v (held_at at) in Lacks at word (after_flag rules (waiting_at at) word met.0 met.1)
+level_lacks None word (Some v) passes = refl
+level_lacks None word None passes = refl
+level_lacks (Some None) word (Some v) passes = cc
+level_lacks (Some None) word None passes = cc
+level_lacks (Some (Some u)) word (Some v) passes = cc
+level_lacks (Some (Some u)) word None passes = refl
+
+long_lacks : (at : Met) (word : Text) (is_level is_help : Bool) (v : Option Text) → long_passes rules false (flag_named is_level is_help) v (held_at at) ≡ true
+    → let met = long_met rules (flag_named is_level is_help) v (held_at at) in Lacks at word (after_flag rules (waiting_at at) word met.0 met.1)
+long_lacks at word true is_help v passes = level_lacks at word v passes
+long_lacks at word false is_help v passes = absurd (help_fails at is_help v passes)
+
+short_help_fails : (at : Met) (is_help : Bool) (rest : Text) (test : Held → Bool)
+    → short_passes rules false (cond is_help (Some help) None) rest (held_at at) test ≡ true → ⊥
+short_help_fails None true rest test passes = cc
+short_help_fails (Some None) true rest test passes = cc
+short_help_fails (Some (Some v)) true rest test passes = cc
+short_help_fails at false rest test passes = cc
+
+first_flag_stays : (at : Met) (x : Option ℕ) (flags : Text) (after : Text → ℕ → Outcome → Held → Held × Outcome) (test : Text → ℕ → Held → Bool)
+    → bundle_step_passes rules false x flags 0 (held_at at) test ≡ true → (bundle_step rules x flags 0 plain (held_at at) after).0 ≡ held_at at
+first_flag_stays at None flags after test passes = refl
+first_flag_stays at (Some x) flags after test passes =
+    absurd (short_help_fails at (104 == x || false) (drop (length (encode_utf8 x)) flags) (test (drop (length (encode_utf8 x)) flags) 0) passes)
+
+bundle_stays : (at : Met) (k : ℕ) (flags : Text) → flags_pass rules false k flags 0 (held_at at) ≡ true
+    → (bundle_met rules k flags 0 plain (held_at at)).0 ≡ held_at at
+unfolding bundle_met flags_pass
+bundle_stays at zero flags passes = refl
+bundle_stays at (suc k) flags passes = first_flag_stays at (slice_get (chars flags) 0) flags (bundle_met rules k) (flags_pass rules false k) passes
+
+bundle_lacks : (at : Met) (word flags : Text) → flags_pass rules false (length flags) flags 0 (held_at at) ≡ true
+    → let met = bundle_met rules (length flags) flags 0 plain (held_at at) in Lacks at word (after_flag rules (waiting_at at) word met.0 met.1)
+bundle_lacks at word flags passes =
+    let met = bundle_met rules (length flags) flags 0 plain (held_at at) in
+    subst (λ (h : Held). Lacks at word (after_flag rules (waiting_at at) word h met.1)) (sym (bundle_stays at (length flags) flags passes))
+    (flag_lacks at word met.1)
+
+short_lacks : (at : Met) (word : Text) (flags : Option Text) → option_map_or (λ f. bundle_passes rules false f (held_at at)) flags true ≡ true
+    → Lacks at word (short_or_plain rules (waiting_at at) word flags (held_at at))
+short_lacks at word None passes = plain_lacks at word
+short_lacks None word (Some flags) passes = bundle_lacks None word flags passes
+short_lacks (Some None) word (Some flags) passes = bundle_lacks (Some None) word flags passes
+short_lacks (Some (Some v)) word (Some flags) passes = bundle_lacks (Some (Some v)) word flags passes
+
+named_lacks : (at : Met) (word : Text) (name : Option (Text × Option Text)) → flag_word_passes rules false name word (held_at at) ≡ true
+    → Lacks at word (long_or_other rules (waiting_at at) word name (held_at at))
+named_lacks at word (Some p) passes = long_lacks at word (bytes_eq (codes "level") p.0 || false) (bytes_eq (codes "help") p.0 || false) p.1 passes
+named_lacks at word None passes = short_lacks at word (short_of word) passes
+
+either_lacks : (at : Met) (word : Text) (b : Bool) (x : Held × Step) (q : Bool) → (q ≡ true → Lacks at word x) → (b || q) ≡ true
+    → Lacks at word (cond b (held_at at, trailing 1) x)
+either_lacks at word true x q lacks passes = stays_lacks at word (trailing 1)
+either_lacks at word false x q lacks passes = lacks passes
+
+-- whatever the word is, it is no second text
+other_lacks : (at : Met) (word : Text) → (bytes_eq word (45 ∷ 45 ∷ []) || flag_word_passes rules false (long_of word) word (held_at at)) ≡ true
+    → Lacks at word (cond (bytes_eq word (45 ∷ 45 ∷ [])) (held_at at, trailing 1) (long_or_other rules (waiting_at at) word (long_of word) (held_at at)))
+other_lacks at word passes =
+    either_lacks at word (bytes_eq word (45 ∷ 45 ∷ [])) (long_or_other rules (waiting_at at) word (long_of word) (held_at at)) _
+    (named_lacks at word (long_of word)) passes
+
+word_lacks : (at : Met) (word : Text) → word_passes built_same [] false (waiting_at at) word (held_at at) ≡ true
+    → Lacks at word (word_met rules [] false (waiting_at at) 1 word (held_at at))
+word_lacks None word passes = other_lacks None word passes
+word_lacks (Some None) word passes = other_lacks (Some None) word passes
+word_lacks (Some (Some v)) word passes = other_lacks (Some (Some v)) word passes
+
+no_second : (at : Met) (word : Text) → turn_passes built_same [] (walk_at at) word ≡ true
+    → is_given (codes "second") (finished rules (walked rules [] (walk_at at) word).held) ≡ false
+unfolding walked
+no_second at word passes =
+    word_lacks at word (both (word_passes built_same [] false (waiting_at at) word (held_at at)) _ passes).0
+
+one_word_fails : (word : Text) → level_passes built_same [] nothing_held (word ∷ []) false ≡ true → ⊥
+unfolding walk_passes
+one_word_fails word passes =
+    let turn = both (turn_passes built_same [] (walk_at None) word) true (both (walk_passes built_same [] (walk_at None) (word ∷ [])) _ passes).0 in
+    let given : is_given (codes "second") (finished rules (walked rules [] (walk_at None) word).held) ≡ true = second_given (word ∷ []) passes in
+    absurd (true≢false (sym given ∙ no_second None word turn.0))
+
+false_unless : (b : Bool) → b ≢ true → b ≡ false
+false_unless true h = absurd (h refl)
+false_unless false h = refl
+
+pub one_text : (program word : Text) → takes desk (program ∷ codes "same" ∷ word ∷ []) ≡ false
+unfolding clap_on_literals
+one_text program word = false_unless (takes desk (program ∷ codes "same" ∷ word ∷ []))
+    (λ taken. one_word_fails word (both (level_passes built_same [] nothing_held (word ∷ []) false) _ taken).0)
+
+-- ---- a flag, which `same` doesn't have
+
+starts_with : (c : ℕ) (rest : Text) → slice_get (chars_after 0 c rest) 0 ≡ Some c
+starts_with c [] = refl
+starts_with c (b ∷ rest) = refl
+
+first_char : (byte : ℕ) (rest : Text) → byte < 128 → slice_get (chars (byte ∷ rest)) 0 ≡ Some byte
+unfolding chars
+first_char byte rest low =
+    let is_low : nat_lt byte 128 ≡ true = lt-ltb byte 128 low in
+    let alone : continuation_len byte ≡ 0 = rw is_low refl in
+    let whole : lead_bits byte ≡ byte = rw is_low refl in
+    ap₂ (λ n c. slice_get (chars_after n c rest) 0) alone whole ∙ starts_with byte rest
+
+short_flag_fails : (byte : ℕ) (rest : Text) → byte < 128 → bundle_passes rules false (byte ∷ rest) nothing_held ≡ true → ⊥
+unfolding flags_pass
+short_flag_fails byte rest low passes =
+    let test = flags_pass rules false (length rest) in
+    let left = drop (length (encode_utf8 byte)) (byte ∷ rest) in
+    short_help_fails None (104 == byte || false) left (test left 0)
+    (subst (λ x. bundle_step_passes rules false x (byte ∷ rest) 0 nothing_held test ≡ true) (first_char byte rest low) passes)
+
+-- where a walk is after a first word: before its first text
+abbrev Stands : Text → Held × Step → Type 0
+Stands word met = (at : Met) × (after_step rules word (walk_at None) met.0 met.1 ≡ walk_at at)
+
+level_stands : (word : Text) (v : Option Text)
+    → let met = long_met rules (Some level) v nothing_held in Stands word (after_flag rules idle word met.0 met.1)
+level_stands word (Some v) = (Some (Some v), refl)
+level_stands word None = (Some None, refl)
+
+long_stands : (word : Text) (is_level is_help : Bool) (v : Option Text) → long_passes rules false (flag_named is_level is_help) v nothing_held ≡ true
+    → let met = long_met rules (flag_named is_level is_help) v nothing_held in Stands word (after_flag rules idle word met.0 met.1)
+long_stands word true is_help v passes = level_stands word v
+long_stands word false is_help v passes = absurd (help_fails None is_help v passes)
+
+-- a word that begins as a flag, and passes, is `--level`
+flag_stands : (byte : ℕ) (rest : Text) (is : Bool) → (byte == 45) ≡ is → byte < 128 → bytes_eq (45 ∷ byte ∷ rest) (45 ∷ 45 ∷ []) ≡ false
+    → let name = option_and_then long_of_rest (cond is (Some rest) None) in
+    flag_word_passes rules false name (45 ∷ byte ∷ rest) nothing_held ≡ true
+    → Stands (45 ∷ byte ∷ rest) (long_or_other rules idle (45 ∷ byte ∷ rest) name nothing_held)
+flag_stands byte [] true hyphen low dashes passes =
+    let two : 45 ∷ byte ∷ [] ≡ 45 ∷ 45 ∷ [] = ap (λ b. 45 ∷ b ∷ []) (eqb-true byte 45 hyphen) in
+    absurd (true≢false (sym ((bytes_eq-Decides (45 ∷ byte ∷ []) (45 ∷ 45 ∷ [])).1 two) ∙ dashes))
+flag_stands byte (b ∷ rest) true hyphen low dashes passes =
+    let p = name_and_value (b ∷ rest) in
+    long_stands (45 ∷ byte ∷ b ∷ rest) (bytes_eq (codes "level") p.0 || false) (bytes_eq (codes "help") p.0 || false) p.1 passes
+flag_stands byte rest false hyphen low dashes passes =
+    absurd (short_flag_fails byte rest low
+    (subst (λ is. option_map_or (λ f. bundle_passes rules false f nothing_held) (cond is None (Some (byte ∷ rest))) true ≡ true) hyphen passes))
+
+first_stands : (byte : ℕ) (rest : Text) → byte < 128 → bytes_eq (45 ∷ byte ∷ rest) (45 ∷ 45 ∷ []) ≡ false
+    → word_passes built_same [] false idle (45 ∷ byte ∷ rest) nothing_held ≡ true
+    → Stands (45 ∷ byte ∷ rest) (word_met rules [] false idle 1 (45 ∷ byte ∷ rest) nothing_held)
+first_stands byte rest low dashes passes =
+    let word : Text = 45 ∷ byte ∷ rest in
+    subst (λ is. Stands word (cond is (nothing_held, trailing 1) (long_or_other rules idle word (long_of word) nothing_held))) (sym dashes)
+    (flag_stands byte rest (byte == 45) refl low dashes
+    (subst (λ is. (is || flag_word_passes rules false (long_of word) word nothing_held) ≡ true) dashes passes))
+
+flag_level_fails : (byte : ℕ) (rest second : Text) → byte < 128 → 45 ∷ byte ∷ rest ≢ 45 ∷ 45 ∷ []
+    → level_passes built_same [] nothing_held ((45 ∷ byte ∷ rest) ∷ second ∷ []) false ≡ true → ⊥
+unfolding walk_passes walked
+flag_level_fails byte rest second low flag passes =
+    let word : Text = 45 ∷ byte ∷ rest in
+    let dashes = false_unless (bytes_eq word (45 ∷ 45 ∷ [])) (λ same. flag ((bytes_eq-Decides word (45 ∷ 45 ∷ [])).0 same)) in
+    let turns = both (turn_passes built_same [] (walk_at None) word) _ (both (walk_passes built_same [] (walk_at None) (word ∷ second ∷ [])) _ passes).0 in
+    let here = both (word_passes built_same [] false idle word nothing_held) _ turns.0 in
+    let stands = first_stands byte rest low dashes here.0 in
+    let moved : walked rules [] (walk_at None) word ≡ walk_at stands.0 = stands.1 in
+    let then = both (turn_passes built_same [] (walked rules [] (walk_at None) word) second) true turns.1 in
+    let none = no_second stands.0 second (subst (λ (w : Walk). turn_passes built_same [] w second ≡ true) moved then.0) in
+    let given : is_given (codes "second") (finished rules (walked rules [] (walked rules [] (walk_at None) word) second).held) ≡ true =
+    second_given (word ∷ second ∷ []) passes in
+    absurd (true≢false (sym given ∙ ap (λ (w : Walk). is_given (codes "second") (finished rules (walked rules [] w second).held)) moved ∙ none))
+
+pub flag_refused : (program rest second : Text) (byte : ℕ) → byte < 128 → 45 ∷ byte ∷ rest ≢ codes "--"
+    → takes desk (program ∷ codes "same" ∷ (45 ∷ byte ∷ rest) ∷ second ∷ []) ≡ false
+unfolding clap_on_literals
+flag_refused program rest second byte low flag = false_unless (takes desk (program ∷ codes "same" ∷ (45 ∷ byte ∷ rest) ∷ second ∷ []))
+    (λ taken. flag_level_fails byte rest second low flag (both (level_passes built_same [] nothing_held ((45 ∷ byte ∷ rest) ∷ second ∷ []) false) _ taken).0)
+
+-- ---- two words that are no flags
+
+no_flag : (rest : Text) (is : Bool) → not is ≡ true
+    → (option_and_then long_of_rest (option_and_then (strip_byte 45) (cond is (Some rest) None)) ≡ None) × (option_and_then short_of_rest (cond is (Some rest) None) ≡ None)
+no_flag rest true usual = cc
+no_flag rest false usual = (refl, refl)
+
+lone_is_no_flag : (is : Bool) → (option_and_then long_of_rest (option_and_then (strip_byte 45) (cond is (Some []) None)) ≡ None)
+    × (option_and_then short_of_rest (cond is (Some []) None) ≡ None)
+lone_is_no_flag true = (refl, refl)
+lone_is_no_flag false = (refl, refl)
+
+plain_is : (word : Text) → is_plain_word word ≡ true → (long_of word ≡ None) × (short_of word ≡ None)
+plain_is [] usual = (refl, refl)
+plain_is (b ∷ []) usual = lone_is_no_flag (b == 45)
+plain_is (b ∷ c ∷ rest) usual = no_flag (c ∷ rest) (b == 45) usual
+
+not_dashes : (word : Text) → is_plain_word word ≡ true → bytes_eq word (45 ∷ 45 ∷ []) ≡ false
+not_dashes word usual = false_unless _ (λ dashes. true≢false (sym usual ∙ ap is_plain_word ((bytes_eq-Decides word (45 ∷ 45 ∷ [])).0 dashes)))
+
+-- what a plain word is, where no subcommand can be named
+plain_met : (s : Shape) (waiting : Waiting) (position : ℕ) (word : Text) (h : Held) → subcommand_met [] waiting word ≡ None → is_plain_word word ≡ true
+    → (word_met s.rules [] false waiting position word h ≡ plain_word s.rules waiting word h)
+    × (word_passes s [] false waiting word h ≡ true)
+plain_met s waiting position word h none usual =
+    let is = plain_is word usual in
+    let dashes = not_dashes word usual in (
+      ap (λ met. subcommand_or_other s.rules met waiting position word h) none
+          ∙ ap (λ b. cond b (h, trailing position) (long_or_other s.rules waiting word (long_of word) h)) dashes
+          ∙ ap (λ name. long_or_other s.rules waiting word name h) is.0 ∙ ap (λ flags. short_or_plain s.rules waiting word flags h) is.1,
+      ap (λ met. other_passes s met word h) none
+          ∙ ap (λ b. b || flag_word_passes s.rules s.args_override_self (long_of word) word h) dashes
+          ∙ ap (λ name. flag_word_passes s.rules s.args_override_self name word h) is.0
+          ∙ ap (λ flags. option_map_or (λ f. bundle_passes s.rules s.args_override_self f h) flags true) is.1,
+    )
+
+-- the walk before a word, with what waits for it
+abbrev before : Held → Waiting → ℕ → Walk
+before h waiting position = record { held = h; waiting = waiting; position = position; is_trailing = false; stopped = None }
+
+abbrev after_plain : Shape → Held → Waiting → ℕ → Text → Walk
+after_plain s h waiting position word =
+    let met = plain_word s.rules waiting word h in after_step s.rules word (before h waiting position) met.0 met.1
+
+plain_turn : (s : Shape) (h : Held) (waiting : Waiting) (position : ℕ) (word : Text) → subcommand_met [] waiting word ≡ None → is_plain_word word ≡ true
+    → (walked s.rules [] (before h waiting position) word ≡ after_plain s h waiting position word)
+    × (turn_passes s [] (before h waiting position) word
+    ≡ step_passes s position (plain_word s.rules waiting word h).0 (plain_word s.rules waiting word h).1)
+unfolding walked
+plain_turn s h waiting position word none usual =
+    let met = plain_met s waiting position word h none usual in
+    let to = plain_word s.rules waiting word h in (
+      ap (λ (m : Held × Step). after_step s.rules word (before h waiting position) m.0 m.1) met.0,
+      ap (λ (m : Held × Step). word_passes s [] false waiting word h && step_passes s position m.0 m.1) met.0
+          ∙ ap (λ b. b && step_passes s position to.0 to.1) met.1,
+    )
+
+-- a word after which the walk is at `to`, and which passes
+abbrev Goes : Shape → Walk → Text → Walk → Type 0
+Goes s from word to = (walked s.rules [] from word ≡ to) × (turn_passes s [] from word ≡ true)
+
+-- words after which the walk is at `to`, and which pass
+abbrev Runs : Shape → Walk → List Text → Walk → Type 0
+Runs s from words to = (fold (walked s.rules []) from words ≡ to) × (walk_passes s [] from words ≡ true)
+
+stays : (s : Shape) (w : Walk) → Runs s w [] w
+unfolding walk_passes
+stays s w = (refl, refl)
+
+goes_on : (s : Shape) (from via to : Walk) (word : Text) (words : List Text) → Goes s from word via → Runs s via words to → Runs s from (word ∷ words) to
+unfolding walk_passes
+goes_on s from via to word words goes runs = (
+  ap (λ (w : Walk). fold (walked s.rules []) w words) goes.0 ∙ runs.0,
+  ap (λ b. b && walk_passes s [] (walked s.rules [] from word) words) goes.1
+      ∙ ap (λ (w : Walk). walk_passes s [] w words) goes.0 ∙ runs.1,
+)
+
+-- the end of a walk over the words of a command passes
+abbrev ends : Shape → Walk → Bool
+ends s w = settle_passes s.rules s.args_override_self w.held && (list_all default_passes s.rules && is_valid s (finished s.rules w.held) false)
+
+-- the request of a line, of the walk over the words of its command
+line_asked : (s : Shape) (request : List Row → Option Request) (line words : List Text) (to : Walk)
+    → takes desk line ≡ (level_passes s [] nothing_held words false && true)
+    → option_and_then request_of (subcommand_of desk line) ≡ request (rows_after s.rules [] words)
+    → Runs s (walk_from nothing_held) words to → ends s to ≡ true → asked line ≡ request (finished s.rules to.held)
+line_asked s request line words to takes_line asks runs passes =
+    let level : level_passes s [] nothing_held words false ≡ true =
+    ap (λ b. b && ends s (fold (walked s.rules []) (walk_from nothing_held) words)) runs.1 ∙ ap (ends s) runs.0 ∙ passes in
+    let taken : takes desk line ≡ true = takes_line ∙ ap (λ b. b && true) level in
+    ap (λ b. cond b (option_and_then request_of (subcommand_of desk line)) None) taken
+    ∙ asks ∙ ap (λ (w : Walk). request (finished s.rules w.held)) runs.0
+
+-- what `same` holds after its first text, and after its second
+abbrev after_first : Held → Text → Held
+after_first h first = record { rows = (settled rules h).rows; pending = Some (codes "first", first ∷ []); skip = 0 }
+
+abbrev after_second : Held → Text → Text → Held
+after_second h first second = record { rows = (settled rules (after_first h first)).rows; pending = Some (codes "second", second ∷ []); skip = 0 }
+
+-- what is held after `--level` and a level, and after `--level` alone
+abbrev with_level : Shape → Held → Text → Held
+with_level s h text = record { rows = (settled s.rules h).rows; pending = Some (codes "level", text ∷ []); skip = 0 }
+
+abbrev wants_level : Shape → Held → Held
+wants_level s h = record { rows = (settled s.rules h).rows; pending = Some (codes "level", []); skip = 0 }
+
+pub plain_texts : (program first second : Text) → is_plain_word first ≡ true → is_plain_word second ≡ true
+    → asked (program ∷ codes "same" ∷ first ∷ second ∷ []) ≡ Some (Same (codes "full") first second)
+unfolding clap_on_literals
+plain_texts program first second one other =
+    let to = before (after_second nothing_held first second) idle 3 in
+    line_asked built_same same_of (program ∷ codes "same" ∷ first ∷ second ∷ []) (first ∷ second ∷ []) to refl refl
+    (goes_on built_same (walk_from nothing_held) (before (after_first nothing_held first) idle 2) to first (second ∷ [])
+    (plain_turn built_same nothing_held idle 1 first refl one)
+    (goes_on built_same (before (after_first nothing_held first) idle 2) to to second []
+    (plain_turn built_same (after_first nothing_held first) idle 2 second refl other) (stays built_same to))) refl
+
+-- ---- a level
+
+pub level_first : (program text first second : Text) → is_plain_word text ≡ true → is_plain_word first ≡ true → is_plain_word second ≡ true
+    → asked (program ∷ codes "same" ∷ codes "--level" ∷ text ∷ first ∷ second ∷ []) ≡ Some (Same text first second)
+unfolding clap_on_literals
+level_first program text first second usual one other =
+    let start = walk_from nothing_held in
+    let wants = before (wants_level built_same nothing_held) (option (codes "level")) 1 in
+    let h = with_level built_same nothing_held text in
+    let to = before (after_second h first second) idle 3 in
+    line_asked built_same same_of (program ∷ codes "same" ∷ codes "--level" ∷ text ∷ first ∷ second ∷ [])
+    (codes "--level" ∷ text ∷ first ∷ second ∷ []) to refl refl
+    (goes_on built_same start wants to (codes "--level") (text ∷ first ∷ second ∷ []) (refl, refl)
+    (goes_on built_same wants (before h idle 1) to text (first ∷ second ∷ [])
+    (plain_turn built_same (wants_level built_same nothing_held) (option (codes "level")) 1 text refl usual)
+    (goes_on built_same (before h idle 1) (before (after_first h first) idle 2) to first (second ∷ [])
+    (plain_turn built_same h idle 1 first refl one)
+    (goes_on built_same (before (after_first h first) idle 2) to to second []
+    (plain_turn built_same (after_first h first) idle 2 second refl other) (stays built_same to))))) refl
+
+pub level_last : (program text first second : Text) → is_plain_word text ≡ true → is_plain_word first ≡ true → is_plain_word second ≡ true
+    → asked (program ∷ codes "same" ∷ first ∷ second ∷ codes "--level" ∷ text ∷ []) ≡ Some (Same text first second)
+unfolding clap_on_literals
+level_last program text first second usual one other =
+    let start = walk_from nothing_held in
+    let held = after_second nothing_held first second in
+    let wants = before (wants_level built_same held) (option (codes "level")) 3 in
+    let to = before (with_level built_same held text) idle 3 in
+    line_asked built_same same_of (program ∷ codes "same" ∷ first ∷ second ∷ codes "--level" ∷ text ∷ [])
+    (first ∷ second ∷ codes "--level" ∷ text ∷ []) to refl refl
+    (goes_on built_same start (before (after_first nothing_held first) idle 2) to first (second ∷ codes "--level" ∷ text ∷ [])
+    (plain_turn built_same nothing_held idle 1 first refl one)
+    (goes_on built_same (before (after_first nothing_held first) idle 2) (before held idle 3) to second (codes "--level" ∷ text ∷ [])
+    (plain_turn built_same (after_first nothing_held first) idle 2 second refl other)
+    (goes_on built_same (before held idle 3) wants to (codes "--level") (text ∷ []) (refl, refl)
+    (goes_on built_same wants to to text []
+    (plain_turn built_same (wants_level built_same held) (option (codes "level")) 3 text refl usual) (stays built_same to))))) refl
+
+-- `canon`, `group` and `explain`, as `clap` builds them
+abbrev built_with : Text → List Rule → Shape
+built_with name own = record (new_shape name) {
+  rules = filled_from 1 own;
+  disable_help_subcommand = true;
+  is_built = true;
+}
+
+abbrev built_canon : Shape
+built_canon = built_with (codes "canon") (level_option ∷ lines_flag ∷ help_rule ∷ [])
+
+abbrev built_group : Shape
+built_group = built_with (codes "group") (level_option ∷ help_rule ∷ [])
+
+abbrev built_explain : Shape
+built_explain =
+    built_with (codes "explain") (spare_operand (codes "first") ∷ spare_operand (codes "second") ∷ level_option ∷ help_rule ∷ [])
+
+abbrev canon_of : List Row → Option Request
+canon_of rows = Some (Canon (level_of rows) (has_lines rows))
+
+-- what `canon` holds after `--lines`
+abbrev with_lines : Held → Held
+with_lines h = record {
+  rows = used (with_index 1 (filled lines_flag)) [] (settled built_canon.rules h).rows;
+  pending = None;
+  skip = 0;
+}
+
+pub canon_level : (program text : Text) → is_plain_word text ≡ true
+    → asked (program ∷ codes "canon" ∷ codes "--level" ∷ text ∷ []) ≡ Some (Canon text false)
+unfolding clap_on_literals
+canon_level program text usual =
+    let s = built_canon in
+    let wants = before (wants_level s nothing_held) (option (codes "level")) 1 in
+    let to = before (with_level s nothing_held text) idle 1 in
+    line_asked s canon_of (program ∷ codes "canon" ∷ codes "--level" ∷ text ∷ []) (codes "--level" ∷ text ∷ []) to refl refl
+    (goes_on s (walk_from nothing_held) wants to (codes "--level") (text ∷ []) (refl, refl)
+    (goes_on s wants to to text [] (plain_turn s (wants_level s nothing_held) (option (codes "level")) 1 text refl usual) (stays s to))) refl
+
+pub group_level : (program text : Text) → is_plain_word text ≡ true → asked (program ∷ codes "group" ∷ codes "--level" ∷ text ∷ []) ≡ Some (Group text)
+unfolding clap_on_literals
+group_level program text usual =
+    let s = built_group in
+    let wants = before (wants_level s nothing_held) (option (codes "level")) 1 in
+    let to = before (with_level s nothing_held text) idle 1 in
+    line_asked s (λ rows. Some (Group (level_of rows))) (program ∷ codes "group" ∷ codes "--level" ∷ text ∷ []) (codes "--level" ∷ text ∷ [])
+    to refl refl
+    (goes_on s (walk_from nothing_held) wants to (codes "--level") (text ∷ []) (refl, refl)
+    (goes_on s wants to to text [] (plain_turn s (wants_level s nothing_held) (option (codes "level")) 1 text refl usual) (stays s to))) refl
+
+pub canon_alone : (program : Text) → asked (program ∷ codes "canon" ∷ []) ≡ Some (Canon (codes "full") false)
+unfolding clap_on_literals
+canon_alone program = refl
+
+pub group_alone : (program : Text) → asked (program ∷ codes "group" ∷ []) ≡ Some (Group (codes "full"))
+unfolding clap_on_literals
+group_alone program = refl
+
+pub check_alone : (program : Text) → asked (program ∷ codes "check" ∷ []) ≡ Some (Check false)
+unfolding clap_on_literals
+check_alone program = refl
+
+pub check_refuses : (program text : Text) → takes desk (program ∷ codes "check" ∷ codes "--level" ∷ text ∷ []) ≡ false
+unfolding clap_on_literals
+check_refuses program text = refl
+
+-- ---- each line a text
+
+pub canon_lines : (program : Text) → asked (program ∷ codes "canon" ∷ codes "--lines" ∷ []) ≡ Some (Canon (codes "full") true)
+unfolding clap_on_literals
+canon_lines program = refl
+
+pub check_lines : (program : Text) → asked (program ∷ codes "check" ∷ codes "--lines" ∷ []) ≡ Some (Check true)
+unfolding clap_on_literals
+check_lines program = refl
+
+pub lines_first : (program text : Text) → is_plain_word text ≡ true
+    → asked (program ∷ codes "canon" ∷ codes "--lines" ∷ codes "--level" ∷ text ∷ []) ≡ Some (Canon text true)
+unfolding clap_on_literals
+lines_first program text usual =
+    let s = built_canon in
+    let h = with_lines nothing_held in
+    let wants = before (wants_level s h) (option (codes "level")) 1 in
+    let to = before (with_level s h text) idle 1 in
+    line_asked s canon_of (program ∷ codes "canon" ∷ codes "--lines" ∷ codes "--level" ∷ text ∷ [])
+    (codes "--lines" ∷ codes "--level" ∷ text ∷ []) to refl refl
+    (goes_on s (walk_from nothing_held) (before h idle 1) to (codes "--lines") (codes "--level" ∷ text ∷ []) (refl, refl)
+    (goes_on s (before h idle 1) wants to (codes "--level") (text ∷ []) (refl, refl)
+    (goes_on s wants to to text [] (plain_turn s (wants_level s h) (option (codes "level")) 1 text refl usual) (stays s to)))) refl
+
+pub lines_last : (program text : Text) → is_plain_word text ≡ true
+    → asked (program ∷ codes "canon" ∷ codes "--level" ∷ text ∷ codes "--lines" ∷ []) ≡ Some (Canon text true)
+unfolding clap_on_literals
+lines_last program text usual =
+    let s = built_canon in
+    let wants = before (wants_level s nothing_held) (option (codes "level")) 1 in
+    let via = before (with_level s nothing_held text) idle 1 in
+    let to = before (with_lines (with_level s nothing_held text)) idle 1 in
+    line_asked s canon_of (program ∷ codes "canon" ∷ codes "--level" ∷ text ∷ codes "--lines" ∷ [])
+    (codes "--level" ∷ text ∷ codes "--lines" ∷ []) to refl refl
+    (goes_on s (walk_from nothing_held) wants to (codes "--level") (text ∷ codes "--lines" ∷ []) (refl, refl)
+    (goes_on s wants via to text (codes "--lines" ∷ [])
+    (plain_turn s (wants_level s nothing_held) (option (codes "level")) 1 text refl usual)
+    (goes_on s via to to (codes "--lines") [] (refl, refl) (stays s to)))) refl
+
+pub lines_twice : (program : Text) → takes desk (program ∷ codes "canon" ∷ codes "--lines" ∷ codes "--lines" ∷ []) ≡ false
+unfolding clap_on_literals
+lines_twice program = refl
+
+pub check_twice : (program : Text) → takes desk (program ∷ codes "check" ∷ codes "--lines" ∷ codes "--lines" ∷ []) ≡ false
+unfolding clap_on_literals
+check_twice program = refl
+
+pub lines_valued : (program word : Text) → takes desk (program ∷ codes "canon" ∷ (codes "--lines=" ++ word) ∷ []) ≡ false
+unfolding clap_on_literals
+lines_valued program word = refl
+
+pub group_lines : (program : Text) → takes desk (program ∷ codes "group" ∷ codes "--lines" ∷ []) ≡ false
+unfolding clap_on_literals
+group_lines program = refl
+
+-- ---- texts that are explained
+
+abbrev asked_explain : List Row → Option Request
+asked_explain rows = Some (explain_of rows)
+
+pub explain_alone : (program : Text) → asked (program ∷ codes "explain" ∷ []) ≡ Some (Explain (codes "full") None None)
+unfolding clap_on_literals
+explain_alone program = refl
+
+pub explain_one : (program first : Text) → is_plain_word first ≡ true
+    → asked (program ∷ codes "explain" ∷ first ∷ []) ≡ Some (Explain (codes "full") (Some first) None)
+unfolding clap_on_literals
+explain_one program first one =
+    let s = built_explain in
+    let to = before (after_first nothing_held first) idle 2 in
+    line_asked s asked_explain (program ∷ codes "explain" ∷ first ∷ []) (first ∷ []) to refl refl
+    (goes_on s (walk_from nothing_held) to to first [] (plain_turn s nothing_held idle 1 first refl one) (stays s to)) refl
+
+pub explain_two : (program first second : Text) → is_plain_word first ≡ true → is_plain_word second ≡ true
+    → asked (program ∷ codes "explain" ∷ first ∷ second ∷ []) ≡ Some (Explain (codes "full") (Some first) (Some second))
+unfolding clap_on_literals
+explain_two program first second one other =
+    let s = built_explain in
+    let via = before (after_first nothing_held first) idle 2 in
+    let to = before (after_second nothing_held first second) idle 3 in
+    line_asked s asked_explain (program ∷ codes "explain" ∷ first ∷ second ∷ []) (first ∷ second ∷ []) to refl refl
+    (goes_on s (walk_from nothing_held) via to first (second ∷ []) (plain_turn s nothing_held idle 1 first refl one)
+    (goes_on s via to to second [] (plain_turn s (after_first nothing_held first) idle 2 second refl other) (stays s to))) refl
+
+pub explain_dashes : (program first second : Text)
+    → asked (program ∷ codes "explain" ∷ codes "--" ∷ first ∷ second ∷ []) ≡ Some (Explain (codes "full") (Some first) (Some second))
+unfolding clap_on_literals
+explain_dashes program first second = refl
+
+pub explain_level : (program text : Text) → is_plain_word text ≡ true
+    → asked (program ∷ codes "explain" ∷ codes "--level" ∷ text ∷ []) ≡ Some (Explain text None None)
+unfolding clap_on_literals
+explain_level program text usual =
+    let s = built_explain in
+    let wants = before (wants_level s nothing_held) (option (codes "level")) 1 in
+    let to = before (with_level s nothing_held text) idle 1 in
+    line_asked s asked_explain (program ∷ codes "explain" ∷ codes "--level" ∷ text ∷ []) (codes "--level" ∷ text ∷ []) to refl refl
+    (goes_on s (walk_from nothing_held) wants to (codes "--level") (text ∷ []) (refl, refl)
+    (goes_on s wants to to text [] (plain_turn s (wants_level s nothing_held) (option (codes "level")) 1 text refl usual) (stays s to))) refl
+
+pub explain_level_first : (program text first second : Text) → is_plain_word text ≡ true → is_plain_word first ≡ true → is_plain_word second ≡ true
+    → asked (program ∷ codes "explain" ∷ codes "--level" ∷ text ∷ first ∷ second ∷ []) ≡ Some (Explain text (Some first) (Some second))
+unfolding clap_on_literals
+explain_level_first program text first second usual one other =
+    let s = built_explain in
+    let wants = before (wants_level s nothing_held) (option (codes "level")) 1 in
+    let h = with_level s nothing_held text in
+    let to = before (after_second h first second) idle 3 in
+    line_asked s asked_explain (program ∷ codes "explain" ∷ codes "--level" ∷ text ∷ first ∷ second ∷ [])
+    (codes "--level" ∷ text ∷ first ∷ second ∷ []) to refl refl
+    (goes_on s (walk_from nothing_held) wants to (codes "--level") (text ∷ first ∷ second ∷ []) (refl, refl)
+    (goes_on s wants (before h idle 1) to text (first ∷ second ∷ [])
+    (plain_turn s (wants_level s nothing_held) (option (codes "level")) 1 text refl usual)
+    (goes_on s (before h idle 1) (before (after_first h first) idle 2) to first (second ∷ []) (plain_turn s h idle 1 first refl one)
+    (goes_on s (before (after_first h first) idle 2) to to second []
+    (plain_turn s (after_first h first) idle 2 second refl other) (stays s to))))) refl
+
+pub explain_level_last : (program text first second : Text) → is_plain_word text ≡ true → is_plain_word first ≡ true → is_plain_word second ≡ true
+    → asked (program ∷ codes "explain" ∷ first ∷ second ∷ codes "--level" ∷ text ∷ []) ≡ Some (Explain text (Some first) (Some second))
+unfolding clap_on_literals
+explain_level_last program text first second usual one other =
+    let s = built_explain in
+    let held = after_second nothing_held first second in
+    let wants = before (wants_level s held) (option (codes "level")) 3 in
+    let to = before (with_level s held text) idle 3 in
+    line_asked s asked_explain (program ∷ codes "explain" ∷ first ∷ second ∷ codes "--level" ∷ text ∷ [])
+    (first ∷ second ∷ codes "--level" ∷ text ∷ []) to refl refl
+    (goes_on s (walk_from nothing_held) (before (after_first nothing_held first) idle 2) to first (second ∷ codes "--level" ∷ text ∷ [])
+    (plain_turn s nothing_held idle 1 first refl one)
+    (goes_on s (before (after_first nothing_held first) idle 2) (before held idle 3) to second (codes "--level" ∷ text ∷ [])
+    (plain_turn s (after_first nothing_held first) idle 2 second refl other)
+    (goes_on s (before held idle 3) wants to (codes "--level") (text ∷ []) (refl, refl)
+    (goes_on s wants to to text []
+    (plain_turn s (wants_level s held) (option (codes "level")) 3 text refl usual) (stays s to))))) refl
+
+-- ---- a level that is no level
+
+pub level_twice : (program one other : Text) → takes desk (program ∷ codes "canon" ∷ (codes "--level=" ++ one) ∷ (codes "--level=" ++ other) ∷ []) ≡ false
+unfolding clap_on_literals
+level_twice program one other = refl
+
+pub level_alone : (program : Text) → takes desk (program ∷ codes "canon" ∷ codes "--level" ∷ []) ≡ false
+unfolding clap_on_literals
+level_alone program = refl

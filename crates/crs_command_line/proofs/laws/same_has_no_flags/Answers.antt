@@ -1,0 +1,5 @@
+use Rattle.crs_command_line.proofs.LineLemmas.{flag_refused}
+use Rattle.crs_command_line.proofs.laws.same_has_no_flags.Goals as goal
+
+pub returns : goal.returns
+returns c = flag_refused

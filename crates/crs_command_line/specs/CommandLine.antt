@@ -1,0 +1,128 @@
+-- The command line: what `clap`'s definition of the commands gives for the words.
+use Rattle.std.specs.Prelude.{◌≡◌, ◌≢◌, ◌==◌, [], ◌∷◌, Bool, true, false, not, List, Option, Some}
+use Rattle.std.specs.Prelude.{None, codes}
+use Rattle.std.specs.Prelude.{option_and_then, unwrap_or, if◌then◌else◌}
+use Rattle.std.specs.Str.{bytes_eq}
+use Rattle.clap.specs.Words.{App, IsAmong, Row, Rule, Shape, Text, fault_of, first_of, kind_of}
+use Rattle.clap.specs.Words.{new_app, new_rule}
+use Rattle.clap.specs.Words.{subcommand_of, takes, with_subcommand}
+use Rattle.clap.specs.Simple.{new_shape, on_top}
+use Rattle.crs_command_line.specs.declared.requests.Request.{Request}
+use Rattle.crs_command_line.specs.declared.requests.Request.TheVariants.{Canon, Check, Same, Group, Explain}
+use Rattle.crs_command_line.specs.declared.requests.RequestFault.{RequestFault}
+use Rattle.crs_command_line.specs.declared.requests.RequestFault.TheVariants.{Line, Memory}
+use Rattle.clap.specs.declared.builder.action.ArgAction.TheVariants.{SetTrue}
+use Rattle.clap.specs.declared.error.Error.{Error}
+use Rattle.clap.specs.declared.error.kind.ErrorKind.TheVariants as kind
+
+-- an operand that may be left out, one word
+abbrev pub spare_operand : Text → Rule
+spare_operand id = record (new_rule id) { value_names = 1 }
+
+-- an operand that must be given, one word
+abbrev pub operand : Text → Rule
+operand id = record (spare_operand id) { required = true }
+
+-- the option `--level`, which takes one word
+abbrev pub level_option : Rule
+level_option = record (new_rule (codes "level")) { long = Some (codes "level"); value_names = 1 }
+
+-- the flag `--lines`, which takes no word
+abbrev pub lines_flag : Rule
+lines_flag = record (new_rule (codes "lines")) { long = Some (codes "lines"); action = Some SetTrue }
+
+-- `canon`, which takes a level and that flag
+abbrev pub canon_shape : Shape
+canon_shape = record (new_shape (codes "canon")) { rules = level_option ∷ lines_flag ∷ [] }
+
+-- `check`, which takes that flag
+abbrev pub check_shape : Shape
+check_shape = record (new_shape (codes "check")) { rules = lines_flag ∷ [] }
+
+-- `group`, which takes a level
+abbrev pub group_shape : Shape
+group_shape = record (new_shape (codes "group")) { rules = level_option ∷ [] }
+
+-- `same`, which needs a first text and a second, and takes a level
+abbrev pub same_shape : Shape
+same_shape = record (new_shape (codes "same")) {
+  rules = operand (codes "first") ∷ operand (codes "second") ∷ level_option ∷ [];
+}
+
+-- `explain`, which may have a first text and a second, and takes a level
+abbrev pub explain_shape : Shape
+explain_shape = record (new_shape (codes "explain")) {
+  rules = spare_operand (codes "first") ∷ spare_operand (codes "second") ∷ level_option ∷ [];
+}
+
+-- `crsdesk` alone; it has a version, and needs one of its commands
+abbrev pub lone_desk : App
+lone_desk =
+    on_top (λ s. record s { has_version = true; subcommand_required = true })
+    (new_app (codes "crsdesk"))
+
+-- `crsdesk` with `canon`, `check` and `group`, which read standard input
+abbrev pub input_desk : App
+input_desk = with_subcommand (with_subcommand (with_subcommand lone_desk
+    canon_shape) check_shape) group_shape
+
+-- `crsdesk` with all its commands
+abbrev pub desk : App
+desk = with_subcommand (with_subcommand input_desk same_shape) explain_shape
+
+-- the level among a command's matches: `full` where none is named
+abbrev pub level_of : List Row → Text
+level_of rows = unwrap_or (first_of (codes "level") rows) (codes "full")
+
+-- whether `--lines` is among a command's matches: its value is `true` there
+abbrev pub has_lines : List Row → Bool
+has_lines rows =
+    bytes_eq (unwrap_or (first_of (codes "lines") rows) (codes "false")) (codes "true")
+
+-- two texts are compared at a level where both are there
+abbrev pub same_texts : Text → Option Text → Option Text → Option Request
+same_texts level (Some first) (Some second) = Some (Same level first second)
+same_texts level first second = None
+
+-- the level and the texts of `same`, among its matches
+abbrev pub same_of : List Row → Option Request
+same_of rows =
+    same_texts (level_of rows) (first_of (codes "first") rows) (first_of (codes "second") rows)
+
+-- the level and the texts of `explain`, as far as they are among its matches
+abbrev pub explain_of : List Row → Request
+explain_of rows =
+    Explain (level_of rows) (first_of (codes "first") rows) (first_of (codes "second") rows)
+
+-- the request of a command's name and of its matches
+abbrev pub request_of : Text × List Row → Option Request
+request_of (name, rows) =
+    if bytes_eq name (codes "canon") then Some (Canon (level_of rows) (has_lines rows))
+    else (if bytes_eq name (codes "check") then Some (Check (has_lines rows))
+    else (if bytes_eq name (codes "same") then same_of rows
+    else (if bytes_eq name (codes "group") then Some (Group (level_of rows))
+    else (if bytes_eq name (codes "explain") then Some (explain_of rows) else None))))
+
+-- what the words ask for, where the command takes them; the first of them is the program's name
+abbrev pub asked : List Text → Option Request
+asked words =
+    if takes desk words then option_and_then request_of (subcommand_of desk words) else None
+
+-- a word that is no flag: it doesn't begin with a hyphen, or is one
+abbrev pub is_plain_word : Text → Bool
+is_plain_word [] = true
+is_plain_word (byte ∷ []) = true
+is_plain_word (byte ∷ next ∷ rest) = not (byte == 45)
+
+-- a line is refused only where the command doesn't take it, by an error that it gives for the
+-- words; out of memory is another fault
+abbrev pub IsRefusal : List Text → RequestFault → Type 0
+IsRefusal words (Line error) =
+    (kind_of error ≢ kind.OutOfMemory) × (takes desk words ≡ false)
+    × IsAmong (kind_of error) (fault_of desk words)
+IsRefusal words (Memory error) = Unit {0}
+
+-- `clap`'s error is handed on, unless it is out of memory
+abbrev pub HandsOn : Error → RequestFault → Type 0
+HandsOn error (Line shown) = (shown ≡ error) × (kind_of error ≢ kind.OutOfMemory)
+HandsOn error (Memory want) = kind_of error ≡ kind.OutOfMemory

@@ -1,0 +1,127 @@
+//! Laws of the definitions, as contracts of functions that do nothing.
+ghost use Rattle.std.specs.Prelude.{◌≡◌, ◌≢◌, ◌<◌, ℕ, [], ◌∷◌, ◌++◌, List, Some, None, IsSome, true, false, codes};
+ghost use Rattle.clap.specs.Words.{Text, takes};
+ghost use Rattle.crs_command_line.specs.CommandLine.{asked, desk, is_plain_word};
+ghost use Rattle.crs_command_line.specs.declared.requests.Request.TheVariants.{Canon, Check, Same, Group, Explain};
+
+/// A line that the command takes asks for something: no text of `same` is missing there.
+#[tactic(auto, using(crate::proofs::CommandLemmas::taken_asks))]
+pub fn taken_line_asks()
+    ensures { (words : List Text) → takes desk words ≡ true → IsSome (asked words) }
+{}
+
+/// The two words after `same` are the texts where neither is a flag, and any two after `same --`.
+/// The level is `full` there.
+pub fn two_words_are_the_texts()
+    ensures plain { (program first second : Text) → is_plain_word first ≡ true → is_plain_word second ≡ true →
+        asked (program ∷ codes "same" ∷ first ∷ second ∷ []) ≡ Some (Same (codes "full") first second) }
+    ensures dashes { (program first second : Text) →
+        asked (program ∷ codes "same" ∷ codes "--" ∷ first ∷ second ∷ []) ≡ Some (Same (codes "full") first second) }
+{}
+
+/// The word after `--level` is the level of `same`, before the two texts and after them, where no word is a flag.
+pub fn same_has_a_level()
+    ensures before { (program level first second : Text) → is_plain_word level ≡ true →
+        is_plain_word first ≡ true → is_plain_word second ≡ true →
+        asked (program ∷ codes "same" ∷ codes "--level" ∷ level ∷ first ∷ second ∷ [])
+        ≡ Some (Same level first second) }
+    ensures after { (program level first second : Text) → is_plain_word level ≡ true →
+        is_plain_word first ≡ true → is_plain_word second ≡ true →
+        asked (program ∷ codes "same" ∷ first ∷ second ∷ codes "--level" ∷ level ∷ [])
+        ≡ Some (Same level first second) }
+{}
+
+/// The word after `--level` is the level of `canon` and of `group`, where it is no flag.
+pub fn canon_and_group_have_a_level()
+    ensures canon { (program level : Text) → is_plain_word level ≡ true →
+        asked (program ∷ codes "canon" ∷ codes "--level" ∷ level ∷ []) ≡ Some (Canon level false) }
+    ensures group { (program level : Text) → is_plain_word level ≡ true →
+        asked (program ∷ codes "group" ∷ codes "--level" ∷ level ∷ []) ≡ Some (Group level) }
+{}
+
+/// `canon` and `group` alone are at the level `full`.
+pub fn the_usual_level_is_full()
+    ensures canon { (program : Text) → asked (program ∷ codes "canon" ∷ []) ≡ Some (Canon (codes "full") false) }
+    ensures group { (program : Text) → asked (program ∷ codes "group" ∷ []) ≡ Some (Group (codes "full")) }
+{}
+
+/// With `--lines`, before the level or after it, `canon` takes each line as a text.
+pub fn canon_has_lines()
+    ensures alone { (program : Text) →
+        asked (program ∷ codes "canon" ∷ codes "--lines" ∷ []) ≡ Some (Canon (codes "full") true) }
+    ensures before { (program level : Text) → is_plain_word level ≡ true →
+        asked (program ∷ codes "canon" ∷ codes "--lines" ∷ codes "--level" ∷ level ∷ []) ≡ Some (Canon level true) }
+    ensures after { (program level : Text) → is_plain_word level ≡ true →
+        asked (program ∷ codes "canon" ∷ codes "--level" ∷ level ∷ codes "--lines" ∷ []) ≡ Some (Canon level true) }
+{}
+
+/// `check` takes each line as a text where `--lines` is there, and one text else.
+pub fn check_has_lines()
+    ensures lines { (program : Text) → asked (program ∷ codes "check" ∷ codes "--lines" ∷ []) ≡ Some (Check true) }
+    ensures alone { (program : Text) → asked (program ∷ codes "check" ∷ []) ≡ Some (Check false) }
+{}
+
+/// `--lines` is neither given twice nor with a value, and `group`, which reads lines anyway, has no such flag.
+pub fn lines_is_one_flag()
+    ensures canon { (program : Text) →
+        takes desk (program ∷ codes "canon" ∷ codes "--lines" ∷ codes "--lines" ∷ []) ≡ false }
+    ensures check { (program : Text) →
+        takes desk (program ∷ codes "check" ∷ codes "--lines" ∷ codes "--lines" ∷ []) ≡ false }
+    ensures bare { (program value : Text) →
+        takes desk (program ∷ codes "canon" ∷ (codes "--lines=" ++ value) ∷ []) ≡ false }
+    ensures group { (program : Text) → takes desk (program ∷ codes "group" ∷ codes "--lines" ∷ []) ≡ false }
+{}
+
+/// `explain` is asked of standard input, of one text or of two, where no word is a flag; of any two after `--`.
+/// The level is `full` there.
+pub fn explain_takes_two_texts_at_most()
+    ensures alone { (program : Text) →
+        asked (program ∷ codes "explain" ∷ []) ≡ Some (Explain (codes "full") None None) }
+    ensures one { (program first : Text) → is_plain_word first ≡ true →
+        asked (program ∷ codes "explain" ∷ first ∷ []) ≡ Some (Explain (codes "full") (Some first) None) }
+    ensures two { (program first second : Text) → is_plain_word first ≡ true → is_plain_word second ≡ true →
+        asked (program ∷ codes "explain" ∷ first ∷ second ∷ [])
+        ≡ Some (Explain (codes "full") (Some first) (Some second)) }
+    ensures dashes { (program first second : Text) →
+        asked (program ∷ codes "explain" ∷ codes "--" ∷ first ∷ second ∷ [])
+        ≡ Some (Explain (codes "full") (Some first) (Some second)) }
+{}
+
+/// The word after `--level` is the level of `explain`, alone, before two texts and after them, where no word is a flag.
+pub fn explain_has_a_level()
+    ensures alone { (program level : Text) → is_plain_word level ≡ true →
+        asked (program ∷ codes "explain" ∷ codes "--level" ∷ level ∷ []) ≡ Some (Explain level None None) }
+    ensures before { (program level first second : Text) → is_plain_word level ≡ true →
+        is_plain_word first ≡ true → is_plain_word second ≡ true →
+        asked (program ∷ codes "explain" ∷ codes "--level" ∷ level ∷ first ∷ second ∷ [])
+        ≡ Some (Explain level (Some first) (Some second)) }
+    ensures after { (program level first second : Text) → is_plain_word level ≡ true →
+        is_plain_word first ≡ true → is_plain_word second ≡ true →
+        asked (program ∷ codes "explain" ∷ first ∷ second ∷ codes "--level" ∷ level ∷ [])
+        ≡ Some (Explain level (Some first) (Some second)) }
+{}
+
+/// `check` has no level.
+pub fn check_has_no_level()
+    ensures { (program level : Text) →
+        takes desk (program ∷ codes "check" ∷ codes "--level" ∷ level ∷ []) ≡ false }
+{}
+
+/// `--level` is neither given twice nor without a level.
+pub fn one_level_at_most()
+    ensures once { (program one other : Text) →
+        takes desk (program ∷ codes "canon" ∷ (codes "--level=" ++ one) ∷ (codes "--level=" ++ other) ∷ []) ≡ false }
+    ensures whole { (program : Text) → takes desk (program ∷ codes "canon" ∷ codes "--level" ∷ []) ≡ false }
+{}
+
+/// `same` is taken neither alone nor with one word.
+pub fn same_wants_two_texts()
+    ensures none { (program : Text) → takes desk (program ∷ codes "same" ∷ []) ≡ false }
+    ensures one { (program word : Text) → takes desk (program ∷ codes "same" ∷ word ∷ []) ≡ false }
+{}
+
+/// A first word that begins as a flag, a hyphen (45) and an ASCII character, but for `--`, is no text of `same`.
+pub fn same_has_no_flags()
+    ensures { (program rest second : Text) (byte : ℕ) → byte < 128 → 45 ∷ byte ∷ rest ≢ codes "--" →
+        takes desk (program ∷ codes "same" ∷ (45 ∷ byte ∷ rest) ∷ second ∷ []) ≡ false }
+{}
