@@ -180,7 +180,7 @@ def refusal_is_told() -> None:
     assert repr(refused) == "Refused(number=1, name='BadCharacter', place=29)"
 
 
-def caret_stands_under_the_place() -> None:
+def caret_is_under_the_place() -> None:
     front = 'VERTCRS["' + "é" * 60 + '"\t'
     for text in (front + "#" + " " * 90, front + "#", front + '"open'):
         shown, caret = str(refusal_of(text)).split("\n")[1:3]
@@ -328,9 +328,9 @@ HINTS = [
     (b"PK\x03\x04\x14\0", "a zip archive, and no text: unpack it"),
     (b"\x1f\x8b\x08", "a gzip archive"),
     (b"\x89HDF\r\n\x1a\n", "netCDF or HDF5"),
-    (b"\x03_\x07\x1a", "A control character stands here, 0x03"),
+    (b"\x03_\x07\x1a", "A control character is here, 0x03"),
     ("VERTCRS[\0", "0x00"),
-    ("SRID=28992;" + HEIGHT, "SRID=28992; stands before the text"),
+    ("SRID=28992;" + HEIGHT, "SRID=28992; is before the text"),
     ("SRID=4326;POINT(5 52)", "a geometry, POINT"),
     ("polygon ((0 0, 1 0, 1 1, 0 0))", "a geometry, POLYGON"),
     ("/data/a.prj", "file's name"),
@@ -347,8 +347,8 @@ HINTS = [
     ('TIMECRS["A"]', "Temporal CRSs aren't read"),
     ('DATUM["D"]', "part of a CRS"),
     ('"VERTCRS[""H""]"', "quotes"),
-    ("", "Nothing stands here"),
-    (" \n", "Nothing stands here"),
+    ("", "There is nothing here"),
+    (" \n", "There is nothing here"),
     ('GEOGCRS["A",BASEGEOGCRS["B"]]', "Derived CRSs aren't read"),
     ('VERTCRS["H",VDATUM["D"],CS[vertical,1],AXIS["h",up,UNIT["metre",1]],AUTHORITY["E","1"]]', "AUTHORITY is WKT1's"),
     (HEIGHT.replace("up,", "up,TOWGS84[1,2,3],"), "keep the transformation as part of a key"),
@@ -362,12 +362,12 @@ HINTS = [
     (HEIGHT + "\n" + HEIGHT, "A second text begins here"),
     (HEIGHT + "," + HEIGHT, "A second text begins here"),
     (HEIGHT + "]", "one too many"),
-    (HEIGHT + ";", "cut off what stands behind it"),
-    (HEIGHT + " x", "cut off what stands behind it"),
+    (HEIGHT + ";", "cut off what follows it"),
+    (HEIGHT + " x", "cut off what follows it"),
     (HEIGHT[:-1], "VERTCRS[ at 0 is still open"),
     ('VERTCRS ("H",VDATUM["D"', "Still open at the end: VERTCRS( at 0, VDATUM[ at 13."),
-    (HEIGHT.replace('"D"]', '"D"'), "CS[ at 23 stands inside VDATUM[ at 12"),
-    (HEIGHT.replace('"D"]', '"D"') + "]", "CS[ at 23 stands inside VDATUM[ at 12"),
+    (HEIGHT.replace('"D"]', '"D"'), "CS[ at 23 is inside VDATUM[ at 12"),
+    (HEIGHT.replace('"D"]', '"D"') + "]", "CS[ at 23 is inside VDATUM[ at 12"),
     (HEIGHT.replace('"D"]', '"D")'), "VDATUM[ at 12 is closed by ], not by )"),
     (HEIGHT.replace('"H"', '"H'), "the quoted text that is opened at 8"),
     (HEIGHT.replace('"H"', 'H"'), "the quoted text that is opened at 9"),
@@ -828,7 +828,7 @@ def empty_texts() -> None:
     for text in ("", b"", " \n"):
         refused = refusal_of(text)
         assert (refused.number, refused.name, refused.place) == (7, "UnexpectedEnd", len(text))
-        assert "Nothing stands here" in str(refused)
+        assert "There is nothing here" in str(refused)
 
 
 def long_texts() -> None:
@@ -1252,7 +1252,7 @@ def command_faults(files: Files) -> None:
 
 PROMISES = [
     refusal_is_told,
-    caret_stands_under_the_place,
+    caret_is_under_the_place,
     refusal_of_two_texts,
     refusal_goes_to_another_process,
     every_number_has_a_meaning,

@@ -13,7 +13,7 @@ fn of_text(number: u8) -> &'static str {
     match number {
         1 =>
             "This byte begins no token: outside quotes a text has delimiters, commas, numbers and words alone.",
-        2 => "A number is expected to begin here, and what stands here isn't of a number's form.",
+        2 => "A number is expected here, and this doesn't have the form of one.",
         3 => {
             "This number is outside the bounds: 38 digits from the first to the last that isn't zero, a power of ten \
              from -40 to 40, and 100 digits written."
@@ -33,9 +33,9 @@ fn of_text(number: u8) -> &'static str {
 
 fn of_shape(number: u8) -> &'static str {
     match number {
-        11 => "The keyword here is in no table, and no such node may stand here.",
+        11 => "This keyword is in no table, and no node of this name may be here.",
         12 => {
-            "What stands here may not stand at this place of its node; or what must stand before it is missing."
+            "This may not be at this place of its node, or what must come before it is missing."
         }
         _ => "The node that is closed here lacks a part that it must have.",
     }
@@ -44,7 +44,7 @@ fn of_shape(number: u8) -> &'static str {
 fn of_value(number: u8) -> &'static str {
     match number {
         21 => "This type of coordinate system, or this direction of an axis, isn't known.",
-        22 => "This part may stand once, and stands here again.",
+        22 => "This part may be given once, and is given here again.",
         23 => "The coordinate system's type and dimension don't fit a CRS of this kind.",
         24 => {
             "The horizontal part of a compound CRS is a geographic or projected CRS of dimension 2, and this isn't one."
@@ -53,9 +53,9 @@ fn of_value(number: u8) -> &'static str {
         26 => {
             "The orders of axes are missing on some, repeated, or not the numbers from 1 to the number of axes."
         }
-        27 => "A unit is missing here, stands both on an axis and shared, or is of the wrong kind.",
+        27 => "A unit is missing here, is both on an axis and shared, or is of the wrong kind.",
         28 =>
             "A factor and a semi-major axis are above zero, and an inverse flattening isn't negative.",
-        _ => "A dynamic part may not stand beside an ensemble.",
+        _ => "A dynamic part may not be beside an ensemble.",
     }
 }

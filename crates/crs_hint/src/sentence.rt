@@ -57,7 +57,7 @@ pub(crate) fn words_of(sentence: Sentence) -> Words {
 fn of_file(sentence: Sentence) -> Words {
     match sentence {
         Sentence::Empty => told(
-            "Nothing stands here: an empty file, or a program that wrote nothing.",
+            "There is nothing here: an empty file, or a program that wrote nothing.",
             "",
         ),
         Sentence::Binary => told(
@@ -80,7 +80,7 @@ fn of_file(sentence: Sentence) -> Words {
             ", and no text: unpack it, and take the file in it.",
         ),
         Sentence::ByteOrderMark => told(
-            "A byte order mark stands before the text: cut it off (sed '1s/^\\xEF\\xBB\\xBF//' FILE).",
+            "A byte order mark is before the text: cut it off (sed '1s/^\\xEF\\xBB\\xBF//' FILE).",
             "",
         ),
         _ => told(
@@ -102,7 +102,7 @@ fn of_notation(sentence: Sentence) -> Words {
             "",
         ),
         Sentence::Geometry => told("This is a geometry, ", ", and no CRS."),
-        Sentence::Srid => told("", "; stands before the text, as in PostGIS: cut it off."),
+        Sentence::Srid => told("", "; is before the text, as in PostGIS: cut it off."),
         Sentence::ProjString => told(
             "This is a PROJ string, which ends in +type=crs where it is a CRS",
             BY_PROJ,
@@ -151,7 +151,7 @@ fn of_delimiter(sentence: Sentence) -> Words {
             "",
         ),
         Sentence::Behind => told(
-            "The CRS is complete before this: cut off what stands behind it.",
+            "The CRS is complete before this: cut off what follows it.",
             "",
         ),
         Sentence::StillOpen => told("Still open at the end: ", "."),
@@ -189,13 +189,13 @@ fn of_place(sentence: Sentence) -> Words {
             "",
         ),
         Sentence::WithUnit => told(
-            "The number stands alone: a unit is a node of its own, behind it.",
+            "The number is written alone: a unit is a node of its own, behind it.",
             "",
         ),
         Sentence::Semicolon => told("Arguments are separated by commas.", ""),
         Sentence::Control => {
             told(
-                "A control character stands here, ",
+                "A control character is here, ",
                 ": this is no text, or it was damaged.",
             )
         }
@@ -214,7 +214,7 @@ fn of_quote(sentence: Sentence) -> Words {
             "This is a typographic quote: write straight ones (\").",
             "",
         ),
-        Sentence::SingleQuote => told("A text stands in double quotes (\").", ""),
+        Sentence::SingleQuote => told("Texts are written in double quotes (\").", ""),
         Sentence::XmlQuote => told(
             "Its quotes are written as in XML or HTML (&quot;): put straight ones (sed 's/&quot;/\"/g' FILE).",
             "",

@@ -184,7 +184,7 @@ fn append_closing(open: Open<'_>, out: &mut Vec<u8>) -> Result<(), AllocError> {
 
 fn append_inside(node: Open<'_>, outer: Open<'_>, out: &mut Vec<u8>) -> Result<(), AllocError> {
     append_node(node, out)?;
-    out.extend_from_slice(b" stands inside ")?;
+    out.extend_from_slice(b" is inside ")?;
     append_node(outer, out)
 }
 

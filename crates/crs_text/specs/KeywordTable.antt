@@ -52,7 +52,7 @@ AreSameWithin letters word low high =
     (k : ℕ) → low ≤ k → k < high →
     to_ascii_lowercase (slice_index letters k) ≡ to_ascii_lowercase (slice_index word k)
 
--- a keyword's spelling in capitals, of which more bytes may stand behind it
+-- a keyword's spelling in capitals, which more bytes may follow
 abbrev pub IsSuspect : Suspect → Type 0
 IsSuspect s =
     (take s.length s.letters.now ≡ spelling_of s.keyword) × (length s.letters.now ≡ 16)

@@ -37,7 +37,7 @@ pub(crate) fn number_of(items: &Items<'_>, id: ItemId, class: Class) -> Option<D
     decimal_at(items, first(items, id, class, Class::Number)?)
 }
 
-// A number behind an opening or a comma. Most stand in their plain spelling already, but for a plus or zeros.
+// A number behind an opening or a comma. Most are in their plain spelling already, but for a plus or zeros.
 fn open_number_at(
     out: &mut Vec<u8>,
     opening: &[u8],

@@ -1,4 +1,4 @@
-//! Numbers that are written as they stand, or as a part of what stands there.
+//! Numbers that are written as they are, or as a part of what is there.
 ghost use Rattle.std.specs.Prelude.{◌≡◌, ◌≢◌, ◌<◌, ◌≤◌, ◌∷◌, ◌+◌, ◌-◌, ◌==◌, ◌++◌, if◌then◌else◌, IfSome, IsTrue};
 ghost use Rattle.std.specs.Prelude.{length, take, drop, replicate, slice_index_or};
 ghost use Rattle.std.specs.List.{prefix_len};
@@ -56,7 +56,7 @@ fn ends_trim(digits: &[u8]) -> bool
     }
 }
 
-// Whether what stands behind the digits in front is nothing, or a fraction that is plain.
+// Whether what is behind the digits in front is nothing, or a fraction that is plain.
 fn is_rest_plain(rest: &[u8]) -> bool
     ensures { IsTrue result → IsPlainRest rest.now }
 {
