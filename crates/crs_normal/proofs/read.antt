@@ -7,4 +7,3 @@ pub mod FrameLemmas
 pub mod NameLemmas
 pub mod SystemLemmas
 pub mod ViewLemmas
-pub mod WalkLemmas

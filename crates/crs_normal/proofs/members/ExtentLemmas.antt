@@ -1,15 +1,14 @@
 -- Boxes and extents of a usage: their items read as them wherever they are, and their one form
 -- agrees with sameness.
-use Rattle.std.proofs.Common.{◌≡◌, ◌↔◌, ℕ, ◌+◌, true, codes, IfSome, Option, Some, None, inl, inr, refl, sym, ◌∙◌, ap}
+use Rattle.std.proofs.Common.{◌≡◌, ◌↔◌, ℕ, ◌+◌, codes, IfSome, Option, Some, None, [], ◌∷◌, inl, inr, refl, sym, ◌∙◌, ap}
 use Rattle.crs_decimal.specs.Value.{Value, IsNormal}
 use Rattle.crs_text.specs.Items.{End, More}
 use Rattle.crs_text.specs.Written.{at_place}
 use Rattle.crs_shape.specs.declared.class.Class.TheVariants as class
-use Rattle.crs_shape.specs.Slots.{class_named, is_class}
+use Rattle.crs_shape.specs.Slots.{class_named}
 use Rattle.crs_value.specs.declared.values.level.Level.{Level}
 use Rattle.crs_value.specs.declared.values.unit_kind.UnitKind.{UnitKind}
 use Rattle.crs_value.specs.declared.values.unit_kind.UnitKind.TheVariants as kinds
-use Rattle.crs_value.specs.Reading.{ReadsOptional}
 use Rattle.crs_value.specs.Reads.{ReadsBox, ReadsExtent, ReadsUnit}
 use Rattle.crs_value.specs.Sound.{IsUnit, IsUnitOf, Suits}
 use Rattle.crs_value.specs.SoundUsages.{IsBox, IsExtent}
@@ -23,7 +22,8 @@ use Rattle.crs_normal.specs.SpelledUnits.{item_unit, metre, norm_length}
 use Rattle.crs_normal.specs.SpelledUsages.{item_box, item_extent, norm_extent}
 use Rattle.crs_normal.specs.TextLaws.{TextLaws}
 use Rattle.crs_normal.proofs.members.IdentLemmas.{ReadsIdentOnce}
-use Rattle.crs_normal.proofs.texts.ItemLemmas.{Gives, IsOf, fit-end, fit-more, fit-node, fit-opt, gives-over, lacks-end, opt-read, value-fit}
+use Rattle.crs_normal.proofs.texts.ItemLemmas.{fit-end, fit-more, fit-node, fit-opt, value-fit}
+use Rattle.crs_normal.proofs.texts.SegmentLemmas.{IsIn, ReadsBack, a-number, if-any, opt-field, seen, some-imp}
 use Rattle.crs_normal.proofs.members.MemberUnitLemmas.{number-read, unit-agrees, unit-fit, unit-kept, unit-read, values-agree}
 use Rattle.crs_normal.proofs.read.NameLemmas.{keyword-names}
 use Rattle.crs_normal.proofs.same.UnitLemmas.{given-length, length-formed, metre-is}
@@ -97,32 +97,25 @@ pub record IsWrittenExtent (e : ExtentParts) : Type 0 where
   pub maximum : IsNormal e.maximum
   pub unit : IfSome e.unit IsLength
 
-length-is : (u : UnitParts) → IsLength u → IsOf true class.VerticalExtent class.LengthUnit (item_unit u)
-length-is u s place =
-    ap (λ k. is_class class.LengthUnit (class_named class.VerticalExtent (unit_word k))) s.1 ∙
-    ap (is_class class.LengthUnit) (keyword-names class.VerticalExtent (codes "LENGTHUNIT"))
-
-extent-unit : TextLaws → (e : ExtentParts) → IsWrittenExtent e →
-    Gives class.VerticalExtent class.LengthUnit (λ l. ReadsOptional (ReadsUnit class.LengthUnit) l e.unit)
-    (More (number_item e.minimum) (More (number_item e.maximum) (opt item_unit e.unit End)))
-extent-unit laws e s =
-    gives-over class.VerticalExtent class.LengthUnit (λ l. ReadsOptional (ReadsUnit class.LengthUnit) l e.unit)
-    (number_item e.minimum)
-    (More (number_item e.maximum) (opt item_unit e.unit End)) (λ place. refl)
-    (gives-over class.VerticalExtent class.LengthUnit (λ l. ReadsOptional (ReadsUnit class.LengthUnit) l e.unit)
-    (number_item e.maximum)
-    (opt item_unit e.unit End) (λ place. refl)
-    (opt-read class.VerticalExtent class.LengthUnit item_unit IsLength (ReadsUnit class.LengthUnit) length-is
-    (λ u q. unit-read laws class.LengthUnit (keyword-names class.LengthUnit (codes "ID")) u q.0) e.unit End s.unit
-    (lacks-end class.VerticalExtent class.LengthUnit)))
-
 pub extent-read : TextLaws → (e : ExtentParts) → IsWrittenExtent e → (place : ℕ) →
     ReadsExtent class.VerticalExtent (at_place place (item_extent e)) e
-extent-read laws e s place = record {
-  minimum = number-read laws e.minimum s.minimum 0;
-  maximum = number-read laws e.maximum s.maximum 0;
-  unit = extent-unit laws e s (place + 14);
-}
+extent-read laws e s place =
+    let look = seen class.VerticalExtent (a-number class.VerticalExtent e.minimum ∷
+    a-number class.VerticalExtent e.maximum ∷
+    if-any class.VerticalExtent class.LengthUnit item_unit e.unit
+    (some-imp IsLength (λ u. IsIn class.VerticalExtent class.LengthUnit (item_unit u)) length-in e.unit s.unit) ∷ [])
+    (at_place place (item_extent e)) (place + 14) refl in record {
+      minimum = number-read laws e.minimum s.minimum 0;
+      maximum = number-read laws e.maximum s.maximum 0;
+      unit = opt-field look class.LengthUnit item_unit ReadsUnit e.unit refl
+          (some-imp IsLength (ReadsBack item_unit (ReadsUnit class.LengthUnit))
+          (λ u q. unit-read laws class.LengthUnit (keyword-names class.LengthUnit (codes "ID")) u q.0) e.unit s.unit);
+    }
+  where
+    length-in : (u : UnitParts) → IsLength u → IsIn class.VerticalExtent class.LengthUnit (item_unit u)
+    length-in u q =
+        ap (λ k. class_named class.VerticalExtent (unit_word k)) q.1
+        ∙ keyword-names class.VerticalExtent (codes "LENGTHUNIT")
 
 pub extent-fit : TextLaws → (e : ExtentParts) → IsWrittenExtent e → IsFormedWithin 4 (item_extent e)
 extent-fit laws e s =

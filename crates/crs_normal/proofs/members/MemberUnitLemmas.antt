@@ -1,18 +1,17 @@
 -- Units within the members of sets: their items read as them wherever they are, and their one form
 -- agrees with sameness.
-use Rattle.std.proofs.Common.{◌≡◌, ◌≤◌, ◌↔◌, ℕ, ◌+◌, false, codes, IfSome, Option, Some, None, is_some, List, [], length, true≢false, refl, sym, ◌∙◌, ap, arith}
+use Rattle.std.proofs.Common.{◌≡◌, ◌≤◌, ◌↔◌, ℕ, ◌+◌, codes, IfSome, Option, Some, None, is_some, List, [], ◌∷◌, length, true≢false, refl, sym, ◌∙◌, ap, arith}
 use Rattle.crs_decimal.specs.Value.{Value, IsNormal}
 use Rattle.crs_text.specs.Items.{Item, End, More}
 use Rattle.crs_text.specs.Tokens.{IsWord}
 use Rattle.crs_text.specs.Written.{at_place, item_text}
 use Rattle.crs_shape.specs.declared.class.Class.{Class}
 use Rattle.crs_shape.specs.declared.class.Class.TheVariants as class
-use Rattle.crs_shape.specs.Slots.{class_named, is_class}
+use Rattle.crs_shape.specs.Slots.{class_named}
 use Rattle.crs_value.specs.declared.values.level.Level.{Level}
 use Rattle.crs_value.specs.declared.values.unit_kind.UnitKind.{UnitKind}
 use Rattle.crs_value.specs.declared.values.unit_kind.UnitKind.TheVariants as kinds
-use Rattle.crs_value.specs.Reading.{ReadsEach}
-use Rattle.crs_value.specs.Reads.{ReadsIdent, ReadsNumber, ReadsUnit}
+use Rattle.crs_value.specs.Reads.{ReadsIdent, ReadsIds, ReadsNumber, ReadsUnit}
 use Rattle.crs_value.specs.Sound.{Each, IsIdent, IsUnit}
 use Rattle.crs_value.specs.Values.{IdentParts, UnitParts}
 use Rattle.crs_value.specs.Words.{unit_word}
@@ -23,7 +22,8 @@ use Rattle.crs_normal.specs.SpelledItems.{each, number_item, text_item}
 use Rattle.crs_normal.specs.SpelledUnits.{item_ident, item_unit, norm_unit, norm_units}
 use Rattle.crs_normal.specs.TextLaws.{TextLaws}
 use Rattle.crs_normal.proofs.members.IdentLemmas.{ReadsIdentOnce, ident-fit, ident-read, idents-agree, idents-kept, text-fit, writable}
-use Rattle.crs_normal.proofs.texts.ItemLemmas.{AreFit, IsOf, Gives, each-over, each-read, fit-deeper, fit-each, fit-end, fit-more, fit-node, gives-over, lacks-end, told, value-fit}
+use Rattle.crs_normal.proofs.texts.ItemLemmas.{AreFit, fit-deeper, fit-each, fit-end, fit-more, fit-node, told, value-fit}
+use Rattle.crs_normal.proofs.texts.SegmentLemmas.{ReadsBack, Seen, Segment, a-number, a-text, all-of, each-field, each-imp, each_items, items_of, seen}
 use Rattle.crs_normal.proofs.read.NameLemmas.{keyword-names}
 
 -- ---- the identifiers of a node
@@ -32,21 +32,15 @@ use Rattle.crs_normal.proofs.read.NameLemmas.{keyword-names}
 abbrev pub NamesId : Class → Type 0
 NamesId c = class_named c (codes "ID") ≡ Some class.Identifier
 
-pub id-over : (c d : Class) → NamesId c → is_class d (Some class.Identifier) ≡ false → (x : IdentParts) →
-    IsOf false c d (item_ident x)
-id-over c d e n x place = ap (is_class d) e ∙ n
+abbrev pub identifiers-of : (c : Class) → NamesId c → List IdentParts → Segment c
+identifiers-of c e identifiers = all-of c class.Identifier item_ident identifiers (λ x. e)
 
-pub identifiers-over : (c d : Class) → NamesId c → is_class d (Some class.Identifier) ≡ false →
-    (P : List Item → Type 0) (identifiers : List IdentParts) →
-    P [] → Gives c d P (each item_ident identifiers End)
-identifiers-over c d e n P identifiers p = each-over c d item_ident (id-over c d e n) P identifiers End (λ start. p)
-
-pub identifiers-read : (c : Class) → NamesId c → (identifiers : List IdentParts) → Each IsIdent identifiers →
-    Gives c class.Identifier (λ l. ReadsEach (ReadsIdent class.Identifier) l identifiers) (each item_ident identifiers End)
-identifiers-read c e identifiers s =
-    each-read c class.Identifier item_ident IsIdent (ReadsIdent class.Identifier)
-    (λ x q place. ap (is_class class.Identifier) e) ident-read identifiers End s
-    (lacks-end c class.Identifier)
+pub identifiers-back : {c : Class} {ss : List (Segment c)} {item : Item} → Seen c ss item → (identifiers : List IdentParts) →
+    items_of class.Identifier ss ≡ each_items item_ident identifiers [] → Each IsIdent identifiers →
+    ReadsIds c item identifiers
+identifiers-back look identifiers same s =
+    each-field look class.Identifier item_ident ReadsIdent identifiers same
+    (each-imp IsIdent (ReadsBack item_ident (ReadsIdent class.Identifier)) ident-read identifiers s)
 
 pub identifiers-fit : TextLaws → (n : ℕ) → 2 ≤ n → (identifiers : List IdentParts) → Each IsIdent identifiers →
     AreFit n (each item_ident identifiers End)
@@ -66,17 +60,14 @@ values-agree laws a b p q = ((laws.one_value a b p q).1, (laws.one_value a b p q
 
 pub unit-read : TextLaws → (c : Class) → NamesId c → (u : UnitParts) → IsUnit u → (place : ℕ) →
     ReadsUnit c (at_place place (item_unit u)) u
-unit-read laws c e u s place = record {
-  kind = refl;
-  name = refl;
-  factor = number-read laws u.factor s.factor 0;
-  identifiers =
-      gives-over c class.Identifier (λ l. ReadsEach (ReadsIdent class.Identifier) l u.identifiers) (text_item u.name)
-      (More (number_item u.factor) (each item_ident u.identifiers End)) (λ p. refl)
-      (gives-over c class.Identifier (λ l. ReadsEach (ReadsIdent class.Identifier) l u.identifiers) (number_item u.factor)
-      (each item_ident u.identifiers End) (λ p. refl)
-      (identifiers-read c e u.identifiers s.identifiers)) (place + length (unit_word u.kind));
-}
+unit-read laws c e u s place =
+    let look = seen c (a-text c u.name ∷ a-number c u.factor ∷ identifiers-of c e u.identifiers ∷ [])
+    (at_place place (item_unit u)) (place + length (unit_word u.kind)) refl in record {
+      kind = refl;
+      name = refl;
+      factor = number-read laws u.factor s.factor 0;
+      identifiers = identifiers-back look u.identifiers refl s.identifiers;
+    }
 
 unit-is-word : (k : UnitKind) → IsWord (unit_word k)
 unit-is-word kinds.Length = (refl, refl)

@@ -1,19 +1,19 @@
 -- Parameters: the item of one reads as it wherever it is, with a unit of the class that its keyword
 -- names, and as sets they have one form.
-use Rattle.std.proofs.Common.{◌≡◌, ◌↔◌, ℕ, ◌+◌, Bool, true, false, codes, IfSome, Option, Some, None, List, [], ◌∷◌, refl, sym, ◌∙◌, ap, subst, arith}
+use Rattle.std.proofs.Common.{◌≡◌, ◌↔◌, ℕ, ◌+◌, codes, IfSome, Option, Some, None, List, [], ◌∷◌, refl, sym, ap, subst, arith}
 use Rattle.crs_decimal.specs.Value.{Value}
-use Rattle.crs_text.specs.Items.{Item, Siblings, End, More}
-use Rattle.crs_text.specs.Written.{at_place, at_places, item_text}
+use Rattle.crs_text.specs.Items.{Item, End, More}
+use Rattle.crs_text.specs.Written.{at_place, item_text}
 use Rattle.crs_shape.specs.declared.class.Class.{Class}
 use Rattle.crs_shape.specs.declared.class.Class.TheVariants as class
 use Rattle.crs_shape.specs.Keywords.{is_keyword}
-use Rattle.crs_shape.specs.Slots.{class_named, is_class}
+use Rattle.crs_shape.specs.Slots.{class_named}
 use Rattle.crs_value.specs.ConversionValues.{ParameterParts}
 use Rattle.crs_value.specs.declared.values.level.Level.{Level}
 use Rattle.crs_value.specs.declared.values.unit_kind.UnitKind.{UnitKind}
 use Rattle.crs_value.specs.declared.values.unit_kind.UnitKind.TheVariants as kinds
-use Rattle.crs_value.specs.Reading.{those, ReadsEach, ReadsElse}
-use Rattle.crs_value.specs.Reads.{ReadsIdent}
+use Rattle.crs_value.specs.Reading.{ReadsElse}
+use Rattle.crs_value.specs.Reads.{ReadsIds}
 use Rattle.crs_value.specs.ReadsConversion.{ReadsAsUnit, ReadsParameter, ReadsUnitOf, parameter_units}
 use Rattle.crs_value.specs.Sound.{Each, IsIdent, IsUnit}
 use Rattle.crs_value.specs.SoundConversion.{IsParameter}
@@ -28,24 +28,11 @@ use Rattle.crs_normal.specs.SpelledItems.{each, node_of, number_item, opt, text_
 use Rattle.crs_normal.specs.SpelledUnits.{item_ident, item_unit, norm_units}
 use Rattle.crs_normal.specs.TextLaws.{TextLaws}
 use Rattle.crs_normal.proofs.members.IdentLemmas.{ReadsIdentOnce, idents-agree, idents-kept, text-fit, writable}
-use Rattle.crs_normal.proofs.texts.ItemLemmas.{IsOf, Gives, Lacks, fit-more, fit-node, fit-opt, gives-first, gives-over, opt-over, told, value-fit}
-use Rattle.crs_normal.proofs.members.MemberUnitLemmas.{NamesId, identifiers-fit, identifiers-over, identifiers-read, number-read, unit-fit, unit-kept, unit-read, units-agree, values-agree}
+use Rattle.crs_normal.proofs.texts.ItemLemmas.{fit-more, fit-node, fit-opt, told, value-fit}
+use Rattle.crs_normal.proofs.texts.SegmentLemmas.{IsIn, MayIn, Seen, Segment, a-number, a-text, if-any, items_of, lacks, placed-at, seen}
+use Rattle.crs_normal.proofs.members.MemberUnitLemmas.{NamesId, identifiers-back, identifiers-fit, identifiers-of, number-read, unit-fit, unit-kept, unit-read, units-agree, values-agree}
 use Rattle.crs_normal.proofs.members.SetLemmas.{set-agrees}
 use Rattle.crs_normal.proofs.read.NameLemmas.{keyword-names}
-
-abbrev parameter-items : List ℕ → Value → Siblings → Siblings
-parameter-items name value rest = More (text_item name) (More (number_item value) rest)
-
--- what is said of those after the number holds of all arguments
-behind-value : (d : Class) → is_class d (Some class.Text) ≡ false → is_class d (Some class.Number) ≡ false →
-    (P : List Item → Type 0) →
-    (name : List ℕ) (value : Value) (rest : Siblings) → Gives class.Parameter d P rest → Gives class.Parameter d P
-    (parameter-items name value rest)
-behind-value d t n P name value rest g =
-    gives-over class.Parameter d P (text_item name) (More (number_item value) rest) (λ place. t)
-    (gives-over class.Parameter d P (number_item value) rest (λ place. n) g)
-
--- ---- the unit
 
 -- the class of a unit in a parameter is that of its keyword
 pub named-as : (k : UnitKind) → class_named class.Parameter (unit_word k) ≡ Some (unit_class k)
@@ -53,136 +40,92 @@ unfolding class_named is_keyword
 named-as kinds.Length = refl
 named-as other = refl
 
-unit-is : (d : Class) (b : Bool) (u : UnitParts) (k : UnitKind) → u.kind ≡ k → is_class d (Some (unit_class k)) ≡ b →
-    IsOf b class.Parameter d (item_unit u)
-unit-is d b u k e h place =
-    ap (λ j. is_class d (class_named class.Parameter (unit_word j))) e ∙ ap (is_class d) (named-as k) ∙ h
+-- the reading goes over the classes that no unit is of, up to that of the unit
+module _ {c : Class} {ss : List (Segment c)} {item : Item} (look : Seen c ss item) (d : Class) (ds : List Class) where
+  past : (o : Option UnitParts) → items_of d ss ≡ [] → ReadsUnitOf ds c item o → ReadsUnitOf (d ∷ ds) c item o
+  past o none h =
+      subst (λ l. ReadsElse (ReadsAsUnit d) l (ReadsUnitOf ds c item) o) (sym (lacks look d none)) h
 
-unit-no-id : (u : UnitParts) → IsOf false class.Parameter class.Identifier (item_unit u)
-unit-no-id u = by u.kind refl
-  where
-    by : (k : UnitKind) → u.kind ≡ k → IsOf false class.Parameter class.Identifier (item_unit u)
-    by kinds.Length e = unit-is class.Identifier false u kinds.Length e refl
-    by kinds.Angle e = unit-is class.Identifier false u kinds.Angle e refl
-    by kinds.Scale e = unit-is class.Identifier false u kinds.Scale e refl
-    by kinds.Plain e = unit-is class.Identifier false u kinds.Plain e refl
+  found : TextLaws → NamesId d → (u : UnitParts) → IsUnit u → items_of d ss ≡ item_unit u ∷ [] →
+      ReadsUnitOf (d ∷ ds) c item (Some u)
+  found laws names u s one =
+      placed-at look d (λ l. ReadsElse (ReadsAsUnit d) l (ReadsUnitOf ds c item) (Some u)) (item_unit u) one
+      (unit-read laws d names u s)
 
-parameter-identifiers : (p : ParameterParts) → Each IsIdent p.identifiers →
-    Gives class.Parameter class.Identifier (λ l. ReadsEach (ReadsIdent class.Identifier) l p.identifiers)
-    (parameter-items p.name p.value (opt item_unit p.unit (each item_ident p.identifiers End)))
-parameter-identifiers p s =
-    behind-value class.Identifier refl refl (λ l. ReadsEach (ReadsIdent class.Identifier) l p.identifiers) p.name p.value
-    (opt item_unit p.unit (each item_ident p.identifiers End))
-    (opt-over class.Parameter class.Identifier item_unit unit-no-id
-    (λ l. ReadsEach (ReadsIdent class.Identifier) l p.identifiers) p.unit
-    (each item_ident p.identifiers End) (identifiers-read class.Parameter (keyword-names class.Parameter (codes "ID")) p.identifiers s))
-
-else-over : (d : Class) (Other : Option UnitParts → Type 0) (o : Option UnitParts) (items : Siblings) →
-    Lacks class.Parameter d items → Other o →
-    (start : ℕ) → ReadsElse (ReadsAsUnit d) (those class.Parameter d (at_places start items)) Other o
-else-over d Other o items g h start = subst (λ l. ReadsElse (ReadsAsUnit d) l Other o) (sym (g start)) h
-
-module _ (laws : TextLaws) (name : List ℕ) (value : Value) (identifiers : List IdentParts) where
-  abbrev with-unit : Option UnitParts → Siblings
-  with-unit o = parameter-items name value (opt item_unit o (each item_ident identifiers End))
-
-  no-unit : (d : Class) → is_class d (Some class.Text) ≡ false → is_class d (Some class.Number) ≡ false →
-      is_class d (Some class.Identifier) ≡ false →
-      Lacks class.Parameter d (with-unit None)
-  no-unit d t n i =
-      behind-value d t n (λ l. l ≡ []) name value (each item_ident identifiers End)
-      (identifiers-over class.Parameter d (keyword-names class.Parameter (codes "ID")) i (λ l. l ≡ []) identifiers refl)
-
-  other-unit : (d : Class) → is_class d (Some class.Text) ≡ false → is_class d (Some class.Number) ≡ false →
-      is_class d (Some class.Identifier) ≡ false →
-      (u : UnitParts) (k : UnitKind) → u.kind ≡ k → is_class d (Some (unit_class k)) ≡ false → Lacks class.Parameter d
-      (with-unit (Some u))
-  other-unit d t n i u k e h =
-      behind-value d t n (λ l. l ≡ []) name value (More (item_unit u) (each item_ident identifiers End))
-      (gives-over class.Parameter d (λ l. l ≡ []) (item_unit u) (each item_ident identifiers End) (unit-is d false u k e h)
-      (identifiers-over class.Parameter d (keyword-names class.Parameter (codes "ID")) i (λ l. l ≡ []) identifiers refl))
-
-  this-unit : (d : Class) (Other : Option UnitParts → Type 0) → is_class d (Some class.Text) ≡ false →
-      is_class d (Some class.Number) ≡ false → NamesId d →
-      (u : UnitParts) → IsUnit u → (k : UnitKind) → u.kind ≡ k → is_class d (Some (unit_class k)) ≡ true →
-      Gives class.Parameter d (λ l. ReadsElse (ReadsAsUnit d) l Other (Some u)) (with-unit (Some u))
-  this-unit d Other t n names u s k e h =
-      behind-value d t n (λ l. ReadsElse (ReadsAsUnit d) l Other (Some u)) name value
-      (More (item_unit u) (each item_ident identifiers End))
-      (gives-first class.Parameter d (λ l. ReadsElse (ReadsAsUnit d) l Other (Some u)) (item_unit u)
-      (each item_ident identifiers End) (unit-is d true u k e h)
-      (λ place start. unit-read laws d names u s place))
-
+module _ (laws : TextLaws) (name : List ℕ) (value : Value) (identifiers : List IdentParts) (s : Each IsIdent identifiers) where
   abbrev whole : Option UnitParts → ℕ → Item
   whole o place =
       at_place place
       (node_of (codes "PARAMETER") (text_item name)
       (More (number_item value) (opt item_unit o (each item_ident identifiers End))))
 
-  -- the readings that follow those of the classes before
-  abbrev From : List Class → Option UnitParts → ℕ → Option UnitParts → Type 0
-  From ds o place = ReadsUnitOf ds class.Parameter (whole o place)
+  -- its arguments, where a unit is of class k
+  abbrev of-parameter : (k : Class) (o : Option UnitParts) → MayIn class.Parameter k item_unit o →
+      List (Segment class.Parameter)
+  of-parameter k o e =
+      a-text class.Parameter name ∷ a-number class.Parameter value ∷ if-any class.Parameter k item_unit o e ∷
+      identifiers-of class.Parameter (keyword-names class.Parameter (codes "ID")) identifiers ∷ []
 
-  some-read : (u : UnitParts) → IsUnit u → (place : ℕ) (k : UnitKind) → u.kind ≡ k →
-      ReadsUnitOf parameter_units class.Parameter (whole (Some u) place) (Some u)
-  some-read u s place kinds.Plain e =
-      this-unit class.PlainUnit (From (class.LengthUnit ∷ class.AngleUnit ∷ class.ScaleUnit ∷ []) (Some u) place) refl
-      refl (keyword-names class.PlainUnit (codes "ID")) u s kinds.Plain e refl
-      (place + 9)
-  some-read u s place kinds.Length e =
-      else-over class.PlainUnit (From (class.LengthUnit ∷ class.AngleUnit ∷ class.ScaleUnit ∷ []) (Some u) place)
-      (Some u) (with-unit (Some u))
-      (other-unit class.PlainUnit refl refl refl u kinds.Length e refl)
-      (this-unit class.LengthUnit (From (class.AngleUnit ∷ class.ScaleUnit ∷ []) (Some u) place) refl refl (keyword-names class.LengthUnit (codes "ID"))
-      u s kinds.Length e refl (place + 9))
-      (place + 9)
-  some-read u s place kinds.Angle e =
-      else-over class.PlainUnit (From (class.LengthUnit ∷ class.AngleUnit ∷ class.ScaleUnit ∷ []) (Some u) place)
-      (Some u) (with-unit (Some u))
-      (other-unit class.PlainUnit refl refl refl u kinds.Angle e refl)
-      (else-over class.LengthUnit (From (class.AngleUnit ∷ class.ScaleUnit ∷ []) (Some u) place) (Some u)
-      (with-unit (Some u))
-      (other-unit class.LengthUnit refl refl refl u kinds.Angle e refl)
-      (this-unit class.AngleUnit (From (class.ScaleUnit ∷ []) (Some u) place) refl refl (keyword-names class.AngleUnit (codes "ID")) u s kinds.Angle e
-      refl (place + 9)) (place + 9))
-      (place + 9)
-  some-read u s place kinds.Scale e =
-      else-over class.PlainUnit (From (class.LengthUnit ∷ class.AngleUnit ∷ class.ScaleUnit ∷ []) (Some u) place)
-      (Some u) (with-unit (Some u))
-      (other-unit class.PlainUnit refl refl refl u kinds.Scale e refl)
-      (else-over class.LengthUnit (From (class.AngleUnit ∷ class.ScaleUnit ∷ []) (Some u) place) (Some u)
-      (with-unit (Some u))
-      (other-unit class.LengthUnit refl refl refl u kinds.Scale e refl)
-      (else-over class.AngleUnit (From (class.ScaleUnit ∷ []) (Some u) place) (Some u) (with-unit (Some u))
-      (other-unit class.AngleUnit refl refl refl u kinds.Scale e refl)
-      (this-unit class.ScaleUnit (From [] (Some u) place) refl refl (keyword-names class.ScaleUnit (codes "ID")) u s kinds.Scale e refl (place + 9))
-      (place + 9)) (place + 9)) (place + 9)
+  look : (k : Class) (o : Option UnitParts) (e : MayIn class.Parameter k item_unit o) (place : ℕ) →
+      Seen class.Parameter (of-parameter k o e) (whole o place)
+  look k o e place = seen class.Parameter (of-parameter k o e) (whole o place) (place + 9) refl
 
-  unit-of : (o : Option UnitParts) → IfSome o IsUnit → (place : ℕ) →
-      ReadsUnitOf parameter_units class.Parameter (whole o place) o
-  unit-of None s place =
-      else-over class.PlainUnit (From (class.LengthUnit ∷ class.AngleUnit ∷ class.ScaleUnit ∷ []) None place) None
-      (with-unit None)
-      (no-unit class.PlainUnit refl refl refl)
-      (else-over class.LengthUnit (From (class.AngleUnit ∷ class.ScaleUnit ∷ []) None place) None (with-unit None)
-      (no-unit class.LengthUnit refl refl refl)
-      (else-over class.AngleUnit (From (class.ScaleUnit ∷ []) None place) None (with-unit None)
-      (no-unit class.AngleUnit refl refl refl)
-      (else-over class.ScaleUnit (From [] None place) None (with-unit None) (no-unit class.ScaleUnit refl refl refl) tt
-      (place + 9)) (place + 9)) (place + 9))
-      (place + 9)
-  unit-of (Some u) s place = some-read u s place u.kind refl
+  abbrev Reads : Option UnitParts → ℕ → Type 0
+  Reads o place =
+      ReadsUnitOf parameter_units class.Parameter (whole o place) o × ReadsIds class.Parameter (whole o place) identifiers
+
+  some-read : (u : UnitParts) → IsUnit u → (place : ℕ) (k : UnitKind) →
+      IsIn class.Parameter (unit_class k) (item_unit u) → Reads (Some u) place
+  some-read u q place kinds.Plain e =
+      let at = look class.PlainUnit (Some u) e place in (
+        found at class.PlainUnit (class.LengthUnit ∷ class.AngleUnit ∷ class.ScaleUnit ∷ []) laws
+            (keyword-names class.PlainUnit (codes "ID")) u q refl,
+        identifiers-back at identifiers refl s,
+      )
+  some-read u q place kinds.Length e =
+      let at = look class.LengthUnit (Some u) e place in (
+        past at class.PlainUnit (class.LengthUnit ∷ class.AngleUnit ∷ class.ScaleUnit ∷ []) (Some u) refl
+            (found at class.LengthUnit (class.AngleUnit ∷ class.ScaleUnit ∷ []) laws
+            (keyword-names class.LengthUnit (codes "ID")) u q refl),
+        identifiers-back at identifiers refl s,
+      )
+  some-read u q place kinds.Angle e =
+      let at = look class.AngleUnit (Some u) e place in (
+        past at class.PlainUnit (class.LengthUnit ∷ class.AngleUnit ∷ class.ScaleUnit ∷ []) (Some u) refl
+            (past at class.LengthUnit (class.AngleUnit ∷ class.ScaleUnit ∷ []) (Some u) refl
+            (found at class.AngleUnit (class.ScaleUnit ∷ []) laws (keyword-names class.AngleUnit (codes "ID")) u q refl)),
+        identifiers-back at identifiers refl s,
+      )
+  some-read u q place kinds.Scale e =
+      let at = look class.ScaleUnit (Some u) e place in (
+        past at class.PlainUnit (class.LengthUnit ∷ class.AngleUnit ∷ class.ScaleUnit ∷ []) (Some u) refl
+            (past at class.LengthUnit (class.AngleUnit ∷ class.ScaleUnit ∷ []) (Some u) refl
+            (past at class.AngleUnit (class.ScaleUnit ∷ []) (Some u) refl
+            (found at class.ScaleUnit [] laws (keyword-names class.ScaleUnit (codes "ID")) u q refl))),
+        identifiers-back at identifiers refl s,
+      )
+
+  both-read : (o : Option UnitParts) → IfSome o IsUnit → (place : ℕ) → Reads o place
+  both-read None q place =
+      let at = look class.PlainUnit None tt place in (
+        past at class.PlainUnit (class.LengthUnit ∷ class.AngleUnit ∷ class.ScaleUnit ∷ []) None refl
+            (past at class.LengthUnit (class.AngleUnit ∷ class.ScaleUnit ∷ []) None refl
+            (past at class.AngleUnit (class.ScaleUnit ∷ []) None refl (past at class.ScaleUnit [] None refl tt))),
+        identifiers-back at identifiers refl s,
+      )
+  both-read (Some u) q place = some-read u q place u.kind (named-as u.kind)
 
 -- ---- a parameter
 
 pub parameter-read : TextLaws → (p : ParameterParts) → IsParameter p → (place : ℕ) →
     ReadsParameter class.Parameter (at_place place (item_parameter p)) p
-parameter-read laws p s place = record {
-  name = refl;
-  value = number-read laws p.value s.value 0;
-  unit = unit-of laws p.name p.value p.identifiers p.unit s.unit place;
-  identifiers = parameter-identifiers p s.identifiers (place + 9);
-}
+parameter-read laws p s place =
+    let both = both-read laws p.name p.value p.identifiers s.identifiers p.unit s.unit place in record {
+      name = refl;
+      value = number-read laws p.value s.value 0;
+      unit = both.0;
+      identifiers = both.1;
+    }
 
 pub parameter-fit : TextLaws → (p : ParameterParts) → IsParameter p → IsFormedWithin 4 (item_parameter p)
 parameter-fit laws p s =

@@ -1,16 +1,14 @@
 -- Usages: the item of one reads as it wherever it is, and as sets they have one form.
-use Rattle.std.proofs.Common.{◌≡◌, ◌↔◌, ◌⊎◌, ℕ, suc, ◌+◌, Bool, true, false, true≢false, codes, IfSome, IsSome, Option, Some, None, option_map, List, [], inl, inr, length, refl, sym, ◌∙◌, ap, subst, arith}
-use Rattle.crs_text.specs.Items.{Item, Siblings, End, More, IsNode, arguments}
+use Rattle.std.proofs.Common.{◌≡◌, ◌↔◌, ◌⊎◌, ℕ, suc, ◌+◌, true≢false, codes, IfSome, IsSome, Option, Some, None, option_map, List, [], ◌∷◌, inl, inr, refl, sym, ap, arith}
+use Rattle.crs_text.specs.Items.{Item, Siblings, End, More, IsNode}
 use Rattle.crs_text.specs.Tokens.{IsWord}
 use Rattle.crs_text.specs.Written.{at_place, item_text}
 use Rattle.crs_shape.specs.declared.class.Class.{Class}
 use Rattle.crs_shape.specs.declared.class.Class.TheVariants as class
-use Rattle.crs_shape.specs.Slots.{is_class}
 use Rattle.crs_value.specs.Kept.{kept}
 use Rattle.crs_value.specs.KeptLaws.{kept-each}
 use Rattle.crs_value.specs.declared.values.level.Level.{Level}
 use Rattle.crs_value.specs.declared.values.level.Level.TheVariants as levels
-use Rattle.crs_value.specs.Reading.{those, ReadsOptional}
 use Rattle.crs_value.specs.Reads.{ReadsBox, ReadsExtent, ReadsTextOf, ReadsUsage}
 use Rattle.crs_value.specs.Sound.{Each, IsText}
 use Rattle.crs_value.specs.SoundUsages.{IsBox, IsExtent, IsUsage}
@@ -22,8 +20,9 @@ use Rattle.crs_normal.specs.SpelledItems.{node_from, opt, text_node}
 use Rattle.crs_normal.specs.SpelledUsages.{item_box, item_extent, item_usage, norm_extent, norm_usage, set_usages}
 use Rattle.crs_normal.specs.TextLaws.{TextLaws}
 use Rattle.crs_normal.proofs.members.ExtentLemmas.{IsWrittenExtent, box-agrees, box-fit, box-read, extent-agrees, extent-fit, extent-kept, extent-read}
-use Rattle.crs_normal.proofs.members.IdentLemmas.{ReadsIdentOnce, source-fit, text-read, writable}
-use Rattle.crs_normal.proofs.texts.ItemLemmas.{AreFit, Gives, IsOf, fit-deeper, fit-end, fit-node, fit-opt, from-arguments, lacks-end, opt-over, opt-read, told}
+use Rattle.crs_normal.proofs.members.IdentLemmas.{ReadsIdentOnce, source-fit, writable}
+use Rattle.crs_normal.proofs.texts.ItemLemmas.{AreFit, fit-deeper, fit-end, fit-node, fit-opt, from-arguments, told}
+use Rattle.crs_normal.proofs.texts.SegmentLemmas.{ReadsBack, Segment, may-be, opt-field, seen, some-all, some-imp}
 use Rattle.crs_normal.proofs.members.MemberUnitLemmas.{option-agrees}
 use Rattle.crs_normal.proofs.members.SetLemmas.{set-agrees}
 use Rattle.crs_normal.proofs.read.NameLemmas.{keyword-names}
@@ -36,105 +35,36 @@ pub record IsWrittenUsage (u : UsageParts) : Type 0 where
   pub extent : IfSome u.extent IsWrittenExtent
   pub some : SaysSome u
 
--- ---- the parts, one after the other
-
-abbrev from-extent : UsageParts → Siblings
-from-extent u = opt item_extent u.extent End
-
-abbrev from-bbox : UsageParts → Siblings
-from-bbox u = opt item_box u.bbox (from-extent u)
-
-abbrev from-area : UsageParts → Siblings
-from-area u = opt (text_node (codes "AREA")) u.area (from-bbox u)
+-- ---- its parts
 
 abbrev from-scope : UsageParts → Siblings
-from-scope u = opt (text_node (codes "SCOPE")) u.scope (from-area u)
+from-scope u =
+    opt (text_node (codes "SCOPE")) u.scope (opt (text_node (codes "AREA")) u.area
+    (opt item_box u.bbox (opt item_extent u.extent End)))
 
-module _ (d : Class) (b : Bool) where
-  scope-is : is_class d (Some class.Scope) ≡ b → (raw : List ℕ) → IsOf b class.Usage d (text_node (codes "SCOPE") raw)
-  scope-is h raw place = ap (is_class d) (keyword-names class.Usage (codes "SCOPE")) ∙ h
+abbrev of-usage : UsageParts → List (Segment class.Usage)
+of-usage u =
+    may-be class.Usage class.Scope (text_node (codes "SCOPE")) u.scope (λ x. keyword-names class.Usage (codes "SCOPE")) ∷
+    may-be class.Usage class.Area (text_node (codes "AREA")) u.area (λ x. keyword-names class.Usage (codes "AREA")) ∷
+    may-be class.Usage class.BoundingBox item_box u.bbox (λ x. keyword-names class.Usage (codes "BBOX")) ∷
+    may-be class.Usage class.VerticalExtent item_extent u.extent
+    (λ x. keyword-names class.Usage (codes "VERTICALEXTENT")) ∷ []
 
-  area-is : is_class d (Some class.Area) ≡ b → (raw : List ℕ) → IsOf b class.Usage d (text_node (codes "AREA") raw)
-  area-is h raw place = ap (is_class d) (keyword-names class.Usage (codes "AREA")) ∙ h
-
-  box-is : is_class d (Some class.BoundingBox) ≡ b → (x : BoxParts) → IsOf b class.Usage d (item_box x)
-  box-is h x place = ap (is_class d) (keyword-names class.Usage (codes "BBOX")) ∙ h
-
-  extent-is : is_class d (Some class.VerticalExtent) ≡ b → (x : ExtentParts) → IsOf b class.Usage d (item_extent x)
-  extent-is h x place = ap (is_class d) (keyword-names class.Usage (codes "VERTICALEXTENT")) ∙ h
-
-module _ (d : Class) (P : List Item → Type 0) (u : UsageParts) where
-  over-scope : is_class d (Some class.Scope) ≡ false → Gives class.Usage d P (from-area u) →
-      Gives class.Usage d P (from-scope u)
-  over-scope h = opt-over class.Usage d (text_node (codes "SCOPE")) (scope-is d false h) P u.scope (from-area u)
-
-  over-area : is_class d (Some class.Area) ≡ false → Gives class.Usage d P (from-bbox u) →
-      Gives class.Usage d P (from-area u)
-  over-area h = opt-over class.Usage d (text_node (codes "AREA")) (area-is d false h) P u.area (from-bbox u)
-
-  over-box : is_class d (Some class.BoundingBox) ≡ false → Gives class.Usage d P (from-extent u) →
-      Gives class.Usage d P (from-bbox u)
-  over-box h = opt-over class.Usage d item_box (box-is d false h) P u.bbox (from-extent u)
-
-  over-extent : is_class d (Some class.VerticalExtent) ≡ false → Gives class.Usage d P End →
-      Gives class.Usage d P (from-extent u)
-  over-extent h = opt-over class.Usage d item_extent (extent-is d false h) P u.extent End
-
--- what is said of the parts is said of the arguments of the node
-of-arguments : (d : Class) (P : List Item → Type 0) (u : UsageParts) → Gives class.Usage d P (from-scope u) →
-    (place : ℕ) →
-    P (those class.Usage d (arguments (at_place place (item_usage u))))
-of-arguments d P u g place =
-    subst (λ items. P (those class.Usage d items)) (sym (from-arguments (codes "USAGE") (from-scope u) place))
-    (g (place + length (codes "USAGE")))
-
-module _ (laws : TextLaws) (u : UsageParts) (s : IsWrittenUsage u) where
-  scope-read : Gives class.Usage class.Scope (λ l. ReadsOptional (ReadsTextOf class.Scope) l u.scope) (from-scope u)
-  scope-read =
-      opt-read class.Usage class.Scope (text_node (codes "SCOPE")) IsText (ReadsTextOf class.Scope)
-      (λ raw t. scope-is class.Scope true refl raw)
-      (λ raw t place. text-read class.Scope (codes "SCOPE") raw place) u.scope (from-area u) s.scope
-      (over-area class.Scope (λ l. l ≡ []) u refl (over-box class.Scope (λ l. l ≡ []) u refl
-      (over-extent class.Scope (λ l. l ≡ []) u refl (lacks-end class.Usage class.Scope))))
-
-  area-read : Gives class.Usage class.Area (λ l. ReadsOptional (ReadsTextOf class.Area) l u.area) (from-scope u)
-  area-read =
-      over-scope class.Area (λ l. ReadsOptional (ReadsTextOf class.Area) l u.area) u refl
-      (opt-read class.Usage class.Area (text_node (codes "AREA")) IsText (ReadsTextOf class.Area)
-      (λ raw t. area-is class.Area true refl raw)
-      (λ raw t place. text-read class.Area (codes "AREA") raw place) u.area (from-bbox u) s.area
-      (over-box class.Area (λ l. l ≡ []) u refl
-      (over-extent class.Area (λ l. l ≡ []) u refl (lacks-end class.Usage class.Area))))
-
-  bbox-read : Gives class.Usage class.BoundingBox (λ l. ReadsOptional (ReadsBox class.BoundingBox) l u.bbox)
-      (from-scope u)
-  bbox-read =
-      over-scope class.BoundingBox (λ l. ReadsOptional (ReadsBox class.BoundingBox) l u.bbox) u refl
-      (over-area class.BoundingBox (λ l. ReadsOptional (ReadsBox class.BoundingBox) l u.bbox) u refl
-      (opt-read class.Usage class.BoundingBox item_box IsBox (ReadsBox class.BoundingBox)
-      (λ x t. box-is class.BoundingBox true refl x) (box-read laws)
-      u.bbox (from-extent u) s.bbox
-      (over-extent class.BoundingBox (λ l. l ≡ []) u refl (lacks-end class.Usage class.BoundingBox))))
-
-  extents-read : Gives class.Usage class.VerticalExtent
-      (λ l. ReadsOptional (ReadsExtent class.VerticalExtent) l u.extent) (from-scope u)
-  extents-read =
-      over-scope class.VerticalExtent (λ l. ReadsOptional (ReadsExtent class.VerticalExtent) l u.extent) u refl
-      (over-area class.VerticalExtent (λ l. ReadsOptional (ReadsExtent class.VerticalExtent) l u.extent) u refl
-      (over-box class.VerticalExtent (λ l. ReadsOptional (ReadsExtent class.VerticalExtent) l u.extent) u refl
-      (opt-read class.Usage class.VerticalExtent item_extent IsWrittenExtent (ReadsExtent class.VerticalExtent)
-      (λ x t. extent-is class.VerticalExtent true refl x) (extent-read laws) u.extent End s.extent
-      (lacks-end class.Usage class.VerticalExtent))))
-
-  pub usage-read : (place : ℕ) → ReadsUsage class.Usage (at_place place (item_usage u)) u
-  usage-read place = record {
-    scope = of-arguments class.Scope (λ l. ReadsOptional (ReadsTextOf class.Scope) l u.scope) u scope-read place;
-    area = of-arguments class.Area (λ l. ReadsOptional (ReadsTextOf class.Area) l u.area) u area-read place;
-    bbox = of-arguments class.BoundingBox (λ l. ReadsOptional (ReadsBox class.BoundingBox) l u.bbox) u bbox-read place;
-    extent =
-        of-arguments class.VerticalExtent (λ l. ReadsOptional (ReadsExtent class.VerticalExtent) l u.extent) u
-        extents-read place;
-  }
+pub usage-read : TextLaws → (u : UsageParts) → IsWrittenUsage u → (place : ℕ) →
+    ReadsUsage class.Usage (at_place place (item_usage u)) u
+usage-read laws u s place =
+    let look = seen class.Usage (of-usage u) (at_place place (item_usage u)) (place + 5)
+    (from-arguments (codes "USAGE") (from-scope u) place) in record {
+      scope = opt-field look class.Scope (text_node (codes "SCOPE")) ReadsTextOf u.scope refl
+          (some-all (ReadsBack (text_node (codes "SCOPE")) (ReadsTextOf class.Scope)) (λ x p. refl) u.scope);
+      area = opt-field look class.Area (text_node (codes "AREA")) ReadsTextOf u.area refl
+          (some-all (ReadsBack (text_node (codes "AREA")) (ReadsTextOf class.Area)) (λ x p. refl) u.area);
+      bbox = opt-field look class.BoundingBox item_box ReadsBox u.bbox refl
+          (some-imp IsBox (ReadsBack item_box (ReadsBox class.BoundingBox)) (box-read laws) u.bbox s.bbox);
+      extent = opt-field look class.VerticalExtent item_extent ReadsExtent u.extent refl
+          (some-imp IsWrittenExtent (ReadsBack item_extent (ReadsExtent class.VerticalExtent)) (extent-read laws)
+          u.extent s.extent);
+    }
 
 -- ---- well formed
 
@@ -148,11 +78,11 @@ pub usage-fit : TextLaws → (u : UsageParts) → IsWrittenUsage u → IsFormedW
 usage-fit laws u s =
     from-fit 4 (codes "USAGE") (from-scope u) (refl, refl)
     (fit-opt 4 (text_node (codes "SCOPE")) IsText (λ raw t. source-fit 3 (codes "SCOPE") raw (refl, refl) t) u.scope
-    (from-area u) s.scope
+    (opt (text_node (codes "AREA")) u.area (opt item_box u.bbox (opt item_extent u.extent End))) s.scope
     (fit-opt 4 (text_node (codes "AREA")) IsText (λ raw t. source-fit 3 (codes "AREA") raw (refl, refl) t) u.area
-    (from-bbox u) s.area
+    (opt item_box u.bbox (opt item_extent u.extent End)) s.area
     (fit-opt 4 item_box IsBox (λ b t. fit-deeper 1 4 (item_box b) (omega arith) (box-fit laws b t)) u.bbox
-    (from-extent u) s.bbox
+    (opt item_extent u.extent End) s.bbox
     (fit-opt 4 item_extent IsWrittenExtent (extent-fit laws) u.extent End s.extent (fit-end 4)))))
 
 pub usage-is-node : (u : UsageParts) → SaysSome u → IsNode (item_usage u)

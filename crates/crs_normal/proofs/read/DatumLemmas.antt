@@ -1,8 +1,7 @@
 -- Frames are read back from the arguments of a CRS: a reference frame, or where there is none an ensemble.
-use Rattle.std.proofs.Common.{◌≡◌, ℕ, Bool, true, false, true≢false, codes, IsNone, Option, Some, None, List, [], refl, sym, subst, if◌then◌else◌}
+use Rattle.std.proofs.Common.{◌≡◌, ◌⊎◌, ℕ, false, true≢false, codes, IsNone, Option, Some, None, List, [], inl, inr, sym, subst}
 use Rattle.std.specs.Option.{option_map}
-use Rattle.crs_text.specs.Items.{Item, End, More, arguments}
-use Rattle.crs_text.specs.Written.{at_places}
+use Rattle.crs_text.specs.Items.{Item, arguments}
 use Rattle.crs_shape.specs.declared.class.Class.{Class}
 use Rattle.crs_shape.specs.declared.class.Class.TheVariants as class
 use Rattle.crs_shape.specs.Slots.{class_named, is_class}
@@ -17,7 +16,7 @@ use Rattle.crs_value.specs.Values.{EllipsoidParts}
 use Rattle.crs_normal.specs.SpelledFrames.{item_datum, item_ellipsoid, item_ensemble, item_frame, norm_ellipsoid, norm_frame}
 use Rattle.crs_normal.specs.TextLaws.{TextLaws}
 use Rattle.crs_normal.proofs.read.FrameLemmas.{datum-read, ensemble-read}
-use Rattle.crs_normal.proofs.read.WalkLemmas.{AllPass, IsIn, MayIn, Passes, ReadsBack, Segment, first-field, lacking, lay, pass-item, past, some-all}
+use Rattle.crs_normal.proofs.texts.SegmentLemmas.{IsIn, MayIn, ReadsBack, Seen, Segment, either-item, if_left, if_right, items_of, lacks, placed-at, some-all}
 use Rattle.crs_normal.proofs.read.NameLemmas.{keyword-names}
 
 -- the frame is read from its item by the node that is there
@@ -27,7 +26,7 @@ FrameBack d e keyword (frame.Ensemble x) = ReadsBack item_ensemble (ReadsEnsembl
 
 pub ellipsoid-in : (c : Class) → class_named c (codes "ELLIPSOID") ≡ Some class.Ellipsoid → (o : Option EllipsoidParts) →
     MayIn c class.Ellipsoid item_ellipsoid o
-ellipsoid-in c e o = some-all (λ x. IsIn c class.Ellipsoid (item_ellipsoid x)) (λ x place. e) o
+ellipsoid-in c e o = some-all (λ x. IsIn c class.Ellipsoid (item_ellipsoid x)) (λ x. e) o
 
 none-in : (c : Class) (level : Level) (o : Option EllipsoidParts) → IsNone o →
     MayIn c class.Ellipsoid item_ellipsoid (option_map (norm_ellipsoid level) o)
@@ -58,50 +57,25 @@ vertical-back laws level (frame.Ensemble e) s =
     (keyword-names class.VerticalEnsemble (codes "MEMBER")) (keyword-names class.VerticalEnsemble (codes "ENSEMBLEACCURACY")) level e s.0
     (none-in class.VerticalEnsemble level e.ellipsoid s.1)
 
-pub neither : (x y : Bool) → (if x then true else y) ≡ false → (x ≡ false) × (y ≡ false)
-neither true y e = absurd (true≢false e)
-neither false y e = (refl, e)
+-- ---- a frame among the arguments of a CRS
 
 module _ (c d e : Class) (keyword : List ℕ) (datums : class_named c keyword ≡ Some d) (ensembles : class_named c (codes "ENSEMBLE") ≡ Some e) where
-  pub pass-frame : (x : Class) (f : Frame) → (if is_class x (Some d) then true else is_class x (Some e)) ≡ false →
-      Passes c x (More (item_frame keyword f))
-  pass-frame x (frame.Datum v) n =
-      pass-item c x d (item_datum keyword v) (λ place. datums)
-      (neither (is_class x (Some d)) (is_class x (Some e)) n).0
-  pass-frame x (frame.Ensemble v) n =
-      pass-item c x e (item_ensemble v) (λ place. ensembles) (neither (is_class x (Some d)) (is_class x (Some e)) n).1
+  abbrev pub frame-side : (f : Frame) → IsIn c d (item_frame keyword f) ⊎ IsIn c e (item_frame keyword f)
+  frame-side (frame.Datum v) = inl datums
+  frame-side (frame.Ensemble v) = inr ensembles
 
-  abbrev pub frame-segment : Frame → Segment c
-  frame-segment f = record {
-    covers = λ x. if is_class x (Some d) then true else is_class x (Some e);
-    onto = More (item_frame keyword f);
-    passes = λ x n. pass-frame x f n;
-  }
+  abbrev pub frame-item : is_class d (Some e) ≡ false → Frame → Segment c
+  frame-item apart f = either-item c d e apart (item_frame keyword f) (frame-side f)
 
-  pub frame-read : is_class d (Some d) ≡ true → is_class e (Some e) ≡ true → is_class d (Some e) ≡ false → (f : Frame) →
-      FrameBack d e keyword f → (before after : List (Segment c)) → AllPass c d before → AllPass c e before →
-      AllPass c d after → (item : Item) (start : ℕ) →
-      arguments item ≡ at_places start (lay c before (More (item_frame keyword f) (lay c after End))) →
-      ReadsFrame d e c item f
-  frame-read same-d same-e apart (frame.Datum v) back before after p-d p-e q-d item start same =
-      subst
-      (λ items. ReadsElse (ReadsAsDatum d) (those c d items)
-      (ReadsFirst (ReadsAsEnsemble e) (those c e (arguments item))) (frame.Datum v)) (sym same)
-      (first-field c d before after p-d
+  pub frame-field : {ss : List (Segment c)} {item : Item} → Seen c ss item → (f : Frame) → FrameBack d e keyword f →
+      items_of d ss ≡ if_left (item_frame keyword f) (frame-side f) [] →
+      items_of e ss ≡ if_right (item_frame keyword f) (frame-side f) [] → ReadsFrame d e c item f
+  frame-field {item = item} look (frame.Datum v) back p q =
+      placed-at look d
       (λ l. ReadsElse (ReadsAsDatum d) l (ReadsFirst (ReadsAsEnsemble e) (those c e (arguments item))) (frame.Datum v))
-      (item_datum keyword v) (λ place. datums) same-d (λ p others. back p) start)
-  frame-read same-d same-e apart (frame.Ensemble v) back before after p-d p-e q-d item start same =
+      (item_datum keyword v) p back
+  frame-field {item = item} look (frame.Ensemble v) back p q =
       subst
-      (λ items. ReadsElse (ReadsAsDatum d) (those c d items)
-      (ReadsFirst (ReadsAsEnsemble e) (those c e items)) (frame.Ensemble v)) (sym same)
-      (subst
-      (λ l. ReadsElse (ReadsAsDatum d) l
-      (ReadsFirst (ReadsAsEnsemble e)
-      (those c e (at_places start (lay c before (More (item_ensemble v) (lay c after End)))))) (frame.Ensemble v))
-      (sym
-      (past c d (λ l. l ≡ []) before (More (item_ensemble v) (lay c after End)) p-d
-      (λ place. let h = pass-item c d e (item_ensemble v) (λ q. ensembles) apart (lay c after End) place in
-      subst (λ l. l ≡ []) (sym h.1) (lacking c d after q-d h.0)) start))
-      (first-field c e before after p-e
-      (λ l. ReadsFirst (ReadsAsEnsemble e) l (frame.Ensemble v)) (item_ensemble v) (λ place. ensembles) same-e
-      (λ p others. back p) start))
+      (λ l. ReadsElse (ReadsAsDatum d) l (ReadsFirst (ReadsAsEnsemble e) (those c e (arguments item))) (frame.Ensemble v))
+      (sym (lacks look d p))
+      (placed-at look e (λ l. ReadsFirst (ReadsAsEnsemble e) l (frame.Ensemble v)) (item_ensemble v) q back)

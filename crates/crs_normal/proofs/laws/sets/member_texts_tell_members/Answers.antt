@@ -1,12 +1,14 @@
+use Rattle.std.proofs.Common.{codes, refl}
+use Rattle.crs_shape.specs.declared.class.Class.TheVariants as class
 use Rattle.crs_normal.proofs.members.IdentLemmas.{ident-told}
-use Rattle.crs_normal.proofs.members.MemberLemmas.{geoid-kept, geoid-told, member-kept, member-told}
+use Rattle.crs_normal.proofs.members.MemberLemmas.{named-told}
 use Rattle.crs_normal.proofs.members.MemberUnitLemmas.{unit-kept, unit-told}
 use Rattle.crs_normal.proofs.members.ParameterLemmas.{parameter-kept, parameter-told}
 use Rattle.crs_normal.proofs.members.UsageLemmas.{usage-kept, usage-told}
-use Rattle.crs_normal.specs.SpelledConversions.{norm_geoid_model, norm_parameter}
-use Rattle.crs_normal.specs.SpelledFrames.{norm_member}
+use Rattle.crs_normal.specs.SpelledConversions.{norm_parameter}
 use Rattle.crs_normal.specs.SpelledUnits.{norm_unit}
 use Rattle.crs_normal.specs.SpelledUsages.{norm_usage}
+use Rattle.crs_normal.proofs.read.NameLemmas.{keyword-names}
 use Rattle.crs_normal.proofs.laws.sets.member_texts_tell_members.Goals as goal
 
 pub returns-clause-identifier : goal.returns-clause-identifier
@@ -18,9 +20,9 @@ returns-clause-unit c level asked a b p q =
     (unit-kept level asked a p) (unit-kept level asked b q)
 
 pub returns-clause-member : goal.returns-clause-member
-returns-clause-member c level a b p q =
-    member-told c.text_laws.ensures c.members_read_once.ensures.member (norm_member level a) (norm_member level b)
-    (member-kept level a p) (member-kept level b q)
+returns-clause-member c =
+    named-told c.text_laws.ensures c.members_read_once.ensures.member class.Member (codes "MEMBER")
+    (keyword-names class.Member (codes "ID")) (refl, refl)
 
 pub returns-clause-parameter : goal.returns-clause-parameter
 returns-clause-parameter c level a b p q =
@@ -28,9 +30,9 @@ returns-clause-parameter c level a b p q =
     (norm_parameter level b) (parameter-kept level a p) (parameter-kept level b q)
 
 pub returns-clause-geoid_model : goal.returns-clause-geoid_model
-returns-clause-geoid_model c level a b p q =
-    geoid-told c.text_laws.ensures c.members_read_once.ensures.geoid_model (norm_geoid_model level a)
-    (norm_geoid_model level b) (geoid-kept level a p) (geoid-kept level b q)
+returns-clause-geoid_model c =
+    named-told c.text_laws.ensures c.members_read_once.ensures.geoid_model class.GeoidModel (codes "GEOIDMODEL")
+    (keyword-names class.GeoidModel (codes "ID")) (refl, refl)
 
 pub returns-clause-usage : goal.returns-clause-usage
 returns-clause-usage c a b p q =

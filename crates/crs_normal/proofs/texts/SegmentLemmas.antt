@@ -1,0 +1,273 @@
+-- The arguments of a node as segments: what it has of each class, wherever it is, is read off them.
+use Rattle.std.proofs.Common.{◌≡◌, ◌⊎◌, ℕ, Bool, true, false, if◌then◌else◌, IfSome, Option, Some, None, List, [], ◌∷◌, map, inl, inr, refl, sym, ◌∙◌, ap, subst, rules}
+use Rattle.std.specs.Option.{option_map}
+use denote.Enum.Bare.{same_true}
+use Rattle.crs_decimal.specs.Value.{Value}
+use Rattle.crs_text.specs.Items.{Item, Siblings, End, More, arguments}
+use Rattle.crs_text.specs.Written.{at_place, at_places}
+use Rattle.crs_shape.specs.contracts.class.Class.{the_type}
+use Rattle.crs_shape.specs.declared.class.Class.{Class}
+use Rattle.crs_shape.specs.declared.class.Class.TheVariants as class
+use Rattle.crs_shape.specs.ShapeFault.{class_in}
+use Rattle.crs_shape.specs.Slots.{is_class}
+use Rattle.crs_value.specs.Reading.{those, Each, ReadsAll, ReadsEach, ReadsFirst, ReadsIfAny, ReadsOne, ReadsOptional}
+use Rattle.crs_normal.specs.Ordered.{in_order}
+use Rattle.crs_normal.specs.SpelledItems.{each, number_item, opt, text_item, word_item}
+use Rattle.crs_normal.proofs.made.PlaceLemmas.{ArePlaced, those-placed}
+use Rattle.crs_normal.proofs.members.SetLemmas.{each-in_order}
+
+-- the item is of class k in a node of class c
+abbrev pub IsIn : Class → Class → Item → Type 0
+IsIn c k item = class_in c item ≡ Some k
+
+abbrev pub MayIn : {V : Type 0} → Class → Class → (V → Item) → Option V → Type 0
+MayIn c k spell o = IfSome o (λ x. IsIn c k (spell x))
+
+abbrev pub AreIn : {V : Type 0} → Class → Class → (V → Item) → List V → Type 0
+AreIn c k spell xs = Each (λ x. IsIn c k (spell x)) xs
+
+-- the value is read from its item, wherever that is
+abbrev pub ReadsBack : {V : Type 0} → (V → Item) → (Item → V → Type 0) → V → Type 0
+ReadsBack spell R x = (place : ℕ) → R (at_place place (spell x)) x
+
+-- ---- what holds of each
+
+pub each-all : {V : Type 0} (Q : V → Type 0) → ((x : V) → Q x) → (xs : List V) → Each Q xs
+each-all Q f [] = tt
+each-all Q f (x ∷ xs) = (f x, each-all Q f xs)
+
+pub each-imp : {V : Type 0} (P Q : V → Type 0) → ((x : V) → P x → Q x) → (xs : List V) → Each P xs → Each Q xs
+each-imp P Q f [] p = tt
+each-imp P Q f (x ∷ xs) p = (f x p.0, each-imp P Q f xs p.1)
+
+pub some-all : {V : Type 0} (Q : V → Type 0) → ((x : V) → Q x) → (o : Option V) → IfSome o Q
+some-all Q f None = tt
+some-all Q f (Some x) = f x
+
+pub some-imp : {V : Type 0} (P Q : V → Type 0) → ((x : V) → P x → Q x) → (o : Option V) → IfSome o P → IfSome o Q
+some-imp P Q f None p = tt
+some-imp P Q f (Some x) p = f x p
+
+pub some-mapped : {V W : Type 0} (norm : V → W) (P : V → Type 0) (Q : W → Type 0) → ((x : V) → P x → Q (norm x)) →
+    (o : Option V) → IfSome o P → IfSome (option_map norm o) Q
+some-mapped norm P Q f None p = tt
+some-mapped norm P Q f (Some x) p = f x p
+
+each-mapped : {V W : Type 0} (norm : V → W) (P : V → Type 0) (Q : W → Type 0) → ((x : V) → P x → Q (norm x)) →
+    (xs : List V) → Each P xs → Each Q (map norm xs)
+each-mapped norm P Q f [] p = tt
+each-mapped norm P Q f (x ∷ xs) p = (f x p.0, each-mapped norm P Q f xs p.1)
+
+-- the one forms of a set
+pub set-kept : {V W : Type 0} (norm : V → W) (bytes : W → List ℕ) (P : V → Type 0) (Q : W → Type 0) →
+    ((x : V) → P x → Q (norm x)) → (xs : List V) → Each P xs → Each Q (in_order bytes (map norm xs))
+set-kept norm bytes P Q f xs p = each-in_order bytes Q (map norm xs) (each-mapped norm P Q f xs p)
+
+-- ---- segments
+
+-- the items of some values, before others
+abbrev pub opt_items : {V : Type 0} → (V → Item) → Option V → List Item → List Item
+opt_items spell None rest = rest
+opt_items spell (Some x) rest = spell x ∷ rest
+
+abbrev pub each_items : {V : Type 0} → (V → Item) → List V → List Item → List Item
+each_items spell [] rest = rest
+each_items spell (x ∷ xs) rest = spell x ∷ each_items spell xs rest
+
+-- arguments of a node of class c before others, and those of each class among them
+pub record Segment (c : Class) : Type 0 where
+  pub onto : Siblings → Siblings
+  pub among : Class → List Item → List Item
+  pub holds : (d : Class) (rest : Siblings) → those c d (onto rest) ≡ among d (those c d rest)
+
+same-if : (b : Bool) (js : List Item) → js ≡ (if b then js else js)
+same-if true js = refl
+same-if false js = refl
+
+next-if : (b : Bool) (j : Item) (js rest all : List Item) → all ≡ (if b then js else rest) →
+    (if b then j ∷ all else all) ≡ (if b then j ∷ js else rest)
+next-if true j js rest all e = ap (λ l. j ∷ l) e
+next-if false j js rest all e = e
+
+-- an item, before others, where it is of the one sort or of the other
+abbrev pub if_left : {A B : Type 0} → Item → A ⊎ B → List Item → List Item
+if_left item (inl a) rest = item ∷ rest
+if_left item (inr b) rest = rest
+
+abbrev pub if_right : {A B : Type 0} → Item → A ⊎ B → List Item → List Item
+if_right item (inl a) rest = rest
+if_right item (inr b) rest = item ∷ rest
+
+module _ (c : Class) where
+  pub named : (d k : Class) (item : Item) (rest : Siblings) → IsIn c k item →
+      those c d (More item rest) ≡ (if is_class d (Some k) then item ∷ those c d rest else those c d rest)
+  named d k item rest e = ap (λ o. if is_class d o then item ∷ those c d rest else those c d rest) e
+
+  -- one item
+  abbrev pub one-item : (k : Class) (item : Item) → IsIn c k item → Segment c
+  one-item k item e = record {
+    onto = More item;
+    among = λ d rest. if is_class d (Some k) then item ∷ rest else rest;
+    holds = λ d rest. named d k item rest e;
+  }
+
+  abbrev pub a-text : List ℕ → Segment c
+  a-text raw = one-item class.Text (text_item raw) refl
+
+  abbrev pub a-number : Value → Segment c
+  a-number value = one-item class.Number (number_item value) refl
+
+  abbrev pub a-word : List ℕ → Segment c
+  a-word raw = one-item class.Word (word_item raw) refl
+
+  module _ {V : Type 0} (k : Class) (spell : V → Item) where
+    pub opt-holds : (o : Option V) → MayIn c k spell o → (d : Class) (rest : Siblings) →
+        those c d (opt spell o rest) ≡ (if is_class d (Some k) then opt_items spell o (those c d rest) else those c d rest)
+    opt-holds None e d rest = same-if (is_class d (Some k)) (those c d rest)
+    opt-holds (Some x) e d rest = named d k (spell x) rest e
+
+    pub each-holds : (xs : List V) → AreIn c k spell xs → (d : Class) (rest : Siblings) →
+        those c d (each spell xs rest) ≡ (if is_class d (Some k) then each_items spell xs (those c d rest) else those c d rest)
+    each-holds [] e d rest = same-if (is_class d (Some k)) (those c d rest)
+    each-holds (x ∷ xs) e d rest =
+        named d k (spell x) (each spell xs rest) e.0
+        ∙ next-if (is_class d (Some k)) (spell x) (each_items spell xs (those c d rest)) (those c d rest)
+        (those c d (each spell xs rest)) (each-holds xs e.1 d rest)
+
+    -- an item that may be missing
+    abbrev pub if-any : (o : Option V) → MayIn c k spell o → Segment c
+    if-any o e = record {
+      onto = opt spell o;
+      among = λ d rest. if is_class d (Some k) then opt_items spell o rest else rest;
+      holds = opt-holds o e;
+    }
+
+    abbrev pub may-be : (o : Option V) → ((x : V) → IsIn c k (spell x)) → Segment c
+    may-be o e = if-any o (some-all (λ x. IsIn c k (spell x)) e o)
+
+    -- an item for each of these
+    abbrev pub for-each : (xs : List V) → AreIn c k spell xs → Segment c
+    for-each xs e = record {
+      onto = each spell xs;
+      among = λ d rest. if is_class d (Some k) then each_items spell xs rest else rest;
+      holds = each-holds xs e;
+    }
+
+    abbrev pub all-of : (xs : List V) → ((x : V) → IsIn c k (spell x)) → Segment c
+    all-of xs e = for-each xs (each-all (λ x. IsIn c k (spell x)) e xs)
+
+  module _ (k l : Class) (apart : is_class k (Some l) ≡ false) (item : Item) where
+    abbrev pub Side : Type 0
+    Side = IsIn c k item ⊎ IsIn c l item
+
+    not-both : (d : Class) (b : Bool) → is_class d (Some k) ≡ b → (js : List Item) →
+        (if is_class d (Some l) then item ∷ js else js)
+        ≡ (if b then js else (if is_class d (Some l) then item ∷ js else js))
+    not-both d true e js =
+        ap (λ b. if b then item ∷ js else js)
+        (subst (λ x. is_class x (Some l) ≡ false) (same_true the_type (search rules) k d e) apart)
+    not-both d false e js = refl
+
+    only-left : (b : Bool) (d : Class) (js : List Item) →
+        (if b then item ∷ js else js) ≡ (if b then item ∷ js else (if is_class d (Some l) then js else js))
+    only-left true d js = refl
+    only-left false d js = same-if (is_class d (Some l)) js
+
+    pub either-holds : (side : Side) (d : Class) (rest : Siblings) →
+        those c d (More item rest)
+        ≡ (if is_class d (Some k) then if_left item side (those c d rest)
+        else (if is_class d (Some l) then if_right item side (those c d rest) else those c d rest))
+    either-holds (inl e) d rest =
+        named d k item rest e ∙ only-left (is_class d (Some k)) d (those c d rest)
+    either-holds (inr e) d rest =
+        named d l item rest e ∙ not-both d (is_class d (Some k)) refl (those c d rest)
+
+    -- an item of one class or the other
+    abbrev pub either-item : Side → Segment c
+    either-item side = record {
+      onto = More item;
+      among = λ d rest. if is_class d (Some k) then if_left item side rest
+          else (if is_class d (Some l) then if_right item side rest else rest);
+      holds = either-holds side;
+    }
+
+-- ---- all arguments
+
+abbrev pub lay : {c : Class} → List (Segment c) → Siblings
+lay [] = End
+lay (s ∷ ss) = s.onto (lay ss)
+
+abbrev pub items_of : {c : Class} → Class → List (Segment c) → List Item
+items_of d [] = []
+items_of d (s ∷ ss) = s.among d (items_of d ss)
+
+those-laid : {c : Class} (d : Class) (ss : List (Segment c)) → those c d (lay ss) ≡ items_of d ss
+those-laid d [] = refl
+those-laid d (s ∷ ss) = s.holds d (lay ss) ∙ ap (s.among d) (those-laid d ss)
+
+-- the arguments of the item are these, somewhere
+pub record Seen (c : Class) (ss : List (Segment c)) (item : Item) : Type 0 where
+  pub view : (d : Class) → ArePlaced (those c d (arguments item)) (items_of d ss)
+
+pub seen : (c : Class) (ss : List (Segment c)) (item : Item) (start : ℕ) → arguments item ≡ at_places start (lay ss) →
+    Seen c ss item
+seen c ss item start same = record {
+  view = λ d.
+      subst (λ items. ArePlaced (those c d items) (items_of d ss)) (sym same)
+      (subst (ArePlaced (those c d (at_places start (lay ss)))) (those-laid d ss) (those-placed c d start (lay ss)));
+}
+
+-- ---- what is read of the arguments of a class
+
+pub placed-none : (items : List Item) → ArePlaced items [] → items ≡ []
+placed-none [] h = refl
+placed-none (item ∷ items) h = absurd h
+
+placed-opt : {V : Type 0} (spell : V → Item) (R : Item → V → Type 0) (o : Option V) (items : List Item) →
+    ArePlaced items (opt_items spell o []) → IfSome o (ReadsBack spell R) → ReadsOptional R items o
+placed-opt spell R None [] p r = tt
+placed-opt spell R None (item ∷ items) p r = absurd p
+placed-opt spell R (Some x) [] p r = absurd p
+placed-opt spell R (Some x) (item ∷ items) p r = subst (λ i. R i x) (sym p.0.1) (r p.0.0)
+
+placed-each : {V : Type 0} (spell : V → Item) (R : Item → V → Type 0) (xs : List V) (items : List Item) →
+    ArePlaced items (each_items spell xs []) → Each (ReadsBack spell R) xs → ReadsEach R items xs
+placed-each spell R [] [] p r = tt
+placed-each spell R [] (item ∷ items) p r = absurd p
+placed-each spell R (x ∷ xs) [] p r = absurd p
+placed-each spell R (x ∷ xs) (item ∷ items) p r =
+    (subst (λ i. R i x) (sym p.0.1) (r.0 p.0.0), placed-each spell R xs items p.1 r.1)
+
+pub placed-first : (P : List Item → Type 0) (j : Item) (items : List Item) → ArePlaced items (j ∷ []) →
+    ((place : ℕ) → P (at_place place j ∷ [])) → P items
+placed-first P j [] p r = absurd p
+placed-first P j (item ∷ []) p r = subst (λ i. P (i ∷ [])) (sym p.0.1) (r p.0.0)
+placed-first P j (item ∷ x ∷ items) p r = absurd p.1
+
+module _ {c : Class} {ss : List (Segment c)} {item : Item} (look : Seen c ss item) (d : Class) where
+  abbrev Shows : List Item → Type 0
+  Shows js = items_of d ss ≡ js
+
+  shown : (js : List Item) → Shows js → ArePlaced (those c d (arguments item)) js
+  shown js same = subst (ArePlaced (those c d (arguments item))) same (look.view d)
+
+  pub lacks : Shows [] → those c d (arguments item) ≡ []
+  lacks same = placed-none (those c d (arguments item)) (shown [] same)
+
+  pub placed-at : (P : List Item → Type 0) (j : Item) → Shows (j ∷ []) → ((place : ℕ) → P (at_place place j ∷ [])) →
+      P (those c d (arguments item))
+  placed-at P j same r = placed-first P j (those c d (arguments item)) (shown (j ∷ []) same) r
+
+  module _ {V : Type 0} (spell : V → Item) (Reads : Class → Item → V → Type 0) where
+    pub one-field : (x : V) → Shows (spell x ∷ []) → ReadsBack spell (Reads d) x → ReadsOne Reads d c item x
+    one-field x same r = placed-at (λ l. ReadsFirst (Reads d) l x) (spell x) same r
+
+    pub opt-field : (o : Option V) → Shows (opt_items spell o []) → IfSome o (ReadsBack spell (Reads d)) →
+        ReadsIfAny Reads d c item o
+    opt-field o same r =
+        placed-opt spell (Reads d) o (those c d (arguments item)) (shown (opt_items spell o []) same) r
+
+    pub each-field : (xs : List V) → Shows (each_items spell xs []) → Each (ReadsBack spell (Reads d)) xs →
+        ReadsAll Reads d c item xs
+    each-field xs same r =
+        placed-each spell (Reads d) xs (those c d (arguments item)) (shown (each_items spell xs []) same) r
