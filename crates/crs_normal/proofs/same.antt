@@ -7,3 +7,4 @@ pub mod PartLemmas
 pub mod SystemLemmas
 pub mod TailLemmas
 pub mod UnitLemmas
+pub mod UsageLemmas

@@ -1,7 +1,7 @@
 -- Boxes and extents of a usage: their items read as them wherever they are, and their one form
 -- agrees with sameness.
-use Rattle.std.proofs.Common.{◌≡◌, ◌↔◌, ℕ, ◌+◌, codes, IfSome, Option, Some, None, [], ◌∷◌, inl, inr, refl, sym, ◌∙◌, ap}
-use Rattle.crs_decimal.specs.Value.{Value, IsNormal}
+use Rattle.std.proofs.Common.{◌≡◌, ℕ, ◌+◌, codes, IfSome, Option, Some, None, [], ◌∷◌, inl, inr, refl, ◌∙◌, ap}
+use Rattle.crs_decimal.specs.Value.{IsNormal}
 use Rattle.crs_text.specs.Items.{End, More}
 use Rattle.crs_text.specs.Written.{at_place}
 use Rattle.crs_shape.specs.declared.class.Class.TheVariants as class
@@ -14,19 +14,17 @@ use Rattle.crs_value.specs.Sound.{IsUnit, IsUnitOf, Suits}
 use Rattle.crs_value.specs.SoundUsages.{IsBox, IsExtent}
 use Rattle.crs_value.specs.Values.{BoxParts, ExtentParts, UnitParts}
 use Rattle.crs_value.specs.Words.{unit_word}
-use Rattle.crs_same.specs.SameUnits.{SameLength, kind_as, or_metre}
-use Rattle.crs_same.specs.SameUsages.{SameBox, SameExtent}
+use Rattle.crs_same.specs.SameUnits.{kind_as}
 use Rattle.crs_normal.specs.FormedWithin.{IsFormedWithin}
 use Rattle.crs_normal.specs.SpelledItems.{number_item, opt}
-use Rattle.crs_normal.specs.SpelledUnits.{item_unit, metre, norm_length}
+use Rattle.crs_normal.specs.SpelledUnits.{item_unit, norm_length}
 use Rattle.crs_normal.specs.SpelledUsages.{item_box, item_extent, norm_extent}
 use Rattle.crs_normal.specs.TextLaws.{TextLaws}
-use Rattle.crs_normal.proofs.members.IdentLemmas.{ReadsIdentOnce}
 use Rattle.crs_normal.proofs.texts.ItemLemmas.{fit-end, fit-more, fit-node, fit-opt, value-fit}
 use Rattle.crs_normal.proofs.texts.SegmentLemmas.{IsIn, ReadsBack, a-number, if-any, opt-field, seen, some-imp}
-use Rattle.crs_normal.proofs.members.MemberUnitLemmas.{number-read, unit-agrees, unit-fit, unit-kept, unit-read, values-agree}
+use Rattle.crs_normal.proofs.members.MemberUnitLemmas.{number-read, unit-fit, unit-kept, unit-read}
 use Rattle.crs_normal.proofs.read.NameLemmas.{keyword-names}
-use Rattle.crs_normal.proofs.same.UnitLemmas.{given-length, length-formed, metre-is}
+use Rattle.crs_normal.proofs.same.UnitLemmas.{metre-is}
 
 -- ---- units of length, where a missing one is the metre
 
@@ -42,13 +40,6 @@ pub length-kept : (level : Level) (o : Option UnitParts) → IfSome o (IsUnitOf 
     IsLength (norm_length level o)
 length-kept level None s = (metre-is, refl)
 length-kept level (Some u) s = (unit-kept level kinds.Length u s.0, length-kind u.kind s.1)
-
-pub length-agrees : TextLaws → ReadsIdentOnce → (level : Level) (a b : Option UnitParts) →
-    IfSome a (IsUnitOf kinds.Length) → IfSome b (IsUnitOf kinds.Length) →
-    (norm_length level a ≡ norm_length level b) ↔ SameLength level a b
-length-agrees laws once level a b p q =
-    let same = unit-agrees laws once level kinds.Length (or_metre a) (or_metre b) (given-length a p) (given-length b q) in
-    (λ e. same.0 (sym (length-formed level a) ∙ e ∙ length-formed level b), λ s. length-formed level a ∙ same.1 s ∙ sym (length-formed level b))
 
 -- ---- boxes
 
@@ -70,24 +61,6 @@ box-fit laws b s =
     (value-fit laws 0 b.west s.west)
     (fit-more 0 (number_item b.north) (More (number_item b.east) End) (value-fit laws 0 b.north s.north)
     (fit-more 0 (number_item b.east) End (value-fit laws 0 b.east s.east) (fit-end 0))))
-
-abbrev box-made : Value → Value → Value → Value → BoxParts
-box-made x0 x1 x2 x3 = record { south = x0; west = x1; north = x2; east = x3 }
-
-pub box-agrees : TextLaws → (a b : BoxParts) → IsBox a → IsBox b → (a ≡ b) ↔ SameBox a b
-box-agrees laws a b p q =
-    let south = values-agree laws a.south b.south p.south q.south in
-    let west = values-agree laws a.west b.west p.west q.west in
-    let north = values-agree laws a.north b.north p.north q.north in
-    let east = values-agree laws a.east b.east p.east q.east in (
-      λ e. record {
-        south = south.0 (ap (λ x. x.south) e);
-        west = west.0 (ap (λ x. x.west) e);
-        north = north.0 (ap (λ x. x.north) e);
-        east = east.0 (ap (λ x. x.east) e);
-      },
-      λ s. λ i. box-made (south.1 s.south i) (west.1 s.west i) (north.1 s.north i) (east.1 s.east i),
-    )
 
 -- ---- extents
 
@@ -127,24 +100,3 @@ extent-fit laws e s =
 
 pub extent-kept : (level : Level) (e : ExtentParts) → IsExtent e → IsWrittenExtent (norm_extent level e)
 extent-kept level e s = record { minimum = s.minimum; maximum = s.maximum; unit = length-kept level e.unit s.unit }
-
-abbrev extent-made : Value → Value → UnitParts → ExtentParts
-extent-made x0 x1 x2 = record { minimum = x0; maximum = x1; unit = Some x2 }
-
-abbrev unit-or : UnitParts → Option UnitParts → UnitParts
-unit-or u None = u
-unit-or u (Some v) = v
-
-pub extent-agrees : TextLaws → ReadsIdentOnce → (level : Level) (a b : ExtentParts) → IsExtent a → IsExtent b →
-    (norm_extent level a ≡ norm_extent level b) ↔ SameExtent level a b
-extent-agrees laws once level a b p q =
-    let minimum = values-agree laws a.minimum b.minimum p.minimum q.minimum in
-    let maximum = values-agree laws a.maximum b.maximum p.maximum q.maximum in
-    let unit = length-agrees laws once level a.unit b.unit p.unit q.unit in (
-      λ e. record {
-        minimum = minimum.0 (ap (λ x. x.minimum) e);
-        maximum = maximum.0 (ap (λ x. x.maximum) e);
-        unit = unit.0 (ap (λ x. unit-or metre x.unit) e);
-      },
-      λ s. λ i. extent-made (minimum.1 s.minimum i) (maximum.1 s.maximum i) (unit.1 s.unit i),
-    )

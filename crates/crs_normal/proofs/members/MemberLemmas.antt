@@ -1,12 +1,12 @@
 -- Nodes of a name and identifiers alone, as members of an ensemble and geoid models are: their items
 -- read as them wherever they are, and as sets they have one form.
-use Rattle.std.proofs.Common.{◌≡◌, ◌↔◌, ℕ, ◌+◌, codes, List, [], ◌∷◌, length, refl, ap, arith}
+use Rattle.std.proofs.Common.{◌≡◌, ◌↔◌, ℕ, ◌+◌, codes, List, [], ◌∷◌, length, refl, arith}
 use Rattle.crs_text.specs.Items.{Item, End}
 use Rattle.crs_text.specs.Tokens.{IsWord}
 use Rattle.crs_text.specs.Written.{at_place, item_text}
 use Rattle.crs_shape.specs.declared.class.Class.{Class}
 use Rattle.crs_shape.specs.declared.class.Class.TheVariants as class
-use Rattle.crs_value.specs.NamedValues.{IdentParts, NamedParts}
+use Rattle.crs_value.specs.NamedValues.{NamedParts}
 use Rattle.crs_value.specs.declared.values.level.Level.{Level}
 use Rattle.crs_value.specs.ReadsNamed.{ReadsNamed}
 use Rattle.crs_value.specs.Sound.{Each, IsNamed}
@@ -23,6 +23,7 @@ use Rattle.crs_normal.proofs.texts.ItemLemmas.{fit-node, told}
 use Rattle.crs_normal.proofs.texts.SegmentLemmas.{a-text, seen}
 use Rattle.crs_normal.proofs.members.MemberUnitLemmas.{NamesId, identifiers-back, identifiers-fit, identifiers-of}
 use Rattle.crs_normal.proofs.members.SetLemmas.{set-agrees}
+use Rattle.crs_normal.proofs.same.UnitLemmas.{named-agrees}
 use Rattle.crs_normal.proofs.read.NameLemmas.{keyword-names}
 
 -- ---- nodes of a name and identifiers
@@ -59,17 +60,6 @@ named-told laws once c keyword names w level a b p q =
     (λ x s. writable 3 (item_named keyword x) (omega arith) (named-fit laws keyword w x s) tt)
     (named-read c keyword names) (norm_member level a) (norm_member level b) (named-kept level a p) (named-kept level b q)
 
-abbrev named-made : List ℕ → List IdentParts → NamedParts
-named-made x0 x1 = record { name = x0; identifiers = x1 }
-
-named-agrees : TextLaws → ReadsIdentOnce → (level : Level) (a b : NamedParts) → IsNamed a → IsNamed b →
-    (norm_member level a ≡ norm_member level b) ↔ SameNamed level a b
-named-agrees laws once level a b p q =
-    let identifiers = idents-agree laws once level a.identifiers b.identifiers p.identifiers q.identifiers in (
-      λ e. record { name = ap (λ x. x.name) e; identifiers = identifiers.0 (ap (λ x. x.identifiers) e) },
-      λ s. λ i. named-made (s.name i) (identifiers.1 s.identifiers i),
-    )
-
 -- ---- as sets
 
 pub members-agree : TextLaws → ReadsIdentOnce → ReadsNamedOnce → (level : Level) (xs ys : List NamedParts) →
@@ -78,7 +68,7 @@ pub members-agree : TextLaws → ReadsIdentOnce → ReadsNamedOnce → (level : 
 unfolding set_members
 members-agree laws idents once level xs ys p q =
     set-agrees (norm_member level) (λ m. item_text (item_member m)) IsNamed (SameNamed level)
-    (named-agrees laws idents level)
+    (named-agrees (idents-agree laws idents) level)
     (named-told laws once class.Member (codes "MEMBER") (keyword-names class.Member (codes "ID")) (refl, refl) level)
     xs ys p q
 
@@ -88,6 +78,6 @@ pub geoids-agree : TextLaws → ReadsIdentOnce → ReadsNamedOnce → (level : L
 unfolding set_geoid_models
 geoids-agree laws idents once level xs ys p q =
     set-agrees (norm_member level) (λ g. item_text (item_geoid_model g)) IsNamed (SameNamed level)
-    (named-agrees laws idents level)
+    (named-agrees (idents-agree laws idents) level)
     (named-told laws once class.GeoidModel (codes "GEOIDMODEL") (keyword-names class.GeoidModel (codes "ID")) (refl, refl)
     level) xs ys p q

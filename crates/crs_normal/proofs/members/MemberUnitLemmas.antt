@@ -1,6 +1,6 @@
 -- Units within the members of sets: their items read as them wherever they are, and their one form
 -- agrees with sameness.
-use Rattle.std.proofs.Common.{◌≡◌, ◌≤◌, ◌↔◌, ℕ, ◌+◌, codes, IfSome, Option, Some, None, is_some, List, [], ◌∷◌, length, true≢false, refl, sym, ◌∙◌, ap, arith}
+use Rattle.std.proofs.Common.{◌≡◌, ◌≤◌, ℕ, ◌+◌, codes, Some, List, [], ◌∷◌, length, refl, arith}
 use Rattle.crs_decimal.specs.Value.{Value, IsNormal}
 use Rattle.crs_text.specs.Items.{Item, End, More}
 use Rattle.crs_text.specs.Tokens.{IsWord}
@@ -15,13 +15,11 @@ use Rattle.crs_value.specs.Reads.{ReadsIdent, ReadsIds, ReadsNumber, ReadsUnit}
 use Rattle.crs_value.specs.Sound.{Each, IsIdent, IsUnit}
 use Rattle.crs_value.specs.Values.{IdentParts, UnitParts}
 use Rattle.crs_value.specs.Words.{unit_word}
-use Rattle.crs_same.specs.SameUnits.{SameUnit, SameValue}
-use Rattle.crs_same.specs.Sets.{BothOrNeither}
 use Rattle.crs_normal.specs.FormedWithin.{IsFormedWithin}
 use Rattle.crs_normal.specs.SpelledItems.{each, number_item, text_item}
-use Rattle.crs_normal.specs.SpelledUnits.{item_ident, item_unit, norm_unit, norm_units}
+use Rattle.crs_normal.specs.SpelledUnits.{item_ident, item_unit, norm_unit}
 use Rattle.crs_normal.specs.TextLaws.{TextLaws}
-use Rattle.crs_normal.proofs.members.IdentLemmas.{ReadsIdentOnce, ident-fit, ident-read, idents-agree, idents-kept, text-fit, writable}
+use Rattle.crs_normal.proofs.members.IdentLemmas.{ident-fit, ident-read, idents-kept, text-fit, writable}
 use Rattle.crs_normal.proofs.texts.ItemLemmas.{AreFit, fit-deeper, fit-each, fit-end, fit-more, fit-node, told, value-fit}
 use Rattle.crs_normal.proofs.texts.SegmentLemmas.{ReadsBack, Seen, Segment, a-number, a-text, all-of, each-field, each-imp, each_items, items_of, seen}
 use Rattle.crs_normal.proofs.read.NameLemmas.{keyword-names}
@@ -51,10 +49,6 @@ identifiers-fit laws n l identifiers s =
 
 pub number-read : TextLaws → (v : Value) → IsNormal v → (place : ℕ) → ReadsNumber (at_place place (number_item v)) v
 number-read laws v h place = (h, laws.denotes v h)
-
-pub values-agree : TextLaws → (a b : Value) → IsNormal a → IsNormal b → (a ≡ b) ↔ SameValue a b
-unfolding SameValue
-values-agree laws a b p q = ((laws.one_value a b p q).1, (laws.one_value a b p q).0)
 
 -- ---- units
 
@@ -98,50 +92,3 @@ unit-kept level asked u s = record {
   above_zero = s.above_zero;
   identifiers = idents-kept level u.identifiers s.identifiers;
 }
-
-abbrev unit-made : UnitKind → List ℕ → Value → List IdentParts → UnitParts
-unit-made x0 x1 x2 x3 = record { kind = x0; name = x1; factor = x2; identifiers = x3 }
-
-pub unit-agrees : TextLaws → ReadsIdentOnce → (level : Level) (asked : UnitKind) (a b : UnitParts) → IsUnit a →
-    IsUnit b →
-    (norm_unit level asked a ≡ norm_unit level asked b) ↔ SameUnit asked level a b
-unit-agrees laws once level asked a b p q =
-    let identifiers = idents-agree laws once level a.identifiers b.identifiers p.identifiers q.identifiers in
-    let factors = values-agree laws a.factor b.factor p.factor q.factor in (
-      λ e. record {
-        kind = ap (λ x. x.kind) e;
-        name = ap (λ x. x.name) e;
-        factor = factors.0 (ap (λ x. x.factor) e);
-        identifiers = identifiers.0 (ap (λ x. x.identifiers) e);
-      },
-      λ s. λ i. unit-made (s.kind i) (s.name i) (factors.1 s.factor i) (identifiers.1 s.identifiers i),
-    )
-
--- parts that may be missing agree where the parts do
-pub option-agrees : {A B : Type 0} (norm : A → B) (Q : A → Type 0) (Same : A → A → Type 0) →
-    ((a b : A) → Q a → Q b → (norm a ≡ norm b) ↔ Same a b) →
-    (opts : Option A → Option B) → (opts None ≡ None) → ((a : A) → opts (Some a) ≡ Some (norm a)) → (a b : Option A) →
-    IfSome a Q → IfSome b Q →
-    (opts a ≡ opts b) ↔ BothOrNeither Same a b
-option-agrees norm Q Same agree opts n s None None p q = (λ e. tt, λ h. refl)
-option-agrees norm Q Same agree opts n s None (Some b) p q =
-    (λ e. absurd (true≢false (ap is_some (sym (sym n ∙ e ∙ s b)))), λ h. absurd h)
-option-agrees norm Q Same agree opts n s (Some a) None p q =
-    (λ e. absurd (true≢false (ap is_some (sym (s a) ∙ e ∙ n))), λ h. absurd h)
-option-agrees {B = B} norm Q Same agree opts n s (Some a) (Some b) p q =
-    let h = agree a b p q in
-    (λ e. h.0 (inside (norm a) (norm b) (sym (s a) ∙ e ∙ s b)), λ t. s a ∙ ap (λ x. Some x) (h.1 t) ∙ sym (s b))
-  where
-    inside : (x y : B) → Some x ≡ Some y → x ≡ y
-    inside x y e = ap (or x) e
-      where
-        or : B → Option B → B
-        or z None = z
-        or z (Some w) = w
-
-pub units-agree : TextLaws → ReadsIdentOnce → (level : Level) (asked : UnitKind) (a b : Option UnitParts) →
-    IfSome a IsUnit → IfSome b IsUnit →
-    (norm_units level asked a ≡ norm_units level asked b) ↔ BothOrNeither (SameUnit asked level) a b
-units-agree laws once level asked a b p q =
-    option-agrees (norm_unit level asked) IsUnit (SameUnit asked level) (unit-agrees laws once level asked)
-    (norm_units level asked) refl (λ u. refl) a b p q

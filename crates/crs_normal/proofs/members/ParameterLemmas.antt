@@ -1,6 +1,6 @@
 -- Parameters: the item of one reads as it wherever it is, with a unit of the class that its keyword
 -- names, and as sets they have one form.
-use Rattle.std.proofs.Common.{◌≡◌, ◌↔◌, ℕ, ◌+◌, codes, IfSome, Option, Some, None, List, [], ◌∷◌, refl, sym, ap, subst, arith}
+use Rattle.std.proofs.Common.{◌≡◌, ◌↔◌, ℕ, ◌+◌, codes, IfSome, Option, Some, None, List, [], ◌∷◌, refl, sym, subst, arith}
 use Rattle.crs_decimal.specs.Value.{Value}
 use Rattle.crs_text.specs.Items.{Item, End, More}
 use Rattle.crs_text.specs.Written.{at_place, item_text}
@@ -30,7 +30,8 @@ use Rattle.crs_normal.specs.TextLaws.{TextLaws}
 use Rattle.crs_normal.proofs.members.IdentLemmas.{ReadsIdentOnce, idents-agree, idents-kept, text-fit, writable}
 use Rattle.crs_normal.proofs.texts.ItemLemmas.{fit-more, fit-node, fit-opt, told, value-fit}
 use Rattle.crs_normal.proofs.texts.SegmentLemmas.{IsIn, MayIn, Seen, Segment, a-number, a-text, if-any, items_of, lacks, placed-at, seen}
-use Rattle.crs_normal.proofs.members.MemberUnitLemmas.{NamesId, identifiers-back, identifiers-fit, identifiers-of, number-read, unit-fit, unit-kept, unit-read, units-agree, values-agree}
+use Rattle.crs_normal.proofs.members.MemberUnitLemmas.{NamesId, identifiers-back, identifiers-fit, identifiers-of, number-read, unit-fit, unit-kept, unit-read}
+use Rattle.crs_normal.proofs.same.ConversionLemmas.{parameter-agrees}
 use Rattle.crs_normal.proofs.members.SetLemmas.{set-agrees}
 use Rattle.crs_normal.proofs.read.NameLemmas.{keyword-names}
 
@@ -160,30 +161,12 @@ parameter-told laws once =
     told item_parameter (ReadsParameter class.Parameter) IsParameter laws (once class.Parameter)
     (λ x s. writable 4 (item_parameter x) (omega arith) (parameter-fit laws x s) tt) (parameter-read laws)
 
-abbrev parameter-made : List ℕ → Value → Option UnitParts → List IdentParts → ParameterParts
-parameter-made x0 x1 x2 x3 = record { name = x0; value = x1; unit = x2; identifiers = x3 }
-
-parameter-agrees : TextLaws → ReadsIdentOnce → (level : Level) (a b : ParameterParts) → IsParameter a → IsParameter b →
-    (norm_parameter level a ≡ norm_parameter level b) ↔ SameParameter level a b
-parameter-agrees laws once level a b p q =
-    let identifiers = idents-agree laws once level a.identifiers b.identifiers p.identifiers q.identifiers in
-    let values = values-agree laws a.value b.value p.value q.value in
-    let units = units-agree laws once level kinds.Plain a.unit b.unit p.unit q.unit in (
-      λ e. record {
-        name = ap (λ x. x.name) e;
-        value = values.0 (ap (λ x. x.value) e);
-        unit = units.0 (ap (λ x. x.unit) e);
-        identifiers = identifiers.0 (ap (λ x. x.identifiers) e);
-      },
-      λ s. λ i. parameter-made (s.name i) (values.1 s.value i) (units.1 s.unit i) (identifiers.1 s.identifiers i),
-    )
-
 pub parameters-agree : TextLaws → ReadsIdentOnce → ReadsParameterOnce → (level : Level) (xs ys : List ParameterParts) →
     Each IsParameter xs → Each IsParameter ys →
     (set_parameters level xs ≡ set_parameters level ys) ↔ SameSet (SameParameter level) xs ys
 unfolding set_parameters
 parameters-agree laws idents once level xs ys p q =
     set-agrees (norm_parameter level) (λ x. item_text (item_parameter x)) IsParameter (SameParameter level)
-    (parameter-agrees laws idents level)
+    (parameter-agrees laws.one_value (idents-agree laws idents) level)
     (λ a b s t. parameter-told laws once (norm_parameter level a) (norm_parameter level b) (parameter-kept level a s)
     (parameter-kept level b t)) xs ys p q

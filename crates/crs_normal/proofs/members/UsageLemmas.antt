@@ -1,5 +1,5 @@
 -- Usages: the item of one reads as it wherever it is, and as sets they have one form.
-use Rattle.std.proofs.Common.{◌≡◌, ◌↔◌, ◌⊎◌, ℕ, suc, ◌+◌, true≢false, codes, IfSome, IsSome, Option, Some, None, option_map, List, [], ◌∷◌, inl, inr, refl, sym, ap, arith}
+use Rattle.std.proofs.Common.{◌≡◌, ◌↔◌, ◌⊎◌, ℕ, suc, ◌+◌, true≢false, codes, IfSome, IsSome, Option, Some, None, option_map, List, [], ◌∷◌, inl, inr, refl, sym, arith}
 use Rattle.crs_text.specs.Items.{Item, Siblings, End, More, IsNode}
 use Rattle.crs_text.specs.Tokens.{IsWord}
 use Rattle.crs_text.specs.Written.{at_place, item_text}
@@ -13,17 +13,17 @@ use Rattle.crs_value.specs.Reads.{ReadsBox, ReadsExtent, ReadsTextOf, ReadsUsage
 use Rattle.crs_value.specs.Sound.{Each, IsText}
 use Rattle.crs_value.specs.SoundUsages.{IsBox, IsExtent, IsUsage}
 use Rattle.crs_value.specs.Values.{BoxParts, ExtentParts, SaysSome, UsageParts}
-use Rattle.crs_same.specs.SameUsages.{SameBox, SameExtent, SameUsage}
+use Rattle.crs_same.specs.SameUsages.{SameUsage}
 use Rattle.crs_same.specs.Sets.{SameSet}
 use Rattle.crs_normal.specs.FormedWithin.{IsFormedWithin}
 use Rattle.crs_normal.specs.SpelledItems.{node_from, opt, text_node}
 use Rattle.crs_normal.specs.SpelledUsages.{item_box, item_extent, item_usage, norm_extent, norm_usage, set_usages}
 use Rattle.crs_normal.specs.TextLaws.{TextLaws}
-use Rattle.crs_normal.proofs.members.ExtentLemmas.{IsWrittenExtent, box-agrees, box-fit, box-read, extent-agrees, extent-fit, extent-kept, extent-read}
-use Rattle.crs_normal.proofs.members.IdentLemmas.{ReadsIdentOnce, source-fit, writable}
+use Rattle.crs_normal.proofs.members.ExtentLemmas.{IsWrittenExtent, box-fit, box-read, extent-fit, extent-kept, extent-read}
+use Rattle.crs_normal.proofs.members.IdentLemmas.{ReadsIdentOnce, idents-agree, source-fit, writable}
 use Rattle.crs_normal.proofs.texts.ItemLemmas.{AreFit, fit-deeper, fit-end, fit-node, fit-opt, from-arguments, told}
 use Rattle.crs_normal.proofs.texts.SegmentLemmas.{ReadsBack, Segment, may-be, opt-field, seen, some-all, some-imp}
-use Rattle.crs_normal.proofs.members.MemberUnitLemmas.{option-agrees}
+use Rattle.crs_normal.proofs.same.UsageLemmas.{usage-agrees}
 use Rattle.crs_normal.proofs.members.SetLemmas.{set-agrees}
 use Rattle.crs_normal.proofs.read.NameLemmas.{keyword-names}
 
@@ -135,31 +135,11 @@ usage-told laws once =
     told item_usage (ReadsUsage class.Usage) IsWrittenUsage laws (once class.Usage)
     (λ x s. writable 5 (item_usage x) (omega arith) (usage-fit laws x s) (usage-is-node x s.some)) (usage-read laws)
 
-abbrev usage-made : Option (List ℕ) → Option (List ℕ) → Option BoxParts → Option ExtentParts → UsageParts
-usage-made x0 x1 x2 x3 = record { scope = x0; area = x1; bbox = x2; extent = x3 }
-
-usage-agrees : TextLaws → ReadsIdentOnce → (a b : UsageParts) → IsUsage a → IsUsage b →
-    (norm_usage a ≡ norm_usage b) ↔ SameUsage a b
-usage-agrees laws once a b p q =
-    let bboxes = option-agrees (λ x. x) IsBox SameBox (box-agrees laws) (λ o. o) refl (λ x. refl) a.bbox b.bbox
-    p.bbox q.bbox in
-    let extents =
-    option-agrees (norm_extent levels.Full) IsExtent (SameExtent levels.Full) (extent-agrees laws once levels.Full)
-    (option_map (norm_extent levels.Full)) refl (λ x. refl) a.extent b.extent p.extent q.extent in (
-      λ e. record {
-        scope = ap (λ x. x.scope) e;
-        area = ap (λ x. x.area) e;
-        bbox = bboxes.0 (ap (λ x. x.bbox) e);
-        extent = extents.0 (ap (λ x. x.extent) e);
-      },
-      λ s. λ i. usage-made (s.scope i) (s.area i) (bboxes.1 s.bbox i) (extents.1 s.extent i),
-    )
-
 pub usages-agree : TextLaws → ReadsIdentOnce → ReadsUsageOnce → (level : Level) (xs ys : List UsageParts) →
     Each IsUsage xs → Each IsUsage ys →
     (set_usages level xs ≡ set_usages level ys) ↔ SameSet SameUsage (kept level xs) (kept level ys)
 unfolding set_usages
 usages-agree laws idents once level xs ys p q =
-    set-agrees norm_usage (λ u. item_text (item_usage u)) IsUsage SameUsage (usage-agrees laws idents)
+    set-agrees norm_usage (λ u. item_text (item_usage u)) IsUsage SameUsage (usage-agrees laws.one_value (idents-agree laws idents))
     (λ a b s t. usage-told laws once (norm_usage a) (norm_usage b) (usage-kept a s) (usage-kept b t))
     (kept level xs) (kept level ys) (kept-each (λ l. IsUsage) level xs p) (kept-each (λ l. IsUsage) level ys q)

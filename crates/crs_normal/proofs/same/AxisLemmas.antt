@@ -40,8 +40,8 @@ plain-unit (Some u) s = s.0
 module _ (laws : LowerLaws) (sets : SetsDecide) (level : Level) where
   pub axis-meridian-agrees : FormDecides IsAxisMeridian (norm_axis_meridian level) (SameAxisMeridian level)
   axis-meridian-agrees a b in-a in-b =
-      let longitude = values-agree laws a.longitude b.longitude in-a.longitude in-b.longitude in
-      let unit = unit-agrees laws sets level kinds.Angle a.unit b.unit in-a.unit.0 in-b.unit.0 in (
+      let longitude = values-agree laws.normal_is_one a.longitude b.longitude in-a.longitude in-b.longitude in
+      let unit = unit-agrees laws.normal_is_one sets.idents level kinds.Angle a.unit b.unit in-a.unit.0 in-b.unit.0 in (
         λ e. record {
           longitude = longitude.0 (ap (λ (x : AxisMeridianParts). x.longitude) e);
           unit = unit.0 (ap (λ (x : AxisMeridianParts). x.unit) e);
@@ -60,9 +60,9 @@ module _ (laws : LowerLaws) (sets : SetsDecide) (level : Level) where
   axis-alone-agrees x y in-x in-y =
       let meridian = axis-meridians-agree x.meridian y.meridian in-x.meridian in-y.meridian in
       let order =
-      options-agree IsNormal (λ v. v) SameValue (values-agree laws) (λ o. o) refl (λ v. refl) x.order y.order in-x.order
+      options-agree IsNormal (λ v. v) SameValue (values-agree laws.normal_is_one) (λ o. o) refl (λ v. refl) x.order y.order in-x.order
       in-y.order in
-      let unit = units-agree laws sets level kinds.Plain x.unit y.unit (plain-unit x.unit in-x.unit)
+      let unit = units-agree laws.normal_is_one sets.idents level kinds.Plain x.unit y.unit (plain-unit x.unit in-x.unit)
       (plain-unit y.unit in-y.unit) in
       let identifiers = sets.idents level x.identifiers y.identifiers in-x.identifiers in-y.identifiers in (
         λ e. record {
@@ -89,7 +89,7 @@ module _ (laws : LowerLaws) (sets : SetsDecide) (level : Level) where
       (norm_units level asked (own_or x.unit a.unit) ≡ norm_units level asked (own_or y.unit b.unit))
       ↔ BothOrNeither (SameUnit asked level) (own_or x.unit a.unit) (own_or y.unit b.unit)
   axis-units-agree a b x y asked unit-a unit-b in-x in-y =
-      units-agree laws sets level asked (own_or x.unit a.unit) (own_or y.unit b.unit)
+      units-agree laws.normal_is_one sets.idents level asked (own_or x.unit a.unit) (own_or y.unit b.unit)
       (own-sound x.unit a.unit in-x.unit unit-a) (own-sound y.unit b.unit in-y.unit unit-b)
 
   -- at the same position of two systems of one type

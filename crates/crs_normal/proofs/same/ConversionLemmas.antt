@@ -1,16 +1,30 @@
 -- Methods, parameters, conversions and geoid models have one form exactly where they are the same.
 use Rattle.std.proofs.Common.{ap}
-use Rattle.crs_value.specs.ConversionValues.{ConversionParts, GeoidModelParts, MethodParts, ParameterParts}
-use Rattle.crs_value.specs.SoundConversion.{IsConversion, IsGeoidModel, IsMethod, IsParameter}
+use Rattle.crs_value.specs.ConversionValues.{ConversionParts, MethodParts, ParameterParts}
+use Rattle.crs_value.specs.SoundConversion.{IsConversion, IsMethod, IsParameter}
 use Rattle.crs_value.specs.declared.values.level.Level.{Level}
 use Rattle.crs_value.specs.declared.values.unit_kind.UnitKind.TheVariants as kinds
 use Rattle.crs_same.specs.Agreement.{AgreeConversion, AgreeMethod}
-use Rattle.crs_same.specs.SameConversions.{SameGeoidModel, SameParameter}
+use Rattle.crs_same.specs.SameConversions.{SameParameter}
 use Rattle.crs_normal.specs.Decides.{FormDecides, SetsDecide}
 use Rattle.crs_normal.specs.LowerLaws.{LowerLaws}
-use Rattle.crs_normal.specs.SpelledConversions.{norm_conversion, norm_geoid_model, norm_method, norm_parameter}
-use Rattle.crs_normal.proofs.same.PartLemmas.{values-agree}
-use Rattle.crs_normal.proofs.same.UnitLemmas.{units-agree}
+use Rattle.crs_normal.specs.SpelledConversions.{norm_conversion, norm_method, norm_parameter}
+use Rattle.crs_normal.proofs.same.PartLemmas.{NumbersDecide, values-agree}
+use Rattle.crs_normal.proofs.same.UnitLemmas.{IdentsDecide, units-agree}
+
+pub parameter-agrees : NumbersDecide → IdentsDecide → (level : Level) → FormDecides IsParameter (norm_parameter level) (SameParameter level)
+parameter-agrees numbers idents level a b in-a in-b =
+    let value = values-agree numbers a.value b.value in-a.value in-b.value in
+    let unit = units-agree numbers idents level kinds.Plain a.unit b.unit in-a.unit in-b.unit in
+    let identifiers = idents level a.identifiers b.identifiers in-a.identifiers in-b.identifiers in (
+      λ e. record {
+        name = ap (λ (x : ParameterParts). x.name) e;
+        value = value.0 (ap (λ (x : ParameterParts). x.value) e);
+        unit = unit.0 (ap (λ (x : ParameterParts). x.unit) e);
+        identifiers = identifiers.0 (ap (λ (x : ParameterParts). x.identifiers) e);
+      },
+      λ s. λ i. record { name = s.name i; value = value.1 s.value i; unit = unit.1 s.unit i; identifiers = identifiers.1 s.identifiers i },
+    )
 
 module _ (laws : LowerLaws) (sets : SetsDecide) (level : Level) where
   pub method-agrees : FormDecides IsMethod (norm_method level) (AgreeMethod level)
@@ -18,20 +32,6 @@ module _ (laws : LowerLaws) (sets : SetsDecide) (level : Level) where
       let identifiers = sets.idents level a.identifiers b.identifiers in-a.identifiers in-b.identifiers in (
         λ e. record { name = ap (λ (x : MethodParts). x.name) e; identifiers = identifiers.0 (ap (λ (x : MethodParts). x.identifiers) e) },
         λ s. λ i. record { name = s.name i; identifiers = identifiers.1 s.identifiers i },
-      )
-
-  pub parameter-agrees : FormDecides IsParameter (norm_parameter level) (SameParameter level)
-  parameter-agrees a b in-a in-b =
-      let value = values-agree laws a.value b.value in-a.value in-b.value in
-      let unit = units-agree laws sets level kinds.Plain a.unit b.unit in-a.unit in-b.unit in
-      let identifiers = sets.idents level a.identifiers b.identifiers in-a.identifiers in-b.identifiers in (
-        λ e. record {
-          name = ap (λ (x : ParameterParts). x.name) e;
-          value = value.0 (ap (λ (x : ParameterParts). x.value) e);
-          unit = unit.0 (ap (λ (x : ParameterParts). x.unit) e);
-          identifiers = identifiers.0 (ap (λ (x : ParameterParts). x.identifiers) e);
-        },
-        λ s. λ i. record { name = s.name i; value = value.1 s.value i; unit = unit.1 s.unit i; identifiers = identifiers.1 s.identifiers i },
       )
 
   pub conversion-agrees : FormDecides IsConversion (norm_conversion level) (AgreeConversion level)
@@ -51,15 +51,4 @@ module _ (laws : LowerLaws) (sets : SetsDecide) (level : Level) where
           parameters = parameters.1 s.parameters i;
           identifiers = identifiers.1 s.identifiers i;
         },
-      )
-
-  pub geoid-model-agrees : FormDecides IsGeoidModel (norm_geoid_model level) (SameGeoidModel level)
-  geoid-model-agrees a b in-a in-b =
-      let identifiers = sets.idents level a.identifiers b.identifiers in-a.identifiers in-b.identifiers in (
-        λ e. record {
-          name = ap (λ (x : GeoidModelParts). x.name) e;
-          identifiers =
-              identifiers.0 (ap (λ (x : GeoidModelParts). x.identifiers) e);
-        },
-        λ s. λ i. record { name = s.name i; identifiers = identifiers.1 s.identifiers i },
       )

@@ -110,7 +110,7 @@ module _ (laws : LowerLaws) (sets : SetsDecide) (level : Level) where
       (dynamics-sound b.dynamic b.frame in-b.dynamic) in
       let frame = geodetic-frame-agrees laws sets level a.frame b.frame in-a.frame in-b.frame in
       let meridian = meridian-agrees laws sets level a.meridian b.meridian in-a.meridian in-b.meridian in
-      let unit = units-of-agree laws sets level kinds.Angle kinds.Angle a.unit b.unit in-a.unit in-b.unit in
+      let unit = units-of-agree laws.normal_is_one sets.idents level kinds.Angle kinds.Angle a.unit b.unit in-a.unit in-b.unit in
       let identifiers = sets.idents level a.identifiers b.identifiers in-a.identifiers in-b.identifiers in (
         λ e. record {
           name = ap (λ (x : BaseParts). x.name) e;

@@ -1,7 +1,7 @@
 -- Deformation models and dynamic parts have one form exactly where they are the same.
 use Rattle.std.proofs.Common.{IfSome, Option, Some, None, refl, ap}
 use Rattle.std.specs.Option.{option_map}
-use Rattle.crs_value.specs.DynamicValues.{DeformationModelParts, DynamicParts}
+use Rattle.crs_value.specs.DynamicValues.{DynamicParts}
 use Rattle.crs_value.specs.SoundDynamic.{IsDeformationModel, IsDynamic}
 use Rattle.crs_value.specs.SoundSingle.{IsDynamicOf}
 use Rattle.crs_value.specs.declared.values.frame.Frame.{Frame}
@@ -14,6 +14,7 @@ use Rattle.crs_normal.specs.Decides.{FormDecides, Maybe, SetsDecide}
 use Rattle.crs_normal.specs.LowerLaws.{LowerLaws}
 use Rattle.crs_normal.specs.SpelledDynamic.{norm_deformation_model, norm_dynamic}
 use Rattle.crs_normal.proofs.same.PartLemmas.{options-agree, values-agree}
+use Rattle.crs_normal.proofs.same.UnitLemmas.{named-agrees}
 
 -- whatever the frame beside it is
 pub dynamics-sound : (o : Option DynamicParts) (f : Frame) → IsDynamicOf o f → IfSome o IsDynamic
@@ -22,26 +23,15 @@ dynamics-sound (Some d) (frame.Datum datum) s = s
 dynamics-sound (Some d) (frame.Ensemble ensemble) s = absurd s
 
 module _ (laws : LowerLaws) (sets : SetsDecide) (level : Level) where
-  pub deformation-model-agrees : FormDecides IsDeformationModel (norm_deformation_model level)
-      (SameDeformationModel level)
-  deformation-model-agrees a b in-a in-b =
-      let identifiers = sets.idents level a.identifiers b.identifiers in-a.identifiers in-b.identifiers in (
-        λ e. record {
-          name = ap (λ (x : DeformationModelParts). x.name) e;
-          identifiers = identifiers.0 (ap (λ (x : DeformationModelParts). x.identifiers) e);
-        },
-        λ s. λ i. record { name = s.name i; identifiers = identifiers.1 s.identifiers i },
-      )
-
   models-agree : FormDecides (Maybe IsDeformationModel) (option_map (norm_deformation_model level))
       (BothOrNeither (SameDeformationModel level))
   models-agree =
       options-agree IsDeformationModel (norm_deformation_model level) (SameDeformationModel level)
-      deformation-model-agrees (option_map (norm_deformation_model level)) refl (λ x. refl)
+      (named-agrees sets.idents level) (option_map (norm_deformation_model level)) refl (λ x. refl)
 
   pub dynamic-agrees : FormDecides IsDynamic (norm_dynamic level) (AgreeDynamic level)
   dynamic-agrees a b in-a in-b =
-      let epoch = values-agree laws a.epoch b.epoch in-a.epoch in-b.epoch in
+      let epoch = values-agree laws.normal_is_one a.epoch b.epoch in-a.epoch in-b.epoch in
       let model = models-agree a.model b.model in-a.model in-b.model in (
         λ e. record {
           epoch = epoch.0 (ap (λ (x : DynamicParts). x.epoch) e);

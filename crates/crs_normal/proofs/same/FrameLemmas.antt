@@ -4,9 +4,9 @@ use Rattle.std.proofs.Common.{arith, if◌then◌else◌}
 use Rattle.std.specs.Option.{option_map}
 use Rattle.std.proofs.lemmas.Bool.{eqb-true, false≢true}
 use Rattle.crs_decimal.specs.Value.{Value, IsNormal}
-use Rattle.crs_value.specs.SoundFrames.{IsDatum, IsEllipsoid, IsEnsemble, IsMember, IsMeridian}
+use Rattle.crs_value.specs.SoundFrames.{IsDatum, IsEllipsoid, IsEnsemble, IsMeridian}
 use Rattle.crs_value.specs.SoundSingle.{IsGeodeticFrame, IsVerticalFrame}
-use Rattle.crs_value.specs.Values.{DatumParts, EllipsoidParts, EnsembleParts, MemberParts, MeridianParts, UnitParts}
+use Rattle.crs_value.specs.Values.{DatumParts, EllipsoidParts, EnsembleParts, MeridianParts, UnitParts}
 use Rattle.crs_value.specs.declared.values.frame.Frame.{Frame}
 use Rattle.crs_value.specs.declared.values.frame.Frame.TheVariants as frame
 use Rattle.crs_value.specs.declared.values.level.Level.{Level}
@@ -14,14 +14,13 @@ use Rattle.crs_value.specs.declared.values.unit_kind.UnitKind.TheVariants as kin
 use Rattle.crs_same.specs.Agreement.{AgreeDatum, AgreeEllipsoid, AgreeEnsemble, AgreeFrame, AgreeGiven, AgreeMeridian}
 use Rattle.crs_same.specs.PartsOfFrames.{or_greenwich}
 use Rattle.crs_same.specs.SameFrames.{IsZero}
-use Rattle.crs_same.specs.SameFrames.{SameMember}
 use Rattle.crs_same.specs.SameIdents.{SameIdents}
 use Rattle.crs_same.specs.SameUnits.{SameUnit, SameValue}
 use Rattle.crs_same.specs.Sets.{BothOrNeither}
 use Rattle.crs_normal.specs.Decides.{FormDecides, Maybe, SetsDecide}
 use Rattle.crs_normal.specs.LowerLaws.{LowerLaws}
 use Rattle.crs_normal.specs.SpelledFrames.{greenwich, is_zero, norm_datum, norm_ellipsoid, norm_ensemble, norm_frame}
-use Rattle.crs_normal.specs.SpelledFrames.{norm_given, norm_member, norm_meridian}
+use Rattle.crs_normal.specs.SpelledFrames.{norm_given, norm_meridian}
 use Rattle.crs_normal.specs.SpelledUnits.{norm_length, norm_units, set_idents, whole_value}
 use Rattle.crs_normal.proofs.same.PartLemmas.{options-agree, values-agree}
 use Rattle.crs_normal.proofs.same.UnitLemmas.{length-agrees, none-formed, some-one, units-of-agree, whole-agrees}
@@ -69,10 +68,10 @@ counted false false x y e = (
 module _ (laws : LowerLaws) (sets : SetsDecide) (level : Level) where
   pub ellipsoid-agrees : FormDecides IsEllipsoid (norm_ellipsoid level) (AgreeEllipsoid level)
   ellipsoid-agrees a b in-a in-b =
-      let axis = values-agree laws a.semi_major_axis b.semi_major_axis in-a.semi_major_axis in-b.semi_major_axis in
+      let axis = values-agree laws.normal_is_one a.semi_major_axis b.semi_major_axis in-a.semi_major_axis in-b.semi_major_axis in
       let flattening =
-      values-agree laws a.inverse_flattening b.inverse_flattening in-a.inverse_flattening in-b.inverse_flattening in
-      let unit = length-agrees laws sets level a.unit b.unit in-a.unit in-b.unit in
+      values-agree laws.normal_is_one a.inverse_flattening b.inverse_flattening in-a.inverse_flattening in-b.inverse_flattening in
+      let unit = length-agrees laws.normal_is_one sets.idents level a.unit b.unit in-a.unit in-b.unit in
       let identifiers = sets.idents level a.identifiers b.identifiers in-a.identifiers in-b.identifiers in (
         λ e. record {
           name = ap (λ (x : EllipsoidParts). x.name) e;
@@ -121,14 +120,14 @@ module _ (laws : LowerLaws) (sets : SetsDecide) (level : Level) where
   )
     where
       longitude : (a.longitude ≡ b.longitude) ↔ SameValue a.longitude b.longitude
-      longitude = values-agree laws a.longitude b.longitude in-a.longitude in-b.longitude
+      longitude = values-agree laws.normal_is_one a.longitude b.longitude in-a.longitude in-b.longitude
 
       zero-a : (is_zero a.longitude ≡ true) ↔ IsZero a.longitude
       zero-a = zero-agrees laws a.longitude in-a.longitude
 
       angles : (norm_units level kinds.Angle a.unit ≡ norm_units level kinds.Angle b.unit)
           ↔ BothOrNeither (SameUnit kinds.Angle level) a.unit b.unit
-      angles = units-of-agree laws sets level kinds.Angle kinds.Angle a.unit b.unit in-a.unit in-b.unit
+      angles = units-of-agree laws.normal_is_one sets.idents level kinds.Angle kinds.Angle a.unit b.unit in-a.unit in-b.unit
 
       tested : a.longitude ≡ b.longitude → (unit_in a ≡ unit_in b)
           ↔ ((is_zero a.longitude ≡ true) ⊎ (norm_units level kinds.Angle a.unit ≡ norm_units level kinds.Angle b.unit))
@@ -170,16 +169,9 @@ module _ (laws : LowerLaws) (sets : SetsDecide) (level : Level) where
 
   -- ---- frames
 
-  pub member-agrees : FormDecides IsMember (norm_member level) (SameMember level)
-  member-agrees a b in-a in-b =
-      let identifiers = sets.idents level a.identifiers b.identifiers in-a.identifiers in-b.identifiers in (
-        λ e. record { name = ap (λ (x : MemberParts). x.name) e; identifiers = identifiers.0 (ap (λ (x : MemberParts). x.identifiers) e) },
-        λ s. λ i. record { name = s.name i; identifiers = identifiers.1 s.identifiers i },
-      )
-
   epochs-agree : FormDecides (Maybe IsNormal) (λ epoch. epoch) (BothOrNeither SameValue)
   epochs-agree =
-      options-agree IsNormal (λ value. value) SameValue (values-agree laws) (λ epoch. epoch) refl (λ x. refl)
+      options-agree IsNormal (λ value. value) SameValue (values-agree laws.normal_is_one) (λ epoch. epoch) refl (λ x. refl)
 
   pub datum-agrees : FormDecides IsDatum (norm_datum level) (AgreeDatum level)
   datum-agrees a b in-a in-b =
@@ -206,7 +198,7 @@ module _ (laws : LowerLaws) (sets : SetsDecide) (level : Level) where
   ensemble-agrees a b in-a in-b =
       let members = sets.members level a.members b.members in-a.members in-b.members in
       let ellipsoid = ellipsoids-agree a.ellipsoid b.ellipsoid in-a.ellipsoid in-b.ellipsoid in
-      let accuracy = values-agree laws a.accuracy b.accuracy in-a.accuracy in-b.accuracy in
+      let accuracy = values-agree laws.normal_is_one a.accuracy b.accuracy in-a.accuracy in-b.accuracy in
       let identifiers = sets.idents level a.identifiers b.identifiers in-a.identifiers in-b.identifiers in (
         λ e. record {
           name = ap (λ (x : EnsembleParts). x.name) e;

@@ -1,14 +1,18 @@
 -- Numbers, and parts that may be missing, have one form exactly where they are the same.
 use Rattle.std.proofs.Common.{◌≡◌, ◌↔◌, ◌∙◌, Option, Some, None, refl, sym, ap}
-use Rattle.crs_decimal.specs.Value.{IsNormal}
+use Rattle.crs_decimal.specs.Number.{SameNumber}
+use Rattle.crs_decimal.specs.Value.{Value, IsNormal, exact}
 use Rattle.crs_same.specs.SameUnits.{SameValue}
 use Rattle.crs_same.specs.Sets.{BothOrNeither}
-use Rattle.crs_normal.specs.LowerLaws.{LowerLaws}
 use Rattle.crs_normal.specs.Decides.{FormDecides, Maybe}
 
-pub values-agree : LowerLaws → FormDecides IsNormal (λ value. value) SameValue
+-- numbers decide which normal values are equal
+abbrev pub NumbersDecide : Type 0
+NumbersDecide = (a b : Value) → IsNormal a → IsNormal b → SameNumber (exact a) (exact b) ↔ (a ≡ b)
+
+pub values-agree : NumbersDecide → FormDecides IsNormal (λ value. value) SameValue
 unfolding SameValue
-values-agree laws a b in-a in-b = ((laws.normal_is_one a b in-a in-b).1, (laws.normal_is_one a b in-a in-b).0)
+values-agree numbers a b in-a in-b = ((numbers a b in-a in-b).1, (numbers a b in-a in-b).0)
 
 -- a part that may be missing, where the form of one that is there decides
 pub options-agree : {A : Type 0} (Is : A → Type 0) (form : A → A) (Same : A → A → Type 0) → FormDecides Is form Same →

@@ -107,7 +107,7 @@ module _ (laws : LowerLaws) (sets : SetsDecide) (level : Level) where
   )
     where
       dimension : (a.dimension ≡ b.dimension) ↔ SameValue a.dimension b.dimension
-      dimension = values-agree laws a.dimension b.dimension in-a.0.dimension in-b.0.dimension
+      dimension = values-agree laws.normal_is_one a.dimension b.dimension in-a.0.dimension in-b.0.dimension
 
       identifiers : (set_idents level a.identifiers ≡ set_idents level b.identifiers) ↔ SameIdents level a.identifiers b.identifiers
       identifiers = sets.idents level a.identifiers b.identifiers in-a.0.identifiers in-b.0.identifiers

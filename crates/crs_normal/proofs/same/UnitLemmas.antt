@@ -2,19 +2,22 @@
 use Rattle.std.proofs.Common.{◌≡◌, ◌↔◌, ◌∙◌, ℕ, [], Option, Some, None, codes, refl, sym, ap, arith}
 use Rattle.crs_decimal.specs.Number.{SameNumber, whole_number}
 use Rattle.crs_decimal.specs.Value.{Value, IsNormal, exact}
-use Rattle.crs_value.specs.Sound.{IsUnit, IsUnitOf}
+use Rattle.crs_value.specs.Sound.{Each, IsIdent, IsNamed, IsUnit, IsUnitOf}
+use Rattle.crs_value.specs.NamedValues.{NamedParts}
 use Rattle.crs_value.specs.Values.{UnitParts}
 use Rattle.crs_value.specs.KeptLaws.{kept-none}
 use Rattle.crs_value.specs.declared.values.level.Level.{Level}
 use Rattle.crs_value.specs.declared.values.unit_kind.UnitKind.{UnitKind}
 use Rattle.crs_value.specs.declared.values.unit_kind.UnitKind.TheVariants as kinds
+use Rattle.crs_same.specs.SameIdents.{SameIdents, SameNamed}
 use Rattle.crs_same.specs.SameUnits.{SameLength, SameUnit, or_metre}
 use Rattle.crs_same.specs.Sets.{BothOrNeither}
-use Rattle.crs_normal.specs.Decides.{FormDecides, Maybe, SetsDecide}
+use Rattle.crs_normal.specs.Decides.{FormDecides, Maybe}
 use Rattle.crs_normal.specs.LowerLaws.{LowerLaws}
+use Rattle.crs_normal.specs.SpelledFrames.{norm_member}
 use Rattle.crs_normal.specs.SpelledUnits.{metre, norm_length, norm_unit, norm_units, set_idents, whole_value}
 use Rattle.crs_normal.proofs.members.IdentLemmas.{none-form}
-use Rattle.crs_normal.proofs.same.PartLemmas.{options-agree, values-agree}
+use Rattle.crs_normal.proofs.same.PartLemmas.{NumbersDecide, options-agree, values-agree}
 
 pub some-one : {A : Type 0} (a b : A) → Some a ≡ Some b → a ≡ b
 some-one a b e = cc
@@ -55,11 +58,15 @@ whole-agrees laws k normal v in-v = let same = laws.normal_is_one v (whole_value
 
 -- ---- units
 
-module _ (laws : LowerLaws) (sets : SetsDecide) (level : Level) where
+-- the one form decides which identifiers are the same
+abbrev pub IdentsDecide : Type 0
+IdentsDecide = (level : Level) → FormDecides (Each IsIdent) (set_idents level) (SameIdents level)
+
+module _ (numbers : NumbersDecide) (idents : IdentsDecide) (level : Level) where
   pub unit-agrees : (asked : UnitKind) → FormDecides IsUnit (norm_unit level asked) (SameUnit asked level)
   unit-agrees asked a b in-a in-b =
-      let factor = values-agree laws a.factor b.factor in-a.factor in-b.factor in
-      let identifiers = sets.idents level a.identifiers b.identifiers in-a.identifiers in-b.identifiers in (
+      let factor = values-agree numbers a.factor b.factor in-a.factor in-b.factor in
+      let identifiers = idents level a.identifiers b.identifiers in-a.identifiers in-b.identifiers in (
         λ e. record {
           kind = ap (λ (u : UnitParts). u.kind) e;
           name = ap (λ (u : UnitParts). u.name) e;
@@ -86,3 +93,12 @@ module _ (laws : LowerLaws) (sets : SetsDecide) (level : Level) where
   length-agrees a b in-a in-b =
       let same = unit-agrees kinds.Length (or_metre a) (or_metre b) (given-length a in-a) (given-length b in-b) in
       (λ e. same.0 (sym (length-formed level a) ∙ e ∙ length-formed level b), λ s. length-formed level a ∙ same.1 s ∙ sym (length-formed level b))
+
+-- ---- nodes of a name and identifiers
+
+pub named-agrees : IdentsDecide → (level : Level) → FormDecides IsNamed (norm_member level) (SameNamed level)
+named-agrees idents level a b in-a in-b =
+    let identifiers = idents level a.identifiers b.identifiers in-a.identifiers in-b.identifiers in (
+      λ e. record { name = ap (λ (x : NamedParts). x.name) e; identifiers = identifiers.0 (ap (λ (x : NamedParts). x.identifiers) e) },
+      λ s. λ i. record { name = s.name i; identifiers = identifiers.1 s.identifiers i },
+    )

@@ -1,9 +1,10 @@
-use Rattle.crs_normal.proofs.same.DynamicLemmas.{deformation-model-agrees, dynamic-agrees}
+use Rattle.crs_normal.proofs.same.DynamicLemmas.{dynamic-agrees}
 use Rattle.crs_normal.proofs.same.PartLemmas.{decides-parts}
+use Rattle.crs_normal.proofs.same.UnitLemmas.{named-agrees}
 use Rattle.crs_normal.proofs.laws.values.same_dynamic_parts_have_one_form.Goals as goal
 
 pub returns-clause-deformation_model : goal.returns-clause-deformation_model
-returns-clause-deformation_model c = deformation-model-agrees c.lower_laws.ensures c.sets_decide.ensures
+returns-clause-deformation_model c = named-agrees c.sets_decide.ensures.idents
 
 pub returns-clause-dynamic : goal.returns-clause-dynamic
 returns-clause-dynamic c level =

@@ -1,6 +1,7 @@
 use Rattle.crs_normal.proofs.same.FrameLemmas.{datum-agrees, ellipsoid-agrees, ensemble-agrees, geodetic-frame-agrees}
-use Rattle.crs_normal.proofs.same.FrameLemmas.{given-agrees, member-agrees, meridian-agrees, vertical-frame-agrees}
+use Rattle.crs_normal.proofs.same.FrameLemmas.{given-agrees, meridian-agrees, vertical-frame-agrees}
 use Rattle.crs_normal.proofs.same.PartLemmas.{decides-parts}
+use Rattle.crs_normal.proofs.same.UnitLemmas.{named-agrees}
 use Rattle.crs_normal.proofs.laws.values.same_frames_have_one_form.Goals as goal
 
 pub returns-clause-ellipsoid : goal.returns-clause-ellipsoid
@@ -16,7 +17,7 @@ returns-clause-meridian c level =
     decides-parts (λ a b in-a in-b. (c.parts_agree_where_same.ensures level).meridian a b) (meridian-agrees c.lower_laws.ensures c.sets_decide.ensures level)
 
 pub returns-clause-member : goal.returns-clause-member
-returns-clause-member c = member-agrees c.lower_laws.ensures c.sets_decide.ensures
+returns-clause-member c = named-agrees c.sets_decide.ensures.idents
 
 pub returns-clause-datum : goal.returns-clause-datum
 returns-clause-datum c level =

@@ -1,0 +1,70 @@
+-- Boxes, extents and usages have one form exactly where they are the same.
+use Rattle.std.proofs.Common.{Some, refl, ap}
+use Rattle.std.specs.Option.{option_map}
+use Rattle.crs_value.specs.SoundUsages.{IsBox, IsExtent, IsUsage}
+use Rattle.crs_value.specs.Values.{BoxParts, ExtentParts, UsageParts}
+use Rattle.crs_value.specs.declared.values.level.Level.{Level}
+use Rattle.crs_value.specs.declared.values.level.Level.TheVariants as levels
+use Rattle.crs_same.specs.SameUsages.{SameBox, SameExtent, SameUsage}
+use Rattle.crs_normal.specs.Decides.{FormDecides}
+use Rattle.crs_normal.specs.SpelledUnits.{norm_length}
+use Rattle.crs_normal.specs.SpelledUsages.{norm_extent, norm_usage}
+use Rattle.crs_normal.proofs.same.PartLemmas.{NumbersDecide, options-agree, values-agree}
+use Rattle.crs_normal.proofs.same.UnitLemmas.{IdentsDecide, length-agrees, some-one}
+
+module _ (numbers : NumbersDecide) where
+  pub box-agrees : FormDecides IsBox (λ box. box) SameBox
+  box-agrees a b in-a in-b =
+      let south = values-agree numbers a.south b.south in-a.south in-b.south in
+      let west = values-agree numbers a.west b.west in-a.west in-b.west in
+      let north = values-agree numbers a.north b.north in-a.north in-b.north in
+      let east = values-agree numbers a.east b.east in-a.east in-b.east in (
+        λ e. record {
+          south = south.0 (ap (λ (x : BoxParts). x.south) e);
+          west = west.0 (ap (λ (x : BoxParts). x.west) e);
+          north = north.0 (ap (λ (x : BoxParts). x.north) e);
+          east = east.0 (ap (λ (x : BoxParts). x.east) e);
+        },
+        λ s. λ i. record {
+          south = south.1 s.south i;
+          west = west.1 s.west i;
+          north = north.1 s.north i;
+          east = east.1 s.east i;
+        },
+      )
+
+module _ (numbers : NumbersDecide) (idents : IdentsDecide) where
+  pub extent-agrees : (level : Level) → FormDecides IsExtent (norm_extent level) (SameExtent level)
+  extent-agrees level a b in-a in-b =
+      let minimum = values-agree numbers a.minimum b.minimum in-a.minimum in-b.minimum in
+      let maximum = values-agree numbers a.maximum b.maximum in-a.maximum in-b.maximum in
+      let unit = length-agrees numbers idents level a.unit b.unit in-a.unit in-b.unit in (
+        λ e. record {
+          minimum = minimum.0 (ap (λ (x : ExtentParts). x.minimum) e);
+          maximum = maximum.0 (ap (λ (x : ExtentParts). x.maximum) e);
+          unit = unit.0 (some-one (norm_length level a.unit) (norm_length level b.unit)
+              (ap (λ (x : ExtentParts). x.unit) e));
+        },
+        λ s. λ i. record {
+          minimum = minimum.1 s.minimum i;
+          maximum = maximum.1 s.maximum i;
+          unit =
+              Some (unit.1 s.unit i);
+        },
+      )
+
+  pub usage-agrees : FormDecides IsUsage norm_usage SameUsage
+  usage-agrees a b in-a in-b =
+      let bbox = options-agree IsBox (λ x. x) SameBox (box-agrees numbers) (λ x. x) refl
+      (λ x. refl) a.bbox b.bbox in-a.bbox in-b.bbox in
+      let extent = options-agree IsExtent (norm_extent levels.Full) (SameExtent levels.Full)
+      (extent-agrees levels.Full) (option_map (norm_extent levels.Full)) refl
+      (λ x. refl) a.extent b.extent in-a.extent in-b.extent in (
+        λ e. record {
+          scope = ap (λ (x : UsageParts). x.scope) e;
+          area = ap (λ (x : UsageParts). x.area) e;
+          bbox = bbox.0 (ap (λ (x : UsageParts). x.bbox) e);
+          extent = extent.0 (ap (λ (x : UsageParts). x.extent) e);
+        },
+        λ s. λ i. record { scope = s.scope i; area = s.area i; bbox = bbox.1 s.bbox i; extent = extent.1 s.extent i },
+      )
