@@ -1,6 +1,6 @@
 -- Identifiers: the item of one reads as it wherever it is, equal texts are of equal identifiers,
 -- and the sets of two lists in order are one list exactly where they are the same set.
-use Rattle.std.proofs.Common.{◌≡◌, ◌≤◌, ◌↔◌, ℕ, suc, ◌+◌, Bool, true, false, ◌&&◌, codes, if◌then◌else◌, Option, Some, None, List, [], length, map, map-id, nat_le, refl, ap, subst, arith}
+use Rattle.std.proofs.Common.{◌≡◌, ◌≤◌, ◌↔◌, ◌⊎◌, ℕ, suc, ◌+◌, Bool, true, false, ◌&&◌, codes, if◌then◌else◌, Option, Some, None, List, [], ◌∷◌, inl, inr, length, map, map-id, nat_le, refl, ap, subst, arith}
 use Rattle.std.proofs.lemmas.Bool.{and_parts, leb-true}
 use Rattle.std.specs.List.{list_all}
 use Rattle.crs_decimal.specs.Spelling.{is_digit}
@@ -9,13 +9,11 @@ use Rattle.crs_text.specs.Tokens.{number, text, IsSingle, IsWord}
 use Rattle.crs_text.specs.Written.{at_place, at_places, item_text}
 use Rattle.crs_shape.specs.declared.class.Class.{Class}
 use Rattle.crs_shape.specs.declared.class.Class.TheVariants as class
-use Rattle.crs_shape.specs.Keywords.{is_keyword}
-use Rattle.crs_shape.specs.Slots.{class_named, is_class}
 use Rattle.crs_shape.specs.ShapeFault.{class_of_kind}
 use Rattle.crs_value.specs.Kept.{kept}
 use Rattle.crs_value.specs.KeptLaws.{kept-each}
 use Rattle.crs_value.specs.declared.values.level.Level.{Level}
-use Rattle.crs_value.specs.Reading.{ReadsFirst, ReadsOptional}
+use Rattle.crs_value.specs.Reading.{ReadsFirst, ReadsIfAny, ReadsOptional}
 use Rattle.crs_value.specs.Reads.{ReadsText, ReadsTextOf, single_of, ReadsIdent}
 use Rattle.crs_value.specs.Sound.{Each, IsText, IsIdent}
 use Rattle.crs_value.specs.Values.{IdentParts}
@@ -23,10 +21,12 @@ use Rattle.crs_same.specs.SameIdents.{SameIdent, SameIdents}
 use Rattle.crs_same.specs.Sets.{SameSet}
 use Rattle.crs_normal.specs.FormedWithin.{IsFormedWithin}
 use Rattle.crs_normal.specs.Ordered.{in_order}
-use Rattle.crs_normal.specs.SpelledItems.{code_item, is_short, opt, text_item, text_node}
+use Rattle.crs_normal.specs.SpelledItems.{code_item, is_short, node_of, opt, text_item, text_node}
 use Rattle.crs_normal.specs.SpelledUnits.{item_ident, set_idents}
 use Rattle.crs_normal.specs.TextLaws.{TextLaws}
-use Rattle.crs_normal.proofs.texts.ItemLemmas.{IsOf, IsWritable, Gives, fit-end, fit-leaf, fit-more, fit-node, fit-opt, gives-over, lacks-end, number-single, opt-over, opt-read, told}
+use Rattle.crs_normal.proofs.texts.ItemLemmas.{IsWritable, fit-end, fit-leaf, fit-more, fit-node, fit-opt, number-single, told}
+use Rattle.crs_normal.proofs.texts.SegmentLemmas.{IsIn, ReadsBack, Seen, Segment, a-text, either-item, items_of, may-be, opt-field, opt_items, seen, some-all}
+use Rattle.crs_normal.proofs.read.NameLemmas.{keyword-names}
 use Rattle.crs_normal.proofs.members.SetLemmas.{each-in_order, set-agrees}
 
 -- ---- a code: a number or a text
@@ -54,13 +54,17 @@ code-read raw place rest = by (is_short raw)
     by true = refl
     by false = refl
 
-code-over : (c d : Class) → is_class d (Some class.Number) ≡ false → is_class d (Some class.Text) ≡ false →
-    (raw : List ℕ) → IsOf false c d (code_item raw)
-code-over c d n t raw place = by (is_short raw)
+code-side : (raw : List ℕ) →
+    IsIn class.Identifier class.Number (code_item raw) ⊎ IsIn class.Identifier class.Text (code_item raw)
+code-side raw = by (is_short raw)
   where
-    by : (b : Bool) → is_class d (Some (class_of_kind (if b then number else text))) ≡ false
-    by true = n
-    by false = t
+    by : (b : Bool) → (Some (class_of_kind (if b then number else text)) ≡ Some class.Number)
+        ⊎ (Some (class_of_kind (if b then number else text)) ≡ Some class.Text)
+    by true = inl refl
+    by false = inr refl
+
+abbrev a-code : List ℕ → Segment class.Identifier
+a-code raw = either-item class.Identifier class.Number class.Text refl (code_item raw) (code-side raw)
 
 -- ---- what follows the code
 
@@ -69,9 +73,6 @@ behind-version x = opt (text_node (codes "CITATION")) x.citation (opt (text_node
 
 abbrev behind-code : IdentParts → Siblings
 behind-code x = opt code_item x.version (behind-version x)
-
-abbrev ident-items : IdentParts → Siblings
-ident-items x = More (text_item x.authority) (More (code_item x.code) (behind-code x))
 
 version-read : (x : IdentParts) (start : ℕ) →
     ReadsOptional ReadsText (single_of (at_places start (behind-code x))) x.version
@@ -99,78 +100,58 @@ version-read x start = by x.version x.citation x.uri
     by None None (Some u) = tt
     by None None None = tt
 
--- ---- the sources
-
-citation-is : (raw : List ℕ) → IsOf true class.Identifier class.Citation (text_node (codes "CITATION") raw)
-unfolding class_named is_keyword
-citation-is raw place = refl
-
-uri-is : (raw : List ℕ) → IsOf true class.Identifier class.Uri (text_node (codes "URI") raw)
-unfolding class_named is_keyword
-uri-is raw place = refl
-
-uri-over : (raw : List ℕ) → IsOf false class.Identifier class.Citation (text_node (codes "URI") raw)
-unfolding class_named is_keyword
-uri-over raw place = refl
-
-citation-over : (raw : List ℕ) → IsOf false class.Identifier class.Uri (text_node (codes "CITATION") raw)
-unfolding class_named is_keyword
-citation-over raw place = refl
-
-pub text-read : (c : Class) (keyword raw : List ℕ) (place : ℕ) →
-    ReadsTextOf c (at_place place (text_node keyword raw)) raw
-text-read c keyword raw place = refl
-
-abbrev SaysCitation : IdentParts → List Item → Type 0
-SaysCitation x l = ReadsOptional (ReadsTextOf class.Citation) l x.citation
-
-abbrev SaysUri : IdentParts → List Item → Type 0
-SaysUri x l = ReadsOptional (ReadsTextOf class.Uri) l x.uri
-
-citation-read : (x : IdentParts) → IsIdent x → Gives class.Identifier class.Citation (SaysCitation x) (ident-items x)
-citation-read x s =
-    gives-over class.Identifier class.Citation (SaysCitation x) (text_item x.authority)
-    (More (code_item x.code) (behind-code x)) (λ place. refl)
-    (gives-over class.Identifier class.Citation (SaysCitation x) (code_item x.code) (behind-code x)
-    (code-over class.Identifier class.Citation refl refl x.code)
-    (opt-over class.Identifier class.Citation code_item (code-over class.Identifier class.Citation refl refl)
-    (SaysCitation x) x.version (behind-version x)
-    (opt-read class.Identifier class.Citation (text_node (codes "CITATION")) IsText (ReadsTextOf class.Citation)
-    (λ raw t. citation-is raw)
-    (λ raw t place. text-read class.Citation (codes "CITATION") raw place) x.citation
-    (opt (text_node (codes "URI")) x.uri End) s.citation
-    (opt-over class.Identifier class.Citation (text_node (codes "URI")) uri-over (λ l. l ≡ []) x.uri End
-    (lacks-end class.Identifier class.Citation)))))
-
-uri-read : (x : IdentParts) → IsIdent x → Gives class.Identifier class.Uri (SaysUri x) (ident-items x)
-uri-read x s =
-    gives-over class.Identifier class.Uri (SaysUri x) (text_item x.authority) (More (code_item x.code) (behind-code x))
-    (λ place. refl)
-    (gives-over class.Identifier class.Uri (SaysUri x) (code_item x.code) (behind-code x)
-    (code-over class.Identifier class.Uri refl refl x.code)
-    (opt-over class.Identifier class.Uri code_item (code-over class.Identifier class.Uri refl refl) (SaysUri x)
-    x.version (behind-version x)
-    (opt-over class.Identifier class.Uri (text_node (codes "CITATION")) citation-over (SaysUri x) x.citation
-    (opt (text_node (codes "URI")) x.uri End)
-    (opt-read class.Identifier class.Uri (text_node (codes "URI")) IsText (ReadsTextOf class.Uri) (λ raw t. uri-is raw)
-    (λ raw t place. text-read class.Uri (codes "URI") raw place) x.uri End s.uri
-    (lacks-end class.Identifier class.Uri)))))
-
 -- ---- an identifier
+
+module _ (x : IdentParts) (place : ℕ) where
+  abbrev sources : List (Segment class.Identifier)
+  sources =
+      may-be class.Identifier class.Citation (text_node (codes "CITATION")) x.citation
+      (λ raw. keyword-names class.Identifier (codes "CITATION")) ∷
+      may-be class.Identifier class.Uri (text_node (codes "URI")) x.uri
+      (λ raw. keyword-names class.Identifier (codes "URI")) ∷ []
+
+  abbrev with-version : Option (List ℕ) → Item
+  with-version v =
+      at_place place
+      (node_of (codes "ID") (text_item x.authority) (More (code_item x.code) (opt code_item v (behind-version x))))
+
+  abbrev Reads : Item → Type 0
+  Reads item =
+      ReadsIfAny ReadsTextOf class.Citation class.Identifier item x.citation
+      × ReadsIfAny ReadsTextOf class.Uri class.Identifier item x.uri
+
+  read-by : {ss : List (Segment class.Identifier)} {item : Item} → Seen class.Identifier ss item →
+      items_of class.Citation ss ≡ opt_items (text_node (codes "CITATION")) x.citation [] →
+      items_of class.Uri ss ≡ opt_items (text_node (codes "URI")) x.uri [] → Reads item
+  read-by look citation uri = (
+    opt-field look class.Citation (text_node (codes "CITATION")) ReadsTextOf x.citation citation
+        (some-all (ReadsBack (text_node (codes "CITATION")) (ReadsTextOf class.Citation)) (λ raw p. refl) x.citation),
+    opt-field look class.Uri (text_node (codes "URI")) ReadsTextOf x.uri uri
+        (some-all (ReadsBack (text_node (codes "URI")) (ReadsTextOf class.Uri)) (λ raw p. refl) x.uri),
+  )
+
+  sources-read : (v : Option (List ℕ)) → Reads (with-version v)
+  sources-read None =
+      read-by (seen class.Identifier (a-text class.Identifier x.authority ∷ a-code x.code ∷ sources)
+      (with-version None) (place + 2) refl) refl refl
+  sources-read (Some v) =
+      read-by (seen class.Identifier (a-text class.Identifier x.authority ∷ a-code x.code ∷ a-code v ∷ sources)
+      (with-version (Some v)) (place + 2) refl) refl refl
 
 pub ident-read : (x : IdentParts) → IsIdent x → (place : ℕ) →
     ReadsIdent class.Identifier (at_place place (item_ident x)) x
-ident-read x s place = record {
-  authority = refl;
-  code =
-      code-read x.code _
-      (at_places
-      (place + 2 + 1 + length (item_text (text_item x.authority)) + 1 + length (item_text (code_item x.code)))
-      (behind-code x));
-  version = version-read x _;
-  citation = citation-read x s _;
-  uri = uri-read x s _;
-}
+ident-read x s place =
+    let from = sources-read x place x.version in record {
+      authority = refl;
+      code =
+          code-read x.code _
+          (at_places
+          (place + 2 + 1 + length (item_text (text_item x.authority)) + 1 + length (item_text (code_item x.code)))
+          (behind-code x));
+      version = version-read x _;
+      citation = from.0;
+      uri = from.1;
+    }
 
 pub source-fit : (n : ℕ) (keyword raw : List ℕ) → IsWord keyword → IsText raw → IsFormedWithin (suc n) (text_node keyword raw)
 source-fit n keyword raw w t = fit-node n keyword (text_item raw) End w (text-fit n raw t) (fit-end n)

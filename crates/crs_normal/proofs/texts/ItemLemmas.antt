@@ -1,6 +1,5 @@
--- Written items: they are well formed and not too deep, their arguments of a class are the same
--- wherever they are, and equal texts are of equal values.
-use Rattle.std.proofs.Common.{◌≡◌, ◌≤◌, ℕ, suc, ◌+◌, Bool, true, false, if◌then◌else◌, IfSome, Option, Some, None, List, [], ◌∷◌, length, refl, sym, subst, arith}
+-- Written items: they are well formed and not too deep, and equal texts are of equal values.
+use Rattle.std.proofs.Common.{◌≡◌, ◌≤◌, ℕ, suc, ◌+◌, IfSome, Option, Some, None, List, [], ◌∷◌, length, refl, sym, subst, arith}
 use Rattle.crs_decimal.specs.Bounds.{IsInBounds}
 use Rattle.crs_decimal.specs.Plain.{plain}
 use Rattle.crs_decimal.specs.Spelling.{IsRun}
@@ -9,8 +8,6 @@ use Rattle.crs_text.specs.Items.{Item, leaf, Siblings, End, More, arguments, dep
 use Rattle.crs_text.specs.TextFault.{SpellsNode}
 use Rattle.crs_text.specs.Tokens.{Kind, number, IsSingle, IsWord}
 use Rattle.crs_text.specs.Written.{AreFormed, AreAllFormed, at_place, at_places, item_text}
-use Rattle.crs_shape.specs.declared.class.Class.{Class}
-use Rattle.crs_value.specs.Reading.{those, is_a, ReadsOptional, ReadsEach}
 use Rattle.crs_value.specs.Sound.{Each}
 use Rattle.crs_normal.specs.FormedWithin.{IsFormedWithin}
 use Rattle.crs_normal.specs.SpelledItems.{each, node_of, node_from, number_item, opt}
@@ -63,72 +60,6 @@ number-single laws raw b = run-single raw (laws.run raw (b.0, b.1)) b
 pub value-fit : TextLaws → (n : ℕ) (v : Value) → IsNormal v → IsFormedWithin n (number_item v)
 value-fit laws n v h =
     let d = laws.denotes v h in fit-leaf n number 0 (plain v) (number-single laws (plain v) (d.0, d.1, d.2))
-
--- ---- arguments of a class, wherever the items are
-
--- the items of class d in a parent of class c are so
-abbrev pub Gives : Class → Class → (List Item → Type 0) → Siblings → Type 0
-Gives c d P items = (start : ℕ) → P (those c d (at_places start items))
-
-abbrev pub IsOf : Bool → Class → Class → Item → Type 0
-IsOf b c d item = (place : ℕ) → is_a c d (at_place place item) ≡ b
-
-module _ (c d : Class) where
-  abbrev pub Lacks : Siblings → Type 0
-  Lacks = Gives c d (λ l. l ≡ [])
-
-  abbrev chosen : Bool → Item → List Item → List Item
-  chosen b item l = if b then item ∷ l else l
-
-  pub gives-over : (P : List Item → Type 0) (item : Item) (items : Siblings) → IsOf false c d item → Gives c d P items →
-      Gives c d P (More item items)
-  gives-over P item items e g start =
-      subst
-      (λ b.
-      P (chosen b (at_place (start + 1) item) (those c d (at_places (start + 1 + length (item_text item)) items))))
-      (sym (e (start + 1)))
-      (g (start + 1 + length (item_text item)))
-
-  -- the first one, and what is said of the others
-  pub gives-first : (P : List Item → Type 0) (item : Item) (items : Siblings) → IsOf true c d item →
-      ((place start : ℕ) → P (at_place place item ∷ those c d (at_places start items))) → Gives c d P (More item items)
-  gives-first P item items e g start =
-      subst
-      (λ b.
-      P (chosen b (at_place (start + 1) item) (those c d (at_places (start + 1 + length (item_text item)) items))))
-      (sym (e (start + 1)))
-      (g (start + 1) (start + 1 + length (item_text item)))
-
-  module _ {A : Type 0} (spell : A → Item) where
-    pub opt-over : ((x : A) → IsOf false c d (spell x)) → (P : List Item → Type 0) (o : Option A) (rest : Siblings) →
-        Gives c d P rest →
-        Gives c d P (opt spell o rest)
-    opt-over e P None rest g = g
-    opt-over e P (Some x) rest g = gives-over P (spell x) rest (e x) g
-
-    pub each-over : ((x : A) → IsOf false c d (spell x)) → (P : List Item → Type 0) (xs : List A) (rest : Siblings) →
-        Gives c d P rest →
-        Gives c d P (each spell xs rest)
-    each-over e P [] rest g = g
-    each-over e P (x ∷ xs) rest g = gives-over P (spell x) (each spell xs rest) (e x) (each-over e P xs rest g)
-
-    module _ (Q : A → Type 0) (R : Item → A → Type 0) (e : (x : A) → Q x → IsOf true c d (spell x)) (r : (x : A) →
-        Q x → (place : ℕ) → R (at_place place (spell x)) x) where
-      pub opt-read : (o : Option A) (rest : Siblings) → IfSome o Q → Lacks rest →
-          Gives c d (λ l. ReadsOptional R l o) (opt spell o rest)
-      opt-read None rest q g start = subst (λ l. ReadsOptional R l None) (sym (g start)) tt
-      opt-read (Some x) rest q g start =
-          gives-first (λ l. ReadsOptional R l (Some x)) (spell x) rest (e x q) (λ place s. r x q place) start
-
-      pub each-read : (xs : List A) (rest : Siblings) → Each Q xs → Lacks rest →
-          Gives c d (λ l. ReadsEach R l xs) (each spell xs rest)
-      each-read [] rest q g start = subst (λ l. ReadsEach R l []) (sym (g start)) tt
-      each-read (x ∷ xs) rest q g start =
-          gives-first (λ l. ReadsEach R l (x ∷ xs)) (spell x) (each spell xs rest) (e x q.0)
-          (λ place s. (r x q.0 place, each-read xs rest q.1 g s)) start
-
-pub lacks-end : (c d : Class) → Lacks c d End
-lacks-end c d start = refl
 
 -- the arguments of a node that may have none
 pub from-arguments : (keyword : List ℕ) (items : Siblings) (place : ℕ) →
