@@ -25,10 +25,10 @@ use Rattle.crs_value.specs.Sound.{Each}
 use Rattle.crs_normal.specs.SpelledItems.{number_item, number_node, opt, text_item, word_item}
 use Rattle.crs_normal.specs.SpelledSystems.{item_axis, item_axis_meridian, norm_axis, norm_axis_meridian, norm_axis_meridians}
 use Rattle.crs_normal.specs.SpelledUnits.{item_unit, norm_unit, norm_units, whole_value}
-use Rattle.crs_normal.proofs.normal.FormLemmas.{Form, IsGood, kept-good, node-spelled, one-spelled, opened, optional-spelled}
+use Rattle.crs_normal.proofs.normal.FormLemmas.{Form, IsGood, kept-good, node-spelled, opened, one-in, optional-in}
 use Rattle.crs_normal.proofs.normal.LeafLemmas.{PlainIsOne, without_places-word-leaf, no-word, number-form, number-node-form, number-normal, text-form}
-use Rattle.crs_normal.proofs.normal.UnitLemmas.{idents-spelled, in-angle, in-axis, unit-form}
-use Rattle.crs_normal.proofs.read.ViewLemmas.{without_places-spread, those-looked}
+use Rattle.crs_normal.proofs.normal.UnitLemmas.{in-angle, in-axis, unit-form, idents-in}
+use Rattle.crs_normal.proofs.read.ViewLemmas.{without_places-spread}
 use Rattle.crs_normal.proofs.texts.WordFormLemmas.{direction-one, type-one}
 
 -- ---- directions and types in their own letters
@@ -75,15 +75,11 @@ axis_meridian-form law level c (node place keyword square first others close) x 
     let v1 = v.1.1.1.1 in
     node-spelled place keyword _ square first others close _ o.written
     (without_places-spread d (slots_of d) items v
-    ∙ one-spelled level d class.Number ReadsNumber number_item (number-form law level d (λ raw h. h))
-    (those d class.Number items) v.0
-    (kept-good level d class.Number items o.kept) (those-looked d class.Number (slots_of d) items v)
-    (v.1.1.0.not_more refl) x.longitude reads.longitude _ _
-    (one-spelled level d class.AngleUnit (ReadsUnit class.AngleUnit) (λ u. item_unit (norm_unit level kinds.Angle u))
-    (unit-form law level d class.AngleUnit kinds.Angle refl (in-angle kinds.Angle) (λ raw h. h))
-    (those d class.AngleUnit items) v1.0 (kept-good level d class.AngleUnit items o.kept)
-    (those-looked d class.AngleUnit (slots_of d) items v)
-    (v1.1.1.0.not_more refl) x.unit reads.unit End End refl))
+    ∙ one-in o class.Number ReadsNumber number_item (number-form law level d (λ raw h. h)) v.0 refl
+    (v.1.1.0.not_more refl) x.longitude reads.longitude
+    (one-in o class.AngleUnit (ReadsUnit class.AngleUnit) (λ u. item_unit (norm_unit level kinds.Angle u))
+    (unit-form law level d class.AngleUnit kinds.Angle refl (in-angle kinds.Angle) (λ raw h. h)) v1.0 refl
+    (v1.1.1.0.not_more refl) x.unit reads.unit refl))
 
 pub opt-meridians : (level : Level) (m : Option AxisMeridianParts) (rest : Siblings) →
     opt (λ x. item_axis_meridian (norm_axis_meridian level x)) m rest ≡ opt item_axis_meridian
@@ -180,30 +176,20 @@ axis-form law level c system k (node place keyword square first others close) x 
     ordered reads.order in (
       node-spelled place keyword _ square first others close _ o.written
           (without_places-spread d (slots_of d) items v
-          ∙ one-spelled level d class.Text ReadsText text_item (text-form level d) (those d class.Text items) v.0
-          (kept-good level d class.Text items o.kept)
-          (those-looked d class.Text (slots_of d) items v) (v.1.1.0.not_more refl) x.name reads.name _ _
-          (one-spelled level d class.Word ReadsDirection (λ w. word_item (direction_word w)) (direction-form level)
-          (those d class.Word items) v1.0
-          (kept-good level d class.Word items o.kept) (those-looked d class.Word (slots_of d) items v)
-          (v1.1.1.0.not_more refl) x.direction reads.direction _ _
-          (optional-spelled level d class.AxisMeridian (ReadsAxisMeridian class.AxisMeridian)
-          (λ m. item_axis_meridian (norm_axis_meridian level m)) (axis_meridian-form law level d)
-          (those d class.AxisMeridian items) v2.0 (kept-good level d class.AxisMeridian items o.kept)
-          (those-looked d class.AxisMeridian (slots_of d) items v)
-          (v2.1.1.0.not_more refl) x.meridian reads.meridian _ _
-          (optional-spelled level d class.Order (ReadsNumberOf class.Order) (number_node (codes "ORDER"))
-          (number-node-form law level d class.Order (codes "ORDER") refl (λ bytes h. h) (λ raw h. h))
-          (those d class.Order items) v3.0 (kept-good level d class.Order items o.kept)
-          (those-looked d class.Order (slots_of d) items v)
-          (v3.1.1.0.not_more refl) x.order reads.order _ _
-          (optional-spelled level d class.AxisUnit (ReadsUnit class.AxisUnit) (λ u. item_unit (norm_unit level asked u))
-          (unit-form law level d class.AxisUnit asked refl (in-axis asked) (λ raw h. h))
-          (those d class.AxisUnit items) v4.0 (kept-good level d class.AxisUnit items o.kept)
-          (those-looked d class.AxisUnit (slots_of d) items v)
-          (v4.1.1.0.not_more refl) x.unit reads.unit _ _
-          (idents-spelled level d items v5.0 o.kept (those-looked d class.Identifier (slots_of d) items v) o.sets.0
-          x.identifiers reads.identifiers End End refl)
+          ∙ one-in o class.Text ReadsText text_item (text-form level d) v.0 refl (v.1.1.0.not_more refl) x.name
+          reads.name
+          (one-in o class.Word ReadsDirection (λ w. word_item (direction_word w)) (direction-form level) v1.0 refl
+          (v1.1.1.0.not_more refl) x.direction reads.direction
+          (optional-in o class.AxisMeridian (ReadsAxisMeridian class.AxisMeridian)
+          (λ m. item_axis_meridian (norm_axis_meridian level m)) (axis_meridian-form law level d) v2.0 refl
+          (v2.1.1.0.not_more refl) x.meridian reads.meridian
+          (optional-in o class.Order (ReadsNumberOf class.Order) (number_node (codes "ORDER"))
+          (number-node-form law level d class.Order (codes "ORDER") refl (λ bytes h. h) (λ raw h. h)) v3.0 refl
+          (v3.1.1.0.not_more refl) x.order reads.order
+          (optional-in o class.AxisUnit (ReadsUnit class.AxisUnit) (λ u. item_unit (norm_unit level asked u))
+          (unit-form law level d class.AxisUnit asked refl (in-axis asked) (λ raw h. h)) v4.0 refl
+          (v4.1.1.0.not_more refl) x.unit reads.unit
+          (idents-in o v5.0 refl x.identifiers reads.identifiers refl)
           ∙ opt-own level system asked (those d class.AxisUnit items) x.unit own reads.unit _)
           ∙ opt-order k x.order known.0 known.1.0 known.1.1 _)
           ∙ opt-meridians level x.meridian _))),

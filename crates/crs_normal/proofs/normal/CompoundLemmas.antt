@@ -19,7 +19,7 @@ use Rattle.crs_value.specs.Sound.{Each}
 use Rattle.crs_normal.specs.SpelledCrs.{item_compound, item_crs, item_horizontal, item_vertical, norm_compound, norm_crs, norm_horizontal, norm_vertical}
 use Rattle.crs_normal.specs.SpelledItems.{text_item}
 use Rattle.crs_normal.proofs.normal.CheckedLemmas.{Checked, IsUnbroken, first-checked, once-only, those-unbroken}
-use Rattle.crs_normal.proofs.normal.FormLemmas.{Form, IsGood, kept-good, node-spelled, one-spelled, opened}
+use Rattle.crs_normal.proofs.normal.FormLemmas.{Form, IsGood, kept-good, node-spelled, opened, one-in}
 use Rattle.crs_normal.proofs.normal.GeodeticLemmas.{found-of, geodetic-form, geographic-form, no-models, none-read-each, rise-six}
 use Rattle.crs_normal.proofs.normal.HeadLemmas.{Laws, ends-of}
 use Rattle.crs_normal.proofs.normal.LeafLemmas.{text-form}
@@ -177,18 +177,14 @@ compound-form laws level c (node place keyword square first others close) x good
     x.horizontal reads.horizontal in
     node-spelled place keyword _ square first others close _ o.written
     (without_places-spread d (slots_of d) items v
-    ∙ one-spelled level d class.Text ReadsText text_item (text-form level d) (those d class.Text items) v.0
-    (kept-good level d class.Text items k)
-    (looked class.Text) (v.1.1.0.not_more refl) x.name reads.name _ _
+    ∙ one-in o class.Text ReadsText text_item (text-form level d) v.0 refl (v.1.1.0.not_more refl) x.name reads.name
     (ap (λ xs. without_places_onto xs (without_places_onto v2.0 (without_places_onto v3.0 End))) p.1
     ∙ ap (λ i. More i (without_places_onto v2.0 (without_places_onto v3.0 End))) part
     ∙ ap (More (item_horizontal (norm_horizontal level x.horizontal)))
-    (one-spelled level d class.VerticalCrs (Checked class.VerticalCrs (ReadsVertical class.VerticalCrs))
-    (λ w. item_vertical (norm_vertical level w)) (vertical-form laws level d)
-    (those d class.VerticalCrs items) v2.0 (kept-good level d class.VerticalCrs items k) (looked class.VerticalCrs)
-    (v2.1.1.0.not_more refl) x.vertical
-    (first-checked class.VerticalCrs (ReadsVertical class.VerticalCrs) (those d class.VerticalCrs items) x.vertical
-    (free class.VerticalCrs) reads.vertical) _ _
+    (one-in o class.VerticalCrs (Checked class.VerticalCrs (ReadsVertical class.VerticalCrs))
+    (λ w. item_vertical (norm_vertical level w)) (vertical-form laws level d) v2.0 refl (v2.1.1.0.not_more refl)
+    x.vertical (first-checked class.VerticalCrs (ReadsVertical class.VerticalCrs) (those d class.VerticalCrs items)
+    x.vertical (free class.VerticalCrs) reads.vertical)
     (tail-spelled law level d item k o.sets has_tail v3.0 rise.0 rise.1 ends found remarks [] (none-read-each _ models)
     x.tail reads.tail
     ∙ no-models level _))))

@@ -6,18 +6,18 @@ use Rattle.crs_shape.specs.declared.class.Class.{Class}
 use Rattle.crs_shape.specs.declared.class.Class.TheVariants as class
 use Rattle.crs_shape.specs.Slots.{slots_of}
 use Rattle.crs_value.specs.DynamicValues.{DynamicParts}
-use Rattle.crs_value.specs.Reading.{those, ReadsOptional}
+use Rattle.crs_value.specs.Reading.{ReadsOptional}
 use Rattle.crs_value.specs.Reads.{ReadsNumberOf}
 use Rattle.crs_value.specs.ReadsDynamic.{ReadsDeformationModel, ReadsDynamic}
 use Rattle.crs_value.specs.Sound.{Each}
 use Rattle.crs_value.specs.declared.values.level.Level.{Level}
 use Rattle.crs_normal.specs.SpelledDynamic.{item_deformation_model, item_dynamic, norm_deformation_model, norm_dynamic}
 use Rattle.crs_normal.specs.SpelledItems.{number_node, opt}
-use Rattle.crs_normal.proofs.normal.FormLemmas.{Form, IsGood, kept-good, node-spelled, one-spelled, opened, optional-spelled}
+use Rattle.crs_normal.proofs.normal.FormLemmas.{Form, IsGood, node-spelled, opened, optional-spelled, one-in, optional-in}
 use Rattle.crs_normal.proofs.normal.LeafLemmas.{PlainIsOne, number-node-form}
 use Rattle.crs_normal.proofs.normal.NamedLemmas.{deformation_model-form}
 use Rattle.crs_normal.proofs.members.PairLemmas.{opt-mapped}
-use Rattle.crs_normal.proofs.read.ViewLemmas.{without_places_onto, without_places-spread, those-looked}
+use Rattle.crs_normal.proofs.read.ViewLemmas.{without_places_onto, without_places-spread}
 
 pub dynamic-form : PlainIsOne → (level : Level) (c : Class) →
     Form level c class.Dynamic (ReadsDynamic class.Dynamic) (λ d. item_dynamic (norm_dynamic level d))
@@ -30,14 +30,12 @@ dynamic-form law level c (node place keyword square first others close) x good r
     let v1 = v.1.1.1.1 in
     node-spelled place keyword _ square first others close _ o.written
     (without_places-spread d (slots_of d) items v
-    ∙ one-spelled level d class.FrameEpoch (ReadsNumberOf class.FrameEpoch) (number_node (codes "FRAMEEPOCH"))
-    (number-node-form law level d class.FrameEpoch (codes "FRAMEEPOCH") refl (λ bytes h. h) (λ raw h. h))
-    (those d class.FrameEpoch items) v.0 (kept-good level d class.FrameEpoch items o.kept)
-    (those-looked d class.FrameEpoch (slots_of d) items v) (v.1.1.0.not_more refl) x.epoch reads.epoch _ _
-    (optional-spelled level d class.DeformationModel (ReadsDeformationModel class.DeformationModel)
-    (λ m. item_deformation_model (norm_deformation_model level m)) (deformation_model-form level d)
-    (those d class.DeformationModel items) v1.0 (kept-good level d class.DeformationModel items o.kept)
-    (those-looked d class.DeformationModel (slots_of d) items v) (v1.1.1.0.not_more refl) x.model reads.model End End
+    ∙ one-in o class.FrameEpoch (ReadsNumberOf class.FrameEpoch) (number_node (codes "FRAMEEPOCH"))
+    (number-node-form law level d class.FrameEpoch (codes "FRAMEEPOCH") refl (λ bytes h. h) (λ raw h. h)) v.0 refl
+    (v.1.1.0.not_more refl) x.epoch reads.epoch
+    (optional-in o class.DeformationModel (ReadsDeformationModel class.DeformationModel)
+    (λ m. item_deformation_model (norm_deformation_model level m)) (deformation_model-form level d) v1.0 refl
+    (v1.1.1.0.not_more refl) x.model reads.model
     refl
     ∙ opt-mapped item_deformation_model (norm_deformation_model level) x.model End))
 

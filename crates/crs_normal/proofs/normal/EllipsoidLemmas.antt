@@ -4,7 +4,7 @@ use Rattle.std.specs.Prelude.{ℤ, pos, negsuc}
 use Rattle.std.proofs.lemmas.Bool.{and_parts, eqb-true}
 use Rattle.crs_decimal.specs.Plain.{plain}
 use Rattle.crs_decimal.specs.Value.{Value, IsNormal, is_normal, is_power, zero}
-use Rattle.crs_text.specs.Items.{Item, leaf, node, Siblings, End, More, raw_of}
+use Rattle.crs_text.specs.Items.{Item, leaf, node, Siblings, More, raw_of}
 use Rattle.crs_shape.specs.declared.class.Class.{Class}
 use Rattle.crs_shape.specs.declared.class.Class.TheVariants as class
 use Rattle.crs_shape.specs.Slots.{slots_of}
@@ -17,10 +17,10 @@ use Rattle.crs_value.specs.Sound.{Each}
 use Rattle.crs_normal.specs.SpelledFrames.{is_zero, item_ellipsoid, item_meridian, norm_ellipsoid, norm_given}
 use Rattle.crs_normal.specs.SpelledItems.{number_item, opt, text_item}
 use Rattle.crs_normal.specs.SpelledUnits.{item_unit, norm_unit, norm_units}
-use Rattle.crs_normal.proofs.normal.FormLemmas.{Form, IsGood, kept-good, node-spelled, one-spelled, opened, optional-spelled}
+use Rattle.crs_normal.proofs.normal.FormLemmas.{Form, IsGood, kept-good, node-spelled, opened, one-in, optional-in}
 use Rattle.crs_normal.proofs.normal.LeafLemmas.{PlainIsOne, number-form, number-normal, text-form}
 use Rattle.crs_normal.proofs.members.PairLemmas.{Alone, opt-length, opt-units, two-spelled}
-use Rattle.crs_normal.proofs.normal.UnitLemmas.{idents-spelled, in-angle, in-length, unit-form}
+use Rattle.crs_normal.proofs.normal.UnitLemmas.{in-angle, in-length, unit-form, idents-in}
 use Rattle.crs_normal.proofs.read.ViewLemmas.{alone, without_places-spread, those-looked}
 
 pub ellipsoid-form : PlainIsOne → (level : Level) (c : Class) →
@@ -37,20 +37,15 @@ ellipsoid-form law level c (node place keyword square first others close) x good
     let v4 = v3.1.1.1.1 in
     node-spelled place keyword _ square first others close _ o.written
     (without_places-spread d (slots_of d) items v
-    ∙ one-spelled level d class.Text ReadsText text_item (text-form level d) (those d class.Text items) v.0
-    (kept-good level d class.Text items o.kept)
-    (those-looked d class.Text (slots_of d) items v) (v.1.1.0.not_more refl) x.name reads.name _ _
+    ∙ one-in o class.Text ReadsText text_item (text-form level d) v.0 refl (v.1.1.0.not_more refl) x.name reads.name
     (two-spelled law level d (λ raw h. h) (those d class.Number items) v1.0 v2.0
     (kept-good level d class.Number items o.kept)
     (those-looked d class.Number (slots_of d) items v) (alone v1.0 v1.1.1.0 refl refl) (alone v2.0 v2.1.1.0 refl refl)
     x.semi_major_axis x.inverse_flattening reads.semi_major_axis reads.inverse_flattening _ _
-    (optional-spelled level d class.LengthUnit (ReadsUnit class.LengthUnit)
-    (λ u. item_unit (norm_unit level kinds.Length u))
-    (unit-form law level d class.LengthUnit kinds.Length refl (in-length kinds.Length) (λ raw h. h))
-    (those d class.LengthUnit items) v3.0 (kept-good level d class.LengthUnit items o.kept)
-    (those-looked d class.LengthUnit (slots_of d) items v) (v3.1.1.0.not_more refl) x.unit reads.unit _ _
-    (idents-spelled level d items v4.0 o.kept (those-looked d class.Identifier (slots_of d) items v) o.sets.0 x.identifiers
-    reads.identifiers End End refl)
+    (optional-in o class.LengthUnit (ReadsUnit class.LengthUnit) (λ u. item_unit (norm_unit level kinds.Length u))
+    (unit-form law level d class.LengthUnit kinds.Length refl (in-length kinds.Length) (λ raw h. h)) v3.0 refl
+    (v3.1.1.0.not_more refl) x.unit reads.unit
+    (idents-in o v4.0 refl x.identifiers reads.identifiers refl)
     ∙ opt-length (ReadsUnit class.LengthUnit) level (those d class.LengthUnit items) x.unit o.own reads.unit _)))
 
 -- ---- prime meridians
@@ -111,20 +106,13 @@ meridian-form law zero_plain level c (node place keyword square first others clo
     let v3 = v2.1.1.1.1 in
     node-spelled place keyword _ square first others close _ o.written
     (without_places-spread d (slots_of d) items v
-    ∙ one-spelled level d class.Text ReadsText text_item (text-form level d) (those d class.Text items) v.0
-    (kept-good level d class.Text items o.kept)
-    (those-looked d class.Text (slots_of d) items v) (v.1.1.0.not_more refl) x.name reads.name _ _
-    (one-spelled level d class.Number ReadsNumber number_item (number-form law level d (λ raw h. h))
-    (those d class.Number items) v1.0
-    (kept-good level d class.Number items o.kept) (those-looked d class.Number (slots_of d) items v)
-    (v1.1.1.0.not_more refl) x.longitude reads.longitude _ _
-    (optional-spelled level d class.AngleUnit (ReadsUnit class.AngleUnit)
-    (λ u. item_unit (norm_unit level kinds.Angle u))
-    (unit-form law level d class.AngleUnit kinds.Angle refl (in-angle kinds.Angle) (λ raw h. h))
-    (those d class.AngleUnit items) v2.0 (kept-good level d class.AngleUnit items o.kept)
-    (those-looked d class.AngleUnit (slots_of d) items v) (v2.1.1.0.not_more refl) x.unit reads.unit _ _
-    (idents-spelled level d items v3.0 o.kept (those-looked d class.Identifier (slots_of d) items v) o.sets.0 x.identifiers
-    reads.identifiers End End refl)
+    ∙ one-in o class.Text ReadsText text_item (text-form level d) v.0 refl (v.1.1.0.not_more refl) x.name reads.name
+    (one-in o class.Number ReadsNumber number_item (number-form law level d (λ raw h. h)) v1.0 refl
+    (v1.1.1.0.not_more refl) x.longitude reads.longitude
+    (optional-in o class.AngleUnit (ReadsUnit class.AngleUnit) (λ u. item_unit (norm_unit level kinds.Angle u))
+    (unit-form law level d class.AngleUnit kinds.Angle refl (in-angle kinds.Angle) (λ raw h. h)) v2.0 refl
+    (v2.1.1.0.not_more refl) x.unit reads.unit
+    (idents-in o v3.0 refl x.identifiers reads.identifiers refl)
     ∙ opt-angle level (is_zero x.longitude) (those d class.AngleUnit items) x.unit
     (λ e. o.own (zero-written law zero_plain level (those d class.Number items) v1.0
     (kept-good level d class.Number items o.kept)

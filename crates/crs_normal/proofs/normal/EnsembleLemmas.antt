@@ -22,12 +22,12 @@ use Rattle.crs_normal.specs.SpelledUnits.{item_unit, norm_unit}
 use Rattle.crs_normal.proofs.normal.CheckedLemmas.{Checked, IsUnbroken, those-unbroken}
 use Rattle.crs_normal.proofs.normal.DynamicLemmas.{dynamic-spelled}
 use Rattle.crs_normal.proofs.normal.EllipsoidLemmas.{ZeroPlain, ellipsoid-form, meridian-form}
-use Rattle.crs_normal.proofs.normal.FormLemmas.{Form, IsGood, kept-good, node-spelled, one-spelled, opened, optional-spelled, set-spelled}
+use Rattle.crs_normal.proofs.normal.FormLemmas.{Form, IsGood, kept-good, node-spelled, opened, one-in, optional-in, set-in}
 use Rattle.crs_normal.proofs.normal.FrameLemmas.{geodetic_datum-form, none-read, vertical_datum-form}
 use Rattle.crs_normal.proofs.normal.LeafLemmas.{PlainIsOne, number-node-form, text-form}
 use Rattle.crs_normal.proofs.normal.NamedLemmas.{member-form}
 use Rattle.crs_normal.proofs.members.PairLemmas.{Alone, opt-mapped, opt-units}
-use Rattle.crs_normal.proofs.normal.UnitLemmas.{idents-spelled, in-angle, unit-form}
+use Rattle.crs_normal.proofs.normal.UnitLemmas.{in-angle, unit-form, idents-in}
 use Rattle.crs_normal.proofs.read.ViewLemmas.{alone, without_places_onto, without_places-spread, onto, those-looked}
 
 pub geodetic_ensemble-form : PlainIsOne → (level : Level) (c : Class) →
@@ -46,25 +46,15 @@ geodetic_ensemble-form law level c (node place keyword square first others close
     let v4 = v3.1.1.1.1 in
     node-spelled place keyword _ square first others close _ o.written
     (without_places-spread d (slots_of d) items v
-    ∙ one-spelled level d class.Text ReadsText text_item (text-form level d) (those d class.Text items) v.0
-    (kept-good level d class.Text items o.kept)
-    (those-looked d class.Text (slots_of d) items v) (v.1.1.0.not_more refl) x.name reads.name _ _
-    (set-spelled level d class.Member (ReadsMember class.Member) item_member (norm_member level) (member-form level d)
-    (those d class.Member items) v1.0 (kept-good level d class.Member items o.kept)
-    (those-looked d class.Member (slots_of d) items v)
-    o.sets.1.1.0 x.members reads.members _ _
-    (optional-spelled level d class.Ellipsoid (ReadsEllipsoid class.Ellipsoid)
-    (λ e. item_ellipsoid (norm_ellipsoid level e)) (ellipsoid-form law level d)
-    (those d class.Ellipsoid items) v2.0 (kept-good level d class.Ellipsoid items o.kept)
-    (those-looked d class.Ellipsoid (slots_of d) items v)
-    (v2.1.1.0.not_more refl) x.ellipsoid reads.ellipsoid _ _
-    (one-spelled level d class.EnsembleAccuracy (ReadsNumberOf class.EnsembleAccuracy)
-    (number_node (codes "ENSEMBLEACCURACY"))
+    ∙ one-in o class.Text ReadsText text_item (text-form level d) v.0 refl (v.1.1.0.not_more refl) x.name reads.name
+    (set-in o class.Member (ReadsMember class.Member) item_member (norm_member level) (member-form level d) v1.0 refl
+    o.sets.1.1.0 x.members reads.members
+    (optional-in o class.Ellipsoid (ReadsEllipsoid class.Ellipsoid) (λ e. item_ellipsoid (norm_ellipsoid level e))
+    (ellipsoid-form law level d) v2.0 refl (v2.1.1.0.not_more refl) x.ellipsoid reads.ellipsoid
+    (one-in o class.EnsembleAccuracy (ReadsNumberOf class.EnsembleAccuracy) (number_node (codes "ENSEMBLEACCURACY"))
     (number-node-form law level d class.EnsembleAccuracy (codes "ENSEMBLEACCURACY") refl (λ bytes h. h) (λ raw h. h))
-    (those d class.EnsembleAccuracy items) v3.0 (kept-good level d class.EnsembleAccuracy items o.kept)
-    (those-looked d class.EnsembleAccuracy (slots_of d) items v) (v3.1.1.0.not_more refl) x.accuracy reads.accuracy _ _
-    (idents-spelled level d items v4.0 o.kept (those-looked d class.Identifier (slots_of d) items v) o.sets.0 x.identifiers
-    reads.identifiers End End refl))
+    v3.0 refl (v3.1.1.0.not_more refl) x.accuracy reads.accuracy
+    (idents-in o v4.0 refl x.identifiers reads.identifiers refl))
     ∙ opt-mapped item_ellipsoid (norm_ellipsoid level) x.ellipsoid _)))
 
 without : (level : Level) (e : Option EllipsoidParts) → e ≡ None → (rest : Siblings) →
@@ -88,20 +78,13 @@ vertical_ensemble-form law level c (node place keyword square first others close
     (those-looked d class.Ellipsoid (slots_of d) items v) x.ellipsoid reads.ellipsoid in
     node-spelled place keyword _ square first others close _ o.written
     (without_places-spread d (slots_of d) items v
-    ∙ one-spelled level d class.Text ReadsText text_item (text-form level d) (those d class.Text items) v.0
-    (kept-good level d class.Text items o.kept)
-    (those-looked d class.Text (slots_of d) items v) (v.1.1.0.not_more refl) x.name reads.name _ _
-    (set-spelled level d class.Member (ReadsMember class.Member) item_member (norm_member level) (member-form level d)
-    (those d class.Member items) v1.0 (kept-good level d class.Member items o.kept)
-    (those-looked d class.Member (slots_of d) items v)
-    o.sets.1.1.0 x.members reads.members _ _
-    (one-spelled level d class.EnsembleAccuracy (ReadsNumberOf class.EnsembleAccuracy)
-    (number_node (codes "ENSEMBLEACCURACY"))
+    ∙ one-in o class.Text ReadsText text_item (text-form level d) v.0 refl (v.1.1.0.not_more refl) x.name reads.name
+    (set-in o class.Member (ReadsMember class.Member) item_member (norm_member level) (member-form level d) v1.0 refl
+    o.sets.1.1.0 x.members reads.members
+    (one-in o class.EnsembleAccuracy (ReadsNumberOf class.EnsembleAccuracy) (number_node (codes "ENSEMBLEACCURACY"))
     (number-node-form law level d class.EnsembleAccuracy (codes "ENSEMBLEACCURACY") refl (λ bytes h. h) (λ raw h. h))
-    (those d class.EnsembleAccuracy items) v2.0 (kept-good level d class.EnsembleAccuracy items o.kept)
-    (those-looked d class.EnsembleAccuracy (slots_of d) items v) (v2.1.1.0.not_more refl) x.accuracy reads.accuracy _ _
-    (idents-spelled level d items v3.0 o.kept (those-looked d class.Identifier (slots_of d) items v) o.sets.0 x.identifiers
-    reads.identifiers End End refl)
+    v2.0 refl (v2.1.1.0.not_more refl) x.accuracy reads.accuracy
+    (idents-in o v3.0 refl x.identifiers reads.identifiers refl)
     ∙ without level x.ellipsoid bare _)))
 
 -- ---- frames of either sort
@@ -202,9 +185,7 @@ base-form law zero_plain level c (node place keyword square first others close) 
     (λ fault b. checked.0 fault (inr b)) in
     node-spelled place keyword _ square first others close _ o.written
     (without_places-spread d (slots_of d) items v
-    ∙ one-spelled level d class.Text ReadsText text_item (text-form level d) (those d class.Text items) v.0
-    (kept-good level d class.Text items o.kept)
-    (those-looked d class.Text (slots_of d) items v) (v.1.1.0.not_more refl) x.name reads.name _ _
+    ∙ one-in o class.Text ReadsText text_item (text-form level d) v.0 refl (v.1.1.0.not_more refl) x.name reads.name
     (dynamic-spelled law level d (those d class.Dynamic items) v1.0 (kept-good level d class.Dynamic items o.kept)
     (those-looked d class.Dynamic (slots_of d) items v) (v1.1.1.0.not_more refl) x.dynamic reads.dynamic _ _
     (geodetic_frame-spelled law level d (those d class.GeodeticFrame items) (those d class.GeodeticEnsemble items) v2.0
@@ -213,19 +194,12 @@ base-form law zero_plain level c (node place keyword square first others close) 
     (those-looked d class.GeodeticEnsemble (slots_of d) items v)
     (kept-good level d class.GeodeticFrame items o.kept) (kept-good level d class.GeodeticEnsemble items o.kept) free
     x.frame reads.frame _ _
-    (optional-spelled level d class.PrimeMeridian (ReadsMeridian class.PrimeMeridian)
-    (λ m. item_meridian (norm_given level m)) (meridian-form law zero_plain level d)
-    (those d class.PrimeMeridian items) v3.0 (kept-good level d class.PrimeMeridian items o.kept)
-    (those-looked d class.PrimeMeridian (slots_of d) items v)
-    (v3.1.1.0.not_more refl) x.meridian reads.meridian _ _
-    (optional-spelled level d class.AngleUnit (ReadsUnit class.AngleUnit)
-    (λ u. item_unit (norm_unit level kinds.Angle u))
-    (unit-form law level d class.AngleUnit kinds.Angle refl (in-angle kinds.Angle) (λ raw h. h))
-    (those d class.AngleUnit items) v4.0 (kept-good level d class.AngleUnit items o.kept)
-    (those-looked d class.AngleUnit (slots_of d) items v)
-    (v4.1.1.0.not_more refl) x.unit reads.unit _ _
-    (idents-spelled level d items v5.0 o.kept (those-looked d class.Identifier (slots_of d) items v) o.sets.0 x.identifiers
-    reads.identifiers End End refl)
+    (optional-in o class.PrimeMeridian (ReadsMeridian class.PrimeMeridian) (λ m. item_meridian (norm_given level m))
+    (meridian-form law zero_plain level d) v3.0 refl (v3.1.1.0.not_more refl) x.meridian reads.meridian
+    (optional-in o class.AngleUnit (ReadsUnit class.AngleUnit) (λ u. item_unit (norm_unit level kinds.Angle u))
+    (unit-form law level d class.AngleUnit kinds.Angle refl (in-angle kinds.Angle) (λ raw h. h)) v4.0 refl
+    (v4.1.1.0.not_more refl) x.unit reads.unit
+    (idents-in o v5.0 refl x.identifiers reads.identifiers refl)
     ∙ opt-units level kinds.Angle x.unit _)
     ∙ opt-meridian (ReadsMeridian class.PrimeMeridian) level (those d class.PrimeMeridian items) x.meridian o.own
     reads.meridian _))))

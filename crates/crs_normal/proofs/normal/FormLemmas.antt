@@ -21,7 +21,7 @@ use Rattle.crs_normal.specs.Ascending.{Ascends}
 use Rattle.crs_normal.specs.Ordered.{in_order}
 use Rattle.crs_normal.specs.SpelledItems.{each, node_from, opt}
 use Rattle.crs_normal.proofs.members.SetLemmas.{IsBelow, in_order-of}
-use Rattle.crs_normal.proofs.read.ViewLemmas.{View, without_places_onto, same_class, view}
+use Rattle.crs_normal.proofs.read.ViewLemmas.{View, looked, same_class, those-looked, view, without_places_onto}
 
 -- ---- the text of an item doesn't depend on places
 
@@ -238,3 +238,36 @@ set-spelled level c d R spell norm form found front good e up values reads rest 
     ∙ ap (λ ws. each spell ws after)
     (sym (in_order-of (λ w. item_text (spell w)) (map norm values)
     (written-ascend spell found (map norm values) written up)))
+
+-- ---- the arguments in a slot, which those of a class are
+
+module _ {level : Level} {c : Class} {item : Item} {keyword : List ℕ} (o : Opened level c item keyword) (d : Class) where
+  abbrev pub Looked : List Item → Type 0
+  Looked front = looked c d (slots_of c) (arguments item) o.slots ≡ front
+
+  abbrev pub found : List Item
+  found = those c d (arguments item)
+
+  pub found-in : (front : List Item) → Looked front → found ≡ front
+  found-in front same = those-looked c d (slots_of c) (arguments item) o.slots ∙ same
+
+  module _ {V : Type 0} (R : Item → V → Type 0) (spell : V → Item) (form : Form level c d R spell) (front : List Item) (same : Looked front) (few : length front ≤ 1) where
+    pub one-in : (value : V) → ReadsFirst R found value → {rest after : Siblings} → rest ≡ after →
+        without_places_onto front rest ≡ More (spell value) after
+    one-in value reads f =
+        one-spelled level c d R spell form found front (kept-good level c d (arguments item) o.kept)
+        (found-in front same) few value reads _ _ f
+
+    pub optional-in : (value : Option V) → ReadsOptional R found value → {rest after : Siblings} → rest ≡ after →
+        without_places_onto front rest ≡ opt spell value after
+    optional-in value reads f =
+        optional-spelled level c d R spell form found front (kept-good level c d (arguments item) o.kept)
+        (found-in front same) few value reads _ _ f
+
+  pub set-in : {V W : Type 0} (R : Item → V → Type 0) (spell : W → Item) (norm : V → W) →
+      Form level c d R (λ v. spell (norm v)) → (front : List Item) → Looked front → Ascend found → (values : List V) →
+      ReadsEach R found values → {rest after : Siblings} → rest ≡ after →
+      without_places_onto front rest ≡ each spell (in_order (λ w. item_text (spell w)) (map norm values)) after
+  set-in R spell norm form front same up values reads f =
+      set-spelled level c d R spell norm form found front (kept-good level c d (arguments item) o.kept)
+      (found-in front same) up values reads _ _ f

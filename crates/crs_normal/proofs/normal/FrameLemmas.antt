@@ -16,11 +16,11 @@ use Rattle.crs_normal.specs.SpelledItems.{opt, text_item}
 use Rattle.crs_normal.proofs.normal.AnchorLemmas.{anchors-spelled}
 use Rattle.crs_normal.proofs.normal.CheckedLemmas.{Checked, IsUnbroken, once-only}
 use Rattle.crs_normal.proofs.normal.EllipsoidLemmas.{ellipsoid-form}
-use Rattle.crs_normal.proofs.normal.FormLemmas.{Form, kept-good, node-spelled, one-spelled, opened, optional-spelled}
+use Rattle.crs_normal.proofs.normal.FormLemmas.{Form, node-spelled, opened, one-in, optional-in}
 use Rattle.crs_normal.proofs.normal.LeafLemmas.{PlainIsOne, text-form}
 use Rattle.crs_normal.proofs.members.PairLemmas.{opt-mapped}
 use Rattle.crs_normal.proofs.normal.RankLemmas.{rise-behind}
-use Rattle.crs_normal.proofs.normal.UnitLemmas.{idents-spelled}
+use Rattle.crs_normal.proofs.normal.UnitLemmas.{idents-in}
 use Rattle.crs_normal.proofs.read.ViewLemmas.{without_places-spread, items-rebuilt, onto, those-looked}
 
 -- ---- what a node of this class has by itself, where it breaks no check
@@ -67,14 +67,9 @@ geodetic_datum-form law level c (node place keyword square first others close) x
     let few = single-anchor keyword place square first others close checked.0 in
     node-spelled place keyword _ square first others close _ o.written
     (without_places-spread d (slots_of d) items v
-    ∙ one-spelled level d class.Text ReadsText text_item (text-form level d) (those d class.Text items) v.0
-    (kept-good level d class.Text items o.kept)
-    (those-looked d class.Text (slots_of d) items v) (v.1.1.0.not_more refl) x.name reads.name _ _
-    (optional-spelled level d class.Ellipsoid (ReadsEllipsoid class.Ellipsoid)
-    (λ e. item_ellipsoid (norm_ellipsoid level e)) (ellipsoid-form law level d)
-    (those d class.Ellipsoid items) v1.0 (kept-good level d class.Ellipsoid items o.kept)
-    (those-looked d class.Ellipsoid (slots_of d) items v)
-    (v1.1.1.0.not_more refl) x.ellipsoid reads.ellipsoid _ _
+    ∙ one-in o class.Text ReadsText text_item (text-form level d) v.0 refl (v.1.1.0.not_more refl) x.name reads.name
+    (optional-in o class.Ellipsoid (ReadsEllipsoid class.Ellipsoid) (λ e. item_ellipsoid (norm_ellipsoid level e))
+    (ellipsoid-form law level d) v1.0 refl (v1.1.1.0.not_more refl) x.ellipsoid reads.ellipsoid
     (anchors-spelled law level d items o.kept v2.0 (record {
       least = lower.0;
       rest = onto v3.0 End;
@@ -86,8 +81,7 @@ geodetic_datum-form law level c (node place keyword square first others close) x
       single_epoch = few.1;
     })
     x.anchor x.anchor_epoch reads.anchor reads.anchor_epoch _ _
-    (idents-spelled level d items v3.0 o.kept (those-looked d class.Identifier (slots_of d) items v) o.sets.0 x.identifiers
-    reads.identifiers End End refl))
+    (idents-in o v3.0 refl x.identifiers reads.identifiers refl))
     ∙ opt-mapped item_ellipsoid (norm_ellipsoid level) x.ellipsoid _))
 
 pub vertical_datum-form : PlainIsOne → (level : Level) (c : Class) →
@@ -109,9 +103,7 @@ vertical_datum-form law level c (node place keyword square first others close) x
     (those-looked d class.Ellipsoid (slots_of d) items v) x.ellipsoid reads.ellipsoid in
     node-spelled place keyword _ square first others close _ o.written
     (without_places-spread d (slots_of d) items v
-    ∙ one-spelled level d class.Text ReadsText text_item (text-form level d) (those d class.Text items) v.0
-    (kept-good level d class.Text items o.kept)
-    (those-looked d class.Text (slots_of d) items v) (v.1.1.0.not_more refl) x.name reads.name _ _
+    ∙ one-in o class.Text ReadsText text_item (text-form level d) v.0 refl (v.1.1.0.not_more refl) x.name reads.name
     (anchors-spelled law level d items o.kept v1.0 (record {
       least = rise.0;
       rest = onto v2.0 End;
@@ -123,8 +115,7 @@ vertical_datum-form law level c (node place keyword square first others close) x
       single_epoch = few.1;
     })
     x.anchor x.anchor_epoch reads.anchor reads.anchor_epoch _ _
-    (idents-spelled level d items v2.0 o.kept (those-looked d class.Identifier (slots_of d) items v) o.sets.0 x.identifiers
-    reads.identifiers End End refl)
+    (idents-in o v2.0 refl x.identifiers reads.identifiers refl)
     ∙ without x.ellipsoid bare _))
   where
     without : (e : Option EllipsoidParts) → e ≡ None → (rest : Siblings) →

@@ -24,9 +24,9 @@ use Rattle.crs_normal.specs.SpelledDynamic.{item_deformation_model, norm_deforma
 use Rattle.crs_normal.specs.SpelledFrames.{item_member, norm_member}
 use Rattle.crs_normal.specs.SpelledItems.{each, node_of, number_item, opt, text_item}
 use Rattle.crs_normal.specs.SpelledUnits.{item_ident, item_unit, norm_units, set_idents}
-use Rattle.crs_normal.proofs.normal.FormLemmas.{Form, IsGood, Kept, kept-good, node-spelled, one-spelled, opened, set-spelled}
+use Rattle.crs_normal.proofs.normal.FormLemmas.{Form, IsGood, Kept, kept-good, node-spelled, one-spelled, opened, one-in, set-in}
 use Rattle.crs_normal.proofs.normal.LeafLemmas.{ArePlain, PlainIsOne, number-form, text-form}
-use Rattle.crs_normal.proofs.normal.UnitLemmas.{KindIn, idents-spelled, in-angle, in-length, in-plain, in-scale, unit-form}
+use Rattle.crs_normal.proofs.normal.UnitLemmas.{KindIn, idents-spelled, in-angle, in-length, in-plain, in-scale, unit-form, idents-in}
 use Rattle.crs_normal.proofs.read.ViewLemmas.{View, each-so, without_places_onto, without_places-spread, onto, same_class, those-looked}
 
 -- a node of a name and identifiers
@@ -169,16 +169,11 @@ parameter-form law level c (node place keyword square first others close) x good
     let looked = λ (e : Class). those-looked d e (slots_of d) items v in
     node-spelled place keyword _ square first others close _ o.written
     (without_places-spread d (slots_of d) items v
-    ∙ one-spelled level d class.Text ReadsText text_item (text-form level d) (those d class.Text items) v.0
-    (kept-good level d class.Text items o.kept)
-    (those-looked d class.Text (slots_of d) items v) (v.1.1.0.not_more refl) x.name reads.name _ _
-    (one-spelled level d class.Number ReadsNumber number_item (number-form law level d (λ raw h. h))
-    (those d class.Number items) v1.0
-    (kept-good level d class.Number items o.kept) (those-looked d class.Number (slots_of d) items v)
-    (v1.1.1.0.not_more refl) x.value reads.value _ _
+    ∙ one-in o class.Text ReadsText text_item (text-form level d) v.0 refl (v.1.1.0.not_more refl) x.name reads.name
+    (one-in o class.Number ReadsNumber number_item (number-form law level d (λ raw h. h)) v1.0 refl
+    (v1.1.1.0.not_more refl) x.value reads.value
     (ap (without_places_onto v2.0)
-    (idents-spelled level d items v3.0 o.kept (those-looked d class.Identifier (slots_of d) items v) o.sets.0 x.identifiers
-    reads.identifiers End End refl)
+    (idents-in o v3.0 refl x.identifiers reads.identifiers refl)
     ∙ unit-of law level d (node place keyword square first others close) o.kept v2.0 (v2.1.1.0.not_more refl)
     parameter_units every-unit
     (looked class.PlainUnit, (looked class.LengthUnit, (looked class.AngleUnit, (looked class.ScaleUnit, tt))))
@@ -199,17 +194,9 @@ conversion-form law level c (node place keyword square first others close) x goo
     let v3 = v2.1.1.1.1 in
     node-spelled place keyword _ square first others close _ o.written
     (without_places-spread d (slots_of d) items v
-    ∙ one-spelled level d class.Text ReadsText text_item (text-form level d) (those d class.Text items) v.0
-    (kept-good level d class.Text items o.kept)
-    (those-looked d class.Text (slots_of d) items v) (v.1.1.0.not_more refl) x.name reads.name _ _
-    (one-spelled level d class.Method (ReadsMethod class.Method) (λ m. item_method (norm_method level m))
-    (method-form level d) (those d class.Method items) v1.0
-    (kept-good level d class.Method items o.kept) (those-looked d class.Method (slots_of d) items v)
-    (v1.1.1.0.not_more refl) x.method reads.method _ _
-    (set-spelled level d class.Parameter (ReadsParameter class.Parameter) item_parameter (norm_parameter level)
-    (parameter-form law level d)
-    (those d class.Parameter items) v2.0 (kept-good level d class.Parameter items o.kept)
-    (those-looked d class.Parameter (slots_of d) items v)
-    o.sets.1.1.1.0 x.parameters reads.parameters _ _
-    (idents-spelled level d items v3.0 o.kept (those-looked d class.Identifier (slots_of d) items v) o.sets.0 x.identifiers
-    reads.identifiers End End refl))))
+    ∙ one-in o class.Text ReadsText text_item (text-form level d) v.0 refl (v.1.1.0.not_more refl) x.name reads.name
+    (one-in o class.Method (ReadsMethod class.Method) (λ m. item_method (norm_method level m)) (method-form level d)
+    v1.0 refl (v1.1.1.0.not_more refl) x.method reads.method
+    (set-in o class.Parameter (ReadsParameter class.Parameter) item_parameter (norm_parameter level)
+    (parameter-form law level d) v2.0 refl o.sets.1.1.1.0 x.parameters reads.parameters
+    (idents-in o v3.0 refl x.identifiers reads.identifiers refl))))

@@ -18,7 +18,7 @@ use Rattle.crs_normal.specs.SpelledItems.{text_item}
 use Rattle.crs_normal.proofs.normal.CheckedLemmas.{Checked, first-checked, once-only, those-unbroken}
 use Rattle.crs_normal.proofs.normal.DynamicLemmas.{dynamic-spelled}
 use Rattle.crs_normal.proofs.normal.EnsembleLemmas.{base-form, vertical_frame-spelled}
-use Rattle.crs_normal.proofs.normal.FormLemmas.{Form, kept-good, node-spelled, one-spelled, opened}
+use Rattle.crs_normal.proofs.normal.FormLemmas.{Form, kept-good, node-spelled, opened, one-in}
 use Rattle.crs_normal.proofs.normal.GeodeticLemmas.{found-of, no-models, none-read-each, rise-six}
 use Rattle.crs_normal.proofs.normal.DimensionLemmas.{small-projected, small-vertical}
 use Rattle.crs_normal.proofs.normal.HeadLemmas.{AreFree, Laws, each-length, ends-of, few-axes, vertical_ends-of}
@@ -68,18 +68,12 @@ projected-form laws level c (node place keyword square first others close) x goo
     (looked class.Remark) in
     node-spelled place keyword _ square first others close _ o.written
     (without_places-spread d (slots_of d) items v
-    ∙ one-spelled level d class.Text ReadsText text_item (text-form level d) (those d class.Text items) v.0
-    (kept-good level d class.Text items k)
-    (looked class.Text) (v.1.1.0.not_more refl) x.name reads.name _ _
-    (one-spelled level d class.BaseCrs (Checked class.BaseCrs (ReadsBase class.BaseCrs))
-    (λ b. item_base (norm_base level b)) (base-form law laws.zero_plain level d)
-    (those d class.BaseCrs items) v1.0 (kept-good level d class.BaseCrs items k) (looked class.BaseCrs)
-    (v1.1.1.0.not_more refl) x.base
-    (first-checked class.BaseCrs (ReadsBase class.BaseCrs) (those d class.BaseCrs items) x.base bases reads.base) _ _
-    (one-spelled level d class.Conversion (ReadsConversion class.Conversion)
-    (λ q. item_conversion (norm_conversion level q)) (conversion-form law level d)
-    (those d class.Conversion items) v2.0 (kept-good level d class.Conversion items k) (looked class.Conversion)
-    (v2.1.1.0.not_more refl) x.conversion reads.conversion _ _
+    ∙ one-in o class.Text ReadsText text_item (text-form level d) v.0 refl (v.1.1.0.not_more refl) x.name reads.name
+    (one-in o class.BaseCrs (Checked class.BaseCrs (ReadsBase class.BaseCrs)) (λ b. item_base (norm_base level b))
+    (base-form law laws.zero_plain level d) v1.0 refl (v1.1.1.0.not_more refl) x.base
+    (first-checked class.BaseCrs (ReadsBase class.BaseCrs) (those d class.BaseCrs items) x.base bases reads.base)
+    (one-in o class.Conversion (ReadsConversion class.Conversion) (λ q. item_conversion (norm_conversion level q))
+    (conversion-form law level d) v2.0 refl (v2.1.1.0.not_more refl) x.conversion reads.conversion
     (system-spelled law level d item k o.own.0 v3.0 v4.0 v5.0 (looked class.CoordinateSystem) (v3.1.1.0.not_more refl)
     (looked class.Axis) (looked class.AxisUnit)
     x.system reads.system within _ _
@@ -125,9 +119,7 @@ vertical-form laws level c (node place keyword square first others close) x good
     (looked class.Remark) in
     node-spelled place keyword _ square first others close _ o.written
     (without_places-spread d (slots_of d) items v
-    ∙ one-spelled level d class.Text ReadsText text_item (text-form level d) (those d class.Text items) v.0
-    (kept-good level d class.Text items k)
-    (looked class.Text) (v.1.1.0.not_more refl) x.name reads.name _ _
+    ∙ one-in o class.Text ReadsText text_item (text-form level d) v.0 refl (v.1.1.0.not_more refl) x.name reads.name
     (dynamic-spelled law level d (those d class.Dynamic items) v1.0 (kept-good level d class.Dynamic items k)
     (looked class.Dynamic) (v1.1.1.0.not_more refl) x.dynamic reads.dynamic _ _
     (vertical_frame-spelled law level d (those d class.VerticalFrame items) (those d class.VerticalEnsemble items) v2.0

@@ -3,7 +3,7 @@ use Rattle.std.proofs.Common.{◌≡◌, ℕ, suc, ◌+◌, ◌^◌, ◌≤◌, 
 use Rattle.std.specs.Str.{bytes_eq}
 use Rattle.std.proofs.lemmas.Fmt.{decimal_injective}
 use Rattle.std.proofs.lemmas.Slice.Eq.{bytes_eq-Decides}
-use Rattle.crs_text.specs.Items.{Item, leaf, node, Siblings, End, More, arguments}
+use Rattle.crs_text.specs.Items.{Item, leaf, node, Siblings, More, arguments}
 use Rattle.crs_shape.specs.declared.class.Class.{Class}
 use Rattle.crs_shape.specs.declared.class.Class.TheVariants as class
 use Rattle.crs_shape.specs.Slots.{slots_of}
@@ -17,10 +17,10 @@ use Rattle.crs_value.specs.Sound.{Each}
 use Rattle.crs_normal.specs.SpelledItems.{each, number_item, word_item}
 use Rattle.crs_normal.specs.SpelledSystems.{axes_from, axis_at, is_at, item_axis, item_head, norm_axis, norm_system, system_items, with_axis}
 use Rattle.crs_normal.proofs.normal.AxisLemmas.{IsNumbered, axis-form, type-form}
-use Rattle.crs_normal.proofs.normal.FormLemmas.{Form, IsGood, Kept, kept-good, node-spelled, one-spelled, opened}
+use Rattle.crs_normal.proofs.normal.FormLemmas.{Form, IsGood, Kept, kept-good, node-spelled, one-spelled, opened, one-in}
 use Rattle.crs_normal.proofs.normal.LeafLemmas.{PlainIsOne, number-form}
-use Rattle.crs_normal.proofs.normal.UnitLemmas.{idents-spelled}
-use Rattle.crs_normal.proofs.read.ViewLemmas.{without_places_onto, without_places-spread, those-looked}
+use Rattle.crs_normal.proofs.normal.UnitLemmas.{idents-in}
+use Rattle.crs_normal.proofs.read.ViewLemmas.{without_places_onto, without_places-spread}
 
 -- ---- the axes at their positions
 
@@ -151,16 +151,11 @@ head-form law level c (node place keyword square first others close) x good read
     let v2 = v1.1.1.1.1 in
     node-spelled place keyword _ square first others close _ o.written
     (without_places-spread d (slots_of d) items v
-    ∙ one-spelled level d class.Word ReadsType (λ t. word_item (system_word t)) (type-form level)
-    (those d class.Word items) v.0
-    (kept-good level d class.Word items o.kept) (those-looked d class.Word (slots_of d) items v) (v.1.1.0.not_more refl)
-    x.system_type reads.system_type _ _
-    (one-spelled level d class.Number ReadsNumber number_item (number-form law level d (λ raw h. h))
-    (those d class.Number items) v1.0
-    (kept-good level d class.Number items o.kept) (those-looked d class.Number (slots_of d) items v)
-    (v1.1.1.0.not_more refl) x.dimension reads.dimension _ _
-    (idents-spelled level d items v2.0 o.kept (those-looked d class.Identifier (slots_of d) items v) o.sets.0 x.identifiers
-    reads.identifiers End End refl)))
+    ∙ one-in o class.Word ReadsType (λ t. word_item (system_word t)) (type-form level) v.0 refl (v.1.1.0.not_more refl)
+    x.system_type reads.system_type
+    (one-in o class.Number ReadsNumber number_item (number-form law level d (λ raw h. h)) v1.0 refl
+    (v1.1.1.0.not_more refl) x.dimension reads.dimension
+    (idents-in o v2.0 refl x.identifiers reads.identifiers refl)))
 
 -- the node `CS`, the axes and no shared unit
 pub system-spelled : PlainIsOne → (level : Level) (c : Class) (item : Item) → Kept level c (arguments item) →

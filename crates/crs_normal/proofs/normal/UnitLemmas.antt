@@ -1,6 +1,6 @@
 -- Normal units and lists of identifiers are the one form of their values.
 use Rattle.std.proofs.Common.{◌≡◌, ℕ, map, inl, inr, List, [], ◌∷◌, refl, sym, ◌∙◌, ap, subst}
-use Rattle.crs_text.specs.Items.{Item, leaf, node, Siblings, End, More}
+use Rattle.crs_text.specs.Items.{Item, leaf, node, Siblings, End, More, arguments}
 use Rattle.crs_text.specs.Written.{item_text}
 use Rattle.crs_shape.specs.declared.class.Class.{Class}
 use Rattle.crs_shape.specs.declared.class.Class.TheVariants as class
@@ -20,10 +20,10 @@ use Rattle.crs_value.specs.Sound.{Each}
 use Rattle.crs_normal.specs.Ordered.{in_order}
 use Rattle.crs_normal.specs.SpelledItems.{each, number_item, text_item}
 use Rattle.crs_normal.specs.SpelledUnits.{item_ident, item_unit, norm_unit, set_idents}
-use Rattle.crs_normal.proofs.normal.FormLemmas.{IsGood, Form, Kept, kept-good, node-spelled, one-spelled, opened, reads-kept, set-spelled}
+use Rattle.crs_normal.proofs.normal.FormLemmas.{IsGood, Form, Kept, Opened, found-in, kept-good, node-spelled, one-spelled, opened, reads-kept, set-spelled}
 use Rattle.crs_normal.proofs.normal.IdentLemmas.{ident-form}
 use Rattle.crs_normal.proofs.normal.LeafLemmas.{ArePlain, PlainIsOne, number-form, text-form}
-use Rattle.crs_normal.proofs.read.ViewLemmas.{View, without_places_onto, without_places-spread, those-looked}
+use Rattle.crs_normal.proofs.read.ViewLemmas.{View, looked, without_places_onto, without_places-spread, those-looked}
 use Rattle.crs_normal.proofs.texts.WordFormLemmas.{kind-one}
 
 map-same : {A : Type 0} (xs : List A) → map (λ x. x) xs ≡ xs
@@ -52,6 +52,16 @@ pub idents-spelled : (level : Level) (c : Class) (items : Siblings) (front : Lis
     (rest after : Siblings) → rest ≡ after → without_places_onto front rest ≡ each item_ident (set_idents level identifiers) after
 idents-spelled level c items front k e up =
     idents-found-spelled level c items front (kept-good level c class.Identifier items k) e up k.left.0
+
+pub idents-in : {level : Level} {c : Class} {item : Item} {keyword : List ℕ} (o : Opened level c item keyword)
+    (front : List Item) → looked c class.Identifier (slots_of c) (arguments item) o.slots ≡ front →
+    (identifiers : List IdentParts) →
+    ReadsEach (ReadsIdent class.Identifier) (those c class.Identifier (arguments item)) identifiers →
+    {rest after : Siblings} → rest ≡ after →
+    without_places_onto front rest ≡ each item_ident (set_idents level identifiers) after
+idents-in {level = level} {c = c} {item = item} o front same identifiers reads f =
+    idents-spelled level c (arguments item) front o.kept (found-in o class.Identifier front same) o.sets.0 identifiers
+    reads _ _ f
 
 -- ---- units
 

@@ -13,7 +13,7 @@ use Rattle.crs_value.specs.declared.values.unit_kind.UnitKind.TheVariants as kin
 use Rattle.crs_normal.specs.SpelledItems.{text_node}
 use Rattle.crs_normal.specs.SpelledUnits.{item_unit, norm_unit}
 use Rattle.crs_normal.specs.SpelledUsages.{item_box, item_extent, item_usage, norm_extent, norm_usage}
-use Rattle.crs_normal.proofs.normal.FormLemmas.{Form, kept-good, node-spelled, opened, optional-spelled}
+use Rattle.crs_normal.proofs.normal.FormLemmas.{Form, kept-good, node-spelled, opened, optional-in}
 use Rattle.crs_normal.proofs.normal.LeafLemmas.{PlainIsOne, text-node-form}
 use Rattle.crs_normal.proofs.normal.LevelLemmas.{normal-in}
 use Rattle.crs_normal.proofs.members.PairLemmas.{four-spelled, opt-length, opt-mapped, two-spelled}
@@ -56,11 +56,9 @@ extent-form law level c (node place keyword square first others close) x good re
     (kept-good level d class.Number items o.kept)
     (those-looked d class.Number (slots_of d) items v) (alone v.0 v.1.1.0 refl refl) (alone v1.0 v1.1.1.0 refl refl)
     x.minimum x.maximum reads.minimum reads.maximum _ _
-    (optional-spelled level d class.LengthUnit (ReadsUnit class.LengthUnit)
-    (λ u. item_unit (norm_unit level kinds.Length u))
-    (unit-form law level d class.LengthUnit kinds.Length refl (in-length kinds.Length) (λ raw h. h))
-    (those d class.LengthUnit items) v2.0 (kept-good level d class.LengthUnit items o.kept)
-    (those-looked d class.LengthUnit (slots_of d) items v) (v2.1.1.0.not_more refl) x.unit reads.unit End End refl
+    (optional-in o class.LengthUnit (ReadsUnit class.LengthUnit) (λ u. item_unit (norm_unit level kinds.Length u))
+    (unit-form law level d class.LengthUnit kinds.Length refl (in-length kinds.Length) (λ raw h. h)) v2.0 refl
+    (v2.1.1.0.not_more refl) x.unit reads.unit refl
     ∙ opt-length (ReadsUnit class.LengthUnit) level (those d class.LengthUnit items) x.unit o.own reads.unit End))
 
 full-usage-form : PlainIsOne → (c : Class) →
@@ -79,25 +77,16 @@ full-usage-form law c (node place keyword square first others close) x good read
     let v3 = v2.1.1.1.1 in
     node-spelled place keyword (codes "USAGE") square first others close _ o.written
     (without_places-spread d (slots_of d) items v
-    ∙ optional-spelled level d class.Scope (ReadsTextOf class.Scope) (text_node (codes "SCOPE"))
-    (text-node-form level d class.Scope (codes "SCOPE") refl (λ bytes h. h))
-    (those d class.Scope items) v.0 (kept-good level d class.Scope items o.kept)
-    (those-looked d class.Scope (slots_of d) items v) (v.1.1.0.not_more refl)
-    x.scope reads.scope _ _
-    (optional-spelled level d class.Area (ReadsTextOf class.Area) (text_node (codes "AREA"))
-    (text-node-form level d class.Area (codes "AREA") refl (λ bytes h. h))
-    (those d class.Area items) v1.0 (kept-good level d class.Area items o.kept)
-    (those-looked d class.Area (slots_of d) items v) (v1.1.1.0.not_more refl)
-    x.area reads.area _ _
-    (optional-spelled level d class.BoundingBox (ReadsBox class.BoundingBox) item_box (box-form law level d)
-    (those d class.BoundingBox items) v2.0 (kept-good level d class.BoundingBox items o.kept)
-    (those-looked d class.BoundingBox (slots_of d) items v)
-    (v2.1.1.0.not_more refl) x.bbox reads.bbox _ _
-    (optional-spelled level d class.VerticalExtent (ReadsExtent class.VerticalExtent)
-    (λ e. item_extent (norm_extent level e)) (extent-form law level d)
-    (those d class.VerticalExtent items) v3.0 (kept-good level d class.VerticalExtent items o.kept)
-    (those-looked d class.VerticalExtent (slots_of d) items v)
-    (v3.1.1.0.not_more refl) x.extent reads.extent End End refl
+    ∙ optional-in o class.Scope (ReadsTextOf class.Scope) (text_node (codes "SCOPE"))
+    (text-node-form level d class.Scope (codes "SCOPE") refl (λ bytes h. h)) v.0 refl (v.1.1.0.not_more refl) x.scope
+    reads.scope
+    (optional-in o class.Area (ReadsTextOf class.Area) (text_node (codes "AREA"))
+    (text-node-form level d class.Area (codes "AREA") refl (λ bytes h. h)) v1.0 refl (v1.1.1.0.not_more refl) x.area
+    reads.area
+    (optional-in o class.BoundingBox (ReadsBox class.BoundingBox) item_box (box-form law level d) v2.0 refl
+    (v2.1.1.0.not_more refl) x.bbox reads.bbox
+    (optional-in o class.VerticalExtent (ReadsExtent class.VerticalExtent) (λ e. item_extent (norm_extent level e))
+    (extent-form law level d) v3.0 refl (v3.1.1.0.not_more refl) x.extent reads.extent refl
     ∙ opt-mapped item_extent (norm_extent level) x.extent End))))
 
 -- with all that it holds, at each level
