@@ -1,4 +1,5 @@
 pub mod AloneLemmas
+pub mod ArgumentLemmas
 pub mod AscendLemmas
 pub mod AxisLemmas
 pub mod BehindLemmas

@@ -35,10 +35,11 @@ use Rattle.crs_normal.proofs.made.IdentLemmas.{identifiers-ascend, identifiers-l
 use Rattle.crs_normal.proofs.made.LeafLemmas.{text-made, word-made}
 use Rattle.crs_normal.proofs.made.NodeLemmas.{AreMade, Made, MadeBy, Run, RunsMadeBy, Sees, all-formed, all-shaped, all-unbroken, all-within, alone, as-argument, at-class, at-level, classes, each-line, each-set, given, lines, made-lines, opt-line, sees-by, unbroken-node}
 use Rattle.crs_normal.proofs.made.PlaceLemmas.{class-at}
-use Rattle.crs_normal.proofs.made.UnitLemmas.{unit-kept, unit-made, unit_as, unit_runs}
+use Rattle.crs_normal.proofs.made.UnitLemmas.{unit-arguments, unit-kept, unit-made, unit_as}
 use Rattle.crs_normal.proofs.made.WordLemmas.{direction-letters}
 use Rattle.crs_normal.proofs.parts.PartLemmas.{IsStanding}
 use Rattle.crs_normal.proofs.read.NameLemmas.{keyword-names}
+use Rattle.crs_normal.proofs.made.ArgumentLemmas.{as_runs, laid}
 
 -- ---- nodes that are accepted
 
@@ -122,8 +123,9 @@ module _ (l : DecimalLaws) (level : Level) (u : UnitParts) (h : IsUnit u) where
   plain-stands p =
       let k = unit-kept l level class.AxisUnit kinds.Length u (inl refl) h in
       node-stands (IsNormalIn level) 2 class.AxisUnit (codes "UNIT") (text_item u.name)
-      (More (number_item u.factor) (each item_ident (set_idents level u.identifiers) End)) (unit_runs level u) (simp each-line)
-      (refl, refl) refl k.made k.allowed k.unbroken p
+      (More (number_item u.factor) (each item_ident (set_idents level u.identifiers) End))
+      (as_runs (unit-arguments l level class.AxisUnit kinds.Length u (inl refl) h))
+      (laid (unit-arguments l level class.AxisUnit kinds.Length u (inl refl) h)) (refl, refl) refl k.made k.allowed k.unbroken p
 
   plain-alone : MadeBy (AsArgument level) 4 class.Axis class.AxisUnit (item_unit (unit_as level kinds.Plain u))
   plain-alone = record {

@@ -30,14 +30,14 @@ use Rattle.crs_normal.specs.AcceptedNormal.{IsKindIn, IsAcceptedNormal}
 use Rattle.crs_normal.specs.SpelledItems.{each, number_item, number_node, opt, text_item, word_item}
 use Rattle.crs_normal.specs.SpelledSystems.{item_axis, item_axis_meridian, norm_axis, norm_axis_meridian, norm_axis_meridians}
 use Rattle.crs_normal.specs.SpelledUnits.{item_ident, item_unit, norm_unit, norm_units, set_idents, whole_value}
-use Rattle.crs_normal.proofs.made.DatumLemmas.{number-node-made}
 use Rattle.crs_normal.proofs.made.EllipsoidLemmas.{suits-kind, unit-argument}
 use Rattle.crs_normal.proofs.made.FitLemmas.{fills-any, fills-one, fills-optional, runs-fit}
-use Rattle.crs_normal.proofs.made.IdentLemmas.{identifiers-ascend, identifiers-left, identifiers-made, ids_run}
-use Rattle.crs_normal.proofs.made.LeafLemmas.{number-made, text-made, word-made}
+use Rattle.crs_normal.proofs.made.IdentLemmas.{identifiers-ascend, identifiers-left, identifiers-made, ids_run, number-node-made}
+use Rattle.crs_normal.proofs.made.LeafLemmas.{text-made, word-made}
 use Rattle.crs_normal.proofs.made.NodeLemmas.{Made, Run, RunsMade, alone, as-argument, each-line, given, keeps-none, lines, node-made, opt-line, sees}
 use Rattle.crs_normal.proofs.made.PlaceLemmas.{ArePlaced}
 use Rattle.crs_normal.proofs.made.WordLemmas.{direction-letters}
+use Rattle.crs_normal.proofs.made.ArgumentLemmas.{made-of, number-of, one-of}
 
 -- ---- positions
 
@@ -58,37 +58,15 @@ order-made l level v h =
 
 -- ---- the meridian of an axis
 
-abbrev axis_meridian_runs : Level → AxisMeridianParts → List Run
-axis_meridian_runs level m = alone class.Number (number_item m.longitude) ∷ alone class.AngleUnit
-    (item_unit (norm_unit level kinds.Angle m.unit)) ∷ []
-
 pub axis-meridian-made : DecimalLaws → (level : Level) (m : AxisMeridianParts) → IsAxisMeridian m → (p : ℕ) →
     IsAcceptedNormal level class.AxisMeridian 4 (at_place p (item_axis_meridian (norm_axis_meridian level m)))
 unfolding BreaksOwn class_named is_keyword
 axis-meridian-made l level m h =
-    node-made level 3 class.AxisMeridian (codes "MERIDIAN") (number_item m.longitude)
-    (More (item_unit (norm_unit level kinds.Angle m.unit)) End)
-    (axis_meridian_runs level m) refl (record {
-      letters = (refl, refl);
-      known = refl;
-      written = refl;
-      made = (
-        (number-made l level 3 class.AxisMeridian m.longitude h.longitude, tt),
-        (
-          (
-            unit-argument l level 3 class.AxisMeridian class.AngleUnit kinds.Angle m.unit (omega arith) refl refl
-                (suits-kind kinds.Angle m.unit.kind h.unit.1) h.unit.0,
-            tt,
-          ),
-          tt,
-        ),
-      );
-      allowed = runs-fit (slots_of class.AxisMeridian) (axis_meridian_runs level m) (fills-one refl, (fills-one refl, tt));
-      sets = (tt, (tt, (tt, (tt, (tt, tt)))));
-      left = keeps-none level;
-      own = λ item s. tt;
-      unbroken = λ item fault s b. b;
-    })
+    made-of level 3 class.AxisMeridian (codes "MERIDIAN") _ _ (number-of l m.longitude h.longitude ∷
+    one-of class.AngleUnit (item_unit (norm_unit level kinds.Angle m.unit)) (unit-argument l level 3 class.AxisMeridian
+    class.AngleUnit kinds.Angle m.unit (omega arith) refl refl (suits-kind kinds.Angle m.unit.kind h.unit.1) h.unit.0) ∷
+    []) refl (refl, refl) refl refl refl (tt, (tt, (tt, (tt, (tt, tt))))) (keeps-none level) (λ item s. tt)
+    (λ item fault s b. b)
 
 pub axis-meridians-made : DecimalLaws → (level : Level) (x : Option AxisMeridianParts) → IfSome x IsAxisMeridian →
     Each (Made level 4 class.Axis class.AxisMeridian) (given item_axis_meridian (norm_axis_meridians level x))

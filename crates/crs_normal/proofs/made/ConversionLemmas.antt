@@ -1,6 +1,5 @@
 -- Parameters and conversions are made.
 use Rattle.std.proofs.Common.{◌≡◌, ℕ, ◌++◌, true, Option, Some, None, List, [], ◌∷◌, map, codes, IfSome, refl, arith}
-use Rattle.crs_text.specs.Items.{End, More}
 use Rattle.crs_text.specs.Written.{at_place}
 use Rattle.crs_shape.specs.declared.class.Class.{Class}
 use Rattle.crs_shape.specs.declared.class.Class.TheVariants as class
@@ -20,16 +19,16 @@ use Rattle.crs_normal.specs.DecimalLaws.{DecimalLaws}
 use Rattle.crs_normal.specs.AcceptedNormal.{IsKindIn, IsAcceptedNormal}
 use Rattle.crs_normal.specs.NormalOwn.{Ascend, set_classes}
 use Rattle.crs_normal.specs.SpelledConversions.{item_conversion, item_method, item_parameter, norm_conversion, norm_method, norm_parameter, set_parameters}
-use Rattle.crs_normal.specs.SpelledItems.{each, number_item, opt, text_item}
-use Rattle.crs_normal.specs.SpelledUnits.{item_ident, item_unit, norm_unit, norm_units, set_idents}
+use Rattle.crs_normal.specs.SpelledItems.{number_item, text_item}
+use Rattle.crs_normal.specs.SpelledUnits.{item_unit, norm_unit, norm_units}
 use Rattle.crs_normal.proofs.made.AscendLemmas.{set-ascends, set-each}
 use Rattle.crs_normal.proofs.made.FitLemmas.{fills-any, fills-one, fills-optional, runs-fit}
-use Rattle.crs_normal.proofs.made.IdentLemmas.{identifiers-ascend, identifiers-left, identifiers-made, ids_run}
-use Rattle.crs_normal.proofs.made.LeafLemmas.{number-made, text-made}
-use Rattle.crs_normal.proofs.made.NodeLemmas.{KeepsRuns, Made, Run, alone, as-argument, each-line, given, items_in, node-made, opt-line}
+use Rattle.crs_normal.proofs.made.IdentLemmas.{identifiers-ascend, identifiers-left, ids_run}
+use Rattle.crs_normal.proofs.made.NodeLemmas.{KeepsRuns, Made, Run, alone, as-argument, given, items_in}
 use Rattle.crs_normal.proofs.made.NamedLemmas.{method-made}
 use Rattle.crs_normal.proofs.made.UnitLemmas.{unit-made}
 use Rattle.crs_normal.proofs.members.ParameterLemmas.{named-as}
+use Rattle.crs_normal.proofs.made.ArgumentLemmas.{any-of, ids-of, made-of, one-of, text-of, made-where, may-of, number-of}
 
 -- ---- parameters: the class of the unit is that of its keyword
 
@@ -92,46 +91,19 @@ pub parameter-made : DecimalLaws → (level : Level) (m : ParameterParts) → Is
     IsAcceptedNormal level class.Parameter 4 (at_place p (item_parameter (norm_parameter level m)))
 unfolding BreaksOwn class_named is_keyword
 parameter-made l level m h =
-    node-made level 3 class.Parameter (codes "PARAMETER") (text_item m.name)
-    (More (number_item m.value) (opt item_unit (norm_units level kinds.Plain m.unit)
-    (each item_ident (set_idents level m.identifiers) End)))
-    (parameter_runs level (given_class m.unit) m) (simp (opt-line, each-line)) (record {
-      letters = (refl, refl);
-      known = refl;
-      written = refl;
-      made = (
-        (text-made level 3 class.Parameter m.name h.name, tt),
-        (
-          (number-made l level 3 class.Parameter m.value h.value, tt),
-          (
-            parameter-unit l level m.unit h.unit,
-            (
-              identifiers-made l level 3 class.Parameter m.identifiers (omega arith) refl h.identifiers,
-              tt,
-            ),
-          ),
-        ),
-      );
-      allowed = runs-fit (slots_of class.Parameter) (parameter_runs level (given_class m.unit) m) (
+    made-where level 3 class.Parameter (codes "PARAMETER") _ _ (text-of m.name h.name ∷ number-of l m.value h.value ∷
+    may-of (given_class m.unit) item_unit (norm_units level kinds.Plain m.unit) (parameter-unit l level m.unit h.unit) ∷
+    ids-of l m.identifiers (omega arith) refl h.identifiers ∷ []) refl (refl, refl) refl refl
+    (runs-fit (slots_of class.Parameter) (parameter_runs level (given_class m.unit) m) (
+      fills-one refl,
+      (
         fills-one refl,
-        (
-          fills-one refl,
-          (fills-optional item_unit (norm_units level kinds.Plain m.unit) (given-taken m.unit), (fills-any refl, tt)),
-        ),
-      );
-      sets = parameter-sets level m.unit m;
-      left = parameter-left level m.unit m;
-      own = λ item s. tt;
-      unbroken = λ item fault s b. b;
-    })
+        (fills-optional item_unit (norm_units level kinds.Plain m.unit) (given-taken m.unit), (fills-any refl, tt)),
+      ),
+    ))
+    (parameter-sets level m.unit m) (parameter-left level m.unit m) (λ item s. tt) (λ item fault s b. b)
 
 -- ---- conversions
-
-abbrev conversion_runs : Level → ConversionParts → List Run
-conversion_runs level m =
-    alone class.Text (text_item m.name) ∷ alone class.Method (item_method (norm_method level m.method)) ∷
-    record { of = class.Parameter; items = map item_parameter (set_parameters level m.parameters) } ∷
-    ids_run level m.identifiers ∷ []
 
 parameters-made : DecimalLaws → (level : Level) (ps : List ParameterParts) → Each IsParameter ps →
     Each (Made level 4 class.Conversion class.Parameter) (map item_parameter (set_parameters level ps))
@@ -150,37 +122,12 @@ pub conversion-made : DecimalLaws → (level : Level) (m : ConversionParts) → 
     IsAcceptedNormal level class.Conversion 5 (at_place p (item_conversion (norm_conversion level m)))
 unfolding BreaksOwn class_named is_keyword
 conversion-made l level m h =
-    node-made level 4 class.Conversion (codes "CONVERSION") (text_item m.name)
-    (More (item_method (norm_method level m.method))
-    (each item_parameter (set_parameters level m.parameters) (each item_ident (set_idents level m.identifiers) End)))
-    (conversion_runs level m) (simp each-line) (record {
-      letters = (refl, refl);
-      known = refl;
-      written = refl;
-      made = (
-        (text-made level 4 class.Conversion m.name h.name, tt),
-        (
-          (
-            as-argument level 3 4 class.Conversion class.Method (item_method (norm_method level m.method))
-                (omega arith) refl (method-made l level m.method h.method),
-            tt,
-          ),
-          (
-            parameters-made l level m.parameters h.parameters,
-            (
-              identifiers-made l level 4 class.Conversion m.identifiers (omega arith)
-                  refl h.identifiers,
-              tt,
-            ),
-          ),
-        ),
-      );
-      allowed = runs-fit (slots_of class.Conversion) (conversion_runs level m) (
-        fills-one refl,
-        (fills-one refl, (fills-any refl, (fills-any refl, tt))),
-      );
-      sets = (identifiers-ascend level m.identifiers, (tt, (tt, (parameters-ascend level m.parameters, (tt, tt)))));
-      left = identifiers-left level m.identifiers;
-      own = λ item s. tt;
-      unbroken = λ item fault s b. b;
-    })
+    made-of level 4 class.Conversion (codes "CONVERSION") _ _ (text-of m.name h.name ∷
+    one-of class.Method (item_method (norm_method level m.method))
+    (as-argument level 3 4 class.Conversion class.Method (item_method (norm_method level m.method)) (omega arith) refl
+    (method-made l level m.method h.method)) ∷
+    any-of class.Parameter item_parameter (set_parameters level m.parameters)
+    (parameters-made l level m.parameters h.parameters) ∷
+    ids-of l m.identifiers (omega arith) refl h.identifiers ∷ []) refl (refl, refl) refl refl refl
+    (identifiers-ascend level m.identifiers, (tt, (tt, (parameters-ascend level m.parameters, (tt, tt)))))
+    (identifiers-left level m.identifiers) (λ item s. tt) (λ item fault s b. b)

@@ -1,14 +1,13 @@
 -- Dynamic parts are made, and none is beside an ensemble.
 use Rattle.std.proofs.Common.{◌≡◌, ◌⊎◌, ℕ, ◌≤◌, Option, Some, None, List, [], ◌∷◌, codes, IfSome, inl, inr, refl, subst, arith}
 use Rattle.std.specs.Option.{option_map}
-use Rattle.crs_decimal.specs.Value.{Value, IsNormal}
-use Rattle.crs_text.specs.Items.{Item, End, arguments}
+use Rattle.crs_text.specs.Items.{Item, arguments}
 use Rattle.crs_text.specs.Refusal.{RefusedAt}
 use Rattle.crs_text.specs.Written.{at_place}
 use Rattle.crs_shape.specs.declared.class.Class.{Class}
 use Rattle.crs_shape.specs.declared.class.Class.TheVariants as class
 use Rattle.crs_shape.specs.Keywords.{is_keyword}
-use Rattle.crs_shape.specs.Slots.{class_named, slots_of}
+use Rattle.crs_shape.specs.Slots.{class_named}
 use Rattle.crs_value.specs.BadDynamic.{BadDynamic, IsUnsteady}
 use Rattle.crs_value.specs.Break.{AnyOf}
 use Rattle.crs_value.specs.Checks.{Own as BreaksOwn}
@@ -23,21 +22,11 @@ use Rattle.crs_value.specs.SoundSingle.{IsDynamicOf}
 use Rattle.crs_normal.specs.DecimalLaws.{DecimalLaws}
 use Rattle.crs_normal.specs.AcceptedNormal.{IsAcceptedNormal}
 use Rattle.crs_normal.specs.SpelledDynamic.{item_deformation_model, item_dynamic, norm_deformation_model, norm_dynamic}
-use Rattle.crs_normal.specs.SpelledItems.{number_item, number_node, opt}
-use Rattle.crs_normal.proofs.made.DatumLemmas.{number-node-made}
 use Rattle.crs_normal.proofs.made.EllipsoidLemmas.{placed-none}
-use Rattle.crs_normal.proofs.made.FitLemmas.{fills-one, fills-optional, runs-fit}
-use Rattle.crs_normal.proofs.made.NodeLemmas.{Made, Run, alone, as-argument, given, keeps-none, node-made, opt-line}
+use Rattle.crs_normal.proofs.made.NodeLemmas.{Made, Run, as-argument, given, keeps-none}
 use Rattle.crs_normal.proofs.made.NamedLemmas.{deformation-model-made}
 use Rattle.crs_normal.proofs.made.PlaceLemmas.{ArePlaced}
-
-frame-epoch-made : DecimalLaws → (level : Level) (v : Value) → IsNormal v → (p : ℕ) →
-    IsAcceptedNormal level class.FrameEpoch 1 (at_place p (number_node (codes "FRAMEEPOCH") v))
-unfolding is_keyword BreaksOwn
-frame-epoch-made l level v h =
-    number-node-made l level class.FrameEpoch (codes "FRAMEEPOCH") v (refl, refl) refl refl
-    (runs-fit (slots_of class.FrameEpoch) (alone class.Number (number_item v) ∷ []) (fills-one refl, tt))
-    (λ item. tt) (λ item fault b. b) h
+use Rattle.crs_normal.proofs.made.ArgumentLemmas.{made-of, may-of, one-number}
 
 model-argument : DecimalLaws → (level : Level) (x : Option DeformationModelParts) → IfSome x IsDeformationModel →
     class_named class.Dynamic (codes "MODEL") ≡ Some class.DeformationModel →
@@ -51,41 +40,15 @@ model-argument l level (Some m) h named = (
   tt,
 )
 
-abbrev dynamic_runs : Level → DynamicParts → List Run
-dynamic_runs level d =
-    alone class.FrameEpoch (number_node (codes "FRAMEEPOCH") d.epoch) ∷
-    record {
-      of = class.DeformationModel;
-      items = given item_deformation_model (option_map (norm_deformation_model level) d.model);
-    } ∷ []
-
 pub dynamic-made : DecimalLaws → (level : Level) (d : DynamicParts) → IsDynamic d → (p : ℕ) →
     IsAcceptedNormal level class.Dynamic 4 (at_place p (item_dynamic (norm_dynamic level d)))
 unfolding BreaksOwn class_named is_keyword
 dynamic-made l level d h =
-    node-made level 3 class.Dynamic (codes "DYNAMIC") (number_node (codes "FRAMEEPOCH") d.epoch)
-    (opt item_deformation_model (option_map (norm_deformation_model level) d.model) End)
-    (dynamic_runs level d) (simp opt-line) (record {
-      letters = (refl, refl);
-      known = refl;
-      written = refl;
-      made = (
-        (
-          as-argument level 1 3 class.Dynamic class.FrameEpoch (number_node (codes "FRAMEEPOCH") d.epoch)
-              (omega arith) refl (frame-epoch-made l level d.epoch h.epoch),
-          tt,
-        ),
-        (model-argument l level d.model h.model refl, tt),
-      );
-      allowed = runs-fit (slots_of class.Dynamic) (dynamic_runs level d) (
-        fills-one refl,
-        (fills-optional item_deformation_model (option_map (norm_deformation_model level) d.model) refl, tt),
-      );
-      sets = (tt, (tt, (tt, (tt, (tt, tt)))));
-      left = keeps-none level;
-      own = λ item s. tt;
-      unbroken = λ item fault s b. b;
-    })
+    made-of level 3 class.Dynamic (codes "DYNAMIC") _ _ (one-number class.FrameEpoch (codes "FRAMEEPOCH") (refl, refl)
+    refl refl (λ item. tt) (λ item fault b. b) refl (omega arith) l refl d.epoch h.epoch ∷
+    may-of class.DeformationModel item_deformation_model (option_map (norm_deformation_model level) d.model)
+    (model-argument l level d.model h.model refl) ∷ []) refl (refl, refl) refl refl refl (tt, (tt, (tt, (tt, (tt, tt)))))
+    (keeps-none level) (λ item s. tt) (λ item fault s b. b)
 
 -- ---- dynamic parts as arguments
 

@@ -2,13 +2,13 @@
 use Rattle.std.proofs.Common.{◌≡◌, ◌≢◌, ℕ, ◌≤◌, true, false, Option, Some, None, List, [], ◌∷◌, codes, IfSome, inl, inr, refl, sym, ap, subst, ◌∙◌, arith}
 use Rattle.std.specs.Prelude.{IsUtf8}
 use Rattle.crs_decimal.specs.Value.{Value, IsNormal}
-use Rattle.crs_text.specs.Items.{Item, End, More, arguments}
+use Rattle.crs_text.specs.Items.{Item, arguments}
 use Rattle.crs_text.specs.Refusal.{RefusedAt}
 use Rattle.crs_text.specs.Written.{at_place}
 use Rattle.crs_shape.specs.declared.class.Class.{Class}
 use Rattle.crs_shape.specs.declared.class.Class.TheVariants as class
 use Rattle.crs_shape.specs.Keywords.{is_keyword}
-use Rattle.crs_shape.specs.Slots.{class_named, slots_of}
+use Rattle.crs_shape.specs.Slots.{class_named}
 use Rattle.crs_value.specs.BadValue.{IsAboveZero}
 use Rattle.crs_value.specs.Checks.{OfEllipsoid, Own as BreaksOwn}
 use Rattle.crs_value.specs.KeptLaws.{kept-none}
@@ -24,15 +24,14 @@ use Rattle.crs_same.specs.SameUnits.{kind_as}
 use Rattle.crs_normal.specs.DecimalLaws.{DecimalLaws}
 use Rattle.crs_normal.specs.AcceptedNormal.{IsKindIn, IsAcceptedNormal}
 use Rattle.crs_normal.specs.SpelledFrames.{item_ellipsoid, norm_ellipsoid}
-use Rattle.crs_normal.specs.SpelledItems.{each, number_item, opt, text_item}
-use Rattle.crs_normal.specs.SpelledUnits.{item_ident, item_unit, metre, norm_length, norm_unit, norm_units, set_idents}
+use Rattle.crs_normal.specs.SpelledItems.{number_item}
+use Rattle.crs_normal.specs.SpelledUnits.{item_unit, metre, norm_length, norm_unit, norm_units}
 use Rattle.crs_normal.proofs.members.IdentLemmas.{none-form}
-use Rattle.crs_normal.proofs.made.FitLemmas.{fills-any, fills-one, fills-optional, runs-fit}
-use Rattle.crs_normal.proofs.made.IdentLemmas.{identifiers-ascend, identifiers-left, identifiers-made, ids_run}
-use Rattle.crs_normal.proofs.made.LeafLemmas.{number-made, text-made}
-use Rattle.crs_normal.proofs.made.NodeLemmas.{IsKept, Made, Run, alone, as-argument, each-line, given, node-made}
+use Rattle.crs_normal.proofs.made.IdentLemmas.{identifiers-ascend, identifiers-left}
+use Rattle.crs_normal.proofs.made.NodeLemmas.{Made, as-argument, given}
 use Rattle.crs_normal.proofs.made.PlaceLemmas.{ArePlaced}
 use Rattle.crs_normal.proofs.made.UnitLemmas.{not-below, reads-one, unit-made, unit_as}
+use Rattle.crs_normal.proofs.made.ArgumentLemmas.{ids-of, made-of, number-of, one-of, text-of}
 
 -- ---- units
 
@@ -110,60 +109,18 @@ ellipsoid-numbers l a f (x ∷ y ∷ []) fault h n z m s (inr (inl b)) =
 ellipsoid-numbers l a f (x ∷ y ∷ []) fault h n z m s (inr (inr b)) = b
 ellipsoid-numbers l a f (x ∷ y ∷ w ∷ others) fault h n z m s b = h.1.1
 
-abbrev ellipsoid_runs : Level → EllipsoidParts → List Run
-ellipsoid_runs level e =
-    alone class.Text (text_item e.name) ∷ alone class.Number (number_item e.semi_major_axis) ∷
-    alone class.Number (number_item e.inverse_flattening) ∷ alone class.LengthUnit
-    (item_unit (norm_length level e.unit)) ∷ ids_run level e.identifiers ∷ []
-
-ellipsoid-kept : DecimalLaws → (level : Level) (e : EllipsoidParts) → IsEllipsoid e →
-    IsKept level 3 class.Ellipsoid (codes "ELLIPSOID") (ellipsoid_runs level e)
-unfolding BreaksOwn class_named is_keyword
-ellipsoid-kept l level e h = record {
-  letters = (refl, refl);
-  known = refl;
-  written = refl;
-  made = (
-    (text-made level 3 class.Ellipsoid e.name h.name, tt),
-    (
-      (number-made l level 3 class.Ellipsoid e.semi_major_axis h.semi_major_axis, tt),
-      (
-        (number-made l level 3 class.Ellipsoid e.inverse_flattening h.inverse_flattening, tt),
-        (
-          (length-argument l level 3 class.Ellipsoid e.unit (omega arith) refl h.unit, tt),
-          (identifiers-made l level 3 class.Ellipsoid e.identifiers (omega arith) refl h.identifiers, tt),
-        ),
-      ),
-    ),
-  );
-  allowed = runs-fit (slots_of class.Ellipsoid) (ellipsoid_runs level e) (
-    fills-one refl,
-    (
-      fills-one refl,
-      (
-        fills-one refl,
-        (
-          fills-optional item_unit (Some (norm_length level e.unit))
-              refl,
-          (fills-any refl, tt),
-        ),
-      ),
-    ),
-  );
-  sets = (identifiers-ascend level e.identifiers, (tt, (tt, (tt, (tt, tt)))));
-  left = identifiers-left level e.identifiers;
-  own = λ item s. placed-some (those class.Ellipsoid class.LengthUnit (arguments item)) []
-      (item_unit (norm_length level e.unit)) (s.view class.LengthUnit);
-  unbroken = λ item fault s b.
-      ellipsoid-numbers l e.semi_major_axis e.inverse_flattening (those class.Ellipsoid class.Number (arguments item))
-      fault (s.view class.Number)
-      h.semi_major_axis h.above_zero h.inverse_flattening h.not_negative b;
-}
-
 pub ellipsoid-made : DecimalLaws → (level : Level) (e : EllipsoidParts) → IsEllipsoid e → (p : ℕ) →
     IsAcceptedNormal level class.Ellipsoid 4 (at_place p (item_ellipsoid (norm_ellipsoid level e)))
+unfolding BreaksOwn class_named is_keyword
 ellipsoid-made l level e h =
-    node-made level 3 class.Ellipsoid (codes "ELLIPSOID") (text_item e.name)
-    (More (number_item e.semi_major_axis) (More (number_item e.inverse_flattening)
-    (opt item_unit (Some (norm_length level e.unit)) (each item_ident (set_idents level e.identifiers) End))))
-    (ellipsoid_runs level e) (simp each-line) (ellipsoid-kept l level e h)
+    made-of level 3 class.Ellipsoid (codes "ELLIPSOID") _ _ (text-of e.name h.name ∷
+    number-of l e.semi_major_axis h.semi_major_axis ∷ number-of l e.inverse_flattening h.inverse_flattening ∷
+    one-of class.LengthUnit (item_unit (norm_length level e.unit))
+    (length-argument l level 3 class.Ellipsoid e.unit (omega arith) refl h.unit) ∷
+    ids-of l e.identifiers (omega arith) refl h.identifiers ∷ []) refl (refl, refl) refl refl refl
+    (identifiers-ascend level e.identifiers, (tt, (tt, (tt, (tt, tt))))) (identifiers-left level e.identifiers)
+    (λ item s. placed-some (those class.Ellipsoid class.LengthUnit (arguments item)) []
+    (item_unit (norm_length level e.unit)) (s.view class.LengthUnit))
+    (λ item fault s b. ellipsoid-numbers l e.semi_major_axis e.inverse_flattening
+    (those class.Ellipsoid class.Number (arguments item)) fault (s.view class.Number) h.semi_major_axis h.above_zero
+    h.inverse_flattening h.not_negative b)

@@ -31,7 +31,7 @@ pub fills-some : {cs : List Class} {d : Class} {js : List Item} → takes (some_
     FillsRun (some_of cs) (record { of = d; items = js })
 fills-some t some = record { taken = t; enough = λ h. some; not_more = λ h. cc }
 
-given-few : {A : Type 0} (spell : A → Item) (x : Option A) → length (given spell x) ≤ 1
+pub given-few : {A : Type 0} (spell : A → Item) (x : Option A) → length (given spell x) ≤ 1
 given-few spell None = omega arith
 given-few spell (Some a) = omega arith
 

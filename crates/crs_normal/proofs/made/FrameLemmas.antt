@@ -1,13 +1,12 @@
 -- Ensembles, and frames of either sort, are made.
 use Rattle.std.proofs.Common.{◌≡◌, ◌≢◌, ℕ, ◌++◌, Option, Some, None, List, [], ◌∷◌, map, codes, IfSome, IsNone, IsSome, refl, arith}
 use Rattle.std.specs.Option.{option_map}
-use Rattle.crs_decimal.specs.Value.{Value, IsNormal}
 use Rattle.crs_text.specs.Items.{Siblings, End, More}
 use Rattle.crs_text.specs.Written.{at_place}
 use Rattle.crs_shape.specs.declared.class.Class.{Class}
 use Rattle.crs_shape.specs.declared.class.Class.TheVariants as class
 use Rattle.crs_shape.specs.Keywords.{is_keyword}
-use Rattle.crs_shape.specs.Slots.{class_named, slots_of}
+use Rattle.crs_shape.specs.Slots.{class_named}
 use Rattle.crs_value.specs.Checks.{Own as BreaksOwn}
 use Rattle.crs_value.specs.declared.values.frame.Frame.{Frame}
 use Rattle.crs_value.specs.declared.values.frame.Frame.TheVariants as frame
@@ -20,29 +19,17 @@ use Rattle.crs_normal.specs.DecimalLaws.{DecimalLaws}
 use Rattle.crs_normal.specs.AcceptedNormal.{IsAcceptedNormal, geodetic_frame_class, vertical_frame_class}
 use Rattle.crs_normal.specs.NormalOwn.{Ascend}
 use Rattle.crs_normal.specs.SpelledFrames.{item_ellipsoid, item_frame, item_member, norm_ellipsoid, norm_frame, norm_member, set_members}
-use Rattle.crs_normal.specs.SpelledItems.{each, node_of, number_item, number_node, opt, text_item}
+use Rattle.crs_normal.specs.SpelledItems.{each, node_of, number_node, opt, text_item}
 use Rattle.crs_normal.specs.SpelledUnits.{item_ident, set_idents}
 use Rattle.crs_normal.proofs.made.AscendLemmas.{set-ascends, set-each, set-some}
-use Rattle.crs_normal.proofs.made.DatumLemmas.{geodetic-datum-made, number-node-made, vertical-datum-made}
+use Rattle.crs_normal.proofs.made.DatumLemmas.{geodetic-datum-made, vertical-datum-made}
 use Rattle.crs_normal.proofs.made.EllipsoidLemmas.{ellipsoid-made}
-use Rattle.crs_normal.proofs.made.FitLemmas.{fills-any, fills-one, fills-some, runs-fit}
-use Rattle.crs_normal.proofs.made.IdentLemmas.{identifiers-ascend, identifiers-left, identifiers-made, ids_run}
-use Rattle.crs_normal.proofs.made.LeafLemmas.{text-made}
-use Rattle.crs_normal.proofs.made.NodeLemmas.{Made, Run, alone, as-argument, each-line, node-made}
+use Rattle.crs_normal.proofs.made.IdentLemmas.{identifiers-ascend, identifiers-left}
+use Rattle.crs_normal.proofs.made.NodeLemmas.{Made, as-argument}
 use Rattle.crs_normal.proofs.made.NamedLemmas.{member-made}
+use Rattle.crs_normal.proofs.made.ArgumentLemmas.{ids-of, made-of, one-number, one-of, some-of, text-of}
 
 -- ---- ensembles
-
-accuracy-made : DecimalLaws → (level : Level) (v : Value) → IsNormal v → (p : ℕ) →
-    IsAcceptedNormal level class.EnsembleAccuracy 1 (at_place p (number_node (codes "ENSEMBLEACCURACY") v))
-unfolding is_keyword BreaksOwn
-accuracy-made l level v h =
-    number-node-made l level class.EnsembleAccuracy (codes "ENSEMBLEACCURACY") v (refl, refl) refl refl
-    (runs-fit (slots_of class.EnsembleAccuracy) (alone class.Number (number_item v) ∷ []) (fills-one refl, tt))
-    (λ item. tt) (λ item fault b. b) h
-
-abbrev members_run : Level → List MemberParts → Run
-members_run level ms = record { of = class.Member; items = map item_member (set_members level ms) }
 
 members-made : DecimalLaws → (level : Level) (parent : Class) (ms : List MemberParts) →
     class_named parent (codes "MEMBER") ≡ Some class.Member →
@@ -61,19 +48,6 @@ members-some : (level : Level) (ms : List MemberParts) → ms ≢ [] → map ite
 unfolding set_members
 members-some level ms h = set-some (norm_member level) item_member ms h
 
-accuracy-argument : DecimalLaws → (level : Level) (parent : Class) (v : Value) →
-    class_named parent (codes "ENSEMBLEACCURACY") ≡ Some class.EnsembleAccuracy →
-    IsNormal v → Made level 4 parent class.EnsembleAccuracy (number_node (codes "ENSEMBLEACCURACY") v)
-accuracy-argument l level parent v named h =
-    as-argument level 1 4 parent class.EnsembleAccuracy (number_node (codes "ENSEMBLEACCURACY") v) (omega arith) named
-    (accuracy-made l level v h)
-
-abbrev geodetic_ensemble_runs : Level → EllipsoidParts → EnsembleParts → List Run
-geodetic_ensemble_runs level x e =
-    alone class.Text (text_item e.name) ∷ members_run level e.members ∷ alone class.Ellipsoid
-    (item_ellipsoid (norm_ellipsoid level x)) ∷
-    alone class.EnsembleAccuracy (number_node (codes "ENSEMBLEACCURACY") e.accuracy) ∷ ids_run level e.identifiers ∷ []
-
 -- the arguments after an ensemble's name
 abbrev ensemble_others : Level → Option EllipsoidParts → EnsembleParts → Siblings
 ensemble_others level x e =
@@ -87,45 +61,16 @@ geodetic-ensemble-made : DecimalLaws → (level : Level) (x : Option EllipsoidPa
 unfolding BreaksOwn class_named is_keyword
 geodetic-ensemble-made l level None e some f h = absurd (cc some)
 geodetic-ensemble-made l level (Some x) e some f h =
-    node-made level 4 class.GeodeticEnsemble (codes "ENSEMBLE") (text_item e.name) (ensemble_others level (Some x) e)
-    (geodetic_ensemble_runs level x e) (simp each-line) (record {
-      letters = (refl, refl);
-      known = refl;
-      written = refl;
-      made = (
-        (text-made level 4 class.GeodeticEnsemble e.name h.name, tt),
-        (
-          members-made l level class.GeodeticEnsemble e.members refl h.members,
-          (
-            (
-              as-argument level 4 4 class.GeodeticEnsemble class.Ellipsoid (item_ellipsoid (norm_ellipsoid level x))
-                  (omega arith) refl (ellipsoid-made l level x f),
-              tt,
-            ),
-            (
-              (accuracy-argument l level class.GeodeticEnsemble e.accuracy refl h.accuracy, tt),
-              (identifiers-made l level 4 class.GeodeticEnsemble e.identifiers (omega arith) refl h.identifiers, tt),
-            ),
-          ),
-        ),
-      );
-      allowed = runs-fit (slots_of class.GeodeticEnsemble) (geodetic_ensemble_runs level x e) (
-        fills-one refl,
-        (
-          fills-some refl (members-some level e.members h.some),
-          (fills-one refl, (fills-one refl, (fills-any refl, tt))),
-        ),
-      );
-      sets = (identifiers-ascend level e.identifiers, (tt, (members-ascend level e.members, (tt, (tt, tt)))));
-      left = identifiers-left level e.identifiers;
-      own = λ item s. tt;
-      unbroken = λ item fault s b. b;
-    })
-
-abbrev vertical_ensemble_runs : Level → EnsembleParts → List Run
-vertical_ensemble_runs level e =
-    alone class.Text (text_item e.name) ∷ members_run level e.members ∷
-    alone class.EnsembleAccuracy (number_node (codes "ENSEMBLEACCURACY") e.accuracy) ∷ ids_run level e.identifiers ∷ []
+    made-of level 4 class.GeodeticEnsemble (codes "ENSEMBLE") _ _ (text-of e.name h.name ∷
+    some-of class.Member item_member (set_members level e.members) (members-some level e.members h.some)
+    (members-made l level class.GeodeticEnsemble e.members refl h.members) ∷
+    one-of class.Ellipsoid (item_ellipsoid (norm_ellipsoid level x)) (as-argument level 4 4 class.GeodeticEnsemble
+    class.Ellipsoid (item_ellipsoid (norm_ellipsoid level x)) (omega arith) refl (ellipsoid-made l level x f)) ∷
+    one-number class.EnsembleAccuracy (codes "ENSEMBLEACCURACY") (refl, refl) refl refl (λ item. tt)
+    (λ item fault b. b) refl (omega arith) l refl e.accuracy h.accuracy ∷
+    ids-of l e.identifiers (omega arith) refl h.identifiers ∷ []) refl (refl, refl) refl refl refl
+    (identifiers-ascend level e.identifiers, (tt, (members-ascend level e.members, (tt, (tt, tt)))))
+    (identifiers-left level e.identifiers) (λ item s. tt) (λ item fault s b. b)
 
 vertical-ensemble-made : DecimalLaws → (level : Level) (x : Option EllipsoidParts) (e : EnsembleParts) → IsNone x →
     IsEnsemble e →
@@ -134,33 +79,14 @@ vertical-ensemble-made : DecimalLaws → (level : Level) (x : Option EllipsoidPa
 unfolding BreaksOwn class_named is_keyword
 vertical-ensemble-made l level (Some x) e none h = absurd (cc none)
 vertical-ensemble-made l level None e none h =
-    node-made level 4 class.VerticalEnsemble (codes "ENSEMBLE") (text_item e.name) (ensemble_others level None e)
-    (vertical_ensemble_runs level e) (simp each-line) (record {
-      letters = (refl, refl);
-      known = refl;
-      written = refl;
-      made = (
-        (text-made level 4 class.VerticalEnsemble e.name h.name, tt),
-        (
-          members-made l level class.VerticalEnsemble e.members refl h.members,
-          (
-            (accuracy-argument l level class.VerticalEnsemble e.accuracy refl h.accuracy, tt),
-            (identifiers-made l level 4 class.VerticalEnsemble e.identifiers (omega arith) refl h.identifiers, tt),
-          ),
-        ),
-      );
-      allowed = runs-fit (slots_of class.VerticalEnsemble) (vertical_ensemble_runs level e) (
-        fills-one refl,
-        (
-          fills-some refl (members-some level e.members h.some),
-          (fills-one refl, (fills-any refl, tt)),
-        ),
-      );
-      sets = (identifiers-ascend level e.identifiers, (tt, (members-ascend level e.members, (tt, (tt, tt)))));
-      left = identifiers-left level e.identifiers;
-      own = λ item s. tt;
-      unbroken = λ item fault s b. b;
-    })
+    made-of level 4 class.VerticalEnsemble (codes "ENSEMBLE") _ _ (text-of e.name h.name ∷
+    some-of class.Member item_member (set_members level e.members) (members-some level e.members h.some)
+    (members-made l level class.VerticalEnsemble e.members refl h.members) ∷
+    one-number class.EnsembleAccuracy (codes "ENSEMBLEACCURACY") (refl, refl) refl refl (λ item. tt)
+    (λ item fault b. b) refl (omega arith) l refl e.accuracy h.accuracy ∷
+    ids-of l e.identifiers (omega arith) refl h.identifiers ∷ []) refl (refl, refl) refl refl refl
+    (identifiers-ascend level e.identifiers, (tt, (members-ascend level e.members, (tt, (tt, tt)))))
+    (identifiers-left level e.identifiers) (λ item s. tt) (λ item fault s b. b)
 
 -- ---- frames
 

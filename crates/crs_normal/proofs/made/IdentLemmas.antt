@@ -22,13 +22,14 @@ use Rattle.crs_normal.specs.AcceptedNormal.{IsAcceptedNormal}
 use Rattle.crs_normal.specs.Normal.{IsFirstKeyword}
 use Rattle.crs_normal.specs.NormalOwn.{Ascend, IsCode, HasOwnForm, set_classes}
 use Rattle.crs_normal.specs.Ordered.{in_order}
-use Rattle.crs_normal.specs.SpelledItems.{code_item, opt, text_item, text_node}
+use Rattle.crs_normal.specs.SpelledItems.{code_item, opt, text_item, text_node, number_item, number_node}
 use Rattle.crs_normal.specs.SpelledUnits.{item_ident, set_idents}
 use Rattle.crs_normal.proofs.made.AscendLemmas.{set-ascends}
 use Rattle.crs_normal.proofs.members.SetLemmas.{each-in_order}
 use Rattle.crs_normal.proofs.made.FitLemmas.{fills-one, fills-optional, runs-fit}
-use Rattle.crs_normal.proofs.made.LeafLemmas.{IsCodeKind, code-kind, code-made, code_kind, text-made}
+use Rattle.crs_normal.proofs.made.LeafLemmas.{IsCodeKind, code-kind, code-made, code_kind, text-made, number-made}
 use Rattle.crs_normal.proofs.made.NodeLemmas.{IsKept, Keeps, KeepsRuns, Made, Run, alone, as-argument, given, items_in, keeps-none, line, lines, node-made, opt-line}
+use Rattle.crs_decimal.specs.Value.{Value, IsNormal}
 
 -- ---- nodes of one text
 
@@ -49,6 +50,28 @@ text-node-made level c keyword raw letters known written allowed own unbroken h 
       own = λ item s. own item;
       unbroken = λ item fault s. unbroken item fault;
     })
+
+-- ---- nodes of one number
+
+pub number-node-made : DecimalLaws → (level : Level) (c : Class) (keyword : List ℕ) (v : Value) → IsWord keyword →
+    IsTrue (is_keyword c keyword) →
+    IsFirstKeyword c keyword → Allowed (slots_of c) (class.Number ∷ []) → ((item : Item) → HasOwnForm c item) →
+    ((item : Item) (fault : RefusedAt) → ¬ (BreaksOwn c item fault)) → IsNormal v → (p : ℕ) →
+    IsAcceptedNormal level c 1 (at_place p (number_node keyword v))
+number-node-made l level c keyword v letters known written allowed own unbroken h =
+    node-made level 0 c keyword (number_item v) End (alone class.Number (number_item v) ∷ []) refl (record {
+      letters = letters;
+      known = known;
+      written = written;
+      made = ((number-made l level 0 c v h, tt), tt);
+      allowed = allowed;
+      sets = (tt, (tt, (tt, (tt, (tt, tt)))));
+      left = keeps-none level;
+      own = λ item s. own item;
+      unbroken = λ item fault s. unbroken item fault;
+    })
+
+-- ---- the sources of identifiers
 
 one-text : Allowed (slots_of class.Citation) (class.Text ∷ [])
 one-text = runs-fit (slots_of class.Citation) (alone class.Text (text_item []) ∷ []) (fills-one refl, tt)

@@ -10,7 +10,7 @@ use Rattle.crs_text.specs.Written.{at_place}
 use Rattle.crs_shape.specs.declared.class.Class.{Class}
 use Rattle.crs_shape.specs.declared.class.Class.TheVariants as class
 use Rattle.crs_shape.specs.Keywords.{is_keyword}
-use Rattle.crs_shape.specs.Slots.{class_named, slots_of}
+use Rattle.crs_shape.specs.Slots.{class_named}
 use Rattle.crs_value.specs.Checks.{Own as BreaksOwn}
 use Rattle.crs_value.specs.KeptLaws.{kept-none}
 use Rattle.crs_value.specs.declared.values.level.Level.{Level}
@@ -26,12 +26,11 @@ use Rattle.crs_normal.specs.SpelledFrames.{greenwich, is_zero, item_meridian, no
 use Rattle.crs_normal.specs.SpelledItems.{each, node_of, number_item, opt, text_item}
 use Rattle.crs_normal.specs.SpelledUnits.{item_ident, item_unit, norm_units, set_idents, whole_value}
 use Rattle.crs_normal.proofs.made.EllipsoidLemmas.{given-unit, placed-none}
-use Rattle.crs_normal.proofs.made.FitLemmas.{fills-any, fills-one, fills-optional, runs-fit}
 use Rattle.crs_normal.proofs.members.IdentLemmas.{none-form}
-use Rattle.crs_normal.proofs.made.IdentLemmas.{identifiers-ascend, identifiers-left, identifiers-made, ids_run}
-use Rattle.crs_normal.proofs.made.LeafLemmas.{number-made, text-made}
-use Rattle.crs_normal.proofs.made.NodeLemmas.{Made, Run, Sees, alone, as-argument, each-line, given, node-made, opt-line}
+use Rattle.crs_normal.proofs.made.IdentLemmas.{identifiers-ascend, identifiers-left, ids_run}
+use Rattle.crs_normal.proofs.made.NodeLemmas.{Made, Run, Sees, alone, as-argument, given}
 use Rattle.crs_normal.proofs.made.PlaceLemmas.{ArePlaced}
+use Rattle.crs_normal.proofs.made.ArgumentLemmas.{ids-of, made-of, may-of, number-of, text-of}
 
 -- ---- the longitude 0
 
@@ -78,26 +77,10 @@ meridian-parts-made : DecimalLaws →
     (More (number_item v) (opt item_unit unit (each item_ident (set_idents level identifiers) End)))))
 unfolding BreaksOwn class_named is_keyword
 meridian-parts-made l level name v unit identifiers t n none u h =
-    node-made level 3 class.PrimeMeridian (codes "PRIMEM") (text_item name)
-    (More (number_item v) (opt item_unit unit (each item_ident (set_idents level identifiers) End)))
-    (meridian_runs level name v unit identifiers) (simp (opt-line, each-line)) (record {
-      letters = (refl, refl);
-      known = refl;
-      written = refl;
-      made = (
-        (text-made level 3 class.PrimeMeridian name t, tt),
-        (
-          (number-made l level 3 class.PrimeMeridian v n, tt),
-          (u, (identifiers-made l level 3 class.PrimeMeridian identifiers (omega arith) refl h, tt)),
-        ),
-      );
-      allowed = runs-fit (slots_of class.PrimeMeridian) (meridian_runs level name v unit identifiers)
-          (fills-one refl, (fills-one refl, (fills-optional item_unit unit refl, (fills-any refl, tt))));
-      sets = (identifiers-ascend level identifiers, (tt, (tt, (tt, (tt, tt)))));
-      left = identifiers-left level identifiers;
-      own = λ item s. unit-if-any l level name v unit identifiers item n none s;
-      unbroken = λ item fault s b. b;
-    })
+    made-of level 3 class.PrimeMeridian (codes "PRIMEM") _ _ (text-of name t ∷ number-of l v n ∷
+    may-of class.AngleUnit item_unit unit u ∷ ids-of l identifiers (omega arith) refl h ∷ []) refl (refl, refl) refl refl
+    refl (identifiers-ascend level identifiers, (tt, (tt, (tt, (tt, tt))))) (identifiers-left level identifiers)
+    (λ item s. unit-if-any l level name v unit identifiers item n none s) (λ item fault s b. b)
 
 unit-at : (b : Bool) (x : Option UnitParts) → b ≡ true → (if b then None else x) ≡ None
 unit-at true x e = refl

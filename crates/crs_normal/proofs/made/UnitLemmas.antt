@@ -2,7 +2,7 @@
 use Rattle.std.proofs.Common.{◌≡◌, ℕ, true, Some, List, [], ◌∷◌, codes, inl, inr, refl, sym, ap, subst, arith}
 use Rattle.crs_decimal.specs.Plain.{plain}
 use Rattle.crs_decimal.specs.Value.{Value, IsNormal}
-use Rattle.crs_text.specs.Items.{Item, End, More, arguments}
+use Rattle.crs_text.specs.Items.{Item, arguments}
 use Rattle.crs_text.specs.Refusal.{RefusedAt}
 use Rattle.crs_text.specs.Tokens.{IsWord}
 use Rattle.crs_text.specs.Written.{at_place}
@@ -26,13 +26,12 @@ use Rattle.crs_normal.specs.DecimalLaws.{DecimalLaws}
 use Rattle.crs_normal.specs.AcceptedNormal.{IsKindIn, IsAcceptedNormal}
 use Rattle.crs_normal.specs.Normal.{IsFirstKeyword}
 use Rattle.crs_normal.specs.NormalOwn.{HasOwnForm}
-use Rattle.crs_normal.specs.SpelledItems.{each, number_item, text_item}
-use Rattle.crs_normal.specs.SpelledUnits.{item_ident, item_unit, set_idents}
-use Rattle.crs_normal.proofs.made.FitLemmas.{fills-any, fills-one, runs-fit}
-use Rattle.crs_normal.proofs.made.IdentLemmas.{identifiers-ascend, identifiers-left, identifiers-made, ids_run}
-use Rattle.crs_normal.proofs.made.LeafLemmas.{number-made, text-made}
-use Rattle.crs_normal.proofs.made.NodeLemmas.{IsKept, Run, alone, classes, each-line, node-made}
+use Rattle.crs_normal.specs.SpelledItems.{number_item}
+use Rattle.crs_normal.specs.SpelledUnits.{item_unit, set_idents}
+use Rattle.crs_normal.proofs.made.IdentLemmas.{identifiers-ascend, identifiers-left}
+use Rattle.crs_normal.proofs.made.NodeLemmas.{IsKept, classes, node-made}
 use Rattle.crs_normal.proofs.made.PlaceLemmas.{ArePlaced}
+use Rattle.crs_normal.proofs.made.ArgumentLemmas.{Argument, ids-of, number-of, text-of, as_runs, fits, laid, runs-made}
 
 -- ---- numbers
 
@@ -103,7 +102,7 @@ unit-breaks class.PlainUnit kind item fault h b = b
 unit-breaks class.AxisUnit kind item fault h b = b
 unit-breaks other kind item fault h b = absurd h
 
-unit-names-id : (c : Class) (kind : UnitKind) → IsKindIn c kind → class_named c (codes "ID") ≡ Some class.Identifier
+pub unit-names-id : (c : Class) (kind : UnitKind) → IsKindIn c kind → class_named c (codes "ID") ≡ Some class.Identifier
 unfolding class_named is_keyword
 unit-names-id class.LengthUnit kind h = refl
 unit-names-id class.AngleUnit kind h = refl
@@ -112,29 +111,25 @@ unit-names-id class.PlainUnit kind h = refl
 unit-names-id class.AxisUnit kind h = refl
 unit-names-id other kind h = absurd h
 
-abbrev pub unit_runs : Level → UnitParts → List Run
-unit_runs level u = alone class.Text (text_item u.name) ∷ alone class.Number (number_item u.factor) ∷
-    ids_run level u.identifiers ∷ []
-
 -- a unit in its one form, of this kind
 abbrev pub unit_as : Level → UnitKind → UnitParts → UnitParts
 unit_as level kind u = record { kind = kind; name = u.name; factor = u.factor; identifiers = set_idents level u.identifiers }
 
-pub unit-kept : DecimalLaws → (level : Level) (c : Class) (kind : UnitKind) (u : UnitParts) → IsKindIn c kind → IsUnit u →
-    IsKept level 2 c (unit_word kind) (unit_runs level u)
+abbrev pub unit-arguments : DecimalLaws → (level : Level) (c : Class) (kind : UnitKind) (u : UnitParts) →
+    IsKindIn c kind → IsUnit u → List (Argument level 2 c)
+unit-arguments l level c kind u k h =
+    text-of u.name h.name ∷ number-of l u.factor h.factor ∷
+    ids-of l u.identifiers (omega arith) (unit-names-id c kind k) h.identifiers ∷ []
+
+pub unit-kept : (l : DecimalLaws) (level : Level) (c : Class) (kind : UnitKind) (u : UnitParts) (k : IsKindIn c kind)
+    (h : IsUnit u) → IsKept level 2 c (unit_word kind) (as_runs (unit-arguments l level c kind u k h))
 unit-kept l level c kind u k h = record {
   letters = unit-letters kind;
   known = unit-known c kind k;
   written = unit-written c kind k;
-  made = (
-    (text-made level 2 c u.name h.name, tt),
-    (
-      (number-made l level 2 c u.factor h.factor, tt),
-      (identifiers-made l level 2 c u.identifiers (omega arith) (unit-names-id c kind k) h.identifiers, tt),
-    ),
-  );
-  allowed = subst (λ slots. Allowed slots (classes (unit_runs level u))) (sym (unit-slots c kind k))
-      (runs-fit unit_slots (unit_runs level u) (fills-one refl, (fills-one refl, (fills-any refl, tt))));
+  made = runs-made (unit-arguments l level c kind u k h);
+  allowed = subst (λ slots. Allowed slots (classes (as_runs (unit-arguments l level c kind u k h))))
+      (sym (unit-slots c kind k)) (fits unit_slots (unit-arguments l level c kind u k h) refl);
   sets = (identifiers-ascend level u.identifiers, (tt, (tt, (tt, (tt, tt)))));
   left = identifiers-left level u.identifiers;
   own = λ item s. unit-own c kind item k;
@@ -147,6 +142,5 @@ pub unit-made : DecimalLaws → (level : Level) (c : Class) (kind : UnitKind) (u
     IsUnit u → (p : ℕ) →
     IsAcceptedNormal level c 3 (at_place p (item_unit (unit_as level kind u)))
 unit-made l level c kind u k h =
-    node-made level 2 c (unit_word kind) (text_item u.name) (More (number_item u.factor)
-    (each item_ident (set_idents level u.identifiers) End))
-    (unit_runs level u) (simp each-line) (unit-kept l level c kind u k h)
+    node-made level 2 c (unit_word kind) _ _ (as_runs (unit-arguments l level c kind u k h))
+    (laid (unit-arguments l level c kind u k h)) (unit-kept l level c kind u k h)
