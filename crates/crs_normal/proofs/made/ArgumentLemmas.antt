@@ -58,7 +58,7 @@ abbrev pub if_asked : Bool → Bool → Bool
 if_asked true b = b
 if_asked false b = true
 
-both : (b c : Bool) → (if b then c else false) ≡ true → (b ≡ true) × (c ≡ true)
+pub both : (b c : Bool) → (if b then c else false) ≡ true → (b ≡ true) × (c ≡ true)
 both true c e = (refl, e)
 both false c e = absurd (true≢false (sym e))
 

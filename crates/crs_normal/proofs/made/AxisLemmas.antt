@@ -30,14 +30,16 @@ use Rattle.crs_normal.specs.AcceptedNormal.{IsKindIn, IsAcceptedNormal}
 use Rattle.crs_normal.specs.SpelledItems.{each, number_item, number_node, opt, text_item, word_item}
 use Rattle.crs_normal.specs.SpelledSystems.{item_axis, item_axis_meridian, norm_axis, norm_axis_meridian, norm_axis_meridians}
 use Rattle.crs_normal.specs.SpelledUnits.{item_ident, item_unit, norm_unit, norm_units, set_idents, whole_value}
-use Rattle.crs_normal.proofs.made.EllipsoidLemmas.{suits-kind, unit-argument}
+use Rattle.crs_normal.proofs.made.EllipsoidLemmas.{unit-argument}
 use Rattle.crs_normal.proofs.made.FitLemmas.{fills-any, fills-one, fills-optional, runs-fit}
 use Rattle.crs_normal.proofs.made.IdentLemmas.{identifiers-ascend, identifiers-left, identifiers-made, ids_run, number-node-made}
 use Rattle.crs_normal.proofs.made.LeafLemmas.{text-made, word-made}
 use Rattle.crs_normal.proofs.made.NodeLemmas.{Made, Run, RunsMade, alone, as-argument, each-line, given, keeps-none, lines, node-made, opt-line, sees}
 use Rattle.crs_normal.proofs.made.PlaceLemmas.{ArePlaced}
 use Rattle.crs_normal.proofs.made.WordLemmas.{direction-letters}
-use Rattle.crs_normal.proofs.made.ArgumentLemmas.{made-of, number-of, one-of}
+use Rattle.crs_normal.proofs.made.ArgumentLemmas.{made-of, number-of, one-of, Argument, arguments-seen, ids-of, lay, may-of, text-of}
+use Rattle.crs_normal.proofs.read.NameLemmas.{keyword-names}
+use Rattle.crs_normal.proofs.same.UnitLemmas.{suits-kind}
 
 -- ---- positions
 
@@ -106,24 +108,11 @@ pub record Fits (system_type : SystemType) (shared : Option UnitParts) (x : Axis
   pub given_unit : own_or x.unit shared ≡ Some unit
   pub suits : IsUnitOf (asked_kind system_type x.direction) unit
 
-abbrev axis_runs : Level → UnitKind → ℕ → AxisParts → UnitParts → List Run
-axis_runs level asked k x u =
-    alone class.Text (text_item x.name) ∷ alone class.Word (word_item (direction_word x.direction)) ∷
-    record { of = class.AxisMeridian; items = given item_axis_meridian (norm_axis_meridians level x.meridian) } ∷
-    alone class.Order (number_node (codes "ORDER") (whole_value k)) ∷ alone class.AxisUnit
-    (item_unit (norm_unit level asked u)) ∷ ids_run level x.identifiers ∷ []
-
 abbrev axis_others : Level → UnitKind → ℕ → AxisParts → Option UnitParts → Siblings
 axis_others level asked k x w =
     More (word_item (direction_word x.direction)) (opt item_axis_meridian (norm_axis_meridians level x.meridian)
     (opt (number_node (codes "ORDER")) (Some (whole_value k)) (opt item_unit (norm_units level asked w)
     (each item_ident (set_idents level x.identifiers) End))))
-
-axis-lines : (level : Level) (asked : UnitKind) (k : ℕ) (x : AxisParts) (w : Option UnitParts) (u : UnitParts) →
-    w ≡ Some u →
-    More (text_item x.name) (axis_others level asked k x w) ≡ lines (axis_runs level asked k x u)
-axis-lines level asked k x w u e = ap (λ w. More (text_item x.name) (axis_others level asked k x w)) e
-    ∙ simp (opt-line, each-line)
 
 pub known-direction : (d : Direction) (words : List Item) (fault : RefusedAt) →
     ArePlaced words (word_item (direction_word d) ∷ []) →
@@ -133,74 +122,41 @@ known-direction d (x ∷ []) fault h (inl b) = b.1 d (subst (λ i. ReadsDirectio
 known-direction d (x ∷ []) fault h (inr b) = b
 known-direction d (x ∷ y ∷ words) fault h b = h.1
 
-axis-runs-made : DecimalLaws → (level : Level) (t : SystemType) (shared : Option UnitParts) (k : ℕ) (x : AxisParts)
-    (f : Fits t shared x) → 1 ≤ k → k ≤ 3 →
-    RunsMade level 4 class.Axis (axis_runs level (asked_kind t x.direction) k x f.unit)
-unfolding class_named is_keyword
-axis-runs-made l level t shared k x f low high =
-    let asked : UnitKind = asked_kind t x.direction in
-    let inside : IsKindIn class.AxisUnit asked = asked-in t x.direction in (
-      (text-made level 4 class.Axis x.name f.axis.name, tt),
-      (
-        (
-          word-made level 4 class.Axis (direction_word x.direction) (direction-letters x.direction)
-              (x.direction, refl),
-          tt,
-        ),
-        (
-          axis-meridians-made l level x.meridian f.axis.meridian,
-          (
-            (
-              as-argument level 1 4 class.Axis class.Order (number_node (codes "ORDER") (whole_value k)) (omega arith)
-                  refl
-                  (order-made l level (whole_value k) (whole-normal k low high)),
-              tt,
-            ),
-            (
-              (
-                unit-argument l level 4 class.Axis class.AxisUnit asked f.unit (omega arith) (axis-names asked inside)
-                    inside
-                    (suits-kind asked f.unit.kind f.suits.1) f.suits.0,
-                tt,
-              ),
-              (identifiers-made l level 4 class.Axis x.identifiers (omega arith) refl f.axis.identifiers, tt),
-            ),
-          ),
-        ),
-      ),
-    )
+order-argument : DecimalLaws → (level : Level) (k : ℕ) → 1 ≤ k → k ≤ 3 →
+    Made level 4 class.Axis class.Order (number_node (codes "ORDER") (whole_value k))
+order-argument l level k low high =
+    as-argument level 1 4 class.Axis class.Order (number_node (codes "ORDER") (whole_value k)) (omega arith)
+    (keyword-names class.Axis (codes "ORDER")) (order-made l level (whole_value k) (whole-normal k low high))
+
+module _ (l : DecimalLaws) (level : Level) (t : SystemType) (shared : Option UnitParts) (k : ℕ) (x : AxisParts) (f : Fits t shared x) (low : 1 ≤ k) (high : k ≤ 3) where
+  abbrev kind-asked : UnitKind
+  kind-asked = asked_kind t x.direction
+
+  abbrev axis_arguments : List (Argument level 4 class.Axis)
+  axis_arguments =
+      text-of x.name f.axis.name ∷ one-of class.Word (word_item (direction_word x.direction)) (word-made level 4
+      class.Axis (direction_word x.direction) (direction-letters x.direction) (x.direction, refl)) ∷
+      may-of class.AxisMeridian item_axis_meridian (norm_axis_meridians level x.meridian)
+      (axis-meridians-made l level x.meridian f.axis.meridian) ∷
+      one-of class.Order (number_node (codes "ORDER") (whole_value k)) (order-argument l level k low high) ∷
+      one-of class.AxisUnit (item_unit (norm_unit level kind-asked f.unit)) (unit-argument l level 4 class.Axis
+      class.AxisUnit kind-asked f.unit (omega arith) (axis-names kind-asked (asked-in t x.direction))
+      (asked-in t x.direction) (suits-kind kind-asked f.unit.kind f.suits.1) f.suits.0) ∷
+      ids-of l x.identifiers (omega arith) (keyword-names class.Axis (codes "ID")) f.axis.identifiers ∷ []
+
+  axis-laid : More (text_item x.name) (axis_others level kind-asked k x (own_or x.unit shared)) ≡ lay axis_arguments
+  axis-laid = ap (λ w. More (text_item x.name) (axis_others level kind-asked k x w)) f.given_unit
 
 pub axis-made : DecimalLaws → (level : Level) (s : SystemParts) (k : ℕ) (x : AxisParts) →
     Fits s.system_type s.unit x → 1 ≤ k → k ≤ 3 → (p : ℕ) →
     IsAcceptedNormal level class.Axis 5 (at_place p (item_axis (norm_axis level s k x)))
 unfolding BreaksOwn is_keyword norm_axis
 axis-made l level s k x f low high =
-    let asked : UnitKind = asked_kind s.system_type x.direction in
-    node-made level 4 class.Axis (codes "AXIS") (text_item x.name) (axis_others level asked k x (own_or x.unit s.unit))
-    (axis_runs level asked k x f.unit) (axis-lines level asked k x (own_or x.unit s.unit) f.unit f.given_unit) (record {
-      letters = (refl, refl);
-      known = refl;
-      written = refl;
-      made = axis-runs-made l level s.system_type s.unit k x f low high;
-      allowed = runs-fit (slots_of class.Axis) (axis_runs level asked k x f.unit) (
-        fills-one refl,
-        (
-          fills-one refl,
-          (
-            fills-optional item_axis_meridian (norm_axis_meridians level x.meridian) refl,
-            (
-              fills-optional (number_node (codes "ORDER")) (Some (whole_value k)) refl,
-              (fills-optional item_unit (Some (norm_unit level asked f.unit)) refl, (fills-any refl, tt)),
-            ),
-          ),
-        ),
-      );
-      sets = (identifiers-ascend level x.identifiers, (tt, (tt, (tt, (tt, tt)))));
-      left = identifiers-left level x.identifiers;
-      own = λ item v. tt;
-      unbroken = λ item fault v b. known-direction x.direction (those class.Axis class.Word (arguments item)) fault
-          (v.view class.Word) b;
-    })
+    made-of level 4 class.Axis (codes "AXIS") _ _ (axis_arguments l level s.system_type s.unit k x f low high)
+    (axis-laid l level s.system_type s.unit k x f low high) (refl, refl) refl refl refl
+    (identifiers-ascend level x.identifiers, (tt, (tt, (tt, (tt, tt))))) (identifiers-left level x.identifiers)
+    (λ item v. tt) (λ item fault v b. known-direction x.direction (those class.Axis class.Word (arguments item)) fault
+    (v.view class.Word) b)
 
 -- what is in an axis at a position, as the checks of a system see it
 pub record IsAxisItem (t : SystemType) (k : ℕ) (item : Item) : Type 0 where
@@ -217,10 +173,9 @@ pub axis-seen : DecimalLaws → (level : Level) (s : SystemParts) (k : ℕ) (x :
 unfolding norm_axis
 axis-seen l level s k x f low high p =
     let asked : UnitKind = asked_kind s.system_type x.direction in
-    let look = sees level 4 class.Axis (codes "AXIS") (text_item x.name) (axis_others level asked k x
-    (own_or x.unit s.unit))
-    (axis_runs level asked k x f.unit) p (axis-lines level asked k x (own_or x.unit s.unit) f.unit f.given_unit)
-    (axis-runs-made l level s.system_type s.unit k x f low high) in
+    let look = arguments-seen level 4 class.Axis (codes "AXIS") _ _
+    (axis_arguments l level s.system_type s.unit k x f low high)
+    (axis-laid l level s.system_type s.unit k x f low high) p in
     record {
       direction_in = x.direction;
       unit_in = norm_unit level asked f.unit;

@@ -1,5 +1,5 @@
 -- What CRSs with a coordinate system have after their other parts is made: the system and the end.
-use Rattle.std.proofs.Common.{◌≡◌, ◌≢◌, ℕ, suc, ◌≤◌, List, [], ◌∷◌, length, map, codes, Some, refl, sym, ap, subst, ◌∙◌, arith}
+use Rattle.std.proofs.Common.{◌≡◌, ◌≢◌, ℕ, suc, ◌≤◌, List, [], ◌∷◌, length, map, codes, Some, refl, sym, ap, subst, ◌∙◌, arith, None}
 use Rattle.std.proofs.lemmas.List.{append-nil}
 use Rattle.crs_decimal.specs.Number.{SameNumber, whole_number}
 use Rattle.crs_decimal.specs.Value.{exact}
@@ -19,11 +19,14 @@ use Rattle.crs_value.specs.Values.{AxisParts, SystemParts, TailParts}
 use Rattle.crs_normal.specs.DecimalLaws.{DecimalLaws}
 use Rattle.crs_normal.specs.SpelledSystems.{axes_from, item_axis, item_head, norm_system}
 use Rattle.crs_normal.proofs.made.CheckLemmas.{IsSystemSeen}
-use Rattle.crs_normal.proofs.made.EllipsoidLemmas.{placed-none}
 use Rattle.crs_normal.proofs.made.NodeLemmas.{Made, Run, RunsMade, alone, as-argument, items_in}
 use Rattle.crs_normal.proofs.made.PlaceLemmas.{ArePlaced}
-use Rattle.crs_normal.proofs.made.SystemLemmas.{HasEach, IsHeadItem, all-axes, all-count, axes-made, axes-seen, few-axes, head-made, head-seen}
-use Rattle.crs_normal.proofs.made.TailLemmas.{IsTailSeen, NamesTail, tail-runs-made, tail_runs}
+use Rattle.crs_normal.proofs.made.SystemLemmas.{HasEach, IsHeadItem, all-axes, all-count, axes-made, axes-seen, head-made, head-seen}
+use Rattle.crs_normal.proofs.made.TailLemmas.{IsTailSeen, NamesTail, tail_runs}
+use Rattle.crs_normal.proofs.made.ArgumentLemmas.{Argument, may-of, one-of, some-of}
+use Rattle.crs_normal.specs.SpelledUnits.{item_unit}
+use Rattle.crs_normal.proofs.texts.SegmentLemmas.{placed-none}
+use Rattle.crs_normal.proofs.normal.DimensionLemmas.{few-axes}
 
 -- each position of each system has an axis
 abbrev pub AxisEach : Type 0
@@ -41,7 +44,7 @@ pub few-system : DecimalLaws → AxisEach → (dimensions : SystemType → List 
 few-system l each_at dimensions small s h one = record {
   system = h;
   each_at = each_at s h;
-  few = few-axes l s.dimension (length s.axes) (dimensions s.system_type) (small s.system_type) one h.count;
+  few = few-axes l.symmetric l.transitive s.dimension (length s.axes) (dimensions s.system_type) (small s.system_type) one h.count;
 }
 
 abbrev pub axis_items : Level → SystemParts → List Item
@@ -94,14 +97,16 @@ axes-some l level s h =
     some-axes item_axis (axes_from level s 1 (length s.axes)) s.axes (all-count l level s h.system h.each_at h.few)
     h.system.some
 
-pub behind-made : DecimalLaws → (level : Level) (most : ℕ) (c : Class) (s : SystemParts) (t : TailParts) → 5 ≤ most →
-    NamesSystem c → NamesTail c →
-    IsFew s → IsTail t → RunsMade level most c (behind level s t)
-behind-made l level most c s t deep n m h g =
-    let three : 3 ≤ most = omega arith in (
-      (head-argument l level most c s three n h.system, tt),
-      (axes-argument l level most c s deep n h, (tt, tail-runs-made l level most c t deep m g)),
-    )
+pub three-of : (most : ℕ) → 5 ≤ most → 3 ≤ most
+three-of most deep = omega arith
+
+abbrev pub behind_arguments : DecimalLaws → (level : Level) (most : ℕ) (c : Class) (s : SystemParts)
+    (rest : List (Argument level most c)) → 5 ≤ most → NamesSystem c → IsFew s → List (Argument level most c)
+behind_arguments l level most c s rest deep n h =
+    one-of class.CoordinateSystem (item_head (norm_system level s))
+    (head-argument l level most c s (three-of most deep) n h.system) ∷
+    some-of class.Axis item_axis (axes_from level s 1 (length s.axes)) (axes-some l level s h)
+    (axes-argument l level most c s deep n h) ∷ may-of class.AxisUnit item_unit None tt ∷ rest
 
 -- ---- what the checks see
 

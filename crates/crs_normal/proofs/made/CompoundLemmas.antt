@@ -39,13 +39,14 @@ use Rattle.crs_normal.proofs.made.FitLemmas.{fills-one, fit-before, last-fits}
 use Rattle.crs_normal.proofs.made.GeodeticLemmas.{end_classes, geodetic-made, geodetic-seen}
 use Rattle.crs_normal.proofs.made.IdentLemmas.{identifiers-ascend}
 use Rattle.crs_normal.proofs.made.LeafLemmas.{text-made}
-use Rattle.crs_normal.proofs.made.NodeLemmas.{KeepsRuns, Made, Run, RunsMade, alone, as-argument, classes, each-line, items_in, node-made, opt-line, views}
+use Rattle.crs_normal.proofs.made.NodeLemmas.{KeepsRuns, Made, Run, RunsMade, alone, as-argument, classes, each-line, items_in, node-made, opt-line, views, Sees}
 use Rattle.crs_normal.proofs.made.PlaceLemmas.{ArePlaced}
 use Rattle.crs_normal.proofs.made.ProjectedLemmas.{projected-made, projected-seen}
 use Rattle.crs_normal.proofs.made.SystemLemmas.{IsHeadItem}
-use Rattle.crs_normal.proofs.made.RiseLemmas.{RunsRise}
-use Rattle.crs_normal.proofs.made.TailLemmas.{IsTailSeen, has-tail, no-repeats, tail-fits, tail-left, tail-runs-made, tail_runs, usages-ascend}
+use Rattle.crs_normal.proofs.made.RiseLemmas.{rises}
+use Rattle.crs_normal.proofs.made.TailLemmas.{IsTailSeen, has-tail, no-repeats, tail-fits, tail-left, tail_runs, usages-ascend, NamesTail, tail_arguments}
 use Rattle.crs_normal.proofs.made.VerticalLemmas.{vertical-made}
+use Rattle.crs_normal.proofs.made.ArgumentLemmas.{Argument, made-where, one-of, runs-made, text-of}
 
 -- ---- horizontal parts: geographic or projected
 
@@ -127,11 +128,9 @@ side-left level true j name v t = tail-left level t
 side-left level false j name v t = tail-left level t
 
 side-rise : (level : Level) (b : Bool) (j : Item) (name : List ℕ) (v : VerticalParts) (t : TailParts) →
-    RunsRise 0 (compound_runs level b j name v t)
-side-rise level true j name v t =
-    (omega arith, (omega arith, (omega arith, (omega arith, (omega arith, (omega arith, tt))))))
-side-rise level false j name v t =
-    (omega arith, (omega arith, (omega arith, (omega arith, (omega arith, (omega arith, tt))))))
+    rises 0 (compound_runs level b j name v t) ≡ true
+side-rise level true j name v t = refl
+side-rise level false j name v t = refl
 
 side-shows : (level : Level) (b : Bool) (j : Item) (name : List ℕ) (v : VerticalParts) (t : TailParts) (item : Item) →
     Each (Shows class.CompoundCrs item (compound_runs level b j name v t)) tail_classes →
@@ -175,29 +174,16 @@ compound-breaks level false j name v t item fault s h q (inr (inr (inr (inl k)))
     s.fine k
 compound-breaks level false j name v t item fault s h q (inr (inr (inr (inr k)))) = k
 
-compound-runs-made : DecimalLaws → AxisEach →
-    (level : Level) (b : Bool) (j : Item) (name : List ℕ) (v : VerticalParts) (t : TailParts) → IsSide level b j →
-    IsText name → IsVertical v → IsTail t → RunsMade level 7 class.CompoundCrs (compound_runs level b j name v t)
+vertical-part : DecimalLaws → AxisEach → (level : Level) (v : VerticalParts) → IsVertical v →
+    Made level 7 class.CompoundCrs class.VerticalCrs (item_vertical (norm_vertical level v))
 unfolding class_named is_keyword
-compound-runs-made l each_at level b j name v t s n h g = (
-  (text-made level 7 class.CompoundCrs name n, tt),
-  (
-    (s.made, tt),
-    (
-      (
-        as-argument level 6 7 class.CompoundCrs class.VerticalCrs (item_vertical (norm_vertical level v)) (omega arith)
-            refl (vertical-made l each_at level v h),
-        tt,
-      ),
-      tail-runs-made l level 7 class.CompoundCrs t (omega arith) (record {
-        usage = refl;
-        ident = refl;
-        remark =
-            refl;
-      }) g,
-    ),
-  ),
-)
+vertical-part l each_at level v h =
+    as-argument level 6 7 class.CompoundCrs class.VerticalCrs (item_vertical (norm_vertical level v)) (omega arith) refl
+    (vertical-made l each_at level v h)
+
+tail-names : NamesTail class.CompoundCrs
+unfolding class_named is_keyword
+tail-names = record { usage = refl; ident = refl; remark = refl }
 
 side-made : DecimalLaws → AxisEach →
     (level : Level) (b : Bool) (j : Item) (name : List ℕ) (v : VerticalParts) (t : TailParts) → IsSide level b j →
@@ -206,33 +192,22 @@ side-made : DecimalLaws → AxisEach →
     (More j (More (item_vertical (norm_vertical level v)) (tail_items (norm_tail level t))))))
 unfolding BreaksOwn is_keyword
 side-made l each_at level b j name v t s n h g =
-    let made : RunsMade level 7 class.CompoundCrs (compound_runs level b j name v t) =
-    compound-runs-made l each_at level b j name v t s n h g in
-    node-made level 7 class.CompoundCrs (codes "COMPOUNDCRS") (text_item name)
-    (More j (More (item_vertical (norm_vertical level v)) (tail_items (norm_tail level t))))
-    (compound_runs level b j name v t) (simp (opt-line, each-line)) (record {
-      letters = (refl, refl);
-      known = refl;
-      written = refl;
-      made = made;
-      allowed = fit-before (one class.Text ∷ one_of horizontal_classes ∷ one class.VerticalCrs ∷ []) (tail ∷ [])
-          (alone class.Text (text_item name) ∷ alone (side_class b) j ∷ alone class.VerticalCrs
-          (item_vertical (norm_vertical level v)) ∷ [])
-          (tail_runs level t) (fills-one refl, (fills-one (side-taken b), (fills-one refl, tt)))
-          (last-fits end_classes (classes (tail_runs level t)) (tail-fits end_classes level t refl refl refl));
-      sets = side-sets level b j name v t;
-      left = side-left level b j name v t;
-      own = λ item q.
-          has-tail level 7 class.CompoundCrs (compound_runs level b j name v t) item q made
-          (side-rise level b j name v t)
-          (tail-seen level class.CompoundCrs item t (side-shows level b j name v t item
-          (views class.CompoundCrs (compound_runs level b j name v t) item tail_classes q)));
-      unbroken = λ item fault q k.
-          compound-breaks level b j name v t item fault s (views class.CompoundCrs (compound_runs level b j name v t)
-          item horizontal_classes q)
-          (tail-seen level class.CompoundCrs item t (side-shows level b j name v t item
-          (views class.CompoundCrs (compound_runs level b j name v t) item tail_classes q))) k;
-    })
+    let all : List (Argument level 7 class.CompoundCrs) = text-of name n ∷ one-of (side_class b) j s.made ∷
+    one-of class.VerticalCrs (item_vertical (norm_vertical level v)) (vertical-part l each_at level v h) ∷
+    tail_arguments l level 7 class.CompoundCrs t (omega arith) tail-names g in
+    let seen = λ (item : Item) (q : Sees class.CompoundCrs (compound_runs level b j name v t) item). tail-seen level class.CompoundCrs item t (side-shows level b j name v t item
+    (views class.CompoundCrs (compound_runs level b j name v t) item tail_classes q)) in
+    made-where level 7 class.CompoundCrs (codes "COMPOUNDCRS") _ _ all refl (refl, refl) refl refl
+    (fit-before (one class.Text ∷ one_of horizontal_classes ∷ one class.VerticalCrs ∷ []) (tail ∷ [])
+    (alone class.Text (text_item name) ∷ alone (side_class b) j ∷ alone class.VerticalCrs
+    (item_vertical (norm_vertical level v)) ∷ []) (tail_runs level t)
+    (fills-one refl, (fills-one (side-taken b), (fills-one refl, tt)))
+    (last-fits end_classes (classes (tail_runs level t)) (tail-fits end_classes level t refl refl refl)))
+    (side-sets level b j name v t) (side-left level b j name v t)
+    (λ item q. has-tail level 7 class.CompoundCrs (compound_runs level b j name v t) item q (runs-made all)
+    (side-rise level b j name v t) (seen item q))
+    (λ item fault q k. compound-breaks level b j name v t item fault s
+    (views class.CompoundCrs (compound_runs level b j name v t) item horizontal_classes q) (seen item q) k)
 
 pub compound-made : DecimalLaws → AxisEach → (level : Level) (c : CompoundParts) → IsCompound c → (p : ℕ) →
     IsAcceptedNormal level class.CompoundCrs 8 (at_place p (item_compound (norm_compound level c)))

@@ -91,8 +91,7 @@ geodetic-datum-made l level (Some x) d some e h =
     (alone class.Text (text_item d.name) ∷ alone class.Ellipsoid (item_ellipsoid (norm_ellipsoid level x)) ∷ [])
     (datum_rest level d) (fills-one refl, (fills-one refl, tt)) (datum-rest-fits level d))
     (identifiers-ascend level d.identifiers, (tt, (tt, (tt, (tt, tt))))) (identifiers-left level d.identifiers)
-    (λ item s. has-rise level 4 class.GeodeticFrame (as_runs all) item s (runs-made all)
-    (omega arith, (omega arith, (omega arith, (omega arith, (omega arith, tt))))))
+    (λ item s. has-rise level 4 class.GeodeticFrame (as_runs all) item s (runs-made all) refl)
     (λ item fault s b. datum-repeats class.GeodeticFrame d item fault (s.view class.Anchor) (s.view class.AnchorEpoch) b)
 
 pub vertical-datum-made : DecimalLaws → (level : Level) (x : Option EllipsoidParts) (d : DatumParts) → IsNone x →
@@ -111,6 +110,5 @@ vertical-datum-made l level None d none h =
     (fit-before (one class.Text ∷ []) (anchor_slot ∷ any class.Identifier ∷ [])
     (alone class.Text (text_item d.name) ∷ []) (datum_rest level d) (fills-one refl, tt) (datum-rest-fits level d))
     (identifiers-ascend level d.identifiers, (tt, (tt, (tt, (tt, tt))))) (identifiers-left level d.identifiers)
-    (λ item s. has-rise level 4 class.VerticalFrame (as_runs all) item s (runs-made all)
-    (omega arith, (omega arith, (omega arith, (omega arith, tt)))))
+    (λ item s. has-rise level 4 class.VerticalFrame (as_runs all) item s (runs-made all) refl)
     (λ item fault s b. datum-repeats class.VerticalFrame d item fault (s.view class.Anchor) (s.view class.AnchorEpoch) b)

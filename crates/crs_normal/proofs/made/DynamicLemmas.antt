@@ -22,11 +22,11 @@ use Rattle.crs_value.specs.SoundSingle.{IsDynamicOf}
 use Rattle.crs_normal.specs.DecimalLaws.{DecimalLaws}
 use Rattle.crs_normal.specs.AcceptedNormal.{IsAcceptedNormal}
 use Rattle.crs_normal.specs.SpelledDynamic.{item_deformation_model, item_dynamic, norm_deformation_model, norm_dynamic}
-use Rattle.crs_normal.proofs.made.EllipsoidLemmas.{placed-none}
 use Rattle.crs_normal.proofs.made.NodeLemmas.{Made, Run, as-argument, given, keeps-none}
 use Rattle.crs_normal.proofs.made.NamedLemmas.{deformation-model-made}
 use Rattle.crs_normal.proofs.made.PlaceLemmas.{ArePlaced}
 use Rattle.crs_normal.proofs.made.ArgumentLemmas.{made-of, may-of, one-number}
+use Rattle.crs_normal.proofs.texts.SegmentLemmas.{placed-none}
 
 model-argument : DecimalLaws → (level : Level) (x : Option DeformationModelParts) → IfSome x IsDeformationModel →
     class_named class.Dynamic (codes "MODEL") ≡ Some class.DeformationModel →

@@ -32,16 +32,9 @@ use Rattle.crs_normal.proofs.made.NodeLemmas.{Made, as-argument, given}
 use Rattle.crs_normal.proofs.made.PlaceLemmas.{ArePlaced}
 use Rattle.crs_normal.proofs.made.UnitLemmas.{not-below, reads-one, unit-made, unit_as}
 use Rattle.crs_normal.proofs.made.ArgumentLemmas.{ids-of, made-of, number-of, one-of, text-of}
+use Rattle.crs_normal.proofs.same.UnitLemmas.{metre-is, suits-kind}
 
 -- ---- units
-
-pub suits-kind : (asked kind : UnitKind) → Suits asked kind → kind_as asked kind ≡ asked
-suits-kind asked kind (inr e) = ap (kind_as asked) e
-suits-kind asked kind (inl e) = ap (kind_as asked) e ∙ itself asked
-  where
-    itself : (k : UnitKind) → kind_as k k ≡ k
-    itself kinds.Length = refl
-    itself other = refl
 
 -- a unit of the asked kind as an argument
 pub unit-argument : DecimalLaws → (level : Level) (most : ℕ) (parent c : Class) (asked : UnitKind) (u : UnitParts) →
@@ -60,18 +53,6 @@ given-unit l level most parent c asked None deep named k h = tt
 given-unit l level most parent c asked (Some u) deep named k h =
     (unit-argument l level most parent c asked u deep named k (suits-kind asked u.kind h.1) h.0, tt)
 
-metre-name : IsUtf8 (codes "metre")
-unfolding lib.Utf8.encode
-metre-name = (codes "metre", (refl, refl))
-
-metre-unit : IsUnit metre
-metre-unit = record {
-  name = ((codes "metre", refl), metre-name);
-  factor = refl;
-  above_zero = (refl, λ e. cc);
-  identifiers = tt;
-}
-
 abbrev metre-with : List IdentParts → UnitParts
 metre-with identifiers = record { kind = metre.kind; name = metre.name; factor = metre.factor; identifiers = identifiers }
 
@@ -82,7 +63,7 @@ pub length-argument : DecimalLaws → (level : Level) (most : ℕ) (parent : Cla
 length-argument l level most parent None deep named h =
     subst (λ identifiers. Made level most parent class.LengthUnit (item_unit (metre-with identifiers)))
     (none-form level [] (kept-none level))
-    (unit-argument l level most parent class.LengthUnit kinds.Length metre deep named refl refl metre-unit)
+    (unit-argument l level most parent class.LengthUnit kinds.Length metre deep named refl refl metre-is)
 length-argument l level most parent (Some u) deep named h =
     unit-argument l level most parent class.LengthUnit kinds.Length u deep named refl
     (suits-kind kinds.Length u.kind h.1) h.0
@@ -90,10 +71,6 @@ length-argument l level most parent (Some u) deep named h =
 pub placed-some : (items js : List Item) (j : Item) → ArePlaced items (j ∷ js) → items ≢ []
 placed-some [] js j h e = h
 placed-some (item ∷ items) js j h e = cc
-
-pub placed-none : (items : List Item) → ArePlaced items [] → items ≡ []
-placed-none [] h = refl
-placed-none (item ∷ items) h = absurd h
 
 -- ---- ellipsoids
 

@@ -12,16 +12,23 @@ use Rattle.crs_value.specs.DynamicValues.{DynamicParts}
 use Rattle.crs_value.specs.Reading.{those}
 use Rattle.crs_value.specs.Sound.{Each}
 use Rattle.crs_value.specs.SoundSingle.{IsDynamicOf, IsGeodeticFrame}
-use Rattle.crs_value.specs.Values.{MeridianParts}
+use Rattle.crs_value.specs.Values.{MeridianParts, SystemParts}
 use Rattle.crs_normal.specs.DecimalLaws.{DecimalLaws}
 use Rattle.crs_normal.specs.AcceptedNormal.{geodetic_frame_class}
 use Rattle.crs_normal.specs.NormalOwn.{Ascend, rank, set_classes}
 use Rattle.crs_normal.specs.SpelledFrames.{item_frame, item_meridian, norm_frame, norm_meridian}
 use Rattle.crs_normal.proofs.made.BehindLemmas.{Shows, crs_classes}
-use Rattle.crs_normal.proofs.made.DynamicLemmas.{IsSteady, dynamic_classes, dynamic_run, none-shown}
+use Rattle.crs_normal.proofs.made.DynamicLemmas.{IsSteady, dynamic_classes, dynamic_run, none-shown, no-bad-dynamic}
 use Rattle.crs_normal.proofs.made.FrameLemmas.{geodetic-frame-made}
 use Rattle.crs_normal.proofs.made.NodeLemmas.{KeepsRuns, Made, Run, alone, as-argument, given, items_in}
 use Rattle.crs_normal.proofs.made.PlaceLemmas.{ArePlaced}
+use Rattle.crs_normal.proofs.made.CheckLemmas.{IsSystemSeen, no-bad-systems}
+use Rattle.crs_normal.proofs.made.TailLemmas.{IsTailSeen, no-repeats}
+use Rattle.crs_value.specs.Checks.{OfCrs}
+use Rattle.crs_value.specs.BadSystem.{IsOneOf}
+use Rattle.crs_text.specs.Refusal.{RefusedAt}
+use Rattle.crs_decimal.specs.Value.{IsNormal}
+use Rattle.crs_value.specs.declared.values.system_type.SystemType.{SystemType}
 
 -- ---- the frame as an argument, of one class or the other
 
@@ -50,10 +57,6 @@ frame-taken (frame.Ensemble e) = refl
 -- the name, the dynamic part and the frame of a CRS or base, and these
 abbrev pub framed_runs : Level → Item → Option DynamicParts → Frame → Item → List Run → List Run
 framed_runs level n x f j rest = alone class.Text n ∷ dynamic_run level x ∷ alone (geodetic_frame_class f) j ∷ rest
-
-pub frame-rank : (f : Frame) → rank (geodetic_frame_class f) ≡ 0
-frame-rank (frame.Datum d) = refl
-frame-rank (frame.Ensemble e) = refl
 
 pub frame-sets : (level : Level) (n : Item) (x : Option DynamicParts) (f : Frame) (j : Item) (rest : List Run) →
     Each (λ d. Ascend (items_in d rest)) set_classes →
@@ -99,3 +102,16 @@ meridian-there level None [] h e = h
 meridian-there level None (x ∷ items) h e = cc
 meridian-there level (Some m) [] h e = h
 meridian-there level (Some m) (x ∷ items) h e = cc
+
+-- ---- what the checks of a CRS see
+
+pub crs-breaks : DecimalLaws → (dimensions : SystemType → List ℕ) (c : Class) (s : SystemParts) (item : Item)
+    (fault : RefusedAt) → IsNormal s.dimension → IsOneOf s.dimension (dimensions s.system_type) → IsTailSeen c item →
+    IsSystemSeen s.system_type s.dimension (those c class.CoordinateSystem (arguments item))
+    (those c class.Axis (arguments item)) (those c class.AxisUnit (arguments item)) → IsSteady c item →
+    ¬ (OfCrs dimensions c item fault)
+crs-breaks l dimensions c s item fault n one t q y (inl b) = no-repeats c item fault t b
+crs-breaks l dimensions c s item fault n one t q y (inr (inl b)) =
+    no-bad-systems l dimensions s.system_type s.dimension (those c class.CoordinateSystem (arguments item))
+    (those c class.Axis (arguments item)) (those c class.AxisUnit (arguments item)) fault n one q b
+crs-breaks l dimensions c s item fault n one t q y (inr (inr b)) = no-bad-dynamic c item fault y b

@@ -1,5 +1,5 @@
 -- Geodetic and geographic CRSs are made.
-use Rattle.std.proofs.Common.{◌≡◌, ◌≢◌, ℕ, IsTrue, Some, None, List, [], ◌∷◌, map, codes, inl, inr, refl, sym, ap, subst, ◌∙◌, arith}
+use Rattle.std.proofs.Common.{◌≡◌, ◌≢◌, ℕ, IsTrue, Some, None, List, [], ◌∷◌, map, codes, inl, inr, refl, sym, ap, subst, ◌∙◌, arith, true}
 use Rattle.std.specs.Option.{option_map}
 use Rattle.crs_decimal.specs.Value.{Value}
 use Rattle.crs_text.specs.Items.{Item, Siblings, More, arguments, raw_of}
@@ -34,19 +34,22 @@ use Rattle.crs_normal.specs.SpelledItems.{opt, text_item, word_item}
 use Rattle.crs_normal.specs.SpelledSystems.{item_head, norm_system, system_items}
 use Rattle.crs_normal.specs.SpelledUnits.{item_unit}
 use Rattle.crs_normal.specs.SpelledUsages.{norm_tail, tail_items}
-use Rattle.crs_normal.proofs.made.BehindLemmas.{AxisEach, IsFew, NamesSystem, Shows, axes-some, axes_run, behind, behind-made, few-system, no_unit_run, system-seen, tail-seen}
+use Rattle.crs_normal.proofs.made.BehindLemmas.{AxisEach, IsFew, NamesSystem, Shows, axes-some, axes_run, behind, few-system, no_unit_run, system-seen, tail-seen, behind_arguments}
 use Rattle.crs_normal.proofs.made.CheckLemmas.{IsSystemSeen, has-axes, no-bad-systems}
 use Rattle.crs_normal.proofs.made.DynamicLemmas.{IsSteady, dynamic-argument, dynamic_classes, no-bad-dynamic}
 use Rattle.crs_normal.proofs.made.FitLemmas.{fills-one, fills-optional, fills-some, fit-before, last-fits}
-use Rattle.crs_normal.proofs.made.FrontLemmas.{NamesFrame, frame-argument, frame-left, frame-rank, frame-sets, frame-shows, frame-steady, frame-taken, framed_runs, geodetic_classes, meridian-there}
+use Rattle.crs_normal.proofs.made.FrontLemmas.{NamesFrame, frame-argument, frame-left, frame-sets, frame-shows, frame-steady, frame-taken, framed_runs, geodetic_classes, meridian-there, crs-breaks}
 use Rattle.crs_normal.proofs.made.IdentLemmas.{identifiers-ascend}
 use Rattle.crs_normal.proofs.made.LeafLemmas.{text-made}
 use Rattle.crs_normal.proofs.made.NodeLemmas.{IsKept, Run, RunsMade, Sees, alone, classes, each-line, given, items_in, node-made, opt-line, sees, views}
 use Rattle.crs_normal.proofs.made.PlaceLemmas.{ArePlaced}
 use Rattle.crs_normal.proofs.made.MeridianLemmas.{meridian-argument}
-use Rattle.crs_normal.proofs.made.RiseLemmas.{RunsRise}
-use Rattle.crs_normal.proofs.made.TailLemmas.{IsTailSeen, NamesTail, has-tail, no-repeats, tail-fits, tail-left, tail_runs, usages-ascend}
+use Rattle.crs_normal.proofs.made.RiseLemmas.{rises}
+use Rattle.crs_normal.proofs.made.TailLemmas.{IsTailSeen, NamesTail, has-tail, no-repeats, tail-fits, tail-left, tail_runs, usages-ascend, tail_arguments}
 use Rattle.crs_normal.proofs.normal.DimensionLemmas.{small-geodetic}
+use Rattle.crs_normal.proofs.made.ArgumentLemmas.{Argument, arguments-seen, laid, may-of, one-of, runs-made, text-of}
+use Rattle.crs_value.specs.declared.values.frame.Frame.{Frame}
+use Rattle.crs_value.specs.declared.values.frame.Frame.TheVariants as frame
 
 -- ---- the class of a CRS by the type of its system
 
@@ -176,38 +179,25 @@ pub end-sets : (level : Level) (g : GeodeticParts) →
     Each (λ d. Ascend (items_in d (geodetic_rest level g))) set_classes
 end-sets level g = (identifiers-ascend level g.tail.identifiers, (usages-ascend level (usages_of g.tail), (tt, (tt, (tt, tt)))))
 
-geodetic-runs-made : DecimalLaws → (level : Level) (c : Class) (keyword : List ℕ) (g : GeodeticParts) →
-    IsRootClass g.system.system_type c keyword →
-    IsFew g.system → IsGeodetic g → RunsMade level 5 c (geodetic_runs level g)
-geodetic-runs-made l level c keyword g r few h = (
-  (text-made level 5 c g.name h.name, tt),
-  (
-    dynamic-argument l level 5 c g.dynamic g.frame (omega arith) r.dynamic h.dynamic,
-    (
-      (frame-argument l level 5 c g.frame (omega arith) r.frames h.frame, tt),
-      (
-        meridian-argument l level 5 c g.meridian (omega arith) r.meridian h.meridian,
-        behind-made l level 5 c g.system g.tail (omega arith) r.systems r.tails few h.tail,
-      ),
-    ),
-  ),
-)
+abbrev geodetic_arguments : DecimalLaws → (level : Level) (c : Class) (keyword : List ℕ) (g : GeodeticParts) →
+    IsRootClass g.system.system_type c keyword → IsFew g.system → IsGeodetic g → List (Argument level 5 c)
+geodetic_arguments l level c keyword g r few h =
+    text-of g.name h.name ∷ may-of class.Dynamic item_dynamic (option_map (norm_dynamic level) g.dynamic)
+    (dynamic-argument l level 5 c g.dynamic g.frame (omega arith) r.dynamic h.dynamic) ∷
+    one-of (geodetic_frame_class g.frame) (frame_item level g)
+    (frame-argument l level 5 c g.frame (omega arith) r.frames h.frame) ∷
+    may-of class.PrimeMeridian item_meridian (norm_meridian level g.meridian)
+    (meridian-argument l level 5 c g.meridian (omega arith) r.meridian h.meridian) ∷
+    behind_arguments l level 5 c g.system (tail_arguments l level 5 c g.tail (omega arith) r.tails h.tail) (omega arith)
+    r.systems few
 
-geodetic-rise : (level : Level) (g : GeodeticParts) → RunsRise 0 (geodetic_runs level g)
-geodetic-rise level g =
-    let e : rank (geodetic_frame_class g.frame) ≡ 0 = frame-rank g.frame in (
-      omega arith,
-      (
-        omega arith,
-        (
-          omega arith,
-          (
-            omega arith,
-            (omega arith, (omega arith, (omega arith, (omega arith, (omega arith, (omega arith, tt)))))),
-          ),
-        ),
-      ),
-    )
+geodetic-rise : (level : Level) (g : GeodeticParts) → rises 0 (geodetic_runs level g) ≡ true
+geodetic-rise level g = by g.frame
+  where
+    by : (f : Frame) →
+        rises 0 (framed_runs level (text_item g.name) g.dynamic f (frame_item level g) (geodetic_rest level g)) ≡ true
+    by (frame.Datum d) = refl
+    by (frame.Ensemble e) = refl
 
 -- the word of each node `CS`
 system-words : (t : SystemType) (d : Value) (systems axes units : List Item) → IsSystemSeen t d systems axes units →
@@ -229,7 +219,7 @@ geodetic-kept l level c keyword g r few h = record {
   letters = r.letters;
   known = r.known;
   written = r.written;
-  made = geodetic-runs-made l level c keyword g r few h;
+  made = runs-made (geodetic_arguments l level c keyword g r few h);
   allowed = subst (λ slots. Allowed slots (classes (geodetic_runs level g))) (sym r.slots)
       (geodetic-allowed l level g few);
   sets = frame-sets level (text_item g.name) g.dynamic g.frame (frame_item level g) (geodetic_rest level g)
@@ -245,13 +235,14 @@ geodetic-kept l level c keyword g r few h = record {
       (those c class.AxisUnit (arguments item)) seen)
       (meridian-there level g.meridian (those c class.PrimeMeridian (arguments item)) v.0)
       (has-axes c item g.system.system_type g.system.dimension seen)
-      (has-tail level 5 c (geodetic_runs level g) item s (geodetic-runs-made l level c keyword g r few h)
+      (has-tail level 5 c (geodetic_runs level g) item s (runs-made (geodetic_arguments l level c keyword g r few h))
       (geodetic-rise level g)
       (tail-seen level c item g.tail v.1.1.1.1));
   unbroken = λ item fault s b.
       let v = shown item s in
-      no-break item fault (tail-seen level c item g.tail v.1.1.1.1) (system-seen l level c item g.system g.tail few
-      v.1) (steady item s) (r.breaks item fault b);
+      crs-breaks l r.dimensions c g.system item fault h.system.dimension (r.allows g.system.dimension h.dimension)
+      (tail-seen level c item g.tail v.1.1.1.1) (system-seen l level c item g.system g.tail few v.1) (steady item s)
+      (r.breaks item fault b);
 }
   where
     shown : (item : Item) → Sees c (geodetic_runs level g) item →
@@ -265,34 +256,15 @@ geodetic-kept l level c keyword g r few h = record {
         frame-steady level c item (text_item g.name) g.dynamic g.frame (frame_item level g) (geodetic_rest level g)
         h.dynamic (refl, (refl, (refl, tt))) (views c (geodetic_runs level g) item dynamic_classes s)
 
-    no-break : (item : Item) (fault : RefusedAt) → IsTailSeen c item →
-        IsSystemSeen g.system.system_type g.system.dimension
-        (those c class.CoordinateSystem (arguments item)) (those c class.Axis (arguments item))
-        (those c class.AxisUnit (arguments item)) → IsSteady c item →
-        ¬ (OfCrs r.dimensions c item fault)
-    no-break item fault t q y (inl b) = no-repeats c item fault t b
-    no-break item fault t q y (inr (inl b)) =
-        no-bad-systems l r.dimensions g.system.system_type g.system.dimension (those c class.CoordinateSystem
-        (arguments item))
-        (those c class.Axis (arguments item)) (those c class.AxisUnit (arguments item)) fault h.system.dimension
-        (r.allows g.system.dimension h.dimension) q b
-    no-break item fault t q y (inr (inr b)) = no-bad-dynamic c item fault y b
-
--- the arguments after a CRS's name
-abbrev geodetic_others : Level → GeodeticParts → Siblings
-geodetic_others level g =
-    opt item_dynamic (option_map (norm_dynamic level) g.dynamic) (More (frame_item level g)
-    (opt item_meridian (norm_meridian level g.meridian) (system_items (norm_system level g.system)
-    (tail_items (norm_tail level g.tail)))))
-
 pub geodetic-made : DecimalLaws → AxisEach → (level : Level) (g : GeodeticParts) → IsGeodetic g → (p : ℕ) →
     IsAcceptedNormal level (geodetic_class g.system.system_type) 6 (at_place p (item_geodetic (norm_geodetic level g)))
 geodetic-made l each_at level g h =
-    node-made level 5 (geodetic_class g.system.system_type) (geodetic_keyword g.system.system_type) (text_item g.name)
-    (geodetic_others level g) (geodetic_runs level g) (simp (opt-line, each-line))
-    (geodetic-kept l level (geodetic_class g.system.system_type) (geodetic_keyword g.system.system_type) g
-    (is-root g.system.system_type)
-    (few-system l each_at geodetic_dimensions small-geodetic g.system h.system h.dimension) h)
+    let c : Class = geodetic_class g.system.system_type in
+    let keyword : List ℕ = geodetic_keyword g.system.system_type in
+    let few = few-system l each_at geodetic_dimensions small-geodetic g.system h.system h.dimension in
+    let root = is-root g.system.system_type in
+    node-made level 5 c keyword _ _ (geodetic_runs level g) (laid (geodetic_arguments l level c keyword g root few h))
+    (geodetic-kept l level c keyword g root few h)
 
 -- the system of a CRS, as the checks of a compound see it
 pub geodetic-seen : DecimalLaws → AxisEach → (level : Level) (g : GeodeticParts) → IsGeodetic g → (p : ℕ) →
@@ -308,9 +280,8 @@ geodetic-seen l each_at level g h p =
     let item : Item = at_place p (item_geodetic (norm_geodetic level g)) in
     let few : IsFew g.system = few-system l each_at geodetic_dimensions small-geodetic g.system h.system h.dimension in
     let s : Sees c (geodetic_runs level g) item =
-    sees level 5 c (geodetic_keyword g.system.system_type) (text_item g.name) (geodetic_others level g)
-    (geodetic_runs level g) p (simp (opt-line, each-line))
-    (geodetic-runs-made l level c (geodetic_keyword g.system.system_type) g (is-root g.system.system_type) few h) in
+    arguments-seen level 5 c (geodetic_keyword g.system.system_type) _ _
+    (geodetic_arguments l level c (geodetic_keyword g.system.system_type) g (is-root g.system.system_type) few h) refl p in
     system-seen l level c item g.system g.tail few
     (frame-shows level c item (text_item g.name) g.dynamic g.frame (frame_item level g) (geodetic_rest level g)
     (views c (geodetic_runs level g) item geodetic_classes s)).1

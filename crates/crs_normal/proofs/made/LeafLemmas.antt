@@ -21,6 +21,7 @@ use Rattle.crs_normal.specs.Normal.{IsNumberIn, IsSingleIn, IsWordIn}
 use Rattle.crs_normal.specs.NormalOwn.{IsShort}
 use Rattle.crs_normal.specs.SpelledItems.{is_short, number_item, text_item, word_item}
 use Rattle.crs_normal.proofs.made.NodeLemmas.{Made}
+use Rattle.crs_normal.proofs.texts.ItemLemmas.{run-single}
 
 leaf-made : (level : Level) (most : ℕ) (parent : Class) (kind : Kind) (raw : List ℕ) → IsSingle kind raw →
     IsSingleIn parent kind raw →
@@ -38,10 +39,6 @@ text-made level most parent raw h = leaf-made level most parent text raw h tt re
 number-in : (c : Class) (raw : List ℕ) → IsPlain raw → IsNumberIn c raw
 number-in class.Identifier raw h = tt
 number-in c raw h = h
-
-pub run-single : (raw : List ℕ) → IsRun raw → IsInBounds raw → IsSingle number raw
-run-single [] h b = absurd h
-run-single (d ∷ ds) h b = (h.0, h.1, b)
 
 pub number-made : DecimalLaws → (level : Level) (most : ℕ) (parent : Class) (v : Value) → IsNormal v →
     Made level most parent class.Number (number_item v)

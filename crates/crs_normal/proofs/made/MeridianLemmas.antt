@@ -25,12 +25,13 @@ use Rattle.crs_normal.specs.NormalOwn.{HasNoUnitAtZero}
 use Rattle.crs_normal.specs.SpelledFrames.{greenwich, is_zero, item_meridian, norm_given, norm_meridian}
 use Rattle.crs_normal.specs.SpelledItems.{each, node_of, number_item, opt, text_item}
 use Rattle.crs_normal.specs.SpelledUnits.{item_ident, item_unit, norm_units, set_idents, whole_value}
-use Rattle.crs_normal.proofs.made.EllipsoidLemmas.{given-unit, placed-none}
+use Rattle.crs_normal.proofs.made.EllipsoidLemmas.{given-unit}
 use Rattle.crs_normal.proofs.members.IdentLemmas.{none-form}
 use Rattle.crs_normal.proofs.made.IdentLemmas.{identifiers-ascend, identifiers-left, ids_run}
 use Rattle.crs_normal.proofs.made.NodeLemmas.{Made, Run, Sees, alone, as-argument, given}
 use Rattle.crs_normal.proofs.made.PlaceLemmas.{ArePlaced}
 use Rattle.crs_normal.proofs.made.ArgumentLemmas.{ids-of, made-of, may-of, number-of, text-of}
+use Rattle.crs_normal.proofs.texts.SegmentLemmas.{placed-none}
 
 -- ---- the longitude 0
 

@@ -1,5 +1,5 @@
 -- Made arguments of rising ranks: their ranks never fall.
-use Rattle.std.proofs.Common.{ℕ, ◌+◌, ◌≤◌, Option, Some, None, List, [], ◌∷◌, length, sym, subst, ◌∙◌, arith}
+use Rattle.std.proofs.Common.{ℕ, ◌+◌, ◌≤◌, Option, Some, None, List, [], ◌∷◌, length, sym, subst, ◌∙◌, arith, ◌≡◌, Bool, true, false, if◌then◌else◌, nat_le, leb-true, true≢false, refl}
 use Rattle.crs_text.specs.Items.{Item, Siblings, End, More, arguments}
 use Rattle.crs_text.specs.Written.{at_place, at_places, item_text}
 use Rattle.crs_shape.specs.declared.class.Class.{Class}
@@ -10,11 +10,23 @@ use Rattle.crs_value.specs.Sound.{Each}
 use Rattle.crs_normal.specs.NormalOwn.{Rise, rank}
 use Rattle.crs_normal.proofs.made.NodeLemmas.{Made, Run, RunsMade, Sees, at-class, line, lines}
 use Rattle.crs_normal.proofs.made.PlaceLemmas.{class-at}
+use Rattle.crs_normal.proofs.made.ArgumentLemmas.{both}
 
 -- the ranks of the runs never fall, from this one on
-abbrev pub RunsRise : ℕ → List Run → Type 0
+abbrev RunsRise : ℕ → List Run → Type 0
 RunsRise least [] = Unit {0}
 RunsRise least (run ∷ runs) = (least ≤ rank run.of) × RunsRise (rank run.of) runs
+
+-- whether they never fall
+abbrev pub rises : ℕ → List Run → Bool
+rises least [] = true
+rises least (run ∷ runs) = if nat_le least (rank run.of) then rises (rank run.of) runs else false
+
+runs-rise : (least : ℕ) (runs : List Run) → rises least runs ≡ true → RunsRise least runs
+runs-rise least [] e = tt
+runs-rise least (run ∷ runs) e =
+    let p = both (nat_le least (rank run.of)) (rises (rank run.of) runs) e in
+    (leb-true least (rank run.of) p.0, runs-rise (rank run.of) runs p.1)
 
 rise-lower : (c : Class) (m n : ℕ) (items : Siblings) → m ≤ n → Rise c n items → Rise c m items
 rise-lower c m n End h r = tt
@@ -47,5 +59,6 @@ rise-lines level most c (run ∷ runs) least s h r =
     (rank run.of) q h.1 r.1)
 
 pub has-rise : (level : Level) (most : ℕ) (c : Class) (runs : List Run) (item : Item) → Sees c runs item →
-    RunsMade level most c runs → RunsRise 0 runs → Rise c 0 (arguments item)
-has-rise level most c runs item s m r = subst (Rise c 0) (sym s.are) (rise-lines level most c runs 0 s.start m r)
+    RunsMade level most c runs → rises 0 runs ≡ true → Rise c 0 (arguments item)
+has-rise level most c runs item s m r =
+    subst (Rise c 0) (sym s.are) (rise-lines level most c runs 0 s.start m (runs-rise 0 runs r))

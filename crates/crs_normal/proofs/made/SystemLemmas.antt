@@ -259,18 +259,4 @@ head-seen l level s h p =
     (simp each-line) (head-runs-made l level s h) in
     record { words = look.view class.Word; numbers = look.view class.Number }
 
--- ---- the number of axes
-
--- a number that is one of a few small ones and is this whole number too is small
-pub few-axes : DecimalLaws → (v : Value) (n : ℕ) (ns : List ℕ) → Each (λ m. m ≤ 3) ns → IsOneOf v ns →
-    SameNumber (exact v) (whole_number n) → n ≤ 3
-few-axes l v n [] few h s = absurd h
-few-axes l v n (m ∷ ns) few (inl h) s =
-    let t : SameNumber (whole_number n) (whole_number m) =
-    l.transitive (whole_number n) (exact v) (whole_number m) (l.symmetric (exact v) (whole_number n) s) h in
-    let e : n * 1 ≡ m * 1 = t.0 in
-    let k : m ≤ 3 = few.0 in
-    omega arith
-few-axes l v n (m ∷ ns) few (inr h) s = few-axes l v n ns few.1 h s
-
 -- ---- axes by themselves

@@ -33,9 +33,10 @@ use Rattle.crs_normal.proofs.made.FitLemmas.{fills-one, runs-fit, taken-more}
 use Rattle.crs_normal.proofs.made.IdentLemmas.{given-made, identifiers-left, identifiers-made, ids_run, text-node-made}
 use Rattle.crs_normal.proofs.made.NodeLemmas.{Keeps, Made, Run, RunsMade, Sees, alone, as-argument, classes, given}
 use Rattle.crs_normal.proofs.made.PlaceLemmas.{ArePlaced}
-use Rattle.crs_normal.proofs.made.RiseLemmas.{RunsRise, has-rise}
+use Rattle.crs_normal.proofs.made.RiseLemmas.{has-rise, rises}
 use Rattle.crs_normal.proofs.made.UsageLemmas.{usage-made, usage-named}
 use Rattle.crs_normal.proofs.read.ViewLemmas.{each-so}
+use Rattle.crs_normal.proofs.made.ArgumentLemmas.{Argument, any-of, ids-of, may-of}
 
 -- ---- the usages, the bare parts being one more
 
@@ -46,7 +47,7 @@ usages-sound t h = by t.bare_parts h.bare_parts
     by None u = h.usages
     by (Some bare) u = (u, h.usages)
 
-usages-made : DecimalLaws → (level : Level) (most : ℕ) (parent : Class) (us : List UsageParts) → 5 ≤ most →
+pub usages-made : DecimalLaws → (level : Level) (most : ℕ) (parent : Class) (us : List UsageParts) → 5 ≤ most →
     class_named parent (codes "USAGE") ≡ Some class.Usage → Each IsUsage us → Each (Made level most parent class.Usage)
     (map item_usage (set_usages level us))
 unfolding set_usages
@@ -97,24 +98,25 @@ pub record NamesTail (c : Class) : Type 0 where
   pub ident : class_named c (codes "ID") ≡ Some class.Identifier
   pub remark : class_named c (codes "REMARK") ≡ Some class.Remark
 
-pub tail-runs-made : DecimalLaws → (level : Level) (most : ℕ) (c : Class) (t : TailParts) → 5 ≤ most → NamesTail c →
-    IsTail t →
-    RunsMade level most c (tail_runs level t)
-tail-runs-made l level most c t deep n h =
-    let two : 2 ≤ most = omega arith in
-    let one : 1 ≤ most = omega arith in (
-      usages-made l level most c (usages_of t) deep n.usage (usages-sound t h),
-      (
-        identifiers-made l level most c t.identifiers two n.ident h.identifiers,
-        (
-          given-made level most c class.Remark IsText (text_node (codes "REMARK")) (kept_one level t.remark)
-              (remark-text level t.remark h.remark)
-              (λ raw q. as-argument level 1 most c class.Remark (text_node (codes "REMARK") raw) one n.remark
-              (remark-made level raw q)),
-          tt,
-        ),
-      ),
-    )
+pub two-of : (most : ℕ) → 5 ≤ most → 2 ≤ most
+two-of most deep = omega arith
+
+pub remarks-made : (level : Level) (most : ℕ) (c : Class) (t : TailParts) → 5 ≤ most → NamesTail c → IsTail t →
+    Each (Made level most c class.Remark) (remark_items level t)
+remarks-made level most c t deep n h =
+    let one : 1 ≤ most = omega arith in
+    given-made level most c class.Remark IsText (text_node (codes "REMARK")) (kept_one level t.remark)
+    (remark-text level t.remark h.remark)
+    (λ raw q. as-argument level 1 most c class.Remark (text_node (codes "REMARK") raw) one n.remark
+    (remark-made level raw q))
+
+abbrev pub tail_arguments : DecimalLaws → (level : Level) (most : ℕ) (c : Class) (t : TailParts) → 5 ≤ most →
+    NamesTail c → IsTail t → List (Argument level most c)
+tail_arguments l level most c t deep n h =
+    any-of class.Usage item_usage (set_usages level (usages_of t))
+    (usages-made l level most c (usages_of t) deep n.usage (usages-sound t h)) ∷
+    ids-of l t.identifiers (two-of most deep) n.ident h.identifiers ∷
+    may-of class.Remark (text_node (codes "REMARK")) (kept_one level t.remark) (remarks-made level most c t deep n h) ∷ []
 
 pub tail-fits : (cs : List Class) (level : Level) (t : TailParts) → takes (any_of cs) class.Usage ≡ true →
     takes (any_of cs) class.Identifier ≡ true →
@@ -166,7 +168,7 @@ no-repeats c item fault s (inr (inr (inr (inr (inl b))))) =
 no-repeats c item fault s (inr (inr (inr (inr (inr b))))) = b
 
 pub has-tail : (level : Level) (most : ℕ) (c : Class) (runs : List Run) (item : Item) → Sees c runs item →
-    RunsMade level most c runs → RunsRise 0 runs →
+    RunsMade level most c runs → rises 0 runs ≡ true →
     IsTailSeen c item → HasTail c item
 has-tail level most c runs item s m r t = record {
   in_order = has-rise level most c runs item s m r;

@@ -35,7 +35,7 @@ use Rattle.crs_normal.specs.SpelledSystems.{item_head, norm_system, system_items
 use Rattle.crs_normal.specs.SpelledUnits.{item_unit}
 use Rattle.crs_normal.specs.SpelledUsages.{norm_tail, tail_items}
 use Rattle.crs_normal.proofs.made.AscendLemmas.{set-ascends, set-each}
-use Rattle.crs_normal.proofs.made.BehindLemmas.{AxisEach, IsFew, NamesSystem, Shows, axes-argument, axes-some, axes_run, behind, crs_classes, few-system, head-argument, no_unit_run, system-seen, tail-seen}
+use Rattle.crs_normal.proofs.made.BehindLemmas.{AxisEach, IsFew, NamesSystem, Shows, axes-argument, axes-some, axes_run, behind, crs_classes, few-system, head-argument, no_unit_run, system-seen, tail-seen, behind_arguments}
 use Rattle.crs_normal.proofs.made.CheckLemmas.{IsSystemSeen, has-axes, no-bad-systems}
 use Rattle.crs_normal.proofs.made.DynamicLemmas.{IsSteady, dynamic-argument, dynamic_classes, dynamic_run, no-bad-dynamic, none-shown}
 use Rattle.crs_normal.proofs.made.FitLemmas.{fills-one, fills-optional, fills-some, fit-before, last-fits, taken-more}
@@ -45,9 +45,11 @@ use Rattle.crs_normal.proofs.made.IdentLemmas.{identifiers-ascend}
 use Rattle.crs_normal.proofs.made.LeafLemmas.{text-made}
 use Rattle.crs_normal.proofs.made.NodeLemmas.{IsKept, KeepsRuns, Made, Run, RunsMade, Sees, alone, as-argument, classes, each-line, items_in, node-made, opt-line, views}
 use Rattle.crs_normal.proofs.made.NamedLemmas.{geoid-model-made}
-use Rattle.crs_normal.proofs.made.RiseLemmas.{RunsRise}
-use Rattle.crs_normal.proofs.made.TailLemmas.{IsTailSeen, has-tail, no-repeats, tail-fits, tail-left, tail-runs-made, tail_runs, usages-ascend}
+use Rattle.crs_normal.proofs.made.RiseLemmas.{rises}
+use Rattle.crs_normal.proofs.made.TailLemmas.{IsTailSeen, has-tail, no-repeats, tail-fits, tail-left, tail_runs, usages-ascend, NamesTail, tail_arguments}
 use Rattle.crs_normal.proofs.normal.DimensionLemmas.{small-vertical}
+use Rattle.crs_normal.proofs.made.ArgumentLemmas.{Argument, any-of, laid, may-of, one-of, runs-made, text-of}
+use Rattle.crs_normal.proofs.made.FrontLemmas.{crs-breaks}
 
 -- ---- the frame, of one class or the other
 
@@ -61,10 +63,6 @@ vertical-taken : (f : Frame) → takes (one_of (class.VerticalFrame ∷ class.Ve
     ≡ true
 vertical-taken (frame.Datum d) = refl
 vertical-taken (frame.Ensemble e) = refl
-
-vertical-rank : (f : Frame) → rank (vertical_frame_class f) ≡ 0
-vertical-rank (frame.Datum d) = refl
-vertical-rank (frame.Ensemble e) = refl
 
 -- the name, the dynamic part and the frame of a vertical CRS, and these
 abbrev framed_runs : Level → Item → Option DynamicParts → Frame → Item → List Run → List Run
@@ -172,69 +170,38 @@ vertical-allowed l level g few =
     (classes (tail_runs level g.tail)) refl
     (tail-fits model_classes level g.tail refl refl refl)))
 
-vertical-runs-made : DecimalLaws → (level : Level) (g : VerticalParts) → IsFew g.system → IsVertical g →
-    RunsMade level 5 class.VerticalCrs (vertical_runs level g)
+dynamic-named : class_named class.VerticalCrs (codes "DYNAMIC") ≡ Some class.Dynamic
 unfolding class_named is_keyword
-vertical-runs-made l level g few h =
-    let names : NamesSystem class.VerticalCrs = record { head = refl; axis = refl } in (
-      (text-made level 5 class.VerticalCrs g.name h.name, tt),
-      (
-        dynamic-argument l level 5 class.VerticalCrs g.dynamic g.frame (omega arith) refl h.dynamic,
-        (
-          (
-            as-argument level 5 5 class.VerticalCrs (vertical_frame_class g.frame) (frame_item level g) (omega arith)
-                (vertical-named level g.frame) (vertical-frame-made l level g.frame h.frame),
-            tt,
-          ),
-          (
-            (head-argument l level 5 class.VerticalCrs g.system (omega arith) names few.system, tt),
-            (
-              axes-argument l level 5 class.VerticalCrs g.system (omega arith) names few,
-              (
-                tt,
-                (
-                  models-made l level g.geoid_models h.geoid_models,
-                  tail-runs-made l level 5 class.VerticalCrs g.tail (omega arith)
-                      (record { usage = refl; ident = refl; remark = refl }) h.tail,
-                ),
-              ),
-            ),
-          ),
-        ),
-      ),
-    )
+dynamic-named = refl
 
-vertical-rise : (level : Level) (g : VerticalParts) → RunsRise 0 (vertical_runs level g)
-vertical-rise level g =
-    let e : rank (vertical_frame_class g.frame) ≡ 0 = vertical-rank g.frame in (
-      omega arith,
-      (
-        omega arith,
-        (
-          omega arith,
-          (
-            omega arith,
-            (omega arith, (omega arith, (omega arith, (omega arith, (omega arith, (omega arith, tt)))))),
-          ),
-        ),
-      ),
-    )
+system-names : NamesSystem class.VerticalCrs
+unfolding class_named is_keyword
+system-names = record { head = refl; axis = refl }
 
-vertical-breaks : DecimalLaws → (g : VerticalParts) (item : Item) (fault : RefusedAt) → IsVertical g →
-    IsTailSeen class.VerticalCrs item →
-    IsSystemSeen g.system.system_type g.system.dimension (those class.VerticalCrs class.CoordinateSystem
-    (arguments item))
-    (those class.VerticalCrs class.Axis (arguments item)) (those class.VerticalCrs class.AxisUnit (arguments item)) →
-    IsSteady class.VerticalCrs item →
-    ¬ (OfCrs vertical_dimensions class.VerticalCrs item fault)
-vertical-breaks l g item fault h t q y (inl b) = no-repeats class.VerticalCrs item fault t b
-vertical-breaks l g item fault h t q y (inr (inl b)) =
-    no-bad-systems l vertical_dimensions g.system.system_type g.system.dimension
-    (those class.VerticalCrs class.CoordinateSystem (arguments item))
-    (those class.VerticalCrs class.Axis (arguments item)) (those class.VerticalCrs class.AxisUnit (arguments item))
-    fault
-    h.system.dimension h.dimension q b
-vertical-breaks l g item fault h t q y (inr (inr b)) = no-bad-dynamic class.VerticalCrs item fault y b
+tail-names : NamesTail class.VerticalCrs
+unfolding class_named is_keyword
+tail-names = record { usage = refl; ident = refl; remark = refl }
+
+abbrev vertical_arguments : DecimalLaws → (level : Level) (g : VerticalParts) → IsFew g.system → IsVertical g →
+    List (Argument level 5 class.VerticalCrs)
+vertical_arguments l level g few h =
+    text-of g.name h.name ∷ may-of class.Dynamic item_dynamic (option_map (norm_dynamic level) g.dynamic)
+    (dynamic-argument l level 5 class.VerticalCrs g.dynamic g.frame (omega arith) dynamic-named h.dynamic) ∷
+    one-of (vertical_frame_class g.frame) (frame_item level g) (as-argument level 5 5 class.VerticalCrs
+    (vertical_frame_class g.frame) (frame_item level g) (omega arith) (vertical-named level g.frame)
+    (vertical-frame-made l level g.frame h.frame)) ∷
+    behind_arguments l level 5 class.VerticalCrs g.system
+    (any-of class.GeoidModel item_geoid_model (set_geoid_models level g.geoid_models)
+    (models-made l level g.geoid_models h.geoid_models) ∷
+    tail_arguments l level 5 class.VerticalCrs g.tail (omega arith) tail-names h.tail) (omega arith) system-names few
+
+vertical-rise : (level : Level) (g : VerticalParts) → rises 0 (vertical_runs level g) ≡ true
+vertical-rise level g = by g.frame
+  where
+    by : (f : Frame) →
+        rises 0 (framed_runs level (text_item g.name) g.dynamic f (frame_item level g) (vertical_rest level g)) ≡ true
+    by (frame.Datum d) = refl
+    by (frame.Ensemble e) = refl
 
 vertical-shown : (level : Level) (g : VerticalParts) (item : Item) →
     Sees class.VerticalCrs (vertical_runs level g) item →
@@ -250,7 +217,7 @@ vertical-kept l level g few h = record {
   letters = (refl, refl);
   known = refl;
   written = refl;
-  made = vertical-runs-made l level g few h;
+  made = runs-made (vertical_arguments l level g few h);
   allowed = vertical-allowed l level g few;
   sets = vertical-sets level (text_item g.name) g.dynamic g.frame (frame_item level g) (vertical_rest level g) (
     identifiers-ascend level g.tail.identifiers,
@@ -265,13 +232,15 @@ vertical-kept l level g few h = record {
       let v = vertical-shown level g item s in (
         has-axes class.VerticalCrs item g.system.system_type g.system.dimension
             (system-seen l level class.VerticalCrs item g.system g.tail few v),
-        has-tail level 5 class.VerticalCrs (vertical_runs level g) item s (vertical-runs-made l level g few h)
+        has-tail level 5 class.VerticalCrs (vertical_runs level g) item s
+            (runs-made (vertical_arguments l level g few h))
             (vertical-rise level g)
             (tail-seen level class.VerticalCrs item g.tail v.1.1.1),
       );
   unbroken = λ item fault s b.
       let v = vertical-shown level g item s in
-      vertical-breaks l g item fault h (tail-seen level class.VerticalCrs item g.tail v.1.1.1)
+      crs-breaks l vertical_dimensions class.VerticalCrs g.system item fault h.system.dimension h.dimension
+      (tail-seen level class.VerticalCrs item g.tail v.1.1.1)
       (system-seen l level class.VerticalCrs item g.system g.tail few v)
       (vertical-steady level item (text_item g.name) g.dynamic g.frame (frame_item level g) (vertical_rest level g)
       h.dynamic (refl, (refl, (refl, tt))) (views class.VerticalCrs (vertical_runs level g) item dynamic_classes s)) b;
@@ -280,9 +249,6 @@ vertical-kept l level g few h = record {
 pub vertical-made : DecimalLaws → AxisEach → (level : Level) (g : VerticalParts) → IsVertical g → (p : ℕ) →
     IsAcceptedNormal level class.VerticalCrs 6 (at_place p (item_vertical (norm_vertical level g)))
 vertical-made l each_at level g h =
-    node-made level 5 class.VerticalCrs (codes "VERTCRS") (text_item g.name)
-    (opt item_dynamic (option_map (norm_dynamic level) g.dynamic) (More (frame_item level g)
-    (system_items (norm_system level g.system) (each item_geoid_model (set_geoid_models level g.geoid_models)
-    (tail_items (norm_tail level g.tail))))))
-    (vertical_runs level g) (simp (opt-line, each-line))
-    (vertical-kept l level g (few-system l each_at vertical_dimensions small-vertical g.system h.system h.dimension) h)
+    let few = few-system l each_at vertical_dimensions small-vertical g.system h.system h.dimension in
+    node-made level 5 class.VerticalCrs (codes "VERTCRS") _ _ (vertical_runs level g)
+    (laid (vertical_arguments l level g few h)) (vertical-kept l level g few h)

@@ -24,7 +24,7 @@ use Rattle.crs_normal.proofs.texts.ItemLemmas.{fit-end, fit-more, fit-node, fit-
 use Rattle.crs_normal.proofs.texts.SegmentLemmas.{IsIn, ReadsBack, a-number, if-any, opt-field, seen, some-imp}
 use Rattle.crs_normal.proofs.members.MemberUnitLemmas.{number-read, unit-fit, unit-kept, unit-read}
 use Rattle.crs_normal.proofs.read.NameLemmas.{keyword-names}
-use Rattle.crs_normal.proofs.same.UnitLemmas.{metre-is}
+use Rattle.crs_normal.proofs.same.UnitLemmas.{metre-is, suits-kind}
 
 -- ---- units of length, where a missing one is the metre
 
@@ -32,14 +32,10 @@ use Rattle.crs_normal.proofs.same.UnitLemmas.{metre-is}
 abbrev pub IsLength : UnitParts → Type 0
 IsLength u = IsUnit u × (u.kind ≡ kinds.Length)
 
-length-kind : (k : UnitKind) → Suits kinds.Length k → kind_as kinds.Length k ≡ kinds.Length
-length-kind k (inl e) = ap (kind_as kinds.Length) e
-length-kind k (inr e) = ap (kind_as kinds.Length) e
-
 pub length-kept : (level : Level) (o : Option UnitParts) → IfSome o (IsUnitOf kinds.Length) →
     IsLength (norm_length level o)
 length-kept level None s = (metre-is, refl)
-length-kept level (Some u) s = (unit-kept level kinds.Length u s.0, length-kind u.kind s.1)
+length-kept level (Some u) s = (unit-kept level kinds.Length u s.0, suits-kind kinds.Length u.kind s.1)
 
 -- ---- boxes
 

@@ -1,6 +1,8 @@
 -- A coordinate system has one to three dimensions.
-use Rattle.std.proofs.Common.{ℕ, ◌≤◌, List, arith}
-use Rattle.crs_value.specs.BadSystem.{geodetic_dimensions, geographic_dimensions, projected_dimensions, vertical_dimensions}
+use Rattle.std.proofs.Common.{◌≡◌, ℕ, ◌≤◌, ◌*◌, List, [], ◌∷◌, inl, inr, arith}
+use Rattle.crs_decimal.specs.Number.{Number, SameNumber, whole_number}
+use Rattle.crs_decimal.specs.Value.{Value, exact}
+use Rattle.crs_value.specs.BadSystem.{IsOneOf, geodetic_dimensions, geographic_dimensions, projected_dimensions, vertical_dimensions}
 use Rattle.crs_value.specs.Sound.{Each}
 use Rattle.crs_value.specs.declared.values.system_type.SystemType.{SystemType}
 use Rattle.crs_value.specs.declared.values.system_type.SystemType.TheVariants as types
@@ -25,3 +27,16 @@ small-projected other = tt
 pub small-vertical : (t : SystemType) → AreSmall (vertical_dimensions t)
 small-vertical types.Vertical = (omega arith, tt)
 small-vertical other = tt
+
+-- a number that is one of a few small ones and is this whole number too is small
+pub few-axes : ((a b : Number) → SameNumber a b → SameNumber b a) →
+    ((a b c : Number) → SameNumber a b → SameNumber b c → SameNumber a c) → (v : Value) (n : ℕ) (ns : List ℕ) →
+    AreSmall ns → IsOneOf v ns → SameNumber (exact v) (whole_number n) → n ≤ 3
+few-axes symmetric transitive v n [] few h s = absurd h
+few-axes symmetric transitive v n (m ∷ ns) few (inl h) s =
+    let t : SameNumber (whole_number n) (whole_number m) =
+    transitive (whole_number n) (exact v) (whole_number m) (symmetric (exact v) (whole_number n) s) h in
+    let e : n * 1 ≡ m * 1 = t.0 in
+    let k : m ≤ 3 = few.0 in
+    omega arith
+few-axes symmetric transitive v n (m ∷ ns) few (inr h) s = few-axes symmetric transitive v n ns few.1 h s

@@ -33,32 +33,22 @@ use Rattle.crs_normal.proofs.read.FrameLemmas.{IsAngle, angles-back, angles-in, 
 use Rattle.crs_normal.proofs.read.SystemLemmas.{AreWhole}
 use Rattle.crs_normal.proofs.texts.SegmentLemmas.{ReadsBack, Segment, a-text, all-of, each-field, if-any, may-be, one-field, one-item, opt-field, seen}
 use Rattle.crs_normal.proofs.read.NameLemmas.{keyword-names}
-use Rattle.crs_normal.proofs.normal.DimensionLemmas.{small-geodetic, small-projected, small-vertical}
+use Rattle.crs_normal.proofs.normal.DimensionLemmas.{small-geodetic, small-projected, small-vertical, AreSmall, few-axes}
 
 -- ---- the axes are at most three
 
-abbrev IsFew : ℕ → Type 0
-IsFew n = n ≤ 3
-
-positions-whole : (n : ℕ) → IsFew n → AreWhole 1 n
+positions-whole : (n : ℕ) → n ≤ 3 → AreWhole 1 n
 positions-whole zero l = tt
 positions-whole (suc zero) l = (refl, tt)
 positions-whole (suc (suc zero)) l = (refl, (refl, tt))
 positions-whole (suc (suc (suc zero))) l = (refl, (refl, (refl, tt)))
 positions-whole (suc (suc (suc (suc n)))) l = absurd (omega (arith, l))
 
-wholes-same : (m n : ℕ) → SameNumber (whole_number m) (whole_number n) → m ≡ n
-wholes-same m n h = let s : m * 1 ≡ n * 1 = h.0 in omega (arith, s)
-
-few : LowerLaws → (system : SystemParts) → IsSystem system → (ns : List ℕ) → Each IsFew ns →
+few : LowerLaws → (system : SystemParts) → IsSystem system → (ns : List ℕ) → AreSmall ns →
     IsOneOf system.dimension ns → AreWhole 1 (length system.axes)
-few laws system sound [] small one = absurd one
-few laws system sound (n ∷ ns) small (inl s) =
-    let e : n ≡ length system.axes = wholes-same n (length system.axes)
-    (laws.transitive (whole_number n) (exact system.dimension) (whole_number (length system.axes))
-    (laws.symmetric (exact system.dimension) (whole_number n) s) sound.count) in
-    positions-whole (length system.axes) (subst IsFew e small.0)
-few laws system sound (n ∷ ns) small (inr s) = few laws system sound ns small.1 s
+few laws system sound ns small one =
+    positions-whole (length system.axes)
+    (few-axes laws.symmetric laws.transitive system.dimension (length system.axes) ns small one sound.count)
 
 -- ---- geodetic and geographic CRSs
 

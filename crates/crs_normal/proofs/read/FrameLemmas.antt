@@ -26,6 +26,7 @@ use Rattle.crs_normal.proofs.members.MemberLemmas.{named-kept, named-read}
 use Rattle.crs_normal.proofs.members.MemberUnitLemmas.{NamesId, identifiers-back, identifiers-of, number-read, unit-kept, unit-read}
 use Rattle.crs_normal.proofs.texts.SegmentLemmas.{IsIn, MayIn, ReadsBack, Seen, Segment, a-number, a-text, all-of, each-field, each_items, if-any, items_of, may-be, one-field, one-item, opt-field, seen, set-kept, some-all, some-imp, some-mapped}
 use Rattle.crs_normal.proofs.read.NameLemmas.{keyword-names}
+use Rattle.crs_normal.proofs.same.UnitLemmas.{suits-kind}
 
 -- ---- identifiers
 
@@ -43,13 +44,9 @@ pub unit-in : (c k : Class) (kind : UnitKind) → class_named c (unit_word kind)
     u.kind ≡ kind → IsIn c k (item_unit u)
 unit-in c k kind e u same = ap (λ j. class_named c (unit_word j)) same ∙ e
 
-angle-kind : (k : UnitKind) → Suits kinds.Angle k → kind_as kinds.Angle k ≡ kinds.Angle
-angle-kind k (inl e) = ap (kind_as kinds.Angle) e
-angle-kind k (inr e) = ap (kind_as kinds.Angle) e
-
 pub angle-kept : (level : Level) (u : UnitParts) → IsUnitOf kinds.Angle u →
     IsUnit (norm_unit level kinds.Angle u) × ((norm_unit level kinds.Angle u).kind ≡ kinds.Angle)
-angle-kept level u s = (unit-kept level kinds.Angle u s.0, angle-kind u.kind s.1)
+angle-kept level u s = (unit-kept level kinds.Angle u s.0, suits-kind kinds.Angle u.kind s.1)
 
 abbrev pub IsAngle : UnitParts → Type 0
 IsAngle u = IsUnit u × (u.kind ≡ kinds.Angle)

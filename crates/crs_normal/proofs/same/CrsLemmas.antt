@@ -24,7 +24,7 @@ use Rattle.crs_normal.specs.LowerLaws.{LowerLaws}
 use Rattle.crs_normal.specs.SpelledCrs.{norm_base, norm_compound, norm_crs, norm_geodetic, norm_horizontal}
 use Rattle.crs_normal.specs.SpelledCrs.{norm_projected, norm_vertical}
 use Rattle.crs_normal.proofs.same.ConversionLemmas.{conversion-agrees}
-use Rattle.crs_normal.proofs.normal.DimensionLemmas.{small-geodetic, small-projected, small-vertical}
+use Rattle.crs_normal.proofs.normal.DimensionLemmas.{small-geodetic, small-projected, small-vertical, AreSmall, few-axes}
 use Rattle.crs_normal.proofs.same.DynamicLemmas.{dynamics-agree, dynamics-sound}
 use Rattle.crs_normal.proofs.same.FrameLemmas.{geodetic-frame-agrees, meridian-agrees, vertical-frame-agrees}
 use Rattle.crs_normal.proofs.same.SystemLemmas.{system-agrees}
@@ -33,24 +33,14 @@ use Rattle.crs_normal.proofs.same.UnitLemmas.{units-of-agree}
 
 -- ---- the number of axes is small
 
-abbrev IsSmall : ℕ → Type 0
-IsSmall n = n ≤ 3
-
-wholes-same : (m n : ℕ) → SameNumber (whole_number m) (whole_number n) → m ≡ n
-wholes-same m n h = let s : m * 1 ≡ n * 1 = h.0 in omega (arith, s)
-
-small-numbered : (n : ℕ) → IsSmall n → n < 10 ^ 18
+small-numbered : (n : ℕ) → n ≤ 3 → n < 10 ^ 18
 small-numbered n l = omega arith
 
-numbered : LowerLaws → (system : SystemParts) → IsSystem system → (ns : List ℕ) → Each IsSmall ns →
+numbered : LowerLaws → (system : SystemParts) → IsSystem system → (ns : List ℕ) → AreSmall ns →
     IsOneOf system.dimension ns → IsNumbered system
-numbered laws system sound [] small one = absurd one
-numbered laws system sound (n ∷ ns) small (inl s) =
-    let e : n ≡ length system.axes = wholes-same n (length system.axes)
-    (laws.transitive (whole_number n) (exact system.dimension) (whole_number (length system.axes))
-    (laws.symmetric (exact system.dimension) (whole_number n) s) sound.count) in
-    (sound, small-numbered (length system.axes) (subst IsSmall e small.0))
-numbered laws system sound (n ∷ ns) small (inr s) = numbered laws system sound ns small.1 s
+numbered laws system sound ns small one =
+    (sound, small-numbered (length system.axes)
+    (few-axes laws.symmetric laws.transitive system.dimension (length system.axes) ns small one sound.count))
 
 geodetic-numbered : LowerLaws → (g : GeodeticParts) → IsGeodetic g → IsNumbered g.system
 geodetic-numbered laws g sound =

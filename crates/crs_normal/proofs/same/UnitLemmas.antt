@@ -1,8 +1,8 @@
 -- Units have one form exactly where they are the same: alone, as an asked kind, and where a missing one is the metre.
-use Rattle.std.proofs.Common.{◌≡◌, ◌↔◌, ◌∙◌, ℕ, [], Option, Some, None, codes, refl, sym, ap, arith}
+use Rattle.std.proofs.Common.{◌≡◌, ◌↔◌, ◌∙◌, ℕ, [], Option, Some, None, codes, refl, sym, ap, arith, inl, inr}
 use Rattle.crs_decimal.specs.Number.{SameNumber, whole_number}
 use Rattle.crs_decimal.specs.Value.{Value, IsNormal, exact}
-use Rattle.crs_value.specs.Sound.{Each, IsIdent, IsNamed, IsUnit, IsUnitOf}
+use Rattle.crs_value.specs.Sound.{Each, IsIdent, IsNamed, IsUnit, IsUnitOf, Suits}
 use Rattle.crs_value.specs.NamedValues.{NamedParts}
 use Rattle.crs_value.specs.Values.{UnitParts}
 use Rattle.crs_value.specs.KeptLaws.{kept-none}
@@ -10,7 +10,7 @@ use Rattle.crs_value.specs.declared.values.level.Level.{Level}
 use Rattle.crs_value.specs.declared.values.unit_kind.UnitKind.{UnitKind}
 use Rattle.crs_value.specs.declared.values.unit_kind.UnitKind.TheVariants as kinds
 use Rattle.crs_same.specs.SameIdents.{SameIdents, SameNamed}
-use Rattle.crs_same.specs.SameUnits.{SameLength, SameUnit, or_metre}
+use Rattle.crs_same.specs.SameUnits.{SameLength, SameUnit, or_metre, kind_as}
 use Rattle.crs_same.specs.Sets.{BothOrNeither}
 use Rattle.crs_normal.specs.Decides.{FormDecides, Maybe}
 use Rattle.crs_normal.specs.LowerLaws.{LowerLaws}
@@ -49,6 +49,15 @@ metre-is = record {
 pub given-length : (unit : Option UnitParts) → Maybe (IsUnitOf kinds.Length) unit → IsUnit (or_metre unit)
 given-length None is = metre-is
 given-length (Some unit) is = is.0
+
+-- a unit that suits the asked kind is of that kind in its one form
+pub suits-kind : (asked kind : UnitKind) → Suits asked kind → kind_as asked kind ≡ asked
+suits-kind asked kind (inr e) = ap (kind_as asked) e
+suits-kind asked kind (inl e) = ap (kind_as asked) e ∙ itself asked
+  where
+    itself : (k : UnitKind) → kind_as k k ≡ k
+    itself kinds.Length = refl
+    itself other = refl
 
 -- ---- whole numbers
 

@@ -50,7 +50,7 @@ fit-each n spell P f (x ∷ xs) rest p g =
 
 -- ---- numbers
 
-run-single : (raw : List ℕ) → IsRun raw → IsInBounds raw → IsSingle number raw
+pub run-single : (raw : List ℕ) → IsRun raw → IsInBounds raw → IsSingle number raw
 run-single [] r b = absurd r
 run-single (c ∷ cs) r b = (r.0, r.1, b)
 

@@ -21,9 +21,10 @@ use Rattle.crs_normal.specs.DecimalLaws.{DecimalLaws}
 use Rattle.crs_normal.specs.Normal.{IsNumberIn, IsSingleIn, IsWordIn}
 use Rattle.crs_normal.specs.NormalOwn.{IsCode, IsShort}
 use Rattle.crs_normal.specs.SpelledItems.{is_short}
-use Rattle.crs_normal.proofs.made.LeafLemmas.{run-single, short-true, true-short}
+use Rattle.crs_normal.proofs.made.LeafLemmas.{short-true, true-short}
 use Rattle.crs_normal.proofs.texts.WordFormLemmas.{direction-known, direction_of, type-known, type_of}
 use Rattle.crs_normal.proofs.verdicts.Verdicts.{Verdict, both, equal, or_else, refuted_by, shown_by, tested, via}
+use Rattle.crs_normal.proofs.texts.ItemLemmas.{run-single}
 
 -- ---- codes
 
