@@ -1,5 +1,5 @@
 -- Axes at their positions are made.
-use Rattle.std.proofs.Common.{◌≡◌, ℕ, zero, suc, ◌≤◌, Option, Some, None, List, [], ◌∷◌, codes, IfSome, inl, inr, refl, sym, ap, subst, ◌∙◌, arith}
+use Rattle.std.proofs.Common.{◌≡◌, ℕ, zero, suc, ◌≤◌, Option, Some, None, List, [], ◌∷◌, codes, IfSome, inl, inr, refl, sym, ap, subst, arith}
 use Rattle.crs_decimal.specs.Value.{Value, IsNormal}
 use Rattle.crs_text.specs.Items.{Item, Siblings, End, More, arguments}
 use Rattle.crs_text.specs.Refusal.{RefusedAt}
@@ -31,10 +31,10 @@ use Rattle.crs_normal.specs.SpelledItems.{each, number_item, number_node, opt, t
 use Rattle.crs_normal.specs.SpelledSystems.{item_axis, item_axis_meridian, norm_axis, norm_axis_meridian, norm_axis_meridians}
 use Rattle.crs_normal.specs.SpelledUnits.{item_ident, item_unit, norm_unit, norm_units, set_idents, whole_value}
 use Rattle.crs_normal.proofs.made.EllipsoidLemmas.{unit-argument}
-use Rattle.crs_normal.proofs.made.FitLemmas.{fills-any, fills-one, fills-optional, runs-fit}
-use Rattle.crs_normal.proofs.made.IdentLemmas.{identifiers-ascend, identifiers-left, identifiers-made, ids_run, number-node-made}
-use Rattle.crs_normal.proofs.made.LeafLemmas.{text-made, word-made}
-use Rattle.crs_normal.proofs.made.NodeLemmas.{Made, Run, RunsMade, alone, as-argument, each-line, given, keeps-none, lines, node-made, opt-line, sees}
+use Rattle.crs_normal.proofs.made.FitLemmas.{fills-one, runs-fit}
+use Rattle.crs_normal.proofs.made.IdentLemmas.{identifiers-ascend, identifiers-left, number-node-made}
+use Rattle.crs_normal.proofs.made.LeafLemmas.{word-made}
+use Rattle.crs_normal.proofs.made.NodeLemmas.{Made, alone, as-argument, given, keeps-none}
 use Rattle.crs_normal.proofs.made.PlaceLemmas.{ArePlaced}
 use Rattle.crs_normal.proofs.made.WordLemmas.{direction-letters}
 use Rattle.crs_normal.proofs.made.ArgumentLemmas.{made-of, number-of, one-of, Argument, arguments-seen, ids-of, lay, may-of, text-of}

@@ -14,15 +14,14 @@ use Rattle.crs_value.specs.declared.values.system_type.SystemType.{SystemType}
 use Rattle.crs_value.specs.Reading.{those}
 use Rattle.crs_value.specs.Sound.{Each}
 use Rattle.crs_value.specs.SoundSystem.{IsSystem}
-use Rattle.crs_value.specs.SoundUsages.{IsTail}
 use Rattle.crs_value.specs.Values.{AxisParts, SystemParts, TailParts}
 use Rattle.crs_normal.specs.DecimalLaws.{DecimalLaws}
 use Rattle.crs_normal.specs.SpelledSystems.{axes_from, item_axis, item_head, norm_system}
 use Rattle.crs_normal.proofs.made.CheckLemmas.{IsSystemSeen}
-use Rattle.crs_normal.proofs.made.NodeLemmas.{Made, Run, RunsMade, alone, as-argument, items_in}
+use Rattle.crs_normal.proofs.made.NodeLemmas.{Made, Run, alone, as-argument, items_in}
 use Rattle.crs_normal.proofs.made.PlaceLemmas.{ArePlaced}
 use Rattle.crs_normal.proofs.made.SystemLemmas.{HasEach, IsHeadItem, all-axes, all-count, axes-made, axes-seen, head-made, head-seen}
-use Rattle.crs_normal.proofs.made.TailLemmas.{IsTailSeen, NamesTail, tail_runs}
+use Rattle.crs_normal.proofs.made.TailLemmas.{IsTailSeen, tail_runs}
 use Rattle.crs_normal.proofs.made.ArgumentLemmas.{Argument, may-of, one-of, some-of}
 use Rattle.crs_normal.specs.SpelledUnits.{item_unit}
 use Rattle.crs_normal.proofs.texts.SegmentLemmas.{placed-none}

@@ -38,8 +38,7 @@ use Rattle.crs_normal.proofs.made.CheckLemmas.{first-number, word-type}
 use Rattle.crs_normal.proofs.made.FitLemmas.{fills-one, fit-before, last-fits}
 use Rattle.crs_normal.proofs.made.GeodeticLemmas.{end_classes, geodetic-made, geodetic-seen}
 use Rattle.crs_normal.proofs.made.IdentLemmas.{identifiers-ascend}
-use Rattle.crs_normal.proofs.made.LeafLemmas.{text-made}
-use Rattle.crs_normal.proofs.made.NodeLemmas.{KeepsRuns, Made, Run, RunsMade, alone, as-argument, classes, each-line, items_in, node-made, opt-line, views, Sees}
+use Rattle.crs_normal.proofs.made.NodeLemmas.{KeepsRuns, Made, Run, alone, as-argument, classes, items_in, views, Sees}
 use Rattle.crs_normal.proofs.made.PlaceLemmas.{ArePlaced}
 use Rattle.crs_normal.proofs.made.ProjectedLemmas.{projected-made, projected-seen}
 use Rattle.crs_normal.proofs.made.SystemLemmas.{IsHeadItem}

@@ -1,6 +1,5 @@
 -- Units in the nodes that have them, and ellipsoids, are made.
 use Rattle.std.proofs.Common.{◌≡◌, ◌≢◌, ℕ, ◌≤◌, true, false, Option, Some, None, List, [], ◌∷◌, codes, IfSome, inl, inr, refl, sym, ap, subst, ◌∙◌, arith}
-use Rattle.std.specs.Prelude.{IsUtf8}
 use Rattle.crs_decimal.specs.Value.{Value, IsNormal}
 use Rattle.crs_text.specs.Items.{Item, arguments}
 use Rattle.crs_text.specs.Refusal.{RefusedAt}
@@ -16,7 +15,7 @@ use Rattle.crs_value.specs.declared.values.level.Level.{Level}
 use Rattle.crs_value.specs.declared.values.unit_kind.UnitKind.{UnitKind}
 use Rattle.crs_value.specs.declared.values.unit_kind.UnitKind.TheVariants as kinds
 use Rattle.crs_value.specs.Reading.{those}
-use Rattle.crs_value.specs.Sound.{Each, IsUnit, IsUnitOf, Suits}
+use Rattle.crs_value.specs.Sound.{Each, IsUnit, IsUnitOf}
 use Rattle.crs_value.specs.SoundFrames.{IsEllipsoid}
 use Rattle.crs_value.specs.Values.{EllipsoidParts, IdentParts, UnitParts}
 use Rattle.crs_value.specs.Words.{unit_word}

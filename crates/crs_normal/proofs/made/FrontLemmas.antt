@@ -15,7 +15,7 @@ use Rattle.crs_value.specs.SoundSingle.{IsDynamicOf, IsGeodeticFrame}
 use Rattle.crs_value.specs.Values.{MeridianParts, SystemParts}
 use Rattle.crs_normal.specs.DecimalLaws.{DecimalLaws}
 use Rattle.crs_normal.specs.AcceptedNormal.{geodetic_frame_class}
-use Rattle.crs_normal.specs.NormalOwn.{Ascend, rank, set_classes}
+use Rattle.crs_normal.specs.NormalOwn.{Ascend, set_classes}
 use Rattle.crs_normal.specs.SpelledFrames.{item_frame, item_meridian, norm_frame, norm_meridian}
 use Rattle.crs_normal.proofs.made.BehindLemmas.{Shows, crs_classes}
 use Rattle.crs_normal.proofs.made.DynamicLemmas.{IsSteady, dynamic_classes, dynamic_run, none-shown, no-bad-dynamic}

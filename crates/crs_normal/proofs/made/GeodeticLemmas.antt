@@ -1,8 +1,8 @@
 -- Geodetic and geographic CRSs are made.
-use Rattle.std.proofs.Common.{◌≡◌, ◌≢◌, ℕ, IsTrue, Some, None, List, [], ◌∷◌, map, codes, inl, inr, refl, sym, ap, subst, ◌∙◌, arith, true}
+use Rattle.std.proofs.Common.{◌≡◌, ◌≢◌, ℕ, IsTrue, Some, None, List, [], ◌∷◌, map, codes, refl, sym, ap, subst, ◌∙◌, arith, true}
 use Rattle.std.specs.Option.{option_map}
 use Rattle.crs_decimal.specs.Value.{Value}
-use Rattle.crs_text.specs.Items.{Item, Siblings, More, arguments, raw_of}
+use Rattle.crs_text.specs.Items.{Item, arguments, raw_of}
 use Rattle.crs_text.specs.Refusal.{RefusedAt}
 use Rattle.crs_text.specs.Tokens.{IsWord}
 use Rattle.crs_text.specs.Written.{at_place}
@@ -26,26 +26,24 @@ use Rattle.crs_normal.specs.DecimalLaws.{DecimalLaws}
 use Rattle.crs_normal.specs.CrsClass.{geodetic_class}
 use Rattle.crs_normal.specs.AcceptedNormal.{IsAcceptedNormal, geodetic_frame_class}
 use Rattle.crs_normal.specs.Normal.{IsFirstKeyword}
-use Rattle.crs_normal.specs.NormalOwn.{Ascend, Has, HasAxes, HasTail, HasOwnForm, rank, set_classes, words_in}
+use Rattle.crs_normal.specs.NormalOwn.{Ascend, Has, HasAxes, HasTail, HasOwnForm, set_classes, words_in}
 use Rattle.crs_normal.specs.SpelledCrs.{geodetic_keyword, item_geodetic, norm_geodetic}
 use Rattle.crs_normal.specs.SpelledDynamic.{item_dynamic, norm_dynamic}
 use Rattle.crs_normal.specs.SpelledFrames.{item_frame, item_meridian, norm_frame, norm_meridian}
-use Rattle.crs_normal.specs.SpelledItems.{opt, text_item, word_item}
-use Rattle.crs_normal.specs.SpelledSystems.{item_head, norm_system, system_items}
+use Rattle.crs_normal.specs.SpelledItems.{text_item, word_item}
+use Rattle.crs_normal.specs.SpelledSystems.{item_head, norm_system}
 use Rattle.crs_normal.specs.SpelledUnits.{item_unit}
-use Rattle.crs_normal.specs.SpelledUsages.{norm_tail, tail_items}
 use Rattle.crs_normal.proofs.made.BehindLemmas.{AxisEach, IsFew, NamesSystem, Shows, axes-some, axes_run, behind, few-system, no_unit_run, system-seen, tail-seen, behind_arguments}
-use Rattle.crs_normal.proofs.made.CheckLemmas.{IsSystemSeen, has-axes, no-bad-systems}
-use Rattle.crs_normal.proofs.made.DynamicLemmas.{IsSteady, dynamic-argument, dynamic_classes, no-bad-dynamic}
+use Rattle.crs_normal.proofs.made.CheckLemmas.{IsSystemSeen, has-axes}
+use Rattle.crs_normal.proofs.made.DynamicLemmas.{IsSteady, dynamic-argument, dynamic_classes}
 use Rattle.crs_normal.proofs.made.FitLemmas.{fills-one, fills-optional, fills-some, fit-before, last-fits}
 use Rattle.crs_normal.proofs.made.FrontLemmas.{NamesFrame, frame-argument, frame-left, frame-sets, frame-shows, frame-steady, frame-taken, framed_runs, geodetic_classes, meridian-there, crs-breaks}
 use Rattle.crs_normal.proofs.made.IdentLemmas.{identifiers-ascend}
-use Rattle.crs_normal.proofs.made.LeafLemmas.{text-made}
-use Rattle.crs_normal.proofs.made.NodeLemmas.{IsKept, Run, RunsMade, Sees, alone, classes, each-line, given, items_in, node-made, opt-line, sees, views}
+use Rattle.crs_normal.proofs.made.NodeLemmas.{IsKept, Run, Sees, alone, classes, given, items_in, node-made, views}
 use Rattle.crs_normal.proofs.made.PlaceLemmas.{ArePlaced}
 use Rattle.crs_normal.proofs.made.MeridianLemmas.{meridian-argument}
 use Rattle.crs_normal.proofs.made.RiseLemmas.{rises}
-use Rattle.crs_normal.proofs.made.TailLemmas.{IsTailSeen, NamesTail, has-tail, no-repeats, tail-fits, tail-left, tail_runs, usages-ascend, tail_arguments}
+use Rattle.crs_normal.proofs.made.TailLemmas.{NamesTail, has-tail, tail-fits, tail-left, tail_runs, usages-ascend, tail_arguments}
 use Rattle.crs_normal.proofs.normal.DimensionLemmas.{small-geodetic}
 use Rattle.crs_normal.proofs.made.ArgumentLemmas.{Argument, arguments-seen, laid, may-of, one-of, runs-made, text-of}
 use Rattle.crs_value.specs.declared.values.frame.Frame.{Frame}

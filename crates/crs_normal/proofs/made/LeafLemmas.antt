@@ -1,11 +1,11 @@
 -- Single items that are made: texts, numbers, words and codes.
-use Rattle.std.proofs.Common.{◌≡◌, ℕ, ◌≤◌, ◌<◌, ◌&&◌, Bool, true, false, IsTrue, List, [], ◌∷◌, length, if◌then◌else◌, refl, sym, ◌∙◌, arith}
+use Rattle.std.proofs.Common.{◌≡◌, ℕ, ◌≤◌, ◌<◌, ◌&&◌, Bool, true, false, IsTrue, List, length, if◌then◌else◌, refl, sym, ◌∙◌, arith}
 use Rattle.std.specs.Prelude.{nat_le}
 use Rattle.std.specs.List.{list_all}
 use Rattle.std.proofs.lemmas.Bool.{le-leb, leb-true}
 use Rattle.crs_decimal.specs.Bounds.{Denotes, IsInBounds}
 use Rattle.crs_decimal.specs.Plain.{IsPlain, plain}
-use Rattle.crs_decimal.specs.Spelling.{IsRun, is_digit}
+use Rattle.crs_decimal.specs.Spelling.{is_digit}
 use Rattle.crs_decimal.specs.Value.{Value, IsNormal, exact}
 use Rattle.crs_text.specs.Items.{leaf}
 use Rattle.crs_text.specs.Tokens.{Kind, number, text, word, IsSingle, IsWord}

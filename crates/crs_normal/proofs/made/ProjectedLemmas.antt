@@ -1,15 +1,14 @@
 -- Base CRSs and projected CRSs are made.
-use Rattle.std.proofs.Common.{ℕ, None, List, [], ◌∷◌, codes, inl, inr, refl, arith}
+use Rattle.std.proofs.Common.{ℕ, None, List, [], ◌∷◌, codes, inl, refl, arith}
 use Rattle.std.specs.Option.{option_map}
-use Rattle.crs_text.specs.Items.{Item, Siblings, End, More, arguments}
-use Rattle.crs_text.specs.Refusal.{RefusedAt}
+use Rattle.crs_text.specs.Items.{Item, arguments}
 use Rattle.crs_text.specs.Written.{at_place}
 use Rattle.crs_shape.specs.declared.class.Class.TheVariants as class
 use Rattle.crs_shape.specs.Keywords.{is_keyword}
 use Rattle.crs_shape.specs.Shape.{Allowed}
 use Rattle.crs_shape.specs.Slots.{class_named, one, optional, slots_of, some, tail}
 use Rattle.crs_value.specs.BadSystem.{projected_dimensions}
-use Rattle.crs_value.specs.Checks.{OfCrs, Own as BreaksOwn}
+use Rattle.crs_value.specs.Checks.{Own as BreaksOwn}
 use Rattle.crs_value.specs.CrsValues.{BaseParts, ProjectedParts}
 use Rattle.crs_value.specs.declared.values.level.Level.{Level}
 use Rattle.crs_value.specs.declared.values.unit_kind.UnitKind.TheVariants as kinds
@@ -22,23 +21,21 @@ use Rattle.crs_normal.specs.SpelledConversions.{item_conversion, norm_conversion
 use Rattle.crs_normal.specs.SpelledCrs.{item_base, item_projected, norm_base, norm_projected}
 use Rattle.crs_normal.specs.SpelledDynamic.{item_dynamic, norm_dynamic}
 use Rattle.crs_normal.specs.SpelledFrames.{item_frame, item_meridian, norm_frame, norm_meridian}
-use Rattle.crs_normal.specs.SpelledItems.{each, opt, text_item}
-use Rattle.crs_normal.specs.SpelledSystems.{item_head, norm_system, system_items}
-use Rattle.crs_normal.specs.SpelledUnits.{item_ident, item_unit, norm_units, set_idents}
-use Rattle.crs_normal.specs.SpelledUsages.{norm_tail, tail_items}
+use Rattle.crs_normal.specs.SpelledItems.{text_item}
+use Rattle.crs_normal.specs.SpelledSystems.{item_head, norm_system}
+use Rattle.crs_normal.specs.SpelledUnits.{item_unit, norm_units}
 use Rattle.crs_normal.proofs.made.BehindLemmas.{AxisEach, IsFew, axes-some, axes_run, behind, crs_classes, few-system, no_unit_run, system-seen, tail-seen, NamesSystem, behind_arguments}
-use Rattle.crs_normal.proofs.made.CheckLemmas.{IsSystemSeen, has-axes, no-bad-systems}
+use Rattle.crs_normal.proofs.made.CheckLemmas.{IsSystemSeen, has-axes}
 use Rattle.crs_normal.proofs.made.ConversionLemmas.{conversion-made}
 use Rattle.crs_normal.proofs.made.DynamicLemmas.{IsSteady, dynamic-argument, dynamic_classes, no-bad-dynamic, none-shown}
 use Rattle.crs_normal.proofs.made.EllipsoidLemmas.{given-unit}
 use Rattle.crs_normal.proofs.made.FitLemmas.{fills-any, fills-one, fills-optional, fills-some, fit-before, last-fits, runs-fit}
 use Rattle.crs_normal.proofs.made.FrontLemmas.{frame-argument, frame-left, frame-sets, frame-shows, frame-steady, frame-taken, framed_runs, geodetic_classes, meridian-there, crs-breaks}
 use Rattle.crs_normal.proofs.made.GeodeticLemmas.{end_classes}
-use Rattle.crs_normal.proofs.made.IdentLemmas.{identifiers-ascend, identifiers-left, identifiers-made, ids_run}
-use Rattle.crs_normal.proofs.made.LeafLemmas.{text-made}
-use Rattle.crs_normal.proofs.made.NodeLemmas.{IsKept, Run, RunsMade, Sees, alone, as-argument, classes, each-line, given, node-made, opt-line, sees, views, Made}
+use Rattle.crs_normal.proofs.made.IdentLemmas.{identifiers-ascend, identifiers-left, ids_run}
+use Rattle.crs_normal.proofs.made.NodeLemmas.{IsKept, Run, Sees, alone, as-argument, classes, given, node-made, views, Made}
 use Rattle.crs_normal.proofs.made.MeridianLemmas.{meridian-argument}
-use Rattle.crs_normal.proofs.made.TailLemmas.{IsTailSeen, has-tail, no-repeats, tail-fits, tail-left, tail_runs, usages-ascend, NamesTail, tail_arguments}
+use Rattle.crs_normal.proofs.made.TailLemmas.{has-tail, tail-fits, tail-left, tail_runs, usages-ascend, NamesTail, tail_arguments}
 use Rattle.crs_normal.proofs.normal.DimensionLemmas.{small-projected}
 use Rattle.crs_normal.proofs.made.ArgumentLemmas.{Argument, arguments-seen, ids-of, laid, made-where, may-of, one-of, runs-made, text-of}
 
@@ -77,10 +74,19 @@ base-made l level b h =
     may-of class.AngleUnit item_unit (norm_units level kinds.Angle b.unit)
     (given-unit l level 5 class.BaseCrs class.AngleUnit kinds.Angle b.unit (omega arith) refl refl h.unit) ∷
     ids-of l b.identifiers (omega arith) refl h.identifiers ∷ []) refl (refl, refl) refl refl
-    (runs-fit (slots_of class.BaseCrs) (base_runs level b) (fills-one refl,
-    (fills-optional item_dynamic (option_map (norm_dynamic level) b.dynamic) refl, (fills-one (frame-taken b.frame),
-    (fills-optional item_meridian (norm_meridian level b.meridian) refl,
-    (fills-optional item_unit (norm_units level kinds.Angle b.unit) refl, (fills-any refl, tt)))))))
+    (runs-fit (slots_of class.BaseCrs) (base_runs level b) (
+      fills-one refl,
+      (
+        fills-optional item_dynamic (option_map (norm_dynamic level) b.dynamic) refl,
+        (
+          fills-one (frame-taken b.frame),
+          (
+            fills-optional item_meridian (norm_meridian level b.meridian) refl,
+            (fills-optional item_unit (norm_units level kinds.Angle b.unit) refl, (fills-any refl, tt)),
+          ),
+        ),
+      ),
+    ))
     (frame-sets level (text_item b.name) b.dynamic b.frame (base_frame level b) (base_rest level b)
     (identifiers-ascend level b.identifiers, (tt, (tt, (tt, (tt, tt))))))
     (frame-left level (text_item b.name) b.dynamic b.frame (base_frame level b) (base_rest level b)

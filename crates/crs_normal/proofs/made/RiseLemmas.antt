@@ -1,5 +1,5 @@
 -- Made arguments of rising ranks: their ranks never fall.
-use Rattle.std.proofs.Common.{ℕ, ◌+◌, ◌≤◌, Option, Some, None, List, [], ◌∷◌, length, sym, subst, ◌∙◌, arith, ◌≡◌, Bool, true, false, if◌then◌else◌, nat_le, leb-true, true≢false, refl}
+use Rattle.std.proofs.Common.{ℕ, ◌+◌, ◌≤◌, Option, Some, None, List, [], ◌∷◌, length, sym, subst, ◌∙◌, arith, ◌≡◌, Bool, true, false, if◌then◌else◌, nat_le, leb-true}
 use Rattle.crs_text.specs.Items.{Item, Siblings, End, More, arguments}
 use Rattle.crs_text.specs.Written.{at_place, at_places, item_text}
 use Rattle.crs_shape.specs.declared.class.Class.{Class}

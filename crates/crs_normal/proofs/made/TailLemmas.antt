@@ -30,7 +30,7 @@ use Rattle.crs_normal.specs.SpelledUsages.{item_usage, norm_usage, set_usages}
 use Rattle.crs_normal.proofs.made.AscendLemmas.{set-ascends, set-each}
 use Rattle.crs_normal.proofs.made.DatumLemmas.{not-repeated}
 use Rattle.crs_normal.proofs.made.FitLemmas.{fills-one, runs-fit, taken-more}
-use Rattle.crs_normal.proofs.made.IdentLemmas.{given-made, identifiers-left, identifiers-made, ids_run, text-node-made}
+use Rattle.crs_normal.proofs.made.IdentLemmas.{given-made, identifiers-left, ids_run, text-node-made}
 use Rattle.crs_normal.proofs.made.NodeLemmas.{Keeps, Made, Run, RunsMade, Sees, alone, as-argument, classes, given}
 use Rattle.crs_normal.proofs.made.PlaceLemmas.{ArePlaced}
 use Rattle.crs_normal.proofs.made.RiseLemmas.{has-rise, rises}

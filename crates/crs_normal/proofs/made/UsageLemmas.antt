@@ -1,7 +1,7 @@
 -- Boxes, extents and usages are made.
-use Rattle.std.proofs.Common.{◌≡◌, ◌≢◌, ◌⊎◌, ℕ, suc, Option, Some, None, List, [], ◌∷◌, codes, IfSome, IsSome, inl, inr, refl, arith, IsTrue, true}
+use Rattle.std.proofs.Common.{◌≡◌, ◌≢◌, ℕ, suc, Option, Some, None, List, [], ◌∷◌, codes, IfSome, refl, arith, IsTrue, true}
 use Rattle.std.specs.Option.{option_map}
-use Rattle.crs_text.specs.Items.{Item, Siblings, End, More, arguments}
+use Rattle.crs_text.specs.Items.{Item, Siblings, End, More, arguments, IsNode}
 use Rattle.crs_text.specs.Written.{at_place}
 use Rattle.crs_shape.specs.declared.class.Class.{Class}
 use Rattle.crs_shape.specs.declared.class.Class.TheVariants as class
@@ -28,6 +28,8 @@ use Rattle.crs_text.specs.Refusal.{RefusedAt}
 use Rattle.crs_text.specs.Tokens.{IsWord}
 use Rattle.crs_normal.specs.Normal.{IsFirstKeyword}
 use Rattle.crs_normal.specs.NormalOwn.{Ascend, HasOwnForm, set_classes}
+use Rattle.crs_normal.proofs.texts.ItemLemmas.{from-named, from-some}
+use Rattle.crs_normal.proofs.members.UsageLemmas.{says-kept, usage-is-node}
 
 -- ---- boxes
 
@@ -71,18 +73,8 @@ usage_items u =
     opt (text_node (codes "SCOPE")) u.scope (opt (text_node (codes "AREA")) u.area
     (opt item_box u.bbox (opt item_extent u.extent End)))
 
-some-item : (s a : Option (List ℕ)) (b : Option BoxParts) (e : Option ExtentParts) →
-    IsSome s ⊎ (IsSome a ⊎ (IsSome b ⊎ IsSome e)) →
-    opt (text_node (codes "SCOPE")) s (opt (text_node (codes "AREA")) a
-    (opt item_box b (opt item_extent (option_map (norm_extent levels.Full) e) End))) ≢ End
-some-item (Some s) a b e h q = cc
-some-item None (Some a) b e h q = cc
-some-item None None (Some b) e h q = cc
-some-item None None None (Some e) h q = cc
-some-item None None None None (inl h) q = cc h
-some-item None None None None (inr (inl h)) q = cc h
-some-item None None None None (inr (inr (inl h))) q = cc h
-some-item None None None None (inr (inr (inr h))) q = cc h
+usage-node : (u : UsageParts) → SaysSome u → IsNode (item_usage (norm_usage u))
+usage-node u s = usage-is-node (norm_usage u) (says-kept u s)
 
 extents-made : DecimalLaws → (level : Level) (x : Option ExtentParts) → IfSome x IsExtent →
     Each (Made level 4 class.Usage class.VerticalExtent) (given item_extent (option_map (norm_extent level) x))
@@ -105,18 +97,13 @@ usage-made l u h =
     IsBox item_box u.bbox h.bbox (λ b q. as-argument levels.Full 1 4 class.Usage class.BoundingBox (item_box b)
     (omega arith) refl (box-made l levels.Full b q))) ∷
     may-of class.VerticalExtent item_extent (option_map (norm_extent levels.Full) u.extent)
-    (extents-made l levels.Full u.extent h.extent) ∷ []) (some-item u.scope u.area u.bbox u.extent h.some) refl
+    (extents-made l levels.Full u.extent h.extent) ∷ []) (from-some (codes "USAGE") (usage_items (norm_usage u)) (usage-node u h.some)) refl
     (refl, refl) refl refl refl (tt, (tt, (tt, (tt, (tt, tt))))) (keeps-none levels.Full) (λ item. tt)
     (λ item fault b. b)
-
-from-named : (c d : Class) (keyword : List ℕ) (js : Siblings) → js ≢ End → class_named c keyword ≡ Some d →
-    class_in c (node_from keyword js) ≡ Some d
-from-named c d keyword End some named = absurd (some refl)
-from-named c d keyword (More first others) some named = named
 
 -- a usage that says something is named as one
 pub usage-named : (c : Class) (u : UsageParts) → SaysSome u → class_named c (codes "USAGE") ≡ Some class.Usage →
     class_in c (item_usage (norm_usage u)) ≡ Some class.Usage
 usage-named c u some named =
     from-named c class.Usage (codes "USAGE") (usage_items (norm_usage u))
-    (some-item u.scope u.area u.bbox u.extent some) named
+    (usage-node u some) named

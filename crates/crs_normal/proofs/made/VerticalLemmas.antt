@@ -1,8 +1,7 @@
 -- Vertical CRSs are made.
 use Rattle.std.proofs.Common.{◌≡◌, ℕ, ◌++◌, true, Option, Some, None, List, [], ◌∷◌, map, codes, inl, inr, refl, arith}
 use Rattle.std.specs.Option.{option_map}
-use Rattle.crs_text.specs.Items.{Item, More, arguments}
-use Rattle.crs_text.specs.Refusal.{RefusedAt}
+use Rattle.crs_text.specs.Items.{Item, arguments}
 use Rattle.crs_text.specs.Written.{at_place}
 use Rattle.crs_shape.specs.declared.class.Class.{Class}
 use Rattle.crs_shape.specs.declared.class.Class.TheVariants as class
@@ -11,7 +10,7 @@ use Rattle.crs_shape.specs.Shape.{Allowed}
 use Rattle.crs_shape.specs.ShapeFault.{class_in}
 use Rattle.crs_shape.specs.Slots.{any_of, class_named, one, one_of, optional, slots_of, some, takes, vertical_tail}
 use Rattle.crs_value.specs.BadSystem.{vertical_dimensions}
-use Rattle.crs_value.specs.Checks.{OfCrs, Own as BreaksOwn}
+use Rattle.crs_value.specs.Checks.{Own as BreaksOwn}
 use Rattle.crs_value.specs.ConversionValues.{GeoidModelParts}
 use Rattle.crs_value.specs.CrsValues.{VerticalParts}
 use Rattle.crs_value.specs.declared.values.frame.Frame.{Frame}
@@ -25,28 +24,26 @@ use Rattle.crs_value.specs.SoundSingle.{IsDynamicOf, IsVertical}
 use Rattle.crs_same.specs.SameUsages.{usages_of}
 use Rattle.crs_normal.specs.DecimalLaws.{DecimalLaws}
 use Rattle.crs_normal.specs.AcceptedNormal.{IsAcceptedNormal, vertical_frame_class}
-use Rattle.crs_normal.specs.NormalOwn.{Ascend, rank, set_classes}
+use Rattle.crs_normal.specs.NormalOwn.{Ascend, set_classes}
 use Rattle.crs_normal.specs.SpelledConversions.{item_geoid_model, norm_geoid_model, set_geoid_models}
 use Rattle.crs_normal.specs.SpelledCrs.{item_vertical, norm_vertical}
 use Rattle.crs_normal.specs.SpelledDynamic.{item_dynamic, norm_dynamic}
 use Rattle.crs_normal.specs.SpelledFrames.{item_frame, norm_frame}
-use Rattle.crs_normal.specs.SpelledItems.{each, opt, text_item}
-use Rattle.crs_normal.specs.SpelledSystems.{item_head, norm_system, system_items}
+use Rattle.crs_normal.specs.SpelledItems.{text_item}
+use Rattle.crs_normal.specs.SpelledSystems.{item_head, norm_system}
 use Rattle.crs_normal.specs.SpelledUnits.{item_unit}
-use Rattle.crs_normal.specs.SpelledUsages.{norm_tail, tail_items}
 use Rattle.crs_normal.proofs.made.AscendLemmas.{set-ascends, set-each}
-use Rattle.crs_normal.proofs.made.BehindLemmas.{AxisEach, IsFew, NamesSystem, Shows, axes-argument, axes-some, axes_run, behind, crs_classes, few-system, head-argument, no_unit_run, system-seen, tail-seen, behind_arguments}
-use Rattle.crs_normal.proofs.made.CheckLemmas.{IsSystemSeen, has-axes, no-bad-systems}
-use Rattle.crs_normal.proofs.made.DynamicLemmas.{IsSteady, dynamic-argument, dynamic_classes, dynamic_run, no-bad-dynamic, none-shown}
+use Rattle.crs_normal.proofs.made.BehindLemmas.{AxisEach, IsFew, NamesSystem, Shows, axes-some, axes_run, behind, crs_classes, few-system, no_unit_run, system-seen, tail-seen, behind_arguments}
+use Rattle.crs_normal.proofs.made.CheckLemmas.{has-axes}
+use Rattle.crs_normal.proofs.made.DynamicLemmas.{IsSteady, dynamic-argument, dynamic_classes, dynamic_run, none-shown}
 use Rattle.crs_normal.proofs.made.FitLemmas.{fills-one, fills-optional, fills-some, fit-before, last-fits, taken-more}
 use Rattle.crs_normal.proofs.made.FrameLemmas.{vertical-frame-made}
 use Rattle.crs_normal.proofs.made.GeodeticLemmas.{end_classes}
 use Rattle.crs_normal.proofs.made.IdentLemmas.{identifiers-ascend}
-use Rattle.crs_normal.proofs.made.LeafLemmas.{text-made}
-use Rattle.crs_normal.proofs.made.NodeLemmas.{IsKept, KeepsRuns, Made, Run, RunsMade, Sees, alone, as-argument, classes, each-line, items_in, node-made, opt-line, views}
+use Rattle.crs_normal.proofs.made.NodeLemmas.{IsKept, KeepsRuns, Made, Run, Sees, alone, as-argument, classes, items_in, node-made, views}
 use Rattle.crs_normal.proofs.made.NamedLemmas.{geoid-model-made}
 use Rattle.crs_normal.proofs.made.RiseLemmas.{rises}
-use Rattle.crs_normal.proofs.made.TailLemmas.{IsTailSeen, has-tail, no-repeats, tail-fits, tail-left, tail_runs, usages-ascend, NamesTail, tail_arguments}
+use Rattle.crs_normal.proofs.made.TailLemmas.{has-tail, tail-fits, tail-left, tail_runs, usages-ascend, NamesTail, tail_arguments}
 use Rattle.crs_normal.proofs.normal.DimensionLemmas.{small-vertical}
 use Rattle.crs_normal.proofs.made.ArgumentLemmas.{Argument, any-of, laid, may-of, one-of, runs-made, text-of}
 use Rattle.crs_normal.proofs.made.FrontLemmas.{crs-breaks}

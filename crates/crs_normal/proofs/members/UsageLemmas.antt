@@ -111,7 +111,7 @@ still-some : (o : Option ExtentParts) → IsSome o → IsSome (option_map (norm_
 still-some None s = s
 still-some (Some e) s = refl
 
-says-kept : (u : UsageParts) → SaysSome u → SaysSome (norm_usage u)
+pub says-kept : (u : UsageParts) → SaysSome u → SaysSome (norm_usage u)
 says-kept u (inl h) = inl h
 says-kept u (inr (inl h)) = inr (inl h)
 says-kept u (inr (inr (inl h))) = inr (inr (inl h))

@@ -19,8 +19,8 @@ use Rattle.crs_normal.proofs.normal.CheckedLemmas.{as-few}
 use Rattle.crs_normal.proofs.normal.FormLemmas.{Kept, kept-good, optional-spelled}
 use Rattle.crs_normal.proofs.normal.LeafLemmas.{PlainIsOne, number-node-form, text-node-form}
 use Rattle.crs_normal.proofs.normal.RankLemmas.{named-so, rise-as}
-use Rattle.crs_normal.proofs.normal.SortLemmas.{as-class, without_places-joined, nothing-behind, those-kept, those-last, those-none, those-passed}
-use Rattle.crs_normal.proofs.read.ViewLemmas.{InSlot, each-so, without_places_onto, onto, or-false}
+use Rattle.crs_normal.proofs.normal.SortLemmas.{as-class, without_places-joined, those-kept, those-passed}
+use Rattle.crs_normal.proofs.read.ViewLemmas.{InSlot, each-so, without_places_onto, onto, or-false, all-those, none-those, nothing-behind}
 
 -- an argument in the slot is an anchor or an epoch
 abbrev IsEither : Class → Item → Type 0
@@ -78,7 +78,7 @@ found-firsts : (c : Class) (m : ℕ) (front : List Item) (s : Anchored c m front
 found-firsts c m front s =
     ap (λ xs. those c class.Anchor (onto xs End)) s.are
     ∙ those-kept c class.Anchor s.firsts s.epochs (as-class c class.Anchor class.Anchor true refl s.firsts s.as_first)
-    ∙ ap (λ xs. s.firsts ++ xs) (those-none c class.Anchor s.epochs
+    ∙ ap (λ xs. s.firsts ++ xs) (none-those c class.Anchor s.epochs
     (as-class c class.AnchorEpoch class.Anchor false refl s.epochs s.as_epoch))
     ∙ nothing-behind s.firsts
 
@@ -88,7 +88,7 @@ found-epochs c m front s =
     ap (λ xs. those c class.AnchorEpoch (onto xs End)) s.are
     ∙ those-passed c class.AnchorEpoch s.firsts s.epochs
     (as-class c class.Anchor class.AnchorEpoch false refl s.firsts s.as_first)
-    ∙ those-last c class.AnchorEpoch s.epochs
+    ∙ all-those c class.AnchorEpoch s.epochs
     (as-class c class.AnchorEpoch class.AnchorEpoch true refl s.epochs s.as_epoch)
 
 -- a node has at most one of each in the slot, and nothing else

@@ -142,22 +142,30 @@ one-spelled {V = V} level c d R spell form found front good e few value reads re
     alone (item ∷ []) few good reads = ap (λ i. More i rest) (form item value good.0 reads)
     alone (item ∷ other ∷ others) few good reads = absurd (omega arith)
 
-pub optional-spelled : {V : Type 0} (level : Level) (c d : Class) (R : Item → V → Type 0) (spell : V → Item) →
-    Form level c d R spell →
-    (found front : List Item) → Each (IsGood level c d) found → found ≡ front → length front ≤ 1 → (value : Option V) →
-    ReadsOptional R found value →
-    (rest after : Siblings) → rest ≡ after → without_places_onto front rest ≡ opt spell value after
-optional-spelled {V = V} level c d R spell form found front good e few value reads rest after f =
-    alone front few (subst (Each (IsGood level c d)) e good) value
+-- an optional part, where a good item is what is written for its value
+pub optional-by : {V : Type 0} (Good : Item → Type 0) (R : Item → V → Type 0) (spell : V → Item) →
+    ((item : Item) (value : V) → Good item → R item value → without_places item ≡ spell value) →
+    (found front : List Item) → Each Good found → found ≡ front → length front ≤ 1 → (value : Option V) →
+    ReadsOptional R found value → (rest after : Siblings) → rest ≡ after →
+    without_places_onto front rest ≡ opt spell value after
+optional-by {V = V} Good R spell form found front good e few value reads rest after f =
+    alone front few (subst (Each Good) e good) value
     (subst (λ (xs : List Item). ReadsOptional R xs value) e reads) ∙ ap (opt spell value) f
   where
-    alone : (front : List Item) → length front ≤ 1 → Each (IsGood level c d) front → (value : Option V) →
+    alone : (front : List Item) → length front ≤ 1 → Each Good front → (value : Option V) →
         ReadsOptional R front value → without_places_onto front rest ≡ opt spell value rest
     alone [] few good None reads = refl
     alone [] few good (Some v) reads = absurd reads
     alone (item ∷ items) few good None reads = absurd reads
     alone (item ∷ []) few good (Some v) reads = ap (λ i. More i rest) (form item v good.0 reads)
     alone (item ∷ other ∷ others) few good (Some v) reads = absurd (omega arith)
+
+pub optional-spelled : {V : Type 0} (level : Level) (c d : Class) (R : Item → V → Type 0) (spell : V → Item) →
+    Form level c d R spell →
+    (found front : List Item) → Each (IsGood level c d) found → found ≡ front → length front ≤ 1 → (value : Option V) →
+    ReadsOptional R found value →
+    (rest after : Siblings) → rest ≡ after → without_places_onto front rest ≡ opt spell value after
+optional-spelled level c d R spell form = optional-by (IsGood level c d) R spell form
 
 -- the items are what is written for the values
 abbrev pub AreWritten : {V : Type 0} → (V → Item) → List Item → List V → Type 0

@@ -1,5 +1,5 @@
 -- Arguments of several sorts, one sort after the other.
-use Rattle.std.proofs.Common.{◌≡◌, Bool, true, false, Some, List, [], ◌∷◌, ◌++◌, if◌then◌else◌, refl, sym, ◌∙◌, ap}
+use Rattle.std.proofs.Common.{◌≡◌, Bool, true, false, Some, List, [], ◌∷◌, ◌++◌, if◌then◌else◌, refl, ◌∙◌, ap}
 use Rattle.crs_text.specs.Items.{Item, Siblings, End, More}
 use Rattle.crs_shape.specs.declared.class.Class.{Class}
 use Rattle.crs_shape.specs.ShapeFault.{class_in}
@@ -26,17 +26,6 @@ those-passed c d [] b h = refl
 those-passed c d (x ∷ xs) b h =
     ap (λ t. if t then x ∷ those c d (onto (xs ++ b) End) else those c d (onto (xs ++ b) End)) h.0
     ∙ those-passed c d xs b h.1
-
-pub nothing-behind : (xs : List Item) → xs ++ [] ≡ xs
-nothing-behind [] = refl
-nothing-behind (x ∷ xs) = ap (λ ys. x ∷ ys) (nothing-behind xs)
-
-pub those-none : (c d : Class) (a : List Item) → Each (λ i. is_a c d i ≡ false) a → those c d (onto a End) ≡ []
-those-none c d a h = ap (λ xs. those c d (onto xs End)) (sym (nothing-behind a)) ∙ those-passed c d a [] h
-
-pub those-last : (c d : Class) (a : List Item) → Each (λ i. is_a c d i ≡ true) a → those c d (onto a End) ≡ a
-those-last c d a h = ap (λ xs. those c d (onto xs End)) (sym (nothing-behind a)) ∙ those-kept c d a [] h
-    ∙ nothing-behind a
 
 -- whether items of this class are of that one
 pub as-class : (c e d : Class) (b : Bool) → is_class d (Some e) ≡ b → (xs : List Item) →

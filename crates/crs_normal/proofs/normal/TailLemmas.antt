@@ -26,10 +26,10 @@ use Rattle.crs_normal.proofs.normal.FrameLemmas.{none-read}
 use Rattle.crs_normal.proofs.normal.LeafLemmas.{PlainIsOne, text-node-form}
 use Rattle.crs_normal.proofs.normal.NamedLemmas.{geoid_model-form}
 use Rattle.crs_normal.proofs.normal.RankLemmas.{EndsAs, Split, split}
-use Rattle.crs_normal.proofs.normal.SortLemmas.{as-class, without_places-joined, nothing-behind, those-kept, those-last, those-none, those-passed}
+use Rattle.crs_normal.proofs.normal.SortLemmas.{as-class, without_places-joined, those-kept, those-passed}
 use Rattle.crs_normal.proofs.normal.UnitLemmas.{idents-spelled}
 use Rattle.crs_normal.proofs.normal.UsageLemmas.{usage-form}
-use Rattle.crs_normal.proofs.read.ViewLemmas.{without_places_onto, onto}
+use Rattle.crs_normal.proofs.read.ViewLemmas.{without_places_onto, onto, all-those, none-those, nothing-behind}
 
 -- ---- a front of several sorts
 
@@ -55,7 +55,7 @@ sorted-of c k front s =
           ∙ ap (λ xs. m ++ xs) (those-passed c class.GeoidModel u (i ++ r)
           (as-class c class.Usage class.GeoidModel false refl u s.as_usage)
           ∙ those-passed c class.GeoidModel i r (as-class c class.Identifier class.GeoidModel false refl i s.as_id)
-          ∙ those-none c class.GeoidModel r (as-class c class.Remark class.GeoidModel false refl r s.as_remark))
+          ∙ none-those c class.GeoidModel r (as-class c class.Remark class.GeoidModel false refl r s.as_remark))
           ∙ nothing-behind m;
       usages = at class.Usage
           ∙ those-passed c class.Usage m (u ++ (i ++ r))
@@ -63,14 +63,14 @@ sorted-of c k front s =
           ∙ those-kept c class.Usage u (i ++ r) (as-class c class.Usage class.Usage true refl u s.as_usage)
           ∙ ap (λ xs. u ++ xs) (those-passed c class.Usage i r
           (as-class c class.Identifier class.Usage false refl i s.as_id)
-          ∙ those-none c class.Usage r (as-class c class.Remark class.Usage false refl r s.as_remark))
+          ∙ none-those c class.Usage r (as-class c class.Remark class.Usage false refl r s.as_remark))
           ∙ nothing-behind u;
       identifiers = at class.Identifier
           ∙ those-passed c class.Identifier m (u ++ (i ++ r))
           (as-class c class.GeoidModel class.Identifier false refl m s.as_model)
           ∙ those-passed c class.Identifier u (i ++ r) (as-class c class.Usage class.Identifier false refl u s.as_usage)
           ∙ those-kept c class.Identifier i r (as-class c class.Identifier class.Identifier true refl i s.as_id)
-          ∙ ap (λ xs. i ++ xs) (those-none c class.Identifier r
+          ∙ ap (λ xs. i ++ xs) (none-those c class.Identifier r
           (as-class c class.Remark class.Identifier false refl r s.as_remark))
           ∙ nothing-behind i;
       remarks = at class.Remark
@@ -78,7 +78,7 @@ sorted-of c k front s =
           (as-class c class.GeoidModel class.Remark false refl m s.as_model)
           ∙ those-passed c class.Remark u (i ++ r) (as-class c class.Usage class.Remark false refl u s.as_usage)
           ∙ those-passed c class.Remark i r (as-class c class.Identifier class.Remark false refl i s.as_id)
-          ∙ those-last c class.Remark r (as-class c class.Remark class.Remark true refl r s.as_remark);
+          ∙ all-those c class.Remark r (as-class c class.Remark class.Remark true refl r s.as_remark);
     }
   where
     at : (d : Class) → those c d (onto front End) ≡ those c d

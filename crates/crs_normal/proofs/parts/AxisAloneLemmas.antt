@@ -1,5 +1,5 @@
 -- An axis by itself, normal but for a unit that is `UNIT`, is the one form of its value.
-use Rattle.std.proofs.Common.{◌≡◌, ◌≢◌, ◌≤◌, length, true, false, IsTrue, Option, Some, None, List, [], ◌∷◌, codes, if◌then◌else◌, inl, inr, refl, sym, ◌∙◌, ap, subst, arith}
+use Rattle.std.proofs.Common.{◌≡◌, ◌≢◌, true, false, IsTrue, Option, Some, None, List, [], ◌∷◌, codes, if◌then◌else◌, inl, inr, refl, sym, ◌∙◌, ap, subst}
 use Rattle.crs_text.specs.Items.{Item, leaf, node, Siblings, End, More, arguments}
 use Rattle.crs_shape.specs.declared.class.Class.{Class}
 use Rattle.crs_shape.specs.declared.class.Class.TheVariants as class
@@ -8,7 +8,7 @@ use Rattle.crs_shape.specs.Shaped.{AreShaped, Shaped}
 use Rattle.crs_shape.specs.ShapeFault.{class_in}
 use Rattle.crs_shape.specs.Slots.{class_named, is_class, slots_of}
 use Rattle.crs_value.specs.Checks.{AtClass}
-use Rattle.crs_value.specs.Reading.{ReadsEach, ReadsFirst, ReadsOptional, is_a, those}
+use Rattle.crs_value.specs.Reading.{ReadsEach, ReadsFirst, is_a, those}
 use Rattle.crs_value.specs.Reads.{ReadsAxis, ReadsAxisMeridian, ReadsDirection, ReadsIdent, ReadsNumber, ReadsNumberOf, ReadsText, ReadsUnit}
 use Rattle.crs_value.specs.Values.{AxisParts, UnitParts}
 use Rattle.crs_value.specs.Words.{direction_word}
@@ -23,10 +23,10 @@ use Rattle.crs_normal.specs.SpelledItems.{number_node, opt, text_item, word_item
 use Rattle.crs_normal.specs.SpelledSystems.{item_axis, item_axis_meridian, norm_axis_meridian}
 use Rattle.crs_normal.specs.SpelledUnits.{item_unit, norm_unit, norm_units}
 use Rattle.crs_normal.proofs.normal.AxisLemmas.{axis_meridian-form, direction-form, opt-meridians}
-use Rattle.crs_normal.proofs.normal.FormLemmas.{IsGood, node-spelled, one-spelled, optional-spelled}
+use Rattle.crs_normal.proofs.normal.FormLemmas.{IsGood, node-spelled, one-spelled, optional-spelled, optional-by}
 use Rattle.crs_normal.proofs.normal.LeafLemmas.{PlainIsOne, number-node-form, text-form}
 use Rattle.crs_normal.proofs.normal.UnitLemmas.{idents-found-spelled, in-axis, in-plain, unit-form}
-use Rattle.crs_normal.proofs.read.ViewLemmas.{without_places-spread, without_places_onto, same_class, those-looked, view}
+use Rattle.crs_normal.proofs.read.ViewLemmas.{without_places-spread, same_class, those-looked, view}
 
 -- ---- a unit of an axis as a plain unit
 
@@ -124,23 +124,6 @@ unit-alone-form law level item u f reads = by f.normal
         unit-form law level class.Axis class.PlainUnit kinds.Plain refl in-plain (λ raw p. p) item u
         (record { shaped = as-plain level item f.shaped h.1 u reads; normal = h.1 }) (plain-reads item u reads)
 
-unit-alone-spelled : PlainIsOne → (level : Level) (found front : List Item) → Each (IsFair level class.AxisUnit) found →
-    found ≡ front → length front ≤ 1 → (value : Option UnitParts) → ReadsOptional (ReadsUnit class.AxisUnit) found value →
-    (rest after : Siblings) → rest ≡ after → without_places_onto front rest ≡ opt (plain_item level) value after
-unit-alone-spelled law level found front fair e few value reads rest after f =
-    alone front few (subst (Each (IsFair level class.AxisUnit)) e fair) value
-    (subst (λ (xs : List Item). ReadsOptional (ReadsUnit class.AxisUnit) xs value) e reads)
-    ∙ ap (opt (plain_item level) value) f
-  where
-    alone : (front : List Item) → length front ≤ 1 → Each (IsFair level class.AxisUnit) front →
-        (value : Option UnitParts) → ReadsOptional (ReadsUnit class.AxisUnit) front value →
-        without_places_onto front rest ≡ opt (plain_item level) value rest
-    alone [] few fair None reads = refl
-    alone [] few fair (Some v) reads = absurd reads
-    alone (item ∷ items) few fair None reads = absurd reads
-    alone (item ∷ []) few fair (Some v) reads = ap (λ i. More i rest) (unit-alone-form law level item v fair.0 reads)
-    alone (item ∷ other ∷ others) few fair (Some v) reads = absurd (omega arith)
-
 opt-plain : (level : Level) (o : Option UnitParts) (rest : Siblings) →
     opt (plain_item level) o rest ≡ opt item_unit (norm_units level kinds.Plain o) rest
 opt-plain level None rest = refl
@@ -183,7 +166,8 @@ axis-alone-form law level (node place keyword square first others close) x shape
     (those d class.Order items) v3.0
     (each-good level class.Order (λ e. cc) (those d class.Order items) (fair class.Order))
     (those-looked d class.Order (slots_of d) items v) (v3.1.1.0.not_more refl) x.order reads.order _ _
-    (unit-alone-spelled law level (those d class.AxisUnit items) v4.0 (fair class.AxisUnit)
+    (optional-by (IsFair level class.AxisUnit) (ReadsUnit class.AxisUnit) (plain_item level) (unit-alone-form law level)
+    (those d class.AxisUnit items) v4.0 (fair class.AxisUnit)
     (those-looked d class.AxisUnit (slots_of d) items v) (v4.1.1.0.not_more refl) x.unit reads.unit _ _
     (idents-found-spelled level d items v5.0
     (each-good level class.Identifier (λ e. cc) (those d class.Identifier items) (fair class.Identifier))

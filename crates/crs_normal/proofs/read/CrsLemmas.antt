@@ -1,7 +1,5 @@
 -- CRSs of one kind in their one form are read back from their items.
-use Rattle.std.proofs.Common.{◌≡◌, ◌≤◌, ℕ, suc, zero, ◌+◌, ◌*◌, codes, IfSome, Some, List, [], ◌∷◌, length, refl, subst, inl, inr, arith}
-use Rattle.crs_decimal.specs.Number.{SameNumber, whole_number}
-use Rattle.crs_decimal.specs.Value.{exact}
+use Rattle.std.proofs.Common.{◌≡◌, ◌≤◌, ℕ, suc, zero, ◌+◌, codes, IfSome, Some, List, [], ◌∷◌, length, refl, arith}
 use Rattle.crs_text.specs.Written.{at_place}
 use Rattle.crs_shape.specs.declared.class.Class.{Class}
 use Rattle.crs_shape.specs.declared.class.Class.TheVariants as class
@@ -13,7 +11,6 @@ use Rattle.crs_value.specs.declared.values.unit_kind.UnitKind.TheVariants as kin
 use Rattle.crs_value.specs.Reads.{ReadsMeridian, ReadsUnit}
 use Rattle.crs_value.specs.ReadsConversion.{ReadsConversion, ReadsGeoidModel}
 use Rattle.crs_value.specs.ReadsCrs.{ReadsBase, ReadsGeodetic, ReadsProjected, ReadsVertical}
-use Rattle.crs_value.specs.Sound.{Each}
 use Rattle.crs_value.specs.SoundSingle.{IsBase, IsGeodetic, IsProjected, IsVertical}
 use Rattle.crs_value.specs.SoundSystem.{IsSystem}
 use Rattle.crs_value.specs.Values.{SystemParts}

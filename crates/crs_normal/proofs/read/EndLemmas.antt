@@ -1,10 +1,9 @@
 -- Frames, systems and ends of CRSs are read back from the arguments of a CRS, and conversions from their items.
-use Rattle.std.proofs.Common.{◌≡◌, ℕ, ◌+◌, codes, Some, None, List, [], ◌∷◌, length, refl}
-use Rattle.crs_text.specs.Items.{Item, Siblings, End, More, IsNode}
+use Rattle.std.proofs.Common.{◌≡◌, ◌+◌, codes, None, List, [], ◌∷◌, length, refl}
+use Rattle.crs_text.specs.Items.{Item}
 use Rattle.crs_text.specs.Written.{at_place, item_text}
 use Rattle.crs_shape.specs.declared.class.Class.{Class}
 use Rattle.crs_shape.specs.declared.class.Class.TheVariants as class
-use Rattle.crs_shape.specs.Slots.{class_named}
 use Rattle.crs_value.specs.ConversionValues.{ConversionParts, GeoidModelParts, MethodParts, ParameterParts}
 use Rattle.crs_value.specs.Kept.{kept, kept_one}
 use Rattle.crs_value.specs.KeptLaws.{kept-each}
@@ -18,7 +17,7 @@ use Rattle.crs_value.specs.SoundUsages.{IsTail, IsUsage}
 use Rattle.crs_value.specs.Values.{SystemParts, TailParts, UsageParts}
 use Rattle.crs_same.specs.SameUsages.{usages_of}
 use Rattle.crs_normal.specs.SpelledConversions.{item_conversion, item_geoid_model, item_method, item_parameter, norm_conversion, norm_geoid_model, norm_method, norm_parameter, set_geoid_models, set_parameters}
-use Rattle.crs_normal.specs.SpelledItems.{node_from, text_node}
+use Rattle.crs_normal.specs.SpelledItems.{text_node}
 use Rattle.crs_normal.specs.SpelledSystems.{axes_from, item_axis, item_head, norm_system}
 use Rattle.crs_normal.specs.SpelledUnits.{item_ident, item_unit, set_idents}
 use Rattle.crs_normal.specs.SpelledUsages.{item_usage, norm_tail, norm_usage, set_usages}
@@ -32,6 +31,7 @@ use Rattle.crs_normal.proofs.read.SystemLemmas.{AreWhole, axes-read, head-read}
 use Rattle.crs_normal.proofs.texts.SegmentLemmas.{AreIn, IsIn, ReadsBack, Seen, Segment, a-text, all-of, each-field, each-imp, each_items, for-each, items_of, lacks, may-be, one-field, one-item, opt-field, opt_items, seen, set-kept, some-all}
 use Rattle.crs_normal.proofs.members.UsageLemmas.{IsWrittenUsage, usage-is-node, usage-kept, usage-read}
 use Rattle.crs_normal.proofs.read.NameLemmas.{keyword-names}
+use Rattle.crs_normal.proofs.texts.ItemLemmas.{from-named}
 
 -- ---- conversions
 
@@ -82,11 +82,6 @@ geoids-back level gs s =
 
 -- ---- ends of CRSs
 
-from-in : (c k : Class) (keyword : List ℕ) → class_named c keyword ≡ Some k → (items : Siblings) →
-    IsNode (node_from keyword items) → IsIn c k (node_from keyword items)
-from-in c k keyword e End n = absurd n
-from-in c k keyword e (More first others) n = e
-
 written-usages : (level : Level) (us : List UsageParts) → Each IsUsage us →
     Each IsWrittenUsage (set_usages level us)
 unfolding set_usages
@@ -104,7 +99,7 @@ module _ (laws : TextLaws) (c : Class) (names : NamesTail c) (level : Level) (t 
   pub usages-in : AreIn c class.Usage item_usage tail-usages
   usages-in =
       each-imp IsWrittenUsage (λ u. IsIn c class.Usage (item_usage u))
-      (λ u q. from-in c class.Usage (codes "USAGE") names.usage _ (usage-is-node u q.some)) tail-usages written
+      (λ u q. from-named c class.Usage (codes "USAGE") _ (usage-is-node u q.some) names.usage) tail-usages written
 
   abbrev pub of-tail : List (Segment c)
   of-tail =

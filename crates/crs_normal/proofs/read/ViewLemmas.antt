@@ -138,7 +138,7 @@ abbrev pub looked : (c d : Class) (slots : List SlotParts) (items : Siblings) �
 looked c d [] items v = []
 looked c d (slot ∷ slots) items v = picked c d slot v.0 (looked c d slots v.1.0 v.1.1.1.1)
 
-nothing-behind : (xs : List Item) → xs ++ [] ≡ xs
+pub nothing-behind : (xs : List Item) → xs ++ [] ≡ xs
 nothing-behind [] = refl
 nothing-behind (x ∷ xs) = ap (λ ys. x ∷ ys) (nothing-behind xs)
 
@@ -156,14 +156,14 @@ those-split c d (item ∷ items) rest =
       | false ↦ those-split c d items rest
     ]
 
-all-those : (c d : Class) (front : List Item) → Each (λ item. is_a c d item ≡ true) front →
+pub all-those : (c d : Class) (front : List Item) → Each (λ item. is_a c d item ≡ true) front →
     those c d (onto front End) ≡ front
 all-those c d [] h = refl
 all-those c d (item ∷ items) h =
     ap (λ b. if b then item ∷ those c d (onto items End) else those c d (onto items End)) h.0
     ∙ ap (λ xs. item ∷ xs) (all-those c d items h.1)
 
-none-those : (c d : Class) (front : List Item) → Each (λ item. is_a c d item ≡ false) front →
+pub none-those : (c d : Class) (front : List Item) → Each (λ item. is_a c d item ≡ false) front →
     those c d (onto front End) ≡ []
 none-those c d [] h = refl
 none-those c d (item ∷ items) h =

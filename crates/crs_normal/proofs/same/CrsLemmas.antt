@@ -1,12 +1,9 @@
 -- Coordinate reference systems have one form exactly where they agree.
-use Rattle.std.proofs.Common.{◌≤◌, ◌≡◌, ℕ, ◌*◌, ◌<◌, ◌^◌, inl, inr, List, [], ◌∷◌, length, refl, ap, subst, arith}
-use Rattle.crs_decimal.specs.Number.{SameNumber, whole_number}
-use Rattle.crs_decimal.specs.Value.{exact}
+use Rattle.std.proofs.Common.{◌≤◌, ℕ, ◌<◌, ◌^◌, List, length, refl, ap, arith}
 use Rattle.crs_value.specs.BadSystem.{IsOneOf, geodetic_dimensions, projected_dimensions, vertical_dimensions}
 use Rattle.crs_value.specs.CompoundValues.{CompoundParts}
 use Rattle.crs_value.specs.CrsValues.{BaseParts, GeodeticParts, ProjectedParts, VerticalParts}
 use Rattle.crs_value.specs.ReadsCrs.{kind_by}
-use Rattle.crs_value.specs.Sound.{Each}
 use Rattle.crs_value.specs.SoundCompound.{IsCompound, IsHorizontal}
 use Rattle.crs_value.specs.SoundCrs.{IsCrs}
 use Rattle.crs_value.specs.SoundSingle.{IsBase, IsGeodetic, IsProjected, IsVertical}
@@ -38,9 +35,11 @@ small-numbered n l = omega arith
 
 numbered : LowerLaws → (system : SystemParts) → IsSystem system → (ns : List ℕ) → AreSmall ns →
     IsOneOf system.dimension ns → IsNumbered system
-numbered laws system sound ns small one =
-    (sound, small-numbered (length system.axes)
-    (few-axes laws.symmetric laws.transitive system.dimension (length system.axes) ns small one sound.count))
+numbered laws system sound ns small one = (
+  sound,
+  small-numbered (length system.axes)
+      (few-axes laws.symmetric laws.transitive system.dimension (length system.axes) ns small one sound.count),
+)
 
 geodetic-numbered : LowerLaws → (g : GeodeticParts) → IsGeodetic g → IsNumbered g.system
 geodetic-numbered laws g sound =

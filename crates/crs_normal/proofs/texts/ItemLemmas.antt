@@ -1,5 +1,5 @@
 -- Written items: they are well formed and not too deep, and equal texts are of equal values.
-use Rattle.std.proofs.Common.{◌≡◌, ◌≤◌, ℕ, suc, ◌+◌, IfSome, Option, Some, None, List, [], ◌∷◌, length, refl, sym, subst, arith}
+use Rattle.std.proofs.Common.{◌≡◌, ◌≤◌, ℕ, suc, ◌+◌, IfSome, Option, Some, None, List, [], ◌∷◌, length, refl, sym, subst, arith, ◌≢◌}
 use Rattle.crs_decimal.specs.Bounds.{IsInBounds}
 use Rattle.crs_decimal.specs.Plain.{plain}
 use Rattle.crs_decimal.specs.Spelling.{IsRun}
@@ -12,6 +12,9 @@ use Rattle.crs_value.specs.Sound.{Each}
 use Rattle.crs_normal.specs.FormedWithin.{IsFormedWithin}
 use Rattle.crs_normal.specs.SpelledItems.{each, node_of, node_from, number_item, opt}
 use Rattle.crs_normal.specs.TextLaws.{TextLaws}
+use Rattle.crs_shape.specs.ShapeFault.{class_in}
+use Rattle.crs_shape.specs.Slots.{class_named}
+use Rattle.crs_shape.specs.declared.class.Class.{Class}
 
 -- ---- well-formed items of some depth
 
@@ -66,6 +69,15 @@ pub from-arguments : (keyword : List ℕ) (items : Siblings) (place : ℕ) →
     arguments (at_place place (node_from keyword items)) ≡ at_places (place + length keyword) items
 from-arguments keyword End place = refl
 from-arguments keyword (More first others) place = refl
+
+pub from-some : (keyword : List ℕ) (items : Siblings) → IsNode (node_from keyword items) → items ≢ End
+from-some keyword End n e = n
+from-some keyword (More first others) n e = cc
+
+pub from-named : (c d : Class) (keyword : List ℕ) (items : Siblings) → IsNode (node_from keyword items) →
+    class_named c keyword ≡ Some d → class_in c (node_from keyword items) ≡ Some d
+from-named c d keyword End n named = absurd n
+from-named c d keyword (More first others) n named = named
 
 -- ---- equal texts
 
