@@ -1,5 +1,5 @@
 -- What geodetic CRSs and base CRSs have in front is made: the name, the dynamic part and the frame.
-use Rattle.std.proofs.Common.{◌≡◌, ◌≢◌, ℕ, ◌≤◌, ◌++◌, true, Option, Some, None, List, [], ◌∷◌, codes, inl, inr, refl}
+use Rattle.std.proofs.Common.{◌≡◌, ◌≢◌, ℕ, ◌≤◌, ◌++◌, true, Option, Some, None, List, [], ◌∷◌, codes, inl, inr, refl, Bool, false}
 use Rattle.crs_text.specs.Items.{Item, arguments}
 use Rattle.crs_shape.specs.declared.class.Class.{Class}
 use Rattle.crs_shape.specs.declared.class.Class.TheVariants as class
@@ -14,7 +14,7 @@ use Rattle.crs_value.specs.Sound.{Each}
 use Rattle.crs_value.specs.SoundSingle.{IsDynamicOf, IsGeodeticFrame}
 use Rattle.crs_value.specs.Values.{MeridianParts, SystemParts}
 use Rattle.crs_normal.specs.DecimalLaws.{DecimalLaws}
-use Rattle.crs_normal.specs.AcceptedNormal.{geodetic_frame_class}
+use Rattle.crs_normal.specs.AcceptedNormal.{geodetic_frame_class, vertical_frame_class}
 use Rattle.crs_normal.specs.NormalOwn.{Ascend, set_classes}
 use Rattle.crs_normal.specs.SpelledFrames.{item_frame, item_meridian, norm_frame, norm_meridian}
 use Rattle.crs_normal.proofs.made.BehindLemmas.{Shows, crs_classes}
@@ -29,6 +29,7 @@ use Rattle.crs_value.specs.BadSystem.{IsOneOf}
 use Rattle.crs_text.specs.Refusal.{RefusedAt}
 use Rattle.crs_decimal.specs.Value.{IsNormal}
 use Rattle.crs_value.specs.declared.values.system_type.SystemType.{SystemType}
+use Rattle.crs_normal.proofs.made.RiseLemmas.{rises}
 
 -- ---- the frame as an argument, of one class or the other
 
@@ -54,47 +55,74 @@ pub frame-taken : (f : Frame) →
 frame-taken (frame.Datum d) = refl
 frame-taken (frame.Ensemble e) = refl
 
+-- the class of a frame, where it is geodetic or else vertical
+abbrev pub frame_class : Bool → Frame → Class
+frame_class true f = geodetic_frame_class f
+frame_class false f = vertical_frame_class f
+
 -- the name, the dynamic part and the frame of a CRS or base, and these
-abbrev pub framed_runs : Level → Item → Option DynamicParts → Frame → Item → List Run → List Run
-framed_runs level n x f j rest = alone class.Text n ∷ dynamic_run level x ∷ alone (geodetic_frame_class f) j ∷ rest
+abbrev pub framed_runs : Bool → Level → Item → Option DynamicParts → Frame → Item → List Run → List Run
+framed_runs b level n x f j rest = alone class.Text n ∷ dynamic_run level x ∷ alone (frame_class b f) j ∷ rest
 
-pub frame-sets : (level : Level) (n : Item) (x : Option DynamicParts) (f : Frame) (j : Item) (rest : List Run) →
-    Each (λ d. Ascend (items_in d rest)) set_classes →
-    Each (λ d. Ascend (items_in d (framed_runs level n x f j rest))) set_classes
-frame-sets level n x (frame.Datum d) j rest h = h
-frame-sets level n x (frame.Ensemble e) j rest h = h
+module _ (level : Level) (n : Item) (x : Option DynamicParts) where
+  pub frame-sets : (b : Bool) (f : Frame) (j : Item) (rest : List Run) →
+      Each (λ d. Ascend (items_in d rest)) set_classes →
+      Each (λ d. Ascend (items_in d (framed_runs b level n x f j rest))) set_classes
+  frame-sets true (frame.Datum d) j rest h = h
+  frame-sets true (frame.Ensemble e) j rest h = h
+  frame-sets false (frame.Datum d) j rest h = h
+  frame-sets false (frame.Ensemble e) j rest h = h
 
-pub frame-left : (level : Level) (n : Item) (x : Option DynamicParts) (f : Frame) (j : Item) (rest : List Run) →
-    KeepsRuns level rest → KeepsRuns level (framed_runs level n x f j rest)
-frame-left level n x (frame.Datum d) j rest h = h
-frame-left level n x (frame.Ensemble e) j rest h = h
+  pub frame-left : (b : Bool) (f : Frame) (j : Item) (rest : List Run) → KeepsRuns level rest →
+      KeepsRuns level (framed_runs b level n x f j rest)
+  frame-left true (frame.Datum d) j rest h = h
+  frame-left true (frame.Ensemble e) j rest h = h
+  frame-left false (frame.Datum d) j rest h = h
+  frame-left false (frame.Ensemble e) j rest h = h
+
+  pub frame-rises : (b : Bool) (f : Frame) (j : Item) (rest : List Run) → rises 0 rest ≡ true →
+      rises 0 (framed_runs b level n x f j rest) ≡ true
+  frame-rises true (frame.Datum d) j rest h = h
+  frame-rises true (frame.Ensemble e) j rest h = h
+  frame-rises false (frame.Datum d) j rest h = h
+  frame-rises false (frame.Ensemble e) j rest h = h
 
 -- what is in a CRS or base with a prime meridian
 abbrev pub geodetic_classes : List Class
 geodetic_classes = class.PrimeMeridian ∷ crs_classes
 
-pub frame-shows : (level : Level) (c : Class) (item n : Item) (x : Option DynamicParts) (f : Frame) (j : Item)
-    (rest : List Run) → Each (Shows c item (framed_runs level n x f j rest)) geodetic_classes →
-    Each (Shows c item rest) geodetic_classes
-frame-shows level c item n x (frame.Datum d) j rest h = h
-frame-shows level c item n x (frame.Ensemble e) j rest h = h
+module _ (level : Level) (c : Class) (item n : Item) where
+  pub frame-shows : (b : Bool) (x : Option DynamicParts) (f : Frame) (j : Item) (rest : List Run) →
+      Each (Shows c item (framed_runs b level n x f j rest)) geodetic_classes → Each (Shows c item rest) geodetic_classes
+  frame-shows true x (frame.Datum d) j rest h = h
+  frame-shows true x (frame.Ensemble e) j rest h = h
+  frame-shows false x (frame.Datum d) j rest h = h
+  frame-shows false x (frame.Ensemble e) j rest h = h
 
--- no dynamic part is beside an ensemble, where none of these come after the frame
-pub frame-steady : (level : Level) (c : Class) (item n : Item) (x : Option DynamicParts) (f : Frame) (j : Item)
-    (rest : List Run) → IsDynamicOf x f → Each (λ e. items_in e rest ≡ []) dynamic_classes →
-    Each (Shows c item (framed_runs level n x f j rest)) dynamic_classes → IsSteady c item
-frame-steady level c item n None (frame.Datum d) j rest h none v =
-    inl (none-shown (those c class.Dynamic (arguments item)) (items_in class.Dynamic rest) none.0 v.0)
-frame-steady level c item n None (frame.Ensemble e) j rest h none v =
-    inl (none-shown (those c class.Dynamic (arguments item)) (items_in class.Dynamic rest) none.0 v.0)
-frame-steady level c item n (Some x) (frame.Datum d) j rest h none v =
-    inr (
-      none-shown (those c class.GeodeticEnsemble (arguments item)) (items_in class.GeodeticEnsemble rest) none.1.0
-          v.1.0,
-      none-shown (those c class.VerticalEnsemble (arguments item)) (items_in class.VerticalEnsemble rest) none.1.1.0
-          v.1.1.0,
-    )
-frame-steady level c item n (Some x) (frame.Ensemble e) j rest h none v = absurd h
+  none-dynamic : (rest : List Run) → Each (λ e. items_in e rest ≡ []) dynamic_classes →
+      Shows c item rest class.Dynamic → IsSteady c item
+  none-dynamic rest none v =
+      inl (none-shown (those c class.Dynamic (arguments item)) (items_in class.Dynamic rest) none.0 v)
+
+  no-ensemble : (rest : List Run) → Each (λ e. items_in e rest ≡ []) dynamic_classes →
+      Shows c item rest class.GeodeticEnsemble → Shows c item rest class.VerticalEnsemble → IsSteady c item
+  no-ensemble rest none v w =
+      inr (
+        none-shown (those c class.GeodeticEnsemble (arguments item)) (items_in class.GeodeticEnsemble rest) none.1.0 v,
+        none-shown (those c class.VerticalEnsemble (arguments item)) (items_in class.VerticalEnsemble rest) none.1.1.0 w,
+      )
+
+  -- no dynamic part is beside an ensemble, where none of these come after the frame
+  pub frame-steady : (b : Bool) (x : Option DynamicParts) (f : Frame) (j : Item) (rest : List Run) → IsDynamicOf x f →
+      Each (λ e. items_in e rest ≡ []) dynamic_classes →
+      Each (Shows c item (framed_runs b level n x f j rest)) dynamic_classes → IsSteady c item
+  frame-steady true None (frame.Datum d) j rest h none v = none-dynamic rest none v.0
+  frame-steady true None (frame.Ensemble e) j rest h none v = none-dynamic rest none v.0
+  frame-steady true (Some x) (frame.Datum d) j rest h none v = no-ensemble rest none v.1.0 v.1.1.0
+  frame-steady false None (frame.Datum d) j rest h none v = none-dynamic rest none v.0
+  frame-steady false None (frame.Ensemble e) j rest h none v = none-dynamic rest none v.0
+  frame-steady false (Some x) (frame.Datum d) j rest h none v = no-ensemble rest none v.1.0 v.1.1.0
+  frame-steady b (Some x) (frame.Ensemble e) j rest h none v = absurd h
 
 pub meridian-there : (level : Level) (m : Option MeridianParts) (items : List Item) →
     ArePlaced items (given item_meridian (norm_meridian level m) ++ []) → items ≢ []

@@ -37,7 +37,7 @@ use Rattle.crs_normal.proofs.made.BehindLemmas.{AxisEach, IsFew, NamesSystem, Sh
 use Rattle.crs_normal.proofs.made.CheckLemmas.{IsSystemSeen, has-axes}
 use Rattle.crs_normal.proofs.made.DynamicLemmas.{IsSteady, dynamic-argument, dynamic_classes}
 use Rattle.crs_normal.proofs.made.FitLemmas.{fills-one, fills-optional, fills-some, fit-before, last-fits}
-use Rattle.crs_normal.proofs.made.FrontLemmas.{NamesFrame, frame-argument, frame-left, frame-sets, frame-shows, frame-steady, frame-taken, framed_runs, geodetic_classes, meridian-there, crs-breaks}
+use Rattle.crs_normal.proofs.made.FrontLemmas.{NamesFrame, frame-argument, frame-left, frame-sets, frame-shows, frame-steady, frame-taken, framed_runs, geodetic_classes, meridian-there, crs-breaks, frame-rises}
 use Rattle.crs_normal.proofs.made.IdentLemmas.{identifiers-ascend}
 use Rattle.crs_normal.proofs.made.NodeLemmas.{IsKept, Run, Sees, alone, classes, given, items_in, node-made, views}
 use Rattle.crs_normal.proofs.made.PlaceLemmas.{ArePlaced}
@@ -140,7 +140,7 @@ frame_item level g = item_frame (codes "DATUM") (norm_frame level g.frame)
 
 abbrev geodetic_runs : Level → GeodeticParts → List Run
 geodetic_runs level g =
-    framed_runs level (text_item g.name) g.dynamic g.frame (frame_item level g) (geodetic_rest level g)
+    framed_runs true level (text_item g.name) g.dynamic g.frame (frame_item level g) (geodetic_rest level g)
 
 abbrev pub end_classes : List Class
 end_classes =
@@ -153,7 +153,7 @@ geodetic-allowed l level g few =
     fit-before (one class.Text ∷ optional class.Dynamic ∷ one_of (class.GeodeticFrame ∷ class.GeodeticEnsemble ∷ []) ∷
     optional class.PrimeMeridian ∷
     one class.CoordinateSystem ∷ some class.Axis ∷ optional class.AxisUnit ∷ []) (tail ∷ [])
-    (framed_runs level (text_item g.name) g.dynamic g.frame (frame_item level g) (meridian_run level g ∷
+    (framed_runs true level (text_item g.name) g.dynamic g.frame (frame_item level g) (meridian_run level g ∷
     alone class.CoordinateSystem (item_head (norm_system level g.system)) ∷ axes_run level g.system ∷ no_unit_run ∷ []))
     (tail_runs level g.tail) (
       fills-one refl,
@@ -190,12 +190,8 @@ geodetic_arguments l level c keyword g r few h =
     r.systems few
 
 geodetic-rise : (level : Level) (g : GeodeticParts) → rises 0 (geodetic_runs level g) ≡ true
-geodetic-rise level g = by g.frame
-  where
-    by : (f : Frame) →
-        rises 0 (framed_runs level (text_item g.name) g.dynamic f (frame_item level g) (geodetic_rest level g)) ≡ true
-    by (frame.Datum d) = refl
-    by (frame.Ensemble e) = refl
+geodetic-rise level g =
+    frame-rises level (text_item g.name) g.dynamic true g.frame (frame_item level g) (geodetic_rest level g) refl
 
 -- the word of each node `CS`
 system-words : (t : SystemType) (d : Value) (systems axes units : List Item) → IsSystemSeen t d systems axes units →
@@ -220,9 +216,9 @@ geodetic-kept l level c keyword g r few h = record {
   made = runs-made (geodetic_arguments l level c keyword g r few h);
   allowed = subst (λ slots. Allowed slots (classes (geodetic_runs level g))) (sym r.slots)
       (geodetic-allowed l level g few);
-  sets = frame-sets level (text_item g.name) g.dynamic g.frame (frame_item level g) (geodetic_rest level g)
+  sets = frame-sets level (text_item g.name) g.dynamic true g.frame (frame_item level g) (geodetic_rest level g)
       (end-sets level g);
-  left = frame-left level (text_item g.name) g.dynamic g.frame (frame_item level g) (geodetic_rest level g)
+  left = frame-left level (text_item g.name) g.dynamic true g.frame (frame_item level g) (geodetic_rest level g)
       (tail-left level g.tail);
   own = λ item s.
       let v = shown item s in
@@ -246,12 +242,12 @@ geodetic-kept l level c keyword g r few h = record {
     shown : (item : Item) → Sees c (geodetic_runs level g) item →
         Each (Shows c item (geodetic_rest level g)) geodetic_classes
     shown item s =
-        frame-shows level c item (text_item g.name) g.dynamic g.frame (frame_item level g) (geodetic_rest level g)
+        frame-shows level c item (text_item g.name) true g.dynamic g.frame (frame_item level g) (geodetic_rest level g)
         (views c (geodetic_runs level g) item geodetic_classes s)
 
     steady : (item : Item) → Sees c (geodetic_runs level g) item → IsSteady c item
     steady item s =
-        frame-steady level c item (text_item g.name) g.dynamic g.frame (frame_item level g) (geodetic_rest level g)
+        frame-steady level c item (text_item g.name) true g.dynamic g.frame (frame_item level g) (geodetic_rest level g)
         h.dynamic (refl, (refl, (refl, tt))) (views c (geodetic_runs level g) item dynamic_classes s)
 
 pub geodetic-made : DecimalLaws → AxisEach → (level : Level) (g : GeodeticParts) → IsGeodetic g → (p : ℕ) →
@@ -281,5 +277,5 @@ geodetic-seen l each_at level g h p =
     arguments-seen level 5 c (geodetic_keyword g.system.system_type) _ _
     (geodetic_arguments l level c (geodetic_keyword g.system.system_type) g (is-root g.system.system_type) few h) refl p in
     system-seen l level c item g.system g.tail few
-    (frame-shows level c item (text_item g.name) g.dynamic g.frame (frame_item level g) (geodetic_rest level g)
+    (frame-shows level c item (text_item g.name) true g.dynamic g.frame (frame_item level g) (geodetic_rest level g)
     (views c (geodetic_runs level g) item geodetic_classes s)).1

@@ -1,5 +1,5 @@
 -- Base CRSs and projected CRSs are made.
-use Rattle.std.proofs.Common.{ℕ, None, List, [], ◌∷◌, codes, inl, refl, arith}
+use Rattle.std.proofs.Common.{ℕ, None, List, [], ◌∷◌, codes, inl, refl, arith, true}
 use Rattle.std.specs.Option.{option_map}
 use Rattle.crs_text.specs.Items.{Item, arguments}
 use Rattle.crs_text.specs.Written.{at_place}
@@ -52,12 +52,12 @@ abbrev base_frame : Level → BaseParts → Item
 base_frame level b = item_frame (codes "DATUM") (norm_frame level b.frame)
 
 abbrev base_runs : Level → BaseParts → List Run
-base_runs level b = framed_runs level (text_item b.name) b.dynamic b.frame (base_frame level b) (base_rest level b)
+base_runs level b = framed_runs true level (text_item b.name) b.dynamic b.frame (base_frame level b) (base_rest level b)
 
 base-steady : (level : Level) (b : BaseParts) (item : Item) → IsBase b → Sees class.BaseCrs (base_runs level b) item →
     IsSteady class.BaseCrs item
 base-steady level b item h s =
-    frame-steady level class.BaseCrs item (text_item b.name) b.dynamic b.frame (base_frame level b) (base_rest level b)
+    frame-steady level class.BaseCrs item (text_item b.name) true b.dynamic b.frame (base_frame level b) (base_rest level b)
     h.dynamic (refl, (refl, (refl, tt))) (views class.BaseCrs (base_runs level b) item dynamic_classes s)
 
 pub base-made : DecimalLaws → (level : Level) (b : BaseParts) → IsBase b → (p : ℕ) →
@@ -87,12 +87,12 @@ base-made l level b h =
         ),
       ),
     ))
-    (frame-sets level (text_item b.name) b.dynamic b.frame (base_frame level b) (base_rest level b)
+    (frame-sets level (text_item b.name) b.dynamic true b.frame (base_frame level b) (base_rest level b)
     (identifiers-ascend level b.identifiers, (tt, (tt, (tt, (tt, tt))))))
-    (frame-left level (text_item b.name) b.dynamic b.frame (base_frame level b) (base_rest level b)
+    (frame-left level (text_item b.name) b.dynamic true b.frame (base_frame level b) (base_rest level b)
     (identifiers-left level b.identifiers))
     (λ item s. meridian-there level b.meridian (those class.BaseCrs class.PrimeMeridian (arguments item))
-    (frame-shows level class.BaseCrs item (text_item b.name) b.dynamic b.frame (base_frame level b) (base_rest level b)
+    (frame-shows level class.BaseCrs item (text_item b.name) true b.dynamic b.frame (base_frame level b) (base_rest level b)
     (views class.BaseCrs (base_runs level b) item geodetic_classes s)).0)
     (λ item fault s q. no-bad-dynamic class.BaseCrs item fault (base-steady level b item h s) q)
 

@@ -1,5 +1,5 @@
 -- Vertical CRSs are made.
-use Rattle.std.proofs.Common.{◌≡◌, ℕ, ◌++◌, true, Option, Some, None, List, [], ◌∷◌, map, codes, inl, inr, refl, arith}
+use Rattle.std.proofs.Common.{◌≡◌, ℕ, ◌++◌, true, Option, Some, None, List, [], ◌∷◌, map, codes, inl, inr, refl, arith, false}
 use Rattle.std.specs.Option.{option_map}
 use Rattle.crs_text.specs.Items.{Item, arguments}
 use Rattle.crs_text.specs.Written.{at_place}
@@ -46,7 +46,7 @@ use Rattle.crs_normal.proofs.made.RiseLemmas.{rises}
 use Rattle.crs_normal.proofs.made.TailLemmas.{has-tail, tail-fits, tail-left, tail_runs, usages-ascend, NamesTail, tail_arguments}
 use Rattle.crs_normal.proofs.normal.DimensionLemmas.{small-vertical}
 use Rattle.crs_normal.proofs.made.ArgumentLemmas.{Argument, any-of, laid, may-of, one-of, runs-made, text-of}
-use Rattle.crs_normal.proofs.made.FrontLemmas.{crs-breaks}
+use Rattle.crs_normal.proofs.made.FrontLemmas.{crs-breaks, frame-left, frame-rises, frame-sets, frame-shows, frame-steady, framed_runs, geodetic_classes}
 
 -- ---- the frame, of one class or the other
 
@@ -60,45 +60,6 @@ vertical-taken : (f : Frame) → takes (one_of (class.VerticalFrame ∷ class.Ve
     ≡ true
 vertical-taken (frame.Datum d) = refl
 vertical-taken (frame.Ensemble e) = refl
-
--- the name, the dynamic part and the frame of a vertical CRS, and these
-abbrev framed_runs : Level → Item → Option DynamicParts → Frame → Item → List Run → List Run
-framed_runs level n x f j rest = alone class.Text n ∷ dynamic_run level x ∷ alone (vertical_frame_class f) j ∷ rest
-
-vertical-sets : (level : Level) (n : Item) (x : Option DynamicParts) (f : Frame) (j : Item) (rest : List Run) →
-    Each (λ d. Ascend (items_in d rest)) set_classes →
-    Each (λ d. Ascend (items_in d (framed_runs level n x f j rest))) set_classes
-vertical-sets level n x (frame.Datum d) j rest h = h
-vertical-sets level n x (frame.Ensemble e) j rest h = h
-
-vertical-left : (level : Level) (n : Item) (x : Option DynamicParts) (f : Frame) (j : Item) (rest : List Run) →
-    KeepsRuns level rest → KeepsRuns level (framed_runs level n x f j rest)
-vertical-left level n x (frame.Datum d) j rest h = h
-vertical-left level n x (frame.Ensemble e) j rest h = h
-
-vertical-shows : (level : Level) (item n : Item) (x : Option DynamicParts) (f : Frame) (j : Item) (rest : List Run) →
-    Each (Shows class.VerticalCrs item (framed_runs level n x f j rest)) crs_classes →
-    Each (Shows class.VerticalCrs item rest) crs_classes
-vertical-shows level item n x (frame.Datum d) j rest h = h
-vertical-shows level item n x (frame.Ensemble e) j rest h = h
-
--- no dynamic part is beside an ensemble, where none of these come after the frame
-vertical-steady : (level : Level) (item n : Item) (x : Option DynamicParts) (f : Frame) (j : Item) (rest : List Run) →
-    IsDynamicOf x f → Each (λ e. items_in e rest ≡ []) dynamic_classes →
-    Each (Shows class.VerticalCrs item (framed_runs level n x f j rest)) dynamic_classes →
-    IsSteady class.VerticalCrs item
-vertical-steady level item n None (frame.Datum d) j rest h none v =
-    inl (none-shown (those class.VerticalCrs class.Dynamic (arguments item)) (items_in class.Dynamic rest) none.0 v.0)
-vertical-steady level item n None (frame.Ensemble e) j rest h none v =
-    inl (none-shown (those class.VerticalCrs class.Dynamic (arguments item)) (items_in class.Dynamic rest) none.0 v.0)
-vertical-steady level item n (Some x) (frame.Datum d) j rest h none v =
-    inr (
-      none-shown (those class.VerticalCrs class.GeodeticEnsemble (arguments item))
-          (items_in class.GeodeticEnsemble rest) none.1.0 v.1.0,
-      none-shown (those class.VerticalCrs class.VerticalEnsemble (arguments item))
-          (items_in class.VerticalEnsemble rest) none.1.1.0 v.1.1.0,
-    )
-vertical-steady level item n (Some x) (frame.Ensemble e) j rest h none v = absurd h
 
 -- ---- geoid models
 
@@ -136,7 +97,7 @@ frame_item level g = item_frame (codes "VDATUM") (norm_frame level g.frame)
 
 abbrev vertical_runs : Level → VerticalParts → List Run
 vertical_runs level g =
-    framed_runs level (text_item g.name) g.dynamic g.frame (frame_item level g) (vertical_rest level g)
+    framed_runs false level (text_item g.name) g.dynamic g.frame (frame_item level g) (vertical_rest level g)
 
 abbrev model_classes : List Class
 model_classes = class.GeoidModel ∷ end_classes
@@ -147,7 +108,7 @@ vertical-allowed l level g few =
     fit-before (one class.Text ∷ optional class.Dynamic ∷ one_of (class.VerticalFrame ∷ class.VerticalEnsemble ∷ []) ∷
     one class.CoordinateSystem ∷ some class.Axis ∷
     optional class.AxisUnit ∷ []) (vertical_tail ∷ [])
-    (framed_runs level (text_item g.name) g.dynamic g.frame (frame_item level g)
+    (framed_runs false level (text_item g.name) g.dynamic g.frame (frame_item level g)
     (alone class.CoordinateSystem (item_head (norm_system level g.system)) ∷ axes_run level g.system ∷ no_unit_run ∷ []))
     (models_run level g ∷ tail_runs level g.tail) (
       fills-one refl,
@@ -193,19 +154,15 @@ vertical_arguments l level g few h =
     tail_arguments l level 5 class.VerticalCrs g.tail (omega arith) tail-names h.tail) (omega arith) system-names few
 
 vertical-rise : (level : Level) (g : VerticalParts) → rises 0 (vertical_runs level g) ≡ true
-vertical-rise level g = by g.frame
-  where
-    by : (f : Frame) →
-        rises 0 (framed_runs level (text_item g.name) g.dynamic f (frame_item level g) (vertical_rest level g)) ≡ true
-    by (frame.Datum d) = refl
-    by (frame.Ensemble e) = refl
+vertical-rise level g =
+    frame-rises level (text_item g.name) g.dynamic false g.frame (frame_item level g) (vertical_rest level g) refl
 
 vertical-shown : (level : Level) (g : VerticalParts) (item : Item) →
     Sees class.VerticalCrs (vertical_runs level g) item →
     Each (Shows class.VerticalCrs item (behind level g.system g.tail)) crs_classes
 vertical-shown level g item s =
-    vertical-shows level item (text_item g.name) g.dynamic g.frame (frame_item level g) (vertical_rest level g)
-    (views class.VerticalCrs (vertical_runs level g) item crs_classes s)
+    (frame-shows level class.VerticalCrs item (text_item g.name) false g.dynamic g.frame (frame_item level g)
+    (vertical_rest level g) (views class.VerticalCrs (vertical_runs level g) item geodetic_classes s)).1
 
 vertical-kept : DecimalLaws → (level : Level) (g : VerticalParts) → IsFew g.system → IsVertical g →
     IsKept level 5 class.VerticalCrs (codes "VERTCRS") (vertical_runs level g)
@@ -216,14 +173,14 @@ vertical-kept l level g few h = record {
   written = refl;
   made = runs-made (vertical_arguments l level g few h);
   allowed = vertical-allowed l level g few;
-  sets = vertical-sets level (text_item g.name) g.dynamic g.frame (frame_item level g) (vertical_rest level g) (
+  sets = frame-sets level (text_item g.name) g.dynamic false g.frame (frame_item level g) (vertical_rest level g) (
     identifiers-ascend level g.tail.identifiers,
     (
       usages-ascend level (usages_of g.tail),
       (tt, (tt, (models-ascend level g.geoid_models, tt))),
     ),
   );
-  left = vertical-left level (text_item g.name) g.dynamic g.frame (frame_item level g) (vertical_rest level g)
+  left = frame-left level (text_item g.name) g.dynamic false g.frame (frame_item level g) (vertical_rest level g)
       (tail-left level g.tail);
   own = λ item s.
       let v = vertical-shown level g item s in (
@@ -239,7 +196,7 @@ vertical-kept l level g few h = record {
       crs-breaks l vertical_dimensions class.VerticalCrs g.system item fault h.system.dimension h.dimension
       (tail-seen level class.VerticalCrs item g.tail v.1.1.1)
       (system-seen l level class.VerticalCrs item g.system g.tail few v)
-      (vertical-steady level item (text_item g.name) g.dynamic g.frame (frame_item level g) (vertical_rest level g)
+      (frame-steady level class.VerticalCrs item (text_item g.name) false g.dynamic g.frame (frame_item level g) (vertical_rest level g)
       h.dynamic (refl, (refl, (refl, tt))) (views class.VerticalCrs (vertical_runs level g) item dynamic_classes s)) b;
 }
 

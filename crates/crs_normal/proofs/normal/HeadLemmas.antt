@@ -23,7 +23,7 @@ use Rattle.crs_value.specs.declared.values.system_type.SystemType.TheVariants as
 use Rattle.crs_normal.specs.NormalOwn.{HasTail, words_in}
 use Rattle.crs_value.specs.Sound.{Each}
 use Rattle.crs_normal.proofs.normal.AxisLemmas.{type-raw}
-use Rattle.crs_normal.proofs.normal.DimensionLemmas.{AreSmall}
+use Rattle.crs_normal.proofs.normal.DimensionLemmas.{AreSmall, few-axes as count-small}
 use Rattle.crs_normal.proofs.normal.EllipsoidLemmas.{ZeroPlain}
 use Rattle.crs_normal.proofs.normal.FormLemmas.{IsGood, kept-good, opened}
 use Rattle.crs_normal.proofs.normal.LeafLemmas.{PlainIsOne}
@@ -45,18 +45,6 @@ each-length R [] [] reads = refl
 each-length R [] (v ∷ vs) reads = absurd reads
 each-length R (i ∷ is) [] reads = absurd reads
 each-length R (i ∷ is) (v ∷ vs) reads = ap suc (each-length R is vs reads.1)
-
-same-whole : (n m : ℕ) → SameNumber (whole_number n) (whole_number m) → n ≡ m
-same-whole n m h = let e : n * 10 ^ (0 + 0) ≡ m * 10 ^ (0 + 0) = h.0 in omega arith
-
-small-one : Laws → (dimension : Value) (ns : List ℕ) → AreSmall ns → IsOneOf dimension ns → (count : ℕ) →
-    SameNumber (exact dimension) (whole_number count) → count ≤ 3
-small-one laws dimension [] small one count same = absurd one
-small-one laws dimension (n ∷ ns) small (inl one) count same =
-    let e = same-whole count n (laws.transitive _ _ _ (laws.symmetric _ _ same) one) in
-    let l = small.0 in
-    omega arith
-small-one laws dimension (n ∷ ns) small (inr one) count same = small-one laws dimension ns small.1 one count same
 
 abbrev pub AreFree : (SystemType → List ℕ) → List Item → List Item → List Item → Type 0
 AreFree dimensions systems axes units = (fault : RefusedAt) → ¬ (BadSystems dimensions systems axes units fault)
@@ -94,8 +82,8 @@ few-axes laws dimensions small (cs ∷ more) axes units free x reads count =
                           reads.system_type,
                           reads.dimension,
                           λ one.
-                              three (small-one laws x.dimension (dimensions x.system_type) (small x.system_type) one
-                              (length axes) same) many,
+                              three (count-small laws.symmetric laws.transitive x.dimension (length axes)
+                              (dimensions x.system_type) (small x.system_type) one same) many,
                         ),
                       ),
                     ),

@@ -153,14 +153,53 @@ members-back level ms s =
     (λ m q. named-read class.Member (codes "MEMBER") (keyword-names class.Member (codes "ID")) (norm_member level m)
     (named-kept level m q)) ms s
 
+-- what keywords name in a reference frame, and in an ensemble
+pub record DatumNames (c : Class) : Type 0 where
+  pub identifiers : NamesId c
+  pub anchors : class_named c (codes "ANCHOR") ≡ Some class.Anchor
+  pub epochs : class_named c (codes "ANCHOREPOCH") ≡ Some class.AnchorEpoch
+
+pub record EnsembleNames (c : Class) : Type 0 where
+  pub identifiers : NamesId c
+  pub members : class_named c (codes "MEMBER") ≡ Some class.Member
+  pub accuracies : class_named c (codes "ENSEMBLEACCURACY") ≡ Some class.EnsembleAccuracy
+
+pub in-geodetic-datum : DatumNames class.GeodeticFrame
+in-geodetic-datum = record {
+  identifiers = keyword-names class.GeodeticFrame (codes "ID");
+  anchors = keyword-names class.GeodeticFrame (codes "ANCHOR");
+  epochs = keyword-names class.GeodeticFrame (codes "ANCHOREPOCH");
+}
+
+pub in-vertical-datum : DatumNames class.VerticalFrame
+in-vertical-datum = record {
+  identifiers = keyword-names class.VerticalFrame (codes "ID");
+  anchors = keyword-names class.VerticalFrame (codes "ANCHOR");
+  epochs = keyword-names class.VerticalFrame (codes "ANCHOREPOCH");
+}
+
+pub in-geodetic-ensemble : EnsembleNames class.GeodeticEnsemble
+in-geodetic-ensemble = record {
+  identifiers = keyword-names class.GeodeticEnsemble (codes "ID");
+  members = keyword-names class.GeodeticEnsemble (codes "MEMBER");
+  accuracies = keyword-names class.GeodeticEnsemble (codes "ENSEMBLEACCURACY");
+}
+
+pub in-vertical-ensemble : EnsembleNames class.VerticalEnsemble
+in-vertical-ensemble = record {
+  identifiers = keyword-names class.VerticalEnsemble (codes "ID");
+  members = keyword-names class.VerticalEnsemble (codes "MEMBER");
+  accuracies = keyword-names class.VerticalEnsemble (codes "ENSEMBLEACCURACY");
+}
+
 -- in a class of reference frames, where the ellipsoid is, if there is one
-module _ (laws : TextLaws) (c : Class) (keyword : List ℕ) (names : NamesId c) (anchors : class_named c (codes "ANCHOR") ≡ Some class.Anchor) (epochs : class_named c (codes "ANCHOREPOCH") ≡ Some class.AnchorEpoch) (level : Level) (d : DatumParts) (s : IsDatum d) (on : MayIn c class.Ellipsoid item_ellipsoid (option_map (norm_ellipsoid level) d.ellipsoid)) where
+module _ (laws : TextLaws) (c : Class) (keyword : List ℕ) (names : DatumNames c) (level : Level) (d : DatumParts) (s : IsDatum d) (on : MayIn c class.Ellipsoid item_ellipsoid (option_map (norm_ellipsoid level) d.ellipsoid)) where
   abbrev of-datum : List (Segment c)
   of-datum =
       a-text c d.name ∷ if-any c class.Ellipsoid item_ellipsoid (option_map (norm_ellipsoid level) d.ellipsoid) on ∷
-      may-be c class.Anchor (text_node (codes "ANCHOR")) d.anchor (λ x. anchors) ∷
-      may-be c class.AnchorEpoch (number_node (codes "ANCHOREPOCH")) d.anchor_epoch (λ v. epochs) ∷
-      identifiers c names level d.identifiers ∷ []
+      may-be c class.Anchor (text_node (codes "ANCHOR")) d.anchor (λ x. names.anchors) ∷
+      may-be c class.AnchorEpoch (number_node (codes "ANCHOREPOCH")) d.anchor_epoch (λ v. names.epochs) ∷
+      identifiers c names.identifiers level d.identifiers ∷ []
 
   pub datum-read : ReadsBack (item_datum keyword) (ReadsDatum c) (norm_datum level d)
   datum-read place =
@@ -177,13 +216,13 @@ module _ (laws : TextLaws) (c : Class) (keyword : List ℕ) (names : NamesId c) 
         identifiers = identifiers-field look level d.identifiers refl s.identifiers;
       }
 
-module _ (laws : TextLaws) (c : Class) (names : NamesId c) (members : class_named c (codes "MEMBER") ≡ Some class.Member) (accuracies : class_named c (codes "ENSEMBLEACCURACY") ≡ Some class.EnsembleAccuracy) (level : Level) (e : EnsembleParts) (s : IsEnsemble e) (on : MayIn c class.Ellipsoid item_ellipsoid (option_map (norm_ellipsoid level) e.ellipsoid)) where
+module _ (laws : TextLaws) (c : Class) (names : EnsembleNames c) (level : Level) (e : EnsembleParts) (s : IsEnsemble e) (on : MayIn c class.Ellipsoid item_ellipsoid (option_map (norm_ellipsoid level) e.ellipsoid)) where
   abbrev of-ensemble : List (Segment c)
   of-ensemble =
-      a-text c e.name ∷ all-of c class.Member item_member (set_members level e.members) (λ m. members) ∷
+      a-text c e.name ∷ all-of c class.Member item_member (set_members level e.members) (λ m. names.members) ∷
       if-any c class.Ellipsoid item_ellipsoid (option_map (norm_ellipsoid level) e.ellipsoid) on ∷
-      one-item c class.EnsembleAccuracy (number_node (codes "ENSEMBLEACCURACY") e.accuracy) accuracies ∷
-      identifiers c names level e.identifiers ∷ []
+      one-item c class.EnsembleAccuracy (number_node (codes "ENSEMBLEACCURACY") e.accuracy) names.accuracies ∷
+      identifiers c names.identifiers level e.identifiers ∷ []
 
   pub ensemble-read : ReadsBack item_ensemble (ReadsEnsemble c) (norm_ensemble level e)
   ensemble-read place =
