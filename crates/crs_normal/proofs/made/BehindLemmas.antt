@@ -21,11 +21,12 @@ use Rattle.crs_normal.proofs.made.CheckLemmas.{IsSystemSeen}
 use Rattle.crs_normal.proofs.made.NodeLemmas.{Made, Run, alone, as-argument, items_in}
 use Rattle.crs_normal.proofs.made.PlaceLemmas.{ArePlaced}
 use Rattle.crs_normal.proofs.made.SystemLemmas.{HasEach, IsHeadItem, all-axes, all-count, axes-made, axes-seen, head-made, head-seen}
-use Rattle.crs_normal.proofs.made.TailLemmas.{IsTailSeen, tail_runs}
+use Rattle.crs_normal.proofs.made.TailLemmas.{NamesTail, IsTailSeen, tail_runs}
 use Rattle.crs_normal.proofs.made.ArgumentLemmas.{Argument, may-of, one-of, some-of}
 use Rattle.crs_normal.specs.SpelledUnits.{item_unit}
 use Rattle.crs_normal.proofs.texts.SegmentLemmas.{placed-none}
 use Rattle.crs_normal.proofs.normal.DimensionLemmas.{few-axes}
+use Rattle.crs_normal.proofs.read.NameLemmas.{keyword-names}
 
 -- each position of each system has an axis
 abbrev pub AxisEach : Type 0
@@ -65,6 +66,31 @@ behind level s t = alone class.CoordinateSystem (item_head (norm_system level s)
 pub record NamesSystem (c : Class) : Type 0 where
   pub head : class_named c (codes "CS") ≡ Some class.CoordinateSystem
   pub axis : class_named c (codes "AXIS") ≡ Some class.Axis
+
+-- what keywords name at the end of a CRS, and of its system
+pub record EndNames (c : Class) : Type 0 where
+  pub systems : NamesSystem c
+  pub tails : NamesTail c
+
+pub projected-names : EndNames class.ProjectedCrs
+projected-names = record {
+  systems = record { head = keyword-names class.ProjectedCrs (codes "CS"); axis = keyword-names class.ProjectedCrs (codes "AXIS") };
+  tails = record {
+    usage = keyword-names class.ProjectedCrs (codes "USAGE");
+    ident = keyword-names class.ProjectedCrs (codes "ID");
+    remark = keyword-names class.ProjectedCrs (codes "REMARK");
+  };
+}
+
+pub vertical-names : EndNames class.VerticalCrs
+vertical-names = record {
+  systems = record { head = keyword-names class.VerticalCrs (codes "CS"); axis = keyword-names class.VerticalCrs (codes "AXIS") };
+  tails = record {
+    usage = keyword-names class.VerticalCrs (codes "USAGE");
+    ident = keyword-names class.VerticalCrs (codes "ID");
+    remark = keyword-names class.VerticalCrs (codes "REMARK");
+  };
+}
 
 pub head-argument : DecimalLaws → (level : Level) (most : ℕ) (c : Class) (s : SystemParts) → 3 ≤ most →
     NamesSystem c → IsSystem s →

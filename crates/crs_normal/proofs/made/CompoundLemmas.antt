@@ -43,7 +43,7 @@ use Rattle.crs_normal.proofs.made.PlaceLemmas.{ArePlaced}
 use Rattle.crs_normal.proofs.made.ProjectedLemmas.{projected-made, projected-seen}
 use Rattle.crs_normal.proofs.made.SystemLemmas.{IsHeadItem}
 use Rattle.crs_normal.proofs.made.RiseLemmas.{rises}
-use Rattle.crs_normal.proofs.made.TailLemmas.{IsTailSeen, has-tail, no-repeats, tail-fits, tail-left, tail_runs, usages-ascend, NamesTail, tail_arguments}
+use Rattle.crs_normal.proofs.made.TailLemmas.{IsTailSeen, has-tail, no-repeats, tail-fits, tail-left, tail_runs, usages-ascend, tail_arguments, compound-names}
 use Rattle.crs_normal.proofs.made.VerticalLemmas.{vertical-made}
 use Rattle.crs_normal.proofs.made.ArgumentLemmas.{Argument, made-where, one-of, runs-made, text-of}
 
@@ -180,10 +180,6 @@ vertical-part l each_at level v h =
     as-argument level 6 7 class.CompoundCrs class.VerticalCrs (item_vertical (norm_vertical level v)) (omega arith) refl
     (vertical-made l each_at level v h)
 
-tail-names : NamesTail class.CompoundCrs
-unfolding class_named is_keyword
-tail-names = record { usage = refl; ident = refl; remark = refl }
-
 side-made : DecimalLaws → AxisEach →
     (level : Level) (b : Bool) (j : Item) (name : List ℕ) (v : VerticalParts) (t : TailParts) → IsSide level b j →
     IsText name → IsVertical v → IsTail t → (p : ℕ) →
@@ -193,7 +189,7 @@ unfolding BreaksOwn is_keyword
 side-made l each_at level b j name v t s n h g =
     let all : List (Argument level 7 class.CompoundCrs) = text-of name n ∷ one-of (side_class b) j s.made ∷
     one-of class.VerticalCrs (item_vertical (norm_vertical level v)) (vertical-part l each_at level v h) ∷
-    tail_arguments l level 7 class.CompoundCrs t (omega arith) tail-names g in
+    tail_arguments l level 7 class.CompoundCrs t (omega arith) compound-names g in
     let seen = λ (item : Item) (q : Sees class.CompoundCrs (compound_runs level b j name v t) item). tail-seen level class.CompoundCrs item t (side-shows level b j name v t item
     (views class.CompoundCrs (compound_runs level b j name v t) item tail_classes q)) in
     made-where level 7 class.CompoundCrs (codes "COMPOUNDCRS") _ _ all refl (refl, refl) refl refl

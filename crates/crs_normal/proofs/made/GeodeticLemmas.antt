@@ -46,8 +46,6 @@ use Rattle.crs_normal.proofs.made.RiseLemmas.{rises}
 use Rattle.crs_normal.proofs.made.TailLemmas.{NamesTail, has-tail, tail-fits, tail-left, tail_runs, usages-ascend, tail_arguments}
 use Rattle.crs_normal.proofs.normal.DimensionLemmas.{small-geodetic}
 use Rattle.crs_normal.proofs.made.ArgumentLemmas.{Argument, arguments-seen, laid, may-of, one-of, runs-made, text-of}
-use Rattle.crs_value.specs.declared.values.frame.Frame.{Frame}
-use Rattle.crs_value.specs.declared.values.frame.Frame.TheVariants as frame
 
 -- ---- the class of a CRS by the type of its system
 

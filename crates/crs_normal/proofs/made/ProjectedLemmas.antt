@@ -24,7 +24,7 @@ use Rattle.crs_normal.specs.SpelledFrames.{item_frame, item_meridian, norm_frame
 use Rattle.crs_normal.specs.SpelledItems.{text_item}
 use Rattle.crs_normal.specs.SpelledSystems.{item_head, norm_system}
 use Rattle.crs_normal.specs.SpelledUnits.{item_unit, norm_units}
-use Rattle.crs_normal.proofs.made.BehindLemmas.{AxisEach, IsFew, axes-some, axes_run, behind, crs_classes, few-system, no_unit_run, system-seen, tail-seen, NamesSystem, behind_arguments}
+use Rattle.crs_normal.proofs.made.BehindLemmas.{AxisEach, IsFew, axes-some, axes_run, behind, crs_classes, few-system, no_unit_run, system-seen, tail-seen, behind_arguments, projected-names}
 use Rattle.crs_normal.proofs.made.CheckLemmas.{IsSystemSeen, has-axes}
 use Rattle.crs_normal.proofs.made.ConversionLemmas.{conversion-made}
 use Rattle.crs_normal.proofs.made.DynamicLemmas.{IsSteady, dynamic-argument, dynamic_classes, no-bad-dynamic, none-shown}
@@ -35,7 +35,7 @@ use Rattle.crs_normal.proofs.made.GeodeticLemmas.{end_classes}
 use Rattle.crs_normal.proofs.made.IdentLemmas.{identifiers-ascend, identifiers-left, ids_run}
 use Rattle.crs_normal.proofs.made.NodeLemmas.{IsKept, Run, Sees, alone, as-argument, classes, given, node-made, views, Made}
 use Rattle.crs_normal.proofs.made.MeridianLemmas.{meridian-argument}
-use Rattle.crs_normal.proofs.made.TailLemmas.{has-tail, tail-fits, tail-left, tail_runs, usages-ascend, NamesTail, tail_arguments}
+use Rattle.crs_normal.proofs.made.TailLemmas.{has-tail, tail-fits, tail-left, tail_runs, usages-ascend, tail_arguments}
 use Rattle.crs_normal.proofs.normal.DimensionLemmas.{small-projected}
 use Rattle.crs_normal.proofs.made.ArgumentLemmas.{Argument, arguments-seen, ids-of, laid, made-where, may-of, one-of, runs-made, text-of}
 
@@ -144,21 +144,13 @@ projected-conversion l level g h =
     as-argument level 5 6 class.ProjectedCrs class.Conversion (item_conversion (norm_conversion level g.conversion))
     (omega arith) refl (conversion-made l level g.conversion h.conversion)
 
-system-names : NamesSystem class.ProjectedCrs
-unfolding class_named is_keyword
-system-names = record { head = refl; axis = refl }
-
-tail-names : NamesTail class.ProjectedCrs
-unfolding class_named is_keyword
-tail-names = record { usage = refl; ident = refl; remark = refl }
-
 abbrev projected_arguments : DecimalLaws → (level : Level) (g : ProjectedParts) → IsFew g.system → IsProjected g →
     List (Argument level 6 class.ProjectedCrs)
 projected_arguments l level g few h =
     text-of g.name h.name ∷ one-of class.BaseCrs (item_base (norm_base level g.base)) (projected-base l level g h) ∷
     one-of class.Conversion (item_conversion (norm_conversion level g.conversion)) (projected-conversion l level g h) ∷
     behind_arguments l level 6 class.ProjectedCrs g.system
-    (tail_arguments l level 6 class.ProjectedCrs g.tail (omega arith) tail-names h.tail) (omega arith) system-names few
+    (tail_arguments l level 6 class.ProjectedCrs g.tail (omega arith) projected-names.tails h.tail) (omega arith) projected-names.systems few
 
 projected-kept : DecimalLaws → (level : Level) (g : ProjectedParts) → IsFew g.system → IsProjected g →
     IsKept level 6 class.ProjectedCrs (codes "PROJCRS") (projected_runs level g)

@@ -37,6 +37,7 @@ use Rattle.crs_normal.proofs.made.RiseLemmas.{has-rise, rises}
 use Rattle.crs_normal.proofs.made.UsageLemmas.{usage-made, usage-named}
 use Rattle.crs_normal.proofs.read.ViewLemmas.{each-so}
 use Rattle.crs_normal.proofs.made.ArgumentLemmas.{Argument, any-of, ids-of, may-of}
+use Rattle.crs_normal.proofs.read.NameLemmas.{keyword-names}
 
 -- ---- the usages, the bare parts being one more
 
@@ -97,6 +98,13 @@ pub record NamesTail (c : Class) : Type 0 where
   pub usage : class_named c (codes "USAGE") ≡ Some class.Usage
   pub ident : class_named c (codes "ID") ≡ Some class.Identifier
   pub remark : class_named c (codes "REMARK") ≡ Some class.Remark
+
+pub compound-names : NamesTail class.CompoundCrs
+compound-names = record {
+  usage = keyword-names class.CompoundCrs (codes "USAGE");
+  ident = keyword-names class.CompoundCrs (codes "ID");
+  remark = keyword-names class.CompoundCrs (codes "REMARK");
+}
 
 pub two-of : (most : ℕ) → 5 ≤ most → 2 ≤ most
 two-of most deep = omega arith

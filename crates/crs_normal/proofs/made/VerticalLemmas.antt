@@ -1,7 +1,7 @@
 -- Vertical CRSs are made.
-use Rattle.std.proofs.Common.{◌≡◌, ℕ, ◌++◌, true, Option, Some, None, List, [], ◌∷◌, map, codes, inl, inr, refl, arith, false}
+use Rattle.std.proofs.Common.{◌≡◌, ℕ, ◌++◌, true, Some, None, List, [], ◌∷◌, map, codes, refl, arith, false}
 use Rattle.std.specs.Option.{option_map}
-use Rattle.crs_text.specs.Items.{Item, arguments}
+use Rattle.crs_text.specs.Items.{Item}
 use Rattle.crs_text.specs.Written.{at_place}
 use Rattle.crs_shape.specs.declared.class.Class.{Class}
 use Rattle.crs_shape.specs.declared.class.Class.TheVariants as class
@@ -16,15 +16,13 @@ use Rattle.crs_value.specs.CrsValues.{VerticalParts}
 use Rattle.crs_value.specs.declared.values.frame.Frame.{Frame}
 use Rattle.crs_value.specs.declared.values.frame.Frame.TheVariants as frame
 use Rattle.crs_value.specs.declared.values.level.Level.{Level}
-use Rattle.crs_value.specs.DynamicValues.{DynamicParts}
-use Rattle.crs_value.specs.Reading.{those}
 use Rattle.crs_value.specs.Sound.{Each}
 use Rattle.crs_value.specs.SoundConversion.{IsGeoidModel}
-use Rattle.crs_value.specs.SoundSingle.{IsDynamicOf, IsVertical}
+use Rattle.crs_value.specs.SoundSingle.{IsVertical}
 use Rattle.crs_same.specs.SameUsages.{usages_of}
 use Rattle.crs_normal.specs.DecimalLaws.{DecimalLaws}
 use Rattle.crs_normal.specs.AcceptedNormal.{IsAcceptedNormal, vertical_frame_class}
-use Rattle.crs_normal.specs.NormalOwn.{Ascend, set_classes}
+use Rattle.crs_normal.specs.NormalOwn.{Ascend}
 use Rattle.crs_normal.specs.SpelledConversions.{item_geoid_model, norm_geoid_model, set_geoid_models}
 use Rattle.crs_normal.specs.SpelledCrs.{item_vertical, norm_vertical}
 use Rattle.crs_normal.specs.SpelledDynamic.{item_dynamic, norm_dynamic}
@@ -33,17 +31,17 @@ use Rattle.crs_normal.specs.SpelledItems.{text_item}
 use Rattle.crs_normal.specs.SpelledSystems.{item_head, norm_system}
 use Rattle.crs_normal.specs.SpelledUnits.{item_unit}
 use Rattle.crs_normal.proofs.made.AscendLemmas.{set-ascends, set-each}
-use Rattle.crs_normal.proofs.made.BehindLemmas.{AxisEach, IsFew, NamesSystem, Shows, axes-some, axes_run, behind, crs_classes, few-system, no_unit_run, system-seen, tail-seen, behind_arguments}
+use Rattle.crs_normal.proofs.made.BehindLemmas.{AxisEach, IsFew, Shows, axes-some, axes_run, behind, crs_classes, few-system, no_unit_run, system-seen, tail-seen, behind_arguments, vertical-names}
 use Rattle.crs_normal.proofs.made.CheckLemmas.{has-axes}
-use Rattle.crs_normal.proofs.made.DynamicLemmas.{IsSteady, dynamic-argument, dynamic_classes, dynamic_run, none-shown}
+use Rattle.crs_normal.proofs.made.DynamicLemmas.{dynamic-argument, dynamic_classes}
 use Rattle.crs_normal.proofs.made.FitLemmas.{fills-one, fills-optional, fills-some, fit-before, last-fits, taken-more}
 use Rattle.crs_normal.proofs.made.FrameLemmas.{vertical-frame-made}
 use Rattle.crs_normal.proofs.made.GeodeticLemmas.{end_classes}
 use Rattle.crs_normal.proofs.made.IdentLemmas.{identifiers-ascend}
-use Rattle.crs_normal.proofs.made.NodeLemmas.{IsKept, KeepsRuns, Made, Run, Sees, alone, as-argument, classes, items_in, node-made, views}
+use Rattle.crs_normal.proofs.made.NodeLemmas.{IsKept, Made, Run, Sees, alone, as-argument, classes, node-made, views}
 use Rattle.crs_normal.proofs.made.NamedLemmas.{geoid-model-made}
 use Rattle.crs_normal.proofs.made.RiseLemmas.{rises}
-use Rattle.crs_normal.proofs.made.TailLemmas.{has-tail, tail-fits, tail-left, tail_runs, usages-ascend, NamesTail, tail_arguments}
+use Rattle.crs_normal.proofs.made.TailLemmas.{has-tail, tail-fits, tail-left, tail_runs, usages-ascend, tail_arguments}
 use Rattle.crs_normal.proofs.normal.DimensionLemmas.{small-vertical}
 use Rattle.crs_normal.proofs.made.ArgumentLemmas.{Argument, any-of, laid, may-of, one-of, runs-made, text-of}
 use Rattle.crs_normal.proofs.made.FrontLemmas.{crs-breaks, frame-left, frame-rises, frame-sets, frame-shows, frame-steady, framed_runs, geodetic_classes}
@@ -132,14 +130,6 @@ dynamic-named : class_named class.VerticalCrs (codes "DYNAMIC") ≡ Some class.D
 unfolding class_named is_keyword
 dynamic-named = refl
 
-system-names : NamesSystem class.VerticalCrs
-unfolding class_named is_keyword
-system-names = record { head = refl; axis = refl }
-
-tail-names : NamesTail class.VerticalCrs
-unfolding class_named is_keyword
-tail-names = record { usage = refl; ident = refl; remark = refl }
-
 abbrev vertical_arguments : DecimalLaws → (level : Level) (g : VerticalParts) → IsFew g.system → IsVertical g →
     List (Argument level 5 class.VerticalCrs)
 vertical_arguments l level g few h =
@@ -151,7 +141,7 @@ vertical_arguments l level g few h =
     behind_arguments l level 5 class.VerticalCrs g.system
     (any-of class.GeoidModel item_geoid_model (set_geoid_models level g.geoid_models)
     (models-made l level g.geoid_models h.geoid_models) ∷
-    tail_arguments l level 5 class.VerticalCrs g.tail (omega arith) tail-names h.tail) (omega arith) system-names few
+    tail_arguments l level 5 class.VerticalCrs g.tail (omega arith) vertical-names.tails h.tail) (omega arith) vertical-names.systems few
 
 vertical-rise : (level : Level) (g : VerticalParts) → rises 0 (vertical_runs level g) ≡ true
 vertical-rise level g =

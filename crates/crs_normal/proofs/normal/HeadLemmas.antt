@@ -1,10 +1,9 @@
 -- What the checks say of a normal CRS: how many axes there are, of which type its system is, and
 -- what is at its end.
-use Rattle.std.proofs.Common.{◌≡◌, ◌≢◌, ℕ, suc, ◌+◌, ◌*◌, ◌^◌, ◌≤◌, ◌<◌, length, map, true, false, inl, inr, List, [], ◌∷◌, codes, refl, sym, ◌∙◌, ap, subst, arith}
+use Rattle.std.proofs.Common.{◌≡◌, ◌≢◌, ℕ, suc, ◌+◌, ◌^◌, ◌≤◌, ◌<◌, length, map, true, false, inl, inr, List, [], ◌∷◌, codes, refl, sym, ◌∙◌, ap, subst, arith}
 use Rattle.std.specs.Prelude.{nat_lt}
 use Rattle.std.proofs.lemmas.Bool.{ltb-true, ltb-false}
-use Rattle.crs_decimal.specs.Number.{Number, SameNumber, whole_number}
-use Rattle.crs_decimal.specs.Value.{Value, exact}
+use Rattle.crs_decimal.specs.Number.{Number, SameNumber}
 use Rattle.crs_text.specs.Items.{Item, leaf, node, End, More, arguments, raw_of}
 use Rattle.crs_text.specs.Refusal.{RefusedAt}
 use Rattle.crs_shape.specs.declared.class.Class.{Class}

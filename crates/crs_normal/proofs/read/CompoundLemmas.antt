@@ -23,7 +23,7 @@ use Rattle.crs_normal.specs.CrsClass.{crs_class, geodetic_class}
 use Rattle.crs_normal.specs.SpelledCrs.{geodetic_keyword, item_compound, item_crs, item_geodetic, item_horizontal, item_projected, item_vertical, norm_compound, norm_crs, norm_geodetic, norm_horizontal, norm_projected, norm_vertical}
 use Rattle.crs_normal.specs.TextLaws.{TextLaws}
 use Rattle.crs_normal.proofs.read.CrsLemmas.{GeodeticNames, geodetic-read, projected-read, vertical-read}
-use Rattle.crs_normal.proofs.made.TailLemmas.{NamesTail}
+use Rattle.crs_normal.proofs.made.TailLemmas.{compound-names}
 use Rattle.crs_normal.proofs.read.EndLemmas.{of-tail, tail-read}
 use Rattle.crs_normal.proofs.texts.SegmentLemmas.{IsIn, ReadsBack, Seen, Segment, a-text, either-item, if_left, if_right, items_of, lacks, one-field, one-item, placed-at, seen}
 use Rattle.crs_normal.proofs.read.NameLemmas.{keyword-names}
@@ -61,13 +61,6 @@ names-of other = geodetic-names
 
 abbrev compound : Class
 compound = class.CompoundCrs
-
-tail-names : NamesTail compound
-tail-names = record {
-  usage = keyword-names class.CompoundCrs (codes "USAGE");
-  ident = keyword-names class.CompoundCrs (codes "ID");
-  remark = keyword-names class.CompoundCrs (codes "REMARK");
-}
 
 geographic-in : (level : Level) (g : GeodeticParts) → g.system.system_type ≡ types.Ellipsoidal →
     IsIn compound class.GeographicCrs (item_geodetic (norm_geodetic level g))
@@ -122,7 +115,7 @@ module _ (laws : TextLaws) (lower : LowerLaws) (level : Level) where
         either-item compound class.GeographicCrs class.ProjectedCrs refl
         (item_horizontal (norm_horizontal level k.horizontal)) (side level k.horizontal s.horizontal) ∷
         one-item compound class.VerticalCrs (item_vertical (norm_vertical level k.vertical))
-        (keyword-names class.CompoundCrs (codes "VERTCRS")) ∷ of-tail laws compound tail-names level k.tail s.tail
+        (keyword-names class.CompoundCrs (codes "VERTCRS")) ∷ of-tail laws compound compound-names level k.tail s.tail
 
     pub compound-read : ReadsBack item_compound (ReadsCompound class.CompoundCrs) (norm_compound level k)
     compound-read place =
@@ -131,7 +124,7 @@ module _ (laws : TextLaws) (lower : LowerLaws) (level : Level) where
           horizontal = horizontal-field look k.horizontal s.horizontal refl refl refl;
           vertical = one-field look class.VerticalCrs item_vertical ReadsVertical (norm_vertical level k.vertical) refl
               (vertical-read laws lower level k.vertical s.vertical);
-          tail = tail-read laws compound tail-names level k.tail s.tail look refl refl refl refl refl refl refl;
+          tail = tail-read laws compound compound-names level k.tail s.tail look refl refl refl refl refl refl refl;
         }
 
 -- ---- all CRSs

@@ -20,7 +20,7 @@ use Rattle.crs_normal.specs.SpelledCrs.{geodetic_keyword, item_base, item_geodet
 use Rattle.crs_normal.specs.SpelledFrames.{item_meridian, norm_frame, norm_meridian}
 use Rattle.crs_normal.specs.SpelledUnits.{item_unit, norm_units}
 use Rattle.crs_normal.specs.TextLaws.{TextLaws}
-use Rattle.crs_normal.proofs.made.BehindLemmas.{NamesSystem}
+use Rattle.crs_normal.proofs.made.BehindLemmas.{NamesSystem, projected-names, vertical-names}
 use Rattle.crs_normal.proofs.made.FrontLemmas.{NamesFrame}
 use Rattle.crs_normal.proofs.made.TailLemmas.{NamesTail}
 use Rattle.crs_normal.proofs.read.DatumLemmas.{frame-field, frame-item, geodetic-back, vertical-back}
@@ -122,22 +122,7 @@ module _ (laws : TextLaws) (level : Level) (b : BaseParts) (s : IsBase b) where
         identifiers = identifiers-field look level b.identifiers refl s.identifiers;
       }
 
--- what keywords name at the end of a CRS, and of its system
-pub record EndNames (c : Class) : Type 0 where
-  pub systems : NamesSystem c
-  pub tails : NamesTail c
-
 -- ---- projected CRSs
-
-projected-names : EndNames class.ProjectedCrs
-projected-names = record {
-  systems = record { head = keyword-names class.ProjectedCrs (codes "CS"); axis = keyword-names class.ProjectedCrs (codes "AXIS") };
-  tails = record {
-    usage = keyword-names class.ProjectedCrs (codes "USAGE");
-    ident = keyword-names class.ProjectedCrs (codes "ID");
-    remark = keyword-names class.ProjectedCrs (codes "REMARK");
-  };
-}
 
 module _ (laws : TextLaws) (lower : LowerLaws) (level : Level) (p : ProjectedParts) (s : IsProjected p) where
   abbrev projected : Class
@@ -171,16 +156,6 @@ module _ (laws : TextLaws) (lower : LowerLaws) (level : Level) (p : ProjectedPar
       }
 
 -- ---- vertical CRSs
-
-vertical-names : EndNames class.VerticalCrs
-vertical-names = record {
-  systems = record { head = keyword-names class.VerticalCrs (codes "CS"); axis = keyword-names class.VerticalCrs (codes "AXIS") };
-  tails = record {
-    usage = keyword-names class.VerticalCrs (codes "USAGE");
-    ident = keyword-names class.VerticalCrs (codes "ID");
-    remark = keyword-names class.VerticalCrs (codes "REMARK");
-  };
-}
 
 module _ (laws : TextLaws) (lower : LowerLaws) (level : Level) (v : VerticalParts) (s : IsVertical v) where
   abbrev vertical : Class
