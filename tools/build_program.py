@@ -31,7 +31,8 @@ JOB_BYTES = 1_500_000_000
 TARGET = "x86_64-unknown-linux-gnu"
 BESIDE = 15
 # Seconds of each crate, as this script measured them on four cores and nothing else at work (docs/GATE.md): the time
-# left is estimated by them, and by how much slower or faster the crates before were.
+# left is estimated by them, and by how much slower or faster the crates before were. Those of crs_streams, crs_group and
+# crs_commands are estimates, since streams and the run of group moved.
 KNOWN_SECONDS = {
     "crs_decimal": 22,
     "crs_text": 40,

@@ -5,7 +5,7 @@ use crs_text::Refusal;
 use itoa::Buffer;
 use std::alloc::AllocError;
 
-/// Appends `refused N NAME at P`. `AllocError` where there is no memory for it. Profile.
+/// Appends `refused N NAME at P`. `AllocError` where there is no memory for it: a part may be appended then. Profile.
 pub fn append_refusal(out: &mut Vec<u8>, refusal: Refusal) -> Result<(), AllocError>
     ensures { OnOk result (out.new.items ≡ out.old.items ++ refused_text refusal.number refusal.place) }
 {
