@@ -13,6 +13,7 @@ pub mod IdentLemmas
 pub mod KindLemmas
 pub mod KnownLemmas
 pub mod LeastLemmas
+pub mod LeavesLemmas
 pub mod NodeLemmas
 pub mod FirstArgumentsLemmas
 pub mod NumberLemmas
@@ -24,6 +25,8 @@ pub mod PlacedLemmas
 pub mod PlaceLemmas
 pub mod QuietLemmas
 pub mod ReadyLemmas
+pub mod RunLemmas
+pub mod SeenLemmas
 pub mod SignLemmas
 pub mod SomeCrsLemmas
 pub mod SomeLeastLemmas

@@ -17,7 +17,7 @@ use Rattle.crs_shape.specs.ShapeFault.{class_in}
 use Rattle.crs_shape.specs.Shaped.{Shaped, AreShaped}
 use Rattle.crs_shape.specs.Slots.{SlotParts, takes}
 use Rattle.crs_value.specs.Checks.{Breaks, BreaksAmong}
-use Rattle.crs_value.specs.Reading.{ahead, is_same}
+use Rattle.crs_value.specs.Reading.{ahead, is_same, those}
 
 -- the item has the shape of the class and breaks no check
 pub record IsClean (c : Class) (item : Item) : Type 0 where
@@ -42,6 +42,12 @@ pub record Fill (c : Class) (slots : List SlotParts) (items : Siblings) : Type 0
 abbrev pub Passes : Item → Class → SlotParts → Option ℕ → Option ℕ → Type 0
 Passes tree c slot at next =
     (slots : List SlotParts) → Fill c slots (ahead tree next) → Fill c (slot ∷ slots) (ahead tree at)
+
+-- the arguments from `at` on have the same ones as those from
+-- `next` on, of each class that the slot doesn't take
+abbrev pub Leaves : Item → Class → SlotParts → Option ℕ → Option ℕ → Type 0
+Leaves tree c slot at next =
+    (d : Class) → takes slot d ≡ false → those c d (ahead tree at) ≡ those c d (ahead tree next)
 
 -- whether it is one of these keywords
 abbrev pub is_one : List Keyword → Option Keyword → Bool

@@ -27,6 +27,7 @@ pub mod ReadsCrs
 pub mod ReadsDynamic
 pub mod ReadsNamed
 pub mod RepeatedPart
+pub mod Seen
 pub mod Sound
 pub mod SoundCompound
 pub mod SoundConversion

@@ -1,5 +1,6 @@
 //! Items that are seen at once to have their shape and to break no check, by one walk for each class. Where that isn't
 //! seen, the shape and the checks are judged by themselves, which finds the first fault.
+pub(crate) mod axes;
 pub(crate) mod conversion;
 pub(crate) mod crs;
 pub(crate) mod frame;

@@ -46,7 +46,7 @@ fn asked(
 }
 
 // Whether a unit fits where this kind is asked.
-fn fits(items: &Items<'_>, unit: ItemId, kind: UnitKind) -> bool
+pub(crate) fn fits(items: &Items<'_>, unit: ItemId, kind: UnitKind) -> bool
     requires { HasId items.now unit }
     ensures { IsTrue result ↔ Fits (item_at items.now unit) kind }
 {

@@ -108,7 +108,7 @@ impl Part for AxisMeridian {
     }
 }
 
-fn is_axis(keyword: Option<Keyword>) -> bool
+pub(crate) fn is_axis(keyword: Option<Keyword>) -> bool
     ensures { result ≡ is_one (Keyword.Axis ∷ []) keyword }
 {
     matches!(keyword, Some(Keyword::Axis))

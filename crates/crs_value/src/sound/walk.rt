@@ -4,7 +4,7 @@ ghost use Rattle.crs_text.specs.Items.{HasId, kind_of_item};
 ghost use Rattle.crs_shape.specs.declared.class.Class.{Class};
 ghost use Rattle.crs_shape.specs.Slots.{SlotParts};
 ghost use Rattle.crs_shape.specs.Walk.{again};
-ghost use Rattle.crs_value.specs.Filling.{IsTaken, Passes, takes_leaf};
+ghost use Rattle.crs_value.specs.Filling.{IsTaken, Leaves, Passes, takes_leaf};
 ghost use Rattle.crs_value.specs.Reading.{item_at, Holds};
 
 use crs_text::{ItemId, ItemKind, Items, Refusal};
@@ -48,8 +48,10 @@ pub(crate) fn is_unbroken(broken: Option<Refusal>) -> bool
 #[inline(always)]
 pub(crate) fn leaf(items: &Items<'_>, at: Option<ItemId>, kind: ItemKind) -> Option<Option<ItemId>>
     requires { Holds items.now at }
-    ensures { IfSome result (λ next. Holds items.now next
+    ensures passes { IfSome result (λ next. Holds items.now next
         × ((c : Class) (slot : SlotParts) → takes_leaf slot kind ≡ true → Passes items.now c slot at next)) }
+    ensures leaves { IfSome result (λ next. (c : Class) (slot : SlotParts) → takes_leaf slot kind ≡ true →
+        Leaves items.now c slot at next) }
 {
     let Some(id) = at else { return None };
     if items.kind(id) == kind {
@@ -63,8 +65,10 @@ pub(crate) fn leaf(items: &Items<'_>, at: Option<ItemId>, kind: ItemKind) -> Opt
 #[inline(always)]
 pub(crate) fn one<P: Part>(items: &Items<'_>, at: Option<ItemId>) -> Option<Option<ItemId>>
     requires { Holds items.now at }
-    ensures { IfSome result (λ next. Holds items.now next
+    ensures passes { IfSome result (λ next. Holds items.now next
         × ((c : Class) (slot : SlotParts) → P.Stands c slot → Passes items.now c slot at next)) }
+    ensures leaves { IfSome result (λ next. (c : Class) (slot : SlotParts) → P.Stands c slot →
+        Leaves items.now c slot at next) }
 {
     let Some(id) = at else { return None };
     if P::is(items, id) {
@@ -81,6 +85,7 @@ pub(crate) fn optional<P: Part>(items: &Items<'_>, at: Option<ItemId>) -> Option
     ensures holds { Holds items.now result }
     ensures passes { (c : Class) (slot : SlotParts) → P.Stands c slot → slot.required ≡ false →
         Passes items.now c slot at result }
+    ensures leaves { (c : Class) (slot : SlotParts) → P.Stands c slot → Leaves items.now c slot at result }
 {
     let Some(id) = at else { return None };
     if P::is(items, id) {
@@ -97,6 +102,7 @@ pub(crate) fn any<P: Part>(items: &Items<'_>, at: Option<ItemId>) -> Option<Item
     ensures holds { Holds items.now result }
     ensures passes { (c : Class) (slot : SlotParts) → P.Stands c slot → slot.required ≡ false → slot.many ≡ true →
         Passes items.now c slot at result }
+    ensures leaves { (c : Class) (slot : SlotParts) → P.Stands c slot → Leaves items.now c slot at result }
 {
     let mut next = at;
     while let Some(id) = next {

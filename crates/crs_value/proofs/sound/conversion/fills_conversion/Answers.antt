@@ -8,8 +8,8 @@ pub returns : goal.returns
 returns c = λ yes.
     let tree = c.args.items.now in
     fill-arguments tree class.Conversion _ (item_at tree c.args.id) c.arg.result c.arg.ensures
-    (c.in-Some.ensures.1 class.Conversion _ refl _
-    (c.in-Some-one.ensures.1 class.Conversion _ refl _
+    (c.in-Some.ensures.passes.1 class.Conversion _ refl _
+    (c.in-Some-one.ensures.passes.1 class.Conversion _ refl _
     (c.any-parameters.ensures.passes class.Conversion _ refl refl refl _
     (c.any-end.ensures.passes class.Conversion _ refl refl refl _
     (fill-none tree class.Conversion _ (c.is_end.ensures yes))))))

@@ -8,9 +8,9 @@ pub returns : goal.returns
 returns c = λ yes.
     let tree = c.args.items.now in
     fill-arguments tree class.BaseCrs _ (item_at tree c.args.id) c.arg.result c.arg.ensures
-    (c.in-Some.ensures.1 class.BaseCrs _ refl _
+    (c.in-Some.ensures.passes.1 class.BaseCrs _ refl _
     (c.optional-dynamic.ensures.passes class.BaseCrs _ refl refl _
-    (c.in-Some-one.ensures.1 class.BaseCrs _ (refl, refl) _
+    (c.in-Some-one.ensures.passes.1 class.BaseCrs _ (refl, refl) _
     (c.optional-meridian.ensures.passes class.BaseCrs _ refl refl _
     (c.optional-unit.ensures.passes class.BaseCrs _ refl refl _
     (c.any-end.ensures.passes class.BaseCrs _ refl refl refl _

@@ -8,10 +8,10 @@ pub returns : goal.returns
 returns c = λ yes.
     let tree = c.args.items.now in
     fill-arguments tree class.ProjectedCrs _ (item_at tree c.args.id) c.arg.result c.arg.ensures
-    (c.in-Some.ensures.1 class.ProjectedCrs _ refl _
-    (c.in-Some-one.ensures.1 class.ProjectedCrs _ refl _
-    (c.in-Some-one-2.ensures.1 class.ProjectedCrs _ refl _
-    (c.in-Some-one-3.ensures.1 class.ProjectedCrs _ refl _
+    (c.in-Some.ensures.passes.1 class.ProjectedCrs _ refl _
+    (c.in-Some-one.ensures.passes.1 class.ProjectedCrs _ refl _
+    (c.in-Some-one-2.ensures.passes.1 class.ProjectedCrs _ refl _
+    (c.in-Some-one-3.ensures.passes.1 class.ProjectedCrs _ refl _
     (c.in-Some-some.ensures.1 class.ProjectedCrs _ refl refl refl _
     (c.optional-unit.ensures.passes class.ProjectedCrs _ refl refl _
     (c.any-end.ensures.passes class.ProjectedCrs _ (refl, refl, refl, refl, refl, refl, refl) refl refl _

@@ -8,6 +8,6 @@ pub returns : goal.returns
 returns c = λ yes.
     let tree = c.args.items.now in
     fill-arguments tree class.Dynamic _ (item_at tree c.args.id) c.arg.result c.arg.ensures
-    (c.in-Some.ensures.1 class.Dynamic _ refl _
+    (c.in-Some.ensures.passes.1 class.Dynamic _ refl _
     (c.optional-end.ensures.passes class.Dynamic _ refl refl _
     (fill-none tree class.Dynamic _ (c.is_end.ensures yes))))

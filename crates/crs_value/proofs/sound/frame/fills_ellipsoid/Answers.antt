@@ -8,9 +8,9 @@ pub returns : goal.returns
 returns c = λ yes.
     let tree = c.args.items.now in
     fill-arguments tree class.Ellipsoid _ (item_at tree c.args.id) c.arg.result c.arg.ensures
-    (c.in-Some.ensures.1 class.Ellipsoid _ refl _
-    (c.in-Some-leaf.ensures.1 class.Ellipsoid _ refl _
-    (c.in-Some-leaf-2.ensures.1 class.Ellipsoid _ refl _
+    (c.in-Some.ensures.passes.1 class.Ellipsoid _ refl _
+    (c.in-Some-leaf.ensures.passes.1 class.Ellipsoid _ refl _
+    (c.in-Some-leaf-2.ensures.passes.1 class.Ellipsoid _ refl _
     (c.optional-unit.ensures.passes class.Ellipsoid _ refl refl _
     (c.any-end.ensures.passes class.Ellipsoid _ refl refl refl _
     (fill-none tree class.Ellipsoid _ (c.is_end.ensures yes)))))))

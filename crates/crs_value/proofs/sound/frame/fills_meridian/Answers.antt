@@ -8,8 +8,8 @@ pub returns : goal.returns
 returns c = λ yes.
     let tree = c.args.items.now in
     fill-arguments tree class.PrimeMeridian _ (item_at tree c.args.id) c.arg.result c.arg.ensures
-    (c.in-Some.ensures.1 class.PrimeMeridian _ refl _
-    (c.in-Some-leaf.ensures.1 class.PrimeMeridian _ refl _
+    (c.in-Some.ensures.passes.1 class.PrimeMeridian _ refl _
+    (c.in-Some-leaf.ensures.passes.1 class.PrimeMeridian _ refl _
     (c.optional-unit.ensures.passes class.PrimeMeridian _ refl refl _
     (c.any-end.ensures.passes class.PrimeMeridian _ refl refl refl _
     (fill-none tree class.PrimeMeridian _ (c.is_end.ensures yes))))))

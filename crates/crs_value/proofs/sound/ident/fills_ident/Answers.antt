@@ -8,7 +8,7 @@ pub returns : goal.returns
 returns c = λ yes.
     let tree = c.args.items.now in
     fill-arguments tree class.Identifier _ (item_at tree c.args.id) c.arg.result c.arg.ensures
-    (c.in-Some.ensures.1 class.Identifier _ refl _
+    (c.in-Some.ensures.passes.1 class.Identifier _ refl _
     (c.in-Some-value.ensures.1 class.Identifier _ refl refl _
     (c.version-versioned.ensures.passes class.Identifier _ refl refl refl _
     (c.optional-cited.ensures.passes class.Identifier _ refl refl _

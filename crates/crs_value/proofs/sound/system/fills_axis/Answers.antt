@@ -8,8 +8,8 @@ pub returns : goal.returns
 returns c = λ yes.
     let tree = c.args.items.now in
     fill-arguments tree class.Axis _ (item_at tree c.args.id) c.arg.result c.arg.ensures
-    (c.in-Some.ensures.1 class.Axis _ refl _
-    (c.in-Some-leaf.ensures.1 class.Axis _ refl _
+    (c.in-Some.ensures.passes.1 class.Axis _ refl _
+    (c.in-Some-leaf.ensures.passes.1 class.Axis _ refl _
     (c.optional-meridian.ensures.passes class.Axis _ refl refl _
     (c.optional-order.ensures.passes class.Axis _ refl refl _
     (c.optional-unit.ensures.passes class.Axis _ refl refl _

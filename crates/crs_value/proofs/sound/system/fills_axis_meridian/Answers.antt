@@ -8,6 +8,6 @@ pub returns : goal.returns
 returns c = λ yes.
     let tree = c.args.items.now in
     fill-arguments tree class.AxisMeridian _ (item_at tree c.args.id) c.arg.result c.arg.ensures
-    (c.in-Some.ensures.1 class.AxisMeridian _ refl _
-    (c.in-Some-one.ensures.1 class.AxisMeridian _ refl _
+    (c.in-Some.ensures.passes.1 class.AxisMeridian _ refl _
+    (c.in-Some-one.ensures.passes.1 class.AxisMeridian _ refl _
     (fill-none tree class.AxisMeridian _ (c.is_end.ensures yes))))

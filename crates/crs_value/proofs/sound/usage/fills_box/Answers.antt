@@ -8,8 +8,8 @@ pub returns : goal.returns
 returns c = λ yes.
     let tree = c.args.items.now in
     fill-arguments tree class.BoundingBox _ (item_at tree c.args.id) c.arg.result c.arg.ensures
-    (c.in-Some.ensures.1 class.BoundingBox _ refl _
-    (c.in-Some-leaf.ensures.1 class.BoundingBox _ refl _
-    (c.in-Some-leaf-2.ensures.1 class.BoundingBox _ refl _
-    (c.in-Some-leaf-3.ensures.1 class.BoundingBox _ refl _
+    (c.in-Some.ensures.passes.1 class.BoundingBox _ refl _
+    (c.in-Some-leaf.ensures.passes.1 class.BoundingBox _ refl _
+    (c.in-Some-leaf-2.ensures.passes.1 class.BoundingBox _ refl _
+    (c.in-Some-leaf-3.ensures.passes.1 class.BoundingBox _ refl _
     (fill-none tree class.BoundingBox _ (c.is_end.ensures yes))))))

@@ -8,7 +8,7 @@ pub returns : goal.returns
 returns c = λ yes.
     let tree = c.args.items.now in
     fill-arguments tree class.VerticalExtent _ (item_at tree c.args.id) c.arg.result c.arg.ensures
-    (c.in-Some.ensures.1 class.VerticalExtent _ refl _
-    (c.in-Some-leaf.ensures.1 class.VerticalExtent _ refl _
+    (c.in-Some.ensures.passes.1 class.VerticalExtent _ refl _
+    (c.in-Some-leaf.ensures.passes.1 class.VerticalExtent _ refl _
     (c.optional-end.ensures.passes class.VerticalExtent _ refl refl _
     (fill-none tree class.VerticalExtent _ (c.is_end.ensures yes)))))

@@ -1,5 +1,6 @@
 use Rattle.std.proofs.Common.{None, Some}
 use Rattle.crs_value.proofs.FillingLemmas.{passes-none, passes-one, passes-at, has-some}
+use Rattle.crs_value.proofs.LeavesLemmas.{leaves-none, leaves-one, leaves-at}
 use Rattle.crs_value.proofs.sound.walk.optional.Goals as goal
 
 pub returns-in_default-clause-passes : goal.returns-in_default-clause-passes
@@ -18,3 +19,20 @@ pub returns-else-is-clause-passes : goal.returns-else-is-clause-passes
 returns-else-is-clause-passes g c = λ d slot stands free.
     let tree = c.args.items.now in
     passes-at tree d slot c.args.at _ (Some c.in-Some.id) c.in-Some.is (passes-none tree d slot (Some c.in-Some.id) free)
+
+pub returns-in_default-clause-leaves : goal.returns-in_default-clause-leaves
+returns-in_default-clause-leaves g c = λ d slot stands.
+    leaves-at c.args.items.now d slot c.args.at None None c.in_default.is (leaves-none c.args.items.now d slot None)
+
+pub returns-then-is-clause-leaves : goal.returns-then-is-clause-leaves
+returns-then-is-clause-leaves g c = λ d slot stands.
+    let tree = c.args.items.now in
+    let id = c.in-Some.id in
+    leaves-at tree d slot c.args.at _ c.next.result c.in-Some.is
+    (leaves-one tree d slot id c.next.result (has-some tree c.args.at id c.in-Some.is c.requires) c.next.ensures
+    (c.is.ensures c.if-is.true d slot stands))
+
+pub returns-else-is-clause-leaves : goal.returns-else-is-clause-leaves
+returns-else-is-clause-leaves g c = λ d slot stands.
+    let tree = c.args.items.now in
+    leaves-at tree d slot c.args.at _ (Some c.in-Some.id) c.in-Some.is (leaves-none tree d slot (Some c.in-Some.id))

@@ -1,0 +1,189 @@
+-- A bridge: what one walk sees of axes beside one another, and of a CRS from its node `CS` on.
+use Rattle.std.specs.Prelude.{◌≡◌, ◌≢◌, ℕ, ◌+◌, ◌<◌, ◌≤◌, length, ◌&&◌, not, ◌⊎◌, Bool, true, false}
+use Rattle.std.specs.Prelude.{List, [], ◌∷◌, ◌++◌, Option, Some, None}
+use Rattle.std.specs.List.{list_all}
+use Rattle.crs_text.specs.Items.{Item, Siblings, arguments, HasId}
+use Rattle.crs_text.specs.declared.keyword.Keyword.TheVariants as keyword
+use Rattle.crs_shape.specs.declared.class.Class.{Class}
+use Rattle.crs_shape.specs.declared.class.Class.TheVariants as class
+use Rattle.crs_shape.specs.Shaped.{Shaped}
+use Rattle.crs_shape.specs.Slots.{SlotParts, one, optional, some, any, takes, is_class}
+use Rattle.crs_value.specs.declared.sound.axes.Axes.{Axes}
+use Rattle.crs_value.specs.declared.sound.axes.Places.{Places}
+use Rattle.crs_value.specs.declared.sound.axes.Run.{Run}
+use Rattle.crs_value.specs.declared.sound.axes.Seen.{Seen}
+use Rattle.crs_value.specs.declared.values.system_type.SystemType.{SystemType}
+use Rattle.crs_value.specs.declared.values.unit_kind.UnitKind.TheVariants as kinds
+use Rattle.crs_value.specs.BadOrder.{orders_in}
+use Rattle.crs_value.specs.BadSystem.{dimensions_of}
+use Rattle.crs_value.specs.BadUnit.{asked_kind, units_in, Asks, Fits, BadOwnUnit}
+use Rattle.crs_value.specs.Break.{IsLeast}
+use Rattle.crs_value.specs.Checks.{once, BadSystems}
+use Rattle.crs_value.specs.Filling.{Fill, Leaves, stand}
+use Rattle.crs_value.specs.Found.{HasPlace}
+use Rattle.crs_value.specs.Reading.{Each, item_at, ahead, is_same, those, ReadsFirst}
+use Rattle.crs_value.specs.Reads.{HasType, ReadsDirection}
+use Rattle.crs_value.specs.RepeatedPart.{RepeatsAny}
+
+-- the item of this number, or none
+abbrev pub the_one : Item → Option ℕ → List Item
+the_one tree None = []
+the_one tree (Some id) = item_at tree id ∷ []
+
+-- the tree has the item of this number, which has the shape of the class
+abbrev pub IsShaped : Item → Class → Option ℕ → Type 0
+IsShaped tree c None = Unit {0}
+IsShaped tree c (Some id) = HasId tree id × Shaped c (item_at tree id)
+
+-- where the arguments from `next` on have none of the one class that
+-- the slot takes, those from `at` on have the found one alone
+abbrev pub Only : Item → Class → SlotParts → Option ℕ → Option ℕ → Option ℕ → Type 0
+Only tree c slot at found next =
+    (d : Class) → slot.classes ≡ d ∷ [] → those c d (ahead tree next) ≡ [] →
+    (those c d (ahead tree at) ≡ the_one tree found) × IsShaped tree d found
+
+-- ---- axes
+
+-- an axis's direction, and its only order and its only unit, where it has them
+pub record Has (tree axis : Item) (seen : Seen) : Type 0 where
+  pub direction : ReadsFirst ReadsDirection (those class.Axis class.Word (arguments axis)) seen.direction
+  pub orders : orders_in axis ≡ the_one tree seen.order
+  pub order : IsShaped tree class.Order seen.order
+  pub units : units_in axis ≡ the_one tree seen.unit
+  pub unit : IsShaped tree class.AxisUnit seen.unit
+
+-- a node of this class has axes in a slot of theirs
+abbrev pub HasAxes : Class → Type 0
+HasAxes c =
+    (stand (keyword.Axis ∷ []) (is_same class.Axis) c (some class.Axis) ≡ true)
+    × (stand (keyword.Axis ∷ []) (is_same class.Axis) c (any class.Axis) ≡ true)
+
+-- the axes from one argument of a node on
+abbrev pub axes_from : Item → Class → Option ℕ → List Item
+axes_from tree c at = those c class.Axis (ahead tree at)
+
+-- a number is among these
+abbrev pub Marks : Places → ℕ → Type 0
+Marks places k =
+    ((k ≡ 1) × (places.first ≡ true))
+    ⊎ (((k ≡ 2) × (places.second ≡ true)) ⊎ ((k ≡ 3) × (places.third ≡ true)))
+
+-- a number wasn't among these, and is among the others as they are
+pub record IsMarked (k : ℕ) (old new : Places) : Type 0 where
+  pub fresh : ¬ (Marks old k)
+  pub there : Marks new k
+  pub keeps : (j : ℕ) → Marks old j → Marks new j
+
+-- the orders of some axes with the found one of a further axis, where both are known
+abbrev pub ArePlaced : Item → Option ℕ → Option Places → Option Places → Type 0
+ArePlaced tree order old None = Unit {0}
+ArePlaced tree order None (Some new) = ⊥
+ArePlaced tree order (Some old) (Some new) =
+    (k : ℕ) × (((axis : Item) → orders_in axis ≡ the_one tree order → HasPlace k axis)
+    × IsMarked k old new)
+
+-- what was seen of some axes, and with one more that has these parts
+pub record IsNoted (tree : Item) (of : SystemType) (seen : Seen) (old new : Axes) : Type 0 where
+  pub counted : new.count ≡ old.count + 1
+  pub placed : ArePlaced tree seen.order old.places new.places
+  pub none : new.orderless ≡ true → (old.orderless ≡ true) × (seen.order ≡ None)
+  pub fit : new.own ≡ true → (old.own ≡ true) × ((cs axis : Item) →
+    Asks cs axis (asked_kind of seen.direction) → units_in axis ≡ the_one tree seen.unit →
+    IsLeast (BadOwnUnit cs axis) None)
+  pub free : new.alone ≡ true → (old.alone ≡ true) × (seen.unit ≡ None)
+  pub long : new.lengths ≡ true →
+    (old.lengths ≡ true) × (asked_kind of seen.direction ≡ kinds.Length)
+  pub turned : new.angles ≡ true →
+    (old.angles ≡ true) × (asked_kind of seen.direction ≡ kinds.Angle)
+
+-- an axis has an order among these
+abbrev pub IsAmong : Places → Item → Type 0
+IsAmong places axis = (k : ℕ) × (HasPlace k axis × Marks places k)
+
+-- two axes have different orders
+abbrev pub Differ : Item → Item → Type 0
+Differ a b = (j : ℕ) × ((k : ℕ) × (HasPlace j a × (HasPlace k b × (j ≢ k))))
+
+-- any two of these axes have different orders
+abbrev pub AllDiffer : List Item → Type 0
+AllDiffer [] = Unit {0}
+AllDiffer (axis ∷ axes) = Each (Differ axis) axes × AllDiffer axes
+
+-- each of these axes has an order, and these are among those that were seen and differ
+abbrev pub AreAmong : Option Places → List Item → Type 0
+AreAmong None axes = Unit {0}
+AreAmong (Some places) axes = Each (IsAmong places) axes × AllDiffer axes
+
+-- what was seen of these axes
+pub record IsSeen (of : SystemType) (axes : Axes) (before : List Item) : Type 0 where
+  pub count : axes.count ≡ length before
+  pub places : AreAmong axes.places before
+  pub none : axes.orderless ≡ true → Each (λ a. orders_in a ≡ []) before
+  pub fit : axes.own ≡ true → (cs : Item) → HasType cs of →
+    Each (λ a. IsLeast (BadOwnUnit cs a) None) before
+  pub free : axes.alone ≡ true → Each (λ a. units_in a ≡ []) before
+  pub long : axes.lengths ≡ true → (cs : Item) → HasType cs of →
+    Each (λ a. Asks cs a kinds.Length) before
+  pub turned : axes.angles ≡ true → (cs : Item) → HasType cs of →
+    Each (λ a. Asks cs a kinds.Angle) before
+
+-- the axes from this one to the arguments behind, of which some may be axes too
+pub record IsRun (tree : Item) (c : Class) (of : SystemType) (first : ℕ) (run : Run) : Type 0 where
+  pub passes : (slots : List SlotParts) → Fill c (any class.Axis ∷ slots) (ahead tree run.next) →
+    Fill c (some class.Axis ∷ slots) (ahead tree (Some first))
+  pub leaves : Leaves tree c (some class.Axis) (Some first) run.next
+  pub before : List Item
+  pub are : axes_from tree c (Some first) ≡ before ++ axes_from tree c run.next
+  pub seen : IsSeen of run.axes before
+
+-- ---- from the node `CS` on
+
+-- orders were seen, and they are among those from 1 to this number
+abbrev pub AreWithin : ℕ → Option Places → Type 0
+AreWithin n None = ⊥
+AreWithin n (Some places) = (k : ℕ) → Marks places k → (1 ≤ k) × (k ≤ n)
+
+-- no axis has an order, or the orders are among those from 1 to their number
+abbrev pub AreOrdered : Axes → Type 0
+AreOrdered axes = (axes.orderless ≡ true) ⊎ AreWithin axes.count axes.places
+
+-- the units fit: each axis has its own, or none has one, and the shared one fits what all ask for
+abbrev pub UnitsFit : Item → Axes → Option ℕ → Type 0
+UnitsFit tree axes None = axes.own ≡ true
+UnitsFit tree axes (Some unit) =
+    (axes.alone ≡ true)
+    × (((axes.lengths ≡ true) × Fits (item_at tree unit) kinds.Length)
+    ⊎ ((axes.angles ≡ true) × Fits (item_at tree unit) kinds.Angle))
+
+-- the slots from that of a node `CS` on, with what may be at the end
+abbrev pub rest_slots : SlotParts → List SlotParts
+rest_slots slot =
+    one class.CoordinateSystem ∷ some class.Axis ∷ optional class.AxisUnit ∷ slot ∷ []
+
+-- whether a slot is one of an end, with neither coordinate system nor axes nor their units
+abbrev pub is_tail : SlotParts → Bool
+is_tail slot =
+    not slot.required && slot.many
+    && list_all (λ d. not (takes slot d)) (class.CoordinateSystem ∷ class.Axis ∷ class.AxisUnit ∷ [])
+
+-- these arguments break no check of a CRS but perhaps that of dynamic parts
+pub record IsQuiet (c : Class) (items : Siblings) : Type 0 where
+  pub repeats : IsLeast (RepeatsAny c items once) None
+  pub systems : IsLeast (BadSystems (dimensions_of c) (those c class.CoordinateSystem items)
+    (those c class.Axis items) (those c class.AxisUnit items)) None
+
+-- the rank of what may stand but once at a CRS's end; 0 of others
+abbrev pub rank : Class → ℕ
+rank class.Scope = 1
+rank class.Area = 2
+rank class.BoundingBox = 3
+rank class.VerticalExtent = 4
+rank class.Remark = 5
+rank other = 0
+
+-- the highest rank isn't lower with one argument more; and where
+-- this one has a rank, that is above the rank so far, and is reached
+abbrev pub Climbs : ℕ → Option Class → ℕ → Type 0
+Climbs last found next =
+    (last ≤ next)
+    × ((d : Class) → 1 ≤ rank d → is_class d found ≡ true → (last < rank d) × (rank d ≤ next))
