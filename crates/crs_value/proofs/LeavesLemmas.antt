@@ -1,5 +1,5 @@
 -- Arguments that slots take: which of a class are from there on.
-use Rattle.std.proofs.Common.{◌≡◌, ℕ, ◌≤◌, ◌||◌, length, Bool, true, false, IsTrue, Option, Some, None, List, [], ◌∷◌, refl, sym, ◌∙◌, ap, subst, arith, rules}
+use Rattle.std.proofs.Common.{◌≡◌, ℕ, ◌||◌, Bool, true, false, IsTrue, Option, Some, None, List, [], ◌∷◌, refl, sym, ◌∙◌, ap, subst, arith}
 use denote.Enum.Bare.{sameb, true_same}
 use Rattle.std.specs.List.{list_any}
 use Rattle.crs_text.specs.Items.{Item, Siblings, rest_of, here, HasId, IsAt}
@@ -10,7 +10,7 @@ use Rattle.crs_shape.specs.Shaped.{Shaped}
 use Rattle.crs_shape.specs.Slots.{SlotParts, is_class, takes}
 use Rattle.crs_value.specs.Filling.{IsTaken, Fill, Leaves}
 use Rattle.crs_value.specs.Reading.{item_at, is_same, is_a, ahead, those}
-use Rattle.crs_value.specs.Seen.{the_one, IsShaped, Only}
+use Rattle.crs_value.specs.Seen.{Only}
 use Rattle.crs_value.proofs.ArgumentLemmas.{SlotsBound, ahead_at, those-first, those-later, those-many, same_class, nothing}
 
 -- one that a slot takes isn't of a class that the slot doesn't take

@@ -25,6 +25,7 @@ pub mod PlacedLemmas
 pub mod PlaceLemmas
 pub mod QuietLemmas
 pub mod ReadyLemmas
+pub mod RestLemmas
 pub mod RunLemmas
 pub mod SeenLemmas
 pub mod SignLemmas

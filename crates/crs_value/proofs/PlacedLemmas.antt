@@ -41,7 +41,7 @@ below-on : (n : ℕ) (axes : List Item) (axis : Item) → Below n axes → HasPl
 below-on n [] axis h p = ((n, (omega arith, p)), tt)
 below-on n (x ∷ axes) axis h p = ((h.0.0, (omega (arith, h.0.1.0), h.0.1.1)), below-on n axes axis h.1 p)
 
-place-one : DenotesOne → Symmetric → Transitive → (k n : ℕ) (axis : Item) (v : Value) → HasPlace k axis → HasThis v axis → SameNumber (exact v) (whole_number n) → k ≡ n
+pub place-one : DenotesOne → Symmetric → Transitive → (k n : ℕ) (axis : Item) (v : Value) → HasPlace k axis → HasThis v axis → SameNumber (exact v) (whole_number n) → k ≡ n
 place-one law symmetric transitive k n axis v p h same =
     let P : List Item → Type 0 = λ xs. ReadsFirst ReadsOrder xs v in
     let e : p.value ≡ v = order-one law p.order p.value v p.reads (subst P p.only h) in

@@ -1,12 +1,11 @@
 -- Axes one after another, with what is seen of them.
-use Rattle.std.proofs.Common.{◌≡◌, ◌≢◌, ℕ, ◌+◌, length, Bool, true, false, Option, Some, None, List, [], ◌∷◌, ◌++◌, refl, sym, ◌∙◌, ap, subst, arith}
+use Rattle.std.proofs.Common.{◌≡◌, ℕ, ◌+◌, length, true, false, Option, Some, None, List, [], ◌∷◌, ◌++◌, refl, sym, ◌∙◌, ap, subst, arith}
 use Rattle.crs_text.specs.Items.{Item, rest_of, here, HasId, IsAt}
 use Rattle.crs_shape.specs.declared.class.Class.{Class}
 use Rattle.crs_shape.specs.declared.class.Class.TheVariants as class
 use Rattle.crs_shape.specs.Slots.{SlotParts, some, any}
 use Rattle.crs_value.specs.declared.sound.axes.Axes.{Axes}
 use Rattle.crs_value.specs.declared.sound.axes.Places.{Places}
-use Rattle.crs_value.specs.declared.sound.axes.Run.{Run}
 use Rattle.crs_value.specs.declared.sound.axes.Seen.{Seen}
 use Rattle.crs_value.specs.declared.values.system_type.SystemType.{SystemType}
 use Rattle.crs_value.specs.declared.values.unit_kind.UnitKind.TheVariants as kinds
@@ -14,9 +13,8 @@ use Rattle.crs_value.specs.BadOrder.{orders_in}
 use Rattle.crs_value.specs.BadUnit.{units_in, Asks, BadOwnUnit}
 use Rattle.crs_value.specs.Break.{IsLeast}
 use Rattle.crs_value.specs.Filling.{Fill, IsTaken}
-use Rattle.crs_value.specs.Found.{HasPlace}
+use Rattle.crs_value.specs.FoundArguments.{HasPlace}
 use Rattle.crs_value.specs.Reading.{Each, item_at, ahead, those}
-use Rattle.crs_value.specs.Reads.{HasType}
 use Rattle.crs_value.specs.Seen.{the_one, axes_from, Has, Marks, IsMarked, ArePlaced, IsNoted, IsAmong, Differ, AllDiffer, AreAmong, IsSeen, IsRun}
 use Rattle.crs_value.proofs.FillingLemmas.{passes-more}
 use Rattle.crs_value.proofs.LeavesLemmas.{leaves-one, taken-first}
@@ -55,8 +53,7 @@ places-on tree order None None xs x h e a = tt
 places-on tree order (Some old) None xs x h e a = tt
 places-on tree order None (Some new) xs x h e a = absurd h
 places-on tree order (Some old) (Some new) xs x h e a =
-    let p = h.1.0 x e in
-    (
+    let p = h.1.0 x e in (
       each-on (IsAmong new) xs x (among-more h.0 old new xs h.1.1 a.0) (h.0, (p, h.1.1.there)),
       differ-on xs x a.1 (differ-from h.0 old xs x a.0 p h.1.1.fresh),
     )
@@ -82,7 +79,14 @@ seen-on tree of seen old new before x noted has s = record {
     counted = let e = length-on before x in let k = noted.counted in let n = s.count in omega (arith, e, k, n)
 
 pub nothing-seen : (of : SystemType) → IsSeen of (record {
-  count = 0; places = Some (record { first = false; second = false; third = false }); orderless = true; own = true; alone = true; lengths = true; angles = true }) []
+  count = 0;
+  places = Some (record { first = false; second = false; third = false });
+  orderless = true;
+  own = true;
+  alone = true;
+  lengths = true;
+  angles = true;
+}) []
 nothing-seen of = record { count = refl; places = (tt, tt); none = λ e. tt; fit = λ e cs t. tt; free = λ e. tt; long = λ e cs t. tt; turned = λ e cs t. tt }
 
 -- ---- one axis after another

@@ -1,7 +1,6 @@
 -- A bridge: what one walk sees of axes beside one another, and of a CRS from its node `CS` on.
-use Rattle.std.specs.Prelude.{◌≡◌, ◌≢◌, ℕ, ◌+◌, ◌<◌, ◌≤◌, length, ◌&&◌, not, ◌⊎◌, Bool, true, false}
+use Rattle.std.specs.Prelude.{◌≡◌, ◌≢◌, ℕ, ◌+◌, ◌<◌, ◌≤◌, length, ◌⊎◌, true, false}
 use Rattle.std.specs.Prelude.{List, [], ◌∷◌, ◌++◌, Option, Some, None}
-use Rattle.std.specs.List.{list_all}
 use Rattle.crs_text.specs.Items.{Item, Siblings, arguments, HasId}
 use Rattle.crs_text.specs.declared.keyword.Keyword.TheVariants as keyword
 use Rattle.crs_shape.specs.declared.class.Class.{Class}
@@ -20,7 +19,7 @@ use Rattle.crs_value.specs.BadUnit.{asked_kind, units_in, Asks, Fits, BadOwnUnit
 use Rattle.crs_value.specs.Break.{IsLeast}
 use Rattle.crs_value.specs.Checks.{once, BadSystems}
 use Rattle.crs_value.specs.Filling.{Fill, Leaves, stand}
-use Rattle.crs_value.specs.Found.{HasPlace}
+use Rattle.crs_value.specs.FoundArguments.{HasPlace}
 use Rattle.crs_value.specs.Reading.{Each, item_at, ahead, is_same, those, ReadsFirst}
 use Rattle.crs_value.specs.Reads.{HasType, ReadsDirection}
 use Rattle.crs_value.specs.RepeatedPart.{RepeatsAny}
@@ -88,13 +87,13 @@ pub record IsNoted (tree : Item) (of : SystemType) (seen : Seen) (old new : Axes
   pub placed : ArePlaced tree seen.order old.places new.places
   pub none : new.orderless ≡ true → (old.orderless ≡ true) × (seen.order ≡ None)
   pub fit : new.own ≡ true → (old.own ≡ true) × ((cs axis : Item) →
-    Asks cs axis (asked_kind of seen.direction) → units_in axis ≡ the_one tree seen.unit →
-    IsLeast (BadOwnUnit cs axis) None)
+      Asks cs axis (asked_kind of seen.direction) → units_in axis ≡ the_one tree seen.unit →
+      IsLeast (BadOwnUnit cs axis) None)
   pub free : new.alone ≡ true → (old.alone ≡ true) × (seen.unit ≡ None)
   pub long : new.lengths ≡ true →
-    (old.lengths ≡ true) × (asked_kind of seen.direction ≡ kinds.Length)
+      (old.lengths ≡ true) × (asked_kind of seen.direction ≡ kinds.Length)
   pub turned : new.angles ≡ true →
-    (old.angles ≡ true) × (asked_kind of seen.direction ≡ kinds.Angle)
+      (old.angles ≡ true) × (asked_kind of seen.direction ≡ kinds.Angle)
 
 -- an axis has an order among these
 abbrev pub IsAmong : Places → Item → Type 0
@@ -120,17 +119,17 @@ pub record IsSeen (of : SystemType) (axes : Axes) (before : List Item) : Type 0 
   pub places : AreAmong axes.places before
   pub none : axes.orderless ≡ true → Each (λ a. orders_in a ≡ []) before
   pub fit : axes.own ≡ true → (cs : Item) → HasType cs of →
-    Each (λ a. IsLeast (BadOwnUnit cs a) None) before
+      Each (λ a. IsLeast (BadOwnUnit cs a) None) before
   pub free : axes.alone ≡ true → Each (λ a. units_in a ≡ []) before
   pub long : axes.lengths ≡ true → (cs : Item) → HasType cs of →
-    Each (λ a. Asks cs a kinds.Length) before
+      Each (λ a. Asks cs a kinds.Length) before
   pub turned : axes.angles ≡ true → (cs : Item) → HasType cs of →
-    Each (λ a. Asks cs a kinds.Angle) before
+      Each (λ a. Asks cs a kinds.Angle) before
 
 -- the axes from this one to the arguments behind, of which some may be axes too
 pub record IsRun (tree : Item) (c : Class) (of : SystemType) (first : ℕ) (run : Run) : Type 0 where
   pub passes : (slots : List SlotParts) → Fill c (any class.Axis ∷ slots) (ahead tree run.next) →
-    Fill c (some class.Axis ∷ slots) (ahead tree (Some first))
+      Fill c (some class.Axis ∷ slots) (ahead tree (Some first))
   pub leaves : Leaves tree c (some class.Axis) (Some first) run.next
   pub before : List Item
   pub are : axes_from tree c (Some first) ≡ before ++ axes_from tree c run.next
@@ -160,17 +159,19 @@ abbrev pub rest_slots : SlotParts → List SlotParts
 rest_slots slot =
     one class.CoordinateSystem ∷ some class.Axis ∷ optional class.AxisUnit ∷ slot ∷ []
 
--- whether a slot is one of an end, with neither coordinate system nor axes nor their units
-abbrev pub is_tail : SlotParts → Bool
-is_tail slot =
-    not slot.required && slot.many
-    && list_all (λ d. not (takes slot d)) (class.CoordinateSystem ∷ class.Axis ∷ class.AxisUnit ∷ [])
+-- a slot of what may be at an end, with neither coordinate system nor axes nor their units
+pub record IsTail (slot : SlotParts) : Type 0 where
+  pub required : slot.required ≡ false
+  pub many : slot.many ≡ true
+  pub system : takes slot class.CoordinateSystem ≡ false
+  pub axis : takes slot class.Axis ≡ false
+  pub unit : takes slot class.AxisUnit ≡ false
 
 -- these arguments break no check of a CRS but perhaps that of dynamic parts
 pub record IsQuiet (c : Class) (items : Siblings) : Type 0 where
   pub repeats : IsLeast (RepeatsAny c items once) None
   pub systems : IsLeast (BadSystems (dimensions_of c) (those c class.CoordinateSystem items)
-    (those c class.Axis items) (those c class.AxisUnit items)) None
+      (those c class.Axis items) (those c class.AxisUnit items)) None
 
 -- the rank of what may stand but once at a CRS's end; 0 of others
 abbrev pub rank : Class → ℕ

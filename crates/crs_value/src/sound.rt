@@ -5,6 +5,7 @@ pub(crate) mod conversion;
 pub(crate) mod crs;
 pub(crate) mod frame;
 pub(crate) mod ident;
+pub(crate) mod rest;
 pub(crate) mod single;
 pub(crate) mod system;
 pub(crate) mod unit;

@@ -32,7 +32,7 @@ fn is_two_or_three(value: &Decimal) -> bool
 }
 
 // Whether a CRS of this class may have a system of this type and dimension.
-fn is_allowed(class: Class, system_type: SystemType, dimension: &Decimal) -> bool
+pub(crate) fn is_allowed(class: Class, system_type: SystemType, dimension: &Decimal) -> bool
     ensures { IsTrue result ↔ IsOneOf dimension.now (dimensions_of class system_type) }
 {
     match (class, system_type) {

@@ -96,6 +96,7 @@ pub(crate) struct Run {
 #[inline(always)]
 pub(crate) fn at_most_one<P: Part>(items: &Items<'_>, at: Option<ItemId>) -> Passed
     requires { Holds items.now at }
+    ensures found { Holds items.now result.found }
     ensures holds { Holds items.now result.next }
     ensures passes { (c : Class) (slot : SlotParts) → P.Stands c slot → slot.required ≡ false →
         Passes items.now c slot at result.next }
@@ -103,12 +104,21 @@ pub(crate) fn at_most_one<P: Part>(items: &Items<'_>, at: Option<ItemId>) -> Pas
     ensures only { (c : Class) (slot : SlotParts) → P.Stands c slot → Only items.now c slot at result.found result.next }
 {
     let Some(id) = at else {
-        return Passed { found: None, next: None };
+        return Passed {
+            found: None,
+            next: None,
+        };
     };
     if P::is(items, id) {
-        Passed { found: Some(id), next: items.next(id) }
+        Passed {
+            found: Some(id),
+            next: items.next(id),
+        }
     } else {
-        Passed { found: None, next: Some(id) }
+        Passed {
+            found: None,
+            next: Some(id),
+        }
     }
 }
 
@@ -129,7 +139,10 @@ fn direction(items: &Items<'_>, at: Option<ItemId>) -> Option<Pointed>
     }
     match Direction::read(items.raw(id)) {
         None => None,
-        Some(direction) => Some(Pointed { direction, next: items.next(id) }),
+        Some(direction) => Some(Pointed {
+            direction,
+            next: items.next(id),
+        }),
     }
 }
 
@@ -191,13 +204,25 @@ fn with_place(places: Places, place: u64) -> Option<Places>
     ensures { IfSome result (λ more. IsMarked place places more) }
 {
     if place == 1 && !places.first {
-        return Some(Places { first: true, second: places.second, third: places.third });
+        return Some(Places {
+            first: true,
+            second: places.second,
+            third: places.third,
+        });
     }
     if place == 2 && !places.second {
-        return Some(Places { first: places.first, second: true, third: places.third });
+        return Some(Places {
+            first: places.first,
+            second: true,
+            third: places.third,
+        });
     }
     if place == 3 && !places.third {
-        return Some(Places { first: places.first, second: places.second, third: true });
+        return Some(Places {
+            first: places.first,
+            second: places.second,
+            third: true,
+        });
     }
     None
 }

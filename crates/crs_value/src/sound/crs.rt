@@ -1,5 +1,5 @@
 //! Whole CRSs.
-ghost use Rattle.std.specs.Prelude.{◌≡◌, IfSome, IsTrue, Some, None, true, false, [], ◌∷◌};
+ghost use Rattle.std.specs.Prelude.{◌≡◌, ◌⊎◌, IfSome, IsTrue, Some, None, true, false, [], ◌∷◌};
 ghost use Rattle.crs_text.specs.Items.{HasId, arguments, kind_of_item};
 ghost use Rattle.crs_shape.specs.declared.class.Class.{Class};
 ghost use Rattle.crs_shape.specs.ShapeFault.{class_of_root, is_of};
@@ -11,6 +11,7 @@ use crate::checks::own::{own, own_of_part};
 use crate::sound::conversion::Conversion;
 use crate::sound::frame::{Dynamic, Frame, Meridian, VerticalFrame};
 use crate::sound::ident::{GeoidModel, Ident};
+use crate::sound::rest::is_quiet;
 use crate::sound::system::{Axis, System};
 use crate::sound::unit::{Angle, AxisUnit};
 use crate::sound::usage::Tail;
@@ -367,6 +368,77 @@ fn is_clean(items: &Items<'_>, id: ItemId, class: Class) -> bool
     is_unbroken(own(items, id, class, None))
 }
 
+// Whether a node is a geodetic or geographic CRS of this class with no dynamic part that is clean.
+fn geodetic_quiet(items: &Items<'_>, id: ItemId, class: Class) -> bool
+    requires has { HasId items.now id }
+    requires class { (class ≡ Class.GeodeticCrs) ⊎ (class ≡ Class.GeographicCrs) }
+    requires kind { kind_of_item (item_at items.now id) ≡ ItemKind.Node }
+    requires own { is_of class (item_at items.now id) ≡ true }
+    ensures { IsTrue result → IsClean class (item_at items.now id) }
+{
+    laws::slots_count();
+    let Some(named) = leaf(items, items.arg(id, 0), ItemKind::Text) else {
+        return false;
+    };
+    let Some(frame) = one::<Frame>(items, named) else {
+        return false;
+    };
+    let meridian = optional::<Meridian>(items, frame);
+    is_quiet::<Tail>(items, meridian, class)
+}
+
+// Whether a node is a projected CRS that is clean.
+fn projected_quiet(items: &Items<'_>, id: ItemId) -> bool
+    requires has { HasId items.now id }
+    requires kind { kind_of_item (item_at items.now id) ≡ ItemKind.Node }
+    requires own { is_of Class.ProjectedCrs (item_at items.now id) ≡ true }
+    ensures { IsTrue result → IsClean Class.ProjectedCrs (item_at items.now id) }
+{
+    laws::slots_count();
+    let Some(named) = leaf(items, items.arg(id, 0), ItemKind::Text) else {
+        return false;
+    };
+    let Some(base) = one::<Base>(items, named) else {
+        return false;
+    };
+    let Some(conversion) = one::<Conversion>(items, base) else {
+        return false;
+    };
+    is_quiet::<Tail>(items, conversion, Class::ProjectedCrs)
+}
+
+// Whether a node is a vertical CRS with no dynamic part that is clean.
+fn vertical_quiet(items: &Items<'_>, id: ItemId) -> bool
+    requires has { HasId items.now id }
+    requires kind { kind_of_item (item_at items.now id) ≡ ItemKind.Node }
+    requires own { is_of Class.VerticalCrs (item_at items.now id) ≡ true }
+    ensures { IsTrue result → IsClean Class.VerticalCrs (item_at items.now id) }
+{
+    laws::slots_count();
+    let Some(named) = leaf(items, items.arg(id, 0), ItemKind::Text) else {
+        return false;
+    };
+    let Some(frame) = one::<VerticalFrame>(items, named) else {
+        return false;
+    };
+    is_quiet::<VerticalTail>(items, frame, Class::VerticalCrs)
+}
+
+// Whether a node of this class is a CRS with a coordinate system that is seen in one walk to be clean.
+fn single_quiet(items: &Items<'_>, id: ItemId, class: Class) -> bool
+    requires has { HasId items.now id }
+    requires kind { kind_of_item (item_at items.now id) ≡ ItemKind.Node }
+    requires own { is_of class (item_at items.now id) ≡ true }
+    ensures { IsTrue result → IsClean class (item_at items.now id) }
+{
+    match class {
+        Class::GeodeticCrs | Class::GeographicCrs => geodetic_quiet(items, id, class),
+        Class::ProjectedCrs => projected_quiet(items, id),
+        Class::VerticalCrs => vertical_quiet(items, id),
+        _ => false,
+    }
+}
+
 // Whether a node of this class is a CRS with a coordinate system that has its shape and breaks no check.
 fn single_clean(items: &Items<'_>, id: ItemId, class: Class) -> bool
     requires has { HasId items.now id }
@@ -374,6 +446,10 @@ fn single_clean(items: &Items<'_>, id: ItemId, class: Class) -> bool
     requires own { is_of class (item_at items.now id) ≡ true }
     ensures { IsTrue result → IsClean class (item_at items.now id) }
 {
+    // Mostly one walk sees it all.
+    if single_quiet(items, id, class) {
+        return true;
+    }
     if !fills_single(items, id, class) {
         return false;
     }

@@ -53,3 +53,6 @@ pub returns-else-is-clause-only : goal.returns-else-is-clause-only
 returns-else-is-clause-only g c = λ d slot stands.
     let tree = c.args.items.now in
     only-at tree d slot c.args.at _ None (Some c.in-Some.id) c.in-Some.is (only-none tree d slot (Some c.in-Some.id))
+
+pub returns-then-is-clause-found : goal.returns-then-is-clause-found
+returns-then-is-clause-found g c = has-some c.args.items.now c.args.at c.in-Some.id c.in-Some.is c.requires

@@ -23,5 +23,5 @@ returns-clause-taken c =
     let R : Seen → Type 0 = λ seen. (d : Class) (slot : SlotParts) → stand (keyword.Axis ∷ []) (is_same class.Axis) d slot ≡ true → IsTaken d slot item in
     some-both P (Has tree item) R c.parts.result
     (λ seen fill has d slot stands. own-taken law.named law.own (keyword.Axis ∷ []) class.Axis d slot item None refl stands node one fill
-        (direction-known c.slots_count.ensures.most item seen.direction (own-shaped law.own (keyword.Axis ∷ []) class.Axis item refl node one fill) has.direction) refl)
+    (direction-known c.slots_count.ensures.most item seen.direction (own-shaped law.own (keyword.Axis ∷ []) class.Axis item refl node one fill) has.direction) refl)
     c.parts.ensures.fills c.parts.ensures.has

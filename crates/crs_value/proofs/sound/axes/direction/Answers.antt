@@ -1,5 +1,4 @@
-use Rattle.std.proofs.Common.{sym, subst, List}
-use Rattle.crs_text.specs.Items.{Item, raw_of, rest_of, here}
+use Rattle.crs_text.specs.Items.{rest_of, here}
 use Rattle.crs_text.specs.declared.items.ItemKind.TheVariants as kinds
 use Rattle.crs_value.specs.Reading.{item_at}
 use Rattle.crs_value.proofs.ArgumentLemmas.{holds_at}
