@@ -1,49 +1,28 @@
 -- Spellings of values that are put in order and appended are the text of their set.
-use Rattle.std.proofs.Common.{◌≡◌, ◌↔◌, ◌++◌, ◌∙◌, ℕ, List, [], ◌∷◌, Vec, inl, inr, refl, sym, ap, subst}
-use Rattle.std.specs.BTreeSet.{insert_key}
-use Rattle.std.specs.declared.alloc.Global.{Global}
+use Rattle.std.proofs.Common.{◌≡◌, ◌↔◌, ◌∙◌, ℕ, List, [], ◌∷◌, inl, inr, map, refl, sym, ap, subst}
 use Rattle.crs_normal.specs.Ascending.{Ascends, IsIn}
 use Rattle.crs_normal.specs.Ordered.{in_order, put_all}
 use Rattle.crs_canon.specs.Canonical.{AppendsSpelling}
-use Rattle.crs_canon.specs.Members.{AppendsAll, AreSpellingsOf, ArePut, spellings}
+use Rattle.crs_canon.specs.Members.{AppendsAll, AreSpellingsOf, ArePut, IsOnlySpelling}
 use Rattle.crs_canon.specs.SetText.{IsSetText, SpellsOneOf, comma_separated}
-use Rattle.crs_canon.proofs.SetLemmas.{compared, gathered}
 
 module _ {V : Type 0} (IsSpelling : V → List ℕ → Type 0) where
-  -- the spelling of a value, which has one alone, is put in as a key
-  pub one-put : (value : V) (old new : List (Vec ℕ Global)) (key : Vec ℕ Global) (start : List ℕ) →
+  -- the spelling of a value, which has one alone
+  pub only-spelling : (value : V) (text : List ℕ) →
       ((first second : List ℕ) → IsSpelling value first → IsSpelling value second → first ≡ second) →
-      new ≡ insert_key compared old key → start ≡ [] → AppendsSpelling (IsSpelling value) start key.items →
-      ArePut IsSpelling (value ∷ []) (spellings old) (spellings new)
-  one-put value old new key start one e f a = record {
-    texts = a.spelling ∷ [];
-    spelled = (
-      λ bytes. (λ p. one bytes a.spelling p a.is_spelling, λ same. subst (IsSpelling value) (sym same) a.is_spelling),
-      tt,
-    );
-    all_put = gathered old new key start a.spelling e f a.appended;
+      IsSpelling value text → IsOnlySpelling (IsSpelling value) text
+  only-spelling value text one is bytes =
+      (λ p. one bytes text p is, λ same. subst (IsSpelling value) (sym same) is)
+
+  -- the texts of values are put in, which are their spellings
+  pub all-put : (text : V → List ℕ) (values : List V) (start before after : List (List ℕ)) → start ≡ before →
+      AreSpellingsOf IsSpelling values (map text values) → after ≡ put_all (λ bytes. bytes) start (map text values) →
+      ArePut IsSpelling values before after
+  all-put text values start before after e spelled put = record {
+    texts = map text values;
+    spelled = spelled;
+    all_put = put ∙ ap (λ keys. put_all (λ bytes. bytes) keys (map text values)) e;
   }
-
-  -- one more is put in after those that are there
-  pub more-put : (value : V) (values : List V) (a b c : List (List ℕ)) → ArePut IsSpelling (value ∷ []) a b →
-      ArePut IsSpelling values b c → ArePut IsSpelling (value ∷ values) a c
-  more-put value values a b c p q = by p.texts p.spelled p.all_put
-    where
-      by : (texts : List (List ℕ)) → AreSpellingsOf IsSpelling (value ∷ []) texts → b ≡ put_all (λ bytes. bytes) a texts →
-          ArePut IsSpelling (value ∷ values) a c
-      by [] none e = absurd none
-      by (text ∷ []) h e = record {
-        texts = text ∷ q.texts;
-        spelled = (h.0, q.spelled);
-        all_put = q.all_put ∙ ap (λ keys. put_all (λ bytes. bytes) keys q.texts) e;
-      }
-      by (text ∷ other ∷ texts) h e = absurd h.1
-
-  -- what is put into an empty set and written is appended
-  pub put-appended : (write : List (List ℕ) → List ℕ) (values : List V) (keys : List (List ℕ)) (before after : List ℕ) →
-      ArePut IsSpelling values [] keys → after ≡ before ++ write keys → AppendsAll write IsSpelling values before after
-  put-appended write values keys before after p e =
-      record { texts = p.texts; spelled = p.spelled; appended = e ∙ ap (λ k. before ++ write k) p.all_put }
 
   -- the spellings are those of the values
   pub spellings-tell : (values : List V) (texts : List (List ℕ)) → AreSpellingsOf IsSpelling values texts →

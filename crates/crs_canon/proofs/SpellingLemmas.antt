@@ -1,7 +1,6 @@
 -- What is appended as a text is appended as a spelling, where the text is one.
-use Rattle.std.proofs.Common.{◌≡◌, ◌++◌, ℕ, List, MatchResult, OnOk, Ok, Err, Result, if◌then◌else◌, refl}
+use Rattle.std.proofs.Common.{◌≡◌, ◌++◌, ◌∙◌, [], ℕ, List, MatchResult, OnOk, Ok, Err, Result, ap, if◌then◌else◌}
 use Rattle.std.specs.Result.{is_ok}
-use Rattle.crs_normal.specs.WrittenForm.{IsWrittenForm}
 use Rattle.crs_canon.specs.Canonical.{AppendsSpelling}
 
 pub appended : {T E : Type 0} (IsSpelling : List ℕ → Type 0) (before after text : List ℕ) (r : Result T E) →
@@ -19,11 +18,6 @@ pub by-result : {T E : Type 0} (r : Result T E) (after done before : List ℕ) �
 by-result (Ok x) after done before e = e
 by-result (Err x) after done before e = e
 
--- what is appended as the text of a value is appended as its spelling
-pub spelled : {V T E : Type 0} {IsValue : V → Type 0} {Same : V → V → Type 0} {IsSpelling : V → List ℕ → Type 0}
-    {text : V → List ℕ} {value : V} (before after : List ℕ) (r : Result T E) →
-    IsWrittenForm IsValue Same IsSpelling text → IsValue value →
-    MatchResult r (λ _. after ≡ before ++ text value) (λ _. after ≡ before) →
-    MatchResult r (λ _. AppendsSpelling (IsSpelling value) before after) (λ _. after ≡ before)
-spelled {IsSpelling = IsSpelling} {text = text} {value = value} before after r it is wrote =
-    appended (IsSpelling value) before after (text value) r wrote (it.written value (text value) is refl)
+-- what is appended to an empty vector is all that is in it
+pub whole : (start text items now : List ℕ) → now ≡ items → items ≡ start ++ text → start ≡ [] → now ≡ text
+whole start text items now e f g = e ∙ f ∙ ap (λ s. s ++ text) g

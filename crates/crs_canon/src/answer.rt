@@ -8,9 +8,8 @@ ghost use Rattle.crs_value.specs.declared.values.crs.Crs.{Crs};
 ghost use Rattle.crs_canon.specs.Canonical.{IsCanonicalOf, IsCanonicalText};
 
 use crate::canon_text::Canon;
-use crate::canonical::crss_are_canonical;
-use crate::direct::crs::write_crs as write_crs_at;
-use crate::spelling::crs::write_crs;
+use crate::canonical::{Spell, crss_are_canonical};
+use crate::direct::crs::write_crs;
 use crs_shape::Class;
 use crs_text::{Fault, Items, read_items};
 use crs_value::laws::{crs_is_sound, spelled_is_sound};
@@ -104,7 +103,7 @@ fn written_from(
     spelled_is_sound();
     crss_are_canonical();
     bytes.reserve(room)?;
-    write_crs_at(&mut bytes, items, root, class, level)?;
+    write_crs(&mut bytes, items, root, class, level)?;
     Ok(Canon::new(bytes, level))
 }
 
@@ -133,6 +132,6 @@ fn written(
     crs_is_sound(crs);
     crss_are_canonical();
     bytes.reserve(room)?;
-    write_crs(&mut bytes, crs, level)?;
+    crs.spell(&mut bytes, level)?;
     Ok(Canon::new(bytes, level))
 }

@@ -1,26 +1,38 @@
 //! Nodes that are compared and written by themselves.
-ghost use Rattle.std.specs.Prelude.{◌≡◌, ◌↔◌, ◌++◌, ◌∷◌, ℕ, IsTrue, List, MatchResult};
+ghost use Rattle.std.specs.Prelude.{◌≡◌, ◌↔◌, ◌++◌, ◌∷◌, ℕ, IsTrue, List, MatchResult, OnOk};
+ghost use Rattle.crs_value.specs.SoundCrs.{IsCrs};
 ghost use Rattle.crs_value.specs.declared.values.level.Level.{Level};
+ghost use Rattle.crs_same.specs.SameCrs.{SameCrs};
 ghost use Rattle.crs_normal.specs.CanonicalForm.{IsCanonicalForm};
-ghost use Rattle.crs_canon.specs.Canonical.{AppendsSpelling};
+ghost use Rattle.crs_normal.specs.WrittenForm.{IsWrittenForm};
+ghost use Rattle.crs_canon.specs.Canonical.{AppendsSpelling, IsCanonicalText};
+ghost use Rattle.crs_canon.specs.CrsText.{crs_text};
 
-mod axes;
-mod conversions;
-mod crs;
-mod dynamic;
-mod frames;
-mod kinds;
-mod units;
-mod usages;
-
-pub(crate) use crs::crss_are_canonical;
+use crate::spelling::texts::append;
+use crs_normal::laws::texts::{
+    normal_text_is_closed_node, normal_texts_are_equal_where_same, one_form_is_the_same,
+    spelled_crs_is_sound, written_form_is_accepted, written_form_is_normal,
+};
+use crs_same::laws::same_crs_is_equivalence;
 use crs_value::Level;
 use std::alloc::{AllocError, Global};
+
+/// A value whose spelling is appended piece by piece. This crate alone has such values.
+pub trait Spell: Sized {
+    /// The spelling of a value.
+    ghost spelling: { Level → Self → List ℕ };
+
+    /// Appends the spelling of the value.
+    ///
+    /// `AllocError`: there is no memory for it, and nothing is said of `out`.
+    fn spell(&self, out: &mut Vec<u8>, level: Level) -> Result<(), AllocError>
+        ensures { OnOk result (out.new.items ≡ out.old.items ++ spelling level self.now) };
+}
 
 /// A node of a CRS, or a CRS, that is compared and written by itself, at a level: an identifier or a usage alike at
 /// every level, a unit or an axis with `UNIT` as a kind of its own, and an axis with the order and unit that it
 /// holds. Profile.
-pub trait Canonical: Sized {
+pub trait Canonical: Spell {
     /// What is asked of every value of the type.
     ghost IsValue: { Self → Type 0 };
 
@@ -41,23 +53,45 @@ pub trait Canonical: Sized {
     fn write(&self, alloc: Global, level: Level, out: &mut Vec<u8>) -> Result<(), AllocError>
         ensures { MatchResult result
             (λ _. AppendsSpelling (IsSpelling level self.now) out.old.items out.new.items)
-            (λ _. out.new.items ≡ out.old.items) };
+            (λ _. out.new.items ≡ out.old.items) }
+    {
+        self.laws();
+        let mut text = Vec::new(alloc);
+        self.spell(&mut text, level)?;
+        out.extend_from_slice(text.as_slice())
+    }
 
     /// The law of the type: its spellings are normal and one, they are equal, byte for byte, exactly where the values
-    /// are the same, and each is closed; and this is such a value. The call does nothing.
+    /// are the same, and each is closed; this is such a value; and what `spell` appends is the spelling. The call does
+    /// nothing.
     fn laws(&self)
         ensures value { IsValue self.now }
-        ensures form { (level : Level) → IsCanonicalForm IsValue (Same level) (IsSpelling level) };
+        ensures form { (level : Level) → IsCanonicalForm IsValue (Same level) (IsSpelling level) }
+        ensures written { (level : Level) (value : Self) → IsValue value → IsSpelling level value (Self.spelling level value) };
 }
 
-// Appends a text that was written after a comma, without the comma.
-pub(crate) fn append_argument(out: &mut Vec<u8>, text: &[u8]) -> Result<(), AllocError>
-    ensures { (bytes : List ℕ) → text.now ≡ 44 ∷ bytes → MatchResult result
-        (λ _. out.new.items ≡ out.old.items ++ bytes)
-        (λ _. out.new.items ≡ out.old.items) }
+// A comma, and a node.
+pub(crate) fn write_part<T: Spell>(
+    out: &mut Vec<u8>,
+    node: &T,
+    level: Level,
+) -> Result<(), AllocError>
+    ensures { OnOk result (out.new.items ≡ out.old.items ++ 44 ∷ T.spelling level node.now) }
 {
-    match text {
-        [] => Ok(()),
-        [_, bytes @ ..] => out.extend_from_slice(bytes),
-    }
+    append(out, b",")?;
+    node.spell(out, level)
+}
+
+// The text that is written for a CRS is its canonical text, which is one and closed, and shows which CRSs are the
+// same.
+pub(crate) fn crss_are_canonical()
+    ensures { (level : Level) → IsWrittenForm IsCrs (SameCrs level) (IsCanonicalText level) (crs_text level) }
+{
+    written_form_is_normal();
+    written_form_is_accepted();
+    one_form_is_the_same();
+    normal_texts_are_equal_where_same();
+    normal_text_is_closed_node();
+    same_crs_is_equivalence();
+    spelled_crs_is_sound();
 }

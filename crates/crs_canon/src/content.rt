@@ -7,9 +7,10 @@ ghost use Rattle.crs_canon.specs.Canonical.{AppendsSpelling};
 ghost use Rattle.crs_canon.specs.ContentText.{IsContentText};
 ghost use Rattle.crs_canon.specs.Members.{ArePut, spellings};
 
-use crate::canonical::{Canonical, append_argument};
+use crate::canonical::Canonical;
 use crate::lacking::{append_lacking, append_lacking_members};
-use crate::set_view::{gather, gather_all};
+use crate::set::{gather, gather_all};
+use crate::set_view::are_spelled;
 use crate::spelling::texts::open_text;
 use crate::spelling::unit::write_unit;
 use crs_decimal::Decimal;
@@ -63,7 +64,7 @@ fn append_unit(
     parts::units_are_canonical();
     let mut text = Vec::new(alloc);
     write_unit(&mut text, asked, unit, level)?;
-    append_argument(out, text.as_slice())
+    out.extend_from_slice(text.as_slice())
 }
 
 // Puts the spellings of usages among the others.
@@ -77,9 +78,11 @@ fn gather_usages(
         (spellings sorted.old.keys) (spellings sorted.new.keys)) }
 {
     let (bare, others) = usages.parts();
+    are_spelled(others);
     match bare {
         None => gather_all(alloc, sorted, others, level),
         Some(usage) => {
+            usage.laws();
             gather(alloc, sorted, usage, level)?;
             gather_all(alloc, sorted, others, level)
         }

@@ -6,7 +6,8 @@ ghost use Rattle.crs_canon.specs.Members.{lacking, spellings};
 ghost use Rattle.crs_canon.specs.SetText.{commas, comma_separated};
 
 use crate::canonical::Canonical;
-use crate::set_view::{append_members, gather_all};
+use crate::set::gather_all;
+use crate::set_view::{append_members, are_spelled};
 use crate::spelling::texts::append;
 use crs_normal::laws::sets;
 use crs_value::Level;
@@ -59,6 +60,8 @@ pub(crate) fn append_lacking_members<T: Canonical>(
         (λ _. out.new.items ≡ out.old.items) }
 {
     sets::texts_are_in_order();
+    are_spelled(these);
+    are_spelled(others);
     let mut sorted = BTreeSet::new(alloc);
     gather_all(alloc, &mut sorted, these, level)?;
     let mut other = BTreeSet::new(alloc);

@@ -1,11 +1,11 @@
 //! Sets: each spelling once, in ascending order of the bytes.
 ghost use Rattle.std.specs.Prelude.{◌≡◌, ◌∷◌, ◌++◌, [], ℕ, List, map, OnOk};
-ghost use Rattle.crs_value.specs.declared.values.level.Level.{Level};
 ghost use Rattle.crs_normal.specs.Ordered.{put, put_all};
 ghost use Rattle.crs_canon.specs.Members.{set_text, spellings};
 ghost use Rattle.crs_canon.specs.SetText.{commas};
 ghost use Rattle.crs_canon.specs.Spans.{AreAllPut, AreInOrder, IsPutAmong};
 
+use crate::canonical::{Spell, write_part};
 use crate::spans::{Span, put_last, write_spans};
 use crate::spelling::texts::append;
 use crs_value::Level;
@@ -22,24 +22,8 @@ pub(crate) const FEW: usize = 16;
 // The room that the spellings of a few members are given at first.
 pub(crate) const FEW_ROOM: usize = 1024;
 
-// A value that may be a member of a set.
-pub(crate) trait Spell: Sized {
-    ghost spelling: { Level → Self → List ℕ };
-
-    fn write(&self, out: &mut Vec<u8>, level: Level) -> Result<(), AllocError>
-        ensures { OnOk result (out.new.items ≡ out.old.items ++ spelling level self.now) };
-}
-
-// A member alone.
-fn write_member<T: Spell>(out: &mut Vec<u8>, member: &T, level: Level) -> Result<(), AllocError>
-    ensures { OnOk result (out.new.items ≡ out.old.items ++ commas (T.spelling level member.now ∷ [])) }
-{
-    append(out, b",")?;
-    member.write(out, level)
-}
-
 // Puts a member's spelling among the others.
-fn gather<T: Spell>(
+pub(crate) fn gather<T: Spell>(
     alloc: Global,
     sorted: &mut BTreeSet<Vec<u8>>,
     member: &T,
@@ -49,12 +33,12 @@ fn gather<T: Spell>(
         ≡ put (λ b. b) (T.spelling level member.now) (spellings sorted.old.keys)) }
 {
     let mut bytes = Vec::with_capacity(alloc, MEMBER_ROOM)?;
-    member.write(&mut bytes, level)?;
+    member.spell(&mut bytes, level)?;
     sorted.insert(bytes)?;
     Ok(())
 }
 
-fn gather_all<T: Spell>(
+pub(crate) fn gather_all<T: Spell>(
     alloc: Global,
     sorted: &mut BTreeSet<Vec<u8>>,
     members: &[T],
@@ -91,7 +75,7 @@ fn gather_span<T: Spell>(
         bytes.new.items spans.new.items) }
 {
     let start = bytes.len();
-    member.write(bytes, level)?;
+    member.spell(bytes, level)?;
     put_last(bytes, spans, start)
 }
 
@@ -160,7 +144,7 @@ pub(crate) fn write_set_with<T: Spell>(
         ≡ out.old.items ++ set_text (map (T.spelling level) (first.now ∷ others.now))) }
 {
     match others {
-        [] => write_member(out, first, level),
+        [] => write_part(out, first, level),
         _ if others.len() < FEW => write_few(out, first, others, level),
         _ => write_many(out, first, others, level),
     }

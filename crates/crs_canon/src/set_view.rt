@@ -1,19 +1,18 @@
 //! Sets of nodes, which are views of slices.
-ghost use Rattle.std.specs.Prelude.{◌≡◌, ◌↔◌, ◌∷◌, ◌++◌, [], ℕ, IsTrue, List, MatchResult, OnOk};
+ghost use Rattle.std.specs.Prelude.{◌≡◌, ◌↔◌, ◌++◌, ℕ, IsTrue, List, MatchResult, map};
 ghost use Rattle.crs_value.specs.Sound.{Each};
 ghost use Rattle.crs_value.specs.declared.values.level.Level.{Level};
 ghost use Rattle.crs_same.specs.Sets.{AllHaveSame, HasSame, SameSet};
 ghost use Rattle.crs_normal.specs.Ascending.{IsIn};
 ghost use Rattle.crs_canon.specs.Canonical.{AppendsSpelling};
-ghost use Rattle.crs_canon.specs.Members.{AppendsAll, ArePut, spellings};
+ghost use Rattle.crs_canon.specs.Members.{AppendsAll, AreSpellingsOf};
 ghost use Rattle.crs_canon.specs.SetText.{HaveOneTextWhereSame, IsSetText, commas, comma_separated};
 
 use crate::canonical::Canonical;
-use crate::set::{MEMBER_ROOM, write_sorted};
+use crate::set::write_set;
 use crs_normal::laws::sets;
 use crs_value::Level;
 use std::alloc::{AllocError, Global};
-use std::collections::BTreeSet;
 use std::marker::Model;
 
 /// Nodes as a set: their order doesn't count, nor how often one is there. Profile.
@@ -113,50 +112,13 @@ fn all_have_same<T: Canonical>(members: &[T], others: &[T], level: Level) -> boo
     true
 }
 
-// Puts a member's spelling among the others.
-pub(crate) fn gather<T: Canonical>(
-    alloc: Global,
-    sorted: &mut BTreeSet<Vec<u8>>,
-    member: &T,
-    level: Level,
-) -> Result<(), AllocError>
-    ensures { OnOk result (ArePut (T.IsSpelling level) (member.now ∷ [])
-        (spellings sorted.old.keys) (spellings sorted.new.keys)) }
-{
-    member.laws();
-    let mut bytes = Vec::with_capacity(alloc, MEMBER_ROOM)?;
-    member.write(alloc, level, &mut bytes)?;
-    sorted.insert(bytes)?;
-    Ok(())
-}
-
-pub(crate) fn gather_all<T: Canonical>(
-    alloc: Global,
-    sorted: &mut BTreeSet<Vec<u8>>,
-    members: &[T],
-    level: Level,
-) -> Result<(), AllocError>
-    ensures { OnOk result (ArePut (T.IsSpelling level) members.now
-        (spellings sorted.old.keys) (spellings sorted.new.keys)) }
+// What `spell` appends of each member is its one spelling.
+pub(crate) fn are_spelled<T: Canonical>(members: &[T])
+    ensures { (level : Level) → AreSpellingsOf (T.IsSpelling level) members.now (map (T.spelling level) members.now) }
 {
     for member in members {
-        gather(alloc, sorted, member, level)?;
+        member.laws();
     }
-    Ok(())
-}
-
-// A comma before each member.
-fn write_members<T: Canonical>(
-    alloc: Global,
-    out: &mut Vec<u8>,
-    members: &[T],
-    level: Level,
-) -> Result<(), AllocError>
-    ensures { OnOk result (AppendsAll commas (T.IsSpelling level) members.now out.old.items out.new.items) }
-{
-    let mut sorted = BTreeSet::new(alloc);
-    gather_all(alloc, &mut sorted, members, level)?;
-    write_sorted(out, &sorted)
 }
 
 // Members with a comma before each, without the first comma.
@@ -182,7 +144,8 @@ fn append_set<T: Canonical>(
         (λ _. AppendsAll comma_separated (T.IsSpelling level) members.now out.old.items out.new.items)
         (λ _. out.new.items ≡ out.old.items) }
 {
+    are_spelled(members);
     let mut text = Vec::new(alloc);
-    write_members(alloc, &mut text, members, level)?;
+    write_set(&mut text, members, level)?;
     append_members(out, text.as_slice())
 }

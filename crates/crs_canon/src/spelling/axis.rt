@@ -3,20 +3,26 @@ ghost use Rattle.std.specs.Prelude.{◌≡◌, ◌∷◌, ◌++◌, ◌<◌, OnO
 ghost use Rattle.crs_text.specs.Items.{End, More};
 ghost use Rattle.crs_text.specs.Written.{item_text, others_text};
 ghost use Rattle.crs_value.specs.BadUnit.{asked_kind};
+ghost use Rattle.crs_value.specs.Sound.{IsAxis, IsAxisMeridian};
 ghost use Rattle.crs_value.specs.Words.{direction_word};
 ghost use Rattle.crs_value.specs.declared.values.unit_kind.UnitKind.TheVariants as kinds;
-ghost use Rattle.crs_same.specs.SameSystems.{own_or};
+ghost use Rattle.crs_same.specs.SameSystems.{own_or, SameAxisAlone, SameAxisMeridian};
 ghost use Rattle.crs_decimal.specs.Plain.{plain};
-ghost use Rattle.crs_normal.specs.PartTexts.{axis_text};
+ghost use Rattle.crs_normal.specs.AxisAlone.{IsSpelledAxis};
+ghost use Rattle.crs_normal.specs.PartSpellings.{IsSpelledAxisMeridian};
+ghost use Rattle.crs_normal.specs.PartTexts.{axis_meridian_text, axis_text};
 ghost use Rattle.crs_normal.specs.SpelledItems.{each, number_node, opt, word_item};
 ghost use Rattle.crs_normal.specs.SpelledSystems.{item_axis, item_axis_meridian, norm_axis, norm_axis_meridian};
 ghost use Rattle.crs_normal.specs.SpelledSystems.{norm_axis_meridians};
 ghost use Rattle.crs_normal.specs.SpelledUnits.{item_ident, item_unit, norm_units, set_idents, whole_value};
 
+use crate::canonical::{Canonical, Spell, write_part};
 use crate::spelling::ident::write_idents;
 use crate::spelling::texts::{append, open_number, open_text};
-use crate::spelling::unit::{write_optional_unit, write_unit};
+use crate::spelling::unit::{write_optional_unit, write_unit_part};
 use crs_decimal::Decimal;
+use crs_normal::laws::parts::{axes_are_canonical, frame_parts_are_canonical};
+use crs_same::parts::{same_axis, same_axis_meridian};
 use crs_value::{Axis, AxisMeridian, Direction, Level, System, UnitKind};
 use itoa::Buffer;
 use std::alloc::AllocError;
@@ -47,18 +53,31 @@ pub(crate) fn write_direction(out: &mut Vec<u8>, direction: Direction) -> Result
     append(out, direction.word().as_bytes())
 }
 
-// After a comma.
-pub(crate) fn write_axis_meridian(
-    out: &mut Vec<u8>,
-    meridian: &AxisMeridian<'_>,
-    level: Level,
-) -> Result<(), AllocError>
-    ensures { OnOk result (out.new.items
-        ≡ out.old.items ++ 44 ∷ item_text (item_axis_meridian (norm_axis_meridian level meridian.now))) }
-{
-    open_number(out, b",MERIDIAN[", &meridian.longitude)?;
-    write_unit(out, UnitKind::Angle, &meridian.unit, level)?;
-    append(out, b"]")
+impl Spell for AxisMeridian<'_> {
+    ghost spelling = { axis_meridian_text };
+
+    fn spell(&self, out: &mut Vec<u8>, level: Level) -> Result<(), AllocError> {
+        open_number(out, b"MERIDIAN[", &self.longitude)?;
+        write_unit_part(out, UnitKind::Angle, &self.unit, level)?;
+        append(out, b"]")
+    }
+}
+
+impl Canonical for AxisMeridian<'_> {
+    ghost IsValue = { IsAxisMeridian };
+
+    ghost Same = { SameAxisMeridian };
+
+    ghost IsSpelling = { IsSpelledAxisMeridian };
+
+    fn same(&self, other: &Self, level: Level) -> bool {
+        same_axis_meridian(self, other, level)
+    }
+
+    fn laws(&self) {
+        let _longitude = self.longitude;
+        frame_parts_are_canonical();
+    }
 }
 
 fn write_optional_meridian(
@@ -71,7 +90,7 @@ fn write_optional_meridian(
 {
     match meridian {
         None => Ok(()),
-        Some(meridian) => write_axis_meridian(out, meridian, level),
+        Some(meridian) => write_part(out, meridian, level),
     }
 }
 
@@ -251,14 +270,29 @@ fn write_from_own_direction(
 }
 
 // With its own order and unit, of which `UNIT` is a kind of its own.
-pub(crate) fn write_own_axis(
-    out: &mut Vec<u8>,
-    axis: &Axis<'_>,
-    level: Level,
-) -> Result<(), AllocError>
-    ensures { OnOk result (out.new.items ≡ out.old.items ++ axis_text level axis.now) }
-{
-    open_text(out, b"AXIS[\"", axis.name)?;
-    write_from_own_direction(out, axis, level)?;
-    append(out, b"]")
+impl Spell for Axis<'_> {
+    ghost spelling = { axis_text };
+
+    fn spell(&self, out: &mut Vec<u8>, level: Level) -> Result<(), AllocError> {
+        open_text(out, b"AXIS[\"", self.name)?;
+        write_from_own_direction(out, self, level)?;
+        append(out, b"]")
+    }
+}
+
+impl Canonical for Axis<'_> {
+    ghost IsValue = { IsAxis };
+
+    ghost Same = { SameAxisAlone };
+
+    ghost IsSpelling = { IsSpelledAxis };
+
+    fn same(&self, other: &Self, level: Level) -> bool {
+        same_axis(self, other, level)
+    }
+
+    fn laws(&self) {
+        let _name = self.name;
+        axes_are_canonical();
+    }
 }

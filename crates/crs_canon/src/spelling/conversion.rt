@@ -2,30 +2,52 @@
 ghost use Rattle.std.specs.Prelude.{◌≡◌, ◌∷◌, ◌++◌, OnOk};
 ghost use Rattle.crs_text.specs.Items.{End, More};
 ghost use Rattle.crs_text.specs.Written.{item_text, others_text};
+ghost use Rattle.crs_value.specs.SoundConversion.{IsConversion, IsGeoidModel, IsMethod, IsParameter};
 ghost use Rattle.crs_value.specs.declared.values.unit_kind.UnitKind.TheVariants as kinds;
-ghost use Rattle.crs_normal.specs.SpelledConversions.{item_conversion, item_geoid_model, item_method, item_parameter};
-ghost use Rattle.crs_normal.specs.SpelledConversions.{norm_conversion, norm_method, norm_parameter, set_geoid_models};
-ghost use Rattle.crs_normal.specs.SpelledConversions.{set_parameters};
+ghost use Rattle.crs_same.specs.Parts.{AreSame};
+ghost use Rattle.crs_same.specs.PartsOfCrs.{parts_of_conversion, parts_of_method};
+ghost use Rattle.crs_same.specs.SameConversions.{SameGeoidModel, SameParameter};
+ghost use Rattle.crs_normal.specs.PartSpellings.{IsSpelledConversion, IsSpelledGeoidModel, IsSpelledMethod};
+ghost use Rattle.crs_normal.specs.PartSpellings.{IsSpelledParameter};
+ghost use Rattle.crs_normal.specs.PartTexts.{conversion_text, geoid_model_text, method_text, parameter_text};
+ghost use Rattle.crs_normal.specs.SpelledConversions.{item_geoid_model, item_method, item_parameter, norm_method};
+ghost use Rattle.crs_normal.specs.SpelledConversions.{set_geoid_models, set_parameters};
 ghost use Rattle.crs_normal.specs.SpelledItems.{each, number_item, opt};
 ghost use Rattle.crs_normal.specs.SpelledUnits.{item_ident, item_unit, norm_units, set_idents};
 
-use crate::set::{Spell, write_set};
+use crate::canonical::{Canonical, Spell, write_part};
+use crate::set::write_set;
 use crate::spelling::ident::{write_idents, write_named};
 use crate::spelling::texts::{append, open_text, write_number};
 use crate::spelling::unit::write_optional_unit;
+use crs_normal::laws::parts::conversions_are_canonical;
+use crs_same::parts::{same_conversion, same_geoid_model, same_method, same_parameter};
 use crs_value::{Conversion, GeoidModel, Level, List, Method, Parameter, UnitKind};
 use std::alloc::AllocError;
 
-// After a comma.
-pub(crate) fn write_method(
-    out: &mut Vec<u8>,
-    method: &Method<'_>,
-    level: Level,
-) -> Result<(), AllocError>
-    ensures { OnOk result (out.new.items
-        ≡ out.old.items ++ 44 ∷ item_text (item_method (norm_method level method.now))) }
-{
-    write_named(out, b",METHOD[\"", method.name, &method.identifiers, level)
+impl Spell for Method<'_> {
+    ghost spelling = { method_text };
+
+    fn spell(&self, out: &mut Vec<u8>, level: Level) -> Result<(), AllocError> {
+        write_named(out, b"METHOD[\"", self.name, &self.identifiers, level)
+    }
+}
+
+impl Canonical for Method<'_> {
+    ghost IsValue = { IsMethod };
+
+    ghost Same = { AreSame parts_of_method };
+
+    ghost IsSpelling = { IsSpelledMethod };
+
+    fn same(&self, other: &Self, level: Level) -> bool {
+        same_method(self, other, level)
+    }
+
+    fn laws(&self) {
+        let _name = self.name;
+        conversions_are_canonical();
+    }
 }
 
 #[tactic(auto, using(crate::proofs::PieceLemmas::then_rules))]
@@ -55,27 +77,30 @@ fn write_from_value(
     write_from_unit(out, parameter, level)
 }
 
-pub(crate) fn write_parameter(
-    out: &mut Vec<u8>,
-    parameter: &Parameter<'_>,
-    level: Level,
-) -> Result<(), AllocError>
-    ensures { OnOk result (out.new.items
-        ≡ out.old.items ++ item_text (item_parameter (norm_parameter level parameter.now))) }
-{
-    open_text(out, b"PARAMETER[\"", parameter.name)?;
-    write_from_value(out, parameter, level)?;
-    append(out, b"]")
+impl Spell for Parameter<'_> {
+    ghost spelling = { parameter_text };
+
+    fn spell(&self, out: &mut Vec<u8>, level: Level) -> Result<(), AllocError> {
+        open_text(out, b"PARAMETER[\"", self.name)?;
+        write_from_value(out, self, level)?;
+        append(out, b"]")
+    }
 }
 
-impl Spell for Parameter<'_> {
-    ghost use Rattle.crs_text.specs.Written.{item_text};
-    ghost use Rattle.crs_normal.specs.SpelledConversions.{item_parameter, norm_parameter};
+impl Canonical for Parameter<'_> {
+    ghost IsValue = { IsParameter };
 
-    ghost spelling = { λ level p. item_text (item_parameter (norm_parameter level p)) };
+    ghost Same = { SameParameter };
 
-    fn write(&self, out: &mut Vec<u8>, level: Level) -> Result<(), AllocError> {
-        write_parameter(out, self, level)
+    ghost IsSpelling = { IsSpelledParameter };
+
+    fn same(&self, other: &Self, level: Level) -> bool {
+        same_parameter(self, other, level)
+    }
+
+    fn laws(&self) {
+        let _name = self.name;
+        conversions_are_canonical();
     }
 }
 
@@ -116,32 +141,59 @@ fn write_from_method(
         (each item_parameter (set_parameters level conversion.now.parameters)
         (each item_ident (set_idents level conversion.now.identifiers) End)))) }
 {
-    write_method(out, &conversion.method, level)?;
+    write_part(out, &conversion.method, level)?;
     write_from_parameters(out, conversion, level)
 }
 
-// After a comma.
-pub(crate) fn write_conversion(
-    out: &mut Vec<u8>,
-    conversion: &Conversion<'_>,
-    level: Level,
-) -> Result<(), AllocError>
-    ensures { OnOk result (out.new.items
-        ≡ out.old.items ++ 44 ∷ item_text (item_conversion (norm_conversion level conversion.now))) }
-{
-    open_text(out, b",CONVERSION[\"", conversion.name)?;
-    write_from_method(out, conversion, level)?;
-    append(out, b"]")
+impl Spell for Conversion<'_> {
+    ghost spelling = { conversion_text };
+
+    fn spell(&self, out: &mut Vec<u8>, level: Level) -> Result<(), AllocError> {
+        open_text(out, b"CONVERSION[\"", self.name)?;
+        write_from_method(out, self, level)?;
+        append(out, b"]")
+    }
+}
+
+impl Canonical for Conversion<'_> {
+    ghost IsValue = { IsConversion };
+
+    ghost Same = { AreSame parts_of_conversion };
+
+    ghost IsSpelling = { IsSpelledConversion };
+
+    fn same(&self, other: &Self, level: Level) -> bool {
+        same_conversion(self, other, level)
+    }
+
+    fn laws(&self) {
+        let _name = self.name;
+        conversions_are_canonical();
+    }
 }
 
 impl Spell for GeoidModel<'_> {
-    ghost use Rattle.crs_text.specs.Written.{item_text};
-    ghost use Rattle.crs_normal.specs.SpelledConversions.{item_geoid_model, norm_geoid_model};
+    ghost spelling = { geoid_model_text };
 
-    ghost spelling = { λ level g. item_text (item_geoid_model (norm_geoid_model level g)) };
-
-    fn write(&self, out: &mut Vec<u8>, level: Level) -> Result<(), AllocError> {
+    fn spell(&self, out: &mut Vec<u8>, level: Level) -> Result<(), AllocError> {
         write_named(out, b"GEOIDMODEL[\"", self.name, &self.identifiers, level)
+    }
+}
+
+impl Canonical for GeoidModel<'_> {
+    ghost IsValue = { IsGeoidModel };
+
+    ghost Same = { SameGeoidModel };
+
+    ghost IsSpelling = { IsSpelledGeoidModel };
+
+    fn same(&self, other: &Self, level: Level) -> bool {
+        same_geoid_model(self, other, level)
+    }
+
+    fn laws(&self) {
+        let _name = self.name;
+        conversions_are_canonical();
     }
 }
 

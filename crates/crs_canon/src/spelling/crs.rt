@@ -3,20 +3,34 @@ ghost use Rattle.std.specs.Prelude.{◌≡◌, ◌∷◌, ◌++◌, [], OnOk, co
 ghost use Rattle.std.specs.Option.{option_map};
 ghost use Rattle.crs_text.specs.Items.{End, More};
 ghost use Rattle.crs_text.specs.Written.{item_text, others_text};
+ghost use Rattle.crs_value.specs.SoundCompound.{IsCompound};
+ghost use Rattle.crs_value.specs.SoundCrs.{IsCrs};
+ghost use Rattle.crs_value.specs.SoundSingle.{IsBase, IsGeodetic, IsProjected, IsVertical};
 ghost use Rattle.crs_value.specs.declared.values.unit_kind.UnitKind.TheVariants as kinds;
+ghost use Rattle.crs_same.specs.Parts.{AreSame};
+ghost use Rattle.crs_same.specs.PartsOfCrs.{parts_of_base, parts_of_compound, parts_of_geodetic, parts_of_horizontal};
+ghost use Rattle.crs_same.specs.PartsOfCrs.{parts_of_projected, parts_of_vertical};
+ghost use Rattle.crs_same.specs.SameCrs.{SameCrs};
+ghost use Rattle.crs_normal.specs.PartSpellings.{IsHorizontalPart, IsSpelledBase, IsSpelledCompound};
+ghost use Rattle.crs_normal.specs.PartSpellings.{IsSpelledGeodetic, IsSpelledHorizontal, IsSpelledProjected};
+ghost use Rattle.crs_normal.specs.PartSpellings.{IsSpelledVertical};
+ghost use Rattle.crs_normal.specs.PartTexts.{base_text, compound_text, geodetic_text, horizontal_text, projected_text};
+ghost use Rattle.crs_normal.specs.PartTexts.{vertical_text};
 ghost use Rattle.crs_normal.specs.SpelledConversions.{item_conversion, item_geoid_model, norm_conversion};
 ghost use Rattle.crs_normal.specs.SpelledConversions.{set_geoid_models};
-ghost use Rattle.crs_normal.specs.SpelledCrs.{geodetic_keyword, item_base, item_compound, item_crs, item_geodetic};
-ghost use Rattle.crs_normal.specs.SpelledCrs.{item_horizontal, item_projected, item_vertical, norm_base, norm_compound};
-ghost use Rattle.crs_normal.specs.SpelledCrs.{norm_crs, norm_geodetic, norm_horizontal, norm_projected, norm_vertical};
+ghost use Rattle.crs_normal.specs.SpelledCrs.{geodetic_keyword, item_base, item_horizontal, item_vertical, norm_base};
+ghost use Rattle.crs_normal.specs.SpelledCrs.{norm_horizontal, norm_vertical};
 ghost use Rattle.crs_normal.specs.SpelledDynamic.{item_dynamic, norm_dynamic};
 ghost use Rattle.crs_normal.specs.SpelledFrames.{item_frame, item_meridian, norm_frame, norm_meridian};
 ghost use Rattle.crs_normal.specs.SpelledItems.{each, opt};
 ghost use Rattle.crs_normal.specs.SpelledSystems.{norm_system, system_items};
 ghost use Rattle.crs_normal.specs.SpelledUnits.{item_ident, item_unit, norm_units, set_idents};
 ghost use Rattle.crs_normal.specs.SpelledUsages.{norm_tail, tail_items};
+ghost use Rattle.crs_canon.specs.Canonical.{IsCanonicalText};
+ghost use Rattle.crs_canon.specs.CrsText.{crs_text};
 
-use crate::spelling::conversion::{write_conversion, write_geoid_models};
+use crate::canonical::{Canonical, Spell, crss_are_canonical, write_part};
+use crate::spelling::conversion::write_geoid_models;
 use crate::spelling::dynamic::write_optional_dynamic;
 use crate::spelling::frame::{write_geodetic_frame, write_vertical_frame};
 use crate::spelling::ident::write_idents;
@@ -25,6 +39,12 @@ use crate::spelling::system::write_system;
 use crate::spelling::tail::write_tail;
 use crate::spelling::texts::{append, open_text};
 use crate::spelling::unit::write_optional_unit;
+use crs_normal::laws::parts::{horizontals_are_canonical, kinds_are_canonical};
+use crs_same::parts::{
+    same_base, same_compound, same_geodetic, same_horizontal, same_projected, same_vertical,
+};
+use crs_same::same;
+use crs_value::laws::crs_is_sound;
 use crs_value::{
     Base, Compound, Crs, Geodetic, Horizontal, Level, Projected, System, SystemType, Tail,
     UnitKind, Vertical,
@@ -101,18 +121,32 @@ pub(crate) fn geodetic_opening(system_type: SystemType) -> &'static str
     }
 }
 
-pub(crate) fn write_geodetic(
-    out: &mut Vec<u8>,
-    geodetic: &Geodetic<'_>,
-    level: Level,
-) -> Result<(), AllocError>
-    ensures { OnOk result (out.new.items
-        ≡ out.old.items ++ item_text (item_geodetic (norm_geodetic level geodetic.now))) }
-{
-    let opening = geodetic_opening(geodetic.system.system_type).as_bytes();
-    open_text(out, opening, geodetic.name)?;
-    write_from_dynamic(out, geodetic, level)?;
-    append(out, b"]")
+impl Spell for Geodetic<'_> {
+    ghost spelling = { geodetic_text };
+
+    fn spell(&self, out: &mut Vec<u8>, level: Level) -> Result<(), AllocError> {
+        let opening = geodetic_opening(self.system.system_type).as_bytes();
+        open_text(out, opening, self.name)?;
+        write_from_dynamic(out, self, level)?;
+        append(out, b"]")
+    }
+}
+
+impl Canonical for Geodetic<'_> {
+    ghost IsValue = { IsGeodetic };
+
+    ghost Same = { AreSame parts_of_geodetic };
+
+    ghost IsSpelling = { IsSpelledGeodetic };
+
+    fn same(&self, other: &Self, level: Level) -> bool {
+        same_geodetic(self, other, level)
+    }
+
+    fn laws(&self) {
+        let _name = self.name;
+        kinds_are_canonical();
+    }
 }
 
 // ---- projected CRSs
@@ -171,13 +205,31 @@ fn write_base_from_dynamic(
     write_base_from_frame(out, base, level)
 }
 
-// After a comma.
-pub(crate) fn write_base(out: &mut Vec<u8>, base: &Base<'_>, level: Level) -> Result<(), AllocError>
-    ensures { OnOk result (out.new.items ≡ out.old.items ++ 44 ∷ item_text (item_base (norm_base level base.now))) }
-{
-    open_text(out, b",BASEGEOGCRS[\"", base.name)?;
-    write_base_from_dynamic(out, base, level)?;
-    append(out, b"]")
+impl Spell for Base<'_> {
+    ghost spelling = { base_text };
+
+    fn spell(&self, out: &mut Vec<u8>, level: Level) -> Result<(), AllocError> {
+        open_text(out, b"BASEGEOGCRS[\"", self.name)?;
+        write_base_from_dynamic(out, self, level)?;
+        append(out, b"]")
+    }
+}
+
+impl Canonical for Base<'_> {
+    ghost IsValue = { IsBase };
+
+    ghost Same = { AreSame parts_of_base };
+
+    ghost IsSpelling = { IsSpelledBase };
+
+    fn same(&self, other: &Self, level: Level) -> bool {
+        same_base(self, other, level)
+    }
+
+    fn laws(&self) {
+        let _name = self.name;
+        kinds_are_canonical();
+    }
 }
 
 #[tactic(auto, using(crate::proofs::PieceLemmas::then_rules))]
@@ -190,7 +242,7 @@ fn write_from_conversion(
         (More (item_conversion (norm_conversion level projected.now.conversion))
         (system_items (norm_system level projected.now.system) (tail_items (norm_tail level projected.now.tail))))) }
 {
-    write_conversion(out, &projected.conversion, level)?;
+    write_part(out, &projected.conversion, level)?;
     write_from_system(out, &projected.system, &projected.tail, level)
 }
 
@@ -205,21 +257,35 @@ fn write_from_base(
         (More (item_conversion (norm_conversion level projected.now.conversion))
         (system_items (norm_system level projected.now.system) (tail_items (norm_tail level projected.now.tail)))))) }
 {
-    write_base(out, &projected.base, level)?;
+    write_part(out, &projected.base, level)?;
     write_from_conversion(out, projected, level)
 }
 
-pub(crate) fn write_projected(
-    out: &mut Vec<u8>,
-    projected: &Projected<'_>,
-    level: Level,
-) -> Result<(), AllocError>
-    ensures { OnOk result (out.new.items
-        ≡ out.old.items ++ item_text (item_projected (norm_projected level projected.now))) }
-{
-    open_text(out, b"PROJCRS[\"", projected.name)?;
-    write_from_base(out, projected, level)?;
-    append(out, b"]")
+impl Spell for Projected<'_> {
+    ghost spelling = { projected_text };
+
+    fn spell(&self, out: &mut Vec<u8>, level: Level) -> Result<(), AllocError> {
+        open_text(out, b"PROJCRS[\"", self.name)?;
+        write_from_base(out, self, level)?;
+        append(out, b"]")
+    }
+}
+
+impl Canonical for Projected<'_> {
+    ghost IsValue = { IsProjected };
+
+    ghost Same = { AreSame parts_of_projected };
+
+    ghost IsSpelling = { IsSpelledProjected };
+
+    fn same(&self, other: &Self, level: Level) -> bool {
+        same_projected(self, other, level)
+    }
+
+    fn laws(&self) {
+        let _name = self.name;
+        kinds_are_canonical();
+    }
 }
 
 // ---- vertical CRSs
@@ -286,57 +352,64 @@ fn write_from_vertical_dynamic(
     write_from_vertical_frame(out, vertical, level)
 }
 
-pub(crate) fn write_vertical(
-    out: &mut Vec<u8>,
-    vertical: &Vertical<'_>,
-    level: Level,
-) -> Result<(), AllocError>
-    ensures { OnOk result (out.new.items
-        ≡ out.old.items ++ item_text (item_vertical (norm_vertical level vertical.now))) }
-{
-    open_text(out, b"VERTCRS[\"", vertical.name)?;
-    write_from_vertical_dynamic(out, vertical, level)?;
-    append(out, b"]")
+impl Spell for Vertical<'_> {
+    ghost spelling = { vertical_text };
+
+    fn spell(&self, out: &mut Vec<u8>, level: Level) -> Result<(), AllocError> {
+        open_text(out, b"VERTCRS[\"", self.name)?;
+        write_from_vertical_dynamic(out, self, level)?;
+        append(out, b"]")
+    }
+}
+
+impl Canonical for Vertical<'_> {
+    ghost IsValue = { IsVertical };
+
+    ghost Same = { AreSame parts_of_vertical };
+
+    ghost IsSpelling = { IsSpelledVertical };
+
+    fn same(&self, other: &Self, level: Level) -> bool {
+        same_vertical(self, other, level)
+    }
+
+    fn laws(&self) {
+        let _name = self.name;
+        kinds_are_canonical();
+    }
 }
 
 // ---- compound CRSs
 
-fn write_horizontal(
-    out: &mut Vec<u8>,
-    horizontal: &Horizontal<'_>,
-    level: Level,
-) -> Result<(), AllocError>
-    ensures { OnOk result (out.new.items
-        ≡ out.old.items ++ item_text (item_horizontal (norm_horizontal level horizontal.now))) }
-{
-    match horizontal {
-        Horizontal::Geodetic(geodetic) => write_geodetic(out, geodetic, level),
-        Horizontal::Projected(projected) => write_projected(out, projected, level),
+impl Spell for Horizontal<'_> {
+    ghost spelling = { horizontal_text };
+
+    fn spell(&self, out: &mut Vec<u8>, level: Level) -> Result<(), AllocError> {
+        match self {
+            Horizontal::Geodetic(geodetic) => geodetic.spell(out, level),
+            Horizontal::Projected(projected) => projected.spell(out, level),
+        }
     }
 }
 
-fn write_horizontal_part(
-    out: &mut Vec<u8>,
-    horizontal: &Horizontal<'_>,
-    level: Level,
-) -> Result<(), AllocError>
-    ensures { OnOk result (out.new.items
-        ≡ out.old.items ++ 44 ∷ item_text (item_horizontal (norm_horizontal level horizontal.now))) }
-{
-    append(out, b",")?;
-    write_horizontal(out, horizontal, level)
-}
+impl Canonical for Horizontal<'_> {
+    ghost IsValue = { IsHorizontalPart };
 
-fn write_vertical_part(
-    out: &mut Vec<u8>,
-    vertical: &Vertical<'_>,
-    level: Level,
-) -> Result<(), AllocError>
-    ensures { OnOk result (out.new.items
-        ≡ out.old.items ++ 44 ∷ item_text (item_vertical (norm_vertical level vertical.now))) }
-{
-    append(out, b",")?;
-    write_vertical(out, vertical, level)
+    ghost Same = { AreSame parts_of_horizontal };
+
+    ghost IsSpelling = { IsSpelledHorizontal };
+
+    fn same(&self, other: &Self, level: Level) -> bool {
+        same_horizontal(self, other, level)
+    }
+
+    fn laws(&self) {
+        match self {
+            Horizontal::Geodetic(geodetic) => geodetic.laws(),
+            Horizontal::Projected(projected) => projected.laws(),
+        }
+        horizontals_are_canonical();
+    }
 }
 
 #[tactic(auto, using(crate::proofs::PieceLemmas::then_rules))]
@@ -349,7 +422,7 @@ fn write_from_vertical(
         (More (item_vertical (norm_vertical level compound.now.vertical))
         (tail_items (norm_tail level compound.now.tail)))) }
 {
-    write_vertical_part(out, &compound.vertical, level)?;
+    write_part(out, &compound.vertical, level)?;
     write_tail(out, &compound.tail, level)
 }
 
@@ -364,30 +437,65 @@ fn write_from_horizontal(
         (More (item_vertical (norm_vertical level compound.now.vertical))
         (tail_items (norm_tail level compound.now.tail))))) }
 {
-    write_horizontal_part(out, &compound.horizontal, level)?;
+    write_part(out, &*compound.horizontal, level)?;
     write_from_vertical(out, compound, level)
 }
 
-pub(crate) fn write_compound(
-    out: &mut Vec<u8>,
-    compound: &Compound<'_>,
-    level: Level,
-) -> Result<(), AllocError>
-    ensures { OnOk result (out.new.items
-        ≡ out.old.items ++ item_text (item_compound (norm_compound level compound.now))) }
-{
-    open_text(out, b"COMPOUNDCRS[\"", compound.name)?;
-    write_from_horizontal(out, compound, level)?;
-    append(out, b"]")
+impl Spell for Compound<'_> {
+    ghost spelling = { compound_text };
+
+    fn spell(&self, out: &mut Vec<u8>, level: Level) -> Result<(), AllocError> {
+        open_text(out, b"COMPOUNDCRS[\"", self.name)?;
+        write_from_horizontal(out, self, level)?;
+        append(out, b"]")
+    }
 }
 
-pub(crate) fn write_crs(out: &mut Vec<u8>, crs: &Crs<'_>, level: Level) -> Result<(), AllocError>
-    ensures { OnOk result (out.new.items ≡ out.old.items ++ item_text (item_crs (norm_crs level crs.now))) }
-{
-    match crs {
-        Crs::Geodetic(geodetic) => write_geodetic(out, geodetic, level),
-        Crs::Projected(projected) => write_projected(out, projected, level),
-        Crs::Vertical(vertical) => write_vertical(out, vertical, level),
-        Crs::Compound(compound) => write_compound(out, compound, level),
+impl Canonical for Compound<'_> {
+    ghost IsValue = { IsCompound };
+
+    ghost Same = { AreSame parts_of_compound };
+
+    ghost IsSpelling = { IsSpelledCompound };
+
+    fn same(&self, other: &Self, level: Level) -> bool {
+        same_compound(self, other, level)
+    }
+
+    fn laws(&self) {
+        let _name = self.name;
+        kinds_are_canonical();
+    }
+}
+
+// ---- CRSs of any kind
+
+impl Spell for Crs<'_> {
+    ghost spelling = { crs_text };
+
+    fn spell(&self, out: &mut Vec<u8>, level: Level) -> Result<(), AllocError> {
+        match self {
+            Crs::Geodetic(geodetic) => geodetic.spell(out, level),
+            Crs::Projected(projected) => projected.spell(out, level),
+            Crs::Vertical(vertical) => vertical.spell(out, level),
+            Crs::Compound(compound) => compound.spell(out, level),
+        }
+    }
+}
+
+impl Canonical for Crs<'_> {
+    ghost IsValue = { IsCrs };
+
+    ghost Same = { SameCrs };
+
+    ghost IsSpelling = { IsCanonicalText };
+
+    fn same(&self, other: &Self, level: Level) -> bool {
+        same(self, other, level)
+    }
+
+    fn laws(&self) {
+        crs_is_sound(self);
+        crss_are_canonical();
     }
 }

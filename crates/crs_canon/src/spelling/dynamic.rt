@@ -3,25 +3,46 @@ ghost use Rattle.std.specs.Prelude.{◌≡◌, ◌∷◌, ◌++◌, OnOk};
 ghost use Rattle.std.specs.Option.{option_map};
 ghost use Rattle.crs_text.specs.Items.{End};
 ghost use Rattle.crs_text.specs.Written.{item_text, others_text};
+ghost use Rattle.crs_value.specs.SoundDynamic.{IsDeformationModel, IsDynamic};
+ghost use Rattle.crs_same.specs.SameCrs.{SameDynamic};
+ghost use Rattle.crs_same.specs.SameDynamic.{SameDeformationModel};
+ghost use Rattle.crs_normal.specs.PartSpellings.{IsSpelledDeformationModel, IsSpelledDynamic};
+ghost use Rattle.crs_normal.specs.PartTexts.{deformation_model_text, dynamic_text};
 ghost use Rattle.crs_normal.specs.SpelledDynamic.{item_deformation_model, item_dynamic, norm_deformation_model};
 ghost use Rattle.crs_normal.specs.SpelledDynamic.{norm_dynamic};
 ghost use Rattle.crs_normal.specs.SpelledItems.{opt};
 
+use crate::canonical::{Canonical, Spell, write_part};
 use crate::spelling::ident::write_named;
 use crate::spelling::texts::{append, open_number};
+use crs_normal::laws::parts::dynamic_parts_are_canonical;
+use crs_same::parts::{same_deformation_model, same_dynamic};
 use crs_value::{DeformationModel, Dynamic, Level};
 use std::alloc::AllocError;
 
-// After a comma.
-pub(crate) fn write_deformation_model(
-    out: &mut Vec<u8>,
-    model: &DeformationModel<'_>,
-    level: Level,
-) -> Result<(), AllocError>
-    ensures { OnOk result (out.new.items
-        ≡ out.old.items ++ 44 ∷ item_text (item_deformation_model (norm_deformation_model level model.now))) }
-{
-    write_named(out, b",MODEL[\"", model.name, &model.identifiers, level)
+impl Spell for DeformationModel<'_> {
+    ghost spelling = { deformation_model_text };
+
+    fn spell(&self, out: &mut Vec<u8>, level: Level) -> Result<(), AllocError> {
+        write_named(out, b"MODEL[\"", self.name, &self.identifiers, level)
+    }
+}
+
+impl Canonical for DeformationModel<'_> {
+    ghost IsValue = { IsDeformationModel };
+
+    ghost Same = { SameDeformationModel };
+
+    ghost IsSpelling = { IsSpelledDeformationModel };
+
+    fn same(&self, other: &Self, level: Level) -> bool {
+        same_deformation_model(self, other, level)
+    }
+
+    fn laws(&self) {
+        let _name = self.name;
+        dynamic_parts_are_canonical();
+    }
 }
 
 fn write_optional_model(
@@ -34,23 +55,36 @@ fn write_optional_model(
 {
     match model {
         None => Ok(()),
-        Some(model) => write_deformation_model(out, model, level),
+        Some(model) => write_part(out, model, level),
     }
 }
 
-// After a comma.
-pub(crate) fn write_dynamic(
-    out: &mut Vec<u8>,
-    dynamic: &Dynamic<'_>,
-    level: Level,
-) -> Result<(), AllocError>
-    ensures { OnOk result (out.new.items
-        ≡ out.old.items ++ 44 ∷ item_text (item_dynamic (norm_dynamic level dynamic.now))) }
-{
-    open_number(out, b",DYNAMIC[FRAMEEPOCH[", &dynamic.epoch)?;
-    append(out, b"]")?;
-    write_optional_model(out, &dynamic.model, level)?;
-    append(out, b"]")
+impl Spell for Dynamic<'_> {
+    ghost spelling = { dynamic_text };
+
+    fn spell(&self, out: &mut Vec<u8>, level: Level) -> Result<(), AllocError> {
+        open_number(out, b"DYNAMIC[FRAMEEPOCH[", &self.epoch)?;
+        append(out, b"]")?;
+        write_optional_model(out, &self.model, level)?;
+        append(out, b"]")
+    }
+}
+
+impl Canonical for Dynamic<'_> {
+    ghost IsValue = { IsDynamic };
+
+    ghost Same = { SameDynamic };
+
+    ghost IsSpelling = { IsSpelledDynamic };
+
+    fn same(&self, other: &Self, level: Level) -> bool {
+        same_dynamic(self, other, level)
+    }
+
+    fn laws(&self) {
+        let _model = &self.model;
+        dynamic_parts_are_canonical();
+    }
 }
 
 pub(crate) fn write_optional_dynamic(
@@ -63,6 +97,6 @@ pub(crate) fn write_optional_dynamic(
 {
     match dynamic {
         None => Ok(()),
-        Some(dynamic) => write_dynamic(out, dynamic, level),
+        Some(dynamic) => write_part(out, dynamic, level),
     }
 }

@@ -3,13 +3,21 @@ ghost use Rattle.std.specs.Prelude.{◌≡◌, ◌∷◌, ◌++◌, OnOk, Some};
 ghost use Rattle.std.specs.Option.{option_map};
 ghost use Rattle.crs_text.specs.Items.{End, More};
 ghost use Rattle.crs_text.specs.Written.{item_text, others_text};
+ghost use Rattle.crs_value.specs.SoundFrames.{IsEllipsoid};
+ghost use Rattle.crs_same.specs.Parts.{AreSame};
+ghost use Rattle.crs_same.specs.PartsOfFrames.{parts_of_ellipsoid};
+ghost use Rattle.crs_normal.specs.PartSpellings.{IsSpelledEllipsoid};
+ghost use Rattle.crs_normal.specs.PartTexts.{ellipsoid_text};
 ghost use Rattle.crs_normal.specs.SpelledFrames.{item_ellipsoid, norm_ellipsoid};
 ghost use Rattle.crs_normal.specs.SpelledItems.{each, number_item, opt};
 ghost use Rattle.crs_normal.specs.SpelledUnits.{item_ident, item_unit, norm_length, set_idents};
 
+use crate::canonical::{Canonical, Spell, write_part};
 use crate::spelling::ident::write_idents;
 use crate::spelling::texts::{append, open_text, write_number};
 use crate::spelling::unit::write_length;
+use crs_normal::laws::parts::frame_parts_are_canonical;
+use crs_same::parts::same_ellipsoid;
 use crs_value::{Ellipsoid, Level};
 use std::alloc::AllocError;
 
@@ -55,18 +63,31 @@ fn write_from_axis(
     write_from_flattening(out, ellipsoid, level)
 }
 
-// After a comma.
-pub(crate) fn write_ellipsoid(
-    out: &mut Vec<u8>,
-    ellipsoid: &Ellipsoid<'_>,
-    level: Level,
-) -> Result<(), AllocError>
-    ensures { OnOk result (out.new.items
-        ≡ out.old.items ++ 44 ∷ item_text (item_ellipsoid (norm_ellipsoid level ellipsoid.now))) }
-{
-    open_text(out, b",ELLIPSOID[\"", ellipsoid.name)?;
-    write_from_axis(out, ellipsoid, level)?;
-    append(out, b"]")
+impl Spell for Ellipsoid<'_> {
+    ghost spelling = { ellipsoid_text };
+
+    fn spell(&self, out: &mut Vec<u8>, level: Level) -> Result<(), AllocError> {
+        open_text(out, b"ELLIPSOID[\"", self.name)?;
+        write_from_axis(out, self, level)?;
+        append(out, b"]")
+    }
+}
+
+impl Canonical for Ellipsoid<'_> {
+    ghost IsValue = { IsEllipsoid };
+
+    ghost Same = { AreSame parts_of_ellipsoid };
+
+    ghost IsSpelling = { IsSpelledEllipsoid };
+
+    fn same(&self, other: &Self, level: Level) -> bool {
+        same_ellipsoid(self, other, level)
+    }
+
+    fn laws(&self) {
+        let _name = self.name;
+        frame_parts_are_canonical();
+    }
 }
 
 pub(crate) fn write_optional_ellipsoid(
@@ -79,6 +100,6 @@ pub(crate) fn write_optional_ellipsoid(
 {
     match ellipsoid {
         None => Ok(()),
-        Some(ellipsoid) => write_ellipsoid(out, ellipsoid, level),
+        Some(ellipsoid) => write_part(out, ellipsoid, level),
     }
 }

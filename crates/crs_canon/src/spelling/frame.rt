@@ -3,29 +3,54 @@ ghost use Rattle.std.specs.Prelude.{◌≡◌, ◌∷◌, ◌++◌, List, OnOk, 
 ghost use Rattle.std.specs.Option.{option_copied, option_map};
 ghost use Rattle.crs_text.specs.Items.{End, More};
 ghost use Rattle.crs_text.specs.Written.{item_text, others_text};
-ghost use Rattle.crs_normal.specs.PartTexts.{datum_text};
-ghost use Rattle.crs_normal.specs.SpelledFrames.{item_ellipsoid, item_ensemble, item_frame, item_member};
-ghost use Rattle.crs_normal.specs.SpelledFrames.{norm_ellipsoid, norm_ensemble, norm_frame, set_members};
+ghost use Rattle.crs_value.specs.SoundFrames.{IsDatum, IsEnsemble, IsMember};
+ghost use Rattle.crs_same.specs.Parts.{AreSame};
+ghost use Rattle.crs_same.specs.PartsOfFrames.{parts_of_datum, parts_of_ensemble, parts_of_frame};
+ghost use Rattle.crs_same.specs.SameFrames.{SameMember};
+ghost use Rattle.crs_normal.specs.PartSpellings.{IsFrame, IsSpelledDatum, IsSpelledEnsemble, IsSpelledFrame};
+ghost use Rattle.crs_normal.specs.PartSpellings.{IsSpelledMember};
+ghost use Rattle.crs_normal.specs.PartTexts.{datum_text, ensemble_text, frame_text, member_text};
+ghost use Rattle.crs_normal.specs.SpelledFrames.{item_ellipsoid, item_frame, item_member};
+ghost use Rattle.crs_normal.specs.SpelledFrames.{norm_ellipsoid, norm_frame, set_members};
 ghost use Rattle.crs_normal.specs.SpelledItems.{each, number_node, opt, text_node};
 ghost use Rattle.crs_normal.specs.SpelledUnits.{item_ident, set_idents};
 ghost use Rattle.crs_canon.specs.Openings.{named_node};
 
-use crate::set::{Spell, write_set};
+use crate::canonical::{Canonical, Spell, write_part};
+use crate::set::write_set;
 use crate::spelling::ellipsoid::write_optional_ellipsoid;
 use crate::spelling::ident::{write_idents, write_named};
 use crate::spelling::texts::{append, open_number, open_text, write_optional_text};
 use crs_decimal::Decimal;
+use crs_normal::laws::parts::{
+    datums_are_canonical, frame_parts_are_canonical, frames_are_canonical,
+};
+use crs_same::parts::{same_datum, same_ensemble, same_frame, same_member};
 use crs_value::{Datum, Ensemble, Frame, Level, List, Member};
 use std::alloc::AllocError;
 
 impl Spell for Member<'_> {
-    ghost use Rattle.crs_text.specs.Written.{item_text};
-    ghost use Rattle.crs_normal.specs.SpelledFrames.{item_member, norm_member};
+    ghost spelling = { member_text };
 
-    ghost spelling = { λ level m. item_text (item_member (norm_member level m)) };
-
-    fn write(&self, out: &mut Vec<u8>, level: Level) -> Result<(), AllocError> {
+    fn spell(&self, out: &mut Vec<u8>, level: Level) -> Result<(), AllocError> {
         write_named(out, b"MEMBER[\"", self.name, &self.identifiers, level)
+    }
+}
+
+impl Canonical for Member<'_> {
+    ghost IsValue = { IsMember };
+
+    ghost Same = { SameMember };
+
+    ghost IsSpelling = { IsSpelledMember };
+
+    fn same(&self, other: &Self, level: Level) -> bool {
+        same_member(self, other, level)
+    }
+
+    fn laws(&self) {
+        let _name = self.name;
+        frame_parts_are_canonical();
     }
 }
 
@@ -117,16 +142,31 @@ fn write_datum(
 }
 
 // By itself: with an ellipsoid it is geodetic, else vertical.
-pub(crate) fn write_own_datum(
-    out: &mut Vec<u8>,
-    datum: &Datum<'_>,
-    level: Level,
-) -> Result<(), AllocError>
-    ensures { OnOk result (out.new.items ≡ out.old.items ++ datum_text level datum.now) }
-{
-    match &datum.ellipsoid {
-        Some(_) => write_datum(out, b"DATUM[\"", datum, level),
-        None => write_datum(out, b"VDATUM[\"", datum, level),
+impl Spell for Datum<'_> {
+    ghost spelling = { datum_text };
+
+    fn spell(&self, out: &mut Vec<u8>, level: Level) -> Result<(), AllocError> {
+        match &self.ellipsoid {
+            Some(_) => write_datum(out, b"DATUM[\"", self, level),
+            None => write_datum(out, b"VDATUM[\"", self, level),
+        }
+    }
+}
+
+impl Canonical for Datum<'_> {
+    ghost IsValue = { IsDatum };
+
+    ghost Same = { AreSame parts_of_datum };
+
+    ghost IsSpelling = { IsSpelledDatum };
+
+    fn same(&self, other: &Self, level: Level) -> bool {
+        same_datum(self, other, level)
+    }
+
+    fn laws(&self) {
+        let _name = self.name;
+        datums_are_canonical();
     }
 }
 
@@ -183,17 +223,62 @@ fn write_from_members(
     write_from_ellipsoid(out, ensemble, level)
 }
 
-pub(crate) fn write_ensemble(
-    out: &mut Vec<u8>,
-    ensemble: &Ensemble<'_>,
-    level: Level,
-) -> Result<(), AllocError>
-    ensures { OnOk result (out.new.items
-        ≡ out.old.items ++ 44 ∷ item_text (item_ensemble (norm_ensemble level ensemble.now))) }
-{
-    open_text(out, b",ENSEMBLE[\"", ensemble.name)?;
-    write_from_members(out, ensemble, level)?;
-    append(out, b"]")
+impl Spell for Ensemble<'_> {
+    ghost spelling = { ensemble_text };
+
+    fn spell(&self, out: &mut Vec<u8>, level: Level) -> Result<(), AllocError> {
+        open_text(out, b"ENSEMBLE[\"", self.name)?;
+        write_from_members(out, self, level)?;
+        append(out, b"]")
+    }
+}
+
+impl Canonical for Ensemble<'_> {
+    ghost IsValue = { IsEnsemble };
+
+    ghost Same = { AreSame parts_of_ensemble };
+
+    ghost IsSpelling = { IsSpelledEnsemble };
+
+    fn same(&self, other: &Self, level: Level) -> bool {
+        same_ensemble(self, other, level)
+    }
+
+    fn laws(&self) {
+        let _name = self.name;
+        datums_are_canonical();
+    }
+}
+
+impl Spell for Frame<'_> {
+    ghost spelling = { frame_text };
+
+    fn spell(&self, out: &mut Vec<u8>, level: Level) -> Result<(), AllocError> {
+        match self {
+            Frame::Datum(datum) => datum.spell(out, level),
+            Frame::Ensemble(ensemble) => ensemble.spell(out, level),
+        }
+    }
+}
+
+impl Canonical for Frame<'_> {
+    ghost IsValue = { IsFrame };
+
+    ghost Same = { AreSame parts_of_frame };
+
+    ghost IsSpelling = { IsSpelledFrame };
+
+    fn same(&self, other: &Self, level: Level) -> bool {
+        same_frame(self, other, level)
+    }
+
+    fn laws(&self) {
+        match self {
+            Frame::Datum(datum) => datum.laws(),
+            Frame::Ensemble(ensemble) => ensemble.laws(),
+        }
+        frames_are_canonical();
+    }
 }
 
 // After a comma.
@@ -207,7 +292,7 @@ pub(crate) fn write_geodetic_frame(
 {
     match frame {
         Frame::Datum(datum) => write_datum(out, b",DATUM[\"", datum, level),
-        Frame::Ensemble(ensemble) => write_ensemble(out, ensemble, level),
+        Frame::Ensemble(ensemble) => write_part(out, ensemble, level),
     }
 }
 
@@ -222,6 +307,6 @@ pub(crate) fn write_vertical_frame(
 {
     match frame {
         Frame::Datum(datum) => write_datum(out, b",VDATUM[\"", datum, level),
-        Frame::Ensemble(ensemble) => write_ensemble(out, ensemble, level),
+        Frame::Ensemble(ensemble) => write_part(out, ensemble, level),
     }
 }

@@ -3,13 +3,20 @@ ghost use Rattle.std.specs.Prelude.{◌≡◌, ◌++◌, OnOk, codes, map};
 ghost use Rattle.std.specs.Option.{option_copied};
 ghost use Rattle.crs_text.specs.Items.{End};
 ghost use Rattle.crs_text.specs.Written.{item_text, others_text};
+ghost use Rattle.crs_value.specs.Sound.{IsIdent};
+ghost use Rattle.crs_same.specs.SameIdents.{SameIdent};
+ghost use Rattle.crs_normal.specs.PartSpellings.{IsSpelledIdent};
+ghost use Rattle.crs_normal.specs.PartTexts.{ident_text};
 ghost use Rattle.crs_normal.specs.SpelledItems.{code_item, each, opt, text_node};
 ghost use Rattle.crs_normal.specs.SpelledUnits.{item_ident, set_idents};
 ghost use Rattle.crs_canon.specs.Members.{set_text};
 ghost use Rattle.crs_canon.specs.Openings.{named_node};
 
-use crate::set::{Spell, write_set};
+use crate::canonical::{Canonical, Spell};
+use crate::set::write_set;
 use crate::spelling::texts::{append, open_text, write_code, write_optional_text};
+use crs_normal::laws::parts::identifiers_are_canonical;
+use crs_same::parts::same_ident;
 use crs_value::{Ident, Level, List};
 use std::alloc::AllocError;
 
@@ -58,23 +65,31 @@ fn write_behind_code(out: &mut Vec<u8>, ident: &Ident<'_>) -> Result<(), AllocEr
     write_sources(out, ident)
 }
 
-pub(crate) fn write_ident(out: &mut Vec<u8>, ident: &Ident<'_>) -> Result<(), AllocError>
-    ensures { OnOk result (out.new.items ≡ out.old.items ++ item_text (item_ident ident.now)) }
-{
-    open_text(out, b"ID[\"", ident.authority)?;
-    write_code(out, ident.code)?;
-    write_behind_code(out, ident)?;
-    append(out, b"]")
+impl Spell for Ident<'_> {
+    ghost spelling = { ident_text };
+
+    fn spell(&self, out: &mut Vec<u8>, _level: Level) -> Result<(), AllocError> {
+        open_text(out, b"ID[\"", self.authority)?;
+        write_code(out, self.code)?;
+        write_behind_code(out, self)?;
+        append(out, b"]")
+    }
 }
 
-impl Spell for Ident<'_> {
-    ghost use Rattle.crs_text.specs.Written.{item_text};
-    ghost use Rattle.crs_normal.specs.SpelledUnits.{item_ident};
+impl Canonical for Ident<'_> {
+    ghost IsValue = { IsIdent };
 
-    ghost spelling = { λ level i. item_text (item_ident i) };
+    ghost Same = { λ level a b. SameIdent a b };
 
-    fn write(&self, out: &mut Vec<u8>, _level: Level) -> Result<(), AllocError> {
-        write_ident(out, self)
+    ghost IsSpelling = { IsSpelledIdent };
+
+    fn same(&self, other: &Self, level: Level) -> bool {
+        same_ident(self, other, level)
+    }
+
+    fn laws(&self) {
+        let _authority = self.authority;
+        identifiers_are_canonical();
     }
 }
 

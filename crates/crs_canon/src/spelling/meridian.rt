@@ -2,14 +2,22 @@
 ghost use Rattle.std.specs.Prelude.{◌≡◌, ◌∷◌, ◌++◌, OnOk, None, if◌then◌else◌};
 ghost use Rattle.crs_text.specs.Items.{End, More};
 ghost use Rattle.crs_text.specs.Written.{item_text, others_text};
+ghost use Rattle.crs_value.specs.SoundFrames.{IsMeridian};
 ghost use Rattle.crs_value.specs.declared.values.unit_kind.UnitKind.TheVariants as kinds;
-ghost use Rattle.crs_normal.specs.SpelledFrames.{greenwich, is_zero, item_meridian, norm_given, norm_meridian};
+ghost use Rattle.crs_same.specs.Parts.{AreSame};
+ghost use Rattle.crs_same.specs.PartsOfFrames.{parts_of_given};
+ghost use Rattle.crs_normal.specs.PartSpellings.{IsSpelledMeridian};
+ghost use Rattle.crs_normal.specs.PartTexts.{meridian_text};
+ghost use Rattle.crs_normal.specs.SpelledFrames.{greenwich, is_zero, item_meridian, norm_meridian};
 ghost use Rattle.crs_normal.specs.SpelledItems.{each, number_item, opt};
 ghost use Rattle.crs_normal.specs.SpelledUnits.{item_ident, item_unit, norm_units, set_idents};
 
+use crate::canonical::{Canonical, Spell, write_part};
 use crate::spelling::ident::write_idents;
 use crate::spelling::texts::{append, open_text, write_number};
 use crate::spelling::unit::write_optional_unit;
+use crs_normal::laws::parts::frame_parts_are_canonical;
+use crs_same::parts::same_meridian;
 use crs_value::{Level, Meridian, UnitKind};
 use std::alloc::AllocError;
 
@@ -60,17 +68,31 @@ fn write_from_longitude(
     write_from_unit(out, meridian, level)
 }
 
-pub(crate) fn write_given(
-    out: &mut Vec<u8>,
-    meridian: &Meridian<'_>,
-    level: Level,
-) -> Result<(), AllocError>
-    ensures { OnOk result (out.new.items
-        ≡ out.old.items ++ 44 ∷ item_text (item_meridian (norm_given level meridian.now))) }
-{
-    open_text(out, b",PRIMEM[\"", meridian.name)?;
-    write_from_longitude(out, meridian, level)?;
-    append(out, b"]")
+impl Spell for Meridian<'_> {
+    ghost spelling = { meridian_text };
+
+    fn spell(&self, out: &mut Vec<u8>, level: Level) -> Result<(), AllocError> {
+        open_text(out, b"PRIMEM[\"", self.name)?;
+        write_from_longitude(out, self, level)?;
+        append(out, b"]")
+    }
+}
+
+impl Canonical for Meridian<'_> {
+    ghost IsValue = { IsMeridian };
+
+    ghost Same = { AreSame parts_of_given };
+
+    ghost IsSpelling = { IsSpelledMeridian };
+
+    fn same(&self, other: &Self, level: Level) -> bool {
+        same_meridian(self, other, level)
+    }
+
+    fn laws(&self) {
+        let _name = self.name;
+        frame_parts_are_canonical();
+    }
 }
 
 // Where none is written, Greenwich.
@@ -84,6 +106,6 @@ pub(crate) fn write_meridian(
 {
     match meridian {
         None => write_greenwich(out),
-        Some(meridian) => write_given(out, meridian, level),
+        Some(meridian) => write_part(out, meridian, level),
     }
 }

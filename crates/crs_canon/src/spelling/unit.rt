@@ -3,13 +3,21 @@ ghost use Rattle.std.specs.Prelude.{◌≡◌, ◌∷◌, ◌++◌, [], OnOk, So
 ghost use Rattle.std.specs.Option.{option_copied};
 ghost use Rattle.crs_text.specs.Items.{End, More};
 ghost use Rattle.crs_text.specs.Written.{item_text, others_text};
+ghost use Rattle.crs_value.specs.Sound.{IsUnit};
 ghost use Rattle.crs_value.specs.Words.{unit_word};
+ghost use Rattle.crs_value.specs.declared.values.unit_kind.UnitKind.TheVariants as kinds;
+ghost use Rattle.crs_same.specs.SameUnits.{SameUnit};
+ghost use Rattle.crs_normal.specs.PartSpellings.{IsSpelledUnit};
+ghost use Rattle.crs_normal.specs.PartTexts.{unit_text};
 ghost use Rattle.crs_normal.specs.SpelledItems.{each, number_item, opt};
 ghost use Rattle.crs_normal.specs.SpelledUnits.{item_ident, item_unit, metre, norm_length, norm_unit, norm_units};
 ghost use Rattle.crs_normal.specs.SpelledUnits.{set_idents};
 
+use crate::canonical::{Canonical, Spell};
 use crate::spelling::ident::write_idents;
 use crate::spelling::texts::{append, open_text, write_number};
+use crs_normal::laws::parts::units_are_canonical;
+use crs_same::parts::same_unit;
 use crs_value::{Level, Unit, UnitKind};
 use std::alloc::AllocError;
 
@@ -24,6 +32,16 @@ pub(crate) fn unit_opening(kind: UnitKind) -> &'static str
     }
 }
 
+// Without the comma.
+fn bare_opening(kind: UnitKind) -> &'static [u8]
+    ensures { result.now ≡ unit_word kind ++ 91 ∷ 34 ∷ [] }
+{
+    match unit_opening(kind).as_bytes() {
+        [] => &[],
+        [_, opening @ ..] => opening,
+    }
+}
+
 #[tactic(auto, using(crate::proofs::PieceLemmas::then_rules))]
 fn write_from_factor(out: &mut Vec<u8>, unit: &Unit<'_>, level: Level) -> Result<(), AllocError>
     ensures { OnOk result (out.new.items ≡ out.old.items ++ others_text
@@ -33,8 +51,22 @@ fn write_from_factor(out: &mut Vec<u8>, unit: &Unit<'_>, level: Level) -> Result
     write_idents(out, &unit.identifiers, level)
 }
 
-// After a comma; where this kind is asked, which `UNIT` is of.
+// Where this kind is asked, which `UNIT` is of.
 pub(crate) fn write_unit(
+    out: &mut Vec<u8>,
+    asked: UnitKind,
+    unit: &Unit<'_>,
+    level: Level,
+) -> Result<(), AllocError>
+    ensures { OnOk result (out.new.items ≡ out.old.items ++ item_text (item_unit (norm_unit level asked unit.now))) }
+{
+    open_text(out, bare_opening(unit.kind.as_asked(asked)), unit.name)?;
+    write_from_factor(out, unit, level)?;
+    append(out, b"]")
+}
+
+// After a comma.
+pub(crate) fn write_unit_part(
     out: &mut Vec<u8>,
     asked: UnitKind,
     unit: &Unit<'_>,
@@ -43,13 +75,33 @@ pub(crate) fn write_unit(
     ensures { OnOk result (out.new.items
         ≡ out.old.items ++ 44 ∷ item_text (item_unit (norm_unit level asked unit.now))) }
 {
-    open_text(
-        out,
-        unit_opening(unit.kind.as_asked(asked)).as_bytes(),
-        unit.name,
-    )?;
-    write_from_factor(out, unit, level)?;
-    append(out, b"]")
+    append(out, b",")?;
+    write_unit(out, asked, unit, level)
+}
+
+impl Spell for Unit<'_> {
+    ghost spelling = { unit_text };
+
+    fn spell(&self, out: &mut Vec<u8>, level: Level) -> Result<(), AllocError> {
+        write_unit(out, UnitKind::Plain, self, level)
+    }
+}
+
+impl Canonical for Unit<'_> {
+    ghost IsValue = { IsUnit };
+
+    ghost Same = { SameUnit kinds.Plain };
+
+    ghost IsSpelling = { IsSpelledUnit };
+
+    fn same(&self, other: &Self, level: Level) -> bool {
+        same_unit(self, other, level)
+    }
+
+    fn laws(&self) {
+        let _name = self.name;
+        units_are_canonical();
+    }
 }
 
 pub(crate) fn write_optional_unit(
@@ -63,7 +115,7 @@ pub(crate) fn write_optional_unit(
 {
     match unit {
         None => Ok(()),
-        Some(unit) => write_unit(out, asked, unit, level),
+        Some(unit) => write_unit_part(out, asked, unit, level),
     }
 }
 
@@ -84,6 +136,6 @@ pub(crate) fn write_length(
 {
     match unit {
         None => write_metre(out),
-        Some(unit) => write_unit(out, UnitKind::Length, unit, level),
+        Some(unit) => write_unit_part(out, UnitKind::Length, unit, level),
     }
 }

@@ -3,15 +3,21 @@ ghost use Rattle.std.specs.Prelude.{◌≡◌, ◌∷◌, ◌++◌, ℕ, List, O
 ghost use Rattle.std.specs.Option.{option_copied, option_map};
 ghost use Rattle.crs_text.specs.Items.{Siblings, End, More};
 ghost use Rattle.crs_text.specs.Written.{item_text, others_text};
+ghost use Rattle.crs_value.specs.SoundUsages.{IsBox, IsExtent, IsUsage};
 ghost use Rattle.crs_value.specs.declared.values.level.Level.TheVariants as levels;
+ghost use Rattle.crs_same.specs.SameUsages.{SameBox, SameExtent, SameUsage};
+ghost use Rattle.crs_normal.specs.PartSpellings.{IsSpelledBox, IsSpelledExtent, IsSpelledUsage};
+ghost use Rattle.crs_normal.specs.PartTexts.{box_text, extent_text, usage_text};
 ghost use Rattle.crs_normal.specs.SpelledItems.{number_item, opt, text_node};
 ghost use Rattle.crs_normal.specs.SpelledUnits.{item_unit, norm_length};
-ghost use Rattle.crs_normal.specs.SpelledUsages.{item_box, item_extent, item_usage, norm_extent, norm_usage};
+ghost use Rattle.crs_normal.specs.SpelledUsages.{item_box, item_extent, norm_extent};
 ghost use Rattle.crs_canon.specs.Openings.{enclosed};
 
-use crate::set::Spell;
+use crate::canonical::{Canonical, Spell, write_part};
 use crate::spelling::texts::{append, open_number, write_number, write_optional_text};
 use crate::spelling::unit::write_length;
+use crs_normal::laws::parts::{extents_are_canonical, usages_are_canonical};
+use crs_same::parts::{same_box, same_extent, same_usage};
 use crs_value::{BoundingBox, Extent, Level, Usage};
 use std::alloc::AllocError;
 
@@ -49,13 +55,31 @@ fn write_from_west(out: &mut Vec<u8>, bbox: &BoundingBox) -> Result<(), AllocErr
     write_from_north(out, bbox)
 }
 
-// After a comma.
-pub(crate) fn write_box(out: &mut Vec<u8>, bbox: &BoundingBox) -> Result<(), AllocError>
-    ensures { OnOk result (out.new.items ≡ out.old.items ++ 44 ∷ item_text (item_box bbox.now)) }
-{
-    open_number(out, b",BBOX[", &bbox.south)?;
-    write_from_west(out, bbox)?;
-    append(out, b"]")
+impl Spell for BoundingBox {
+    ghost spelling = { box_text };
+
+    fn spell(&self, out: &mut Vec<u8>, _level: Level) -> Result<(), AllocError> {
+        open_number(out, b"BBOX[", &self.south)?;
+        write_from_west(out, self)?;
+        append(out, b"]")
+    }
+}
+
+impl Canonical for BoundingBox {
+    ghost IsValue = { IsBox };
+
+    ghost Same = { λ level a b. SameBox a b };
+
+    ghost IsSpelling = { IsSpelledBox };
+
+    fn same(&self, other: &Self, level: Level) -> bool {
+        same_box(self, other, level)
+    }
+
+    fn laws(&self) {
+        let _south = self.south;
+        extents_are_canonical();
+    }
 }
 
 fn write_optional_box(out: &mut Vec<u8>, bbox: &Option<BoundingBox>) -> Result<(), AllocError>
@@ -63,7 +87,7 @@ fn write_optional_box(out: &mut Vec<u8>, bbox: &Option<BoundingBox>) -> Result<(
 {
     match bbox {
         None => Ok(()),
-        Some(bbox) => write_box(out, bbox),
+        Some(bbox) => write_part(out, bbox, Level::Full),
     }
 }
 
@@ -80,18 +104,31 @@ fn write_from_maximum(
     write_length(out, extent.unit.as_ref(), level)
 }
 
-// After a comma.
-pub(crate) fn write_extent(
-    out: &mut Vec<u8>,
-    extent: &Extent<'_>,
-    level: Level,
-) -> Result<(), AllocError>
-    ensures { OnOk result (out.new.items
-        ≡ out.old.items ++ 44 ∷ item_text (item_extent (norm_extent level extent.now))) }
-{
-    open_number(out, b",VERTICALEXTENT[", &extent.minimum)?;
-    write_from_maximum(out, extent, level)?;
-    append(out, b"]")
+impl Spell for Extent<'_> {
+    ghost spelling = { extent_text };
+
+    fn spell(&self, out: &mut Vec<u8>, level: Level) -> Result<(), AllocError> {
+        open_number(out, b"VERTICALEXTENT[", &self.minimum)?;
+        write_from_maximum(out, self, level)?;
+        append(out, b"]")
+    }
+}
+
+impl Canonical for Extent<'_> {
+    ghost IsValue = { IsExtent };
+
+    ghost Same = { SameExtent };
+
+    ghost IsSpelling = { IsSpelledExtent };
+
+    fn same(&self, other: &Self, level: Level) -> bool {
+        same_extent(self, other, level)
+    }
+
+    fn laws(&self) {
+        let _minimum = self.minimum;
+        extents_are_canonical();
+    }
 }
 
 fn write_optional_extent(out: &mut Vec<u8>, extent: &Option<Extent<'_>>) -> Result<(), AllocError>
@@ -100,7 +137,7 @@ fn write_optional_extent(out: &mut Vec<u8>, extent: &Option<Extent<'_>>) -> Resu
 {
     match extent {
         None => Ok(()),
-        Some(extent) => write_extent(out, extent, Level::Full),
+        Some(extent) => write_part(out, extent, Level::Full),
     }
 }
 
@@ -154,22 +191,30 @@ pub(crate) fn enclose(out: &mut Vec<u8>, at: usize) -> Result<(), AllocError>
 }
 
 // Any part may be the first.
-pub(crate) fn write_usage(out: &mut Vec<u8>, usage: &Usage<'_>) -> Result<(), AllocError>
-    ensures { OnOk result (out.new.items ≡ out.old.items ++ item_text (item_usage (norm_usage usage.now))) }
-{
-    append(out, b"USAGE")?;
-    let at = out.len();
-    write_from_scope(out, usage)?;
-    enclose(out, at)
+impl Spell for Usage<'_> {
+    ghost spelling = { usage_text };
+
+    fn spell(&self, out: &mut Vec<u8>, _level: Level) -> Result<(), AllocError> {
+        append(out, b"USAGE")?;
+        let at = out.len();
+        write_from_scope(out, self)?;
+        enclose(out, at)
+    }
 }
 
-impl Spell for Usage<'_> {
-    ghost use Rattle.crs_text.specs.Written.{item_text};
-    ghost use Rattle.crs_normal.specs.SpelledUsages.{item_usage, norm_usage};
+impl Canonical for Usage<'_> {
+    ghost IsValue = { IsUsage };
 
-    ghost spelling = { λ level u. item_text (item_usage (norm_usage u)) };
+    ghost Same = { λ level a b. SameUsage a b };
 
-    fn write(&self, out: &mut Vec<u8>, _level: Level) -> Result<(), AllocError> {
-        write_usage(out, self)
+    ghost IsSpelling = { IsSpelledUsage };
+
+    fn same(&self, other: &Self, level: Level) -> bool {
+        same_usage(self, other, level)
+    }
+
+    fn laws(&self) {
+        let _scope = self.scope;
+        usages_are_canonical();
     }
 }

@@ -1,14 +1,16 @@
-use Rattle.std.proofs.Common.{◌≡◌, [], rules, subst}
+use Rattle.std.proofs.Common.{◌≡◌, [], rules}
 use Rattle.crs_canon.specs.ContentText.{IsLackingText}
-use Rattle.crs_canon.specs.Members.{ArePut, lacking, spellings}
+use Rattle.crs_canon.specs.Members.{lacking, spellings}
 use Rattle.crs_canon.specs.SetText.{comma_separated}
 use Rattle.crs_canon.proofs.LackingLemmas.{lacking-text}
+use Rattle.crs_canon.proofs.SetTextLemmas.{all-put}
 use Rattle.crs_canon.proofs.SpellingLemmas.{appended}
 use Rattle.crs_canon.proofs.lacking.append_lacking_members.Goals as goal
 
 pub returns : goal.returns
 returns g c =
     let Spells = g.T.Canonical.IsSpelling c.args.level in
+    let text = g.T.Spell.spelling c.args.level in
     let law = c.texts_are_in_order.ensures in
     let these = c.args.these.now in
     let others = c.args.others.now in
@@ -19,5 +21,6 @@ returns g c =
     appended (IsLackingText Spells these others) c.args.out.now.items c.append_lacking.new.out.items
     (comma_separated (lacking keys other_keys)) c.append_lacking.result c.append_lacking.ensures
     (lacking-text Spells law.ascend law.members these others keys other_keys
-    (subst (λ start. ArePut Spells these start keys) none c.in_ok-gather_all.ensures)
-    (subst (λ start. ArePut Spells others start other_keys) none_other c.in_ok-gather_all-2.ensures))
+    (all-put Spells text these (spellings c.new-sorted.result.keys) [] keys none (c.are_spelled.ensures c.args.level) c.in_ok-gather_all.ensures)
+    (all-put Spells text others (spellings c.new-other.result.keys) [] other_keys none_other (c.are_spelled-2.ensures c.args.level)
+    c.in_ok-gather_all-2.ensures))

@@ -1,14 +1,17 @@
-use Rattle.std.proofs.Common.{◌≡◌, ◌++◌, ◌∙◌, ap}
+use Rattle.std.proofs.Common.{◌≡◌, map}
 use Rattle.std.proofs.lemmas.Result.{MatchResult-weaker}
 use Rattle.crs_normal.specs.Ordered.{in_order}
+use Rattle.crs_canon.specs.Members.{set_text}
 use Rattle.crs_canon.specs.SetText.{commas}
+use Rattle.crs_canon.proofs.SpellingLemmas.{whole}
 use Rattle.crs_canon.proofs.set_view.append_set.Goals as goal
 
 pub returns : goal.returns
+unfolding set_text
 returns g c =
-    let all = c.in_ok-write_members.ensures in
-    let members = in_order (λ bytes. bytes) all.texts in
+    let texts = map (g.T.Spell.spelling c.args.level) c.args.members.now in
+    let members = in_order (λ bytes. bytes) texts in
     let made : c.as_slice.result.now ≡ commas members =
-    c.as_slice.ensures.value ∙ all.appended ∙ ap (λ start. start ++ commas members) c.new-text.ensures.items in
+    whole _ (commas members) _ _ c.as_slice.ensures.value c.in_ok-write_set.ensures c.new-text.ensures.items in
     MatchResult-weaker c.append_members.result (c.append_members.ensures members made)
-    (λ x e. record { texts = all.texts; spelled = all.spelled; appended = e }) (λ x e. e)
+    (λ x e. record { texts = texts; spelled = c.are_spelled.ensures c.args.level; appended = e }) (λ x e. e)

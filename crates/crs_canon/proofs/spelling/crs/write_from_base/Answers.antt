@@ -19,6 +19,6 @@ returns c =
     (then-more (item_base (norm_base level projected.base))
     (More (item_conversion (norm_conversion level projected.conversion))
     (system_items (norm_system level projected.system) (tail_items (norm_tail level projected.tail))))
-    out c.write_base.new.out.items c.write_from_conversion.new.out.items
-    (c.in_ok-write_base.ensures ∙ ap (λ (p : ProjectedParts). out ++ 44 ∷ item_text (item_base (norm_base level p.base))) c.projected.view_is))
+    out c.write_part.new.out.items c.write_from_conversion.new.out.items
+    (c.in_ok-write_part.ensures ∙ ap (λ (p : ProjectedParts). out ++ 44 ∷ item_text (item_base (norm_base level p.base))) c.projected.view_is))
     c.write_from_conversion.ensures

@@ -20,5 +20,5 @@ returns c =
     (on_ok_weaker c.write_from_system.result
     (then-more (item_conversion (norm_conversion level inner.conversion))
     (system_items (norm_system level inner.system) (tail_items (norm_tail level inner.tail)))
-    out c.write_conversion.new.out.items c.write_from_system.new.out.items c.in_ok-write_conversion.ensures)
+    out c.write_part.new.out.items c.write_from_system.new.out.items c.in_ok-write_part.ensures)
     c.write_from_system.ensures)

@@ -1,4 +1,0 @@
-use Rattle.crs_canon.proofs.canonical.conversions.MethodCanonical.laws.Goals as goal
-
-pub returns-clause-form : goal.returns-clause-form
-returns-clause-form c level = (c.conversions_are_canonical.ensures.method level).form

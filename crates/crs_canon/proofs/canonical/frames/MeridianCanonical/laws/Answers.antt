@@ -1,4 +1,0 @@
-use Rattle.crs_canon.proofs.canonical.frames.MeridianCanonical.laws.Goals as goal
-
-pub returns-clause-form : goal.returns-clause-form
-returns-clause-form c level = (c.frame_parts_are_canonical.ensures.meridian level).form

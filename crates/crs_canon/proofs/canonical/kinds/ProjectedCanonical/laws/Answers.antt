@@ -1,4 +1,0 @@
-use Rattle.crs_canon.proofs.canonical.kinds.ProjectedCanonical.laws.Goals as goal
-
-pub returns-clause-form : goal.returns-clause-form
-returns-clause-form c level = (c.kinds_are_canonical.ensures.projected level).form

@@ -1,6 +1,0 @@
-use Rattle.std.proofs.Common.{rules}
-use Rattle.crs_canon.proofs.SpellingLemmas.{spelled}
-use Rattle.crs_canon.proofs.canonical.kinds.VerticalCanonical.write.Goals as goal
-
-pub returns : goal.returns
-returns c = spelled _ _ _ (c.kinds_are_canonical.ensures.vertical c.args.level) (search rules) (search rules)
