@@ -2,7 +2,7 @@
 
 use crate::stage::Stage;
 use crs_text::{Fault, Items, read_items};
-use crs_value::{Crs, value_of};
+use crs_value::{Crs, read};
 use std::alloc::{AllocError, Global};
 
 /// A text, its items and its value, as far as a stage needs them. The items or the value of a text that is refused
@@ -28,11 +28,6 @@ pub fn entries_of<'t>(
 }
 
 fn entry_of<'t>(alloc: Global, stage: Stage, text: &'t [u8]) -> Result<Entry<'t>, AllocError> {
-    let mut entry = Entry {
-        text,
-        items: None,
-        crs: None,
-    };
     match stage {
         Stage::Items
         | Stage::Feed(_)
@@ -41,17 +36,16 @@ fn entry_of<'t>(alloc: Global, stage: Stage, text: &'t [u8]) -> Result<Entry<'t>
         | Stage::CanonText
         | Stage::SameText
         | Stage::Group
-        | Stage::Run => {}
-        Stage::Shape | Stage::Judge | Stage::Value => entry.items = accepted(read_items(
-            alloc, text,
-        ))?,
-        Stage::Same | Stage::Canon => {
-            if let Some(items) = accepted(read_items(alloc, text))? {
-                entry.crs = accepted(value_of(alloc, &items))?;
-            }
+        | Stage::Run => Ok(entry_with(text, None, None)),
+        Stage::Shape | Stage::Judge | Stage::Value => {
+            Ok(entry_with(text, accepted(read_items(alloc, text))?, None))
         }
+        Stage::Same | Stage::Canon => Ok(entry_with(text, None, accepted(read(alloc, text))?)),
     }
-    Ok(entry)
+}
+
+fn entry_with<'t>(text: &'t [u8], items: Option<Items<'t>>, crs: Option<Crs<'t>>) -> Entry<'t> {
+    Entry { text, items, crs }
 }
 
 /// What is accepted; None where it is refused.

@@ -64,6 +64,16 @@ fn report(
     bytes: &[u8],
 ) -> io::Result<()> {
     let entries = entries_of(rt.alloc(), stage, texts)?;
+    report_all(rt, stage, rounds, &entries, bytes)
+}
+
+fn report_all(
+    rt: &HostRuntime,
+    stage: Stage,
+    rounds: u32,
+    entries: &[Entry<'_>],
+    bytes: &[u8],
+) -> io::Result<()> {
     if stage.grows() {
         for smaller in SMALLER {
             match entries.get(..smaller) {
@@ -78,7 +88,7 @@ fn report(
             }
         }
     }
-    report_of(rt, stage, rounds, &entries, bytes)
+    report_of(rt, stage, rounds, entries, bytes)
 }
 
 fn report_of(

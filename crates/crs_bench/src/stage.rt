@@ -242,15 +242,16 @@ fn checked(alloc: Global, text: &[u8]) -> Result<Outcome, AllocError> {
     }
 }
 
-fn matched(alloc: Global, text: &[u8], next: &[u8]) -> Result<Outcome, AllocError> {
+fn matched<'t>(alloc: Global, text: &'t [u8], next: &'t [u8]) -> Result<Outcome, AllocError> {
     match accepted(read(alloc, text))? {
-        Some(crs) => match accepted(read(alloc, next))? {
-            Some(other) => {
-                let one = same(&crs, &other, Level::Full);
-                Ok(Outcome::Accepted(usize::from(one)))
-            }
-            None => Ok(Outcome::Refused),
-        },
+        Some(crs) => matched_with(alloc, &crs, next),
+        None => Ok(Outcome::Refused),
+    }
+}
+
+fn matched_with<'t>(alloc: Global, crs: &Crs<'t>, next: &'t [u8]) -> Result<Outcome, AllocError> {
+    match accepted(read(alloc, next))? {
+        Some(other) => Ok(Outcome::Accepted(usize::from(same(crs, &other, Level::Full)))),
         None => Ok(Outcome::Refused),
     }
 }
