@@ -1,7 +1,7 @@
 /* A yardstick for crs_bench: the same work by hand, unproved, over spans of the text, with no value built.
 
        cc -O3 -march=native -o reference tools/reference.c
-       reference ROUNDS items|check|canon|group < CATALOGUE     nanoseconds a text, the fastest round
+       reference ROUNDS items|check|canon|group < CATALOGUE     nanoseconds a text, the mean of the rounds
        reference 0 canon < CATALOGUE                            the canonical texts, to be compared
 
    It judges tokens, shape and most values, and says of a refused text no more than that it is. On
@@ -338,7 +338,7 @@ int main(int argc, char **argv) {
     groups = calloc(slots, sizeof *groups);
     fill_table(), fill_sort();
     int rounds = atoi(argv[1]), job = argv[2][0];
-    double least = 1e300;
+    double total = 0;
     u64 counted = 0;
     for (int round = 0; round < (rounds ? rounds : 1); round++) {
         struct timespec from, to;
@@ -359,9 +359,9 @@ int main(int argc, char **argv) {
         }
         clock_gettime(CLOCK_MONOTONIC, &to);
         double ns = ((double)(to.tv_sec - from.tv_sec) * 1e9 + (double)(to.tv_nsec - from.tv_nsec)) / (double)lines;
-        if (ns < least) least = ns;
+        total += ns;
     }
-    if (rounds) printf("%s: %zu texts, %llu, %.0f ns a text\n", argv[2], lines, (unsigned long long)(job == 'g' ? taken : counted), least);
+    if (rounds) printf("%s: %zu texts, %llu, %.0f ns a text\n", argv[2], lines, (unsigned long long)(job == 'g' ? taken : counted), total / rounds);
     return 0;
 }
 
