@@ -1,60 +1,355 @@
 #!/usr/bin/env python3
-"""Checks, without proving, that each wrong body still applies to the sources.
+"""Tries wrong bodies: edits of the code that change its meaning, each of which the prover must refuse.
 
-Each file of must-fail/ and of more-wrong-bodies/ has lines `file: PATH`, `old: TEXT` and `new: TEXT`: the old text is
-in that file exactly once, after the pairs before it. A crate has at most twelve in must-fail/, which the gate
-tries; `./wrong-bodies` tries them all. Prints what does not apply, and `N passed, M failed`.
+    wrong_bodies.py [--applies | --over-gate] [--all] [NAME..]
+
+A file of wrong-bodies/ has lines `file: PATH`, `old: TEXT` and `new: TEXT`: the old text is in that file exactly once,
+after the pairs before it. The function that the text stands in is the one that must be refused, or the one that a line
+`in: FUNCTION` names, for an edit of a constant.
+
+Functions are proved each against the contracts of those that it calls. So the bodies of a crate are put into one copy of
+it, as many as stand in different functions, and the prover checks these functions alone, with what they call. A body is
+refused where a function of its own isn't proved, for a reason of its own: all that it calls is proved. Bodies above
+others that were refused wait for the next round. A function that no body changed must be proved, or call one that isn't.
+
+Crates have wrong-bodies/, which the gate tries, at most twelve each, and more-wrong-bodies/, which --all tries too. The
+crates below are proved first, as build_program.py does it; with --over-gate they are taken as rt ci has left them. With
+--applies nothing is proved: it checks that each body of both folders applies to the sources. must-fail/ has edits of
+definitions, which rt ci tries: there each needs the whole crate.
+
+Prints a line for each body, and last `N passed, M failed`.
 """
+import argparse
+import concurrent.futures
+import contextlib
 import pathlib
+import re
+import shutil
+import subprocess
 import sys
+import tempfile
+import time
+
+ROOT = pathlib.Path(__file__).resolve().parent.parent
+# The import of the file of tools/ leaves nothing in the repository.
+sys.dont_write_bytecode = True
+sys.path.insert(0, str(ROOT / "tools"))
+import build_library
+import build_program
 
 MOST = 12
+GATE, FURTHER, WHOLE = "wrong-bodies", "more-wrong-bodies", "must-fail"
+FUNCTION = re.compile(r'\s*(?:pub(?:\([a-z]+\))? )?(?:const )?(?:unsafe )?(?:extern "C" )?fn (\w+)')
+BLOCK = re.compile(
+    r"(?:pub(?:\([a-z]+\))? )?"
+    r"(?:impl(?:<[^>]*>)? (?:(?:\w+::)*(\w+)(?:<.*?>)? for )?&?(?:'\w+ )?(?:\w+::)*(\w+)|trait (\w+))"
+)
+# What the prover says of a function that rests on another, and of an answer that names what a body took away.
+RESTS = re.compile(r"which (is|are) not proved")
+NAMES = re.compile(r"has no field|is not in scope|has no `|was not admitted")
 
 
-def text_of(line, word):
-    text = line[len(word) + 1 :]
-    return text[1:] if text.startswith(" ") else text
+class Fault(Exception):
+    """Why a body can't be applied."""
 
 
-def fault_of(crate, edit):
-    """Why a wrong body does not apply, or None."""
-    sources, path, old, pairs = {}, None, None, 0
-    for line in edit.read_text(encoding="utf-8").split("\n"):
-        if line.startswith("file:"):
-            path = crate / text_of(line, "file").strip()
-            if not path.is_file():
-                return f"no file {path}"
-            sources.setdefault(path, path.read_text(encoding="utf-8"))
-        elif line.startswith("old:"):
-            old = text_of(line, "old")
-        elif line.startswith("new:"):
-            if path is None or old is None:
-                return "a new text without a file and an old text"
-            count = sources[path].count(old)
-            if count != 1:
-                return f"its old text occurs {count} times in {path}: {old}"
-            sources[path] = sources[path].replace(old, text_of(line, "new"))
-            old, pairs = None, pairs + 1
-        elif line.strip():
-            return f"a line that says nothing: {line}"
-    return None if pairs else "no pair of texts"
+def enclosing(path, lines):
+    """The function that the last of these lines of a file stands in, or None: its path, or a method's type and name, since
+    the prover names a method by the module of its type."""
+    inside = path.removeprefix("src/").removesuffix(".rt")
+    names = [] if inside in ("lib", "main") else inside.split("/")
+    function = None
+    for line in reversed(lines):
+        if function is None:
+            found = FUNCTION.match(line)
+            if found:
+                function = found[1]
+                if not line.startswith(" "):
+                    return "::".join([*names, function])
+        elif found := BLOCK.match(line):
+            trait, owner, declared = found.groups()
+            return "::".join([declared or owner + (trait or ""), function])
+    return None
 
 
-def main(root):
+class Body:
+    """A wrong body of a crate."""
+
+    def __init__(self, file):
+        self.file = file
+        self.name = f"{file.parent.parent.name}/{file.stem}"
+        self.pairs, self.named = [], None
+        path = old = None
+        for line in file.read_text(encoding="utf-8").split("\n"):
+            word, _, text = line.partition(":")
+            text = text.removeprefix(" ")
+            if word == "file":
+                path = text.strip()
+            elif word == "in":
+                self.named = text.strip()
+            elif word == "old":
+                old = text
+            elif word == "new" and path is not None and old is not None:
+                self.pairs.append((path, old, text))
+                old = None
+            elif line.strip():
+                raise Fault(f"a line that says nothing: {line}")
+        if not self.pairs:
+            raise Fault("no pair of texts")
+
+    def applied(self, texts, folder):
+        """The texts of files that it changes, over the texts given and the folder's files, and the functions that it
+        changes. A Fault where an old text isn't there exactly once."""
+        changed, functions = {}, []
+        for path, old, new in self.pairs:
+            text = changed.get(path) or texts.get(path)
+            if text is None:
+                if not (folder / path).is_file():
+                    raise Fault(f"no file {path}")
+                text = (folder / path).read_text(encoding="utf-8")
+            if text.count(old) != 1:
+                raise Fault(f"its old text occurs {text.count(old)} times in {path}: {old}")
+            front = text[: text.index(old)].split("\n")
+            front[-1] += old.split("\n")[0]
+            function = self.named or enclosing(path, front)
+            # A function of its own, in front of the one that it stands at.
+            own = [it for it in re.findall(r"\bfn (\w+)", new) if not re.search(rf"\bfn {it}\b", old)]
+            if own and function:
+                function = "::".join([*function.split("::")[:-1], own[0]])
+            if function and function not in functions:
+                functions.append(function)
+            changed[path] = text.replace(old, new)
+        if not functions and not self.is_of_definitions():
+            raise Fault("it stands in no function, and has no line in: FUNCTION")
+        return changed, functions
+
+    def is_of_definitions(self):
+        return not self.named and any(not path.startswith("src/") for path, _, _ in self.pairs)
+
+
+def bodies_of(folder, parts):
+    """The bodies of a crate's folders, and what is wrong with their files."""
+    bodies, faults = [], []
+    for file in sorted(it for part in parts for it in folder.glob(f"{part}/*.edit")):
+        try:
+            body = Body(file)
+            body.applied({}, folder)
+            bodies.append(body)
+        except Fault as why:
+            faults.append(f"{file.relative_to(ROOT)}: {why}")
+    return bodies, faults
+
+
+def applies():
+    """Whether each body applies, and is in one folder of at most twelve."""
     passed, faults = 0, []
-    for crate in sorted((root / "crates").iterdir()):
-        gate = sorted(crate.glob("must-fail/*.edit"))
-        further = sorted(crate.glob("more-wrong-bodies/*.edit"))
-        if len(gate) > MOST:
-            faults.append(f"{crate.name}: {len(gate)} in must-fail, at most {MOST}")
-        for name in {edit.name for edit in gate} & {edit.name for edit in further}:
-            faults.append(f"{crate.name}: {name} is in both folders")
-        for edit in gate + further:
-            fault = fault_of(crate, edit)
-            if fault is None:
-                passed += 1
+    for folder in sorted((ROOT / "crates").iterdir()):
+        bodies, found = bodies_of(folder, (WHOLE, GATE, FURTHER))
+        passed += len(bodies)
+        faults += found
+        names = [it.file.name for it in bodies]
+        faults += [
+            f"{folder.name}: {it} is in two folders" for it in sorted({it for it in names if names.count(it) > 1})
+        ]
+        for part in (WHOLE, GATE):
+            count = sum(it.file.parent.name == part for it in bodies)
+            if count > MOST:
+                faults.append(f"{folder.name}: {count} in {part}, at most {MOST}")
+    return passed, faults
+
+
+class Trial:
+    """The trial of a crate's bodies."""
+
+    def __init__(self, crate, bodies):
+        self.crate = crate
+        self.left = bodies
+        self.passed, self.faults = 0, []
+        # For a body that was tried: those that its function calls, and which were refused or not tried yet.
+        self.waits = {}
+
+    def run(self):
+        # What a round has proved is kept for the next.
+        with tempfile.TemporaryDirectory(prefix="wrong-bodies-") as self.proved:
+            self.try_left()
+        return self
+
+    def try_left(self):
+        while self.left:
+            batch, texts = self.batch()
+            self.try_batch(batch, texts)
+
+    def batch(self):
+        """Bodies that stand in different functions, each with its functions, and the texts with all of them. Those that are
+        known to call others wait for these."""
+        batch, texts, taken = [], {}, set()
+        for body in self.left:
+            try:
+                changed, functions = body.applied(texts, self.crate.folder)
+            except Fault:
+                continue
+            is_alone = body.named or body.is_of_definitions()
+            is_early = any(it in self.left for it in self.waits.get(body, ()))
+            if taken & set(functions) or batch and is_alone or is_early:
+                continue
+            batch.append((body, functions))
+            texts.update(changed)
+            taken.update(functions)
+            if is_alone:
+                break
+        if not batch:
+            # They call one another.
+            self.waits.clear()
+            return self.batch()
+        return batch, texts
+
+    def check(self, functions, texts):
+        """What the prover says of these functions, with these texts in place of the crate's."""
+        with tempfile.TemporaryDirectory(prefix="wrong-bodies-") as room:
+            for part in build_program.PARTS:
+                if (self.crate.folder / part).is_dir():
+                    shutil.copytree(self.crate.folder / part, f"{room}/{part}")
+            for path, text in texts.items():
+                pathlib.Path(room, path).write_text(text, encoding="utf-8")
+            words = [
+                *self.crate.words_to_check(1),
+                "--incremental",
+                self.proved,
+                *(it for name in functions for it in ("--only", name)),
+            ]
+            done = subprocess.run(
+                [self.crate.kit / "bin" / "rattle", "check", *words],
+                cwd=room,
+                stdin=subprocess.DEVNULL,
+                stdout=subprocess.PIPE,
+                stderr=subprocess.STDOUT,
+                errors="replace",
+                check=False,
+            )
+        return done.stdout
+
+    def try_batch(self, batch, texts):
+        began = time.monotonic()
+        said = self.check([it for _, functions in batch for it in functions], texts)
+        print(f"{self.crate.name}: {len(batch)} tried in {time.monotonic() - began:.0f} s", flush=True)
+        told = dict(re.findall(rf"^fn {self.crate.name}::(\S+): (.*)$", said, re.M))
+        if not told:
+            self.halve(batch, said)
+            return
+        batch = [
+            (body, [it for it in told if f"::{it}".endswith(tuple(f"::{end}" for end in ends))]) for body, ends in batch
+        ]
+        changed = {it for _, functions in batch for it in functions}
+        is_lone = len(batch) == 1 and (batch[0][0].named or batch[0][0].is_of_definitions())
+        for name, words in told.items():
+            if words != "proved" and not RESTS.search(words) and name not in changed and not is_lone:
+                self.faults.append(f"{self.crate.name}: no body changed {name}, and it isn't proved: {words}")
+        settled = 0
+        for body, functions in batch:
+            why = next((it for name in functions or told if (it := self.reason(name, told, said))), None)
+            if why:
+                self.settle(body, why)
+                settled += 1
             else:
-                faults.append(f"{edit.relative_to(root)}: {fault}")
+                called = self.called(functions, told)
+                self.waits[body] = [it for it, others in batch if it is not body and called & set(others)]
+        if not settled:
+            if len(batch) == 1:
+                self.fail(batch[0][0], "NOT REFUSED", said)
+            else:
+                self.halve(batch, said)
+
+    def called(self, functions, told):
+        """What isn't proved of all that these functions call, as far as the prover tells."""
+        found, left = set(), list(functions)
+        while left:
+            ends = re.findall(rf"`{self.crate.name}::(\S+?)`", told.get(left.pop(), "").partition("it calls")[2])
+            # A block stands for each of its functions.
+            further = {it for it in told for end in ends if it == end or it.startswith(f"{end}::")} - found
+            found |= further
+            left += further
+        return found
+
+    def reason(self, name, told, said):
+        """Why a function isn't proved, or None where it is, or where what it calls isn't."""
+        words = told.get(name, "proved")
+        if words == "proved" or RESTS.search(words) or not words.startswith(("not proved", "no proof")):
+            return None
+        folder = re.escape(name.replace("::", "/"))
+        errors = re.findall(rf"^\./proofs/{folder}/\S+ error: (.*)$", said, re.M)
+        if errors and all(NAMES.search(it) for it in errors):
+            return f"{name}, but only since an answer names what the body took away: {errors[0]}"
+        return f"{name}: {errors[0] if errors else words}"
+
+    def halve(self, batch, said):
+        """Nothing is known of these bodies together: each half is tried for itself."""
+        if len(batch) == 1:
+            self.fail(batch[0][0], "CAN'T BE TRIED", said)
+            return
+        rest = self.left
+        bodies = [body for body, _ in batch]
+        for half in (bodies[: len(bodies) // 2], bodies[len(bodies) // 2 :]):
+            self.left = half
+            self.try_left()
+        self.left = [it for it in rest if it not in bodies]
+
+    def settle(self, body, why):
+        self.left = [it for it in self.left if it is not body]
+        self.passed += 1
+        print(f"{body.name}: refused in {why[:160]}", flush=True)
+
+    def fail(self, body, word, said):
+        self.left = [it for it in self.left if it is not body]
+        told = [it for it in said.split("\n") if "error" in it or it.startswith("fn ") and not it.endswith(": proved")]
+        self.faults.append(f"{body.name}: {word}: {' '.join(told[:2])[:300]}")
+
+
+def proved_below(names, is_over_gate):
+    """The crates of these names, once those below them are proved."""
+    kit = build_program.toolchain()
+    crates = build_program.needed(kit, names)
+    below = [it for it in crates if any(it in other.below for other in crates if other.name in names)]
+    with build_program.alone(below):
+        if is_over_gate:
+            build_library.take_from_gate(below)
+        else:
+            for crate in below:
+                crate.stamp_now = crate.stamp()
+            build_program.prove(below, "what wrong bodies rest on")
+    return [it for it in crates if it.name in names]
+
+
+def try_all(names, parts, is_over_gate):
+    """Tries the bodies of these crates, and returns how many were refused, and what is wrong."""
+    found = {it: bodies_of(ROOT / "crates" / it, parts) for it in names}
+    faults = [it for _, faults in found.values() for it in faults]
+    names = [it for it, (bodies, _) in found.items() if bodies]
+    crates = proved_below(names, is_over_gate)
+    # Those that take longest go first.
+    crates.sort(key=lambda it: -build_program.KNOWN_SECONDS.get(it.name, 60))
+    with concurrent.futures.ThreadPoolExecutor(build_program.jobs_of_this_machine()) as pool:
+        trials = [pool.submit(Trial(it, found[it.name][0]).run) for it in crates]
+        done = [it.result() for it in trials]
+    return sum(it.passed for it in done), [*faults, *(fault for it in done for fault in it.faults)]
+
+
+def main():
+    parser = argparse.ArgumentParser(description="Tries wrong bodies: the prover must refuse each.")
+    parser.add_argument("--applies", action="store_true", help="proves nothing: says whether each applies")
+    parser.add_argument("--over-gate", action="store_true", help="takes the crates below as rt ci has left them")
+    parser.add_argument("--all", action="store_true", help="tries those of more-wrong-bodies/ too")
+    parser.add_argument("names", nargs="*", metavar="NAME", help="a crate")
+    given = parser.parse_args()
+    every = list(build_program.listed())
+    if unknown := [it for it in given.names if it not in every]:
+        parser.error(f"crates.txt has no {unknown[0]}")
+    if given.applies:
+        passed, faults = applies()
+    else:
+        try:
+            passed, faults = try_all(given.names or every, (GATE, FURTHER) if given.all else (GATE,), given.over_gate)
+        except build_program.Stop as why:
+            passed, faults = 0, [str(why)]
     for fault in faults:
         print(fault)
     print(f"{passed} passed, {len(faults)} failed")
@@ -62,4 +357,4 @@ def main(root):
 
 
 if __name__ == "__main__":
-    sys.exit(main(pathlib.Path(__file__).resolve().parent.parent))
+    sys.exit(main())

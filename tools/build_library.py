@@ -64,23 +64,8 @@ class Library(Crate):
 
 def needed(kit):
     """The crates below the library, each after those that it uses, and then the library."""
-    rows, found = build_program.listed(), {}
-
-    def below(name):
-        crates = []
-        for library in rows[name]:
-            if library in rows:
-                visit(library)
-                crates += [it for it in [*found[library].below, found[library]] if it not in crates]
-        return crates
-
-    def visit(name):
-        if name not in found:
-            crates = below(name)
-            found[name] = Crate(name, kit, rows[name], crates)
-
-    crates = below(NAME)
-    return [*found.values(), Library(NAME, kit, rows[NAME], crates)]
+    *below, top = build_program.needed(kit, [NAME])
+    return [*below, Library(NAME, kit, top.libraries, top.below)]
 
 
 def take_from_gate(crates):

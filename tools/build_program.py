@@ -100,12 +100,12 @@ class Crate:
         self.name = name
         self.kit = kit
         self.folder = ROOT / "crates" / name
-        self.is_program = name == PROGRAM
+        self.is_program = (self.folder / "src" / "main.rt").exists()
         self.libraries = libraries
         # The repository's crates below this one, each after those that it uses.
         self.below = below
         self.kept = self.folder / "out" / "rlib" / "statements"
-        self.made = self.folder / "out" / PROGRAM if self.is_program else self.kept / f"{name}.rlib"
+        self.made = self.folder / "out" / name if self.is_program else self.kept / f"{name}.rlib"
         self.stamp_file = self.kept / "stamp"
         self.log = self.kept / "log"
 
@@ -133,7 +133,8 @@ class Crate:
             return self.made.exists() and self.stamp_file.read_text(encoding="utf-8") == self.stamp_now
         return False
 
-    def words(self, jobs):
+    def words_to_check(self, jobs):
+        """The words of a check over the statements of the crates below."""
         of_kit = ["std", *(it for it in self.libraries if it not in {crate.name for crate in self.below})]
         words = ["--crate-name", self.name, "src/main.rt" if self.is_program else "src/lib.rt"]
         for name in of_kit:
@@ -143,7 +144,10 @@ class Crate:
             words += ["--extern", f"{crate.name}={crate.made}"] * (crate.name in self.libraries)
             words += ["-L", f"dependency={crate.kept}"]
         words += ["--antt-project", f"{self.kit}/rattle/logic/antt-project.json"]
-        words += ["--logic-built", f"{self.kit}/logic_built", "--jobs", str(jobs)]
+        return [*words, "--logic-built", f"{self.kit}/logic_built", "--jobs", str(jobs)]
+
+    def words(self, jobs):
+        words = self.words_to_check(jobs)
         if self.is_program:
             return [*words, "--toolchain", f"{self.kit}/toolchain", "--backend", "llvm", "-o", f"{self.kept}/main.o"]
         return [*words, "--statements", "-o", str(self.made)]
@@ -184,7 +188,7 @@ class Crate:
         return True
 
     def link(self):
-        made = f"{self.kept}/{PROGRAM}"
+        made = f"{self.kept}/{self.name}"
         words = ["--target", TARGET, "--toolchain", f"{self.kit}/toolchain", "-o", made, f"{self.kept}/main.o"]
         words += [f"{self.kit}/c/libos_c.a", f"{self.kit}/c/liblibc_c.a"]
         with self.log.open("ab") as log:
@@ -194,21 +198,22 @@ class Crate:
         os.replace(made, self.made)
 
 
-def needed(kit):
-    """The crates that the program needs, each after those that it uses."""
+def needed(kit, names=(PROGRAM,)):
+    """These crates and those that they need, each after those that it uses."""
     rows, found = listed(), {}
 
     def visit(name):
-        for library in rows[name]:
-            if library in rows and library not in found:
-                visit(library)
+        if name in found:
+            return
         below = []
         for library in rows[name]:
-            if library in found:
+            if library in rows:
+                visit(library)
                 below += [it for it in [*found[library].below, found[library]] if it not in below]
         found[name] = Crate(name, kit, rows[name], below)
 
-    visit(PROGRAM)
+    for name in names:
+        visit(name)
     return list(found.values())
 
 
