@@ -5,7 +5,7 @@
 
 FOLDER is what tools/build_library.py made, out/prefix where none is given. The programs of c/ are compiled
 against its header, and linked with the static library and with the shared object: rows.c, which runs the worked rows of
-crates/crs_rows/data by one thread and by four, with the caller's side under the address and undefined-behaviour
+the crates' folders data/ by one thread and by four, with the caller's side under the address and undefined-behaviour
 sanitizers; growths.c, which refuses each growth of memory in turn; and threads.c, which hands a catalogue from thread to
 thread under the thread sanitizer of the first compiler that has one. The header must do for C99 and for C++ with every
 warning an error, the shared object must need the C library alone, both must show the header's calls and nothing else,
@@ -33,12 +33,12 @@ from build_program import Stop, toolchain
 
 MADE = build_library.FOLDER / "out" / "libcrs_c.a"
 PROGRAM = ROOT / "crates" / "crsdesk" / "out" / "crsdesk"
-ROWS = sorted((ROOT / "crates" / "crs_rows" / "data").glob("*.rows"))
+ROWS = sorted((ROOT / "crates").glob("*/data/*.rows"))
 WARNINGS = ["-Wall", "-Wextra", "-Wpedantic", "-Werror"]
 SANITIZERS = ["-g", "-O1", "-fsanitize=address,undefined", "-fno-sanitize-recover=all"]
 THREAD_SANITIZER = ["-std=gnu11", "-g", "-O1", "-fsanitize=thread"]
 ORDERS = ["lock", "atomic", "join"]
-SECONDS = 300
+SECONDS = 1800
 # Edits of the header, and the struct that the comparison must name.
 OTHER_LAYOUTS = [
     ("uint64_t hidden[32];", "uint64_t hidden[8];", "crsdesk_catalogue"),
@@ -121,21 +121,31 @@ class Tries:
         for compiler in ("cc", "gcc", "clang"):
             try:
                 run([compiler, *THREAD_SANITIZER, "-o", self.scratch / "idle", file])
-                run([self.scratch / "idle"])
+                run([*self.fixed_addresses(), self.scratch / "idle"])
                 return compiler
             except (Wrong, OSError):
                 continue
         return None
+
+    def fixed_addresses(self):
+        """What runs a program at the addresses that it asks for, where that may be: some that a kernel chooses are where
+        the thread sanitizer keeps its own."""
+        try:
+            run(["setarch", "--addr-no-randomize", "true"])
+            return ["setarch", "--addr-no-randomize"]
+        except (Wrong, OSError):
+            return []
 
     def threads(self, kind):
         compiler = self.thread_compiler()
         if compiler is None:
             return "skipped: no compiler here has a thread sanitizer that works"
         made, environment = self.linked(HERE / "c" / "threads.c", kind, THREAD_SANITIZER, compiler)
+        words = [*self.fixed_addresses(), made]
         for order in ORDERS:
-            self.last_line(run([made, order], env=environment))
+            self.last_line(run([*words, order], env=environment))
         try:
-            run([made, "unordered"], env=environment)
+            run([*words, "unordered"], env=environment)
         except Wrong as told:
             if "ThreadSanitizer" not in str(told):
                 raise

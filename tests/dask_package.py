@@ -77,6 +77,13 @@ def read(path: str, begin: int, end: int) -> List[bytes]:
         return file.read(end - begin).split(b"\n")[:-1]
 
 
+def read_late(path: str, begin: int, end: int, awaited: str) -> List[bytes]:
+    """The same, once a file is there."""
+    while not os.path.exists(awaited):
+        time.sleep(0.02)
+    return read(path, begin, end)
+
+
 def read_column(path: str, begin: int, end: int) -> Any:
     """The same as a column, with the numbers of bytes as its index."""
     lines = read(path, begin, end)
@@ -224,9 +231,11 @@ def try_large(counts: Counts, program: str, lines: int, folder: pathlib.Path) ->
 
 
 def try_killed(counts: Counts, client: Any, path: pathlib.Path, wanted: List[Standing]) -> None:
-    """A worker's process ends in the middle of a run: some partitions are grouped, and none is answered."""
+    """A worker's process ends in the middle of a run: some partitions are grouped, and none is answered, since the last
+    is read after that."""
     before = dict(client.run(os.getpid))
     answered = []
+    is_killed = path.with_name("killed")
 
     def kill() -> None:
         end = time.monotonic() + SECONDS
@@ -234,8 +243,11 @@ def try_killed(counts: Counts, client: Any, path: pathlib.Path, wanted: List[Sta
             time.sleep(0.02)
         answered.append(client.run_on_scheduler(made, name="answer"))
         os.kill(next(iter(before.values())), signal.SIGKILL)
+        is_killed.touch()
 
-    answer = groups(bag_of(path, 200)).persist()
+    *parts, last = cut(path, 200)
+    late = dask.delayed(read_late)(*last, str(is_killed))
+    answer = groups(dask.bag.from_delayed([*(dask.delayed(read)(*it) for it in parts), late])).persist()
     thread = threading.Thread(target=kill)
     thread.start()
     found = answer.compute()

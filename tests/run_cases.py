@@ -34,7 +34,7 @@ from concurrent.futures import ThreadPoolExecutor
 
 HERE = os.path.dirname(os.path.abspath(__file__))
 ROOT = os.path.dirname(HERE)
-SECONDS = 60
+SECONDS = 600
 ESCAPE = re.compile(rb"\\(?:x([0-9a-f]{2})|(.))")
 PLAIN = {b"n": b"\n", b"r": b"\r", b"t": b"\t", b"\\": b"\\"}
 

@@ -23,7 +23,7 @@ import sys
 
 ROOT = pathlib.Path(__file__).resolve().parent.parent
 EXAMPLES = ROOT / "crates" / "crs_examples" / "src"
-SECONDS = 60
+SECONDS = 600
 MOST_WORDS = 1300
 
 

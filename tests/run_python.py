@@ -27,7 +27,7 @@ from typing import Dict, List, Optional
 HERE = pathlib.Path(__file__).resolve().parent
 ROOT = HERE.parent
 PACKAGE = ROOT / "python"
-SECONDS = 600
+SECONDS = 1800
 # Packages beside which it is tried, as this Python or the system's has them.
 BESIDE = ("pandas", "pyproj", "rasterio", "osgeo")
 SYSTEM = "/usr/bin/python3"

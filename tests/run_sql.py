@@ -36,7 +36,7 @@ import run_cases
 import sql_rows
 from sql_rows import CANONICAL_HEIGHT, HEIGHT, NOTED, TWIN, Counts, Statement
 
-SECONDS = 300
+SECONDS = 600
 
 
 def literal(text: bytes, is_blob: bool) -> str:
