@@ -10,7 +10,7 @@ mod tally;
 mod timing;
 
 use anyhow::{Context, Result, ensure};
-use catalogue::{front_of, texts_of};
+use catalogue::texts_of;
 use entry::{Entry, entries_of};
 use stage::{STAGES, Stage};
 use std::io::Read;
@@ -27,7 +27,7 @@ fn main(rt: HostRuntime) -> Result<()> {
     rt.stdin().read_to_end(&mut bytes)?;
     let texts = texts_of(rt.alloc(), &bytes)?;
     for stage in &stages {
-        report(&rt, *stage, rounds, &texts, &bytes)?;
+        report(&rt, *stage, rounds, &texts)?;
     }
     Ok(())
 }
@@ -56,15 +56,9 @@ fn stages(rt: &HostRuntime) -> Result<Vec<Stage>> {
     Ok(stages)
 }
 
-fn report(
-    rt: &HostRuntime,
-    stage: Stage,
-    rounds: u32,
-    texts: &[&[u8]],
-    bytes: &[u8],
-) -> io::Result<()> {
+fn report(rt: &HostRuntime, stage: Stage, rounds: u32, texts: &[&[u8]]) -> io::Result<()> {
     let entries = entries_of(rt.alloc(), stage, texts)?;
-    report_all(rt, stage, rounds, &entries, bytes)
+    report_all(rt, stage, rounds, &entries)
 }
 
 fn report_all(
@@ -72,23 +66,18 @@ fn report_all(
     stage: Stage,
     rounds: u32,
     entries: &[Entry<'_>],
-    bytes: &[u8],
 ) -> io::Result<()> {
     if stage.grows() {
         for smaller in SMALLER {
             match entries.get(..smaller) {
-                Some(first) if first.len() < entries.len() => report_of(
-                    rt,
-                    stage,
-                    rounds,
-                    first,
-                    front_of(bytes, smaller),
-                )?,
+                Some(first) if first.len() < entries.len() => {
+                    report_of(rt, stage, rounds, first)?
+                }
                 _ => {}
             }
         }
     }
-    report_of(rt, stage, rounds, entries, bytes)
+    report_of(rt, stage, rounds, entries)
 }
 
 fn report_of(
@@ -96,9 +85,8 @@ fn report_of(
     stage: Stage,
     rounds: u32,
     entries: &[Entry<'_>],
-    lines: &[u8],
 ) -> io::Result<()> {
-    let timing = timed(rt, stage, rounds, entries, lines)?;
+    let timing = timed(rt, stage, rounds, entries)?;
     let name = stage.name();
     let tally = timing.tally();
     let count = tally.counted();

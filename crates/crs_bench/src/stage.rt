@@ -1,17 +1,14 @@
 //! The stages from a text to its canonical spelling, as they are called from outside.
 
-use crate::catalogue::{Bytes, Counted};
 use crate::entry::{Entry, accepted};
 use crate::tally::Outcome;
 use crs_canon::{canon, canon_of};
-use crs_commands::{RunFault, Sink, Source, Summary, run_group};
 use crs_group::{Catalogue, Placed};
 use crs_same::same;
 use crs_shape::fit_root;
 use crs_text::{Fault, Feeder, Items, read_items};
 use crs_value::{Crs, Level, judge, kind_of, read, value_of};
 use std::alloc::{AllocError, Global};
-use std::io;
 
 /// A stage by itself: what it is given was made before. To add one, add a variant here, its place in `STAGES`, a
 /// name, what it is given, and an arm in `outcome`.
@@ -41,12 +38,10 @@ pub enum Stage {
     SameText,
     /// From the text: its group among those of the texts before it.
     Group,
-    /// From the lines of all texts: what the command writes of them.
-    Run,
 }
 
 /// All stages, in the order in which they are run.
-pub const STAGES: [Stage; 15] = [
+pub const STAGES: [Stage; 14] = [
     Stage::Items,
     Stage::Feed(1),
     Stage::Feed(16),
@@ -61,7 +56,6 @@ pub const STAGES: [Stage; 15] = [
     Stage::CanonText,
     Stage::SameText,
     Stage::Group,
-    Stage::Run,
 ];
 
 impl Stage {
@@ -87,7 +81,6 @@ impl Stage {
             Stage::CanonText => "canon-text",
             Stage::SameText => "same-text",
             Stage::Group => "group",
-            Stage::Run => "run-group",
         }
     }
 
@@ -98,17 +91,17 @@ impl Stage {
             Stage::Read | Stage::CheckText => "CRSs",
             Stage::Same | Stage::SameText => "same",
             Stage::Canon | Stage::CanonText => "bytes",
-            Stage::Group | Stage::Run => "groups",
+            Stage::Group => "groups",
         }
     }
 
     /// Whether it is reported of the first texts alone, too: its time may grow with the catalogue.
     pub fn grows(self) -> bool {
-        matches!(self, Stage::Group | Stage::Run)
+        matches!(self, Stage::Group)
     }
 
     /// What the stage makes of a text, of the text after it, and of the catalogue of those before it. `Group` alone
-    /// changes the catalogue. (`Run` is run over all lines at once, by `grouped`.)
+    /// changes the catalogue.
     pub fn outcome<'t>(
         self,
         alloc: Global,
@@ -128,7 +121,7 @@ impl Stage {
             Stage::CheckText => checked(alloc, entry.text),
             Stage::CanonText => spelled(alloc, entry.text),
             Stage::SameText => matched(alloc, entry.text, next.text),
-            Stage::Group | Stage::Run => placed(before, entry.text),
+            Stage::Group => placed(before, entry.text),
         }
     }
 }
@@ -264,16 +257,5 @@ fn placed(before: &mut Catalogue, text: &[u8]) -> Result<Outcome, AllocError> {
         Placed::Blank | Placed::Group(_) => {
             Ok(Outcome::Accepted(before.groups().saturating_sub(groups)))
         }
-    }
-}
-
-/// What the command makes of lines, as they are read and written.
-pub fn grouped(alloc: Global, lines: &[u8]) -> io::Result<Summary> {
-    let mut source = Source::new(Bytes { left: lines });
-    let mut sink = Sink::new(Counted { bytes: 0 });
-    match run_group(alloc, Level::Full, &mut source, &mut sink) {
-        Ok(summary) => Ok(summary),
-        Err(RunFault::Memory) => Err(io::Error::from(io::ErrorKind::OutOfMemory)),
-        Err(_) => Err(io::Error::from(io::ErrorKind::InvalidData)),
     }
 }

@@ -37,12 +37,6 @@ impl Tally {
         }
     }
 
-    /// What was counted, and how many texts were refused, over all texts.
-    pub fn set(&mut self, counted: u64, refused: u64) {
-        self.counted = counted;
-        self.refused = refused;
-    }
-
     /// How many texts.
     pub fn texts(&self) -> u64 {
         self.texts

@@ -1,8 +1,8 @@
 //! How long a stage takes.
 
 use crate::entry::Entry;
-use crate::stage::{Stage, grouped};
-use crate::tally::{Outcome, Tally};
+use crate::stage::Stage;
+use crate::tally::Tally;
 use crs_group::Catalogue;
 use crs_value::Level;
 use std::alloc::{AllocError, Global};
@@ -18,21 +18,17 @@ pub struct Timing {
     time: Duration,
 }
 
-/// Runs the stage over all entries, which are these lines, so many times.
+/// Runs the stage over all entries so many times.
 pub fn timed(
     rt: &(impl Clock + AllocGlobal),
     stage: Stage,
     rounds: u32,
     entries: &[Entry<'_>],
-    lines: &[u8],
 ) -> io::Result<Timing> {
     let start = Instant::now(rt)?;
     let mut tally = Tally::EMPTY;
     for round in 0..rounds {
-        tally = match stage {
-            Stage::Run => one_run(rt.alloc(), entries, lines)?,
-            _ => one_round(rt.alloc(), stage, entries)?,
-        };
+        tally = one_round(rt.alloc(), stage, entries)?;
     }
     let time = start.elapsed(rt)?;
     Ok(Timing {
@@ -49,16 +45,6 @@ fn one_round(alloc: Global, stage: Stage, entries: &[Entry<'_>]) -> Result<Tally
         let next = entries.get(index.saturating_add(1)).unwrap_or(entry);
         tally.add(entry.text, stage.outcome(alloc, entry, next, &mut before)?);
     }
-    Ok(tally)
-}
-
-fn one_run(alloc: Global, entries: &[Entry<'_>], lines: &[u8]) -> io::Result<Tally> {
-    let summary = grouped(alloc, lines)?;
-    let mut tally = Tally::EMPTY;
-    for entry in entries {
-        tally.add(entry.text, Outcome::Refused);
-    }
-    tally.set(summary.groups, summary.refused);
     Ok(tally)
 }
 
