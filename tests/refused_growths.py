@@ -1,21 +1,21 @@
 #!/usr/bin/env python3
 """Refuses each growth of memory in turn, to the library's calls and to the program, and judges what they answer.
 
-    refused_growths.py PROGRAM CRSDESK
+    refused_growths.py ROWS COMMAND_ROWS CRSDESK
 
-PROGRAM is the built crates/crs_rows, which with the word `trial` makes one call of the library; CRSDESK is the built
-program. Both are run with refuse_growth.c preloaded: with ample memory, then with the Nth growth refused, for N = 1,
+ROWS and COMMAND_ROWS are the built crates/crs_rows and crates/crs_command_rows, which with the word `trial` make one call
+of the library; CRSDESK is the built program. All are run with refuse_growth.c preloaded: with ample memory, then with the Nth growth refused, for N = 1,
 2, .. until a run meets no refusal. A growth is a call of malloc, realloc or aligned_alloc; a program's are counted
 from its beginning, a call's while it is made. Each answer must be out of memory or the answer that comes with ample
 memory. After out of memory, in the same process, all that the call was handed must be as before, and the same call
 made again must give the answer that comes with ample memory.
 
-growths/calls.rows has the calls. A row is a line 'case NAME', whose name is unique, a line '# REASON' or more, then
+growths/calls.rows has the calls of ROWS, and growths/command_calls.rows those of COMMAND_ROWS. A row is a line 'case NAME', whose name is unique, a line '# REASON' or more, then
 
     call WORDS       the call
     part TEXT        a part of its input, in their order, with the escapes of run_cases.py
     no-growth        it takes no memory; without this line it must take some
-    answer TEXT      its answer with ample memory, as PROGRAM writes it
+    answer TEXT      its answer with ample memory, as the program writes it
 
 growths/commands.rows has the command lines, in the form of run_cases.py. With a refusal a program must do the same as
 with ample memory, or write nothing but 'crsdesk: out of memory' on standard error, with status 2.
@@ -37,9 +37,10 @@ import run_cases
 
 HERE = pathlib.Path(__file__).resolve().parent
 CALLS = HERE / "growths" / "calls.rows"
+COMMAND_CALLS = HERE / "growths" / "command_calls.rows"
 COMMANDS = HERE / "growths" / "commands.rows"
 COUNTS = re.compile(rb"growths (\d+) refused (\d+)\n\Z")
-SECONDS = 60
+SECONDS = 600
 # More growths than any row has: a program that never stops meeting refusals is wrong.
 MOST = 10_000
 WANT = (2, b"", b"crsdesk: out of memory\n")
@@ -50,7 +51,7 @@ class Wrong(Exception):
 
 
 class Call:
-    """A row of calls.rows."""
+    """A row of calls.rows or of command_calls.rows."""
 
     def __init__(self, name):
         self.name = name
@@ -173,10 +174,11 @@ def tried_command(case, path, preloaded):
 
 
 def main(words):
-    if len(words) != 2:
+    if len(words) != 3:
         sys.exit(__doc__)
-    program, crsdesk = (os.path.abspath(word) for word in words)
-    rows = [(tried_call, call, program) for call in calls_of(CALLS)]
+    *programs, crsdesk = (os.path.abspath(word) for word in words)
+    files = zip(programs, (CALLS, COMMAND_CALLS))
+    rows = [(tried_call, call, program) for program, file in files for call in calls_of(file)]
     rows += [(tried_command, case, crsdesk) for case in run_cases.cases_of(COMMANDS)]
     began, runs, failed = time.monotonic(), 0, 0
     with tempfile.TemporaryDirectory() as folder, ThreadPoolExecutor(2) as pool:

@@ -1,38 +1,28 @@
 //! From the name of a call to its answer.
 use crate::nodes::Part;
 use crate::texts::Column;
-use crate::{
-    canonical, catalogues, failures, levels, lines, nodes, numbers, pieces, runs, sameness, shapes,
-    texts, values,
-};
+use crate::{canonical, levels, nodes, numbers, pieces, sameness, shapes, texts, values};
+use crs_suite::Calls;
 use crs_value::Level;
 use std::alloc::{AllocError, Global};
 
-/// Appends the answer of a call to an input, as a row writes it, the lines of the input having these ends; after a
-/// blank the call may have words, of which the last two may be `at definition`, its level.
-pub fn put_answer(
-    out: &mut String,
-    alloc: Global,
-    call: &str,
-    input: &[u8],
-    ends: &[usize],
-) -> Result<(), AllocError> {
-    let (call, level) = split_level(call);
-    match call.split_once(' ') {
-        Some(("failed_reads", words)) => failures::put_failed_reads(out, alloc, words, input),
-        Some(("failed_writes", words)) => failures::put_failed_writes(out, alloc, words, input),
-        Some(("run_same", words)) => runs::put_same(out, alloc, level, words, input),
-        Some(_) => runs::put_run(out, alloc, level, call, input),
-        None if call == "feed" => pieces::put_fed(out, alloc, input, ends),
-        None => put_plain_answer(out, alloc, level, call, input),
-    }
-}
+/// The calls of this suite.
+pub struct Answers;
 
-// A call and its level, which is Full where no level follows it.
-fn split_level(call: &str) -> (&str, Level) {
-    match call.strip_suffix(" at definition") {
-        Some(call) => (call, Level::Definition),
-        None => (call, Level::Full),
+impl Calls for Answers {
+    fn put_answer(
+        &self,
+        out: &mut String,
+        alloc: Global,
+        level: Level,
+        call: &str,
+        input: &[u8],
+        ends: &[usize],
+    ) -> Result<(), AllocError> {
+        match call {
+            "feed" => pieces::put_fed(out, alloc, input, ends),
+            _ => put_plain_answer(out, alloc, level, call, input),
+        }
     }
 }
 
@@ -106,14 +96,6 @@ fn put_value_answer(
         "Extent::write" => nodes::put_part(out, alloc, level, Part::Extent, input),
         "Ident::write" => nodes::put_part(out, alloc, level, Part::Ident, input),
         "Set::write" => nodes::put_part(out, alloc, level, Part::Idents, input),
-        "run_canon" => runs::put_canon(out, alloc, level, input),
-        "run_check" => runs::put_check(out, alloc, input),
-        "run_same" => runs::put_same(out, alloc, level, "", input),
-        "Catalogue" => catalogues::put_catalogue(out, alloc, level, input),
-        "run_group" | "run_canon_lines" | "run_check_lines" => {
-            runs::put_run(out, alloc, level, call, input)
-        }
-        "request" => lines::put_request(out, alloc, input),
         _ => out.push_str("no such call"),
     }
 }

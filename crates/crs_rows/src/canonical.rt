@@ -1,8 +1,7 @@
 //! The calls that write canonical texts.
-use crate::escapes::put_text;
-use crate::sameness::split_line;
 use crate::texts::put_fault;
 use crs_canon::{Canon, Canonical, canon, canon_of};
+use crs_suite::{put_text, split_line};
 use crs_text::Fault;
 use crs_value::{Crs, Level, read};
 use std::alloc::{AllocError, Global};

@@ -1,8 +1,8 @@
 //! Canonical texts at both levels.
 use crate::canonical::is_of_text;
-use crate::escapes::put_text;
 use crate::texts::put_fault;
 use crs_canon::{Canon, canon};
+use crs_suite::put_text;
 use crs_text::Fault;
 use crs_value::Level;
 use std::alloc::{AllocError, Global};

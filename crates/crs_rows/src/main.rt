@@ -1,30 +1,27 @@
-//! The worked rows of the public calls: each file of rows is run, the rows that differ are printed, and
-//! then a count for the file. With the word `trial` it makes one call that takes memory, which standard input names.
+//! The worked rows of the calls that read texts, compare CRSs and write canonical texts: each file of rows is run, the
+//! rows that differ are printed, and then a count for the file. With the word `trial` it makes one call that takes
+//! memory, which standard input names.
 #![tactic(auto)]
 
 mod answers;
 mod canonical;
-mod catalogues;
-mod escapes;
-mod failures;
 mod levels;
-mod lines;
 mod nodes;
 mod numbers;
 mod pieces;
-mod rows;
-mod runs;
 mod sameness;
 mod shapes;
-mod streams;
 mod texts;
 mod trials;
 mod values;
 mod verticals;
 
+use answers::Answers;
+use crs_suite::{call_of, run_rows};
+use std::io::Read;
 use std::{env, fs, io};
 
-const FILES: [&str; 23] = [
+const FILES: [&str; 15] = [
     "decimals",
     "refusals",
     "tokens",
@@ -37,39 +34,31 @@ const FILES: [&str; 23] = [
     "values",
     "dynamic",
     "canon",
-    "runs",
-    "streams",
-    "checks",
     "same",
     "levels",
     "long_sets",
-    "same_runs",
-    "lines",
-    "catalogues",
-    "group_runs",
-    "line_runs",
 ];
 
 fn main(rt: HostRuntime) -> io::Result<()> {
     match env::args(&rt)?.nth(1).as_deref() {
         None => run_files(&rt),
-        Some("trial") => trials::try_one(&rt),
+        Some("trial") => try_one(&rt),
         Some(_) => Err(io::Error::from(io::ErrorKind::InvalidInput)),
     }
 }
 
 fn run_files(rt: &HostRuntime) -> io::Result<()> {
     for name in FILES {
-        run_file(rt, name)?;
+        let path = format!(in rt.alloc(); "{name}.rows")?;
+        let text = fs::read_to_string(rt, path.as_str())?;
+        run_rows(rt, name, text.as_str(), &Answers)?;
     }
     Ok(())
 }
 
-fn run_file(rt: &HostRuntime, name: &str) -> io::Result<()> {
-    let path = format!(in rt.alloc(); "{name}.rows")?;
-    let text = fs::read_to_string(rt, path.as_str())?;
-    let tally = rows::run(rt, name, text.as_str())?;
-    let rows = tally.rows;
-    let differ = tally.differ;
-    println!(rt; "{name}: {rows} rows, {differ} differ")
+fn try_one(rt: &HostRuntime) -> io::Result<()> {
+    let mut bytes = Vec::new(rt.alloc());
+    rt.stdin().read_to_end(&mut bytes)?;
+    let (name, parts) = call_of(rt.alloc(), &bytes)?;
+    trials::try_call(rt, name, &parts)
 }

@@ -1,10 +1,10 @@
 //! What parts of a vertical CRS append by themselves, and a set of them.
-use crate::escapes::put_text;
 use crate::texts::put_fault;
 use crate::verticals::{
     dynamic_of, extent_of, first_axis, first_ident, first_usage, idents_of, model_of,
 };
 use crs_canon::{Canonical, Set};
+use crs_suite::put_text;
 use crs_value::{Crs, Ident, Level, read};
 use std::alloc::{AllocError, Global};
 

@@ -1,7 +1,6 @@
 //! The calls on decimals and on the numbers of refusals.
-use crate::escapes::put_text;
-use crate::sameness::split_line;
 use crs_decimal::{Decimal, NumberFault};
+use crs_suite::{put_text, split_line};
 use crs_text::Refusal;
 use std::alloc::AllocError;
 use std::str;

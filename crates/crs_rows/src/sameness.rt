@@ -1,11 +1,10 @@
 //! The calls that compare CRSs.
-use crate::escapes::put_text;
 use crate::texts::put_fault;
 use crate::verticals::first_axis;
-use bstr::ByteSlice;
 use crs_canon::write_content;
 use crs_same::parts::same_axis;
 use crs_same::{Content, Difference, Differences, Path, differences, first_part, same};
+use crs_suite::{put_text, split_line};
 use crs_value::{Axis, Crs, Level, read};
 use std::alloc::{AllocError, Global};
 
@@ -232,14 +231,6 @@ enum Outcome {
     Same,
     Different(Path),
     OneWay,
-}
-
-/// What comes before the first line end, and what comes after it.
-pub fn split_line(input: &[u8]) -> (&[u8], &[u8]) {
-    match input.find_byte(b'\n') {
-        Some(end) => (&input[..end], &input[end + 1..]),
-        None => (input, &[]),
-    }
 }
 
 fn told<'a>(a: &Crs<'a>, b: &Crs<'a>, level: Level) -> Outcome {

@@ -1,14 +1,13 @@
 //! The calls on the shapes of texts.
 ghost use Rattle.crs_text.specs.Items.{HasId};
 
-use crate::escapes::put_text;
 use crate::pieces::agree;
-use crate::sameness::split_line;
 use crate::texts::{put_fault, put_refusal};
 use bstr::ByteSlice;
 use crs_shape::{
     Class, Slot, class_in, class_of, fit, fit_root, keywords, known, root_class, slots, stands_as,
 };
+use crs_suite::{put_text, split_line};
 use crs_text::{ItemId, Items, Refusal, read_items};
 use std::alloc::{AllocError, Global};
 

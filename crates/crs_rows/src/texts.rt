@@ -1,10 +1,10 @@
 //! The calls on texts and their items.
 ghost use Rattle.crs_text.specs.Items.{HasId};
 
-use crate::escapes::put_text;
 use crate::numbers::put_spelling;
 use crate::pieces::{agree, agree_in_many};
 use crs_decimal::Decimal;
+use crs_suite::put_text;
 use crs_text::{Fault, ItemId, ItemKind, Items, Keyword, Refusal, read_items};
 use std::alloc::{AllocError, Global};
 

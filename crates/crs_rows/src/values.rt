@@ -1,9 +1,9 @@
 //! The calls on the values of texts.
-use crate::escapes::put_text;
 use crate::numbers::put_spelling;
 use crate::pieces::agree;
 use crate::texts::put_fault;
 use crate::verticals::first_axis;
+use crs_suite::put_text;
 use crs_text::{Items, read_items};
 use crs_value::{Axis, Crs, Kind, read, value_of};
 use std::alloc::{AllocError, Global};

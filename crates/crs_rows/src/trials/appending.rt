@@ -1,12 +1,10 @@
 //! Calls that append to a vector.
-use crate::escapes::put_text;
-use crate::trials::trial::{Trial, run};
-use crate::trials::unusable;
 use crate::trials::values::crs_of;
 use crate::verticals::{first_axis, first_ident, first_unit, first_usage, frame_of, idents_of};
 use crs_canon::{Canonical, Set};
 use crs_decimal::Decimal;
 use crs_same::{Path, first_part};
+use crs_suite::{Trial, put_text, run_trial, unusable};
 use crs_value::{Crs, Ident, Level};
 use std::alloc::{AllocError, Global};
 use std::io;
@@ -81,7 +79,7 @@ impl<T: Appended> Trial for Append<'_, T> {
 fn run_append<T: Appended>(rt: &(impl Print + AllocGlobal), part: &T) -> io::Result<()> {
     let mut out = BEFORE.to_vec(rt.alloc())?;
     out.shrink_to_fit();
-    run(rt, &mut Append { part, out })
+    run_trial(rt, &mut Append { part, out })
 }
 
 /// `Decimal::write` of the number that a text spells.

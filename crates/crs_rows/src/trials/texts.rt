@@ -1,7 +1,7 @@
 //! Calls that read the items of a text, as a whole and in pieces.
 use crate::pieces::{feed, finished, put_taken};
 use crate::texts::{answered, put_answered, put_read};
-use crate::trials::trial::{Trial, run};
+use crs_suite::{Trial, run_trial};
 use crs_text::{Feeder, Items, Refusal, read_items};
 use std::alloc::{AllocError, Global};
 use std::io;
@@ -92,7 +92,7 @@ impl<'f> Trial for Finish<'f> {
 
 /// `read_items` of a text.
 pub fn try_read(rt: &(impl Print + AllocGlobal), text: &[u8]) -> io::Result<()> {
-    run(rt, &mut Whole { text })
+    run_trial(rt, &mut Whole { text })
 }
 
 /// `Feeder::feed` of the last piece, after the others.
@@ -113,7 +113,7 @@ pub fn try_finish(rt: &(impl Print + AllocGlobal), pieces: &[&[u8]]) -> io::Resu
         feeder: &feeder,
         before,
     };
-    run(rt, &mut finish)
+    run_trial(rt, &mut finish)
 }
 
 fn run_feed(rt: &(impl Print + AllocGlobal), pieces: &[&[u8]], count: usize) -> io::Result<()> {
@@ -123,7 +123,7 @@ fn run_feed(rt: &(impl Print + AllocGlobal), pieces: &[&[u8]], count: usize) -> 
         pieces,
         count,
     };
-    run(rt, &mut feed)
+    run_trial(rt, &mut feed)
 }
 
 // A feeder of so many of these pieces.

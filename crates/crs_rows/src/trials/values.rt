@@ -1,12 +1,10 @@
 //! Calls that make the value of a text, or its canonical text, and that compare values.
-use crate::escapes::put_text;
 use crate::sameness::paths_text;
 use crate::texts::{answered, put_refusal};
-use crate::trials::trial::{Trial, run};
-use crate::trials::unusable;
 use crate::values::kind_word;
 use crs_canon::{Canon, canon, canon_of};
 use crs_same::{Differences, differences};
+use crs_suite::{Trial, put_text, run_trial, unusable};
 use crs_text::{Fault, Items, Refusal, read_items};
 use crs_value::{Crs, Level, read, value_of};
 use std::alloc::{AllocError, Global};
@@ -108,26 +106,26 @@ impl<'v, 't> Trial for Comparing<'v, 't> {
 
 /// `read` of a text.
 pub fn try_read(rt: &(impl Print + AllocGlobal), text: &[u8]) -> io::Result<()> {
-    run(rt, &mut Reading::Text(text))
+    run_trial(rt, &mut Reading::Text(text))
 }
 
 /// `value_of` of the items of a text.
 pub fn try_value_of(rt: &(impl Print + AllocGlobal), text: &[u8]) -> io::Result<()> {
     match read_items(rt.alloc(), text) {
-        Ok(items) => run(rt, &mut Reading::Items(&items)),
+        Ok(items) => run_trial(rt, &mut Reading::Items(&items)),
         Err(_) => Err(unusable()),
     }
 }
 
 /// `canon` of a text.
 pub fn try_canon(rt: &(impl Print + AllocGlobal), text: &[u8]) -> io::Result<()> {
-    run(rt, &mut Spelling::Text(text))
+    run_trial(rt, &mut Spelling::Text(text))
 }
 
 /// `canon_of` the CRS that a text spells.
 pub fn try_canon_of(rt: &(impl Print + AllocGlobal), text: &[u8]) -> io::Result<()> {
     let crs = crs_of(rt.alloc(), text)?;
-    run(rt, &mut Spelling::Crs(&crs))
+    run_trial(rt, &mut Spelling::Crs(&crs))
 }
 
 /// `differences` between the CRSs of two texts.
@@ -146,7 +144,7 @@ fn try_differences_from<'t>(
     text: &'t [u8],
 ) -> io::Result<()> {
     let second = crs_of(rt.alloc(), text)?;
-    run(
+    run_trial(
         rt,
         &mut Comparing {
             first,

@@ -2,10 +2,9 @@
 use crate::catalogues::{put_group_text, put_lines, put_placed, put_refused};
 use crate::runs::{put_grouped, put_written};
 use crate::trials::commands::{ended, make_page};
-use crate::trials::trial::{Trial, run};
-use crate::trials::unusable;
 use crs_commands::{Level, RunFault, Sink, Source, Summary, run_group};
 use crs_group::{Catalogue, Placed};
+use crs_suite::{Trial, run_trial, unusable};
 use std::alloc::{AllocError, Global};
 use std::io;
 
@@ -67,7 +66,7 @@ pub fn try_add(rt: &(impl Print + AllocGlobal), lines: &[&[u8]]) -> io::Result<(
         text,
         before,
     };
-    run(rt, &mut add)
+    run_trial(rt, &mut add)
 }
 
 fn catalogue_of(alloc: Global, lines: &[&[u8]]) -> Result<Catalogue, AllocError> {
@@ -111,5 +110,5 @@ impl Trial for Run<'_> {
 /// `run_group` of lines.
 pub fn try_run(rt: &(impl Print + AllocGlobal), text: &[u8]) -> io::Result<()> {
     let written = make_page(rt.alloc())?;
-    run(rt, &mut Run { text, written })
+    run_trial(rt, &mut Run { text, written })
 }

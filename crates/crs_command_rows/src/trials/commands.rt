@@ -1,13 +1,11 @@
 //! The reading of a command line, and the runs of commands.
-use crate::escapes::put_text;
 use crate::lines::put_asked;
 use crate::runs::{put_outcome, put_written};
-use crate::trials::trial::{Trial, run};
-use crate::trials::unusable;
 use crs_commands::{
     Level, Request, RequestFault, RunFault, Sink, Source, request, run_canon, run_canon_lines,
     run_check, run_check_lines, run_explain, run_explain_pair, run_same,
 };
+use crs_suite::{Trial, put_text, run_trial, unusable};
 use std::alloc::{AllocError, Global};
 use std::{io, str};
 
@@ -80,7 +78,7 @@ pub fn make_page(alloc: Global) -> Result<Vec<u8>, AllocError> {
 
 fn run_command(rt: &(impl Print + AllocGlobal), command: Command<'_>) -> io::Result<()> {
     let written = make_page(rt.alloc())?;
-    run(rt, &mut Run { command, written })
+    run_trial(rt, &mut Run { command, written })
 }
 
 /// `run_canon` over a text.
@@ -168,5 +166,5 @@ pub fn try_request(rt: &(impl Print + AllocGlobal), parts: &[&[u8]]) -> io::Resu
             Err(_) => return Err(unusable()),
         }
     }
-    run(rt, &mut Words { words })
+    run_trial(rt, &mut Words { words })
 }

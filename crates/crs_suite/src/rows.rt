@@ -1,15 +1,30 @@
 //! A file of rows. A line that begins with `#` says why; then a row has a line `call`, lines `input` and
-//! a line `expect`.
-use crate::answers::put_answer;
+//! a line `expect`. The last two words of a call may be `at definition`, its level.
 use crate::escapes::put_bytes;
+use crs_value::Level;
 use std::alloc::{AllocError, Global};
 use std::io;
 
-/// How many rows were run, and how many of them differ; a line that can't be read counts as such a row.
+/// The calls that a suite makes.
+pub trait Calls {
+    /// Appends the answer of a call at a level to an input, as a row writes it, the lines of the input having these
+    /// ends; after a blank the call may have words. The error is out of memory.
+    fn put_answer(
+        &self,
+        out: &mut String,
+        alloc: Global,
+        level: Level,
+        call: &str,
+        input: &[u8],
+        ends: &[usize],
+    ) -> Result<(), AllocError>;
+}
+
+// How many rows were run, and how many of them differ; a line that can't be read counts as such a row.
 #[derive(Clone, Copy)]
-pub struct Tally {
-    pub rows: u64,
-    pub differ: u64,
+struct Tally {
+    rows: u64,
+    differ: u64,
 }
 
 impl Tally {
@@ -39,14 +54,31 @@ enum Step<'t> {
     Unknown,
 }
 
-/// Runs the rows of a file, and prints those that differ.
-pub fn run(rt: &(impl Print + AllocGlobal), name: &str, text: &str) -> io::Result<Tally> {
+/// Runs the rows of a file, and prints those that differ, and then a count.
+pub fn run_rows<C: Calls>(
+    rt: &(impl Print + AllocGlobal),
+    name: &str,
+    text: &str,
+    calls: &C,
+) -> io::Result<()> {
+    let tally = tally_of(rt, name, text, calls)?;
+    let rows = tally.rows;
+    let differ = tally.differ;
+    println!(rt; "{name}: {rows} rows, {differ} differ")
+}
+
+fn tally_of<C: Calls>(
+    rt: &(impl Print + AllocGlobal),
+    name: &str,
+    text: &str,
+    calls: &C,
+) -> io::Result<Tally> {
     let mut tally = Tally { rows: 0, differ: 0 };
     let mut row = Row::new(rt.alloc());
     for (index, line) in text.lines().enumerate() {
         let came = match row.read_line(line)? {
             Step::Part => continue,
-            Step::Expect(answer) => row.differing(rt.alloc(), answer)?,
+            Step::Expect(answer) => row.differing(rt.alloc(), calls, answer)?,
             Step::Unknown => Some(String::from_str(rt.alloc(), "no line of a row")?),
         };
         tally.add(came.is_none());
@@ -100,13 +132,27 @@ impl<'t> Row<'t> {
     }
 
     // The row's answer, where it is another than this one.
-    fn differing(&self, alloc: Global, answer: &str) -> Result<Option<String>, AllocError> {
+    fn differing<C: Calls>(
+        &self,
+        alloc: Global,
+        calls: &C,
+        answer: &str,
+    ) -> Result<Option<String>, AllocError> {
         let mut came = String::new(alloc);
-        put_answer(&mut came, alloc, self.call, &self.input, &self.ends)?;
+        let (call, level) = split_level(self.call);
+        calls.put_answer(&mut came, alloc, level, call, &self.input, &self.ends)?;
         if came.as_str() == answer {
             return Ok(None);
         }
         Ok(Some(came))
+    }
+}
+
+// A call and its level, which is Full where no level follows it.
+fn split_level(call: &str) -> (&str, Level) {
+    match call.strip_suffix(" at definition") {
+        Some(call) => (call, Level::Definition),
+        None => (call, Level::Full),
     }
 }
 

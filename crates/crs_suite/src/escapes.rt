@@ -1,6 +1,7 @@
 //! Bytes as a row writes them: `\n`, `\r`, `\t`, `\\` and `\xHH`, every other character for itself.
 ghost use Rattle.std.specs.Prelude.{◌<◌, ◌≤◌, IfSome, length};
 
+use bstr::ByteSlice;
 use std::alloc::AllocError;
 
 /// Appends the bytes that a text means; false where it has another escape, with the bytes before it appended.
@@ -55,4 +56,12 @@ pub fn put_text(out: &mut String, bytes: &[u8]) -> Result<(), AllocError> {
         }
     }
     Ok(())
+}
+
+/// What comes before the first line end, and what comes after it.
+pub fn split_line(input: &[u8]) -> (&[u8], &[u8]) {
+    match input.find_byte(b'\n') {
+        Some(end) => (&input[..end], &input[end + 1..]),
+        None => (input, &[]),
+    }
 }

@@ -1,4 +1,5 @@
-//! A call that is made while a growth of memory may be refused.
+//! One call that takes memory, made between two lines on standard output, so that a test can refuse a growth of memory
+//! to this call, and to nothing else.
 use std::alloc::{AllocError, Global};
 use std::io;
 use std::io::Write;
@@ -18,8 +19,10 @@ pub trait Trial {
     fn put_answer(&self, out: &mut String, answer: &Self::Answer) -> Result<(), AllocError>;
 }
 
-/// Makes the call between two lines on standard output, and prints its answer.
-pub fn run<T: Trial>(rt: &(impl Print + AllocGlobal), trial: &mut T) -> io::Result<()> {
+/// Writes `call`, makes the call, and writes `answered`; then prints a line `answer` with the answer. Where that is
+/// `memory`, out of memory, a line `kept` says whether all that the call was handed is as it was before, `yes` or `no`,
+/// and a line `again` has the answer of the same call made once more.
+pub fn run_trial<T: Trial>(rt: &(impl Print + AllocGlobal), trial: &mut T) -> io::Result<()> {
     io::writer(rt).write_all(b"call\n")?;
     let called = trial.call(rt.alloc());
     io::writer(rt).write_all(b"answered\n")?;

@@ -1,11 +1,10 @@
 //! The runs of commands.
-use crate::escapes::put_text;
-use crate::sameness::split_line;
 use crate::streams::{Manner, Page, Pieces};
 use crs_commands::{
     Level, RunFault, Sink, Source, Summary, run_canon, run_canon_lines, run_check, run_check_lines,
     run_group, run_same,
 };
+use crs_suite::{put_text, split_line};
 use std::alloc::{AllocError, Global};
 
 /// A command that reads its input.

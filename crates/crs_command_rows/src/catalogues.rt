@@ -1,7 +1,7 @@
 //! Catalogues of lines.
-use crate::escapes::put_text;
 use crs_commands::Level;
 use crs_group::{Catalogue, Placed};
+use crs_suite::put_text;
 use crs_text::Refusal;
 use std::alloc::{AllocError, Global};
 

@@ -1,6 +1,6 @@
 //! The reading of command lines.
-use crate::escapes::put_text;
 use crs_commands::{LineWord, Request, RequestFault, request};
+use crs_suite::put_text;
 use std::alloc::{AllocError, Global};
 use std::str;
 
