@@ -80,12 +80,7 @@ fn report_all(
     report_of(rt, stage, rounds, entries)
 }
 
-fn report_of(
-    rt: &HostRuntime,
-    stage: Stage,
-    rounds: u32,
-    entries: &[Entry<'_>],
-) -> io::Result<()> {
+fn report_of(rt: &HostRuntime, stage: Stage, rounds: u32, entries: &[Entry<'_>]) -> io::Result<()> {
     let timing = timed(rt, stage, rounds, entries)?;
     let name = stage.name();
     let tally = timing.tally();
