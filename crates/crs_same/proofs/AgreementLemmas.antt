@@ -1,6 +1,8 @@
 -- All parts of two values are the same exactly where the values agree, field by field.
-use Rattle.std.proofs.Common.{◌≡◌, ◌⊎◌, ◌↔◌, ◌≤◌, inl, inr, ℕ, zero, suc, max, Option, Some, None, List, [], length, refl, sym, subst, arith}
+use Rattle.std.proofs.Common.{◌≡◌, ◌⊎◌, ◌↔◌, ◌≤◌, ◌==◌, inl, inr, Bool, true, false, if◌then◌else◌, ℕ, zero, suc, max, Option, Some, None, List, [], length, refl, sym, subst, arith}
 use Rattle.std.specs.Prelude.{⊤}
+use Rattle.std.proofs.lemmas.Bool.{false≢true}
+use Rattle.crs_value.specs.BadUnit.{asked_kind}
 use Rattle.crs_value.specs.declared.values.compound.Horizontal.{Horizontal}
 use Rattle.crs_value.specs.declared.values.compound.Horizontal.TheVariants as horizontal
 use Rattle.crs_value.specs.declared.values.crs.Crs.{Crs}
@@ -17,21 +19,27 @@ use Rattle.crs_same.specs.declared.step.Step.{Step}
 use Rattle.crs_same.specs.declared.step.Step.TheVariants as step
 use Rattle.crs_same.specs.Parts.{◌▸◌, AllSame, AreSame}
 use Rattle.crs_same.specs.PartsOfCrs.{parts_of_method, parts_of_conversion, parts_of_dynamic, parts_of_tail, parts_of_geodetic, parts_of_base, parts_of_projected, parts_of_vertical, parts_of_horizontal, parts_of_compound, parts_of_crs}
-use Rattle.crs_same.specs.PartsOfFrames.{parts_of_ellipsoid, parts_of_ellipsoids, parts_of_given, or_greenwich, parts_of_meridian, parts_of_datum, parts_of_ensemble, parts_of_frame}
+use Rattle.crs_same.specs.PartsOfFrames.{parts_of_ellipsoid, parts_of_ellipsoids, parts_of_given, unit_of, or_greenwich, parts_of_meridian, parts_of_datum, parts_of_ensemble, parts_of_frame}
 use Rattle.crs_same.specs.PartsOfSystems.{parts_of_axis, parts_at, parts_of_axes, parts_of_system}
 use Rattle.crs_same.specs.Agreement.{AgreeWhereSame, AgreeMethod, AgreeConversion, AgreeGeodetic, AgreeBase, AgreeProjected, AgreeVertical, AgreeHorizontal, AgreeCompound, AgreeCrs, AgreeDynamic, AgreeEllipsoid, AgreeGiven, AgreeMeridian, AgreeDatum, AgreeEnsemble, AgreeFrame, AgreeAxis, AgreeAt, AgreeAxes, AgreeSystem, AgreeTail}
 use Rattle.crs_same.specs.SameFrames.{IsZero}
 use Rattle.crs_same.specs.Sets.{BothOrNeither}
-use Rattle.crs_decimal.specs.Value.{Value}
+use Rattle.crs_value.specs.declared.values.unit_kind.UnitKind.{UnitKind}
 use Rattle.crs_value.specs.declared.values.unit_kind.UnitKind.TheVariants as kinds
 use Rattle.crs_value.specs.SoundCompound.{IsCompound, IsHorizontal}
 use Rattle.crs_value.specs.SoundCrs.{IsCrs}
 use Rattle.crs_value.specs.SoundSingle.{IsGeodetic, IsProjected, IsVertical}
 use Rattle.crs_value.specs.SoundSystem.{IsSystem}
 use Rattle.crs_same.specs.SameCrs.{SameCrs, SameDynamic, IsHorizontalPart}
-use Rattle.crs_same.specs.SameSystems.{HasAt}
-use Rattle.crs_same.specs.SameUnits.{SameUnit, SameValue}
+use Rattle.crs_same.specs.SameSystems.{HasAt, own_or}
+use Rattle.crs_same.specs.SameUnits.{SameUnitAsked, SameUnit, SameValue}
 use Rattle.crs_same.proofs.AxisLemmas.{at-both, which-both}
+use Rattle.crs_same.proofs.NumberLemmas.{zero-in-both, zero-is}
+
+-- axes of one direction ask one kind, where their systems are of one type
+pub one-asked : (a b : SystemParts) (x y : AxisParts) → a.system_type ≡ b.system_type → x.direction ≡ y.direction →
+    asked_kind a.system_type x.direction ≡ asked_kind b.system_type y.direction
+one-asked a b x y type direction = λ i. asked_kind (type i) (direction i)
 
 module _ (level : Level) where
   same : {Same : Type 0} → Same ↔ Same
@@ -101,224 +109,256 @@ module _ (level : Level) where
 
   -- ---- coordinate systems
 
-  axis : (at : List Step) (a b : SystemParts) (x y : AxisParts) → AllSame (parts_of_axis at level a b x y) ↔ AgreeAxis level a b x y
+  -- of systems of one type
+  axis : (at : List Step) (a b : SystemParts) (x y : AxisParts) → a.system_type ≡ b.system_type →
+      AllSame (parts_of_axis at level a b x y) ↔ AgreeAxis level a b x y
   unfolding parts_of_axis AgreeAxis
-  axis at a b x y = (
-    λ s. record { name = s.0; direction = s.1.0; meridian = s.1.1.0; unit = s.1.1.1.0; identifiers = s.1.1.1.1 },
-    λ s. (s.name, (s.direction, (s.meridian, (s.unit, s.identifiers)))),
+  axis at a b x y type = (
+    λ s. record {
+      name = s.0;
+      direction = s.1.0;
+      meridian = s.1.1.0;
+      unit = of_kind (asked_kind b.system_type y.direction) (asked_kind a.system_type x.direction) (sym (one-asked a b x y type s.1.0)) s.1.1.1.0;
+      identifiers = s.1.1.1.1;
+    },
+    λ s.
+        let unit = of_kind (asked_kind a.system_type x.direction) (asked_kind b.system_type y.direction) (one-asked a b x y type s.direction) s.unit in
+        (s.name, (s.direction, (s.meridian, (unit, s.identifiers)))),
+  )
+    where
+      of_kind : (other wanted : UnitKind) → other ≡ wanted →
+          BothOrNeither (SameUnitAsked (asked_kind a.system_type x.direction) other level) (own_or x.unit a.unit) (own_or y.unit b.unit) →
+          BothOrNeither (SameUnitAsked (asked_kind a.system_type x.direction) wanted level) (own_or x.unit a.unit) (own_or y.unit b.unit)
+      of_kind other wanted is =
+          subst (λ k. BothOrNeither (SameUnitAsked (asked_kind a.system_type x.direction) k level) (own_or x.unit a.unit) (own_or y.unit b.unit)) is
+
+  -- at longitude 0 the unit doesn't count
+  counted : {V : Type 0} (Same : V → V → Type 0) (p q : Bool) (x y : Option V) → p ≡ q →
+      BothOrNeither Same (if p then None else x) (if q then None else y) ↔ ((p ≡ true) ⊎ BothOrNeither Same x y)
+  counted Same true true x y e = (λ s. inl refl, λ s. tt)
+  counted Same true false x y e = absurd (false≢true (sym e))
+  counted Same false true x y e = absurd (false≢true e)
+  counted Same false false x y e = (
+    λ s. inr s,
+    λ s. elim s [
+      | inl f ↦ absurd (false≢true f)
+      | inr u ↦ u
+    ],
   )
 
-  -- what is the same number as zero is zero
-  module _ (zero_is : (x y : Value) → SameValue x y → IsZero y → IsZero x) where
-    pub given : (at : List Step) (a b : MeridianParts) → AllSame (parts_of_given at level a b) ↔ AgreeGiven level a b
-    given at a b = (
-      λ s. record { name = s.0; longitude = s.1.0; unit = one_of s.1.0 s.1.1.0; identifiers = s.1.1.1 },
-      λ s. (s.name, (s.longitude, (of_one s.unit, s.identifiers))),
+  pub given : (at : List Step) (a b : MeridianParts) → AllSame (parts_of_given at level a b) ↔ AgreeGiven level a b
+  given at a b = (
+    λ s. record { name = s.0; longitude = s.1.0; unit = (unit s.1.0).0 s.1.1.0; identifiers = s.1.1.1 },
+    λ s. (s.name, (s.longitude, ((unit s.longitude).1 s.unit, s.identifiers))),
+  )
+    where
+      unit : SameValue a.longitude b.longitude → BothOrNeither (SameUnit kinds.Angle level) (unit_of a) (unit_of b)
+          ↔ (IsZero a.longitude ⊎ BothOrNeither (SameUnit kinds.Angle level) a.unit b.unit)
+      unit same_value =
+          let zero_a = zero-is a.longitude in
+          let c = counted (SameUnit kinds.Angle level) (a.longitude.digits == 0) (b.longitude.digits == 0) a.unit b.unit
+          (zero-in-both a.longitude b.longitude same_value) in (
+            λ s. elim (c.0 s) [
+              | inl z ↦ inl (zero_a.0 z)
+              | inr u ↦ inr u
+            ],
+            λ s. elim s [
+              | inl z ↦ c.1 (inl (zero_a.1 z))
+              | inr u ↦ c.1 (inr u)
+            ],
+          )
+
+  meridian : (at : List Step) (a b : Option MeridianParts) → AllSame (parts_of_meridian at level a b) ↔ AgreeMeridian level a b
+  unfolding parts_of_meridian
+  meridian at a b = given at (or_greenwich a) (or_greenwich b)
+
+  pub base : (at : List Step) (a b : BaseParts) → AllSame (parts_of_base at level a b) ↔ AgreeBase level a b
+  unfolding parts_of_base
+  base at a b =
+      let d = dynamic (at ▸ step.Dynamic) a.dynamic b.dynamic in
+      let f = frame-of (at ▸ step.Datum) a.frame b.frame in
+      let m = meridian (at ▸ step.Meridian) a.meridian b.meridian in (
+        λ s. record {
+          name = s.0;
+          dynamic = d.0 s.1.0;
+          frame = f.0 s.1.1.0;
+          meridian = m.0 s.1.1.1.0;
+          unit = s.1.1.1.1.0;
+          identifiers = s.1.1.1.1.1;
+        },
+        λ s. (s.name, (d.1 s.dynamic, (f.1 s.frame, (m.1 s.meridian, (s.unit, s.identifiers))))),
+      )
+
+  -- systems of one dimension have as many axes, and each position of a system has one
+  module _
+      (as_many : (a b : SystemParts) → IsSystem a → IsSystem b → SameValue a.dimension b.dimension → length a.axes ≡ length b.axes)
+      (some : (system : SystemParts) → IsSystem system → (position : ℕ) → 1 ≤ position → position ≤ length system.axes →
+      HasAt position (λ axis. ⊤) 1 system.axes) where
+    of-at : (at : List Step) (a b : SystemParts) → a.system_type ≡ b.system_type → IsSystem a → (position : ℕ) → 1 ≤ position → position ≤ length a.axes →
+        AllSame (parts_at at level a b position) → AgreeAt level a b position
+    of-at at a b type sound position low high (None, here, rest) = absurd (here (some a sound position low high))
+    of-at at a b type sound position low high (Some x, here, (None, there, bad)) = absurd bad
+    of-at at a b type sound position low high (Some x, here, (Some y, there, all)) =
+        at-both (λ x y. AgreeAxis level a b x y) position a.axes b.axes x y here there ((axis at a b x y type).0 all)
+
+    last : (k n : ℕ) → k ≤ suc n → (k ≤ n) ⊎ (k ≡ suc n)
+    last k n low = grind arith
+
+    of-axes : (at : List Step) (a b : SystemParts) → a.system_type ≡ b.system_type → IsSystem a → (count : ℕ) → AllSame (parts_of_axes at level a b count) →
+        (position : ℕ) → 1 ≤ position → position ≤ count → position ≤ length a.axes → AgreeAt level a b position
+    of-axes at a b type sound zero all position low high in-a = absurd (omega (arith, low, high))
+    of-axes at a b type sound (suc count) all position low high in-a = elim (last position count high) [
+      | inl below ↦ of-axes at a b type sound count all.0 position low below in-a
+      | inr is ↦ of-at (at ▸ step.Axis position) a b type sound position low in-a
+          (subst (λ k. AllSame (parts_at (at ▸ step.Axis k) level a b k)) (sym is) all.1)
+    ]
+
+    to-at : (at : List Step) (a b : SystemParts) → a.system_type ≡ b.system_type → (position : ℕ) → AgreeAt level a b position → AllSame (parts_at at level a b position)
+    to-at at a b type position same_at =
+        let (x, y, r, here, there) = which-both (λ x y. AgreeAxis level a b x y) position a.axes b.axes same_at in
+        (Some x, here, (Some y, there, (axis at a b x y type).1 r))
+
+    to-axes : (at : List Step) (a b : SystemParts) → a.system_type ≡ b.system_type → AgreeAxes level a b → (count : ℕ) → count ≤ length a.axes →
+        AllSame (parts_of_axes at level a b count)
+    to-axes at a b type axes zero in-a = tt
+    to-axes at a b type axes (suc count) in-a = (
+      to-axes at a b type axes count (omega (arith, in-a)),
+      to-at (at ▸ step.Axis (suc count)) a b type (suc count) (axes (suc count) (omega arith) in-a),
     )
-      where
-        one_of : SameValue a.longitude b.longitude →
-            IsZero a.longitude ⊎ IsZero b.longitude ⊎ BothOrNeither (SameUnit kinds.Angle level) a.unit b.unit →
-            IsZero a.longitude ⊎ BothOrNeither (SameUnit kinds.Angle level) a.unit b.unit
-        one_of same_value (inl first) = inl first
-        one_of same_value (inr (inl second)) = inl (zero_is a.longitude b.longitude same_value second)
-        one_of same_value (inr (inr units)) = inr units
 
-        of_one : IsZero a.longitude ⊎ BothOrNeither (SameUnit kinds.Angle level) a.unit b.unit →
-            IsZero a.longitude ⊎ IsZero b.longitude ⊎ BothOrNeither (SameUnit kinds.Angle level) a.unit b.unit
-        of_one (inl first) = inl first
-        of_one (inr units) = inr (inr units)
+    pub system : (at : List Step) (a b : SystemParts) → IsSystem a → IsSystem b → AllSame (parts_of_system at level a b) ↔ AgreeSystem level a b
+    unfolding parts_of_system
+    system at a b sound-a sound-b = (
+      λ s. record {
+        system_type = s.0;
+        dimension = s.1.0;
+        identifiers = s.1.1.0;
+        axes = λ position low high.
+            of-axes at a b s.0 sound-a (max (length a.axes) (length b.axes)) s.1.1.1 position low (omega (arith, high)) high;
+      },
+      λ s.
+          let many = as_many a b sound-a sound-b s.dimension in (
+            s.system_type,
+            (
+              s.dimension,
+              (
+                s.identifiers,
+                to-axes at a b s.system_type s.axes (max (length a.axes) (length b.axes)) (omega (arith, many)),
+              ),
+            ),
+          ),
+    )
 
-    meridian : (at : List Step) (a b : Option MeridianParts) → AllSame (parts_of_meridian at level a b) ↔ AgreeMeridian level a b
-    unfolding parts_of_meridian
-    meridian at a b = given at (or_greenwich a) (or_greenwich b)
+    -- ---- CRSs
 
-    pub base : (at : List Step) (a b : BaseParts) → AllSame (parts_of_base at level a b) ↔ AgreeBase level a b
-    unfolding parts_of_base
-    base at a b =
+    pub geodetic : (at : List Step) (a b : GeodeticParts) → IsGeodetic a → IsGeodetic b → AllSame (parts_of_geodetic at level a b) ↔ AgreeGeodetic level a b
+    unfolding parts_of_geodetic
+    geodetic at a b sound-a sound-b =
         let d = dynamic (at ▸ step.Dynamic) a.dynamic b.dynamic in
         let f = frame-of (at ▸ step.Datum) a.frame b.frame in
-        let m = meridian (at ▸ step.Meridian) a.meridian b.meridian in (
+        let m = meridian (at ▸ step.Meridian) a.meridian b.meridian in
+        let y = system (at ▸ step.System) a.system b.system sound-a.system sound-b.system in
+        let t = tail at a.tail b.tail in (
+          λ s. record {
+            kind = s.0;
+            name = s.1.0;
+            dynamic = d.0 s.1.1.0;
+            frame = f.0 s.1.1.1.0;
+            meridian = m.0 s.1.1.1.1.0;
+            system = y.0 s.1.1.1.1.1.0;
+            tail = t.0 s.1.1.1.1.1.1;
+          },
+          λ s. (s.kind, (s.name, (d.1 s.dynamic, (f.1 s.frame, (m.1 s.meridian, (y.1 s.system, t.1 s.tail)))))),
+        )
+
+    pub projected : (at : List Step) (a b : ProjectedParts) → IsProjected a → IsProjected b → AllSame (parts_of_projected at level a b) ↔ AgreeProjected level a b
+    unfolding parts_of_projected
+    projected at a b sound-a sound-b =
+        let d = base (at ▸ step.Base) a.base b.base in
+        let f = conversion (at ▸ step.Conversion) a.conversion b.conversion in
+        let y = system (at ▸ step.System) a.system b.system sound-a.system sound-b.system in
+        let t = tail at a.tail b.tail in (
+          λ s. record { name = s.0; base = d.0 s.1.0; conversion = f.0 s.1.1.0; system = y.0 s.1.1.1.0; tail = t.0 s.1.1.1.1 },
+          λ s. (s.name, (d.1 s.base, (f.1 s.conversion, (y.1 s.system, t.1 s.tail)))),
+        )
+
+    pub vertical : (at : List Step) (a b : VerticalParts) → IsVertical a → IsVertical b → AllSame (parts_of_vertical at level a b) ↔ AgreeVertical level a b
+    unfolding parts_of_vertical
+    vertical at a b sound-a sound-b =
+        let d = dynamic (at ▸ step.Dynamic) a.dynamic b.dynamic in
+        let f = frame-of (at ▸ step.Datum) a.frame b.frame in
+        let y = system (at ▸ step.System) a.system b.system sound-a.system sound-b.system in
+        let t = tail at a.tail b.tail in (
           λ s. record {
             name = s.0;
             dynamic = d.0 s.1.0;
             frame = f.0 s.1.1.0;
-            meridian = m.0 s.1.1.1.0;
-            unit = s.1.1.1.1.0;
-            identifiers = s.1.1.1.1.1;
+            system = y.0 s.1.1.1.0;
+            geoid_models = s.1.1.1.1.0;
+            tail = t.0 s.1.1.1.1.1;
           },
-          λ s. (s.name, (d.1 s.dynamic, (f.1 s.frame, (m.1 s.meridian, (s.unit, s.identifiers))))),
+          λ s. (s.name, (d.1 s.dynamic, (f.1 s.frame, (y.1 s.system, (s.geoid_models, t.1 s.tail))))),
         )
 
-    -- systems of one dimension have as many axes, and each position of a system has one
-    module _
-        (as_many : (a b : SystemParts) → IsSystem a → IsSystem b → SameValue a.dimension b.dimension → length a.axes ≡ length b.axes)
-        (some : (system : SystemParts) → IsSystem system → (position : ℕ) → 1 ≤ position → position ≤ length system.axes →
-        HasAt position (λ axis. ⊤) 1 system.axes) where
-      of-at : (at : List Step) (a b : SystemParts) → IsSystem a → (position : ℕ) → 1 ≤ position → position ≤ length a.axes →
-          AllSame (parts_at at level a b position) → AgreeAt level a b position
-      of-at at a b sound position low high (None, here, rest) = absurd (here (some a sound position low high))
-      of-at at a b sound position low high (Some x, here, (None, there, bad)) = absurd bad
-      of-at at a b sound position low high (Some x, here, (Some y, there, all)) =
-          at-both (λ x y. AgreeAxis level a b x y) position a.axes b.axes x y here there ((axis at a b x y).0 all)
+    pub horizontal-of : (at : List Step) (a b : Horizontal) → IsHorizontalPart a → IsHorizontalPart b →
+        AllSame (parts_of_horizontal at level a b) ↔ AgreeHorizontal level a b
+    unfolding parts_of_horizontal
+    horizontal-of at (horizontal.Geodetic a) (horizontal.Geodetic b) sound-a sound-b = geodetic at a b sound-a sound-b
+    horizontal-of at (horizontal.Projected a) (horizontal.Projected b) sound-a sound-b = projected at a b sound-a sound-b
+    horizontal-of at (horizontal.Geodetic a) (horizontal.Projected b) sound-a sound-b = same
+    horizontal-of at (horizontal.Projected a) (horizontal.Geodetic b) sound-a sound-b = same
 
-      last : (k n : ℕ) → k ≤ suc n → (k ≤ n) ⊎ (k ≡ suc n)
-      last k n low = grind arith
+    by-itself : (a : Horizontal) → IsHorizontal a → IsHorizontalPart a
+    by-itself (horizontal.Geodetic a) sound = sound.0
+    by-itself (horizontal.Projected a) sound = sound.0
 
-      of-axes : (at : List Step) (a b : SystemParts) → IsSystem a → (count : ℕ) → AllSame (parts_of_axes at level a b count) →
-          (position : ℕ) → 1 ≤ position → position ≤ count → position ≤ length a.axes → AgreeAt level a b position
-      of-axes at a b sound zero all position low high in-a = absurd (omega (arith, low, high))
-      of-axes at a b sound (suc count) all position low high in-a = elim (last position count high) [
-        | inl below ↦ of-axes at a b sound count all.0 position low below in-a
-        | inr is ↦ of-at (at ▸ step.Axis position) a b sound position low in-a
-            (subst (λ k. AllSame (parts_at (at ▸ step.Axis k) level a b k)) (sym is) all.1)
-      ]
+    pub compound : (at : List Step) (a b : CompoundParts) → IsCompound a → IsCompound b → AllSame (parts_of_compound at level a b) ↔ AgreeCompound level a b
+    unfolding parts_of_compound
+    compound at a b sound-a sound-b =
+        let h =
+        horizontal-of (at ▸ step.Horizontal) a.horizontal b.horizontal (by-itself a.horizontal sound-a.horizontal) (by-itself b.horizontal sound-b.horizontal) in
+        let v = vertical (at ▸ step.Vertical) a.vertical b.vertical sound-a.vertical sound-b.vertical in
+        let t = tail at a.tail b.tail in (
+          λ s. record { name = s.0; horizontal = h.0 s.1.0; vertical = v.0 s.1.1.0; tail = t.0 s.1.1.1 },
+          λ s. (s.name, (h.1 s.horizontal, (v.1 s.vertical, t.1 s.tail))),
+        )
 
-      to-at : (at : List Step) (a b : SystemParts) (position : ℕ) → AgreeAt level a b position → AllSame (parts_at at level a b position)
-      to-at at a b position same_at =
-          let (x, y, r, here, there) = which-both (λ x y. AgreeAxis level a b x y) position a.axes b.axes same_at in
-          (Some x, here, (Some y, there, (axis at a b x y).1 r))
+    pub crs-of : (a b : Crs) → IsCrs a → IsCrs b → AllSame (parts_of_crs level a b) ↔ AgreeCrs level a b
+    crs-of (crs.Geodetic a) (crs.Geodetic b) sound-a sound-b =
+        let g = geodetic [] a b sound-a sound-b in
+        (λ s. record { kind = (g.0 s).kind; parts = g.0 s }, λ s. g.1 s.parts)
+    crs-of (crs.Projected a) (crs.Projected b) sound-a sound-b =
+        let p = projected [] a b sound-a sound-b in
+        (λ s. record { kind = refl; parts = p.0 s }, λ s. p.1 s.parts)
+    crs-of (crs.Vertical a) (crs.Vertical b) sound-a sound-b =
+        let v = vertical [] a b sound-a sound-b in
+        (λ s. record { kind = refl; parts = v.0 s }, λ s. v.1 s.parts)
+    crs-of (crs.Compound a) (crs.Compound b) sound-a sound-b =
+        let p = compound [] a b sound-a sound-b in
+        (λ s. record { kind = refl; parts = p.0 s }, λ s. p.1 s.parts)
+    crs-of a b sound-a sound-b = (λ s. absurd s, λ s. absurd s.parts)
 
-      to-axes : (at : List Step) (a b : SystemParts) → AgreeAxes level a b → (count : ℕ) → count ≤ length a.axes →
-          AllSame (parts_of_axes at level a b count)
-      to-axes at a b axes zero in-a = tt
-      to-axes at a b axes (suc count) in-a = (
-        to-axes at a b axes count (omega (arith, in-a)),
-        to-at (at ▸ step.Axis (suc count)) a b (suc count) (axes (suc count) (omega arith) in-a),
-      )
+    -- ---- of each kind
 
-      pub system : (at : List Step) (a b : SystemParts) → IsSystem a → IsSystem b → AllSame (parts_of_system at level a b) ↔ AgreeSystem level a b
-      unfolding parts_of_system
-      system at a b sound-a sound-b = (
-        λ s. record {
-          system_type = s.0;
-          dimension = s.1.0;
-          identifiers = s.1.1.0;
-          axes = λ position low high.
-              of-axes at a b sound-a (max (length a.axes) (length b.axes)) s.1.1.1 position low (omega (arith, high)) high;
-        },
-        λ s.
-            let many = as_many a b sound-a sound-b s.dimension in (
-              s.system_type,
-              (
-                s.dimension,
-                (
-                  s.identifiers,
-                  to-axes at a b s.axes (max (length a.axes) (length b.axes)) (omega (arith, many)),
-                ),
-              ),
-            ),
-      )
-
-      -- ---- CRSs
-
-      pub geodetic : (at : List Step) (a b : GeodeticParts) → IsGeodetic a → IsGeodetic b → AllSame (parts_of_geodetic at level a b) ↔ AgreeGeodetic level a b
-      unfolding parts_of_geodetic
-      geodetic at a b sound-a sound-b =
-          let d = dynamic (at ▸ step.Dynamic) a.dynamic b.dynamic in
-          let f = frame-of (at ▸ step.Datum) a.frame b.frame in
-          let m = meridian (at ▸ step.Meridian) a.meridian b.meridian in
-          let y = system (at ▸ step.System) a.system b.system sound-a.system sound-b.system in
-          let t = tail at a.tail b.tail in (
-            λ s. record {
-              kind = s.0;
-              name = s.1.0;
-              dynamic = d.0 s.1.1.0;
-              frame = f.0 s.1.1.1.0;
-              meridian = m.0 s.1.1.1.1.0;
-              system = y.0 s.1.1.1.1.1.0;
-              tail = t.0 s.1.1.1.1.1.1;
-            },
-            λ s. (s.kind, (s.name, (d.1 s.dynamic, (f.1 s.frame, (m.1 s.meridian, (y.1 s.system, t.1 s.tail)))))),
-          )
-
-      pub projected : (at : List Step) (a b : ProjectedParts) → IsProjected a → IsProjected b → AllSame (parts_of_projected at level a b) ↔ AgreeProjected level a b
-      unfolding parts_of_projected
-      projected at a b sound-a sound-b =
-          let d = base (at ▸ step.Base) a.base b.base in
-          let f = conversion (at ▸ step.Conversion) a.conversion b.conversion in
-          let y = system (at ▸ step.System) a.system b.system sound-a.system sound-b.system in
-          let t = tail at a.tail b.tail in (
-            λ s. record { name = s.0; base = d.0 s.1.0; conversion = f.0 s.1.1.0; system = y.0 s.1.1.1.0; tail = t.0 s.1.1.1.1 },
-            λ s. (s.name, (d.1 s.base, (f.1 s.conversion, (y.1 s.system, t.1 s.tail)))),
-          )
-
-      pub vertical : (at : List Step) (a b : VerticalParts) → IsVertical a → IsVertical b → AllSame (parts_of_vertical at level a b) ↔ AgreeVertical level a b
-      unfolding parts_of_vertical
-      vertical at a b sound-a sound-b =
-          let d = dynamic (at ▸ step.Dynamic) a.dynamic b.dynamic in
-          let f = frame-of (at ▸ step.Datum) a.frame b.frame in
-          let y = system (at ▸ step.System) a.system b.system sound-a.system sound-b.system in
-          let t = tail at a.tail b.tail in (
-            λ s. record {
-              name = s.0;
-              dynamic = d.0 s.1.0;
-              frame = f.0 s.1.1.0;
-              system = y.0 s.1.1.1.0;
-              geoid_models = s.1.1.1.1.0;
-              tail = t.0 s.1.1.1.1.1;
-            },
-            λ s. (s.name, (d.1 s.dynamic, (f.1 s.frame, (y.1 s.system, (s.geoid_models, t.1 s.tail))))),
-          )
-
-      pub horizontal-of : (at : List Step) (a b : Horizontal) → IsHorizontalPart a → IsHorizontalPart b →
-          AllSame (parts_of_horizontal at level a b) ↔ AgreeHorizontal level a b
-      unfolding parts_of_horizontal
-      horizontal-of at (horizontal.Geodetic a) (horizontal.Geodetic b) sound-a sound-b = geodetic at a b sound-a sound-b
-      horizontal-of at (horizontal.Projected a) (horizontal.Projected b) sound-a sound-b = projected at a b sound-a sound-b
-      horizontal-of at (horizontal.Geodetic a) (horizontal.Projected b) sound-a sound-b = same
-      horizontal-of at (horizontal.Projected a) (horizontal.Geodetic b) sound-a sound-b = same
-
-      by-itself : (a : Horizontal) → IsHorizontal a → IsHorizontalPart a
-      by-itself (horizontal.Geodetic a) sound = sound.0
-      by-itself (horizontal.Projected a) sound = sound.0
-
-      pub compound : (at : List Step) (a b : CompoundParts) → IsCompound a → IsCompound b → AllSame (parts_of_compound at level a b) ↔ AgreeCompound level a b
-      unfolding parts_of_compound
-      compound at a b sound-a sound-b =
-          let h =
-          horizontal-of (at ▸ step.Horizontal) a.horizontal b.horizontal (by-itself a.horizontal sound-a.horizontal) (by-itself b.horizontal sound-b.horizontal) in
-          let v = vertical (at ▸ step.Vertical) a.vertical b.vertical sound-a.vertical sound-b.vertical in
-          let t = tail at a.tail b.tail in (
-            λ s. record { name = s.0; horizontal = h.0 s.1.0; vertical = v.0 s.1.1.0; tail = t.0 s.1.1.1 },
-            λ s. (s.name, (h.1 s.horizontal, (v.1 s.vertical, t.1 s.tail))),
-          )
-
-      pub crs-of : (a b : Crs) → IsCrs a → IsCrs b → AllSame (parts_of_crs level a b) ↔ AgreeCrs level a b
-      crs-of (crs.Geodetic a) (crs.Geodetic b) sound-a sound-b =
-          let g = geodetic [] a b sound-a sound-b in
-          (λ s. record { kind = (g.0 s).kind; parts = g.0 s }, λ s. g.1 s.parts)
-      crs-of (crs.Projected a) (crs.Projected b) sound-a sound-b =
-          let p = projected [] a b sound-a sound-b in
-          (λ s. record { kind = refl; parts = p.0 s }, λ s. p.1 s.parts)
-      crs-of (crs.Vertical a) (crs.Vertical b) sound-a sound-b =
-          let v = vertical [] a b sound-a sound-b in
-          (λ s. record { kind = refl; parts = v.0 s }, λ s. v.1 s.parts)
-      crs-of (crs.Compound a) (crs.Compound b) sound-a sound-b =
-          let p = compound [] a b sound-a sound-b in
-          (λ s. record { kind = refl; parts = p.0 s }, λ s. p.1 s.parts)
-      crs-of a b sound-a sound-b = (λ s. absurd s, λ s. absurd s.parts)
-
-      -- ---- of each kind
-
-      pub agree-where-same : AgreeWhereSame level
-      unfolding AreSame SameDynamic SameCrs
-      agree-where-same = record {
-        method = method [];
-        conversion = conversion [];
-        dynamic = λ a b. dynamic [] (Some a) (Some b);
-        ellipsoid = ellipsoid [];
-        given = given [];
-        meridian = meridian [];
-        datum = datum [];
-        ensemble = ensemble [];
-        frame = frame-of [];
-        tail = tail [];
-        base = base [];
-        system = system [];
-        geodetic = geodetic [];
-        projected = projected [];
-        vertical = vertical [];
-        horizontal = horizontal-of [];
-        compound = compound [];
-        crs = crs-of;
-      }
+    pub agree-where-same : AgreeWhereSame level
+    unfolding AreSame SameDynamic SameCrs
+    agree-where-same = record {
+      method = method [];
+      conversion = conversion [];
+      dynamic = λ a b. dynamic [] (Some a) (Some b);
+      ellipsoid = ellipsoid [];
+      given = given [];
+      meridian = meridian [];
+      datum = datum [];
+      ensemble = ensemble [];
+      frame = frame-of [];
+      tail = tail [];
+      base = base [];
+      system = system [];
+      geodetic = geodetic [];
+      projected = projected [];
+      vertical = vertical [];
+      horizontal = horizontal-of [];
+      compound = compound [];
+      crs = crs-of;
+    }

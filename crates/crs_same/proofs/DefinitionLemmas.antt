@@ -16,14 +16,14 @@ use Rattle.crs_same.specs.declared.step.Step.{Step}
 use Rattle.crs_same.specs.declared.step.Step.TheVariants as step
 use Rattle.crs_same.specs.Parts.{◌▸◌, Parts, PartsOf, AllSame}
 use Rattle.crs_same.specs.PartsOfCrs.{parts_of_method, parts_of_conversion, parts_of_dynamic, parts_of_tail, parts_of_geodetic, parts_of_base, parts_of_projected, parts_of_vertical, parts_of_horizontal, parts_of_compound}
-use Rattle.crs_same.specs.PartsOfFrames.{parts_of_ellipsoid, parts_of_ellipsoids, parts_of_given, or_greenwich, parts_of_meridian, parts_of_datum, parts_of_ensemble, parts_of_frame}
+use Rattle.crs_same.specs.PartsOfFrames.{parts_of_ellipsoid, parts_of_ellipsoids, parts_of_given, unit_of, or_greenwich, parts_of_meridian, parts_of_datum, parts_of_ensemble, parts_of_frame}
 use Rattle.crs_same.specs.PartsOfSystems.{parts_of_axis, parts_at, parts_of_axes, parts_of_system}
 use Rattle.crs_same.specs.SameConversions.{SameParameter, SameGeoidModel}
 use Rattle.crs_same.specs.SameCrs.{SameCrs}
 use Rattle.crs_same.specs.SameDynamic.{SameDeformationModel}
-use Rattle.crs_same.specs.SameFrames.{SameMember, IsZero}
+use Rattle.crs_same.specs.SameFrames.{SameMember}
 use Rattle.crs_same.specs.SameSystems.{SameAxisMeridian, own_or}
-use Rattle.crs_same.specs.SameUnits.{SameUnit, SameLength, or_metre}
+use Rattle.crs_same.specs.SameUnits.{SameUnitAsked, SameLength, or_metre}
 use Rattle.crs_same.specs.Sets.{BothOrNeither, HasSame, AllHaveSame, SameSet}
 use Rattle.crs_same.specs.SingleParts.{nodes}
 
@@ -49,17 +49,19 @@ module _ {V : Type 0} (P Q : V → V → Type 0) (f : (a b : V) → P a b → Q 
 
 -- ---- units, and what is compared whole
 
-unit : (asked : UnitKind) (a b : UnitParts) → SameUnit asked levels.Full a b → SameUnit asked levels.Definition a b
-unit asked a b s = record { kind = s.kind; name = s.name; factor = s.factor; identifiers = (tt, tt) }
+unit : (asked other : UnitKind) (a b : UnitParts) → SameUnitAsked asked other levels.Full a b → SameUnitAsked asked other levels.Definition a b
+unit asked other a b s = record { kind = s.kind; name = s.name; factor = s.factor; identifiers = (tt, tt) }
 
 metres : (a b : Option UnitParts) → SameLength levels.Full a b → SameLength levels.Definition a b
-metres a b s = unit kinds.Length (or_metre a) (or_metre b) s
+metres a b s = unit kinds.Length kinds.Length (or_metre a) (or_metre b) s
 
-units : (asked : UnitKind) (a b : Option UnitParts) → BothOrNeither (SameUnit asked levels.Full) a b → BothOrNeither (SameUnit asked levels.Definition) a b
-units asked = optional (SameUnit asked levels.Full) (SameUnit asked levels.Definition) (unit asked)
+units : (asked other : UnitKind) (a b : Option UnitParts) → BothOrNeither (SameUnitAsked asked other levels.Full) a b →
+    BothOrNeither (SameUnitAsked asked other levels.Definition) a b
+units asked other =
+    optional (SameUnitAsked asked other levels.Full) (SameUnitAsked asked other levels.Definition) (unit asked other)
 
 parameter : (a b : ParameterParts) → SameParameter levels.Full a b → SameParameter levels.Definition a b
-parameter a b s = record { name = s.name; value = s.value; unit = units kinds.Plain a.unit b.unit s.unit; identifiers = (tt, tt) }
+parameter a b s = record { name = s.name; value = s.value; unit = units kinds.Plain kinds.Plain a.unit b.unit s.unit; identifiers = (tt, tt) }
 
 geoid_model : (a b : GeoidModelParts) → SameGeoidModel levels.Full a b → SameGeoidModel levels.Definition a b
 geoid_model a b s = record { name = s.name; identifiers = (tt, tt) }
@@ -71,7 +73,7 @@ member : (a b : MemberParts) → SameMember levels.Full a b → SameMember level
 member a b s = record { name = s.name; identifiers = (tt, tt) }
 
 axis_meridian : (a b : AxisMeridianParts) → SameAxisMeridian levels.Full a b → SameAxisMeridian levels.Definition a b
-axis_meridian a b s = record { longitude = s.longitude; unit = unit kinds.Angle a.unit b.unit s.unit }
+axis_meridian a b s = record { longitude = s.longitude; unit = unit kinds.Angle kinds.Angle a.unit b.unit s.unit }
 
 -- ---- of the parts of two values: where all are the same with everything, all are by definition
 
@@ -120,13 +122,7 @@ ellipsoids : Narrows parts_of_ellipsoids
 ellipsoids at = either at (λ e. e.name) (parts_of_ellipsoid at levels.Full) (parts_of_ellipsoid at levels.Definition) (ellipsoid at)
 
 given : Narrows parts_of_given
-given at a b s = (s.0, (s.1.0, (its s.1.1.0, (tt, tt))))
-  where
-    its : IsZero a.longitude ⊎ IsZero b.longitude ⊎ BothOrNeither (SameUnit kinds.Angle levels.Full) a.unit b.unit →
-        IsZero a.longitude ⊎ IsZero b.longitude ⊎ BothOrNeither (SameUnit kinds.Angle levels.Definition) a.unit b.unit
-    its (inl first) = inl first
-    its (inr (inl second)) = inr (inl second)
-    its (inr (inr same)) = inr (inr (units kinds.Angle a.unit b.unit same))
+given at a b s = (s.0, (s.1.0, (units kinds.Angle kinds.Angle (unit_of a) (unit_of b) s.1.1.0, (tt, tt))))
 
 meridian : Narrows parts_of_meridian
 unfolding parts_of_meridian
@@ -162,7 +158,11 @@ axis at a b x y s = (
     s.1.0,
     (
       optional (SameAxisMeridian levels.Full) (SameAxisMeridian levels.Definition) axis_meridian x.meridian y.meridian s.1.1.0,
-      (units (asked_kind a.system_type x.direction) (own_or x.unit a.unit) (own_or y.unit b.unit) s.1.1.1.0, (tt, tt)),
+      (
+        units (asked_kind a.system_type x.direction) (asked_kind b.system_type y.direction) (own_or x.unit a.unit)
+            (own_or y.unit b.unit) s.1.1.1.0,
+        (tt, tt),
+      ),
     ),
   ),
 )
@@ -198,7 +198,7 @@ base at a b s =
     let d = dynamic (at ▸ step.Dynamic) a.dynamic b.dynamic s.1.0 in
     let f = frame-of (at ▸ step.Datum) a.frame b.frame s.1.1.0 in
     let m = meridian (at ▸ step.Meridian) a.meridian b.meridian s.1.1.1.0 in
-    (s.0, (d, (f, (m, (units kinds.Angle a.unit b.unit s.1.1.1.1.0, (tt, tt))))))
+    (s.0, (d, (f, (m, (units kinds.Angle kinds.Angle a.unit b.unit s.1.1.1.1.0, (tt, tt))))))
 
 projected : Narrows parts_of_projected
 unfolding parts_of_projected

@@ -133,7 +133,7 @@ no-idents levels.Definition = (tt, tt)
 
 pub greenwiches : (at : List Step) (level : Level) {old : Found} → Walked (parts_of_given at level (or_greenwich None) (or_greenwich None)) old old
 unfolding SameValue
-greenwiches at level {old} = via old (same refl) (via old (same (refl, inl refl)) (via old (same (inl (refl, inl refl))) (same (no-idents level))))
+greenwiches at level {old} = via old (same refl) (via old (same (refl, inl refl)) (via old (same tt) (same (no-idents level))))
 
 -- over the axes at one position more
 pub more-axes : (at : List Step) (level : Level) (a b : SystemParts) (count : ℕ) {old between new : Found} →

@@ -43,6 +43,10 @@ pub record DifferenceParts : Type 0 where
   pub first : Content
   pub second : Content
 
+-- what it is where the first and the second are exchanged
+abbrev pub exchanged : DifferenceParts → DifferenceParts
+exchanged one = record { path = one.path; first = one.second; second = one.first }
+
 -- these are all parts that differ, in order
 abbrev pub Differences : Parts → List DifferenceParts → Type 0
 Differences none found = found ≡ []

@@ -1,18 +1,17 @@
 -- The parts of ellipsoids, prime meridians, reference frames and ensembles, in order.
-use Rattle.std.specs.Prelude.{ℕ, Option, Some, None, List, [], ◌⊎◌, codes}
+use Rattle.std.specs.Prelude.{ℕ, ◌==◌, if◌then◌else◌, Option, Some, None, List, [], codes}
 use Rattle.crs_decimal.specs.Value.{zero}
 use Rattle.crs_value.specs.declared.values.frame.Frame.{Frame}
 use Rattle.crs_value.specs.declared.values.frame.Frame.TheVariants as frame
 use Rattle.crs_value.specs.declared.values.unit_kind.UnitKind.TheVariants as kinds
-use Rattle.crs_value.specs.Values.{EllipsoidParts, MeridianParts, DatumParts, EnsembleParts}
+use Rattle.crs_value.specs.Values.{EllipsoidParts, MeridianParts, DatumParts, EnsembleParts, UnitParts}
 use Rattle.crs_same.specs.declared.content.Content.TheVariants as content
 use Rattle.crs_same.specs.declared.step.Step.TheVariants as step
-use Rattle.crs_same.specs.Contents.{given, length_unit}
+use Rattle.crs_same.specs.Contents.{length_unit}
 use Rattle.crs_same.specs.Parts.{◌▸◌, PartsOf, part, ◌⨾◌}
-use Rattle.crs_same.specs.SameFrames.{IsZero, SameMember}
-use Rattle.crs_same.specs.SameUnits.{SameUnit, SameLength}
-use Rattle.crs_same.specs.Sets.{BothOrNeither}
-use Rattle.crs_same.specs.SingleParts.{texts, optional_texts, unlike, numbers, optional_numbers}
+use Rattle.crs_same.specs.SameFrames.{SameMember}
+use Rattle.crs_same.specs.SameUnits.{SameLength}
+use Rattle.crs_same.specs.SingleParts.{texts, optional_texts, unlike, numbers, optional_numbers, units}
 use Rattle.crs_same.specs.SingleParts.{sets, identifiers, nodes}
 
 -- the parts of two ellipsoids: name,
@@ -31,15 +30,16 @@ parts_of_ellipsoids at level = nodes at (λ ellipsoid. ellipsoid.name) (parts_of
 
 -- ---- prime meridians
 
--- the parts of two written prime meridians: name,
--- longitude, unit, which isn't compared where either is at longitude 0, identifiers
+-- the unit of a written prime meridian; at longitude 0 it has none
+abbrev pub unit_of : MeridianParts → Option UnitParts
+unit_of meridian = if meridian.longitude.digits == 0 then None else meridian.unit
+
+-- the parts of two written prime meridians: name, longitude, unit, identifiers
 abbrev pub parts_of_given : PartsOf MeridianParts
 parts_of_given at level a b =
     texts (at ▸ step.Name) a.name b.name
     ⨾ numbers (at ▸ step.Longitude) a.longitude b.longitude
-    ⨾ part (at ▸ step.Unit)
-    (IsZero a.longitude ⊎ IsZero b.longitude ⊎ BothOrNeither (SameUnit kinds.Angle level) a.unit b.unit)
-    (given (content.Unit kinds.Angle) a.unit) (given (content.Unit kinds.Angle) b.unit)
+    ⨾ units (at ▸ step.Unit) level kinds.Angle kinds.Angle (unit_of a) (unit_of b)
     ⨾ identifiers (at ▸ step.Id) level a.identifiers b.identifiers
 
 -- a prime meridian; a missing one is Greenwich

@@ -13,13 +13,17 @@ use Rattle.crs_same.specs.SameIdents.{SameIdents}
 unfoldable pub SameValue : Value → Value → Type 0
 SameValue a b = SameNumber (exact a) (exact b)
 
--- two units are the same where this kind is asked: `UNIT` is of that kind, and kind, name, factor
--- and identifiers are the same
-pub record SameUnit (asked : UnitKind) (level : Level) (a b : UnitParts) : Type 0 where
-  pub kind : kind_as asked a.kind ≡ kind_as asked b.kind
+-- two units are the same where one kind is asked of the first and another of the second: `UNIT` is
+-- of the asked kind, and kind, name, factor and identifiers are the same
+pub record SameUnitAsked (asked other : UnitKind) (level : Level) (a b : UnitParts) : Type 0 where
+  pub kind : kind_as asked a.kind ≡ kind_as other b.kind
   pub name : a.name ≡ b.name
   pub factor : SameValue a.factor b.factor
   pub identifiers : SameIdents level a.identifiers b.identifiers
+
+-- two units are the same where this kind is asked of both
+abbrev pub SameUnit : UnitKind → Level → UnitParts → UnitParts → Type 0
+SameUnit asked = SameUnitAsked asked asked
 
 -- the decimal 1
 abbrev pub one : Value

@@ -12,7 +12,7 @@ use Rattle.crs_same.specs.declared.step.Step.TheVariants as step
 use Rattle.crs_same.specs.Contents.{given}
 use Rattle.crs_same.specs.Parts.{◌▸◌, Parts, none, part}
 use Rattle.crs_same.specs.SameIdents.{SameIdent}
-use Rattle.crs_same.specs.SameUnits.{SameValue, SameUnit}
+use Rattle.crs_same.specs.SameUnits.{SameValue, SameUnitAsked}
 use Rattle.crs_same.specs.Sets.{SameSet, BothOrNeither}
 
 -- two texts
@@ -43,11 +43,10 @@ optional path Same what a b = part path (BothOrNeither Same a b) (given what a) 
 abbrev pub optional_numbers : List Step → Option Value → Option Value → Parts
 optional_numbers path = optional path SameValue content.Number
 
--- two units of which each may be missing, each where a kind is asked; they are compared as where
--- the first one's kind is
+-- two units of which each may be missing, each where a kind is asked
 abbrev pub units : List Step → Level → (asked other : UnitKind) → (a b : Option UnitParts) → Parts
 units path level asked other a b =
-    part path (BothOrNeither (SameUnit asked level) a b)
+    part path (BothOrNeither (SameUnitAsked asked other level) a b)
     (given (content.Unit asked) a) (given (content.Unit other) b)
 
 -- two lists that are taken as sets

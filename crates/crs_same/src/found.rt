@@ -17,7 +17,7 @@ use crate::numbers::{same_optional_value, same_value};
 use crate::path::Path;
 use crate::step::Step;
 use crate::texts::{same_optional_text, same_text};
-use crate::units::{same_length, same_units_as};
+use crate::units::{same_length, same_units_asked};
 use crs_decimal::Decimal;
 use crs_value::{Ident, Level, List, Unit, UnitKind};
 use std::alloc::{AllocError, Global};
@@ -343,7 +343,7 @@ impl<'b, 'a> Found<'b, 'a> {
         )
     }
 
-    // Units, each where a kind is asked; they are compared as where that of the first is.
+    // Units, each where a kind is asked.
     #[tactic(auto, using(crate::proofs::WalkedLemmas::walked_rules))]
     pub(crate) fn unit(
         self,
@@ -359,7 +359,7 @@ impl<'b, 'a> Found<'b, 'a> {
         if self.is_done() {
             return self;
         }
-        if same_units_as(asked.0, a, b, level) {
+        if same_units_asked(asked, a, b, level) {
             return self;
         }
         self.with(

@@ -1,20 +1,18 @@
 //! Ellipsoids, prime meridians, reference frames and ensembles.
-ghost use Rattle.std.specs.Prelude.{◌≡◌, ◌<◌, ◌≤◌, ◌↔◌, ◌⊎◌, [], IsTrue, None, length};
+ghost use Rattle.std.specs.Prelude.{◌≡◌, ◌≤◌, ◌↔◌, [], IsTrue, None, length};
+ghost use Rattle.std.specs.Option.{option_copied};
 ghost use Rattle.crs_value.specs.declared.values.frame.Frame.TheVariants as frame;
 ghost use Rattle.crs_value.specs.declared.values.unit_kind.UnitKind.TheVariants as kinds;
 ghost use Rattle.crs_same.specs.declared.content.Content.TheVariants as content;
 ghost use Rattle.crs_same.specs.declared.step.Step.TheVariants as step;
-ghost use Rattle.crs_same.specs.Contents.{given};
-ghost use Rattle.crs_same.specs.Parts.{◌▸◌, part};
 ghost use Rattle.crs_same.specs.PartsOfFrames.{parts_of_ellipsoid, parts_of_ellipsoids, parts_of_given, datum_word};
-ghost use Rattle.crs_same.specs.PartsOfFrames.{or_greenwich, parts_of_meridian};
+ghost use Rattle.crs_same.specs.PartsOfFrames.{unit_of, or_greenwich, parts_of_meridian};
 ghost use Rattle.crs_same.specs.PartsOfFrames.{parts_of_datum, parts_of_ensemble, parts_of_frame};
-ghost use Rattle.crs_same.specs.SingleParts.{sets};
+ghost use Rattle.crs_same.specs.SingleParts.{units, sets};
 ghost use Rattle.crs_same.specs.Walked.{Walked};
-ghost use Rattle.crs_same.specs.Sets.{BothOrNeither, SameSet};
-ghost use Rattle.crs_same.specs.SameUnits.{SameUnit};
+ghost use Rattle.crs_same.specs.Sets.{SameSet};
 ghost use Rattle.crs_same.specs.Parts.{AreSame};
-ghost use Rattle.crs_same.specs.SameFrames.{IsZero, SameMember};
+ghost use Rattle.crs_same.specs.SameFrames.{SameMember};
 
 use crate::content::{Content, Members};
 use crate::found::Found;
@@ -25,10 +23,9 @@ use crate::path::Path;
 use crate::sets::{Member as SetMember, same_set};
 use crate::step::Step;
 use crate::texts::same_text;
-use crate::units::same_units_as;
 use crs_decimal::Decimal;
 use crs_value::{
-    Datum, Ellipsoid, Ensemble, Frame, Ident, Level, List, Member, Meridian, UnitKind,
+    Datum, Ellipsoid, Ensemble, Frame, Ident, Level, List, Member, Meridian, Unit, UnitKind,
 };
 
 fn walk_ellipsoid<'b, 'a>(
@@ -80,41 +77,27 @@ pub fn same_ellipsoid<'a>(a: &Ellipsoid<'a>, b: &Ellipsoid<'a>, level: Level) ->
     walk_ellipsoid(Found::first(), Path::start(), a, b, level).is_same()
 }
 
-// At longitude 0 the unit doesn't count.
-fn same_meridian_units<'a>(a: &Meridian<'a>, b: &Meridian<'a>, level: Level) -> bool
-    ensures { IsTrue result ↔
-        (IsZero a.now.longitude ⊎ IsZero b.now.longitude
-        ⊎ BothOrNeither (SameUnit kinds.Angle level) a.now.unit b.now.unit) }
+// At longitude 0 there is none.
+fn unit_of<'b, 'a>(meridian: &'b Meridian<'a>) -> Option<&'b Unit<'a>>
+    ensures { option_copied result ≡ unit_of meridian.now }
 {
-    a.longitude.is_whole(0)
-        || b.longitude.is_whole(0)
-        || same_units_as(UnitKind::Angle, a.unit.as_ref(), b.unit.as_ref(), level)
+    if meridian.longitude.is_zero() {
+        return None;
+    }
+    meridian.unit.as_ref()
 }
 
-#[tactic(auto, using(crate::proofs::WalkedLemmas::walked_rules))]
 fn walk_meridian_units<'b, 'a>(
     found: Found<'b, 'a>,
     at: Path,
-    a: &'b Meridian<'a>,
-    b: &'b Meridian<'a>,
+    a: Option<&'b Unit<'a>>,
+    b: Option<&'b Unit<'a>>,
     level: Level,
 ) -> Found<'b, 'a>
-    ensures { Walked (part at
-        (IsZero a.now.longitude ⊎ IsZero b.now.longitude
-        ⊎ BothOrNeither (SameUnit kinds.Angle level) a.now.unit b.now.unit)
-        (given (content.Unit kinds.Angle) a.now.unit) (given (content.Unit kinds.Angle) b.now.unit)) found.entry result }
+    ensures { Walked (units at level kinds.Angle kinds.Angle (option_copied a.entry) (option_copied b.entry))
+        found.entry result }
 {
-    if found.is_done() {
-        return found;
-    }
-    if same_meridian_units(a, b, level) {
-        return found;
-    }
-    found.with(
-        at,
-        Content::optional_unit(UnitKind::Angle, a.unit.as_ref()),
-        Content::optional_unit(UnitKind::Angle, b.unit.as_ref()),
-    )
+    found.unit(at, level, (UnitKind::Angle, UnitKind::Angle), a, b)
 }
 
 fn walk_given<'b, 'a>(
@@ -129,7 +112,8 @@ fn walk_given<'b, 'a>(
 {
     let found = found.text(&at, Step::Name, a.name, b.name);
     let found = found.number(&at, Step::Longitude, &a.longitude, &b.longitude);
-    let found = walk_meridian_units(found, at.then(Step::Unit), a, b, level);
+    let unit = at.then(Step::Unit);
+    let found = walk_meridian_units(found, unit, unit_of(a), unit_of(b), level);
     found.identifiers(&at, Step::Id, level, &a.identifiers, &b.identifiers)
 }
 
@@ -151,6 +135,8 @@ fn walk_before_greenwich<'b, 'a>(
 {
     let found = found.text(&at, Step::Name, meridian.name, b"Greenwich");
     let found = found.number(&at, Step::Longitude, &meridian.longitude, &Decimal::zero());
+    let unit = at.then(Step::Unit);
+    let found = walk_meridian_units(found, unit, unit_of(meridian), None, level);
     found.identifiers_of(
         &at,
         Step::Id,
@@ -172,6 +158,8 @@ fn walk_behind_greenwich<'b, 'a>(
 {
     let found = found.text(&at, Step::Name, b"Greenwich", meridian.name);
     let found = found.number(&at, Step::Longitude, &Decimal::zero(), &meridian.longitude);
+    let unit = at.then(Step::Unit);
+    let found = walk_meridian_units(found, unit, None, unit_of(meridian), level);
     found.identifiers_of(
         &at,
         Step::Id,

@@ -1,10 +1,10 @@
 //! Laws of the definitions, as contracts of functions that do nothing.
-ghost use Rattle.std.specs.Prelude.{◌≡◌, ◌≤◌, ◌↔◌, ◌∷◌, ℕ, ⊤, List, [], None, Some, length};
-ghost use Rattle.crs_decimal.specs.Value.{Value};
+ghost use Rattle.std.specs.Prelude.{◌≡◌, ◌≤◌, ◌↔◌, ◌⊎◌, ◌∷◌, ℕ, ⊤, List, [], None, Option, Some, length, map};
 ghost use Rattle.crs_value.specs.declared.values.crs.Crs.{Crs};
 ghost use Rattle.crs_value.specs.declared.values.level.Level.{Level};
 ghost use Rattle.crs_value.specs.declared.values.level.Level.TheVariants as levels;
 ghost use Rattle.crs_value.specs.declared.values.unit_kind.UnitKind.{UnitKind};
+ghost use Rattle.crs_value.specs.BadUnit.{asked_kind};
 ghost use Rattle.crs_value.specs.SoundCompound.{IsCompound};
 ghost use Rattle.crs_value.specs.SoundCrs.{IsCrs};
 ghost use Rattle.crs_value.specs.SoundSingle.{IsGeodetic, IsProjected, IsVertical};
@@ -12,6 +12,7 @@ ghost use Rattle.crs_value.specs.SoundSystem.{IsSystem};
 ghost use Rattle.crs_value.specs.Sound.{Each};
 ghost use Rattle.crs_value.specs.Values.{AxisParts, SystemParts};
 ghost use Rattle.crs_same.specs.declared.step.Step.{Step};
+ghost use Rattle.crs_same.specs.declared.step.Step.TheVariants as step;
 ghost use Rattle.crs_same.specs.Definition.{IsOfDefinition};
 ghost use Rattle.crs_same.specs.Agreement.{AgreeWhereSame};
 ghost use Rattle.crs_same.specs.PartsOfCrs.{parts_of_method, parts_of_conversion, parts_of_tail, parts_of_geodetic};
@@ -19,14 +20,14 @@ ghost use Rattle.crs_same.specs.PartsOfCrs.{parts_of_base, parts_of_projected, p
 ghost use Rattle.crs_same.specs.PartsOfCrs.{parts_of_compound, FirstInCrs, DifferencesInCrs};
 ghost use Rattle.crs_same.specs.PartsOfFrames.{parts_of_ellipsoid, parts_of_given, parts_of_meridian, parts_of_datum};
 ghost use Rattle.crs_same.specs.PartsOfFrames.{parts_of_ensemble, parts_of_frame};
-ghost use Rattle.crs_same.specs.PartsOfSystems.{parts_of_system};
-ghost use Rattle.crs_same.specs.Parts.{AreSame, DifferenceParts};
+ghost use Rattle.crs_same.specs.PartsOfSystems.{parts_of_axis, parts_of_system};
+ghost use Rattle.crs_same.specs.Parts.{◌▸◌, AreSame, DifferenceParts, First, exchanged};
 ghost use Rattle.crs_same.specs.Paths.{path_text};
 ghost use Rattle.crs_same.specs.Sameness.{IsSameness, IsSamenessOf};
 ghost use Rattle.crs_same.specs.SameConversions.{SameParameter, SameGeoidModel};
 ghost use Rattle.crs_same.specs.SameCrs.{SameCrs, SameDynamic, IsHorizontalPart};
 ghost use Rattle.crs_same.specs.SameDynamic.{SameDeformationModel};
-ghost use Rattle.crs_same.specs.SameFrames.{IsZero, SameMember};
+ghost use Rattle.crs_same.specs.SameFrames.{SameMember};
 ghost use Rattle.crs_same.specs.SameIdents.{SameIdent, SameIdents};
 ghost use Rattle.crs_same.specs.SameSystems.{SameAxisMeridian, SameAxisAlone, HasAt};
 ghost use Rattle.crs_same.specs.SameUnits.{SameValue, SameUnit, SameLength};
@@ -55,18 +56,10 @@ pub fn as_many_axes()
     laws::same_number_is_equivalence();
 }
 
-// What is the same number as zero is zero.
-pub(crate) fn zero_is_one_number()
-    ensures { (a b : Value) → SameValue a b → IsZero b → IsZero a }
-{
-    laws::same_number_is_equivalence();
-}
-
 /// All parts of two values are the same exactly where the values agree, field by field: proofs rest on this.
 pub fn parts_agree_where_same()
     ensures { (level : Level) → AgreeWhereSame level }
 {
-    zero_is_one_number();
     as_many_axes();
     one_axis_each();
 }
@@ -372,6 +365,31 @@ pub fn first_difference_is_first_part()
     ensures none { (level : Level) (a b : Crs) → DifferencesInCrs level a b [] → FirstInCrs level a b None }
     ensures some { (level : Level) (a b : Crs) (one : DifferenceParts) (further : List DifferenceParts) →
         DifferencesInCrs level a b (one ∷ further) → FirstInCrs level a b (Some one.path) }
+{}
+
+/// Two CRSs have one list of all parts in which they differ.
+pub fn differences_are_one()
+    ensures { (level : Level) (a b : Crs) → IsCrs a → IsCrs b → (found other : List DifferenceParts) →
+        DifferencesInCrs level a b found → DifferencesInCrs level a b other → found ≡ other }
+{
+    one_axis_each();
+}
+
+/// Two CRSs and the same in the other order differ in the same parts, each with its values exchanged.
+pub fn differences_are_exchanged()
+    ensures { (level : Level) (a b : Crs) (found : List DifferenceParts) → DifferencesInCrs level a b found →
+        DifferencesInCrs level b a (map exchanged found) }
+{
+    same_value_is_equivalence();
+}
+
+/// One kind of unit is asked of two axes of systems of one type, unless their name or direction differs first: whether
+/// a part differs, and which first, is as if the kind that either asks were asked of both.
+pub fn one_kind_is_asked()
+    ensures { (at : List Step) (level : Level) (a b : SystemParts) (x y : AxisParts) → a.system_type ≡ b.system_type →
+        (found : Option (List Step)) → First (parts_of_axis at level a b x y) found →
+        (asked_kind a.system_type x.direction ≡ asked_kind b.system_type y.direction)
+        ⊎ (found ≡ Some (at ▸ step.Name)) ⊎ (found ≡ Some (at ▸ step.Direction)) }
 {}
 
 /// No part of two CRSs differs first exactly where the CRSs are the same.

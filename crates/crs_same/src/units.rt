@@ -3,7 +3,7 @@ ghost use Rattle.std.specs.Prelude.{◌≡◌, ◌↔◌, IsTrue, None};
 ghost use Rattle.std.specs.Option.{option_copied};
 ghost use Rattle.crs_value.specs.declared.values.unit_kind.UnitKind.TheVariants as kinds;
 ghost use Rattle.crs_same.specs.Sets.{BothOrNeither};
-ghost use Rattle.crs_same.specs.SameUnits.{SameUnit, SameLength, or_metre};
+ghost use Rattle.crs_same.specs.SameUnits.{SameUnitAsked, SameUnit, SameLength, or_metre};
 
 use crate::idents::{same_idents, same_kept_idents};
 use crate::laws;
@@ -17,14 +17,26 @@ fn same_kind(a: UnitKind, b: UnitKind) -> bool
     a == b
 }
 
-// Where this kind is asked, which `UNIT` is of.
-pub(crate) fn same_unit_as<'a>(asked: UnitKind, a: &Unit<'a>, b: &Unit<'a>, level: Level) -> bool
-    ensures { IsTrue result ↔ SameUnit asked level a.now b.now }
+// Where a kind is asked of each, which `UNIT` is of.
+fn same_unit_asked<'a>(
+    asked: (UnitKind, UnitKind),
+    a: &Unit<'a>,
+    b: &Unit<'a>,
+    level: Level,
+) -> bool
+    ensures { IsTrue result ↔ SameUnitAsked asked.0 asked.1 level a.now b.now }
 {
-    same_kind(a.kind.as_asked(asked), b.kind.as_asked(asked))
+    same_kind(a.kind.as_asked(asked.0), b.kind.as_asked(asked.1))
         && same_text(a.name, b.name)
         && same_value(&a.factor, &b.factor)
         && same_idents(&a.identifiers, &b.identifiers, level)
+}
+
+// Where this kind is asked of both.
+pub(crate) fn same_unit_as<'a>(asked: UnitKind, a: &Unit<'a>, b: &Unit<'a>, level: Level) -> bool
+    ensures { IsTrue result ↔ SameUnit asked level a.now b.now }
+{
+    same_unit_asked((asked, asked), a, b, level)
 }
 
 /// Whether two units are the same: kind, name, factor and identifiers; `UNIT` is a kind of its own. Profile.
@@ -34,7 +46,24 @@ pub fn same_unit<'a>(a: &Unit<'a>, b: &Unit<'a>, level: Level) -> bool
     same_unit_as(UnitKind::Plain, a, b, level)
 }
 
-// Both are missing, or both are there and the same where this kind is asked.
+// Both are missing, or both are there and the same where a kind is asked of each.
+pub(crate) fn same_units_asked<'a>(
+    asked: (UnitKind, UnitKind),
+    a: Option<&Unit<'a>>,
+    b: Option<&Unit<'a>>,
+    level: Level,
+) -> bool
+    ensures { IsTrue result ↔
+        BothOrNeither (SameUnitAsked asked.0 asked.1 level) (option_copied a.entry) (option_copied b.entry) }
+{
+    match (a, b) {
+        (None, None) => true,
+        (Some(x), Some(y)) => same_unit_asked(asked, x, y, level),
+        (None, Some(_)) | (Some(_), None) => false,
+    }
+}
+
+// The same, where this kind is asked of both.
 pub(crate) fn same_units_as<'a>(
     asked: UnitKind,
     a: Option<&Unit<'a>>,
@@ -43,11 +72,7 @@ pub(crate) fn same_units_as<'a>(
 ) -> bool
     ensures { IsTrue result ↔ BothOrNeither (SameUnit asked level) (option_copied a.entry) (option_copied b.entry) }
 {
-    match (a, b) {
-        (None, None) => true,
-        (Some(x), Some(y)) => same_unit_as(asked, x, y, level),
-        (None, Some(_)) | (Some(_), None) => false,
-    }
+    same_units_asked((asked, asked), a, b, level)
 }
 
 #[tactic(auto, unfolding(crate::specs::SameUnits::SameValue))]

@@ -5,5 +5,5 @@ pub returns : goal.returns
 returns c =
     via c.text-found.result (rw (← c.a.view_is, ← c.b.view_is) c.text-found.ensures) (
     via c.number-found.result (rw (← c.a.view_is, ← c.b.view_is) c.number-found.ensures) (
-    via c.walk_meridian_units-found.result (rw (← c.then.ensures) c.walk_meridian_units-found.ensures) (
+    via c.walk_meridian_units-found.result (rw (← c.then-unit.ensures, ← c.unit_of.ensures, ← c.unit_of-2.ensures) c.walk_meridian_units-found.ensures) (
     rw (← c.a.view_is, ← c.b.view_is) c.identifiers.ensures)))

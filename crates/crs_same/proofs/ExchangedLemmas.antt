@@ -1,0 +1,299 @@
+-- Two values in the other order differ in the same parts, each with its values exchanged.
+use Rattle.std.proofs.Common.{◌≡◌, ℕ, zero, suc, max, Option, Some, None, List, [], ◌∷◌, ◌++◌, length, map, sym, subst, ap, ◌∙◌}
+use Rattle.std.specs.Option.{option_map, option_and_then}
+use Rattle.std.proofs.Math.Nat.{max_comm}
+use Rattle.std.proofs.lemmas.List.{map-append}
+use Rattle.crs_decimal.specs.Value.{Value}
+use Rattle.crs_value.specs.declared.values.compound.Horizontal.{Horizontal}
+use Rattle.crs_value.specs.declared.values.compound.Horizontal.TheVariants as horizontal
+use Rattle.crs_value.specs.declared.values.crs.Crs.{Crs}
+use Rattle.crs_value.specs.declared.values.crs.Crs.TheVariants as crs
+use Rattle.crs_value.specs.declared.values.frame.Frame.{Frame}
+use Rattle.crs_value.specs.declared.values.frame.Frame.TheVariants as frame
+use Rattle.crs_value.specs.declared.values.level.Level.{Level}
+use Rattle.crs_value.specs.declared.values.unit_kind.UnitKind.{UnitKind}
+use Rattle.crs_value.specs.declared.values.unit_kind.UnitKind.TheVariants as kinds
+use Rattle.crs_value.specs.BadUnit.{asked_kind}
+use Rattle.crs_value.specs.CompoundValues.{CompoundParts}
+use Rattle.crs_value.specs.ConversionValues.{MethodParts, ConversionParts}
+use Rattle.crs_value.specs.CrsValues.{GeodeticParts, BaseParts, ProjectedParts, VerticalParts}
+use Rattle.crs_value.specs.DynamicValues.{DynamicParts}
+use Rattle.crs_value.specs.Kept.{kept, kept_one}
+use Rattle.crs_value.specs.NamedValues.{NamedParts}
+use Rattle.crs_value.specs.ReadsCrs.{kind_by, kind_of}
+use Rattle.crs_value.specs.Values.{AxisMeridianParts, AxisParts, EllipsoidParts, IdentParts, MeridianParts, DatumParts, EnsembleParts, SystemParts, TailParts, UnitParts}
+use Rattle.crs_value.specs.Words.{direction_word, system_word}
+use Rattle.crs_same.specs.declared.content.Content.{Content}
+use Rattle.crs_same.specs.declared.content.Content.TheVariants as content
+use Rattle.crs_same.specs.declared.step.Step.{Step}
+use Rattle.crs_same.specs.declared.step.Step.TheVariants as step
+use Rattle.crs_same.specs.Parts.{◌▸◌, Parts, none, part, ◌⨾◌, DifferenceParts, exchanged, Differences}
+use Rattle.crs_same.specs.PartsOfCrs.{kind_word, horizontal_word, parts_of_method, parts_of_conversion, parts_of_dynamic, parts_of_tail, parts_of_geodetic, parts_of_base, parts_of_projected, parts_of_vertical, parts_of_horizontal, parts_of_compound, parts_of_crs}
+use Rattle.crs_same.specs.PartsOfFrames.{datum_word, unit_of, parts_of_ellipsoid, parts_of_ellipsoids, parts_of_given, or_greenwich, parts_of_meridian, parts_of_datum, parts_of_ensemble, parts_of_frame}
+use Rattle.crs_same.specs.PartsOfSystems.{parts_of_axis, parts_at, parts_of_axes, parts_of_system}
+use Rattle.crs_same.specs.SameConversions.{SameParameter, SameGeoidModel}
+use Rattle.crs_same.specs.SameFrames.{SameMember}
+use Rattle.crs_same.specs.SameIdents.{SameNamed}
+use Rattle.crs_same.specs.SameSystems.{SameAxisMeridian, own_or}
+use Rattle.crs_same.specs.SameUnits.{SameValue, SameUnitAsked, or_metre}
+use Rattle.crs_same.specs.SameUsages.{SameUsage, usages_of}
+use Rattle.crs_same.specs.Sets.{BothOrNeither, SameSet}
+use Rattle.crs_same.specs.SingleParts.{texts, optional_texts, words, unlike, numbers, optional, optional_numbers, units, sets, identifiers, nodes}
+
+-- what differs among these parts does so among those, with its values exchanged
+pub record Turns (these those : Parts) : Type 0 where
+  pub turned : (found : List DifferenceParts) → Differences these found → Differences those (map exchanged found)
+
+nothing : Turns none none
+nothing = record { turned = λ found is. ap (map exchanged) is }
+
+infixr 10 ◌⨟◌
+◌⨟◌ : {these those others more : Parts} → Turns these those → Turns others more → Turns (these ⨾ others) (those ⨾ more)
+◌⨟◌ {these} {those} {others} {more} f g = record { turned = both }
+  where
+    both : (found : List DifferenceParts) → Differences (these ⨾ others) found → Differences (those ⨾ more) (map exchanged found)
+    both found (front, back, is, here, there) =
+        (map exchanged front, map exchanged back, ap (map exchanged) is ∙ map-append exchanged front back, f.turned front here, g.turned back there)
+
+-- ---- single parts
+
+one : {path : List Step} {Same Other : Type 0} {first second : Content} → (Same → Other) → (Other → Same) →
+    Turns (part path Same first second) (part path Other second first)
+one {path} {Same} {Other} {first} {second} there back = record { turned = each }
+  where
+    each : (found : List DifferenceParts) → Differences (part path Same first second) found →
+        Differences (part path Other second first) (map exchanged found)
+    each [] same = there same
+    each (d ∷ further) (differs, is, last) = (λ other. differs (back other), ap exchanged is, ap (map exchanged) last)
+
+text : (path : List Step) (a b : List ℕ) → Turns (texts path a b) (texts path b a)
+text path a b = one sym sym
+
+optional-text : (path : List Step) (a b : Option (List ℕ)) → Turns (optional_texts path a b) (optional_texts path b a)
+optional-text path a b = one sym sym
+
+word : {V : Type 0} (path : List Step) (word_of : V → List ℕ) (a b : V) → Turns (words path word_of a b) (words path word_of b a)
+word path word_of a b = one sym sym
+
+never : {path : List Step} {first second : Content} → Turns (part path ⊥ first second) (part path ⊥ second first)
+never = one (λ s. s) (λ s. s)
+
+set : {V : Type 0} (path : List Step) (Same : V → V → Type 0) (members_of : List V → List V → Content) (a b : List V) →
+    Turns (sets path Same members_of a b) (sets path Same members_of b a)
+set path Same members_of a b = one (λ s. (s.1, s.0)) (λ s. (s.1, s.0))
+
+idents : (path : List Step) (level : Level) (a b : List IdentParts) → Turns (identifiers path level a b) (identifiers path level b a)
+idents path level a b = one (λ s. (s.1, s.0)) (λ s. (s.1, s.0))
+
+both : {V : Type 0} (Same Other : V → V → Type 0) → ((x y : V) → Same x y → Other y x) → (a b : Option V) → BothOrNeither Same a b →
+    BothOrNeither Other b a
+both Same Other turn None None s = tt
+both Same Other turn (Some x) (Some y) s = turn x y s
+both Same Other turn None (Some y) s = absurd s
+both Same Other turn (Some x) None s = absurd s
+
+if-any : {V : Type 0} (path : List Step) (Same : V → V → Type 0) (what : V → Content) → ((x y : V) → Same x y → Same y x) →
+    (a b : Option V) → Turns (optional path Same what a b) (optional path Same what b a)
+if-any path Same what turn a b = one (both Same Same turn a b) (both Same Same turn b a)
+
+named : (level : Level) (a b : NamedParts) → SameNamed level a b → SameNamed level b a
+named level a b s = record { name = sym s.name; identifiers = (s.identifiers.1, s.identifiers.0) }
+
+either : {V : Type 0} (at : List Step) (name_of : V → List ℕ) (P Q : V → V → Parts) → ((x y : V) → Turns (P x y) (Q y x)) →
+    (a b : Option V) → Turns (nodes at name_of P a b) (nodes at name_of Q b a)
+either at name_of P Q turn None None = nothing
+either at name_of P Q turn None (Some b) = never
+either at name_of P Q turn (Some a) None = never
+either at name_of P Q turn (Some a) (Some b) = turn a b
+
+module _ (level : Level) (same-turned : (a b : Value) → SameValue a b → SameValue b a) where
+  number : (path : List Step) (a b : Value) → Turns (numbers path a b) (numbers path b a)
+  number path a b = one (same-turned a b) (same-turned b a)
+
+  numbers-if-any : (path : List Step) (a b : Option Value) → Turns (optional_numbers path a b) (optional_numbers path b a)
+  numbers-if-any path a b = if-any path SameValue content.Number same-turned a b
+
+  unit : (asked other : UnitKind) (a b : UnitParts) → SameUnitAsked asked other level a b → SameUnitAsked other asked level b a
+  unit asked other a b s = record {
+    kind = sym s.kind;
+    name = sym s.name;
+    factor = same-turned a.factor b.factor s.factor;
+    identifiers = (s.identifiers.1, s.identifiers.0);
+  }
+
+  units-if-any : (path : List Step) (asked other : UnitKind) (a b : Option UnitParts) →
+      Turns (units path level asked other a b) (units path level other asked b a)
+  units-if-any path asked other a b =
+      one (both (SameUnitAsked asked other level) (SameUnitAsked other asked level) (unit asked other) a b)
+      (both (SameUnitAsked other asked level) (SameUnitAsked asked other level) (unit other asked) b a)
+
+  axis-meridian : (a b : AxisMeridianParts) → SameAxisMeridian level a b → SameAxisMeridian level b a
+  axis-meridian a b s = record {
+    longitude = same-turned a.longitude b.longitude s.longitude;
+    unit = unit kinds.Angle kinds.Angle a.unit b.unit s.unit;
+  }
+
+  -- ---- dynamic parts
+
+  dynamic : (at : List Step) (a b : Option DynamicParts) → Turns (parts_of_dynamic at level a b) (parts_of_dynamic at level b a)
+  unfolding parts_of_dynamic
+  dynamic at a b =
+      numbers-if-any (at ▸ step.Epoch) (option_map (λ d. d.epoch) a) (option_map (λ d. d.epoch) b)
+      ⨟ if-any (at ▸ step.Model) (SameNamed level) content.Model (named level) (option_and_then (λ d. d.model) a)
+      (option_and_then (λ d. d.model) b)
+
+  -- ---- frames
+
+  ellipsoid : (at : List Step) (a b : EllipsoidParts) → Turns (parts_of_ellipsoid at level a b) (parts_of_ellipsoid at level b a)
+  ellipsoid at a b =
+      text (at ▸ step.Name) a.name b.name ⨟ number (at ▸ step.SemiMajor) a.semi_major_axis b.semi_major_axis
+      ⨟ number (at ▸ step.Flattening) a.inverse_flattening b.inverse_flattening
+      ⨟ one (unit kinds.Length kinds.Length (or_metre a.unit) (or_metre b.unit))
+      (unit kinds.Length kinds.Length (or_metre b.unit) (or_metre a.unit))
+      ⨟ idents (at ▸ step.Id) level a.identifiers b.identifiers
+
+  ellipsoids : (at : List Step) (a b : Option EllipsoidParts) → Turns (parts_of_ellipsoids at level a b) (parts_of_ellipsoids at level b a)
+  ellipsoids at a b = either at (λ e. e.name) (parts_of_ellipsoid at level) (parts_of_ellipsoid at level) (ellipsoid at) a b
+
+  given : (at : List Step) (a b : MeridianParts) → Turns (parts_of_given at level a b) (parts_of_given at level b a)
+  given at a b =
+      text (at ▸ step.Name) a.name b.name ⨟ number (at ▸ step.Longitude) a.longitude b.longitude
+      ⨟ units-if-any (at ▸ step.Unit) kinds.Angle kinds.Angle (unit_of a) (unit_of b)
+      ⨟ idents (at ▸ step.Id) level a.identifiers b.identifiers
+
+  meridian : (at : List Step) (a b : Option MeridianParts) → Turns (parts_of_meridian at level a b) (parts_of_meridian at level b a)
+  unfolding parts_of_meridian
+  meridian at a b = given at (or_greenwich a) (or_greenwich b)
+
+  datum : (at : List Step) (a b : DatumParts) → Turns (parts_of_datum at level a b) (parts_of_datum at level b a)
+  datum at a b =
+      text (at ▸ step.Name) a.name b.name ⨟ ellipsoids (at ▸ step.Ellipsoid) a.ellipsoid b.ellipsoid
+      ⨟ optional-text (at ▸ step.Anchor) a.anchor b.anchor ⨟ numbers-if-any (at ▸ step.AnchorEpoch) a.anchor_epoch b.anchor_epoch
+      ⨟ idents (at ▸ step.Id) level a.identifiers b.identifiers
+
+  ensemble : (at : List Step) (a b : EnsembleParts) → Turns (parts_of_ensemble at level a b) (parts_of_ensemble at level b a)
+  ensemble at a b =
+      text (at ▸ step.Name) a.name b.name ⨟ set (at ▸ step.Members) (SameMember level) content.Members a.members b.members
+      ⨟ ellipsoids (at ▸ step.Ellipsoid) a.ellipsoid b.ellipsoid ⨟ number (at ▸ step.Accuracy) a.accuracy b.accuracy
+      ⨟ idents (at ▸ step.Id) level a.identifiers b.identifiers
+
+  frame-of : (at : List Step) (a b : Frame) → Turns (parts_of_frame at level a b) (parts_of_frame at level b a)
+  unfolding parts_of_frame
+  frame-of at (frame.Datum a) (frame.Datum b) = datum at a b
+  frame-of at (frame.Ensemble a) (frame.Ensemble b) = ensemble at a b
+  frame-of at (frame.Datum a) (frame.Ensemble b) =
+      never ⨟ text (at ▸ step.Name) a.name b.name ⨟ ellipsoids (at ▸ step.Ellipsoid) a.ellipsoid b.ellipsoid
+      ⨟ idents (at ▸ step.Id) level a.identifiers b.identifiers
+  frame-of at (frame.Ensemble a) (frame.Datum b) =
+      never ⨟ text (at ▸ step.Name) a.name b.name ⨟ ellipsoids (at ▸ step.Ellipsoid) a.ellipsoid b.ellipsoid
+      ⨟ idents (at ▸ step.Id) level a.identifiers b.identifiers
+
+  -- ---- coordinate systems
+
+  axis : (at : List Step) (a b : SystemParts) (x y : AxisParts) → Turns (parts_of_axis at level a b x y) (parts_of_axis at level b a y x)
+  unfolding parts_of_axis
+  axis at a b x y =
+      text (at ▸ step.Name) x.name y.name ⨟ word (at ▸ step.Direction) direction_word x.direction y.direction
+      ⨟ if-any (at ▸ step.Meridian) (SameAxisMeridian level) content.Meridian axis-meridian x.meridian y.meridian
+      ⨟ units-if-any (at ▸ step.Unit) (asked_kind a.system_type x.direction) (asked_kind b.system_type y.direction)
+      (own_or x.unit a.unit) (own_or y.unit b.unit)
+      ⨟ idents (at ▸ step.Id) level x.identifiers y.identifiers
+
+  axes-at : (at : List Step) (a b : SystemParts) (position : ℕ) → Turns (parts_at at level a b position) (parts_at at level b a position)
+  axes-at at a b position = record { turned = turn }
+    where
+      turn : (found : List DifferenceParts) → Differences (parts_at at level a b position) found →
+          Differences (parts_at at level b a position) (map exchanged found)
+      turn found (x, here, (y, there, is)) = (
+        y,
+        there,
+        (
+          x,
+          here,
+          (either at (λ axis. axis.name) (parts_of_axis at level a b) (parts_of_axis at level b a) (axis at a b) x y).turned found is,
+        ),
+      )
+
+  axes : (at : List Step) (a b : SystemParts) (count : ℕ) → Turns (parts_of_axes at level a b count) (parts_of_axes at level b a count)
+  axes at a b zero = nothing
+  axes at a b (suc count) = axes at a b count ⨟ axes-at (at ▸ step.Axis (suc count)) a b (suc count)
+
+  system : (at : List Step) (a b : SystemParts) → Turns (parts_of_system at level a b) (parts_of_system at level b a)
+  unfolding parts_of_system
+  system at a b =
+      word (at ▸ step.SystemType) system_word a.system_type b.system_type ⨟ number (at ▸ step.Dimension) a.dimension b.dimension
+      ⨟ idents (at ▸ step.Id) level a.identifiers b.identifiers
+      ⨟ subst (λ count. Turns (parts_of_axes at level a b (max (length a.axes) (length b.axes))) (parts_of_axes at level b a count))
+      (max_comm (length a.axes) (length b.axes)) (axes at a b (max (length a.axes) (length b.axes)))
+
+  -- ---- conversions
+
+  method : (at : List Step) (a b : MethodParts) → Turns (parts_of_method at level a b) (parts_of_method at level b a)
+  unfolding parts_of_method
+  method at a b = text (at ▸ step.Name) a.name b.name ⨟ idents (at ▸ step.Id) level a.identifiers b.identifiers
+
+  conversion : (at : List Step) (a b : ConversionParts) → Turns (parts_of_conversion at level a b) (parts_of_conversion at level b a)
+  unfolding parts_of_conversion
+  conversion at a b =
+      text (at ▸ step.Name) a.name b.name ⨟ method (at ▸ step.Method) a.method b.method
+      ⨟ set (at ▸ step.Parameters) (SameParameter level) content.Parameters a.parameters b.parameters
+      ⨟ idents (at ▸ step.Id) level a.identifiers b.identifiers
+
+  -- ---- CRSs
+
+  tail : (at : List Step) (a b : TailParts) → Turns (parts_of_tail at level a b) (parts_of_tail at level b a)
+  unfolding parts_of_tail
+  tail at a b =
+      set (at ▸ step.Usage) SameUsage content.Usages (kept level (usages_of a)) (kept level (usages_of b))
+      ⨟ idents (at ▸ step.Id) level a.identifiers b.identifiers
+      ⨟ optional-text (at ▸ step.Remark) (kept_one level a.remark) (kept_one level b.remark)
+
+  geodetic : (at : List Step) (a b : GeodeticParts) → Turns (parts_of_geodetic at level a b) (parts_of_geodetic at level b a)
+  unfolding parts_of_geodetic
+  geodetic at a b =
+      word (at ▸ step.Kind) kind_word (kind_by a.system.system_type) (kind_by b.system.system_type)
+      ⨟ text (at ▸ step.Name) a.name b.name ⨟ dynamic (at ▸ step.Dynamic) a.dynamic b.dynamic
+      ⨟ frame-of (at ▸ step.Datum) a.frame b.frame ⨟ meridian (at ▸ step.Meridian) a.meridian b.meridian
+      ⨟ system (at ▸ step.System) a.system b.system ⨟ tail at a.tail b.tail
+
+  base : (at : List Step) (a b : BaseParts) → Turns (parts_of_base at level a b) (parts_of_base at level b a)
+  unfolding parts_of_base
+  base at a b =
+      text (at ▸ step.Name) a.name b.name ⨟ dynamic (at ▸ step.Dynamic) a.dynamic b.dynamic
+      ⨟ frame-of (at ▸ step.Datum) a.frame b.frame ⨟ meridian (at ▸ step.Meridian) a.meridian b.meridian
+      ⨟ units-if-any (at ▸ step.Unit) kinds.Angle kinds.Angle a.unit b.unit ⨟ idents (at ▸ step.Id) level a.identifiers b.identifiers
+
+  projected : (at : List Step) (a b : ProjectedParts) → Turns (parts_of_projected at level a b) (parts_of_projected at level b a)
+  unfolding parts_of_projected
+  projected at a b =
+      text (at ▸ step.Name) a.name b.name ⨟ base (at ▸ step.Base) a.base b.base
+      ⨟ conversion (at ▸ step.Conversion) a.conversion b.conversion ⨟ system (at ▸ step.System) a.system b.system
+      ⨟ tail at a.tail b.tail
+
+  vertical : (at : List Step) (a b : VerticalParts) → Turns (parts_of_vertical at level a b) (parts_of_vertical at level b a)
+  unfolding parts_of_vertical
+  vertical at a b =
+      text (at ▸ step.Name) a.name b.name ⨟ dynamic (at ▸ step.Dynamic) a.dynamic b.dynamic
+      ⨟ frame-of (at ▸ step.Datum) a.frame b.frame ⨟ system (at ▸ step.System) a.system b.system
+      ⨟ set (at ▸ step.Geoid) (SameGeoidModel level) content.GeoidModels a.geoid_models b.geoid_models
+      ⨟ tail at a.tail b.tail
+
+  horizontal-of : (at : List Step) (a b : Horizontal) → Turns (parts_of_horizontal at level a b) (parts_of_horizontal at level b a)
+  unfolding parts_of_horizontal
+  horizontal-of at (horizontal.Geodetic a) (horizontal.Geodetic b) = geodetic at a b
+  horizontal-of at (horizontal.Projected a) (horizontal.Projected b) = projected at a b
+  horizontal-of at (horizontal.Geodetic a) (horizontal.Projected b) = never
+  horizontal-of at (horizontal.Projected a) (horizontal.Geodetic b) = never
+
+  compound : (at : List Step) (a b : CompoundParts) → Turns (parts_of_compound at level a b) (parts_of_compound at level b a)
+  unfolding parts_of_compound
+  compound at a b =
+      text (at ▸ step.Name) a.name b.name ⨟ horizontal-of (at ▸ step.Horizontal) a.horizontal b.horizontal
+      ⨟ vertical (at ▸ step.Vertical) a.vertical b.vertical ⨟ tail at a.tail b.tail
+
+  pub crs-of : (a b : Crs) → Turns (parts_of_crs level a b) (parts_of_crs level b a)
+  crs-of (crs.Geodetic a) (crs.Geodetic b) = geodetic [] a b
+  crs-of (crs.Projected a) (crs.Projected b) = projected [] a b
+  crs-of (crs.Vertical a) (crs.Vertical b) = vertical [] a b
+  crs-of (crs.Compound a) (crs.Compound b) = compound [] a b
+  crs-of a b = never
