@@ -77,7 +77,7 @@ def dialect_of(encoding: str) -> sql_rows.Dialect:
         hex=lambda call: f"upper(encode(convert_to({call}, 'UTF8'), 'hex'))",
         number=lambda condition: f"({condition})::int",
         zeros=lambda length: f"repeat('0', {length})",
-        part=lambda call, key: f"({call})->0->>'{key}'",
+        part=lambda call, key, index: f"({call})->{index}->>'{key}'",
         is_none=lambda call: f"jsonb_array_length({call}) = 0",
     )
 

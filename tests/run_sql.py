@@ -50,7 +50,7 @@ SQLITE = sql_rows.Dialect(
     hex=lambda call: f"hex(coalesce({call}, ''))",
     number=lambda condition: condition,
     zeros=lambda length: f"hex(zeroblob({length // 2}))",
-    part=lambda call, key: f"json_extract({call}, '$[0].{key}')",
+    part=lambda call, key, index: f"json_extract({call}, '$[{index}].{key}')",
     is_none=lambda call: f"json_array_length({call}) = 0",
 )
 

@@ -26,7 +26,7 @@ class Dialect(NamedTuple):
     ``hex``      the bytes of a text in capital digits; nothing of NULL
     ``number``   a condition, as 1 or 0; nothing of NULL
     ``zeros``    a text of so many zeros
-    ``part``     the value of a key in the first object of a JSON array, as a text; nothing where there is none
+    ``part``     the value of a key in the object at an index of a JSON array, from 0 on, as a text; nothing where there is none
     ``is_none``  whether a JSON array has no members
     """
 
@@ -34,7 +34,7 @@ class Dialect(NamedTuple):
     hex: Callable[[str], str]
     number: Callable[[str], str]
     zeros: Callable[[int], str]
-    part: Callable[[str, str], str]
+    part: Callable[[str, str, int], str]
     is_none: Callable[[str], str]
 
 
@@ -94,10 +94,27 @@ def of_case(case: run_cases.Case, is_blob: bool, dialect: Dialect) -> Iterator[S
         parts = f"crs_differences({both})"
         first = "" if path == "same" else path
         call = dialect.number(dialect.is_none(parts))
-        yield case.place, f"SELECT {call}, {dialect.part(parts, 'path')};", f"{is_same}|{first}"
+        yield case.place, f"SELECT {call}, {dialect.part(parts, 'path', 0)};", f"{is_same}|{first}"
         if refusal:
             which, _, rest = refusal.partition(" ")
             yield case.place, f"SELECT crs_refusal({texts[which == 'second']});", rest
+    elif len(words) == 3 and words[0] == b"explain" and not refusal:
+        yield from of_parts(case, f"crs_differences({', '.join([*texts, *level])})", dialect)
+
+
+def of_parts(case: run_cases.Case, parts: str, dialect: Dialect) -> Iterator[Statement]:
+    """All parts in which two texts differ, each but for one whose values have escapes or separators."""
+    lines = [it for it in case.output.splitlines() if it != b"same"]
+    for index, line in enumerate(lines):
+        path, _, rest = line.partition(b": ")
+        values = rest.split(b" | ")
+        if b"\\" in rest or len(values) != 2:
+            continue
+        hexes = ", ".join(dialect.hex(dialect.part(parts, key, index)) for key in ("first", "second"))
+        wanted = [b"" if it == b"none" else it for it in values]
+        asked = f"SELECT {dialect.part(parts, 'path', index)}, {hexes};"
+        yield case.place, asked, "|".join([path.decode(), *(it.hex().upper() for it in wanted)])
+    yield case.place, f"SELECT {dialect.part(parts, 'path', len(lines))};", ""
 
 
 def rows(dialect: Dialect) -> Iterator[Statement]:
@@ -128,7 +145,7 @@ def promises(dialect: Dialect) -> Iterator[Statement]:
     yield "a level", f"SELECT {same_by_definition}, {same};", "1|0"
     yield "a level", f"SELECT crs_difference({both}), crs_difference({by_definition});", "remark|same"
     parts, parts_by_definition = f"crs_differences({both})", f"crs_differences({by_definition})"
-    yield "a level", f"SELECT {dialect.part(parts, 'path')}, {dialect.part(parts_by_definition, 'path')};", "remark|"
+    yield "a level", f"SELECT {dialect.part(parts, 'path', 0)}, {dialect.part(parts_by_definition, 'path', 0)};", "remark|"
     yield from of_values(dialect)
     nothing = dialect.literal(b"", True)
     asked = f"SELECT crs_kind(''), crs_refusal(''), crs_refusal({nothing});"
@@ -150,10 +167,10 @@ def of_values(dialect: Dialect) -> Iterator[Statement]:
         first, second = (dialect.literal(it, True) for it in texts)
         wanted = [f'"{it}"'.encode().hex().upper() for it in (value, other)]
         call = f"crs_differences({first}, {second})"
-        hexes = ", ".join(dialect.hex(dialect.part(call, key)) for key in ("first", "second"))
+        hexes = ", ".join(dialect.hex(dialect.part(call, key, 0)) for key in ("first", "second"))
         yield "a value", f"SELECT {hexes};", "|".join(wanted)
         alone = f"crs_differences('{HEIGHT}', {second})"
-        yield "a value alone", f"SELECT {dialect.part(alone, 'first')}, {dialect.hex(dialect.part(alone, 'second'))};", f"|{wanted[1]}"
+        yield "a value alone", f"SELECT {dialect.part(alone, 'first', 0)}, {dialect.hex(dialect.part(alone, 'second', 0))};", f"|{wanted[1]}"
 
 
 def of_long_texts(dialect: Dialect) -> Iterator[Statement]:

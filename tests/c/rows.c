@@ -398,6 +398,60 @@ static void answer_pair(const struct row *row, struct answer *answer, int is_swa
         answer_same(&first, &second, level, answer, names);
 }
 
+/* The length of what is before this separator, which doesn't count in quotes; all where it isn't there. */
+static size_t before(const struct bytes *text, const char *separator)
+{
+    size_t length = strlen(separator);
+    int is_quoted = 0;
+    for (size_t i = 0; i + length <= text->length; i++) {
+        if (!is_quoted && memcmp(text->at + i, separator, length) == 0)
+            return i;
+        is_quoted ^= text->at[i] == '"';
+    }
+    return text->length;
+}
+
+/* A value of a part; nothing where the line says so. */
+static void append_value(const struct bytes *value, struct answer *answer)
+{
+    if (!is(value, "none"))
+        append(answer, value->at, value->length);
+}
+
+/* All parts that differ, with a semicolon between two. */
+static void answer_values(const struct row *row, struct answer *answer)
+{
+    struct bytes second, lines, line, first = split(&row->input, &second);
+    uint32_t level = row->is_definition ? CRSDESK_DEFINITION : CRSDESK_FULL;
+    struct asked asked = {call_differences, copied(first.at, first.length), copied(second.at, second.length),
+                          first.length, second.length, level, 0};
+    struct crsdesk_refusal why;
+    uint32_t code = in_each_room(&asked, &lines, &why, answer);
+    struct bytes rest = lines;
+    if (code != CRSDESK_OK)
+        append_refusal(answer, &why);
+    else if (lines.length == 0)
+        appendf(answer, "none");
+    while (code == CRSDESK_OK && rest.length > 0) {
+        if (answer->text.length)
+            appendf(answer, ";");
+        line = split(&rest, &rest);
+        size_t path = before(&line, ": "), end = before(&line, " | ");
+        if (path + 2 > end || end + 3 > line.length) {
+            wrong(answer, "a line without a path and two values");
+            break;
+        }
+        struct bytes one = {line.at + path + 2, end - path - 2}, other = {line.at + end + 3, line.length - end - 3};
+        append(answer, line.at, path + 2);
+        append_value(&one, answer);
+        appendf(answer, " | ");
+        append_value(&other, answer);
+    }
+    free(lines.at);
+    free((char *)asked.first);
+    free((char *)asked.second);
+}
+
 static void answer_canons(const struct row *row, struct answer *answer)
 {
     struct bytes second, first = split(&row->input, &second);
@@ -591,7 +645,7 @@ static int is_expected(const struct row *row, const struct answer *answer)
 /* Whether the row is one of the C calls. */
 static int is_taken(const struct row *row)
 {
-    static const char *const calls[] = {"canon", "same", "Canon::same", "Refusal::new", "Catalogue"};
+    static const char *const calls[] = {"canon", "same", "values", "Canon::same", "Refusal::new", "Catalogue"};
     static const char *const runs[] = {"run_canon", "run_check", "run_same"};
     for (size_t i = 0; i < sizeof calls / sizeof *calls; i++)
         if (is(&row->call, calls[i]))
@@ -617,6 +671,8 @@ static int is_right(const struct row *row, int tells)
         if (answer.text.length != line.text.length || memcmp(answer.text.at, line.text.at, line.text.length) != 0)
             wrong(&answer, "another answer where the texts stand the other way round");
         free(line.text.at);
+    } else if (is(&row->call, "values")) {
+        answer_values(row, &answer);
     } else if (is(&row->call, "Canon::same")) {
         answer_canons(row, &answer);
     } else if (is(&row->call, "Refusal::new")) {
