@@ -1,5 +1,5 @@
 //! Catalogues of lines.
-use crs_commands::Level;
+use crs_desk::Level;
 use crs_group::{Catalogue, Placed};
 use crs_suite::put_text;
 use crs_text::Refusal;

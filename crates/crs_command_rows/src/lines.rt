@@ -1,5 +1,5 @@
 //! The reading of command lines.
-use crs_commands::{LineWord, Request, RequestFault, request};
+use crs_desk::{LineWord, Request, RequestFault, request};
 use crs_suite::put_text;
 use std::alloc::{AllocError, Global};
 use std::str;

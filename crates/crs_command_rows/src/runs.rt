@@ -1,6 +1,6 @@
 //! The runs of commands.
 use crate::streams::{Manner, Page, Pieces};
-use crs_commands::{
+use crs_desk::{
     Level, RunFault, Sink, Source, Summary, run_canon, run_canon_lines, run_check, run_check_lines,
     run_group, run_same,
 };

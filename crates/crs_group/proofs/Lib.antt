@@ -1,5 +1,9 @@
 pub mod CatalogueLemmas
 pub mod EntryLemmas
+pub mod GroupCutLemmas
+pub mod GroupRunLemmas
+pub mod GroupTextLemmas
+pub mod LedgerLemmas
 pub mod ListLemmas
 pub mod OneCatalogueLemmas
 pub mod PartitionLemmas

@@ -1,5 +1,9 @@
 pub mod Catalogue
 pub mod Entries
+pub mod GroupCutting
+pub mod GroupOutput
+pub mod GroupReading
+pub mod GroupRun
 pub mod GroupTexts
 pub mod Partition
 pub mod Putting

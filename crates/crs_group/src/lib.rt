@@ -1,11 +1,19 @@
 //! Groups of texts: two texts are in one group exactly where their CRSs are the same. Crates above know places, groups
-//! and refusals alone.
+//! and refusals alone, or hand over a reader and a writer.
 #![tactic(auto)]
 
 mod catalogue;
+mod group_cutter;
+mod group_run;
+mod group_text;
 mod groups;
 pub mod laws;
+mod ledger;
 mod placed;
+mod summary;
 
 pub use catalogue::{Catalogue, is_blank};
+pub use crs_streams::{RunFault, Sink, Source};
+pub use group_run::run_group;
 pub use placed::Placed;
+pub use summary::Summary;

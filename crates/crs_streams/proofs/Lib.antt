@@ -1,2 +1,4 @@
+pub mod FeedLemmas
+pub mod GivenLemmas
 pub mod LineLemmas
 pub mod SplitLemmas

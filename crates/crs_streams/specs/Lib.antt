@@ -1,3 +1,5 @@
+pub mod EndedLines
+pub mod Filled
 pub mod Given
 pub mod Lines
 pub mod LongLines

@@ -1,16 +1,20 @@
-//! The streams of a run: a source and a sink that count and remember failures, the lines of bytes, the line that tells
-//! a refusal, and the fault with which a run ends.
+//! The streams of a run: a source, a stream and a sink that remember failures, and count their reads, the lines of
+//! bytes, the line that tells a refusal, and the fault with which a run ends.
 #![tactic(auto)]
 
 mod fault;
+mod filling;
 pub mod laws;
 mod line;
 mod refusal;
 mod sink;
 mod source;
+mod stream;
 
 pub use fault::RunFault;
+pub use filling::Filling;
 pub use line::{MAX_LINE, split_line, text_of};
 pub use refusal::append_refusal;
 pub use sink::Sink;
-pub use source::{MAX_COUNTED_READS, MAX_READS, Source, make_room};
+pub use source::{MAX_READS, Source, make_room};
+pub use stream::{MAX_STREAM_READS, Stream};

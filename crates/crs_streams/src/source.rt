@@ -1,49 +1,35 @@
-ghost use Rattle.std.specs.Prelude.{◌≡◌, ◌≤◌, ◌<◌, ◌^◌, IfOk, length, true, vec_len};
+ghost use Rattle.std.specs.Prelude.{◌≡◌, ◌≤◌, ◌<◌, IfOk, length, vec_len};
 ghost use Rattle.std.specs.Io.{ReadsAtMost};
 ghost use Rattle.std.specs.Io.KnownBytes.{ReadConsumes};
 ghost use Rattle.crs_streams.specs.Streams.{CountsRead, fresh_source};
 
+use crate::Stream;
 use std::alloc::{AllocError, Global};
 use std::io;
 use std::io::Read;
 use std::marker::Model;
 
-/// The most reads that a run over one text or over a catalogue makes. Profile.
+/// The most reads of a source. Profile.
 pub const MAX_READS: u32 = 1_048_576;
-
-/// The most reads that a source counts, 2^47. Profile.
-pub const MAX_COUNTED_READS: u64 = 140_737_488_355_328;
 
 // The most bytes of a read.
 const ROOM: usize = 65_536;
 
-/// A reader that counts its reads and remembers a failure.
+/// A reader that counts its reads and remembers a failure, for input of a bounded number of reads.
 #[derive(Drop)]
 pub struct Source<R: Read> {
-    reader: R,
-    reads: u64,
-    taken: u64,
-    ended: bool,
-    past_end: bool,
-    failed: bool,
+    stream: Stream<R>,
 }
 
 impl<R: Read> Model for Source<R> {
-    ghost use Rattle.std.specs.Prelude.{◌≤◌, ◌*◌, ◌^◌};
+    ghost use Rattle.std.specs.Prelude.{◌≤◌};
     ghost use Rattle.crs_streams.specs.Streams.{SourceState};
 
     ghost Value = { SourceState };
 
-    ghost view = { λ source. record {
-      remaining = R.remaining source.reader;
-      reads = source.reads;
-      taken = source.taken;
-      ended = source.ended;
-      past_end = source.past_end;
-      failed = source.failed;
-    } };
+    ghost view = { λ source. source.stream };
 
-    ghost invariant = { λ source. (source.reads ≤ 2 ^ 47) × (source.taken ≤ 65536 * source.reads) };
+    ghost invariant = { λ source. source.stream.reads ≤ 1048576 };
 }
 
 impl<R: Read> Source<R> {
@@ -52,12 +38,7 @@ impl<R: Read> Source<R> {
         ensures { result ≡ fresh_source (R.remaining reader) }
     {
         Source {
-            reader,
-            reads: 0,
-            taken: 0,
-            ended: false,
-            past_end: false,
-            failed: false,
+            stream: Stream::new(reader),
         }
     }
 
@@ -66,39 +47,27 @@ impl<R: Read> Source<R> {
     pub fn read(&mut self, room: &mut [u8]) -> io::Result<usize>
         requires some { 1 ≤ length room.old }
         requires few { length room.old ≤ 65536 }
-        requires reads { self.old.reads < 2 ^ 47 }
+        requires reads { self.old.reads < 1048576 }
         ensures bound { ReadsAtMost result room.new }
         ensures bytes { ReadConsumes self.old.remaining self.new.remaining result room.new }
         ensures counted { CountsRead self.old self.new result }
     {
-        self.reads += 1;
-        self.past_end = self.past_end || self.ended;
-        match self.reader.read(room) {
-            Ok(count) => {
-                self.taken += count as u64;
-                self.ended = self.ended || count == 0;
-                Ok(count)
-            }
-            Err(error) => {
-                self.failed = true;
-                Err(error)
-            }
-        }
+        self.stream.read(room)
     }
 
     /// How many reads were made.
-    pub fn reads(&self) -> u64
+    pub fn reads(&self) -> u32
         ensures count { result ≡ self.now.reads }
-        ensures bound { result ≤ 2 ^ 47 }
+        ensures bound { result ≤ 1048576 }
     {
-        self.reads
+        self.stream.reads() as u32
     }
 
     /// Whether a read answered a failure.
     pub fn failed(&self) -> bool
         ensures { result ≡ self.now.failed }
     {
-        self.failed
+        self.stream.failed()
     }
 }
 

@@ -1,5 +1,5 @@
 //! Why the program ends without an answer.
-use crs_commands::{RequestFault, RunFault};
+use crs_desk::{RequestFault, RunFault};
 use std::alloc::AllocError;
 use std::io;
 use thiserror::Error;

@@ -6,7 +6,7 @@ mod fault;
 mod filling;
 mod runs;
 
-use crs_commands::{Level, LineWord, Request, request};
+use crs_desk::{Level, LineWord, Request, request};
 use fault::Fault;
 use runs::{canon, check, explain, group, same};
 use std::alloc::{AllocError, Global};

@@ -1,6 +1,6 @@
 //! The runs of the commands, over standard input and output.
 use crate::filling::Filling;
-use crs_commands::{
+use crs_desk::{
     Level, LineWord, RunFault, Sink, Source, run_canon, run_canon_lines, run_check,
     run_check_lines, run_explain, run_explain_pair, run_explain_text, run_group, run_same,
 };

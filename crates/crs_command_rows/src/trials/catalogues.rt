@@ -2,7 +2,7 @@
 use crate::catalogues::{put_group_text, put_lines, put_placed, put_refused};
 use crate::runs::{put_grouped, put_written};
 use crate::trials::commands::{ended, make_page};
-use crs_commands::{Level, RunFault, Sink, Source, Summary, run_group};
+use crs_desk::{Level, RunFault, Sink, Source, Summary, run_group};
 use crs_group::{Catalogue, Placed};
 use crs_suite::{Trial, run_trial, unusable};
 use std::alloc::{AllocError, Global};

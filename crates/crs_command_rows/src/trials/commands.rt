@@ -1,7 +1,7 @@
 //! The reading of a command line, and the runs of commands.
 use crate::lines::put_asked;
 use crate::runs::{put_outcome, put_written};
-use crs_commands::{
+use crs_desk::{
     Level, Request, RequestFault, RunFault, Sink, Source, request, run_canon, run_canon_lines,
     run_check, run_check_lines, run_explain, run_explain_pair, run_same,
 };

@@ -1,9 +1,0 @@
-use Rattle.std.proofs.Common.{◌≡◌, ◌++◌, drop}
-use Rattle.std.specs.List.{flat_map}
-use Rattle.crs_commands.specs.GroupOutput.{refused_line}
-use Rattle.crs_commands.proofs.group_text.write_refused_lines.Given as goal
-
-abbrev pub invariant-loop-line : goal.invariant-loop-line
-invariant-loop-line l =
-    l.out.items ++ flat_map refused_line (drop l.line-index l.refused)
-    ≡ l.initial.out.items ++ flat_map refused_line l.refused

@@ -1,9 +1,0 @@
-use Rattle.crs_commands.specs.Output.{IsCanonOutput, IsCheckOutput}
-use Rattle.crs_commands.proofs.LineOutputLemmas.{output-append}
-use Rattle.crs_commands.proofs.laws.lines_joined.Goals as goal
-
-pub returns-clause-canon : goal.returns-clause-canon
-returns-clause-canon c level = output-append (IsCanonOutput level)
-
-pub returns-clause-check : goal.returns-clause-check
-returns-clause-check c = output-append IsCheckOutput

@@ -1,8 +1,0 @@
-use Rattle.crs_commands.proofs.LedgerLemmas.{ledger-step}
-use Rattle.crs_commands.proofs.ledger.Ledger.add.Goals as goal
-
-pub returns-clause-texts : goal.returns-clause-texts
-returns-clause-texts c texts ledger =
-    ledger-step texts c.args.text.now c.args.self.now c.self.inside.catalogue c.add.new.self c.self.inside.lines
-    c.self.inside.blank c.blank_count.result c.in_ok-placed.placed c.self.view_is c.in_ok-placed.ensures.catalogue
-    c.in_ok-placed.ensures.lines c.blank_count.ensures.count ledger

@@ -1,0 +1,8 @@
+mod CheckLemmas
+mod JudgedLemmas
+mod KnownText
+mod LineCutLemmas
+mod LineOutputLemmas
+mod LinesRunLemmas
+mod PieceLemmas
+pub mod SameOutputLemmas

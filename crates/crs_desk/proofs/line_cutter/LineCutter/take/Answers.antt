@@ -1,0 +1,61 @@
+use Rattle.std.proofs.Common.{◌≡◌, ◌++◌, ◌∷◌, ap, arith, false, length, length-append, rules, subst, sym}
+use Rattle.std.specs.Prelude.{IfErr}
+use Rattle.std.proofs.lemmas.Result.{IfErr-weaker, IfOk-weaker}
+use Rattle.crs_streams.specs.Lines.{HasNoFeed}
+use Rattle.crs_desk.specs.LineCutting.{IsStopped}
+use Rattle.crs_desk.proofs.LineCutLemmas.{piece-end-stopped, piece-kept, piece-step, piece-stopped, split-small}
+use Rattle.crs_desk.proofs.line_cutter.LineCutter.take.Goals as goal
+
+pub returns-in_err-end_line-clause-fault : goal.returns-in_err-end_line-clause-fault
+returns-in_err-end_line-clause-fault g c =
+    let Output = g.C.LineCommand.Output c.args.command.now in
+    let done = c.loop-line.invariant.done in
+    let same : IfErr c.from_residual.result (λ fault. fault ≡ c.in_err-end_line.field-0.0) = search rules in
+    IfErr-weaker c.from_residual.result _ _
+    (λ fault is before bytes cut. subst (IsStopped Output false before (bytes ++ c.args.piece.now) c.end_line.new.sink) (sym is)
+    (piece-stopped Output before c.end_line.new.sink bytes done.0 c.in-Some.line.now c.in-Some.left.now c.loop-line.rest.now
+    c.args.piece.now c.in_err-end_line.field-0.0 done.1 c.in-Some.ensures
+    (c.in_err-end_line.ensures.fault before (bytes ++ done.0) c.in-Some.left.now
+    (split-small done.0 c.in-Some.line.now c.in-Some.left.now c.loop-line.rest.now c.args.piece.now done.1
+    c.in-Some.ensures c.requires.small) (done.2 before bytes cut))))
+    same
+
+pub loop-line-preserved : goal.loop-line-preserved
+loop-line-preserved g c =
+    let done = c.loop-line.invariant.done in record {
+      done = piece-step (g.C.LineCommand.Output c.args.command.now) done.0 c.in-Some.line.now c.in-Some.left.now
+          c.loop-line.rest.now c.args.piece.now c.args.self.now c.loop-line.self c.end_line.new.self c.args.sink.now
+          c.loop-line.sink c.end_line.new.sink done.1 c.in-Some.ensures done.2 c.in_ok-end_line.ensures.cut;
+      lines = omega (
+        arith,
+        ap length c.in-Some.ensures.0,
+        length-append c.in-Some.line.now (10 ∷ c.in-Some.left.now),
+        c.in_ok-end_line.ensures.lines,
+        c.loop-line.invariant.lines,
+      );
+      small = omega (
+        arith,
+        ap length c.in-Some.ensures.0,
+        length-append c.in-Some.line.now (10 ∷ c.in-Some.left.now),
+        c.loop-line.invariant.small,
+      );
+    }
+
+pub returns-clause-cut : goal.returns-clause-cut
+returns-clause-cut g c =
+    let done = c.loop-line.invariant.done in
+    let plain : HasNoFeed c.loop-line.rest.now = search rules in
+    IfOk-weaker c.keep.result _ _
+    (λ _ kept before bytes cut. piece-kept (g.C.LineCommand.Output c.args.command.now) before c.loop-line.sink bytes done.0
+    c.loop-line.rest.now c.args.piece.now c.loop-line.self c.keep.new.self done.1 plain kept (done.2 before bytes cut))
+    c.keep.ensures.kept
+
+pub returns-clause-fault : goal.returns-clause-fault
+returns-clause-fault g c =
+    let done = c.loop-line.invariant.done in
+    let plain : HasNoFeed c.loop-line.rest.now = search rules in
+    IfErr-weaker c.keep.result _ _
+    (λ fault why before bytes cut. piece-end-stopped (g.C.LineCommand.Output c.args.command.now) before c.loop-line.sink
+    bytes done.0 c.loop-line.rest.now c.args.piece.now c.loop-line.self fault done.1 plain
+    (omega (arith, c.loop-line.invariant.small, c.requires.small)) why (done.2 before bytes cut))
+    c.keep.ensures.fault

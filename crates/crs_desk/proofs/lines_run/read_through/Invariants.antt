@@ -1,0 +1,17 @@
+use Rattle.std.proofs.Common.{◌≡◌, ◌*◌, ◌≤◌, ℕ, List, length, false}
+use Rattle.crs_streams.specs.Given.{HasGiven}
+use Rattle.crs_desk.specs.LineCutting.{IsLinesCut}
+use Rattle.crs_desk.proofs.lines_run.read_through.Given as goal
+
+abbrev pub invariant-loop-turn : goal.invariant-loop-turn
+invariant-loop-turn g l =
+    record {
+      room : length l.room ≡ 65536;
+      reads : l.source.reads ≡ l.turn;
+      few : l.source.taken ≤ 65536 * l.turn;
+      unended : l.source.ended ≡ false;
+      within : l.source.past_end ≡ false;
+      healthy : l.source.failed ≡ false;
+      cut : (bytes : List ℕ) × HasGiven l.fn.source l.source bytes
+          × IsLinesCut (g.C.LineCommand.Output l.fn.command) l.fn.sink bytes l.cutter l.sink;
+    }

@@ -1,0 +1,93 @@
+-- What a run over lines writes, and how it ends.
+use Rattle.std.specs.Prelude.{◌≡◌, ◌⊎◌, ◌++◌, ◌^◌, [], ◌∷◌, ℕ, List, Bool, true, false, IsTrue, IsFalse, max}
+use Rattle.std.specs.List.{list_all}
+use Rattle.std.specs.Io.KnownBytes.{Appends}
+use Rattle.crs_text.specs.Tokens.{is_white}
+use Rattle.crs_streams.specs.Given.{HasGiven, HasGivenAll}
+use Rattle.crs_streams.specs.Lines.{AreLines}
+use Rattle.crs_streams.specs.LongLines.{EndsInFeed, HasShortLines, IsTooLong}
+use Rattle.crs_streams.specs.Streams.{SourceState, SinkState}
+use Rattle.crs_streams.specs.declared.fault.RunFault.{RunFault}
+use Rattle.crs_streams.specs.declared.fault.RunFault.TheVariants.{ReadFailed, WriteFailed, TooLong}
+use Rattle.crs_streams.specs.declared.fault.RunFault.TheVariants.{TooManyReads, Memory}
+use Rattle.crs_desk.specs.Output.{IsLine}
+
+-- what a command writes for a text, and its status
+abbrev pub Outputs : Type 1
+Outputs = List ℕ → List ℕ → ℕ → Type 0
+
+-- for a line of white space alone an empty line is written, for any other what the command writes
+-- for its text
+abbrev pub IsLineOutput : Outputs → Outputs
+IsLineOutput Output text written status =
+    (IsTrue (list_all is_white text) × IsLine [] 0 written status)
+    ⊎ (IsFalse (list_all is_white text) × Output text written status)
+
+-- what is written for texts one after another, and the greatest of their statuses
+abbrev pub AreOutputs : Outputs → List (List ℕ) → List ℕ → ℕ → Type 0
+AreOutputs Output [] written status = (written ≡ []) × (status ≡ 0)
+AreOutputs Output (text ∷ texts) written status =
+    (line : List ℕ) × (rest : List ℕ) × (first : ℕ) × (others : ℕ)
+    × IsLineOutput Output text line first × AreOutputs Output texts rest others
+    × (written ≡ line ++ rest) × (status ≡ max first others)
+
+-- what is written for the lines of some bytes
+pub record IsLinesOutput (Output : Outputs) (bytes written : List ℕ) (status : ℕ) : Type 0 where
+  pub texts : List (List ℕ)
+  pub are_texts : AreLines bytes texts
+  pub are_outputs : AreOutputs Output texts written status
+
+-- this is written for some whole lines, the first of these bytes; a line without a line feed is
+-- whole where the end was shown
+pub record IsFrontOutput (Output : Outputs) (bytes : List ℕ) (ended : Bool)
+    (written : List ℕ) : Type 0 where
+  pub front : List ℕ
+  pub rest : List ℕ
+  pub are_bytes : bytes ≡ front ++ rest
+  pub are_whole : (front ≡ []) ⊎ EndsInFeed front ⊎ ((rest ≡ []) × (ended ≡ true))
+  pub status : ℕ
+  pub is_output : IsLinesOutput Output front written status
+
+-- the sink got that, but for a part that was not sent
+abbrev pub HasSent : Outputs → List ℕ → Bool → SinkState → SinkState → List ℕ → Type 0
+HasSent Output bytes ended before after unsent =
+    (written : List ℕ) × IsFrontOutput Output bytes ended (written ++ unsent)
+    × Appends before.contents after.contents written
+
+-- the source gave all its bytes, none of its lines is too long, and the sink got what is written
+-- for them
+pub record IsLinesAnswered (Output : Outputs) (old new : SourceState) (before after : SinkState)
+    (status : ℕ) : Type 0 where
+  pub bytes : List ℕ
+  pub is_whole : HasGivenAll old new bytes
+  pub are_short : HasShortLines bytes
+  pub written : List ℕ
+  pub is_output : IsLinesOutput Output bytes written status
+  pub is_sent : Appends before.contents after.contents written
+  pub is_healthy : after.failed ≡ false
+
+-- the source gave these bytes or more, and the sink got whole lines for a front of them
+abbrev pub HasBegun : Outputs → SourceState → SourceState → SinkState → SinkState
+    → (List ℕ → Type 0) → Type 0
+HasBegun Output old new before after Like =
+    (bytes : List ℕ) × HasGiven old new bytes × Like bytes
+    × HasSent Output bytes new.ended before after []
+
+-- what a run's fault says of its source and of its sink: whole lines were written, but where a
+-- write failed
+abbrev pub IsLinesFault : Outputs → SourceState → SourceState → SinkState → SinkState → RunFault
+    → Type 0
+IsLinesFault Output old new before after ReadFailed =
+    (new.failed ≡ true) × (after.failed ≡ false) × HasBegun Output old new before after HasShortLines
+IsLinesFault Output old new before after WriteFailed =
+    (new.failed ≡ false) × (after.failed ≡ true) × ((bytes : List ℕ) × (unsent : List ℕ)
+    × HasGiven old new bytes × HasSent Output bytes new.ended before after unsent)
+IsLinesFault Output old new before after (TooLong number) =
+    (new.failed ≡ false) × (after.failed ≡ false)
+    × HasBegun Output old new before after (λ bytes. IsTooLong bytes number)
+IsLinesFault Output old new before after TooManyReads =
+    (new.failed ≡ false) × (after.failed ≡ false) × (new.reads ≡ 2 ^ 47) × (new.ended ≡ false)
+    × HasBegun Output old new before after HasShortLines
+IsLinesFault Output old new before after Memory =
+    (new.failed ≡ false) × (after.failed ≡ false)
+    × HasBegun Output old new before after (λ bytes. Unit {0})

@@ -1,0 +1,190 @@
+//! Cuts bytes into lines piece by piece, and sends what a command writes for each to a sink. A line that is whole
+//! within a piece is read in place; of others the bytes are kept until their line feed comes.
+ghost use Rattle.std.specs.Prelude.{◌≡◌, ◌+◌, ◌^◌, ◌<◌, ◌≤◌, ◌++◌, ◌∷◌, [], ℕ, List, length};
+ghost use Rattle.std.specs.Prelude.{IfErr, IfOk, IsFalse, IsTrue, OnOk, false, true};
+ghost use Rattle.crs_streams.specs.Lines.{HasNoFeed};
+ghost use Rattle.crs_streams.specs.Streams.{SinkState};
+ghost use Rattle.crs_desk.specs.LineCutting.{IsKept, IsLinesCut, IsNotKept, IsPut, IsPutOut, IsStopped, IsWrittenOut, PutsLine};
+
+use crate::line_output::LineCommand;
+use crate::line_writer::LineWriter;
+use crate::{RunFault, Sink};
+use crs_streams::{MAX_LINE, split_line, text_of};
+use std::alloc::{AllocError, Global};
+use std::io::Write;
+use std::marker::Model;
+
+#[derive(Drop)]
+pub(crate) struct LineCutter {
+    writer: LineWriter,
+    partial: Vec<u8>,
+    lines: u64,
+}
+
+impl Model for LineCutter {
+    ghost use Rattle.crs_desk.specs.LineCutting.{CutterParts};
+
+    ghost Value = { CutterParts };
+
+    ghost view = { λ cutter. record {
+      writer = cutter.writer;
+      partial = cutter.partial.items;
+      lines = cutter.lines;
+    } };
+}
+
+impl LineCutter {
+    pub(crate) fn new(alloc: Global) -> LineCutter
+        ensures { result ≡ record { writer = record { out = []; status = 0 }; partial = []; lines = 0 } }
+    {
+        LineCutter {
+            writer: LineWriter::new(alloc),
+            partial: Vec::new(alloc),
+            lines: 0,
+        }
+    }
+
+    // The next piece of the bytes.
+    pub(crate) fn take<C: LineCommand, W: Write>(
+        &mut self,
+        alloc: Global,
+        command: &C,
+        piece: &[u8],
+        sink: &mut Sink<W>,
+    ) -> Result<(), RunFault>
+        requires fits { self.old.lines + length piece.now + 1 < 2 ^ 64 }
+        requires small { length piece.now ≤ 65536 }
+        ensures cut { OnOk result ((before : SinkState) (bytes : List ℕ) →
+            IsLinesCut (C.Output command.now) before bytes self.old sink.old →
+            IsLinesCut (C.Output command.now) before (bytes ++ piece.now) self.new sink.new) }
+        ensures fault { IfErr result (λ fault. (before : SinkState) (bytes : List ℕ) →
+            IsLinesCut (C.Output command.now) before bytes self.old sink.old →
+            IsStopped (C.Output command.now) false before (bytes ++ piece.now) sink.new fault) }
+    {
+        let mut rest = piece;
+        while let Some((line, left)) = split_line(rest) {
+            self.end_line(alloc, command, line, sink)?;
+            rest = left;
+        }
+        self.keep(rest)
+    }
+
+    // The status of all lines: what follows the last line feed is one, if it has a byte.
+    pub(crate) fn finish<C: LineCommand, W: Write>(
+        &mut self,
+        alloc: Global,
+        command: &C,
+        sink: &mut Sink<W>,
+    ) -> Result<u8, RunFault>
+        ensures written { IfOk result (λ status. (before : SinkState) (bytes : List ℕ) →
+            IsLinesCut (C.Output command.now) before bytes self.old sink.old →
+            IsWrittenOut (C.Output command.now) before bytes sink.new status) }
+        ensures fault { IfErr result (λ fault. (before : SinkState) (bytes : List ℕ) →
+            IsLinesCut (C.Output command.now) before bytes self.old sink.old →
+            IsStopped (C.Output command.now) true before bytes sink.new fault) }
+    {
+        self.end_last(alloc, command)?;
+        self.writer.send(sink)?;
+        Ok(self.writer.status())
+    }
+
+    // The bytes before a line feed: after what was kept they complete a line.
+    fn end_line<C: LineCommand, W: Write>(
+        &mut self,
+        alloc: Global,
+        command: &C,
+        line: &[u8],
+        sink: &mut Sink<W>,
+    ) -> Result<(), RunFault>
+        requires one { HasNoFeed line.now }
+        requires fits { self.old.lines + 1 < 2 ^ 64 }
+        ensures cut { OnOk result ((before : SinkState) (bytes : List ℕ) →
+            IsLinesCut (C.Output command.now) before bytes self.old sink.old →
+            IsLinesCut (C.Output command.now) before (bytes ++ (line.now ++ 10 ∷ [])) self.new sink.new) }
+        ensures fault { IfErr result (λ fault. (before : SinkState) (bytes rest : List ℕ) →
+            length line.now + length (10 ∷ rest) ≤ 65536 →
+            IsLinesCut (C.Output command.now) before bytes self.old sink.old →
+            IsStopped (C.Output command.now) false before (bytes ++ (line.now ++ 10 ∷ rest)) sink.new fault) }
+        ensures lines { OnOk result (self.new.lines ≡ self.old.lines + 1) }
+    {
+        if self.is_over(line) {
+            return Err(RunFault::TooLong(self.lines + 1));
+        }
+        self.put_line(alloc, command, line)?;
+        self.lines += 1;
+        self.writer.send_block(sink)
+    }
+
+    // What is written for the line that ends with these bytes.
+    fn put_line<C: LineCommand>(
+        &mut self,
+        alloc: Global,
+        command: &C,
+        line: &[u8],
+    ) -> Result<(), RunFault>
+        ensures put { OnOk result (PutsLine (C.Output command.now) line.now self.old self.new) }
+        ensures fault { IfErr result (λ fault. fault ≡ RunFault.Memory) }
+    {
+        if self.partial.is_empty() {
+            return put(&mut self.writer, alloc, command, text_of(line));
+        }
+        extend(&mut self.partial, line)?;
+        put(&mut self.writer, alloc, command, text_of(&self.partial))?;
+        self.partial.clear();
+        Ok(())
+    }
+
+    // The bytes after the last line feed of a piece.
+    fn keep(&mut self, bytes: &[u8]) -> Result<(), RunFault>
+        requires { self.old.lines + 1 < 2 ^ 64 }
+        ensures kept { OnOk result (IsKept bytes.now self.old self.new) }
+        ensures fault { IfErr result (IsNotKept bytes.now self.old) }
+    {
+        if self.is_over(bytes) {
+            return Err(RunFault::TooLong(self.lines + 1));
+        }
+        extend(&mut self.partial, bytes)
+    }
+
+    // What is written for the line that has no line feed, if it has a byte.
+    fn end_last<C: LineCommand>(&mut self, alloc: Global, command: &C) -> Result<(), RunFault>
+        ensures put { OnOk result ((before after : SinkState) (bytes : List ℕ) →
+            IsLinesCut (C.Output command.now) before bytes self.old after →
+            IsPutOut (C.Output command.now) true before bytes self.new.writer after) }
+        ensures fault { IfErr result (λ fault. fault ≡ RunFault.Memory) }
+    {
+        if self.partial.is_empty() {
+            return Ok(());
+        }
+        put(&mut self.writer, alloc, command, &self.partial)
+    }
+
+    // Whether the line is too long with these bytes.
+    fn is_over(&self, bytes: &[u8]) -> bool
+        ensures over { IsTrue result → 1048576 < length self.now.partial + length bytes.now }
+        ensures fits { IsFalse result → length self.now.partial + length bytes.now ≤ 1048576 }
+    {
+        self.partial.len() + bytes.len() > MAX_LINE
+    }
+}
+
+fn put<C: LineCommand>(
+    writer: &mut LineWriter,
+    alloc: Global,
+    command: &C,
+    text: &[u8],
+) -> Result<(), RunFault>
+    ensures put { OnOk result (IsPut (C.Output command.now) text.now writer.old writer.new) }
+    ensures fault { IfErr result (λ fault. fault ≡ RunFault.Memory) }
+{
+    writer
+        .put(alloc, command, text)
+        .map_err(|_| RunFault::Memory)
+}
+
+fn extend(kept: &mut Vec<u8>, bytes: &[u8]) -> Result<(), RunFault>
+    ensures kept { OnOk result (kept.new.items ≡ kept.old.items ++ bytes.now) }
+    ensures fault { IfErr result (λ fault. fault ≡ RunFault.Memory) }
+{
+    kept.extend_from_slice(bytes).map_err(|_| RunFault::Memory)
+}

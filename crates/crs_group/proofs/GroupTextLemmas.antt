@@ -1,0 +1,25 @@
+-- Groups are written one after the other.
+use Rattle.std.proofs.Common.{◌≡◌, ◌+◌, ◌<◌, ◌++◌, ◌∷◌, [], ℕ, zero, suc, List, Some, length, slice_get, drop, ap, sym, refl, ◌∙◌, add-one, append_assoc, arith}
+use Rattle.crs_group.specs.Catalogue.{GroupParts, nth}
+use Rattle.crs_group.specs.GroupOutput.{group_line, group_lines}
+
+-- the groups from a place on: the one that is there, and those after it
+split-at : (groups : List GroupParts) (at : ℕ) → at < length groups
+    → (group : GroupParts) × (slice_get groups at ≡ Some group) × (drop at groups ≡ group ∷ drop (suc at) groups)
+split-at [] at within = absurd (omega arith)
+split-at (g ∷ gs) zero within = (g, refl, refl)
+split-at (g ∷ gs) (suc at) within = split-at gs at (omega arith)
+
+-- a further group is written
+pub group-step : (all now next : List ℕ) (groups : List GroupParts) (at : ℕ) → at < length groups
+    → ((group : GroupParts) → nth (at + 1) groups ≡ Some group → next ≡ now ++ group_line (at + 1) group)
+    → now ++ group_lines (at + 1) (drop at groups) ≡ all
+    → next ++ group_lines (at + 1 + 1) (drop (at + 1) groups) ≡ all
+group-step all now next groups at within written so-far =
+    let (group, here, parts) = split-at groups at within in
+    ap (λ text. text ++ group_lines (at + 1 + 1) (drop (at + 1) groups))
+    (written group (ap (λ n. nth n groups) (add-one at) ∙ here))
+    ∙ append_assoc now (group_line (at + 1) group) (group_lines (at + 1 + 1) (drop (at + 1) groups))
+    ∙ ap (λ rest. now ++ group_lines (at + 1) rest)
+    (ap (λ n. group ∷ drop n groups) (add-one at) ∙ sym parts)
+    ∙ so-far

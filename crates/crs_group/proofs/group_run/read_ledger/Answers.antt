@@ -1,0 +1,19 @@
+use Rattle.std.proofs.Common.{◌≡◌, rules, ℕ, List}
+use Rattle.std.specs.Prelude.{IfOk}
+use Rattle.crs_group.specs.GroupCutting.{IsCutTo, IsLedgerFor}
+use Rattle.crs_group.proofs.GroupRunLemmas.{kept, read-fits, whole-ledger}
+use Rattle.crs_group.proofs.group_run.read_ledger.Goals as goal
+
+pub finish-requires : goal.finish-requires
+finish-requires g c =
+    read-fits c.args.source.now c.read_into.new.source c.read_into.new.cutter c.in_ok-read_into.ensures.ok
+
+pub returns-clause-ok : goal.returns-clause-ok
+returns-clause-ok g c =
+    let lines : IfOk c.map_err-2.result
+    (λ ledger. (bytes : List ℕ) → IsCutTo bytes c.read_into.new.cutter → IsLedgerFor bytes ledger) =
+    kept (λ ledger. (bytes : List ℕ) → IsCutTo bytes c.read_into.new.cutter → IsLedgerFor bytes ledger)
+    _ c.finish.result c.map_err-2.result c.map_err-2.ensures.cases c.map_err-2.ensures.variant c.finish.ensures.lines in
+    let level : IfOk c.map_err-2.result (λ ledger. ledger.catalogue.level ≡ c.args.level) = search rules in
+    whole-ledger c.args.level c.args.source.now c.read_into.new.source c.read_into.new.cutter c.map_err-2.result
+    c.in_ok-read_into.ensures.ok lines level

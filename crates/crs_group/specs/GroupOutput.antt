@@ -1,0 +1,52 @@
+-- How the catalogue of some bytes is written.
+use Rattle.std.specs.Prelude.{◌≡◌, ◌+◌, ◌++◌, ◌∷◌, [], ℕ, List, codes, decimal, length}
+use Rattle.std.specs.List.{flat_map}
+use Rattle.crs_text.specs.Refusal.{RefusedAt, refused_text}
+use Rattle.crs_value.specs.declared.values.level.Level.{Level}
+use Rattle.crs_group.specs.Catalogue.{CatalogueParts, GroupParts, Line, line_of}
+use Rattle.crs_group.specs.GroupTexts.{IsCatalogueOf}
+use Rattle.crs_streams.specs.Lines.{AreLines, blank_in}
+use Rattle.crs_group.specs.declared.summary.Summary.{Summary}
+
+-- ` L1 L2 ..`
+abbrev pub numbers_text : List ℕ → List ℕ
+numbers_text numbers = flat_map (λ number. codes " " ++ decimal number) numbers
+
+-- `group N: L1 L2 ..`, and a line feed
+abbrev pub group_line : ℕ → GroupParts → List ℕ
+group_line number group =
+    codes "group " ++ decimal number ++ codes ":" ++ numbers_text group.lines ++ 10 ∷ []
+
+-- `line L: refused N NAME at P`, and a line feed
+abbrev pub refused_line : ℕ × RefusedAt → List ℕ
+refused_line (line, refusal) =
+    codes "line " ++ decimal line ++ codes ": " ++ refused_text refusal.number refusal.place
+    ++ 10 ∷ []
+
+-- the groups, from this number on
+abbrev pub group_lines : ℕ → List GroupParts → List ℕ
+group_lines number [] = []
+group_lines number (group ∷ groups) = group_line number group ++ group_lines (number + 1) groups
+
+-- the groups in the order of their numbers, and then the refused lines in theirs
+abbrev pub catalogue_text : CatalogueParts → List ℕ
+catalogue_text catalogue = group_lines 1 catalogue.groups ++ flat_map refused_line catalogue.refused
+
+-- lines are numbered in order, from this number on
+abbrev pub numbered : ℕ → List (List ℕ) → List Line
+numbered number [] = []
+numbered number (text ∷ texts) = line_of number text ∷ numbered (number + 1) texts
+
+-- the bytes are written as the catalogue of their lines, which are numbered from 1, and this is its
+-- summary
+pub record IsGroupOutput (level : Level) (bytes written : List ℕ) (summary : Summary) : Type 0 where
+  pub texts : List (List ℕ)
+  pub are_texts : AreLines bytes texts
+  pub catalogue : CatalogueParts
+  pub is_level : catalogue.level ≡ level
+  pub of_lines : IsCatalogueOf (numbered 1 texts) catalogue
+  pub is_written : written ≡ catalogue_text catalogue
+  pub lines : summary.lines ≡ length texts
+  pub blank : summary.blank ≡ blank_in texts
+  pub refused : summary.refused ≡ length catalogue.refused
+  pub groups : summary.groups ≡ length catalogue.groups

@@ -1,0 +1,164 @@
+-- Line feeds among bytes, and lines that aren't too long.
+use Rattle.std.proofs.Common.{◌≡◌, ◌⊎◌, ◌+◌, ◌<◌, ◌≤◌, ◌++◌, ◌∷◌, [], ℕ, zero, suc, List, true, false, length, inl, inr, ap, subst, sym, refl, ◌∙◌, arith, append_assoc, length-append}
+use Rattle.std.specs.Prelude.{◌==◌, cond}
+use Rattle.std.proofs.lemmas.Bool.{cases_Bool, eqb-true}
+use Rattle.std.proofs.lemmas.List.Sums.{sum_by-append}
+use Rattle.crs_streams.specs.EndedLines.{AreEnded}
+use Rattle.crs_streams.specs.Lines.{AreLines, HasNoFeed, IsSplit, IsTextOf}
+use Rattle.crs_streams.specs.LongLines.{EndsInFeed, HasShortLines, feeds}
+use Rattle.crs_streams.proofs.LineLemmas.{false-true, feed-more, feed-rest, feed-test}
+use Rattle.crs_streams.proofs.SplitLemmas.{plain-append}
+
+cons-is : (a b : ℕ) (xs ys : List ℕ) → a ≡ b → xs ≡ ys → a ∷ xs ≡ b ∷ ys
+cons-is a b xs ys h t = cc
+
+head-of : (a b : ℕ) (xs ys : List ℕ) → a ∷ xs ≡ b ∷ ys → a ≡ b
+head-of a b xs ys h = cc
+
+tail-of : (a b : ℕ) (xs ys : List ℕ) → a ∷ xs ≡ b ∷ ys → xs ≡ ys
+tail-of a b xs ys h = cc
+
+-- how many feeds there are
+pub feeds-append : (a b : List ℕ) → feeds (a ++ b) ≡ feeds a + feeds b
+feeds-append a b = sum_by-append (λ x. cond (x == 10) 1 0) a b
+
+pub feeds-none : (bytes : List ℕ) → HasNoFeed bytes → feeds bytes ≡ 0
+feeds-none [] plain = refl
+feeds-none (b ∷ bs) plain =
+    let first : feeds (b ∷ []) ≡ 0 = rw (feed-test b bs plain) refl in
+    let rest = feeds-none bs (feed-rest b bs plain) in
+    feeds-append (b ∷ []) bs ∙ omega (arith, first, rest)
+
+pub ended-feeds : (bytes : List ℕ) (texts : List (List ℕ)) → AreEnded bytes texts → feeds bytes ≡ length texts
+ended-feeds bytes [] none = ap feeds none
+ended-feeds bytes (text ∷ texts) (line, rest, e, plain, is, more) =
+    let further = ended-feeds rest texts more in
+    let here = feeds-none line plain in
+    let behind : feeds (10 ∷ rest) ≡ 1 + feeds rest = feeds-append (10 ∷ []) rest in
+    ap feeds e ∙ (feeds-append line (10 ∷ rest) ∙ omega (arith, further, here, behind))
+
+pub ended-fits : (bytes : List ℕ) (texts : List (List ℕ)) → AreEnded bytes texts → length texts ≤ length bytes
+ended-fits bytes [] none = omega arith
+ended-fits bytes (text ∷ texts) (line, rest, e, plain, is, more) =
+    let further = ended-fits rest texts more in
+    omega (arith, further, ap length e, length-append line (10 ∷ rest))
+
+-- one more line that has ended
+pub ended-more : (bytes : List ℕ) (texts : List (List ℕ)) (line text : List ℕ) → AreEnded bytes texts → HasNoFeed line
+    → IsTextOf line text → AreEnded (bytes ++ (line ++ 10 ∷ [])) (texts ++ text ∷ [])
+ended-more bytes [] line text none plain is =
+    (line, [], ap (λ b. b ++ (line ++ 10 ∷ [])) none, plain, is, refl)
+ended-more bytes (first ∷ texts) line text (front, rest, e, bare, word, more) plain is = (
+  front,
+  rest ++ (line ++ 10 ∷ []),
+  ap (λ b. b ++ (line ++ 10 ∷ [])) e ∙ append_assoc front (10 ∷ rest) (line ++ 10 ∷ []),
+  bare,
+  word,
+  ended-more rest texts line text more plain is,
+)
+
+pub ended-begins : (bytes : List ℕ) (texts : List (List ℕ)) → AreEnded bytes texts → (bytes ≡ []) ⊎ EndsInFeed bytes
+ended-begins bytes [] none = inl none
+ended-begins bytes (text ∷ texts) (line, rest, e, plain, is, more) = inr (further (ended-begins rest texts more))
+  where
+    further : ((rest ≡ []) ⊎ EndsInFeed rest) → EndsInFeed bytes
+    further (inl none) = (line, e ∙ ap (λ r. line ++ 10 ∷ r) none)
+    further (inr (front, ends)) = (
+      line ++ 10 ∷ front,
+      e ∙ (ap (λ r. line ++ 10 ∷ r) ends ∙ sym (append_assoc line (10 ∷ front) (10 ∷ []))),
+    )
+
+-- the lines of all bytes, where the last one has ended
+pub ended-lines : (bytes : List ℕ) (texts : List (List ℕ)) → AreEnded bytes texts → AreLines bytes texts
+ended-lines bytes [] none = none
+ended-lines bytes (text ∷ texts) (line, rest, e, plain, is, more) =
+    inl (line, rest, e, plain, is, ended-lines rest texts more)
+
+-- and where it has not
+pub ended-last : (bytes : List ℕ) (texts : List (List ℕ)) (last : List ℕ) → AreEnded bytes texts → HasNoFeed last
+    → ¬ (last ≡ []) → AreLines (bytes ++ last) (texts ++ last ∷ [])
+ended-last bytes [] last none plain some =
+    subst (λ b. AreLines (b ++ last) (last ∷ [])) (sym none) (inr (some, plain, refl, refl))
+ended-last bytes (text ∷ texts) last (line, rest, e, bare, is, more) plain some = inl (
+  line,
+  rest ++ last,
+  ap (λ b. b ++ last) e ∙ append_assoc line (10 ∷ rest) last,
+  bare,
+  is,
+  ended-last rest texts last more plain some,
+)
+
+-- a stretch at the start of the bytes that ends before their first feed
+stretch-before : (line rest a b : List ℕ) → line ++ rest ≡ a ++ 10 ∷ b → HasNoFeed line
+    → (m : List ℕ) × (a ≡ line ++ m)
+stretch-before [] rest a b e plain = (a, refl)
+stretch-before (x ∷ xs) rest [] b e plain =
+    absurd (false-true (sym (feed-test x xs plain) ∙ ap (λ y. y == 10) (head-of x 10 (xs ++ rest) b e)))
+stretch-before (x ∷ xs) rest (y ∷ ys) b e plain =
+    let further = stretch-before xs rest ys b (tail-of x y (xs ++ rest) (ys ++ 10 ∷ b) e) (feed-rest x xs plain) in
+    (further.0, cons-is y x ys (xs ++ further.0) (sym (head-of x y (xs ++ rest) (ys ++ 10 ∷ b) e)) further.1)
+
+-- what begins after some bytes begins before a feed, or after it
+begins-either : (front rest a b : List ℕ) → a ++ 10 ∷ b ≡ front ++ rest
+    → ((m : List ℕ) × (a ≡ front ++ m) × (m ++ 10 ∷ b ≡ rest)) ⊎ ((m : List ℕ) × (b ≡ m ++ rest))
+begins-either [] rest a b e = inl (a, refl, e)
+begins-either (x ∷ xs) rest [] b e = inr (xs, tail-of 10 x b (xs ++ rest) e)
+begins-either (x ∷ xs) rest (y ∷ ys) b e =
+    further (begins-either xs rest ys b (tail-of y x (ys ++ 10 ∷ b) (xs ++ rest) e))
+  where
+    further : (((m : List ℕ) × (ys ≡ xs ++ m) × (m ++ 10 ∷ b ≡ rest)) ⊎ ((m : List ℕ) × (b ≡ m ++ rest)))
+        → ((m : List ℕ) × (y ∷ ys ≡ (x ∷ xs) ++ m) × (m ++ 10 ∷ b ≡ rest)) ⊎ ((m : List ℕ) × (b ≡ m ++ rest))
+    further (inl (m, is, more)) =
+        inl (m, cons-is y x ys (xs ++ m) (head-of y x (ys ++ 10 ∷ b) (xs ++ rest) e) is, more)
+    further (inr found) = inr found
+
+pub short-front : (a b : List ℕ) → HasShortLines (a ++ b) → HasShortLines a
+unfolding HasShortLines
+short-front a b short front line rest e plain =
+    short front line (rest ++ b)
+    (ap (λ l. l ++ b) e ∙ (append_assoc front (line ++ rest) b ∙ ap (λ l. front ++ l) (append_assoc line rest b))) plain
+
+pub short-line : (line : List ℕ) → length line ≤ 1048576 → HasShortLines line
+unfolding HasShortLines
+short-line line fits front stretch rest e plain =
+    omega (arith, ap length e, length-append front (stretch ++ rest), length-append stretch rest)
+
+pub short-feed : (a b : List ℕ) → HasShortLines a → HasShortLines b → HasShortLines (a ++ 10 ∷ b)
+unfolding HasShortLines
+short-feed a b first second front line rest e plain = by_place (begins-either front (line ++ rest) a b e)
+  where
+    by_place : (((m : List ℕ) × (a ≡ front ++ m) × (m ++ 10 ∷ b ≡ line ++ rest)) ⊎ ((m : List ℕ) × (b ≡ m ++ (line ++ rest))))
+        → length line ≤ 1048576
+    by_place (inl (m, is, more)) =
+        let found = stretch-before line rest m b (sym more) plain in
+        first front line found.0 (is ∙ ap (λ l. front ++ l) found.1) plain
+    by_place (inr (m, is)) = second m line rest is plain
+
+pub short-more : (ended more : List ℕ) → (ended ≡ []) ⊎ EndsInFeed ended → HasShortLines ended → HasShortLines more
+    → HasShortLines (ended ++ more)
+short-more ended more (inl none) before behind = subst (λ b. HasShortLines (b ++ more)) (sym none) behind
+short-more ended more (inr (front, is)) before behind =
+    let first : HasShortLines front = short-front front (10 ∷ []) (subst HasShortLines is before) in
+    subst HasShortLines (sym (ap (λ b. b ++ more) is ∙ append_assoc front (10 ∷ []) more))
+    (short-feed front more first behind)
+
+-- after lines that have ended, one more line of this length
+pub short-ended : (ended line : List ℕ) → (ended ≡ []) ⊎ EndsInFeed ended → HasShortLines ended → length line ≤ 1048576
+    → HasShortLines (ended ++ (line ++ 10 ∷ []))
+short-ended ended line begins before fits =
+    short-more ended (line ++ 10 ∷ []) begins before
+    (short-feed line [] (short-line line fits) (short-line [] (omega arith)))
+
+-- bytes that are none, and bytes that are some, as their number is tested
+nil-of : (bytes : List ℕ) → length bytes ≡ 0 → bytes ≡ []
+nil-of [] e = refl
+nil-of (b ∷ bs) e = absurd (omega arith)
+
+pub none-kept : (bytes : List ℕ) → true ≡ (length bytes == 0) → bytes ≡ []
+none-kept bytes e = nil-of bytes (eqb-true (length bytes) 0 (sym e))
+
+pub some-kept : (bytes : List ℕ) → false ≡ (length bytes == 0) → ¬ (bytes ≡ [])
+some-kept bytes e none = true-false (ap (λ b. length b == 0) (sym none) ∙ sym e)
+  where
+    true-false : true ≡ false → ⊥
+    true-false h = cc

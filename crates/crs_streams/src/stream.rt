@@ -1,0 +1,97 @@
+ghost use Rattle.std.specs.Prelude.{◌≡◌, ◌≤◌, ◌<◌, ◌^◌, length};
+ghost use Rattle.std.specs.Io.{ReadsAtMost};
+ghost use Rattle.std.specs.Io.KnownBytes.{ReadConsumes};
+ghost use Rattle.crs_streams.specs.Streams.{CountsRead, fresh_source};
+
+use std::io;
+use std::io::Read;
+use std::marker::Model;
+
+/// The most reads of a stream, 2^47. Profile.
+pub const MAX_STREAM_READS: u64 = 140_737_488_355_328;
+
+/// A reader that counts its reads and remembers a failure, for input of any length: with full reads it ends after
+/// 2^63 bytes.
+#[derive(Drop)]
+pub struct Stream<R: Read> {
+    reader: R,
+    reads: u64,
+    taken: u64,
+    ended: bool,
+    past_end: bool,
+    failed: bool,
+}
+
+impl<R: Read> Model for Stream<R> {
+    ghost use Rattle.std.specs.Prelude.{◌≤◌, ◌*◌, ◌^◌};
+    ghost use Rattle.crs_streams.specs.Streams.{SourceState};
+
+    ghost Value = { SourceState };
+
+    ghost view = { λ stream. record {
+      remaining = R.remaining stream.reader;
+      reads = stream.reads;
+      taken = stream.taken;
+      ended = stream.ended;
+      past_end = stream.past_end;
+      failed = stream.failed;
+    } };
+
+    ghost invariant = { λ stream. (stream.reads ≤ 2 ^ 47) × (stream.taken ≤ 65536 * stream.reads) };
+}
+
+impl<R: Read> Stream<R> {
+    /// A stream from which nothing has been read.
+    pub fn new(reader: R) -> Stream<R>
+        ensures { result ≡ fresh_source (R.remaining reader) }
+    {
+        Stream {
+            reader,
+            reads: 0,
+            taken: 0,
+            ended: false,
+            past_end: false,
+            failed: false,
+        }
+    }
+
+    /// One read of at most as many bytes as there is room for. An error is the reader's own, an interruption
+    /// included; the stream has `failed` from then on.
+    pub fn read(&mut self, room: &mut [u8]) -> io::Result<usize>
+        requires some { 1 ≤ length room.old }
+        requires few { length room.old ≤ 65536 }
+        requires reads { self.old.reads < 2 ^ 47 }
+        ensures bound { ReadsAtMost result room.new }
+        ensures bytes { ReadConsumes self.old.remaining self.new.remaining result room.new }
+        ensures counted { CountsRead self.old self.new result }
+    {
+        self.reads += 1;
+        self.past_end = self.past_end || self.ended;
+        match self.reader.read(room) {
+            Ok(count) => {
+                self.taken += count as u64;
+                self.ended = self.ended || count == 0;
+                Ok(count)
+            }
+            Err(error) => {
+                self.failed = true;
+                Err(error)
+            }
+        }
+    }
+
+    /// How many reads were made.
+    pub fn reads(&self) -> u64
+        ensures count { result ≡ self.now.reads }
+        ensures bound { result ≤ 2 ^ 47 }
+    {
+        self.reads
+    }
+
+    /// Whether a read answered a failure.
+    pub fn failed(&self) -> bool
+        ensures { result ≡ self.now.failed }
+    {
+        self.failed
+    }
+}
