@@ -13,15 +13,15 @@ use Rattle.clap.specs.Walk.{Held, Outcome, Step, Waiting, Walk, done, waits, pla
 use Rattle.clap.specs.Takes.{bundle_passes, bundle_step_passes, default_passes, flag_word_passes, flags_pass, is_given, is_valid, level_passes, long_passes, other_passes, settle_passes, short_passes, step_passes, turn_passes, walk_passes, word_passes}
 use Rattle.clap.proofs.OnLiterals.{clap_on_literals}
 use Rattle.clap.proofs.WalkLemmas.{both}
-use Rattle.crs_command_line.specs.CommandLine.{asked, desk, explain_of, has_lines, is_plain_word, level_of, level_option, lines_flag, request_of, same_of, spare_operand}
+use Rattle.crs_command_line.specs.CommandLine.{asked, canon_of, desk, explain_of, is_plain_word, level_of, level_option, lines_flag, request_of, same_of, spare_operand}
 use Rattle.crs_command_line.specs.declared.requests.Request.{Request}
-use Rattle.crs_command_line.specs.declared.requests.Request.TheVariants.{Canon, Check, Same, Group, Explain}
+use Rattle.crs_command_line.specs.declared.requests.Request.TheVariants.{Canon, Check, Same, Group, CanonLines, CheckLines, Explain, ExplainText, ExplainPair}
 use Rattle.crs_command_line.proofs.OperandLemmas.{built_same, second_given}
 
 -- ---- after `--`
 
 pub texts_after_dashes : (program first second : Text)
-    → asked (program ∷ codes "same" ∷ codes "--" ∷ first ∷ second ∷ []) ≡ Some (Same (codes "full") first second)
+    → asked (program ∷ codes "same" ∷ codes "--" ∷ first ∷ second ∷ []) ≡ Some (Same first second (codes "full"))
 unfolding clap_on_literals
 texts_after_dashes program first second = refl
 
@@ -382,7 +382,7 @@ abbrev wants_level : Shape → Held → Held
 wants_level s h = record { rows = (settled s.rules h).rows; pending = Some (codes "level", []); skip = 0 }
 
 pub plain_texts : (program first second : Text) → is_plain_word first ≡ true → is_plain_word second ≡ true
-    → asked (program ∷ codes "same" ∷ first ∷ second ∷ []) ≡ Some (Same (codes "full") first second)
+    → asked (program ∷ codes "same" ∷ first ∷ second ∷ []) ≡ Some (Same first second (codes "full"))
 unfolding clap_on_literals
 plain_texts program first second one other =
     let to = before (after_second nothing_held first second) idle 3 in
@@ -395,7 +395,7 @@ plain_texts program first second one other =
 -- ---- a level
 
 pub level_first : (program text first second : Text) → is_plain_word text ≡ true → is_plain_word first ≡ true → is_plain_word second ≡ true
-    → asked (program ∷ codes "same" ∷ codes "--level" ∷ text ∷ first ∷ second ∷ []) ≡ Some (Same text first second)
+    → asked (program ∷ codes "same" ∷ codes "--level" ∷ text ∷ first ∷ second ∷ []) ≡ Some (Same first second text)
 unfolding clap_on_literals
 level_first program text first second usual one other =
     let start = walk_from nothing_held in
@@ -413,7 +413,7 @@ level_first program text first second usual one other =
     (plain_turn built_same (after_first h first) idle 2 second refl other) (stays built_same to))))) refl
 
 pub level_last : (program text first second : Text) → is_plain_word text ≡ true → is_plain_word first ≡ true → is_plain_word second ≡ true
-    → asked (program ∷ codes "same" ∷ first ∷ second ∷ codes "--level" ∷ text ∷ []) ≡ Some (Same text first second)
+    → asked (program ∷ codes "same" ∷ first ∷ second ∷ codes "--level" ∷ text ∷ []) ≡ Some (Same first second text)
 unfolding clap_on_literals
 level_last program text first second usual one other =
     let start = walk_from nothing_held in
@@ -448,8 +448,8 @@ abbrev built_explain : Shape
 built_explain =
     built_with (codes "explain") (spare_operand (codes "first") ∷ spare_operand (codes "second") ∷ level_option ∷ help_rule ∷ [])
 
-abbrev canon_of : List Row → Option Request
-canon_of rows = Some (Canon (level_of rows) (has_lines rows))
+abbrev asked_canon : List Row → Option Request
+asked_canon rows = Some (canon_of rows)
 
 -- what `canon` holds after `--lines`
 abbrev with_lines : Held → Held
@@ -460,13 +460,13 @@ with_lines h = record {
 }
 
 pub canon_level : (program text : Text) → is_plain_word text ≡ true
-    → asked (program ∷ codes "canon" ∷ codes "--level" ∷ text ∷ []) ≡ Some (Canon text false)
+    → asked (program ∷ codes "canon" ∷ codes "--level" ∷ text ∷ []) ≡ Some (Canon text)
 unfolding clap_on_literals
 canon_level program text usual =
     let s = built_canon in
     let wants = before (wants_level s nothing_held) (option (codes "level")) 1 in
     let to = before (with_level s nothing_held text) idle 1 in
-    line_asked s canon_of (program ∷ codes "canon" ∷ codes "--level" ∷ text ∷ []) (codes "--level" ∷ text ∷ []) to refl refl
+    line_asked s asked_canon (program ∷ codes "canon" ∷ codes "--level" ∷ text ∷ []) (codes "--level" ∷ text ∷ []) to refl refl
     (goes_on s (walk_from nothing_held) wants to (codes "--level") (text ∷ []) (refl, refl)
     (goes_on s wants to to text [] (plain_turn s (wants_level s nothing_held) (option (codes "level")) 1 text refl usual) (stays s to))) refl
 
@@ -481,7 +481,7 @@ group_level program text usual =
     (goes_on s (walk_from nothing_held) wants to (codes "--level") (text ∷ []) (refl, refl)
     (goes_on s wants to to text [] (plain_turn s (wants_level s nothing_held) (option (codes "level")) 1 text refl usual) (stays s to))) refl
 
-pub canon_alone : (program : Text) → asked (program ∷ codes "canon" ∷ []) ≡ Some (Canon (codes "full") false)
+pub canon_alone : (program : Text) → asked (program ∷ codes "canon" ∷ []) ≡ Some (Canon (codes "full"))
 unfolding clap_on_literals
 canon_alone program = refl
 
@@ -489,7 +489,7 @@ pub group_alone : (program : Text) → asked (program ∷ codes "group" ∷ []) 
 unfolding clap_on_literals
 group_alone program = refl
 
-pub check_alone : (program : Text) → asked (program ∷ codes "check" ∷ []) ≡ Some (Check false)
+pub check_alone : (program : Text) → asked (program ∷ codes "check" ∷ []) ≡ Some Check
 unfolding clap_on_literals
 check_alone program = refl
 
@@ -499,37 +499,37 @@ check_refuses program text = refl
 
 -- ---- each line a text
 
-pub canon_lines : (program : Text) → asked (program ∷ codes "canon" ∷ codes "--lines" ∷ []) ≡ Some (Canon (codes "full") true)
+pub canon_lines : (program : Text) → asked (program ∷ codes "canon" ∷ codes "--lines" ∷ []) ≡ Some (CanonLines (codes "full"))
 unfolding clap_on_literals
 canon_lines program = refl
 
-pub check_lines : (program : Text) → asked (program ∷ codes "check" ∷ codes "--lines" ∷ []) ≡ Some (Check true)
+pub check_lines : (program : Text) → asked (program ∷ codes "check" ∷ codes "--lines" ∷ []) ≡ Some CheckLines
 unfolding clap_on_literals
 check_lines program = refl
 
 pub lines_first : (program text : Text) → is_plain_word text ≡ true
-    → asked (program ∷ codes "canon" ∷ codes "--lines" ∷ codes "--level" ∷ text ∷ []) ≡ Some (Canon text true)
+    → asked (program ∷ codes "canon" ∷ codes "--lines" ∷ codes "--level" ∷ text ∷ []) ≡ Some (CanonLines text)
 unfolding clap_on_literals
 lines_first program text usual =
     let s = built_canon in
     let h = with_lines nothing_held in
     let wants = before (wants_level s h) (option (codes "level")) 1 in
     let to = before (with_level s h text) idle 1 in
-    line_asked s canon_of (program ∷ codes "canon" ∷ codes "--lines" ∷ codes "--level" ∷ text ∷ [])
+    line_asked s asked_canon (program ∷ codes "canon" ∷ codes "--lines" ∷ codes "--level" ∷ text ∷ [])
     (codes "--lines" ∷ codes "--level" ∷ text ∷ []) to refl refl
     (goes_on s (walk_from nothing_held) (before h idle 1) to (codes "--lines") (codes "--level" ∷ text ∷ []) (refl, refl)
     (goes_on s (before h idle 1) wants to (codes "--level") (text ∷ []) (refl, refl)
     (goes_on s wants to to text [] (plain_turn s (wants_level s h) (option (codes "level")) 1 text refl usual) (stays s to)))) refl
 
 pub lines_last : (program text : Text) → is_plain_word text ≡ true
-    → asked (program ∷ codes "canon" ∷ codes "--level" ∷ text ∷ codes "--lines" ∷ []) ≡ Some (Canon text true)
+    → asked (program ∷ codes "canon" ∷ codes "--level" ∷ text ∷ codes "--lines" ∷ []) ≡ Some (CanonLines text)
 unfolding clap_on_literals
 lines_last program text usual =
     let s = built_canon in
     let wants = before (wants_level s nothing_held) (option (codes "level")) 1 in
     let via = before (with_level s nothing_held text) idle 1 in
     let to = before (with_lines (with_level s nothing_held text)) idle 1 in
-    line_asked s canon_of (program ∷ codes "canon" ∷ codes "--level" ∷ text ∷ codes "--lines" ∷ [])
+    line_asked s asked_canon (program ∷ codes "canon" ∷ codes "--level" ∷ text ∷ codes "--lines" ∷ [])
     (codes "--level" ∷ text ∷ codes "--lines" ∷ []) to refl refl
     (goes_on s (walk_from nothing_held) wants to (codes "--level") (text ∷ codes "--lines" ∷ []) (refl, refl)
     (goes_on s wants via to text (codes "--lines" ∷ [])
@@ -557,12 +557,12 @@ group_lines program = refl
 abbrev asked_explain : List Row → Option Request
 asked_explain rows = Some (explain_of rows)
 
-pub explain_alone : (program : Text) → asked (program ∷ codes "explain" ∷ []) ≡ Some (Explain (codes "full") None None)
+pub explain_alone : (program : Text) → asked (program ∷ codes "explain" ∷ []) ≡ Some (Explain (codes "full"))
 unfolding clap_on_literals
 explain_alone program = refl
 
 pub explain_one : (program first : Text) → is_plain_word first ≡ true
-    → asked (program ∷ codes "explain" ∷ first ∷ []) ≡ Some (Explain (codes "full") (Some first) None)
+    → asked (program ∷ codes "explain" ∷ first ∷ []) ≡ Some (ExplainText first (codes "full"))
 unfolding clap_on_literals
 explain_one program first one =
     let s = built_explain in
@@ -571,7 +571,7 @@ explain_one program first one =
     (goes_on s (walk_from nothing_held) to to first [] (plain_turn s nothing_held idle 1 first refl one) (stays s to)) refl
 
 pub explain_two : (program first second : Text) → is_plain_word first ≡ true → is_plain_word second ≡ true
-    → asked (program ∷ codes "explain" ∷ first ∷ second ∷ []) ≡ Some (Explain (codes "full") (Some first) (Some second))
+    → asked (program ∷ codes "explain" ∷ first ∷ second ∷ []) ≡ Some (ExplainPair first second (codes "full"))
 unfolding clap_on_literals
 explain_two program first second one other =
     let s = built_explain in
@@ -582,12 +582,12 @@ explain_two program first second one other =
     (goes_on s via to to second [] (plain_turn s (after_first nothing_held first) idle 2 second refl other) (stays s to))) refl
 
 pub explain_dashes : (program first second : Text)
-    → asked (program ∷ codes "explain" ∷ codes "--" ∷ first ∷ second ∷ []) ≡ Some (Explain (codes "full") (Some first) (Some second))
+    → asked (program ∷ codes "explain" ∷ codes "--" ∷ first ∷ second ∷ []) ≡ Some (ExplainPair first second (codes "full"))
 unfolding clap_on_literals
 explain_dashes program first second = refl
 
 pub explain_level : (program text : Text) → is_plain_word text ≡ true
-    → asked (program ∷ codes "explain" ∷ codes "--level" ∷ text ∷ []) ≡ Some (Explain text None None)
+    → asked (program ∷ codes "explain" ∷ codes "--level" ∷ text ∷ []) ≡ Some (Explain text)
 unfolding clap_on_literals
 explain_level program text usual =
     let s = built_explain in
@@ -598,7 +598,7 @@ explain_level program text usual =
     (goes_on s wants to to text [] (plain_turn s (wants_level s nothing_held) (option (codes "level")) 1 text refl usual) (stays s to))) refl
 
 pub explain_level_first : (program text first second : Text) → is_plain_word text ≡ true → is_plain_word first ≡ true → is_plain_word second ≡ true
-    → asked (program ∷ codes "explain" ∷ codes "--level" ∷ text ∷ first ∷ second ∷ []) ≡ Some (Explain text (Some first) (Some second))
+    → asked (program ∷ codes "explain" ∷ codes "--level" ∷ text ∷ first ∷ second ∷ []) ≡ Some (ExplainPair first second text)
 unfolding clap_on_literals
 explain_level_first program text first second usual one other =
     let s = built_explain in
@@ -615,7 +615,7 @@ explain_level_first program text first second usual one other =
     (plain_turn s (after_first h first) idle 2 second refl other) (stays s to))))) refl
 
 pub explain_level_last : (program text first second : Text) → is_plain_word text ≡ true → is_plain_word first ≡ true → is_plain_word second ≡ true
-    → asked (program ∷ codes "explain" ∷ first ∷ second ∷ codes "--level" ∷ text ∷ []) ≡ Some (Explain text (Some first) (Some second))
+    → asked (program ∷ codes "explain" ∷ first ∷ second ∷ codes "--level" ∷ text ∷ []) ≡ Some (ExplainPair first second text)
 unfolding clap_on_literals
 explain_level_last program text first second usual one other =
     let s = built_explain in

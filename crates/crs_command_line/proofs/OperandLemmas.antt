@@ -16,7 +16,8 @@ use Rattle.clap.specs.Simple.{filled, filled_from, help_rule, new_shape, rows_at
 use Rattle.clap.specs.Walk.{Held, Names, Outcome, Step, Waiting, Walk, done, waits, plain, refused, idle, option, positional, next, trailing, subcommand, value, after_flag, after_step, arg_by_id, arg_by_index, arg_by_long, arg_by_short, at_row, attached_value, bundle, bundle_met, bundle_step, default_rows, flag_met, has_row, is_pending, long_met, long_or_other, more_values, nothing_held, option_met, option_word, plain_word, reacted, reading_by, rows_after, settled, settled_rows, short_met, short_or_plain, subcommand_met, subcommand_or_other, takes_several, takes_values, to_positional, used, used_by_id, walk, walk_from, walked, with_default, with_values, without, word_met}
 use Rattle.clap.specs.Takes.{bundle_passes, bundle_step_passes, flag_word_passes, flags_pass, is_given, is_valid, default_passes, level_passes, long_passes, option_passes, other_passes, positional_passes, react_passes, settle_passes, short_passes, step_passes, turn_passes, use_passes, walk_passes, word_passes}
 use Rattle.clap.proofs.WalkLemmas.{both, first_value-rows}
-use Rattle.crs_command_line.specs.CommandLine.{has_lines, level_of, level_option, operand, same_of, same_texts}
+use Rattle.crs_command_line.specs.declared.requests.Request.TheVariants.{Explain, ExplainText, ExplainPair}
+use Rattle.crs_command_line.specs.CommandLine.{explain_of, explained_texts, has_lines, level_of, level_option, operand, same_of, same_texts}
 
 -- ---- rows with values
 
@@ -335,6 +336,37 @@ pub texts_read : (f : Found) (first second : Option (Bor Text)) → option_map (
     → same_of (rows_of f) ≡ same_texts (level_of (rows_of f)) (option_map (λ s. s.now) first) (option_map (λ s. s.now) second)
 texts_read f first second one other =
     ap₂ (same_texts (level_of (rows_of f))) (sym (one ∙ first_value-rows f (codes "first"))) (sym (other ∙ first_value-rows f (codes "second")))
+
+explained_read : (f : Found) (first second : Option (Bor Text)) → option_map (λ s. s.now) first ≡ first_value f (codes "first")
+    → option_map (λ s. s.now) second ≡ first_value f (codes "second")
+    → explain_of (rows_of f) ≡ explained_texts (level_of (rows_of f)) (option_map (λ s. s.now) first) (option_map (λ s. s.now) second)
+explained_read f first second one other =
+    ap₂ (explained_texts (level_of (rows_of f))) (sym (one ∙ first_value-rows f (codes "first"))) (sym (other ∙ first_value-rows f (codes "second")))
+
+-- what is asked where no text is there, one, or two
+pub explained_none : (f : Found) (first second : Option (Bor Text)) (level : Text) → option_map (λ s. s.now) first ≡ first_value f (codes "first")
+    → option_map (λ s. s.now) second ≡ first_value f (codes "second") → first ≡ None → level ≡ level_of (rows_of f)
+    → Explain level ≡ explain_of (rows_of f)
+explained_none f first second level one other none is =
+    ap Explain is ∙ sym (explained_read f first second one other
+    ∙ ap (λ (o : Option (Bor Text)). explained_texts (level_of (rows_of f)) (option_map (λ s. s.now) o) (option_map (λ s. s.now) second)) none)
+
+pub explained_one : (f : Found) (first second : Option (Bor Text)) (text : Bor Text) (word level : Text)
+    → option_map (λ s. s.now) first ≡ first_value f (codes "first") → option_map (λ s. s.now) second ≡ first_value f (codes "second")
+    → first ≡ Some text → second ≡ None → word ≡ text.now → level ≡ level_of (rows_of f)
+    → ExplainText word level ≡ explain_of (rows_of f)
+explained_one f first second text word level one other some none word-is is =
+    ap₂ ExplainText word-is is ∙ sym (explained_read f first second one other
+    ∙ ap₂ (λ (o p : Option (Bor Text)). explained_texts (level_of (rows_of f)) (option_map (λ s. s.now) o) (option_map (λ s. s.now) p)) some none)
+
+pub explained_both : (f : Found) (first second : Option (Bor Text)) (a b : Bor Text) (one-word other-word level : Text)
+    → option_map (λ s. s.now) first ≡ first_value f (codes "first") → option_map (λ s. s.now) second ≡ first_value f (codes "second")
+    → first ≡ Some a → second ≡ Some b → one-word ≡ a.now → other-word ≡ b.now → level ≡ level_of (rows_of f)
+    → ExplainPair one-word other-word level ≡ explain_of (rows_of f)
+explained_both f first second a b one-word other-word level one other some more one-is other-is is =
+    ap (λ l. ExplainPair one-word other-word l) is
+    ∙ ap₂ (λ x y. ExplainPair x y (level_of (rows_of f))) one-is other-is ∙ sym (explained_read f first second one other
+    ∙ ap₂ (λ (o p : Option (Bor Text)). explained_texts (level_of (rows_of f)) (option_map (λ s. s.now) o) (option_map (λ s. s.now) p)) some more)
 
 there_both : (level : Text) (first second : Option Text) → IsSome (same_texts level first second) → IsSome first × IsSome second
 there_both level None second some = cc

@@ -8,7 +8,8 @@ use Rattle.clap.specs.Words.{new_app, new_rule}
 use Rattle.clap.specs.Words.{subcommand_of, takes, with_subcommand}
 use Rattle.clap.specs.Simple.{new_shape, on_top}
 use Rattle.crs_command_line.specs.declared.requests.Request.{Request}
-use Rattle.crs_command_line.specs.declared.requests.Request.TheVariants.{Canon, Check, Same, Group, Explain}
+use Rattle.crs_command_line.specs.declared.requests.Request.TheVariants.{Canon, Check, Same, Group, CanonLines, CheckLines}
+use Rattle.crs_command_line.specs.declared.requests.Request.TheVariants.{Explain, ExplainText, ExplainPair}
 use Rattle.crs_command_line.specs.declared.requests.RequestFault.{RequestFault}
 use Rattle.crs_command_line.specs.declared.requests.RequestFault.TheVariants.{Line, Memory}
 use Rattle.clap.specs.declared.builder.action.ArgAction.TheVariants.{SetTrue}
@@ -79,9 +80,17 @@ abbrev pub has_lines : List Row → Bool
 has_lines rows =
     bytes_eq (unwrap_or (first_of (codes "lines") rows) (codes "false")) (codes "true")
 
+-- the canonical text at a level, of one text or of each line
+abbrev pub canon_of : List Row → Request
+canon_of rows = if has_lines rows then CanonLines (level_of rows) else Canon (level_of rows)
+
+-- the kind of one text or of each line
+abbrev pub check_of : List Row → Request
+check_of rows = if has_lines rows then CheckLines else Check
+
 -- two texts are compared at a level where both are there
 abbrev pub same_texts : Text → Option Text → Option Text → Option Request
-same_texts level (Some first) (Some second) = Some (Same level first second)
+same_texts level (Some first) (Some second) = Some (Same first second level)
 same_texts level first second = None
 
 -- the level and the texts of `same`, among its matches
@@ -89,16 +98,22 @@ abbrev pub same_of : List Row → Option Request
 same_of rows =
     same_texts (level_of rows) (first_of (codes "first") rows) (first_of (codes "second") rows)
 
+-- two texts are explained where both are there, the first alone, or the text on standard input
+abbrev pub explained_texts : Text → Option Text → Option Text → Request
+explained_texts level None second = Explain level
+explained_texts level (Some text) None = ExplainText text level
+explained_texts level (Some first) (Some second) = ExplainPair first second level
+
 -- the level and the texts of `explain`, as far as they are among its matches
 abbrev pub explain_of : List Row → Request
 explain_of rows =
-    Explain (level_of rows) (first_of (codes "first") rows) (first_of (codes "second") rows)
+    explained_texts (level_of rows) (first_of (codes "first") rows) (first_of (codes "second") rows)
 
 -- the request of a command's name and of its matches
 abbrev pub request_of : Text × List Row → Option Request
 request_of (name, rows) =
-    if bytes_eq name (codes "canon") then Some (Canon (level_of rows) (has_lines rows))
-    else (if bytes_eq name (codes "check") then Some (Check (has_lines rows))
+    if bytes_eq name (codes "canon") then Some (canon_of rows)
+    else (if bytes_eq name (codes "check") then Some (check_of rows)
     else (if bytes_eq name (codes "same") then same_of rows
     else (if bytes_eq name (codes "group") then Some (Group (level_of rows))
     else (if bytes_eq name (codes "explain") then Some (explain_of rows) else None))))

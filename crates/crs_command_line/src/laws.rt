@@ -1,8 +1,9 @@
 //! Laws of the definitions, as contracts of functions that do nothing.
-ghost use Rattle.std.specs.Prelude.{◌≡◌, ◌≢◌, ◌<◌, ℕ, [], ◌∷◌, ◌++◌, List, Some, None, IsSome, true, false, codes};
+ghost use Rattle.std.specs.Prelude.{◌≡◌, ◌≢◌, ◌<◌, ℕ, [], ◌∷◌, ◌++◌, List, Some, IsSome, true, false, codes};
 ghost use Rattle.clap.specs.Words.{Text, takes};
 ghost use Rattle.crs_command_line.specs.CommandLine.{asked, desk, is_plain_word};
-ghost use Rattle.crs_command_line.specs.declared.requests.Request.TheVariants.{Canon, Check, Same, Group, Explain};
+ghost use Rattle.crs_command_line.specs.declared.requests.Request.TheVariants.{Canon, Check, Same, Group, CanonLines, CheckLines};
+ghost use Rattle.crs_command_line.specs.declared.requests.Request.TheVariants.{Explain, ExplainText, ExplainPair};
 
 /// A line that the command takes asks for something: no text of `same` is missing there.
 #[tactic(auto, using(crate::proofs::CommandLemmas::taken_asks))]
@@ -14,9 +15,9 @@ pub fn taken_line_asks()
 /// The level is `full` there.
 pub fn two_words_are_the_texts()
     ensures plain { (program first second : Text) → is_plain_word first ≡ true → is_plain_word second ≡ true →
-        asked (program ∷ codes "same" ∷ first ∷ second ∷ []) ≡ Some (Same (codes "full") first second) }
+        asked (program ∷ codes "same" ∷ first ∷ second ∷ []) ≡ Some (Same first second (codes "full")) }
     ensures dashes { (program first second : Text) →
-        asked (program ∷ codes "same" ∷ codes "--" ∷ first ∷ second ∷ []) ≡ Some (Same (codes "full") first second) }
+        asked (program ∷ codes "same" ∷ codes "--" ∷ first ∷ second ∷ []) ≡ Some (Same first second (codes "full")) }
 {}
 
 /// The word after `--level` is the level of `same`, before the two texts and after them, where no word is a flag.
@@ -24,41 +25,41 @@ pub fn same_has_a_level()
     ensures before { (program level first second : Text) → is_plain_word level ≡ true →
         is_plain_word first ≡ true → is_plain_word second ≡ true →
         asked (program ∷ codes "same" ∷ codes "--level" ∷ level ∷ first ∷ second ∷ [])
-        ≡ Some (Same level first second) }
+        ≡ Some (Same first second level) }
     ensures after { (program level first second : Text) → is_plain_word level ≡ true →
         is_plain_word first ≡ true → is_plain_word second ≡ true →
         asked (program ∷ codes "same" ∷ first ∷ second ∷ codes "--level" ∷ level ∷ [])
-        ≡ Some (Same level first second) }
+        ≡ Some (Same first second level) }
 {}
 
 /// The word after `--level` is the level of `canon` and of `group`, where it is no flag.
 pub fn canon_and_group_have_a_level()
     ensures canon { (program level : Text) → is_plain_word level ≡ true →
-        asked (program ∷ codes "canon" ∷ codes "--level" ∷ level ∷ []) ≡ Some (Canon level false) }
+        asked (program ∷ codes "canon" ∷ codes "--level" ∷ level ∷ []) ≡ Some (Canon level) }
     ensures group { (program level : Text) → is_plain_word level ≡ true →
         asked (program ∷ codes "group" ∷ codes "--level" ∷ level ∷ []) ≡ Some (Group level) }
 {}
 
 /// `canon` and `group` alone are at the level `full`.
 pub fn the_usual_level_is_full()
-    ensures canon { (program : Text) → asked (program ∷ codes "canon" ∷ []) ≡ Some (Canon (codes "full") false) }
+    ensures canon { (program : Text) → asked (program ∷ codes "canon" ∷ []) ≡ Some (Canon (codes "full")) }
     ensures group { (program : Text) → asked (program ∷ codes "group" ∷ []) ≡ Some (Group (codes "full")) }
 {}
 
 /// With `--lines`, before the level or after it, `canon` takes each line as a text.
 pub fn canon_has_lines()
     ensures alone { (program : Text) →
-        asked (program ∷ codes "canon" ∷ codes "--lines" ∷ []) ≡ Some (Canon (codes "full") true) }
+        asked (program ∷ codes "canon" ∷ codes "--lines" ∷ []) ≡ Some (CanonLines (codes "full")) }
     ensures before { (program level : Text) → is_plain_word level ≡ true →
-        asked (program ∷ codes "canon" ∷ codes "--lines" ∷ codes "--level" ∷ level ∷ []) ≡ Some (Canon level true) }
+        asked (program ∷ codes "canon" ∷ codes "--lines" ∷ codes "--level" ∷ level ∷ []) ≡ Some (CanonLines level) }
     ensures after { (program level : Text) → is_plain_word level ≡ true →
-        asked (program ∷ codes "canon" ∷ codes "--level" ∷ level ∷ codes "--lines" ∷ []) ≡ Some (Canon level true) }
+        asked (program ∷ codes "canon" ∷ codes "--level" ∷ level ∷ codes "--lines" ∷ []) ≡ Some (CanonLines level) }
 {}
 
 /// `check` takes each line as a text where `--lines` is there, and one text else.
 pub fn check_has_lines()
-    ensures lines { (program : Text) → asked (program ∷ codes "check" ∷ codes "--lines" ∷ []) ≡ Some (Check true) }
-    ensures alone { (program : Text) → asked (program ∷ codes "check" ∷ []) ≡ Some (Check false) }
+    ensures lines { (program : Text) → asked (program ∷ codes "check" ∷ codes "--lines" ∷ []) ≡ Some CheckLines }
+    ensures alone { (program : Text) → asked (program ∷ codes "check" ∷ []) ≡ Some Check }
 {}
 
 /// `--lines` is neither given twice nor with a value, and `group`, which reads lines anyway, has no such flag.
@@ -76,29 +77,29 @@ pub fn lines_is_one_flag()
 /// The level is `full` there.
 pub fn explain_takes_two_texts_at_most()
     ensures alone { (program : Text) →
-        asked (program ∷ codes "explain" ∷ []) ≡ Some (Explain (codes "full") None None) }
+        asked (program ∷ codes "explain" ∷ []) ≡ Some (Explain (codes "full")) }
     ensures one { (program first : Text) → is_plain_word first ≡ true →
-        asked (program ∷ codes "explain" ∷ first ∷ []) ≡ Some (Explain (codes "full") (Some first) None) }
+        asked (program ∷ codes "explain" ∷ first ∷ []) ≡ Some (ExplainText first (codes "full")) }
     ensures two { (program first second : Text) → is_plain_word first ≡ true → is_plain_word second ≡ true →
         asked (program ∷ codes "explain" ∷ first ∷ second ∷ [])
-        ≡ Some (Explain (codes "full") (Some first) (Some second)) }
+        ≡ Some (ExplainPair first second (codes "full")) }
     ensures dashes { (program first second : Text) →
         asked (program ∷ codes "explain" ∷ codes "--" ∷ first ∷ second ∷ [])
-        ≡ Some (Explain (codes "full") (Some first) (Some second)) }
+        ≡ Some (ExplainPair first second (codes "full")) }
 {}
 
 /// The word after `--level` is the level of `explain`, alone, before two texts and after them, where no word is a flag.
 pub fn explain_has_a_level()
     ensures alone { (program level : Text) → is_plain_word level ≡ true →
-        asked (program ∷ codes "explain" ∷ codes "--level" ∷ level ∷ []) ≡ Some (Explain level None None) }
+        asked (program ∷ codes "explain" ∷ codes "--level" ∷ level ∷ []) ≡ Some (Explain level) }
     ensures before { (program level first second : Text) → is_plain_word level ≡ true →
         is_plain_word first ≡ true → is_plain_word second ≡ true →
         asked (program ∷ codes "explain" ∷ codes "--level" ∷ level ∷ first ∷ second ∷ [])
-        ≡ Some (Explain level (Some first) (Some second)) }
+        ≡ Some (ExplainPair first second level) }
     ensures after { (program level first second : Text) → is_plain_word level ≡ true →
         is_plain_word first ≡ true → is_plain_word second ≡ true →
         asked (program ∷ codes "explain" ∷ first ∷ second ∷ codes "--level" ∷ level ∷ [])
-        ≡ Some (Explain level (Some first) (Some second)) }
+        ≡ Some (ExplainPair first second level) }
 {}
 
 /// `check` has no level.

@@ -1,12 +1,12 @@
 ghost use Rattle.std.specs.Prelude.{◌≡◌, [], map, IfOk, IfErr, IsSome, Some, false, option_and_then};
-ghost use Rattle.clap.specs.Words.{app_of, fault_of, first_of, found_of, rows_of, rule_of, shape_of};
+ghost use Rattle.clap.specs.Words.{app_of, fault_of, found_of, rows_of, rule_of, shape_of};
 ghost use Rattle.clap.specs.Words.{subcommand_rows_of, with_subcommand};
 ghost use Rattle.clap.specs.Simple.{new_shape};
 ghost use Rattle.clap.specs.declared.builder.command.Command.TheViews.{out-Command as fields_of};
 ghost use Rattle.crs_command_line.specs.CommandLine.{HandsOn, IsRefusal, asked, desk, input_desk, lone_desk, operand};
-ghost use Rattle.crs_command_line.specs.CommandLine.{canon_shape, check_shape, explain_of, explain_shape, group_shape};
-ghost use Rattle.crs_command_line.specs.CommandLine.{has_lines, level_of, level_option, lines_flag, request_of, same_of};
-ghost use Rattle.crs_command_line.specs.CommandLine.{same_shape, spare_operand};
+ghost use Rattle.crs_command_line.specs.CommandLine.{canon_of, canon_shape, check_of, check_shape, explain_of, explain_shape};
+ghost use Rattle.crs_command_line.specs.CommandLine.{group_shape, has_lines, level_of, level_option, lines_flag, request_of};
+ghost use Rattle.crs_command_line.specs.CommandLine.{same_of, same_shape, spare_operand};
 
 use crate::{LineWord, Request, RequestFault};
 use clap::error::ErrorKind;
@@ -226,20 +226,32 @@ fn named(alloc: Global, matches: &ArgMatches) -> Result<Request, AllocError>
     ensures { IfOk result (λ found. option_and_then request_of (subcommand_rows_of matches.now) ≡ Some found) }
 {
     match matches.subcommand() {
-        Some(("canon", options)) => Ok(Request::Canon {
-            level: level_word(alloc, options)?,
-            lines: lines_asked(options),
-        }),
-        Some(("check", options)) => Ok(Request::Check {
-            lines: lines_asked(options),
-        }),
+        Some(("canon", options)) => canon_request(alloc, options),
+        Some(("check", options)) => Ok(check_request(options)),
         Some(("same", operands)) => same_request(alloc, operands),
-        Some(("group", options)) => Ok(Request::Group {
-            level: level_word(alloc, options)?,
-        }),
+        Some(("group", options)) => Ok(Request::Group(level_word(alloc, options)?)),
         Some(("explain", operands)) => explain_request(alloc, operands),
         _ => unreachable!(),
     }
+}
+
+fn canon_request(alloc: Global, options: &ArgMatches) -> Result<Request, AllocError>
+    ensures { IfOk result (λ found. found ≡ canon_of (rows_of (found_of options.now))) }
+{
+    let level = level_word(alloc, options)?;
+    if lines_asked(options) {
+        return Ok(Request::CanonLines(level));
+    }
+    Ok(Request::Canon(level))
+}
+
+fn check_request(options: &ArgMatches) -> Request
+    ensures { result ≡ check_of (rows_of (found_of options.now)) }
+{
+    if lines_asked(options) {
+        return Request::CheckLines;
+    }
+    Request::Check
 }
 
 fn same_request(alloc: Global, operands: &ArgMatches) -> Result<Request, AllocError>
@@ -251,11 +263,7 @@ fn same_request(alloc: Global, operands: &ArgMatches) -> Result<Request, AllocEr
             let level = level_word(alloc, operands)?;
             let first = LineWord::new(alloc, first)?;
             let second = LineWord::new(alloc, second)?;
-            Ok(Request::Same {
-                level,
-                first,
-                second,
-            })
+            Ok(Request::Same(first, second, level))
         }
         _ => unreachable!(),
     }
@@ -271,25 +279,14 @@ fn explain_request(alloc: Global, operands: &ArgMatches) -> Result<Request, Allo
     ensures { IfOk result (λ found. found ≡ explain_of (rows_of (found_of operands.now))) }
 {
     let level = level_word(alloc, operands)?;
-    let first = spare_text(alloc, operands, "first")?;
-    let second = spare_text(alloc, operands, "second")?;
-    Ok(Request::Explain {
-        level,
-        first,
-        second,
-    })
-}
-
-fn spare_text(
-    alloc: Global,
-    operands: &ArgMatches,
-    id: &str,
-) -> Result<Option<LineWord>, AllocError>
-    ensures { IfOk result (λ word. word ≡ first_of id.now (rows_of (found_of operands.now))) }
-{
-    match operands.get_str(id) {
-        Some(text) => Ok(Some(LineWord::new(alloc, text)?)),
-        None => Ok(None),
+    match (operands.get_str("first"), operands.get_str("second")) {
+        (None, _) => Ok(Request::Explain(level)),
+        (Some(text), None) => Ok(Request::ExplainText(LineWord::new(alloc, text)?, level)),
+        (Some(first), Some(second)) => {
+            let first = LineWord::new(alloc, first)?;
+            let second = LineWord::new(alloc, second)?;
+            Ok(Request::ExplainPair(first, second, level))
+        }
     }
 }
 

@@ -20,6 +20,7 @@ impl Calls for Answers {
         match call.split_once(' ') {
             Some(("failed_reads", words)) => failures::put_failed_reads(out, alloc, words, input),
             Some(("failed_writes", words)) => failures::put_failed_writes(out, alloc, words, input),
+            Some(("Filling", words)) => runs::put_filled(out, words, input),
             Some(("run_same", words)) => runs::put_same(out, alloc, level, words, input),
             Some(_) => runs::put_run(out, alloc, level, call, input),
             None => put_plain_answer(out, alloc, level, call, input),

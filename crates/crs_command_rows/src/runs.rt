@@ -1,11 +1,12 @@
 //! The runs of commands.
 use crate::streams::{Manner, Page, Pieces};
 use crs_desk::{
-    Level, RunFault, Sink, Source, Summary, run_canon, run_canon_lines, run_check, run_check_lines,
-    run_group, run_same,
+    Filling, Level, RunFault, Sink, Source, Stream, Summary, run_canon, run_canon_lines, run_check,
+    run_check_lines, run_group, run_same,
 };
 use crs_suite::{put_text, split_line};
 use std::alloc::{AllocError, Global};
+use std::io::Read;
 
 /// A command that reads its input.
 #[derive(Clone, Copy)]
@@ -77,23 +78,83 @@ fn put_ended(
     reader: Pieces<'_>,
     page: &mut Page,
 ) -> Result<(), AllocError> {
-    let mut source = Source::new(reader);
     let mut sink = Sink::new(page);
     match command {
-        Command::Canon => put_outcome(out, &run_canon(alloc, level, &mut source, &mut sink))?,
-        Command::CanonLines => {
-            put_outcome(out, &run_canon_lines(alloc, level, &mut source, &mut sink))?
-        }
-        Command::Check => put_outcome(out, &run_check(alloc, &mut source, &mut sink))?,
-        Command::CheckLines => put_outcome(out, &run_check_lines(alloc, &mut source, &mut sink))?,
-        Command::Group => put_grouped(out, &run_group(alloc, level, &mut source, &mut sink))?,
-    }
-    write!(out, ", reads {}", source.reads())?;
-    if source.failed() {
-        out.push_str(", source failed")?;
+        Command::Canon => put_canon_run(out, alloc, level, reader, &mut sink)?,
+        Command::CanonLines => put_canon_lines_run(out, alloc, level, reader, &mut sink)?,
+        Command::Check => put_check_run(out, alloc, reader, &mut sink)?,
+        Command::CheckLines => put_check_lines_run(out, alloc, reader, &mut sink)?,
+        Command::Group => put_group_run(out, alloc, level, reader, &mut sink)?,
     }
     if sink.failed() {
         out.push_str(", sink failed")?;
+    }
+    Ok(())
+}
+
+fn put_canon_run(
+    out: &mut String,
+    alloc: Global,
+    level: Level,
+    reader: Pieces<'_>,
+    sink: &mut Sink<&mut Page>,
+) -> Result<(), AllocError> {
+    let mut source = Source::new(reader);
+    put_outcome(out, &run_canon(alloc, level, &mut source, sink))?;
+    put_reads(out, u64::from(source.reads()), source.failed())
+}
+
+fn put_canon_lines_run(
+    out: &mut String,
+    alloc: Global,
+    level: Level,
+    reader: Pieces<'_>,
+    sink: &mut Sink<&mut Page>,
+) -> Result<(), AllocError> {
+    let mut stream = Stream::new(reader);
+    put_outcome(out, &run_canon_lines(alloc, level, &mut stream, sink))?;
+    put_reads(out, stream.reads(), stream.failed())
+}
+
+fn put_check_run(
+    out: &mut String,
+    alloc: Global,
+    reader: Pieces<'_>,
+    sink: &mut Sink<&mut Page>,
+) -> Result<(), AllocError> {
+    let mut source = Source::new(reader);
+    put_outcome(out, &run_check(alloc, &mut source, sink))?;
+    put_reads(out, u64::from(source.reads()), source.failed())
+}
+
+fn put_check_lines_run(
+    out: &mut String,
+    alloc: Global,
+    reader: Pieces<'_>,
+    sink: &mut Sink<&mut Page>,
+) -> Result<(), AllocError> {
+    let mut stream = Stream::new(reader);
+    put_outcome(out, &run_check_lines(alloc, &mut stream, sink))?;
+    put_reads(out, stream.reads(), stream.failed())
+}
+
+fn put_group_run(
+    out: &mut String,
+    alloc: Global,
+    level: Level,
+    reader: Pieces<'_>,
+    sink: &mut Sink<&mut Page>,
+) -> Result<(), AllocError> {
+    let mut source = Source::new(reader);
+    put_grouped(out, &run_group(alloc, level, &mut source, sink))?;
+    put_reads(out, u64::from(source.reads()), source.failed())
+}
+
+// The count of reads, and whether one failed.
+fn put_reads(out: &mut String, reads: u64, failed: bool) -> Result<(), AllocError> {
+    write!(out, ", reads {reads}")?;
+    if failed {
+        out.push_str(", source failed")?;
     }
     Ok(())
 }
@@ -214,4 +275,31 @@ pub fn put_same(
         &run_same(alloc, level, first, second, &mut Sink::new(&mut page)),
     )?;
     put_written(out, &page.written)
+}
+
+// No row fills its room more often.
+const MOST: u32 = 8;
+
+/// What a reader that fills its room, of 8 bytes, gives of an input that is read in the manner of the words, up to its
+/// end: the bytes of each read in brackets, `failure` for one that failed.
+pub fn put_filled(out: &mut String, words: &str, input: &[u8]) -> Result<(), AllocError> {
+    let Some(manner) = Manner::read(words) else {
+        return out.push_str("no such reader");
+    };
+    let mut reader = Filling::new(Pieces::new(input, manner));
+    let mut room = [0; 8];
+    for turn in 0..MOST {
+        match reader.read(&mut room) {
+            Ok(0) => return out.push_str("end"),
+            Ok(count) => put_piece(out, &room[..count])?,
+            Err(_) => out.push_str("failure, ")?,
+        }
+    }
+    out.push_str("no end")
+}
+
+fn put_piece(out: &mut String, piece: &[u8]) -> Result<(), AllocError> {
+    out.push('[')?;
+    put_text(out, piece)?;
+    out.push_str("], ")
 }

@@ -9,7 +9,7 @@ ghost use Rattle.crs_desk.specs.LineCutting.{IsKept, IsLinesCut, IsNotKept, IsPu
 use crate::line_output::LineCommand;
 use crate::line_writer::LineWriter;
 use crate::{RunFault, Sink};
-use crs_streams::{MAX_LINE, split_line, text_of};
+use crs_streams::{MAX_LINE, append_bytes, split_line, text_of};
 use std::alloc::{AllocError, Global};
 use std::io::Write;
 use std::marker::Model;
@@ -128,7 +128,7 @@ impl LineCutter {
         if self.partial.is_empty() {
             return put(&mut self.writer, alloc, command, text_of(line));
         }
-        extend(&mut self.partial, line)?;
+        append_bytes(&mut self.partial, line)?;
         put(&mut self.writer, alloc, command, text_of(&self.partial))?;
         self.partial.clear();
         Ok(())
@@ -143,7 +143,7 @@ impl LineCutter {
         if self.is_over(bytes) {
             return Err(RunFault::TooLong(self.lines + 1));
         }
-        extend(&mut self.partial, bytes)
+        append_bytes(&mut self.partial, bytes)
     }
 
     // What is written for the line that has no line feed, if it has a byte.
@@ -180,11 +180,4 @@ fn put<C: LineCommand>(
     writer
         .put(alloc, command, text)
         .map_err(|_| RunFault::Memory)
-}
-
-fn extend(kept: &mut Vec<u8>, bytes: &[u8]) -> Result<(), RunFault>
-    ensures kept { OnOk result (kept.new.items ≡ kept.old.items ++ bytes.now) }
-    ensures fault { IfErr result (λ fault. fault ≡ RunFault.Memory) }
-{
-    kept.extend_from_slice(bytes).map_err(|_| RunFault::Memory)
 }

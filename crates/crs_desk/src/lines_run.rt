@@ -1,4 +1,4 @@
-//! Runs over lines: each line of a source is a text, and what a command writes for it goes into a sink.
+//! Runs over lines: each line of a stream is a text, and what a command writes for it goes into a sink.
 ghost use Rattle.std.specs.Prelude.{◌≡◌, ◌≤◌, ◌^◌, ◌↔◌, [], IfErr, IfOk, IsErrOf, OnOk, false, length, true};
 ghost use Rattle.crs_streams.specs.Streams.{fresh_sink, fresh_source};
 ghost use Rattle.crs_desk.specs.LineCutting.{IsReadThrough};
@@ -7,22 +7,22 @@ ghost use Rattle.crs_desk.specs.Output.{IsCanonOutput, IsCheckOutput};
 
 use crate::line_cutter::LineCutter;
 use crate::line_output::{CanonLines, CheckLines, LineCommand};
-use crate::{Level, RunFault, Sink, Source};
-use crs_streams::{MAX_COUNTED_READS, make_room};
+use crate::{Level, RunFault, Sink, Stream};
+use crs_streams::{MAX_STREAM_READS, make_room};
 use std::alloc::Global;
 use std::io::{Read, Write};
 
 /// Reads lines of texts to the end, and writes for each in its turn what `run_canon` writes for its text alone, at a
 /// level; for a line of white space alone an empty line. Status 0, or 1 where a line was refused. Output is handed to
 /// the sink in blocks of at least 65,536 bytes, but for the last, so that memory is bounded by the longest line.
-/// `ReadFailed` and `WriteFailed` where the source or the sink has failed, `TooLong(n)` where line `n` has more than
+/// `ReadFailed` and `WriteFailed` where the stream or the sink has failed, `TooLong(n)` where line `n` has more than
 /// 1,048,576 bytes before its line feed, `TooManyReads` where 2^47 reads have not shown the end, `Memory` where
 /// memory ran out. At a fault whole lines were written, the first of all; at `WriteFailed` the sink got a front of
 /// such lines. Profile.
 pub fn run_canon_lines<R: Read, W: Write>(
     alloc: Global,
     level: Level,
-    r: &mut Source<R>,
+    r: &mut Stream<R>,
     w: &mut Sink<W>,
 ) -> Result<u8, RunFault>
     requires source { r.old ≡ fresh_source r.old.remaining }
@@ -40,7 +40,7 @@ pub fn run_canon_lines<R: Read, W: Write>(
 /// As `run_canon_lines`, with what `run_check` writes for a text.
 pub fn run_check_lines<R: Read, W: Write>(
     alloc: Global,
-    r: &mut Source<R>,
+    r: &mut Stream<R>,
     w: &mut Sink<W>,
 ) -> Result<u8, RunFault>
     requires source { r.old ≡ fresh_source r.old.remaining }
@@ -58,7 +58,7 @@ pub fn run_check_lines<R: Read, W: Write>(
 fn run_lines<C: LineCommand, R: Read, W: Write>(
     alloc: Global,
     command: &C,
-    source: &mut Source<R>,
+    source: &mut Stream<R>,
     sink: &mut Sink<W>,
 ) -> Result<u8, RunFault>
     requires source { source.old ≡ fresh_source source.old.remaining }
@@ -86,7 +86,7 @@ fn read_through<C: LineCommand, R: Read, W: Write>(
     alloc: Global,
     command: &C,
     cutter: &mut LineCutter,
-    source: &mut Source<R>,
+    source: &mut Stream<R>,
     room: &mut [u8],
     sink: &mut Sink<W>,
 ) -> Result<(), RunFault>
@@ -99,7 +99,7 @@ fn read_through<C: LineCommand, R: Read, W: Write>(
     ensures err { IfErr result (IsLinesFault (C.Output command.now) source.old source.new sink.old sink.new) }
     ensures past_failure { sink.new.past_failure ≡ false }
 {
-    for turn in 0..MAX_COUNTED_READS {
+    for turn in 0..MAX_STREAM_READS {
         let count = source.read(room).map_err(|_| RunFault::ReadFailed)?;
         if count == 0 {
             return Ok(());

@@ -7,7 +7,7 @@ ghost use Rattle.crs_streams.specs.Lines.{HasNoFeed};
 
 use crate::RunFault;
 use crate::ledger::Ledger;
-use crs_streams::{MAX_LINE, split_line, text_of};
+use crs_streams::{MAX_LINE, append_bytes, split_line, text_of};
 use crs_value::Level;
 use std::alloc::{AllocError, Global};
 use std::marker::Model;
@@ -85,7 +85,7 @@ impl Cutter {
         if self.partial.is_empty() {
             return add_line(&mut self.ledger, line);
         }
-        extend(&mut self.partial, line)?;
+        append_bytes(&mut self.partial, line)?;
         add_line(&mut self.ledger, &self.partial)?;
         self.partial.clear();
         Ok(())
@@ -105,7 +105,7 @@ impl Cutter {
         if self.is_over(bytes) {
             return Err(RunFault::TooLong(self.ledger.lines() + 1));
         }
-        extend(&mut self.partial, bytes)
+        append_bytes(&mut self.partial, bytes)
     }
 
     // Whether the line is too long with these bytes.
@@ -125,11 +125,4 @@ fn add_line(ledger: &mut Ledger, line: &[u8]) -> Result<(), RunFault>
     ensures level { ledger.new.catalogue.level ≡ ledger.old.catalogue.level }
 {
     ledger.add(text_of(line)).map_err(|_| RunFault::Memory)
-}
-
-fn extend(kept: &mut Vec<u8>, bytes: &[u8]) -> Result<(), RunFault>
-    ensures kept { OnOk result (kept.new.items ≡ kept.old.items ++ bytes.now) }
-    ensures fault { IfErr result (λ fault. fault ≡ RunFault.Memory) }
-{
-    kept.extend_from_slice(bytes).map_err(|_| RunFault::Memory)
 }

@@ -13,7 +13,7 @@ mod stream;
 
 pub use fault::RunFault;
 pub use filling::Filling;
-pub use line::{MAX_LINE, split_line, text_of};
+pub use line::{MAX_LINE, append_bytes, split_line, text_of};
 pub use refusal::append_refusal;
 pub use sink::Sink;
 pub use source::{MAX_READS, Source, make_room};

@@ -1,7 +1,8 @@
 //! Lines of bytes: where one ends, and its text.
-ghost use Rattle.std.specs.Prelude.{MatchOption};
+ghost use Rattle.std.specs.Prelude.{◌≡◌, ◌++◌, IfErr, MatchOption, OnErr, OnOk};
 ghost use Rattle.crs_streams.specs.Lines.{HasNoFeed, IsSplit, IsTextOf};
 
+use crate::RunFault;
 use bstr::ByteSlice;
 
 /// The most bytes of a line before its line feed. Profile.
@@ -25,4 +26,15 @@ pub fn text_of(line: &[u8]) -> &[u8]
         Some((b'\r', text)) => text,
         _ => line,
     }
+}
+
+/// Appends the bytes of a line that goes on.
+///
+/// `Memory`: there is no memory for them, and `out` is as before.
+pub fn append_bytes(out: &mut Vec<u8>, bytes: &[u8]) -> Result<(), RunFault>
+    ensures appended { OnOk result (out.new.items ≡ out.old.items ++ bytes.now) }
+    ensures unchanged { OnErr result (out.new.items ≡ out.old.items) }
+    ensures fault { IfErr result (λ fault. fault ≡ RunFault.Memory) }
+{
+    out.extend_from_slice(bytes).map_err(|_| RunFault::Memory)
 }

@@ -3,12 +3,13 @@
 #![tactic(auto)]
 
 mod fault;
-mod filling;
 mod runs;
 
 use crs_desk::{Level, LineWord, Request, request};
 use fault::Fault;
-use runs::{canon, check, explain, group, same};
+use runs::{
+    canon, canon_lines, check, check_lines, explain, explain_pair, explain_text, group, same,
+};
 use std::alloc::{AllocError, Global};
 use std::process::ExitCode;
 use std::{env, io};
@@ -40,19 +41,23 @@ fn texts_of(alloc: Global, words: &[String]) -> Result<Vec<&str>, AllocError> {
 // The level is judged before anything is read.
 fn answer(rt: &HostRuntime, wanted: &Request) -> Result<u8, Fault> {
     let outcome = match wanted {
-        Request::Canon { level, lines } => canon(rt, level_of(level)?, *lines),
-        Request::Check { lines } => check(rt, *lines),
-        Request::Same {
-            level,
-            first,
-            second,
-        } => same(rt, level_of(level)?, first, second),
-        Request::Group { level } => group(rt, level_of(level)?),
-        Request::Explain {
-            level,
-            first,
-            second,
-        } => explain(rt, level_of(level)?, first, second),
+        Request::Canon(level) => canon(rt, level_of(level)?),
+        Request::Check => check(rt),
+        Request::Same(first, second, level) => same(rt, level_of(level)?, first, second),
+        Request::Group(level) => group(rt, level_of(level)?),
+        Request::CanonLines(level) => canon_lines(rt, level_of(level)?),
+        Request::CheckLines => check_lines(rt),
+        Request::Explain(level) => {
+            level_of(level)?;
+            explain(rt)
+        }
+        Request::ExplainText(text, level) => {
+            level_of(level)?;
+            explain_text(rt, text)
+        }
+        Request::ExplainPair(first, second, level) => {
+            explain_pair(rt, level_of(level)?, first, second)
+        }
     };
     Ok(outcome?)
 }

@@ -1,29 +1,33 @@
 //! The runs of the commands, over standard input and output.
-use crate::filling::Filling;
 use crs_desk::{
-    Level, LineWord, RunFault, Sink, Source, run_canon, run_canon_lines, run_check,
-    run_check_lines, run_explain, run_explain_pair, run_explain_text, run_group, run_same,
+    Filling, Level, LineWord, RunFault, Sink, Source, Stream, run_canon, run_canon_lines,
+    run_check, run_check_lines, run_explain, run_explain_pair, run_explain_text, run_group,
+    run_same,
 };
 use std::path::Path;
 
-/// The canonical text of standard input, or of each of its lines.
-pub fn canon(rt: &HostRuntime, level: Level, lines: bool) -> Result<u8, RunFault> {
+/// The canonical text of standard input.
+pub fn canon(rt: &HostRuntime, level: Level) -> Result<u8, RunFault> {
     let mut source = Source::new(Filling::new(rt.stdin()));
-    let mut sink = Sink::new(rt.stdout());
-    if lines {
-        return run_canon_lines(rt.alloc(), level, &mut source, &mut sink);
-    }
-    run_canon(rt.alloc(), level, &mut source, &mut sink)
+    run_canon(rt.alloc(), level, &mut source, &mut Sink::new(rt.stdout()))
 }
 
-/// What standard input spells, or each of its lines.
-pub fn check(rt: &HostRuntime, lines: bool) -> Result<u8, RunFault> {
+/// The canonical text of each line of standard input.
+pub fn canon_lines(rt: &HostRuntime, level: Level) -> Result<u8, RunFault> {
+    let mut stream = Stream::new(Filling::new(rt.stdin()));
+    run_canon_lines(rt.alloc(), level, &mut stream, &mut Sink::new(rt.stdout()))
+}
+
+/// What standard input spells.
+pub fn check(rt: &HostRuntime) -> Result<u8, RunFault> {
     let mut source = Source::new(Filling::new(rt.stdin()));
-    let mut sink = Sink::new(rt.stdout());
-    if lines {
-        return run_check_lines(rt.alloc(), &mut source, &mut sink);
-    }
-    run_check(rt.alloc(), &mut source, &mut sink)
+    run_check(rt.alloc(), &mut source, &mut Sink::new(rt.stdout()))
+}
+
+/// What each line of standard input spells.
+pub fn check_lines(rt: &HostRuntime) -> Result<u8, RunFault> {
+    let mut stream = Stream::new(Filling::new(rt.stdin()));
+    run_check_lines(rt.alloc(), &mut stream, &mut Sink::new(rt.stdout()))
 }
 
 /// Whether two texts spell the same CRS.
@@ -46,31 +50,20 @@ pub fn group(rt: &HostRuntime, level: Level) -> Result<u8, RunFault> {
     Ok(u8::from(summary.refused > 0))
 }
 
-/// What a text of standard input or of a word is, explained, or all parts in which two texts differ.
-pub fn explain(
-    rt: &HostRuntime,
-    level: Level,
-    first: &Option<LineWord>,
-    second: &Option<LineWord>,
-) -> Result<u8, RunFault> {
-    match (first, second) {
-        (None, _) => explain_input(rt),
-        (Some(text), None) => explain_word(rt, text),
-        (Some(first), Some(second)) => explain_pair(rt, level, first, second),
-    }
-}
-
-fn explain_input(rt: &HostRuntime) -> Result<u8, RunFault> {
+/// What standard input spells, or why it is refused, explained.
+pub fn explain(rt: &HostRuntime) -> Result<u8, RunFault> {
     let mut source = Source::new(Filling::new(rt.stdin()));
     run_explain(rt.alloc(), &mut source, &mut Sink::new(rt.stdout()))
 }
 
-fn explain_word(rt: &HostRuntime, word: &LineWord) -> Result<u8, RunFault> {
+/// What a text spells, or why it is refused, explained.
+pub fn explain_text(rt: &HostRuntime, word: &LineWord) -> Result<u8, RunFault> {
     let text = text_of(rt, word);
     run_explain_text(rt.alloc(), text, &mut Sink::new(rt.stdout()))
 }
 
-fn explain_pair(
+/// All parts in which two texts differ.
+pub fn explain_pair(
     rt: &HostRuntime,
     level: Level,
     first: &LineWord,

@@ -2,8 +2,8 @@
 use crate::lines::put_asked;
 use crate::runs::{put_outcome, put_written};
 use crs_desk::{
-    Level, Request, RequestFault, RunFault, Sink, Source, request, run_canon, run_canon_lines,
-    run_check, run_check_lines, run_explain, run_explain_pair, run_same,
+    Level, Request, RequestFault, RunFault, Sink, Source, Stream, request, run_canon,
+    run_canon_lines, run_check, run_check_lines, run_explain, run_explain_pair, run_same,
 };
 use crs_suite::{Trial, put_text, run_trial, unusable};
 use std::alloc::{AllocError, Global};
@@ -42,10 +42,10 @@ impl Trial for Run<'_> {
                 run_canon(alloc, Level::Full, &mut Source::new(text), &mut sink)
             }
             Command::CanonLines(text) => {
-                run_canon_lines(alloc, Level::Full, &mut Source::new(text), &mut sink)
+                run_canon_lines(alloc, Level::Full, &mut Stream::new(text), &mut sink)
             }
             Command::Check(text) => run_check(alloc, &mut Source::new(text), &mut sink),
-            Command::CheckLines(text) => run_check_lines(alloc, &mut Source::new(text), &mut sink),
+            Command::CheckLines(text) => run_check_lines(alloc, &mut Stream::new(text), &mut sink),
             Command::Explain(text) => run_explain(alloc, &mut Source::new(text), &mut sink),
             Command::ExplainPair(a, b) => run_explain_pair(alloc, Level::Full, a, b, &mut sink),
             Command::Same(a, b) => run_same(alloc, Level::Full, a, b, &mut sink),

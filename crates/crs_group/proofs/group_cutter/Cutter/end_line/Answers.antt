@@ -22,4 +22,4 @@ pub returns-clause-cut : goal.returns-clause-cut
 returns-clause-cut c =
     cut-joined c.args.line.now c.args.self.now c.self.inside.ledger c.add_line-2.new.ledger
     c.self.inside.partial.items c.deref.result.now c.clear.new.self.items c.self.view_is c.requires.one
-    (c.is_over.ensures.fits c.if-is_over.false) (c.deref.ensures.value ∙ c.in_ok-extend.ensures.kept) c.clear.ensures.items c.in_ok-add_line.ensures.added
+    (c.is_over.ensures.fits c.if-is_over.false) (c.deref.ensures.value ∙ c.in_ok-append_bytes.ensures.appended) c.clear.ensures.items c.in_ok-add_line.ensures.added

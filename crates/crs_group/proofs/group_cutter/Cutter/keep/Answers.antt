@@ -10,7 +10,7 @@ returns-then-is_over-clause-fault c =
 
 pub returns-clause-cut : goal.returns-clause-cut
 returns-clause-cut c =
-    IfOk-weaker c.extend.result _ _
+    IfOk-weaker c.append_bytes.result _ _
     (λ _ kept. cut-longer c.args.bytes.now c.args.self.now c.self.inside.ledger c.self.inside.partial.items
-    c.extend.new.kept.items c.self.view_is c.requires.one (c.is_over.ensures.fits c.if-is_over.false) kept)
-    c.extend.ensures.kept
+    c.append_bytes.new.out.items c.self.view_is c.requires.one (c.is_over.ensures.fits c.if-is_over.false) kept)
+    c.append_bytes.ensures.appended

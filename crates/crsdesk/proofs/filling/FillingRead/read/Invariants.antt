@@ -1,8 +1,0 @@
-use Rattle.std.proofs.Common.{◌-◌, ◌≡◌, ◌≤◌, length}
-use Rattle.crsdesk.proofs.filling.FillingRead.read.Given as goal
-
-abbrev pub invariant-loop-filled : goal.invariant-loop-filled
-invariant-loop-filled g l = (l.filled ≤ length l.buf) × (length l.buf ≡ length l.fn.buf)
-
-abbrev pub decreases-loop-filled : goal.decreases-loop-filled
-decreases-loop-filled g l = length l.buf - l.filled
