@@ -32,7 +32,7 @@ TARGET = "x86_64-unknown-linux-gnu"
 BESIDE = 15
 # Seconds of each crate, as this script measured them on four cores and nothing else at work (docs/GATE.md): the time
 # left is estimated by them, and by how much slower or faster the crates before were. Those of crs_streams, crs_group and
-# crs_desk are estimates, since streams and the run of group moved.
+# crs_desk are estimates, since the run of group moved.
 KNOWN_SECONDS = {
     "crs_decimal": 22,
     "crs_text": 40,
@@ -42,11 +42,11 @@ KNOWN_SECONDS = {
     "crs_normal": 15,
     "crs_canon": 109,
     "crs_streams": 15,
-    "crs_group": 40,
+    "crs_group": 55,
     "crs_hint": 60,
     "crs_explain": 40,
     "crs_command_line": 58,
-    "crs_desk": 50,
+    "crs_desk": 38,
     "crs_c": 40,
     "crsdesk": 58,
 }

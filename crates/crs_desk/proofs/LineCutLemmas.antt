@@ -10,7 +10,7 @@ use Rattle.crs_streams.specs.declared.fault.RunFault.{RunFault}
 use Rattle.crs_streams.specs.declared.fault.RunFault.TheVariants.{ReadFailed, WriteFailed, TooLong, TooManyReads, Memory}
 use Rattle.crs_streams.proofs.FeedLemmas.{feeds-append, feeds-none, none-kept, short-ended, short-line, short-more, some-kept}
 use Rattle.crs_streams.proofs.SplitLemmas.{plain-append}
-use Rattle.crs_desk.specs.LinesRun.{AreOutputs, HasSent, IsFrontOutput, Outputs}
+use Rattle.crs_desk.specs.LinesRun.{AreOutputs, AreWholeLines, HasSent, HasSentMost, IsFrontOutput, Outputs}
 use Rattle.crs_desk.specs.LineCutting.{CutterParts, IsCut, IsEmptied, IsFlushed, IsHealthy, IsKept, IsLinesCut, IsNotKept, IsPut, IsPutOut, IsStopped, IsWrittenOut, PutsLine, WriterParts}
 use Rattle.crs_desk.proofs.LineOutputLemmas.{lines-append, outputs-append}
 
@@ -129,11 +129,16 @@ put-emptied Output end before now after bytes old new put sent =
 
 put-flushed : (Output : Outputs) (end : Bool) (before now after : SinkState) (bytes : List ℕ) (old new : WriterParts)
     → IsPutOut Output end before bytes old now → IsFlushed old new now after → IsPutOut Output end before bytes new after
-put-flushed Output end before now after bytes old new put (inl (same, kept)) =
+put-flushed Output end before now after bytes old new put (inl (few, same, kept)) =
     subst (λ w. IsPutOut Output end before bytes w after) (sym same)
     (subst (IsPutOut Output end before bytes old) (sym kept) put)
-put-flushed Output end before now after bytes old new put (inr sent) =
+put-flushed Output end before now after bytes old new put (inr (block, sent)) =
     put-emptied Output end before now after bytes old new put sent
+
+-- less than a block is kept
+flushed-few : (old new : WriterParts) (before after : SinkState) → IsFlushed old new before after → length new.out < 65536
+flushed-few old new before after (inl (few, same, kept)) = subst (λ (w : WriterParts). length w.out < 65536) (sym same) few
+flushed-few old new before after (inr (block, sent)) = omega (arith, ap length sent.is_empty)
 
 -- a write that failed took the first bytes of what was kept
 put-cut : (Output : Outputs) (end : Bool) (before now after : SinkState) (bytes : List ℕ) (writer : WriterParts)
@@ -193,6 +198,7 @@ cut-none Output before cutter healthy is = subst (λ (c : CutterParts). IsLinesC
   is_one = refl;
   is_short = omega arith;
   is_counted = refl;
+  are_few = omega arith;
 })
   where
     appends-none : (contents : Option (List ℕ)) → Appends contents contents []
@@ -235,6 +241,7 @@ cut-line Output before now after bytes line text old new put cut plain fits of-l
         feeds-none whole bare,
         one-feed,
       );
+      are_few = flushed-few put new.writer now after flushed;
     }
   where
     one-feed : feeds (10 ∷ []) ≡ 1
@@ -273,6 +280,7 @@ cut-kept Output before after bytes more old new cut plain fits writer lines part
   is_one = subst HasNoFeed (sym partial) (plain-append old.partial more cut.is_one plain);
   is_short = omega (arith, ap length partial, length-append old.partial more);
   is_counted = lines ∙ cut.is_counted;
+  are_few = subst (λ (w : WriterParts). length w.out < 65536) (sym writer) cut.are_few;
 }
 
 -- whole lines of the bytes that were cut were sent
@@ -283,6 +291,23 @@ cut-sent Output before after bytes more end cutter cut =
     (sym (append_assoc cut.ended cutter.partial more) ∙ ap (λ b. b ++ more) (sym cut.are_bytes))
     (sent-more Output before after cut.ended (cutter.partial ++ more) [] end
     (put-sent Output false before after cut.ended cutter.writer cut.is_put))
+
+-- and most of what is written for the lines that have ended
+pub cut-most : (Output : Outputs) (before after : SinkState) (bytes : List ℕ) (cutter : CutterParts)
+    (cut : IsLinesCut Output before bytes cutter after) → HasSentMost Output cut.ended before after
+cut-most Output before after bytes cutter cut = record {
+  written = cut.is_put.sent;
+  unsent = cutter.writer.out;
+  status = cutter.writer.status;
+  is_output = record {
+    texts = cut.is_put.texts;
+    are_texts = cut.is_put.are_texts;
+    are_outputs = cut.is_put.are_outputs;
+  };
+  is_front = cut.is_put.is_front;
+  are_few = cut.are_few;
+  is_sent = cut.is_put.is_sent;
+}
 
 -- memory ran out
 pub cut-starved : (Output : Outputs) (before after : SinkState) (bytes more : List ℕ) (end : Bool) (cutter : CutterParts)
@@ -297,22 +322,30 @@ pub cut-long : (Output : Outputs) (before after : SinkState) (bytes line rest : 
     → IsStopped Output false before (bytes ++ (line ++ rest)) after (TooLong (cutter.lines + 1))
 cut-long Output before after bytes line rest cutter cut plain long small = (
   cut.is_put.is_healthy,
-  record {
-    front = cut.ended;
-    long = cutter.partial ++ line;
-    rest = rest;
-    are_bytes = ap (λ b. b ++ (line ++ rest)) cut.are_bytes
-        ∙ (append_assoc cut.ended cutter.partial (line ++ rest)
-        ∙ ap (λ l. cut.ended ++ l) (sym (append_assoc cutter.partial line rest)));
-    begins = cut-begins Output before after bytes cutter cut;
-    is_one = plain-append cutter.partial line cut.is_one plain;
-    is_long = omega (arith, length-append cutter.partial line);
-    is_soon = omega (arith, length-append cutter.partial line, cut.is_short);
-    before = cut.are_short;
-    is_number = ap (λ n. n + 1) cut.is_counted;
-  },
-  cut-sent Output before after bytes (line ++ rest) false cutter cut,
+  (
+    record {
+      front = cut.ended;
+      long = cutter.partial ++ line;
+      rest = rest;
+      are_bytes = ap (λ b. b ++ (line ++ rest)) cut.are_bytes
+          ∙ (append_assoc cut.ended cutter.partial (line ++ rest)
+          ∙ ap (λ l. cut.ended ++ l) (sym (append_assoc cutter.partial line rest)));
+      begins = cut-begins Output before after bytes cutter cut;
+      is_one = plain-append cutter.partial line cut.is_one plain;
+      is_long = omega (arith, length-append cutter.partial line);
+      is_soon = omega (arith, length-append cutter.partial line, cut.is_short);
+      before = cut.are_short;
+      is_number = ap (λ n. n + 1) cut.is_counted;
+    },
+    cut-most Output before after bytes cutter cut,
+  ),
 )
+
+-- the lines that have ended are all whole lines of the bytes that were cut
+pub cut-whole : (Output : Outputs) (before after : SinkState) (bytes : List ℕ) (cutter : CutterParts)
+    (cut : IsLinesCut Output before bytes cutter after) → AreWholeLines bytes cut.ended
+cut-whole Output before after bytes cutter cut =
+    (cutter.partial, cut.are_bytes, cut-begins Output before after bytes cutter cut, cut.is_one)
 
 -- so far no line is too long
 pub cut-short : (Output : Outputs) (before after : SinkState) (bytes : List ℕ) (cutter : CutterParts)

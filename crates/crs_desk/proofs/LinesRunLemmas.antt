@@ -2,15 +2,16 @@
 -- whole.
 use Rattle.std.proofs.Common.{◌≡◌, ◌+◌, ◌<◌, ◌≤◌, ◌*◌, ◌^◌, ◌++◌, [], ℕ, List, Option, Some, None, true, false, ap, subst, sym, refl, ◌∙◌, arith, Result, Ok, Err}
 use Rattle.std.specs.Prelude.{IfErr, IfOk, IsErr}
-use Rattle.std.specs.Io.KnownBytes.{Consumes, Keeps, ReadConsumes}
+use Rattle.std.specs.Io.KnownBytes.{Consumes, ReadConsumes}
 use Rattle.crs_streams.specs.Given.{HasGiven}
 use Rattle.crs_streams.specs.LongLines.{HasShortLines}
 use Rattle.crs_streams.specs.Streams.{CountsRead, SinkState, SourceState, fresh_sink, fresh_source}
 use Rattle.crs_streams.specs.declared.fault.RunFault.{RunFault}
 use Rattle.crs_streams.specs.declared.fault.RunFault.TheVariants.{ReadFailed, WriteFailed, TooLong, TooManyReads, Memory}
-use Rattle.crs_desk.specs.LinesRun.{IsLinesAnswered, IsLinesFault, Outputs}
+use Rattle.crs_desk.specs.LinesRun.{HasBegun, IsLinesAnswered, IsLinesFault, Outputs}
 use Rattle.crs_desk.specs.LineCutting.{CutterParts, IsHealthy, IsLinesCut, IsReadThrough, IsStopped, IsWrittenOut}
-use Rattle.crs_desk.proofs.LineCutLemmas.{cut-fits, cut-healthy, cut-none, cut-sent-all, cut-short, cutter_of, sent-end, stopped-first}
+use Rattle.crs_desk.proofs.LineCutLemmas.{cut-fits, cut-healthy, cut-most, cut-none, cut-sent-all, cut-short, cut-whole, cutter_of, sent-end, stopped-first}
+use Rattle.crs_streams.proofs.GivenLemmas.{given-kept}
 
 consumes-none : (remaining : Option (List ℕ)) → Consumes remaining remaining []
 consumes-none None = tt
@@ -36,24 +37,21 @@ none-begun Output source sink given sent =
       (
         [],
         given-none source given,
-        tt,
         cut-sent-all Output sink sink [] source.ended cutter (cut-none Output sink cutter healthy refl),
       ),
     )
 
-consumes-kept : (old now new : Option (List ℕ)) (front : List ℕ) → Consumes old now front → Keeps now new
-    → Consumes old new front
-consumes-kept None now new front p q = tt
-consumes-kept (Some all) None new front p q = absurd p
-consumes-kept (Some all) (Some left) None front p q = absurd q
-consumes-kept (Some all) (Some left) (Some rest) front p q = p ∙ ap (λ l. front ++ l) (sym q)
-
-given-kept : (old now new : SourceState) (bytes : List ℕ) → HasGiven old now bytes
-    → Keeps now.remaining new.remaining → new.taken ≡ now.taken → HasGiven old new bytes
-given-kept old now new bytes given kept counted = record {
-  is_counted = given.is_counted ∙ sym counted;
-  is_first = consumes-kept old.remaining now.remaining new.remaining bytes given.is_first kept;
-}
+-- so far lines were cut, and most of what is written for them was sent
+cut-begun : (Output : Outputs) (old new : SourceState) (before after : SinkState) (bytes : List ℕ) (cutter : CutterParts)
+    → HasGiven old new bytes → IsLinesCut Output before bytes cutter after → HasBegun Output old new before after
+cut-begun Output old new before after bytes cutter given cut = (
+  bytes,
+  cut.ended,
+  given,
+  cut-short Output before after bytes cutter cut,
+  cut-whole Output before after bytes cutter cut,
+  cut-most Output before after bytes cutter cut,
+)
 
 -- a read that fails
 pub failed-read : {E : Type 0} (Output : Outputs) (old now new : SourceState) (before after : SinkState) (bytes room : List ℕ)
@@ -65,12 +63,7 @@ failed-read Output old now new before after bytes room cutter (Err error) given 
     let kept = counted.bytes in (
       kept.2,
       (cut-healthy Output before after bytes cutter cut).0,
-      (
-        bytes,
-        given-kept old now new bytes given consumed kept.0,
-        cut-short Output before after bytes cutter cut,
-        cut-sent-all Output before after bytes new.ended cutter cut,
-      ),
+      cut-begun Output old new before after bytes cutter (given-kept old now new bytes given consumed kept.0) cut,
     )
 
 -- a piece that can't be cut
@@ -80,11 +73,11 @@ pub stopped-fault : (Output : Outputs) (old new : SourceState) (before after : S
 stopped-fault Output old new before after bytes ReadFailed given healthy stopped = absurd stopped
 stopped-fault Output old new before after bytes WriteFailed given healthy (failed, first, (unsent, sent)) =
     (healthy, failed, (bytes, unsent, given, sent-end Output before after bytes unsent new.ended sent))
-stopped-fault Output old new before after bytes (TooLong number) given healthy (sound, long, sent) =
-    (healthy, sound.0, (bytes, given, long, sent-end Output before after bytes [] new.ended sent))
+stopped-fault Output old new before after bytes (TooLong number) given healthy (sound, long) =
+    (healthy, sound.0, (bytes, given, long))
 stopped-fault Output old new before after bytes TooManyReads given healthy stopped = absurd stopped
 stopped-fault Output old new before after bytes Memory given healthy (sound, sent) =
-    (healthy, sound.0, (bytes, given, tt, sent-end Output before after bytes [] new.ended sent))
+    (healthy, sound.0, (bytes, given, sent-end Output before after bytes [] new.ended sent))
 
 -- the reads have shown no end
 pub many-reads : (Output : Outputs) (old now : SourceState) (before after : SinkState) (bytes : List ℕ) (cutter : CutterParts)
@@ -95,12 +88,7 @@ many-reads Output old now before after bytes cutter given cut healthy unended re
   (cut-healthy Output before after bytes cutter cut).0,
   reads,
   unended,
-  (
-    bytes,
-    given,
-    cut-short Output before after bytes cutter cut,
-    cut-sent-all Output before after bytes now.ended cutter cut,
-  ),
+  cut-begun Output old now before after bytes cutter given cut,
 )
 
 -- lines are counted within 64 bits
@@ -134,11 +122,11 @@ end-fault : (Output : Outputs) (old new : SourceState) (before after : SinkState
 end-fault Output old new before after bytes ReadFailed given healthy ended short stopped = absurd stopped
 end-fault Output old new before after bytes WriteFailed given healthy ended short (failed, first, (unsent, sent)) =
     (healthy, failed, (bytes, unsent, given, sent))
-end-fault Output old new before after bytes (TooLong number) given healthy ended short (sound, long, sent) =
-    (healthy, sound.0, (bytes, given, long, sent))
+end-fault Output old new before after bytes (TooLong number) given healthy ended short (sound, long) =
+    (healthy, sound.0, (bytes, given, long))
 end-fault Output old new before after bytes TooManyReads given healthy ended short stopped = absurd stopped
 end-fault Output old new before after bytes Memory given healthy ended short (sound, sent) =
-    (healthy, sound.0, (bytes, given, tt, sent))
+    (healthy, sound.0, (bytes, given, sent))
 
 pub lines-fault : (Output : Outputs) (old new : SourceState) (before now after : SinkState) (cutter : CutterParts)
     (fault : RunFault) → IsReadThrough Output old new before cutter now

@@ -3,13 +3,13 @@ use Rattle.std.specs.Prelude.{◌≡◌, ◌+◌, ◌<◌, ◌≤◌, ◌⊎◌,
 use Rattle.std.specs.Io.KnownBytes.{Appends}
 use Rattle.crs_streams.specs.Given.{HasGivenAll}
 use Rattle.crs_streams.specs.Lines.{AreLines, HasNoFeed, IsTextOf}
-use Rattle.crs_streams.specs.LongLines.{EndsInFeed, HasShortLines, IsTooLong, feeds}
+use Rattle.crs_streams.specs.LongLines.{EndsInFeed, HasShortLines, feeds}
 use Rattle.crs_streams.specs.Streams.{AppendsFront, SinkState, SourceState}
 use Rattle.crs_streams.specs.declared.fault.RunFault.{RunFault}
 use Rattle.crs_streams.specs.declared.fault.RunFault.TheVariants.{ReadFailed, WriteFailed, TooLong}
 use Rattle.crs_streams.specs.declared.fault.RunFault.TheVariants.{TooManyReads, Memory}
 use Rattle.crs_desk.specs.LinesRun.{AreOutputs, HasSent, IsFrontOutput, IsLineOutput, IsLinesOutput}
-use Rattle.crs_desk.specs.LinesRun.{Outputs}
+use Rattle.crs_desk.specs.LinesRun.{LongLineAfter, Outputs}
 
 -- output that was not sent yet, and the greatest status so far
 pub record WriterParts : Type 0 where
@@ -58,10 +58,11 @@ pub record IsEmptied (old new : WriterParts) (before after : SinkState) : Type 0
   pub is_sent : Appends before.contents after.contents old.out
   pub is_healthy : IsHealthy before → IsHealthy after
 
--- the output was sent, or is kept
+-- output that fills a block of 65536 bytes was sent, other output is kept
 abbrev pub IsFlushed : WriterParts → WriterParts → SinkState → SinkState → Type 0
 IsFlushed old new before after =
-    ((new ≡ old) × (after ≡ before)) ⊎ IsEmptied old new before after
+    ((length old.out < 65536) × (new ≡ old) × (after ≡ before))
+    ⊎ ((65536 ≤ length old.out) × IsEmptied old new before after)
 
 -- a write of the output failed
 pub record IsCut (old : WriterParts) (before after : SinkState) (fault : RunFault) : Type 0 where
@@ -93,6 +94,7 @@ pub record IsLinesCut (Output : Outputs) (before : SinkState) (bytes : List ℕ)
   pub is_one : HasNoFeed cutter.partial
   pub is_short : length cutter.partial ≤ 1048576
   pub is_counted : cutter.lines ≡ feeds ended
+  pub are_few : length cutter.writer.out < 65536
 
 -- all the bytes of the source are cut
 pub record IsReadThrough (Output : Outputs) (old new : SourceState) (before : SinkState)
@@ -116,7 +118,7 @@ IsStopped Output end before bytes after WriteFailed =
     (after.failed ≡ true) × (after.past_failure ≡ false)
     × ((unsent : List ℕ) × HasSent Output bytes end before after unsent)
 IsStopped Output end before bytes after (TooLong number) =
-    IsHealthy after × IsTooLong bytes number × HasSent Output bytes end before after []
+    IsHealthy after × LongLineAfter Output bytes number before after
 IsStopped Output end before bytes after TooManyReads = ⊥
 IsStopped Output end before bytes after Memory =
     IsHealthy after × HasSent Output bytes end before after []

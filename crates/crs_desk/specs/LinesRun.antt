@@ -1,10 +1,11 @@
 -- What a run over lines writes, and how it ends.
-use Rattle.std.specs.Prelude.{◌≡◌, ◌⊎◌, ◌++◌, ◌^◌, [], ◌∷◌, ℕ, List, Bool, true, false, IsTrue, IsFalse, max}
+use Rattle.std.specs.Prelude.{◌≡◌, ◌⊎◌, ◌<◌, ◌++◌, ◌^◌, [], ◌∷◌, ℕ, List, Bool, true, false}
+use Rattle.std.specs.Prelude.{IsTrue, IsFalse, length, max}
 use Rattle.std.specs.List.{list_all}
 use Rattle.std.specs.Io.KnownBytes.{Appends}
 use Rattle.crs_text.specs.Tokens.{is_white}
 use Rattle.crs_streams.specs.Given.{HasGiven, HasGivenAll}
-use Rattle.crs_streams.specs.Lines.{AreLines}
+use Rattle.crs_streams.specs.Lines.{AreLines, HasNoFeed}
 use Rattle.crs_streams.specs.LongLines.{EndsInFeed, HasShortLines, IsTooLong}
 use Rattle.crs_streams.specs.Streams.{SourceState, SinkState}
 use Rattle.crs_streams.specs.declared.fault.RunFault.{RunFault}
@@ -66,28 +67,50 @@ pub record IsLinesAnswered (Output : Outputs) (old new : SourceState) (before af
   pub is_sent : Appends before.contents after.contents written
   pub is_healthy : after.failed ≡ false
 
--- the source gave these bytes or more, and the sink got whole lines for a front of them
-abbrev pub HasBegun : Outputs → SourceState → SourceState → SinkState → SinkState
-    → (List ℕ → Type 0) → Type 0
-HasBegun Output old new before after Like =
-    (bytes : List ℕ) × HasGiven old new bytes × Like bytes
-    × HasSent Output bytes new.ended before after []
+-- all whole lines of some bytes: what follows the last line feed is left out
+abbrev pub AreWholeLines : List ℕ → List ℕ → Type 0
+AreWholeLines bytes lines =
+    (open : List ℕ) × (bytes ≡ lines ++ open) × ((lines ≡ []) ⊎ EndsInFeed lines) × HasNoFeed open
+
+-- the sink got what is written for some of these whole lines, the first ones, and fewer than 65536
+-- bytes are written for the others
+pub record HasSentMost (Output : Outputs) (lines : List ℕ) (before after : SinkState) : Type 0 where
+  pub written : List ℕ
+  pub unsent : List ℕ
+  pub status : ℕ
+  pub is_output : IsLinesOutput Output lines (written ++ unsent) status
+  pub is_front : IsFrontOutput Output lines false written
+  pub are_few : length unsent < 65536
+  pub is_sent : Appends before.contents after.contents written
+
+-- the line of this number is the first that is too long, and the sink got most of what is written
+-- for the lines before it
+abbrev pub LongLineAfter : Outputs → List ℕ → ℕ → SinkState → SinkState → Type 0
+LongLineAfter Output bytes number before after =
+    (long : IsTooLong bytes number) × HasSentMost Output long.front before after
+
+-- the source gave bytes of which no line is too long, and the sink got most of what is written for
+-- their whole lines
+abbrev pub HasBegun : Outputs → SourceState → SourceState → SinkState → SinkState → Type 0
+HasBegun Output old new before after =
+    (bytes : List ℕ) × (lines : List ℕ) × HasGiven old new bytes × HasShortLines bytes
+    × AreWholeLines bytes lines × HasSentMost Output lines before after
 
 -- what a run's fault says of its source and of its sink: whole lines were written, but where a
--- write failed
+-- write failed; out of memory any number of them, else all but the few that were kept
 abbrev pub IsLinesFault : Outputs → SourceState → SourceState → SinkState → SinkState → RunFault
     → Type 0
 IsLinesFault Output old new before after ReadFailed =
-    (new.failed ≡ true) × (after.failed ≡ false) × HasBegun Output old new before after HasShortLines
+    (new.failed ≡ true) × (after.failed ≡ false) × HasBegun Output old new before after
 IsLinesFault Output old new before after WriteFailed =
     (new.failed ≡ false) × (after.failed ≡ true) × ((bytes : List ℕ) × (unsent : List ℕ)
     × HasGiven old new bytes × HasSent Output bytes new.ended before after unsent)
 IsLinesFault Output old new before after (TooLong number) =
     (new.failed ≡ false) × (after.failed ≡ false)
-    × HasBegun Output old new before after (λ bytes. IsTooLong bytes number)
+    × ((bytes : List ℕ) × HasGiven old new bytes × LongLineAfter Output bytes number before after)
 IsLinesFault Output old new before after TooManyReads =
     (new.failed ≡ false) × (after.failed ≡ false) × (new.reads ≡ 2 ^ 47) × (new.ended ≡ false)
-    × HasBegun Output old new before after HasShortLines
+    × HasBegun Output old new before after
 IsLinesFault Output old new before after Memory =
     (new.failed ≡ false) × (after.failed ≡ false)
-    × HasBegun Output old new before after (λ bytes. Unit {0})
+    × ((bytes : List ℕ) × HasGiven old new bytes × HasSent Output bytes new.ended before after [])

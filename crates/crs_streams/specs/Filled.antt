@@ -15,9 +15,9 @@ fresh_filling remaining = record { remaining = remaining; ended = false; fails_n
 -- a read of this much room gives as many bytes, or fewer where the reader below has shown its end
 -- or has failed; none is read past the end, and none where a failure is answered
 pub record FillsRoom {E : Type 0} (old new : FillingState) (room : ℕ) (answer : Result ℕ E) : Type 0
-    where
-  pub fills : MatchResult answer
-      (λ count. (old.fails_next ≡ false)
-      × ((count ≡ room) ⊎ (new.ended ≡ true) ⊎ (new.fails_next ≡ true)))
-      (λ _. (new.fails_next ≡ false) × (new.ended ≡ old.ended))
-  pub end : old.ended ≡ true → new.ended ≡ true
+  where
+    pub fills : MatchResult answer
+        (λ count. (old.fails_next ≡ false)
+        × ((count ≡ room) ⊎ (new.ended ≡ true) ⊎ (new.fails_next ≡ true)))
+        (λ _. (new.fails_next ≡ false) × (new.ended ≡ old.ended))
+    pub end : old.ended ≡ true → new.ended ≡ true
