@@ -70,7 +70,7 @@ pub record IsLinesAnswered (Output : Outputs) (old new : SourceState) (before af
 -- all whole lines of some bytes: what follows the last line feed is left out
 abbrev pub AreWholeLines : List ℕ → List ℕ → Type 0
 AreWholeLines bytes lines =
-    (open : List ℕ) × (bytes ≡ lines ++ open) × ((lines ≡ []) ⊎ EndsInFeed lines) × HasNoFeed open
+    (last : List ℕ) × (bytes ≡ lines ++ last) × ((lines ≡ []) ⊎ EndsInFeed lines) × HasNoFeed last
 
 -- the sink got what is written for some of these whole lines, the first ones, and fewer than 65536
 -- bytes are written for the others

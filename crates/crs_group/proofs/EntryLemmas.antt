@@ -1,6 +1,6 @@
 -- What changes and look-ups of a map's entries mean for the groups.
-use Rattle.std.proofs.Common.{◌≡◌, ◌++◌, true, false, ◌∷◌, [], ℕ, zero, suc, List, Option, Some, None, length, map, position, get_or, slice_get, is_some, cond, true≢false, ap, sym, refl, ◌∙◌, add-one, append_assoc, drop, Result, Ok, Err}
-use Rattle.std.specs.Prelude.{◌+◌, MatchOption, OnErr}
+use Rattle.std.proofs.Common.{◌≡◌, ◌++◌, true, false, ◌∷◌, [], ℕ, zero, suc, List, Option, Some, None, length, map, position, get_or, slice_get, is_some, cond, true≢false, ap, sym, refl, ◌∙◌, Result, Ok, Err}
+use Rattle.std.specs.Prelude.{MatchOption, OnErr}
 use Rattle.std.specs.Map.{keys_of, values_of, lookup}
 use Rattle.std.proofs.lemmas.List.Quantifiers.{position-Some}
 use Rattle.std.proofs.lemmas.Option.{slice_get-get_or}
@@ -8,7 +8,6 @@ use Rattle.indexmap.specs.IndexMap.{set_value_at}
 use Rattle.crs_canon.specs.Canonical.{CanonicalText}
 use Rattle.crs_canon.specs.Equality.{canons_equal}
 use Rattle.crs_canon.specs.EqualityLaws.{canons-decide}
-use Rattle.crs_group.specs.Catalogue.{GroupParts}
 use Rattle.crs_group.specs.Entries.{entry_group, groups_of}
 use Rattle.crs_group.specs.GroupTexts.{canons}
 use Rattle.crs_group.specs.Putting.{IsJoined, IsNew, group_of}

@@ -3,7 +3,8 @@ use Rattle.std.specs.Prelude.{IfErr, IsErr}
 use Rattle.std.proofs.lemmas.Result.{IfErr-weaker}
 use Rattle.crs_group.specs.GroupRun.{IsReadingFault}
 use Rattle.crs_streams.specs.declared.fault.RunFault.TheVariants.{ReadFailed}
-use Rattle.crs_group.proofs.GroupRunLemmas.{failed-read, fault-in-piece, given-read, gives-short, lines-fit, taken-read}
+use Rattle.crs_streams.proofs.GivenLemmas.{given-read, taken-read}
+use Rattle.crs_group.proofs.GroupRunLemmas.{failed-read, fault-in-piece, gives-short, lines-fit}
 use Rattle.crs_group.proofs.group_run.read_into.Goals as goal
 
 pub returns-in_err-count-clause-err : goal.returns-in_err-count-clause-err
