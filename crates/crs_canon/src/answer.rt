@@ -37,8 +37,9 @@ pub fn canon(alloc: Global, text: &[u8], level: Level) -> Result<Canon, Fault>
     }
 }
 
-/// As `canon`, in the memory of `room`, whose bytes are lost where a text is accepted: `Canon::into_bytes` gives it back.
-/// So many texts, one after the other, need no further memory for their canonical texts. Profile.
+/// As `canon`, in the memory of `room` where that has no bytes: `Canon::into_bytes` gives it back, to be cleared for the
+/// next text. So many texts, one after the other, need no further memory for their canonical texts. Whatever the answer,
+/// `room` has the bytes that it had. Profile.
 pub fn canon_in(
     alloc: Global,
     text: &[u8],
@@ -47,6 +48,7 @@ pub fn canon_in(
 ) -> Result<Canon, Fault>
     ensures answer { MatchResult result (λ canon. IsCanonicalOf level text.now canon.bytes) (IsFaultOfText text.now) }
     ensures level { IfOk result (λ canon. canon.level ≡ level) }
+    ensures room { room.new.items ≡ room.old.items }
 {
     match read_items(alloc, text) {
         Ok(items) => canon_of_items(alloc, text, &items, level, room),
@@ -65,6 +67,7 @@ fn canon_of_items(
     requires { SpellsNode text.now items.now }
     ensures answer { MatchResult result (λ canon. IsCanonicalOf level text.now canon.bytes) (IsFaultOfText text.now) }
     ensures level { IfOk result (λ canon. canon.level ≡ level) }
+    ensures room { room.new.items ≡ room.old.items }
 {
     match judge(items) {
         Ok(class) => match written_from(taken(alloc, room), items, class, level, text.len()) {
@@ -75,13 +78,17 @@ fn canon_of_items(
     }
 }
 
-// The memory of a vector, without its bytes.
+// The memory of a vector that has no bytes; beside one that has some, an empty vector.
 fn taken(alloc: Global, room: &mut Vec<u8>) -> Vec<u8>
-    ensures { result.items ≡ [] }
+    ensures empty { result.items ≡ [] }
+    ensures room { room.new.items ≡ room.old.items }
 {
-    let mut bytes = mem::replace(room, Vec::new(alloc));
-    bytes.clear();
-    bytes
+    let empty = Vec::new(alloc);
+    if room.is_empty() {
+        mem::replace(room, empty)
+    } else {
+        empty
+    }
 }
 
 // The canonical text of the CRS of this class that items spell, in an empty vector, which has room for so many bytes

@@ -135,6 +135,7 @@ impl Catalogue {
         match self.groups.position(&canon) {
             Some(at) => {
                 self.room = canon.into_bytes();
+                self.room.clear();
                 self.groups.join(at, line)?;
                 Ok(Placed::Group(at + 1))
             }
