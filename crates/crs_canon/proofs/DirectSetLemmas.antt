@@ -6,7 +6,7 @@ use Rattle.crs_value.specs.FoundArguments.{from_found}
 use Rattle.crs_value.specs.Reading.{item_at, those, Holds, IsFound, ReadsEach}
 use Rattle.crs_normal.specs.Ordered.{put, put_all}
 use Rattle.std.proofs.lemmas.List.{append-nil}
-use Rattle.crs_canon.specs.Direct.{Writes}
+use Rattle.crs_canon.specs.Direct.{IsRead, Writes}
 use Rattle.crs_canon.specs.Members.{set_text}
 use Rattle.crs_canon.specs.SetText.{commas}
 use Rattle.crs_value.proofs.ArgumentLemmas.{found-is, found-holds}
@@ -53,6 +53,16 @@ pub gathering-end : {V : Type 0} (R : Item → V → Type 0) (spell : V → List
     (values : List V) → ReadsEach R whole values → now ≡ put_all (λ b. b) old (map spell values)
 gathering-end R spell tree parent c whole old now so values h =
     let (rest, reads, same) = so.left values h in sym (ended spell R now rest reads) ∙ same
+
+each-first : {V : Type 0} (R : Item → V → Type 0) (item : Item) (items : List Item) (values : List V) → ReadsEach R (item ∷ items) values → IsRead (R item)
+each-first R item items [] h = absurd h
+each-first R item items (v ∷ vs) h = (v, h.0)
+
+-- a value is read from the member that is next
+pub gathering-read : {V : Type 0} (R : Item → V → Type 0) (spell : V → List ℕ) (tree : Item) (parent c : Class) (whole : List Item)
+    (old now : List (List ℕ)) (id : ℕ) → Gathering R spell tree parent c whole old now (Some id) → IsRead (ReadsEach R whole) → IsRead (R (item_at tree id))
+gathering-read R spell tree parent c whole old now id so (values, h) =
+    let (rest, reads, same) = so.left values h in each-first R (item_at tree id) _ rest reads
 
 -- ---- sets
 

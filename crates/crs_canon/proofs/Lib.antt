@@ -12,6 +12,7 @@ pub mod LevelLemmas
 pub mod MainLemmas
 pub mod PieceLemmas
 pub mod PlainLemmas
+pub mod ReadLemmas
 pub mod SetLemmas
 pub mod SetSameLemmas
 pub mod SetTextLemmas

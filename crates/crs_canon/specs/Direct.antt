@@ -10,6 +10,10 @@ use Rattle.crs_value.specs.Reading.{item_at}
 pub record Writes {V : Type 0} (Reads : V → Type 0) (text : V → List ℕ) (old new : List ℕ) : Type 0 where
   pub writes : (value : V) → Reads value → new ≡ old ++ text value
 
+-- some value is read
+abbrev pub IsRead : {V : Type 0} → (V → Type 0) → Type 0
+IsRead {V = V} Reads = (value : V) × Reads value
+
 -- what is read from the item of this number as one of a class, if there is one
 abbrev pub IsReadAt : {V : Type 0} → (Class → Item → V → Type 0) → Class → Item → Option V → Option ℕ → Type 0
 IsReadAt Reads c tree value None = value ≡ None

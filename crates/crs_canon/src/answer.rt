@@ -6,6 +6,7 @@ ghost use Rattle.crs_value.specs.Spells.{SpellsCrs};
 ghost use Rattle.crs_value.specs.SpellsText.{IsFaultOfText};
 ghost use Rattle.crs_value.specs.declared.values.crs.Crs.{Crs};
 ghost use Rattle.crs_canon.specs.Canonical.{IsCanonicalOf, IsCanonicalText};
+ghost use Rattle.crs_canon.specs.Direct.{IsRead};
 
 use crate::canon_text::Canon;
 use crate::canonical::{Spell, crss_are_canonical};
@@ -100,9 +101,10 @@ fn written_from(
     level: Level,
     room: usize,
 ) -> Result<Canon, AllocError>
-    requires { bytes.items ≡ [] }
-    ensures text { IfOk result (λ canon. (crs : Crs) → SpellsCrs items.now crs → class_of_root items.now ≡ Some class →
-        IsCanonicalText level crs canon.bytes) }
+    requires empty { bytes.items ≡ [] }
+    requires spells { IsRead (SpellsCrs items.now) }
+    requires class { class_of_root items.now ≡ Some class }
+    ensures text { IfOk result (λ canon. (crs : Crs) → SpellsCrs items.now crs → IsCanonicalText level crs canon.bytes) }
     ensures level { IfOk result (λ canon. canon.level ≡ level) }
 {
     let root = items.root();

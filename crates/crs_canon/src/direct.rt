@@ -1,5 +1,5 @@
 //! Writers straight from the items of a text, with no value between: each appends the text of whatever value is read from
-//! an item, and asks nothing of the item's shape. Where no value is read nothing is promised of `out`.
+//! an item, and asks that one is read, as it is from each item of an accepted text.
 
 pub(crate) mod axis;
 pub(crate) mod conversion;

@@ -12,7 +12,7 @@ ghost use Rattle.crs_same.specs.SameSystems.{own_or};
 ghost use Rattle.crs_normal.specs.SpelledItems.{opt};
 ghost use Rattle.crs_normal.specs.SpelledSystems.{item_axis, item_axis_meridian, norm_axis, norm_axis_meridians};
 ghost use Rattle.crs_normal.specs.SpelledUnits.{item_unit, norm_units};
-ghost use Rattle.crs_canon.specs.Direct.{Writes};
+ghost use Rattle.crs_canon.specs.Direct.{IsRead, Writes};
 
 use crate::direct::ident::write_idents;
 use crate::direct::lookup::{first, open_text_of};
@@ -82,7 +82,8 @@ fn write_axis_meridian(
     class: Class,
     level: Level,
 ) -> Result<(), AllocError>
-    requires { HasId items.now id }
+    requires has { HasId items.now id }
+    requires reads { IsRead (ReadsAxisMeridian class (item_at items.now id)) }
     ensures { OnOk result (Writes (ReadsAxisMeridian class (item_at items.now id))
         (λ m. others_text (opt item_axis_meridian (norm_axis_meridians level (Some m)) End))
         out.old.items out.new.items) }
@@ -107,7 +108,8 @@ fn write_optional_meridian(
     class: Class,
     level: Level,
 ) -> Result<(), AllocError>
-    requires { HasId items.now id }
+    requires has { HasId items.now id }
+    requires reads { IsRead (ReadsIfAny ReadsAxisMeridian Class.AxisMeridian class (item_at items.now id)) }
     ensures { OnOk result (Writes (ReadsIfAny ReadsAxisMeridian Class.AxisMeridian class (item_at items.now id))
         (λ m. others_text (opt item_axis_meridian (norm_axis_meridians level m) End)) out.old.items out.new.items) }
 {
@@ -129,6 +131,8 @@ fn write_axis_unit(
 ) -> Result<(), AllocError>
     requires crs { HasId items.now crs }
     requires axis { HasId items.now id }
+    requires own { IsRead (ReadsIfAny ReadsUnit Class.AxisUnit Class.Axis (item_at items.now id)) }
+    requires shared { IsRead (ReadsIfAny ReadsUnit Class.AxisUnit class (item_at items.now crs)) }
     ensures { OnOk result ((own shared : Option UnitParts) →
         ReadsIfAny ReadsUnit Class.AxisUnit Class.Axis (item_at items.now id) own →
         ReadsIfAny ReadsUnit Class.AxisUnit class (item_at items.now crs) shared →
@@ -153,13 +157,15 @@ pub(crate) fn write_axis(
 ) -> Result<(), AllocError>
     requires crs { HasId items.now crs }
     requires axis { HasId items.now id }
+    requires reads { IsRead (ReadsAxis Class.Axis (item_at items.now id)) }
+    requires shared { IsRead (ReadsIfAny ReadsUnit Class.AxisUnit class (item_at items.now crs)) }
     ensures { OnOk result ((system : SystemParts) (axis : AxisParts) → system.system_type ≡ system_type →
         ReadsIfAny ReadsUnit Class.AxisUnit class (item_at items.now crs) system.unit →
         ReadsAxis Class.Axis (item_at items.now id) axis →
         out.new.items ≡ out.old.items ++ 44 ∷ item_text (item_axis (norm_axis level system position axis))) }
 {
     let Some(direction) = direction_of(items, id) else {
-        return Ok(());
+        unreachable!()
     };
     let asked = system_type.asked_kind(direction);
     open_text_of(out, b",AXIS[\"", items, id, Class::Axis)?;

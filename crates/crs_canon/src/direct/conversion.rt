@@ -12,7 +12,7 @@ ghost use Rattle.crs_normal.specs.SpelledConversions.{norm_conversion, norm_meth
 ghost use Rattle.crs_normal.specs.SpelledConversions.{set_parameters};
 ghost use Rattle.crs_normal.specs.SpelledItems.{each, opt};
 ghost use Rattle.crs_normal.specs.SpelledUnits.{item_unit, norm_units};
-ghost use Rattle.crs_canon.specs.Direct.{Writes};
+ghost use Rattle.crs_canon.specs.Direct.{IsRead, Writes};
 
 use crate::direct::ident::{write_idents, write_named};
 use crate::direct::lookup::{first, open_text_of};
@@ -33,12 +33,13 @@ fn write_method(
     class: Class,
     level: Level,
 ) -> Result<(), AllocError>
-    requires { HasId items.now id }
+    requires has { HasId items.now id }
+    requires reads { IsRead (ReadsOne ReadsMethod Class.Method class (item_at items.now id)) }
     ensures { OnOk result (Writes (ReadsOne ReadsMethod Class.Method class (item_at items.now id))
         (λ m. 44 ∷ item_text (item_method (norm_method level m))) out.old.items out.new.items) }
 {
     match first(items, id, class, Class::Method) {
-        None => Ok(()),
+        None => unreachable!(),
         Some(found) => write_named(out, b",METHOD[\"", items, found, Class::Method, level),
     }
 }
@@ -51,7 +52,8 @@ fn write_parameter_unit(
     class: Class,
     level: Level,
 ) -> Result<(), AllocError>
-    requires { HasId items.now id }
+    requires has { HasId items.now id }
+    requires reads { IsRead (ReadsUnitOf parameter_units class (item_at items.now id)) }
     ensures { OnOk result (Writes (ReadsUnitOf parameter_units class (item_at items.now id))
         (λ u. others_text (opt item_unit (norm_units level kinds.Plain u) End)) out.old.items out.new.items) }
 {
@@ -77,7 +79,8 @@ fn write_parameter(
     class: Class,
     level: Level,
 ) -> Result<(), AllocError>
-    requires { HasId items.now id }
+    requires has { HasId items.now id }
+    requires reads { IsRead (ReadsParameter class (item_at items.now id)) }
     ensures { OnOk result (Writes (ReadsParameter class (item_at items.now id))
         (λ p. item_text (item_parameter (norm_parameter level p))) out.old.items out.new.items) }
 {
@@ -115,7 +118,8 @@ fn write_parameters(
     class: Class,
     level: Level,
 ) -> Result<(), AllocError>
-    requires { HasId items.now id }
+    requires has { HasId items.now id }
+    requires reads { IsRead (ReadsAll ReadsParameter Class.Parameter class (item_at items.now id)) }
     ensures { OnOk result (Writes (ReadsAll ReadsParameter Class.Parameter class (item_at items.now id))
         (λ ps. others_text (each item_parameter (set_parameters level ps) End)) out.old.items out.new.items) }
 {
@@ -130,7 +134,8 @@ fn write_given(
     class: Class,
     level: Level,
 ) -> Result<(), AllocError>
-    requires { HasId items.now id }
+    requires has { HasId items.now id }
+    requires reads { IsRead (ReadsConversion class (item_at items.now id)) }
     ensures { OnOk result (Writes (ReadsConversion class (item_at items.now id))
         (λ c. 44 ∷ item_text (item_conversion (norm_conversion level c))) out.old.items out.new.items) }
 {
@@ -149,12 +154,13 @@ pub(crate) fn write_conversion(
     parent: Class,
     level: Level,
 ) -> Result<(), AllocError>
-    requires { HasId items.now id }
+    requires has { HasId items.now id }
+    requires reads { IsRead (ReadsOne ReadsConversion Class.Conversion parent (item_at items.now id)) }
     ensures { OnOk result (Writes (ReadsOne ReadsConversion Class.Conversion parent (item_at items.now id))
         (λ c. 44 ∷ item_text (item_conversion (norm_conversion level c))) out.old.items out.new.items) }
 {
     match first(items, id, parent, Class::Conversion) {
-        None => Ok(()),
+        None => unreachable!(),
         Some(found) => write_given(out, items, found, Class::Conversion, level),
     }
 }
@@ -186,7 +192,8 @@ pub(crate) fn write_geoid_models(
     class: Class,
     level: Level,
 ) -> Result<(), AllocError>
-    requires { HasId items.now id }
+    requires has { HasId items.now id }
+    requires reads { IsRead (ReadsAll ReadsGeoidModel Class.GeoidModel class (item_at items.now id)) }
     ensures { OnOk result (Writes (ReadsAll ReadsGeoidModel Class.GeoidModel class (item_at items.now id))
         (λ gs. others_text (each item_geoid_model (set_geoid_models level gs) End)) out.old.items out.new.items) }
 {

@@ -10,7 +10,7 @@ ghost use Rattle.crs_normal.specs.SpelledCrs.{item_base, item_compound, item_geo
 ghost use Rattle.crs_normal.specs.SpelledCrs.{item_projected, item_vertical, norm_base, norm_compound};
 ghost use Rattle.crs_normal.specs.SpelledCrs.{norm_geodetic, norm_horizontal, norm_projected, norm_vertical};
 ghost use Rattle.crs_canon.specs.CrsText.{crs_text};
-ghost use Rattle.crs_canon.specs.Direct.{Writes};
+ghost use Rattle.crs_canon.specs.Direct.{IsRead, Writes};
 
 use crate::direct::conversion::{write_conversion, write_geoid_models};
 use crate::direct::dynamic::write_optional_dynamic;
@@ -35,12 +35,13 @@ fn write_geodetic(
     class: Class,
     level: Level,
 ) -> Result<(), AllocError>
-    requires { HasId items.now id }
+    requires has { HasId items.now id }
+    requires reads { IsRead (ReadsGeodetic class (item_at items.now id)) }
     ensures { OnOk result (Writes (ReadsGeodetic class (item_at items.now id))
         (λ g. item_text (item_geodetic (norm_geodetic level g))) out.old.items out.new.items) }
 {
     let Some(system_type) = type_in(items, id, class) else {
-        return Ok(());
+        unreachable!()
     };
     let opening = geodetic_opening(system_type).as_bytes();
     open_text_of(out, opening, items, id, class)?;
@@ -60,7 +61,8 @@ fn write_given_base(
     class: Class,
     level: Level,
 ) -> Result<(), AllocError>
-    requires { HasId items.now id }
+    requires has { HasId items.now id }
+    requires reads { IsRead (ReadsBase class (item_at items.now id)) }
     ensures { OnOk result (Writes (ReadsBase class (item_at items.now id))
         (λ b. 44 ∷ item_text (item_base (norm_base level b))) out.old.items out.new.items) }
 {
@@ -89,12 +91,13 @@ fn write_base(
     parent: Class,
     level: Level,
 ) -> Result<(), AllocError>
-    requires { HasId items.now id }
+    requires has { HasId items.now id }
+    requires reads { IsRead (ReadsOne ReadsBase Class.BaseCrs parent (item_at items.now id)) }
     ensures { OnOk result (Writes (ReadsOne ReadsBase Class.BaseCrs parent (item_at items.now id))
         (λ b. 44 ∷ item_text (item_base (norm_base level b))) out.old.items out.new.items) }
 {
     match first(items, id, parent, Class::BaseCrs) {
-        None => Ok(()),
+        None => unreachable!(),
         Some(found) => write_given_base(out, items, found, Class::BaseCrs, level),
     }
 }
@@ -106,7 +109,8 @@ fn write_projected(
     class: Class,
     level: Level,
 ) -> Result<(), AllocError>
-    requires { HasId items.now id }
+    requires has { HasId items.now id }
+    requires reads { IsRead (ReadsProjected class (item_at items.now id)) }
     ensures { OnOk result (Writes (ReadsProjected class (item_at items.now id))
         (λ p. item_text (item_projected (norm_projected level p))) out.old.items out.new.items) }
 {
@@ -125,7 +129,8 @@ fn write_vertical(
     class: Class,
     level: Level,
 ) -> Result<(), AllocError>
-    requires { HasId items.now id }
+    requires has { HasId items.now id }
+    requires reads { IsRead (ReadsVertical class (item_at items.now id)) }
     ensures { OnOk result (Writes (ReadsVertical class (item_at items.now id))
         (λ v. item_text (item_vertical (norm_vertical level v))) out.old.items out.new.items) }
 {
@@ -146,7 +151,8 @@ fn write_horizontal(
     class: Class,
     level: Level,
 ) -> Result<(), AllocError>
-    requires { HasId items.now id }
+    requires has { HasId items.now id }
+    requires reads { IsRead (ReadsHorizontal class (item_at items.now id)) }
     ensures { OnOk result (Writes (ReadsHorizontal class (item_at items.now id))
         (λ h. item_text (item_horizontal (norm_horizontal level h))) out.old.items out.new.items) }
 {
@@ -157,7 +163,7 @@ fn write_horizontal(
         return write_geodetic(out, items, found, Class::GeographicCrs, level);
     }
     match first(items, id, class, Class::ProjectedCrs) {
-        None => Ok(()),
+        None => unreachable!(),
         Some(found) => write_projected(out, items, found, Class::ProjectedCrs, level),
     }
 }
@@ -170,12 +176,13 @@ fn write_vertical_part(
     class: Class,
     level: Level,
 ) -> Result<(), AllocError>
-    requires { HasId items.now id }
+    requires has { HasId items.now id }
+    requires reads { IsRead (ReadsOne ReadsVertical Class.VerticalCrs class (item_at items.now id)) }
     ensures { OnOk result (Writes (ReadsOne ReadsVertical Class.VerticalCrs class (item_at items.now id))
         (λ v. item_text (item_vertical (norm_vertical level v))) out.old.items out.new.items) }
 {
     match first(items, id, class, Class::VerticalCrs) {
-        None => Ok(()),
+        None => unreachable!(),
         Some(found) => write_vertical(out, items, found, Class::VerticalCrs, level),
     }
 }
@@ -187,7 +194,8 @@ fn write_compound(
     class: Class,
     level: Level,
 ) -> Result<(), AllocError>
-    requires { HasId items.now id }
+    requires has { HasId items.now id }
+    requires reads { IsRead (ReadsCompound class (item_at items.now id)) }
     ensures { OnOk result (Writes (ReadsCompound class (item_at items.now id))
         (λ c. item_text (item_compound (norm_compound level c))) out.old.items out.new.items) }
 {
@@ -208,7 +216,8 @@ pub(crate) fn write_crs(
     class: Class,
     level: Level,
 ) -> Result<(), AllocError>
-    requires { HasId items.now id }
+    requires has { HasId items.now id }
+    requires reads { IsRead (ReadsCrs class (item_at items.now id)) }
     ensures { OnOk result (Writes (ReadsCrs class (item_at items.now id)) (crs_text level)
         out.old.items out.new.items) }
 {
@@ -217,6 +226,6 @@ pub(crate) fn write_crs(
         Class::ProjectedCrs => write_projected(out, items, id, class, level),
         Class::VerticalCrs => write_vertical(out, items, id, class, level),
         Class::CompoundCrs => write_compound(out, items, id, class, level),
-        _ => Ok(()),
+        _ => unreachable!(),
     }
 }

@@ -9,7 +9,7 @@ ghost use Rattle.crs_value.specs.ReadsDynamic.{ReadsDeformationModel, ReadsDynam
 ghost use Rattle.crs_normal.specs.SpelledDynamic.{item_deformation_model, item_dynamic, norm_deformation_model};
 ghost use Rattle.crs_normal.specs.SpelledDynamic.{norm_dynamic};
 ghost use Rattle.crs_normal.specs.SpelledItems.{opt};
-ghost use Rattle.crs_canon.specs.Direct.{Writes};
+ghost use Rattle.crs_canon.specs.Direct.{IsRead, Writes};
 
 use crate::direct::ident::write_named;
 use crate::direct::lookup::first;
@@ -27,7 +27,8 @@ fn write_optional_model(
     class: Class,
     level: Level,
 ) -> Result<(), AllocError>
-    requires { HasId items.now id }
+    requires has { HasId items.now id }
+    requires reads { IsRead (ReadsIfAny ReadsDeformationModel Class.DeformationModel class (item_at items.now id)) }
     ensures { OnOk result (Writes (ReadsIfAny ReadsDeformationModel Class.DeformationModel class (item_at items.now id))
         (λ m. others_text (opt item_deformation_model (option_map (norm_deformation_model level) m) End))
         out.old.items out.new.items) }
@@ -53,7 +54,8 @@ fn write_dynamic(
     class: Class,
     level: Level,
 ) -> Result<(), AllocError>
-    requires { HasId items.now id }
+    requires has { HasId items.now id }
+    requires reads { IsRead (ReadsDynamic class (item_at items.now id)) }
     ensures { OnOk result (Writes (ReadsDynamic class (item_at items.now id))
         (λ d. 44 ∷ item_text (item_dynamic (norm_dynamic level d))) out.old.items out.new.items) }
 {
@@ -77,7 +79,8 @@ pub(crate) fn write_optional_dynamic(
     parent: Class,
     level: Level,
 ) -> Result<(), AllocError>
-    requires { HasId items.now id }
+    requires has { HasId items.now id }
+    requires reads { IsRead (ReadsIfAny ReadsDynamic Class.Dynamic parent (item_at items.now id)) }
     ensures { OnOk result (Writes (ReadsIfAny ReadsDynamic Class.Dynamic parent (item_at items.now id))
         (λ d. others_text (opt item_dynamic (option_map (norm_dynamic level) d) End))
         out.old.items out.new.items) }

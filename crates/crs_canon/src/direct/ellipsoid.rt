@@ -7,7 +7,7 @@ ghost use Rattle.crs_value.specs.Reading.{item_at, ReadsIfAny};
 ghost use Rattle.crs_value.specs.Reads.{ReadsEllipsoid};
 ghost use Rattle.crs_normal.specs.SpelledFrames.{item_ellipsoid, norm_ellipsoid};
 ghost use Rattle.crs_normal.specs.SpelledItems.{opt};
-ghost use Rattle.crs_canon.specs.Direct.{Writes};
+ghost use Rattle.crs_canon.specs.Direct.{IsRead, Writes};
 
 use crate::direct::ident::write_idents;
 use crate::direct::lookup::{first, open_text_of};
@@ -27,7 +27,8 @@ fn write_ellipsoid(
     class: Class,
     level: Level,
 ) -> Result<(), AllocError>
-    requires { HasId items.now id }
+    requires has { HasId items.now id }
+    requires reads { IsRead (ReadsEllipsoid class (item_at items.now id)) }
     ensures { OnOk result (Writes (ReadsEllipsoid class (item_at items.now id))
         (λ e. 44 ∷ item_text (item_ellipsoid (norm_ellipsoid level e))) out.old.items out.new.items) }
 {
@@ -47,7 +48,8 @@ pub(crate) fn write_optional_ellipsoid(
     parent: Class,
     level: Level,
 ) -> Result<(), AllocError>
-    requires { HasId items.now id }
+    requires has { HasId items.now id }
+    requires reads { IsRead (ReadsIfAny ReadsEllipsoid Class.Ellipsoid parent (item_at items.now id)) }
     ensures { OnOk result (Writes (ReadsIfAny ReadsEllipsoid Class.Ellipsoid parent (item_at items.now id))
         (λ e. others_text (opt item_ellipsoid (option_map (norm_ellipsoid level) e) End))
         out.old.items out.new.items) }

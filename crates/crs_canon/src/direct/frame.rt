@@ -11,7 +11,7 @@ ghost use Rattle.crs_normal.specs.SpelledFrames.{item_ellipsoid, item_ensemble, 
 ghost use Rattle.crs_normal.specs.SpelledFrames.{norm_ellipsoid, norm_ensemble, norm_frame, set_members};
 ghost use Rattle.crs_normal.specs.SpelledItems.{each, number_node, opt, text_node};
 ghost use Rattle.crs_normal.specs.SpelledUnits.{item_ident, set_idents};
-ghost use Rattle.crs_canon.specs.Direct.{Writes};
+ghost use Rattle.crs_canon.specs.Direct.{IsRead, Writes};
 ghost use Rattle.crs_canon.specs.Openings.{named_node};
 
 use crate::direct::ellipsoid::write_optional_ellipsoid;
@@ -52,7 +52,8 @@ fn write_members(
     class: Class,
     level: Level,
 ) -> Result<(), AllocError>
-    requires { HasId items.now id }
+    requires has { HasId items.now id }
+    requires reads { IsRead (ReadsAll ReadsNamed Class.Member class (item_at items.now id)) }
     ensures { OnOk result (Writes (ReadsAll ReadsNamed Class.Member class (item_at items.now id))
         (λ ms. others_text (each item_member (set_members level ms) End)) out.old.items out.new.items) }
 {
@@ -65,7 +66,8 @@ fn write_anchor_epoch(
     id: ItemId,
     class: Class,
 ) -> Result<(), AllocError>
-    requires { HasId items.now id }
+    requires has { HasId items.now id }
+    requires reads { IsRead (ReadsIfAny ReadsNumberOf Class.AnchorEpoch class (item_at items.now id)) }
     ensures { OnOk result (Writes (ReadsIfAny ReadsNumberOf Class.AnchorEpoch class (item_at items.now id))
         (λ v. others_text (opt (number_node (codes "ANCHOREPOCH")) v End)) out.old.items out.new.items) }
 {
@@ -83,7 +85,8 @@ fn write_datum(
     class: Class,
     level: Level,
 ) -> Result<(), AllocError>
-    requires { HasId items.now id }
+    requires has { HasId items.now id }
+    requires reads { IsRead (ReadsDatum class (item_at items.now id)) }
     ensures { OnOk result (Writes (ReadsDatum class (item_at items.now id)) (λ d. named_node opening.now d.name
         (opt item_ellipsoid (option_map (norm_ellipsoid level) d.ellipsoid)
         (opt (text_node (codes "ANCHOR")) d.anchor
@@ -104,7 +107,8 @@ fn write_accuracy(
     id: ItemId,
     class: Class,
 ) -> Result<(), AllocError>
-    requires { HasId items.now id }
+    requires has { HasId items.now id }
+    requires reads { IsRead (ReadsOne ReadsNumberOf Class.EnsembleAccuracy class (item_at items.now id)) }
     ensures { OnOk result (Writes (ReadsOne ReadsNumberOf Class.EnsembleAccuracy class (item_at items.now id))
         (λ v. 44 ∷ item_text (number_node (codes "ENSEMBLEACCURACY") v)) out.old.items out.new.items) }
 {
@@ -126,7 +130,8 @@ fn write_ensemble(
     class: Class,
     level: Level,
 ) -> Result<(), AllocError>
-    requires { HasId items.now id }
+    requires has { HasId items.now id }
+    requires reads { IsRead (ReadsEnsemble class (item_at items.now id)) }
     ensures { OnOk result (Writes (ReadsEnsemble class (item_at items.now id))
         (λ e. 44 ∷ item_text (item_ensemble (norm_ensemble level e))) out.old.items out.new.items) }
 {
@@ -147,12 +152,13 @@ fn write_ensemble_of(
     class: Class,
     level: Level,
 ) -> Result<(), AllocError>
-    requires { HasId items.now id }
+    requires has { HasId items.now id }
+    requires reads { IsRead (ReadsOne ReadsEnsemble class parent (item_at items.now id)) }
     ensures { OnOk result (Writes (ReadsOne ReadsEnsemble class parent (item_at items.now id))
         (λ e. 44 ∷ item_text (item_ensemble (norm_ensemble level e))) out.old.items out.new.items) }
 {
     match first(items, id, parent, class) {
-        None => Ok(()),
+        None => unreachable!(),
         Some(found) => write_ensemble(out, items, found, class, level),
     }
 }
@@ -165,7 +171,8 @@ pub(crate) fn write_geodetic_frame(
     class: Class,
     level: Level,
 ) -> Result<(), AllocError>
-    requires { HasId items.now id }
+    requires has { HasId items.now id }
+    requires reads { IsRead (ReadsGeodeticFrame class (item_at items.now id)) }
     ensures { OnOk result (Writes (ReadsGeodeticFrame class (item_at items.now id))
         (λ f. 44 ∷ item_text (item_frame (codes "DATUM") (norm_frame level f))) out.old.items out.new.items) }
 {
@@ -183,7 +190,8 @@ pub(crate) fn write_vertical_frame(
     class: Class,
     level: Level,
 ) -> Result<(), AllocError>
-    requires { HasId items.now id }
+    requires has { HasId items.now id }
+    requires reads { IsRead (ReadsVerticalFrame class (item_at items.now id)) }
     ensures { OnOk result (Writes (ReadsVerticalFrame class (item_at items.now id))
         (λ f. 44 ∷ item_text (item_frame (codes "VDATUM") (norm_frame level f))) out.old.items out.new.items) }
 {

@@ -9,7 +9,7 @@ ghost use Rattle.crs_value.specs.ReadsNamed.{ReadsNamed};
 ghost use Rattle.crs_value.specs.declared.values.level.Level.TheVariants as levels;
 ghost use Rattle.crs_normal.specs.SpelledItems.{code_item, each, opt, text_node};
 ghost use Rattle.crs_normal.specs.SpelledUnits.{item_ident, set_idents};
-ghost use Rattle.crs_canon.specs.Direct.{Writes};
+ghost use Rattle.crs_canon.specs.Direct.{IsRead, Writes};
 ghost use Rattle.crs_canon.specs.Members.{set_text};
 ghost use Rattle.crs_canon.specs.Openings.{named_node};
 
@@ -44,12 +44,13 @@ fn single<'a>(items: &Items<'a>, id: ItemId, k: usize) -> Option<&'a [u8]>
 
 // The code, behind a comma.
 fn write_code_of(out: &mut Vec<u8>, items: &Items<'_>, id: ItemId) -> Result<(), AllocError>
-    requires { HasId items.now id }
+    requires has { HasId items.now id }
+    requires reads { IsRead (ReadsFirst ReadsText (single_of (skip 1 (arguments (item_at items.now id))))) }
     ensures { OnOk result (Writes (ReadsFirst ReadsText (single_of (skip 1 (arguments (item_at items.now id)))))
         (λ raw. others_text (More (code_item raw) End)) out.old.items out.new.items) }
 {
     match single(items, id, 1) {
-        None => Ok(()),
+        None => unreachable!(),
         Some(code) => write_code(out, code),
     }
 }
@@ -73,7 +74,9 @@ fn write_references(
     id: ItemId,
     class: Class,
 ) -> Result<(), AllocError>
-    requires { HasId items.now id }
+    requires has { HasId items.now id }
+    requires citation { IsRead (ReadsIfAny ReadsTextOf Class.Citation class (item_at items.now id)) }
+    requires uri { IsRead (ReadsIfAny ReadsTextOf Class.Uri class (item_at items.now id)) }
     ensures { OnOk result ((citation uri : Option (List ℕ)) →
         ReadsIfAny ReadsTextOf Class.Citation class (item_at items.now id) citation →
         ReadsIfAny ReadsTextOf Class.Uri class (item_at items.now id) uri → out.new.items ≡ out.old.items ++ others_text
@@ -92,7 +95,8 @@ pub(crate) fn write_ident(
     id: ItemId,
     class: Class,
 ) -> Result<(), AllocError>
-    requires { HasId items.now id }
+    requires has { HasId items.now id }
+    requires reads { IsRead (ReadsIdent class (item_at items.now id)) }
     ensures { OnOk result (Writes (ReadsIdent class (item_at items.now id)) (λ i. item_text (item_ident i))
         out.old.items out.new.items) }
 {
@@ -131,7 +135,8 @@ fn write_all_idents(
     class: Class,
     level: Level,
 ) -> Result<(), AllocError>
-    requires { HasId items.now id }
+    requires has { HasId items.now id }
+    requires reads { IsRead (ReadsIds class (item_at items.now id)) }
     ensures { OnOk result (Writes (ReadsIds class (item_at items.now id))
         (λ ids. set_text (map (λ i. item_text (item_ident i)) ids)) out.old.items out.new.items) }
 {
@@ -149,7 +154,8 @@ pub(crate) fn write_idents(
     class: Class,
     level: Level,
 ) -> Result<(), AllocError>
-    requires { HasId items.now id }
+    requires has { HasId items.now id }
+    requires reads { IsRead (ReadsIds class (item_at items.now id)) }
     ensures { OnOk result (Writes (ReadsIds class (item_at items.now id))
         (λ ids. others_text (each item_ident (set_idents level ids) End)) out.old.items out.new.items) }
 {
@@ -169,7 +175,8 @@ pub(crate) fn write_named(
     class: Class,
     level: Level,
 ) -> Result<(), AllocError>
-    requires { HasId items.now id }
+    requires has { HasId items.now id }
+    requires reads { IsRead (ReadsNamed class (item_at items.now id)) }
     ensures { OnOk result (Writes (ReadsNamed class (item_at items.now id))
         (λ n. named_node opening.now n.name (each item_ident (set_idents level n.identifiers) End))
         out.old.items out.new.items) }

@@ -3,7 +3,7 @@ ghost use Rattle.std.specs.Prelude.{◌≡◌, ◌∷◌, ◌++◌, IsTrue, OnOk
 ghost use Rattle.crs_text.specs.Items.{arguments, rest_of, here, HasId};
 ghost use Rattle.crs_value.specs.Reading.{item_at, ahead, Holds, those, IsFound, ReadsIfAny};
 ghost use Rattle.crs_value.specs.Reads.{ReadsTextOf};
-ghost use Rattle.crs_canon.specs.Direct.{AreLeaves, Writes};
+ghost use Rattle.crs_canon.specs.Direct.{AreLeaves, IsRead, Writes};
 ghost use Rattle.crs_canon.specs.Openings.{opened, text_behind};
 
 use crate::spelling::texts::{append, open_text};
@@ -82,12 +82,13 @@ pub(crate) fn open_text_of(
     id: ItemId,
     class: Class,
 ) -> Result<(), AllocError>
-    requires { HasId items.now id }
+    requires has { HasId items.now id }
+    requires reads { IsRead (ReadsTextOf class (item_at items.now id)) }
     ensures { OnOk result (Writes (ReadsTextOf class (item_at items.now id)) (opened opening.now)
         out.old.items out.new.items) }
 {
     match first(items, id, class, Class::Text) {
-        None => Ok(()),
+        None => unreachable!(),
         Some(found) => open_text(out, opening, items.raw(found)),
     }
 }
@@ -101,7 +102,8 @@ pub(crate) fn write_text_of(
     parent: Class,
     class: Class,
 ) -> Result<(), AllocError>
-    requires { HasId items.now id }
+    requires has { HasId items.now id }
+    requires reads { IsRead (ReadsIfAny ReadsTextOf class parent (item_at items.now id)) }
     ensures { OnOk result (Writes (ReadsIfAny ReadsTextOf class parent (item_at items.now id)) (text_behind opening.now)
         out.old.items out.new.items) }
 {

@@ -9,7 +9,7 @@ ghost use Rattle.crs_value.specs.declared.values.unit_kind.UnitKind.TheVariants 
 ghost use Rattle.crs_normal.specs.SpelledFrames.{is_zero, item_meridian, norm_given, norm_meridian};
 ghost use Rattle.crs_normal.specs.SpelledItems.{opt};
 ghost use Rattle.crs_normal.specs.SpelledUnits.{item_unit, norm_units};
-ghost use Rattle.crs_canon.specs.Direct.{Writes};
+ghost use Rattle.crs_canon.specs.Direct.{IsRead, Writes};
 
 use crate::direct::ident::write_idents;
 use crate::direct::lookup::{first, open_text_of};
@@ -24,11 +24,12 @@ use std::alloc::AllocError;
 
 // Whether the number of a node is 0.
 fn is_zero_of(items: &Items<'_>, id: ItemId, class: Class) -> bool
-    requires { HasId items.now id }
+    requires has { HasId items.now id }
+    requires reads { IsRead (ReadsNumberOf class (item_at items.now id)) }
     ensures { (value : Value) → ReadsNumberOf class (item_at items.now id) value → result ≡ is_zero value }
 {
     match number_of(items, id, class) {
-        None => false,
+        None => unreachable!(),
         Some(value) => value.is_zero(),
     }
 }
@@ -41,7 +42,8 @@ fn write_unit_of(
     class: Class,
     level: Level,
 ) -> Result<(), AllocError>
-    requires { HasId items.now id }
+    requires has { HasId items.now id }
+    requires reads { IsRead (ReadsMeridian class (item_at items.now id)) }
     ensures { OnOk result (Writes (ReadsMeridian class (item_at items.now id))
         (λ m. others_text (opt item_unit
         (if is_zero m.longitude then None else norm_units level kinds.Angle m.unit) End))
@@ -70,7 +72,8 @@ fn write_given(
     class: Class,
     level: Level,
 ) -> Result<(), AllocError>
-    requires { HasId items.now id }
+    requires has { HasId items.now id }
+    requires reads { IsRead (ReadsMeridian class (item_at items.now id)) }
     ensures { OnOk result (Writes (ReadsMeridian class (item_at items.now id))
         (λ m. 44 ∷ item_text (item_meridian (norm_given level m))) out.old.items out.new.items) }
 {
@@ -89,7 +92,8 @@ pub(crate) fn write_meridian(
     parent: Class,
     level: Level,
 ) -> Result<(), AllocError>
-    requires { HasId items.now id }
+    requires has { HasId items.now id }
+    requires reads { IsRead (ReadsIfAny ReadsMeridian Class.PrimeMeridian parent (item_at items.now id)) }
     ensures { OnOk result (Writes (ReadsIfAny ReadsMeridian Class.PrimeMeridian parent (item_at items.now id))
         (λ m. others_text (opt item_meridian (norm_meridian level m) End)) out.old.items out.new.items) }
 {

@@ -7,7 +7,7 @@ ghost use Rattle.crs_text.specs.Written.{item_text};
 ghost use Rattle.crs_value.specs.Reading.{item_at, ReadsOne};
 ghost use Rattle.crs_value.specs.Reads.{ReadsNumber, ReadsNumberAt, ReadsNumberOf};
 ghost use Rattle.crs_normal.specs.SpelledItems.{number_item};
-ghost use Rattle.crs_canon.specs.Direct.{Writes};
+ghost use Rattle.crs_canon.specs.Direct.{IsRead, Writes};
 
 use crate::direct::lookup::{first, nth};
 use crate::direct::plain::plain_of;
@@ -44,7 +44,8 @@ fn open_number_at(
     items: &Items<'_>,
     id: ItemId,
 ) -> Result<(), AllocError>
-    requires { HasId items.now id }
+    requires has { HasId items.now id }
+    requires reads { IsRead (ReadsNumber (item_at items.now id)) }
     ensures { OnOk result (Writes (ReadsNumber (item_at items.now id)) (λ v. opening.now ++ plain v)
         out.old.items out.new.items) }
 {
@@ -70,12 +71,13 @@ fn open_decimal_at(
     items: &Items<'_>,
     id: ItemId,
 ) -> Result<(), AllocError>
-    requires { HasId items.now id }
+    requires has { HasId items.now id }
+    requires reads { IsRead (ReadsNumber (item_at items.now id)) }
     ensures { OnOk result (Writes (ReadsNumber (item_at items.now id)) (λ v. opening.now ++ plain v)
         out.old.items out.new.items) }
 {
     match decimal_at(items, id) {
-        None => Ok(()),
+        None => unreachable!(),
         Some(value) => open_number(out, opening, &value),
     }
 }
@@ -89,12 +91,13 @@ pub(crate) fn open_nth_number(
     class: Class,
     k: usize,
 ) -> Result<(), AllocError>
-    requires { HasId items.now id }
+    requires has { HasId items.now id }
+    requires reads { IsRead (ReadsNumberAt k class (item_at items.now id)) }
     ensures { OnOk result (Writes (ReadsNumberAt k class (item_at items.now id)) (λ v. opening.now ++ plain v)
         out.old.items out.new.items) }
 {
     match nth(items, id, class, Class::Number, k) {
-        None => Ok(()),
+        None => unreachable!(),
         Some(found) => open_number_at(out, opening, items, found),
     }
 }
@@ -107,12 +110,13 @@ pub(crate) fn open_number_of(
     id: ItemId,
     class: Class,
 ) -> Result<(), AllocError>
-    requires { HasId items.now id }
+    requires has { HasId items.now id }
+    requires reads { IsRead (ReadsNumberOf class (item_at items.now id)) }
     ensures { OnOk result (Writes (ReadsNumberOf class (item_at items.now id)) (λ v. opening.now ++ plain v)
         out.old.items out.new.items) }
 {
     match first(items, id, class, Class::Number) {
-        None => Ok(()),
+        None => unreachable!(),
         Some(found) => open_number_at(out, opening, items, found),
     }
 }
@@ -124,7 +128,8 @@ pub(crate) fn write_number_of(
     id: ItemId,
     class: Class,
 ) -> Result<(), AllocError>
-    requires { HasId items.now id }
+    requires has { HasId items.now id }
+    requires reads { IsRead (ReadsNumberOf class (item_at items.now id)) }
     ensures { OnOk result (Writes (ReadsNumberOf class (item_at items.now id)) (λ v. 44 ∷ item_text (number_item v))
         out.old.items out.new.items) }
 {
@@ -139,7 +144,8 @@ pub(crate) fn write_nth_number(
     class: Class,
     k: usize,
 ) -> Result<(), AllocError>
-    requires { HasId items.now id }
+    requires has { HasId items.now id }
+    requires reads { IsRead (ReadsNumberAt k class (item_at items.now id)) }
     ensures { OnOk result (Writes (ReadsNumberAt k class (item_at items.now id)) (λ v. 44 ∷ item_text (number_item v))
         out.old.items out.new.items) }
 {
@@ -154,7 +160,8 @@ pub(crate) fn write_number_node(
     id: ItemId,
     class: Class,
 ) -> Result<(), AllocError>
-    requires { HasId items.now id }
+    requires has { HasId items.now id }
+    requires reads { IsRead (ReadsNumberOf class (item_at items.now id)) }
     ensures { OnOk result (Writes (ReadsNumberOf class (item_at items.now id)) (λ v. opening.now ++ (plain v ++ 93 ∷ []))
         out.old.items out.new.items) }
 {
@@ -171,12 +178,13 @@ pub(crate) fn write_one_number(
     parent: Class,
     class: Class,
 ) -> Result<(), AllocError>
-    requires { HasId items.now id }
+    requires has { HasId items.now id }
+    requires reads { IsRead (ReadsOne ReadsNumberOf class parent (item_at items.now id)) }
     ensures { OnOk result (Writes (ReadsOne ReadsNumberOf class parent (item_at items.now id))
         (λ v. opening.now ++ (plain v ++ 93 ∷ [])) out.old.items out.new.items) }
 {
     match first(items, id, parent, class) {
-        None => Ok(()),
+        None => unreachable!(),
         Some(found) => write_number_node(out, opening, items, found, class),
     }
 }

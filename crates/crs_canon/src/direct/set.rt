@@ -6,7 +6,7 @@ ghost use Rattle.crs_value.specs.FoundArguments.{from_found};
 ghost use Rattle.crs_value.specs.Reading.{Holds, item_at, ReadsAll, ReadsEach};
 ghost use Rattle.crs_value.specs.declared.values.level.Level.{Level};
 ghost use Rattle.crs_normal.specs.Ordered.{put, put_all};
-ghost use Rattle.crs_canon.specs.Direct.{Writes};
+ghost use Rattle.crs_canon.specs.Direct.{IsRead, Writes};
 ghost use Rattle.crs_canon.specs.Members.{set_text, spellings};
 ghost use Rattle.crs_canon.specs.SetText.{commas};
 ghost use Rattle.crs_canon.specs.Spans.{AreInOrder, texts_at};
@@ -37,7 +37,8 @@ pub(crate) trait SpellAt<'a>: Sized {
         class: Class,
         level: Level,
     ) -> Result<(), AllocError>
-        requires { HasId items.now id }
+        requires has { HasId items.now id }
+        requires reads { IsRead (Reads class (item_at items.now id)) }
         ensures { OnOk result (Writes (Reads class (item_at items.now id)) (spelling level)
             out.old.items out.new.items) };
 }
@@ -50,7 +51,8 @@ fn write_member<'a, T: SpellAt<'a>>(
     class: Class,
     level: Level,
 ) -> Result<(), AllocError>
-    requires { HasId items.now id }
+    requires has { HasId items.now id }
+    requires reads { IsRead (T.Reads class (item_at items.now id)) }
     ensures { OnOk result (Writes (T.Reads class (item_at items.now id)) (λ v. commas (T.spelling level v ∷ []))
         out.old.items out.new.items) }
 {
@@ -67,7 +69,8 @@ fn gather<'a, T: SpellAt<'a>>(
     class: Class,
     level: Level,
 ) -> Result<(), AllocError>
-    requires { HasId items.now id }
+    requires has { HasId items.now id }
+    requires reads { IsRead (T.Reads class (item_at items.now id)) }
     ensures { OnOk result ((value : T) → T.Reads class (item_at items.now id) value →
         spellings sorted.new.keys ≡ put (λ b. b) (T.spelling level value) (spellings sorted.old.keys)) }
 {
@@ -87,7 +90,8 @@ fn gather_from<'a, T: SpellAt<'a>>(
     class: Class,
     level: Level,
 ) -> Result<(), AllocError>
-    requires { Holds items.now from }
+    requires holds { Holds items.now from }
+    requires reads { IsRead (ReadsEach (T.Reads class) (from_found items.now parent class from)) }
     ensures { OnOk result ((values : List T) → ReadsEach (T.Reads class) (from_found items.now parent class from) values →
         spellings sorted.new.keys
         ≡ put_all (λ b. b) (spellings sorted.old.keys) (map (T.spelling level) values)) }
@@ -112,6 +116,7 @@ fn gather_span<'a, T: SpellAt<'a>>(
 ) -> Result<(), AllocError>
     requires has { HasId items.now id }
     requires order { AreInOrder bytes.old.items spans.old.items }
+    requires reads { IsRead (T.Reads class (item_at items.now id)) }
     ensures order { OnOk result (AreInOrder bytes.new.items spans.new.items) }
     ensures texts { OnOk result ((value : T) → T.Reads class (item_at items.now id) value →
         texts_at bytes.new.items spans.new.items
@@ -135,6 +140,7 @@ fn gather_spans<'a, T: SpellAt<'a>>(
 ) -> Result<(), AllocError>
     requires holds { Holds items.now from }
     requires order { AreInOrder bytes.old.items spans.old.items }
+    requires reads { IsRead (ReadsEach (T.Reads class) (from_found items.now parent class from)) }
     ensures order { OnOk result (AreInOrder bytes.new.items spans.new.items) }
     ensures texts { OnOk result ((values : List T) →
         ReadsEach (T.Reads class) (from_found items.now parent class from) values →
@@ -162,6 +168,8 @@ fn write_few<'a, T: SpellAt<'a>>(
 ) -> Result<(), AllocError>
     requires has { HasId items.now id }
     requires holds { Holds items.now from }
+    requires own { IsRead (T.Reads own (item_at items.now id)) }
+    requires others { IsRead (ReadsEach (T.Reads class) (from_found items.now parent class from)) }
     ensures { OnOk result ((value : T) (values : List T) → T.Reads own (item_at items.now id) value →
         ReadsEach (T.Reads class) (from_found items.now parent class from) values →
         out.new.items ≡ out.old.items ++ set_text (map (T.spelling level) (value ∷ values))) }
@@ -190,6 +198,8 @@ fn write_many<'a, T: SpellAt<'a>>(
 ) -> Result<(), AllocError>
     requires has { HasId items.now id }
     requires holds { Holds items.now from }
+    requires own { IsRead (T.Reads own (item_at items.now id)) }
+    requires others { IsRead (ReadsEach (T.Reads class) (from_found items.now parent class from)) }
     ensures { OnOk result ((value : T) (values : List T) → T.Reads own (item_at items.now id) value →
         ReadsEach (T.Reads class) (from_found items.now parent class from) values →
         out.new.items ≡ out.old.items ++ set_text (map (T.spelling level) (value ∷ values))) }
@@ -222,6 +232,8 @@ pub(crate) fn write_set_with<'a, T: SpellAt<'a>>(
 ) -> Result<(), AllocError>
     requires has { HasId items.now id }
     requires holds { Holds items.now from }
+    requires own { IsRead (T.Reads own (item_at items.now id)) }
+    requires others { IsRead (ReadsEach (T.Reads class) (from_found items.now parent class from)) }
     ensures { OnOk result ((value : T) (values : List T) → T.Reads own (item_at items.now id) value →
         ReadsEach (T.Reads class) (from_found items.now parent class from) values →
         out.new.items ≡ out.old.items ++ set_text (map (T.spelling level) (value ∷ values))) }
@@ -247,7 +259,8 @@ pub(crate) fn write_set<'a, T: SpellAt<'a>>(
     class: Class,
     level: Level,
 ) -> Result<(), AllocError>
-    requires { HasId items.now id }
+    requires has { HasId items.now id }
+    requires reads { IsRead (ReadsAll T.Reads class parent (item_at items.now id)) }
     ensures { OnOk result (Writes (ReadsAll T.Reads class parent (item_at items.now id))
         (λ values. set_text (map (T.spelling level) values)) out.old.items out.new.items) }
 {

@@ -10,7 +10,7 @@ ghost use Rattle.crs_value.specs.declared.values.system_type.SystemType.{SystemT
 ghost use Rattle.crs_normal.specs.SpelledItems.{each};
 ghost use Rattle.crs_normal.specs.SpelledSystems.{axes_from, axis_at, is_at, item_axis, item_head, norm_system};
 ghost use Rattle.crs_normal.specs.SpelledSystems.{system_items, with_axis};
-ghost use Rattle.crs_canon.specs.Direct.{IsReadAt, Writes};
+ghost use Rattle.crs_canon.specs.Direct.{IsRead, IsReadAt, Writes};
 
 use crate::direct::axis::write_axis;
 use crate::direct::ident::write_idents;
@@ -69,7 +69,8 @@ fn write_head(
     system_type: SystemType,
     level: Level,
 ) -> Result<(), AllocError>
-    requires { HasId items.now head }
+    requires has { HasId items.now head }
+    requires reads { IsRead (ReadsHead (item_at items.now head)) }
     ensures { OnOk result ((system : SystemParts) → system.system_type ≡ system_type →
         ReadsHead (item_at items.now head) system →
         out.new.items ≡ out.old.items ++ 44 ∷ item_text (item_head (norm_system level system))) }
@@ -121,7 +122,8 @@ fn write_axis_at(
     position: u64,
     level: Level,
 ) -> Result<(), AllocError>
-    requires { HasId items.now id }
+    requires has { HasId items.now id }
+    requires reads { IsRead (ReadsSystem class (item_at items.now id)) }
     ensures { OnOk result ((system : SystemParts) → system.system_type ≡ system_type →
         ReadsSystem class (item_at items.now id) system → out.new.items ≡ out.old.items ++ others_text (each item_axis
         (with_axis level system position (axis_at position 1 system.axes) []) End)) }
@@ -155,7 +157,8 @@ fn write_axes(
     system_type: SystemType,
     level: Level,
 ) -> Result<(), AllocError>
-    requires { HasId items.now id }
+    requires has { HasId items.now id }
+    requires reads { IsRead (ReadsSystem class (item_at items.now id)) }
     ensures { OnOk result ((system : SystemParts) → system.system_type ≡ system_type →
         ReadsSystem class (item_at items.now id) system → out.new.items ≡ out.old.items ++ others_text (each item_axis
         (axes_from level system 1 (length system.axes)) End)) }
@@ -174,15 +177,16 @@ pub(crate) fn write_system(
     class: Class,
     level: Level,
 ) -> Result<(), AllocError>
-    requires { HasId items.now id }
+    requires has { HasId items.now id }
+    requires reads { IsRead (ReadsSystem class (item_at items.now id)) }
     ensures { OnOk result (Writes (ReadsSystem class (item_at items.now id))
         (λ s. others_text (system_items (norm_system level s) End)) out.old.items out.new.items) }
 {
     let Some(head) = first(items, id, class, Class::CoordinateSystem) else {
-        return Ok(());
+        unreachable!()
     };
     let Some(system_type) = type_of(items, head) else {
-        return Ok(());
+        unreachable!()
     };
     write_head(out, items, head, system_type, level)?;
     write_axes(out, items, id, class, system_type, level)

@@ -9,7 +9,7 @@ ghost use Rattle.crs_value.specs.Values.{UsageParts};
 ghost use Rattle.crs_same.specs.SameUsages.{usages_of, with_bare};
 ghost use Rattle.crs_normal.specs.SpelledItems.{each, opt, text_node};
 ghost use Rattle.crs_normal.specs.SpelledUsages.{item_usage, norm_tail, norm_usage, set_usages, tail_items};
-ghost use Rattle.crs_canon.specs.Direct.{Writes};
+ghost use Rattle.crs_canon.specs.Direct.{IsRead, Writes};
 ghost use Rattle.crs_canon.specs.Members.{set_text};
 
 use crate::direct::ident::{keeps, write_idents};
@@ -47,7 +47,9 @@ fn write_all_usages(
     class: Class,
     level: Level,
 ) -> Result<(), AllocError>
-    requires { HasId items.now id }
+    requires has { HasId items.now id }
+    requires bare { IsRead (ReadsBare class (item_at items.now id)) }
+    requires usages { IsRead (ReadsAll ReadsUsage Class.Usage class (item_at items.now id)) }
     ensures { OnOk result ((bare : Option UsageParts) (usages : List UsageParts) →
         ReadsBare class (item_at items.now id) bare → ReadsAll ReadsUsage Class.Usage class (item_at items.now id) usages →
         out.new.items ≡ out.old.items ++ set_text
@@ -80,7 +82,8 @@ fn write_usages(
     class: Class,
     level: Level,
 ) -> Result<(), AllocError>
-    requires { HasId items.now id }
+    requires has { HasId items.now id }
+    requires reads { IsRead (ReadsTail class (item_at items.now id)) }
     ensures { OnOk result (Writes (ReadsTail class (item_at items.now id))
         (λ t. others_text (each item_usage (set_usages level (usages_of t)) End)) out.old.items out.new.items) }
 {
@@ -99,7 +102,8 @@ fn write_remark(
     class: Class,
     level: Level,
 ) -> Result<(), AllocError>
-    requires { HasId items.now id }
+    requires has { HasId items.now id }
+    requires reads { IsRead (ReadsIfAny ReadsTextOf Class.Remark class (item_at items.now id)) }
     ensures { OnOk result (Writes (ReadsIfAny ReadsTextOf Class.Remark class (item_at items.now id))
         (λ r. others_text (opt (text_node (codes "REMARK")) (kept_one level r) End)) out.old.items out.new.items) }
 {
@@ -117,7 +121,8 @@ pub(crate) fn write_tail(
     class: Class,
     level: Level,
 ) -> Result<(), AllocError>
-    requires { HasId items.now id }
+    requires has { HasId items.now id }
+    requires reads { IsRead (ReadsTail class (item_at items.now id)) }
     ensures { OnOk result (Writes (ReadsTail class (item_at items.now id))
         (λ t. others_text (tail_items (norm_tail level t))) out.old.items out.new.items) }
 {

@@ -7,7 +7,7 @@ ghost use Rattle.crs_value.specs.Reads.{ReadsKind, ReadsUnit};
 ghost use Rattle.crs_value.specs.declared.values.unit_kind.UnitKind.{UnitKind};
 ghost use Rattle.crs_normal.specs.SpelledItems.{opt};
 ghost use Rattle.crs_normal.specs.SpelledUnits.{item_unit, norm_length, norm_unit, norm_units};
-ghost use Rattle.crs_canon.specs.Direct.{Writes};
+ghost use Rattle.crs_canon.specs.Direct.{IsRead, Writes};
 
 use crate::direct::ident::write_idents;
 use crate::direct::lookup::{first, open_text_of};
@@ -41,7 +41,8 @@ pub(crate) fn write_unit(
     class: Class,
     level: Level,
 ) -> Result<(), AllocError>
-    requires { HasId items.now id }
+    requires has { HasId items.now id }
+    requires reads { IsRead (ReadsUnit class (item_at items.now id)) }
     ensures { OnOk result (Writes (ReadsUnit class (item_at items.now id))
         (λ u. 44 ∷ item_text (item_unit (norm_unit level asked u))) out.old.items out.new.items) }
 {
@@ -62,12 +63,13 @@ pub(crate) fn write_one_unit(
     class: Class,
     level: Level,
 ) -> Result<(), AllocError>
-    requires { HasId items.now id }
+    requires has { HasId items.now id }
+    requires reads { IsRead (ReadsOne ReadsUnit class parent (item_at items.now id)) }
     ensures { OnOk result (Writes (ReadsOne ReadsUnit class parent (item_at items.now id))
         (λ u. 44 ∷ item_text (item_unit (norm_unit level asked u))) out.old.items out.new.items) }
 {
     match first(items, id, parent, class) {
-        None => Ok(()),
+        None => unreachable!(),
         Some(found) => write_unit(out, asked, items, found, class, level),
     }
 }
@@ -82,7 +84,8 @@ pub(crate) fn write_optional_unit(
     class: Class,
     level: Level,
 ) -> Result<(), AllocError>
-    requires { HasId items.now id }
+    requires has { HasId items.now id }
+    requires reads { IsRead (ReadsIfAny ReadsUnit class parent (item_at items.now id)) }
     ensures { OnOk result (Writes (ReadsIfAny ReadsUnit class parent (item_at items.now id))
         (λ u. others_text (opt item_unit (norm_units level asked u) End)) out.old.items out.new.items) }
 {
@@ -100,7 +103,8 @@ pub(crate) fn write_length(
     parent: Class,
     level: Level,
 ) -> Result<(), AllocError>
-    requires { HasId items.now id }
+    requires has { HasId items.now id }
+    requires reads { IsRead (ReadsIfAny ReadsUnit Class.LengthUnit parent (item_at items.now id)) }
     ensures { OnOk result (Writes (ReadsIfAny ReadsUnit Class.LengthUnit parent (item_at items.now id))
         (λ u. others_text (opt item_unit (Some (norm_length level u)) End)) out.old.items out.new.items) }
 {

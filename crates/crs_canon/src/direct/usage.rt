@@ -8,7 +8,7 @@ ghost use Rattle.crs_value.specs.Reads.{ReadsBox, ReadsExtent, ReadsUsage};
 ghost use Rattle.crs_value.specs.declared.values.level.Level.TheVariants as levels;
 ghost use Rattle.crs_normal.specs.SpelledItems.{opt, text_node};
 ghost use Rattle.crs_normal.specs.SpelledUsages.{item_box, item_extent, item_usage, norm_extent, norm_usage};
-ghost use Rattle.crs_canon.specs.Direct.{Writes};
+ghost use Rattle.crs_canon.specs.Direct.{IsRead, Writes};
 
 use crate::direct::lookup::{first, write_text_of};
 use crate::direct::number::{open_nth_number, write_nth_number};
@@ -28,7 +28,8 @@ fn write_box(
     id: ItemId,
     class: Class,
 ) -> Result<(), AllocError>
-    requires { HasId items.now id }
+    requires has { HasId items.now id }
+    requires reads { IsRead (ReadsBox class (item_at items.now id)) }
     ensures { OnOk result (Writes (ReadsBox class (item_at items.now id)) (λ b. 44 ∷ item_text (item_box b))
         out.old.items out.new.items) }
 {
@@ -45,7 +46,8 @@ fn write_optional_box(
     id: ItemId,
     class: Class,
 ) -> Result<(), AllocError>
-    requires { HasId items.now id }
+    requires has { HasId items.now id }
+    requires reads { IsRead (ReadsIfAny ReadsBox Class.BoundingBox class (item_at items.now id)) }
     ensures { OnOk result (Writes (ReadsIfAny ReadsBox Class.BoundingBox class (item_at items.now id))
         (λ b. others_text (opt item_box b End)) out.old.items out.new.items) }
 {
@@ -63,7 +65,8 @@ fn write_extent(
     class: Class,
     level: Level,
 ) -> Result<(), AllocError>
-    requires { HasId items.now id }
+    requires has { HasId items.now id }
+    requires reads { IsRead (ReadsExtent class (item_at items.now id)) }
     ensures { OnOk result (Writes (ReadsExtent class (item_at items.now id))
         (λ e. 44 ∷ item_text (item_extent (norm_extent level e))) out.old.items out.new.items) }
 {
@@ -79,7 +82,8 @@ fn write_optional_extent(
     id: ItemId,
     class: Class,
 ) -> Result<(), AllocError>
-    requires { HasId items.now id }
+    requires has { HasId items.now id }
+    requires reads { IsRead (ReadsIfAny ReadsExtent Class.VerticalExtent class (item_at items.now id)) }
     ensures { OnOk result (Writes (ReadsIfAny ReadsExtent Class.VerticalExtent class (item_at items.now id))
         (λ e. others_text (opt item_extent (option_map (norm_extent levels.Full) e) End))
         out.old.items out.new.items) }
@@ -97,7 +101,8 @@ fn write_parts(
     id: ItemId,
     class: Class,
 ) -> Result<(), AllocError>
-    requires { HasId items.now id }
+    requires has { HasId items.now id }
+    requires reads { IsRead (ReadsUsage class (item_at items.now id)) }
     ensures { OnOk result (Writes (ReadsUsage class (item_at items.now id)) (λ u. others_text
         (opt (text_node (codes "SCOPE")) u.scope (opt (text_node (codes "AREA")) u.area
         (opt item_box u.bbox (opt item_extent (option_map (norm_extent levels.Full) u.extent) End)))))
@@ -116,7 +121,8 @@ pub(crate) fn write_usage(
     id: ItemId,
     class: Class,
 ) -> Result<(), AllocError>
-    requires { HasId items.now id }
+    requires has { HasId items.now id }
+    requires reads { IsRead (ReadsUsage class (item_at items.now id)) }
     ensures { OnOk result (Writes (ReadsUsage class (item_at items.now id))
         (λ u. item_text (item_usage (norm_usage u))) out.old.items out.new.items) }
 {

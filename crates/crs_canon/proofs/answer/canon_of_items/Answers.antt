@@ -5,5 +5,5 @@ returns-in-Ok-written_from-clause-answer c =
     let spelled = c.in-Ok.ensures.answer in (
       spelled.0,
       (c.args.items.now, (c.requires, spelled.1)),
-      c.in-Ok-written_from.ensures.text spelled.0 spelled.1 c.in-Ok.ensures.class,
+      c.in-Ok-written_from.ensures.text spelled.0 spelled.1,
     )

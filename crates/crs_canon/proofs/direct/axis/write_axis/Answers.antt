@@ -1,4 +1,4 @@
-use Rattle.std.proofs.Common.{◌≡◌, ℕ, List, Some}
+use Rattle.std.proofs.Common.{◌≡◌, ℕ, List, None, Some}
 use Rattle.crs_value.specs.Values.{AxisParts, SystemParts}
 use Rattle.crs_value.specs.declared.values.level.Level.{Level}
 use Rattle.std.proofs.Common.{[], ap, codes, subst, sym, ◌++◌, ◌∙◌, ◌∷◌}
@@ -59,3 +59,21 @@ returns c = on_ok_weaker c.append.result (λ closes system axis type shared r.
     (then-opt item_unit (norm_units level (asked_kind system.system_type axis.direction) (own_or axis.unit system.unit)) r5 s3 s4 s5 units
     (c.in_ok-write_idents.ensures.writes axis.identifiers r.identifiers)))))
     closes)) c.append.ensures
+
+pub unreachable-requires : goal.unreachable-requires
+unreachable-requires c =
+    let axis = c.requires.reads in
+    let none : None ≡ Some axis.0.direction = sym c.in_default.is ∙ c.direction_of.ensures axis.0.direction axis.1.direction in
+    absurd cc
+
+pub write_optional_meridian-requires-clause-reads : goal.write_optional_meridian-requires-clause-reads
+write_optional_meridian-requires-clause-reads c = (c.requires.reads.0.meridian, c.requires.reads.1.meridian)
+
+pub open_text_of-requires-clause-reads : goal.open_text_of-requires-clause-reads
+open_text_of-requires-clause-reads c = (c.requires.reads.0.name, c.requires.reads.1.name)
+
+pub write_axis_unit-requires-clause-own : goal.write_axis_unit-requires-clause-own
+write_axis_unit-requires-clause-own c = (c.requires.reads.0.unit, c.requires.reads.1.unit)
+
+pub write_idents-requires-clause-reads : goal.write_idents-requires-clause-reads
+write_idents-requires-clause-reads c = (c.requires.reads.0.identifiers, c.requires.reads.1.identifiers)

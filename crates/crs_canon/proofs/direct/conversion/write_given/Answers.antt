@@ -27,3 +27,15 @@ returns c = on_ok_weaker c.append.result (λ closes. record {
       (c.in_ok-write_idents.ensures.writes v.identifiers r.identifiers)))
       closes;
 }) c.append.ensures
+
+pub open_text_of-requires-clause-reads : goal.open_text_of-requires-clause-reads
+open_text_of-requires-clause-reads c = (c.requires.reads.0.name, c.requires.reads.1.name)
+
+pub write_method-requires-clause-reads : goal.write_method-requires-clause-reads
+write_method-requires-clause-reads c = (c.requires.reads.0.method, c.requires.reads.1.method)
+
+pub write_parameters-requires-clause-reads : goal.write_parameters-requires-clause-reads
+write_parameters-requires-clause-reads c = (c.requires.reads.0.parameters, c.requires.reads.1.parameters)
+
+pub write_idents-requires-clause-reads : goal.write_idents-requires-clause-reads
+write_idents-requires-clause-reads c = (c.requires.reads.0.identifiers, c.requires.reads.1.identifiers)

@@ -27,3 +27,15 @@ returns c = on_ok_weaker c.append-3.result (λ closes. record {
       (c.in_ok-write_tail.ensures.writes v.tail r.tail)))
       closes;
 }) c.append-3.ensures
+
+pub write_horizontal-requires-clause-reads : goal.write_horizontal-requires-clause-reads
+write_horizontal-requires-clause-reads c = (c.requires.reads.0.horizontal, c.requires.reads.1.horizontal)
+
+pub write_vertical_part-requires-clause-reads : goal.write_vertical_part-requires-clause-reads
+write_vertical_part-requires-clause-reads c = (c.requires.reads.0.vertical, c.requires.reads.1.vertical)
+
+pub open_text_of-requires-clause-reads : goal.open_text_of-requires-clause-reads
+open_text_of-requires-clause-reads c = (c.requires.reads.0.name, c.requires.reads.1.name)
+
+pub write_tail-requires-clause-reads : goal.write_tail-requires-clause-reads
+write_tail-requires-clause-reads c = (c.requires.reads.0.tail, c.requires.reads.1.tail)

@@ -1,4 +1,4 @@
-use Rattle.std.proofs.Common.{◌≡◌, Some, [], ap, codes, sym, ◌++◌, ◌∙◌, ◌∷◌}
+use Rattle.std.proofs.Common.{◌≡◌, None, Some, [], ap, codes, sym, ◌++◌, ◌∙◌, ◌∷◌}
 use Rattle.std.proofs.lemmas.Result.{on_ok_weaker}
 use Rattle.std.specs.Option.{option_map}
 use Rattle.crs_text.specs.Items.{More, Siblings}
@@ -44,3 +44,28 @@ returns c = on_ok_weaker c.append.result (λ closes. record {
       (c.in_ok-write_tail.ensures.writes g.tail r.tail)))))
       closes);
 }) c.append.ensures
+
+pub unreachable-requires : goal.unreachable-requires
+unreachable-requires c =
+    let geodetic = c.requires.reads in
+    let none : None ≡ Some geodetic.0.system.system_type =
+    sym c.in_default.is ∙ c.type_in.ensures geodetic.0.system geodetic.1.system in
+    absurd cc
+
+pub write_system-requires-clause-reads : goal.write_system-requires-clause-reads
+write_system-requires-clause-reads c = (c.requires.reads.0.system, c.requires.reads.1.system)
+
+pub open_text_of-requires-clause-reads : goal.open_text_of-requires-clause-reads
+open_text_of-requires-clause-reads c = (c.requires.reads.0.name, c.requires.reads.1.name)
+
+pub write_optional_dynamic-requires-clause-reads : goal.write_optional_dynamic-requires-clause-reads
+write_optional_dynamic-requires-clause-reads c = (c.requires.reads.0.dynamic, c.requires.reads.1.dynamic)
+
+pub write_geodetic_frame-requires-clause-reads : goal.write_geodetic_frame-requires-clause-reads
+write_geodetic_frame-requires-clause-reads c = (c.requires.reads.0.frame, c.requires.reads.1.frame)
+
+pub write_meridian-requires-clause-reads : goal.write_meridian-requires-clause-reads
+write_meridian-requires-clause-reads c = (c.requires.reads.0.meridian, c.requires.reads.1.meridian)
+
+pub write_tail-requires-clause-reads : goal.write_tail-requires-clause-reads
+write_tail-requires-clause-reads c = (c.requires.reads.0.tail, c.requires.reads.1.tail)

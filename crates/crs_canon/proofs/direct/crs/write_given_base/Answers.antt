@@ -36,3 +36,21 @@ returns c = on_ok_weaker c.append.result (λ closes. record {
       (c.in_ok-write_idents.ensures.writes b.identifiers r.identifiers)))))
       closes;
 }) c.append.ensures
+
+pub open_text_of-requires-clause-reads : goal.open_text_of-requires-clause-reads
+open_text_of-requires-clause-reads c = (c.requires.reads.0.name, c.requires.reads.1.name)
+
+pub write_optional_dynamic-requires-clause-reads : goal.write_optional_dynamic-requires-clause-reads
+write_optional_dynamic-requires-clause-reads c = (c.requires.reads.0.dynamic, c.requires.reads.1.dynamic)
+
+pub write_geodetic_frame-requires-clause-reads : goal.write_geodetic_frame-requires-clause-reads
+write_geodetic_frame-requires-clause-reads c = (c.requires.reads.0.frame, c.requires.reads.1.frame)
+
+pub write_meridian-requires-clause-reads : goal.write_meridian-requires-clause-reads
+write_meridian-requires-clause-reads c = (c.requires.reads.0.meridian, c.requires.reads.1.meridian)
+
+pub write_optional_unit-requires-clause-reads : goal.write_optional_unit-requires-clause-reads
+write_optional_unit-requires-clause-reads c = (c.requires.reads.0.unit, c.requires.reads.1.unit)
+
+pub write_idents-requires-clause-reads : goal.write_idents-requires-clause-reads
+write_idents-requires-clause-reads c = (c.requires.reads.0.identifiers, c.requires.reads.1.identifiers)

@@ -32,3 +32,18 @@ returns c = on_ok_weaker c.append.result (λ closes. record {
       (c.in_ok-write_tail.ensures.writes p.tail r.tail))))
       closes;
 }) c.append.ensures
+
+pub write_base-requires-clause-reads : goal.write_base-requires-clause-reads
+write_base-requires-clause-reads c = (c.requires.reads.0.base, c.requires.reads.1.base)
+
+pub write_system-requires-clause-reads : goal.write_system-requires-clause-reads
+write_system-requires-clause-reads c = (c.requires.reads.0.system, c.requires.reads.1.system)
+
+pub open_text_of-requires-clause-reads : goal.open_text_of-requires-clause-reads
+open_text_of-requires-clause-reads c = (c.requires.reads.0.name, c.requires.reads.1.name)
+
+pub write_conversion-requires-clause-reads : goal.write_conversion-requires-clause-reads
+write_conversion-requires-clause-reads c = (c.requires.reads.0.conversion, c.requires.reads.1.conversion)
+
+pub write_tail-requires-clause-reads : goal.write_tail-requires-clause-reads
+write_tail-requires-clause-reads c = (c.requires.reads.0.tail, c.requires.reads.1.tail)

@@ -38,3 +38,21 @@ returns c = on_ok_weaker c.append.result (λ closes. record {
       (c.in_ok-write_tail.ensures.writes v.tail r.tail)))))
       closes;
 }) c.append.ensures
+
+pub write_system-requires-clause-reads : goal.write_system-requires-clause-reads
+write_system-requires-clause-reads c = (c.requires.reads.0.system, c.requires.reads.1.system)
+
+pub open_text_of-requires-clause-reads : goal.open_text_of-requires-clause-reads
+open_text_of-requires-clause-reads c = (c.requires.reads.0.name, c.requires.reads.1.name)
+
+pub write_optional_dynamic-requires-clause-reads : goal.write_optional_dynamic-requires-clause-reads
+write_optional_dynamic-requires-clause-reads c = (c.requires.reads.0.dynamic, c.requires.reads.1.dynamic)
+
+pub write_vertical_frame-requires-clause-reads : goal.write_vertical_frame-requires-clause-reads
+write_vertical_frame-requires-clause-reads c = (c.requires.reads.0.frame, c.requires.reads.1.frame)
+
+pub write_geoid_models-requires-clause-reads : goal.write_geoid_models-requires-clause-reads
+write_geoid_models-requires-clause-reads c = (c.requires.reads.0.geoid_models, c.requires.reads.1.geoid_models)
+
+pub write_tail-requires-clause-reads : goal.write_tail-requires-clause-reads
+write_tail-requires-clause-reads c = (c.requires.reads.0.tail, c.requires.reads.1.tail)

@@ -19,3 +19,9 @@ returns c = on_ok_weaker c.append.result (λ closes. record {
       (c.in_ok-write_one_number.ensures.writes d.epoch r.epoch)
       (c.in_ok-write_optional_model.ensures.writes d.model r.model) closes;
 }) c.append.ensures
+
+pub write_one_number-requires-clause-reads : goal.write_one_number-requires-clause-reads
+write_one_number-requires-clause-reads c = (c.requires.reads.0.epoch, c.requires.reads.1.epoch)
+
+pub write_optional_model-requires-clause-reads : goal.write_optional_model-requires-clause-reads
+write_optional_model-requires-clause-reads c = (c.requires.reads.0.model, c.requires.reads.1.model)

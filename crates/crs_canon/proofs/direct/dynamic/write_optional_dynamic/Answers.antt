@@ -7,6 +7,7 @@ use Rattle.crs_value.specs.Reading.{item_at, those}
 use Rattle.crs_value.specs.ReadsDynamic.{ReadsDynamic}
 use Rattle.crs_normal.specs.SpelledDynamic.{item_dynamic, norm_dynamic}
 use Rattle.crs_canon.proofs.DirectPartLemmas.{found-written}
+use Rattle.crs_canon.proofs.ReadLemmas.{any-read}
 use Rattle.crs_canon.proofs.direct.dynamic.write_optional_dynamic.Goals as goal
 
 pub returns-in-Some : goal.returns-in-Some
@@ -17,3 +18,6 @@ returns-in-Some c =
     (those c.args.parent class.Dynamic (arguments (item_at tree c.args.id)))
     (those c.args.parent class.Dynamic (rest_of (here tree c.in-Some.found))) (item_at tree c.in-Some.found)
     c.args.out.now.items c.write_dynamic.new.out.items (λ v. refl) c.in-Some.ensures.0) c.write_dynamic.ensures
+
+pub write_dynamic-requires-clause-reads : goal.write_dynamic-requires-clause-reads
+write_dynamic-requires-clause-reads c = any-read (ReadsDynamic class.Dynamic) _ _ _ c.in-Some.ensures.0 c.requires.reads

@@ -29,3 +29,18 @@ returns c = on_ok_weaker c.append.result (λ closes. record {
       (c.in_ok-write_idents.ensures.writes e.identifiers r.identifiers))))
       closes;
 }) c.append.ensures
+
+pub open_text_of-requires-clause-reads : goal.open_text_of-requires-clause-reads
+open_text_of-requires-clause-reads c = (c.requires.reads.0.name, c.requires.reads.1.name)
+
+pub write_nth_number-requires-clause-reads : goal.write_nth_number-requires-clause-reads
+write_nth_number-requires-clause-reads c = (c.requires.reads.0.semi_major_axis, c.requires.reads.1.semi_major_axis)
+
+pub write_nth_number-requires-2-clause-reads : goal.write_nth_number-requires-2-clause-reads
+write_nth_number-requires-2-clause-reads c = (c.requires.reads.0.inverse_flattening, c.requires.reads.1.inverse_flattening)
+
+pub write_length-requires-clause-reads : goal.write_length-requires-clause-reads
+write_length-requires-clause-reads c = (c.requires.reads.0.unit, c.requires.reads.1.unit)
+
+pub write_idents-requires-clause-reads : goal.write_idents-requires-clause-reads
+write_idents-requires-clause-reads c = (c.requires.reads.0.identifiers, c.requires.reads.1.identifiers)

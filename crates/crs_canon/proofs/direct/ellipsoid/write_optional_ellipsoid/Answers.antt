@@ -7,6 +7,7 @@ use Rattle.crs_value.specs.Reading.{item_at, those}
 use Rattle.crs_value.specs.Reads.{ReadsEllipsoid}
 use Rattle.crs_normal.specs.SpelledFrames.{item_ellipsoid, norm_ellipsoid}
 use Rattle.crs_canon.proofs.DirectPartLemmas.{found-written}
+use Rattle.crs_canon.proofs.ReadLemmas.{any-read}
 use Rattle.crs_canon.proofs.direct.ellipsoid.write_optional_ellipsoid.Goals as goal
 
 pub returns-in-Some : goal.returns-in-Some
@@ -17,3 +18,6 @@ returns-in-Some c =
     (those c.args.parent class.Ellipsoid (arguments (item_at tree c.args.id)))
     (those c.args.parent class.Ellipsoid (rest_of (here tree c.in-Some.found))) (item_at tree c.in-Some.found)
     c.args.out.now.items c.write_ellipsoid.new.out.items (λ v. refl) c.in-Some.ensures.0) c.write_ellipsoid.ensures
+
+pub write_ellipsoid-requires-clause-reads : goal.write_ellipsoid-requires-clause-reads
+write_ellipsoid-requires-clause-reads c = any-read (ReadsEllipsoid class.Ellipsoid) _ _ _ c.in-Some.ensures.0 c.requires.reads

@@ -31,3 +31,18 @@ returns c = on_ok_weaker c.append.result (λ closes. record {
       (c.in_ok-write_idents.ensures.writes e.identifiers r.identifiers))))
       closes;
 }) c.append.ensures
+
+pub open_text_of-requires-clause-reads : goal.open_text_of-requires-clause-reads
+open_text_of-requires-clause-reads c = (c.requires.reads.0.name, c.requires.reads.1.name)
+
+pub write_members-requires-clause-reads : goal.write_members-requires-clause-reads
+write_members-requires-clause-reads c = (c.requires.reads.0.members, c.requires.reads.1.members)
+
+pub write_optional_ellipsoid-requires-clause-reads : goal.write_optional_ellipsoid-requires-clause-reads
+write_optional_ellipsoid-requires-clause-reads c = (c.requires.reads.0.ellipsoid, c.requires.reads.1.ellipsoid)
+
+pub write_accuracy-requires-clause-reads : goal.write_accuracy-requires-clause-reads
+write_accuracy-requires-clause-reads c = (c.requires.reads.0.accuracy, c.requires.reads.1.accuracy)
+
+pub write_idents-requires-clause-reads : goal.write_idents-requires-clause-reads
+write_idents-requires-clause-reads c = (c.requires.reads.0.identifiers, c.requires.reads.1.identifiers)

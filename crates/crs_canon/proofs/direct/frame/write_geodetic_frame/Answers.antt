@@ -4,6 +4,8 @@ use Rattle.crs_text.specs.Items.{arguments}
 use Rattle.crs_shape.specs.declared.class.Class.TheVariants as class
 use Rattle.crs_value.specs.Reading.{item_at, those, IsFound}
 use Rattle.crs_canon.proofs.DirectPartLemmas.{ensemble-written}
+use Rattle.crs_value.specs.ReadsCrs.{ReadsAsDatum}
+use Rattle.crs_canon.proofs.ReadLemmas.{as-datum, as-ensemble, else-passed, else-read}
 use Rattle.crs_canon.proofs.direct.frame.write_geodetic_frame.Goals as goal
 
 pub returns-in-None : goal.returns-in-None
@@ -14,3 +16,12 @@ returns-in-None c =
     on_ok_weaker c.write_ensemble_of.result
     (ensemble-written (codes "DATUM") c.args.level class.GeodeticFrame class.GeodeticEnsemble c.args.class item c.args.out.now.items c.write_ensemble_of.new.out.items
     (subst P c.in-None.is c.first.ensures)) c.write_ensemble_of.ensures
+
+pub write_ensemble_of-requires-clause-reads : goal.write_ensemble_of-requires-clause-reads
+write_ensemble_of-requires-clause-reads c =
+    as-ensemble class.GeodeticEnsemble _ (else-passed (ReadsAsDatum class.GeodeticFrame) _ _ c.in-None.ensures c.requires.reads)
+
+pub write_datum-requires-clause-reads : goal.write_datum-requires-clause-reads
+write_datum-requires-clause-reads c =
+    as-datum class.GeodeticFrame (item_at c.args.items.now c.in-Some.found)
+    (else-read (ReadsAsDatum class.GeodeticFrame) _ _ _ _ c.in-Some.ensures.0 c.requires.reads)

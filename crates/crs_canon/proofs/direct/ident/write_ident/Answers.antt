@@ -25,3 +25,15 @@ returns c = on_ok_weaker c.append.result (λ closes. record {
       (c.in_ok-write_references.ensures i.citation i.uri r.citation r.uri)))
       closes;
 }) c.append.ensures
+
+pub open_text_of-requires-clause-reads : goal.open_text_of-requires-clause-reads
+open_text_of-requires-clause-reads c = (c.requires.reads.0.authority, c.requires.reads.1.authority)
+
+pub write_code_of-requires-clause-reads : goal.write_code_of-requires-clause-reads
+write_code_of-requires-clause-reads c = (c.requires.reads.0.code, c.requires.reads.1.code)
+
+pub write_references-requires-clause-citation : goal.write_references-requires-clause-citation
+write_references-requires-clause-citation c = (c.requires.reads.0.citation, c.requires.reads.1.citation)
+
+pub write_references-requires-clause-uri : goal.write_references-requires-clause-uri
+write_references-requires-clause-uri c = (c.requires.reads.0.uri, c.requires.reads.1.uri)

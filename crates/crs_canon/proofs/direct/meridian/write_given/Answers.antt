@@ -28,3 +28,12 @@ returns c = on_ok_weaker c.append.result (λ closes. record {
       (c.in_ok-write_idents.ensures.writes m.identifiers r.identifiers)))
       closes;
 }) c.append.ensures
+
+pub open_text_of-requires-clause-reads : goal.open_text_of-requires-clause-reads
+open_text_of-requires-clause-reads c = (c.requires.reads.0.name, c.requires.reads.1.name)
+
+pub write_number_of-requires-clause-reads : goal.write_number_of-requires-clause-reads
+write_number_of-requires-clause-reads c = (c.requires.reads.0.longitude, c.requires.reads.1.longitude)
+
+pub write_idents-requires-clause-reads : goal.write_idents-requires-clause-reads
+write_idents-requires-clause-reads c = (c.requires.reads.0.identifiers, c.requires.reads.1.identifiers)

@@ -23,3 +23,9 @@ returns c = on_ok_weaker c.write_remark.result (λ remark. record {
       (then-each item_ident (set_idents level t.identifiers) r3 s1 s2 s3 (c.in_ok-write_idents.ensures.writes t.identifiers r.identifiers)
       (remark.writes t.remark r.remark));
 }) c.write_remark.ensures
+
+pub write_idents-requires-clause-reads : goal.write_idents-requires-clause-reads
+write_idents-requires-clause-reads c = (c.requires.reads.0.identifiers, c.requires.reads.1.identifiers)
+
+pub write_remark-requires-clause-reads : goal.write_remark-requires-clause-reads
+write_remark-requires-clause-reads c = (c.requires.reads.0.remark, c.requires.reads.1.remark)

@@ -12,3 +12,9 @@ returns-then-keeps c = on_ok_weaker c.write_all_usages.result (λ all. record {
 pub returns-else-keeps : goal.returns-else-keeps
 returns-else-keeps c =
     untold _ _ _ (λ t r. usages-dropped c.args.level (c.keeps.ensures.definition c.if-keeps.false) t.bare_parts t.usages)
+
+pub write_all_usages-requires-clause-bare : goal.write_all_usages-requires-clause-bare
+write_all_usages-requires-clause-bare c = (c.requires.reads.0.bare_parts, c.requires.reads.1.bare_parts)
+
+pub write_all_usages-requires-clause-usages : goal.write_all_usages-requires-clause-usages
+write_all_usages-requires-clause-usages c = (c.requires.reads.0.usages, c.requires.reads.1.usages)

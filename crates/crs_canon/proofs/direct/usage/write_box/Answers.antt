@@ -26,3 +26,15 @@ returns c = on_ok_weaker c.append.result (λ closes. record {
       (last-more (number_item b.east) s2 s3 (c.in_ok-write_nth_number-3.ensures.writes b.east r.east))))
       closes;
 }) c.append.ensures
+
+pub open_nth_number-requires-clause-reads : goal.open_nth_number-requires-clause-reads
+open_nth_number-requires-clause-reads c = (c.requires.reads.0.south, c.requires.reads.1.south)
+
+pub write_nth_number-requires-clause-reads : goal.write_nth_number-requires-clause-reads
+write_nth_number-requires-clause-reads c = (c.requires.reads.0.west, c.requires.reads.1.west)
+
+pub write_nth_number-requires-2-clause-reads : goal.write_nth_number-requires-2-clause-reads
+write_nth_number-requires-2-clause-reads c = (c.requires.reads.0.north, c.requires.reads.1.north)
+
+pub write_nth_number-requires-3-clause-reads : goal.write_nth_number-requires-3-clause-reads
+write_nth_number-requires-3-clause-reads c = (c.requires.reads.0.east, c.requires.reads.1.east)

@@ -24,3 +24,12 @@ returns c = on_ok_weaker c.append.result (λ closes. record {
       (c.in_ok-write_length.ensures.writes e.unit r.unit))
       closes;
 }) c.append.ensures
+
+pub open_nth_number-requires-clause-reads : goal.open_nth_number-requires-clause-reads
+open_nth_number-requires-clause-reads c = (c.requires.reads.0.minimum, c.requires.reads.1.minimum)
+
+pub write_nth_number-requires-clause-reads : goal.write_nth_number-requires-clause-reads
+write_nth_number-requires-clause-reads c = (c.requires.reads.0.maximum, c.requires.reads.1.maximum)
+
+pub write_length-requires-clause-reads : goal.write_length-requires-clause-reads
+write_length-requires-clause-reads c = (c.requires.reads.0.unit, c.requires.reads.1.unit)

@@ -8,6 +8,7 @@ use Rattle.crs_value.specs.Reads.{ReadsExtent}
 use Rattle.crs_value.specs.declared.values.level.Level.TheVariants as levels
 use Rattle.crs_normal.specs.SpelledUsages.{item_extent, norm_extent}
 use Rattle.crs_canon.proofs.DirectPartLemmas.{found-written}
+use Rattle.crs_canon.proofs.ReadLemmas.{any-read}
 use Rattle.crs_canon.proofs.direct.usage.write_optional_extent.Goals as goal
 
 pub returns-in-Some : goal.returns-in-Some
@@ -18,3 +19,6 @@ returns-in-Some c =
     (those c.args.class class.VerticalExtent (arguments (item_at tree c.args.id)))
     (those c.args.class class.VerticalExtent (rest_of (here tree c.in-Some.found))) (item_at tree c.in-Some.found)
     c.args.out.now.items c.write_extent.new.out.items (λ v. refl) c.in-Some.ensures.0) c.write_extent.ensures
+
+pub write_extent-requires-clause-reads : goal.write_extent-requires-clause-reads
+write_extent-requires-clause-reads c = any-read (ReadsExtent class.VerticalExtent) _ _ _ c.in-Some.ensures.0 c.requires.reads
