@@ -10,7 +10,7 @@ pub fn ellipsoid_of<'c, 'a>(crs: &'c Crs<'a>) -> Option<&'c Ellipsoid<'a>> {
         Crs::Geodetic(crs) => ellipsoid_in(&crs.frame),
         Crs::Projected(crs) => ellipsoid_in(&crs.base.frame),
         Crs::Vertical(_) => None,
-        Crs::Compound(crs) => match &*crs.horizontal {
+        Crs::Compound(crs) => match &crs.horizontal {
             Horizontal::Geodetic(part) => ellipsoid_in(&part.frame),
             Horizontal::Projected(part) => ellipsoid_in(&part.base.frame),
         },

@@ -437,7 +437,7 @@ fn write_from_horizontal(
         (More (item_vertical (norm_vertical level compound.now.vertical))
         (tail_items (norm_tail level compound.now.tail))))) }
 {
-    write_part(out, &*compound.horizontal, level)?;
+    write_part(out, &compound.horizontal, level)?;
     write_from_vertical(out, compound, level)
 }
 

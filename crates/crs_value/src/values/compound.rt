@@ -40,9 +40,8 @@ impl Drop for Horizontal<'_> {
 pub struct Compound<'a> {
     /// The name.
     pub name: &'a [u8],
-    /// The horizontal part, geographic or projected, of dimension 2; boxed, so that a CRS of another kind needs no
-    /// room for two.
-    pub horizontal: Box<Horizontal<'a>>,
+    /// The horizontal part, geographic or projected, of dimension 2.
+    pub horizontal: Horizontal<'a>,
     /// The vertical part.
     pub vertical: Vertical<'a>,
     /// Usages, identifiers and remark.
@@ -57,7 +56,7 @@ impl<'a> Model for Compound<'a> {
 
     ghost view = { λ c. record {
       name = c.name.now;
-      horizontal = c.horizontal.value;
+      horizontal = c.horizontal;
       vertical = c.vertical;
       tail = c.tail;
     } };
@@ -119,7 +118,7 @@ impl<'a> Node<'a> for Compound<'a> {
         let firsts = firsts_of(items, id, class);
         Ok(Compound {
             name: text(items, id, class),
-            horizontal: Box::new(alloc, read_horizontal(alloc, items, id)?)?,
+            horizontal: read_horizontal(alloc, items, id)?,
             vertical: one(alloc, items, id, class, Class::VerticalCrs)?,
             tail: read_tail(alloc, items, id, class, &firsts)?,
         })

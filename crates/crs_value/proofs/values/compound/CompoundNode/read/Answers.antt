@@ -1,7 +1,6 @@
 use Rattle.std.proofs.Common.{sym, subst}
 use Rattle.crs_shape.specs.declared.class.Class.{Class}
 use Rattle.crs_shape.specs.declared.class.Class.TheVariants as class
-use Rattle.crs_value.specs.declared.values.compound.Horizontal.{Horizontal}
 use Rattle.crs_value.specs.ReadsCrs.{ReadsCompound, ReadsHorizontal}
 use Rattle.crs_value.specs.SoundCompound.{IsCompound}
 use Rattle.crs_value.proofs.SoundLemmas.{tells-as}
@@ -12,11 +11,10 @@ use Rattle.crs_value.proofs.values.compound.CompoundNode.read.Goals as goal
 pub invariant_of-result : goal.invariant_of-result
 invariant_of-result c =
     let P : Class → Type 0 = λ d. ReadsHorizontal d (item_at c.args.items.now c.args.id) c.in_ok-read_horizontal.field-0 in
-    let Q : Horizontal → Type 0 = λ h. ReadsHorizontal c.args.class (item_at c.args.items.now c.args.id) h in
     tells-as ReadsCompound IsCompound c.args.class class.CompoundCrs c.requires.suits (compound-tells c.slots_count.ensures.least c.slots_count.ensures.most) (item_at c.args.items.now c.args.id) _ c.requires.sound
     (record {
       name = c.text.ensures;
-      horizontal = subst Q (sym c.in_ok-new.ensures.ok) (subst P (sym c.requires.suits) c.in_ok-read_horizontal.ensures);
+      horizontal = subst P (sym c.requires.suits) c.in_ok-read_horizontal.ensures;
       vertical = c.in_ok-one.ensures;
       tail = c.in_ok-read_tail.ensures;
     })
