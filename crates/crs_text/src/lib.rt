@@ -1,5 +1,5 @@
-//! Tokens and items of a well-formed text, or the first fault with its place. Crates above know the items and the
-//! refusals alone: no byte of a text is read elsewhere.
+//! Tokens and items of a well-formed text, or the first fault with its place. Crates above judge a text by its items
+//! and the raw bytes of each; they read the text around a refusal only to explain it.
 #![tactic(auto)]
 
 mod fault;

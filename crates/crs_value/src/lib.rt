@@ -1,5 +1,5 @@
 //! Values of texts: what a text of the right shape says, exactly as it is written, or the check that it breaks.
-//! Crates above know the values alone, and no item.
+//! Crates above compare values; canonical texts are also written straight from the items of an accepted text.
 #![tactic(auto)]
 
 mod checks;
