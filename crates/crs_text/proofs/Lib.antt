@@ -11,6 +11,7 @@ pub mod LeftLemmas
 pub mod LexedLemmas
 pub mod NestingLemmas
 pub mod OneItem
+pub mod OnePosition
 pub mod PlainNumberLemmas
 pub mod PositionLemmas
 pub mod QuotedLemmas

@@ -4,6 +4,8 @@ ghost use Rattle.crs_text.specs.Tokens.{Token, opening, AreTokens};
 ghost use Rattle.crs_text.specs.Items.{Item, tokens, AreNode, BeginsNoNode};
 ghost use Rattle.crs_text.specs.Keywords.{AreSpelled};
 ghost use Rattle.crs_text.specs.TextFault.{SpellsNode, RefusesText};
+ghost use Rattle.crs_text.specs.Position.{IsPosition};
+ghost use Rattle.crs_text.specs.declared.position.Position.{Position};
 ghost use Rattle.crs_text.specs.Written.{WrittenSpells, AreFormed, item_text, at_place};
 ghost use Rattle.crs_text.specs.Examples.{AreSized, AreFoundByNumber, AreLimited};
 ghost use Rattle.crs_text.specs.Viable.{IsViable, IsViableAtAnyDepth, Allows, IsFull};
@@ -62,6 +64,11 @@ pub fn written_items()
     ensures spells { WrittenSpells }
     ensures formed { (bytes : List ℕ) (item : Item) → SpellsNode bytes item → AreFormed item }
     ensures text { (place : ℕ) (item : Item) → item_text (at_place place item) ≡ item_text item }
+{}
+
+/// A place of a text is in one line, at one column. Profile.
+pub fn one_position()
+    ensures { (text : List ℕ) (place : ℕ) (a b : Position) → IsPosition text place a → IsPosition text place b → a ≡ b }
 {}
 
 /// The definitions on one coordinate reference system, and on nested words.
