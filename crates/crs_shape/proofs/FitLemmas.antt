@@ -168,7 +168,7 @@ not-named parent c word none =
       ] refl
     ] refl
 
-class-is_of : (parent c : Class) (item : Item) → class_in parent item ≡ Some c → is_of c item ≡ true
+pub class-is_of : (parent c : Class) (item : Item) → class_in parent item ≡ Some c → is_of c item ≡ true
 unfolding class_named
 class-is_of parent c (leaf kind place raw) e = true_same the_type (class_of_kind kind) c cc
 class-is_of parent c (node place keyword square first others close) e = named-has (slots_of parent) keyword c e

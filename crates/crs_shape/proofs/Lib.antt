@@ -10,6 +10,7 @@ pub mod KeywordTableLemmas
 pub mod KeywordLemmas
 pub mod ListLemmas
 pub mod ShapedLemmas
+pub mod RefusedLemmas
 pub mod RootLemmas
 pub mod SlotLemmas
 pub mod SoughtLemmas

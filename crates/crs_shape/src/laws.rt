@@ -6,8 +6,10 @@ ghost use Rattle.crs_text.specs.Refusal.{RefusedAt};
 ghost use Rattle.crs_text.specs.TextFault.{SpellsNode};
 ghost use Rattle.crs_shape.specs.declared.class.Class.{Class};
 ghost use Rattle.crs_shape.specs.Counts.{how_many, least, most, is_bounded};
+ghost use Rattle.crs_shape.specs.Expected.{ExpectedParts, ExpectedAtRoot};
 ghost use Rattle.crs_shape.specs.FaultPlace.{IsPlaceIn, IsShapeNumber};
 ghost use Rattle.crs_shape.specs.KeywordTable.{classes_by, is_among, is_part};
+ghost use Rattle.crs_shape.specs.RefusedItem.{AreAlike, IsRefusedThere};
 ghost use Rattle.crs_shape.specs.Shape.{Allowed, AllFilled, joined, is_apart};
 ghost use Rattle.crs_shape.specs.ShapeFault.{IsFree, Inside, AtRoot, class_in, class_of_root, is_of};
 ghost use Rattle.crs_shape.specs.Shaped.{Shaped};
@@ -49,6 +51,14 @@ pub fn keywords_name_classes()
 pub fn fault_at_root_is_one()
     ensures one { (item : Item) (a b : RefusedAt) → AtRoot item a → AtRoot item b → a ≡ b }
     ensures either { (item : Item) → IsFree (AtRoot item) ⊎ ((fault : RefusedAt) × AtRoot item fault) }
+{}
+
+/// What could come at a text's fault of shape is one answer. The class of an item that is refused isn't among those that
+/// could come there, and after arguments that aren't complete the node may not end. Profile.
+pub fn expected_is_one()
+    ensures one { (item : Item) (a b : ExpectedParts) → ExpectedAtRoot item a → ExpectedAtRoot item b → AreAlike a b }
+    ensures refused { (item : Item) (fault : RefusedAt) (e : ExpectedParts) → AtRoot item fault →
+        ExpectedAtRoot item e → IsRefusedThere item fault e }
 {}
 
 /// A fault of shape has the number 11, 12 or 13, and is at the first byte of an item or at the closing delimiter of a
