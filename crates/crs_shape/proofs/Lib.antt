@@ -4,6 +4,7 @@ pub mod CountLemmas
 pub mod ExpectedLemmas
 pub mod FaultLemmas
 pub mod FitLemmas
+pub mod NearLemmas
 pub mod PlaceLemmas
 pub mod ItemLemmas
 pub mod KeywordTableLemmas

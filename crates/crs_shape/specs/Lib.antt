@@ -6,6 +6,7 @@ pub mod FirstFault
 pub mod KeywordTable
 pub mod Keywords
 pub mod Left
+pub mod Near
 pub mod RefusedItem
 pub mod Shape
 pub mod ShapeFault
