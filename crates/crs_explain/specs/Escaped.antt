@@ -1,13 +1,31 @@
--- Bytes as one line shows them.
-use Rattle.std.specs.Prelude.{◌∷◌, [], ◌==◌, ◌||◌, nat_le, ℕ, List, codes, if◌then◌else◌}
+-- Texts as one line shows them.
+use Rattle.std.specs.Prelude.{◌/◌, ◌%◌, ◌++◌, ◌∷◌, [], ◌==◌, ◌||◌, ◌&&◌, nat_le, nat_lt, ℕ, Bool, List, codes}
+use Rattle.std.specs.Prelude.{encode_utf8, if◌then◌else◌}
 use Rattle.std.specs.List.{flat_map}
-use Rattle.bstr.specs.Escape.{escape_byte}
+use Rattle.bstr.specs.Escape.{escape_byte, hex_digit}
+use Rattle.bstr.specs.Utf8.{lossy_chars}
 
--- a byte as a line shows it: a control character or a backslash is escaped
-abbrev pub shown_byte : ℕ → List ℕ
-shown_byte b = if b == 32 || nat_le 128 b then b ∷ [] else escape_byte b
+-- characters from U+0080 on that steer a terminal, end a line or change the direction of a text:
+-- controls, the separators of lines and paragraphs, marks of direction
+abbrev pub steers : ℕ → Bool
+steers c =
+    (nat_le 0x80 c && nat_le c 0x9F) || c == 0x61C || c == 0x200E || c == 0x200F
+    || (nat_le 0x2028 c && nat_le c 0x202E) || (nat_le 0x2066 c && nat_le c 0x2069)
+
+-- two hexadecimal digits
+abbrev pub hex_byte : ℕ → List ℕ
+hex_byte b = hex_digit (b / 16) ∷ hex_digit (b % 16) ∷ []
+
+-- a character as a line shows it: a backslash and what steers are escaped, as `\\`, `\n`, `\x1B`
+-- and `\u202E`
+abbrev pub shown_char : ℕ → List ℕ
+shown_char c =
+    if c == 32 then c ∷ []
+    else if nat_lt c 128 then escape_byte c
+    else if steers c then codes "\\u" ++ hex_byte (c / 256) ++ hex_byte (c % 256)
+    else encode_utf8 c
 
 -- the value of a part as a line shows it: `none` where there is nothing
 abbrev pub shown : List ℕ → List ℕ
 shown [] = codes "none"
-shown (b ∷ bytes) = flat_map shown_byte (b ∷ bytes)
+shown (b ∷ bytes) = flat_map shown_char (lossy_chars (b ∷ bytes))

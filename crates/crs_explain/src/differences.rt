@@ -12,8 +12,8 @@ use std::alloc::{AllocError, Global};
 /// A line for each part in which two CRSs differ at a level, in the order of the canonical text; none exactly where
 /// they are the same. A line is `PATH: FIRST | SECOND` and a line feed: the values of the first CRS and of the second
 /// as the canonical text writes them, of a set the members that the other CRS lacks, `none` where that is nothing;
-/// control characters and backslashes are escaped, as `
-/// ` and `\\`. Profile.
+/// control characters, ends of lines, marks of direction and backslashes are escaped, as `\n`, `\x1B`, `\u202E` and
+/// `\\`. Profile.
 ///
 /// `AllocError`: there is no memory for it.
 pub fn differences_text<'a>(

@@ -1,23 +1,49 @@
-//! Bytes as one line can show them.
-ghost use Rattle.std.specs.Prelude.{◌≡◌, ◌++◌, ◌≤◌, OnOk};
+//! Texts as one line can show them.
+ghost use Rattle.std.specs.Prelude.{◌≡◌, ◌++◌, ◌≤◌, ◌<◌, ◌/◌, ◌%◌, OnOk, codes, false};
 ghost use Rattle.std.specs.List.{flat_map};
-ghost use Rattle.bstr.specs.Escape.{hex_digit};
-ghost use Rattle.crs_explain.specs.Escaped.{shown, shown_byte};
+ghost use Rattle.bstr.specs.Escape.{escape_byte, hex_digit};
+ghost use Rattle.bstr.specs.Utf8.{lossy_chars};
+ghost use Rattle.crs_explain.specs.Escaped.{hex_byte, shown, shown_char, steers};
 
+use bstr::{ByteSlice, ByteVec};
 use std::alloc::AllocError;
 
-// Appends bytes, in which control characters and backslashes are escaped.
+// Appends a text in which backslashes are escaped, and characters that steer a terminal or the order of a line.
 fn append_escaped(bytes: &[u8], out: &mut Vec<u8>) -> Result<(), AllocError>
-    ensures { OnOk result (out.new.items ≡ out.old.items ++ flat_map shown_byte bytes.now) }
+    ensures { OnOk result (out.new.items ≡ out.old.items ++ flat_map shown_char (lossy_chars bytes.now)) }
 {
-    for byte in bytes {
-        append_byte(*byte, out)?;
+    for c in bytes.chars() {
+        append_char(c, out)?;
     }
     Ok(())
 }
 
+fn append_char(c: char, out: &mut Vec<u8>) -> Result<(), AllocError>
+    ensures { OnOk result (out.new.items ≡ out.old.items ++ shown_char c) }
+{
+    if c == ' ' {
+        out.push(b' ').map_err(AllocError::from)
+    } else if c < '\u{80}' {
+        append_byte(c as u8, out)
+    } else if steers(c) {
+        append_code(c as u16, out)
+    } else {
+        out.push_char(c)
+    }
+}
+
+// Whether a character from U+0080 on steers a terminal, ends a line or changes the direction of a text.
+fn steers(c: char) -> bool
+    ensures { result ≡ steers c }
+{
+    matches!(
+        c,
+        '\u{80}'..='\u{9f}' | '\u{61c}' | '\u{200e}' | '\u{200f}' | '\u{2028}'..='\u{202e}' | '\u{2066}'..='\u{2069}'
+    )
+}
+
 fn append_byte(byte: u8, out: &mut Vec<u8>) -> Result<(), AllocError>
-    ensures { OnOk result (out.new.items ≡ out.old.items ++ shown_byte byte) }
+    ensures { OnOk result (out.new.items ≡ out.old.items ++ escape_byte byte) }
 {
     match byte {
         b'\0' => out.extend_from_slice(b"\\0"),
@@ -25,14 +51,26 @@ fn append_byte(byte: u8, out: &mut Vec<u8>) -> Result<(), AllocError>
         b'\n' => out.extend_from_slice(b"\\n"),
         b'\r' => out.extend_from_slice(b"\\r"),
         b'\\' => out.extend_from_slice(b"\\\\"),
-        1..=31 | 127 => out.extend_from_slice(&[
-            b'\\',
-            b'x',
-            hex_digit(byte / 16),
-            hex_digit(byte % 16),
-        ]),
-        _ => out.push(byte).map_err(AllocError::from),
+        b'!'..=b'~' => out.push(byte).map_err(AllocError::from),
+        _ => {
+            out.extend_from_slice(b"\\x")?;
+            append_hex(byte, out)
+        }
     }
+}
+
+fn append_code(code: u16, out: &mut Vec<u8>) -> Result<(), AllocError>
+    ensures { OnOk result (out.new.items ≡ out.old.items ++ (codes "\\u" ++ hex_byte (code / 256) ++ hex_byte (code % 256))) }
+{
+    out.extend_from_slice(b"\\u")?;
+    append_hex((code / 256) as u8, out)?;
+    append_hex((code % 256) as u8, out)
+}
+
+fn append_hex(byte: u8, out: &mut Vec<u8>) -> Result<(), AllocError>
+    ensures { OnOk result (out.new.items ≡ out.old.items ++ hex_byte byte) }
+{
+    out.extend_from_slice(&[hex_digit(byte / 16), hex_digit(byte % 16)])
 }
 
 fn hex_digit(value: u8) -> u8

@@ -6,14 +6,14 @@ import re
 import shlex
 
 # Control characters, ends of lines and paragraphs, and what reverses the direction of a text.
-CONTROL = re.compile("[\x00-\x1f\x7f-\x9f\u2028\u2029\u202a-\u202e\u2066-\u2069]")
+CONTROL = re.compile("[\x00-\x1f\x7f-\x9f\u061c\u200e\u200f\u2028-\u202e\u2066-\u2069]")
 ESCAPES = {"\0": "\\0", "\t": "\\t", "\n": "\\n", "\r": "\\r", "\\": "\\\\"}
 UNESCAPED = {escape[1]: character for character, escape in ESCAPES.items()}
 ESCAPE = re.compile(r"\\(?:x([0-9A-F]{2})|u([0-9A-F]{4})|(.))")
 
 
 def escape(character: str) -> str:
-    """The escape of a character, as the library writes it: ``\\n``, ``\\x1B``; and ``\\u2028``."""
+    """The escape of a character, as the library writes it: ``\\n``, ``\\x1B``, ``\\u2028``."""
     known = ESCAPES.get(character)
     return known or (f"\\x{ord(character):02X}" if ord(character) < 0x80 else f"\\u{ord(character):04X}")
 
