@@ -127,8 +127,8 @@ uint32_t crsdesk_first_part(const char *first, size_t first_length, const char *
        datum/ellipsoid/flattening: 298.257223563 | 298.257222101
 
    A missing value is written `none`; of a set each side has the members that the other lacks. Values are spelled as in the
-   canonical text; control characters and backslashes in quoted texts are escaped, as `\n` and `\\`. No lines exactly
-   where the CRSs are the same.
+   canonical text; control characters, ends of lines, marks of direction and backslashes in quoted texts are escaped, as
+   `\n`, `\x1B`, `\u202E` and `\\`. No lines exactly where the CRSs are the same.
 
    CRSDESK_OK: each text spells a CRS; the buffer begins with the lines, *length is their number of bytes.
    CRSDESK_REFUSED: the first spells none; *refusal says why. The second wasn't judged.
@@ -141,7 +141,8 @@ uint32_t crsdesk_differences(const char *first, size_t first_length, const char 
 /* Why a text spells no CRS, explained to a person in some lines, each with a line feed: `refused N NAME at P, line L,
    column C`; the piece of that line, and a caret under the place; for a refusal of shape `in NODE at P: found .., expected
    ..`, with all that could come there; for a refusal of the text which delimiter is open; what the number means; and a
-   hint where the text shows what it is. Room for 2,000 bytes does.
+   hint where the text shows what it is. Of the text's own words at most 40 bytes are in a line of what is found and
+   expected, and every other line is bounded too: room for 5,000 bytes always does.
 
    CRSDESK_OK: the buffer begins with the lines, *length is their number of bytes; 0 where the text spells a CRS.
    CRSDESK_NO_ROOM: they have more bytes than the buffer; *length is their number.

@@ -1,3 +1,5 @@
+pub mod ExcerptLemmas
+pub mod LineLemmas
 pub mod ListedLemmas
 pub mod PartLemmas
 pub mod DifferingLemmas

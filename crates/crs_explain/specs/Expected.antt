@@ -1,10 +1,11 @@
 -- What is written of the place of a fault of shape: the node, what is found, and all that could
 -- come there.
-use Rattle.std.specs.Prelude.{◌≡◌, ◌++◌, ◌∷◌, [], ◌⊎◌, ℕ, List, Bool, codes, decimal, map, filter, slice_index_or}
-use Rattle.std.specs.Prelude.{if◌then◌else◌}
+use Rattle.std.specs.Prelude.{◌≡◌, ◌++◌, ◌∷◌, [], ◌⊎◌, ℕ, List, Bool, Option, Some, None, codes, decimal, map, filter}
+use Rattle.std.specs.Prelude.{drop, slice_index_or, if◌then◌else◌}
 use denote.Enum.Bare.{sameb}
 use Rattle.crs_text.specs.Items.{Item}
 use Rattle.crs_text.specs.Keywords.{spelling_of}
+use Rattle.crs_text.specs.Refusal.{RefusedAt}
 use Rattle.crs_text.specs.TextFault.{SpellsNode}
 use Rattle.crs_text.specs.declared.keyword.Keyword.TheVariants as keyword
 use Rattle.crs_shape.specs.contracts.class.Class.{the_type}
@@ -14,6 +15,7 @@ use Rattle.crs_shape.specs.Keywords.{keywords_of, every_class}
 use Rattle.crs_shape.specs.Expected.{ExpectedParts, ExpectedAtRoot, may_come}
 use Rattle.crs_shape.specs.FaultPlace.{IsShapeNumber}
 use Rattle.crs_shape.specs.ShapeFault.{AtRoot, IsFree}
+use Rattle.crs_explain.specs.Found.{found_in, named_by, word_of}
 
 -- the name of a class: its first keyword, or what it is where it has none; the unit of an axis has two
 abbrev pub class_name : Class → List ℕ
@@ -36,18 +38,22 @@ abbrev pub names_of : List Class → Bool → List (List ℕ)
 names_of classes may_end =
     map class_name classes ++ (if may_end then codes "its closing delimiter" ∷ [] else [])
 
--- a line: the place of the node, what is found there, and exactly the names of the classes that
--- could come there
-pub record IsLineOf (expected : ExpectedParts) (classes : List Class) (line : List ℕ) : Type 0 where
-  pub node : List ℕ
-  pub found : List ℕ
-  pub is_line : line ≡ node ++ codes "at " ++ decimal expected.place ++ codes ": found " ++ found
-      ++ codes ", expected " ++ listed (names_of classes expected.may_end) ++ 10 ∷ []
+-- the node in which the fault is, by the keyword with which these bytes begin; nothing where the text
+-- is of no class
+abbrev pub node_named : Option Class → List ℕ → List ℕ
+node_named None bytes = []
+node_named (Some c) bytes = codes "in " ++ named_by (word_of bytes) ++ codes " "
 
--- of a refusal of shape the line of the fault of the text's item, with the classes in the order of
--- the table; of another number nothing
-abbrev pub IsExpectedPart : List ℕ → ℕ → List ℕ → Type 0
-IsExpectedPart text number part =
-    (IsShapeNumber number × ((item : Item) × SpellsNode text item × ((expected : ExpectedParts)
-    × ExpectedAtRoot item expected × IsLineOf expected (filter (may_come expected) every_class) part)))
-    ⊎ ((part ≡ []) × (IsShapeNumber number → (item : Item) → SpellsNode text item → IsFree (AtRoot item)))
+-- the line of a refusal at a place: the node and its place, what is found at the place of the
+-- refusal, and exactly the names of the classes that could come there, in the order of the table
+abbrev pub expected_line : List ℕ → ℕ → ExpectedParts → List ℕ
+expected_line text place e =
+    node_named e.parent (drop e.place text) ++ codes "at " ++ decimal e.place ++ codes ": found " ++ found_in (drop place text)
+    ++ codes ", expected " ++ listed (names_of (filter (may_come e) every_class) e.may_end) ++ 10 ∷ []
+
+-- of a refusal of shape the line of the fault of the text's item; of another number nothing
+abbrev pub IsExpectedPart : List ℕ → RefusedAt → List ℕ → Type 0
+IsExpectedPart text refusal part =
+    (IsShapeNumber refusal.number × ((item : Item) × SpellsNode text item × ((e : ExpectedParts)
+    × ExpectedAtRoot item e × (part ≡ expected_line text refusal.place e))))
+    ⊎ ((part ≡ []) × (IsShapeNumber refusal.number → (item : Item) → SpellsNode text item → IsFree (AtRoot item)))

@@ -1,13 +1,14 @@
 //! What could come at the place of a fault of shape.
-ghost use Rattle.std.specs.Prelude.{◌≡◌, ◌++◌, ◌↔◌, [], ℕ, List, IfOk, IsTrue, filter, codes, decimal};
+ghost use Rattle.std.specs.Prelude.{◌≡◌, ◌++◌, ◌↔◌, [], ℕ, IfOk, OnOk, IsTrue, drop, filter, codes, decimal};
 ghost use Rattle.crs_shape.specs.FaultPlace.{IsShapeNumber};
 ghost use Rattle.crs_shape.specs.Expected.{may_come};
-ghost use Rattle.crs_explain.specs.Expected.{IsLineOf, IsExpectedPart};
-ghost use Rattle.crs_explain.specs.Parts.{IsPartOf, IsPartOfText, IsLineTold};
 ghost use Rattle.crs_shape.specs.Keywords.{every_class};
+ghost use Rattle.crs_explain.specs.Expected.{IsExpectedPart, expected_line, node_named};
+ghost use Rattle.crs_explain.specs.Found.{found_in};
+ghost use Rattle.crs_explain.specs.Parts.{IsPartOf, IsPartOfText};
 
 use crate::class_names::append_listed;
-use crate::place::{found_at, word_at};
+use crate::place::{append_found, append_name, rest_of, word_at};
 use crs_shape::{Class, Expected, classes, expected, nearest};
 use crs_text::{Fault, Items, Keyword, laws, read_items};
 use itoa::Buffer;
@@ -38,7 +39,8 @@ pub(crate) fn expectation(
     number: u8,
     place: usize,
 ) -> Result<ShapeTold, AllocError>
-    ensures { IfOk result (λ told. IsExpectedPart text.now number told.line.items) }
+    ensures { IfOk result (λ told. IsExpectedPart text.now
+        (record { number = number; place = place }) told.line.items) }
 {
     if is_of_shape(number) {
         let told = of_text(alloc, text, place)?;
@@ -56,7 +58,7 @@ fn is_of_shape(number: u8) -> bool
 
 // The line of the fault of shape that the text has; nothing where it has none.
 fn of_text(alloc: Global, text: &[u8], place: usize) -> Result<ShapeTold, AllocError>
-    ensures { IfOk result (λ told. IsPartOfText text.now told.line.items) }
+    ensures { IfOk result (λ told. IsPartOfText text.now place told.line.items) }
 {
     laws::one_answer();
     match read_items(alloc, text) {
@@ -76,7 +78,7 @@ fn of_items(
     items: &Items<'_>,
     place: usize,
 ) -> Result<ShapeTold, AllocError>
-    ensures { IfOk result (λ told. IsPartOf items.now told.line.items) }
+    ensures { IfOk result (λ told. IsPartOf text.now place items.now told.line.items) }
 {
     match expected(items) {
         None => Ok(nothing(alloc)),
@@ -93,10 +95,9 @@ fn told_of(
     expected: &Expected,
     place: usize,
 ) -> Result<ShapeTold, AllocError>
-    ensures { IfOk result (λ told. IsLineTold expected.now told.line.items) }
+    ensures { IfOk result (λ told. told.line.items ≡ expected_line text.now place expected.now) }
 {
-    let word = word_at(alloc, text, place)?;
-    let near = nearest(&word, expected);
+    let near = nearest(word_at(rest_of(text, place)), expected);
     let line = line_of(alloc, text, expected, place)?;
     Ok(ShapeTold { line, near })
 }
@@ -107,28 +108,13 @@ fn line_of(
     expected: &Expected,
     place: usize,
 ) -> Result<Vec<u8>, AllocError>
-    ensures { IfOk result (λ line. IsLineTold expected.now line.items) }
+    ensures { IfOk result (λ line. line.items ≡ expected_line text.now place expected.now) }
 {
     let may_come = classes_in(alloc, expected)?;
-    line_with(alloc, text, expected, place, &may_come)
-}
-
-// The line with these classes.
-fn line_with(
-    alloc: Global,
-    text: &[u8],
-    expected: &Expected,
-    place: usize,
-    classes: &[Class],
-) -> Result<Vec<u8>, AllocError>
-    ensures { IfOk result (λ line. IsLineOf expected.now classes.now line.items) }
-{
-    let found = found_at(alloc, text, place)?;
-    let mut line = node_of(alloc, text, expected)?;
-    line.extend_from_slice(b": found ")?;
-    line.extend_from_slice(&found)?;
-    line.extend_from_slice(b", expected ")?;
-    append_listed(classes, expected.may_end(), &mut line)?;
+    let mut line = Vec::new(alloc);
+    append_node(alloc, text, expected, &mut line)?;
+    append_found_there(alloc, text, place, &mut line)?;
+    append_listed(&may_come, expected.may_end(), &mut line)?;
     line.extend_from_slice(b"\n")?;
     Ok(line)
 }
@@ -155,24 +141,49 @@ fn classes_among(
 }
 
 // `in GEOGCRS at 0`, or `at 0` where the text is of no class.
-fn node_of(alloc: Global, text: &[u8], expected: &Expected) -> Result<Vec<u8>, AllocError>
-    ensures { IfOk result (λ line. (node : List ℕ)
-        × (line.items ≡ node ++ codes "at " ++ decimal expected.now.place)) }
+fn append_node(
+    alloc: Global,
+    text: &[u8],
+    expected: &Expected,
+    out: &mut Vec<u8>,
+) -> Result<(), AllocError>
+    ensures { OnOk result (out.new.items ≡ out.old.items
+        ++ (node_named expected.now.parent (drop expected.now.place text.now) ++ codes "at " ++ decimal expected.now.place)) }
 {
     let mut digits = Buffer::new();
-    let mut node = named(alloc, text, expected)?;
-    node.extend_from_slice(b"at ")?;
-    node.extend_from_slice(digits.format(expected.place()).as_bytes())?;
-    Ok(node)
+    append_parent(alloc, rest_of(text, expected.place()), expected.parent(), out)?;
+    out.extend_from_slice(b"at ")?;
+    out.extend_from_slice(digits.format(expected.place()).as_bytes())
 }
 
 // `in GEOGCRS `, or nothing where the text is of no class.
-fn named(alloc: Global, text: &[u8], expected: &Expected) -> Result<Vec<u8>, AllocError> {
-    let mut out = Vec::new(alloc);
-    if expected.parent().is_some() {
-        out.extend_from_slice(b"in ")?;
-        out.extend_from_slice(&word_at(alloc, text, expected.place())?)?;
-        out.push(b' ')?;
+fn append_parent(
+    alloc: Global,
+    there: &[u8],
+    parent: Option<Class>,
+    out: &mut Vec<u8>,
+) -> Result<(), AllocError>
+    ensures { OnOk result (out.new.items ≡ out.old.items ++ node_named parent there.now) }
+{
+    if parent.is_none() {
+        return Ok(());
     }
-    Ok(out)
+    out.extend_from_slice(b"in ")?;
+    append_name(alloc, word_at(there), out)?;
+    out.extend_from_slice(b" ")
+}
+
+// `: found AXIS, expected `
+fn append_found_there(
+    alloc: Global,
+    text: &[u8],
+    place: usize,
+    out: &mut Vec<u8>,
+) -> Result<(), AllocError>
+    ensures { OnOk result (out.new.items ≡ out.old.items
+        ++ (codes ": found " ++ found_in (drop place text.now) ++ codes ", expected ")) }
+{
+    out.extend_from_slice(b": found ")?;
+    append_found(alloc, rest_of(text, place), out)?;
+    out.extend_from_slice(b", expected ")
 }

@@ -10,8 +10,9 @@ mod excerpt;
 mod expected;
 mod head;
 mod place;
+mod printed;
 mod refusal;
-mod shown;
+mod sentences;
 
 pub use differences::differences_text;
 pub use refusal::refusal_text;

@@ -1,48 +1,96 @@
 //! What is at a place of a well-formed text.
+ghost use Rattle.std.specs.Prelude.{◌≡◌, ◌++◌, ◌≤◌, OnOk, drop, length, if◌then◌else◌, codes};
+ghost use Rattle.std.specs.List.{prefix_len};
+ghost use Rattle.crs_explain.specs.Found.{found_in, is_of_word, named_by, opens, opens_after_white, word_of};
+
 use std::alloc::{AllocError, Global};
 
-/// What begins at a place, or the delimiter that closes there.
-pub(crate) fn found_at(alloc: Global, text: &[u8], place: usize) -> Result<Vec<u8>, AllocError> {
-    let there = rest(text, place);
-    match there.first() {
-        Some(delimiter) if matches!(delimiter, b']' | b')') => Vec::from_slice(
-            alloc,
-            &[*delimiter],
-        ),
-        Some(b'"') => Vec::from_slice(alloc, b"a text in quotes"),
-        Some(letter) if letter.is_ascii_alphabetic() => word_or_node(alloc, text, place),
-        _ => Vec::from_slice(alloc, b"a number"),
+// How many bytes of a word are shown.
+const SHOWN: usize = 40;
+
+/// Appends what begins at the front of these bytes, or the delimiter that closes there.
+pub(crate) fn append_found(
+    alloc: Global,
+    there: &[u8],
+    out: &mut Vec<u8>,
+) -> Result<(), AllocError>
+    ensures { OnOk result (out.new.items ≡ out.old.items ++ found_in there.now) }
+{
+    match there {
+        [b']', ..] => out.extend_from_slice(b"]"),
+        [b')', ..] => out.extend_from_slice(b")"),
+        [b'"', ..] => out.extend_from_slice(b"a text in quotes"),
+        [letter, ..] if letter.is_ascii_alphabetic() => append_word(alloc, there, out),
+        _ => out.extend_from_slice(b"a number"),
     }
 }
 
-fn word_or_node(alloc: Global, text: &[u8], place: usize) -> Result<Vec<u8>, AllocError> {
-    let there = rest(text, place);
-    let behind = rest(there, word_length(there)).trim_ascii_start();
-    if matches!(behind.first(), Some(b'[' | b'(')) {
-        word_at(alloc, text, place)
+// The keyword of a node, or a word.
+fn append_word(alloc: Global, there: &[u8], out: &mut Vec<u8>) -> Result<(), AllocError>
+    ensures { OnOk result (out.new.items ≡ out.old.items
+        ++ (if opens_after_white (drop (prefix_len is_of_word there.now) there.now)
+        then named_by (word_of there.now) else codes "a word")) }
+{
+    if opens_after_white(rest_of(there, word_length(there))) {
+        append_name(alloc, word_at(there), out)
     } else {
-        Vec::from_slice(alloc, b"a word")
+        out.extend_from_slice(b"a word")
     }
 }
 
-/// The word that begins at a place, in capitals.
-pub(crate) fn word_at(alloc: Global, text: &[u8], place: usize) -> Result<Vec<u8>, AllocError> {
-    let there = rest(text, place);
-    let mut word = Vec::new(alloc);
-    for byte in there.iter().take(word_length(there)) {
-        word.push(byte.to_ascii_uppercase())?;
+fn opens_after_white(bytes: &[u8]) -> bool
+    ensures { result ≡ opens_after_white bytes.now }
+{
+    let white = bytes.iter().take_while(|it| it.is_ascii_whitespace()).count();
+    opens(rest_of(bytes, white))
+}
+
+fn opens(bytes: &[u8]) -> bool
+    ensures { result ≡ opens bytes.now }
+{
+    matches!(bytes.first(), Some(b'[' | b'('))
+}
+
+/// Appends a word in capitals, of a long one its front.
+pub(crate) fn append_name(
+    alloc: Global,
+    word: &[u8],
+    out: &mut Vec<u8>,
+) -> Result<(), AllocError>
+    ensures { OnOk result (out.new.items ≡ out.old.items ++ named_by word.now) }
+{
+    if word.len() <= SHOWN {
+        out.extend_from_slice(&word.to_ascii_uppercase(alloc)?)
+    } else {
+        out.extend_from_slice(&word[..SHOWN].to_ascii_uppercase(alloc)?)?;
+        out.extend_from_slice(b"..")
     }
-    Ok(word)
 }
 
-fn word_length(there: &[u8]) -> usize {
-    there
-        .iter()
-        .take_while(|it| it.is_ascii_alphanumeric() || **it == b'_')
-        .count()
+/// The word that the bytes begin with.
+pub(crate) fn word_at(there: &[u8]) -> &[u8]
+    ensures { result.now ≡ word_of there.now }
+{
+    &there[..word_length(there)]
 }
 
-fn rest(text: &[u8], place: usize) -> &[u8] {
+fn word_length(there: &[u8]) -> usize
+    ensures value { result ≡ prefix_len is_of_word there.now }
+    ensures within { result ≤ length there.now }
+{
+    there.iter().take_while(|it| is_of_word(**it)).count()
+}
+
+fn is_of_word(byte: u8) -> bool
+    ensures { result ≡ is_of_word byte }
+{
+    byte.is_ascii_alphanumeric() || byte == b'_'
+}
+
+/// The bytes from a place on.
+pub(crate) fn rest_of(text: &[u8], place: usize) -> &[u8]
+    ensures { result.now ≡ drop place text.now }
+{
     match text.get(place..) {
         Some(rest) => rest,
         None => b"",

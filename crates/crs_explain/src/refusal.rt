@@ -5,8 +5,8 @@ ghost use Rattle.crs_explain.specs.Explained.{IsExplained};
 use crate::excerpt::excerpt;
 use crate::expected::expectation;
 use crate::head::append_head;
-use crs_hint::{append_hints, append_opened, meaning};
-use crs_text::{Keyword, Refusal, open_delimiter, position_of};
+use crate::sentences::sentences;
+use crs_text::{Refusal, position_of};
 use std::alloc::{AllocError, Global};
 
 /// Explains the refusal of a text, so that a person can repair the text: a line with the refusal and its line and
@@ -21,7 +21,7 @@ pub fn refusal_text(alloc: Global, text: &[u8], refusal: Refusal) -> Result<Vec<
 {
     let (number, place) = (refusal.number(), refusal.place());
     let position = position_of(text, place);
-    let piece = excerpt(alloc, text, place, position)?;
+    let piece = excerpt(alloc, text, place)?;
     let expected = expectation(alloc, text, number, place)?;
     let sentences = sentences(alloc, text, refusal, expected.near)?;
     let mut told = Vec::new(alloc);
@@ -30,56 +30,4 @@ pub fn refusal_text(alloc: Global, text: &[u8], refusal: Refusal) -> Result<Vec<
     told.extend_from_slice(&expected.line)?;
     told.extend_from_slice(&sentences)?;
     Ok(told)
-}
-
-// What is open, or was meant, what the number means, and the hints.
-fn sentences(
-    alloc: Global,
-    text: &[u8],
-    refusal: Refusal,
-    near: Option<Keyword>,
-) -> Result<Vec<u8>, AllocError> {
-    let (number, place) = (refusal.number(), refusal.place());
-    let mut hints = Vec::new(alloc);
-    append_hints(text, number, place, &mut hints)?;
-    let mut out = open_or_meant(
-        alloc,
-        text,
-        refusal,
-        if hints.is_empty() { near } else { None },
-    )?;
-    out.extend_from_slice(meaning(number).as_bytes())?;
-    out.push(b'\n')?;
-    out.extend_from_slice(&hints)?;
-    Ok(out)
-}
-
-// What is open at the place, and which keyword an unknown one nearly is, a line each.
-fn open_or_meant(
-    alloc: Global,
-    text: &[u8],
-    refusal: Refusal,
-    near: Option<Keyword>,
-) -> Result<Vec<u8>, AllocError> {
-    let mut out = Vec::new(alloc);
-    match (refusal.number(), near) {
-        (6 | 7, _) => append_open(text, refusal.place(), &mut out)?,
-        (11, Some(keyword)) => {
-            out.extend_from_slice(b"Did you mean ")?;
-            out.extend_from_slice(keyword.spelling())?;
-            out.extend_from_slice(b"?\n")?;
-        }
-        _ => {}
-    }
-    Ok(out)
-}
-
-fn append_open(text: &[u8], place: usize, out: &mut Vec<u8>) -> Result<(), AllocError> {
-    match open_delimiter(text, place) {
-        None => Ok(()),
-        Some(at) => {
-            append_opened(text, at, out)?;
-            out.extend_from_slice(b" is still open\n")
-        }
-    }
 }

@@ -1,5 +1,5 @@
 //! What a text is by its first keyword, and keywords that aren't read.
-use crate::glance::{begins, is_one_of};
+use crate::glance::{begins, ends, is_one_of};
 use crate::hint::{Filled, Hint, Sentence};
 use crate::refused::NOT_HERE;
 
@@ -163,6 +163,12 @@ pub(crate) fn by_class(keyword: &[u8]) -> Option<Hint<'_>> {
         return Some(Hint::with(Sentence::Part, Filled::Capitals(keyword)));
     }
     entry_of(keyword, &OTHER_CLASSES)
+}
+
+/// Whether a text of its own begins with this keyword: a CRS, also of a class that isn't read, or an operation.
+pub(crate) fn is_of_text(keyword: &[u8]) -> bool {
+    let is_crs = ends(keyword, b"CRS") && !begins(keyword, b"BASE");
+    is_crs || is_one_of(keyword, &OLD_CLASSES) || entry_of(keyword, &OTHER_CLASSES).is_some()
 }
 
 /// What a node is that isn't allowed where it is, by its keyword.

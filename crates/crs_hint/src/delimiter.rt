@@ -1,11 +1,12 @@
 //! What is open before the place of a refusal, or too many there.
 use crate::before::Before;
+use crate::class::is_of_text;
 use crate::glance::{begins_close, keyword_at};
 use crate::hint::{Filled, Hint, Open, Sentence};
 use crate::refused::{BAD_CHARACTER, BAD_NUMBER, NOT_HERE, OPEN_TEXT, UNEXPECTED, UNEXPECTED_END};
 
-/// What is open before the place of a refusal, or too many there; `rest` is the text from the place on.
-pub(crate) fn by_delimiters<'a>(found: &Before<'a>, number: u8, rest: &[u8]) -> Option<Hint<'a>> {
+/// What is at a place behind a complete text, or where a quote is missing before; `there` is the text from the place on.
+pub(crate) fn by_whole_text<'a>(found: &Before<'a>, number: u8, there: &[u8]) -> Option<Hint<'a>> {
     if let Some(place) = found.quote_missing
         && matches!(
             number,
@@ -15,46 +16,67 @@ pub(crate) fn by_delimiters<'a>(found: &Before<'a>, number: u8, rest: &[u8]) -> 
         return Some(Hint::with(Sentence::QuoteMissing, Filled::Place(place)));
     }
     if found.is_complete() && number <= UNEXPECTED {
-        return Some(Hint::of(behind_text(rest)));
+        return Some(Hint::of(behind_text(there)));
     }
-    match number {
-        BAD_CHARACTER if rest.starts_with(b";") => Some(Hint::of(Sentence::Semicolon)),
-        OPEN_TEXT => Some(Hint::with(Sentence::QuoteOpen, Filled::MoreOpen)),
-        UNEXPECTED_END | NOT_HERE | UNEXPECTED => by_open(found, number, rest),
-        _ => None,
-    }
+    None
 }
 
 // What follows a complete text.
-fn behind_text(rest: &[u8]) -> Sentence {
-    let is_node = !keyword_at(rest.strip_prefix(b",").unwrap_or(rest)).is_empty();
-    if is_node {
+fn behind_text(there: &[u8]) -> Sentence {
+    let keyword = keyword_at(there.strip_prefix(b",").unwrap_or(there));
+    if is_of_text(keyword) {
         Sentence::SecondText
-    } else if begins_close(rest) {
+    } else if !keyword.is_empty() {
+        Sentence::ClosedEarly
+    } else if begins_close(there) {
         Sentence::OneTooMany
     } else {
         Sentence::Behind
     }
 }
 
-fn by_open<'a>(found: &Before<'a>, number: u8, rest: &[u8]) -> Option<Hint<'a>> {
-    let innermost = found.innermost()?;
-    if number == UNEXPECTED {
-        return by_closing(innermost, rest);
+/// What is open before the place of a refusal, or too many there; `there` is the text from the place on.
+pub(crate) fn by_delimiters<'a>(
+    found: &Before<'a>,
+    number: u8,
+    before: &[u8],
+    there: &[u8],
+) -> Option<Hint<'a>> {
+    match number {
+        BAD_CHARACTER if there.starts_with(b";") => Some(Hint::of(Sentence::Semicolon)),
+        OPEN_TEXT => Some(Hint::with(Sentence::QuoteOpen, Filled::MoreOpen)),
+        UNEXPECTED_END => by_end(found, before),
+        NOT_HERE => by_open(found),
+        UNEXPECTED => by_closing(found.innermost()?, there),
+        _ => None,
     }
-    if let Some((node, outer)) = found.outside {
-        return Some(Hint::with(Sentence::Outside, Filled::Inside(node, outer)));
+}
+
+// What is open at the end of a text, which is before the place.
+fn by_end<'a>(found: &Before<'a>, text: &[u8]) -> Option<Hint<'a>> {
+    found.innermost()?;
+    if !matches!(text.trim_ascii_end(), [.., b']' | b')']) {
+        return Some(Hint::with(Sentence::CutOff, Filled::AllOpen));
     }
-    if number == UNEXPECTED_END && found.all_open().len() > 1 {
-        return Some(Hint::with(Sentence::StillOpen, Filled::AllOpen));
-    }
-    None
+    let more = if found.all_open().len() > 1 {
+        Some(Hint::with(Sentence::StillOpen, Filled::AllOpen))
+    } else {
+        None
+    };
+    by_open(found).or(more)
+}
+
+// A node that is where none of its kind can be.
+fn by_open<'a>(found: &Before<'a>) -> Option<Hint<'a>> {
+    found.innermost()?;
+    let (node, outer) = found.outside?;
+    Some(Hint::with(Sentence::Outside, Filled::Inside(node, outer)))
 }
 
 // A closing delimiter that doesn't match the opening delimiter.
-fn by_closing<'a>(open: Open<'a>, rest: &[u8]) -> Option<Hint<'a>> {
+fn by_closing<'a>(open: Open<'a>, there: &[u8]) -> Option<Hint<'a>> {
     let closing = if open.delimiter == b'[' { b']' } else { b')' };
-    if begins_close(rest) && rest.first() != Some(&closing) {
+    if begins_close(there) && there.first() != Some(&closing) {
         Some(Hint::with(Sentence::ClosedBy, Filled::Closing(open)))
     } else {
         None

@@ -16,7 +16,7 @@ pub(crate) fn by_front<'a>(text: &'a [u8], front: &'a [u8]) -> Option<Hint<'a>> 
     if front.is_empty() {
         return Some(Hint::of(Sentence::Empty));
     }
-    let by_bytes = by_first_bytes(text).or(by_mark(front));
+    let by_bytes = by_first_bytes(text).or(by_utf16(text)).or(by_mark(front));
     if by_bytes.is_some() {
         return by_bytes;
     }
@@ -118,26 +118,28 @@ fn of_format<'a>(text: &[u8], formats: &[Format]) -> Option<Hint<'a>> {
     None
 }
 
-// An encoding, another notation, or quotes around the text.
+// A byte order mark, another notation, or quotes around the text.
 fn by_mark<'a>(front: &[u8]) -> Option<Hint<'a>> {
     let sentence = match front {
         [0xef, 0xbb, 0xbf, ..] => Sentence::ByteOrderMark,
-        [0xff, 0xfe, ..] | [0xfe, 0xff, ..] => Sentence::Utf16,
         [b'{', ..] => Sentence::Json,
         [b'<', ..] => Sentence::Xml,
         [b'"', ..] | [b'\'', ..] => Sentence::Quoted,
-        _ if is_utf16(front) => Sentence::Utf16,
         _ => return None,
     };
     Some(Hint::of(sentence))
 }
 
-// Whether every second byte of the first four is zero, and the others aren't.
-fn is_utf16(front: &[u8]) -> bool {
-    match front {
-        [0, a, 0, b, ..] | [a, 0, b, 0, ..] => *a != 0 && *b != 0,
-        _ => false,
-    }
+// UTF-16 by its byte order mark; without one by the first four bytes, of which every second is zero. White space at the
+// front has zeros too, so that this looks at the whole text.
+fn by_utf16<'a>(text: &[u8]) -> Option<Hint<'a>> {
+    let name = match text {
+        [0xff, 0xfe, ..] | [0xfe, 0xff, ..] => "UTF-16",
+        [0, a, 0, b, ..] if *a != 0 && *b != 0 => "UTF-16BE",
+        [a, 0, b, 0, ..] if *a != 0 && *b != 0 => "UTF-16LE",
+        _ => return None,
+    };
+    Some(Hint::with(Sentence::Utf16, Filled::Words(name)))
 }
 
 const GEOMETRIES: [&[u8]; 7] = [

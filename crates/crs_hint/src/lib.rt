@@ -17,4 +17,4 @@ mod string;
 mod telling;
 
 pub use meanings::meaning;
-pub use telling::{append_hints, append_opened};
+pub use telling::{hints, opened};

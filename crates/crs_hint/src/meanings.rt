@@ -20,7 +20,7 @@ fn of_text(number: u8) -> &'static str {
         }
         4 => "The bytes of this quoted text aren't UTF-8.",
         5 =>
-            "The quoted text that is opened here has no end; most often a quote is missing before it.",
+            "The quoted text that is opened here has no end: a quote is missing, here or before, or the text was cut off.",
         6 => {
             "No text can go on like this: a comma is missing or twice, '[' is closed by ')', or a second text follows."
         }

@@ -1,7 +1,7 @@
 //! What is at the place of a refusal, or is missing before it.
 use crate::before::look_before;
 use crate::class::by_keyword;
-use crate::delimiter::by_delimiters;
+use crate::delimiter::{by_delimiters, by_whole_text};
 use crate::glance::{back, digit_count, front, keyword_at, looked_at, rest};
 use crate::hint::{Filled, Hint, Sentence};
 use crate::refused::{BAD_CHARACTER, BAD_NUMBER, NOT_HERE, NOT_UTF8, UNKNOWN_KEYWORD};
@@ -9,15 +9,19 @@ use crate::refused::{BAD_CHARACTER, BAD_NUMBER, NOT_HERE, NOT_UTF8, UNKNOWN_KEYW
 /// What is at the place of a refusal, or is missing before it.
 pub(crate) fn by_place(text: &[u8], number: u8, place: usize) -> Option<Hint<'_>> {
     let there = looked_at(text, place);
+    let before = front(text, place);
+    let found = look_before(text, place);
     let hint = match number {
         BAD_CHARACTER => by_character(there),
-        BAD_NUMBER => by_number(there),
+        BAD_NUMBER => by_number(text, place),
         NOT_UTF8 => Some(Hint::of(Sentence::Latin1)),
         UNKNOWN_KEYWORD => by_keyword(number, keyword_at(there)),
-        NOT_HERE => by_keyword(number, keyword_at(there)).or(by_comma(front(text, place), there)),
+        NOT_HERE => by_keyword(number, keyword_at(there)).or(by_comma(before, there)),
         _ => None,
     };
-    hint.or(by_delimiters(&look_before(text, place), number, there))
+    by_whole_text(&found, number, there)
+        .or(hint)
+        .or(by_delimiters(&found, number, before, there))
 }
 
 // What a byte is that begins no token.
@@ -37,14 +41,27 @@ fn by_character<'a>(there: &[u8]) -> Option<Hint<'a>> {
 }
 
 // What is where a number should begin.
-fn by_number<'a>(there: &[u8]) -> Option<Hint<'a>> {
-    if is_date(there) {
+fn by_number<'a>(text: &[u8], place: usize) -> Option<Hint<'a>> {
+    let there = looked_at(text, place);
+    if is_cut_off(rest(text, place)) {
+        Some(Hint::of(Sentence::NumberCutOff))
+    } else if is_date(there) {
         Some(Hint::of(Sentence::Date))
     } else if has_unit(there) {
         Some(Hint::of(Sentence::WithUnit))
     } else {
         None
     }
+}
+
+// Whether the text ends in a number that goes on, as `298.` and `1e-` do.
+fn is_cut_off(there: &[u8]) -> bool {
+    matches!(there, [.., b'+' | b'-' | b'.' | b'e' | b'E'])
+        && there.iter().all(|it| is_of_number(*it))
+}
+
+fn is_of_number(byte: u8) -> bool {
+    byte.is_ascii_digit() || matches!(byte, b'+' | b'-' | b'.' | b'e' | b'E')
 }
 
 // `2010-01-01`
@@ -66,13 +83,43 @@ fn has_unit(there: &[u8]) -> bool {
     digits > 0 && unit.is_some_and(|it| it.is_ascii_alphabetic() && !it.eq_ignore_ascii_case(&b'e'))
 }
 
-// A number too many after a number, as where a comma is written for a decimal point.
+// A number too many after a number, as where a comma is written for a decimal point or between thousands.
 fn by_comma<'a>(before: &[u8], there: &[u8]) -> Option<Hint<'a>> {
-    if begins_number(there) && ends_with_number(back(before, 100).trim_ascii_end()) {
-        Some(Hint::of(Sentence::DecimalComma))
-    } else {
-        None
+    let before = back(before, 100).trim_ascii_end();
+    if !begins_number(there) || !ends_with_number(before) {
+        return None;
     }
+    if digit_count(there) == 3 && ends_with_thousands(before) {
+        Some(Hint::of(Sentence::Thousands))
+    } else {
+        Some(Hint::of(Sentence::DecimalComma))
+    }
+}
+
+// Whether the digits and commas at the end are a number with a comma before each three digits, and a comma: `6,378,`.
+fn ends_with_thousands(before: &[u8]) -> bool {
+    let run = before
+        .iter()
+        .rev()
+        .take_while(|it| it.is_ascii_digit() || **it == b',')
+        .count();
+    let number = back(before, run);
+    are_thousands(number.strip_prefix(b",").unwrap_or(number))
+}
+
+fn are_thousands(number: &[u8]) -> bool {
+    let mut behind = number;
+    let mut is_first = true;
+    while let [digit, ..] = behind {
+        let digits = digit_count(behind);
+        let is_group = digits == 3 || is_first && (1..=3).contains(&digits) && *digit != b'0';
+        if !is_group || is_first && *digit == b'0' || rest(behind, digits).first() != Some(&b',') {
+            return false;
+        }
+        behind = rest(behind, digits.saturating_add(1));
+        is_first = false;
+    }
+    !is_first
 }
 
 fn begins_number(there: &[u8]) -> bool {

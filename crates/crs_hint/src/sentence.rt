@@ -45,7 +45,9 @@ pub(crate) fn words_of(sentence: Sentence) -> Words {
         Sentence::SecondText
         | Sentence::OneTooMany
         | Sentence::Behind
+        | Sentence::ClosedEarly
         | Sentence::StillOpen
+        | Sentence::CutOff
         | Sentence::QuoteOpen
         | Sentence::QuoteMissing
         | Sentence::ClosedBy
@@ -84,8 +86,8 @@ fn of_file(sentence: Sentence) -> Words {
             "",
         ),
         _ => told(
-            "This is UTF-16: write the file in UTF-8 (iconv -f UTF-16 -t UTF-8 FILE).",
-            "",
+            "This is UTF-16: write the file in UTF-8 (iconv -f ",
+            " -t UTF-8 FILE).",
         ),
     }
 }
@@ -154,7 +156,15 @@ fn of_delimiter(sentence: Sentence) -> Words {
             "The CRS is complete before this: cut off what follows it.",
             "",
         ),
+        Sentence::ClosedEarly => told(
+            "The CRS is complete before this node: a closing delimiter before it is one too many, most likely.",
+            "",
+        ),
         Sentence::StillOpen => told("Still open at the end: ", "."),
+        Sentence::CutOff => told(
+            "The text was cut off, most likely: it has no closing delimiter at its end. Still open at the end: ",
+            ".",
+        ),
         Sentence::QuoteOpen => told("Still open at the end: this quoted text", "."),
         Sentence::QuoteMissing => told(
             "A quote is missing, most likely: at the end of the quoted text that is opened at ",
@@ -182,6 +192,15 @@ fn of_place(sentence: Sentence) -> Words {
         ),
         Sentence::DecimalComma => told(
             "A number too many: most likely a comma stands for a decimal point, here or before (0,5 for 0.5).",
+            "",
+        ),
+        Sentence::Thousands => told(
+            "A number too many: most likely commas separate thousands or stand for decimal points, here or before \
+             (6378137 for 6,378,137; 0.5 for 0,5).",
+            "",
+        ),
+        Sentence::NumberCutOff => told(
+            "The text ends in this number: it was cut off, most likely.",
             "",
         ),
         Sentence::Date => told(

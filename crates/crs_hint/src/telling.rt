@@ -9,42 +9,34 @@ use crate::refused::LAST_OF_TEXT;
 use crate::sentence::words_of;
 use crate::string::transformation_of;
 use itoa::Buffer;
-use std::alloc::AllocError;
+use std::alloc::{AllocError, Global};
 
-/// Appends the hints that apply to a refused text, a sentence or more in one line with its line end; nothing where
-/// none applies. A hint looks at the text's first bytes, at the place of the refusal, and at what is open there. On
-/// `AllocError` a part of the line may be appended. Profile.
-pub fn append_hints(
-    text: &[u8],
-    number: u8,
-    place: usize,
-    out: &mut Vec<u8>,
-) -> Result<(), AllocError> {
+/// The hints that apply to a refused text, a sentence or more without a line end; nothing where none applies. A hint
+/// looks at the text's first bytes, at the place of the refusal, and at what is open there. Profile.
+///
+/// `AllocError`: there is no memory for them.
+pub fn hints(alloc: Global, text: &[u8], number: u8, place: usize) -> Result<Vec<u8>, AllocError> {
     let front = looked_at(text.trim_ascii_start(), 0).trim_ascii_end();
     let whole = by_front(text, front);
     let there = beside(whole, by_place(text, number, place), number);
-    let begin = out.len();
-    append_next(whole, text, place, begin, out)?;
-    append_next(bound(whole, text, front), text, place, begin, out)?;
-    append_next(there, text, place, begin, out)?;
-    if out.len() > begin {
-        out.push(b'\n')?;
-    }
-    Ok(())
+    let mut out = Vec::new(alloc);
+    append_next(whole, text, place, &mut out)?;
+    append_next(bound(whole, text, front), text, place, &mut out)?;
+    append_next(there, text, place, &mut out)?;
+    Ok(out)
 }
 
-// A further hint of the line that begins here, if there is one.
+// A further hint, if there is one.
 fn append_next(
     hint: Option<Hint<'_>>,
     text: &[u8],
     place: usize,
-    begin: usize,
     out: &mut Vec<u8>,
 ) -> Result<(), AllocError> {
     let Some(hint) = hint else {
         return Ok(());
     };
-    if out.len() > begin {
+    if !out.is_empty() {
         out.push(b' ')?;
     }
     append_hint(hint, text, place, out)
@@ -86,11 +78,14 @@ fn bound<'a>(whole: Option<Hint<'a>>, text: &'a [u8], front: &'a [u8]) -> Option
     }
 }
 
-/// Appends the node whose opening delimiter is at this place, as `CS[ at 24`, where its keyword begins. On
-/// `AllocError` a part of it may be appended. Profile.
-pub fn append_opened(text: &[u8], at: usize, out: &mut Vec<u8>) -> Result<(), AllocError> {
+/// The node whose opening delimiter is at this place, as `CS[ at 24`, where its keyword begins. Profile.
+///
+/// `AllocError`: there is no memory for it.
+pub fn opened(alloc: Global, text: &[u8], at: usize) -> Result<Vec<u8>, AllocError> {
     let delimiter = rest(text, at).first().copied().unwrap_or(b'[');
-    append_node(node_at(text, at, delimiter), out)
+    let mut out = Vec::new(alloc);
+    append_node(node_at(text, at, delimiter), &mut out)?;
+    Ok(out)
 }
 
 fn append_hint(

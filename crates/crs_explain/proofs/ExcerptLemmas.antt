@@ -1,0 +1,53 @@
+-- The piece of a line at a place, put together.
+use Rattle.std.proofs.Common.{◌≡◌, ◌≤◌, ℕ, ◌+◌, ◌-◌, ◌==◌, cond, List, [], ◌∷◌, ◌++◌, codes, length, take, drop, refl, sym, ap, ◌∙◌, append_assoc, arith}
+use Rattle.std.proofs.lemmas.List.Sums.{sum_by-append}
+use Rattle.std.proofs.lemmas.List.{length-append}
+use Rattle.std.proofs.Math.Seq.{take-append_seam, drop-append_seam}
+use Rattle.crs_text.specs.Position.{feeds, IsPosition}
+use Rattle.crs_text.specs.declared.position.Position.{Position}
+use Rattle.crs_explain.specs.Excerpt.{IsExcerpt, shown_place, printed_text, blanks_below}
+
+feeds-append : (a b : List ℕ) → feeds (a ++ b) ≡ feeds a + feeds b
+feeds-append a b = sum_by-append (λ x. cond (x == 10) 1 0) a b
+
+-- a piece behind other bytes
+pub piece : (text before middle after : List ℕ) (from to : ℕ) → text ≡ before ++ (middle ++ after) → from ≡ length before → to ≡ length before + length middle →
+    take (to - from) (drop from text) ≡ middle
+piece text before middle after from to parts begin end =
+    let n : to - from ≡ length middle = omega (arith, begin, end) in
+    let d : drop from text ≡ middle ++ after = ap (λ k. drop k text) begin ∙ ap (drop (length before)) parts ∙ drop-append_seam before (middle ++ after) in
+    ap (λ k. take k (drop from text)) n ∙ ap (take (length middle)) d ∙ take-append_seam middle after
+
+-- the lines of an excerpt
+pub excerpt_of : (text : List ℕ) (place shown : ℕ) (p : Position) (line_left line_right front left right rest lines : List ℕ) →
+    shown ≡ shown_place text place → IsPosition text shown p →
+    line_left ≡ take (shown - p.begin) (drop p.begin text) → line_right ≡ take (p.end - shown) (drop shown text) →
+    line_left ≡ front ++ left → line_right ≡ right ++ rest →
+    lines ≡ codes "  " ++ printed_text left ++ printed_text right ++ codes "\n  " ++ blanks_below left ++ codes "^\n" →
+    IsExcerpt text place lines
+excerpt_of text place shown p line_left line_right front left right rest lines is x a b c d e =
+    let l : x.left ≡ front ++ left = sym (piece text x.before x.left (x.right ++ x.after) p.begin shown x.parts x.is_begin x.is_place) ∙ sym a ∙ c in
+    let n : shown ≡ length (x.before ++ x.left) = x.is_place ∙ sym (length-append x.before x.left) in
+    let m : p.end ≡ length (x.before ++ x.left) + length x.right = x.is_end ∙ ap (λ k. k + length x.right) n in
+    let r : x.right ≡ right ++ rest = sym (piece text (x.before ++ x.left) x.right x.after shown p.end (x.parts ∙ sym (append_assoc x.before x.left (x.right ++ x.after))) n m) ∙ sym b ∙ d in
+    let feed_l : feeds (front ++ left) ≡ feeds front + feeds left = feeds-append front left in
+    let feed_r : feeds (right ++ rest) ≡ feeds right + feeds rest = feeds-append right rest in
+    let feed_x : feeds (x.left ++ x.right) ≡ feeds x.left + feeds x.right = feeds-append x.left x.right in
+    let left_x : feeds x.left ≡ feeds (front ++ left) = ap feeds l in
+    let right_x : feeds x.right ≡ feeds (right ++ rest) = ap feeds r in
+    let feed_both : feeds (left ++ right) ≡ feeds left + feeds right = feeds-append left right in
+    let none : feeds (left ++ right) ≡ 0 = omega (arith, feed_l, feed_r, feed_x, left_x, right_x, feed_both, x.one_line) in
+    let tail : x.right ++ x.after ≡ right ++ (rest ++ x.after) = ap (λ z. z ++ x.after) r ∙ append_assoc right rest x.after in
+    let middle : x.left ++ (x.right ++ x.after) ≡ front ++ (left ++ (right ++ (rest ++ x.after))) =
+        ap (λ z. z ++ (x.right ++ x.after)) l ∙ append_assoc front left (x.right ++ x.after) ∙ ap (λ z. front ++ (left ++ z)) tail in
+    let first : shown ≡ length x.before + length (front ++ left) = x.is_place ∙ ap (λ z. length x.before + length z) l in
+    record {
+      before = x.before ++ front;
+      left = left;
+      right = right;
+      after = rest ++ x.after;
+      parts = x.parts ∙ ap (λ z. x.before ++ z) middle ∙ sym (append_assoc x.before front (left ++ (right ++ (rest ++ x.after))));
+      is_place = sym is ∙ first ∙ omega (arith, length-append front left, length-append x.before front);
+      one_line = none;
+      is_shown = e;
+    }

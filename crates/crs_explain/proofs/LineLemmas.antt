@@ -1,0 +1,23 @@
+-- Bytes of a line.
+use Rattle.std.proofs.Common.{◌≡◌, ◌≤◌, ℕ, ◌+◌, ◌==◌, true, false, Bool, if◌then◌else◌, inl, inr, List, [], ◌∷◌, ◌++◌, length, map, take, refl, sym, ap, ◌∙◌, arith}
+use Rattle.std.proofs.lemmas.Bool.{cases_Bool}
+use Rattle.crs_text.specs.Position.{feeds}
+use Rattle.crs_explain.specs.Lines.{in_line}
+use Rattle.crs_explain.specs.Explained.{IsLine}
+
+in_line-not : (b : ℕ) → (in_line b == 10) ≡ false
+in_line-not b = elim (cases_Bool (b == 10)) [
+  | inl is ↦ rw is refl
+  | inr other ↦ rw other other
+]
+
+no_feeds : (words : List ℕ) → feeds (map in_line words) ≡ 0
+no_feeds [] = refl
+no_feeds (b ∷ words) = rw (in_line-not b, no_feeds words) refl
+
+map-length : (words : List ℕ) → length (map in_line words) ≡ length words
+map-length [] = refl
+map-length (b ∷ words) = ap (λ n. 1 + n) (map-length words)
+
+pub line_of : (words line : List ℕ) → length words ≤ 1000 → line ≡ map in_line words ++ 10 ∷ [] → IsLine line
+line_of words line few is = (map in_line words, no_feeds words, omega (arith, map-length words, few), is)
