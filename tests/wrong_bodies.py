@@ -12,10 +12,12 @@ it, as many as stand in different functions, and the prover checks these functio
 refused where a function of its own isn't proved, for a reason of its own: all that it calls is proved. Bodies above
 others that were refused wait for the next round. A function that no body changed must be proved, or call one that isn't.
 
+A reason of its own is a goal that isn't proved. A body whose function fails only since an answer names a step that the
+body took away shows nothing of the contract, and is a failure of the body.
+
 Crates have wrong-bodies/, which the gate tries, at most twelve each, and more-wrong-bodies/, which --all tries too. The
 crates below are proved first, as build_program.py does it; with --over-gate they are taken as rt ci has left them. With
---applies nothing is proved: it checks that each body of both folders applies to the sources. must-fail/ has edits of
-definitions, which rt ci tries: there each needs the whole crate.
+--applies nothing is proved: it checks that each body applies to the sources, those of must-fail/ too, which rt ci tries.
 
 Prints a line for each body, and last `N passed, M failed`.
 """
@@ -47,6 +49,8 @@ BLOCK = re.compile(
 # What the prover says of a function that rests on another, and of an answer that names what a body took away.
 RESTS = re.compile(r"which (is|are) not proved")
 NAMES = re.compile(r"has no field|is not in scope|has no `|was not admitted")
+# A goal that isn't proved; a function's goals stand before the line of its verdict.
+GOAL = re.compile(r"note: (src/\S+ it is not proved .*)")
 
 
 class Fault(Exception):
@@ -70,6 +74,17 @@ def enclosing(path, lines):
             trait, owner, declared = found.groups()
             return "::".join([declared or owner + (trait or ""), function])
     return None
+
+
+def goals_by_function(crate, said):
+    """The goals that the prover tells as not proved, by the function that they are of."""
+    found, goals = {}, []
+    for line in said.split("\n"):
+        if goal := GOAL.match(line):
+            goals.append(goal[1])
+        elif verdict := re.match(rf"fn {crate}::(\S+): ", line):
+            found[verdict[1]], goals = goals, []
+    return found
 
 
 class Body:
@@ -245,10 +260,15 @@ class Trial:
             if words != "proved" and not RESTS.search(words) and name not in changed and not is_lone:
                 self.faults.append(f"{self.crate.name}: no body changed {name}, and it isn't proved: {words}")
         settled = 0
+        goals = goals_by_function(self.crate.name, said)
         for body, functions in batch:
-            why = next((it for name in functions or told if (it := self.reason(name, told, said))), None)
+            reasons = [it for name in functions or told if (it := self.reason(name, told, goals, said))]
+            why = next((words for words, is_of_names in reasons if not is_of_names), None)
             if why:
                 self.settle(body, why)
+                settled += 1
+            elif reasons:
+                self.fail(body, "REFUSED ONLY SINCE AN ANSWER NAMES WHAT THE BODY TOOK AWAY", reasons[0][0])
                 settled += 1
             else:
                 called = self.called(functions, told)
@@ -270,16 +290,20 @@ class Trial:
             left += further
         return found
 
-    def reason(self, name, told, said):
-        """Why a function isn't proved, or None where it is, or where what it calls isn't."""
+    def reason(self, name, told, goals, said):
+        """Why a function isn't proved, and whether only since answers name what a body took away; None where it is proved,
+        or where what it calls isn't."""
         words = told.get(name, "proved")
         if words == "proved" or RESTS.search(words) or not words.startswith(("not proved", "no proof")):
             return None
-        folder = re.escape(name.replace("::", "/"))
-        errors = re.findall(rf"^\./proofs/{folder}/\S+ error: (.*)$", said, re.M)
-        if errors and all(NAMES.search(it) for it in errors):
-            return f"{name}, but only since an answer names what the body took away: {errors[0]}"
-        return f"{name}: {errors[0] if errors else words}"
+        if goals.get(name):
+            return f"{name}: {goals[name][0]}", False
+        # The folder of a function that calls itself begins with a plus.
+        *folders, last = name.split("::")
+        folder = re.escape("".join(f"{it}/" for it in folders))
+        errors = re.findall(rf"^\./proofs/{folder}\+?{last}/\S+ error: (.*)$", said, re.M)
+        other = next((it for it in errors if not NAMES.search(it)), None)
+        return f"{name}: {other or (errors or [words])[0]}", bool(errors) and not other
 
     def halve(self, batch, said):
         """Nothing is known of these bodies together: each half is tried for itself."""
@@ -300,8 +324,9 @@ class Trial:
 
     def fail(self, body, word, said):
         self.left = [it for it in self.left if it is not body]
-        told = [it for it in said.split("\n") if "error" in it or it.startswith("fn ") and not it.endswith(": proved")]
-        self.faults.append(f"{body.name}: {word}: {' '.join(told[:2])[:300]}")
+        lines = said.split("\n")
+        told = [it for it in lines if "error" in it or it.startswith("fn ") and not it.endswith(": proved")]
+        self.faults.append(f"{body.name}: {word}: {' '.join((told or lines)[:2])[:300]}")
 
 
 def proved_below(names, is_over_gate):
