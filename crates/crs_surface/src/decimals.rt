@@ -1,0 +1,100 @@
+//! Decimals.
+use crate::bounds::{are_equal, copied};
+use crate::tally::Tally;
+use crs_decimal::{Decimal, NumberFault};
+use std::alloc::{AllocError, Global};
+use std::io;
+
+pub fn check(rt: &HostRuntime, tally: &mut Tally) -> io::Result<()> {
+    tally.count(rt, "crs_decimal::Decimal", is_value())?;
+    tally.count(rt, "crs_decimal::Decimal::parse", is_parsed())?;
+    tally.count(rt, "crs_decimal::NumberFault", is_fault_told())?;
+    tally.count(rt, "crs_decimal::Decimal::is_negative", has_sign())?;
+    tally.count(rt, "crs_decimal::Decimal::is_zero", is_zero_told())?;
+    tally.count(rt, "crs_decimal::Decimal::digits", has_digits())?;
+    tally.count(rt, "crs_decimal::Decimal::power", has_power())?;
+    tally.count(rt, "crs_decimal::Decimal::whole", is_whole_told())?;
+    tally.count(rt, "crs_decimal::Decimal::write", is_written(rt.alloc()))
+}
+
+fn number(text: &[u8]) -> Option<Decimal> {
+    Decimal::parse(text).ok()
+}
+
+// Equal exactly where the values are.
+fn is_value() -> bool {
+    match (number(b"10"), number(b"1E1"), number(b"11")) {
+        (Some(ten), Some(same), Some(other)) => {
+            are_equal(&copied(&ten), &same) && !are_equal(&ten, &other)
+        }
+        _ => false,
+    }
+}
+
+fn is_parsed() -> bool {
+    let parsed: Result<Decimal, NumberFault> = Decimal::parse(b"-.5");
+    parsed.is_ok()
+}
+
+fn is_fault_told() -> bool {
+    is_fault(b"1.5.2", "Malformed") && is_fault(b"1E41", "Range")
+}
+
+fn is_fault(text: &[u8], name: &str) -> bool {
+    match Decimal::parse(text) {
+        Ok(_number) => false,
+        Err(NumberFault::Malformed) => name == "Malformed",
+        Err(NumberFault::Range) => name == "Range",
+    }
+}
+
+fn has_sign() -> bool {
+    match (number(b"-0"), number(b"-.5")) {
+        (Some(zero), Some(half)) => half.is_negative() && !zero.is_negative(),
+        _ => false,
+    }
+}
+
+fn is_zero_told() -> bool {
+    match (number(b"0E999"), number(b"-.5")) {
+        (Some(zero), Some(half)) => zero.is_zero() && !half.is_zero(),
+        _ => false,
+    }
+}
+
+fn has_digits() -> bool {
+    let Some(number) = number(b"-0012.3400") else {
+        return false;
+    };
+    let digits: u128 = number.digits();
+    digits == 1234
+}
+
+fn has_power() -> bool {
+    let Some(number) = number(b"-0012.3400") else {
+        return false;
+    };
+    let power: i32 = number.power();
+    power == -2
+}
+
+fn is_whole_told() -> bool {
+    whole_of(b"18446744073709551615") == Some(u64::MAX)
+        && whole_of(b"18446744073709551616").is_none()
+}
+
+fn whole_of(text: &[u8]) -> Option<u64> {
+    number(text)?.whole()
+}
+
+// Appended in the plain spelling.
+fn is_written(alloc: Global) -> bool {
+    let mut out = Vec::new(alloc);
+    match number(b"-0012.3400") {
+        Some(number) => {
+            let written: Result<(), AllocError> = number.write(&mut out);
+            written.is_ok() && out.as_slice() == b"-12.34".as_slice()
+        }
+        None => false,
+    }
+}

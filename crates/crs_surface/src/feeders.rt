@@ -1,0 +1,61 @@
+//! Texts in pieces.
+use crate::refusals::is_refused;
+use crate::tally::Tally;
+use crate::texts::Texts;
+use crs_text::{Fault, Feeder, Items};
+use std::alloc::Global;
+use std::io;
+
+pub fn check(rt: &HostRuntime, tally: &mut Tally, texts: Texts<'_>) -> io::Result<()> {
+    tally.count(rt, "crs_text::Feeder::new", is_empty(rt.alloc()))?;
+    tally.count(rt, "crs_text::Feeder::feed", is_settled(rt.alloc()))?;
+    let fed = is_fed(rt.alloc(), texts.named("height"));
+    tally.count(rt, "crs_text::Feeder::finish", fed)
+}
+
+fn is_empty(alloc: Global) -> bool {
+    let feeder: Feeder = Feeder::new(alloc);
+    ends_with(&feeder, 7, 0)
+}
+
+// Whether no items come of what was fed, but this refusal.
+fn ends_with(feeder: &Feeder, number: u8, place: usize) -> bool {
+    let read: Result<Items<'_>, Fault> = feeder.finish();
+    match read {
+        Ok(_items) => false,
+        Err(fault) => is_refused(&fault, number, place),
+    }
+}
+
+// A settled refusal is that of all that comes after it.
+fn is_settled(alloc: Global) -> bool {
+    let mut feeder = Feeder::new(alloc);
+    if feeder.feed(b"VERTCRS[\"H\",").is_err() {
+        return false;
+    }
+    if !refuses(feeder.feed(b")"), 6, 12) || !refuses(feeder.feed(b"]"), 6, 12) {
+        return false;
+    }
+    ends_with(&feeder, 6, 12)
+}
+
+fn refuses(fed: Result<(), Fault>, number: u8, place: usize) -> bool {
+    match fed {
+        Ok(()) => false,
+        Err(fault) => is_refused(&fault, number, place),
+    }
+}
+
+// Byte by byte.
+fn is_fed(alloc: Global, text: &[u8]) -> bool {
+    let mut feeder = Feeder::new(alloc);
+    for piece in text.chunks(1) {
+        if feeder.feed(piece).is_err() {
+            return false;
+        }
+    }
+    match feeder.finish() {
+        Ok(items) => items.size(items.root()) == 13,
+        Err(_fault) => false,
+    }
+}

@@ -1,0 +1,140 @@
+//! The items of a text.
+use crate::bounds::copied;
+use crate::refusals::is_refused;
+use crate::tally::Tally;
+use crate::texts::Texts;
+use crs_decimal::Decimal;
+use crs_text::{Fault, ItemId, ItemKind, Items, read_items};
+use std::alloc::Global;
+use std::io;
+
+pub fn check(rt: &HostRuntime, tally: &mut Tally, texts: Texts<'_>) -> io::Result<()> {
+    tally.count(rt, "crs_text::read_items", is_incomplete(rt.alloc()))?;
+    match read_items(rt.alloc(), texts.named("height")) {
+        Ok(items) => {
+            check_whole(rt, tally, &items)?;
+            check_parts(rt, tally, &items)
+        }
+        Err(_fault) => tally.count(rt, "crs_text::Items", false),
+    }
+}
+
+fn is_incomplete(alloc: Global) -> bool {
+    let read: Result<Items<'_>, Fault> = read_items(alloc, b"VERTCRS[\"H\"");
+    match read {
+        Ok(_items) => false,
+        Err(fault) => is_refused(&fault, 7, 11),
+    }
+}
+
+fn check_whole(rt: &HostRuntime, tally: &mut Tally, items: &Items<'_>) -> io::Result<()> {
+    let root = items.root();
+    tally.count(rt, "crs_text::Items::root", has_root(items, rt.alloc()))?;
+    tally.count(rt, "crs_text::Items::contains", contains(items, rt.alloc()))?;
+    tally.count(rt, "crs_text::Items::place", items.place(root) == 0)?;
+    tally.count(rt, "crs_text::Items::close", items.close(root) == Some(73))?;
+    tally.count(rt, "crs_text::Items::size", items.size(root) == 13)?;
+    tally.count(rt, "crs_text::Items::arg_count", items.arg_count(root) == 4)
+}
+
+fn check_parts(rt: &HostRuntime, tally: &mut Tally, items: &Items<'_>) -> io::Result<()> {
+    tally.count(rt, "crs_text::Items::arg", has_arguments(items))?;
+    tally.count(rt, "crs_text::Items::next", has_next(items))?;
+    tally.count(rt, "crs_text::ItemKind", has_kinds(items))?;
+    tally.count(rt, "crs_text::Items::raw", has_raw(items))?;
+    tally.count(rt, "crs_text::Items::number", has_number(items))
+}
+
+fn has_root(items: &Items<'_>, alloc: Global) -> bool {
+    let root: ItemId = copied(&items.root());
+    match read_items(alloc, b"a[1]") {
+        Ok(other) => items.contains(root) && other.contains(other.root()),
+        Err(_fault) => false,
+    }
+}
+
+// A table contains its own items, and no later one of another table.
+fn contains(items: &Items<'_>, alloc: Global) -> bool {
+    let Some(axis) = items.arg(items.root(), 3) else {
+        return false;
+    };
+    match read_items(alloc, b"a[1]") {
+        Ok(other) => items.contains(axis) && !other.contains(axis),
+        Err(_fault) => false,
+    }
+}
+
+fn has_arguments(items: &Items<'_>) -> bool {
+    let Some(datum) = items.arg(items.root(), 1) else {
+        return false;
+    };
+    items.place(datum) == 12 && items.size(datum) == 2 && items.arg(items.root(), 4).is_none()
+}
+
+// After the datum come the system of three items and the axis of six, which is the last.
+fn has_next(items: &Items<'_>) -> bool {
+    let Some(datum) = items.arg(items.root(), 1) else {
+        return false;
+    };
+    let Some(system) = items.next(datum) else {
+        return false;
+    };
+    let Some(axis) = items.next(system) else {
+        return false;
+    };
+    items.size(system) == 3 && items.size(axis) == 6 && items.next(axis).is_none()
+}
+
+fn has_kinds(items: &Items<'_>) -> bool {
+    let Some(system) = items.arg(items.root(), 2) else {
+        return false;
+    };
+    let Some(word) = items.arg(system, 0) else {
+        return false;
+    };
+    let Some(number) = items.arg(system, 1) else {
+        return false;
+    };
+    let Some(name) = items.arg(items.root(), 0) else {
+        return false;
+    };
+    kind_letter(items.kind(system)) == 'n'
+        && kind_letter(items.kind(word)) == 'w'
+        && kind_letter(items.kind(number)) == 'd'
+        && kind_letter(items.kind(name)) == 't'
+}
+
+fn kind_letter(kind: ItemKind) -> char {
+    match kind {
+        ItemKind::Number => 'd',
+        ItemKind::Text => 't',
+        ItemKind::Word => 'w',
+        ItemKind::Node => 'n',
+    }
+}
+
+fn has_raw(items: &Items<'_>) -> bool {
+    let Some(name) = items.arg(items.root(), 0) else {
+        return false;
+    };
+    items.raw(name) == b"H".as_slice() && keyword(items) == b"VERTCRS".as_slice()
+}
+
+// It borrows the text, not the table.
+fn keyword<'a>(items: &Items<'a>) -> &'a [u8] {
+    items.raw(items.root())
+}
+
+fn has_number(items: &Items<'_>) -> bool {
+    let Some(system) = items.arg(items.root(), 2) else {
+        return false;
+    };
+    let Some(dimension) = items.arg(system, 1) else {
+        return false;
+    };
+    let number: Option<Decimal> = items.number(dimension);
+    match number {
+        Some(number) => number.whole() == Some(1) && items.number(system).is_none(),
+        None => false,
+    }
+}

@@ -1,0 +1,142 @@
+//! Classes, slots and shapes.
+use crate::refusals::is_refusal_of;
+use crate::tally::Tally;
+use crate::texts::Texts;
+use crs_shape::{Class, Slot, class_of, fit, fit_root, known, root_class, slots};
+use crs_text::{Items, Refusal, read_items};
+use std::alloc::Global;
+use std::io;
+
+pub fn check(rt: &HostRuntime, tally: &mut Tally, texts: Texts<'_>) -> io::Result<()> {
+    tally.count(rt, "crs_shape::Class", has_classes())?;
+    tally.count(rt, "crs_shape::slots", has_slots())?;
+    tally.count(rt, "crs_shape::Slot", has_slot())?;
+    tally.count(rt, "crs_shape::class_of", has_class())?;
+    tally.count(rt, "crs_shape::root_class", has_root_class())?;
+    tally.count(rt, "crs_shape::known", is_known())?;
+    let text = texts.named("height");
+    tally.count(rt, "crs_shape::fit", fits(rt.alloc(), text))?;
+    tally.count(rt, "crs_shape::fit_root", fits_root(rt.alloc(), text))
+}
+
+fn has_classes() -> bool {
+    is_crs(Class::VerticalCrs) && !is_crs(Class::VerticalFrame)
+}
+
+fn is_crs(class: Class) -> bool {
+    match class {
+        Class::GeodeticCrs
+        | Class::GeographicCrs
+        | Class::ProjectedCrs
+        | Class::VerticalCrs
+        | Class::CompoundCrs => true,
+        Class::Number
+        | Class::Text
+        | Class::Word
+        | Class::BaseCrs
+        | Class::Dynamic
+        | Class::FrameEpoch
+        | Class::DeformationModel
+        | Class::GeodeticFrame
+        | Class::VerticalFrame
+        | Class::GeodeticEnsemble
+        | Class::VerticalEnsemble
+        | Class::Member
+        | Class::EnsembleAccuracy
+        | Class::Anchor
+        | Class::AnchorEpoch
+        | Class::Ellipsoid
+        | Class::PrimeMeridian
+        | Class::PlainUnit
+        | Class::LengthUnit
+        | Class::AngleUnit
+        | Class::ScaleUnit
+        | Class::AxisUnit
+        | Class::CoordinateSystem
+        | Class::Axis
+        | Class::AxisMeridian
+        | Class::Order
+        | Class::Conversion
+        | Class::Method
+        | Class::Parameter
+        | Class::GeoidModel
+        | Class::Usage
+        | Class::Scope
+        | Class::Area
+        | Class::BoundingBox
+        | Class::VerticalExtent
+        | Class::Identifier
+        | Class::Citation
+        | Class::Uri
+        | Class::Remark => false,
+    }
+}
+
+fn has_slots() -> bool {
+    let slots: &'static [Slot] = slots(Class::VerticalFrame);
+    slots.len() == 3
+}
+
+// The last slot of a vertical frame takes any number of identifiers.
+fn has_slot() -> bool {
+    match slots(Class::VerticalFrame) {
+        [name, _anchors, identifiers] => is_name(name) && are_identifiers(identifiers),
+        _ => false,
+    }
+}
+
+fn is_name(slot: &Slot) -> bool {
+    let classes: &'static [Class] = slot.classes();
+    classes == [Class::Text].as_slice() && slot.required() && !slot.many()
+}
+
+fn are_identifiers(slot: &Slot) -> bool {
+    slot.classes() == [Class::Identifier].as_slice() && !slot.required() && slot.many()
+}
+
+fn has_class() -> bool {
+    class_of(Class::VerticalCrs, b"vrf") == Some(Class::VerticalFrame)
+        && class_of(Class::VerticalCrs, b"TRF").is_none()
+}
+
+fn has_root_class() -> bool {
+    root_class(b"VERTICALCRS") == Some(Class::VerticalCrs) && root_class(b"DATUM").is_none()
+}
+
+fn is_known() -> bool {
+    known(b"DATUM") && !known(b"BOUNDCRS")
+}
+
+fn fits(alloc: Global, text: &[u8]) -> bool {
+    match read_items(alloc, text) {
+        Ok(items) => fits_alone(&items, Class::VerticalCrs) && !fits_alone(&items, Class::Axis),
+        Err(_fault) => false,
+    }
+}
+
+fn fits_alone(items: &Items<'_>, class: Class) -> bool {
+    let fitted: Result<(), Refusal> = fit(items, items.root(), class);
+    fitted.is_ok()
+}
+
+fn fits_root(alloc: Global, text: &[u8]) -> bool {
+    match read_items(alloc, text) {
+        Ok(items) => fit_root(&items) == Ok(Class::VerticalCrs) && misses_part(alloc),
+        Err(_fault) => false,
+    }
+}
+
+fn misses_part(alloc: Global) -> bool {
+    match read_items(alloc, b"VERTCRS[\"H\",FOO[\"D\"]]") {
+        Ok(items) => is_unknown(&items),
+        Err(_fault) => false,
+    }
+}
+
+fn is_unknown(items: &Items<'_>) -> bool {
+    let fitted: Result<Class, Refusal> = fit_root(items);
+    match fitted {
+        Ok(_class) => false,
+        Err(refusal) => is_refusal_of(&refusal, 11, 12),
+    }
+}

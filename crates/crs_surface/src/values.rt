@@ -1,0 +1,149 @@
+//! Values.
+use crate::refusals::is_refused;
+use crate::tally::Tally;
+use crate::texts::Texts;
+use crate::written::Written;
+use crs_text::{Fault, read_items};
+use crs_value::{Crs, Direction, Kind, Level, SystemType, read, value_of};
+use std::alloc::Global;
+use std::io;
+
+// Texts that are written as they were read.
+const TEXTS: [&str; 12] = [
+    "height",
+    "geographic",
+    "geocentric",
+    "ensemble",
+    "projected",
+    "polar",
+    "compound",
+    "dynamic",
+    "anchored",
+    "extent",
+    "cited",
+    "bare_usage",
+];
+
+pub fn check(rt: &HostRuntime, tally: &mut Tally, texts: Texts<'_>) -> io::Result<()> {
+    tally.count(rt, "crs_value::read", is_read(rt.alloc()))?;
+    tally.count(rt, "crs_value::value_of", has_value(rt.alloc(), texts))?;
+    tally.count(rt, "crs_value::Kind", has_kinds(rt.alloc(), texts))?;
+    tally.count(rt, "crs_value::Level", has_levels())?;
+    tally.count(rt, "crs_value::SystemType", has_types())?;
+    tally.count(rt, "crs_value::Direction", has_directions())?;
+    for name in TEXTS {
+        let agrees = is_written(rt.alloc(), texts.named(name));
+        tally.count(rt, name, agrees)?;
+    }
+    Ok(())
+}
+
+fn is_read(alloc: Global) -> bool {
+    let read: Result<Crs<'_>, Fault> = read(alloc, b"VERTCRS[\"H\",FOO]");
+    match read {
+        Ok(_crs) => false,
+        Err(fault) => is_refused(&fault, 12, 12),
+    }
+}
+
+fn has_value(alloc: Global, texts: Texts<'_>) -> bool {
+    match read_items(alloc, texts.named("height")) {
+        Ok(items) => match value_of(alloc, &items) {
+            Ok(crs) => is_kind(crs.kind(), "vertical"),
+            Err(_fault) => false,
+        },
+        Err(_fault) => false,
+    }
+}
+
+fn has_kinds(alloc: Global, texts: Texts<'_>) -> bool {
+    has_kind(alloc, texts.named("geocentric"), "geodetic")
+        && has_kind(alloc, texts.named("geographic"), "geographic")
+        && has_kind(alloc, texts.named("projected"), "projected")
+        && has_kind(alloc, texts.named("compound"), "compound")
+}
+
+fn has_kind(alloc: Global, text: &[u8], name: &str) -> bool {
+    match read(alloc, text) {
+        Ok(crs) => is_kind(crs.kind(), name),
+        Err(_fault) => false,
+    }
+}
+
+fn is_kind(kind: Kind, name: &str) -> bool {
+    match kind {
+        Kind::Geodetic => name == "geodetic",
+        Kind::Geographic => name == "geographic",
+        Kind::Projected => name == "projected",
+        Kind::Vertical => name == "vertical",
+        Kind::Compound => name == "compound",
+    }
+}
+
+fn has_levels() -> bool {
+    is_whole(Level::Full) && !is_whole(Level::Definition)
+}
+
+fn is_whole(level: Level) -> bool {
+    match level {
+        Level::Full => true,
+        Level::Definition => false,
+    }
+}
+
+fn has_types() -> bool {
+    is_earthly(SystemType::Cartesian) && SystemType::Cartesian.word() == "Cartesian"
+}
+
+fn is_earthly(system_type: SystemType) -> bool {
+    match system_type {
+        SystemType::Cartesian | SystemType::Ellipsoidal | SystemType::Spherical => true,
+        SystemType::Vertical => false,
+    }
+}
+
+fn has_directions() -> bool {
+    is_compass(Direction::NorthNorthEast)
+        && Direction::NorthNorthEast.word() == "northNorthEast"
+        && Direction::GeocentricX.word() == "geocentricX"
+}
+
+fn is_compass(direction: Direction) -> bool {
+    match direction {
+        Direction::North
+        | Direction::NorthNorthEast
+        | Direction::NorthEast
+        | Direction::EastNorthEast
+        | Direction::East
+        | Direction::EastSouthEast
+        | Direction::SouthEast
+        | Direction::SouthSouthEast
+        | Direction::South
+        | Direction::SouthSouthWest
+        | Direction::SouthWest
+        | Direction::WestSouthWest
+        | Direction::West
+        | Direction::WestNorthWest
+        | Direction::NorthWest
+        | Direction::NorthNorthWest => true,
+        Direction::GeocentricX
+        | Direction::GeocentricY
+        | Direction::GeocentricZ
+        | Direction::Up
+        | Direction::Down
+        | Direction::Unspecified => false,
+    }
+}
+
+fn is_written(alloc: Global, text: &[u8]) -> bool {
+    match read(alloc, text) {
+        Ok(crs) => is_text_of(alloc, &crs, text),
+        Err(_fault) => false,
+    }
+}
+
+/// Whether a value is written as this text.
+pub fn is_text_of<T: Written>(alloc: Global, value: &T, text: &[u8]) -> bool {
+    let mut out = Vec::new(alloc);
+    value.put(&mut out).is_ok() && out.get(1..) == Some(text)
+}
